@@ -12,7 +12,7 @@ use Rattle.item_tree.specs.IdOrder.{id_cmp}
 use Rattle.item_tree_db.specs.PlaceOrder.{place_cmp}
 use Rattle.decl_index.specs.declared.entry.Entry.{Entry}
 use Rattle.decl_index.specs.EntryOrder.{name_cmp, entry_cmp}
-use Rattle.decl_index.specs.Lookup.{has_name}
+use Rattle.decl_index.specs.Lookup.{entry_has_name}
 
 -- ---- elements in the order of a test
 
@@ -90,5 +90,5 @@ module _ (name : List ℕ) (xs : List Entry) (rises : IsStrictlySortedBy entry_c
   pub not_behind : (k : ℕ) → IsPartitionedBy (λ e. is_le (test e)) (drop k xs)
   not_behind k = subst (λ (p : Entry → Bool). IsPartitionedBy p (drop k xs)) (λ j e. is_not_behind (test e) j) (IsPartitionedBy-ltb (λ e. ordering_index (test e)) (drop k xs) 2 (IsNonDecreasingBy-drop (λ e. ordering_index (test e)) k xs in_order))
 
-  pub looked_up : (k m : ℕ) → IsUpTo test is_lt xs k → IsUpTo test is_le (drop k xs) m → take m (drop k xs) ≡ filter (has_name name) xs
-  looked_up k m p q = equals test xs k m p q ∙ filter_agree (λ e. is_eq (test e)) (has_name name) (λ e. sym (texts_ties e.name name)) xs
+  pub looked_up : (k m : ℕ) → IsUpTo test is_lt xs k → IsUpTo test is_le (drop k xs) m → take m (drop k xs) ≡ filter (entry_has_name name) xs
+  looked_up k m p q = equals test xs k m p q ∙ filter_agree (λ e. is_eq (test e)) (entry_has_name name) (λ e. sym (texts_ties e.name name)) xs

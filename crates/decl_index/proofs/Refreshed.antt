@@ -24,7 +24,7 @@ use Rattle.def_collector.specs.Declarations.{node_name}
 use Rattle.decl_index.specs.declared.entry.Entry.{Entry}
 use Rattle.decl_index.specs.EntryOrder.{entry_cmp, entry_cmp_total}
 use Rattle.decl_index.specs.Entries.{IsDeclared, IsListing, IsBehind, IsBehindAt, entries_at, entries_of}
-use Rattle.decl_index.specs.Inner.{is_current, AreRead}
+use Rattle.decl_index.specs.Inner.{is_current, AreChangedEntries}
 use Rattle.decl_index.proofs.Lists.{Once, filter_all, filter_contains, flat_map_all, flat_map_contains, once_append, once_flat_map, strict}
 use Rattle.decl_index.proofs.Order.{same_entries}
 use Rattle.decl_index.proofs.Trees.{tree_of, all_in_tree, all_declared, each_once, declared_there}
@@ -126,7 +126,7 @@ module _ (s : State) (n : ℕ) (changes : List Change) (since : IsSince s n chan
         once_append kept (entries_of s changes) (AllPairs-from_IsDistinct same_entries kept (IsDistinct-from_sorted entry_cmp kept (IsStrictlySortedBy-filter entry_cmp (is_current s n) old rises))) news_once
         (λ i d p j a q e. let same = ap (number_of s) e in let low = kept_low i d p in let late = news_late j a q in absurd (omega arith))
 
-pub refreshed : (s : State) (number : Option ℕ) (old : List Entry) (n : ℕ) (fresh new : List Entry) → n ≡ unwrap_or number 0 → IsBehind (number, old) s → IsStrictlySortedBy entry_cmp old → AreRead s n fresh → IsPermutation (filter (is_current s n) old ++ fresh) new → IsSorted entry_cmp new → IsListing s new
+pub refreshed : (s : State) (number : Option ℕ) (old : List Entry) (n : ℕ) (fresh new : List Entry) → n ≡ unwrap_or number 0 → IsBehind (number, old) s → IsStrictlySortedBy entry_cmp old → AreChangedEntries s n fresh → IsPermutation (filter (is_current s n) old ++ fresh) new → IsSorted entry_cmp new → IsListing s new
 refreshed s number old n fresh new from behind rises read moved sorted =
     let news = entries_of s read.changes in
     let left = kept s n read.changes read.since old in

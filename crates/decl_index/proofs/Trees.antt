@@ -12,7 +12,7 @@ use Rattle.item_tree_db.specs.declared.place.Place.{Place}
 use Rattle.item_tree_db.specs.State.{State, IsKnown, unfolding_at}
 use Rattle.def_collector.specs.Declarations.{node_name}
 use Rattle.decl_index.specs.declared.entry.Entry.{Entry}
-use Rattle.decl_index.specs.Entries.{IsDeclared, name_of, entry_of, entries_by, entries_at}
+use Rattle.decl_index.specs.Entries.{IsDeclared, entry_name, entry_of, entries_by, entries_at}
 use Rattle.decl_index.proofs.Lists.{Once, flat_map_all, flat_map_contains, once_flat_map}
 
 -- the tree of an entry
@@ -31,9 +31,9 @@ module _ (s : State) (place : Place) (krate : Crate) where
   record IsOf (i : ℕ) (e : Entry) : Type 0 where
     pub in_tree : tree_of e ≡ (place, krate)
     pub id : e.id ≡ i
-    pub name : name_of s place krate i ≡ Some e.name
+    pub name : entry_name s place krate i ≡ Some e.name
 
-  told : (i : ℕ) (o : Option (List ℕ)) → name_of s place krate i ≡ o → All (IsOf i) (option_map_or (λ name. entry_of place krate i name ∷ []) o [])
+  told : (i : ℕ) (o : Option (List ℕ)) → entry_name s place krate i ≡ o → All (IsOf i) (option_map_or (λ name. entry_of place krate i name ∷ []) o [])
   told i None h = All-nil (IsOf i)
   told i (Some name) h = All-cons (IsOf i) (entry_of place krate i name) [] (record { in_tree = refl; id = refl; name = h }) (All-nil (IsOf i))
 
@@ -47,11 +47,11 @@ module _ (s : State) (place : Place) (krate : Crate) where
   pub all_declared : IsKnown s krate → All (IsDeclared s) (entries_at s place krate)
   all_declared known = flat_map_all (entries_by u place krate) (IsDeclared s) (all_ids u) (λ k d l.
       All-weaker (IsOf _) (IsDeclared s)
-      (λ e h. record { known = subst (λ (t : Place × Crate). IsKnown s t.1) (sym h.in_tree) known; named = (λ j. name_of s (h.in_tree j).0 (h.in_tree j).1 (h.id j)) ∙ h.name })
+      (λ e h. record { known = subst (λ (t : Place × Crate). IsKnown s t.1) (sym h.in_tree) known; named = (λ j. entry_name s (h.in_tree j).0 (h.in_tree j).1 (h.id j)) ∙ h.name })
       _ (told _ _ refl))
 
   pub each_once : Once (entries_at s place krate)
-  each_once = once_flat_map (entries_by u place krate) (λ i. i) (λ e. e.id) (λ i. at_most_one i (name_of s place krate i)) (λ i. All-weaker (IsOf i) (λ e. e.id ≡ i) (λ e h. h.id) _ (told i _ refl)) (all_ids u) (each_walked_once u).once
+  each_once = once_flat_map (entries_by u place krate) (λ i. i) (λ e. e.id) (λ i. at_most_one i (entry_name s place krate i)) (λ i. All-weaker (IsOf i) (λ e. e.id ≡ i) (λ e h. h.id) _ (told i _ refl)) (all_ids u) (each_walked_once u).once
 
 -- each that is declared is of its tree
 pub declared_there : (s : State) (e : Entry) → IsDeclared s e → Contains (entries_at s e.place e.krate) e

@@ -15,13 +15,13 @@ use Rattle.decl_index.specs.declared.entry.Entry.{Entry}
 use Rattle.decl_index.specs.EntryOrder.{entry_cmp}
 
 -- the name of the item of an id in a crate's tree of a place, if it has one
-abbrev pub name_of : State → Place → Crate → ℕ → Option (List ℕ)
-name_of s place krate i = of_id (unfolding_at s place krate.0) None node_name i
+abbrev pub entry_name : State → Place → Crate → ℕ → Option (List ℕ)
+entry_name s place krate i = of_id (unfolding_at s place krate.0) None node_name i
 
 -- the entry tells of an item of the table: its crate is known, and its id stands for an item of this name
 pub record IsDeclared (s : State) (e : Entry) : Type 0 where
   pub known : IsKnown s e.krate
-  pub named : name_of s e.place e.krate e.id ≡ Some e.name
+  pub named : entry_name s e.place e.krate e.id ≡ Some e.name
 
 -- exactly those of a table, each once and in order
 pub record IsListing (s : State) (entries : List Entry) : Type 0 where

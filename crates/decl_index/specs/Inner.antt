@@ -10,7 +10,7 @@ abbrev pub is_current : State → ℕ → Entry → Bool
 is_current s n e = if nat_lt e.krate.0 (length s.crates) then not (nat_lt n (change_number s e.place e.krate.0)) else false
 
 -- the entries are those of all trees that changed since number n
-pub record AreRead (s : State) (n : ℕ) (entries : List Entry) : Type 0 where
+pub record AreChangedEntries (s : State) (n : ℕ) (entries : List Entry) : Type 0 where
   pub changes : List Change
   pub since : IsSince s n changes
   pub grounded : IsGrounded s

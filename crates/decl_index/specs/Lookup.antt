@@ -4,5 +4,5 @@ use Rattle.std.specs.Cmp.Lexicographic.{pointwise}
 use Rattle.decl_index.specs.declared.entry.Entry.{Entry}
 
 -- whether the entry has this name
-abbrev pub has_name : List ℕ → Entry → Bool
-has_name name e = pointwise nat_eq e.name name
+abbrev pub entry_has_name : List ℕ → Entry → Bool
+entry_has_name name e = pointwise nat_eq e.name name

@@ -9,8 +9,8 @@ ghost use Rattle.item_tree_db.specs.Since.{HoldLate};
 ghost use Rattle.item_tree_db.specs.State.{IsKnown};
 ghost use Rattle.decl_index.specs.EntryOrder.{entry_cmp};
 ghost use Rattle.decl_index.specs.Entries.{entries_at, entries_by, entries_of, HasChanged, IsBehind, IsBehindAt, IsIndexOf};
-ghost use Rattle.decl_index.specs.Inner.{is_current, AreRead};
-ghost use Rattle.decl_index.specs.Lookup.{has_name};
+ghost use Rattle.decl_index.specs.Inner.{is_current, AreChangedEntries};
+ghost use Rattle.decl_index.specs.Lookup.{entry_has_name};
 
 use crate::entry::Entry;
 use def_collector::name_at;
@@ -78,7 +78,7 @@ impl DeclIndex {
 
     /// The entries that have a name, in the order of places, then of crates and ids. Takes no memory.
     pub fn lookup(&self, name: &Name) -> &[Entry]
-        ensures { result.now ≡ filter (has_name name.now) self.now.1 }
+        ensures { result.now ≡ filter (entry_has_name name.now) self.now.1 }
     {
         named(&self.entries, name)
     }
@@ -140,7 +140,7 @@ impl DeclIndex {
     ) -> Result<usize, AllocError>
         requires from { since ≡ unwrap_or self.old.0 0 }
         requires behind { IsBehind self.old sources.now }
-        requires read { AreRead sources.now since fresh.items }
+        requires read { AreChangedEntries sources.now since fresh.items }
         ensures index { OnOk result (IsIndexOf sources.now self.new) }
         ensures behind { IsBehind self.new sources.now }
         ensures at { OnOk result ((named : List Place) → IsBehindAt self.new named sources.now) }
@@ -158,7 +158,7 @@ impl DeclIndex {
 // Of entries in their order, those that have a name: they stand side by side.
 fn named<'a>(entries: &'a [Entry], name: &Name) -> &'a [Entry]
     requires { IsStrictlySortedBy entry_cmp entries.now }
-    ensures { result.now ≡ filter (has_name name.now) entries.now }
+    ensures { result.now ≡ filter (entry_has_name name.now) entries.now }
 {
     let from = entries.partition_point(|entry| entry.name.text() < name.text());
     let rest = &entries[from..];
@@ -167,7 +167,7 @@ fn named<'a>(entries: &'a [Entry], name: &Name) -> &'a [Entry]
 
 // The entries of all trees that changed since a number.
 fn read_since(alloc: Global, sources: &Sources, since: u64) -> Result<Vec<Entry>, AllocError>
-    ensures { IfOk result (λ fresh. AreRead sources.now since fresh.items) }
+    ensures { IfOk result (λ fresh. AreChangedEntries sources.now since fresh.items) }
 {
     read_changed(alloc, sources, sources.changed_since(since))
 }
@@ -180,7 +180,7 @@ fn read_among(
     places: &BTreeSet<Place>,
 ) -> Result<Vec<Entry>, AllocError>
     requires { HoldLate sources.now since places.now.keys }
-    ensures { IfOk result (λ fresh. AreRead sources.now since fresh.items) }
+    ensures { IfOk result (λ fresh. AreChangedEntries sources.now since fresh.items) }
 {
     read_changed(alloc, sources, sources.changed_among(since, places))
 }

@@ -16,7 +16,7 @@ use Rattle.item_tree.specs.Walk.{AreContained}
 use Rattle.item_tree.proofs.Walking.{of_id_is, leaf_of_id, parent_of_id, each_walked_once, children_of, no_ids, tops_stand}
 use Rattle.def_collector.specs.declared.collector.Declaration as code
 use Rattle.def_collector.specs.Declarations.{Declared, node_declares, Declaration, declaration_of, path_below, node_declarations, declarations_in, declarations, with_id, node_declared, declared_in, declared_at}
-use Rattle.def_collector.specs.DeclarationView.{DeclarationView, view_of, declaration_view, id_of, defined, collected, is_declaring}
+use Rattle.def_collector.specs.DeclarationView.{DeclarationView, view_of, declaration_view, declaration_id, defined, collected_declaration, is_declaring}
 use Rattle.def_collector.specs.Inner.Declared.{own_from, declared_from, own_defined, defined_from}
 
 -- ---- the declarations of ids are those of the nodes that they stand for
@@ -130,11 +130,11 @@ module _ (u : Unfolding) where
 
   -- ---- and of what is collected
 
-  module _ (ds : List code.Declaration) (h : map (collected u) ds ≡ map defined (declared_at u)) where
+  module _ (ds : List code.Declaration) (h : map (collected_declaration u) ds ≡ map defined (declared_at u)) where
     pub views_alone : map (declaration_view u) ds ≡ map view_of (declarations u.forest)
     views_alone = sym (map-map _ _ ds) ∙ ap (map (λ d. d.1)) h ∙ map-map _ _ (declared_at u) ∙ sym (map-map view_of (λ d. d.1) (declared_at u)) ∙ ap (map view_of) declared_alone
 
-    pub ids_alone : map id_of ds ≡ filter (is_declaring u) (all_ids u)
+    pub ids_alone : map declaration_id ds ≡ filter (is_declaring u) (all_ids u)
     ids_alone = sym (map-map _ _ ds) ∙ ap (map (λ d. d.0)) h ∙ map-map _ _ (declared_at u) ∙ declared_ids
 
   pub declaring_once : AllPairs (λ i j. i ≢ j) (filter (is_declaring u) (all_ids u))

@@ -21,7 +21,7 @@ use Rattle.def_collector.specs.declared.imports.Listed.{Listed}
 use Rattle.def_collector.specs.declared.written.WrittenImport.{WrittenImport}
 use Rattle.def_collector.specs.Listed.{listed_import}
 use Rattle.def_collector.specs.Written.{leaf_written, written_imports, written_by}
-use Rattle.def_collector.specs.Inner.Imports.{node_of, IsAtLeaf, at_leaf, seen}
+use Rattle.def_collector.specs.Inner.Imports.{import_node, IsAtLeaf, at_leaf, seen}
 
 abbrev some_node : Import × UseTreeView → Import × Option UseTreeView
 some_node p = (p.0, Some p.1)
@@ -52,7 +52,7 @@ module _ (w : UseTreeView) (places : List ℕ) where
   IsFound : WrittenLeaf → Type 0
   IsFound l = (slice_get places l.index ≡ Some l.place) × (slice_get (written_nodes w) l.place ≡ Some (bare_tree l.node))
 
-  node_is : (l : WrittenLeaf) (x : Import) → x.index ≡ l.index → IsFound l → node_of w places x ≡ Some (bare_tree l.node)
+  node_is : (l : WrittenLeaf) (x : Import) → x.index ≡ l.index → IsFound l → import_node w places x ≡ Some (bare_tree l.node)
   unfolding IsFound
   node_is l x i f = ap (option_and_then (slice_get (written_nodes w))) (ap (slice_get places) i ∙ f.0) ∙ f.1
 
@@ -121,7 +121,7 @@ module _ (w : UseTreeView) (places : List ℕ) (x : Import) (h : IsAtLeaf w plac
   place_there : x.index < length places
   place_there = let p = there (slice_get (written_nodes w)) (slice_get places x.index) h in slice_get_within places x.index p.0 p.1
 
-  pub node_there : (d : ℕ) → node_of w places x ≡ slice_get (written_nodes w) (get_or places x.index d)
+  pub node_there : (d : ℕ) → import_node w places x ≡ slice_get (written_nodes w) (get_or places x.index d)
   node_there d = ap (option_and_then (slice_get (written_nodes w))) (slice_get-get_or places x.index d place_there)
 
 -- one more is found

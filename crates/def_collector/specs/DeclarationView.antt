@@ -33,16 +33,16 @@ abbrev pub declaration_view : Unfolding → code.Declaration → DeclarationView
 declaration_view u d = record { path = map (λ name. name.now) d.path.items; node = node_at u.forest d.id; kind = d.kind; visibility = option_copied d.visibility; declared = declared_by d.declares }
 
 -- the id of a declaration's item
-abbrev pub id_of : code.Declaration → ℕ
-id_of d = d.id
+abbrev pub declaration_id : code.Declaration → ℕ
+declaration_id d = d.id
 
 -- both, with the id
 abbrev pub defined : ℕ × Declaration → ℕ × DeclarationView
 defined d = (d.0, view_of d.1)
 
 -- a listed declaration: the id of its item, and what it says
-abbrev pub collected : Unfolding → code.Declaration → ℕ × DeclarationView
-collected u d = (d.id, declaration_view u d)
+abbrev pub collected_declaration : Unfolding → code.Declaration → ℕ × DeclarationView
+collected_declaration u d = (d.id, declaration_view u d)
 
 -- whether the item of an id declares something
 abbrev pub is_declaring : Unfolding → ℕ → Bool

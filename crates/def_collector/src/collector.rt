@@ -5,7 +5,7 @@ ghost use Rattle.item_tree.specs.Reach.{all_ids};
 ghost use Rattle.item_tree.specs.Shown.{IsContained, IsShown};
 ghost use Rattle.item_tree.specs.Walk.{AreContained};
 ghost use Rattle.def_collector.specs.Declarations.{declarations, declared_at};
-ghost use Rattle.def_collector.specs.DeclarationView.{collected, declaration_view, defined, id_of, is_declaring, view_of};
+ghost use Rattle.def_collector.specs.DeclarationView.{collected_declaration, declaration_view, defined, declaration_id, is_declaring, view_of};
 ghost use Rattle.def_collector.specs.Inner.Declared.{own_defined, defined_from};
 
 use crate::names::{Declares, declares_of, visibility_of};
@@ -44,13 +44,13 @@ pub struct Collected<'tree> {
 #[tactic(auto, using(item_tree::proofs::Walking::ids_contained))]
 pub fn collect(alloc: Global, tree: &ItemTree) -> Result<Collected<'_>, AllocError>
     ensures all { let all = map defined (declared_at tree.now) in
-        IfOk result (λ c. map (collected tree.now) c.declarations.items ≡ all) }
+        IfOk result (λ c. map (collected_declaration tree.now) c.declarations.items ≡ all) }
     ensures declared { let all = map view_of (declarations tree.now.forest) in
         IfOk result (λ c. map (declaration_view tree.now) c.declarations.items ≡ all) }
     ensures ids { let ids = filter (is_declaring tree.now) (all_ids tree.now) in
-        IfOk result (λ c. map id_of c.declarations.items ≡ ids) }
-    ensures once { IfOk result (λ c. AllPairs (λ i j. i ≢ j) (map id_of c.declarations.items)) }
-    ensures contained { IfOk result (λ c. AreContained tree.now (map id_of c.declarations.items)) }
+        IfOk result (λ c. map declaration_id c.declarations.items ≡ ids) }
+    ensures once { IfOk result (λ c. AllPairs (λ i j. i ≢ j) (map declaration_id c.declarations.items)) }
+    ensures contained { IfOk result (λ c. AreContained tree.now (map declaration_id c.declarations.items)) }
 {
     let mut declarations = Vec::new(alloc);
     add_all(alloc, tree, tree.top_level_items(), &[], &mut declarations)?;
@@ -67,7 +67,7 @@ fn add_all<'tree>(
     found: &mut Vec<Declaration<'tree>>,
 ) -> Result<(), AllocError>
     requires contained { AreContained tree.now ids.now }
-    ensures { let shown = map (collected tree.now) in
+    ensures { let shown = map (collected_declaration tree.now) in
         OnOk result (shown found.new.items ≡ shown found.old.items ++ flat_map (defined_from tree.now (map (λ name. name.now) path.now)) ids.now) }
 {
     for id in ids {
@@ -87,7 +87,7 @@ fn add_one<'tree>(
     found: &mut Vec<Declaration<'tree>>,
 ) -> Result<(), AllocError>
     requires contained { IsContained tree.now id }
-    ensures { let shown = map (collected tree.now) in
+    ensures { let shown = map (collected_declaration tree.now) in
         OnOk result (shown found.new.items ≡ shown found.old.items ++ defined_from tree.now (map (λ name. name.now) path.now) id) }
 {
     let item = tree.index(id);
@@ -113,7 +113,7 @@ fn add_below<'tree>(
     found: &mut Vec<Declaration<'tree>>,
 ) -> Result<(), AllocError>
     requires contained { AreContained tree.now ids.now }
-    ensures { let shown = map (collected tree.now) in
+    ensures { let shown = map (collected_declaration tree.now) in
         let names = map (λ name. name.now) path.now ++ name.now ∷ [] in
         OnOk result (shown found.new.items ≡ shown found.old.items ++ flat_map (defined_from tree.now names) ids.now) }
 {
@@ -133,7 +133,7 @@ fn add_own<'tree>(
     found: &mut Vec<Declaration<'tree>>,
 ) -> Result<(), AllocError>
     requires { IsShown tree.now id item }
-    ensures { let shown = map (collected tree.now) in
+    ensures { let shown = map (collected_declaration tree.now) in
         OnOk result (shown found.new.items ≡ shown found.old.items ++ own_defined tree.now (map (λ name. name.now) path.now) id) }
 {
     let Some(declares) = declares_of(alloc, item)? else {

@@ -3,7 +3,7 @@ use Rattle.std.proofs.Common.{◌≡◌, ℕ, zero, suc, ◌+◌, ◌<◌, List,
 use Rattle.hir_input.specs.declared.mod_path.PathKind.{PathKind}
 use Rattle.hir_input.specs.declared.mod_path.PathKind.TheVariants.{Plain, Super, Crate, Abs, DollarCrate}
 use Rattle.hir_input.specs.Path.{HasWords}
-use Rattle.hir_input.specs.Words.{Word, self_word, super_word, crate_word, absolute_word, dollar_crate_word, name_word, words, read_names, path_of, read_supers, read_words}
+use Rattle.hir_input.specs.Words.{PathWord, self_word, super_word, crate_word, absolute_word, dollar_crate_word, name_word, words, read_names, path_of, read_supers, read_words}
 use Rattle.hir_input.proofs.Reading.{before_names, behind, read-behind, read_names-all, read_supers-supers}
 
 read_supers-all : (k : ℕ) (ns : List (List ℕ)) → read_supers k (map name_word ns) ≡ Some (record { kind = Super k; names = ns })
@@ -33,7 +33,7 @@ MayNotFollow (Super k) ns (Super (suc m)) = 0 < length ns
 MayNotFollow k ns l = Unit {0}
 
 -- a word that is no name and no `super`
-behind-none : (k : PathKind) (ns : List (List ℕ)) (w : Word) (ws : List Word) → ((n : ℕ) → read_supers n (w ∷ ws) ≡ None) → read_names (w ∷ ws) ≡ None → behind k ns (w ∷ ws) ≡ None
+behind-none : (k : PathKind) (ns : List (List ℕ)) (w : PathWord) (ws : List PathWord) → ((n : ℕ) → read_supers n (w ∷ ws) ≡ None) → read_names (w ∷ ws) ≡ None → behind k ns (w ∷ ws) ≡ None
 behind-none (Super k) [] w ws h e = h k
 behind-none k ns w ws h e = ap (λ o. path_of k (before_names ns o)) e
 
@@ -56,13 +56,13 @@ path_of-plain : (n : List ℕ) (o : Option (List (List ℕ))) → IfSome (path_o
 path_of-plain n None = tt
 path_of-plain n (Some ns) = omega arith
 
-read_supers-path : (k : ℕ) (ws : List Word) → IfSome (read_supers k ws) (λ p. HasWords p.kind p.names)
+read_supers-path : (k : ℕ) (ws : List PathWord) → IfSome (read_supers k ws) (λ p. HasWords p.kind p.names)
 read_supers-path k [] = tt
 read_supers-path k (super_word ∷ ws) = read_supers-path (suc k) ws
 read_supers-path k (name_word n ∷ ws) = path_of-any (Super k) (read_names (name_word n ∷ ws)) (λ _. tt)
 read_supers-path k (w ∷ ws) = tt
 
-pub read-path : (ws : List Word) → IfSome (read_words ws) (λ p. HasWords p.kind p.names)
+pub read-path : (ws : List PathWord) → IfSome (read_words ws) (λ p. HasWords p.kind p.names)
 read-path [] = tt
 read-path (self_word ∷ ws) = read_supers-path 0 ws
 read-path (super_word ∷ ws) = read_supers-path 1 ws

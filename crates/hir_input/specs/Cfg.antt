@@ -15,15 +15,15 @@ pub record AtomView : Type 0 where
   pub name : List ℕ
   pub value : Option (List ℕ)
 
-abbrev pub flag : List ℕ → AtomView
-flag name = record { name = name; value = None }
+abbrev pub flag_atom : List ℕ → AtomView
+flag_atom name = record { name = name; value = None }
 
 abbrev pub key_value : List ℕ → List ℕ → AtomView
 key_value key value = record { name = key; value = Some value }
 
 -- an atom as plain data
 abbrev pub atom_view : CfgAtom → AtomView
-atom_view (Flag name) = flag name
+atom_view (Flag name) = flag_atom name
 atom_view (KeyValue key value) = key_value key (string_bytes value)
 
 -- a condition
@@ -97,7 +97,7 @@ is_set set wanted = list_any (λ a. is_atom a wanted) set
 
 -- the flag `true` always holds and the flag `false` never; any other atom holds where it is set
 abbrev pub holds : List AtomView → AtomView → Bool
-holds set a = if is_atom a (flag (codes "true")) then true else if is_atom a (flag (codes "false")) then false else is_set set a
+holds set a = if is_atom a (flag_atom (codes "true")) then true else if is_atom a (flag_atom (codes "false")) then false else is_set set a
 
 abbrev pub is_answer : Bool → Option Bool → Bool
 is_answer true (Some b) = b

@@ -6,8 +6,8 @@ use Rattle.hir_input.specs.Cfg.{CfgView, CfgViews, invalid, all_of, any_of, not_
 use Rattle.hir_input.specs.Cfg as condition
 use Rattle.hir_input_json.specs.Reading.{Reading, right, wrong, reading_map, under, ◌>>=◌}
 use Rattle.hir_input_json.specs.Cfgs.{atom, cfg_by, cfg_with, keyed_by, listed_with}
-use Rattle.hir_input_json.specs.Forms.{field, by_first, members_in}
-use Rattle.hir_input_json.specs.Metas.{meta_with}
+use Rattle.hir_input_json.specs.Forms.{field, by_form, object_members}
+use Rattle.hir_input_json.specs.Metas.{meta_form_with}
 use Rattle.hir_input_json.proofs.Laws.{AgreeBelow, LooksInside, ReadsItself}
 use Rattle.hir_input_json.proofs.Inside.{required_same, by_first_same, list_in, list_at_same, depth_field, depth_get, reads_itself}
 
@@ -16,7 +16,7 @@ listed_inside key of f g d same e h = ap (λ r. under key (reading_map (λ cs. o
 
 cfg_by_inside : LooksInside cfg_by
 cfg_by_inside f g d same =
-    ap (by_first (field (codes "key") d) (λ e. reading_map condition.atom (keyed_by e d)))
+    ap (by_form (field (codes "key") d) (λ e. reading_map condition.atom (keyed_by e d)))
     (by_first_same (listed_with (codes "all") all_of f) (listed_with (codes "all") all_of g) (field (codes "all") d) _ _ (listed_inside (codes "all") all_of f g d same)
     (by_first_same (listed_with (codes "any") any_of f) (listed_with (codes "any") any_of g) (field (codes "any") d) _ _ (listed_inside (codes "any") any_of f g d same)
     (by_first_same (λ e. under (codes "not") (reading_map not_of (f e))) (λ e. under (codes "not") (reading_map not_of (g e))) (get (codes "not") d) (wrong []) (wrong [])
@@ -25,16 +25,16 @@ cfg_by_inside f g d same =
 -- a condition, where this is read of an object
 abbrev cfg_or : Data → Reading CfgView → Reading CfgView
 cfg_or d r =
-    by_first (as_null d) (λ _. right invalid)
-    (by_first (as_str d) (λ _. reading_map condition.atom (atom d))
+    by_form (as_null d) (λ _. right invalid)
+    (by_form (as_str d) (λ _. reading_map condition.atom (atom d))
     (do
-      _ ← members_in d
+      _ ← object_members d
       r))
 
 cfg_inside : LooksInside cfg_with
 cfg_inside f g d same = ap (cfg_or d) (cfg_by_inside f g d same)
 
-meta_inside : LooksInside meta_with
+meta_inside : LooksInside meta_form_with
 meta_inside f g d same =
     rw (
       list_at_same f g (codes "metas") d same,
@@ -44,5 +44,5 @@ meta_inside f g d same =
 pub cfg_reads_itself : ReadsItself cfg_with
 cfg_reads_itself = reads_itself cfg_with cfg_inside
 
-pub meta_reads_itself : ReadsItself meta_with
-meta_reads_itself = reads_itself meta_with meta_inside
+pub meta_reads_itself : ReadsItself meta_form_with
+meta_reads_itself = reads_itself meta_form_with meta_inside

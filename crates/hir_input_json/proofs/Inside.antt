@@ -5,7 +5,7 @@ use Rattle.std.specs.Cmp.Lexicographic.{slice_cmp}
 use Rattle.serde_json.specs.Data.{Data, null, boolean, number, string, array, object, Items, no_items, item, Members, no_members, member, depth, items_depth, members_depth}
 use Rattle.serde_json.specs.Find.{get, get_member}
 use Rattle.hir_input_json.specs.Reading.{Reading, right, wrong, reading_map, under, ◌>>=◌}
-use Rattle.hir_input_json.specs.Forms.{field, unless_null, items_in, items_at, list_of, list_at, each, each_from, maybe, optional, required, by_first}
+use Rattle.hir_input_json.specs.Forms.{field, unless_null, array_items, items_at, list_of, list_at, each, each_from, maybe, optional, required, by_form}
 use Rattle.hir_input_json.specs.Held.{without}
 use Rattle.hir_input_json.proofs.Held.{field_without}
 use Rattle.hir_input_json.proofs.Laws.{AgreeBelow, LooksInside, ReadsItself}
@@ -67,7 +67,7 @@ pub required_same : {A : Type 0} → (f g : Data → Reading A) (found : Option 
 required_same f g None same = refl
 required_same f g (Some e) same = same e refl
 
-pub by_first_same : {A B : Type 0} → (f g : B → Reading A) (found : Option B) (a b : Reading A) → ((e : B) → found ≡ Some e → f e ≡ g e) → a ≡ b → by_first found f a ≡ by_first found g b
+pub by_first_same : {A B : Type 0} → (f g : B → Reading A) (found : Option B) (a b : Reading A) → ((e : B) → found ≡ Some e → f e ≡ g e) → a ≡ b → by_form found f a ≡ by_form found g b
 by_first_same f g None a b same h = h
 by_first_same f g (Some e) a b same h = same e refl
 
@@ -90,7 +90,7 @@ list_in f g key d same e h = let less = depth_field key d e h in list_of_same f 
 -- what is read of the items of a list that may be absent
 abbrev listed : {A : Type 0} → (Data → Reading A) → List ℕ → Option Data → Reading (List A)
 listed form key found = do
-  ds ← under key (optional no_items items_in found)
+  ds ← under key (optional no_items array_items found)
   under key (each form ds)
 
 listed_same : {A : Type 0} → (f g : Data → Reading A) (key : List ℕ) (found : Option Data) (n : ℕ) → AgreeBelow f g n → ((e : Data) → found ≡ Some e → depth e < n) → listed f key found ≡ listed g key found
@@ -125,7 +125,7 @@ abbrev pub depth_of : Option Data → ℕ
 depth_of None = 0
 depth_of (Some e) = suc (depth e)
 
-pub depth_array : (d : Data) (ds : Items) → items_in d ≡ right ds → depth d ≡ suc (items_depth ds)
+pub depth_array : (d : Data) (ds : Items) → array_items d ≡ right ds → depth d ≡ suc (items_depth ds)
 depth_array (array es) ds h = ap (λ r. suc (items_depth (right_or no_items r))) h
 depth_array null ds h = absurd cc
 depth_array (boolean b) ds h = absurd cc
@@ -143,7 +143,7 @@ depth_found_in key d = found_within (field key d) (depth d) (depth_field key d)
 pub depth_found_get : (key : List ℕ) (ms : Members) → depth_of (get_member key ms) ≤ suc (members_depth ms)
 depth_found_get key ms = found_within (get_member key ms) (suc (members_depth ms)) (λ e h. let within = depth-get_member key ms e h in omega (arith, within))
 
-listed_within : (found : Option Data) (n : ℕ) (ds : Items) → ((e : Data) → found ≡ Some e → depth e < suc n) → optional no_items items_in found ≡ right ds → items_depth ds < suc n
+listed_within : (found : Option Data) (n : ℕ) (ds : Items) → ((e : Data) → found ≡ Some e → depth e < suc n) → optional no_items array_items found ≡ right ds → items_depth ds < suc n
 listed_within None n ds less h = let none : items_depth ds ≡ 0 = sym (ap (λ r. items_depth (right_or no_items r)) h) in omega (arith, none)
 listed_within (Some e) n ds less h = let inner = depth_array e ds h in let outer = less e refl in omega (arith, inner, outer)
 

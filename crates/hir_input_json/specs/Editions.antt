@@ -4,7 +4,7 @@ use Rattle.serde_json.specs.Data.{Data}
 use Rattle.hir_input.specs.declared.edition.EditionYear.{EditionYear}
 use Rattle.hir_input.specs.declared.edition.EditionYear.TheVariants.{E2015, E2018, E2021, E2024}
 use Rattle.hir_input_json.specs.Reading.{Reading, right, here, ◌>>=◌}
-use Rattle.hir_input_json.specs.Forms.{optional_at, whole, name, members_in, list_at}
+use Rattle.hir_input_json.specs.Forms.{optional_at, whole_form, identifier_form, object_members, list_at}
 
 -- what `edition_view` of `hir_input` gives: the year, and the texts of the reserved words
 abbrev pub EditionView : Type 0
@@ -25,15 +25,15 @@ year_of n =
 -- a year
 abbrev pub year : Data → Reading EditionYear
 year d = do
-  n ← whole (2 ^ 64) d
+  n ← whole_form (2 ^ 64) d
   here (year_of n)
 
 -- an edition, whose year and reserved words may both be absent
 abbrev pub edition : Data → Reading EditionView
 edition d = do
-  _ ← members_in d
+  _ ← object_members d
   y ← optional_at E2024 (codes "year") year d
-  words ← list_at name (codes "reserved") d
+  words ← list_at identifier_form (codes "reserved") d
   right (y, words)
 
 -- the edition of a request, the latest where it is absent

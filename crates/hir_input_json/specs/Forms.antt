@@ -3,7 +3,7 @@ use Rattle.std.specs.Prelude.{ℕ, ◌+◌, ◌^◌, List, [], ◌∷◌, bytes_
 use Rattle.serde_json.specs.Data.{Data, null, boolean, number, string, array, object, Items, no_items, item, Members}
 use Rattle.serde_json.specs.Find.{get, as_number, as_u64, as_bool, as_str, as_array, as_object}
 use Rattle.hir_input.specs.Name.{name_in}
-use Rattle.hir_input_json.specs.Reading.{Reading, right, wrong, reading_map, here, behind, under, ◌>>=◌}
+use Rattle.hir_input_json.specs.Reading.{Reading, right, wrong, reading_map, here, pointer_behind, under, ◌>>=◌}
 
 -- a null counts as absent
 abbrev pub unless_null : Data → Option Data
@@ -46,9 +46,9 @@ abbrev pub maybe_at : {A : Type 0} → List ℕ → (Data → Reading A) → Dat
 maybe_at key form d = under key (maybe form (field key d))
 
 -- by the form of what is there, or otherwise
-abbrev pub by_first : {A B : Type 0} → Option B → (B → Reading A) → Reading A → Reading A
-by_first None form otherwise = otherwise
-by_first (Some b) form otherwise = form b
+abbrev pub by_form : {A B : Type 0} → Option B → (B → Reading A) → Reading A → Reading A
+by_form None form otherwise = otherwise
+by_form (Some b) form otherwise = form b
 
 -- by what stands at this word
 abbrev pub on_word : {A : Type 0} → (word key : List ℕ) → Reading A → Reading A → Reading A
@@ -56,19 +56,19 @@ on_word word key form otherwise = if bytes_eq word key then form else otherwise
 
 -- the member at this key is not of its form
 abbrev pub wrong_at : {A : Type 0} → List ℕ → Reading A
-wrong_at key = wrong (behind key [])
+wrong_at key = wrong (pointer_behind key [])
 
 -- an object
-abbrev pub members_in : Data → Reading Members
-members_in d = here (as_object d)
+abbrev pub object_members : Data → Reading Members
+object_members d = here (as_object d)
 
 -- an array
-abbrev pub items_in : Data → Reading Items
-items_in d = here (as_array d)
+abbrev pub array_items : Data → Reading Items
+array_items d = here (as_array d)
 
 -- a text
-abbrev pub text : Data → Reading (List ℕ)
-text d = here (as_str d)
+abbrev pub text_form : Data → Reading (List ℕ)
+text_form d = here (as_str d)
 
 -- a truth value
 abbrev pub flag : Data → Reading Bool
@@ -79,17 +79,17 @@ abbrev pub below : ℕ → ℕ → Option ℕ
 below bound n = if nat_lt n bound then Some n else None
 
 -- a whole number below the bound
-abbrev pub whole : ℕ → Data → Reading ℕ
-whole bound d = here (option_and_then (below bound) (option_and_then as_u64 (as_number d)))
+abbrev pub whole_form : ℕ → Data → Reading ℕ
+whole_form bound d = here (option_and_then (below bound) (option_and_then as_u64 (as_number d)))
 
 -- the number of a file or of a crate, which is required
-abbrev pub id_at : List ℕ → Data → Reading ℕ
-id_at key d = required_at key (whole (2 ^ 32)) d
+abbrev pub number_form : List ℕ → Data → Reading ℕ
+number_form key d = required_at key (whole_form (2 ^ 32)) d
 
 -- a text that is a name
-abbrev pub name : Data → Reading (List ℕ)
-name d = do
-  s ← text d
+abbrev pub identifier_form : Data → Reading (List ℕ)
+identifier_form d = do
+  s ← text_form d
   here (name_in s)
 
 -- each item by the form, the first one with this number
@@ -107,12 +107,12 @@ each form ds = each_from 0 form ds
 -- a list of the form
 abbrev pub list_of : {A : Type 0} → (Data → Reading A) → Data → Reading (List A)
 list_of form d = do
-  ds ← items_in d
+  ds ← array_items d
   each form ds
 
 -- the items of the list at this key, none where it is absent
 abbrev pub items_at : List ℕ → Data → Reading Items
-items_at key d = optional_at no_items key items_in d
+items_at key d = optional_at no_items key array_items d
 
 -- each item of the list at this key
 abbrev pub list_at : {A : Type 0} → (Data → Reading A) → List ℕ → Data → Reading (List A)

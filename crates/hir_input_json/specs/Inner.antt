@@ -8,5 +8,5 @@ use Rattle.hir_input_json.specs.declared.item.node.Node.{Node}
 abbrev pub node_view : Node → NodeView
 node_view n = record { hash = n.hash; number = n.number; attrs = map meta_view n.attrs.items; body = string_bytes n.body }
 
-abbrev pub named_view : Named → NamedView
-named_view n = record { node = node_view n.node; name = n.name; visibility = n.visibility }
+abbrev pub named_parts_view : Named → NamedView
+named_parts_view n = record { node = node_view n.node; name = n.name; visibility = n.visibility }

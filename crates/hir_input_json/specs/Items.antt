@@ -7,33 +7,33 @@ use Rattle.hir_input.specs.declared.expand_to.ExpandTo.{ExpandTo}
 use Rattle.hir_input.specs.declared.expand_to.ExpandTo.TheVariants.{Statements, Items, Pattern, Ty, Expr}
 use Rattle.hir_input.specs.Syntax.{NodeView, NamedView, PlainKind, fn_kind, union_kind, enum_kind, static_kind, trait_kind, type_alias_kind, macro_def_kind, FieldsView, record_fields, tuple_fields, no_fields, CallView, ItemView, plain_item, const_item, struct_item, module_from, use_item, extern_crate, extern_block_from, impl_item, macro_call, macro_rules, asm_item}
 use Rattle.hir_input_json.specs.Reading.{Reading, right, wrong, reading_map, ◌>>=◌}
-use Rattle.hir_input_json.specs.Forms.{required_at, optional_at, maybe, maybe_at, by_first, on_word, wrong_at, unless_null, whole, text, flag, name, members_in, list_of}
+use Rattle.hir_input_json.specs.Forms.{required_at, optional_at, maybe, maybe_at, by_form, on_word, wrong_at, unless_null, whole_form, text_form, flag, identifier_form, object_members, list_of}
 use Rattle.hir_input_json.specs.Literals.{context_at}
-use Rattle.hir_input_json.specs.Metas.{attrs_at}
+use Rattle.hir_input_json.specs.Metas.{attrs_form}
 use Rattle.hir_input_json.specs.Nested.{nested}
-use Rattle.hir_input_json.specs.Paths.{path_at, visibility}
-use Rattle.hir_input_json.specs.UseTrees.{rename, use_tree}
+use Rattle.hir_input_json.specs.Paths.{path_at, vis_form}
+use Rattle.hir_input_json.specs.UseTrees.{rename_form, use_tree_form}
 
 -- the keys of every item
-abbrev pub node : Data → Reading NodeView
-node d = do
-  hash ← optional_at 0 (codes "hash") (whole (2 ^ 16)) d
-  number ← optional_at 0 (codes "number") (whole (2 ^ 32)) d
-  attrs ← attrs_at d
-  body ← optional_at [] (codes "body") text d
+abbrev pub node_form : Data → Reading NodeView
+node_form d = do
+  hash ← optional_at 0 (codes "hash") (whole_form (2 ^ 16)) d
+  number ← optional_at 0 (codes "number") (whole_form (2 ^ 32)) d
+  attrs ← attrs_form d
+  body ← optional_at [] (codes "body") text_form d
   right (record { hash = hash; number = number; attrs = attrs; body = body })
 
 -- and of an item that may have a name and a visibility
-abbrev pub named : Data → Reading NamedView
-named d = do
-  n ← node d
-  called ← maybe_at (codes "name") name d
-  vis ← maybe_at (codes "vis") visibility d
+abbrev pub named_form : Data → Reading NamedView
+named_form d = do
+  n ← node_form d
+  called ← maybe_at (codes "name") identifier_form d
+  vis ← maybe_at (codes "vis") vis_form d
   right (record { node = n; name = called; visibility = vis })
 
 -- an item that differs from others of its parts in nothing but the kind
 abbrev pub plain_form : PlainKind → Data → Reading ItemView
-plain_form kind d = reading_map (plain_item kind) (named d)
+plain_form kind d = reading_map (plain_item kind) (named_form d)
 
 -- the words for the fields of a struct that are no list
 abbrev pub fields_word : List ℕ → Reading FieldsView
@@ -41,23 +41,23 @@ fields_word word = on_word word (codes "record") (right record_fields) (on_word 
 
 -- a field of a tuple struct: its visibility, or a null for none
 abbrev pub tuple_field : Data → Reading (Option Visibility)
-tuple_field d = maybe visibility (unless_null d)
+tuple_field d = maybe vis_form (unless_null d)
 
 -- the fields of a struct: a text or a list
-abbrev pub fields : Data → Reading FieldsView
-fields d = by_first (as_str d) fields_word (reading_map tuple_fields (list_of tuple_field d))
+abbrev pub fields_form : Data → Reading FieldsView
+fields_form d = by_form (as_str d) fields_word (reading_map tuple_fields (list_of tuple_field d))
 
 -- a struct, with its fields
 abbrev pub struct_form : Data → Reading ItemView
 struct_form d = do
-  n ← named d
-  kind ← required_at (codes "fields") fields d
+  n ← named_form d
+  kind ← required_at (codes "fields") fields_form d
   right (struct_item n kind)
 
 -- a module, with its semicolon and its items
 abbrev pub module_form : (Data → Reading ItemView) → Data → Reading ItemView
 module_form item d = do
-  n ← named d
+  n ← named_form d
   semicolon ← optional_at false (codes "semicolon") flag d
   items ← maybe_at (codes "items") (list_of item) d
   right (module_from n semicolon items)
@@ -65,22 +65,22 @@ module_form item d = do
 -- a use, with its use tree, which may be absent
 abbrev pub use_form : Data → Reading ItemView
 use_form d = do
-  n ← node d
-  vis ← maybe_at (codes "vis") visibility d
-  tree ← maybe_at (codes "tree") use_tree d
+  n ← node_form d
+  vis ← maybe_at (codes "vis") vis_form d
+  tree ← maybe_at (codes "tree") use_tree_form d
   right (use_item (record { node = n; visibility = vis; use_tree = tree }))
 
 -- an extern crate, with its rename
 abbrev pub extern_crate_form : Data → Reading ItemView
 extern_crate_form d = do
-  n ← named d
-  renamed ← maybe_at (codes "rename") rename d
+  n ← named_form d
+  renamed ← maybe_at (codes "rename") rename_form d
   right (extern_crate n renamed)
 
 -- an impl, of a trait or not
 abbrev pub impl_form : Data → Reading ItemView
 impl_form d = do
-  n ← node d
+  n ← node_form d
   of_trait ← optional_at false (codes "trait") flag d
   right (impl_item n of_trait)
 
@@ -97,7 +97,7 @@ expand_word word =
 -- what a macro call expands to
 abbrev pub expand_to : Data → Reading ExpandTo
 expand_to d = do
-  word ← text d
+  word ← text_form d
   expand_word word
 
 -- items where it is absent
@@ -107,7 +107,7 @@ expand_to_at = optional_at Items (codes "expand_to") expand_to
 -- a macro call, with its path, what it expands to and its context
 abbrev pub call_form : Data → Reading CallView
 call_form d = do
-  n ← node d
+  n ← node_form d
   p ← path_at d
   expands ← expand_to_at d
   ctxt ← context_at d
@@ -119,13 +119,13 @@ macro_call_form d = reading_map macro_call (call_form d)
 -- a macro by example, with its name
 abbrev pub macro_rules_form : Data → Reading ItemView
 macro_rules_form d = do
-  n ← node d
-  called ← maybe_at (codes "name") name d
+  n ← node_form d
+  called ← maybe_at (codes "name") identifier_form d
   right (macro_rules n called)
 
 -- by the word of the kind of an item in an extern block
-abbrev pub extern_by : List ℕ → Data → Reading ItemView
-extern_by word d =
+abbrev pub extern_form_by : List ℕ → Data → Reading ItemView
+extern_form_by word d =
     on_word word (codes "fn") (plain_form fn_kind d)
     (on_word word (codes "static") (plain_form static_kind d)
     (on_word word (codes "type_alias") (plain_form type_alias_kind d)
@@ -135,20 +135,20 @@ extern_by word d =
 -- an item of an extern block
 unfoldable pub extern_item : Data → Reading ItemView
 extern_item d = do
-  _ ← members_in d
-  word ← required_at (codes "is") text d
-  extern_by word d
+  _ ← object_members d
+  word ← required_at (codes "is") text_form d
+  extern_form_by word d
 
 -- an extern block, with its items
 abbrev pub extern_block_form : Data → Reading ItemView
 extern_block_form d = do
-  n ← node d
+  n ← node_form d
   items ← maybe_at (codes "items") (list_of extern_item) d
   right (extern_block_from n items)
 
 -- by the word of the kind of an item that has a name and a visibility, and no keys of its own
-abbrev pub named_by : List ℕ → Data → Reading ItemView
-named_by word d =
+abbrev pub named_form_by : List ℕ → Data → Reading ItemView
+named_form_by word d =
     on_word word (codes "fn") (plain_form fn_kind d)
     (on_word word (codes "union") (plain_form union_kind d)
     (on_word word (codes "enum") (plain_form enum_kind d)
@@ -156,14 +156,14 @@ named_by word d =
     (on_word word (codes "trait") (plain_form trait_kind d)
     (on_word word (codes "type_alias") (plain_form type_alias_kind d)
     (on_word word (codes "macro_def") (plain_form macro_def_kind d)
-    (on_word word (codes "const") (reading_map const_item (named d))
+    (on_word word (codes "const") (reading_map const_item (named_form d))
     (wrong_at (codes "is")))))))))
 
 -- an item of such a kind
 unfoldable pub named_item : Data → Reading ItemView
 named_item d = do
-  word ← required_at (codes "is") text d
-  named_by word d
+  word ← required_at (codes "is") text_form d
+  named_form_by word d
 
 -- by the word of an item's kind
 abbrev pub item_by : List ℕ → (Data → Reading ItemView) → Data → Reading ItemView
@@ -176,14 +176,14 @@ item_by word item d =
     (on_word word (codes "impl") (impl_form d)
     (on_word word (codes "macro_call") (macro_call_form d)
     (on_word word (codes "macro_rules") (macro_rules_form d)
-    (on_word word (codes "asm") (reading_map asm_item (node d))
+    (on_word word (codes "asm") (reading_map asm_item (node_form d))
     (named_item d)))))))))
 
 -- an item, over the reading of those inside
 abbrev pub item_with : (Data → Reading ItemView) → Data → Reading ItemView
 item_with item d = do
-  _ ← members_in d
-  word ← required_at (codes "is") text d
+  _ ← object_members d
+  word ← required_at (codes "is") text_form d
   item_by word item d
 
 -- an item, with those inside it

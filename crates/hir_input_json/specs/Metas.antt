@@ -6,7 +6,7 @@ use Rattle.hir_input.specs.Cfg.{CfgView, invalid}
 use Rattle.hir_input.specs.Attr.{MetaView, path_meta, key_value_meta, token_tree_meta, cfg_meta, cfg_attr_meta, unsafe_meta, metas_from}
 use Rattle.hir_input_json.specs.Reading.{Reading, right, under, ◌>>=◌}
 use Rattle.hir_input_json.specs.Cfgs.{cfg}
-use Rattle.hir_input_json.specs.Forms.{required_at, optional, maybe_at, list_at, on_word, wrong_at, text, members_in}
+use Rattle.hir_input_json.specs.Forms.{required_at, optional, maybe_at, list_at, on_word, wrong_at, text_form, object_members}
 use Rattle.hir_input_json.specs.Literals.{context_at, literal}
 use Rattle.hir_input_json.specs.Nested.{nested}
 use Rattle.hir_input_json.specs.Paths.{path_at}
@@ -35,7 +35,7 @@ abbrev pub tokens_form : Data → Reading MetaView
 tokens_form d = do
   p ← path_at d
   ctxt ← context_at d
-  rendered ← required_at (codes "tokens") text d
+  rendered ← required_at (codes "tokens") text_form d
   right (token_tree_meta p rendered ctxt)
 
 -- a condition
@@ -69,16 +69,16 @@ meta_by word meta d =
     (wrong_at (codes "meta")))))))
 
 -- a meta, over the reading of those inside
-abbrev pub meta_with : (Data → Reading MetaView) → Data → Reading MetaView
-meta_with meta d = do
-  _ ← members_in d
-  word ← required_at (codes "meta") text d
+abbrev pub meta_form_with : (Data → Reading MetaView) → Data → Reading MetaView
+meta_form_with meta d = do
+  _ ← object_members d
+  word ← required_at (codes "meta") text_form d
   meta_by word meta d
 
 -- a meta, with those inside it
-abbrev pub meta : Data → Reading MetaView
-meta = nested meta_with
+abbrev pub meta_form : Data → Reading MetaView
+meta_form = nested meta_form_with
 
 -- the metas of an owner, none where they are absent
-abbrev pub attrs_at : Data → Reading (List MetaView)
-attrs_at = list_at meta (codes "attrs")
+abbrev pub attrs_form : Data → Reading (List MetaView)
+attrs_form = list_at meta_form (codes "attrs")

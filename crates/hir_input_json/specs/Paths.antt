@@ -9,7 +9,7 @@ use Rattle.hir_input.specs.declared.ast.PathNode.TheVariants.{Readable, Unreadab
 use Rattle.hir_input.specs.declared.ast.Visibility.{Visibility}
 use Rattle.hir_input.specs.declared.ast.Visibility.TheVariants.{Pub, PubCrate, PubSuper, PubSelf, InPath}
 use Rattle.hir_input_json.specs.Reading.{Reading, right, wrong, reading_map, here, under, ◌>>=◌}
-use Rattle.hir_input_json.specs.Forms.{required_at, maybe_at, by_first, on_word, wrong_at, whole, text, name, members_in, items_in, each_from}
+use Rattle.hir_input_json.specs.Forms.{required_at, maybe_at, by_form, on_word, wrong_at, whole_form, text_form, identifier_form, object_members, array_items, each_from}
 
 -- a path of a kind with these names; a plain path has a name
 abbrev pub path_from : PathKind → List (List ℕ) → Option PathNode
@@ -19,21 +19,21 @@ path_from kind names = Some (Readable (record { kind = kind; names = names }))
 -- a path of a kind with each of the items for a name, the first one with this number
 abbrev pub names_behind : ℕ → PathKind → Items → Reading PathNode
 names_behind n kind ds = do
-  names ← each_from n name ds
+  names ← each_from n identifier_form ds
   here (path_from kind names)
 
 -- behind `super`: how many, and the names
 abbrev pub super_path : Items → Reading PathNode
 super_path no_items = wrong []
 super_path (item d ds) = do
-  n ← under (decimal 1) (whole (2 ^ 32) d)
+  n ← under (decimal 1) (whole_form (2 ^ 32) d)
   names_behind 2 (Super n) ds
 
 -- behind `dollar`: the crate, and the names
 abbrev pub dollar_path : Items → Reading PathNode
 dollar_path no_items = wrong []
 dollar_path (item d ds) = do
-  c ← under (decimal 1) (whole (2 ^ 32) d)
+  c ← under (decimal 1) (whole_form (2 ^ 32) d)
   names_behind 2 (DollarCrate (record { 0 = c })) ds
 
 -- behind the word of a kind
@@ -50,7 +50,7 @@ path_by word ds =
 abbrev pub listed_path : Items → Reading PathNode
 listed_path no_items = wrong []
 listed_path (item d ds) = do
-  word ← under (decimal 0) (text d)
+  word ← under (decimal 0) (text_form d)
   path_by word ds
 
 -- a path that cannot be read
@@ -58,16 +58,16 @@ abbrev pub path_word : List ℕ → Reading PathNode
 path_word word = on_word word (codes "unreadable") (right Unreadable) (wrong [])
 
 -- a path: a text or a list
-abbrev pub path : Data → Reading PathNode
-path d =
-    by_first (as_str d) path_word
+abbrev pub path_node_form : Data → Reading PathNode
+path_node_form d =
+    by_form (as_str d) path_word
     (do
-      ds ← items_in d
+      ds ← array_items d
       listed_path ds)
 
 -- the path of a meta or of a use tree, which may be absent
 abbrev pub path_at : Data → Reading (Option PathNode)
-path_at = maybe_at (codes "path") path
+path_at = maybe_at (codes "path") path_node_form
 
 -- the words for a visibility
 abbrev pub visibility_word : List ℕ → Reading Visibility
@@ -79,9 +79,9 @@ visibility_word word =
     (wrong []))))
 
 -- a visibility: a text, or an object with a path
-abbrev pub visibility : Data → Reading Visibility
-visibility d =
-    by_first (as_str d) visibility_word
+abbrev pub vis_form : Data → Reading Visibility
+vis_form d =
+    by_form (as_str d) visibility_word
     (do
-      _ ← members_in d
-      reading_map InPath (required_at (codes "in") path d))
+      _ ← object_members d
+      reading_map InPath (required_at (codes "in") path_node_form d))

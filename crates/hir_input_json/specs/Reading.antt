@@ -31,10 +31,10 @@ abbrev pub pointer_step : List ℕ → List ℕ
 pointer_step key = flat_map pointer_byte key
 
 -- the pointer of what stands behind a step: at a key, or at the number of an item, in which nothing is escaped
-abbrev pub behind : (step pointer : List ℕ) → List ℕ
-behind step pointer = codes "/" ++ pointer_step step ++ pointer
+abbrev pub pointer_behind : (step pointer : List ℕ) → List ℕ
+pointer_behind step pointer = codes "/" ++ pointer_step step ++ pointer
 
 -- a reading of what stands behind a step
 abbrev pub under : {A : Type 0} → List ℕ → Reading A → Reading A
 under step (right a) = right a
-under step (wrong pointer) = wrong (behind step pointer)
+under step (wrong pointer) = wrong (pointer_behind step pointer)

@@ -2,7 +2,7 @@
 use Rattle.std.specs.Prelude.{◌≡◌, ℕ, List, [], Bool, true, false, Result, Ok, Err, IfErr, MatchResult}
 use Rattle.hir_input_json.specs.declared.fault.Fault.{Fault}
 use Rattle.hir_input_json.specs.declared.fault.Fault.TheVariants.{WrongForm, OutOfMemory}
-use Rattle.hir_input_json.specs.Reading.{Reading, right, wrong, behind}
+use Rattle.hir_input_json.specs.Reading.{Reading, right, wrong, pointer_behind}
 
 -- whether a fault is of the form, and not of memory
 abbrev pub is_wrong_form : Fault → Bool
@@ -28,11 +28,11 @@ IsHere e = (is_wrong_form e ≡ true) × (pointer_in e ≡ [])
 
 -- it tells that what stands behind a step is wrong, or memory ran out
 abbrev pub IsAt : List ℕ → Fault → Type 0
-IsAt step e = is_wrong_form e ≡ true → pointer_in e ≡ behind step []
+IsAt step e = is_wrong_form e ≡ true → pointer_in e ≡ pointer_behind step []
 
 -- if the second tells of a form, it is the first, told from before the step to where it stands
 abbrev pub IsUnder : List ℕ → Fault → Fault → Type 0
-IsUnder step e f = is_wrong_form f ≡ true → (is_wrong_form e ≡ true) × (pointer_in f ≡ behind step (pointer_in e))
+IsUnder step e f = is_wrong_form f ≡ true → (is_wrong_form e ≡ true) × (pointer_in f ≡ pointer_behind step (pointer_in e))
 
 -- it is a fault of this kind
 abbrev pub IsErrWith : {T : Type 0} → (Fault → Type 0) → Result T Fault → Type 0

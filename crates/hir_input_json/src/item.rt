@@ -5,7 +5,7 @@ ghost use Rattle.hir_input.specs.Syntax.{asm_item, item_view};
 ghost use Rattle.hir_input_json.specs.Reading.{reading_map};
 ghost use Rattle.hir_input_json.specs.Forms.{each, maybe, list_of};
 ghost use Rattle.hir_input_json.specs.Held.{held};
-ghost use Rattle.hir_input_json.specs.Items.{struct_form, use_form, extern_crate_form, impl_form, macro_call_form, module_form, item as item_form, item_with, named_item as named_item_form, node as node_form};
+ghost use Rattle.hir_input_json.specs.Items.{struct_form, use_form, extern_crate_form, impl_form, macro_call_form, module_form, item as item_form, item_with, named_item as named_item_form, node_form as node_form};
 ghost use Rattle.hir_input_json.specs.Reads.{Reads};
 
 mod extern_block;

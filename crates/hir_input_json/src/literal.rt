@@ -1,9 +1,9 @@
 //! Literals, read from their forms.
 ghost use Rattle.std.specs.Prelude.{◌≡◌, OnOk, codes, option_map, string_bytes};
 ghost use Rattle.serde_json.specs.View.{view};
-ghost use Rattle.hir_input_json.specs.Forms.{required_at as required_form, optional_at, maybe_at, text};
+ghost use Rattle.hir_input_json.specs.Forms.{required_at as required_form, optional_at, maybe_at, text_form};
 ghost use Rattle.hir_input_json.specs.Held.{held, without};
-ghost use Rattle.hir_input_json.specs.Literals.{literal as literal_form, span as span_form, span_of as span_from};
+ghost use Rattle.hir_input_json.specs.Literals.{literal as literal_form, span as span_form, literal_span as span_from};
 ghost use Rattle.hir_input_json.specs.Reads.{Reads};
 
 use crate::fault::{Fault, ReadIn};
@@ -18,7 +18,7 @@ pub(crate) fn required_text_at(
     members: &mut Map<String, Value>,
     key: &str,
 ) -> Result<String, Fault>
-    ensures reads { Reads string_bytes result (required_form key.now text (held members.old)) }
+    ensures reads { Reads string_bytes result (required_form key.now text_form (held members.old)) }
     ensures left { OnOk result (held members.new ≡ without key.now (held members.old)) }
 {
     let found = required_at(alloc, members, key)?;
@@ -27,7 +27,7 @@ pub(crate) fn required_text_at(
 
 fn string_at(alloc: Global, members: &mut Map<String, Value>) -> Result<Option<String>, Fault>
     ensures reads { Reads (option_map string_bytes) result
-        (maybe_at (codes "string") text (held members.old)) }
+        (maybe_at (codes "string") text_form (held members.old)) }
     ensures left { OnOk result (held members.new ≡ without (codes "string") (held members.old)) }
 {
     match taken(members, "string") {

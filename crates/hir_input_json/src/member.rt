@@ -3,7 +3,7 @@ ghost use Rattle.std.specs.Prelude.{◌≡◌, ◌^◌, [], None, false, MatchRe
 ghost use Rattle.serde_json.specs.Find.{as_object, get as get_in};
 ghost use Rattle.serde_json.specs.View.{view, items_view};
 ghost use Rattle.hir_input_json.specs.Reading.{right};
-ghost use Rattle.hir_input_json.specs.Forms.{field as field_of, required_at as required_form, optional_at, flag, items_in, text, whole, id_at as id_form, items_at as items_form};
+ghost use Rattle.hir_input_json.specs.Forms.{field as field_of, required_at as required_form, optional_at, flag, array_items, text_form, whole_form, number_form as id_form, items_at as items_form};
 ghost use Rattle.hir_input_json.specs.Held.{held, without};
 ghost use Rattle.hir_input_json.specs.Reads.{IsHere, Reads};
 
@@ -26,7 +26,7 @@ pub fn members_of(alloc: Global, value: Value) -> Result<Map<String, Value>, Fau
 
 // The items of an array.
 pub(crate) fn array_of(alloc: Global, value: Value) -> Result<Vec<Value>, Fault>
-    ensures { Reads (λ v. items_view v.items) result (items_in (view value)) }
+    ensures { Reads (λ v. items_view v.items) result (array_items (view value)) }
 {
     match value {
         Value::Array(items) => Ok(items),
@@ -36,7 +36,7 @@ pub(crate) fn array_of(alloc: Global, value: Value) -> Result<Vec<Value>, Fault>
 
 // The text of a string.
 pub(crate) fn text_of(alloc: Global, value: Value) -> Result<String, Fault>
-    ensures { Reads string_bytes result (text (view value)) }
+    ensures { Reads string_bytes result (text_form (view value)) }
 {
     match value {
         Value::String(text) => Ok(text),
@@ -110,7 +110,7 @@ pub fn word_at<'v>(
     members: &'v Map<String, Value>,
     key: &str,
 ) -> Result<&'v str, Fault>
-    ensures { Reads (λ word. word.now) result (required_form key.now text (held members.now)) }
+    ensures { Reads (λ word. word.now) result (required_form key.now text_form (held members.now)) }
 {
     field(members, key)
         .and_then(Value::as_str)
@@ -133,7 +133,7 @@ pub(crate) fn text_at(
     members: &mut Map<String, Value>,
     key: &str,
 ) -> Result<String, Fault>
-    ensures reads { Reads string_bytes result (optional_at [] key.now text (held members.old)) }
+    ensures reads { Reads string_bytes result (optional_at [] key.now text_form (held members.old)) }
     ensures left { OnOk result (held members.new ≡ without key.now (held members.old)) }
 {
     match taken(members, key) {
@@ -161,7 +161,7 @@ pub fn list_at(
 
 // A whole number of 16 bits.
 fn u16_of(alloc: Global, value: &Value) -> Result<u16, Fault>
-    ensures { Reads (λ n. n) result (whole (2 ^ 16) (view value.now)) }
+    ensures { Reads (λ n. n) result (whole_form (2 ^ 16) (view value.now)) }
 {
     let number = value.as_u64().ok_or_else(|| Fault::here(alloc))?;
     u16::try_from(number).ok().ok_or_else(|| Fault::here(alloc))
@@ -169,7 +169,7 @@ fn u16_of(alloc: Global, value: &Value) -> Result<u16, Fault>
 
 // A whole number of 32 bits.
 pub(crate) fn u32_of(alloc: Global, value: &Value) -> Result<u32, Fault>
-    ensures { Reads (λ n. n) result (whole (2 ^ 32) (view value.now)) }
+    ensures { Reads (λ n. n) result (whole_form (2 ^ 32) (view value.now)) }
 {
     let number = value.as_u64().ok_or_else(|| Fault::here(alloc))?;
     u32::try_from(number).ok().ok_or_else(|| Fault::here(alloc))
@@ -177,7 +177,7 @@ pub(crate) fn u32_of(alloc: Global, value: &Value) -> Result<u32, Fault>
 
 // A whole number of 16 bits, 0 where it is absent.
 pub(crate) fn u16_at(alloc: Global, members: &Map<String, Value>, key: &str) -> Result<u16, Fault>
-    ensures { Reads (λ n. n) result (optional_at 0 key.now (whole (2 ^ 16)) (held members.now)) }
+    ensures { Reads (λ n. n) result (optional_at 0 key.now (whole_form (2 ^ 16)) (held members.now)) }
 {
     match field(members, key) {
         Some(found) => u16_of(alloc, found).in_member(alloc, key),
@@ -187,7 +187,7 @@ pub(crate) fn u16_at(alloc: Global, members: &Map<String, Value>, key: &str) -> 
 
 // A whole number of 32 bits, 0 where it is absent.
 pub(crate) fn u32_at(alloc: Global, members: &Map<String, Value>, key: &str) -> Result<u32, Fault>
-    ensures { Reads (λ n. n) result (optional_at 0 key.now (whole (2 ^ 32)) (held members.now)) }
+    ensures { Reads (λ n. n) result (optional_at 0 key.now (whole_form (2 ^ 32)) (held members.now)) }
 {
     match field(members, key) {
         Some(found) => u32_of(alloc, found).in_member(alloc, key),
@@ -199,7 +199,7 @@ pub(crate) fn u32_at(alloc: Global, members: &Map<String, Value>, key: &str) -> 
 ///
 /// `WrongForm` comes only where the member is there and is no such number, as where it is below 0 or held as a float.
 pub fn u64_at(alloc: Global, members: &Map<String, Value>, key: &str) -> Result<u64, Fault>
-    ensures { Reads (λ n. n) result (optional_at 0 key.now (whole (2 ^ 64)) (held members.now)) }
+    ensures { Reads (λ n. n) result (optional_at 0 key.now (whole_form (2 ^ 64)) (held members.now)) }
 {
     match field(members, key) {
         Some(found) => found.as_u64().ok_or_else(|| Fault::at(alloc, key)),

@@ -4,7 +4,7 @@ ghost use Rattle.serde_json.specs.View.{view, items_view};
 ghost use Rattle.hir_input.specs.Attr.{meta_view};
 ghost use Rattle.hir_input_json.specs.Forms.{each};
 ghost use Rattle.hir_input_json.specs.Held.{held, without};
-ghost use Rattle.hir_input_json.specs.Metas.{meta as meta_form, meta_with, path_form, key_value_form, tokens_form, cfg_form, cfg_attr_form, unsafe_form, attrs_at as attrs_form};
+ghost use Rattle.hir_input_json.specs.Metas.{meta_form as meta_form, meta_form_with, path_form, key_value_form, tokens_form, cfg_form, cfg_attr_form, unsafe_form, attrs_form as attrs_form};
 ghost use Rattle.hir_input_json.specs.Reads.{Reads};
 
 use crate::cfg::condition_at;
@@ -68,7 +68,7 @@ fn meta_of(alloc: Global, value: Value) -> Result<Meta, Fault>
 
 #[cycle(metas)]
 fn meta_in(alloc: Global, members: &mut Map<String, Value>) -> Result<Meta, Fault>
-    ensures { Reads meta_view result (meta_with meta_form (held members.old)) }
+    ensures { Reads meta_view result (meta_form_with meta_form (held members.old)) }
 {
     match word_at(alloc, members, "meta")? {
         "path" => path_meta_of(alloc, members),

@@ -4,7 +4,7 @@ ghost use Rattle.std.specs.Vec.Iter.{into_iter_items};
 ghost use Rattle.serde_json.specs.View.{view, items_view};
 ghost use Rattle.hir_input_json.specs.Reading.{here};
 ghost use Rattle.hir_input.specs.Name.{name_in};
-ghost use Rattle.hir_input_json.specs.Forms.{maybe_at, name as name_form, each_from, list_at as each_at};
+ghost use Rattle.hir_input_json.specs.Forms.{maybe_at, identifier_form as name_form, each_from, list_at as each_at};
 ghost use Rattle.hir_input_json.specs.Held.{held, without};
 ghost use Rattle.hir_input_json.specs.Reads.{Reads};
 

@@ -1,6 +1,6 @@
 //! Where a value of wrong form stands.
 ghost use Rattle.std.specs.Prelude.{◌≡◌, ◌++◌, [], IfOk, OnOk, decimal, encode_utf8, string_bytes};
-ghost use Rattle.hir_input_json.specs.Reading.{behind, pointer_step};
+ghost use Rattle.hir_input_json.specs.Reading.{pointer_behind, pointer_step};
 
 use std::alloc::{AllocError, Global};
 use std::marker::Model;
@@ -59,7 +59,7 @@ impl Pointer {
     ///
     /// Only if memory runs out.
     pub fn in_member(self, alloc: Global, key: &str) -> Result<Pointer, AllocError>
-        ensures { IfOk result (λ p. p ≡ behind key.now self) }
+        ensures { IfOk result (λ p. p ≡ pointer_behind key.now self) }
     {
         let step = step_of(alloc, key)?;
         let text = format!(in alloc; "/{step}{}", self.text)?;
@@ -73,7 +73,7 @@ impl Pointer {
     /// Only if memory runs out.
     #[tactic(auto, using(crate::proofs::Pointers::digits_stay))]
     pub fn in_item(self, alloc: Global, place: usize) -> Result<Pointer, AllocError>
-        ensures { IfOk result (λ p. p ≡ behind (decimal place) self) }
+        ensures { IfOk result (λ p. p ≡ pointer_behind (decimal place) self) }
     {
         let text = format!(in alloc; "/{place}{}", self.text)?;
         Ok(Pointer { text })

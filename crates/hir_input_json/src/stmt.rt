@@ -2,7 +2,7 @@
 ghost use Rattle.std.specs.Prelude.{◌≡◌, OnOk, codes, map};
 ghost use Rattle.serde_json.specs.View.{view, items_view};
 ghost use Rattle.hir_input.specs.Syntax.{call_view, stmt_view, stmts_view, tail_view};
-ghost use Rattle.hir_input_json.specs.Forms.{each, list_at as each_at, optional_at, text};
+ghost use Rattle.hir_input_json.specs.Forms.{each, list_at as each_at, optional_at, text_form};
 ghost use Rattle.hir_input_json.specs.Held.{held, without};
 ghost use Rattle.hir_input_json.specs.Syntaxes.{call as call_form, stmt as stmt_form, stmt_by, tail as tail_form, tail_at as tail_at_form};
 ghost use Rattle.hir_input_json.specs.Reads.{Reads};
@@ -18,7 +18,7 @@ use std::alloc::Global;
 // The word of a call's kind, which may be absent.
 fn kind_at<'v>(alloc: Global, members: &'v Map<String, Value>) -> Result<&'v str, Fault>
     ensures { Reads (λ word. word.now) result
-        (optional_at (codes "macro_call") (codes "is") text (held members.now)) }
+        (optional_at (codes "macro_call") (codes "is") text_form (held members.now)) }
 {
     match field(members, "is") {
         Some(found) => found.as_str().ok_or_else(|| Fault::at(alloc, "is")),

@@ -5,7 +5,7 @@ ghost use Rattle.hir_input.specs.UseTreeView.{use_tree_view};
 ghost use Rattle.hir_input_json.specs.Forms.{each, list_of, maybe, maybe_at};
 ghost use Rattle.hir_input_json.specs.Held.{held, without};
 ghost use Rattle.hir_input_json.specs.Reads.{Reads};
-ghost use Rattle.hir_input_json.specs.UseTrees.{rename as rename_form, use_tree as use_tree_form, use_tree_with};
+ghost use Rattle.hir_input_json.specs.UseTrees.{rename_form as rename_form, use_tree_form as use_tree_form, use_tree_with};
 
 use crate::fault::{Fault, ReadIn};
 use crate::member::{array_of, flag_at, members_of, taken, text_of};

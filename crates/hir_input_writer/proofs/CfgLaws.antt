@@ -5,7 +5,7 @@ use Rattle.serde_json.specs.Written.{has_float}
 use Rattle.hir_input.specs.Cfg.{AtomView, CfgView, CfgViews, invalid, all_of, any_of, not_of, no_cfgs, cfg_and, cfgs_from}
 use Rattle.hir_input.specs.Cfg as condition
 use Rattle.hir_input_json.specs.Reading.{right}
-use Rattle.hir_input_json.specs.Forms.{field, name}
+use Rattle.hir_input_json.specs.Forms.{field, identifier_form}
 use Rattle.hir_input_json.specs.Cfgs.{atom, cfg}
 use Rattle.hir_input_json.proofs.Attrs.{cfg_reads_itself}
 use Rattle.hir_input_writer.specs.Cfgs.{atom_by, atom_data, cfg_data, cfgs_data}
@@ -30,7 +30,7 @@ atom_by_law : (n : List ℕ) (value : Option (List ℕ)) → IfSome (atom_by n v
 unfolding field
 atom_by_law n None = named_law n (Holds atom (record { name = n; value = None })) (λ e. record { there = refl; reads = rw e refl; exact = refl })
 atom_by_law n (Some value) =
-    mapped (name_data n) _ (Holds name n) (Holds atom (record { name = n; value = Some value })) (name_law n)
+    mapped (name_data n) _ (Holds identifier_form n) (Holds atom (record { name = n; value = Some value })) (name_law n)
     (λ d h. record { there = refl; reads = rw (h.there, h.reads) refl; exact = rw h.exact refl })
 
 pub atom_law : (a : AtomView) → IfSome (atom_data a) (Holds atom a)
@@ -44,7 +44,7 @@ atom_cfg : (n : List ℕ) (value : Option (List ℕ)) → IfSome (atom_by n valu
 unfolding field
 atom_cfg n None = named_law n (CfgHolds (condition.atom (record { name = n; value = None }))) (λ e. record { reads = cfg_reads_itself _ ∙ rw e refl; exact = refl })
 atom_cfg n (Some value) =
-    mapped (name_data n) _ (Holds name n) (CfgHolds (condition.atom (record { name = n; value = Some value }))) (name_law n)
+    mapped (name_data n) _ (Holds identifier_form n) (CfgHolds (condition.atom (record { name = n; value = Some value }))) (name_law n)
     (λ d h. record { reads = cfg_reads_itself _ ∙ rw (h.there, h.reads) refl; exact = rw h.exact refl })
 
 mutual

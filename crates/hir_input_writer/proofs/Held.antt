@@ -3,7 +3,7 @@ use Rattle.std.proofs.Common.{◌≡◌, ℕ, ◌+◌, List, [], ◌∷◌, Bool
 use Rattle.serde_json.specs.Data.{Data, number, unsigned, string}
 use Rattle.hir_input_json.specs.Reading.{Reading}
 use Rattle.hir_input.specs.Name.{is_name, name_in}
-use Rattle.hir_input_json.specs.Forms.{below, name, text, whole}
+use Rattle.hir_input_json.specs.Forms.{below, identifier_form, text_form, whole_form}
 use Rattle.hir_input_writer.specs.Held.{Holds, MayHold, HoldEach}
 use Rattle.hir_input_writer.specs.Parts.{each_data, maybe_data, name_data, text_or_null, whole_data}
 
@@ -48,12 +48,12 @@ name_by false n Q k = tt
 pub named_law : (n : List ℕ) (Q : Data → Type 0) → (name_in n ≡ Some n → Q (string n)) → IfSome (name_data n) Q
 named_law n Q k = name_by (is_name n) n Q (λ e. k (rw e refl))
 
-pub name_law : (n : List ℕ) → IfSome (name_data n) (Holds name n)
-name_law n = named_law n (Holds name n) (λ e. record { there = refl; reads = rw e refl; exact = refl })
+pub name_law : (n : List ℕ) → IfSome (name_data n) (Holds identifier_form n)
+name_law n = named_law n (Holds identifier_form n) (λ e. record { there = refl; reads = rw e refl; exact = refl })
 
-pub whole_law : (bound n : ℕ) → IfSome (whole_data bound n) (Holds (whole bound) n)
-whole_law bound n = below_law bound n (λ m. number (unsigned m)) (Holds (whole bound) n) (λ e. record { there = refl; reads = rw e refl; exact = refl })
+pub whole_law : (bound n : ℕ) → IfSome (whole_data bound n) (Holds (whole_form bound) n)
+whole_law bound n = below_law bound n (λ m. number (unsigned m)) (Holds (whole_form bound) n) (λ e. record { there = refl; reads = rw e refl; exact = refl })
 
-pub text_law : (t : Option (List ℕ)) → MayHold text t (text_or_null t)
+pub text_law : (t : Option (List ℕ)) → MayHold text_form t (text_or_null t)
 text_law None = record { reads = refl; exact = refl }
 text_law (Some t) = record { reads = refl; exact = refl }

@@ -10,12 +10,12 @@ use Rattle.hir_input.specs.declared.expand_to.ExpandTo.TheVariants as expand_to
 use Rattle.hir_input.specs.Id.{shown_expand_to}
 use Rattle.hir_input.specs.Syntax.{NodeView, NamedView, UseView, CallView, FieldsView, record_fields, tuple_fields, no_fields, ItemView, struct_item, use_item, extern_crate, impl_item, macro_rules, asm_item}
 use Rattle.hir_input_json.specs.Reading.{Reading, right, reading_map, ◌>>=◌}
-use Rattle.hir_input_json.specs.Forms.{field, flag, maybe_at, name, optional_at, required_at, unless_null}
+use Rattle.hir_input_json.specs.Forms.{field, flag, maybe_at, identifier_form, optional_at, required_at, unless_null}
 use Rattle.hir_input_json.specs.Items as forms
-use Rattle.hir_input_json.specs.Items.{named, node, fields, tuple_field, expand_word, expand_to_at, call_form}
+use Rattle.hir_input_json.specs.Items.{named_form, node_form, fields_form, tuple_field, expand_word, expand_to_at, call_form}
 use Rattle.hir_input_json.specs.Literals.{context, context_at}
-use Rattle.hir_input_json.specs.Paths.{path, path_at, visibility}
-use Rattle.hir_input_json.specs.UseTrees.{rename, use_tree}
+use Rattle.hir_input_json.specs.Paths.{path_node_form, path_at, vis_form}
+use Rattle.hir_input_json.specs.UseTrees.{rename_form, use_tree_form}
 use Rattle.hir_input_json.proofs.Items.{item_reads_itself}
 use Rattle.hir_input_writer.specs.Held.{Holds, MayHold, HoldEach}
 use Rattle.hir_input_writer.specs.Items.{asm_data, asm_object, call_data, call_object, extern_crate_data, extern_crate_object, fields_data, impl_data, impl_object, macro_rules_data, macro_rules_object, named_data, node_data, plain_data, plain_object, struct_data, struct_object, use_data, use_object}
@@ -35,20 +35,20 @@ use Rattle.hir_input_writer.proofs.UseTreeLaws.{rename_law, use_tree_law}
 abbrev struct_by : Data → Reading NamedView → Reading ItemView
 struct_by d r = do
   n ← r
-  kind ← required_at (codes "fields") fields d
+  kind ← required_at (codes "fields") fields_form d
   right (struct_item n kind)
 
 abbrev use_by : Data → Reading NodeView → Reading ItemView
 use_by d r = do
   n ← r
-  vis ← maybe_at (codes "vis") visibility d
-  tree ← maybe_at (codes "tree") use_tree d
+  vis ← maybe_at (codes "vis") vis_form d
+  tree ← maybe_at (codes "tree") use_tree_form d
   right (use_item (record { node = n; visibility = vis; use_tree = tree }))
 
 abbrev extern_crate_by : Data → Reading NamedView → Reading ItemView
 extern_crate_by d r = do
   n ← r
-  renamed ← maybe_at (codes "rename") rename d
+  renamed ← maybe_at (codes "rename") rename_form d
   right (extern_crate n renamed)
 
 abbrev impl_by : Data → Reading NodeView → Reading ItemView
@@ -68,13 +68,13 @@ call_by d r = do
 abbrev macro_rules_by : Data → Reading NodeView → Reading ItemView
 macro_rules_by d r = do
   n ← r
-  called ← maybe_at (codes "name") name d
+  called ← maybe_at (codes "name") identifier_form d
   right (macro_rules n called)
 
 -- ---- what is written is read again
 
 -- an item of this word that is read by its name and visibility
-pub plain_law : (form : Data → Reading ItemView) (word : List ℕ) (make : NamedView → ItemView) → ((ms : Members) → field (codes "is") (object ms) ≡ Some (string word) → form (object ms) ≡ reading_map make (named (object ms)))
+pub plain_law : (form : Data → Reading ItemView) (word : List ℕ) (make : NamedView → ItemView) → ((ms : Members) → field (codes "is") (object ms) ≡ Some (string word) → form (object ms) ≡ reading_map make (named_form (object ms)))
     → (bodies : Bool) (n : NamedView) → IfSome (plain_data bodies word n) (Holds form (make (named_kept bodies n)))
 unfolding field
 plain_law form word make by bodies n =
@@ -88,14 +88,14 @@ plain_law form word make by bodies n =
 field_each : (fs : List (Option Visibility)) → IfSome (each_data (maybe_data visibility_data) fs) (HoldEach tuple_field fs)
 field_each [] = record { reads = λ n. refl; exact = refl }
 field_each (f ∷ fs) =
-    bind (maybe_data visibility_data f) _ (MayHold visibility f) (HoldEach tuple_field (f ∷ fs)) (maybe_law visibility_data visibility visibility_law f) (λ d h.
+    bind (maybe_data visibility_data f) _ (MayHold vis_form f) (HoldEach tuple_field (f ∷ fs)) (maybe_law visibility_data vis_form visibility_law f) (λ d h.
     bind (each_data (maybe_data visibility_data) fs) _ (HoldEach tuple_field fs) (HoldEach tuple_field (f ∷ fs)) (field_each fs) (λ ds hs.
     record { reads = λ n. rw (h.reads, hs.reads (n + 1)) refl; exact = rw (h.exact, hs.exact) refl }))
 
-fields_law : (f : FieldsView) → IfSome (fields_data f) (Holds fields f)
+fields_law : (f : FieldsView) → IfSome (fields_data f) (Holds fields_form f)
 fields_law record_fields = record { there = refl; reads = refl; exact = refl }
 fields_law (tuple_fields fs) =
-    mapped (each_data (maybe_data visibility_data) fs) array (HoldEach tuple_field fs) (Holds fields (tuple_fields fs)) (field_each fs)
+    mapped (each_data (maybe_data visibility_data) fs) array (HoldEach tuple_field fs) (Holds fields_form (tuple_fields fs)) (field_each fs)
     (λ ds h. record { there = refl; reads = ap (reading_map tuple_fields) (h.reads 0); exact = h.exact })
 fields_law no_fields = record { there = refl; reads = refl; exact = refl }
 
@@ -103,7 +103,7 @@ pub struct_law : (bodies : Bool) (n : NamedView) (f : FieldsView) → IfSome (st
 unfolding field
 struct_law bodies n f =
     bind (named_data bodies n) _ (NamedHolds bodies n) (Holds forms.item (struct_item (named_kept bodies n) f)) (named_law bodies n) (λ nd h.
-    bind (fields_data f) _ (Holds fields f) (Holds forms.item (struct_item (named_kept bodies n) f)) (fields_law f) (λ fd k.
+    bind (fields_data f) _ (Holds fields_form f) (Holds forms.item (struct_item (named_kept bodies n) f)) (fields_law f) (λ fd k.
     record {
       there = refl;
       reads = item_reads_itself _
@@ -116,8 +116,8 @@ pub use_law : (bodies : Bool) (u : UseView) → IfSome (use_data bodies u) (Hold
 unfolding field
 use_law bodies u =
     bind (node_data bodies u.node) _ (NodeHolds bodies u.node) (Holds forms.item (use_item (use_kept bodies u))) (node_law bodies u.node) (λ nd h.
-    bind (maybe_data visibility_data u.visibility) _ (MayHold visibility u.visibility) (Holds forms.item (use_item (use_kept bodies u))) (maybe_law visibility_data visibility visibility_law u.visibility) (λ vd k.
-    bind (maybe_data use_tree_data u.use_tree) _ (MayHold use_tree u.use_tree) (Holds forms.item (use_item (use_kept bodies u))) (maybe_law use_tree_data use_tree use_tree_law u.use_tree) (λ td m.
+    bind (maybe_data visibility_data u.visibility) _ (MayHold vis_form u.visibility) (Holds forms.item (use_item (use_kept bodies u))) (maybe_law visibility_data vis_form visibility_law u.visibility) (λ vd k.
+    bind (maybe_data use_tree_data u.use_tree) _ (MayHold use_tree_form u.use_tree) (Holds forms.item (use_item (use_kept bodies u))) (maybe_law use_tree_data use_tree_form use_tree_law u.use_tree) (λ td m.
     record {
       there = refl;
       reads = item_reads_itself _
@@ -130,7 +130,7 @@ pub extern_crate_law : (bodies : Bool) (n : NamedView) (r : Option Rename) → I
 unfolding field
 extern_crate_law bodies n r =
     bind (named_data bodies n) _ (NamedHolds bodies n) (Holds forms.item (extern_crate (named_kept bodies n) r)) (named_law bodies n) (λ nd h.
-    bind (maybe_data rename_data r) _ (MayHold rename r) (Holds forms.item (extern_crate (named_kept bodies n) r)) (maybe_law rename_data rename rename_law r) (λ rd k.
+    bind (maybe_data rename_data r) _ (MayHold rename_form r) (Holds forms.item (extern_crate (named_kept bodies n) r)) (maybe_law rename_data rename_form rename_law r) (λ rd k.
     record {
       there = refl;
       reads = item_reads_itself _
@@ -169,7 +169,7 @@ pub call_law : (bodies : Bool) (c : CallView) → IfSome (call_data bodies c) (C
 unfolding field
 call_law bodies c =
     bind (node_data bodies c.node) _ (NodeHolds bodies c.node) (CallHolds bodies c) (node_law bodies c.node) (λ nd h.
-    bind (maybe_data path_data c.path) _ (MayHold path c.path) (CallHolds bodies c) (maybe_law path_data path path_law c.path) (λ pd k.
+    bind (maybe_data path_data c.path) _ (MayHold path_node_form c.path) (CallHolds bodies c) (maybe_law path_data path_node_form path_law c.path) (λ pd k.
     bind (context_data c.ctxt) _ (Holds context c.ctxt) (CallHolds bodies c) (context_law c.ctxt) (λ cd m.
     record {
       is = refl;
@@ -186,7 +186,7 @@ pub macro_rules_law : (bodies : Bool) (n : NodeView) (called : Option (List ℕ)
 unfolding field
 macro_rules_law bodies n called =
     bind (node_data bodies n) _ (NodeHolds bodies n) (Holds forms.item (macro_rules (node_kept bodies n) called)) (node_law bodies n) (λ nd h.
-    bind (maybe_data name_data called) _ (MayHold name called) (Holds forms.item (macro_rules (node_kept bodies n) called)) (maybe_law name_data name name_law called) (λ cd k.
+    bind (maybe_data name_data called) _ (MayHold identifier_form called) (Holds forms.item (macro_rules (node_kept bodies n) called)) (maybe_law name_data identifier_form name_law called) (λ cd k.
     record {
       there = refl;
       reads = item_reads_itself _ ∙ ap (macro_rules_by (macro_rules_object nd cd)) (node_reads bodies n nd (macro_rules_object nd cd) h refl refl refl refl) ∙ rw k.reads refl;

@@ -8,7 +8,7 @@ use Rattle.hir_input.specs.declared.ids.SyntaxContext.{SyntaxContext}
 use Rattle.hir_input.specs.declared.ids.SyntaxContext.TheVariants.{Root, Expanded}
 use Rattle.hir_input.specs.declared.span.Span.{Span}
 use Rattle.hir_input.specs.Literal.{LiteralView}
-use Rattle.hir_input_json.specs.Forms.{field, whole}
+use Rattle.hir_input_json.specs.Forms.{field, whole_form}
 use Rattle.hir_input_json.specs.Literals.{context, literal, span}
 use Rattle.hir_input_writer.specs.Literals.{context_data, is_same_context, literal_data, span_data, year_number}
 use Rattle.hir_input_writer.specs.Parts.{whole_data}
@@ -51,8 +51,8 @@ same_context (Expanded n) (Root b) h = absurd cc
 
 span_law : (ctxt : SyntaxContext) (s : Span) → ctxt ≡ s.ctxt → IfSome (span_data s) (Holds (span ctxt) s)
 span_law ctxt s is =
-    bind (whole_data (2 ^ 32) s.start) _ (Holds (whole (2 ^ 32)) s.start) (Holds (span ctxt) s) (whole_law (2 ^ 32) s.start) (λ a h.
-    bind (whole_data (2 ^ 32) s.end) _ (Holds (whole (2 ^ 32)) s.end) (Holds (span ctxt) s) (whole_law (2 ^ 32) s.end) (λ b k.
+    bind (whole_data (2 ^ 32) s.start) _ (Holds (whole_form (2 ^ 32)) s.start) (Holds (span ctxt) s) (whole_law (2 ^ 32) s.start) (λ a h.
+    bind (whole_data (2 ^ 32) s.end) _ (Holds (whole_form (2 ^ 32)) s.end) (Holds (span ctxt) s) (whole_law (2 ^ 32) s.end) (λ b k.
     record { there = refl; reads = rw (h.reads, k.reads, is) refl; exact = rw (h.exact, k.exact) refl }))
 
 literal_by : (b : Bool) (ctxt : SyntaxContext) (l : LiteralView) (Q : Data → Type 0) (o : Option Data) → (b ≡ true → IfSome o Q) → IfSome (if b then o else None) Q

@@ -7,8 +7,8 @@ use Rattle.hir_input.specs.Attr.{MetaView, MetaViews, path_meta, key_value_meta,
 use Rattle.hir_input_json.specs.Reading.{right}
 use Rattle.hir_input_json.specs.Forms.{field}
 use Rattle.hir_input_json.specs.Literals.{context, literal}
-use Rattle.hir_input_json.specs.Metas.{meta}
-use Rattle.hir_input_json.specs.Paths.{path}
+use Rattle.hir_input_json.specs.Metas.{meta_form}
+use Rattle.hir_input_json.specs.Paths.{path_node_form}
 use Rattle.hir_input_json.proofs.Attrs.{meta_reads_itself}
 use Rattle.hir_input_writer.specs.Cfgs.{cfg_data}
 use Rattle.hir_input_writer.specs.Literals.{context_data, literal_data}
@@ -33,49 +33,49 @@ pub listed_from : (ms : List MetaView) → listed (metas_from ms) ≡ ms
 listed_from [] = refl
 listed_from (m ∷ ms) = ap (λ rest. m ∷ rest) (listed_from ms)
 
-path_meta_law : (p : Option PathNode) (c : SyntaxContext) → IfSome (path_meta_data p c) (Holds meta (path_meta p c))
+path_meta_law : (p : Option PathNode) (c : SyntaxContext) → IfSome (path_meta_data p c) (Holds meta_form (path_meta p c))
 unfolding field
 path_meta_law p c =
-    bind (maybe_data path_data p) _ (MayHold path p) (Holds meta (path_meta p c)) (maybe_law path_data path path_law p) (λ d h.
-    bind (context_data c) _ (Holds context c) (Holds meta (path_meta p c)) (context_law c) (λ e k.
+    bind (maybe_data path_data p) _ (MayHold path_node_form p) (Holds meta_form (path_meta p c)) (maybe_law path_data path_node_form path_law p) (λ d h.
+    bind (context_data c) _ (Holds context c) (Holds meta_form (path_meta p c)) (context_law c) (λ e k.
     record { there = refl; reads = meta_reads_itself _ ∙ rw (h.reads, k.there, k.reads) refl; exact = rw (k.exact, h.exact) refl }))
 
-key_value_law : (p : Option PathNode) (v : Option LiteralView) (c : SyntaxContext) → IfSome (key_value_data p v c) (Holds meta (key_value_meta p v c))
+key_value_law : (p : Option PathNode) (v : Option LiteralView) (c : SyntaxContext) → IfSome (key_value_data p v c) (Holds meta_form (key_value_meta p v c))
 unfolding field
 key_value_law p v c =
-    bind (maybe_data path_data p) _ (MayHold path p) (Holds meta (key_value_meta p v c)) (maybe_law path_data path path_law p) (λ d h.
-    bind (maybe_data (literal_data c) v) _ (MayHold (literal c) v) (Holds meta (key_value_meta p v c)) (maybe_law (literal_data c) (literal c) (literal_law c) v) (λ f m.
-    bind (context_data c) _ (Holds context c) (Holds meta (key_value_meta p v c)) (context_law c) (λ e k.
+    bind (maybe_data path_data p) _ (MayHold path_node_form p) (Holds meta_form (key_value_meta p v c)) (maybe_law path_data path_node_form path_law p) (λ d h.
+    bind (maybe_data (literal_data c) v) _ (MayHold (literal c) v) (Holds meta_form (key_value_meta p v c)) (maybe_law (literal_data c) (literal c) (literal_law c) v) (λ f m.
+    bind (context_data c) _ (Holds context c) (Holds meta_form (key_value_meta p v c)) (context_law c) (λ e k.
     record { there = refl; reads = meta_reads_itself _ ∙ rw (h.reads, k.there, k.reads, m.reads) refl; exact = rw (k.exact, h.exact, m.exact) refl })))
 
-tokens_law : (p : Option PathNode) (t : List ℕ) (c : SyntaxContext) → IfSome (tokens_data p t c) (Holds meta (token_tree_meta p t c))
+tokens_law : (p : Option PathNode) (t : List ℕ) (c : SyntaxContext) → IfSome (tokens_data p t c) (Holds meta_form (token_tree_meta p t c))
 unfolding field
 tokens_law p t c =
-    bind (maybe_data path_data p) _ (MayHold path p) (Holds meta (token_tree_meta p t c)) (maybe_law path_data path path_law p) (λ d h.
-    bind (context_data c) _ (Holds context c) (Holds meta (token_tree_meta p t c)) (context_law c) (λ e k.
+    bind (maybe_data path_data p) _ (MayHold path_node_form p) (Holds meta_form (token_tree_meta p t c)) (maybe_law path_data path_node_form path_law p) (λ d h.
+    bind (context_data c) _ (Holds context c) (Holds meta_form (token_tree_meta p t c)) (context_law c) (λ e k.
     record { there = refl; reads = meta_reads_itself _ ∙ rw (h.reads, k.there, k.reads) refl; exact = rw (k.exact, h.exact) refl }))
 
 mutual
   unfolding field
 
-  pub meta_law : (m : MetaView) → IfSome (meta_data m) (Holds meta m)
+  pub meta_law : (m : MetaView) → IfSome (meta_data m) (Holds meta_form m)
   meta_law (path_meta p c) = path_meta_law p c
   meta_law (key_value_meta p v c) = key_value_law p v c
   meta_law (token_tree_meta p t c) = tokens_law p t c
   meta_law (cfg_meta c) =
-      mapped (cfg_data c) _ (CfgHolds c) (Holds meta (cfg_meta c)) (cfg_law c)
+      mapped (cfg_data c) _ (CfgHolds c) (Holds meta_form (cfg_meta c)) (cfg_law c)
       (λ d h. record { there = refl; reads = meta_reads_itself _ ∙ rw h.reads refl; exact = rw h.exact refl })
   meta_law (cfg_attr_meta c ms) =
-      bind (cfg_data c) _ (CfgHolds c) (Holds meta (cfg_attr_meta c ms)) (cfg_law c) (λ d h.
-      bind (metas_data ms) _ (HoldEach meta (listed ms)) (Holds meta (cfg_attr_meta c ms)) (metas_law ms) (λ ds hs.
+      bind (cfg_data c) _ (CfgHolds c) (Holds meta_form (cfg_attr_meta c ms)) (cfg_law c) (λ d h.
+      bind (metas_data ms) _ (HoldEach meta_form (listed ms)) (Holds meta_form (cfg_attr_meta c ms)) (metas_law ms) (λ ds hs.
       record { there = refl; reads = meta_reads_itself _ ∙ rw (h.reads, hs.reads 0) (ap (λ x. right (cfg_attr_meta c x)) (from_listed ms)); exact = rw (h.exact, hs.exact) refl }))
   meta_law (unsafe_meta m) =
-      mapped (meta_data m) _ (Holds meta m) (Holds meta (unsafe_meta m)) (meta_law m)
+      mapped (meta_data m) _ (Holds meta_form m) (Holds meta_form (unsafe_meta m)) (meta_law m)
       (λ d h. record { there = refl; reads = meta_reads_itself _ ∙ rw (h.there, h.reads) refl; exact = rw h.exact refl })
 
-  pub metas_law : (ms : MetaViews) → IfSome (metas_data ms) (HoldEach meta (listed ms))
+  pub metas_law : (ms : MetaViews) → IfSome (metas_data ms) (HoldEach meta_form (listed ms))
   metas_law no_metas = record { reads = λ n. refl; exact = refl }
   metas_law (meta_and m ms) =
-      bind (meta_data m) _ (Holds meta m) (HoldEach meta (m ∷ listed ms)) (meta_law m) (λ d h.
-      bind (metas_data ms) _ (HoldEach meta (listed ms)) (HoldEach meta (m ∷ listed ms)) (metas_law ms) (λ ds hs.
+      bind (meta_data m) _ (Holds meta_form m) (HoldEach meta_form (m ∷ listed ms)) (meta_law m) (λ d h.
+      bind (metas_data ms) _ (HoldEach meta_form (listed ms)) (HoldEach meta_form (m ∷ listed ms)) (metas_law ms) (λ ds hs.
       record { reads = λ n. rw (h.reads, hs.reads (n + 1)) refl; exact = rw (h.exact, hs.exact) refl }))

@@ -8,8 +8,8 @@ use Rattle.hir_input.specs.declared.ast.PathNode.TheVariants.{Readable, Unreadab
 use Rattle.hir_input.specs.declared.ast.Visibility.{Visibility}
 use Rattle.hir_input.specs.declared.ast.Visibility.TheVariants.{Pub, PubCrate, PubSuper, PubSelf, InPath}
 use Rattle.hir_input_json.specs.Reading.{Reading, right, wrong, under, ◌>>=◌}
-use Rattle.hir_input_json.specs.Forms.{each_from, field, name, whole}
-use Rattle.hir_input_json.specs.Paths.{path, visibility}
+use Rattle.hir_input_json.specs.Forms.{each_from, field, identifier_form, whole_form}
+use Rattle.hir_input_json.specs.Paths.{path_node_form, vis_form}
 use Rattle.hir_input_writer.specs.Parts.{each_data, name_data, whole_data}
 use Rattle.hir_input_writer.specs.Paths.{kind_data, path_data, visibility_data}
 use Rattle.hir_input_writer.specs.Held.{Holds, HoldEach}
@@ -30,32 +30,32 @@ not_none (right a) (right as') h = absurd cc
 abbrev node_of : PathKind → List (List ℕ) → PathNode
 node_of kind names = Readable (record { kind = kind; names = names })
 
-plain_law : (names : List (List ℕ)) (d : Data) (ds : Items) → HoldEach name names (item d ds) → Holds path (node_of Plain names) (array (item (string (codes "plain")) (item d ds)))
-plain_law [] d ds h = absurd (not_none (under (decimal 1) (name d)) (each_from 2 name ds) (h.reads 1))
+plain_law : (names : List (List ℕ)) (d : Data) (ds : Items) → HoldEach identifier_form names (item d ds) → Holds path_node_form (node_of Plain names) (array (item (string (codes "plain")) (item d ds)))
+plain_law [] d ds h = absurd (not_none (under (decimal 1) (identifier_form d)) (each_from 2 identifier_form ds) (h.reads 1))
 plain_law (n ∷ ns) d ds h = record { there = refl; reads = rw (h.reads 1) refl; exact = h.exact }
 
-kind_law : (kind : PathKind) (names : List (List ℕ)) (ds : Items) → HoldEach name names ds → IfSome (kind_data kind ds) (Holds path (node_of kind names))
+kind_law : (kind : PathKind) (names : List (List ℕ)) (ds : Items) → HoldEach identifier_form names ds → IfSome (kind_data kind ds) (Holds path_node_form (node_of kind names))
 kind_law Plain names no_items h = tt
 kind_law Plain names (item d ds) h = plain_law names d ds h
 kind_law (Super n) names ds h =
-    mapped (whole_data (2 ^ 32) n) _ (Holds (whole (2 ^ 32)) n) (Holds path (node_of (Super n) names)) (whole_law (2 ^ 32) n)
+    mapped (whole_data (2 ^ 32) n) _ (Holds (whole_form (2 ^ 32)) n) (Holds path_node_form (node_of (Super n) names)) (whole_law (2 ^ 32) n)
     (λ d k. record { there = refl; reads = rw (k.reads, h.reads 2) refl; exact = rw (k.exact, h.exact) refl })
 kind_law Crate names ds h = record { there = refl; reads = rw (h.reads 1) refl; exact = h.exact }
 kind_law Abs names ds h = record { there = refl; reads = rw (h.reads 1) refl; exact = h.exact }
 kind_law (DollarCrate c) names ds h =
-    mapped (whole_data (2 ^ 32) c.0) _ (Holds (whole (2 ^ 32)) c.0) (Holds path (node_of (DollarCrate c) names)) (whole_law (2 ^ 32) c.0)
+    mapped (whole_data (2 ^ 32) c.0) _ (Holds (whole_form (2 ^ 32)) c.0) (Holds path_node_form (node_of (DollarCrate c) names)) (whole_law (2 ^ 32) c.0)
     (λ d k. record { there = refl; reads = rw (k.reads, h.reads 2) refl; exact = rw (k.exact, h.exact) refl })
 
-pub path_law : (p : PathNode) → IfSome (path_data p) (Holds path p)
+pub path_law : (p : PathNode) → IfSome (path_data p) (Holds path_node_form p)
 path_law (Readable p) =
-    bind (each_data name_data p.names) (kind_data p.kind) (HoldEach name p.names) (Holds path (Readable p)) (each_law name_data name name_law p.names) (λ ds h. kind_law p.kind p.names ds h)
+    bind (each_data name_data p.names) (kind_data p.kind) (HoldEach identifier_form p.names) (Holds path_node_form (Readable p)) (each_law name_data identifier_form name_law p.names) (λ ds h. kind_law p.kind p.names ds h)
 path_law Unreadable = record { there = refl; reads = refl; exact = refl }
 
-pub visibility_law : (v : Visibility) → IfSome (visibility_data v) (Holds visibility v)
+pub visibility_law : (v : Visibility) → IfSome (visibility_data v) (Holds vis_form v)
 unfolding field
 visibility_law Pub = record { there = refl; reads = refl; exact = refl }
 visibility_law PubCrate = record { there = refl; reads = refl; exact = refl }
 visibility_law PubSuper = record { there = refl; reads = refl; exact = refl }
 visibility_law PubSelf = record { there = refl; reads = refl; exact = refl }
 visibility_law (InPath p) =
-    mapped (path_data p) _ (Holds path p) (Holds visibility (InPath p)) (path_law p) (λ d h. record { there = refl; reads = rw (h.there, h.reads) refl; exact = rw h.exact refl })
+    mapped (path_data p) _ (Holds path_node_form p) (Holds vis_form (InPath p)) (path_law p) (λ d h. record { there = refl; reads = rw (h.there, h.reads) refl; exact = rw h.exact refl })

@@ -2,19 +2,19 @@
 use Rattle.std.proofs.Common.{◌≡◌, ◌<◌, ℕ, List, [], ◌∷◌, length, Option, Some, None, option_and_then, codes, refl, arith}
 use Rattle.serde_json.specs.Data.{Data, Items, item}
 use Rattle.hir_input.specs.declared.mod_path.PathKind.TheVariants.{Plain}
-use Rattle.hir_input_writer.specs.Paths.{behind, kind_data}
+use Rattle.hir_input_writer.specs.Paths.{word_and_names, kind_data}
 use Rattle.hir_input_writer.proofs.Lists.{lists}
 use Rattle.hir_input_writer.specs.Parts.{each_data, name_data}
 
 plain_by : (n : Option Data) (ns : Option Items)
     → option_and_then (kind_data Plain) (option_and_then (λ d. option_and_then (λ ds. Some (item d ds)) ns) n)
-    ≡ option_and_then (behind (codes "plain") None) (option_and_then (λ d. option_and_then (λ ds. Some (item d ds)) ns) n)
+    ≡ option_and_then (word_and_names (codes "plain") None) (option_and_then (λ d. option_and_then (λ ds. Some (item d ds)) ns) n)
 plain_by None ns = refl
 plain_by (Some d) None = refl
 plain_by (Some d) (Some ds) = refl
 
 -- a plain path, which has a name
-pub plain_names : (names : List (List ℕ)) → 0 < length names → option_and_then (kind_data Plain) (each_data name_data names) ≡ option_and_then (behind (codes "plain") None) (each_data name_data names)
+pub plain_names : (names : List (List ℕ)) → 0 < length names → option_and_then (kind_data Plain) (each_data name_data names) ≡ option_and_then (word_and_names (codes "plain") None) (each_data name_data names)
 plain_names [] h = absurd (omega (arith, h))
 plain_names (n ∷ ns) h = plain_by (name_data n) (each_data name_data ns)
 

@@ -10,7 +10,7 @@ use Rattle.hir_input_json.specs.Syntaxes.{stmt, tail}
 use Rattle.hir_input_writer.specs.Held.{Holds, HoldEach}
 use Rattle.hir_input_writer.specs.Items.{attrs_data, call_data, item_data, items_data}
 use Rattle.hir_input_writer.specs.Kept.{call_kept, item_kept, items_kept, named_kept, node_kept, stmt_kept, tail_kept}
-use Rattle.hir_input_writer.specs.Laws.{IsReadAs, kept}
+use Rattle.hir_input_writer.specs.Laws.{IsReadAs, kept_bodies}
 use Rattle.hir_input_writer.specs.Parts.{each_data}
 use Rattle.hir_input_writer.specs.Syntaxes.{stmt_data, syntax_data, tail_data}
 use Rattle.serde_json.specs.Written.{has_float}
@@ -135,7 +135,7 @@ tail_bare no_tail = refl
 tail_bare (call_tail c) = refl
 tail_bare other_tail = refl
 
-is_kept : (bodies : Bool) (s : SyntaxView) → syntax_kept bodies s ≡ kept bodies s
+is_kept : (bodies : Bool) (s : SyntaxView) → syntax_kept bodies s ≡ kept_bodies bodies s
 is_kept true (source_file attrs is) = ap (source_file attrs) (items_all is)
 is_kept true (macro_items is) = ap macro_items (items_all is)
 is_kept true (macro_stmts ss t) = rw (stmts_all ss, tail_all t) refl
@@ -147,9 +147,9 @@ is_kept false (macro_stmts ss t) = rw (stmts_bare ss, tail_bare t) refl
 is_kept false (block_expr attrs ss t) = rw (stmts_bare ss, tail_bare t) refl
 is_kept false error = refl
 
-pub syntax_read : (bodies : Bool) (s : SyntaxView) → IfSome (syntax_data bodies s) (IsReadAs (kept bodies s))
+pub syntax_read : (bodies : Bool) (s : SyntaxView) → IfSome (syntax_data bodies s) (IsReadAs (kept_bodies bodies s))
 syntax_read bodies s = subst (λ t. IfSome (syntax_data bodies s) (IsReadAs t)) (is_kept bodies s) (syntax_law bodies s)
 
 -- whatever data it is
-pub read_again : (bodies : Bool) (s : SyntaxView) (d : Data) → syntax_data bodies s ≡ Some d → IsReadAs (kept bodies s) d
-read_again bodies s d is = subst (λ o. IfSome o (IsReadAs (kept bodies s))) is (syntax_read bodies s)
+pub read_again : (bodies : Bool) (s : SyntaxView) (d : Data) → syntax_data bodies s ≡ Some d → IsReadAs (kept_bodies bodies s) d
+read_again bodies s d is = subst (λ o. IfSome o (IsReadAs (kept_bodies bodies s))) is (syntax_read bodies s)

@@ -6,8 +6,8 @@ use Rattle.hir_input.specs.declared.ast.Rename.{Rename}
 use Rattle.hir_input.specs.UseTreeView.{UseNode, UseTreeView, UseTreeViews, bare_tree, listed_tree, no_trees, tree_and, tree_from, trees_from}
 use Rattle.hir_input_json.specs.Reading.{right, reading_map}
 use Rattle.hir_input_json.specs.Forms.{field, list_of, maybe, unless_null}
-use Rattle.hir_input_json.specs.Paths.{path}
-use Rattle.hir_input_json.specs.UseTrees.{rename, use_tree}
+use Rattle.hir_input_json.specs.Paths.{path_node_form}
+use Rattle.hir_input_json.specs.UseTrees.{rename_form, use_tree_form}
 use Rattle.hir_input_json.proofs.UseTrees.{use_tree_reads_itself}
 use Rattle.hir_input_writer.specs.Held.{Holds, MayHold, HoldEach}
 use Rattle.hir_input_writer.specs.Parts.{maybe_data, name_data}
@@ -20,13 +20,13 @@ other_by : (b : Bool) (n : List ℕ) (Q : Data → Type 0) (o : Option Data) →
 other_by true n Q o k = tt
 other_by false n Q o k = k refl
 
-renamed_law : (n : Option (List ℕ)) → IfSome (renamed_data n) (Holds rename (record { name = n }))
+renamed_law : (n : Option (List ℕ)) → IfSome (renamed_data n) (Holds rename_form (record { name = n }))
 renamed_law None = record { there = refl; reads = refl; exact = refl }
 renamed_law (Some n) =
-    other_by (bytes_eq n (codes "_")) n (Holds rename (record { name = Some n })) (name_data n) (λ e.
-    named_law n (Holds rename (record { name = Some n })) (λ k. record { there = refl; reads = rw (e, k) refl; exact = refl }))
+    other_by (bytes_eq n (codes "_")) n (Holds rename_form (record { name = Some n })) (name_data n) (λ e.
+    named_law n (Holds rename_form (record { name = Some n })) (λ k. record { there = refl; reads = rw (e, k) refl; exact = refl }))
 
-pub rename_law : (r : Rename) → IfSome (rename_data r) (Holds rename r)
+pub rename_law : (r : Rename) → IfSome (rename_data r) (Holds rename_form r)
 rename_law r = renamed_law r.name
 
 abbrev listed : UseTreeViews → List UseTreeView
@@ -38,24 +38,24 @@ from_listed no_trees = refl
 from_listed (tree_and t ts) = ap (tree_and t) (from_listed ts)
 
 -- over the reading of the list that is written
-node_law : (node : UseNode) (list : Data) (ts : Option (List UseTreeView)) → maybe (list_of use_tree) (unless_null list) ≡ right ts → has_float list ≡ false
-    → IfSome (use_node_data node list) (Holds use_tree (tree_from node ts))
+node_law : (node : UseNode) (list : Data) (ts : Option (List UseTreeView)) → maybe (list_of use_tree_form) (unless_null list) ≡ right ts → has_float list ≡ false
+    → IfSome (use_node_data node list) (Holds use_tree_form (tree_from node ts))
 unfolding field
 node_law node list ts is exact =
-    bind (maybe_data path_data node.path) _ (MayHold path node.path) (Holds use_tree (tree_from node ts)) (maybe_law path_data path path_law node.path) (λ d h.
-    bind (maybe_data rename_data node.rename) _ (MayHold rename node.rename) (Holds use_tree (tree_from node ts)) (maybe_law rename_data rename rename_law node.rename) (λ e k.
+    bind (maybe_data path_data node.path) _ (MayHold path_node_form node.path) (Holds use_tree_form (tree_from node ts)) (maybe_law path_data path_node_form path_law node.path) (λ d h.
+    bind (maybe_data rename_data node.rename) _ (MayHold rename_form node.rename) (Holds use_tree_form (tree_from node ts)) (maybe_law rename_data rename_form rename_law node.rename) (λ e k.
     record { there = refl; reads = use_tree_reads_itself _ ∙ rw (h.reads, k.reads, is) refl; exact = rw (exact, h.exact, k.exact) refl }))
 
 mutual
-  pub use_tree_law : (t : UseTreeView) → IfSome (use_tree_data t) (Holds use_tree t)
+  pub use_tree_law : (t : UseTreeView) → IfSome (use_tree_data t) (Holds use_tree_form t)
   use_tree_law (bare_tree node) = node_law node null None refl refl
   use_tree_law (listed_tree node ts) =
-      bind (use_trees_data ts) _ (HoldEach use_tree (listed ts)) (Holds use_tree (listed_tree node ts)) (use_trees_law ts) (λ ds h.
-      subst (λ us. IfSome (use_node_data node (array ds)) (Holds use_tree (listed_tree node us))) (from_listed ts) (node_law node (array ds) (Some (listed ts)) (ap (reading_map Some) (h.reads 0)) h.exact))
+      bind (use_trees_data ts) _ (HoldEach use_tree_form (listed ts)) (Holds use_tree_form (listed_tree node ts)) (use_trees_law ts) (λ ds h.
+      subst (λ us. IfSome (use_node_data node (array ds)) (Holds use_tree_form (listed_tree node us))) (from_listed ts) (node_law node (array ds) (Some (listed ts)) (ap (reading_map Some) (h.reads 0)) h.exact))
 
-  pub use_trees_law : (ts : UseTreeViews) → IfSome (use_trees_data ts) (HoldEach use_tree (listed ts))
+  pub use_trees_law : (ts : UseTreeViews) → IfSome (use_trees_data ts) (HoldEach use_tree_form (listed ts))
   use_trees_law no_trees = record { reads = λ n. refl; exact = refl }
   use_trees_law (tree_and t ts) =
-      bind (use_tree_data t) _ (Holds use_tree t) (HoldEach use_tree (t ∷ listed ts)) (use_tree_law t) (λ d h.
-      bind (use_trees_data ts) _ (HoldEach use_tree (listed ts)) (HoldEach use_tree (t ∷ listed ts)) (use_trees_law ts) (λ ds hs.
+      bind (use_tree_data t) _ (Holds use_tree_form t) (HoldEach use_tree_form (t ∷ listed ts)) (use_tree_law t) (λ d h.
+      bind (use_trees_data ts) _ (HoldEach use_tree_form (listed ts)) (HoldEach use_tree_form (t ∷ listed ts)) (use_trees_law ts) (λ ds hs.
       record { reads = λ n. rw (h.reads, hs.reads (n + 1)) refl; exact = rw (h.exact, hs.exact) refl }))

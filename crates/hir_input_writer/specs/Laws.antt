@@ -8,9 +8,9 @@ use Rattle.hir_input_json.specs.Reading.{right}
 use Rattle.hir_input_json.specs.Syntaxes.{syntax}
 
 -- with the bodies, or without
-abbrev pub kept : Bool → SyntaxView → SyntaxView
-kept true s = s
-kept false s = without_bodies s
+abbrev pub kept_bodies : Bool → SyntaxView → SyntaxView
+kept_bodies true s = s
+kept_bodies false s = without_bodies s
 
 -- the data is read as the syntax, and no number of it is a float
 pub record IsReadAs (s : SyntaxView) (d : Data) : Type 0 where

@@ -11,18 +11,18 @@ use Rattle.hir_input.specs.Path.{Path}
 use Rattle.hir_input_writer.specs.Parts.{each_data, name_data, whole_data, ◌>>=◌}
 
 -- a word, a number where there is one, and names
-abbrev pub behind : List ℕ → Option ℕ → Items → Option Data
-behind word None names = Some (array (item (string word) names))
-behind word (Some n) names = option_map (λ d. array (item (string word) (item d names))) (whole_data (2 ^ 32) n)
+abbrev pub word_and_names : List ℕ → Option ℕ → Items → Option Data
+word_and_names word None names = Some (array (item (string word) names))
+word_and_names word (Some n) names = option_map (λ d. array (item (string word) (item d names))) (whole_data (2 ^ 32) n)
 
 -- behind the word of a kind; a plain path has a name
 abbrev pub kind_data : PathKind → Items → Option Data
 kind_data Plain no_items = None
-kind_data Plain (item d ds) = behind (codes "plain") None (item d ds)
-kind_data (Super n) names = behind (codes "super") (Some n) names
-kind_data Crate names = behind (codes "crate") None names
-kind_data Abs names = behind (codes "abs") None names
-kind_data (DollarCrate c) names = behind (codes "dollar") (Some c.0) names
+kind_data Plain (item d ds) = word_and_names (codes "plain") None (item d ds)
+kind_data (Super n) names = word_and_names (codes "super") (Some n) names
+kind_data Crate names = word_and_names (codes "crate") None names
+kind_data Abs names = word_and_names (codes "abs") None names
+kind_data (DollarCrate c) names = word_and_names (codes "dollar") (Some c.0) names
 
 abbrev pub mod_path_data : Path → Option Data
 mod_path_data p = do

@@ -9,19 +9,19 @@ use Rattle.hir_input_writer.specs.Parts.{each_data, ◌>>=◌}
 abbrev pub item_object : Data → Data
 item_object d = object (member (codes "item") d no_members)
 
-abbrev pub call_object : Data → Data
-call_object d = object (member (codes "call") d no_members)
+abbrev pub call_syntax_object : Data → Data
+call_syntax_object d = object (member (codes "call") d no_members)
 
 -- a statement
 abbrev pub stmt_data : Bool → StmtView → Option Data
 stmt_data bodies (item_stmt i) = option_map item_object (item_data bodies i)
-stmt_data bodies (call_stmt c) = option_map call_object (call_data bodies c)
+stmt_data bodies (call_stmt c) = option_map call_syntax_object (call_data bodies c)
 stmt_data bodies other_stmt = Some (string (codes "other"))
 
 -- a tail, null where there is nothing
 abbrev pub tail_data : Bool → TailView → Option Data
 tail_data bodies no_tail = Some null
-tail_data bodies (call_tail c) = option_map call_object (call_data bodies c)
+tail_data bodies (call_tail c) = option_map call_syntax_object (call_data bodies c)
 tail_data bodies other_tail = Some (string (codes "other"))
 
 abbrev pub source_object : Data → Items → Data

@@ -1,7 +1,7 @@
 //! Names as JSON texts.
 ghost use Rattle.std.specs.Prelude.{IfOk};
 ghost use Rattle.serde_json.specs.View.{view};
-ghost use Rattle.hir_input_json.specs.Forms.{name as name_form};
+ghost use Rattle.hir_input_json.specs.Forms.{identifier_form as name_form};
 ghost use Rattle.hir_input_writer.specs.Held.{Holds};
 ghost use Rattle.hir_input_writer.specs.Parts.{maybe_data, name_data};
 ghost use Rattle.hir_input_writer.specs.Writes.{Writes};

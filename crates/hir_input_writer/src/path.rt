@@ -3,7 +3,7 @@ ghost use Rattle.std.specs.Prelude.{map, option_and_then};
 ghost use Rattle.serde_json.specs.View.{view, items_view};
 ghost use Rattle.hir_input_writer.specs.Lists.{joined};
 ghost use Rattle.hir_input_writer.specs.Parts.{each_data, maybe_data, name_data};
-ghost use Rattle.hir_input_writer.specs.Paths.{behind as behind_data, mod_path_data, path_data};
+ghost use Rattle.hir_input_writer.specs.Paths.{word_and_names as behind_data, mod_path_data, path_data};
 ghost use Rattle.hir_input_writer.specs.Writes.{Writes};
 
 use crate::fault::WriteFault;

@@ -3,7 +3,7 @@ ghost use Rattle.std.specs.Prelude.{◌≡◌, IfOk, map};
 ghost use Rattle.serde_json.specs.View.{view, items_view};
 ghost use Rattle.hir_input.specs.Attr.{meta_view};
 ghost use Rattle.hir_input.specs.Syntax.{items_view as items_seen, stmt_view, syntax_view, tail_view};
-ghost use Rattle.hir_input_writer.specs.Laws.{IsReadAs, kept};
+ghost use Rattle.hir_input_writer.specs.Laws.{IsReadAs, kept_bodies};
 ghost use Rattle.hir_input_writer.specs.Parts.{each_data};
 ghost use Rattle.hir_input_writer.specs.Syntaxes as objects;
 ghost use Rattle.hir_input_writer.specs.Syntaxes.{macro_items_data, macro_stmts_data, source_data, stmt_data, syntax_data, tail_data};
@@ -26,7 +26,7 @@ fn item_object(alloc: Global, item: Value) -> Result<Value, AllocError>
 }
 
 fn call_object(alloc: Global, call: Value) -> Result<Value, AllocError>
-    ensures { IfOk result (λ v. view v ≡ objects.call_object (view call)) }
+    ensures { IfOk result (λ v. view v ≡ objects.call_syntax_object (view call)) }
 {
     one(alloc, "call", call)
 }
@@ -159,7 +159,7 @@ fn written(alloc: Global, syntax: &Syntax, bodies: bool) -> Result<Value, WriteF
 /// context than its meta. Else `OutOfMemory`.
 pub fn syntax_value(alloc: Global, syntax: &Syntax, bodies: bool) -> Result<Value, WriteFault>
     ensures written { Writes view result (syntax_data bodies (syntax_view syntax.now)) }
-    ensures reads { IfOk result (λ v. IsReadAs (kept bodies (syntax_view syntax.now)) (view v)) }
+    ensures reads { IfOk result (λ v. IsReadAs (kept_bodies bodies (syntax_view syntax.now)) (view v)) }
 {
     let value = written(alloc, syntax, bodies)?;
     Ok(value)

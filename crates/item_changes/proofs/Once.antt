@@ -12,7 +12,7 @@ use Rattle.tree_walk.specs.Preorder.{preorder}
 use Rattle.tree_walk.specs.Rows.{Around, RowView, scope_below, is_enabled, is_file_enabled, row, node_rows, forest_rows}
 use Rattle.item_changes.specs.declared.matching.Match.{Match}
 use Rattle.item_changes.specs.declared.matching.Match.TheVariants.{Gone, Came, Stays}
-use Rattle.item_changes.specs.Changes.{Item, ItemKey, is_like, same_item_key, item_key, ChangeView, change_of, items, changes}
+use Rattle.item_changes.specs.Changes.{Item, ItemKey, is_like, same_item_key, item_key, ChangeView, change_of, tree_items, changes}
 use Rattle.item_changes.specs.Matches.{match_map, matched}
 use Rattle.item_changes.specs.Own.{own, node_code}
 use Rattle.item_changes.proofs.Seen.{matched_itself, matched_seen}
@@ -94,7 +94,7 @@ none_between a b f =
     (matched_seen enabled_item is_like (items_in a f) (items_in b f) ∙ ap (λ is. matched is_like is (map enabled_item (items_in b f))) (items_alike a b f) ∙ matched_itself is_like like_itself (map enabled_item (items_in b f)))
 
 none_alike : (u w : Unfolding) → u.forest ≡ w.forest → changes u w ≡ []
-none_alike u w e = ap (λ f. flat_map change_of (matched is_like (items_in (is_file_enabled u) f) (items w))) e ∙ none_between (is_file_enabled u) (is_file_enabled w) w.forest
+none_alike u w e = ap (λ f. flat_map change_of (matched is_like (items_in (is_file_enabled u) f) (tree_items w))) e ∙ none_between (is_file_enabled u) (is_file_enabled w) w.forest
 
 pub none_itself : (u : Unfolding) → changes u u ≡ []
 none_itself u = none_alike u u refl

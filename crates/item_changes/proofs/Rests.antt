@@ -16,7 +16,7 @@ use Rattle.item_tree.specs.Tree.{tree_of}
 use Rattle.item_tree.proofs.Equal.{call_decides}
 use Rattle.item_changes.specs.declared.own.Rest.TheVariants.{Named, Struct, Mod, Use, ExternCrate, ExternBlock, Impl, MacroCall}
 use Rattle.item_changes.specs.contracts.own.RestPartialEq.TheImpl as rest_eqs
-use Rattle.item_changes.specs.Inner.{named, struct_rest, module_rest, use_rest, crate_rest, impl_rest, call_rest, rest_view}
+use Rattle.item_changes.specs.Inner.{named, struct_rest, module_rest, use_rest, crate_rest, impl_rest, call_rest, own_rest_view}
 
 never : {P : Type 0} → (P → ⊥) → Decides false P
 never f = (λ h. absurd (false≢true h), λ p. absurd (f p))
@@ -37,7 +37,7 @@ lent_decide test d (Some a) (Some b) = Decides-like _ (ap Some) (λ e. cc) (d a.
 lent_decide test d None (Some b) = never (λ e. cc)
 lent_decide test d (Some a) None = never (λ e. cc)
 
-pub rest_decides : DecidesEqOf rest_view rest_eqs.ghosts.eq
+pub rest_decides : DecidesEqOf own_rest_view rest_eqs.ghosts.eq
 rest_decides (Named k n) (Named l m) = Decides-like _ (λ p i. named (p.0 i) (p.1 i)) (λ e. (cc, cc)) (Decides-and _ _ (tag_decides k l) (lent_decide (pointwise nat_eq) name_decides n m))
 rest_decides (Struct n s) (Struct m t) = Decides-like _ (λ p i. struct_rest (p.0 i) (p.1 i)) (λ e. (cc, cc)) (Decides-and _ _ (name_decides n.now m.now) (shape_decides s t))
 rest_decides (Mod n b) (Mod m c) = Decides-like _ (λ p i. module_rest (p.0 i) (p.1 i)) (λ e. (cc, cc)) (Decides-and _ _ (name_decides n.now m.now) (booleans_Decides b c))

@@ -5,8 +5,8 @@ use Rattle.std.proofs.lemmas.List.{length-map, map-append}
 use Rattle.hir_input.specs.declared.ids.FileAstId.{FileAstId}
 use Rattle.item_tree.specs.Node.{Node, leaf, parent, Forest, empty, more, node_ast, Unfolding}
 use Rattle.tree_walk.specs.Preorder.{node_preorder, preorder}
-use Rattle.tree_walk.specs.Rows.{Around, RowView, row, below, node_rows, forest_rows, rows, top}
-use Rattle.item_changes.specs.Changes.{Item, items}
+use Rattle.tree_walk.specs.Rows.{Around, RowView, row, around_inside, node_rows, forest_rows, rows, top}
+use Rattle.item_changes.specs.Changes.{Item, tree_items}
 use Rattle.item_changes.specs.Own.{own}
 
 abbrev id_of : RowView → FileAstId
@@ -15,7 +15,7 @@ id_of r = r.id
 mutual
   node_sides : (a : Around) (n : Node) → map id_of (node_rows a n) ≡ map node_ast (node_preorder n)
   node_sides a (leaf h l) = refl
-  node_sides a (parent h t f) = ap (λ (ids : List FileAstId). node_ast (parent h t f) ∷ ids) (forest_sides (below (row a (parent h t f))) f)
+  node_sides a (parent h t f) = ap (λ (ids : List FileAstId). node_ast (parent h t f) ∷ ids) (forest_sides (around_inside (row a (parent h t f))) f)
 
   forest_sides : (a : Around) (f : Forest) → map id_of (forest_rows a f) ≡ map node_ast (preorder f)
   forest_sides a empty = refl
@@ -38,8 +38,8 @@ second_sides [] (y ∷ ys) e = absurd (omega arith)
 second_sides (x ∷ xs) [] e = absurd (omega arith)
 second_sides (x ∷ xs) (y ∷ ys) e = ap (λ zs. y ∷ zs) (second_sides xs ys (omega arith))
 
-pub all_rows : (u : Unfolding) → map (λ (i : Item). i.0) (items u) ≡ rows u
+pub all_rows : (u : Unfolding) → map (λ (i : Item). i.0) (tree_items u) ≡ rows u
 all_rows u = first_sides (rows u) (map own (preorder u.forest)) (as_many u)
 
-pub all_owns : (u : Unfolding) → map (λ (i : Item). i.1) (items u) ≡ map own (preorder u.forest)
+pub all_owns : (u : Unfolding) → map (λ (i : Item). i.1) (tree_items u) ≡ map own (preorder u.forest)
 all_owns u = second_sides (rows u) (map own (preorder u.forest)) (as_many u)

@@ -10,7 +10,7 @@ use Rattle.std.proofs.lemmas.List.{map-append, take_more}
 use Rattle.std.proofs.lemmas.List.Elements.{filter-append}
 use Rattle.std.proofs.lemmas.List.Sums.{count_by-le-length, length-filter, sum_by-append}
 use Rattle.item_changes.specs.declared.matching.Keyed.{Keyed}
-use Rattle.item_changes.specs.Matches.{partner, partners_behind, partners, pair_now, count_of, CountsOne, same_keys, CountsAll, FindsAll}
+use Rattle.item_changes.specs.Matches.{partner, partners_behind, partners, pair_now, key_count, CountsKey, same_keys, CountsAll, FindsAll}
 
 pub count_more : {A : Type 0} (p : A → Bool) (xs : List A) (x : A) → count_by p (xs ++ x ∷ []) ≡ count_by p xs + cond (p x) 1 0
 count_more p xs x = let one : 0 + cond (p x) 1 0 ≡ cond (p x) 1 0 = omega arith in sum_by-append (λ y. cond (p y) 1 0) xs (x ∷ []) ∙ ap (λ n. count_by p xs + n) one
@@ -48,34 +48,34 @@ pairs_more like others xs x pairs pushed p e v inv = ap (map pair_now) e ∙ map
 
 module _ {K : Type 0} {same : K → K → Bool} (laws : IsEquivalence same) where
   -- equal keys have one count
-  get_same : (counts : HashMap K ℕ (BuildHasherDefault FoldHasher)) (k q : K) → same k q ≡ true → count_of same counts k ≡ count_of same counts q
+  get_same : (counts : HashMap K ℕ (BuildHasherDefault FoldHasher)) (k q : K) → same k q ≡ true → key_count same counts k ≡ key_count same counts q
   get_same counts k q h = λ i. unwrap_or (get_by (λ z. laws.congr k q z h i) counts) 0
 
   -- what a table has after a count is put in it
-  pub count_put : (old new : HashMap K ℕ (BuildHasherDefault FoldHasher)) (k : K) (n : ℕ) → n ≡ count_of same old k → ((q : K) → get same new q ≡ cond (same k q) (Some (n + 1)) (get same old q)) → CountsOne same old new k
+  pub count_put : (old new : HashMap K ℕ (BuildHasherDefault FoldHasher)) (k : K) (n : ℕ) → n ≡ key_count same old k → ((q : K) → get same new q ≡ cond (same k q) (Some (n + 1)) (get same old q)) → CountsKey same old new k
   count_put old new k n e put q = ⊎_elim
       (λ (t : same k q ≡ true).
       let here : get same new q ≡ Some (n + 1) = put q ∙ ap (λ b. cond b (Some (n + 1)) (get same old q)) t in
-      ap (λ o. unwrap_or o 0) here ∙ ap (λ m. m + 1) (e ∙ get_same old k q t) ∙ sym (ap (λ b. count_of same old q + cond b 1 0) t))
+      ap (λ o. unwrap_or o 0) here ∙ ap (λ m. m + 1) (e ∙ get_same old k q t) ∙ sym (ap (λ b. key_count same old q + cond b 1 0) t))
       (λ (t : same k q ≡ false).
       let there : get same new q ≡ get same old q = put q ∙ ap (λ b. cond b (Some (n + 1)) (get same old q)) t in
-      let none : count_of same old q ≡ count_of same old q + 0 = omega arith in
-      ap (λ o. unwrap_or o 0) there ∙ none ∙ sym (ap (λ b. count_of same old q + cond b 1 0) t))
+      let none : key_count same old q ≡ key_count same old q + 0 = omega arith in
+      ap (λ o. unwrap_or o 0) there ∙ none ∙ sym (ap (λ b. key_count same old q + cond b 1 0) t))
       (cases_Bool (same k q))
 
   module _ {T : Type 0} where
     -- one more is counted
-    pub one_counted : (old new : HashMap K ℕ (BuildHasherDefault FoldHasher)) (xs : List (Keyed K T)) (x : Keyed K T) → CountsOne same old new x.key → CountsAll same old xs → CountsAll same new (xs ++ x ∷ [])
+    pub one_counted : (old new : HashMap K ℕ (BuildHasherDefault FoldHasher)) (xs : List (Keyed K T)) (x : Keyed K T) → CountsKey same old new x.key → CountsAll same old xs → CountsAll same new (xs ++ x ∷ [])
     one_counted old new xs x one all q = one q ∙ (λ i. all q i + cond (laws.symm x.key q i) 1 0) ∙ sym (count_more (λ y. same q y.key) xs x)
 
     -- none is counted more often than there are
-    pub counted_within : (counts : HashMap K ℕ (BuildHasherDefault FoldHasher)) (xs : List (Keyed K T)) (k : K) (n : ℕ) → CountsAll same counts xs → length xs < n → count_of same counts k < n
+    pub counted_within : (counts : HashMap K ℕ (BuildHasherDefault FoldHasher)) (xs : List (Keyed K T)) (k : K) (n : ℕ) → CountsAll same counts xs → length xs < n → key_count same counts k < n
     counted_within counts xs k n all l =
         let few : count_by (λ x. same k x.key) xs ≤ length xs = count_by-le-length (λ x. same k x.key) xs in
-        let is : count_of same counts k ≡ count_by (λ x. same k x.key) xs = all k in
+        let is : key_count same counts k ≡ count_by (λ x. same k x.key) xs = all k in
         omega arith
 
-    identity_is : (counts : HashMap K ℕ (BuildHasherDefault FoldHasher)) (xs : List (Keyed K T)) (k : K) (n : ℕ) (q : K × ℕ) → CountsAll same counts xs → n ≡ count_of same counts k
+    identity_is : (counts : HashMap K ℕ (BuildHasherDefault FoldHasher)) (xs : List (Keyed K T)) (k : K) (n : ℕ) (q : K × ℕ) → CountsAll same counts xs → n ≡ key_count same counts k
         → (same k q.0 && n == q.1) ≡ (same q.0 k && count_by (λ y. same q.0 y.key) xs == q.1)
     identity_is counts xs k n q all e = ⊎_elim
         (λ (t : same k q.0 ≡ true).
@@ -86,7 +86,7 @@ module _ {K : Type 0} {same : K → K → Bool} (laws : IsEquivalence same) wher
 
     -- one more is found
     pub one_found : (old new : HashMap (K × ℕ) (Bor (Keyed K T)) (BuildHasherDefault FoldHasher)) (counts : HashMap K ℕ (BuildHasherDefault FoldHasher)) (xs : List (Keyed K T)) (b : Bor (Keyed K T)) (n : ℕ)
-        → CountsAll same counts xs → n ≡ count_of same counts b.now.key
+        → CountsAll same counts xs → n ≡ key_count same counts b.now.key
         → ((q : K × ℕ) → get (λ a b. same a.0 b.0 && a.1 == b.1) new q ≡ cond (same b.now.key q.0 && n == q.1) (Some b) (get (λ a b. same a.0 b.0 && a.1 == b.1) old q))
         → FindsAll same old xs → FindsAll same new (xs ++ b.now ∷ [])
     one_found old new counts xs b n all e put finds q =
@@ -99,6 +99,6 @@ module _ {K : Type 0} {same : K → K → Bool} (laws : IsEquivalence same) wher
 
     -- what is found of a key and a count is the one that is the same
     pub found_partner : (table : HashMap (K × ℕ) (Bor (Keyed K T)) (BuildHasherDefault FoldHasher)) (counts : HashMap K ℕ (BuildHasherDefault FoldHasher)) (others xs : List (Keyed K T)) (x : Keyed K T) (n : ℕ) (r : Option (Bor (Keyed K T)))
-        → FindsAll same table others → CountsAll same counts xs → n ≡ count_of same counts x.key → r ≡ get (λ a b. same a.0 b.0 && a.1 == b.1) table (x.key, n)
+        → FindsAll same table others → CountsAll same counts xs → n ≡ key_count same counts x.key → r ≡ get (λ a b. same a.0 b.0 && a.1 == b.1) table (x.key, n)
         → option_map (λ (y : Bor (Keyed K T)). y.now) r ≡ partner (same_keys same) others xs x
     found_partner table counts others xs x n r finds all e g = ap (option_map (λ (y : Bor (Keyed K T)). y.now)) g ∙ finds (x.key, n) ∙ ap (slice_get (filter (λ y. same x.key y.key) others)) (e ∙ all x.key)

@@ -32,8 +32,8 @@ abbrev pub Item : Type 0
 Item = RowView × Node
 
 -- the items of a tree
-abbrev pub items : Unfolding → List Item
-items u = zip (rows u) (map own (preorder u.forest))
+abbrev pub tree_items : Unfolding → List Item
+tree_items u = zip (rows u) (map own (preorder u.forest))
 
 -- an item with what those that are like it have in common
 abbrev pub with_key : Item → ItemKey × Item
@@ -56,4 +56,4 @@ change_of (Stays i j) = if same_node i.1 j.1 then [] else record { kind = Change
 
 -- what differs between two trees
 abbrev pub changes : Unfolding → Unfolding → List ChangeView
-changes old new = flat_map change_of (matched is_like (items old) (items new))
+changes old new = flat_map change_of (matched is_like (tree_items old) (tree_items new))

@@ -69,15 +69,15 @@ rest_of_module n (Inline items) = module_rest n true
 rest_of_module n Outline = module_rest n false
 
 -- by the code
-abbrev pub rest_view : code_rest.Rest → Rest
-rest_view (code.Named k n) = named k (option_copied n)
-rest_view (code.Struct n s) = struct_rest n.now s
-rest_view (code.Mod n b) = module_rest n.now b
-rest_view (code.Use t) = use_rest (tree_of t.now)
-rest_view (code.ExternCrate n a) = crate_rest n.now (option_copied a)
-rest_view code.ExternBlock = block_rest
-rest_view (code.Impl b) = impl_rest b
-rest_view (code.MacroCall c) = call_rest c.now.path c.now.expand_to c.now.ctxt
+abbrev pub own_rest_view : code_rest.Rest → Rest
+own_rest_view (code.Named k n) = named k (option_copied n)
+own_rest_view (code.Struct n s) = struct_rest n.now s
+own_rest_view (code.Mod n b) = module_rest n.now b
+own_rest_view (code.Use t) = use_rest (tree_of t.now)
+own_rest_view (code.ExternCrate n a) = crate_rest n.now (option_copied a)
+own_rest_view code.ExternBlock = block_rest
+own_rest_view (code.Impl b) = impl_rest b
+own_rest_view (code.MacroCall c) = call_rest c.now.path c.now.expand_to c.now.ctxt
 
 -- ---- the constructor of a struct
 
@@ -101,17 +101,17 @@ ctor_at u i = of_id u None node_ctor i
 
 -- ---- items with their keys
 
-abbrev pub item_view : code_item.Item → Item
-item_view i = (row_view i.row.now, i.own)
+abbrev pub shown_item : code_item.Item → Item
+shown_item i = (row_view i.row.now, i.own)
 
 abbrev pub key_view : code_key.Key → ItemKey
 key_view k = record { kind = k.kind; level = k.level; name = option_copied k.name; scope = map (λ name. name.now) k.scope.now }
 
 abbrev pub keyed_view : Keyed code_key.Key code_item.Item → ItemKey × Item
-keyed_view k = (key_view k.key, item_view k.item)
+keyed_view k = (key_view k.key, shown_item k.item)
 
 abbrev pub match_view : Match (Bor (Keyed code_key.Key code_item.Item)) → Match Item
-match_view m = match_map (λ k. item_view k.now.item) m
+match_view m = match_map (λ k. shown_item k.now.item) m
 
 abbrev pub found_changes : Option (ChangeKind × Bor code_row.Row) → List ChangeView
 found_changes None = []

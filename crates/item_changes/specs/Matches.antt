@@ -54,12 +54,12 @@ abbrev pub pair_now : {A : Type 0} → Bor A × Option (Bor A) → A × Option A
 pair_now p = (p.0.now, option_map (λ x. x.now) p.1)
 
 module _ {K : Type 0} (same : K → K → Bool) where
-  abbrev pub count_of : HashMap K ℕ (BuildHasherDefault FoldHasher) → K → ℕ
-  count_of counts k = unwrap_or (get same counts k) 0
+  abbrev pub key_count : HashMap K ℕ (BuildHasherDefault FoldHasher) → K → ℕ
+  key_count counts k = unwrap_or (get same counts k) 0
 
   -- one more is counted
-  abbrev pub CountsOne : HashMap K ℕ (BuildHasherDefault FoldHasher) → HashMap K ℕ (BuildHasherDefault FoldHasher) → K → Type 0
-  CountsOne old new k = (q : K) → count_of new q ≡ count_of old q + (if same k q then 1 else 0)
+  abbrev pub CountsKey : HashMap K ℕ (BuildHasherDefault FoldHasher) → HashMap K ℕ (BuildHasherDefault FoldHasher) → K → Type 0
+  CountsKey old new k = (q : K) → key_count new q ≡ key_count old q + (if same k q then 1 else 0)
 
   -- two things have equal keys
   abbrev pub same_keys : {T : Type 0} → Keyed K T → Keyed K T → Bool
@@ -67,7 +67,7 @@ module _ {K : Type 0} (same : K → K → Bool) where
 
   -- each key is counted among these
   abbrev pub CountsAll : {T : Type 0} → HashMap K ℕ (BuildHasherDefault FoldHasher) → List (Keyed K T) → Type 0
-  CountsAll counts xs = (q : K) → count_of counts q ≡ count_by (λ x. same q x.key) xs
+  CountsAll counts xs = (q : K) → key_count counts q ≡ count_by (λ x. same q x.key) xs
 
   -- the table finds each of these
   abbrev pub FindsAll : {T : Type 0} → HashMap (K × ℕ) (Bor (Keyed K T)) (BuildHasherDefault FoldHasher) → List (Keyed K T) → Type 0

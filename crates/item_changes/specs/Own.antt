@@ -2,7 +2,7 @@
 use Rattle.std.specs.Prelude.{ℕ, Bool, false}
 use Rattle.std.specs.Coded.{Coded}
 use Rattle.item_tree.specs.Code.Node.{node_to, node_inj}
-use Rattle.item_tree_attrs.specs.Collected.{nothing as no_attrs}
+use Rattle.item_tree_attrs.specs.Collected.{nothing_collected as no_attrs}
 use Rattle.item_tree.specs.Node.{Head, Node, leaf, parent, impl_item, empty, Unfolding}
 use Rattle.item_tree.specs.Same.{same}
 use Rattle.item_tree.specs.Walk.{of_id}

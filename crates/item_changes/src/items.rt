@@ -60,7 +60,7 @@ pub(crate) fn items<'r, 'tree>(
     rows: &'r [Row<'tree>],
 ) -> Result<Vec<KeyedItem<'r, 'tree>>, AllocError>
     requires { map row_view rows.now ≡ all_rows.rows tree.now }
-    ensures { IfOk result (λ v. map keyed_view v.items ≡ map with_key (spec.items tree.now)) }
+    ensures { IfOk result (λ v. map keyed_view v.items ≡ map with_key (spec.tree_items tree.now)) }
 {
     let ids = preorder(alloc, tree)?;
     items_beside(alloc, tree, rows, &ids)

@@ -4,7 +4,7 @@ ghost use Rattle.item_tree.specs.Items.{IsByValue};
 ghost use Rattle.item_tree.specs.Node.{Unfolding, node_ast};
 ghost use Rattle.tree_walk.specs.Preorder.{preorder};
 ghost use Rattle.tree_walk.specs.Rows.{rows};
-ghost use Rattle.item_changes.specs.Changes.{changes, items};
+ghost use Rattle.item_changes.specs.Changes.{changes, tree_items};
 ghost use Rattle.item_changes.specs.Own.{own};
 
 use crate::compare::ChangeKind;
@@ -14,8 +14,8 @@ use crate::compare::ChangeKind;
 #[tactic(auto, using(crate::proofs::Sides::same_ids, crate::proofs::Sides::all_rows, crate::proofs::Sides::all_owns))]
 fn sides()
     ensures ids { (u : Unfolding) → map (λ r. r.id) (rows u) ≡ map node_ast (preorder u.forest) }
-    ensures rows { (u : Unfolding) → map (λ i. i.0) (items u) ≡ rows u }
-    ensures owns { (u : Unfolding) → map (λ i. i.1) (items u) ≡ map own (preorder u.forest) }
+    ensures rows { (u : Unfolding) → map (λ i. i.0) (tree_items u) ≡ rows u }
+    ensures owns { (u : Unfolding) → map (λ i. i.1) (tree_items u) ≡ map own (preorder u.forest) }
 {}
 
 // A tree has no changes to itself.

@@ -2,7 +2,7 @@
 ghost use Rattle.std.specs.Prelude.{◌≡◌, ◌<◌, ◌-◌, ◌^◌, ◌++◌, map, IfOk, OnOk};
 ghost use Rattle.std.specs.List.{flat_map};
 ghost use Rattle.item_changes.specs.Matches as spec;
-ghost use Rattle.item_changes.specs.Matches.{CountsOne, FindsAll, count_of, match_now, pair_now, same_keys};
+ghost use Rattle.item_changes.specs.Matches.{CountsKey, FindsAll, key_count, match_now, pair_now, same_keys};
 
 use std::alloc::{AllocError, Global};
 use std::collections::HashMap;
@@ -31,9 +31,9 @@ fn count_one<K: Eq + Hash + Drop>(
     counts: &mut HashMap<K, usize>,
     key: K,
 ) -> Result<usize, AllocError>
-    requires { count_of K.eq counts.old key < 2 ^ 64 - 1 }
-    ensures count { IfOk result (λ count. count ≡ count_of K.eq counts.old key) }
-    ensures counted { OnOk result (CountsOne K.eq counts.old counts.new key) }
+    requires { key_count K.eq counts.old key < 2 ^ 64 - 1 }
+    ensures count { IfOk result (λ count. count ≡ key_count K.eq counts.old key) }
+    ensures counted { OnOk result (CountsKey K.eq counts.old counts.new key) }
 {
     let count = counts.get(&key).copied().unwrap_or(0);
     counts.insert(key, count + 1)?;

@@ -30,7 +30,7 @@ pub(crate) enum Rest<'tree> {
 }
 
 fn module_rest<'tree>(name: &'tree Name, kind: &ModKind) -> Rest<'tree>
-    ensures { spec.rest_view result ≡ spec.rest_of_module name.now kind.now }
+    ensures { spec.own_rest_view result ≡ spec.rest_of_module name.now kind.now }
 {
     match kind {
         ModKind::Inline { .. } => Rest::Mod(name, true),
@@ -39,7 +39,7 @@ fn module_rest<'tree>(name: &'tree Name, kind: &ModKind) -> Rest<'tree>
 }
 
 fn rest_of(item: ModItemKind<'_>) -> Rest<'_>
-    ensures { spec.rest_view result ≡ spec.lent_rest (lent item.entry) }
+    ensures { spec.own_rest_view result ≡ spec.lent_rest (lent item.entry) }
 {
     match item {
         ModItemKind::Const(_, item) => Rest::Named(AstIdKind::Const, item.name.as_ref()),

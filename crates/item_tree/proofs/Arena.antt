@@ -13,9 +13,9 @@ use Rattle.item_tree.specs.declared.visibility.VisibilityExplicitness.TheVariant
 use Rattle.item_tree.specs.declared.visibility.RawVisibility.{RawVisibility}
 use Rattle.item_tree.specs.declared.visibility.RawVisibility.TheVariants.{Module, PubSelf}
 use Rattle.item_tree.specs.Node.{ctor_with_min, Leaf, struct_item, Trunk, inline, Forest}
-use Rattle.item_tree.specs.Layout.{fixed, first_fixed, place_of, vis_id, or_public, vis_value, value_at, leaf_map, trunk_map, leaf_vis, trunk_vis, forest_vis, arena_of}
+use Rattle.item_tree.specs.Layout.{fixed, first_fixed, arena_place, vis_id, or_public, vis_value, value_at, leaf_map, trunk_map, leaf_vis, trunk_vis, forest_vis, arena_of}
 use Rattle.item_tree.specs.Inner.Meeting.{meet, meet_all}
-use Rattle.item_tree.specs.Visibility.{same, firsts_behind, distinct}
+use Rattle.item_tree.specs.Visibility.{same_visibility, firsts_behind, distinct}
 use Rattle.item_tree.proofs.Pieces.{get-left, get-at-seam}
 use Rattle.item_tree.proofs.VisibilityEq.{same-sound, same-itself}
 
@@ -26,40 +26,40 @@ V = RawVisibility
 
 -- the visibility stands in the arena
 abbrev pub Has : List V → V → Type 0
-Has xs v = place_of xs v < length xs
+Has xs v = arena_place xs v < length xs
 
-Has-any : (xs : List V) (v : V) → list_any (same v) xs ≡ true → Has xs v
+Has-any : (xs : List V) (v : V) → list_any (same_visibility v) xs ≡ true → Has xs v
 Has-any [] v h = cc
-Has-any (x ∷ xs) v h = elim (cases_Bool (same v x)) [ inl e ↦ rw e (omega arith) | inr e ↦ rw e (omega (arith, Has-any xs v (rw e at h))) ]
+Has-any (x ∷ xs) v h = elim (cases_Bool (same_visibility v x)) [ inl e ↦ rw e (omega arith) | inr e ↦ rw e (omega (arith, Has-any xs v (rw e at h))) ]
 
-Has-at : (xs : List V) (v : V) → Has xs v → slice_get xs (place_of xs v) ≡ Some v
-Has-at xs v h = slice_get-get_or xs (place_of xs v) v h ∙ ap Some (sym (same-sound v _ (passes_at_first (same v) xs v h)))
+Has-at : (xs : List V) (v : V) → Has xs v → slice_get xs (arena_place xs v) ≡ Some v
+Has-at xs v h = slice_get-get_or xs (arena_place xs v) v h ∙ ap Some (sym (same-sound v _ (passes_at_first (same_visibility v) xs v h)))
 
-place-absent : (xs : List V) (v : V) → list_any (same v) xs ≡ false → place_of xs v ≡ length xs
+place-absent : (xs : List V) (v : V) → list_any (same_visibility v) xs ≡ false → arena_place xs v ≡ length xs
 place-absent xs v e =
-    elim (cases_lt (place_of xs v) (length xs)) [
-      | inl h ↦ absurd (false≢true (sym e ∙ list_any_at (same v) xs (place_of xs v) v h (passes_at_first (same v) xs v h)))
-      | inr h ↦ omega (arith, prefix_len-le-length (λ w. not (same v w)) xs)
+    elim (cases_lt (arena_place xs v) (length xs)) [
+      | inl h ↦ absurd (false≢true (sym e ∙ list_any_at (same_visibility v) xs (arena_place xs v) v h (passes_at_first (same_visibility v) xs v h)))
+      | inr h ↦ omega (arith, prefix_len-le-length (λ w. not (same_visibility v w)) xs)
     ]
 
-place-right : (xs ys : List V) (v : V) → Has xs v → place_of (xs ++ ys) v ≡ place_of xs v
-place-right xs ys v h = prefix_len-append (λ w. not (same v w)) xs ys ∙ rw (ne_eqb (place_of xs v) (length xs) (λ e. omega arith)) refl
+place-right : (xs ys : List V) (v : V) → Has xs v → arena_place (xs ++ ys) v ≡ arena_place xs v
+place-right xs ys v h = prefix_len-append (λ w. not (same_visibility v w)) xs ys ∙ rw (ne_eqb (arena_place xs v) (length xs) (λ e. omega arith)) refl
 
-place-push : (xs : List V) (v : V) → place_of (xs ++ v ∷ []) v ≡ place_of xs v
+place-push : (xs : List V) (v : V) → arena_place (xs ++ v ∷ []) v ≡ arena_place xs v
 place-push xs v =
-    position_or_len_push (same v) xs v
-    ∙ rw (same-itself v) (cond_both (eqb (place_of xs v) (length xs)) (length xs + 0) (place_of xs v) (λ k. k ≡ place_of xs v) (λ e. omega (arith, eqb-true (place_of xs v) (length xs) e)) (λ e. refl))
+    position_or_len_push (same_visibility v) xs v
+    ∙ rw (same-itself v) (cond_both (eqb (arena_place xs v) (length xs)) (length xs + 0) (arena_place xs v) (λ k. k ≡ arena_place xs v) (λ e. omega (arith, eqb-true (arena_place xs v) (length xs) e)) (λ e. refl))
 
 abbrev pub insert : List V → V → List V
-insert xs v = cond (list_any (same v) xs) xs (xs ++ v ∷ [])
+insert xs v = cond (list_any (same_visibility v) xs) xs (xs ++ v ∷ [])
 
 Has-insert : (xs : List V) (v : V) → Has (insert xs v) v
 Has-insert xs v =
-    cond_both (list_any (same v) xs) xs (xs ++ v ∷ []) (λ ys. Has ys v) (Has-any xs v)
-    (λ e. omega (arith, place-push xs v, prefix_len-le-length (λ w. not (same v w)) xs, length-append xs (v ∷ [])))
+    cond_both (list_any (same_visibility v) xs) xs (xs ++ v ∷ []) (λ ys. Has ys v) (Has-any xs v)
+    (λ e. omega (arith, place-push xs v, prefix_len-le-length (λ w. not (same_visibility v w)) xs, length-append xs (v ∷ [])))
 
-place-insert : (xs : List V) (v : V) → place_of (insert xs v) v ≡ place_of xs v
-place-insert xs v = cond_both (list_any (same v) xs) xs (xs ++ v ∷ []) (λ ys. place_of ys v ≡ place_of xs v) (λ e. refl) (λ e. place-push xs v)
+place-insert : (xs : List V) (v : V) → arena_place (insert xs v) v ≡ arena_place xs v
+place-insert xs v = cond_both (list_any (same_visibility v) xs) xs (xs ++ v ∷ []) (λ ys. arena_place ys v ≡ arena_place xs v) (λ e. refl) (λ e. place-push xs v)
 
 -- ---- what stands in an arena stays in it
 
@@ -73,7 +73,7 @@ length-Extends xs ys h = omega (arith, ap length h.1, length-append xs h.0)
 meet_all-firsts : (ms vs : List V) → meet_all ms vs ≡ ms ++ firsts_behind ms vs
 meet_all-firsts ms [] = sym (append-nil ms)
 meet_all-firsts ms (Module p e ∷ vs) =
-    elim (cases_Bool (list_any (same (Module p e)) ms)) [
+    elim (cases_Bool (list_any (same_visibility (Module p e)) ms)) [
       | inl t ↦ rw t (meet_all-firsts ms vs)
       | inr t ↦ rw t (meet_all-firsts (ms ++ Module p e ∷ []) vs ∙ append_assoc ms (Module p e ∷ []) (firsts_behind (ms ++ Module p e ∷ []) vs))
     ]
@@ -112,7 +112,7 @@ Knows-extend xs ys (Module p e) h k = rw h.1 (omega (arith, place-right xs h.0 (
 Knows-extend xs ys _ h k = tt
 
 pub Knows-id : (xs ys : List V) (v : V) → Extends xs ys → Knows xs v → vis_id ys v ≡ vis_id xs v
-Knows-id xs ys (Module p e) h k = ap (λ t. place_of t (Module p e)) h.1 ∙ place-right xs h.0 (Module p e) k
+Knows-id xs ys (Module p e) h k = ap (λ t. arena_place t (Module p e)) h.1 ∙ place-right xs h.0 (Module p e) k
 Knows-id xs ys (PubSelf Explicit) h k = refl
 Knows-id xs ys _ h k = refl
 
@@ -134,7 +134,7 @@ Knows-arena f = rw (arena_met f) (KnowsAll-meet_all [] (forest_vis f))
 -- ---- ids and their visibilities
 
 Knows-at : (xs : List V) (v : V) → length xs ≤ first_fixed → Knows xs v → value_at xs (vis_id xs v) ≡ Some v
-Knows-at xs (Module p e) few k = rw (lt-ltb (place_of xs (Module p e)) first_fixed (omega arith)) (Has-at xs (Module p e) k)
+Knows-at xs (Module p e) few k = rw (lt-ltb (arena_place xs (Module p e)) first_fixed (omega arith)) (Has-at xs (Module p e) k)
 Knows-at xs (PubSelf Explicit) few k = refl
 Knows-at xs _ few k = refl
 
@@ -147,19 +147,19 @@ settled-right xs ys k (Module p e) l h = place-right xs ys (Module p e) (omega a
 settled-right xs ys k (PubSelf Explicit) l h = h
 settled-right xs ys k _ l h = h
 
-settled-push : (xs : List V) (p : Path) (e : VisibilityExplicitness) → list_any (same (Module p e)) xs ≡ false → IsSettled xs → IsSettled (xs ++ Module p e ∷ [])
+settled-push : (xs : List V) (p : Path) (e : VisibilityExplicitness) → list_any (same_visibility (Module p e)) xs ≡ false → IsSettled xs → IsSettled (xs ++ Module p e ∷ [])
 settled-push xs p e absent h = λ k v g.
     elim (cases_lt k (length xs)) [
       | inl l ↦ let there = slice_get-get_or xs k v l in
-          let same : get_or xs k v ≡ v = same_Some _ _ (sym (get-left xs (Module p e ∷ []) k _ there) ∙ g) in
-          settled-right xs (Module p e ∷ []) k v l (h k v (there ∙ ap Some same))
+          let same_visibility : get_or xs k v ≡ v = same_Some _ _ (sym (get-left xs (Module p e ∷ []) k _ there) ∙ g) in
+          settled-right xs (Module p e ∷ []) k v l (h k v (there ∙ ap Some same_visibility))
       | inr l ↦ let end : k ≡ length xs = omega (arith, slice_get_within (xs ++ Module p e ∷ []) k v g, length-append xs (Module p e ∷ [])) in
-          let same : Module p e ≡ v = same_Some _ _ (sym (get-at-seam xs (Module p e) []) ∙ ap (slice_get (xs ++ Module p e ∷ [])) (sym end) ∙ g) in
-          ap (vis_id (xs ++ Module p e ∷ [])) (sym same) ∙ place-push xs (Module p e) ∙ place-absent xs (Module p e) absent ∙ sym end
+          let same_visibility : Module p e ≡ v = same_Some _ _ (sym (get-at-seam xs (Module p e) []) ∙ ap (slice_get (xs ++ Module p e ∷ [])) (sym end) ∙ g) in
+          ap (vis_id (xs ++ Module p e ∷ [])) (sym same_visibility) ∙ place-push xs (Module p e) ∙ place-absent xs (Module p e) absent ∙ sym end
     ]
 
 settled-meet : (xs : List V) (v : V) → IsSettled xs → IsSettled (meet xs v)
-settled-meet xs (Module p e) h = cond_both (list_any (same (Module p e)) xs) xs (xs ++ Module p e ∷ []) IsSettled (λ t. h) (λ t. settled-push xs p e t h)
+settled-meet xs (Module p e) h = cond_both (list_any (same_visibility (Module p e)) xs) xs (xs ++ Module p e ∷ []) IsSettled (λ t. h) (λ t. settled-push xs p e t h)
 settled-meet xs _ h = h
 
 settled-meet_all : (xs vs : List V) → IsSettled xs → IsSettled (meet_all xs vs)
@@ -286,17 +286,17 @@ pub inserted-met : (xs ys : List V) (v : V) (p : Path) (e : VisibilityExplicitne
 inserted-met xs ys v p e m i = i ∙ ap (insert xs) m ∙ ap (meet xs) (sym m)
 
 -- and this is its id
-pub inserted-id : (xs ys : List V) (v : V) (p : Path) (e : VisibilityExplicitness) → v ≡ Module p e → ys ≡ insert xs v → place_of xs v ≡ vis_id ys v
-inserted-id xs ys v p e m i = sym (place-insert xs v) ∙ ap (λ z. place_of z v) (sym i) ∙ ap (place_of ys) m ∙ ap (vis_id ys) (sym m)
+pub inserted-id : (xs ys : List V) (v : V) (p : Path) (e : VisibilityExplicitness) → v ≡ Module p e → ys ≡ insert xs v → arena_place xs v ≡ vis_id ys v
+inserted-id xs ys v p e m i = sym (place-insert xs v) ∙ ap (λ z. arena_place z v) (sym i) ∙ ap (arena_place ys) m ∙ ap (vis_id ys) (sym m)
 
-pub inserted-fits : (xs ys : List V) (v : V) (n : ℕ) → ys ≡ insert xs v → place_of xs v < n → length xs ≤ n → length ys ≤ n
+pub inserted-fits : (xs ys : List V) (v : V) (n : ℕ) → ys ≡ insert xs v → arena_place xs v < n → length xs ≤ n → length ys ≤ n
 inserted-fits xs ys v n i h k =
-    rw i (cond_both (list_any (same v) xs) xs (xs ++ v ∷ []) (λ zs. length zs ≤ n) (λ e. k) (λ e. omega (arith, place-absent xs v e, length-append xs (v ∷ []))))
+    rw i (cond_both (list_any (same_visibility v) xs) xs (xs ++ v ∷ []) (λ zs. length zs ≤ n) (λ e. k) (λ e. omega (arith, place-absent xs v e, length-append xs (v ∷ []))))
 
 -- a visibility that was met changes nothing when it is met again
 pub meet-twice : (xs : List V) (v : V) → meet (meet xs v) v ≡ meet xs v
 meet-twice xs (Module p e) =
-    elim (cases_Bool (list_any (same (Module p e)) (insert xs (Module p e)))) [
+    elim (cases_Bool (list_any (same_visibility (Module p e)) (insert xs (Module p e)))) [
       | inl t ↦ rw t refl
       | inr t ↦ absurd (let h = Has-insert xs (Module p e) in omega (arith, place-absent (insert xs (Module p e)) (Module p e) t))
     ]

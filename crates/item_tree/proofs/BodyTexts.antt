@@ -3,7 +3,7 @@ use Rattle.std.proofs.Common.{◌≡◌, ℕ, Bool, List, [], ◌∷◌, map, re
 use Rattle.std.specs.Prelude.{Some, option_map}
 use Rattle.hir_input.specs.Syntax.{ItemView, ItemViews, listed_module, listed_extern_block, macro_call, no_items, item_and, StmtView, item_stmt, call_stmt, other_stmt, TailView, call_tail, stmt_items, SyntaxView, source_file, macro_items, macro_stmts, block_expr, error}
 use Rattle.hir_input.specs.Bodies.{item_without_bodies, items_without_bodies, call_without_body, stmt_without_bodies, tail_without_body, without_bodies}
-use Rattle.item_tree_attrs.specs.Collected.{nothing}
+use Rattle.item_tree_attrs.specs.Collected.{nothing_collected}
 use Rattle.hir_input.specs.Cfg.{AtomView}
 use Rattle.item_tree.specs.CrateView.{CrateView}
 use Rattle.item_tree.specs.Visibility.{read_visibility}
@@ -34,9 +34,9 @@ pub kept_without_bodies : (is_root : Bool) (krate : CrateView) (skipped : List (
 kept_without_bodies is_root krate skipped (source_file attrs is) =
     ap (λ f. record { top_attrs = kept_top is_root krate skipped (source_file attrs is); forest = f }) (kept_all-items_without_bodies krate.options skipped is)
 kept_without_bodies is_root krate skipped (macro_items is) =
-    ap (λ f. record { top_attrs = nothing; forest = f }) (kept_all-items_without_bodies krate.options skipped is)
+    ap (λ f. record { top_attrs = nothing_collected; forest = f }) (kept_all-items_without_bodies krate.options skipped is)
 kept_without_bodies is_root krate skipped (macro_stmts stmts tail) =
-    ap (λ f. record { top_attrs = nothing; forest = f }) (ap (kept_all krate.options skipped) (stmt_items-without_bodies stmts tail) ∙ kept_all-items_without_bodies krate.options skipped (stmt_items stmts tail))
+    ap (λ f. record { top_attrs = nothing_collected; forest = f }) (ap (kept_all krate.options skipped) (stmt_items-without_bodies stmts tail) ∙ kept_all-items_without_bodies krate.options skipped (stmt_items stmts tail))
 kept_without_bodies is_root krate skipped (block_expr attrs stmts tail) =
     ap (λ f. record { top_attrs = kept_top is_root krate skipped (block_expr attrs stmts tail); forest = f })
     (ap (kept_all krate.options skipped) (stmt_items-without_bodies stmts tail) ∙ kept_all-items_without_bodies krate.options skipped (stmt_items stmts tail))

@@ -7,8 +7,8 @@ use Rattle.item_tree.specs.declared.visibility.RawVisibility.{RawVisibility}
 use Rattle.item_tree_attrs.specs.Collected.{Collected}
 use Rattle.item_tree.proofs.Arena.{KnowsAll, KnowsAll-parts, Knows-arena, leaf-back, trunk-back}
 use Rattle.item_tree.specs.Node.{Node, Forest, leaf, parent, empty, more, node_kind, Unfolding}
-use Rattle.item_tree.specs.Layout.{first_fixed, vis_id, trunk_map, trunk_vis, node_vis, forest_vis, Row, parent_row, row_key, row_attrs, row_item, arena_of, node_walk, walk, node_id, ids, node_rows, rows_of, kind_bit, layout, at, gather, row_node, build, zip_rows, tables_from, unfold_tables}
-use Rattle.item_tree.specs.Column.{is_empty, unless, column_of, attrs_stored}
+use Rattle.item_tree.specs.Layout.{first_fixed, vis_id, trunk_map, trunk_vis, node_vis, forest_vis, LayoutRow, parent_row, row_key, row_attrs, row_item, arena_of, node_walk, walk, node_id, ids, node_rows, rows_of, kind_bit, layout, nth_node, gather, row_node, build, zip_rows, tables_from, unfold_tables}
+use Rattle.item_tree.specs.Column.{has_no_attributes, unless, column_of, attrs_stored}
 use Rattle.item_tree.proofs.Column.{value-back, values-back}
 use Rattle.item_tree.proofs.Pieces.{HasFrom, HasFrom-left, HasFrom-right, HasFrom-append, HasFrom-all}
 
@@ -19,7 +19,7 @@ kind_bit-small kind.Struct = omega arith
 kind_bit-small kind.Use = omega arith
 kind_bit-small _ = omega arith
 
-pub at-id : (ns : List Node) (k : ℕ) (n : Node) → slice_get ns k ≡ Some n → at ns (2 * k + kind_bit (node_kind n)) ≡ Some n
+pub at-id : (ns : List Node) (k : ℕ) (n : Node) → slice_get ns k ≡ Some n → nth_node ns (2 * k + kind_bit (node_kind n)) ≡ Some n
 at-id ns k n h =
     let b = kind_bit (node_kind n) in
     let s = kind_bit-small (node_kind n) in
@@ -27,7 +27,7 @@ at-id ns k n h =
     let m : (2 * k + b) % 2 ≡ b = omega arith in
     rw (d, m, h, eq-eqb b b refl) refl
 
-pub at-node_id : (ns : List Node) (b : ℕ) (n : Node) → HasFrom ns b (node_walk n) → at ns (node_id b n) ≡ Some n
+pub at-node_id : (ns : List Node) (b : ℕ) (n : Node) → HasFrom ns b (node_walk n) → nth_node ns (node_id b n) ≡ Some n
 at-node_id ns b (leaf h l) w = at-id ns b (leaf h l) w.0
 at-node_id ns b (parent h t f) w = at-id ns (b + length (walk f)) (parent h t f) (HasFrom-right ns b (walk f) (parent h t f ∷ []) w).0
 
@@ -39,7 +39,7 @@ gather-ids ns b (more n f) w =
     rw (e, r) refl
 
 module _ (arena : List RawVisibility) (few : length arena ≤ first_fixed) where
-  build-append : (ns : List Node) (rs qs : List Row) → build arena ns (rs ++ qs) ≡ build arena (build arena ns rs) qs
+  build-append : (ns : List Node) (rs qs : List LayoutRow) → build arena ns (rs ++ qs) ≡ build arena (build arena ns rs) qs
   build-append ns [] qs = refl
   build-append ns (r ∷ rs) qs = build-append (ns ++ row_node arena ns r.0 r.1 ∷ []) rs qs
 
@@ -80,17 +80,17 @@ pub has_walk : (f : Forest) → HasFrom (walk f) 0 (walk f)
 has_walk f = HasFrom-all (walk f)
 
 -- the columns give the rows back
-pub zip-columns : (rs : List Row) → zip_rows (map row_key rs) (map row_attrs rs) (map row_item rs) ≡ rs
+pub zip-columns : (rs : List LayoutRow) → zip_rows (map row_key rs) (map row_attrs rs) (map row_item rs) ≡ rs
 zip-columns [] = refl
 zip-columns (r ∷ rs) = ap (λ z. r ∷ z) (zip-columns rs)
 
-module _ (top : List ℕ) (arena : List RawVisibility) (rs : List Row) (c : Collected) where
+module _ (top : List ℕ) (arena : List RawVisibility) (rs : List LayoutRow) (c : Collected) where
   pub rows-back : let t = tables_from top arena rs c in zip_rows t.keys (map (attrs_stored t.column) t.places) t.items ≡ rs
-  rows-back = ap (λ z. zip_rows (map row_key rs) z (map row_item rs)) (values-back [] (unless (is_empty c) c) (map row_attrs rs)) ∙ zip-columns rs
+  rows-back = ap (λ z. zip_rows (map row_key rs) z (map row_item rs)) (values-back [] (unless (has_no_attributes c) c) (map row_attrs rs)) ∙ zip-columns rs
 
   pub top-back : let t = tables_from top arena rs c in attrs_stored t.column t.top_place ≡ c
   top-back =
-      ap (λ z. attrs_stored (column_of (map row_attrs rs) ++ z) (tables_from top arena rs c).top_place) (sym (append-nil (unless (is_empty c) c)))
+      ap (λ z. attrs_stored (column_of (map row_attrs rs) ++ z) (tables_from top arena rs c).top_place) (sym (append-nil (unless (has_no_attributes c) c)))
       ∙ value-back (column_of (map row_attrs rs)) [] c
 
 -- the tables of a forest stand for it

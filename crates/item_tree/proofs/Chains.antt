@@ -6,7 +6,7 @@ use Rattle.std.proofs.lemmas.Grind.{flat_map-append}
 use Rattle.hir_input.specs.declared.mod_path.PathKind.{PathKind}
 use Rattle.hir_input.specs.declared.mod_path.PathKind.TheVariants.{Plain, Super, Crate, Abs, DollarCrate}
 use Rattle.hir_input.specs.Path.{Path, HasWords}
-use Rattle.hir_input.specs.Words.{Word, words, read_words}
+use Rattle.hir_input.specs.Words.{PathWord, words, read_words}
 use Rattle.hir_input.proofs.Reading.{read-append, then_words, read-words}
 use Rattle.item_tree.specs.declared.use_tree.ImportKind.TheVariants.{Glob}
 use Rattle.item_tree.specs.Tree.{Tree, Branches, single, glob, prefixed, no_branches, branch_and, tree_count}
@@ -29,12 +29,12 @@ words-filled Crate ns h = tt
 words-filled Abs ns h = tt
 words-filled (DollarCrate c) ns h = tt
 
-read-append_filled : (ws vs : List Word) → IsFilled ws → read_words (ws ++ vs) ≡ then_words (read_words ws) vs
+read-append_filled : (ws vs : List PathWord) → IsFilled ws → read_words (ws ++ vs) ≡ then_words (read_words ws) vs
 read-append_filled [] vs h = absurd h
 read-append_filled (w ∷ ws) vs h = read-append w ws vs
 
 -- a chain with one more path, in front of other words
-more_words : (ps : List Path) (p : Path) (vs : List Word) → flat_map words (ps ++ p ∷ []) ++ vs ≡ flat_map words ps ++ ((words p ++ []) ++ vs)
+more_words : (ps : List Path) (p : Path) (vs : List PathWord) → flat_map words (ps ++ p ∷ []) ++ vs ≡ flat_map words ps ++ ((words p ++ []) ++ vs)
 more_words ps p vs =
     ap (λ ws. ws ++ vs) (flat_map-append words ps (p ∷ [])) ∙ append_assoc (flat_map words ps) (words p ++ []) vs
 
@@ -53,7 +53,7 @@ abbrev more : Option (List Path) → Path → Option (List Path)
 more o p = option_map (λ qs. qs ++ p ∷ []) o
 
 record ReadsAs (ps : List Path) (o : Option (List Path)) : Type 0 where
-  reads : (vs : List Word) → read_words (flat_map words ps ++ vs) ≡ option_and_then (λ qs. read_words (flat_map words qs ++ vs)) o
+  reads : (vs : List PathWord) → read_words (flat_map words ps ++ vs) ≡ option_and_then (λ qs. read_words (flat_map words qs ++ vs)) o
   filled : IsFilled ps
   others : AreFilled o
 
@@ -112,7 +112,7 @@ mutual
 
 -- ---- below a prefix
 
-prefix_reads : (ps : List Path) (p : Path) (o : Option Path) (vs : List Word) → HasWords p.kind p.names → read_chain (ps ++ p ∷ []) ≡ o → read_words (flat_map words (ps ++ p ∷ []) ++ vs) ≡ then_words o vs
+prefix_reads : (ps : List Path) (p : Path) (o : Option Path) (vs : List PathWord) → HasWords p.kind p.names → read_chain (ps ++ p ∷ []) ≡ o → read_words (flat_map words (ps ++ p ∷ []) ++ vs) ≡ then_words o vs
 prefix_reads ps p o vs h e = read-append_filled (flat_map words (ps ++ p ∷ [])) vs (more_filled ps p h) ∙ ap (λ r. then_words r vs) e
 
 -- whose chain means nothing there is no import

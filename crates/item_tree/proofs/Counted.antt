@@ -6,7 +6,7 @@ use Rattle.std.proofs.lemmas.List.Sums.{sum_by-append}
 use Rattle.hir_input.specs.declared.ids.AstIdKind.{AstIdKind}
 use Rattle.item_tree.specs.declared.visibility.RawVisibility.{RawVisibility}
 use Rattle.item_tree.specs.Node.{Node, Forest, leaf, parent, empty, more, leaf_kind, trunk_kind, node_count, count, Unfolding}
-use Rattle.item_tree.specs.Layout.{vis_id, leaf_map, trunk_map, Row, parent_row, row_tag, arena_of, node_walk, walk, node_rows, rows_of, ids, layout}
+use Rattle.item_tree.specs.Layout.{vis_id, leaf_map, trunk_map, LayoutRow, parent_row, row_tag, arena_of, node_walk, walk, node_rows, rows_of, ids, layout}
 use Rattle.item_tree.specs.Stats.{kind_is, one_if, node_count_of, count_of}
 use Rattle.item_tree.specs.Stored.{has_tag}
 use Rattle.item_tree.specs.Same.{same_decides}
@@ -33,17 +33,17 @@ module _ {X : Type 0} (p : X → Bool) where
   count-one x = zero-add (one_if (p x))
 
 module _ (k : AstIdKind) (arena : List RawVisibility) where
-  abbrev counted : List Row → ℕ
+  abbrev counted : List LayoutRow → ℕ
   counted rs = count_by (kind_is k) (map row_tag rs)
 
-  counted-append : (rs qs : List Row) → counted (rs ++ qs) ≡ counted rs + counted qs
+  counted-append : (rs qs : List LayoutRow) → counted (rs ++ qs) ≡ counted rs + counted qs
   counted-append rs qs = ap (count_by (kind_is k)) (map-append row_tag rs qs) ∙ count-append (kind_is k) (map row_tag rs) (map row_tag qs)
 
   mutual
     counted-node : (n : Node) (b : ℕ) → counted (node_rows arena n b) ≡ node_count_of k n
     counted-node (leaf h l) b = count-one (kind_is k) (leaf_kind (leaf_map (vis_id arena) l)) ∙ ap (λ z. one_if (kind_is k z)) (sym (leaf_kind-map (vis_id arena) l))
     counted-node (parent h t f) b =
-        let r : Row = (h, parent_row (trunk_map (vis_id arena) t) (ids b f)) in
+        let r : LayoutRow = (h, parent_row (trunk_map (vis_id arena) t) (ids b f)) in
         let o : counted (r ∷ []) ≡ one_if (kind_is k (trunk_kind t)) = count-one (kind_is k) (row_tag r) ∙ ap (λ z. one_if (kind_is k z)) (sym (trunk_kind-map (vis_id arena) t)) in
         omega (arith, counted-append (rows_of arena f b) (r ∷ []), counted-forest f b, o)
 

@@ -9,8 +9,8 @@ use Rattle.item_tree.specs.declared.items.ModItem.{ModItem}
 use Rattle.item_tree.specs.declared.rows.AstKey.{AstKey}
 use Rattle.item_tree.specs.declared.rows.Rows.{Rows}
 use Rattle.item_tree.specs.Node.{Leaf, plain, Trunk, inline, leaf_kind, trunk_kind, Node, Forest, leaf, parent, nodes, node_head, node_kind, node_ast, Unfolding}
-use Rattle.item_tree.specs.Layout.{vis_id, leaf_map, trunk_map, trunk_vis, forest_vis, Row, row_tag, key_of, row_key, row_attrs, row_item, arena_of, walk, ids, node_id, rows_of, kind_bit, layout, node_at, vis_at, unfold_tables}
-use Rattle.item_tree.specs.Column.{is_empty, unless, some_unless, column_of, plain_place, stored_at}
+use Rattle.item_tree.specs.Layout.{vis_id, leaf_map, trunk_map, trunk_vis, forest_vis, LayoutRow, row_tag, head_key, row_key, row_attrs, row_item, arena_of, walk, ids, node_id, rows_of, kind_bit, layout, node_at, vis_at, unfold_tables}
+use Rattle.item_tree.specs.Column.{has_no_attributes, unless, some_unless, column_of, plain_place, stored_at}
 use Rattle.item_tree.specs.Reach.{top_ids}
 use Rattle.item_tree.specs.Shown.{IsContained, Lent, lent_leaf, lent_parent, IsLent, lent_attrs, attrs_at}
 use Rattle.item_tree.specs.Size.{Fits}
@@ -29,7 +29,7 @@ trunk_kind-map f (inline n v) = refl
 trunk_kind-map f _ = refl
 
 -- a column is read where its row stands
-column-read : {X Y : Type 0} (see : X → Y) (told : Row → Y) (xs : List X) (rs : List Row) (k : ℕ) (x : X) (r : Row) → map told rs ≡ map see xs → x ≡ get_or xs k x → slice_get rs k ≡ Some r → see x ≡ told r
+column-read : {X Y : Type 0} (see : X → Y) (told : LayoutRow → Y) (xs : List X) (rs : List LayoutRow) (k : ℕ) (x : X) (r : LayoutRow) → map told rs ≡ map see xs → x ≡ get_or xs k x → slice_get rs k ≡ Some r → see x ≡ told r
 column-read see told xs rs k x r e g s =
     let l : k < length xs = omega (arith, slice_get_within rs k r s, ap length e, length-map rs told, length-map xs see) in
     same_Some _ _ (ap (option_map see) (sym (slice_get_read xs (length xs) k x refl l g)) ∙ sym (slice_get-map see xs k) ∙ ap (λ ys. slice_get ys k) (sym e) ∙ slice_get-map told rs k ∙ ap (option_map told) s)
@@ -38,7 +38,7 @@ module _ {u : Unfolding} {top : List ℕ} {place : ℕ} {t : Rows} (view : unfol
   abbrev f : Forest
   f = u.forest
 
-  abbrev rs : List Row
+  abbrev rs : List LayoutRow
   rs = rows_of (arena_of f) f 0
 
   pub fits : Fits u
@@ -61,7 +61,7 @@ module _ {u : Unfolding} {top : List ℕ} {place : ℕ} {t : Rows} (view : unfol
   tags : map row_tag rs ≡ map (λ k. k) t.tags.items
   tags = ap (λ z. z.tags) canon ∙ sym (map-id t.tags.items)
 
-  column-length : {X Y : Type 0} (see : X → Y) (told : Row → Y) (xs : List X) → map told rs ≡ map see xs → length xs ≡ length (walk f)
+  column-length : {X Y : Type 0} (see : X → Y) (told : LayoutRow → Y) (xs : List X) → map told rs ≡ map see xs → length xs ≡ length (walk f)
   column-length see told xs e = sym (length-map xs see) ∙ sym (ap length e) ∙ length-map rs told ∙ length-rows_of (arena_of f) f 0
 
   within : {X : Type 0} (v : Vec X Global) → length v.items ≡ length (walk f) → (i k : ℕ) → k ≡ i / 2 → IsContained u i → k < vec_len v
@@ -93,7 +93,7 @@ module _ {u : Unfolding} {top : List ℕ} {place : ℕ} {t : Rows} (view : unfol
   row-kind b (parent h s g) = sym (trunk_kind-map (vis_id (arena_of f)) s)
 
   module _ (k : ℕ) {i : ℕ} (m : IsMet u i) (same : i / 2 ≡ k) where
-    abbrev row : Row
+    abbrev row : LayoutRow
     row = row_of u m.first m.node
 
     stored : slice_get rs k ≡ Some row
@@ -102,8 +102,8 @@ module _ {u : Unfolding} {top : List ℕ} {place : ℕ} {t : Rows} (view : unfol
     tag-read : (x : AstIdKind) → x ≡ get_or t.tags.items k x → x ≡ node_kind m.node
     tag-read x g = column-read (λ z. z) row_tag t.tags.items rs k x row tags g stored ∙ row-kind m.first m.node
 
-    key-read : (x : AstKey) → x ≡ get_or t.keys.items k x → key_in x ≡ key_of (node_head m.node)
-    key-read x g = column-read key_in row_key t.keys.items rs k x row (ap (λ z. z.keys) canon) g stored ∙ ap key_of (row-head m.first m.node)
+    key-read : (x : AstKey) → x ≡ get_or t.keys.items k x → key_in x ≡ head_key (node_head m.node)
+    key-read x g = column-read key_in row_key t.keys.items rs k x row (ap (λ z. z.keys) canon) g stored ∙ ap head_key (row-head m.first m.node)
 
     item-read : (x : ModItem) → x ≡ get_or t.items.items k x → item_row x ≡ row_item row
     item-read x g = column-read item_row row_item t.items.items rs k x row (ap (λ z. z.items) canon) g stored
@@ -169,7 +169,7 @@ module _ {u : Unfolding} {top : List ℕ} {place : ℕ} {t : Rows} (view : unfol
       let column = (layout u).column in
       let read : slice_get (layout u).places k ≡ Some (plain_place p) =
       ap (λ z. slice_get z.places k) canon ∙ slice_get-map plain_place t.places.items k ∙ ap (option_map plain_place) (slice_get_read t.places.items (vec_len t.places) k p t.places.ok.0 (in-places i k refl h) g) in
-      let all : map (stored_at column) (layout u).places ≡ map lent_attrs (map row_attrs rs) = lent-each [] (unless (is_empty u.top_attrs) u.top_attrs) (map row_attrs rs) in
+      let all : map (stored_at column) (layout u).places ≡ map lent_attrs (map row_attrs rs) = lent-each [] (unless (has_no_attributes u.top_attrs) u.top_attrs) (map row_attrs rs) in
       let one : Some (stored_at column (plain_place p)) ≡ Some (lent_attrs (row_attrs r)) =
       ap (option_map (stored_at column)) (sym read) ∙ sym (slice_get-map (stored_at column) (layout u).places k) ∙ ap (λ z. slice_get z k) all ∙ slice_get-map lent_attrs (map row_attrs rs) k ∙ ap (option_map lent_attrs) (slice_get-map row_attrs rs k ∙ ap (option_map row_attrs) m.stored) in
       ap (λ z. stored_at z.column (plain_place p)) (sym canon) ∙ same_Some _ _ one ∙ ap (λ z. lent_attrs z.attrs) (row-head m.first m.node)
@@ -180,5 +180,5 @@ module _ {u : Unfolding} {top : List ℕ} {place : ℕ} {t : Rows} (view : unfol
       let c = u.top_attrs in
       let before = column_of (map row_attrs rs) in
       (λ j. stored_at (sym canon j).column (sym canon j).top_place)
-      ∙ ap (λ z. stored_at (before ++ z) (some_unless (is_empty c) (length before))) (sym (append-nil (unless (is_empty c) c)))
+      ∙ ap (λ z. stored_at (before ++ z) (some_unless (has_no_attributes c) (length before))) (sym (append-nil (unless (has_no_attributes c) c)))
       ∙ lent-back before [] c

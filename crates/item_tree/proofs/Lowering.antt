@@ -18,12 +18,12 @@ use Rattle.item_tree.specs.Node.{Leaf, Trunk, trunk_kind, leaf_kind, Head, Node,
 use Rattle.item_tree.specs.Inner.Meeting.{meet, meet_all}
 use Rattle.item_tree.specs.Visibility.{read_visibility}
 use Rattle.item_tree.specs.Kept.{head_of, module_node}
-use Rattle.item_tree.specs.Layout.{vis_id, leaf_map, trunk_map, leaf_vis, trunk_vis, node_vis, forest_vis, arena_of, node_walk, walk, node_id, ids, Row, leaf_row, parent_row, row_tag, row_key, row_attrs, row_item, kind_bit, node_rows, rows_of, layout, unfold_tables}
-use Rattle.item_tree.specs.Column.{is_empty, unless, some_unless, column_of, places_from, plain_place}
+use Rattle.item_tree.specs.Layout.{vis_id, leaf_map, trunk_map, leaf_vis, trunk_vis, node_vis, forest_vis, arena_of, node_walk, walk, node_id, ids, LayoutRow, leaf_row, parent_row, row_tag, row_key, row_attrs, row_item, kind_bit, node_rows, rows_of, layout, unfold_tables}
+use Rattle.item_tree.specs.Column.{has_no_attributes, unless, some_unless, column_of, places_from, plain_place}
 use Rattle.item_tree.specs.Imports.{super_limit}
 use Rattle.item_tree.specs.KeptUse.{use_tree_limit}
 use Rattle.item_tree.specs.Size.{most_attrs, leaf_supers, forest_supers, item_written, items_written, Sizes, IsPassed, only_visibilities, most_written, sizes_of, Fits, IsTooLarge}
-use Rattle.item_tree.specs.Stored.{item_row, key_in, keys_in, items_in, places_in, column_in, tables_of, AreSound}
+use Rattle.item_tree.specs.Stored.{item_row, key_in, keys_in, row_items, column_places, column_in, tables_of, AreSound}
 use Rattle.item_tree.specs.Inner.Growth.{items_below, attrs_in, kept_of, all_kept_in, row_count, Adds, Lowers, sizes_with, Meets, sizes_meeting, sizes_pushing, Puts, Pushes}
 use Rattle.item_tree.proofs.Arena.{V, Extends, length-Extends, Extends-meet_all, meet_all-append, arena_met, KnowsAll, KnowsAll-parts, KnowsAll-meet_all, leaf-stable, trunk-stable}
 use Rattle.item_tree.proofs.Column.{column-append, places-append}
@@ -95,23 +95,23 @@ module _ (xs ys : List V) (h : Extends xs ys) where
 -- ---- rows that are added
 
 pub Adds-nothing : (r : Rows) → Adds r r []
-Adds-nothing r = record { tags = sym (append-nil r.tags.items); keys = sym (append-nil (keys_in r)); items = sym (append-nil (items_in r)); places = sym (append-nil (places_in r)); column = sym (append-nil (column_in r)) }
+Adds-nothing r = record { tags = sym (append-nil r.tags.items); keys = sym (append-nil (keys_in r)); items = sym (append-nil (row_items r)); places = sym (append-nil (column_places r)); column = sym (append-nil (column_in r)) }
 
-pub Adds-join : {a b c : Rows} {rs qs : List Row} → Adds a b rs → Adds b c qs → Adds a c (rs ++ qs)
+pub Adds-join : {a b c : Rows} {rs qs : List LayoutRow} → Adds a b rs → Adds b c qs → Adds a c (rs ++ qs)
 Adds-join {a} {b} {c} {rs} {qs} h k = record {
   tags = k.tags ∙ rw (h.tags, map-append row_tag rs qs) (append_assoc a.tags.items (map row_tag rs) (map row_tag qs));
   keys = k.keys ∙ rw (h.keys, map-append row_key rs qs) (append_assoc (keys_in a) (map row_key rs) (map row_key qs));
-  items = k.items ∙ rw (h.items, map-append row_item rs qs) (append_assoc (items_in a) (map row_item rs) (map row_item qs));
+  items = k.items ∙ rw (h.items, map-append row_item rs qs) (append_assoc (row_items a) (map row_item rs) (map row_item qs));
   places =
       let e : length (column_in a) + length (column_of (map row_attrs rs)) ≡ length (column_in b) = omega (arith, ap length h.column, length-append (column_in a) (column_of (map row_attrs rs))) in
       k.places ∙ rw (h.places, map-append row_attrs rs qs, places-append (length (column_in a)) (map row_attrs rs) (map row_attrs qs), e)
-      (append_assoc (places_in a) (places_from (length (column_in a)) (map row_attrs rs)) (places_from (length (column_in b)) (map row_attrs qs)));
+      (append_assoc (column_places a) (places_from (length (column_in a)) (map row_attrs rs)) (places_from (length (column_in b)) (map row_attrs qs)));
   column = k.column ∙ rw (h.column, map-append row_attrs rs qs, column-append (map row_attrs rs) (map row_attrs qs)) (append_assoc (column_in a) (column_of (map row_attrs rs)) (column_of (map row_attrs qs)));
 }
 
-pub Adds-count : {a b : Rows} {rs : List Row} → Adds a b rs → row_count b ≡ row_count a + length rs
+pub Adds-count : {a b : Rows} {rs : List LayoutRow} → Adds a b rs → row_count b ≡ row_count a + length rs
 Adds-count {a} {b} {rs} h =
-    omega (arith, ap length h.items, length-append (items_in a) (map row_item rs), length-map rs row_item, length-map a.items.items item_row, length-map b.items.items item_row)
+    omega (arith, ap length h.items, length-append (row_items a) (map row_item rs), length-map rs row_item, length-map a.items.items item_row, length-map b.items.items item_row)
 
 -- nothing but the arena changed
 pub kept-adds : (a b : Rows) → b ≡ record a { arena = b.arena } → Adds a b []
@@ -417,7 +417,7 @@ module _
   abbrev pub u : Unfolding
   u = record { top_attrs = c; forest = f }
 
-  abbrev rows : List Row
+  abbrev rows : List LayoutRow
   rows = rows_of (arena_of f) f 0
 
   arena_is : new.arena ≡ arena_of f
@@ -434,12 +434,12 @@ module _
       let t : ids 0 f ≡ top = sym (h.given ∙ ap (λ z. ids (length z) f) items_empty) in
       let tags : map row_tag rows ≡ whole.tags.items = sym (ap (λ z. z.tags.items) same ∙ added.tags ∙ ap (λ z. z ++ map row_tag rows) tags_empty) in
       let keys : map row_key rows ≡ keys_in whole = sym (ap keys_in same ∙ added.keys ∙ ap (λ z. map key_in z ++ map row_key rows) keys_empty) in
-      let items : map row_item rows ≡ items_in whole = sym (ap items_in same ∙ added.items ∙ ap (λ z. map item_row z ++ map row_item rows) items_empty) in
-      let places : places_from 0 (map row_attrs rows) ≡ places_in whole =
-      sym (ap places_in same ∙ added.places ∙ (λ i. map plain_place (places_empty i) ++ places_from (length (map collected (column_empty i))) (map row_attrs rows))) in
-      let top_place : some_unless (is_empty c) (length (column_of (map row_attrs rows))) ≡ plain_place place =
-      sym (k.given ∙ ap (some_unless (is_empty c)) (sym (length-map new.column.items collected) ∙ ap length column_is)) in
-      let column : column_of (map row_attrs rows) ++ unless (is_empty c) c ≡ column_in whole = sym (k.added ∙ ap (λ z. z ++ unless (is_empty c) c) column_is) in
+      let items : map row_item rows ≡ row_items whole = sym (ap row_items same ∙ added.items ∙ ap (λ z. map item_row z ++ map row_item rows) items_empty) in
+      let places : places_from 0 (map row_attrs rows) ≡ column_places whole =
+      sym (ap column_places same ∙ added.places ∙ (λ i. map plain_place (places_empty i) ++ places_from (length (map collected (column_empty i))) (map row_attrs rows))) in
+      let top_place : some_unless (has_no_attributes c) (length (column_of (map row_attrs rows))) ≡ plain_place place =
+      sym (k.given ∙ ap (some_unless (has_no_attributes c)) (sym (length-map new.column.items collected) ∙ ap length column_is)) in
+      let column : column_of (map row_attrs rows) ++ unless (has_no_attributes c) c ≡ column_in whole = sym (k.added ∙ ap (λ z. z ++ unless (has_no_attributes c) c) column_is) in
       let arena : arena_of f ≡ whole.arena = sym (ap (λ z. z.arena) same ∙ arena_is) in
       λ i. record { top = t i; tags = tags i; keys = keys i; items = items i; places = places i; top_place = top_place i; column = column i; arena = arena i }
 

@@ -10,7 +10,7 @@ use Rattle.std.proofs.lemmas.List.{take_more, map-append, append-nil}
 use Rattle.hir_input.specs.declared.ids.FileAstId.{FileAstId}
 use Rattle.item_tree_attrs.specs.Collected.{Collected}
 use Rattle.item_tree.specs.declared.visibility.RawVisibility.{RawVisibility}
-use Rattle.item_tree.specs.Column.{is_empty, unless, some_unless}
+use Rattle.item_tree.specs.Column.{has_no_attributes, unless, some_unless}
 use Rattle.item_tree.proofs.Column.{empty-is}
 use Rattle.item_tree.specs.Node.{Trunk, inline, extern_block, Node, Forest, empty, more, nodes, node_head, Unfolding}
 use Rattle.item_tree.specs.Layout.{trunk_map, vis_at, node_at}
@@ -71,7 +71,7 @@ module _ (reserved : List (List ℕ)) where
   -- attributes that are lent have all lines that attributes have
   lent-lines : (opening : List ℕ) (k : ℕ) (c : Collected) → lent_lines reserved opening k (lent_attrs c) ≡ attrs_lines reserved opening k c
   lent-lines opening k c =
-      elim (cases_Bool (is_empty c)) [
+      elim (cases_Bool (has_no_attributes c)) [
         | inl e ↦ rw e (ap (attrs_lines reserved opening k) (sym (empty-is c e)))
         | inr e ↦ rw e refl
       ]
@@ -127,7 +127,7 @@ module _ (reserved : List (List ℕ)) where
       (u : Unfolding) (is : List ℕ) → StandFor u is u.forest →
       page_lines (page_parts reserved u) ≡ lent_lines reserved top_opening 0 (lent_attrs u.top_attrs) ++ (gap (is_some (lent_attrs u.top_attrs)) (not (length is == 0)) ++ list_lines reserved u 0 is)
   page_of_ids u is h =
-      page-parts (is_empty u.top_attrs) u.top_attrs u.forest
+      page-parts (has_no_attributes u.top_attrs) u.top_attrs u.forest
       ∙ (λ j. lent_lines reserved top_opening 0 (lent_attrs u.top_attrs) ++ (gap (is_some (lent_attrs u.top_attrs)) (sym (has-ids u is u.forest h) j) ++ with_blanks (sym (parts-ids u u.forest 0 is h) j)))
 
 -- three pieces of text, one behind another

@@ -8,7 +8,7 @@ use Rattle.std.proofs.lemmas.List.Elements.{All-nil, All-cons, All-head, All-tai
 use Rattle.std.proofs.lemmas.List.Kept.{AllPairs-cons}
 use Rattle.item_tree.specs.declared.visibility.RawVisibility.{RawVisibility}
 use Rattle.item_tree.specs.Node.{Trunk, Head, Node, Forest, leaf, parent, empty, more, nodes, node_kind, Unfolding}
-use Rattle.item_tree.specs.Layout.{vis_id, leaf_map, trunk_map, trunk_vis, node_vis, forest_vis, arena_of, Row, leaf_row, parent_row, node_rows, rows_of, kind_bit, node_row, node_id, ids, node_walk, walk, at_row, at, node_at}
+use Rattle.item_tree.specs.Layout.{vis_id, leaf_map, trunk_map, trunk_vis, node_vis, forest_vis, arena_of, LayoutRow, leaf_row, parent_row, node_rows, rows_of, kind_bit, node_row, node_id, ids, node_walk, walk, at_row, nth_node, node_at}
 use Rattle.item_tree.specs.Reach.{inner_ids, node_ids, forest_ids, met_before, top_ids, child_ids, ids_from, all_ids}
 use Rattle.item_tree.specs.Shown.{IsContained, StandFor}
 use Rattle.item_tree.specs.Walk.{children, children_at, IsWalkedOnce}
@@ -34,18 +34,18 @@ met_before-id : (b : ℕ) (n : Node) → met_before (node_id b n) n ≡ b
 met_before-id b n = rw (row-of_id b n) (omega (arith, row-last b n))
 
 -- what is said by its id of a node that stands in the walk, after b others
-said : {X : Type 0} (ns : List Node) (h : ℕ → Node → X) (d : X) (b : ℕ) (n : Node) → HasFrom ns b (node_walk n) → option_map_or (λ m. h (met_before (node_id b n) m) m) (at ns (node_id b n)) d ≡ h b n
+said : {X : Type 0} (ns : List Node) (h : ℕ → Node → X) (d : X) (b : ℕ) (n : Node) → HasFrom ns b (node_walk n) → option_map_or (λ m. h (met_before (node_id b n) m) m) (nth_node ns (node_id b n)) d ≡ h b n
 said ns h d b n w = ap (λ o. option_map_or (λ m. h (met_before (node_id b n) m) m) o d) (at-node_id ns b n w) ∙ ap (λ k. h k n) (met_before-id b n)
 
 -- the ids of a forest stand for its nodes
-pub map-at-ids : (ns : List Node) (b : ℕ) (f : Forest) → HasFrom ns b (walk f) → map (at ns) (ids b f) ≡ map Some (nodes f)
+pub map-at-ids : (ns : List Node) (b : ℕ) (f : Forest) → HasFrom ns b (walk f) → map (nth_node ns) (ids b f) ≡ map Some (nodes f)
 map-at-ids ns b empty w = refl
 map-at-ids ns b (more n f) w =
     let e = at-node_id ns b n (HasFrom-left ns b (node_walk n) (walk f) w) in
     let r = map-at-ids ns (b + length (node_walk n)) f (HasFrom-right ns b (node_walk n) (walk f) w) in
     rw (e, r) refl
 
-inner-stand : (ns : List Node) (b : ℕ) (n : Node) → HasFrom ns b (node_walk n) → map (at ns) (inner_ids b n) ≡ map Some (nodes (children n))
+inner-stand : (ns : List Node) (b : ℕ) (n : Node) → HasFrom ns b (node_walk n) → map (nth_node ns) (inner_ids b n) ≡ map Some (nodes (children n))
 inner-stand ns b (leaf h l) w = refl
 inner-stand ns b (parent h t f) w = map-at-ids ns b f (HasFrom-left ns b (walk f) (parent h t f ∷ []) w)
 
@@ -85,11 +85,11 @@ module _ (u : Unfolding) where
   abbrev ns : List Node
   ns = walk u.forest
 
-  abbrev rs : List Row
+  abbrev rs : List LayoutRow
   rs = rows_of arena u.forest 0
 
   -- the row of a node, which is the last of its walk's
-  abbrev pub row_of : ℕ → Node → Row
+  abbrev pub row_of : ℕ → Node → LayoutRow
   row_of b (leaf h l) = (h, leaf_row (leaf_map (vis_id arena) l))
   row_of b (parent h t f) = (h, parent_row (trunk_map (vis_id arena) t) (ids b f))
 
@@ -176,7 +176,7 @@ module _ (u : Unfolding) where
   record Covers (In : ℕ → Type 0) (is : List ℕ) : Type 0 where
     met : All (λ i. IsMet i × In (i / 2)) is
     once : AllPairs (λ i j. i ≢ j) is
-    meets : (i : ℕ) → IsSome (at ns i) → In (i / 2) → Contains is i
+    meets : (i : ℕ) → IsSome (nth_node ns i) → In (i / 2) → Contains is i
 
   covers-none : (In : ℕ → Type 0) → ((k : ℕ) → In k → ⊥) → Covers In []
   covers-none In none = record { met = All-nil (λ i. IsMet i × In (i / 2)); once = λ i j d p q. absurd (omega arith); meets = λ i s h. absurd (none (i / 2) h) }

@@ -9,7 +9,7 @@ use Rattle.item_tree.specs.declared.visibility.VisibilityExplicitness.{Visibilit
 use Rattle.hir_input.specs.Path.{Path}
 use Rattle.item_tree.specs.Constructor.{is_private, is_pub_crate, crate_or_public, or_one, deciding_by, deciding}
 use Rattle.item_tree.specs.Sees.{Where, inside, in_crate, outside, Place, seen_from, sees_all, written_vis, CtorIsSeen, CtorIsSeenIn, CtorsAreSeenIn, CtorsAreSeen}
-use Rattle.item_tree.specs.Visibility.{same, firsts_behind, distinct}
+use Rattle.item_tree.specs.Visibility.{same_visibility, firsts_behind, distinct}
 use Rattle.item_tree.proofs.Arena.{V}
 use Rattle.item_tree.proofs.Constructors.{ctor_vis_from}
 use Rattle.item_tree.proofs.VisibilityEq.{same-sound}
@@ -32,9 +32,9 @@ module _ (p : V → Bool) (public : p Public ≡ true) (private : (e : Visibilit
   All-push [] v h t = (t, tt)
   All-push (m ∷ ms) v h t = (h.0, All-push ms v h.1 t)
 
-  All-same : (ms : List V) (v : V) → list_any (same v) ms ≡ true → All ms → p v ≡ true
+  All-same : (ms : List V) (v : V) → list_any (same_visibility v) ms ≡ true → All ms → p v ≡ true
   All-same [] v t h = absurd (false≢true t)
-  All-same (m ∷ ms) v t h = elim (cases_Bool (same v m)) [
+  All-same (m ∷ ms) v t h = elim (cases_Bool (same_visibility v m)) [
     | inl s ↦ ap p (same-sound v m s) ∙ h.0
     | inr s ↦ All-same ms v (rw s at t) h.1
   ]
@@ -49,7 +49,7 @@ module _ (p : V → Bool) (public : p Public ≡ true) (private : (e : Visibilit
 
   All-firsts : (before vs : List V) → All vs → All (firsts_behind before vs)
   All-firsts before [] h = tt
-  All-firsts before (Module q e ∷ vs) h = cond_both (list_any (same (Module q e)) before) _ _ All (λ t. All-firsts before vs h.1) (λ t. (h.0, All-firsts (before ++ Module q e ∷ []) vs h.1))
+  All-firsts before (Module q e ∷ vs) h = cond_both (list_any (same_visibility (Module q e)) before) _ _ All (λ t. All-firsts before vs h.1) (λ t. (h.0, All-firsts (before ++ Module q e ∷ []) vs h.1))
   All-firsts before (_ ∷ vs) h = All-firsts before vs h.1
 
   crate-seen : (vs : List V) → All vs → list_any is_pub_crate vs ≡ true → p PubCrate ≡ true
@@ -74,7 +74,7 @@ module _ (p : V → Bool) (public : p Public ≡ true) (private : (e : Visibilit
   All-behind before (PubCrate ∷ vs) e b h f = (f refl, All-behind before vs e b h (λ t. f refl))
   All-behind before (Public ∷ vs) e b h f = (public, All-behind before vs e b h f)
   All-behind before (Module q x ∷ vs) e b h f =
-      elim (cases_Bool (list_any (same (Module q x)) before)) [
+      elim (cases_Bool (list_any (same_visibility (Module q x)) before)) [
         | inl t ↦ (All-same before (Module q x) t b, All-behind before vs e b (rw t at h) f)
         | inr t ↦ let k : All (Module q x ∷ firsts_behind (before ++ Module q x ∷ []) vs) = rw t at h in (k.0, All-behind (before ++ Module q x ∷ []) vs e (All-push before (Module q x) b k.0) k.1 f)
       ]
@@ -82,7 +82,7 @@ module _ (p : V → Bool) (public : p Public ≡ true) (private : (e : Visibilit
   first-wider : (before vs : List V) (m : V) (ms : List V) → firsts_behind before vs ≡ m ∷ ms → p m ≡ true → p PubCrate ≡ true
   first-wider before [] m ms e h = cc
   first-wider before (Module q x ∷ vs) m ms e h =
-      elim (cases_Bool (list_any (same (Module q x)) before)) [
+      elim (cases_Bool (list_any (same_visibility (Module q x)) before)) [
         | inl t ↦ first-wider before vs m ms (rw t at e) h
         | inr t ↦ let k : Module q x ∷ firsts_behind (before ++ Module q x ∷ []) vs ≡ m ∷ ms = rw t at e in
             let s : Module q x ≡ m = cc in wider q x (ap p s ∙ h)

@@ -14,7 +14,7 @@ use Rattle.item_tree.specs.contracts.visibility.VisibilityExplicitnessPartialEq.
 use Rattle.item_tree.specs.contracts.visibility.RawVisibility as raw
 use Rattle.item_tree.specs.contracts.visibility.RawVisibilityPartialEq.TheImpl as raw_eqs
 use Rattle.item_tree.specs.Same.{equal_of_same, same_itself}
-use Rattle.item_tree.specs.Visibility.{same}
+use Rattle.item_tree.specs.Visibility.{same_visibility}
 use Rattle.item_tree.proofs.UseEq.{tells}
 
 same_explicitness : (x y : VisibilityExplicitness) → explicitness.ghosts.eq x y ≡ true → x ≡ y
@@ -43,18 +43,18 @@ raw-itself v = laws.laws-law.refl v
 pub raw_decides : (v w : RawVisibility) → Decides (raw_eq v w) (v ≡ w)
 raw_decides v w = (raw-sound v w, λ e. subst (λ z. raw_eq v z ≡ true) e (raw-itself v))
 
-pub same-sound : (v w : RawVisibility) → same v w ≡ true → v ≡ w
+pub same-sound : (v w : RawVisibility) → same_visibility v w ≡ true → v ≡ w
 same-sound v w h = equal_of_same raw.the_row.coded v w h
 
-pub same-itself : (v : RawVisibility) → same v v ≡ true
+pub same-itself : (v : RawVisibility) → same_visibility v v ≡ true
 same-itself v = same_itself raw.the_row.coded v
 
-raw-same : (v w : RawVisibility) → raw_eq v w ≡ same v w
+raw-same : (v w : RawVisibility) → raw_eq v w ≡ same_visibility v w
 raw-same v w = tells raw.the_row.coded v w (raw_eq v w) (raw_decides v w)
 
 -- so what is found by the one is found by the other
-pub any_raw : (v : RawVisibility) (vs : List RawVisibility) → list_any (raw_eq v) vs ≡ list_any (same v) vs
+pub any_raw : (v : RawVisibility) (vs : List RawVisibility) → list_any (raw_eq v) vs ≡ list_any (same_visibility v) vs
 any_raw v vs = λ i. list_any (λ w. raw-same v w i) vs
 
-pub place_raw : (v : RawVisibility) (vs : List RawVisibility) → position_or_len (raw_eq v) vs ≡ position_or_len (same v) vs
+pub place_raw : (v : RawVisibility) (vs : List RawVisibility) → position_or_len (raw_eq v) vs ≡ position_or_len (same_visibility v) vs
 place_raw v vs = λ i. position_or_len (λ w. raw-same v w i) vs

@@ -2,7 +2,7 @@
 use Rattle.std.specs.Prelude.{ℕ, ◌+◌, eqb, Bool, true, false, List, [], ◌∷◌, ◌++◌, length, slice_get, Option, Some, None, if◌then◌else◌}
 use Rattle.hir_input.specs.declared.attr.Attr.{Attr}
 use Rattle.hir_input.specs.Cfg.{CfgView}
-use Rattle.item_tree_attrs.specs.Collected.{Collected, nothing as no_attrs}
+use Rattle.item_tree_attrs.specs.Collected.{Collected, nothing_collected as no_attrs}
 
 abbrev pub is_empty_of : List Attr → Option CfgView → Bool
 is_empty_of [] None = true
@@ -10,8 +10,8 @@ is_empty_of [] (Some cfg) = false
 is_empty_of (a ∷ rest) cfg = false
 
 -- enabled, and no attributes
-abbrev pub is_empty : Collected → Bool
-is_empty c = is_empty_of c.attrs c.false_cfg
+abbrev pub has_no_attributes : Collected → Bool
+has_no_attributes c = is_empty_of c.attrs c.false_cfg
 
 -- x, unless b
 abbrev pub unless : {X : Type 0} → Bool → X → List X
@@ -25,12 +25,12 @@ some_unless false x = Some x
 -- the values that are not enabled and empty
 abbrev pub column_of : List Collected → List Collected
 column_of [] = []
-column_of (c ∷ cs) = unless (is_empty c) c ++ column_of cs
+column_of (c ∷ cs) = unless (has_no_attributes c) c ++ column_of cs
 
 -- the place of each value in a column that has k others first
 abbrev pub places_from : ℕ → List Collected → List (Option ℕ)
 places_from k [] = []
-places_from k (c ∷ cs) = some_unless (is_empty c) k ∷ places_from (k + length (unless (is_empty c) c)) cs
+places_from k (c ∷ cs) = some_unless (has_no_attributes c) k ∷ places_from (k + length (unless (has_no_attributes c) c)) cs
 
 -- what a stored number stands for
 abbrev pub plain_place : ℕ → Option ℕ

@@ -8,7 +8,7 @@ use Rattle.hir_input.specs.Cfg.{AtomView}
 use Rattle.hir_input.specs.Path.{Path}
 use Rattle.hir_input.specs.Syntax.{NodeView, NamedView, FieldsView, record_fields, tuple_fields, no_fields, ItemView, ItemViews, plain_item, const_item, bare_module, listed_module, bare_extern_block, listed_extern_block, asm_item, no_items, item_and, SyntaxView, source_file, block_expr, items_of}
 use Rattle.hir_input.specs.Syntax as syntax
-use Rattle.item_tree_attrs.specs.Collected.{Collected, collected_from, join, nothing}
+use Rattle.item_tree_attrs.specs.Collected.{Collected, collected_from, join, nothing_collected}
 use Rattle.item_tree.specs.declared.visibility.RawVisibility.{RawVisibility}
 use Rattle.item_tree.specs.declared.items.FieldsShape.{FieldsShape}
 use Rattle.item_tree.specs.declared.items.FieldsShape.TheVariants as shape
@@ -40,20 +40,20 @@ module _ (options : List AtomView) (skipped : List (List ℕ)) where
   head_of n = record { hash = n.hash; number = n.number; attrs = collected_from options skipped n.attrs }
 
   -- an item that is kept where its name is there
-  abbrev pub if_named : NamedView → (List ℕ → RawVisibility → Leaf RawVisibility) → Option Node
-  if_named n item = option_map (λ name. leaf (head_of n.node) (item name (read_visibility n.visibility))) n.name
+  abbrev pub kept_if_named : NamedView → (List ℕ → RawVisibility → Leaf RawVisibility) → Option Node
+  kept_if_named n item = option_map (λ name. leaf (head_of n.node) (item name (read_visibility n.visibility))) n.name
 
   -- what is kept of an item: nothing where its name is missing (but a constant needs none), where nothing is kept of a use
   -- tree, where the path of a macro call is missing or cannot be read, and of assembly
   abbrev mutual
     pub kept : ItemView → Option Node
-    kept (plain_item k n) = if_named n (plain k)
+    kept (plain_item k n) = kept_if_named n (plain k)
     kept (const_item n) = Some (leaf (head_of n.node) (constant n.name (read_visibility n.visibility)))
-    kept (syntax.struct_item n fields) = if_named n (λ name v. struct_item name v (shape_of fields) (ctor_of fields v))
+    kept (syntax.struct_item n fields) = kept_if_named n (λ name v. struct_item name v (shape_of fields) (ctor_of fields v))
     kept (bare_module n semicolon) = option_map (λ name. module_node semicolon (head_of n.node) name (read_visibility n.visibility) empty) n.name
     kept (listed_module n semicolon is) = option_map (λ name. module_node semicolon (head_of n.node) name (read_visibility n.visibility) (kept_all is)) n.name
     kept (syntax.use_item u) = option_map (λ t. leaf (head_of u.node) (use_item (read_visibility u.visibility) t)) (option_and_then kept_tree u.use_tree)
-    kept (syntax.extern_crate n rename) = if_named n (λ name v. extern_crate name v (alias_of rename))
+    kept (syntax.extern_crate n rename) = kept_if_named n (λ name v. extern_crate name v (alias_of rename))
     kept (bare_extern_block n) = Some (parent (head_of n) extern_block empty)
     kept (listed_extern_block n is) = Some (parent (head_of n) extern_block (kept_all is))
     kept (syntax.impl_item n of_trait) = Some (leaf (head_of n) (impl_item of_trait))
@@ -75,7 +75,7 @@ top_attrs_of false krate skipped attrs = collected_from krate.options skipped at
 abbrev pub kept_top : Bool → CrateView → List (List ℕ) → SyntaxView → Collected
 kept_top is_root krate skipped (source_file attrs is) = top_attrs_of is_root krate skipped attrs
 kept_top is_root krate skipped (block_expr attrs stmts tail) = collected_from krate.options skipped attrs
-kept_top is_root krate skipped _ = nothing
+kept_top is_root krate skipped _ = nothing_collected
 
 -- what is kept of a whole syntax
 abbrev pub kept_syntax : Bool → CrateView → List (List ℕ) → SyntaxView → Unfolding

@@ -7,9 +7,9 @@ use Rattle.item_tree_attrs.specs.Collected.{Collected}
 use Rattle.item_tree.specs.declared.visibility.RawVisibility.{RawVisibility}
 use Rattle.item_tree.specs.declared.visibility.RawVisibility.TheVariants.{Module, PubSelf, PubCrate, Public}
 use Rattle.item_tree.specs.declared.visibility.VisibilityExplicitness.TheVariants.{Explicit, Implicit}
-use Rattle.item_tree.specs.Visibility.{same, distinct}
+use Rattle.item_tree.specs.Visibility.{same_visibility, distinct}
 use Rattle.item_tree.specs.Node.{Ctor, no_ctor, ctor_with, ctor_with_min, Leaf, plain, constant, struct_item, outline, use_item, extern_crate, impl_item, macro_call, macro_rules, Trunk, inline, extern_block, leaf_kind, trunk_kind, Head, Node, Forest, leaf, parent, empty, more, add, node_kind, Unfolding}
-use Rattle.item_tree.specs.Column.{is_empty, unless, some_unless, column_of, places_from, attrs_stored}
+use Rattle.item_tree.specs.Column.{has_no_attributes, unless, some_unless, column_of, places_from, attrs_stored}
 
 -- ---- visibilities, and the arena
 
@@ -22,12 +22,12 @@ abbrev pub first_fixed : ℕ
 first_fixed = 2 ^ 32 - 4
 
 -- the place of v in the arena
-abbrev pub place_of : List RawVisibility → RawVisibility → ℕ
-place_of arena v = position_or_len (same v) arena
+abbrev pub arena_place : List RawVisibility → RawVisibility → ℕ
+arena_place arena v = position_or_len (same_visibility v) arena
 
 -- the id of a visibility
 abbrev pub vis_id : List RawVisibility → RawVisibility → ℕ
-vis_id arena (Module p e) = place_of arena (Module p e)
+vis_id arena (Module p e) = arena_place arena (Module p e)
 vis_id arena PubCrate = first_fixed
 vis_id arena (PubSelf Explicit) = first_fixed + 1
 vis_id arena (PubSelf Implicit) = first_fixed + 2
@@ -145,36 +145,36 @@ abbrev pub row_kind : RowItem → AstIdKind
 row_kind (leaf_row l) = leaf_kind l
 row_kind (parent_row t is) = trunk_kind t
 
-abbrev pub Row : Type 0
-Row = Head × RowItem
+abbrev pub LayoutRow : Type 0
+LayoutRow = Head × RowItem
 
-abbrev pub row_tag : Row → AstIdKind
+abbrev pub row_tag : LayoutRow → AstIdKind
 row_tag r = row_kind r.1
 
 -- the hash and the number of a row
-pub record Key : Type 0 where
+pub record RowKey : Type 0 where
   pub hash : ℕ
   pub number : ℕ
 
-abbrev pub key_of : Head → Key
-key_of h = record { hash = h.hash; number = h.number }
+abbrev pub head_key : Head → RowKey
+head_key h = record { hash = h.hash; number = h.number }
 
-abbrev pub row_key : Row → Key
-row_key r = key_of r.0
+abbrev pub row_key : LayoutRow → RowKey
+row_key r = head_key r.0
 
-abbrev pub row_attrs : Row → Collected
+abbrev pub row_attrs : LayoutRow → Collected
 row_attrs r = r.0.attrs
 
-abbrev pub row_item : Row → RowItem
+abbrev pub row_item : LayoutRow → RowItem
 row_item r = r.1
 
 module _ (arena : List RawVisibility) where
   abbrev mutual
-    pub node_rows : Node → ℕ → List Row
+    pub node_rows : Node → ℕ → List LayoutRow
     node_rows (leaf h l) b = (h, leaf_row (leaf_map (vis_id arena) l)) ∷ []
     node_rows (parent h t f) b = rows_of f b ++ (h, parent_row (trunk_map (vis_id arena) t) (ids b f)) ∷ []
 
-    pub rows_of : Forest → ℕ → List Row
+    pub rows_of : Forest → ℕ → List LayoutRow
     rows_of empty b = []
     rows_of (more n f) b = node_rows n b ++ rows_of f (b + length (node_walk n))
 
@@ -183,7 +183,7 @@ module _ (arena : List RawVisibility) where
 pub record Tables : Type 0 where
   pub top : List ℕ
   pub tags : List AstIdKind
-  pub keys : List Key
+  pub keys : List RowKey
   pub items : List RowItem
   pub places : List (Option ℕ)
   pub top_place : Option ℕ
@@ -191,15 +191,15 @@ pub record Tables : Type 0 where
   pub arena : List RawVisibility
 
 -- the tables with these rows and top attributes
-abbrev pub tables_from : List ℕ → List RawVisibility → List Row → Collected → Tables
+abbrev pub tables_from : List ℕ → List RawVisibility → List LayoutRow → Collected → Tables
 tables_from top arena rows top_attrs = record {
   top = top;
   tags = map row_tag rows;
   keys = map row_key rows;
   items = map row_item rows;
   places = places_from 0 (map row_attrs rows);
-  top_place = some_unless (is_empty top_attrs) (length (column_of (map row_attrs rows)));
-  column = column_of (map row_attrs rows) ++ unless (is_empty top_attrs) top_attrs;
+  top_place = some_unless (has_no_attributes top_attrs) (length (column_of (map row_attrs rows)));
+  column = column_of (map row_attrs rows) ++ unless (has_no_attributes top_attrs) top_attrs;
   arena = arena;
 }
 
@@ -213,12 +213,12 @@ abbrev pub at_row : Option Node → ℕ → Option Node
 at_row None b = None
 at_row (Some n) b = if eqb (kind_bit (node_kind n)) b then Some n else None
 
-abbrev pub at : List Node → ℕ → Option Node
-at ns i = at_row (slice_get ns (i / 2)) (i % 2)
+abbrev pub nth_node : List Node → ℕ → Option Node
+nth_node ns i = at_row (slice_get ns (i / 2)) (i % 2)
 
 -- the node that an id stands for
 unfoldable pub node_at : Forest → ℕ → Option Node
-node_at f i = at (walk f) i
+node_at f i = nth_node (walk f) i
 
 -- the visibility that an id stands for
 unfoldable pub vis_at : Forest → ℕ → Option RawVisibility
@@ -228,21 +228,21 @@ vis_at f i = value_at (arena_of f) i
 
 abbrev pub gather : List Node → List ℕ → Forest
 gather ns [] = empty
-gather ns (i ∷ is) = add (at ns i) (gather ns is)
+gather ns (i ∷ is) = add (nth_node ns i) (gather ns is)
 
 module _ (arena : List RawVisibility) where
   abbrev pub row_node : List Node → Head → RowItem → Node
   row_node ns h (leaf_row l) = leaf h (leaf_map (vis_value arena) l)
   row_node ns h (parent_row t is) = parent h (trunk_map (vis_value arena) t) (gather ns is)
 
-  abbrev pub build : List Node → List Row → List Node
+  abbrev pub build : List Node → List LayoutRow → List Node
   build ns [] = ns
   build ns (r ∷ rs) = build (ns ++ row_node ns r.0 r.1 ∷ []) rs
 
-abbrev pub head_of_key : Key → Collected → Head
+abbrev pub head_of_key : RowKey → Collected → Head
 head_of_key k c = record { hash = k.hash; number = k.number; attrs = c }
 
-abbrev pub zip_rows : List Key → List Collected → List RowItem → List Row
+abbrev pub zip_rows : List RowKey → List Collected → List RowItem → List LayoutRow
 zip_rows [] cs is = []
 zip_rows (k ∷ ks) [] is = []
 zip_rows (k ∷ ks) (c ∷ cs) [] = []

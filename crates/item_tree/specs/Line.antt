@@ -13,8 +13,8 @@ line_text (text level bytes) = replicate (4 * level) 32 ++ bytes ++ 10 ∷ []
 line_text blank = 10 ∷ []
 
 -- the lines one after another
-abbrev pub text_of : List Line → List ℕ
-text_of lines = flat_map line_text lines
+abbrev pub lines_text : List Line → List ℕ
+lines_text lines = flat_map line_text lines
 
 -- the parts of a text between its line feeds, each a line of the level
 abbrev pub lines_of_text : ℕ → List ℕ → List Line

@@ -15,8 +15,8 @@ use Rattle.hir_input.specs.Syntax.{PlainKind, fn_kind, union_kind, enum_kind, st
 use Rattle.item_tree_attrs.specs.Collected.{Collected}
 use Rattle.item_tree.specs.declared.visibility.RawVisibility.{RawVisibility}
 use Rattle.item_tree.specs.declared.visibility.RawVisibility.TheVariants.{Module, PubSelf, PubCrate, Public}
-use Rattle.item_tree.specs.Column.{is_empty, unless}
-use Rattle.item_tree.specs.Line.{Line, text, blank, text_of, lines_of_text}
+use Rattle.item_tree.specs.Column.{has_no_attributes, unless}
+use Rattle.item_tree.specs.Line.{Line, text, blank, lines_text, lines_of_text}
 use Rattle.item_tree.specs.Tree.{Tree}
 use Rattle.item_tree.specs.UseText.{shown_rename, shown_tree}
 use Rattle.item_tree.specs.declared.use_tree.ImportAlias.{ImportAlias}
@@ -143,8 +143,8 @@ module _ (reserved : List (List ℕ)) where
 
   -- the parts of a page: the top attributes, if there are any, and the items
   abbrev pub page_parts : Unfolding → List (List Line)
-  page_parts u = unless (is_empty u.top_attrs) (attrs_lines top_opening 0 u.top_attrs) ++ parts u.forest 0
+  page_parts u = unless (has_no_attributes u.top_attrs) (attrs_lines top_opening 0 u.top_attrs) ++ parts u.forest 0
 
   -- the page of a tree
   abbrev pub page : Unfolding → List ℕ
-  page u = text_of (page_lines (page_parts u))
+  page u = lines_text (page_lines (page_parts u))

@@ -8,7 +8,7 @@ use Rattle.item_tree.specs.declared.visibility.RawVisibility.TheVariants.{Module
 use Rattle.item_tree.specs.Constructor.{ctor_of}
 use Rattle.item_tree.specs.Layout.{ctor_vis}
 use Rattle.item_tree.specs.Same.{same}
-use Rattle.item_tree.specs.Code.Tree.{path_code}
+use Rattle.item_tree.specs.Code.Tree.{tree_path_code}
 use Rattle.item_tree.specs.Visibility.{read_visibility}
 
 -- where a place is: in the module that all of this stands in, elsewhere in the crate, or outside of the crate
@@ -27,7 +27,7 @@ abbrev pub seen_from : Where → List Path → RawVisibility → Bool
 seen_from inside modules v = true
 seen_from in_crate modules Public = true
 seen_from in_crate modules PubCrate = true
-seen_from in_crate modules (Module p e) = list_any (same path_code p) modules
+seen_from in_crate modules (Module p e) = list_any (same tree_path_code p) modules
 seen_from in_crate modules (PubSelf e) = false
 seen_from outside modules Public = true
 seen_from outside modules v = false

@@ -12,7 +12,7 @@ use Rattle.item_tree.specs.declared.items.ModKind.TheVariants.{Inline, Outline}
 use Rattle.item_tree.specs.declared.items.ModItemKind.{ModItemKind}
 use Rattle.item_tree.specs.declared.items.ModItemKind.TheVariants as item
 use Rattle.item_tree.specs.Node.{Ctor, no_ctor, ctor_with, ctor_with_min, Leaf, plain, constant, struct_item, outline, use_item, extern_crate, impl_item, macro_call, macro_rules, Trunk, inline, extern_block, leaf_kind, trunk_kind, Head, Forest, leaf, parent, nodes, node_head, file_id, Unfolding}
-use Rattle.item_tree.specs.Column.{is_empty, some_unless}
+use Rattle.item_tree.specs.Column.{has_no_attributes, some_unless}
 use Rattle.item_tree.specs.Layout.{leaf_map, trunk_map, node_at, vis_at}
 use Rattle.item_tree.specs.Reach.{child_ids}
 
@@ -30,7 +30,7 @@ StandFor u is g = map (node_at u.forest) is ≡ map Some (nodes g)
 
 -- what is lent of attributes: nothing where they are enabled and empty
 abbrev pub lent_attrs : Collected → Option Collected
-lent_attrs c = some_unless (is_empty c) c
+lent_attrs c = some_unless (has_no_attributes c) c
 
 -- of the node that an id stands for, if it stands for one
 abbrev pub attrs_at : Unfolding → ℕ → Option Collected

@@ -76,9 +76,9 @@ abbrev pub most_written : SyntaxView → ℕ
 most_written s = items_written (items_of s)
 
 -- an error of attributes as one of lowering
-abbrev pub fault_of : AttrError → LowerError
-fault_of attrs.TooMany = TooManyAttributes
-fault_of attrs.OutOfMemory = OutOfMemory
+abbrev pub attr_fault : AttrError → LowerError
+attr_fault attrs.TooMany = TooManyAttributes
+attr_fault attrs.OutOfMemory = OutOfMemory
 
 -- how much there is of each size
 pub record Sizes : Type 0 where

@@ -11,7 +11,7 @@ use Rattle.item_tree.specs.declared.rows.AstKey.{AstKey}
 use Rattle.item_tree.specs.declared.rows.Rows.{Rows}
 use Rattle.item_tree.specs.Node.{plain, constant, struct_item, outline, use_item, extern_crate, impl_item, macro_call, macro_rules, inline, extern_block}
 use Rattle.item_tree.specs.Column.{plain_place}
-use Rattle.item_tree.specs.Layout.{Key, RowItem, leaf_row, parent_row, Tables, layout, unfold_tables}
+use Rattle.item_tree.specs.Layout.{RowKey, RowItem, leaf_row, parent_row, Tables, layout, unfold_tables}
 use Rattle.item_tree.specs.Items.{inline_ids}
 use Rattle.item_tree.specs.Shown.{ctor_ids, Lent, lent_leaf, lent_parent}
 use Rattle.item_tree.specs.Size.{Fits}
@@ -51,17 +51,17 @@ lent_row (lent_parent a t is) = parent_row t is
 abbrev pub has_tag : AstIdKind → AstIdKind → Bool
 has_tag k tag = kinds.ghosts.eq tag k
 
-abbrev pub key_in : AstKey → Key
+abbrev pub key_in : AstKey → RowKey
 key_in k = record { hash = k.hash; number = k.number }
 
-abbrev pub keys_in : Rows → List Key
+abbrev pub keys_in : Rows → List RowKey
 keys_in r = map key_in r.keys.items
 
-abbrev pub items_in : Rows → List RowItem
-items_in r = map item_row r.items.items
+abbrev pub row_items : Rows → List RowItem
+row_items r = map item_row r.items.items
 
-abbrev pub places_in : Rows → List (Option ℕ)
-places_in r = map plain_place r.places.items
+abbrev pub column_places : Rows → List (Option ℕ)
+column_places r = map plain_place r.places.items
 
 abbrev pub column_in : Rows → List Collected
 column_in r = map collected r.column.items
@@ -72,8 +72,8 @@ tables_of top place r = record {
   top = top;
   tags = r.tags.items;
   keys = keys_in r;
-  items = items_in r;
-  places = places_in r;
+  items = row_items r;
+  places = column_places r;
   top_place = plain_place place;
   column = column_in r;
   arena = r.arena;

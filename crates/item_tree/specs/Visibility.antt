@@ -22,13 +22,13 @@ read_visibility (Some (written.InPath (Readable path))) = Module path Explicit
 read_visibility (Some (written.InPath Unreadable)) = PubSelf Implicit
 
 -- whether two are the same
-abbrev pub same : RawVisibility → RawVisibility → Bool
-same = same_by raw.the_row.coded
+abbrev pub same_visibility : RawVisibility → RawVisibility → Bool
+same_visibility = same_by raw.the_row.coded
 
 -- the visibilities of modules among several that stand behind others: each where no equal one stands before it
 abbrev pub firsts_behind : List RawVisibility → List RawVisibility → List RawVisibility
 firsts_behind before [] = []
-firsts_behind before (Module p e ∷ vs) = if list_any (same (Module p e)) before then firsts_behind before vs else Module p e ∷ firsts_behind (before ++ Module p e ∷ []) vs
+firsts_behind before (Module p e ∷ vs) = if list_any (same_visibility (Module p e)) before then firsts_behind before vs else Module p e ∷ firsts_behind (before ++ Module p e ∷ []) vs
 firsts_behind before (v ∷ vs) = firsts_behind before vs
 
 -- the distinct visibilities of modules among several, by first appearance

@@ -62,9 +62,9 @@ impl<T: Drop> From<AllocFailed<T>> for LowerError {
 
 impl From<AttrError> for LowerError {
     ghost use Rattle.std.specs.Prelude.{◌≡◌};
-    ghost use Rattle.item_tree.specs.Size.{fault_of};
+    ghost use Rattle.item_tree.specs.Size.{attr_fault};
 
-    ghost from_gives = { λ refused e. e ≡ fault_of refused };
+    ghost from_gives = { λ refused e. e ≡ attr_fault refused };
 
     fn from(refused: AttrError) -> LowerError {
         match refused {
@@ -77,9 +77,9 @@ impl From<AttrError> for LowerError {
 /// Keeps the cause alone: both sides that the refusal hands back are dropped.
 impl From<MergeRefused> for LowerError {
     ghost use Rattle.std.specs.Prelude.{◌≡◌};
-    ghost use Rattle.item_tree.specs.Size.{fault_of};
+    ghost use Rattle.item_tree.specs.Size.{attr_fault};
 
-    ghost from_gives = { λ refused e. e ≡ fault_of refused.cause };
+    ghost from_gives = { λ refused e. e ≡ attr_fault refused.cause };
 
     fn from(refused: MergeRefused) -> LowerError {
         LowerError::from(refused.cause)

@@ -1,6 +1,6 @@
 //! Lines of a page, pushed one after another.
 ghost use Rattle.std.specs.Prelude.{◌≡◌, ◌*◌, ◌++◌, OnOk, replicate, string_bytes};
-ghost use Rattle.item_tree.specs.Line.{text, blank, line_text, text_of, lines_of_text};
+ghost use Rattle.item_tree.specs.Line.{text, blank, line_text, lines_text, lines_of_text};
 
 use std::alloc::AllocError;
 
@@ -27,7 +27,7 @@ pub(crate) fn push_line(out: &mut String, level: usize, line: &str) -> Result<()
 // The parts of a text between its line feeds, each as a line.
 pub(crate) fn push_text(out: &mut String, level: usize, bytes: &str) -> Result<(), AllocError>
     ensures { OnOk result (string_bytes out.new
-        ≡ string_bytes out.old ++ text_of (lines_of_text level bytes.now)) }
+        ≡ string_bytes out.old ++ lines_text (lines_of_text level bytes.now)) }
 {
     for part in bytes.split('\n') {
         push_line(out, level, part)?;

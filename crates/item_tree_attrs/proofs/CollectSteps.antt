@@ -9,8 +9,8 @@ use Rattle.hir_input.specs.declared.cfg.CfgExpr.{CfgExpr}
 use Rattle.hir_input.specs.Attr.{MetaView, metas_from, meta_view}
 use Rattle.hir_input.specs.Cfg.{AtomView, CfgView, cfg_view, truth}
 use Rattle.hir_input.proofs.MetaLemmas.{meta_view-CfgAttr}
-use Rattle.item_tree_attrs.specs.Collected.{Collected, events, events_in, is_false, cut, collected_from, join}
-use Rattle.item_tree_attrs.specs.Inner.Collecting.{Adds}
+use Rattle.item_tree_attrs.specs.Collected.{Collected, events, events_in, is_false, cut_events, collected_from, join}
+use Rattle.item_tree_attrs.specs.Inner.Collecting.{AddsCollected}
 use Rattle.item_tree_attrs.proofs.Cutting.{made, cut-append}
 
 -- the attributes that are there, and the cfg that was met
@@ -29,14 +29,14 @@ module _ (options : List AtomView) (skipped : List (List ℕ)) where
   events_in-from (m ∷ ms) = ap (λ es. events options skipped m ++ es) (events_in-from ms)
 
   pub cut-CfgAttr : (condition : CfgExpr) (metas : Vec Meta Global) → is_false (truth options (cfg_view condition)) ≡ false
-      → cut (events options skipped (meta_view (CfgAttr condition metas))) ≡ collected_from options skipped (map meta_view metas.items)
-  cut-CfgAttr condition metas kept = rw (meta_view-CfgAttr condition metas) (rw kept (ap cut (events_in-from (map meta_view metas.items))))
+      → cut_events (events options skipped (meta_view (CfgAttr condition metas))) ≡ collected_from options skipped (map meta_view metas.items)
+  cut-CfgAttr condition metas kept = rw (meta_view-CfgAttr condition metas) (rw kept (ap cut_events (events_in-from (map meta_view metas.items))))
 
   -- ---- one more meta of a list
 
   -- what one meta collects
   abbrev pub collected_by : Meta → Collected
-  collected_by m = cut (events options skipped (meta_view m))
+  collected_by m = cut_events (events options skipped (meta_view m))
 
   -- what is collected from a position on
   abbrev pub collected_at : List Meta → ℕ → Collected
@@ -48,7 +48,7 @@ module _ (options : List AtomView) (skipped : List (List ℕ)) where
       ∙ cut-append (events options skipped (meta_view m)) (flat_map (events options skipped) (map meta_view (drop (i + 1) ms)))
 
   -- what one more meta added stands behind what was there, and what the rest collects behind it
-  pub Adds-more : (ms : List Meta) (i : ℕ) (m : Meta) (mid new : List Attr) (met : Option (Bor CfgExpr)) → i < length ms → m ≡ get_or ms i m → Adds mid new met (collected_by m)
+  pub Adds-more : (ms : List Meta) (i : ℕ) (m : Meta) (mid new : List Attr) (met : Option (Bor CfgExpr)) → i < length ms → m ≡ get_or ms i m → AddsCollected mid new met (collected_by m)
       → join (found_so_far new met) (collected_at ms (i + 1)) ≡ join (found_so_far mid None) (collected_at ms i)
   Adds-more ms i m mid new met h e added =
       let one = collected_by m in

@@ -29,8 +29,8 @@ abbrev pub attr_limit : ℕ
 attr_limit = 2 ^ 32 - 1
 
 -- enabled, and no attributes
-abbrev pub nothing : Collected
-nothing = record { attrs = []; false_cfg = None }
+abbrev pub nothing_collected : Collected
+nothing_collected = record { attrs = []; false_cfg = None }
 
 -- what a value has collected
 abbrev pub collected : AttrsOrCfg → Collected
@@ -47,10 +47,10 @@ Event = Either Attr CfgView
 abbrev pub missing_name : List ℕ
 missing_name = codes "[missing name]"
 
-abbrev pub path_of : Option PathNode → Path
-path_of (Some (Readable path)) = path
-path_of (Some Unreadable) = record { kind = Plain; names = missing_name ∷ [] }
-path_of None = record { kind = Plain; names = missing_name ∷ [] }
+abbrev pub attr_path : Option PathNode → Path
+attr_path (Some (Readable path)) = path
+attr_path (Some Unreadable) = record { kind = Plain; names = missing_name ∷ [] }
+attr_path None = record { kind = Plain; names = missing_name ∷ [] }
 
 -- a readable path of one plain name that is among the skipped names
 abbrev pub is_skipped : List (List ℕ) → Option PathNode → Bool
@@ -65,7 +65,7 @@ is_false None = false
 
 -- an attribute, unless its path is skipped
 abbrev pub attr_events : List (List ℕ) → Option PathNode → Option AttrInput → SyntaxContext → List Event
-attr_events skipped path input ctxt = if is_skipped skipped path then [] else Left (record { path = path_of path; input = input; ctxt = ctxt }) ∷ []
+attr_events skipped path input ctxt = if is_skipped skipped path then [] else Left (record { path = attr_path path; input = input; ctxt = ctxt }) ∷ []
 
 -- a cfg, if it is false
 abbrev pub cfg_events : List AtomView → CfgView → List Event
@@ -93,12 +93,12 @@ first [] = None
 first (x ∷ xs) = Some x
 
 -- the attributes before the first false cfg, with that cfg, or all of them
-abbrev pub cut : List Event → Collected
-cut es = record { attrs = filter_map left (take_while is_left es); false_cfg = first (filter_map right es) }
+abbrev pub cut_events : List Event → Collected
+cut_events es = record { attrs = filter_map left (take_while is_left es); false_cfg = first (filter_map right es) }
 
 -- what a list of metas collects
 abbrev pub collected_from : List AtomView → List (List ℕ) → List MetaView → Collected
-collected_from options skipped metas = cut (flat_map (events options skipped) metas)
+collected_from options skipped metas = cut_events (flat_map (events options skipped) metas)
 
 -- ---- one owner's attributes behind another's
 

@@ -11,6 +11,6 @@ abbrev pub has_key : List ℕ → Attr → Bool
 has_key key attr = option_map_or (λ name. pointwise nat_eq name key) (ident_of attr.path) false
 
 -- the attributes behind a reference, or none
-abbrev pub lent : Option (Bor (List Attr)) → List Attr
-lent None = []
-lent (Some attrs) = attrs.now
+abbrev pub referred_attrs : Option (Bor (List Attr)) → List Attr
+referred_attrs None = []
+referred_attrs (Some attrs) = attrs.now

@@ -2,17 +2,17 @@
 use Rattle.std.specs.Prelude.{ℕ, ◌+◌, List, Option, Some, None}
 use Rattle.std.specs.List.{filter}
 use Rattle.hir_input.specs.declared.attr.Attr.{Attr}
-use Rattle.item_tree_attrs.specs.Key.{has_key, lent}
+use Rattle.item_tree_attrs.specs.Key.{has_key, referred_attrs}
 use Rattle.item_tree_attrs.specs.declared.query.Attrs.{Attrs}
 use Rattle.item_tree_attrs.specs.declared.query.AttrQuery.{AttrQuery}
 
 -- the attributes, in order
-abbrev pub listed : Attrs → List Attr
-listed a = lent a.attrs
+abbrev pub listed_attrs : Attrs → List Attr
+listed_attrs a = referred_attrs a.attrs
 
 -- the attributes that a query asks for, in order
 abbrev pub asked : AttrQuery → List Attr
-asked q = filter (has_key q.key.now) (listed q.attrs)
+asked q = filter (has_key q.key.now) (listed_attrs q.attrs)
 
 -- where the attributes behind an id begin
 abbrev pub place_after : Option ℕ → ℕ

@@ -3,8 +3,8 @@ ghost use Rattle.std.specs.Prelude.{◌≡◌, ◌↔◌, ◌<◌, ◌≤◌, le
 ghost use Rattle.hir_input.specs.Attr.{meta_view, path_meta, key_value_meta, token_tree_meta};
 ghost use Rattle.hir_input.specs.Cfg.{cfg_view, truth};
 ghost use Rattle.hir_input.specs.declared.attr.AttrInput.TheVariants.{Literal as literal, TokenTree as token_tree};
-ghost use Rattle.item_tree_attrs.specs.Collected.{attr_events, attr_limit, cfg_events, collected, collected_from, cut, events, is_false, is_skipped, join, nothing, path_of, IsUnit, JoinsLists};
-ghost use Rattle.item_tree_attrs.specs.Inner.Collecting.{found, Adds};
+ghost use Rattle.item_tree_attrs.specs.Collected.{attr_events, attr_limit, cfg_events, collected, collected_from, cut_events, events, is_false, is_skipped, join, nothing_collected, attr_path, IsUnit, JoinsLists};
+ghost use Rattle.item_tree_attrs.specs.Inner.Collecting.{found, AddsCollected};
 ghost use Rattle.item_tree_attrs.specs.declared.collect.AttrError.TheVariants.{TooMany};
 
 use either::{Either, Left, Right};
@@ -109,7 +109,7 @@ impl AttrsOrCfg {
     ///
     /// It is the unit of `merge`, on both sides.
     pub fn empty(alloc: Global) -> AttrsOrCfg
-        ensures value { collected result ≡ nothing }
+        ensures value { collected result ≡ nothing_collected }
         ensures unit { IsUnit join (collected result) }
     {
         AttrsOrCfg::Enabled {
@@ -160,7 +160,7 @@ impl AttrsOrCfg {
 
     /// Whether it is enabled and has no attribute. rust-analyzer's `AttrsOrCfg::is_empty`.
     pub fn is_empty(&self) -> bool
-        ensures { IsTrue result ↔ (collected self.now ≡ nothing) }
+        ensures { IsTrue result ↔ (collected self.now ≡ nothing_collected) }
     {
         match self {
             AttrsOrCfg::Enabled { attrs } => attrs.attrs.is_empty(),
@@ -187,7 +187,7 @@ fn is_left_out(path: &Option<PathNode>, skipped: &[Name]) -> bool
 
 // The path, or the name `[missing name]` where it is missing or not readable.
 fn readable_path(alloc: Global, path: &Option<PathNode>) -> Result<ModPath, AllocError>
-    ensures { IfOk result (λ found. found ≡ path_of path.now) }
+    ensures { IfOk result (λ found. found ≡ attr_path path.now) }
 {
     if let Some(PathNode::Readable(path)) = path {
         return path.clone();
@@ -290,8 +290,8 @@ fn take<'a>(
     event: Option<Event<'a>>,
     attrs: &mut Vec<Attr>,
 ) -> Result<Option<&'a CfgExpr>, AllocError>
-    ensures { let one = cut (found event.entry) in
-        IfOk result (λ met. Adds attrs.old.items attrs.new.items met one) }
+    ensures { let one = cut_events (found event.entry) in
+        IfOk result (λ met. AddsCollected attrs.old.items attrs.new.items met one) }
 {
     match event {
         Some(Left(attr)) => {
@@ -312,8 +312,8 @@ fn collect<'a>(
     skipped: &[Name],
     attrs: &mut Vec<Attr>,
 ) -> Result<Option<&'a CfgExpr>, AllocError>
-    ensures { let all = cut (events cfg_options.now skipped.now (meta_view meta.now)) in
-        IfOk result (λ met. Adds attrs.old.items attrs.new.items met all) }
+    ensures { let all = cut_events (events cfg_options.now skipped.now (meta_view meta.now)) in
+        IfOk result (λ met. AddsCollected attrs.old.items attrs.new.items met all) }
 {
     match meta {
         Meta::Path { path, ctxt } => take(path_event(alloc, path, *ctxt, skipped)?, attrs),
@@ -347,7 +347,7 @@ fn collect_all<'a>(
     attrs: &mut Vec<Attr>,
 ) -> Result<Option<&'a CfgExpr>, AllocError>
     ensures { let all = collected_from cfg_options.now skipped.now (map meta_view metas.now) in
-        IfOk result (λ met. Adds attrs.old.items attrs.new.items met all) }
+        IfOk result (λ met. AddsCollected attrs.old.items attrs.new.items met all) }
 {
     for meta in metas {
         if let Some(cfg) = collect(alloc, meta, cfg_options, skipped, attrs)? {

@@ -3,7 +3,7 @@
 ghost use Rattle.std.specs.Prelude.{◌≡◌, []};
 ghost use Rattle.hir_input.specs.Equality.{DecidesEq, DecidesEqOf, IsCopied};
 ghost use Rattle.item_tree_attrs.specs.Collected.{collected};
-ghost use Rattle.item_tree_attrs.specs.Query.{listed};
+ghost use Rattle.item_tree_attrs.specs.Query.{listed_attrs};
 
 use crate::collect::{AttrError, AttrsOrCfg, AttrsOwned};
 use crate::query::{AttrQuery, Attrs, KeyedAttrs};
@@ -26,7 +26,7 @@ fn copies()
 
 // `EMPTY` has no attributes.
 fn empty() -> Attrs<'static>
-    ensures { listed result ≡ [] }
+    ensures { listed_attrs result ≡ [] }
 {
     Attrs::EMPTY
 }

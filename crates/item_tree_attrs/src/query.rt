@@ -1,6 +1,6 @@
 //! Attributes that are lent, and what is asked of them.
 ghost use Rattle.std.specs.Prelude.{◌≡◌, ◌<◌, ◌^◌, length};
-ghost use Rattle.item_tree_attrs.specs.Key.{has_key, lent};
+ghost use Rattle.item_tree_attrs.specs.Key.{has_key, referred_attrs};
 
 use crate::collect::AttrsOwned;
 use hir_input::{Attr, AttrId, Span, TokenTree};
@@ -14,16 +14,16 @@ use std::marker::Model;
 pub struct Attrs<'a> {
     // none: no attributes, since a constant cannot borrow a list of them
     attrs: Option<&'a [Attr]>,
-    ghost few: { length (lent attrs) < 2 ^ 32 },
+    ghost few: { length (referred_attrs attrs) < 2 ^ 32 },
 }
 
 impl AttrsOwned {
     ghost use Rattle.std.specs.Prelude.{◌≡◌};
-    ghost use Rattle.item_tree_attrs.specs.Query.{listed};
+    ghost use Rattle.item_tree_attrs.specs.Query.{listed_attrs};
 
     /// The attributes, lent. rust-analyzer's `AttrsOwned::as_ref`.
     pub fn as_ref(&self) -> Attrs<'_>
-        ensures { listed result ≡ self.now }
+        ensures { listed_attrs result ≡ self.now }
     {
         Attrs {
             attrs: Some(self.attrs.as_slice()),
@@ -36,15 +36,15 @@ impl<'a> Attrs<'a> {
     ghost use Rattle.std.specs.List.{enumerate_from};
     ghost use Rattle.std.specs.Option.{ForSome};
     ghost use Rattle.item_tree_attrs.specs.Key.{has_key};
-    ghost use Rattle.item_tree_attrs.specs.Query.{asked, listed, place_after};
+    ghost use Rattle.item_tree_attrs.specs.Query.{asked, listed_attrs, place_after};
 
     /// No attributes. rust-analyzer's `Attrs::EMPTY`.
     pub const EMPTY: Attrs<'static> = Attrs { attrs: None };
 
     /// The attributes, in order. In place of rust-analyzer's `Deref` of `Attrs`.
     pub fn as_slice(self) -> &'a [Attr]
-        ensures value { result.now ≡ listed self.entry }
-        ensures few { length (listed self.entry) < 2 ^ 32 }
+        ensures value { result.now ≡ listed_attrs self.entry }
+        ensures few { length (listed_attrs self.entry) < 2 ^ 32 }
     {
         match self.attrs {
             Some(attrs) => attrs,
@@ -54,14 +54,14 @@ impl<'a> Attrs<'a> {
 
     /// Asks for the attributes whose path is the one name `key`. rust-analyzer's `Attrs::by_key`.
     pub fn by_key(self, key: &'a str) -> AttrQuery<'a>
-        ensures { asked result ≡ filter (has_key key.now) (listed self.entry) }
+        ensures { asked result ≡ filter (has_key key.now) (listed_attrs self.entry) }
     {
         AttrQuery { attrs: self, key }
     }
 
     /// The attributes with their ids, in order. rust-analyzer's `Attrs::iter`.
     pub fn iter(self) -> AttrIter<'a>
-        ensures value { result ≡ enumerate_from 0 (listed self.entry) }
+        ensures value { result ≡ enumerate_from 0 (listed_attrs self.entry) }
         ensures few { length result < 2 ^ 32 }
     {
         self.iter_from(0)
@@ -70,8 +70,8 @@ impl<'a> Attrs<'a> {
     /// The attributes after the one of this id, or all of them for `None`, with the ids that `iter` gives them.
     /// rust-analyzer's `Attrs::iter_after`. The caller shows that the id is that of one of the attributes.
     pub fn iter_after(self, after: Option<AttrId>) -> AttrIter<'a>
-        requires { ForSome after (λ id. id < length (listed self)) }
-        ensures value { result ≡ drop (place_after after) (enumerate_from 0 (listed self.entry)) }
+        requires { ForSome after (λ id. id < length (listed_attrs self)) }
+        ensures value { result ≡ drop (place_after after) (enumerate_from 0 (listed_attrs self.entry)) }
         ensures few { length result < 2 ^ 32 }
     {
         match after {
@@ -83,8 +83,8 @@ impl<'a> Attrs<'a> {
     // The attributes from a position on, with their ids.
     #[tactic(auto, using(crate::proofs::Places::positions, std::proofs::lemmas::Grind::common_steps))]
     fn iter_from(self, position: u32) -> AttrIter<'a>
-        requires { position ≤ length (listed self) }
-        ensures value { result ≡ drop position (enumerate_from 0 (listed self.entry)) }
+        requires { position ≤ length (listed_attrs self) }
+        ensures value { result ≡ drop position (enumerate_from 0 (listed_attrs self.entry)) }
         ensures few { length result < 2 ^ 32 }
     {
         let attrs = self.as_slice();
@@ -96,7 +96,7 @@ impl<'a> Attrs<'a> {
 
     /// Whether there is an attribute `proc_macro`. rust-analyzer's `Attrs::is_proc_macro`.
     pub fn is_proc_macro(&self) -> bool
-        ensures { let found = filter (has_key (codes "proc_macro")) (listed self.now) in
+        ensures { let found = filter (has_key (codes "proc_macro")) (listed_attrs self.now) in
             IsTrue result ↔ (0 < length found) }
     {
         self.by_key("proc_macro").exists()
@@ -104,7 +104,7 @@ impl<'a> Attrs<'a> {
 
     /// Whether there is an attribute `proc_macro_attribute`. rust-analyzer's `Attrs::is_proc_macro_attribute`.
     pub fn is_proc_macro_attribute(&self) -> bool
-        ensures { let found = filter (has_key (codes "proc_macro_attribute")) (listed self.now) in
+        ensures { let found = filter (has_key (codes "proc_macro_attribute")) (listed_attrs self.now) in
             IsTrue result ↔ (0 < length found) }
     {
         self.by_key("proc_macro_attribute").exists()

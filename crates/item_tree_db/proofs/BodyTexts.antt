@@ -12,7 +12,7 @@ use Rattle.item_tree.proofs.BodyTexts.{kept_without_bodies}
 use Rattle.item_tree_db.specs.declared.place.Place.{Place}
 use Rattle.item_tree_db.specs.State.{State, is_root_of, present, unfolding_of, unfolding_at, change_number}
 use Rattle.item_tree_db.specs.Edits.{EditView}
-use Rattle.item_tree_db.specs.History.{last_some, sets, gives, under, crate_after, present_after, unfolding_after, IsAfter, ChangesBodiesOnly, IgnoresBodies}
+use Rattle.item_tree_db.specs.History.{last_some, sets, gives, under_options, crate_after, present_after, unfolding_after, IsAfter, ChangesBodiesOnly, IgnoresBodies}
 use Rattle.item_tree_db.proofs.Histories.{change_number_is}
 
 -- two syntaxes that differ in body texts alone unfold alike
@@ -37,7 +37,7 @@ present_kept s (e ∷ es) place i h =
     or_kept (option_map without_bodies) (last_some (sets place) es) (sets place e) (present s place) (present_kept s es place i (λ k d within. h (suc k) d (omega (arith, within)))) (h 0 e (omega arith)).syntax
 
 -- and the crate stays what it is
-under_kept : (a b : Option (List AtomView)) (krate : Option CrateView) → under a krate ≡ krate → IfSome b (λ options. under (Some options) krate ≡ krate) → under (option_or a b) krate ≡ krate
+under_kept : (a b : Option (List AtomView)) (krate : Option CrateView) → under_options a krate ≡ krate → IfSome b (λ options. under_options (Some options) krate ≡ krate) → under_options (option_or a b) krate ≡ krate
 under_kept None None krate last first = refl
 under_kept None (Some o) krate last first = first
 under_kept (Some o) b krate last first = last

@@ -17,7 +17,7 @@ use Rattle.item_tree_db.specs.Since.{HoldLate}
 use Rattle.item_tree_db.specs.Edits.{EditView, set, remove, set_cfg, NamesPlaceOf}
 use Rattle.item_tree_db.proofs.Places.{same_is}
 use Rattle.item_tree_db.specs.Refusal.{TreeFits, FitsAfter, FirstFit}
-use Rattle.item_tree_db.specs.History.{sets, gives, under, crate_after, last_some, last_below, present_after, unfolding_after, moves, changed_after, IsChangeNumber, IsAfter, IsFooting}
+use Rattle.item_tree_db.specs.History.{sets, gives, under_options, crate_after, last_some, last_number_below, present_after, unfolding_after, moves, changed_after, IsChangeNumber, IsAfter, IsFooting}
 
 -- ---- the last edit that moved it, without the tests
 
@@ -33,11 +33,11 @@ last_no : (p : ℕ → Bool) (n : ℕ) (o : Option ℕ) → p n ≡ false → Is
 last_no p n None t h = λ k b. one_no p k n b t (h k)
 last_no p n (Some m) t h = (omega (arith, h.0), h.1, λ k a b. one_no p k n b t (h.2 k a))
 
-last_is : (p : ℕ → Bool) (n : ℕ) → IsLast p n (last_below p n)
+last_is : (p : ℕ → Bool) (n : ℕ) → IsLast p n (last_number_below p n)
 last_is p zero = λ k h. absurd (omega arith)
-last_is p (suc n) = elim (p n) as (λ b. p n ≡ b → IsLast p (suc n) (cond b (Some n) (last_below p n))) [
+last_is p (suc n) = elim (p n) as (λ b. p n ≡ b → IsLast p (suc n) (cond b (Some n) (last_number_below p n))) [
   | true ↦ λ t. (omega arith, t, λ k a b. absurd (omega arith))
-  | false ↦ λ t. last_no p n (last_below p n) t (last_is p n)
+  | false ↦ λ t. last_no p n (last_number_below p n) t (last_is p n)
 ] refl
 
 module _ (s : State) (es : List EditView) (place : Place) (i : ℕ) where
@@ -48,7 +48,7 @@ module _ (s : State) (es : List EditView) (place : Place) (i : ℕ) where
   moved m h e = true≢false (sym (same_of_equal unfolding_code (unfolding_after s (take m es) place i) (unfolding_after s (take (suc m) es) place i) e) ∙ not-true _ h)
 
   change_number_by : IsChangeNumber s es place i (changed_after s es place i)
-  change_number_by = elim (last_below (moves s es place i) (length es)) as (λ o. IsLast (moves s es place i) (length es) o → IsChangeNumber s es place i (unwrap_or (option_map (λ n. s.number + n + 1) o) (change_number s place i))) [
+  change_number_by = elim (last_number_below (moves s es place i) (length es)) as (λ o. IsLast (moves s es place i) (length es) o → IsChangeNumber s es place i (unwrap_or (option_map (λ n. s.number + n + 1) o) (change_number s place i))) [
     | None ↦ λ h. inl (record { number = refl; still = λ m b. unmoved m (h m b) })
     | Some n ↦ λ h. inr (n, record { in_list = h.0; number = refl; moved = moved n h.1; still = λ m a b. unmoved m (h.2 m a b) })
   ] (last_is (moves s es place i) (length es))
@@ -76,13 +76,13 @@ or_else None b d = refl
 or_else (Some x) b d = refl
 
 -- options given, and given again
-under_both : (a b : Option (List AtomView)) (krate : Option CrateView) → under (option_or a b) krate ≡ under a (under b krate)
+under_both : (a b : Option (List AtomView)) (krate : Option CrateView) → under_options (option_or a b) krate ≡ under_options a (under_options b krate)
 under_both None b krate = refl
 under_both (Some o) None krate = refl
 under_both (Some o) (Some p) None = refl
 under_both (Some o) (Some p) (Some krate) = refl
 
-same_below : (p q : ℕ → Bool) (n : ℕ) → ((k : ℕ) → k < n → p k ≡ q k) → last_below p n ≡ last_below q n
+same_below : (p q : ℕ → Bool) (n : ℕ) → ((k : ℕ) → k < n → p k ≡ q k) → last_number_below p n ≡ last_number_below q n
 same_below p q zero h = refl
 same_below p q (suc n) h = (λ j. cond (h n (omega arith) j) (Some n) (same_below p q n (λ k b. h k (omega arith)) j))
 
@@ -96,11 +96,11 @@ below_at : (b : Bool) (m k : ℕ) (later first whole : Option ℕ) → whole ≡
 below_at true m k later first whole h = refl
 below_at false m k later first whole h = h
 
-below_sum : (p : ℕ → Bool) (m k : ℕ) → last_below p (m + k) ≡ option_or (option_map (λ n. m + n) (last_below (λ n. p (m + n)) k)) (last_below p m)
-below_sum p m zero = let e : m + zero ≡ m = omega arith in ap (last_below p) e
+below_sum : (p : ℕ → Bool) (m k : ℕ) → last_number_below p (m + k) ≡ option_or (option_map (λ n. m + n) (last_number_below (λ n. p (m + n)) k)) (last_number_below p m)
+below_sum p m zero = let e : m + zero ≡ m = omega arith in ap (last_number_below p) e
 below_sum p m (suc k) =
     let e : m + suc k ≡ suc (m + k) = omega arith in
-    ap (last_below p) e ∙ below_at (p (m + k)) m k (last_below (λ n. p (m + n)) k) (last_below p m) (last_below p (m + k)) (below_sum p m k)
+    ap (last_number_below p) e ∙ below_at (p (m + k)) m k (last_number_below (λ n. p (m + n)) k) (last_number_below p m) (last_number_below p (m + k)) (below_sum p m k)
 
 -- the number of the last edit that moved it
 numbers : (s u m now then : ℕ) (later first : Option ℕ) → u ≡ s + m → then ≡ unwrap_or (option_map (λ n. s + n + 1) first) now
@@ -116,7 +116,7 @@ module _ (s u v : State) (es fs : List EditView) (front : IsAfter s es u) (last 
   join_present gs place = ap (unwrap_or (last_some (sets place) gs)) (front.syntaxes place) ∙ sym (or_else (last_some (sets place) gs) (last_some (sets place) es) (present s place)) ∙ ap (λ o. unwrap_or o (present s place)) (sym (last_append (sets place) es gs))
 
   join_crate : (gs : List EditView) (i : ℕ) → crate_after u gs i ≡ crate_after s (es ++ gs) i
-  join_crate gs i = ap (under (last_some (gives i) gs)) (front.crates i) ∙ sym (under_both (last_some (gives i) gs) (last_some (gives i) es) (slice_get s.crates i)) ∙ ap (λ o. under o (slice_get s.crates i)) (sym (last_append (gives i) es gs))
+  join_crate gs i = ap (under_options (last_some (gives i) gs)) (front.crates i) ∙ sym (under_both (last_some (gives i) gs) (last_some (gives i) es) (slice_get s.crates i)) ∙ ap (λ o. under_options o (slice_get s.crates i)) (sym (last_append (gives i) es gs))
 
   join_unfolding : (gs : List EditView) (place : Place) (i : ℕ) → unfolding_after u gs place i ≡ unfolding_after s (es ++ gs) place i
   join_unfolding gs place i j = unfolding_of (front.skipped j) place (join_crate gs i j) (join_present gs place j)
@@ -139,9 +139,9 @@ module _ (s u v : State) (es fs : List EditView) (front : IsAfter s es u) (last 
       let now = change_number s place i in
       let told = λ (o : Option ℕ). unwrap_or (option_map (λ n. s.number + n + 1) o) now in
       last.changes place i (rw front.count p)
-      ∙ numbers s.number u.number m now (change_number u place i) (last_below (moves u fs place i) k) (last_below (moves s es place i) m) front.number (front.changes place i p)
+      ∙ numbers s.number u.number m now (change_number u place i) (last_number_below (moves u fs place i) k) (last_number_below (moves s es place i) m) front.number (front.changes place i p)
       ∙ (λ j. told (option_or (option_map (λ n. m + n) (same_below (moves u fs place i) (λ n. moves s all place i (m + n)) k (λ n b. moves_past place i n) j)) (same_below (moves s es place i) (moves s all place i) m (moves_first place i) j)))
-      ∙ ap told (sym (below_sum (moves s all place i) m k) ∙ ap (last_below (moves s all place i)) (sym (length-append es fs)))
+      ∙ ap told (sym (below_sum (moves s all place i) m k) ∙ ap (last_number_below (moves s all place i)) (sym (length-append es fs)))
 
   -- edits made in two goes
   pub after_join : IsAfter s all v
@@ -178,7 +178,7 @@ after_none s = record {
 fits_front : (s u : State) (es : List EditView) (e : EditView) → IsAfter s es u → FitsAfter u [] e → FitsAfter s es e
 fits_front s u es (set place syntax) after h = λ i. subst (λ (z : List (List ℕ) × Option CrateView). TreeFits z.0 place z.1 (Some syntax)) (λ j. (after.skipped j, after.crates i j)) (h i)
 fits_front s u es (remove place) after h = tt
-fits_front s u es (set_cfg i o) after h = λ place. subst (λ (z : List (List ℕ) × Option CrateView × Option SyntaxView). TreeFits z.0 place (under (Some o) z.1) z.2) (λ j. (after.skipped j, after.crates i j, after.syntaxes place j)) (h place)
+fits_front s u es (set_cfg i o) after h = λ place. subst (λ (z : List (List ℕ) × Option CrateView × Option SyntaxView). TreeFits z.0 place (under_options (Some o) z.1) z.2) (λ j. (after.skipped j, after.crates i j, after.syntaxes place j)) (h place)
 
 -- one more edit
 pub fits_more : (s u : State) (es : List EditView) (n : ℕ) (e : EditView) → FirstFit s es n → IsAfter s (take n es) u → slice_get es n ≡ Some e → FitsAfter u [] e → FirstFit s es (n + 1)
@@ -245,7 +245,7 @@ names_or_leaves places (remove at) place h = elim (same_place at place) as (λ b
 names_or_leaves places (set_cfg k o) place h = absurd h
 
 left_at : (s : State) (es : List EditView) (place : Place) (i m : ℕ) (e : EditView) → slice_get es m ≡ Some e → Leaves place e → unfolding_after s (take m es) place i ≡ unfolding_after s (take (suc m) es) place i
-left_at s es place i m e at leaves j = unfolding_of s.skipped place (under (sym (last_take (gives i) es m e at (leaves.crates i)) j) (slice_get s.crates i)) (unwrap_or (sym (last_take (sets place) es m e at leaves.syntax) j) (present s place))
+left_at s es place i m e at leaves j = unfolding_of s.skipped place (under_options (sym (last_take (gives i) es m e at (leaves.crates i)) j) (slice_get s.crates i)) (unwrap_or (sym (last_take (sets place) es m e at leaves.syntax) j) (present s place))
 
 -- where these places hold what changed since a number and what the edits name, they hold what changed after them
 pub late_after : (s u : State) (es : List EditView) (n : ℕ) (old new : List Place) → IsAfter s es u → ((place : Place) → Contains old place → Contains new place) → All (NamesPlaceOf new) es → HoldLate s n old → HoldLate u n new

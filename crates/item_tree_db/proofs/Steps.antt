@@ -23,7 +23,7 @@ use Rattle.item_tree_db.specs.declared.source.Source.TheVariants.{File, Block}
 use Rattle.item_tree_db.specs.PlaceOrder.{place_cmp, same_place}
 use Rattle.item_tree_db.specs.State.{Held, State, find, given, present, unfolding_of, unfolding_at, change_number}
 use Rattle.item_tree_db.specs.Edits.{EditView, edit_view, set, remove, set_cfg}
-use Rattle.item_tree_db.specs.History.{sets, gives, under, present_after, unfolding_after, changed_after, IsAfter, IsFooting}
+use Rattle.item_tree_db.specs.History.{sets, gives, under_options, present_after, unfolding_after, changed_after, IsAfter, IsFooting}
 use Rattle.item_tree_db.specs.Refusal.{TreeFits, TreePasses, FitsAfter, UnlessMemory, IsRefusal}
 use Rattle.item_tree_db.specs.Inner.Settled.{settled_row, empty_row, fresh_row, brought}
 use Rattle.item_tree_db.specs.Inner.Shelf.{Shelved, Places, placed_at, syntax_in, row_in, HasPut, set_to, removed, change_at, recast, recast_each, fresh_of, IsInOrder}
@@ -105,7 +105,7 @@ module _ (t : Table) (sound : IsSound t) (k : Place) (e : EditView) where
   one_place : (w : Option Shelved) (new : Places) → ((q : Place) → same_place k q ≡ false → sets q e ≡ None) → ((i : ℕ) → gives i e ≡ None) → HasPut k w t.places new → IsLed t t.crates e k (placed_at t.places k) w → IsStep t e t.crates new
   one_place w new others none put here = record {
     count = refl;
-    under_it = λ i. ap (λ g. under g (slice_get t.crates i)) (sym (none i));
+    under_it = λ i. ap (λ g. under_options g (slice_get t.crates i)) (sym (none i));
     led = λ q. elim (same_place k q) as (λ b. same_place k q ≡ b → IsLed t t.crates e q (placed_at t.places q) (placed_at new q)) [
       | true ↦ λ h. subst (λ (p : Place). IsLed t t.crates e p (placed_at t.places p) (placed_at new p)) (sym (same_is q k h)) (subst (IsLed t t.crates e k (placed_at t.places k)) (sym put.here) here)
       | false ↦ λ h. subst (IsLed t t.crates e q (placed_at t.places q)) (sym (put.others q (other_of k q h))) (kept q (others q h))
@@ -140,8 +140,8 @@ module _ (t : Table) (k : ℕ) (o : List AtomView) where
   abbrev crates_now : List CrateView
   crates_now = change_at k (given o) t.crates
 
-  given_at : (i : ℕ) → slice_get crates_now i ≡ under (cond (nat_eq k i) (Some o) None) (slice_get t.crates i)
-  given_at i = elim (nat_eq k i) as (λ b. nat_eq k i ≡ b → slice_get crates_now i ≡ under (cond b (Some o) None) (slice_get t.crates i)) [
+  given_at : (i : ℕ) → slice_get crates_now i ≡ under_options (cond (nat_eq k i) (Some o) None) (slice_get t.crates i)
+  given_at i = elim (nat_eq k i) as (λ b. nat_eq k i ≡ b → slice_get crates_now i ≡ under_options (cond b (Some o) None) (slice_get t.crates i)) [
     | true ↦ λ h. ap (slice_get crates_now) (sym (equal k i h)) ∙ get_here (given o) k t.crates ∙ ap (λ (m : ℕ). option_map (given o) (slice_get t.crates m)) (equal k i h)
     | false ↦ λ h. get_other (given o) k i t.crates (not_equal k i h)
   ] refl
@@ -315,7 +315,7 @@ module _ (crates : List CrateData) (skipped : List (List ℕ)) (start number : �
         subst (λ (l : List CrateView). IsMade s (set_cfg k.0 o) (next_table t l new)) (sym same) (made t (set_cfg k.0 o) now new sound step s is)
 
     -- it is lowered under them
-    lowers : (P : Option CrateView → Option SyntaxView → Type 0) (place : Place) → P (Some krate) (syntax_in (placed_at places place)) → P (under (Some o) (slice_get (map crate_view crates) k.0)) (present (state_of t) place)
+    lowers : (P : Option CrateView → Option SyntaxView → Type 0) (place : Place) → P (Some krate) (syntax_in (placed_at places place)) → P (under_options (Some o) (slice_get (map crate_view crates) k.0)) (present (state_of t) place)
     lowers P place h = subst (λ (z : Option CrateView × Option SyntaxView). P z.0 z.1) (λ j. ((sym at ∙ get_here (given o) k.0 (map crate_view crates)) j, sym (present_is t place) j)) h
 
     pub cfg_fits : PlacesFit skipped (Some krate) places → FitsAfter s [] (set_cfg k.0 o)

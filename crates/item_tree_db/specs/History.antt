@@ -19,9 +19,9 @@ last_some f [] = None
 last_some f (x ∷ xs) = option_or (last_some f xs) (f x)
 
 -- the last number below n that passes
-abbrev pub last_below : (ℕ → Bool) → ℕ → Option ℕ
-last_below p zero = None
-last_below p (suc n) = if p n then Some n else last_below p n
+abbrev pub last_number_below : (ℕ → Bool) → ℕ → Option ℕ
+last_number_below p zero = None
+last_number_below p (suc n) = if p n then Some n else last_number_below p n
 
 -- the syntax that an edit leaves at a place, if it sets or removes that place
 abbrev pub sets : Place → EditView → Option (Option SyntaxView)
@@ -36,9 +36,9 @@ gives i (remove at) = None
 gives i (set_cfg k options) = if k == i then Some options else None
 
 -- a crate of the list under the options that it is given, if it is given any
-abbrev pub under : Option (List AtomView) → Option CrateView → Option CrateView
-under None krate = krate
-under (Some options) krate = option_map (given options) krate
+abbrev pub under_options : Option (List AtomView) → Option CrateView → Option CrateView
+under_options None krate = krate
+under_options (Some options) krate = option_map (given options) krate
 
 -- ---- after the edits
 
@@ -48,7 +48,7 @@ present_after s edits place = unwrap_or (last_some (sets place) edits) (present 
 
 -- crate i under its present options: those that the last edit gives it that gives it any
 abbrev pub crate_after : State → List EditView → ℕ → Option CrateView
-crate_after s edits i = under (last_some (gives i) edits) (slice_get s.crates i)
+crate_after s edits i = under_options (last_some (gives i) edits) (slice_get s.crates i)
 
 -- what the place's tree in crate i unfolds to
 abbrev pub unfolding_after : State → List EditView → Place → ℕ → Unfolding
@@ -60,7 +60,7 @@ moves s edits place i n = not (same unfolding_code (unfolding_after s (take n ed
 
 -- the number of the last edit that did, or else what it was; the edit at position n has the table's number and n + 1
 abbrev pub changed_after : State → List EditView → Place → ℕ → ℕ
-changed_after s edits place i = unwrap_or (option_map (λ n. s.number + n + 1) (last_below (moves s edits place i) (length edits))) (change_number s place i)
+changed_after s edits place i = unwrap_or (option_map (λ n. s.number + n + 1) (last_number_below (moves s edits place i) (length edits))) (change_number s place i)
 
 -- ---- the change number without a test
 
@@ -101,7 +101,7 @@ pub record IsFooting (s u : State) : Type 0 where
 -- the edit changes no more of the place in crate i than body texts: it leaves the syntax but for them and the crate as it is, or is one of another place or crate
 pub record ChangesBodiesOnly (s : State) (place : Place) (i : ℕ) (edit : EditView) : Type 0 where
   pub syntax : IfSome (sets place edit) (λ left. option_map without_bodies left ≡ option_map without_bodies (present s place))
-  pub krate : IfSome (gives i edit) (λ options. under (Some options) (slice_get s.crates i) ≡ slice_get s.crates i)
+  pub krate : IfSome (gives i edit) (λ options. under_options (Some options) (slice_get s.crates i) ≡ slice_get s.crates i)
 
 -- edits that lead from s to u, and change no more of a place in a crate than body texts, do not move its change number
 abbrev pub IgnoresBodies : State → List EditView → State → Type 0

@@ -11,7 +11,7 @@ use Rattle.item_tree_db.specs.declared.place.Place.{Place}
 use Rattle.item_tree_db.specs.declared.edit.EditRefused.{EditRefused}
 use Rattle.item_tree_db.specs.State.{State, kept_at}
 use Rattle.item_tree_db.specs.Edits.{EditView, set, remove, set_cfg, edit_view}
-use Rattle.item_tree_db.specs.History.{under, crate_after, present_after}
+use Rattle.item_tree_db.specs.History.{under_options, crate_after, present_after}
 
 -- no edit has a number above this one
 abbrev pub last_number : ℕ
@@ -39,13 +39,13 @@ TreePasses skipped place (Some krate) (Some syntax) error = IsTooLarge syntax (k
 abbrev pub FitsAfter : State → List EditView → EditView → Type 0
 FitsAfter s before (set place syntax) = (i : ℕ) → TreeFits s.skipped place (crate_after s before i) (Some syntax)
 FitsAfter s before (remove place) = Unit {0}
-FitsAfter s before (set_cfg i options) = (place : Place) → TreeFits s.skipped place (under (Some options) (crate_after s before i)) (present_after s before place)
+FitsAfter s before (set_cfg i options) = (place : Place) → TreeFits s.skipped place (under_options (Some options) (crate_after s before i)) (present_after s before place)
 
 -- some tree that it lowers passes this size
 abbrev pub PassesAfter : State → List EditView → EditView → LowerError → Type 0
 PassesAfter s before (set place syntax) error = (i : ℕ) × TreePasses s.skipped place (crate_after s before i) (Some syntax) error
 PassesAfter s before (remove place) error = ⊥
-PassesAfter s before (set_cfg i options) error = (place : Place) × TreePasses s.skipped place (under (Some options) (crate_after s before i)) (present_after s before place) error
+PassesAfter s before (set_cfg i options) error = (place : Place) × TreePasses s.skipped place (under_options (Some options) (crate_after s before i)) (present_after s before place) error
 
 -- each of the first n edits fits, made after those before it
 abbrev pub FirstFit : State → List EditView → ℕ → Type 0

@@ -8,7 +8,7 @@ use Rattle.item_tree.specs.declared.fault.LowerError.{LowerError}
 use Rattle.item_tree.specs.declared.fault.LowerError.TheVariants.{TooManyItems, TooManyVisibilities, TooManyUseTrees, TooManyAttributes, TooManySupers, OutOfMemory}
 use Rattle.item_tree_db.specs.State.{State, present}
 use Rattle.item_tree_db.specs.Edits.{EditView, set, remove, set_cfg}
-use Rattle.item_tree_db.specs.History.{IsAfter, under, crate_after, present_after}
+use Rattle.item_tree_db.specs.History.{IsAfter, under_options, crate_after, present_after}
 use Rattle.item_tree_db.specs.Refusal.{last_number, FirstFit, TreePasses, PassesAfter, IsCause}
 use Rattle.item_tree_request.specs.Inner.Made.{IsMade, IsUnmade, refusal_of}
 use Rattle.item_tree_request.specs.Outputs.{NonePasses, PassesAt}
@@ -28,11 +28,11 @@ passes_front s u before (set place syntax) error after h =
     (h.0, subst (λ names. TreePasses names place (crate_after s before h.0) (Some syntax) error) after.skipped (subst (λ krate. TreePasses u.skipped place krate (Some syntax) error) (after.crates h.0) h.1))
 passes_front s u before (remove place) error after h = absurd h
 passes_front s u before (set_cfg i options) error after h =
-    let krate = under (Some options) (crate_after s before i) in (
+    let krate = under_options (Some options) (crate_after s before i) in (
       h.0,
       subst (λ names. TreePasses names h.0 krate (present_after s before h.0) error) after.skipped
           (subst (λ syntax. TreePasses u.skipped h.0 krate syntax error) (after.syntaxes h.0)
-          (subst (λ k. TreePasses u.skipped h.0 (under (Some options) k) (present u h.0) error) (after.crates i) h.1)),
+          (subst (λ k. TreePasses u.skipped h.0 (under_options (Some options) k) (present u h.0) error) (after.crates i) h.1)),
     )
 
 -- the cause of a refusal that is a size

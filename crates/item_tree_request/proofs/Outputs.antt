@@ -20,7 +20,7 @@ use Rattle.item_tree_request.specs.declared.request.show.TreeShow.{TreeShow}
 use Rattle.item_tree_request.specs.declared.request.show.ShowKind.{ShowKind}
 use Rattle.item_tree_request.specs.declared.request.show.ShowKind.TheVariants.{Page, Tree, Imports}
 use Rattle.item_tree_request.specs.ImportLines.{import_lines}
-use Rattle.item_tree_request.specs.Outputs.{change_line, heading, page_text, imports_text, printed_as, AreChanges, IsPrinted, Knows, AreFixed, IsAdded, AreJoined}
+use Rattle.item_tree_request.specs.Outputs.{table_change_line, heading, page_text, imports_text, printed_as, AreChanges, IsPrinted, Knows, AreFixed, IsAdded, AreJoined}
 use Rattle.item_tree_request.specs.Named.{NamesCrate, EditNamesCrate}
 
 -- ---- two tables that the same edits lead to
@@ -33,7 +33,7 @@ module _ (s u v : State) (edits : List EditView) (a : IsAfter s edits u) (b : Is
   numbers-same place i known = a.changes place i known ∙ sym (b.changes place i known)
 
   pub heading-same : (show : TreeShow) → show.krate.0 < length s.crates → heading u show ≡ heading v show
-  heading-same show known = ap (λ n. change_line (show.place, show.krate, n)) (numbers-same show.place show.krate.0 known)
+  heading-same show known = ap (λ n. table_change_line (show.place, show.krate, n)) (numbers-same show.place show.krate.0 known)
 
   printed_as-same : (kind : ShowKind) (reserved : List (List ℕ)) (show : TreeShow) → show.krate.0 < length s.crates → printed_as kind reserved u show ≡ printed_as kind reserved v show
   unfolding page_text imports_text

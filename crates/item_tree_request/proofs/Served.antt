@@ -2,7 +2,7 @@
 use Rattle.std.proofs.Common.{List, ℕ, Result, Ok, Err, MatchResult, String, Global, string_bytes}
 use Rattle.item_tree_request.specs.declared.error.RunError.{RunError}
 use Rattle.item_tree_request.specs.declared.error.RunError.TheVariants.{NotJson, NotRequest, Refused, OutOfMemory, Read, Write}
-use Rattle.item_tree_request.specs.Inner.Made.{IsServed, IsUnmade}
+use Rattle.item_tree_request.specs.Inner.Made.{IsRequestServed, IsUnmade}
 use Rattle.item_tree_request.specs.Outputs.{ShowText, first_table}
 use Rattle.item_tree_request.specs.Requests.{Request, IsRequest}
 use Rattle.item_tree_request.specs.Runs.{IsOutputOf, IsRefusedFor}
@@ -16,7 +16,7 @@ refused_for bytes q Read request unmade = absurd unmade
 refused_for bytes q Write request unmade = absurd unmade
 
 pub answered : (IsText : ShowText) (bytes : List ℕ) (q : Request) (r : Result (String Global) RunError) → IsRequest bytes q
-    → MatchResult r (λ text. IsServed IsText q (string_bytes text)) (IsUnmade (first_table q) q.edits)
+    → MatchResult r (λ text. IsRequestServed IsText q (string_bytes text)) (IsUnmade (first_table q) q.edits)
     → MatchResult r (λ text. IsOutputOf IsText bytes (string_bytes text)) (IsRefusedFor bytes)
 answered IsText bytes q (Ok text) request served = record { asked = q; is_request = request; none_passes = served.none_passes; is_output = served.is_output }
 answered IsText bytes q (Err e) request unmade = refused_for bytes q e request unmade

@@ -12,16 +12,16 @@ use Rattle.item_tree.specs.Node.{Leaf, use_item, inline, extern_block, Head, Nod
 use Rattle.item_tree.specs.Tree.{Tree}
 use Rattle.item_tree.specs.UseText.{shown_rename}
 
-abbrev pub kind_word : ImportKind → List ℕ
-kind_word Plain = codes "plain"
-kind_word Glob = codes "glob"
-kind_word TypeOnly = codes "type"
+abbrev pub import_kind_word : ImportKind → List ℕ
+import_kind_word Plain = codes "plain"
+import_kind_word Glob = codes "glob"
+import_kind_word TypeOnly = codes "type"
 
 -- under these reserved words
 module _ (reserved : List (List ℕ)) where
   -- the line of an import
   unfoldable pub import_line : Import → List ℕ
-  import_line x = decimal x.index ++ codes " " ++ shown_path reserved x.path ++ codes " " ++ kind_word x.kind ++ shown_rename reserved x.alias ++ codes "\n"
+  import_line x = decimal x.index ++ codes " " ++ shown_path reserved x.path ++ codes " " ++ import_kind_word x.kind ++ shown_rename reserved x.alias ++ codes "\n"
 
   -- the line of a use's id, and those of its imports
   unfoldable pub use_lines : FileAstId → Tree → List ℕ

@@ -22,19 +22,19 @@ use Rattle.item_tree_request.specs.ImportLines.{import_lines}
 use Rattle.item_tree_request.specs.Requests.{Request}
 
 -- a file or a block, with its number
-abbrev pub place_text : Place → List ℕ
-place_text (File file) = codes "file " ++ decimal file.0
-place_text (Block block) = codes "block " ++ decimal block.0
+abbrev pub place_word : Place → List ℕ
+place_word (File file) = codes "file " ++ decimal file.0
+place_word (Block block) = codes "block " ++ decimal block.0
 
 -- the line on a place and a crate, with the change number
-unfoldable pub change_line : Change → List ℕ
-change_line c = codes "crate " ++ decimal c.1.0 ++ codes " " ++ place_text c.0 ++ codes " change " ++ decimal c.2 ++ codes "\n"
+unfoldable pub table_change_line : Change → List ℕ
+table_change_line c = codes "crate " ++ decimal c.1.0 ++ codes " " ++ place_word c.0 ++ codes " change " ++ decimal c.2 ++ codes "\n"
 
 -- ---- shows of a table
 
 -- the line on a crate's tree of a place, with the number of the last edit that changed the tree
 abbrev pub heading : State → TreeShow → List ℕ
-heading u show = change_line (show.place, show.krate, change_number u show.place show.krate.0)
+heading u show = table_change_line (show.place, show.krate, change_number u show.place show.krate.0)
 
 -- its page, under these reserved words
 unfoldable pub page_text : List (List ℕ) → State → TreeShow → List ℕ
@@ -56,7 +56,7 @@ printed reserved u show = printed_as show.kind reserved u show
 
 -- the lines of all changes since a number
 abbrev pub AreChanges : State → ℕ → List ℕ → Type 0
-AreChanges u since text = (changes : List Change) × IsSince u since changes × (text ≡ flat_map change_line changes)
+AreChanges u since text = (changes : List Change) × IsSince u since changes × (text ≡ flat_map table_change_line changes)
 
 -- ---- what a program writes
 

@@ -9,7 +9,7 @@ use Rattle.item_tree_request.specs.declared.request.show.Show.{Show}
 use Rattle.hir_input_json.specs.Reading.{Reading, right, wrong, ◌>>=◌}
 use Rattle.hir_input_json.specs.Editions.{EditionView, edition_at}
 use Rattle.item_tree_request.specs.Edits.{crate_data, edit}
-use Rattle.hir_input_json.specs.Forms.{optional_at, whole, name, members_in, list_at}
+use Rattle.hir_input_json.specs.Forms.{optional_at, whole_form, identifier_form, object_members, list_at}
 use Rattle.item_tree_request.specs.Shows.{show}
 
 -- what is asked for
@@ -24,11 +24,11 @@ pub record Request : Type 0 where
   pub shows : List Show
 
 -- each member by its form
-abbrev pub parts : Data → Reading Request
-parts d = do
-  _ ← members_in d
-  start ← optional_at 0 (codes "start") (whole (2 ^ 64)) d
-  skipped ← list_at name (codes "skipped") d
+abbrev pub request_parts : Data → Reading Request
+request_parts d = do
+  _ ← object_members d
+  start ← optional_at 0 (codes "start") (whole_form (2 ^ 64)) d
+  skipped ← list_at identifier_form (codes "skipped") d
   language ← edition_at d
   crates ← list_at crate_data (codes "crates") d
   edits ← list_at (edit (length crates)) (codes "edits") d
@@ -37,7 +37,7 @@ parts d = do
 
 -- A request: an object without a float, each of whose members has its form.
 unfoldable pub request : Data → Reading Request
-request d = if has_float d then wrong [] else parts d
+request d = if has_float d then wrong [] else request_parts d
 
 -- the bytes are a JSON text of this value, nested to 127 at most
 abbrev pub IsJsonText : List ℕ → Data → Type 0

@@ -8,7 +8,7 @@ use Rattle.item_tree_request.specs.declared.error.RunError.TheVariants.{NotJson,
 use Rattle.hir_input_json.specs.Reading.{wrong}
 use Rattle.item_tree_request.specs.Outputs.{ShowText, first_table, IsOutput, NonePasses, PassesAt}
 use Rattle.item_tree_request.specs.Requests.{Request, request, IsJsonText, IsRequest}
-use Rattle.item_tree_request.specs.Streams.{IsReadToEnd, TakesBeginning}
+use Rattle.item_tree_request.specs.Streams.{IsReadToEnd, TakesOnlyBeginning}
 
 -- the bytes are a request, no edit of it passes a size, and the text is its output
 pub record IsOutputOf (IsText : ShowText) (bytes text : List ℕ) : Type 0 where
@@ -38,17 +38,17 @@ abbrev pub IsDone : ShowText → (had left : Option (List ℕ)) (held holds : Op
 IsDone IsText had left held holds = (bytes : List ℕ) × (text : List ℕ) × IsReadToEnd had left bytes × IsOutputOf IsText bytes text × Appends held holds text
 
 -- all that the reader gave is refused for this cause, and nothing was written
-abbrev pub IsRefused : (had left : Option (List ℕ)) (held holds : Option (List ℕ)) → RunError → Type 0
-IsRefused had left held holds e = ((bytes : List ℕ) × IsReadToEnd had left bytes × IsRefusedFor bytes e) × Keeps held holds
+abbrev pub IsRunRefused : (had left : Option (List ℕ)) (held holds : Option (List ℕ)) → RunError → Type 0
+IsRunRefused had left held holds e = ((bytes : List ℕ) × IsReadToEnd had left bytes × IsRefusedFor bytes e) × Keeps held holds
 
 -- what stands after an error: only where a write failed was anything written, and then a beginning of the output
 abbrev pub IsFailure : ShowText → (had left : Option (List ℕ)) (held holds : Option (List ℕ)) → RunError → Type 0
-IsFailure IsText had left held holds NotJson = IsRefused had left held holds NotJson
-IsFailure IsText had left held holds NotRequest = IsRefused had left held holds NotRequest
-IsFailure IsText had left held holds (Refused place cause) = IsRefused had left held holds (Refused place cause)
+IsFailure IsText had left held holds NotJson = IsRunRefused had left held holds NotJson
+IsFailure IsText had left held holds NotRequest = IsRunRefused had left held holds NotRequest
+IsFailure IsText had left held holds (Refused place cause) = IsRunRefused had left held holds (Refused place cause)
 IsFailure IsText had left held holds OutOfMemory = Keeps held holds
 IsFailure IsText had left held holds Read = Keeps held holds
-IsFailure IsText had left held holds Write = (bytes : List ℕ) × (text : List ℕ) × IsReadToEnd had left bytes × IsOutputOf IsText bytes text × TakesBeginning held holds text
+IsFailure IsText had left held holds Write = (bytes : List ℕ) × (text : List ℕ) × IsReadToEnd had left bytes × IsOutputOf IsText bytes text × TakesOnlyBeginning held holds text
 
 -- what a run has read and written when it answers: all was done, or what stands after its error
 abbrev pub HasRun : {A : Type 0} → ShowText → Result A RunError → (had left : Option (List ℕ)) (held holds : Option (List ℕ)) → Type 0

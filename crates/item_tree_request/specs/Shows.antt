@@ -8,26 +8,26 @@ use Rattle.item_tree_request.specs.declared.request.show.Show.TheVariants.{OfTre
 use Rattle.item_tree_request.specs.declared.request.show.ShowKind.{ShowKind}
 use Rattle.item_tree_request.specs.declared.request.show.ShowKind.TheVariants.{Page, Tree, Imports}
 use Rattle.hir_input_json.specs.Reading.{Reading, right, reading_map, here, under, ◌>>=◌}
-use Rattle.hir_input_json.specs.Forms.{field, required_at, by_first, on_word, wrong_at, whole, text, id_at, below, members_in}
+use Rattle.hir_input_json.specs.Forms.{field, required_at, by_form, on_word, wrong_at, whole_form, text_form, number_form, below, object_members}
 
 -- a place: the file, where one stands there, or else the block
-abbrev pub place_at : Data → Reading Place
-place_at d =
-    by_first (field (codes "file") d) (λ _. reading_map (λ file. File (record { 0 = file })) (id_at (codes "file") d))
-    (reading_map (λ number. Block (record { 0 = number })) (id_at (codes "block") d))
+abbrev pub place_form : Data → Reading Place
+place_form d =
+    by_form (field (codes "file") d) (λ _. reading_map (λ file. File (record { 0 = file })) (number_form (codes "file") d))
+    (reading_map (λ number. Block (record { 0 = number })) (number_form (codes "block") d))
 
 -- a show of a tree of one of this many crates, which are numbered from 0
 abbrev pub tree_show : ℕ → ShowKind → Data → Reading Show
 tree_show count kind d = do
-  number ← id_at (codes "crate") d
+  number ← number_form (codes "crate") d
   known ← under (codes "crate") (here (below count number))
-  place ← place_at d
+  place ← place_form d
   right (OfTree (record { kind = kind; krate = record { 0 = known }; place = place }))
 
 -- the changes since a number
 abbrev pub changed_show : Data → Reading Show
 changed_show d = do
-  since ← required_at (codes "since") (whole (2 ^ 64)) d
+  since ← required_at (codes "since") (whole_form (2 ^ 64)) d
   right (Changed since)
 
 -- by the word for what is shown
@@ -42,6 +42,6 @@ show_by count word d =
 -- a show after edits of a table of this many crates, by its word
 abbrev pub show : ℕ → Data → Reading Show
 show count d = do
-  _ ← members_in d
-  word ← required_at (codes "show") text d
+  _ ← object_members d
+  word ← required_at (codes "show") text_form d
   show_by count word d

@@ -12,5 +12,5 @@ abbrev pub IsReadToEnd : Option (List ℕ) → Option (List ℕ) → List ℕ �
 IsReadToEnd had left bytes = Consumes had left bytes × IsAtEnd left × (length bytes ≤ most_bytes)
 
 -- the writer took a beginning of the text, and not all of it
-abbrev pub TakesBeginning : Option (List ℕ) → Option (List ℕ) → List ℕ → Type 0
-TakesBeginning held holds text = (done : List ℕ) × (rest : List ℕ) × (text ≡ done ++ rest) × (0 < length rest) × Appends held holds done
+abbrev pub TakesOnlyBeginning : Option (List ℕ) → Option (List ℕ) → List ℕ → Type 0
+TakesOnlyBeginning held holds text = (done : List ℕ) × (rest : List ℕ) × (text ≡ done ++ rest) × (0 < length rest) × Appends held holds done

@@ -4,7 +4,7 @@ ghost use Rattle.serde_json.specs.View.{view};
 ghost use Rattle.item_tree.specs.CrateView.{crate_view};
 ghost use Rattle.item_tree_db.specs.State.{new_table};
 ghost use Rattle.item_tree_db.specs.Edits.{edit_view};
-ghost use Rattle.item_tree_request.specs.Inner.Made.{IsMade, IsServed, IsUnmade, refusal_of};
+ghost use Rattle.item_tree_request.specs.Inner.Made.{IsMade, IsRequestServed, IsUnmade, refusal_of};
 ghost use Rattle.item_tree_request.specs.Outputs.{first_table};
 ghost use Rattle.item_tree_request.specs.Inner.RequestView.{request_view, NamesOwnCrates};
 ghost use Rattle.item_tree_request.specs.Named.{EditNamesCrate};
@@ -83,7 +83,7 @@ fn sources_of(
 fn serve<T: ShowWriter>(alloc: Global, writer: &T, request: Request) -> Result<String, RunError>
     requires { NamesOwnCrates request }
     ensures { MatchResult result
-        (λ text. IsServed T.is_text (request_view request) (string_bytes text))
+        (λ text. IsRequestServed T.is_text (request_view request) (string_bytes text))
         (IsUnmade (first_table (request_view request)) (request_view request).edits) }
 {
     let Request {

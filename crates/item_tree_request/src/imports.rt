@@ -4,7 +4,7 @@ ghost use Rattle.std.specs.List.{flat_map};
 ghost use Rattle.item_tree.specs.Calls.{import};
 ghost use Rattle.item_tree.specs.Shown.{IsContained};
 ghost use Rattle.item_tree.specs.Walk.{AreContained, of_id};
-ghost use Rattle.item_tree_request.specs.ImportLines.{kind_word, import_line, use_lines, import_lines};
+ghost use Rattle.item_tree_request.specs.ImportLines.{import_kind_word, import_line, use_lines, import_lines};
 ghost use Rattle.item_tree_request.specs.Inner.ImportsByIds.{import_lines_at};
 
 use hir_input::{Edition, FileAstId, ModPath};
@@ -14,7 +14,7 @@ use item_tree::{
 use std::alloc::{AllocError, Global};
 
 fn kind_word(kind: ImportKind) -> &'static str
-    ensures { result.now ≡ kind_word kind }
+    ensures { result.now ≡ import_kind_word kind }
 {
     match kind {
         ImportKind::Plain => "plain",

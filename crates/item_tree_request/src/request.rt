@@ -4,11 +4,11 @@ ghost use Rattle.serde_json.specs.View.{view};
 ghost use Rattle.hir_input.specs.Edition.{edition_view};
 ghost use Rattle.hir_input_json.specs.Editions.{edition_at as edition_at_form};
 ghost use Rattle.hir_input_json.specs.Reading.{right};
-ghost use Rattle.hir_input_json.specs.Forms.{optional_at, whole, name as name_form, list_at as each_at};
+ghost use Rattle.hir_input_json.specs.Forms.{optional_at, whole_form, identifier_form as name_form, list_at as each_at};
 ghost use Rattle.hir_input_json.specs.Held.{held, without};
 ghost use Rattle.hir_input_json.specs.Reads.{Reads, Tells};
 ghost use Rattle.item_tree_request.specs.Inner.RequestView.{request_view, NamesOwnCrates};
-ghost use Rattle.item_tree_request.specs.Requests.{request as request_form, parts as parts_form};
+ghost use Rattle.item_tree_request.specs.Requests.{request as request_form, request_parts as parts_form};
 
 pub mod crates;
 pub mod edit;
@@ -51,7 +51,7 @@ struct Settings {
 #[tactic(auto, using(hir_input_json::proofs::Held::field_without))]
 fn settings_at(alloc: Global, members: &mut Map<String, Value>) -> Result<Settings, Fault>
     ensures reads { MatchResult result
-        (λ s. (optional_at 0 (codes "start") (whole (2 ^ 64)) (held members.old) ≡ right s.start)
+        (λ s. (optional_at 0 (codes "start") (whole_form (2 ^ 64)) (held members.old) ≡ right s.start)
         × (each_at name_form (codes "skipped") (held members.old) ≡ right s.skipped.items)
         × (edition_at_form (held members.old) ≡ right (edition_view s.edition)))
         (Tells (parts_form (held members.old))) }

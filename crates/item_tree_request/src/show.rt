@@ -2,7 +2,7 @@
 ghost use Rattle.std.specs.Prelude.{◌≡◌, ◌++◌, OnOk, string_bytes};
 ghost use Rattle.std.specs.List.{flat_map};
 ghost use Rattle.item_tree_db.specs.State.{IsKnown};
-ghost use Rattle.item_tree_request.specs.Outputs.{AreChanges, IsAdded, change_line, page_text, imports_text, printed, IsPrinted};
+ghost use Rattle.item_tree_request.specs.Outputs.{AreChanges, IsAdded, table_change_line, page_text, imports_text, printed, IsPrinted};
 
 use crate::imports::push_imports;
 use crate::request::show::{Show, ShowKind, TreeShow};
@@ -50,7 +50,7 @@ fn push_tree_imports(
 /// # Errors
 ///
 /// Only if memory runs out.
-#[tactic(auto, unfolding(crate::specs::Outputs::change_line))]
+#[tactic(auto, unfolding(crate::specs::Outputs::table_change_line))]
 pub fn push_change(
     place: Place,
     krate: Crate,
@@ -58,7 +58,7 @@ pub fn push_change(
     text: &mut String,
 ) -> Result<(), AllocError>
     ensures { OnOk result (string_bytes text.new ≡ string_bytes text.old
-        ++ change_line (place, krate, changed)) }
+        ++ table_change_line (place, krate, changed)) }
 {
     let krate = krate.0;
     match place {
@@ -98,7 +98,7 @@ fn push_tree(
 // A line for each change.
 fn push_lines(changes: ChangedSince<'_>, text: &mut String) -> Result<(), AllocError>
     ensures { OnOk result (string_bytes text.new ≡ string_bytes text.old
-        ++ flat_map change_line changes.entry) }
+        ++ flat_map table_change_line changes.entry) }
 {
     for (place, krate, changed) in changes {
         push_change(place, krate, changed, text)?;

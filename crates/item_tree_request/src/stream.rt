@@ -2,7 +2,7 @@
 ghost use Rattle.std.specs.Prelude.{◌≡◌, ◌⊎◌, IfOk, IfErr};
 ghost use Rattle.std.specs.Io.KnownBytes.{Appends};
 ghost use Rattle.item_tree_request.specs.declared.error.RunError.{RunError};
-ghost use Rattle.item_tree_request.specs.Streams.{IsReadToEnd, TakesBeginning};
+ghost use Rattle.item_tree_request.specs.Streams.{IsReadToEnd, TakesOnlyBeginning};
 
 use crate::error::RunError;
 use std::alloc::Global;
@@ -38,7 +38,7 @@ pub(crate) fn read_to_end<R: Read>(alloc: Global, input: &mut R) -> Result<Vec<u
 pub(crate) fn write_whole<W: Write>(output: &mut W, text: &[u8]) -> Result<(), RunError>
     ensures ok { IfOk result
         (λ _. Appends (W.contents output.old) (W.contents output.new) text.now) }
-    ensures err { let IsBegun = TakesBeginning (W.contents output.old)
+    ensures err { let IsBegun = TakesOnlyBeginning (W.contents output.old)
         (W.contents output.new) text.now in
         IfErr result (λ e. (e ≡ RunError.Write) × IsBegun) }
 {

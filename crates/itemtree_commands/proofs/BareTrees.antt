@@ -13,7 +13,7 @@ use Rattle.hir_input.specs.Cfg.{AtomView}
 use Rattle.hir_input.specs.Name.{is_among}
 use Rattle.hir_input.specs.Path.{ident_of}
 use Rattle.hir_input.specs.Syntax.{NodeView, NamedView, ItemView, ItemViews, plain_item, const_item, struct_item, bare_module, listed_module, use_item, extern_crate, bare_extern_block, listed_extern_block, impl_item, macro_call, macro_rules, asm_item, no_items, item_and, SyntaxView, source_file, syntax_view}
-use Rattle.item_tree_attrs.specs.Collected.{Collected, is_skipped, events, cut, collected_from}
+use Rattle.item_tree_attrs.specs.Collected.{Collected, is_skipped, events, cut_events, collected_from}
 use Rattle.item_tree.specs.declared.crate_data.CrateData.{CrateData}
 use Rattle.item_tree.specs.declared.fault.LowerError.{LowerError}
 use Rattle.item_tree.specs.declared.visibility.RawVisibility.{RawVisibility}
@@ -33,7 +33,7 @@ use Rattle.rust_items.specs.declared.source_file.SourceFile.{SourceFile}
 use Rattle.rust_items.specs.SourceFiles.{FileView, file_view, clipped_syntax, IsClippedFile}
 use Rattle.itemtree_commands.specs.declared.trees.SourceError.TheVariants.{Lower}
 use Rattle.itemtree_commands.specs.declared.trees.SourceTree.{SourceTree}
-use Rattle.itemtree_commands.specs.Trees.{IsRefused, IsTreeOf, wanted_under}
+use Rattle.itemtree_commands.specs.Trees.{IsTreeRefused, IsTreeOf, wanted_under}
 
 -- ---- attributes
 
@@ -69,7 +69,7 @@ undocumented options skipped (m ∷ ms) among = before options skipped m ms (is_
 
 metas_collect : (options : List AtomView) (skipped : List (List ℕ)) (skips : Bool) (ms : List MetaView) → is_among skipped (codes "doc") ≡ skips → collected_from options skipped (kept_metas (not skips) ms) ≡ collected_from options skipped ms
 unfolding kept_metas
-metas_collect options skipped true ms e = ap cut (undocumented options skipped ms e)
+metas_collect options skipped true ms e = ap cut_events (undocumented options skipped ms e)
 metas_collect options skipped false ms e = refl
 
 attrs_collect : (options : List AtomView) (skipped : List (List ℕ)) (ms : List MetaView) → collected_from options skipped (kept_metas (wanted_under skipped).docs ms) ≡ collected_from options skipped ms
@@ -152,7 +152,7 @@ bare_tree krate skipped edition text file t b tree places use_trees problems = r
 
 -- what is read with what is wanted passes a size as the text does
 pub too_large : (krate : CrateData) (skipped : List (List ℕ)) (edition : EditionYear) (text : List ℕ) (file : SourceFile) (e : LowerError) →
-    length text ≤ 2 ^ 32 → IsClippedFile (wanted_under skipped) edition text (file_view file) → IsTooLargeIn krate false skipped (syntax_view file.syntax) e → IsRefused krate skipped edition text (Lower e)
+    length text ≤ 2 ^ 32 → IsClippedFile (wanted_under skipped) edition text (file_view file) → IsTooLargeIn krate false skipped (syntax_view file.syntax) e → IsTreeRefused krate skipped edition text (Lower e)
 too_large krate skipped edition text file e short b large =
     let clipped : IsTooLargeIn krate false skipped (clipped_syntax (wanted_under skipped) b.read.syntax) e = subst (λ (f : FileView). IsTooLargeIn krate false skipped f.syntax e) b.clipped large in
     let whole : IsTooLargeIn krate false skipped b.read.syntax e = subst (λ (z : Sizes). IsPassed z e) (same_sizes krate skipped b.read.syntax _ _ b.is_read.syntax) clipped in

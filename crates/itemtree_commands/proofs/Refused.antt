@@ -4,12 +4,12 @@ use Rattle.hir_input.specs.declared.edition.EditionYear.{EditionYear}
 use Rattle.item_tree.specs.declared.crate_data.CrateData.{CrateData}
 use Rattle.item_tree.specs.declared.fault.LowerError.TheVariants.{OutOfMemory}
 use Rattle.itemtree_commands.specs.declared.trees.SourceError.TheVariants.{Lower}
-use Rattle.itemtree_commands.specs.Trees.{IsRefused, IsUnread}
+use Rattle.itemtree_commands.specs.Trees.{IsTreeRefused, IsTextUnread}
 
 -- memory runs out
-pub no_memory : (krate : CrateData) (skipped : List (List ℕ)) (edition : EditionYear) (text : List ℕ) → length text ≤ 2 ^ 32 → IsRefused krate skipped edition text (Lower OutOfMemory)
+pub no_memory : (krate : CrateData) (skipped : List (List ℕ)) (edition : EditionYear) (text : List ℕ) → length text ≤ 2 ^ 32 → IsTreeRefused krate skipped edition text (Lower OutOfMemory)
 no_memory krate skipped edition text short = (short, inl refl)
 
 -- the same of a text that is only read
-pub no_memory_to_read : (text : List ℕ) → length text ≤ 2 ^ 32 → IsUnread text (Lower OutOfMemory)
+pub no_memory_to_read : (text : List ℕ) → length text ≤ 2 ^ 32 → IsTextUnread text (Lower OutOfMemory)
 no_memory_to_read text short = (short, refl)

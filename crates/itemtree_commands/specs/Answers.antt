@@ -4,13 +4,13 @@ use Rattle.hir_input.specs.Cfg.{AtomView}
 use Rattle.item_tree.specs.Page.{page}
 use Rattle.tree_walk.specs.Rows.{rows}
 use Rattle.item_changes.specs.Changes.{changes}
-use Rattle.source_rows.specs.Listed.{Reading}
+use Rattle.source_rows.specs.Listed.{MemberReading}
 use Rattle.source_listing.specs.Changed.{Side, change_lines}
 use Rattle.source_listing.specs.Imports.{import_lines}
 use Rattle.source_listing.specs.Lines.{Choice, Source, problem_lines}
 use Rattle.source_listing.specs.Outlines.{Look, outline_text, reading}
 use Rattle.source_listing.specs.Objects.{json_line}
-use Rattle.source_listing.specs.Pages.{without_ids}
+use Rattle.source_listing.specs.Pages.{lines_without_ids}
 use Rattle.source_listing.specs.Repeated.{repeated_lines}
 use Rattle.source_listing.specs.Uses.{FilePlaces, placed}
 use Rattle.source_listing.specs.Search.{Query, found_lines}
@@ -20,7 +20,7 @@ use Rattle.rust_items.specs.declared.source_file.SourceFile.{SourceFile}
 use Rattle.rust_items.specs.SourceFiles.{IsSourceFile}
 use Rattle.itemtree_commands.specs.declared.trees.SourceTree.{SourceTree}
 use Rattle.itemtree_commands.specs.declared.trees.SourceError.{SourceError}
-use Rattle.itemtree_commands.specs.Trees.{IsRefused, IsTreeOf}
+use Rattle.itemtree_commands.specs.Trees.{IsTreeRefused, IsTreeOf}
 use Rattle.itemtree_commands.specs.declared.Options.{Options}
 use Rattle.itemtree_commands.specs.declared.Checked.{Checked}
 use Rattle.itemtree_commands.specs.declared.Compared.{Compared}
@@ -43,7 +43,7 @@ look_of o depth is_colored = record { choice = choice o depth; is_colored = is_c
 abbrev pub if_members : Options → Bool → Option (List AtomView)
 if_members o has_members = if has_members then Some o.krate.cfg else None
 
-abbrev pub reading_in : Options → Bool → Source → Reading
+abbrev pub reading_in : Options → Bool → Source → MemberReading
 reading_in o has_members s = reading s o.edition.year (if_members o has_members)
 
 -- the lines of the listed items, with or without those of their listed members, and with or without colours
@@ -84,7 +84,7 @@ AddsTags o has_members s old new =
 
 -- the debug page, with or without the lines of ids
 abbrev pub if_ids : Bool → List ℕ → List ℕ
-if_ids has_ids page = if has_ids then page else without_ids page
+if_ids has_ids page = if has_ids then page else lines_without_ids page
 
 -- the page of a text's tree
 abbrev pub IsPage : Options → Bool → List ℕ → List ℕ → Type 0
@@ -98,7 +98,7 @@ IsCheck o s c =
 
 -- the command has no answer: the text has no tree, or memory runs out
 abbrev pub HasNoTree : Options → List ℕ → SourceError → Type 0
-HasNoTree o = IsRefused o.krate o.skipped.items o.edition.year
+HasNoTree o = IsTreeRefused o.krate o.skipped.items o.edition.year
 
 -- a file, and where its items stand
 abbrev pub side : Source → SourceTree → Side

@@ -25,14 +25,14 @@ abbrev pub HasOwnIds : SourceTree → Type 0
 HasOwnIds t = AllPairs (λ p q. p.id ≢ q.id) t.places.items
 
 -- a text that is not read is too long, or memory runs out
-abbrev pub IsUnread : List ℕ → SourceError → Type 0
-IsUnread text TooLong = 2 ^ 32 < length text
-IsUnread text (Lower e) = (length text ≤ 2 ^ 32) × (e ≡ OutOfMemory)
+abbrev pub IsTextUnread : List ℕ → SourceError → Type 0
+IsTextUnread text TooLong = 2 ^ 32 < length text
+IsTextUnread text (Lower e) = (length text ≤ 2 ^ 32) × (e ≡ OutOfMemory)
 
 -- a text without a tree is too long, or what is read of it passes a size of the tree, or memory runs out
-abbrev pub IsRefused : CrateData → List (List ℕ) → EditionYear → List ℕ → SourceError → Type 0
-IsRefused krate skipped edition text TooLong = 2 ^ 32 < length text
-IsRefused krate skipped edition text (Lower e) =
+abbrev pub IsTreeRefused : CrateData → List (List ℕ) → EditionYear → List ℕ → SourceError → Type 0
+IsTreeRefused krate skipped edition text TooLong = 2 ^ 32 < length text
+IsTreeRefused krate skipped edition text (Lower e) =
     (length text ≤ 2 ^ 32) × ((e ≡ OutOfMemory) ⊎ ((file : FileView) × IsFileView edition text file × IsTooLargeIn krate false skipped file.syntax e))
 
 -- what is wanted of a text where these names are skipped: no body texts, and documentation unless it is skipped

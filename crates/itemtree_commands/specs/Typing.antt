@@ -4,11 +4,11 @@ use Rattle.hir_input.specs.declared.edition.EditionYear.{EditionYear}
 use Rattle.rust_items.specs.LineEnds.{with_feeds}
 use Rattle.rust_edits.specs.Typing.Laws.{with_body, IsTyped}
 use Rattle.rust_written.specs.Written.{Items, outline}
-use Rattle.rust_written.specs.Laws.{Writes}
+use Rattle.rust_written.specs.Laws.{WritesItems}
 
 -- the answer is yes, where the texts write items that have the same outline
 abbrev pub IsSameWhereTyped : List ℕ → List ℕ → Bool → Type 0
-IsSameWhereTyped old new same = (before after : Items) → Writes before old → Writes after new → outline before ≡ outline after → IsTrue same
+IsSameWhereTyped old new same = (before after : Items) → WritesItems before old → WritesItems after new → outline before ≡ outline after → IsTrue same
 
 -- the answer is yes, where what stands in a body was typed anew
 abbrev pub IsSameInBody : EditionYear → List ℕ → List ℕ → Bool → Type 0

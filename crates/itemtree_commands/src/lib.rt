@@ -9,7 +9,7 @@ ghost use Rattle.itemtree_commands.specs.Answers as spec;
 ghost use Rattle.itemtree_commands.specs.Typing.{IsSameInBody, IsSameWhereTyped};
 ghost use Rattle.source_listing.specs.Ends.{IsBeginOf};
 ghost use Rattle.source_listing.specs.Views.{choice_view, look_view, query_view, source_view};
-ghost use Rattle.itemtree_commands.specs.Trees.{HasOwnIds, IsUnread};
+ghost use Rattle.itemtree_commands.specs.Trees.{HasOwnIds, IsTextUnread};
 
 use hir_input::{CfgOptions, Edition, Name};
 use item_tree::CrateData;
@@ -361,7 +361,7 @@ pub fn changed(
 #[tactic(auto, using(crate::proofs::Refused::no_memory_to_read))]
 pub fn check(alloc: Global, source: Source<'_>, options: &Options) -> Result<Checked, SourceError>
     ensures checked { IfOk result (spec.IsCheck options.now (source_view source.entry)) }
-    ensures refused { IfErr result (IsUnread source.entry.text.now) }
+    ensures refused { IfErr result (IsTextUnread source.entry.text.now) }
 {
     let file = source_file(alloc, source.text, options.edition.year)?;
     let problems = source_problems(alloc, source.text, &file)?;

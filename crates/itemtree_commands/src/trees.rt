@@ -5,7 +5,7 @@ ghost use Rattle.hir_input.specs.Name.{is_among};
 ghost use Rattle.hir_input.specs.Syntax.{syntax_view};
 ghost use Rattle.item_tree.specs.Lowered.{IsTooLargeIn, kept_in};
 ghost use Rattle.rust_items.specs.SourceFiles.{IsClippedFile, IsSourceFile, file_view};
-ghost use Rattle.itemtree_commands.specs.Trees.{HasOwnIds, IsRefused, IsTreeOf, IsUnread, wanted_under};
+ghost use Rattle.itemtree_commands.specs.Trees.{HasOwnIds, IsTreeRefused, IsTreeOf, IsTextUnread, wanted_under};
 
 use hir_input::{EditionYear, Name};
 use item_tree::{CrateData, ItemTree, LowerError, lower_syntax};
@@ -96,7 +96,7 @@ pub fn source_file(
     ensures file { IfOk result (IsSourceFile edition text.now) }
     ensures ids { IfOk result (λ file. AllPairs (λ p q. p.id ≢ q.id) file.places.items) }
     ensures short { OnOk result (length text.now ≤ 2 ^ 32) }
-    ensures refused { IfErr result (IsUnread text.now) }
+    ensures refused { IfErr result (IsTextUnread text.now) }
 {
     if text.len() > MOST_BYTES {
         return Err(SourceError::TooLong);
@@ -123,7 +123,7 @@ fn bare_source(
         (file_view file)) }
     ensures ids { IfOk result (λ file. AllPairs (λ p q. p.id ≢ q.id) file.places.items) }
     ensures short { OnOk result (length text.now ≤ 2 ^ 32) }
-    ensures refused { IfErr result (IsUnread text.now) }
+    ensures refused { IfErr result (IsTextUnread text.now) }
 {
     if text.len() > MOST_BYTES {
         return Err(SourceError::TooLong);
@@ -153,7 +153,7 @@ pub fn source_tree(
     ensures tree { IfOk result (IsTreeOf krate.now skipped.now edition text.now) }
     ensures ids { IfOk result HasOwnIds }
     ensures short { OnOk result (length text.now ≤ 2 ^ 32) }
-    ensures refused { IfErr result (IsRefused krate.now skipped.now edition text.now) }
+    ensures refused { IfErr result (IsTreeRefused krate.now skipped.now edition text.now) }
 {
     let file = bare_source(alloc, text, edition, skipped)?;
     let tree = tree_of(alloc, file, krate, skipped)?;

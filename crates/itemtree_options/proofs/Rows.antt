@@ -3,7 +3,7 @@ use Rattle.std.proofs.Common.{◌≡◌, ◌≢◌, ℕ, zero, suc, Bool, true, 
 use Rattle.std.proofs.lemmas.List.{drop_more, drop_all, get_or_append_left, get_or-replicate, get_or_at, length-replicate}
 use Rattle.std.proofs.lemmas.Bool.{eq-eqb, ne_eqb, cases_lt}
 use Rattle.itemtree_options.specs.Globs.{is_used_up, is_star_next, passes, is_one, behind_some, behind_one, matches}
-use Rattle.itemtree_options.specs.Inner.{told_at, IsRow, IsBehindOne, IsBehindSome}
+use Rattle.itemtree_options.specs.Inner.{is_told_at, IsRow, IsBehindOne, IsBehindSome}
 
 one_more : (p : ℕ) (holds : List ℕ → Bool) (c : ℕ) (s : List ℕ) → behind_one (is_one p) holds (c ∷ s) ≡ (is_one p c && holds s)
 unfolding behind_one
@@ -32,23 +32,23 @@ one_row p holds text old new was is = record {
       ∙ sym (ap (behind_one (is_one p) holds) (drop_more text k 0 short)))
       (λ (long : length text ≤ k).
       let end : k ≡ length text = omega arith in
-      ap (told_at new) end ∙ is.last ∙ sym (one_none p holds) ∙ sym (ap (behind_one (is_one p) holds) (drop_all k text long)))
+      ap (is_told_at new) end ∙ is.last ∙ sym (one_none p holds) ∙ sym (ap (behind_one (is_one p) holds) (drop_all k text long)))
       (cases_lt k (length text));
 }
 
 -- the row of a star, from the end of the text
-star_from : (d : Bool) (holds : List ℕ → Bool) (text : List ℕ) (old new : List Bool) → IsRow holds text old → IsBehindSome d text old new → (n k : ℕ) → k + n ≡ length text → told_at new k ≡ behind_some (passes d) holds (drop k text)
+star_from : (d : Bool) (holds : List ℕ → Bool) (text : List ℕ) (old new : List Bool) → IsRow holds text old → IsBehindSome d text old new → (n k : ℕ) → k + n ≡ length text → is_told_at new k ≡ behind_some (passes d) holds (drop k text)
 star_from d holds text old new was is zero k e =
     let end : k ≡ length text = omega arith in
     let none : drop k text ≡ [] = drop_all k text (omega arith) in
-    ap (told_at new) end ∙ is.last ∙ ap (told_at old) (sym end) ∙ was.each k (omega arith) ∙ ap holds none
+    ap (is_told_at new) end ∙ is.last ∙ ap (is_told_at old) (sym end) ∙ was.each k (omega arith) ∙ ap holds none
     ∙ sym (some_none d holds) ∙ sym (ap (behind_some (passes d) holds) none)
 star_from d holds text old new was is (suc n) k e =
     let short : k < length text = omega arith in
     let more : drop k text ≡ get_or text k 0 ∷ drop (k + 1) text = drop_more text k 0 short in
-    let here : told_at old k ≡ holds (get_or text k 0 ∷ drop (k + 1) text) = was.each k (omega arith) ∙ ap holds more in
-    let next : told_at new (k + 1) ≡ behind_some (passes d) holds (drop (k + 1) text) = star_from d holds text old new was is n (k + 1) (omega arith) in
-    is.each k short ∙ ap (λ b. b || (passes d (get_or text k 0) && told_at new (k + 1))) here
+    let here : is_told_at old k ≡ holds (get_or text k 0 ∷ drop (k + 1) text) = was.each k (omega arith) ∙ ap holds more in
+    let next : is_told_at new (k + 1) ≡ behind_some (passes d) holds (drop (k + 1) text) = star_from d holds text old new was is n (k + 1) (omega arith) in
+    is.each k short ∙ ap (λ b. b || (passes d (get_or text k 0) && is_told_at new (k + 1))) here
     ∙ ap (λ b. holds (get_or text k 0 ∷ drop (k + 1) text) || (passes d (get_or text k 0) && b)) next
     ∙ sym (some_more d holds (get_or text k 0) (drop (k + 1) text))
     ∙ sym (ap (behind_some (passes d) holds) more)
@@ -94,7 +94,7 @@ last_is text row e =
     let whole_of : length (replicate (length text) false) ≡ length text = length-replicate (length text) false in
     record {
       whole = ap length e ∙ length-append (replicate (length text) false) (true ∷ []) ∙ ap (λ n. n + 1) whole_of;
-      each = λ k h. ap (λ r. told_at r k) e ∙ ⊎_elim
+      each = λ k h. ap (λ r. is_told_at r k) e ∙ ⊎_elim
           (λ (short : k < length text).
           let in_front : k < length (replicate (length text) false) = omega arith in
           get_or_append_left (replicate (length text) false) (true ∷ []) false k in_front ∙ get_or-replicate (length text) k false false short

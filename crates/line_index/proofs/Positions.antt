@@ -7,7 +7,7 @@ use Rattle.std.specs.Prelude.{if◌then◌else◌, slice_index_or}
 use Rattle.std.proofs.lemmas.Bool.{cases_Bool, ne_eqb}
 use Rattle.std.proofs.lemmas.List.Recursion.{is_count_by}
 use Rattle.line_index.specs.declared.Position.{Position}
-use Rattle.line_index.specs.Positions.{is_continuation, behind, behind_byte, start, shown_at, mark_length, position_of}
+use Rattle.line_index.specs.Positions.{continues_character, behind, behind_byte, start, shown_at, mark_length, position_of}
 
 behind_both : (p : Position) (a b : List ℕ) → behind p (a ++ b) ≡ behind (behind p a) b
 behind_both p [] b = refl
@@ -31,17 +31,17 @@ behind_last p z h = ap (behind p) (last_is z h) ∙ behind_both p (others z) (la
 at_feed : (p : Position) (b : ℕ) → b ≡ 10 → (behind_byte p b).column ≡ 1
 at_feed p b e = rw e refl
 
-at_other : (p : Position) (b : ℕ) → b ≢ 10 → (behind_byte p b).column ≡ (if is_continuation b then p.column else p.column + 1)
+at_other : (p : Position) (b : ℕ) → b ≢ 10 → (behind_byte p b).column ≡ (if continues_character b then p.column else p.column + 1)
 at_other p b e =
     let no : (b == 10) ≡ false = ne_eqb b 10 e in
-    ⊎_elim (λ (c : is_continuation b ≡ true). rw (no, c) refl) (λ (c : is_continuation b ≡ false). rw (no, c) refl) (cases_Bool (is_continuation b))
+    ⊎_elim (λ (c : continues_character b ≡ true). rw (no, c) refl) (λ (c : continues_character b ≡ false). rw (no, c) refl) (cases_Bool (continues_character b))
 
 -- the column behind a text, by its last byte
 pub behind_feed : (p : Position) (z : List ℕ) → 1 ≤ length z → slice_index_or z (length z - 1) 0 ≡ 10 → (behind p z).column ≡ 1
 unfolding last_byte
 behind_feed p z h e = ap (λ q. q.column) (behind_last p z h) ∙ at_feed (behind p (others z)) (last_byte z) e
 
-pub behind_other : (p : Position) (z : List ℕ) (is : Bool) → 1 ≤ length z → slice_index_or z (length z - 1) 0 ≢ 10 → is ≡ is_continuation (slice_index_or z (length z - 1) 0)
+pub behind_other : (p : Position) (z : List ℕ) (is : Bool) → 1 ≤ length z → slice_index_or z (length z - 1) 0 ≢ 10 → is ≡ continues_character (slice_index_or z (length z - 1) 0)
     → (behind p z).column ≡ (if is then (behind p (take (length z - 1) z)).column else (behind p (take (length z - 1) z)).column + 1)
 unfolding last_byte others
 behind_other p z is h e f = rw f (ap (λ q. q.column) (behind_last p z h) ∙ at_other (behind p (others z)) (last_byte z) e)
@@ -58,7 +58,7 @@ line_of_byte : (p : Position) (b n : ℕ) → (behind_byte p b).line + n ≡ p.l
 line_of_byte p b n =
     ⊎_elim (λ (e : (b == 10) ≡ true). rw e (omega arith))
     (λ (e : (b == 10) ≡ false).
-    ⊎_elim (λ (c : is_continuation b ≡ true). rw (e, c) refl) (λ (c : is_continuation b ≡ false). rw (e, c) refl) (cases_Bool (is_continuation b)))
+    ⊎_elim (λ (c : continues_character b ≡ true). rw (e, c) refl) (λ (c : continues_character b ≡ false). rw (e, c) refl) (cases_Bool (continues_character b)))
     (cases_Bool (b == 10))
 
 line_from_feeds : (p : Position) (z : List ℕ) → (behind p z).line ≡ p.line + feeds z

@@ -4,14 +4,14 @@ use Rattle.std.specs.List.{starts_with}
 use Rattle.line_index.specs.declared.Position.{Position}
 
 -- a byte behind the first of a character
-abbrev pub is_continuation : ℕ → Bool
-is_continuation b = nat_le 128 b && nat_lt b 192
+abbrev pub continues_character : ℕ → Bool
+continues_character b = nat_le 128 b && nat_lt b 192
 
 -- a line feed ends a line; each other character takes a column
 abbrev pub behind_byte : Position → ℕ → Position
 behind_byte p b =
     if b == 10 then record { line = p.line + 1; column = 1 }
-    else (if is_continuation b then p else record { line = p.line; column = p.column + 1 })
+    else (if continues_character b then p else record { line = p.line; column = p.column + 1 })
 
 abbrev pub behind : Position → List ℕ → Position
 behind p [] = p

@@ -48,7 +48,7 @@ impl<'t> Model for LineIndex<'t> {
 const START: Position = Position { line: 1, column: 1 };
 
 fn is_continuation(byte: u8) -> bool
-    ensures { result ≡ spec.is_continuation byte }
+    ensures { result ≡ spec.continues_character byte }
 {
     128 <= byte && byte < 192
 }

@@ -8,12 +8,12 @@ use Rattle.line_stream.specs.declared.read.Ending.{Ending}
 use Rattle.line_stream.specs.declared.read.Ending.TheVariants.{Shown, Feed, End}
 use Rattle.line_stream.specs.declared.read.Next.{Next}
 use Rattle.line_stream.specs.declared.read.Next.TheVariants.{One, Last, Nothing}
-use Rattle.line_stream.specs.Lines.{HasNoFeed, told, IsToldOf}
+use Rattle.line_stream.specs.Lines.{HasNoFeed, line_told, IsToldOf}
 use Rattle.line_stream.specs.Inner.{feed_of, EndsAt, IsNone, IsPart, IsEndIn, IsNext}
 
 -- what was read of a line, with what follows it
 abbrev pub IsBegun : (had left : Option (List ℕ)) → Line → List ℕ → Type 0
-IsBegun had left line feed = (read : List ℕ) × Consumes had left (read ++ feed) × HasNoFeed read × IsToldOf read (told line)
+IsBegun had left line feed = (read : List ℕ) × Consumes had left (read ++ feed) × HasNoFeed read × IsToldOf read (line_told line)
 
 pub at_end : (had mid left : Option (List ℕ)) (bytes : List ℕ) → Consumes had mid bytes → OnSome mid (IsAtEnd left) → OnSome had (IsAtEnd left)
 at_end None mid left bytes read end = tt
@@ -26,7 +26,7 @@ ends_at Feed shown had left none end = tt
 ends_at End shown had left none end = end none
 
 -- a part more
-pub grown : (had mid left : Option (List ℕ)) (old new : Line) (ending : Ending) (read : List ℕ) → Consumes had mid read → HasNoFeed read → IsToldOf read (told old)
+pub grown : (had mid left : Option (List ℕ)) (old new : Line) (ending : Ending) (read : List ℕ) → Consumes had mid read → HasNoFeed read → IsToldOf read (line_told old)
     → IsPart mid left old new ending → IsBegun had left new (feed_of ending)
 grown had mid left old new ending read consumed no_feed is more = (
   read ++ more.part,

@@ -4,7 +4,7 @@ use Rattle.std.proofs.KnownBytes.{Consumes-trans, Appends-trans}
 use Rattle.std.specs.Io.KnownBytes.{Consumes, Appends, IsAtEnd}
 use Rattle.line_stream.specs.declared.error.StreamError.{StreamError}
 use Rattle.line_stream.specs.declared.line.Line.{Line}
-use Rattle.line_stream.specs.Lines.{lines, IsWhole, HasNoFeed, Told, told, IsToldOf}
+use Rattle.line_stream.specs.Lines.{lines, IsWhole, HasNoFeed, Told, line_told, IsToldOf}
 use Rattle.line_stream.specs.Answers.{Answering}
 use Rattle.line_stream.specs.Served.{IsServed, IsUnwritten, IsBroken, HasServed}
 use Rattle.line_stream.specs.Inner.{HasAnswered, TakesBeginning}
@@ -77,16 +77,16 @@ module _ {S : Type 0} (Answers : Answering S) (old mid new : S) (had between lef
   }
 
   -- the last line, without its line feed
-  pub line_last : {A : Type 0} (result : Result A StreamError) (told_line : Line) (line : List ℕ) → Consumes between left line → HasNoFeed line → IsToldOf line (told told_line)
+  pub line_last : {A : Type 0} (result : Result A StreamError) (told_line : Line) (line : List ℕ) → Consumes between left line → HasNoFeed line → IsToldOf line (line_told told_line)
       → 0 < length line → OnSome between (IsAtEnd left) → HasAnswered Answers result mid told_line new keeps holds → HasServed Answers result old new had left held holds
   line_last (Ok _) told_line line more no_feed is some end (answer, answered, wrote) = record {
     bytes = bytes ++ line;
     text = text ++ (answer ++ 10 ∷ []);
     read = Consumes-trans had between left bytes line read more;
     end = at_end had between left bytes read end;
-    served = with_one line line (told told_line) answer (lines_last line no_feed some) is answered;
+    served = with_one line line (line_told told_line) answer (lines_last line no_feed some) is answered;
     written = Appends-trans held keeps holds text (answer ++ 10 ∷ []) written wrote;
   }
   line_last (Err e) told_line line more no_feed is some end (answer, answered, failed) =
       subst (IsBroken Answers old new had left held holds) (sym failed.0)
-      (line_cut line line (told told_line) answer (lines_last line no_feed some) (inr (at_end had between left bytes read end)) more is answered failed.1)
+      (line_cut line line (line_told told_line) answer (lines_last line no_feed some) (inr (at_end had between left bytes read end)) more is answered failed.1)

@@ -9,12 +9,12 @@ use Rattle.line_stream.specs.declared.read.Next.TheVariants.{One, Last, Nothing}
 use Rattle.line_stream.specs.declared.read.Ending.{Ending}
 use Rattle.line_stream.specs.declared.read.Ending.TheVariants.{Shown, Feed, End}
 use Rattle.line_stream.specs.declared.read.Part.{Part}
-use Rattle.line_stream.specs.Lines.{HasNoFeed, told, IsToldOf}
+use Rattle.line_stream.specs.Lines.{HasNoFeed, line_told, IsToldOf}
 use Rattle.line_stream.specs.Answers.{Answering}
 
 -- what is told of the bytes that were read of a line is told of them with these bytes too
 abbrev pub Grows : Line → List ℕ → Line → Type 0
-Grows old part new = (read : List ℕ) → IsToldOf read (told old) → IsToldOf (read ++ part) (told new)
+Grows old part new = (read : List ℕ) → IsToldOf read (line_told old) → IsToldOf (read ++ part) (line_told new)
 
 -- the line feed that ends a part
 abbrev pub feed_of : Ending → List ℕ
@@ -53,17 +53,17 @@ pub record IsPart (had left : Option (List ℕ)) (old new : Line) (ending : Endi
 -- what follows the last line feed
 abbrev pub IsEndIn : List ℕ → Next → Type 0
 IsEndIn read (One line) = ⊥
-IsEndIn read (Last line) = IsToldOf read (told line) × (0 < length read)
+IsEndIn read (Last line) = IsToldOf read (line_told line) × (0 < length read)
 IsEndIn read Nothing = read ≡ []
 
 -- the line that the end of the reader ends
-abbrev pub IsEndOf : Line → Next → Type 0
-IsEndOf line next = (read : List ℕ) → IsToldOf read (told line) → IsEndIn read next
+abbrev pub EndsLine : Line → Next → Type 0
+EndsLine line next = (read : List ℕ) → IsToldOf read (line_told line) → IsEndIn read next
 
 -- the next line was read
 abbrev pub IsNext : (had left : Option (List ℕ)) → Next → Type 0
-IsNext had left (One line) = (read : List ℕ) × Consumes had left (read ++ 10 ∷ []) × HasNoFeed read × IsToldOf read (told line)
-IsNext had left (Last line) = (read : List ℕ) × Consumes had left read × HasNoFeed read × IsToldOf read (told line) × (0 < length read) × OnSome had (IsAtEnd left)
+IsNext had left (One line) = (read : List ℕ) × Consumes had left (read ++ 10 ∷ []) × HasNoFeed read × IsToldOf read (line_told line)
+IsNext had left (Last line) = (read : List ℕ) × Consumes had left read × HasNoFeed read × IsToldOf read (line_told line) × (0 < length read) × OnSome had (IsAtEnd left)
 IsNext had left Nothing = Consumes had left [] × OnSome had (IsAtEnd left)
 
 -- the next line was read, or a read failed in it
@@ -76,5 +76,5 @@ TakesBeginning held holds text = (taken : List ℕ) × (rest : List ℕ) × (tex
 
 -- a line was answered, and the writer took the answer or a beginning of it
 abbrev pub HasAnswered : {S A : Type 0} → Answering S → Result A StreamError → S → Line → S → (held holds : Option (List ℕ)) → Type 0
-HasAnswered Answers result old line new held holds = (answer : List ℕ) × Answers old (told line) new answer
+HasAnswered Answers result old line new held holds = (answer : List ℕ) × Answers old (line_told line) new answer
     × MatchResult result (λ _. Appends held holds (answer ++ 10 ∷ [])) (λ e. (e ≡ Write) × TakesBeginning held holds (answer ++ 10 ∷ []))

@@ -2,7 +2,7 @@
 ghost use Rattle.std.specs.Prelude.{◌≡◌, MatchResult};
 ghost use Rattle.std.specs.Io.KnownBytes.{Keeps};
 ghost use Rattle.line_stream.specs.declared.error.StreamError.{StreamError};
-ghost use Rattle.line_stream.specs.Inner.{HasRead, IsEndOf, IsFirst, IsPart};
+ghost use Rattle.line_stream.specs.Inner.{HasRead, EndsLine, IsFirst, IsPart};
 
 use crate::error::StreamError;
 use crate::line::Line;
@@ -93,7 +93,7 @@ fn read_part<R: BufRead>(input: &mut R, line: Line) -> Result<(Line, Ending), St
 
 // A line that the end of the reader ends: none, where nothing was read of it.
 fn last_of(line: Line) -> Next
-    ensures { IsEndOf line result }
+    ensures { EndsLine line result }
 {
     if let Line::Whole(bytes) = &line {
         if bytes.is_empty() {

@@ -29,7 +29,7 @@ impl Answer {
 /// What answers the lines of a conversation.
 pub trait Service {
     ghost use Rattle.line_stream.specs.Answers.{Answering, answer_text};
-    ghost use Rattle.line_stream.specs.Lines.{told};
+    ghost use Rattle.line_stream.specs.Lines.{line_told};
 
     // The service before an answer, what it is told of a line, the service after it, and the text.
     ghost answers: { Answering Self };
@@ -39,5 +39,5 @@ pub trait Service {
     /// The text is to be one line: it has no line feed, and `serve` writes one after it. Where memory runs out
     /// for an answer, a fixed text can say so.
     fn answer(&mut self, alloc: Global, line: Line) -> Answer
-        ensures { answers self.old (told line) self.new (answer_text result) };
+        ensures { answers self.old (line_told line) self.new (answer_text result) };
 }

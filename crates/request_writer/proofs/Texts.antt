@@ -7,7 +7,7 @@ use Rattle.item_tree_request.specs.Requests.{IsJsonText, IsRequest, Request, req
 use Rattle.request_writer.specs.declared.request.RequestFault.{RequestFault}
 use Rattle.request_writer.specs.declared.request.RequestFault.TheVariants.{NoForm, TooDeep, OutOfMemory}
 use Rattle.request_writer.specs.Inner.{nests_past}
-use Rattle.request_writer.specs.Unwritten.{IsNoText, IsUnwritten}
+use Rattle.request_writer.specs.Unwritten.{IsNoText, IsDataUnwritten}
 use Rattle.request_writer.proofs.Depths.{past, within}
 
 pub json_text : (d : Data) (text : List ℕ) (deep : Bool) → deep ≡ nests_past 127 d → deep ≡ false → (depth d ≤ max_depth → read text ≡ Some d) → IsUtf8 text → IsJsonText text d
@@ -16,7 +16,7 @@ json_text d text deep is shallow reads utf8 = (utf8, reads (within 127 d (sym is
 pub too_deep : (d : Data) (deep : Bool) → deep ≡ nests_past 127 d → deep ≡ true → max_depth < depth d
 too_deep d deep is past_it = past 127 d (sym is ∙ past_it)
 
-unread : (d : Data) (wanted : Option Data) (e : RequestFault) → wanted ≡ Some d → IsNoText d e → IsUnwritten wanted e
+unread : (d : Data) (wanted : Option Data) (e : RequestFault) → wanted ≡ Some d → IsNoText d e → IsDataUnwritten wanted e
 unread d wanted NoForm w h = absurd h
 unread d wanted TooDeep w h = (d, w, h)
 unread d wanted OutOfMemory w h = h
@@ -25,6 +25,6 @@ pub asked_for : (r : Result (String Global) RequestFault) (d : Data) (q : Reques
 asked_for (Ok text) d q h is = (d, h, is)
 asked_for (Err e) d q h is = tt
 
-pub refused_for : (r : Result (String Global) RequestFault) (d : Data) (wanted : Option Data) → MatchResult r (λ text. IsJsonText (string_bytes text) d) (IsNoText d) → wanted ≡ Some d → IfErr r (IsUnwritten wanted)
+pub refused_for : (r : Result (String Global) RequestFault) (d : Data) (wanted : Option Data) → MatchResult r (λ text. IsJsonText (string_bytes text) d) (IsNoText d) → wanted ≡ Some d → IfErr r (IsDataUnwritten wanted)
 refused_for (Ok text) d wanted h is = tt
 refused_for (Err e) d wanted h is = unread d wanted e is h

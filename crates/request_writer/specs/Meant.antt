@@ -3,7 +3,7 @@ use Rattle.std.specs.Prelude.{ℕ, ◌+◌, List, [], ◌∷◌, Bool}
 use Rattle.hir_input.specs.Cfg.{AtomView}
 use Rattle.hir_input.specs.Syntax.{SyntaxView}
 use Rattle.hir_input_json.specs.Editions.{EditionView}
-use Rattle.hir_input_writer.specs.Laws.{kept}
+use Rattle.hir_input_writer.specs.Laws.{kept_bodies}
 use Rattle.item_tree_db.specs.declared.place.Place.TheVariants.{File}
 use Rattle.item_tree_db.specs.Edits.{EditView, set}
 use Rattle.item_tree_request.specs.declared.request.show.Show.{Show}
@@ -12,7 +12,7 @@ use Rattle.item_tree_request.specs.Requests.{Request}
 -- files set to syntaxes, numbered on from this
 abbrev pub files_set : Bool → ℕ → List SyntaxView → List EditView
 files_set bodies n [] = []
-files_set bodies n (s ∷ ss) = set (File (record { 0 = n })) (kept bodies s) ∷ files_set bodies (n + 1) ss
+files_set bodies n (s ∷ ss) = set (File (record { 0 = n })) (kept_bodies bodies s) ∷ files_set bodies (n + 1) ss
 
 -- one crate with these options, whose root is file 0, and each file set to its syntax, numbered from 0
 abbrev pub meant : Bool → List (List ℕ) → EditionView → List AtomView → List SyntaxView → List Show → Request

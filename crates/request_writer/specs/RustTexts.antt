@@ -16,25 +16,25 @@ use Rattle.rust_items.specs.declared.source_file.SourceFile.{SourceFile}
 use Rattle.rust_items.specs.SourceFiles.{IsSourceFile}
 
 -- a syntax is that of what is read of a text of an edition
-abbrev pub IsRead : EditionYear → List ℕ → SyntaxView → Type 0
-IsRead edition text s = (file : SourceFile) × IsSourceFile edition text file × (syntax_view file.syntax ≡ s)
+abbrev pub IsReadOf : EditionYear → List ℕ → SyntaxView → Type 0
+IsReadOf edition text s = (file : SourceFile) × IsSourceFile edition text file × (syntax_view file.syntax ≡ s)
 
 -- and each is that of its text
 abbrev pub AreRead : EditionYear → List (List ℕ) → List SyntaxView → Type 0
 AreRead edition [] [] = Unit {0}
-AreRead edition (text ∷ texts) (s ∷ ss) = IsRead edition text s × AreRead edition texts ss
+AreRead edition (text ∷ texts) (s ∷ ss) = IsReadOf edition text s × AreRead edition texts ss
 AreRead edition _ _ = ⊥
 
 -- the request over these syntaxes
-abbrev pub asked : RequestOptions → List SyntaxView → List Show → Request
-asked o ss shows = meant o.bodies o.skipped.items (edition_view o.edition) (map atom_view o.cfg.items) ss shows
+abbrev pub asked_request : RequestOptions → List SyntaxView → List Show → Request
+asked_request o ss shows = meant o.bodies o.skipped.items (edition_view o.edition) (map atom_view o.cfg.items) ss shows
 
 -- a text is read as the request over what is read of these, in its edition
 abbrev pub IsAsked : RequestOptions → List (List ℕ) → List Show → List ℕ → Type 0
-IsAsked o texts shows out = (ss : List SyntaxView) × AreRead o.edition.year texts ss × IsRequest out (asked o ss shows)
+IsAsked o texts shows out = (ss : List SyntaxView) × AreRead o.edition.year texts ss × IsRequest out (asked_request o ss shows)
 
 -- what is read of these has no request in JSON, or one that nests too deep, or memory runs out
-abbrev pub IsUnwritten : RequestOptions → List (List ℕ) → List Show → RequestFault → Type 0
-IsUnwritten o texts shows e =
+abbrev pub AreTextsUnwritten : RequestOptions → List (List ℕ) → List Show → RequestFault → Type 0
+AreTextsUnwritten o texts shows e =
     (e ≡ OutOfMemory)
-    ⊎ ((ss : List SyntaxView) × AreRead o.edition.year texts ss × writing.IsUnwritten (request_data o.bodies o.skipped.items (edition_view o.edition) (map atom_view o.cfg.items) ss shows) e)
+    ⊎ ((ss : List SyntaxView) × AreRead o.edition.year texts ss × writing.IsDataUnwritten (request_data o.bodies o.skipped.items (edition_view o.edition) (map atom_view o.cfg.items) ss shows) e)

@@ -13,10 +13,10 @@ fault_of write.NoForm = NoForm
 fault_of write.OutOfMemory = OutOfMemory
 
 -- there is no data to be written, or it nests too deep for a text, or memory runs out
-abbrev pub IsUnwritten : Option Data → RequestFault → Type 0
-IsUnwritten wanted NoForm = wanted ≡ None
-IsUnwritten wanted TooDeep = (d : Data) × (wanted ≡ Some d) × (max_depth < depth d)
-IsUnwritten wanted OutOfMemory = Unit {0}
+abbrev pub IsDataUnwritten : Option Data → RequestFault → Type 0
+IsDataUnwritten wanted NoForm = wanted ≡ None
+IsDataUnwritten wanted TooDeep = (d : Data) × (wanted ≡ Some d) × (max_depth < depth d)
+IsDataUnwritten wanted OutOfMemory = Unit {0}
 
 -- the data nests too deep for a text, or memory runs out
 abbrev pub IsNoText : Data → RequestFault → Type 0

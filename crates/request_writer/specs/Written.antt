@@ -60,10 +60,10 @@ edits_data bodies n (s ∷ ss) = do
   ds ← edits_data bodies (n + 1) ss
   Some (item d ds)
 
-abbrev pub kind_word : ShowKind → List ℕ
-kind_word Page = codes "page"
-kind_word Tree = codes "tree"
-kind_word Imports = codes "imports"
+abbrev pub show_word : ShowKind → List ℕ
+show_word Page = codes "page"
+show_word Tree = codes "tree"
+show_word Imports = codes "imports"
 
 -- of a crate that is written, by a place
 abbrev pub place_show : List ℕ → Data → Place → Option Data
@@ -74,7 +74,7 @@ place_show word krate (Block block) = option_map (block_object word krate) (whol
 abbrev pub show_data : Show → Option Data
 show_data (OfTree t) = do
   known ← below 1 t.krate.0
-  place_show (kind_word t.kind) (number (unsigned 0)) t.place
+  place_show (show_word t.kind) (number (unsigned 0)) t.place
 show_data (Changed since) = option_map changed_object (whole_data (2 ^ 64) since)
 
 -- a request of one crate with these options, whose root is file 0, over files that are numbered from 0

@@ -11,7 +11,7 @@ ghost use Rattle.hir_input_writer.specs.Parts.{each_data, name_data, whole_data}
 ghost use Rattle.hir_input_writer.specs.Syntaxes.{syntax_data};
 ghost use Rattle.hir_input_writer.specs.Writes.{Writes};
 ghost use Rattle.request_writer.specs.Written as objects;
-ghost use Rattle.request_writer.specs.Written.{edit_data, edition_data, edits_data, kind_word as word_of_kind, place_show, show_data};
+ghost use Rattle.request_writer.specs.Written.{edit_data, edition_data, edits_data, show_word as word_of_kind, place_show, show_data};
 
 use hir_input::ast::Syntax;
 use hir_input::{CfgAtom, Edition, EditionYear, Name};

@@ -8,7 +8,7 @@ ghost use Rattle.hir_input_writer.specs.Writes.{Writes};
 ghost use Rattle.hir_input_json.specs.Reading.{right};
 ghost use Rattle.item_tree_request.specs.Requests.{IsJsonText, IsRequest, request as request_form};
 ghost use Rattle.request_writer.specs.Meant.{meant};
-ghost use Rattle.request_writer.specs.Unwritten.{IsNoText, IsUnwritten, fault_of};
+ghost use Rattle.request_writer.specs.Unwritten.{IsNoText, IsDataUnwritten, fault_of};
 ghost use Rattle.request_writer.specs.Written.{request_data, request_object as object_of};
 
 use crate::depth::nests_past;
@@ -164,7 +164,7 @@ pub fn request_text(
         IfOk result (λ text. IsRequest (string_bytes text) asked) }
     ensures refused { let o = options.now in
         let wanted = request_data o.bodies o.skipped.items (edition_view o.edition) (map atom_view o.cfg.items) (map syntax_view files.now) shows.now in
-        IfErr result (IsUnwritten wanted) }
+        IfErr result (IsDataUnwritten wanted) }
 {
     let value = request_value(alloc, options, files, shows)?;
     text_of(alloc, &value)

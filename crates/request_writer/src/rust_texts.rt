@@ -2,7 +2,7 @@
 
 ghost use Rattle.std.specs.Prelude.{◌≡◌, IfErr, IfOk, map, string_bytes};
 ghost use Rattle.hir_input.specs.Syntax.{syntax_view};
-ghost use Rattle.request_writer.specs.RustTexts.{AreRead, IsAsked, IsUnwritten};
+ghost use Rattle.request_writer.specs.RustTexts.{AreRead, IsAsked, AreTextsUnwritten};
 
 use crate::request::{RequestFault, RequestOptions, request_text};
 use hir_input::EditionYear;
@@ -43,7 +43,7 @@ pub fn source_request(
     ensures asked { let asked = IsAsked options.now (map string_bytes texts.now) shows.now in
         IfOk result (λ out. asked (string_bytes out)) }
     ensures refused { IfErr result
-        (IsUnwritten options.now (map string_bytes texts.now) shows.now) }
+        (AreTextsUnwritten options.now (map string_bytes texts.now) shows.now) }
 {
     let files = syntaxes(alloc, texts, options.edition.year)?;
     request_text(alloc, options, &files, shows)

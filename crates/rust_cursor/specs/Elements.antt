@@ -35,7 +35,7 @@ perhaps reader ts = (option_to_list (reader ts).0, (reader ts).1)
 
 -- The elements in the bracket that comes next, if it is this one, by what reads an element from what reads such a bracket inside it.
 -- The number bounds how deep they stand in one another; deeper ones are not read.
-unfoldable pub nested : {A : Type 0} → ℕ → (Reader (Option (List A)) → Reader (List A)) → ℕ → Reader (Option (List A))
-nested bracket element zero ts = (None, ts)
-nested bracket element (suc depth) ts =
-    if symbol ts == bracket then (let r = elements (element (nested bracket element depth)) (bumped ts) in (Some r.0, behind_closed bracket r.1)) else (None, ts)
+unfoldable pub nested_lists : {A : Type 0} → ℕ → (Reader (Option (List A)) → Reader (List A)) → ℕ → Reader (Option (List A))
+nested_lists bracket element zero ts = (None, ts)
+nested_lists bracket element (suc depth) ts =
+    if symbol ts == bracket then (let r = elements (element (nested_lists bracket element depth)) (bumped ts) in (Some r.0, behind_closed bracket r.1)) else (None, ts)

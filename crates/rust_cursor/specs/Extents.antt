@@ -105,22 +105,22 @@ block_at opened ts = if symbol ts == 125 then opened else None
 
 -- ---- the text
 
-abbrev pub opens : ℕ → Bool
-opens c = opens_other c || c == 123
+abbrev pub is_opening_byte : ℕ → Bool
+is_opening_byte c = opens_other c || c == 123
 
-abbrev pub closes : ℕ → Bool
-closes c = closes_other c || c == 125
+abbrev pub is_closing_byte : ℕ → Bool
+is_closing_byte c = closes_other c || c == 125
 
 -- a symbol that is no bracket
-abbrev pub is_punctuation : ℕ → Bool
-is_punctuation c = not (c == 0) && (not (opens c) && not (closes c))
+abbrev pub is_mark_symbol : ℕ → Bool
+is_mark_symbol c = not (c == 0) && (not (is_opening_byte c) && not (is_closing_byte c))
 
 -- Nothing stands between the next token and one of this symbol before it: directly inside brackets, between a word and a bracket that
 -- opens behind it, before commas, beside colons, and between other marks that are written side by side. So layout does not count.
 unfoldable pub is_joined : ℕ → Tokens → Bool
 is_joined last ts =
-    if is_punctuation last && is_punctuation (symbol ts) then is_glued ts
-    else opens last || (closes (symbol ts) || ((last == 0 && opens (symbol ts)) || (last == 58 || (symbol ts == 44 || symbol ts == 58))))
+    if is_mark_symbol last && is_mark_symbol (symbol ts) then is_glued ts
+    else is_opening_byte last || (is_closing_byte (symbol ts) || ((last == 0 && is_opening_byte (symbol ts)) || (last == 58 || (symbol ts == 44 || symbol ts == 58))))
 
 -- Whether a blank stands before the next token where one of this symbol stands before it.
 unfoldable pub has_blank : Extent → ℕ → Tokens → Bool

@@ -6,7 +6,7 @@ use Rattle.std.proofs.lemmas.Bool.{and_parts, eqb-true, false≢true}
 use Rattle.std.proofs.lemmas.Bool.Decides.{nat_tests}
 use Rattle.rust_lexer.specs.declared.kind.TokenKind.{TokenKind}
 use Rattle.rust_lexer.specs.declared.kind.TokenKind.TheVariants as kinds
-use Rattle.rust_lexer.specs.Alone.{overhang, front, moved, braces_from, StandsAlone}
+use Rattle.rust_lexer.specs.Alone.{overhang, tokens_in_front, moved, braces_from, StandsAlone}
 use Rattle.rust_lexer.specs.Bytes.{is_continuation, is_wide_start}
 use Rattle.rust_lexer.specs.Cut.{first_cut}
 use Rattle.rust_lexer.specs.Piece.{Piece}
@@ -47,7 +47,7 @@ some_left (suc left) at (b ∷ x) h = some_left left (suc at) x (omega arith)
 
 -- a text before a `}` that is the last token, and closes braces that are open so many deep: its braces match, and none of its tokens takes the `}`
 inside : (d left at from : ℕ) (x : List ℕ) → 1 ≤ d → closes_last d (tokens_from left at (x ++ 125 ∷ [])) ≡ true
-    → (overhang left x (125 ∷ []) ≡ 0) × (braces_from (d - 1) (front left from x (125 ∷ [])) ≡ Some 0)
+    → (overhang left x (125 ∷ []) ≡ 0) × (braces_from (d - 1) (tokens_in_front left from x (125 ∷ [])) ≡ Some 0)
 unfolding first_cut is_wide_start
 inside d zero at from [] some e =
     when (nat_le d 1) (λ z. let one : d - 1 ≡ 0 = grind (arith, nat_tests) in (refl, ap (λ (k : ℕ). Some k) one)) (λ z. absurd (let no : false ≡ true = rw z at e in cc))
@@ -57,7 +57,7 @@ inside d zero at from (b ∷ x) some e =
     let z = x ++ 125 ∷ [] in
     let n = whole (first_cut b z) z in
     let t = piece (first_cut b z) at b z in
-    let fs = front n (suc from) x (125 ∷ []) in
+    let fs = tokens_in_front n (suc from) x (125 ∷ []) in
     when (symbol_of t == 123)
     (λ o. let r = inside (d + 1) n (suc at) (suc from) x (omega arith) (rw o at e) in
     let deeper : suc (d - 1) ≡ d + 1 - 1 = omega arith in
@@ -82,7 +82,7 @@ still_open d e = grind (arith, nat_tests)
 not_last : (d : ℕ) → (d - 1 == 0) ≡ false → nat_le d 1 ≡ false
 not_last d e = grind (arith, nat_tests)
 
-outside : (d left at from : ℕ) (x : List ℕ) → 1 ≤ d → overhang left x (125 ∷ []) ≡ 0 → braces_from (d - 1) (front left from x (125 ∷ [])) ≡ Some 0
+outside : (d left at from : ℕ) (x : List ℕ) → 1 ≤ d → overhang left x (125 ∷ []) ≡ 0 → braces_from (d - 1) (tokens_in_front left from x (125 ∷ [])) ≡ Some 0
     → closes_last d (tokens_from left at (x ++ 125 ∷ [])) ≡ true
 unfolding first_cut is_wide_start
 outside d zero at from [] some o e =
@@ -95,7 +95,7 @@ outside d zero at from (b ∷ x) some o e =
     let z = x ++ 125 ∷ [] in
     let n = whole (first_cut b z) z in
     let t = piece (first_cut b z) at b z in
-    let fs = front n (suc from) x (125 ∷ []) in
+    let fs = tokens_in_front n (suc from) x (125 ∷ []) in
     when (symbol_of t == 123)
     (λ i. let inner : braces_from (suc (d - 1)) fs ≡ Some 0 = rw i at e in
     let deeper : d + 1 - 1 ≡ suc (d - 1) = omega arith in
@@ -123,7 +123,7 @@ unfolding first_cut is_wide_start
 closes_behind z = refl
 
 -- a text that stands alone begins in braces as it does by itself
-plain_same : (x : List ℕ) → StandsAlone x → begins_plain (tokens (in_braces x)) ≡ first_plain (filter is_significant (front 0 0 x (125 ∷ [])))
+plain_same : (x : List ℕ) → StandsAlone x → begins_plain (tokens (in_braces x)) ≡ first_plain (filter is_significant (tokens_in_front 0 0 x (125 ∷ [])))
 unfolding front_of first_cut is_wide_start
 plain_same x h =
     let opens : OpensAt [] (x ++ 125 ∷ []) = record { full = refl; one = refl; plain = refl; bare = refl; unfenced = refl } in
@@ -146,7 +146,7 @@ alone_is m u e = (alone, sym (plain_same x alone) ∙ parts.0)
     closed : closes_last 1 (tokens_from 0 1 z) ≡ true
     closed = ap (λ n. closes_last 1 (tokens_from n 1 z)) (sym (brace_whole x [] (feeds_lead m u))) ∙ sym (closes_behind z) ∙ ap (closes_last 0) (sym (brace_tokens z)) ∙ parts.1
 
-    matched : (overhang 0 x (125 ∷ []) ≡ 0) × (braces_from 0 (front 0 0 x (125 ∷ [])) ≡ Some 0)
+    matched : (overhang 0 x (125 ∷ []) ≡ 0) × (braces_from 0 (tokens_in_front 0 0 x (125 ∷ [])) ≡ Some 0)
     matched = inside 1 0 1 0 x (omega arith) closed
 
     alone : StandsAlone x
@@ -173,7 +173,7 @@ pub none_behind : (l : Loose) (ts : List Piece) → is_nil ts ≡ true → loose
 none_behind l [] e = refl
 none_behind l (t ∷ ts) e = absurd cc
 
-loose_outside : (l : Loose) (left at from : ℕ) (x : List ℕ) → overhang left x (125 ∷ []) ≡ 0 → loose_from l (tokens_from left at (x ++ 125 ∷ [])) ≡ loose_from l (front left from x (125 ∷ []))
+loose_outside : (l : Loose) (left at from : ℕ) (x : List ℕ) → overhang left x (125 ∷ []) ≡ 0 → loose_from l (tokens_from left at (x ++ 125 ∷ [])) ≡ loose_from l (tokens_in_front left from x (125 ∷ []))
 unfolding first_cut is_wide_start
 loose_outside l zero at from [] o = refl
 loose_outside l (suc left) at from [] o = absurd cc

@@ -4,7 +4,7 @@ use Rattle.std.proofs.lemmas.Bool.{cases_eq, cases_Bool, and_left, and_from, and
 use Rattle.std.proofs.lemmas.List.{same_lists, get_or_default}
 use Rattle.hir_input.specs.declared.ids.FileAstId.{FileAstId}
 use Rattle.rust_ids.specs.Row.{Row}
-use Rattle.rust_ids.specs.Ids.{nth_row, id_at, depth_at, count_below, key_of, kind_place, same_key, comes_before, earlier_alike, hash_of, AreIds, AreDistinct, AreDetermined}
+use Rattle.rust_ids.specs.Ids.{nth_row, id_at, depth_at, count_below, key_of, kind_place, same_key, comes_before, earlier_alike, hash_of, AreIds, AreDistinctIds, AreDetermined}
 use Rattle.rust_ids.proofs.Below.{count_below_lt, count_below_bound}
 use Rattle.rust_ids.proofs.Order.{not_before_itself, before_onward, before_or_after, depth_if_before, module_around_same, number_of_same}
 
@@ -41,7 +41,7 @@ one_way rows ids short are i j l m e = ⊎_elim
     (λ f. f)
     (cases_Bool (comes_before rows i j))
 
-pub distinct : (rows : List Row) (ids : List FileAstId) → AreIds rows ids → length rows ≤ 4294967296 → AreDistinct ids
+pub distinct : (rows : List Row) (ids : List FileAstId) → AreIds rows ids → length rows ≤ 4294967296 → AreDistinctIds ids
 distinct rows ids are short i j l m e =
     let as_many : length ids ≡ length rows = are.as_many in
     let l' : i < length rows = omega arith in

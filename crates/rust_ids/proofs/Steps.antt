@@ -9,7 +9,7 @@ use Rattle.hir_input.specs.declared.ids.AstIdKind.{AstIdKind}
 use Rattle.hir_input.specs.declared.ids.FileAstId.{FileAstId}
 use Rattle.rust_ids.specs.Row.{Row}
 use Rattle.rust_ids.specs.Ids.{nth_row, id_at, depth_at, count_below, last_below, module_at, module_around, hash_of, Key, kind_place, key_of, same_key, comes_before, earlier_alike, IsId, AreIds}
-use Rattle.rust_ids.specs.Inner.Numbering.{Counts, count_of, CountsOne, reached, IsNumbered, IsNextDepth}
+use Rattle.rust_ids.specs.Inner.Numbering.{Counts, count_of, CountsOne, is_numbered_before, IsNumbered, IsNextDepth}
 use Rattle.rust_ids.proofs.Below.{count_below_same, count_below_one, count_below_bound, count_below_none}
 use Rattle.rust_ids.proofs.Order.{not_before_itself, before_one_way, module_around_same, IsId-same, and_same}
 
@@ -99,17 +99,17 @@ numbered_more p q rows ids counts new k id l n order here others kind hash numbe
         (cases_Bool (same_key (key_of id) w))
 
 -- the items of one depth before a place, and then the one at the place
-pub reached_here : (rows : List Row) (at : ℕ) (j : ℕ) → reached rows (depth_at rows at) at j ≡ comes_before rows j at
+pub reached_here : (rows : List Row) (at : ℕ) (j : ℕ) → is_numbered_before rows (depth_at rows at) at j ≡ comes_before rows j at
 reached_here rows at j = refl
 
-pub reached_more : (rows : List Row) (depth at j : ℕ) → j ≢ at → reached rows depth (at + 1) j ≡ reached rows depth at j
+pub reached_more : (rows : List Row) (depth at j : ℕ) → j ≢ at → is_numbered_before rows depth (at + 1) j ≡ is_numbered_before rows depth at j
 reached_more rows depth at j ne = grind (arith, nat_tests)
 
-pub reached_now : (rows : List Row) (depth at : ℕ) → depth_at rows at ≡ depth → reached rows depth (at + 1) at ≡ true
+pub reached_now : (rows : List Row) (depth at : ℕ) → depth_at rows at ≡ depth → is_numbered_before rows depth (at + 1) at ≡ true
 reached_now rows depth at e = grind (arith, nat_tests)
 
 -- one of another depth changes nothing
-pub reached_past : (rows : List Row) (depth at j : ℕ) → depth_at rows at ≢ depth → reached rows depth (at + 1) j ≡ reached rows depth at j
+pub reached_past : (rows : List Row) (depth at j : ℕ) → depth_at rows at ≢ depth → is_numbered_before rows depth (at + 1) j ≡ is_numbered_before rows depth at j
 reached_past rows depth at j ne = ⊎_elim
     (λ (e : j ≡ at). let ne' : depth_at rows j ≢ depth = subst (λ x. depth_at rows x ≢ depth) (sym e) ne in grind (arith, nat_tests))
     (λ n. reached_more rows depth at j n)
@@ -121,20 +121,20 @@ row_read rows at row l is = get_or_default rows at _ row l ∙ sym is
 
 pub numbered_past : (rows : List Row) (depth at : ℕ) (row : Row) (ids : List FileAstId) (counts : Counts) →
     at < length rows → row ≡ get_or rows at row → row.depth ≢ depth →
-    IsNumbered (reached rows depth at) rows ids counts → IsNumbered (reached rows depth (at + 1)) rows ids counts
+    IsNumbered (is_numbered_before rows depth at) rows ids counts → IsNumbered (is_numbered_before rows depth (at + 1)) rows ids counts
 numbered_past rows depth at row ids counts l is ne n =
     numbered_same _ _ rows ids counts (λ j m. reached_past rows depth at j (λ e. ne (ap (λ r. r.depth) (sym (row_read rows at row l is)) ∙ e))) n
 
 pub numbered_here : (rows : List Row) (depth at : ℕ) (row : Row) (last : Option ℕ) (ids : List FileAstId) (counts new : Counts) →
     (kind : AstIdKind) (place hash number : ℕ) (outer : Option FileAstId) →
     at < length rows → row ≡ get_or rows at row → row.depth ≡ depth → last ≡ last_below (λ j. eqb (suc (depth_at rows j)) depth) at →
-    IsNumbered (reached rows depth at) rows ids counts →
+    IsNumbered (is_numbered_before rows depth at) rows ids counts →
     kind ≡ row.kind → place ≡ kind_place kind → hash ≡ hash_of row outer → outer ≡ module_at ids last →
     number ≡ min (count_of counts (place, hash)) 4294967295 → CountsOne counts new (place, hash) →
-    IsNumbered (reached rows depth (at + 1)) rows (set ids at (record { kind = kind; hash = hash; number = number })) new
+    IsNumbered (is_numbered_before rows depth (at + 1)) rows (set ids at (record { kind = kind; hash = hash; number = number })) new
 numbered_here rows depth at row last ids counts new kind place hash number outer l is deep around n kind_is place_is hash_is outer_is number_is one =
-    numbered_more (reached rows depth at) (reached rows depth (at + 1)) rows ids counts new at (record { kind = kind; hash = hash; number = number }) l n
-    (λ j. ap (λ d. reached rows d at j) (sym deep_at))
+    numbered_more (is_numbered_before rows depth at) (is_numbered_before rows depth (at + 1)) rows ids counts new at (record { kind = kind; hash = hash; number = number }) l n
+    (λ j. ap (λ d. is_numbered_before rows d at j) (sym deep_at))
     (reached_now rows depth at deep_at)
     (λ j ne. reached_more rows depth at j ne)
     (kind_is ∙ ap (λ r. r.kind) (sym read))
@@ -157,31 +157,31 @@ counted_le p rows ids counts key n =
 
 -- no item is less deep than 0
 pub numbered_none : (rows : List Row) (ids : List FileAstId) (counts : Counts) → length ids ≡ length rows → counts.entries ≡ [] →
-    IsNumbered (reached rows 0 0) rows ids counts
+    IsNumbered (is_numbered_before rows 0 0) rows ids counts
 numbered_none rows ids counts l e = record {
   as_many = l;
-  each = λ i m t. let no : reached rows 0 0 i ≡ false = none i in absurd (both_ways _ no t);
+  each = λ i m t. let no : is_numbered_before rows 0 0 i ≡ false = none i in absurd (both_ways _ no t);
   counted = λ q. ap (λ es. unwrap_or (lookup (same_key q) es) 0) e ∙ sym (count_below_none _ (length rows) (λ j. and_left _ _ (none j)));
 }
   where
-    none : (i : ℕ) → reached rows 0 0 i ≡ false
+    none : (i : ℕ) → is_numbered_before rows 0 0 i ≡ false
     none i = grind (arith, nat_tests)
 
-reached_all : (rows : List Row) (depth j : ℕ) → j < length rows → reached rows depth (length rows) j ≡ leb (depth_at rows j) depth
+reached_all : (rows : List Row) (depth j : ℕ) → j < length rows → is_numbered_before rows depth (length rows) j ≡ leb (depth_at rows j) depth
 reached_all rows depth j l = grind (arith, nat_tests)
 
-reached_none : (rows : List Row) (depth j : ℕ) → reached rows depth 0 j ≡ ltb (depth_at rows j) depth
+reached_none : (rows : List Row) (depth j : ℕ) → is_numbered_before rows depth 0 j ≡ ltb (depth_at rows j) depth
 reached_none rows depth j = grind (arith, nat_tests)
 
 -- from the items of one depth to those of the next
 pub numbered_next : (rows : List Row) (depth deeper : ℕ) (ids : List FileAstId) (counts : Counts) →
-    IsNextDepth rows depth (Some deeper) → IsNumbered (reached rows depth (length rows)) rows ids counts → IsNumbered (reached rows deeper 0) rows ids counts
+    IsNextDepth rows depth (Some deeper) → IsNumbered (is_numbered_before rows depth (length rows)) rows ids counts → IsNumbered (is_numbered_before rows deeper 0) rows ids counts
 numbered_next rows depth deeper ids counts next n =
     numbered_same _ _ rows ids counts (λ j l. reached_none rows deeper j ∙ (sym (next.1 j l) ∙ sym (reached_all rows depth j l))) n
 
 -- behind the last depth
 pub numbered_all : (rows : List Row) (depth : ℕ) (ids : List FileAstId) (counts : Counts) →
-    IsNextDepth rows depth None → IsNumbered (reached rows depth (length rows)) rows ids counts → AreIds rows ids
+    IsNextDepth rows depth None → IsNumbered (is_numbered_before rows depth (length rows)) rows ids counts → AreIds rows ids
 numbered_all rows depth ids counts last n = record {
   as_many = n.as_many;
   each = λ i l. n.each i l (reached_all rows depth i l ∙ le-leb _ _ (last i l));
@@ -189,8 +189,8 @@ numbered_all rows depth ids counts last n = record {
 
 -- the next depth's items can be given theirs, or all have them
 pub level_next : (rows : List Row) (depth : ℕ) (next : Option ℕ) (ids : List FileAstId) (counts : Counts) →
-    IsNextDepth rows depth next → IsNumbered (reached rows depth (length rows)) rows ids counts →
-    MatchOption next (AreIds rows ids) (λ deeper. IsNumbered (reached rows deeper 0) rows ids counts)
+    IsNextDepth rows depth next → IsNumbered (is_numbered_before rows depth (length rows)) rows ids counts →
+    MatchOption next (AreIds rows ids) (λ deeper. IsNumbered (is_numbered_before rows deeper 0) rows ids counts)
 level_next rows depth None ids counts h n = numbered_all rows depth ids counts h n
 level_next rows depth (Some deeper) ids counts h n = numbered_next rows depth deeper ids counts h n
 

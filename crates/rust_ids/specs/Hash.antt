@@ -16,8 +16,8 @@ abbrev pub mix : ℕ → ℕ → ℕ
 mix a b = bit_xor (a * b % 2 ^ 64) (a * b / 2 ^ 64)
 
 -- before the first byte
-abbrev pub start : Pair
-start = record { left = 0x243f6a8885a308d3; right = 0x13198a2e03707344 }
+abbrev pub hash_start : Pair
+hash_start = record { left = 0x243f6a8885a308d3; right = 0x13198a2e03707344 }
 
 -- sixteen bytes are taken in
 abbrev pub absorb : Pair → List ℕ → Pair
@@ -37,8 +37,8 @@ absorbed p text = absorb_all ((length text - 1) / 16) p text
 
 -- The two words at the end of a text: its last sixteen bytes; of a shorter one its first and last eight or four, which may
 -- share bytes; of up to three the first byte, and the last with the middle one.
-abbrev pub ends : List ℕ → Pair
-ends text = let bytes = length text in
+abbrev pub end_bytes : List ℕ → Pair
+end_bytes text = let bytes = length text in
     if nat_lt 16 bytes then record { left = eight_bytes (drop (bytes - 16) text); right = eight_bytes (drop (bytes - 8) text) }
     else (if nat_le 8 bytes then record { left = eight_bytes text; right = eight_bytes (drop (bytes - 8) text) }
     else (if nat_le 4 bytes then record { left = four_bytes text; right = four_bytes (drop (bytes - 4) text) }
@@ -46,12 +46,12 @@ ends text = let bytes = length text in
     else record { left = 0; right = 0 })))
 
 -- both pairs made one word
-abbrev pub joined : Pair → Pair → ℕ
-joined p end = mix (bit_xor p.left end.left) (bit_xor p.right end.right)
+abbrev pub joined_pairs : Pair → Pair → ℕ
+joined_pairs p end = mix (bit_xor p.left end.left) (bit_xor p.right end.right)
 
 -- the word of a text
 unfoldable pub text_word : List ℕ → ℕ
-text_word text = bit_xor (joined (absorbed start text) (ends text)) (length text)
+text_word text = bit_xor (joined_pairs (absorbed hash_start text) (end_bytes text)) (length text)
 
 -- a word is taken into the state of the hash, which is 0 at first
 abbrev pub add_word : ℕ → ℕ → ℕ

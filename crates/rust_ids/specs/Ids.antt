@@ -113,8 +113,8 @@ pub record AreIds (rows : List Row) (ids : List FileAstId) : Type 0 where
   pub each : (i : ℕ) → i < length rows → IsId rows ids i
 
 -- no two items have one id
-abbrev pub AreDistinct : List FileAstId → Type 0
-AreDistinct ids = (i j : ℕ) → i < length ids → j < length ids → id_at ids i ≡ id_at ids j → i ≡ j
+abbrev pub AreDistinctIds : List FileAstId → Type 0
+AreDistinctIds ids = (i j : ℕ) → i < length ids → j < length ids → id_at ids i ≡ id_at ids j → i ≡ j
 
 -- the items determine the ids
 abbrev pub AreDetermined : Type 0

@@ -76,7 +76,7 @@ fn absorb(pair: Pair, text: &[u8]) -> Pair
 // All of a text but for its end is taken in.
 #[tactic(auto, using(crate::proofs::Blocks::absorbed_more, crate::proofs::Blocks::absorbed_few))]
 fn absorbed(text: &[u8]) -> Pair
-    ensures { result ≡ spec.absorbed spec.start text.now }
+    ensures { result ≡ spec.absorbed spec.hash_start text.now }
 {
     let mut pair = Pair {
         left: 0x243f_6a88_85a3_08d3,
@@ -92,7 +92,7 @@ fn absorbed(text: &[u8]) -> Pair
 
 // The two words at the end of a text.
 fn ends(text: &[u8]) -> Pair
-    ensures { result ≡ spec.ends text.now }
+    ensures { result ≡ spec.end_bytes text.now }
 {
     let bytes = text.len();
     if bytes > 16 {

@@ -1,7 +1,7 @@
 //! The ids of all items of a file.
 
 ghost use Rattle.std.specs.Prelude.{◌≡◌, ◌≤◌, ◌^◌, IfOk, length};
-ghost use Rattle.rust_ids.specs.Ids.{AreIds, AreDistinct};
+ghost use Rattle.rust_ids.specs.Ids.{AreIds, AreDistinctIds};
 
 use crate::numbering;
 use hir_input::{AstIdKind, FileAstId};
@@ -67,7 +67,7 @@ pub fn assign(alloc: Global, nodes: &[Node<'_>]) -> Result<Vec<FileAstId>, Alloc
     ensures ids { IfOk result (λ ids. AreIds nodes.now ids.items) }
 
     // A number has 32 bits, so more items than that could share one.
-    ensures distinct { length nodes.now ≤ 2 ^ 32 → IfOk result (λ ids. AreDistinct ids.items) }
+    ensures distinct { length nodes.now ≤ 2 ^ 32 → IfOk result (λ ids. AreDistinctIds ids.items) }
 {
     let mut ids = numbering::blank_ids(alloc, nodes)?;
     let mut counts = HashMap::new(alloc);

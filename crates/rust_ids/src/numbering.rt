@@ -2,7 +2,7 @@
 
 ghost use Rattle.std.specs.Prelude.{◌≡◌, ◌<◌, ◌≤◌, ◌+◌, ◌-◌, ◌^◌, ◌==◌, IfOk, OnOk, Option, Some, None, if◌then◌else◌, length, min, suc};
 ghost use Rattle.rust_ids.specs.Ids as spec;
-ghost use Rattle.rust_ids.specs.Inner.Numbering.{CountsOne, IsNextDepth, IsNumbered, count_of, nearer_of, reached};
+ghost use Rattle.rust_ids.specs.Inner.Numbering.{CountsOne, IsNextDepth, IsNumbered, count_of, nearer_of, is_numbered_before};
 
 use crate::hash::{name_hash, name_hash_in};
 use crate::ids::Node;
@@ -100,9 +100,9 @@ fn number_node(
 ) -> Result<(), AllocError>
     requires place { at < length nodes.now }
     requires around { around ≡ spec.last_below (λ j. suc (spec.depth_at nodes.now j) == depth) at }
-    requires numbered { IsNumbered (reached nodes.now depth at) nodes.now ids.old.items counts.old }
+    requires numbered { IsNumbered (is_numbered_before nodes.now depth at) nodes.now ids.old.items counts.old }
     ensures { OnOk result (IsNumbered
-        (reached nodes.now depth (at + 1)) nodes.now ids.new.items counts.new) }
+        (is_numbered_before nodes.now depth (at + 1)) nodes.now ids.new.items counts.new) }
 {
     let node = &nodes[at];
     if node.depth() != depth {
@@ -122,9 +122,9 @@ pub fn number_level(
     ids: &mut Vec<FileAstId>,
     counts: &mut Counts,
 ) -> Result<(), AllocError>
-    requires { IsNumbered (reached nodes.now depth 0) nodes.now ids.old.items counts.old }
+    requires { IsNumbered (is_numbered_before nodes.now depth 0) nodes.now ids.old.items counts.old }
     ensures { OnOk result (IsNumbered
-        (reached nodes.now depth (length nodes.now)) nodes.now ids.new.items counts.new) }
+        (is_numbered_before nodes.now depth (length nodes.now)) nodes.now ids.new.items counts.new) }
 {
     let mut around = None;
     for (at, node) in nodes.iter().enumerate() {

@@ -17,7 +17,7 @@ use Rattle.rust_items.specs.declared.log.Problem.{Problem}
 use Rattle.rust_items.specs.declared.source_file.ItemPlace.{ItemPlace}
 use Rattle.rust_items.specs.declared.source_file.Reading.{Reading}
 use Rattle.rust_items.specs.declared.source_file.SourceFile.{SourceFile}
-use Rattle.rust_items.specs.Places.{Telling, id_of, name_of, IsWritten, held, IsPlace, ArePlaces, nothing, placed}
+use Rattle.rust_items.specs.Places.{Telling, id_of, name_of, IsWritten, items_held, IsPlace, ArePlaces, nothing, placed}
 use Rattle.rust_items.specs.Clipped.{clipped_items}
 use Rattle.rust_items.specs.Ids.{with_ids}
 use Rattle.rust_items.specs.LineEnds.{with_feeds, returns_from, place_by, place_in, moved_span, moved_problem}
@@ -123,7 +123,7 @@ clipped_name w (macro_call c) = refl
 clipped_name w (macro_rules m name) = refl
 clipped_name w (asm_item m) = refl
 
-clipped_held : (w : Wanted) (i : ItemView) → held (clipped_item w i) ≡ clipped_list w (held i)
+clipped_held : (w : Wanted) (i : ItemView) → items_held (clipped_item w i) ≡ clipped_list w (items_held i)
 clipped_held w (plain_item k m) = refl
 clipped_held w (const_item m) = refl
 clipped_held w (struct_item m _) = refl

@@ -22,9 +22,9 @@ use Rattle.rust_leaves.specs.Kinds.{is_called}
 use Rattle.rust_leaves.specs.Statements.{CallRead, statement, statement_call, is_item}
 use Rattle.rust_leaves.proofs.StatementLeads.{statement_leads}
 use Rattle.rust_items.specs.declared.blocks.SourceBlock.{SourceBlock}
-use Rattle.rust_items.specs.Blocks.{PartView, no_part, stmt_part, tail_part, BodyRead, empty_body, and_part, item_found, other_part, other_read, other_found, and_call, is_operand, call_found, called_found, taken_item, behind_attributes, part, parts_from, parts, stmts_with_ids, tail_with_id, is_bare, attributes_of, body_of, found_of, IsBlock}
+use Rattle.rust_items.specs.Blocks.{PartView, no_part, stmt_part, tail_part, BodyRead, empty_body, and_part, item_found, other_part, other_read, other_found, and_call, is_operand, call_found, called_found, taken_item, part_behind_attributes, part, parts_from, parts, stmts_with_ids, tail_with_id, is_bare, attributes_of, block_body, found_of, IsBlock}
 use Rattle.rust_items.specs.Found.{Found, nothing_found}
-use Rattle.rust_items.specs.Ids.{first, numbered_call, item_with_ids, with_ids}
+use Rattle.rust_items.specs.Ids.{first_numbers, numbered_call, item_with_ids, with_ids}
 use Rattle.rust_items.specs.Items.{is_list_end, turn, behind_front}
 use Rattle.rust_items.specs.LineEnds.{with_feeds}
 use Rattle.rust_items.specs.Places.{id_of, IsWritten, ArePlaces, nothing, placed}
@@ -74,7 +74,7 @@ block_with_ids [] (call_tail c) ids = refl
 block_with_ids [] no_tail ids = refl
 block_with_ids [] other_tail ids = refl
 block_with_ids (item_stmt i ∷ ss) t ids = ap (λ is. item_and (item_with_ids i ids).0 is) (block_with_ids ss t (item_with_ids i ids).1)
-block_with_ids (call_stmt c ∷ ss) t ids = ap (λ is. item_and (macro_call (numbered_call (first ids).0 c)) is) (block_with_ids ss t (first ids).1)
+block_with_ids (call_stmt c ∷ ss) t ids = ap (λ is. item_and (macro_call (numbered_call (first_numbers ids).0 c)) is) (block_with_ids ss t (first_numbers ids).1)
 block_with_ids (other_stmt ∷ ss) t ids = block_with_ids ss t ids
 
 -- ---- a macro call
@@ -167,8 +167,8 @@ item_taken end is_top f ts laid e =
     let same : turn 128 f ts ≡ r = turn_is f ts e ∙ ap (λ k. behind_front 128 k.0 f k.1) (front_is ts) in
     item_is is_top ts f r.0 r.1 (subst (λ (k : Option ItemView × (Found × Tokens)). AreFound ts k.1.1 f k.1.0 (items_from (option_to_list k.0))) same (turn_found end 128 f ts laid))
 
-behind_is : (end : ℕ) (is_top : Bool) (f : Found) (ts : Tokens) → IsLaid end ts → is_at_end ts ≡ false → IsPart is_top ts f (behind_attributes is_top (at ts) (outer_attributes ts).0 f (outer_attributes ts).1)
-unfolding behind_attributes
+behind_is : (end : ℕ) (is_top : Bool) (f : Found) (ts : Tokens) → IsLaid end ts → is_at_end ts ≡ false → IsPart is_top ts f (part_behind_attributes is_top (at ts) (outer_attributes ts).0 f (outer_attributes ts).1)
+unfolding part_behind_attributes
 behind_is end is_top f ts laid e =
     let us = (outer_attributes ts).1 in
     let p = outer_attributes_leads ts in
@@ -240,7 +240,7 @@ parts_found end is_top f ts laid =
 
 -- ---- a text
 
-block_found : (edition : EditionYear) (text : List ℕ) → IsText edition text (found_of edition text) (stmt_items (body_of edition text).0.stmts (body_of edition text).0.tail)
+block_found : (edition : EditionYear) (text : List ℕ) → IsText edition text (found_of edition text) (stmt_items (block_body edition text).0.stmts (block_body edition text).0.tail)
 unfolding found_of
 block_found edition text =
     let p = through (eat_leads 123 (tokens_of edition text)) (inner_attributes_leads (eat 123 (tokens_of edition text)).1) in
@@ -250,7 +250,7 @@ block_found edition text =
 -- the places of a block are those of its items and its macro calls
 pub block_placed : (edition : EditionYear) (text : List ℕ) (read : SourceBlock) → IsBlock edition text read → ArePlaces (IsWritten text) 0 (length text) (items_of (block_view read.block)) read.places.items []
 block_placed edition text read is =
-    let body = (body_of edition (with_feeds text)).0 in
+    let body = (block_body edition (with_feeds text)).0 in
     let same : items_of (block_view read.block) ≡ (with_ids (stmt_items body.stmts body.tail) is.ids).0 = ap items_of is.value ∙ block_with_ids body.stmts body.tail is.ids in
     subst (λ (is : ItemViews). ArePlaces (IsWritten text) 0 (length text) is read.places.items []) (sym same)
     (rw is.places (placed_text edition text _ _ (block_found edition (with_feeds text)) is.ids is.are_ids))

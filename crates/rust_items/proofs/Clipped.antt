@@ -26,7 +26,7 @@ use Rattle.rust_leaves.proofs.Clipped.{with_if, text_none, leaf_front}
 use Rattle.rust_items.specs.declared.log.ProblemKind.TheVariants as problem
 use Rattle.rust_items.specs.Clipped.{clipped_item_if, clipped_items, clipped_block, clipped_turn, wanted_item_if, wanted_behind}
 use Rattle.rust_items.specs.Found.{Found, Finder, Finds, nothing_found, and_problem}
-use Rattle.rust_items.specs.Items.{BlockRead, finding_from, finding, is_list_end, empty_block, no_block, deep_block, block_of, leaf_found, leaf_turn, as_extern, and_rest, extern_kept, extern_found, extern_by, extern_turn, extern_inside, extern_block, one_more, unmatched, and_parent, depth_of, inside_unless, some_item, by_head, inside, behind_front, turn, module_at}
+use Rattle.rust_items.specs.Items.{BlockRead, finding_from, finding, is_list_end, empty_block, no_block, deep_block, block_of, leaf_found, leaf_turn, as_extern, and_rest, extern_kept, extern_found, extern_by, extern_turn, extern_inside, extern_block, one_more, unmatched, and_parent, depth_of, inside_unless, some_item, by_head, inside, behind_front, turn, module_item}
 use Rattle.rust_items.proofs.Bare.{list_of, all, item_whole, wanted_from, extern_clipped}
 use Rattle.rust_items.proofs.Steps.{inside_deep, inside_none, inside_some}
 
@@ -190,12 +190,12 @@ module_held w attrs inner name visibility semicolon (Some is) =
     ∙ ap (listed_module (named_node (attrs ++ kept_metas w.docs inner) name visibility []) semicolon) (wanted_from w is)
 
 pub module_clipped : (w : Wanted) (left : ℕ) (attrs : List MetaView) (start : ℕ) (visibility : Option Visibility) (head : Head) (f : Found) (ts : Tokens)
-    → with_value (wanted_item w attrs) (module_at left (record { start = start; attrs = []; visibility = visibility; head = head }) f ts)
+    → with_value (wanted_item w attrs) (module_item left (record { start = start; attrs = []; visibility = visibility; head = head }) f ts)
     ≡ (let n = named ts in
     let semicolon = eat 59 n.1 in
     let b = with_value (clipped_block w) (inside_unless semicolon.0 (inside left) nothing_found semicolon.1) in
     (module_from (named_node (attrs ++ b.0.attrs) n.0.name visibility []) semicolon.0 b.0.items, (and_parent (depth_of left) start b.1.1.past kind.Module n.0 (semicolon.0 || b.0.is_ended) b.1.0 f, b.1.1)))
-unfolding with_value clipped_block module_at
+unfolding with_value clipped_block module_item
 module_clipped w left attrs start visibility head f ts =
     let n = named ts in
     let semicolon = eat 59 n.1 in
@@ -209,8 +209,8 @@ listed_front w attrs inner name visibility semicolon None = ap (λ a. bare_modul
 listed_front w attrs inner name visibility semicolon (Some is) =
     ap (λ a. listed_module (named_node a name visibility (kept_text w.bodies [])) semicolon (clipped_list w (items_from is))) (kept_append w.docs attrs inner)
 
-module_front : (w : Wanted) (left : ℕ) (h : FrontRead) (f : Found) (ts : Tokens) → with_value (clipped_item w) (module_at left h f ts) ≡ with_value (wanted_item w (kept_metas w.docs h.attrs)) (module_at left (unattributed h) f ts)
-unfolding with_value module_at
+module_front : (w : Wanted) (left : ℕ) (h : FrontRead) (f : Found) (ts : Tokens) → with_value (clipped_item w) (module_item left h f ts) ≡ with_value (wanted_item w (kept_metas w.docs h.attrs)) (module_item left (unattributed h) f ts)
+unfolding with_value module_item
 module_front w left h f ts =
     let n = named ts in
     let semicolon = eat 59 n.1 in
@@ -219,13 +219,13 @@ module_front w left h f ts =
 
 -- an item behind what stands in front of it, by its word
 abbrev pub wanted_by_head : Wanted → ℕ → Head → FrontRead → Finder (Option ItemView)
-wanted_by_head w left heads.Module h f ts = some_item (with_value (wanted_item w h.attrs) (module_at left (unattributed h) f ts))
+wanted_by_head w left heads.Module h f ts = some_item (with_value (wanted_item w h.attrs) (module_item left (unattributed h) f ts))
 wanted_by_head w left heads.ExternBlock h f ts = some_item (with_value (wanted_item w h.attrs) (extern_block (depth_of left) h.start [] f ts))
 wanted_by_head w left _ h f ts = wanted_behind w (leaf_turn (depth_of left)) h f ts
 
 by_head_clipped : (w : Wanted) (left : ℕ) (head : Head) (h : FrontRead) (f : Found) (ts : Tokens)
     → with_value (wanted_item_if w h.attrs) (by_head (inside left) (depth_of left) head (unattributed h) f ts) ≡ wanted_by_head w left head h f ts
-unfolding with_value wanted_item_if wanted_behind module_at
+unfolding with_value wanted_item_if wanted_behind module_item
 by_head_clipped w left heads.Module h f ts = refl
 by_head_clipped w left heads.ExternBlock h f ts = refl
 by_head_clipped w left _ h f ts = refl
@@ -236,7 +236,7 @@ behind_front_clipped w left h f ts = by_head_clipped w left h.head h f ts
 
 by_head_front : (w : Wanted) (left : ℕ) (head : Head) (h : FrontRead) (f : Found) (ts : Tokens)
     → with_value (clipped_item_if w) (by_head (inside left) (depth_of left) head h f ts) ≡ wanted_by_head w left head (clipped_front w h) f ts
-unfolding with_value clipped_item_if clipped_front module_at
+unfolding with_value clipped_item_if clipped_front module_item
 by_head_front w left heads.Module h f ts = ap some_item (module_front w left h f ts)
 by_head_front w left heads.ExternBlock h f ts = ap some_item (extern_block_front w (depth_of left) h.start h.attrs f ts)
 by_head_front w left _ h f ts = leaf_turn_front w (depth_of left) h f ts

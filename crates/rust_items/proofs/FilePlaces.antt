@@ -21,7 +21,7 @@ use Rattle.rust_items.specs.declared.blocks.SourceBlock.{SourceBlock}
 use Rattle.rust_items.specs.Blocks.{IsBlock, IsBlockOf}
 use Rattle.rust_items.specs.Found.{Found, nothing_found, and_problem_at}
 use Rattle.rust_items.specs.Ids.{held_with_ids, with_ids}
-use Rattle.rust_items.specs.Places.{Telling, id_of, name_of, IsWritten, held, IsPlace, ArePlaces, nothing, placed}
+use Rattle.rust_items.specs.Places.{Telling, id_of, name_of, IsWritten, items_held, IsPlace, ArePlaces, nothing, placed}
 use Rattle.rust_items.proofs.Names.{IsToken, told_behind, told_written}
 use Rattle.rust_items.specs.LineEnds.{with_feeds, returns_from, place_by, place_in, moved_span}
 use Rattle.rust_items.specs.SourceFiles.{FileView, places, behind_attributes, found_in, items_in, IsFileView}
@@ -69,12 +69,12 @@ held_name n (macro_call c) ids = refl
 held_name n (macro_rules m name) ids = refl
 held_name n (asm_item m) ids = refl
 
-held_items : (n : Numbers) (i : ItemView) (ids : List FileAstId) → held (held_with_ids n i ids).0 ≡ (with_ids (held i) ids).0
+held_items : (n : Numbers) (i : ItemView) (ids : List FileAstId) → items_held (held_with_ids n i ids).0 ≡ (with_ids (items_held i) ids).0
 held_items n (listed_module m semicolon is) ids = refl
 held_items n (listed_extern_block m is) ids = refl
 held_items n _ ids = refl
 
-held_ids : (n : Numbers) (i : ItemView) (ids : List FileAstId) → (held_with_ids n i ids).1 ≡ (with_ids (held i) ids).1
+held_ids : (n : Numbers) (i : ItemView) (ids : List FileAstId) → (held_with_ids n i ids).1 ≡ (with_ids (items_held i) ids).1
 held_ids n (listed_module m semicolon is) ids = refl
 held_ids n (listed_extern_block m is) ids = refl
 held_ids n _ ids = refl
@@ -108,8 +108,8 @@ numbered {from} {to} (placed {i = i} {is = is} {p = p} {ps = ps} {mid = mid} pla
     let n : Numbers = record { hash = id.hash; number = id.number } in
     let same = head_kind id.kind p.id.kind (map id_kind ids) (map place_kind ps) e in
     let first = numbered inside ids (tail_kinds id.kind p.id.kind (map id_kind ids) (map place_kind ps) e) in
-    let later = numbered behind (with_ids (held i) ids).1 first.1 in (
-      placed {mid = places (with_ids (held i) ids).1 (map place_span mid)} (numbered_place from to i p id ids same place) (rw (held_items n i ids) first.0) (rw (held_ids n i ids) later.0),
+    let later = numbered behind (with_ids (items_held i) ids).1 first.1 in (
+      placed {mid = places (with_ids (items_held i) ids).1 (map place_span mid)} (numbered_place from to i p id ids same place) (rw (held_items n i ids) first.0) (rw (held_ids n i ids) later.0),
       rw (held_ids n i ids) later.1,
     )
 

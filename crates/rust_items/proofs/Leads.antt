@@ -26,11 +26,11 @@ use Rattle.rust_leaves.specs.declared.head.Head.TheVariants as heads
 use Rattle.rust_cursor.specs.Nests.{is_literal_kind}
 use Rattle.rust_leaves.specs.Heads.{behind_abi, is_modifier, behind_modifier, behind_modifiers_from, behind_modifiers, head_by, behind_head, head, behind_others}
 use Rattle.rust_cursor.specs.Words.{is_at_end}
-use Rattle.rust_leaves.specs.Leaves.{LeafRead, range_to, name_read, named, named_or, alias, alias_if, renamed, impl_end, item_end, macro_end, value_end, semicolon_end, call_end}
+use Rattle.rust_leaves.specs.Leaves.{LeafRead, range_to, name_read, named, named_or, crate_alias, crate_alias_if, renamed, impl_end, item_end, macro_end, value_end, semicolon_end, call_end}
 use Rattle.rust_leaves.specs.Kinds.{function, block_item, union_item, enumeration, trait_item, macro_def, type_alias, static_value, constant, structure, implementation, told_at, crate_item, use_declaration, macro_definition, is_called, invocation, leaf_by, leaf}
 use Rattle.rust_leaves.specs.Fronts.{FrontRead, front_behind, front}
 use Rattle.rust_leaves.proofs.AlikeFronts.{others_leads}
-use Rattle.rust_items.specs.Places.{id_of, name_of, held}
+use Rattle.rust_items.specs.Places.{id_of, name_of, items_held}
 use Rattle.rust_items.specs.Uses.{trees_in, written_trees}
 use Rattle.rust_items.proofs.Names.{IsToken, untold, told_behind, named_told, named_or_told}
 use Rattle.rust_items.proofs.TreesRead.{word_some, zip_is, IsRead, read_around, use_tree_told}
@@ -162,15 +162,15 @@ unfolding named_or
 named_or_named keyword some ts =
     when (bytes_eq (word ts) keyword) (λ e. rw e (by_token ts here (word_some keyword some ts e) here)) (λ e. rw e (named_named ts))
 
-pub alias_leads : Forwards alias
-unfolding alias
+pub alias_leads : Forwards crate_alias
+unfolding crate_alias
 alias_leads ts = when (bytes_eq (word ts) (codes "_")) (λ e. rw e (bumped_leads ts)) (λ e. rw e (named_leads ts))
 
-alias_named : (ts : Tokens) → IsNamed ts (alias ts).1 (alias ts).0.range
-unfolding alias
+alias_named : (ts : Tokens) → IsNamed ts (crate_alias ts).1 (crate_alias ts).0.range
+unfolding crate_alias
 alias_named ts = when (bytes_eq (word ts) (codes "_")) (λ e. rw e (by_token ts here (word_some (codes "_") refl ts e) here)) (λ e. rw e (named_named ts))
 
-pub alias_if_leads : (found : Bool) → Forwards (alias_if found)
+pub alias_if_leads : (found : Bool) → Forwards (crate_alias_if found)
 alias_if_leads true ts = alias_leads ts
 alias_if_leads false ts = here
 
@@ -182,8 +182,8 @@ either_named : {ts us vs : Tokens} (a b : Option TextRange) → LeadsTo ts us �
 either_named (Some r) b p n m = name_behind p n
 either_named None b p n m = m
 
-told_if : (range : Option TextRange) (found : Bool) (ts us : Tokens) → IsNamed ts us range → LeadsTo ts us → IsNamed ts (alias_if found us).1 (told_at range (alias_if found us).0)
-told_if range true ts us m p = either_named (alias us).0.range range p (alias_named us) (name_before m (alias_leads us))
+told_if : (range : Option TextRange) (found : Bool) (ts us : Tokens) → IsNamed ts us range → LeadsTo ts us → IsNamed ts (crate_alias_if found us).1 (told_at range (crate_alias_if found us).0)
+told_if range true ts us m p = either_named (crate_alias us).0.range range p (alias_named us) (name_before m (alias_leads us))
 told_if range false ts us m p = m
 
 told_named : (range : Option TextRange) (ts us : Tokens) → IsNamed ts us range → LeadsTo ts us → IsNamed ts (renamed us).1 (told_at range (renamed us).0)
@@ -238,7 +238,7 @@ blank kind = record { kind = kind; hash = 0; number = 0 }
 pub record IsLeaf (ts us : Tokens) (l : LeafRead) : Type 0 where
   pub leads : LeadsTo ts us
   pub id : id_of l.item ≡ Some (blank l.kind)
-  pub alone : held l.item ≡ no_items
+  pub alone : items_held l.item ≡ no_items
   pub name : IsNamed ts us l.named
   pub body : IsBraced ts us l.body
   pub told : (l.kind ≡ ast.ExternCrate → ⊥) → IsToken ts (name_of l.item) l.named

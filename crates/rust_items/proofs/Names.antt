@@ -16,7 +16,7 @@ use Rattle.rust_cursor.specs.Words.{word_by, by_first, rest, word, kind, text, a
 use Rattle.rust_cursor.proofs.Leads.{LeadsTo, here, further, through, when}
 use Rattle.rust_paths.specs.declared.names.TextRange.{TextRange}
 use Rattle.hir_input.specs.Name.{is_name}
-use Rattle.rust_paths.specs.Names.{Placed, placed, placed_name, taken_with, name, next_name, name_text, plain_name, raw_name, behind_hash, unless_path_keyword, as_name, is_keyword, is_path_keyword, is_underscore}
+use Rattle.rust_paths.specs.Names.{Placed, placed_if, placed_name, taken_with, name, next_name, name_text, plain_name, raw_name, behind_hash, unless_path_keyword, as_name, is_keyword, is_path_keyword, is_underscore}
 use Rattle.rust_paths.proofs.Leads.{placed_next}
 use Rattle.rust_leaves.specs.Leaves.{name_read, named, named_or}
 use Rattle.rust_items.specs.LineEnds.{with_feeds, place_in, moved_range}
@@ -77,7 +77,7 @@ next_spelled : (ts : Tokens) (n : List ℕ) → next_name ts ≡ Some n → (is_
 unfolding next_name
 next_spelled ts n e = let h = as_same (name_text ts.edition (kind ts) (text ts)) n e in (h.1, text_spelled ts.edition (kind ts) (text ts) n h.0)
 
-placed_same : (ts : Tokens) (o : Option (List ℕ)) (p : Placed) → next_name ts ≡ o → placed (at ts) (taken_with o ts).0 (taken_with o ts).1.past ≡ Some p → next_name ts ≡ Some p.name
+placed_same : (ts : Tokens) (o : Option (List ℕ)) (p : Placed) → next_name ts ≡ o → placed_if (at ts) (taken_with o ts).0 (taken_with o ts).1.past ≡ Some p → next_name ts ≡ Some p.name
 placed_same ts None p n e = absurd cc
 placed_same ts (Some w) p n e = let same : record { name = w; start = at ts; end = (bumped ts).past } ≡ p = cc in n ∙ ap (λ q. Some q.name) same
 

@@ -30,7 +30,7 @@ use Rattle.rust_leaves.specs.Leaves.{LeafRead, NameRead, no_name, named}
 use Rattle.rust_leaves.specs.Kinds.{node, named_node}
 use Rattle.rust_leaves.specs.Fronts.{FrontRead, front}
 use Rattle.rust_items.specs.Items.{BlockRead, span_of, needs_name, and_flaw, and_item, and_leaf, and_parent, leaf_found, leaf_turn, finding_from, finding, is_list_end, block_of, as_extern, extern_kept, extern_found, extern_turn, extern_inside, extern_block, one_more, unmatched, inside_unless, module_with, by_head, turn_with, inside, turn, depth_of, items}
-use Rattle.rust_items.specs.Places.{Telling, id_of, name_of, held, IsNameIn, IsBodyIn, IsPlace, ArePlaces, nothing, placed}
+use Rattle.rust_items.specs.Places.{Telling, id_of, name_of, items_held, IsNameIn, IsBodyIn, IsPlace, ArePlaces, nothing, placed}
 use Rattle.rust_items.proofs.Leads.{IsNamed, nameless, by_token, name_behind, name_before, IsBraced, unbraced, braced, blank, IsLeaf, IsTaken, LeafFound, TakesBy, front_takes, front_start, named_leads, named_named, behind_others_leads}
 use Rattle.rust_items.proofs.Leads as leads
 use Rattle.rust_items.specs.Uses.{trees_in, trees_within}
@@ -288,7 +288,7 @@ listed (Some is) = items_from is
 
 -- an item that holds these
 parent_is : (end : ℕ) (ts ms us : Tokens) (f g : Found) (depth : ℕ) (k : AstIdKind) (n : NameRead) (is_ended : Bool) (i : ItemView) (is : ItemViews) → IsLaid end ts → Takes ts ms → AreFound ms us nothing_found g is
-    → id_of i ≡ Some (blank k) → held i ≡ is → trees_in i ≡ trees_within (held i) → IsNamed ts ms n.range → IsToken ts (name_of i) n.range → AreFound ts us f (and_parent depth (at ts) us.past k n is_ended g f) (item_and i no_items)
+    → id_of i ≡ Some (blank k) → items_held i ≡ is → trees_in i ≡ trees_within (items_held i) → IsNamed ts ms n.range → IsToken ts (name_of i) n.range → AreFound ts us f (and_parent depth (at ts) us.past k n is_ended g f) (item_and i no_items)
 parent_is end ts ms us f g depth k n is_ended i is laid t b e same trees name spelled =
     let strict = takes_strict end t laid in
     record {
@@ -388,11 +388,11 @@ extern_name : (n : NodeView) (is : Option (List ItemView)) → name_of (extern_b
 extern_name n None = refl
 extern_name n (Some is) = refl
 
-extern_held : (n : NodeView) (is : Option (List ItemView)) → held (extern_block_from n is) ≡ listed is
+extern_held : (n : NodeView) (is : Option (List ItemView)) → items_held (extern_block_from n is) ≡ listed is
 extern_held n None = refl
 extern_held n (Some is) = refl
 
-extern_trees : (n : NodeView) (is : Option (List ItemView)) → trees_in (extern_block_from n is) ≡ trees_within (held (extern_block_from n is))
+extern_trees : (n : NodeView) (is : Option (List ItemView)) → trees_in (extern_block_from n is) ≡ trees_within (items_held (extern_block_from n is))
 extern_trees n None = refl
 extern_trees n (Some is) = refl
 
@@ -410,7 +410,7 @@ module_id : (attrs : List MetaView) (name : Option (List ℕ)) (v : Option Visib
 module_id attrs name v semicolon None = refl
 module_id attrs name v semicolon (Some is) = refl
 
-module_held : (n : NamedView) (semicolon : Bool) (is : Option (List ItemView)) → held (module_from n semicolon is) ≡ listed is
+module_held : (n : NamedView) (semicolon : Bool) (is : Option (List ItemView)) → items_held (module_from n semicolon is) ≡ listed is
 module_held n semicolon None = refl
 module_held n semicolon (Some is) = refl
 
@@ -418,7 +418,7 @@ module_name : (n : NamedView) (semicolon : Bool) (is : Option (List ItemView)) �
 module_name n semicolon None = refl
 module_name n semicolon (Some is) = refl
 
-module_trees : (n : NamedView) (semicolon : Bool) (is : Option (List ItemView)) → trees_in (module_from n semicolon is) ≡ trees_within (held (module_from n semicolon is))
+module_trees : (n : NamedView) (semicolon : Bool) (is : Option (List ItemView)) → trees_in (module_from n semicolon is) ≡ trees_within (items_held (module_from n semicolon is))
 module_trees n semicolon None = refl
 module_trees n semicolon (Some is) = refl
 

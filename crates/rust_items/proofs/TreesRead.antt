@@ -7,16 +7,16 @@ use Rattle.hir_input.specs.declared.ast.PathNode.{PathNode}
 use Rattle.hir_input.specs.declared.ast.PathNode.TheVariants.{Readable, Unreadable}
 use Rattle.hir_input.specs.declared.ast.Rename.{Rename}
 use Rattle.hir_input.specs.UseTreeView.{UseTreeView, trees_from}
-use Rattle.hir_input.specs.Words.{Word, name_word}
+use Rattle.hir_input.specs.Words.{PathWord, name_word}
 use Rattle.rust_cursor.specs.Tokens.{Tokens}
 use Rattle.rust_cursor.specs.Reader.{Reader}
 use Rattle.rust_cursor.specs.Words.{symbol, word, kind, at, is_empty, is_pair, eat_pair, bumped, is_at_end, eat_colons}
 use Rattle.rust_cursor.specs.Elements.{most, beyond, turns_from, turns, elements, one}
 use Rattle.rust_cursor.proofs.Leads.{LeadsTo, here, through, when, bumped_leads, eat_pair_leads, behind_closed_leads, behind_tree_leads, beyond_leads, turns_leads, Takes, takes, takes_behind, takes_before, symbol_some, word_none}
 use Rattle.rust_paths.specs.Names.{next_name, name, placed_name, taken_with}
-use Rattle.rust_paths.specs.Paths.{is_raw, is_dollar_crate, other_segment, segment, more_segments, front, written_path, is_path_start, use_path}
+use Rattle.rust_paths.specs.Paths.{is_raw, is_dollar_crate, other_segment, segment, more_segments, front_of_path, written_path, is_path_start, use_path}
 use Rattle.rust_paths.specs.Meaning.{path_node}
-use Rattle.rust_paths.specs.UseTrees.{Found, begun, begun_list, values, all_starts, bare, listed, star_or_list, tree_behind, tree_with, tree_at, element_with, list, rename, use_tree}
+use Rattle.rust_paths.specs.UseTrees.{FoundInUse, begun_trees, begun_list, values, all_starts, bare_tree, tree_with_list, star_or_list, tree_behind, tree_with, tree_at, element_with, list, rename, use_tree}
 use Rattle.rust_paths.proofs.Leads.{placed_next, segment_leads, more_segments_leads, use_path_leads, rename_leads, behind_comma_leads, list_leads, element_leads}
 use Rattle.rust_items.specs.Uses.{is_readable, all_readable_trees, readable_trees, written_trees}
 
@@ -44,7 +44,7 @@ unfolding placed_name name
 name_some ts n e = (placed_next ts (record { name = n; start = at ts; end = (bumped ts).past }) (rw e refl)).some
 
 -- a segment that means something is a token
-abbrev SegmentTakes : Option Word → Tokens → Tokens → Type 0
+abbrev SegmentTakes : Option PathWord → Tokens → Tokens → Type 0
 SegmentTakes None ts us = Unit {0}
 SegmentTakes (Some w) ts us = Takes ts us
 
@@ -84,7 +84,7 @@ path_any None ts us t = tt
 path_any (Some Unreadable) ts us t = tt
 path_any (Some (Readable q)) ts us t = t
 
-path_first : (o : Option Word) (more : List (Option Word)) (ts us vs : Tokens) → SegmentTakes o ts us → LeadsTo us vs → PathTakes (Some (path_node (o ∷ more))) ts vs
+path_first : (o : Option PathWord) (more : List (Option PathWord)) (ts us vs : Tokens) → SegmentTakes o ts us → LeadsTo us vs → PathTakes (Some (path_node (o ∷ more))) ts vs
 path_first None more ts us vs t p = tt
 path_first (Some w) more ts us vs t p = path_any (Some (path_node (Some w ∷ more))) ts vs (takes_before t p)
 
@@ -96,7 +96,7 @@ written_takes : (ts : Tokens) → PathTakes (Some (written_path true ts).0) ts (
 unfolding eat_pair
 written_takes ts =
     when (is_pair 58 58 ts)
-    (λ e. rw e (path_any (Some (path_node (front true ((segment (bumped (bumped ts))).0 ∷ (more_segments true (segment (bumped (bumped ts))).1).0)))) ts _ (takes ts here (pair_some ts e) (through (bumped_leads _) (through (segment_leads _) (more_segments_leads true _))))))
+    (λ e. rw e (path_any (Some (path_node (front_of_path true ((segment (bumped (bumped ts))).0 ∷ (more_segments true (segment (bumped (bumped ts))).1).0)))) ts _ (takes ts here (pair_some ts e) (through (bumped_leads _) (through (segment_leads _) (more_segments_leads true _))))))
     (λ e. rw e (path_first (segment ts).0 (more_segments true (segment ts).1).0 ts (segment ts).1 _ (segment_takes ts) (more_segments_leads true _)))
 
 path_takes : (ts : Tokens) → PathTakes (use_path ts).0 ts (use_path ts).1
@@ -136,7 +136,7 @@ listed_is R S f ss None h = h
 listed_is R S f ss (Some ws) h = zip_is R S f ss (readable_in ws) h
 
 module _ (R : ℕ → UseTreeView → Type 0) (start : ℕ) where
-  bare_at : (p : Option PathNode) (star : Bool) (r : Option Rename) → (is_readable p ≡ true → R start (bare p star r)) → AllZip R (begun p start []) (readable_trees (bare p star r))
+  bare_at : (p : Option PathNode) (star : Bool) (r : Option Rename) → (is_readable p ≡ true → R start (bare_tree p star r)) → AllZip R (begun_trees p start []) (readable_trees (bare_tree p star r))
   bare_at None star r root = (root refl, tt)
   bare_at (Some Unreadable) star r root = tt
   bare_at (Some (Readable q)) star r root = (root refl, tt)
@@ -144,8 +144,8 @@ module _ (R : ℕ → UseTreeView → Type 0) (start : ℕ) where
   none_below : (ss : List ℕ) → ss ≡ [] → AllZip R ss []
   none_below ss e = subst (λ (l : List ℕ). AllZip R l []) (sym e) tt
 
-  listed_at : (p : Option PathNode) (ss : List ℕ) (l : Option (List UseTreeView)) → IsListed R ss l → (is_readable p ≡ true → (w : UseTreeView) → listed p l ≡ Some w → R start w)
-      → AllZip R (begun_list p start l ss) (written_trees (listed p l))
+  listed_at : (p : Option PathNode) (ss : List ℕ) (l : Option (List UseTreeView)) → IsListed R ss l → (is_readable p ≡ true → (w : UseTreeView) → tree_with_list p l ≡ Some w → R start w)
+      → AllZip R (begun_list p start l ss) (written_trees (tree_with_list p l))
   unfolding IsListed readable_in
   listed_at None ss None h root = tt
   listed_at (Some Unreadable) ss None h root = tt
@@ -156,17 +156,17 @@ module _ (R : ℕ → UseTreeView → Type 0) (start : ℕ) where
 
 -- ---- what is told of what is read
 
-record ListTold (ts : Tokens) (l : Found (Option (List UseTreeView)) × Tokens) : Type 0 where
+record ListTold (ts : Tokens) (l : FoundInUse (Option (List UseTreeView)) × Tokens) : Type 0 where
   each : IsListed (IsRead ts l.1) l.0.starts l.0.value
   leads : LeadsTo ts l.1
   some : (ws : List UseTreeView) → l.0.value ≡ Some ws → Takes ts l.1
 
-abbrev TreeTold : Tokens → Found (Option UseTreeView) × Tokens → Type 0
+abbrev TreeTold : Tokens → FoundInUse (Option UseTreeView) × Tokens → Type 0
 TreeTold ts t = AllZip (IsRead ts t.1) t.0.starts (written_trees t.0.value)
 
 -- a tree with a list that has a readable path, or none, is of tokens
 listed_takes : (p : Option PathNode) (l : Option (List UseTreeView)) (ts us vs : Tokens) → PathTakes p ts us → LeadsTo us vs → ((ws : List UseTreeView) → l ≡ Some ws → Takes ts vs)
-    → is_readable p ≡ true → (w : UseTreeView) → listed p l ≡ Some w → Takes ts vs
+    → is_readable p ≡ true → (w : UseTreeView) → tree_with_list p l ≡ Some w → Takes ts vs
 listed_takes None None ts us vs t p some r w e = absurd cc
 listed_takes None (Some ws) ts us vs t p some r w e = some ws refl
 listed_takes (Some Unreadable) l ts us vs t p some r w e = absurd cc
@@ -194,11 +194,11 @@ module _ (depth : ℕ) (h : (ts : Tokens) → ListTold ts (list depth ts)) (ts u
   star_told is =
       when (symbol us == 42)
       (λ e.
-      let v : (star_or_list (list depth) (at ts) p us).0.value ≡ Some (bare p true None) = rw e refl in
+      let v : (star_or_list (list depth) (at ts) p us).0.value ≡ Some (bare_tree p true None) = rw e refl in
       let some = takes us leads (symbol_some 42 us (omega arith) e) here in
       rw e (bare_at (IsRead ts (bumped us)) (at ts) p true None (λ r. root_read (bumped us) some _ (is _ v))))
       (λ e.
-      let v : (star_or_list (list depth) (at ts) p us).0.value ≡ listed p (list depth us).0.value = rw e refl in
+      let v : (star_or_list (list depth) (at ts) p us).0.value ≡ tree_with_list p (list depth us).0.value = rw e refl in
       let told = h us in
       let inner = listed_is (IsRead us (list depth us).1) (IsRead ts (list depth us).1) (read_around leads here) (list depth us).0.starts (list depth us).0.value told.each in
       rw e (listed_at (IsRead ts (list depth us).1) (at ts) p (list depth us).0.starts (list depth us).0.value inner
@@ -213,7 +213,7 @@ module _ (depth : ℕ) (h : (ts : Tokens) → ListTold ts (list depth ts)) (ts u
       let all = star_told (λ w f. is w (v ∙ f)) in
       rw e all)
       (λ e.
-      let v : (tree_behind (list depth) (at ts) p joined us).0.value ≡ Some (bare p false (rename us).0) = rw e refl in
+      let v : (tree_behind (list depth) (at ts) p joined us).0.value ≡ Some (bare_tree p false (rename us).0) = rw e refl in
       let some = either_none joined (is_none p) e in
       rw e (bare_at (IsRead ts (rename us).1) (at ts) p false (rename us).0 (λ r. root_read (rename us).1 (bare_takes p ts us (rename us).1 path (rename_leads us) some r) _ (is _ v))))
 
@@ -241,25 +241,25 @@ unfolding readable_in
 readable_option None = refl
 readable_option (Some w) = append-nil (readable_trees w)
 
-values_push : (fs : List (Found (Option UseTreeView))) (f : Found (Option UseTreeView)) → values (fs ++ f ∷ []) ≡ values fs ++ option_to_list f.value
+values_push : (fs : List (FoundInUse (Option UseTreeView))) (f : FoundInUse (Option UseTreeView)) → values (fs ++ f ∷ []) ≡ values fs ++ option_to_list f.value
 values_push [] f = append-nil (option_to_list f.value)
 values_push (g ∷ fs) f = ap (λ ws. option_to_list g.value ++ ws) (values_push fs f) ∙ sym (append_assoc (option_to_list g.value) (values fs) (option_to_list f.value))
 
-starts_push : (fs : List (Found (Option UseTreeView))) (f : Found (Option UseTreeView)) → all_starts (fs ++ f ∷ []) ≡ all_starts fs ++ f.starts
+starts_push : (fs : List (FoundInUse (Option UseTreeView))) (f : FoundInUse (Option UseTreeView)) → all_starts (fs ++ f ∷ []) ≡ all_starts fs ++ f.starts
 starts_push [] f = append-nil f.starts
 starts_push (g ∷ fs) f = ap (λ ss. g.starts ++ ss) (starts_push fs f) ∙ sym (append_assoc g.starts (all_starts fs) f.starts)
 
-readable_push : (fs : List (Found (Option UseTreeView))) (f : Found (Option UseTreeView)) → readable_in (values (fs ++ f ∷ [])) ≡ readable_in (values fs) ++ written_trees f.value
+readable_push : (fs : List (FoundInUse (Option UseTreeView))) (f : FoundInUse (Option UseTreeView)) → readable_in (values (fs ++ f ∷ [])) ≡ readable_in (values fs) ++ written_trees f.value
 readable_push fs f = ap readable_in (values_push fs f) ∙ readable_both (values fs) (option_to_list f.value) ∙ ap (λ ns. readable_in (values fs) ++ ns) (readable_option f.value)
 
-module _ (read : Reader (Found (Option UseTreeView))) (h : (ts : Tokens) → TreeTold ts (read ts)) (l : (ts : Tokens) → LeadsTo ts (read ts).1) (base : Tokens) where
-  abbrev Told : Tokens → List (Found (Option UseTreeView)) → Type 0
+module _ (read : Reader (FoundInUse (Option UseTreeView))) (h : (ts : Tokens) → TreeTold ts (read ts)) (l : (ts : Tokens) → LeadsTo ts (read ts).1) (base : Tokens) where
+  abbrev Told : Tokens → List (FoundInUse (Option UseTreeView)) → Type 0
   Told us fs = AllZip (IsRead base us) (all_starts fs) (readable_in (values fs))
 
-  told_on : {us vs : Tokens} (fs : List (Found (Option UseTreeView))) → LeadsTo us vs → Told us fs → Told vs fs
+  told_on : {us vs : Tokens} (fs : List (FoundInUse (Option UseTreeView))) → LeadsTo us vs → Told us fs → Told vs fs
   told_on {us} {vs} fs p e = zip_is (IsRead base us) (IsRead base vs) (read_around here p) (all_starts fs) (readable_in (values fs)) e
 
-  more_told : (fs : List (Found (Option UseTreeView))) (ts : Tokens) → LeadsTo base ts → Told ts fs → Told (read ts).1 (fs ++ (read ts).0 ∷ [])
+  more_told : (fs : List (FoundInUse (Option UseTreeView))) (ts : Tokens) → LeadsTo base ts → Told ts fs → Told (read ts).1 (fs ++ (read ts).0 ∷ [])
   more_told fs ts p e =
       let f = (read ts).0 in
       let us = (read ts).1 in
@@ -267,7 +267,7 @@ module _ (read : Reader (Found (Option UseTreeView))) (h : (ts : Tokens) → Tre
       let both = both_zip (IsRead base us) (all_starts fs) f.starts (readable_in (values fs)) (written_trees f.value) (told_on fs (l ts) e) next in
       subst (λ (ss : List ℕ). AllZip (IsRead base us) ss (readable_in (values (fs ++ f ∷ [])))) (sym (starts_push fs f)) (subst (AllZip (IsRead base us) (all_starts fs ++ f.starts)) (sym (readable_push fs f)) both)
 
-  turns_told : (n : ℕ) (fs : List (Found (Option UseTreeView))) (ts : Tokens) → LeadsTo base ts → Told ts fs
+  turns_told : (n : ℕ) (fs : List (FoundInUse (Option UseTreeView))) (ts : Tokens) → LeadsTo base ts → Told ts fs
       → Told (turns_from is_at_end (one read) n fs ts).1 (turns_from is_at_end (one read) n fs ts).0 × LeadsTo base (turns_from is_at_end (one read) n fs ts).1
   turns_told zero fs ts p e = (e, p)
   turns_told (suc n) fs ts p e =

@@ -23,7 +23,7 @@ use Rattle.rust_paths.proofs.Leads.{visibility_leads}
 use Rattle.rust_metas.specs.Attributes.{outer_attributes}
 use Rattle.rust_metas.proofs.Leads.{outer_attributes_leads}
 use Rattle.rust_metas.proofs.UntilAttributes.{outer_attributes_until}
-use Rattle.rust_leaves.specs.Leaves.{is_before, field, are_over, fields, symbol_before, fields_at, struct_fields}
+use Rattle.rust_leaves.specs.Leaves.{is_before, header_field, are_over, fields, symbol_within, fields_at, struct_fields}
 use Rattle.rust_leaves.proofs.Fields.{type_leads, not_before, over_ends, none_seen, symbol_is}
 
 -- ---- the other text first
@@ -121,10 +121,10 @@ module _ (b : Bodies) (n : NewBehind b) (e e' : Tokens) (ends : Beside b e e') w
           (λ g'. far (record { old = lower (suc b.opening.at) e.past _ _ (omega arith) g.over; new = lower (suc b.opening.at) e'.past _ _ (omega arith) g'.over }))
           (λ k. near (turn_back b n _ _ k.rest))
 
-  field_read : (ts us : Tokens) → Beside b ts us → SameRead b e e' (field e.past ts) (field e'.past us)
-  unfolding field
+  field_read : (ts us : Tokens) → Beside b ts us → SameRead b e e' (header_field e.past ts) (header_field e'.past us)
+  unfolding header_field
   field_read ts us h =
-      attributes_go ts us (field e.past ts) (field e'.past us) h (λ g. went g)
+      attributes_go ts us (header_field e.past ts) (header_field e'.past us) h (λ g. went g)
       (λ o. let o' = over_on o (visibility_leads (outer_attributes ts).1) (visibility_leads (outer_attributes us).1) in
       read (none_seen _ _ _ _ (not_before e.past (visibility (outer_attributes ts).1).1 (behind_at e.past _ _ o'.old)) (not_before e'.past (visibility (outer_attributes us).1).1 (behind_at e'.past _ _ o'.new)))
       (over (over_on o' (type_leads _) (type_leads _))))
@@ -137,15 +137,15 @@ module _ (b : Bodies) (n : NewBehind b) (e e' : Tokens) (ends : Beside b e e') w
   over_same ts us h = ap (λ t. t || not (is_before e'.past us)) (end_same b ts us h) ∙ ap (λ t. is_at_end ts || not t) (before_same b ts us e e' h ends)
 
   fields_from : (k : ℕ) (done done' : List (Option Visibility)) (ts us : Tokens) → done' ≡ done → Goes b e.past e'.past ts us
-      → Same b e (turns_from (are_over e.past) (one (field e.past)) k done ts).0 (turns_from (are_over e'.past) (one (field e'.past)) k done' us).0
+      → Same b e (turns_from (are_over e.past) (one (header_field e.past)) k done ts).0 (turns_from (are_over e'.past) (one (header_field e'.past)) k done' us).0
   fields_from zero done done' ts us d g = same d
   fields_from (suc k) done done' ts us d (over o) = rw (over_ends e.past ts (behind_at e.past _ _ o.old), over_ends e'.past us (behind_at e'.past _ _ o.new)) (same d)
   fields_from (suc k) done done' ts us d (beside h) =
       when (are_over e.past ts) (λ t. rw (over_same ts us h, t) (same d))
       (λ t. rw (over_same ts us h, t)
       (by_read (field_read ts us h) (λ g. into g)
-      (λ v g. fields_from k (done ++ (field e.past ts).0 ∷ []) (done' ++ (field e'.past us).0 ∷ []) (beyond ts.past (field e.past ts).1) (beyond us.past (field e'.past us).1)
-      (ap (λ l. l ++ (field e'.past us).0 ∷ []) d ∙ ap (λ o. done ++ o ∷ []) v) (goes_beyond b h g))))
+      (λ v g. fields_from k (done ++ (header_field e.past ts).0 ∷ []) (done' ++ (header_field e'.past us).0 ∷ []) (beyond ts.past (header_field e.past ts).1) (beyond us.past (header_field e'.past us).1)
+      (ap (λ l. l ++ (header_field e'.past us).0 ∷ []) d ∙ ap (λ o. done ++ o ∷ []) v) (goes_beyond b h g))))
 
   same_fields : (ts us : Tokens) → Beside b ts us → Same b e (fields e.past ts).0 (fields e'.past us).0
   unfolding fields turns
@@ -153,11 +153,11 @@ module _ (b : Bodies) (n : NewBehind b) (e e' : Tokens) (ends : Beside b e e') w
 
   fields_at_same : (has : Bool) (ts us : Tokens) → Beside b ts us → Same b e (fields_at has e.past ts) (fields_at has e'.past us)
   fields_at_same has ts us h =
-      when (symbol_before e.past ts == 40)
+      when (symbol_within e.past ts == 40)
       (λ f. rw (symbols, f) (by (same_fields (bumped ts) (bumped us) (after_symbol b 40 ts us refl h (symbol_is e.past ts f)))))
       (λ f. rw (symbols, f) (same refl))
     where
-      symbols : symbol_before e'.past us ≡ symbol_before e.past ts
+      symbols : symbol_within e'.past us ≡ symbol_within e.past ts
       symbols = ap (λ t. if t then symbol us else 0) (before_same b ts us e e' h ends) ∙ ap (λ s. if is_before e.past ts then s else 0) (symbol_same b ts us h)
 
       by : Same b e (fields e.past (bumped ts)).0 (fields e'.past (bumped us)).0 → Same b e (tuple_fields (fields e.past (bumped ts)).0) (tuple_fields (fields e'.past (bumped us)).0)

@@ -8,7 +8,7 @@ use Rattle.hir_input.specs.Syntax.{ItemView, ItemViews, listed_module, listed_ex
 use Rattle.hir_input.specs.UseTreeView.{UseTreeView}
 use Rattle.rust_paths.specs.declared.names.TextRange.{TextRange}
 use Rattle.rust_items.specs.declared.source_file.ItemPlace.{ItemPlace}
-use Rattle.rust_items.specs.Places.{held}
+use Rattle.rust_items.specs.Places.{items_held}
 use Rattle.rust_items.specs.Uses.{trees_in, trees_within, preorder_of, preorder, AreTreesOf}
 use Rattle.rust_items.proofs.LineEnds.{moved_place, place_le}
 use Rattle.rust_items.proofs.TreesRead.{both_zip, zip_is}
@@ -28,11 +28,11 @@ IsIn from to s = (from ≤ s) × (s < to)
 pub data UsesIn (R : ℕ → UseTreeView → Type 0) : ℕ → ℕ → ItemViews → List ItemPlace → List ℕ → Type 0 where
   no_uses : {from to : ℕ} → UsesIn R from to no_items [] []
   leaf_uses : {from to : ℕ} {i : ItemView} {is : ItemViews} {p : ItemPlace} {ps : List ItemPlace} {starts : List ℕ} (own behind : List ℕ)
-      → starts ≡ own ++ behind → held i ≡ no_items → IsWithin from to p.range → All (IsIn p.range.start p.range.end) own → AllZip R own (trees_in i)
+      → starts ≡ own ++ behind → items_held i ≡ no_items → IsWithin from to p.range → All (IsIn p.range.start p.range.end) own → AllZip R own (trees_in i)
       → UsesIn R p.range.end to is ps behind → UsesIn R from to (item_and i is) (p ∷ ps) starts
   holder_uses : {from to : ℕ} {i : ItemView} {is : ItemViews} {p : ItemPlace} {ps : List ItemPlace} {starts : List ℕ} (inner later : List ItemPlace) (below behind : List ℕ)
-      → ps ≡ inner ++ later → starts ≡ below ++ behind → trees_in i ≡ trees_within (held i) → IsWithin from to p.range
-      → UsesIn R p.range.start p.range.end (held i) inner below → UsesIn R p.range.end to is later behind → UsesIn R from to (item_and i is) (p ∷ ps) starts
+      → ps ≡ inner ++ later → starts ≡ below ++ behind → trees_in i ≡ trees_within (items_held i) → IsWithin from to p.range
+      → UsesIn R p.range.start p.range.end (items_held i) inner below → UsesIn R p.range.end to is later behind → UsesIn R from to (item_and i is) (p ∷ ps) starts
 
 widened_within : {from to : ℕ} {range : TextRange} (low high : ℕ) → low ≤ from → to ≤ high → IsWithin from to range → IsWithin low high range
 widened_within low high l h w = let b = w.begins in let e = w.ends in record { begins = omega arith; some = w.some; ends = omega arith }
@@ -91,7 +91,7 @@ uses_inside {R} {from} {to} (holder_uses {p = p} inner later below behind e f sa
     (All-append (IsIn from to) below behind (All-weaker (IsIn p.range.start p.range.end) (IsIn from to) (λ s k. let low = k.0 in let high = k.1 in (omega arith, omega arith)) below (uses_inside a))
     (All-weaker (IsIn p.range.end to) (IsIn from to) (λ s k. let low = k.0 in (omega arith, k.1)) behind (uses_inside b)))
 
-order : (i : ItemView) → preorder_of i ≡ i ∷ preorder (held i)
+order : (i : ItemView) → preorder_of i ≡ i ∷ preorder (items_held i)
 order (listed_module n semicolon is) = refl
 order (listed_extern_block n is) = refl
 order _ = refl
@@ -138,13 +138,13 @@ each_uses {R} {from} {to} (holder_uses {i = i} {is = is} {p = p} {ps = ps} {star
     let whole : before ++ (starts ++ after) ≡ before ++ (below ++ (behind ++ after)) = ap (λ k. before ++ k) (ap (λ k. k ++ after) f ∙ append_assoc below behind after) in
     let first : AreTreesOf R (before ++ (starts ++ after)) i p =
     record { before = before; own = below; behind = behind ++ after; all = whole; earlier = front; inside = within; later = back; each = subst (AllZip R below) (sym held_trees) (all_uses a) } in
-    let inner_all = subst (λ (k : List ℕ). AllZip (AreTreesOf R k) (preorder (held i)) inner) (sym whole) (each_uses a before (behind ++ after) front back) in
+    let inner_all = subst (λ (k : List ℕ). AllZip (AreTreesOf R k) (preorder (items_held i)) inner) (sym whole) (each_uses a before (behind ++ after) front back) in
     let rest = each_uses b (before ++ below) after (all_earlier p.range w before below behind after l h within inside) h in
     let same : (before ++ below) ++ (behind ++ after) ≡ before ++ (starts ++ after) = append_assoc before below (behind ++ after) ∙ sym whole in
     let later_all = subst (λ (k : List ℕ). AllZip (AreTreesOf R k) (preorder is) later) same rest in
-    let both = both_zip (AreTreesOf R (before ++ (starts ++ after))) (preorder (held i)) (preorder is) inner later inner_all later_all in
+    let both = both_zip (AreTreesOf R (before ++ (starts ++ after))) (preorder (items_held i)) (preorder is) inner later inner_all later_all in
     subst (λ (o : List ItemView). AllZip (AreTreesOf R (before ++ (starts ++ after))) (o ++ preorder is) (p ∷ ps)) (sym (order i))
-    (first, subst (AllZip (AreTreesOf R (before ++ (starts ++ after))) (preorder (held i) ++ preorder is)) (sym e) both)
+    (first, subst (AllZip (AreTreesOf R (before ++ (starts ++ after))) (preorder (items_held i) ++ preorder is)) (sym e) both)
 
 -- ---- in the text as it is
 

@@ -14,7 +14,7 @@ use Rattle.rust_paths.specs.declared.names.TextRange.{TextRange}
 use Rattle.rust_paths.specs.UseTrees.{tree_at}
 use Rattle.rust_items.specs.declared.ids.Numbers.{Numbers}
 use Rattle.rust_items.specs.declared.source_file.ItemPlace.{ItemPlace}
-use Rattle.rust_items.specs.Ids.{first, held_with_ids, with_ids}
+use Rattle.rust_items.specs.Ids.{first_numbers, held_with_ids, with_ids}
 use Rattle.rust_items.specs.LineEnds.{with_feeds, place_in, moved_span}
 use Rattle.rust_items.specs.SourceFiles.{places, items_in}
 use Rattle.rust_items.specs.Uses.{trees_in, trees_within, preorder_of, preorder, left_behind, IsTreeAt, AreTreesIn, AreTreesOf, UsesAreTold}
@@ -40,8 +40,8 @@ mutual
   ids_within : (is : ItemViews) (ids : List FileAstId) → (trees_within (with_ids is ids).0 ≡ trees_within is) × (map trees_in (preorder (with_ids is ids).0) ≡ map trees_in (preorder is))
   ids_within no_items ids = (refl, refl)
   ids_within (item_and i is) ids =
-      let head = held_with_ids (first ids).0 i (first ids).1 in
-      let a = ids_in (first ids).0 i (first ids).1 in
+      let head = held_with_ids (first_numbers ids).0 i (first_numbers ids).1 in
+      let a = ids_in (first_numbers ids).0 i (first_numbers ids).1 in
       let b = ids_within is head.1 in (
         ap (λ l. l ++ trees_within (with_ids is head.1).0) a.0 ∙ ap (λ l. trees_in i ++ l) b.0,
         map-append trees_in (preorder_of head.0) (preorder (with_ids is head.1).0) ∙ ap (λ l. l ++ map trees_in (preorder (with_ids is head.1).0)) a.1

@@ -18,7 +18,7 @@ use Rattle.rust_leaves.specs.Statements.{CallRead, is_item, statement, statement
 use Rattle.rust_items.specs.declared.blocks.SourceBlock.{SourceBlock}
 use Rattle.rust_items.specs.declared.log.ProblemKind.TheVariants as problem
 use Rattle.rust_items.specs.Found.{Found, Finder, nothing_found, and_problem, and_problem_at}
-use Rattle.rust_items.specs.Ids.{first, numbered_call, item_with_ids}
+use Rattle.rust_items.specs.Ids.{first_numbers, numbered_call, item_with_ids}
 use Rattle.rust_items.specs.Items.{and_item, is_list_end, behind_front}
 use Rattle.rust_items.specs.LineEnds.{with_feeds, place_in, moved_span, moved_problem}
 use Rattle.rust_items.specs.SourceFiles.{places}
@@ -101,8 +101,8 @@ abbrev pub taken_item : ℕ → List MetaView → Finder PartView
 taken_item start attrs f ts = item_found (behind_front 128 (front_behind start attrs ts).0 f (front_behind start attrs ts).1)
 
 -- Behind the attributes: an item, a macro call, or another statement. Attributes of no statement are passed over.
-unfoldable pub behind_attributes : Bool → ℕ → List MetaView → Finder PartView
-behind_attributes is_top start attrs f ts =
+unfoldable pub part_behind_attributes : Bool → ℕ → List MetaView → Finder PartView
+part_behind_attributes is_top start attrs f ts =
     if is_at_end ts then (no_part, (f, ts))
     else (if is_item ts then taken_item start attrs f ts else taken_call is_top start attrs f ts)
 
@@ -111,7 +111,7 @@ unfoldable pub part : Bool → Finder PartView
 part is_top f ts =
     if is_at_end ts then (no_part, (and_problem problem.Unmatched (at ts) f, bumped ts))
     else (if symbol ts == 59 then (no_part, (f, bumped ts))
-    else behind_attributes is_top (at ts) (outer_attributes ts).0 f (outer_attributes ts).1)
+    else part_behind_attributes is_top (at ts) (outer_attributes ts).0 f (outer_attributes ts).1)
 
 -- ---- all parts
 
@@ -128,7 +128,7 @@ parts is_top f ts = parts_from is_top most empty_body f ts
 -- ---- ids
 
 abbrev pub call_with_id : CallView → List FileAstId → CallView × List FileAstId
-call_with_id c ids = (numbered_call (first ids).0 c, (first ids).1)
+call_with_id c ids = (numbered_call (first_numbers ids).0 c, (first_numbers ids).1)
 
 abbrev pub stmt_with_ids : StmtView → List FileAstId → StmtView × List FileAstId
 stmt_with_ids (item_stmt i) ids = (item_stmt (item_with_ids i ids).0, (item_with_ids i ids).1)
@@ -158,20 +158,20 @@ abbrev pub attributes_of : EditionYear → List ℕ → List MetaView × Tokens
 attributes_of edition text = inner_attributes (eat 123 (tokens_of edition text)).1
 
 -- the parts of a block, what is found beside them, and what is left
-abbrev pub body_of : EditionYear → List ℕ → BodyRead × (Found × Tokens)
-body_of edition text = parts (is_bare edition text) nothing_found (attributes_of edition text).1
+abbrev pub block_body : EditionYear → List ℕ → BodyRead × (Found × Tokens)
+block_body edition text = parts (is_bare edition text) nothing_found (attributes_of edition text).1
 
 -- What is found in a block, as in a file: that a token is not ended is told of the text's last one alone.
 unfoldable pub found_of : EditionYear → List ℕ → Found
-found_of edition text = and_problem_at problem.Unterminated (body_of edition text).1.1.unended (body_of edition text).1.0
+found_of edition text = and_problem_at problem.Unterminated (block_body edition text).1.1.unended (block_body edition text).1.0
 
 -- what is read of a block without returns, with the places that these have in another
 pub record IsBlockOf (edition : EditionYear) (text : List ℕ) (place : ℕ → ℕ) (read : SourceBlock) : Type 0 where
   -- each item and each macro call has its id
   pub ids : List FileAstId
   pub are_ids : AreIds (found_of edition text).rows ids
-  pub value : block_view read.block ≡ (let stmts = stmts_with_ids (body_of edition text).0.stmts ids in
-      block_expr (attributes_of edition text).0 stmts.0 (tail_with_id (body_of edition text).0.tail stmts.1))
+  pub value : block_view read.block ≡ (let stmts = stmts_with_ids (block_body edition text).0.stmts ids in
+      block_expr (attributes_of edition text).0 stmts.0 (tail_with_id (block_body edition text).0.tail stmts.1))
   pub places : read.places.items ≡ places ids (map (moved_span place) (found_of edition text).spans)
   pub problems : read.problems.items ≡ map (moved_problem place) (found_of edition text).problems
 

@@ -5,9 +5,9 @@ use Rattle.hir_input.specs.Syntax.{NodeView, NamedView, UseView, CallView, ItemV
 use Rattle.rust_items.specs.declared.ids.Numbers.{Numbers}
 
 -- the numbers of the next id, and the ids that are left
-abbrev pub first : List FileAstId → Numbers × List FileAstId
-first [] = (record { hash = 0; number = 0 }, [])
-first (id ∷ ids) = (record { hash = id.hash; number = id.number }, ids)
+abbrev pub first_numbers : List FileAstId → Numbers × List FileAstId
+first_numbers [] = (record { hash = 0; number = 0 }, [])
+first_numbers (id ∷ ids) = (record { hash = id.hash; number = id.number }, ids)
 
 -- ---- one item
 
@@ -55,12 +55,12 @@ abbrev mutual
   pub with_ids : ItemViews → List FileAstId → ItemViews × List FileAstId
   with_ids no_items ids = (no_items, ids)
   with_ids (item_and i is) ids =
-      let head = held_with_ids (first ids).0 i (first ids).1 in
+      let head = held_with_ids (first_numbers ids).0 i (first_numbers ids).1 in
       let rest = with_ids is head.1 in
       (item_and head.0 rest.0, rest.1)
 
 abbrev pub item_with_ids : ItemView → List FileAstId → ItemView × List FileAstId
-item_with_ids i ids = held_with_ids (first ids).0 i (first ids).1
+item_with_ids i ids = held_with_ids (first_numbers ids).0 i (first_numbers ids).1
 
 -- ---- lists
 

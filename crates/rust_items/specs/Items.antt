@@ -196,8 +196,8 @@ behind_front left h = by_head (inside left) (depth_of left) h.head h
 unfoldable pub turn : ℕ → Finder (Option ItemView)
 turn left = turn_with (inside left) (depth_of left)
 
-unfoldable pub module_at : ℕ → FrontRead → Finder ItemView
-module_at left = module_with (inside left) (depth_of left)
+unfoldable pub module_item : ℕ → FrontRead → Finder ItemView
+module_item left = module_with (inside left) (depth_of left)
 
 -- the items of a file, or of a module
 abbrev pub items : Bool → ℕ → Finder (List ItemView)

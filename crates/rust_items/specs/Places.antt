@@ -28,10 +28,10 @@ id_of (macro_rules n name) = id_by kind.MacroRules n
 id_of (asm_item n) = None
 
 -- the items that a module or an extern block holds
-abbrev pub held : ItemView → ItemViews
-held (listed_module n semicolon is) = is
-held (listed_extern_block n is) = is
-held _ = no_items
+abbrev pub items_held : ItemView → ItemViews
+items_held (listed_module n semicolon is) = is
+items_held (listed_extern_block n is) = is
+items_held _ = no_items
 
 -- the name of an item, if it has one
 abbrev pub name_of : ItemView → Option (List ℕ)
@@ -80,4 +80,4 @@ pub record IsPlace (told : Telling) (from to : ℕ) (i : ItemView) (p : ItemPlac
 pub data ArePlaces (told : Telling) : ℕ → ℕ → ItemViews → List ItemPlace → List ItemPlace → Type 0 where
   nothing : {from to : ℕ} {ps : List ItemPlace} → ArePlaces told from to no_items ps ps
   placed : {from to : ℕ} {i : ItemView} {is : ItemViews} {p : ItemPlace} {ps mid rest : List ItemPlace} → IsPlace told from to i p
-      → ArePlaces told (p.range.start + 1) p.range.end (held i) ps mid → ArePlaces told p.range.end to is mid rest → ArePlaces told from to (item_and i is) (p ∷ ps) rest
+      → ArePlaces told (p.range.start + 1) p.range.end (items_held i) ps mid → ArePlaces told p.range.end to is mid rest → ArePlaces told from to (item_and i is) (p ∷ ps) rest

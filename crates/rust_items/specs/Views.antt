@@ -20,10 +20,10 @@ extern_inside_view b = record { attrs = map meta_view b.attrs.items; items = opt
 abbrev pub inside_view : Inside → BlockRead
 inside_view b = record { attrs = map meta_view b.attrs.items; items = option_map (λ v. map item_view v.items) b.items; is_ended = b.is_ended }
 
-abbrev pub part_view : Part → PartView
-part_view parts.Nothing = no_part
-part_view (parts.Stmt s) = stmt_part (stmt_view s)
-part_view (parts.Tail t) = tail_part (tail_view t)
+abbrev pub block_part_view : Part → PartView
+block_part_view parts.Nothing = no_part
+block_part_view (parts.Stmt s) = stmt_part (stmt_view s)
+block_part_view (parts.Tail t) = tail_part (tail_view t)
 
 abbrev pub body_view : Body → BodyRead
 body_view b = record { stmts = map stmt_view b.stmts.items; tail = tail_view b.tail }

@@ -8,7 +8,7 @@ ghost use Rattle.rust_items.specs.Blocks as spec;
 ghost use Rattle.rust_items.specs.Found.{Finds, log_view};
 ghost use Rattle.rust_items.specs.LineEnds.{place_by};
 ghost use Rattle.rust_items.specs.Places.{ArePlaces, IsWritten};
-ghost use Rattle.rust_items.specs.Views.{body_view, part_view, supply_view};
+ghost use Rattle.rust_items.specs.Views.{body_view, block_part_view, supply_view};
 
 use crate::externs::is_list_end;
 use crate::ids::{Supply, item_with_ids};
@@ -42,7 +42,7 @@ pub(crate) struct Body {
 }
 
 fn item_part(item: Option<Item>) -> Part
-    ensures { part_view result ≡ spec.item_part (option_map item_view item) }
+    ensures { block_part_view result ≡ spec.item_part (option_map item_view item) }
 {
     match item {
         Some(item) => Part::Stmt(Stmt::Item(item)),
@@ -51,7 +51,7 @@ fn item_part(item: Option<Item>) -> Part
 }
 
 fn other_part(is_last: bool) -> Part
-    ensures { part_view result ≡ spec.other_part is_last }
+    ensures { block_part_view result ≡ spec.other_part is_last }
 {
     if is_last {
         Part::Tail(Tail::Other)
@@ -63,7 +63,7 @@ fn other_part(is_last: bool) -> Part
 /// A statement that is neither an item nor a macro call, or such an expression where it stands last.
 #[tactic(auto, unfolding(crate::specs::Blocks::other_read))]
 fn take_other(cursor: &mut Cursor<'_>, is_top: bool) -> Part
-    ensures { spec.other_read is_top cursor.old ≡ (part_view result, cursor.new) }
+    ensures { spec.other_read is_top cursor.old ≡ (block_part_view result, cursor.new) }
 {
     let is_let = cursor.word() == "let";
     let is_ended = pass_statement(cursor);
@@ -104,7 +104,7 @@ fn stmt_of<'t>(
     log: &mut Log<'t>,
 ) -> Result<Part, AllocError>
     ensures { IfOk result (λ part. spec.stmt_of_call start end (call_read_view call.entry)
-        (log_view log.old) ≡ (part_view part, log_view log.new)) }
+        (log_view log.old) ≡ (block_part_view part, log_view log.new)) }
 {
     push_call(log, start, end, call.body, call.name)?;
     Ok(Part::Stmt(Stmt::MacroCall(call.node)))
@@ -117,7 +117,7 @@ fn tail_of<'t>(
     log: &mut Log<'t>,
 ) -> Result<Part, AllocError>
     ensures { IfOk result (λ part. spec.tail_of_call start end (call_read_view call.entry)
-        (log_view log.old) ≡ (part_view part, log_view log.new)) }
+        (log_view log.old) ≡ (block_part_view part, log_view log.new)) }
 {
     push_call(log, start, end, call.body, call.name)?;
     Ok(Part::Tail(Tail::MacroCall(call.node)))
@@ -132,7 +132,7 @@ fn call_part<'t>(
     call: Call<'t>,
     log: &mut Log<'t>,
 ) -> Result<Part, AllocError>
-    ensures { Finds part_view
+    ensures { Finds block_part_view
         (spec.call_found is_top start (call_read_view call.entry) (log_view log.old) cursor.old)
         result (log_view log.new) cursor.new }
 {
@@ -159,7 +159,7 @@ fn take_called<'t>(
     attrs: Vec<Meta>,
     log: &mut Log<'t>,
 ) -> Result<Part, AllocError>
-    ensures { Finds part_view
+    ensures { Finds block_part_view
         (spec.taken_call is_top start (map meta_view attrs.items) (log_view log.old) cursor.old)
         result (log_view log.new) cursor.new }
 {
@@ -177,7 +177,7 @@ fn take_item<'t>(
     attrs: Vec<Meta>,
     log: &mut Log<'t>,
 ) -> Result<Part, AllocError>
-    ensures { Finds part_view
+    ensures { Finds block_part_view
         (spec.taken_item start (map meta_view attrs.items) (log_view log.old) cursor.old) result
         (log_view log.new) cursor.new }
 {
@@ -191,7 +191,7 @@ fn take_item<'t>(
 }
 
 /// A part of a block, behind its attributes.
-#[tactic(auto, unfolding(crate::specs::Blocks::behind_attributes))]
+#[tactic(auto, unfolding(crate::specs::Blocks::part_behind_attributes))]
 fn take_behind<'t>(
     alloc: Global,
     cursor: &mut Cursor<'t>,
@@ -200,8 +200,8 @@ fn take_behind<'t>(
     attrs: Vec<Meta>,
     log: &mut Log<'t>,
 ) -> Result<Part, AllocError>
-    ensures { Finds part_view
-        (spec.behind_attributes is_top start (map meta_view attrs.items)
+    ensures { Finds block_part_view
+        (spec.part_behind_attributes is_top start (map meta_view attrs.items)
         (log_view log.old) cursor.old) result (log_view log.new) cursor.new }
 {
     if cursor.is_at_end() {
@@ -221,7 +221,7 @@ fn take_part<'t>(
     is_top: bool,
     log: &mut Log<'t>,
 ) -> Result<Part, AllocError>
-    ensures { Finds part_view (spec.part is_top (log_view log.old) cursor.old) result
+    ensures { Finds block_part_view (spec.part is_top (log_view log.old) cursor.old) result
         (log_view log.new) cursor.new }
 {
     if cursor.is_at_end() {
@@ -240,7 +240,7 @@ fn take_part<'t>(
 
 fn push_part(body: &mut Body, part: Part) -> Result<(), AllocError>
     ensures { OnOk result (body_view body.new
-        ≡ spec.and_part (body_view body.old) (part_view part)) }
+        ≡ spec.and_part (body_view body.old) (block_part_view part)) }
 {
     match part {
         Part::Nothing => Ok(()),

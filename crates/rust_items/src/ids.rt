@@ -24,7 +24,7 @@ pub(crate) struct Supply<'a> {
 
 impl<'a> Supply<'a> {
     pub(crate) fn take(&mut self) -> Numbers
-        ensures { spec.first (supply_view self.old) ≡ (result, supply_view self.new) }
+        ensures { spec.first_numbers (supply_view self.old) ≡ (result, supply_view self.new) }
     {
         match self.rest {
             [id, rest @ ..] => {

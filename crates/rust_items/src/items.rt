@@ -179,7 +179,7 @@ fn module<'t>(
 ) -> Result<Item, AllocError>
     ensures { Finds item_view
         (with_value (wanted_item wanted (map meta_view front.attrs.items))
-        (spec.module_at left (unattributed (front_view front)) (log_view log.old) cursor.old))
+        (spec.module_item left (unattributed (front_view front)) (log_view log.old) cursor.old))
         result (log_view log.new) cursor.new }
 {
     let named = item_name(alloc, cursor)?;

@@ -18,7 +18,7 @@ use Rattle.rust_paths.proofs.Alike.{has_name_same}
 use Rattle.rust_leaves.specs.declared.head.Head.{Head}
 use Rattle.rust_leaves.specs.declared.head.Head.TheVariants as heads
 use Rattle.rust_cursor.specs.Nests.{is_literal_kind}
-use Rattle.rust_leaves.specs.Heads.{behind_abi, is_auto_trait, is_modifier_before, is_modifier, behind_modifier, behind_modifiers_from, behind_modifiers, extern_head, macro_rules_head, union_head, head_by, behind_head, head, is_union, is_segment, behind_segments_from, behind_segments, is_called_here, may_begin, is_behind_others, behind_others_from, behind_others}
+use Rattle.rust_leaves.specs.Heads.{behind_abi, is_auto_trait, is_modifier_before, is_modifier, behind_modifier, behind_modifiers_from, behind_modifiers, extern_head, macro_rules_head, union_head, head_by, behind_head, head, is_union, begins_path, behind_segments_from, behind_segments, is_called_here, may_begin, is_behind_others, behind_others_from, behind_others}
 
 -- a literal is no edge
 literal_no_edge : (ts : Tokens) → is_literal_kind (kind ts) ≡ true → is_edge (symbol ts) ≡ false
@@ -160,7 +160,7 @@ head_until b ts us h =
 
 -- ---- what is no item
 
-segment_next : (b : Parting) (ts us : Tokens) → b.twins.are ts us → is_segment us ≡ is_segment ts
+segment_next : (b : Parting) (ts us : Tokens) → b.twins.are ts us → begins_path us ≡ begins_path ts
 segment_next b ts us h =
     when (is_edge (symbol ts))
     (λ e. let f = edge_test b.twins ts us h e in rw (edge_identifier ts e, edge_identifier us f) refl)
@@ -172,7 +172,7 @@ identifier_next b ts us h e = b.twins.next ts us h (when (is_edge (symbol ts)) (
 segments_alike : (b : Parting) (n : ℕ) (ts us : Tokens) → b.twins.are ts us → b.twins.are (behind_segments_from n ts) (behind_segments_from n us)
 segments_alike b zero ts us h = h
 segments_alike b (suc n) ts us h =
-    when (is_segment ts)
+    when (begins_path ts)
     (λ e. let both = and_parts (is_at_identifier ts) (is_pair 58 58 (bumped ts)) e in
     let next = after_pair b.twins 58 58 (bumped ts) (bumped us) refl refl (identifier_next b ts us h both.0) both.1 in
     rw (segment_next b ts us h, e) (segments_alike b n (bumped (bumped (bumped ts))) (bumped (bumped (bumped us))) next))

@@ -21,7 +21,7 @@ use Rattle.rust_leaves.specs.declared.wanted.Wanted.{Wanted}
 use Rattle.rust_leaves.specs.Clipped.{with_value, clipped_rest, clipped_front, clipped_leaf, clipped_leaf_if, wanted_item, wanted_leaf, wanted_leaf_if, unattributed, leaf_behind}
 use Rattle.rust_leaves.specs.Fronts.{FrontRead, front_behind, front}
 use Rattle.rust_leaves.specs.Leaves.{NameRead, RestRead, LeafRead, no_name, named, named_or, renamed, rename_of, past, rest_read, bare_end, semicolon_end, item_end, impl_end, macro_end, value_end, call_end, block_attributes, struct_fields, has_trait}
-use Rattle.rust_leaves.specs.Kinds.{node, named_node, leaf_read, plain_read, here, function, union_item, enumeration, trait_item, macro_def, type_alias, static_value, constant, structure, implementation, macro_definition, told_at, crate_item, use_read, use_declaration, is_called, called, call_behind, some_read, invocation, leaf_by, leaf}
+use Rattle.rust_leaves.specs.Kinds.{node, named_node, leaf_read, plain_read, left_here, function, union_item, enumeration, trait_item, macro_def, type_alias, static_value, constant, structure, implementation, macro_definition, told_at, crate_item, use_read, use_declaration, is_called, called, call_behind, some_read, invocation, leaf_by, leaf}
 use Rattle.rust_leaves.specs.Texts.{bare, last_text}
 
 -- one of two readings

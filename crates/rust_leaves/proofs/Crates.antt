@@ -16,7 +16,7 @@ use Rattle.rust_cursor.proofs.Until.{Gone, gone_on, Onward, into, on, bumped_onw
 use Rattle.rust_cursor.proofs.Alike.{KeptBy}
 use Rattle.rust_cursor.proofs.Places.{no_more, IsAlike, neither, both, alike_or}
 use Rattle.rust_paths.specs.declared.names.TextRange.{TextRange}
-use Rattle.rust_leaves.specs.Leaves.{NameRead, named_or, alias, alias_if, renamed, rename_of}
+use Rattle.rust_leaves.specs.Leaves.{NameRead, named_or, crate_alias, crate_alias_if, renamed, rename_of}
 use Rattle.rust_leaves.specs.Kinds.{named_node, told_at, crate_item, is_called}
 use Rattle.rust_leaves.specs.Texts.{last_text_from, last_text}
 use Rattle.rust_leaves.proofs.Beside.{LocalBy, RangeAlike, next_alike, NameAlike, named_local, named_or_local, LeafAlike}
@@ -27,8 +27,8 @@ use Rattle.rust_leaves.proofs.Beside.{LocalBy, RangeAlike, next_alike, NameAlike
 abbrev AliasAlike : Bodies → Option NameRead → Option NameRead → Type 0
 AliasAlike b = IsAlike (NameAlike b)
 
-alias_local : (b : Bodies) → LocalBy (NameAlike b) b alias
-unfolding alias
+alias_local : (b : Bodies) → LocalBy (NameAlike b) b crate_alias
+unfolding crate_alias
 alias_local b ts us h =
     when (bytes_eq (word ts) (codes "_"))
     (λ e. let f : bytes_eq (word us) (codes "_") ≡ true = word_test b (codes "_") ts us h ∙ e in
@@ -36,7 +36,7 @@ alias_local b ts us h =
     rw (e, f) (record { value = record { name = refl; hashed = refl; range = next_alike b ts us h next }; rest = next }))
     (λ e. let f : bytes_eq (word us) (codes "_") ≡ false = word_test b (codes "_") ts us h ∙ e in rw (e, f) (named_local b ts us h))
 
-alias_if_local : (b : Bodies) (found found' : Bool) (ts us : Tokens) → found' ≡ found → Beside b ts us → KeptBy (AliasAlike b) b (alias_if found ts) (alias_if found' us)
+alias_if_local : (b : Bodies) (found found' : Bool) (ts us : Tokens) → found' ≡ found → Beside b ts us → KeptBy (AliasAlike b) b (crate_alias_if found ts) (crate_alias_if found' us)
 alias_if_local b true found' ts us e h = rw e (let k = alias_local b ts us h in record { value = both k.value; rest = k.rest })
 alias_if_local b false found' ts us e h = rw e (record { value = neither; rest = h })
 

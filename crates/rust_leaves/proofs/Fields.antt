@@ -9,14 +9,14 @@ use Rattle.rust_cursor.specs.Angles.{behind_field}
 use Rattle.rust_cursor.proofs.Leads.{LeadsTo, through, Forwards, when, reached_leads, eat_leads}
 use Rattle.rust_paths.proofs.Leads.{visibility_leads}
 use Rattle.rust_metas.proofs.Leads.{outer_attributes_leads}
-use Rattle.rust_leaves.specs.Leaves.{is_before, field, are_over, symbol_before}
+use Rattle.rust_leaves.specs.Leaves.{is_before, header_field, are_over, symbol_within}
 
 -- behind its visibility
 pub type_leads : (ts : Tokens) → LeadsTo ts (eat 44 (behind_field ts)).1
 type_leads ts = through (reached_leads _ ts) (eat_leads 44 _)
 
-pub field_leads : (end : ℕ) → Forwards (field end)
-unfolding field
+pub field_leads : (end : ℕ) → Forwards (header_field end)
+unfolding header_field
 field_leads end ts = through (outer_attributes_leads ts) (through (visibility_leads _) (type_leads _))
 
 -- ---- behind the end
@@ -35,5 +35,5 @@ over_ends end ts h = rw (not_before end ts h) (or_true (is_at_end ts))
 pub none_seen : (t t' : Bool) (v v' : Option Visibility) → t ≡ false → t' ≡ false → (if t' then v' else None) ≡ (if t then v else None)
 none_seen t t' v v' e f = rw (e, f) refl
 
-pub symbol_is : (end : ℕ) (ts : Tokens) → (symbol_before end ts == 40) ≡ true → (symbol ts == 40) ≡ true
+pub symbol_is : (end : ℕ) (ts : Tokens) → (symbol_within end ts == 40) ≡ true → (symbol ts == 40) ≡ true
 symbol_is end ts e = when (is_before end ts) (λ t. rw t at e) (λ t. absurd (let no = rw t at e in cc))

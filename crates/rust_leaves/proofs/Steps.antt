@@ -4,7 +4,7 @@ use Rattle.std.proofs.lemmas.Bool.{ne_eqb}
 use Rattle.rust_cursor.specs.Tokens.{Tokens}
 use Rattle.rust_cursor.specs.Words.{text, bumped}
 use Rattle.rust_cursor.specs.Brackets.{behind_tree}
-use Rattle.rust_leaves.specs.Heads.{is_modifier, behind_modifier, behind_modifiers_from, is_segment, behind_segments_from, is_behind_others, behind_others_from}
+use Rattle.rust_leaves.specs.Heads.{is_modifier, behind_modifier, behind_modifiers_from, begins_path, behind_segments_from, is_behind_others, behind_others_from}
 use Rattle.rust_leaves.specs.declared.statements.Scan.{Scan}
 use Rattle.rust_leaves.specs.declared.statements.Step.{Step}
 use Rattle.rust_leaves.specs.Statements.{statement_step, by_step, statement_from}
@@ -21,11 +21,11 @@ modifiers_more bound at ts below e = let turn : bound - at ≡ suc (bound - (at 
 
 -- ---- what is no item
 
-pub segments_stop : (n : ℕ) (ts : Tokens) → is_segment ts ≡ false → behind_segments_from n ts ≡ ts
+pub segments_stop : (n : ℕ) (ts : Tokens) → begins_path ts ≡ false → behind_segments_from n ts ≡ ts
 segments_stop zero ts e = refl
 segments_stop (suc n) ts e = rw e refl
 
-pub segments_more : (bound at : ℕ) (ts : Tokens) → at < bound → is_segment ts ≡ true → behind_segments_from (bound - at) ts ≡ behind_segments_from (bound - (at + 1)) (bumped (bumped (bumped ts)))
+pub segments_more : (bound at : ℕ) (ts : Tokens) → at < bound → begins_path ts ≡ true → behind_segments_from (bound - at) ts ≡ behind_segments_from (bound - (at + 1)) (bumped (bumped (bumped ts)))
 segments_more bound at ts below e = let turn : bound - at ≡ suc (bound - (at + 1)) = omega arith in rw (turn, e) refl
 
 pub others_stop : (n : ℕ) (ts : Tokens) → is_behind_others ts ≡ true → behind_others_from n ts ≡ ts

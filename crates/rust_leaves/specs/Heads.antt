@@ -17,8 +17,8 @@ use Rattle.rust_leaves.specs.declared.head.Head.TheVariants as heads
 -- ---- modifiers
 
 -- what may stand behind each modifier: another modifier, or the word of an item
-unfoldable pub follows_const : List ℕ → Bool
-follows_const w =
+unfoldable pub may_follow_const : List ℕ → Bool
+may_follow_const w =
     list_any (bytes_eq w) (codes "fn" ∷ codes "unsafe" ∷ codes "extern" ∷ codes "async" ∷ codes "trait" ∷ codes "impl" ∷ [])
 
 unfoldable pub follows_async : List ℕ → Bool
@@ -53,7 +53,7 @@ is_auto_trait ts = bytes_eq (word ts) (codes "auto") && bytes_eq (word (bumped t
 -- a modifier comes next, where this stands behind it
 unfoldable pub is_modifier_before : List ℕ → Tokens → Bool
 is_modifier_before w behind =
-    if bytes_eq w (codes "const") then follows_const (word behind) || is_auto_trait behind
+    if bytes_eq w (codes "const") then may_follow_const (word behind) || is_auto_trait behind
     else (if bytes_eq w (codes "async") then follows_async (word behind)
     else (if bytes_eq w (codes "unsafe") then follows_unsafe (word behind) || is_auto_trait behind
     else (if bytes_eq w (codes "safe") then follows_safe (word behind)
@@ -136,12 +136,12 @@ abbrev pub is_union : Tokens → Bool
 is_union ts = bytes_eq (word ts) (codes "union") && has_name (bumped ts)
 
 -- a name with `::` behind it
-abbrev pub is_segment : Tokens → Bool
-is_segment ts = is_at_identifier ts && is_pair 58 58 (bumped ts)
+abbrev pub begins_path : Tokens → Bool
+begins_path ts = is_at_identifier ts && is_pair 58 58 (bumped ts)
 
 abbrev pub behind_segments_from : ℕ → Tokens → Tokens
 behind_segments_from zero ts = ts
-behind_segments_from (suc n) ts = if is_segment ts then behind_segments_from n (bumped (bumped (bumped ts))) else ts
+behind_segments_from (suc n) ts = if begins_path ts then behind_segments_from n (bumped (bumped (bumped ts))) else ts
 
 -- from the last name of a path on
 unfoldable pub behind_segments : Tokens → Tokens

@@ -16,7 +16,7 @@ use Rattle.rust_cursor.specs.Reader.{Reader, ◌>>=◌, pure, look}
 use Rattle.rust_cursor.specs.Words.{symbol, eat, eat_word, bumped, is_at_open}
 use Rattle.rust_paths.specs.declared.names.TextRange.{TextRange}
 use Rattle.rust_paths.specs.Paths.{path}
-use Rattle.rust_paths.specs.UseTrees.{Found, use_tree}
+use Rattle.rust_paths.specs.UseTrees.{FoundInUse, use_tree}
 use Rattle.rust_leaves.specs.declared.head.Head.{Head}
 use Rattle.rust_leaves.specs.declared.head.Head.TheVariants as head
 use Rattle.rust_leaves.specs.Fronts.{FrontRead}
@@ -37,8 +37,8 @@ abbrev pub plain_read : PlainKind → List MetaView → Option Visibility → Na
 plain_read k attrs visibility n r = leaf_read (plain_item k (named_node attrs n.name visibility r.body)) (ast_kind k) n r
 
 -- what is left
-abbrev pub here : Tokens → Tokens
-here ts = ts
+abbrev pub left_here : Tokens → Tokens
+left_here ts = ts
 
 -- Function
 unfoldable pub function : List MetaView → Option Visibility → Reader LeafRead
@@ -97,7 +97,7 @@ constant attrs visibility = do
 unfoldable pub structure : List MetaView → Option Visibility → Reader LeafRead
 structure attrs visibility = do
   n ← named
-  header ← look here
+  header ← look left_here
   r ← item_end
   end ← look past
   pure (leaf_read (struct_item (named_node attrs n.name visibility r.body) (struct_fields end r.block header)) kind.Struct n r)
@@ -105,7 +105,7 @@ structure attrs visibility = do
 -- Implementation
 unfoldable pub implementation : List MetaView → Reader LeafRead
 implementation attrs = do
-  header ← look here
+  header ← look left_here
   r ← impl_end
   end ← look past
   pure (leaf_read (impl_item (node (attrs ++ block_attributes r.block) r.body) (has_trait end header)) kind.Impl no_name r)
@@ -123,7 +123,7 @@ crate_item attrs visibility = do
   semicolon ← eat 59
   pure (leaf_read (extern_crate (named_node attrs n.name visibility []) (rename_of alias)) kind.ExternCrate (record { name = n.name; hashed = n.hashed; range = told_at n.range alias }) (bare_end semicolon))
 
-abbrev pub use_read : List MetaView → Option Visibility → Found (Option UseTreeView) → Bool → LeafRead
+abbrev pub use_read : List MetaView → Option Visibility → FoundInUse (Option UseTreeView) → Bool → LeafRead
 use_read attrs visibility tree is_ended = record {
   item = use_item (record { node = node attrs []; visibility = visibility; use_tree = tree.value });
   kind = kind.Use;

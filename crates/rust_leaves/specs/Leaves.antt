@@ -68,17 +68,17 @@ named_or keyword ts =
     else named ts
 
 -- behind `as`: a name, or `_`, which is none
-unfoldable pub alias : Reader NameRead
-alias ts = if bytes_eq (word ts) (codes "_") then (record { name = None; hashed = []; range = Some (next_range ts) }, bumped ts) else named ts
+unfoldable pub crate_alias : Reader NameRead
+crate_alias ts = if bytes_eq (word ts) (codes "_") then (record { name = None; hashed = []; range = Some (next_range ts) }, bumped ts) else named ts
 
-abbrev pub alias_if : Bool → Reader (Option NameRead)
-alias_if found ts = if found then (Some (alias ts).0, (alias ts).1) else (None, ts)
+abbrev pub crate_alias_if : Bool → Reader (Option NameRead)
+crate_alias_if found ts = if found then (Some (crate_alias ts).0, (crate_alias ts).1) else (None, ts)
 
 -- `as` and what is behind it
 unfoldable pub renamed : Reader (Option NameRead)
 renamed = do
   found ← eat_word (codes "as")
-  alias_if found
+  crate_alias_if found
 
 abbrev pub rename_of : Option NameRead → Option Rename
 rename_of None = None
@@ -162,8 +162,8 @@ visibility_before end = do
   pure (if is_in then v else None)
 
 -- TupleField, of a header that ends at this place: its visibility; attributes and the type are passed over
-unfoldable pub field : ℕ → Reader (Option Visibility)
-field end = do
+unfoldable pub header_field : ℕ → Reader (Option Visibility)
+header_field end = do
   _ ← outer_attributes
   v ← visibility_before end
   _ ← pass behind_field
@@ -175,17 +175,17 @@ abbrev pub are_over : ℕ → Tokens → Bool
 are_over end ts = is_at_end ts || not (is_before end ts)
 
 unfoldable pub fields : ℕ → Reader (List (Option Visibility))
-fields end = turns (are_over end) (one (field end))
+fields end = turns (are_over end) (one (header_field end))
 
 -- the symbol that comes next before this place, or 0
-abbrev pub symbol_before : ℕ → Tokens → ℕ
-symbol_before end ts = if is_before end ts then symbol ts else 0
+abbrev pub symbol_within : ℕ → Tokens → ℕ
+symbol_within end ts = if is_before end ts then symbol ts else 0
 
 -- behind a `where`, the fields are in the braces that the struct ends with
 abbrev pub fields_at : Bool → ℕ → Tokens → FieldsView
 fields_at has_block end ts =
-    if symbol_before end ts == 40 then tuple_fields (fields end (bumped ts)).0
-    else (if symbol_before end ts == 123 || has_block then record_fields else no_fields)
+    if symbol_within end ts == 40 then tuple_fields (fields end (bumped ts)).0
+    else (if symbol_within end ts == 123 || has_block then record_fields else no_fields)
 
 -- the header of an item that ends at this place ends there too, or before the braces that the item ends with
 abbrev pub header_end : ℕ → Option Tokens → ℕ

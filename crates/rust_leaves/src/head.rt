@@ -31,9 +31,9 @@ pub enum Head {
     Other,
 }
 
-#[tactic(auto, unfolding(crate::specs::Heads::follows_const))]
+#[tactic(auto, unfolding(crate::specs::Heads::may_follow_const))]
 fn follows_const(word: &str) -> bool
-    ensures { result ≡ spec.follows_const word.now }
+    ensures { result ≡ spec.may_follow_const word.now }
 {
     matches!(
         word,
@@ -122,7 +122,7 @@ pub(crate) fn second<'t>(cursor: &Cursor<'t>) -> Cursor<'t>
 }
 
 fn is_const_modifier(behind: &Cursor<'_>) -> bool
-    ensures { result ≡ (spec.follows_const (word behind.now) || spec.is_auto_trait behind.now) }
+    ensures { result ≡ (spec.may_follow_const (word behind.now) || spec.is_auto_trait behind.now) }
 {
     follows_const(behind.word()) || is_auto_trait(behind)
 }
@@ -288,7 +288,7 @@ fn is_union(cursor: &Cursor<'_>) -> bool
 }
 
 fn is_segment(cursor: &Cursor<'_>) -> bool
-    ensures { result ≡ spec.is_segment cursor.now }
+    ensures { result ≡ spec.begins_path cursor.now }
 {
     cursor.is_at_identifier() && second(cursor).is_pair(b':', b':')
 }

@@ -50,9 +50,9 @@ fn visibility_before(
     Ok(None)
 }
 
-#[tactic(auto, unfolding(crate::specs::Leaves::field))]
+#[tactic(auto, unfolding(crate::specs::Leaves::header_field))]
 fn field(alloc: Global, cursor: &mut Cursor<'_>, end: usize) -> Result<TupleField, AllocError>
-    ensures { Gives field_view (spec.field end cursor.old) result cursor.new }
+    ensures { Gives field_view (spec.header_field end cursor.old) result cursor.new }
 {
     let _attrs = kept_outer_attributes(alloc, cursor, false)?;
     let visibility = visibility_before(alloc, cursor, end)?;
@@ -86,7 +86,7 @@ fn fields(alloc: Global, cursor: &mut Cursor<'_>, end: usize) -> Result<Vec<Tupl
 }
 
 fn symbol_before(cursor: &Cursor<'_>, end: usize) -> u8
-    ensures { result ≡ spec.symbol_before end cursor.now }
+    ensures { result ≡ spec.symbol_within end cursor.now }
 {
     if is_before(cursor, end) {
         return cursor.symbol();

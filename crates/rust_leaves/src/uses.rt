@@ -16,9 +16,9 @@ use rust_paths::{TextRange, TreeStarts, use_tree};
 use std::alloc::{AllocError, Global};
 
 /// Takes what stands behind `as`: a name, or `_`, which is none.
-#[tactic(auto, unfolding(crate::specs::Leaves::alias))]
+#[tactic(auto, unfolding(crate::specs::Leaves::crate_alias))]
 fn alias<'t>(alloc: Global, cursor: &mut Cursor<'t>) -> Result<Named<'t>, AllocError>
-    ensures { Gives name_view (leaves.alias cursor.old) result cursor.new }
+    ensures { Gives name_view (leaves.crate_alias cursor.old) result cursor.new }
 {
     if cursor.word() != "_" {
         return item_name(alloc, cursor);

@@ -7,7 +7,7 @@ use Rattle.rust_lexer.specs.declared.cut.Cut.{Cut}
 use Rattle.rust_lexer.specs.declared.kind.TokenKind.{TokenKind}
 use Rattle.rust_lexer.specs.declared.kind.TokenKind.TheVariants as kind
 use Rattle.rust_lexer.specs.Bytes.{run, is_start, is_white, is_word, is_word_start}
-use Rattle.rust_lexer.specs.Cut.{cut, first_cut, quoted, plain, raw_or, raw_identifier, prefixed_raw, b_word, c_word, word, slash, is_raw_lifetime, lifetime, apostrophe, is_punctuation, symbol_kind}
+use Rattle.rust_lexer.specs.Cut.{cut, first_cut, quoted, plain, raw_or, raw_identifier, prefixed_raw, b_word, c_word, cut_word, slash, is_raw_lifetime, lifetime, apostrophe, is_punctuation, symbol_kind}
 use Rattle.rust_lexer.specs.Quoted.{is_one_char, raw_string}
 use Rattle.std.specs.Char.{is_ascii_digit}
 use Rattle.std.specs.Prelude.{not, slice_index}
@@ -74,7 +74,7 @@ b_other z =
 c_other : (z : List ℕ) → is_other (c_word z).kind ≡ true
 c_other z = by_test (slice_index z 0 == 34) (λ f. rw f (quoted_other _ _ z)) (λ f. rw f (prefixed_other _ z))
 
-word_other : (b : ℕ) (z : List ℕ) → is_other (word b z).kind ≡ true
+word_other : (b : ℕ) (z : List ℕ) → is_other (cut_word b z).kind ≡ true
 word_other b z =
     by_test (b == 114) (λ e. rw e (raw_other _ (raw_identifier z) z (raw_string 0 z) (identifier_other z)))
     (λ e. rw e (by_test (b == 98) (λ f. rw f (b_other z)) (λ f. rw f (by_test (b == 99) (λ g. rw g (c_other z)) (λ g. rw g refl)))))
@@ -111,7 +111,7 @@ unfolding first_cut
 first_fits b z =
     by_test (is_white b z) (λ e. rw e (other_fits kind.Whitespace b refl))
     (λ e. rw e (by_test (is_ascii_digit b) (λ f. rw f (record { opening = refl; closing = refl }))
-    (λ f. rw f (by_test (is_start b z) (λ g. rw g (other_fits (word b z).kind b (word_other b z)))
+    (λ f. rw f (by_test (is_start b z) (λ g. rw g (other_fits (cut_word b z).kind b (word_other b z)))
     (λ g. rw g (by_test (b == 47) (λ h. rw h (subst (λ (n : ℕ). Fits (slash z).kind n) (sym (eqb-true b 47 h)) (slash_fits z)))
     (λ h. rw h (by_test (b == 34) (λ i. rw i (other_fits _ b (quoted_other _ _ z)))
     (λ i. rw i (by_test (b == 39) (λ j. rw j (other_fits (apostrophe z).kind b (apostrophe_other z))) (λ j. rw j (symbol_fits b))))))))))))

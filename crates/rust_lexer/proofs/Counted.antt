@@ -10,7 +10,7 @@ use Rattle.rust_lexer.specs.declared.cut.Cut.{Cut}
 use Rattle.rust_lexer.specs.declared.kind.TokenKind.{TokenKind}
 use Rattle.rust_lexer.specs.declared.kind.TokenKind.TheVariants as kind
 use Rattle.rust_lexer.specs.declared.quoted.Extent.{Extent}
-use Rattle.rust_lexer.specs.Bytes.{is_in, is_continuation, is_white, is_wide_start, run}
+use Rattle.rust_lexer.specs.Bytes.{is_in_class, is_continuation, is_white, is_wide_start, run}
 use Rattle.rust_lexer.specs.Comment.{block, block_style, line_style}
 use Rattle.rust_lexer.specs.Quoted.{closed, unclosed}
 use Rattle.rust_lexer.specs.Cut.{cut, first_cut}
@@ -91,7 +91,7 @@ token_step at b k z rest one counts w =
 no_more_white : (z : List ℕ) → run class.Continuation (drop (run class.White z) z) ≡ 0
 no_more_white [] = refl
 no_more_white (b ∷ z) =
-    when (is_in class.White b z) (λ e. rw e (no_more_white z))
+    when (is_in_class class.White b z) (λ e. rw e (no_more_white z))
     (λ e. let f : is_continuation b ≡ false = grind (arith, nat_tests) in rw (e, f) refl)
 
 white_cut : (b : ℕ) (z : List ℕ) → is_white b z ≡ true → first_cut b z ≡ cut kind.Whitespace (run class.White z)

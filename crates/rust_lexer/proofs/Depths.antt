@@ -11,7 +11,7 @@ use Rattle.rust_lexer.specs.declared.kind.TokenKind.TheVariants as kind
 use Rattle.rust_lexer.specs.Bytes.{run}
 use Rattle.rust_lexer.specs.Cut.{first_cut, symbol_kind}
 use Rattle.rust_lexer.specs.Depths.{depth_behind, to_outer}
-use Rattle.rust_lexer.specs.Inner.{is_blank, is_close, is_letter, is_mark, is_open}
+use Rattle.rust_lexer.specs.Inner.{is_blank_byte, is_close_byte, is_letter, is_mark_byte, is_open_byte}
 use Rattle.rust_lexer.specs.Piece.{Piece}
 use Rattle.rust_lexer.specs.Symbol.{symbol_from, symbol_of}
 use Rattle.rust_lexer.specs.Tokens.{piece, tokens_from, whole}
@@ -25,7 +25,7 @@ use Rattle.rust_lexer.proofs.Wholes.{white_whole, word_whole}
 run_alone : (n m : ℕ) → m ≡ 0 → n ≡ n + m
 run_alone n m e = omega arith
 
-pub white_len : (b : ℕ) (z : List ℕ) (n : ℕ) → is_blank b ≡ true → n ≡ run class.White z → n ≡ whole (first_cut b z) z
+pub white_len : (b : ℕ) (z : List ℕ) (n : ℕ) → is_blank_byte b ≡ true → n ≡ run class.White z → n ≡ whole (first_cut b z) z
 white_len b z n e r =
     r ∙ run_alone (run class.White z) _ (white_whole _ z refl) ∙ ap (λ (c : Cut). whole c z) (sym (blank_first b z e))
 
@@ -36,7 +36,7 @@ word_len b z n e r =
 zero_run : (m : ℕ) → m ≡ 0 + m
 zero_run m = omega arith
 
-pub mark_len : (b : ℕ) (z : List ℕ) (n : ℕ) → is_mark b ≡ true → n ≡ run class.Continuation z → n ≡ whole (first_cut b z) z
+pub mark_len : (b : ℕ) (z : List ℕ) (n : ℕ) → is_mark_byte b ≡ true → n ≡ run class.Continuation z → n ≡ whole (first_cut b z) z
 mark_len b z n e r = r ∙ zero_run (run class.Continuation z) ∙ ap (λ (c : Cut). whole c z) (sym (mark_first b z e))
 
 pub any_len : (b : ℕ) (z : List ℕ) (c : Cut) (n : ℕ) → c ≡ first_cut b z → n ≡ run class.Continuation (take (length z - c.len) (drop c.len z)) → c.len + n ≡ whole (first_cut b z) z
@@ -46,7 +46,7 @@ any_len b z c n e r =
 -- ---- its symbol
 
 abbrev pub is_bracket : ℕ → Bool
-is_bracket b = is_open b || is_close b
+is_bracket b = is_open_byte b || is_close_byte b
 
 quiet : (d : Depth) (b : ℕ) → is_bracket b ≡ false → depth_behind d b ≡ d
 quiet d b e =
@@ -85,7 +85,7 @@ told_same d c b e = record { behind = ap (depth_behind d) e; last = ap (λ k. d.
 told : (d : Depth) (at b : ℕ) (z : List ℕ) → IsTold d (symbol_of (piece (first_cut b z) at b z)) b
 told d at b z =
     when (is_bracket b)
-    (λ e. let m : is_mark b ≡ true = grind (arith, nat_tests) in
+    (λ e. let m : is_mark_byte b ≡ true = grind (arith, nat_tests) in
     told_same d _ b (ap (λ (c : Cut). symbol_from c.kind b) (mark_first b z m) ∙ bracket_kind b e))
     (λ e. elim (symbol_by (first_cut b z).kind b) [
       | inl same ↦ told_same d _ b same

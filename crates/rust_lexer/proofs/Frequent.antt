@@ -7,9 +7,9 @@ use Rattle.rust_lexer.specs.declared.bytes.Class.TheVariants as class
 use Rattle.rust_lexer.specs.declared.kind.TokenKind.TheVariants as kind
 use Rattle.rust_lexer.specs.Bytes.{is_white, is_wide_start, run}
 use Rattle.rust_lexer.specs.Cut.{cut, first_cut, plain, symbol_kind}
-use Rattle.rust_lexer.specs.Inner.{is_blank, is_letter, is_mark}
+use Rattle.rust_lexer.specs.Inner.{is_blank_byte, is_letter, is_mark_byte}
 
-pub mark_first : (b : ℕ) (z : List ℕ) → is_mark b ≡ true → first_cut b z ≡ cut (symbol_kind b) 0
+pub mark_first : (b : ℕ) (z : List ℕ) → is_mark_byte b ≡ true → first_cut b z ≡ cut (symbol_kind b) 0
 unfolding first_cut is_wide_start
 mark_first b z e =
     let white : is_white b z ≡ false = grind (arith, nat_tests) in
@@ -21,7 +21,7 @@ mark_first b z e =
     let apostrophe : (b == 39) ≡ false = grind (arith, nat_tests) in
     rw (white, digit, letter, low, slash, quote, apostrophe) refl
 
-pub blank_first : (b : ℕ) (z : List ℕ) → is_blank b ≡ true → first_cut b z ≡ cut kind.Whitespace (run class.White z)
+pub blank_first : (b : ℕ) (z : List ℕ) → is_blank_byte b ≡ true → first_cut b z ≡ cut kind.Whitespace (run class.White z)
 unfolding first_cut
 blank_first b z e =
     let white : is_white b z ≡ true = grind (arith, nat_tests) in

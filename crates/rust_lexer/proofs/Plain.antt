@@ -7,10 +7,10 @@ use Rattle.rust_lexer.specs.declared.bytes.Class.{Class}
 use Rattle.rust_lexer.specs.declared.bytes.Class.TheVariants as class
 use Rattle.rust_lexer.specs.declared.depth.Depth.{Depth}
 use Rattle.rust_lexer.specs.declared.kind.LiteralKind.{LiteralKind}
-use Rattle.rust_lexer.specs.Bytes.{is_in, is_white, is_wide_continue, run}
-use Rattle.rust_lexer.specs.Cut.{first_cut, plain, prefixed_raw, word}
+use Rattle.rust_lexer.specs.Bytes.{is_in_class, is_white, is_wide_continue, run}
+use Rattle.rust_lexer.specs.Cut.{first_cut, plain, prefixed_raw, cut_word}
 use Rattle.rust_lexer.specs.Depths.{to_outer}
-use Rattle.rust_lexer.specs.Inner.{is_blank, is_clean, is_letter_before, is_mark, is_name_letter, is_plain_byte, plain_run}
+use Rattle.rust_lexer.specs.Inner.{is_blank_byte, is_clean, is_letter_before, is_mark_byte, is_name_letter, is_plain_byte, plain_run}
 use Rattle.rust_lexer.specs.Tokens.{tokens_from, whole}
 use Rattle.rust_lexer.proofs.Counted.{when}
 use Rattle.rust_lexer.proofs.Depths.{is_bracket, mark_len, quiet_turn, white_len}
@@ -25,10 +25,10 @@ plain_in b z e = rw e refl
 plain_out : (b : ℕ) (z : List ℕ) → is_plain_byte b ≡ false → plain_run (b ∷ z) ≡ 0
 plain_out b z e = rw e refl
 
-run_in : (c : Class) (b : ℕ) (z : List ℕ) → is_in c b z ≡ true → run c (b ∷ z) ≡ suc (run c z)
+run_in : (c : Class) (b : ℕ) (z : List ℕ) → is_in_class c b z ≡ true → run c (b ∷ z) ≡ suc (run c z)
 run_in c b z e = rw e refl
 
-run_out : (c : Class) (b : ℕ) (z : List ℕ) → is_in c b z ≡ false → run c (b ∷ z) ≡ 0
+run_out : (c : Class) (b : ℕ) (z : List ℕ) → is_in_class c b z ≡ false → run c (b ∷ z) ≡ 0
 run_out c b z e = rw e refl
 
 -- plain bytes end with a token
@@ -73,7 +73,7 @@ second_goes (b ∷ z) h e =
 raw_plain : (k : LiteralKind) (z : List ℕ) → ((slice_index z 0 == 114) ≡ true → goes_on (slice_index (drop 1 z) 0) ≡ true) → prefixed_raw k z ≡ plain z
 raw_plain k z second = when (slice_index z 0 == 114) (λ e. rw (e, no_raw 1 (drop 1 z) (second e)) refl) (λ e. rw e refl)
 
-word_plain : (b : ℕ) (z : List ℕ) → clean true z ≡ true → word b z ≡ plain z
+word_plain : (b : ℕ) (z : List ℕ) → clean true z ≡ true → cut_word b z ≡ plain z
 word_plain b z h =
     let front = letter_goes z h in
     let second = second_goes z h in
@@ -114,13 +114,13 @@ Fits blank s = Unit {0}
 Fits name s = s ≡ true
 Fits mark s = Unit {0}
 
-in_plain : (p : Part) (s : Bool) (b : ℕ) (z : List ℕ) → Fits p s → is_in (part_of p) b z ≡ true → is_clean s b ≡ true → is_plain_byte b ≡ true
+in_plain : (p : Part) (s : Bool) (b : ℕ) (z : List ℕ) → Fits p s → is_in_class (part_of p) b z ≡ true → is_clean s b ≡ true → is_plain_byte b ≡ true
 unfolding is_wide_continue
 in_plain blank s b z f i h = grind (arith, nat_tests)
 in_plain name s b z f i h = let clean_is : is_clean true b ≡ true = ap (λ k. is_clean k b) (sym f) ∙ h in grind (arith, nat_tests)
 in_plain mark s b z f i h = grind (arith, nat_tests)
 
-fits_next : (p : Part) (s : Bool) (b : ℕ) (z : List ℕ) → is_in (part_of p) b z ≡ true → is_plain_byte b ≡ true → Fits p (is_name_letter b)
+fits_next : (p : Part) (s : Bool) (b : ℕ) (z : List ℕ) → is_in_class (part_of p) b z ≡ true → is_plain_byte b ≡ true → Fits p (is_name_letter b)
 unfolding is_wide_continue
 fits_next blank s b z i e = tt
 fits_next name s b z i e = grind (arith, nat_tests)
@@ -129,7 +129,7 @@ fits_next mark s b z i e = tt
 no_bracket : (b : ℕ) → is_plain_byte b ≡ true → is_bracket b ≡ false
 no_bracket b e = grind (arith, nat_tests)
 
-mark_plain : (b : ℕ) → is_plain_byte b ≡ true → is_blank b ≡ false → is_name_letter b ≡ false → is_mark b ≡ true
+mark_plain : (b : ℕ) → is_plain_byte b ≡ true → is_blank_byte b ≡ false → is_name_letter b ≡ false → is_mark_byte b ≡ true
 mark_plain b e n l = grind (arith, nat_tests)
 
 module _ (d : Depth) where
@@ -161,7 +161,7 @@ module _ (d : Depth) where
   begins : (at b : ℕ) (z : List ℕ) (s : Bool) → clean s (b ∷ z) ≡ true → ((p : Part) → is_plain_byte b ≡ true → Fits p (is_name_letter b) → Over (suc at) z p) → past at (b ∷ z)
   begins at b z s h over =
       when (is_plain_byte b)
-      (λ e. when (is_blank b) (λ w. begun at b z blank e (white_len b z _ w refl) (over blank e tt))
+      (λ e. when (is_blank_byte b) (λ w. begun at b z blank e (white_len b z _ w refl) (over blank e tt))
       (λ w. when (is_name_letter b)
       (λ l. begun at b z name e (name_len b z l (ap (λ k. clean k z) (sym l) ∙ sym (clean_next s b z e) ∙ h)) (over name e l))
       (λ l. begun at b z mark e (mark_len b z _ (mark_plain b e w l) refl) (over mark e tt))))
@@ -173,7 +173,7 @@ module _ (d : Depth) where
   over : (at : ℕ) (z : List ℕ) (s : Bool) (p : Part) → Fits p s → clean s z ≡ true → Over at z p
   over at [] s p f h = nothing at
   over at (b ∷ z) s p f h =
-      when (is_in (part_of p) b z)
+      when (is_in_class (part_of p) b z)
       (λ i. let e = when (is_plain_byte b) (λ y. y) (λ y. in_plain p s b z f i (sym (clean_here s b z y) ∙ h)) in
       ap (λ k. to_outer d (tokens_from k at (b ∷ z))) (run_in (part_of p) b z i)
       ∙ over (suc at) z (is_name_letter b) p (fits_next p s b z i e) (sym (clean_next s b z e) ∙ h)

@@ -4,7 +4,7 @@ use Rattle.std.specs.Prelude.{nat_le, nat_lt, slice_index, if◌then◌else◌}
 use Rattle.std.proofs.lemmas.Bool.Decides.{nat_tests}
 use Rattle.rust_lexer.specs.declared.bytes.Class.{Class}
 use Rattle.rust_lexer.specs.declared.bytes.Class.TheVariants as class
-use Rattle.rust_lexer.specs.Bytes.{is_white, is_wide_white, is_wide_start, is_wide_continue, is_start, is_in, run, code, is_word_start, is_word}
+use Rattle.rust_lexer.specs.Bytes.{is_white, is_wide_white, is_wide_start, is_wide_continue, is_start, is_in_class, run, code, is_word_start, is_word}
 use Rattle.rust_lexer.proofs.Counted.{when}
 use Rattle.rust_lexer.specs.Alone.{Stop, opening, closing, semicolon, stop, behind_lead, is_full}
 
@@ -81,7 +81,7 @@ wide_continue_same o b x y y' full = when (nat_le 192 b) (λ e. rw (e, code_same
 pub start_same : (o : Stop) (b : ℕ) (x y y' : List ℕ) → is_full (b ∷ x) ≡ true → is_start b (upto o x y') ≡ is_start b (upto o x y)
 start_same o b x y y' full = rw (wide_start_same o b x y y' full) refl
 
-pub in_same : (c : Class) (o : Stop) (b : ℕ) (x y y' : List ℕ) → is_full (b ∷ x) ≡ true → is_in c b (upto o x y') ≡ is_in c b (upto o x y)
+pub in_same : (c : Class) (o : Stop) (b : ℕ) (x y y' : List ℕ) → is_full (b ∷ x) ≡ true → is_in_class c b (upto o x y') ≡ is_in_class c b (upto o x y)
 in_same class.White o b x y y' full = rw (white_same o b x y y') refl
 in_same class.Word o b x y y' full = rw (wide_continue_same o b x y y' full) refl
 in_same class.Line o b x y y' full = refl
@@ -97,17 +97,17 @@ abbrev pub is_line : Class → Bool
 is_line class.Line = true
 is_line _ = false
 
-ends_at : (c : Class) (o : Stop) (y : List ℕ) → is_line c ≡ false → is_in c (stop o) y ≡ false
+ends_at : (c : Class) (o : Stop) (y : List ℕ) → is_line c ≡ false → is_in_class c (stop o) y ≡ false
 unfolding is_wide_continue
-ends_at class.White o y e = by_stop (λ b. is_in class.White b y ≡ false) refl refl refl o
-ends_at class.Word o y e = by_stop (λ b. is_in class.Word b y ≡ false) refl refl refl o
+ends_at class.White o y e = by_stop (λ b. is_in_class class.White b y ≡ false) refl refl refl o
+ends_at class.Word o y e = by_stop (λ b. is_in_class class.Word b y ≡ false) refl refl refl o
 ends_at class.Line o y e = absurd cc
-ends_at class.Hash o y e = by_stop (λ b. is_in class.Hash b y ≡ false) refl refl refl o
-ends_at class.Dash o y e = by_stop (λ b. is_in class.Dash b y ≡ false) refl refl refl o
-ends_at class.Low o y e = by_stop (λ b. is_in class.Low b y ≡ false) refl refl refl o
-ends_at class.Decimal o y e = by_stop (λ b. is_in class.Decimal b y ≡ false) refl refl refl o
-ends_at class.Hexadecimal o y e = by_stop (λ b. is_in class.Hexadecimal b y ≡ false) refl refl refl o
-ends_at class.Continuation o y e = by_stop (λ b. is_in class.Continuation b y ≡ false) refl refl refl o
+ends_at class.Hash o y e = by_stop (λ b. is_in_class class.Hash b y ≡ false) refl refl refl o
+ends_at class.Dash o y e = by_stop (λ b. is_in_class class.Dash b y ≡ false) refl refl refl o
+ends_at class.Low o y e = by_stop (λ b. is_in_class class.Low b y ≡ false) refl refl refl o
+ends_at class.Decimal o y e = by_stop (λ b. is_in_class class.Decimal b y ≡ false) refl refl refl o
+ends_at class.Hexadecimal o y e = by_stop (λ b. is_in_class class.Hexadecimal b y ≡ false) refl refl refl o
+ends_at class.Continuation o y e = by_stop (λ b. is_in_class class.Continuation b y ≡ false) refl refl refl o
 
 pub run_same : (c : Class) → is_line c ≡ false → (o : Stop) (x y y' : List ℕ) → is_full x ≡ true → run c (upto o x y') ≡ run c (upto o x y)
 run_same c ends o [] y y' full = rw (ends_at c o y ends, ends_at c o y' ends) refl
@@ -117,7 +117,7 @@ pub run_within : (c : Class) → is_line c ≡ false → (o : Stop) (x y : List 
 run_within c ends o [] y = rw (ends_at c o y ends) (omega arith)
 run_within c ends o (b ∷ x) y =
     let more = run_within c ends o x y in
-    when (is_in c b (upto o x y)) (λ e. rw e (omega arith)) (λ e. rw e (omega arith))
+    when (is_in_class c b (upto o x y)) (λ e. rw e (omega arith)) (λ e. rw e (omega arith))
 
 -- ---- words
 

@@ -9,7 +9,7 @@ use Rattle.rust_lexer.specs.declared.kind.LiteralKind.{LiteralKind}
 use Rattle.rust_lexer.specs.declared.kind.TokenKind.TheVariants as kind
 use Rattle.rust_lexer.specs.Bytes.{is_white, is_wide_start, is_wide_continue, is_continuation, run}
 use Rattle.rust_lexer.specs.Quoted.{raw_string}
-use Rattle.rust_lexer.specs.Cut.{cut, first_cut, plain, prefixed_raw, r_word, word, symbol_kind}
+use Rattle.rust_lexer.specs.Cut.{cut, first_cut, plain, prefixed_raw, r_word, cut_word, symbol_kind}
 use Rattle.rust_lexer.proofs.Counted.{when}
 
 -- a byte that may begin an identifier of ASCII, and one that may stand in it
@@ -64,7 +64,7 @@ plain_raw k (b ∷ z) rest h e =
     (λ w. when (b == 114) (λ r. rw (r, no_raw 1 (z ++ rest) (goes_front z rest (rw w at h) e)) refl) (λ r. rw r refl))
     (λ w. absurd cc)
 
-plain_word : (b : ℕ) (z rest : List ℕ) → list_all is_word_byte z ≡ true → ends_word (slice_index rest 0) ≡ true → word b (z ++ rest) ≡ plain (z ++ rest)
+plain_word : (b : ℕ) (z rest : List ℕ) → list_all is_word_byte z ≡ true → ends_word (slice_index rest 0) ≡ true → cut_word b (z ++ rest) ≡ plain (z ++ rest)
 plain_word b z rest h e =
     let y = z ++ rest in
     let front = goes_front z rest h e in

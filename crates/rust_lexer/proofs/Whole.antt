@@ -13,7 +13,7 @@ use Rattle.rust_lexer.specs.Frontmatter.{frontmatter}
 use Rattle.rust_lexer.specs.Piece.{Piece}
 use Rattle.rust_lexer.specs.Symbol.{symbol_from, symbol_of}
 use Rattle.rust_lexer.specs.Tokens.{has_mark, is_blank, is_bracket_next, is_shebang, is_significant, is_significant_kind, piece, tokens, tokens_from, whole}
-use Rattle.rust_lexer.specs.Alone.{opening, is_fence, is_full, overhang, front, moved, braces_from, StandsAlone}
+use Rattle.rust_lexer.specs.Alone.{opening, is_fence, is_full, overhang, tokens_in_front, moved, braces_from, StandsAlone}
 use Rattle.rust_lexer.proofs.Counted.{when}
 use Rattle.rust_lexer.proofs.Same.{upto, full_behind, run_same}
 use Rattle.rust_lexer.proofs.Apart.{apart}
@@ -63,23 +63,23 @@ unfolding tokens
 plain_is text e f g = rw (e, f, no_matter 0 text g) refl
 
 unfoldable pub inside_of : ℕ → List ℕ → List Piece
-inside_of at m = map (moved (suc at)) (front 0 0 m (125 ∷ []))
+inside_of at m = map (moved (suc at)) (tokens_in_front 0 0 m (125 ∷ []))
 
 from_close : ℕ → List ℕ → List ℕ → List Piece
 from_close at m s = map (moved (suc at + length m)) (tokens_from 0 0 (125 ∷ s))
 
 apart_is : (q m m' s : List ℕ) → OpensAt q (m ++ 125 ∷ s) → StandsAlone m'
-    → tokens_from 0 0 (q ++ 123 ∷ (m' ++ 125 ∷ s)) ≡ front 0 0 q (123 ∷ []) ++ open_at (length q) ∷ (inside_of (length q) m' ++ from_close (length q) m' s)
+    → tokens_from 0 0 (q ++ 123 ∷ (m' ++ 125 ∷ s)) ≡ tokens_in_front 0 0 q (123 ∷ []) ++ open_at (length q) ∷ (inside_of (length q) m' ++ from_close (length q) m' s)
 unfolding inside_of from_close
 apart_is q m m' s o h = apart q m m' s o.full o.one h
 
 tokens_apart : (q m m' s : List ℕ) → OpensAt q (m ++ 125 ∷ s) → StandsAlone m → StandsAlone m'
-    → tokens (q ++ 123 ∷ (m' ++ 125 ∷ s)) ≡ front 0 0 q (123 ∷ []) ++ open_at (length q) ∷ (inside_of (length q) m' ++ from_close (length q) m' s)
+    → tokens (q ++ 123 ∷ (m' ++ 125 ∷ s)) ≡ tokens_in_front 0 0 q (123 ∷ []) ++ open_at (length q) ∷ (inside_of (length q) m' ++ from_close (length q) m' s)
 tokens_apart q m m' s o h h' =
     let old = apart_is q m m s o h in
     let new = apart_is q m m' s o h' in
     let bare : is_shebang (tokens_from 0 0 (q ++ 123 ∷ (m' ++ 125 ∷ s))) ≡ false =
-    ap is_shebang new ∙ shebang_same (front 0 0 q (123 ∷ [])) (inside_of (length q) m ++ from_close (length q) m s) (inside_of (length q) m' ++ from_close (length q) m' s) (length q)
+    ap is_shebang new ∙ shebang_same (tokens_in_front 0 0 q (123 ∷ [])) (inside_of (length q) m ++ from_close (length q) m s) (inside_of (length q) m' ++ from_close (length q) m' s) (length q)
     ∙ ap is_shebang (sym old) ∙ o.bare in
     plain_is (q ++ 123 ∷ (m' ++ 125 ∷ s)) (mark_same q (m ++ 125 ∷ s) (m' ++ 125 ∷ s) ∙ o.plain) bare (fence_same q (m ++ 125 ∷ s) (m' ++ 125 ∷ s) o.full ∙ o.unfenced) ∙ new
 
@@ -116,7 +116,7 @@ body at m = filter is_significant (inside_of at m)
 
 pub body_matched : (at : ℕ) (m : List ℕ) → StandsAlone m → braces_from 0 (body at m) ≡ Some 0
 unfolding body inside_of
-body_matched at m h = braces_counted 0 (map (moved (suc at)) (front 0 0 m (125 ∷ []))) ∙ braces_moved (suc at) 0 (front 0 0 m (125 ∷ [])) ∙ h.matched
+body_matched at m h = braces_counted 0 (map (moved (suc at)) (tokens_in_front 0 0 m (125 ∷ []))) ∙ braces_moved (suc at) 0 (tokens_in_front 0 0 m (125 ∷ [])) ∙ h.matched
 
 -- the `}` and the tokens behind it, in the text from the `}` on
 unfoldable pub close_of : List ℕ → Piece
@@ -141,7 +141,7 @@ from_close_counted at m s =
 
 -- the tokens that count of a text with braces in it
 unfoldable pub front_of : List ℕ → List Piece
-front_of q = filter is_significant (front 0 0 q (123 ∷ []))
+front_of q = filter is_significant (tokens_in_front 0 0 q (123 ∷ []))
 
 pub counted_apart : (q m m' s : List ℕ) → OpensAt q (m ++ 125 ∷ s) → StandsAlone m → StandsAlone m'
     → filter is_significant (tokens (q ++ 123 ∷ (m' ++ 125 ∷ s)))
@@ -151,5 +151,5 @@ counted_apart q m m' s o h h' =
     let ms = inside_of (length q) m' in
     let cs = from_close (length q) m' s in
     ap (filter is_significant) (tokens_apart q m m' s o h h')
-    ∙ filter-append is_significant (front 0 0 q (123 ∷ [])) (open_at (length q) ∷ (ms ++ cs))
-    ∙ ap (λ l. filter is_significant (front 0 0 q (123 ∷ [])) ++ open_at (length q) ∷ l) (filter-append is_significant ms cs ∙ ap (λ l. filter is_significant ms ++ l) (from_close_counted (length q) m' s))
+    ∙ filter-append is_significant (tokens_in_front 0 0 q (123 ∷ [])) (open_at (length q) ∷ (ms ++ cs))
+    ∙ ap (λ l. filter is_significant (tokens_in_front 0 0 q (123 ∷ [])) ++ open_at (length q) ∷ l) (filter-append is_significant ms cs ∙ ap (λ l. filter is_significant ms ++ l) (from_close_counted (length q) m' s))

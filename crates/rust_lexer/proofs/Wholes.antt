@@ -6,8 +6,8 @@ use Rattle.std.proofs.lemmas.Bool.Decides.{nat_tests}
 use Rattle.std.proofs.lemmas.Str.{lead_after_ascii}
 use Rattle.rust_lexer.specs.declared.bytes.Class.{Class}
 use Rattle.rust_lexer.specs.declared.bytes.Class.TheVariants as class
-use Rattle.rust_lexer.specs.Bytes.{is_continuation, is_in, run}
-use Rattle.rust_lexer.specs.Inner.{is_mark}
+use Rattle.rust_lexer.specs.Bytes.{is_continuation, is_in_class, run}
+use Rattle.rust_lexer.specs.Inner.{is_mark_byte}
 
 no_run : (b : ℕ) (z : List ℕ) → is_continuation b ≡ false → run class.Continuation (b ∷ z) ≡ 0
 no_run b z e = rw e refl
@@ -19,19 +19,19 @@ behind_ascii b (c ∷ z) utf8 e =
     let lead : 128 ≤ c → 192 ≤ c = lead_after_ascii (b ∷ c ∷ z) 0 utf8 e (omega arith) in
     no_run c z (grind (arith, nat_tests))
 
-pub mark_whole : (b : ℕ) (z : List ℕ) → is_mark b ≡ true → IsUtf8 (b ∷ z) → run class.Continuation (drop 0 z) ≡ 0
+pub mark_whole : (b : ℕ) (z : List ℕ) → is_mark_byte b ≡ true → IsUtf8 (b ∷ z) → run class.Continuation (drop 0 z) ≡ 0
 mark_whole b z e utf8 = behind_ascii b z utf8 (grind (arith, nat_tests))
 
 -- a run that goes over such bytes ends at none
-run_whole : (c : Class) → ((b : ℕ) (z : List ℕ) → is_in c b z ≡ false → is_continuation b ≡ false) → (z : List ℕ) → run class.Continuation (drop (run c z) z) ≡ 0
+run_whole : (c : Class) → ((b : ℕ) (z : List ℕ) → is_in_class c b z ≡ false → is_continuation b ≡ false) → (z : List ℕ) → run class.Continuation (drop (run c z) z) ≡ 0
 run_whole c over [] = refl
 run_whole c over (b ∷ z) =
-    cond_both (is_in c b z) (suc (run c z)) 0 (λ n. run class.Continuation (drop n (b ∷ z)) ≡ 0) (λ _. run_whole c over z) (λ e. no_run b z (over b z e))
+    cond_both (is_in_class c b z) (suc (run c z)) 0 (λ n. run class.Continuation (drop n (b ∷ z)) ≡ 0) (λ _. run_whole c over z) (λ e. no_run b z (over b z e))
 
-white_over : (b : ℕ) (z : List ℕ) → is_in class.White b z ≡ false → is_continuation b ≡ false
+white_over : (b : ℕ) (z : List ℕ) → is_in_class class.White b z ≡ false → is_continuation b ≡ false
 white_over b z e = grind (arith, nat_tests)
 
-word_over : (b : ℕ) (z : List ℕ) → is_in class.Word b z ≡ false → is_continuation b ≡ false
+word_over : (b : ℕ) (z : List ℕ) → is_in_class class.Word b z ≡ false → is_continuation b ≡ false
 word_over b z e = grind (arith, nat_tests)
 
 pub white_whole : (n : ℕ) (z : List ℕ) → n ≡ run class.White z → run class.Continuation (drop n z) ≡ 0

@@ -48,21 +48,21 @@ abbrev pub is_start : ℕ → List ℕ → Bool
 is_start b z = is_ascii_alphabetic b || b == 95 || is_wide_start b z
 
 -- Whether a byte is of the class, before these. The bytes that continue a character go with its first.
-abbrev pub is_in : Class → ℕ → List ℕ → Bool
-is_in class.White b z = is_white b z || is_continuation b
-is_in class.Word b z = is_ascii_alphanumeric b || b == 95 || is_continuation b || is_wide_continue b z
-is_in class.Line b z = not (b == 10)
-is_in class.Hash b z = b == 35
-is_in class.Dash b z = b == 45
-is_in class.Low b z = b == 95
-is_in class.Decimal b z = is_ascii_digit b || b == 95
-is_in class.Hexadecimal b z = is_ascii_hexdigit b || b == 95
-is_in class.Continuation b z = is_continuation b
+abbrev pub is_in_class : Class → ℕ → List ℕ → Bool
+is_in_class class.White b z = is_white b z || is_continuation b
+is_in_class class.Word b z = is_ascii_alphanumeric b || b == 95 || is_continuation b || is_wide_continue b z
+is_in_class class.Line b z = not (b == 10)
+is_in_class class.Hash b z = b == 35
+is_in_class class.Dash b z = b == 45
+is_in_class class.Low b z = b == 95
+is_in_class class.Decimal b z = is_ascii_digit b || b == 95
+is_in_class class.Hexadecimal b z = is_ascii_hexdigit b || b == 95
+is_in_class class.Continuation b z = is_continuation b
 
 -- how many bytes at the front are of the class
 abbrev pub run : Class → List ℕ → ℕ
 run c [] = 0
-run c (b ∷ z) = if is_in c b z then suc (run c z) else 0
+run c (b ∷ z) = if is_in_class c b z then suc (run c z) else 0
 
 -- whether an identifier may begin at the front
 abbrev pub is_word_start : List ℕ → Bool

@@ -64,8 +64,8 @@ c_word z =
     if slice_index z 0 == 34 then quoted literals.CStr (string false 1 (drop 1 z)) z
     else prefixed_raw literals.RawCStr z
 
-abbrev pub word : ℕ → List ℕ → Cut
-word b z = if b == 114 then r_word z else (if b == 98 then b_word z else (if b == 99 then c_word z else plain z))
+abbrev pub cut_word : ℕ → List ℕ → Cut
+cut_word b z = if b == 114 then r_word z else (if b == 98 then b_word z else (if b == 99 then c_word z else plain z))
 
 -- comments, and the `/` alone
 abbrev pub slash : List ℕ → Cut
@@ -107,7 +107,7 @@ unfoldable pub first_cut : ℕ → List ℕ → Cut
 first_cut b z =
     if is_white b z then cut kind.Whitespace (run class.White z)
     else (if is_ascii_digit b then (let n = number b z in suffixed n.kind n.len z)
-    else (if is_start b z then word b z
+    else (if is_start b z then cut_word b z
     else (if b == 47 then slash z
     else (if b == 34 then quoted literals.Str (string false 0 z) z
     else (if b == 39 then apostrophe z else cut (symbol_kind b) 0)))))

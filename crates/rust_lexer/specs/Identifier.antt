@@ -5,10 +5,10 @@ use Rattle.std.specs.Str.{chars}
 use Rattle.unicode_ident.specs.Ident.{is_xid_start, is_xid_continue}
 
 -- whether there is a character, and an identifier may begin with it
-abbrev pub is_start : Option ℕ → Bool
-is_start None = false
-is_start (Some c) = is_xid_start c || c == 95
+abbrev pub may_start : Option ℕ → Bool
+may_start None = false
+may_start (Some c) = is_xid_start c || c == 95
 
 -- IDENTIFIER_OR_KEYWORD: one of XID_Start or `_`, and all of XID_Continue
 abbrev pub is_identifier : List ℕ → Bool
-is_identifier word = is_start (slice_get (chars word) 0) && list_all is_xid_continue (chars word)
+is_identifier word = may_start (slice_get (chars word) 0) && list_all is_xid_continue (chars word)

@@ -23,8 +23,8 @@ abbrev pub is_word_byte : ℕ → Bool
 is_word_byte b = is_ascii_alphanumeric b || b == 95 || is_continuation b
 
 -- white space of ASCII
-abbrev pub is_blank : ℕ → Bool
-is_blank b = b == 32 || (nat_le 9 b && nat_le b 13)
+abbrev pub is_blank_byte : ℕ → Bool
+is_blank_byte b = b == 32 || (nat_le 9 b && nat_le b 13)
 
 -- a letter of ASCII or `_`, but none that may begin a literal
 abbrev pub is_letter : ℕ → Bool
@@ -32,18 +32,18 @@ is_letter b =
     (nat_le 65 b && nat_le b 90) || b == 95 || b == 97 || (nat_le 100 b && nat_le b 113) || (nat_le 115 b && nat_le b 122)
 
 -- brackets
-abbrev pub is_open : ℕ → Bool
-is_open b = b == 40 || b == 91 || b == 123
+abbrev pub is_open_byte : ℕ → Bool
+is_open_byte b = b == 40 || b == 91 || b == 123
 
-abbrev pub is_close : ℕ → Bool
-is_close b = b == 41 || b == 93 || b == 125
+abbrev pub is_close_byte : ℕ → Bool
+is_close_byte b = b == 41 || b == 93 || b == 125
 
 -- a mark that begins no comment
 abbrev pub is_lone_mark : ℕ → Bool
 is_lone_mark b = is_punctuation b && not (b == 47)
 
-abbrev pub is_mark : ℕ → Bool
-is_mark b = is_open b || is_close b || is_lone_mark b
+abbrev pub is_mark_byte : ℕ → Bool
+is_mark_byte b = is_open_byte b || is_close_byte b || is_lone_mark b
 
 -- ---- bytes that are whole tokens side by side
 
@@ -53,7 +53,7 @@ is_name_letter b = is_ascii_alphabetic b || b == 95
 
 -- a letter, white space, or a mark that begins no comment and is no `#`
 abbrev pub is_plain_byte : ℕ → Bool
-is_plain_byte b = is_name_letter b || is_blank b || (is_lone_mark b && not (b == 35))
+is_plain_byte b = is_name_letter b || is_blank_byte b || (is_lone_mark b && not (b == 35))
 
 -- how many bytes at the front are plain
 abbrev pub plain_run : List ℕ → ℕ

@@ -29,11 +29,11 @@ is_literal_closed literals.RawByteStr text = is_raw_closed (drop 2 text)
 is_literal_closed literals.RawCStr text = is_raw_closed (drop 2 text)
 is_literal_closed _ text = true
 
-abbrev pub is_closed : TokenKind → List ℕ → Bool
-is_closed (kind.BlockComment _) text = (block false 0 0 (drop 2 text)).is_closed
-is_closed (kind.Literal k) text = is_literal_closed k text
-is_closed _ text = true
+abbrev pub is_closed_token : TokenKind → List ℕ → Bool
+is_closed_token (kind.BlockComment _) text = (block false 0 0 (drop 2 text)).is_closed
+is_closed_token (kind.Literal k) text = is_literal_closed k text
+is_closed_token _ text = true
 
 -- a literal or a block comment has its end
 abbrev pub is_terminated : Piece → Bool
-is_terminated t = is_closed t.kind t.text
+is_terminated t = is_closed_token t.kind t.text

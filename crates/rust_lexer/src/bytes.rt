@@ -76,7 +76,7 @@ fn is_word_byte(b: u8) -> bool
 /// Whether a byte is white space of ASCII.
 #[inline(always)]
 pub(crate) fn is_blank(b: u8) -> bool
-    ensures { result ≡ inner.is_blank b }
+    ensures { result ≡ inner.is_blank_byte b }
 {
     CLASSES[b as usize] & WHITE != 0
 }
@@ -92,7 +92,7 @@ pub(crate) fn is_letter(b: u8) -> bool
 /// Whether a byte is a bracket, or a mark that begins no comment.
 #[inline(always)]
 pub(crate) fn is_mark(b: u8) -> bool
-    ensures { result ≡ inner.is_mark b }
+    ensures { result ≡ inner.is_mark_byte b }
 {
     CLASSES[b as usize] & (OPEN | CLOSE | PUNCT) != 0
 }
@@ -100,7 +100,7 @@ pub(crate) fn is_mark(b: u8) -> bool
 /// Whether a byte is a bracket that opens.
 #[inline(always)]
 pub(crate) fn is_open(b: u8) -> bool
-    ensures { result ≡ inner.is_open b }
+    ensures { result ≡ inner.is_open_byte b }
 {
     CLASSES[b as usize] & OPEN != 0
 }
@@ -108,7 +108,7 @@ pub(crate) fn is_open(b: u8) -> bool
 /// Whether a byte is a bracket that closes.
 #[inline(always)]
 pub(crate) fn is_close(b: u8) -> bool
-    ensures { result ≡ inner.is_close b }
+    ensures { result ≡ inner.is_close_byte b }
 {
     CLASSES[b as usize] & CLOSE != 0
 }
@@ -267,7 +267,7 @@ pub(crate) fn is_start(b: u8, behind: &[u8]) -> bool
 
 /// Whether a byte before these is of the class.
 pub(crate) fn is_in(class: Class, b: u8, behind: &[u8]) -> bool
-    ensures { result ≡ spec.is_in class b behind.now }
+    ensures { result ≡ spec.is_in_class class b behind.now }
 {
     match class {
         Class::White => is_white(b, behind) || is_continuation(b),

@@ -132,7 +132,7 @@ fn c_word(z: &[u8]) -> Cut
 
 /// What begins as a word.
 fn word(first: u8, z: &[u8]) -> Cut
-    ensures value { result ≡ spec.word first z.now }
+    ensures value { result ≡ spec.cut_word first z.now }
     ensures within { result.len ≤ length z.now }
 {
     match first {

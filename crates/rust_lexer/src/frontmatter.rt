@@ -8,7 +8,7 @@ use crate::bytes::{Class, run};
 /// Up to the end of the first line that begins with so many dashes, from behind a line's end and `start` bytes before.
 fn closing(dashes: usize, start: usize, mut z: &[u8]) -> Option<usize>
     requires { start + length z.now < 2 ^ 64 }
-    ensures value { result ≡ spec.closing dashes start z.entry.now }
+    ensures value { result ≡ spec.closing_dashes dashes start z.entry.now }
     ensures within { IfSome result (λ len. (start < len) × (len ≤ start + length z.entry.now)) }
 {
     let mut count = start;

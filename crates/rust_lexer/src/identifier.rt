@@ -17,7 +17,7 @@ pub fn is_identifier(word: &str) -> bool
 
 /// Whether an identifier may begin with a character, if there is one.
 fn is_start(first: Option<char>) -> bool
-    ensures { result ≡ spec.is_start first }
+    ensures { result ≡ spec.may_start first }
 {
     match first {
         Some(c) => is_xid_start(c) || c == '_',
@@ -27,7 +27,7 @@ fn is_start(first: Option<char>) -> bool
 
 /// Whether an identifier may begin as a word does.
 fn starts(word: &str) -> bool
-    ensures { result ≡ spec.is_start (slice_get (chars word.now) 0) }
+    ensures { result ≡ spec.may_start (slice_get (chars word.now) 0) }
 {
     is_start(word.chars().nth(0))
 }

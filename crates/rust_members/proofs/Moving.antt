@@ -8,7 +8,7 @@ use Rattle.rust_paths.specs.declared.names.TextRange.{TextRange}
 use Rattle.rust_items.specs.Places.{IsNameIn}
 use Rattle.rust_members.specs.declared.member.Member.{Member}
 use Rattle.rust_members.specs.Lists.{is_boundary, is_cut, cut_out}
-use Rattle.rust_members.specs.Members.{MemberRead, moved, moved_range}
+use Rattle.rust_members.specs.Members.{MemberRead, moved_member, range_moved_by}
 use Rattle.rust_members.specs.Places.{ArePlaced, FitsMoved}
 use Rattle.rust_members.specs.Views.{member_view}
 
@@ -20,7 +20,7 @@ name_fits by range (Some r) n h =
     let ends : r.end ≤ range.end = n.2 in
     (omega arith, omega arith)
 
-name_moved : (by : ℕ) (range : TextRange) (name : Option TextRange) → IsNameIn range name → IsNameIn (moved_range by range) (option_map (moved_range by) name)
+name_moved : (by : ℕ) (range : TextRange) (name : Option TextRange) → IsNameIn range name → IsNameIn (range_moved_by by range) (option_map (range_moved_by by) name)
 name_moved by range None n = tt
 name_moved by range (Some r) n =
     let begins : range.start ≤ r.start = n.0 in
@@ -28,7 +28,7 @@ name_moved by range (Some r) n =
     let ends : r.end ≤ range.end = n.2 in
     (omega arith, omega arith, omega arith)
 
-pub placed_moved : (by from to : ℕ) (ms : List MemberRead) → ArePlaced from to ms → ArePlaced (by + from) (by + to) (map (moved by) ms)
+pub placed_moved : (by from to : ℕ) (ms : List MemberRead) → ArePlaced from to ms → ArePlaced (by + from) (by + to) (map (moved_member by) ms)
 placed_moved by from to [] p = tt
 placed_moved by from to (m ∷ ms) p =
     let begins : from ≤ m.range.start = p.0.begins in
@@ -81,11 +81,11 @@ cut_length text part range e = ⊎_elim
     (cases_Bool (is_cut text range))
 
 -- what stands in a part of a text stands in its range
-pub members_moved : (text part : List ℕ) (range : TextRange) (ms : List MemberRead) → cut_out text range ≡ Some part → ArePlaced 0 (length part) ms → ArePlaced range.start range.end (map (moved range.start) ms)
+pub members_moved : (text part : List ℕ) (range : TextRange) (ms : List MemberRead) → cut_out text range ≡ Some part → ArePlaced 0 (length part) ms → ArePlaced range.start range.end (map (moved_member range.start) ms)
 members_moved text part range ms e p =
     let long = (cut_length text part range e).0 in
     let there = placed_moved range.start 0 (length part) ms p in
-    placed_widened range.start range.end (range.start + 0) (range.start + length part) (map (moved range.start) ms) (omega arith) (omega arith) there
+    placed_widened range.start range.end (range.start + 0) (range.start + length part) (map (moved_member range.start) ms) (omega arith) (omega arith) there
 
 -- and fits where it stands
 pub members_fit : (text part : List ℕ) (range : TextRange) (ms : List MemberRead) → range.end < 2 ^ 64 → cut_out text range ≡ Some part → ArePlaced 0 (length part) ms → ArePlaced 0 (18446744073709551615 - range.start) ms
@@ -94,13 +94,13 @@ members_fit text part range ms fits e p =
     placed_widened 0 (18446744073709551615 - range.start) 0 (length part) ms (omega arith) (omega arith) p
 
 -- one more member is moved
-pub all_more : (by : ℕ) (done pushed : List Member) (m : Member) (x : MemberRead) (rest : List MemberRead) (all : List MemberRead) → pushed ≡ done ++ m ∷ [] → member_view m ≡ moved by x
-    → map member_view done ++ map (moved by) (x ∷ rest) ≡ all → map member_view pushed ++ map (moved by) rest ≡ all
+pub all_more : (by : ℕ) (done pushed : List Member) (m : Member) (x : MemberRead) (rest : List MemberRead) (all : List MemberRead) → pushed ≡ done ++ m ∷ [] → member_view m ≡ moved_member by x
+    → map member_view done ++ map (moved_member by) (x ∷ rest) ≡ all → map member_view pushed ++ map (moved_member by) rest ≡ all
 all_more by done pushed m x rest all p v inv =
-    ap (λ (ms : List Member). map member_view ms ++ map (moved by) rest) p
-    ∙ ap (λ (ms : List MemberRead). ms ++ map (moved by) rest) (map-append member_view done (m ∷ []))
-    ∙ append_assoc (map member_view done) (member_view m ∷ []) (map (moved by) rest)
-    ∙ ap (λ (y : MemberRead). map member_view done ++ y ∷ map (moved by) rest) v
+    ap (λ (ms : List Member). map member_view ms ++ map (moved_member by) rest) p
+    ∙ ap (λ (ms : List MemberRead). ms ++ map (moved_member by) rest) (map-append member_view done (m ∷ []))
+    ∙ append_assoc (map member_view done) (member_view m ∷ []) (map (moved_member by) rest)
+    ∙ ap (λ (y : MemberRead). map member_view done ++ y ∷ map (moved_member by) rest) v
     ∙ inv
 
 -- those behind the first

@@ -27,9 +27,9 @@ use Rattle.rust_members.specs.declared.member.MemberKind.{MemberKind}
 use Rattle.rust_members.specs.declared.member.MemberKind.TheVariants as member
 use Rattle.rust_members.specs.declared.member.Member.{Member}
 use Rattle.rust_members.specs.declared.part.Stand.{Stand}
-use Rattle.rust_members.specs.Members.{MemberRead, moved}
-use Rattle.rust_members.specs.Parts.{Told, told_of, body_of, kept, leaf_kept, associated, opens_generics, is_pair_here, behind_operand, is_part_end, behind_operands, behind_value, is_type_end, behind_type_part, behind_type_parts, behind_type, behind_part, part_of, part}
-use Rattle.rust_members.specs.Lists.{turn, is_over, members_from, members_in, cut_out}
+use Rattle.rust_members.specs.Members.{MemberRead, moved_member}
+use Rattle.rust_members.specs.Parts.{MemberTold, told_of, body_of, member_kept, leaf_member, associated, opens_generics, is_pair_here, behind_operand, is_part_end, behind_operands, behind_value, is_type_end, behind_type_part, behind_type_parts, behind_type, behind_part, part_of, part_member}
+use Rattle.rust_members.specs.Lists.{member_turn, is_list_over, members_from, members_in, cut_out}
 use Rattle.rust_members.specs.Places.{ArePlaced}
 use Rattle.rust_members.specs.Views.{member_view}
 use Rattle.rust_members.proofs.Moving.{placed_widened, members_fit, members_moved}
@@ -118,7 +118,7 @@ body_in _ range body h = tt
 
 -- ---- of a trait or an impl
 
-kept_found : (end : ℕ) (ts us : Tokens) (l : LeafRead) (o : Option Told) → IsLaid end ts → IsTaken ts us l → AreFound ts us (option_to_list (kept (at ts) us.past l o))
+kept_found : (end : ℕ) (ts us : Tokens) (l : LeafRead) (o : Option MemberTold) → IsLaid end ts → IsTaken ts us l → AreFound ts us (option_to_list (member_kept (at ts) us.past l o))
 kept_found end ts us l None laid t = none_found (takes_leads t.takes)
 kept_found end ts us l (Some told) laid t = record {
   leads = takes_leads t.takes;
@@ -134,7 +134,7 @@ kept_found end ts us l (Some told) laid t = record {
   );
 }
 
-leaf_kept_found : (end : ℕ) (ts us : Tokens) (o : Option LeafRead) → IsLaid end ts → LeafFound ts us o → AreFound ts (leaf_kept (at ts) o us).1 (option_to_list (leaf_kept (at ts) o us).0)
+leaf_kept_found : (end : ℕ) (ts us : Tokens) (o : Option LeafRead) → IsLaid end ts → LeafFound ts us o → AreFound ts (leaf_member (at ts) o us).1 (option_to_list (leaf_member (at ts) o us).0)
 leaf_kept_found end ts us None laid p = none_found (through p (behind_others_leads us))
 leaf_kept_found end ts us (Some l) laid t = kept_found end ts us l (told_of l.item) laid t
 
@@ -187,8 +187,8 @@ part_placed end ts us vs ps qs k attrs v (Some name) laid a (by_token t before s
       tt,
     )
 
-part_found : (end : ℕ) (k : MemberKind) → Finds end (part k)
-unfolding part
+part_found : (end : ℕ) (k : MemberKind) → Finds end (part_member k)
+unfolding part_member
 part_found end k ts laid =
     let a = outer_attributes ts in
     let v = visibility a.1 in
@@ -203,8 +203,8 @@ part_found end k ts laid =
 
 -- ---- all
 
-turn_found : (end : ℕ) (k : AstIdKind) → Finds end (turn k)
-unfolding turn
+turn_found : (end : ℕ) (k : AstIdKind) → Finds end (member_turn k)
+unfolding member_turn
 turn_found end kind.Enum = part_found end member.Variant
 turn_found end kind.Struct = part_found end member.Field
 turn_found end kind.Union = part_found end member.Field
@@ -215,7 +215,7 @@ unfolding members_from
 from_placed end k ts laid =
     let inner_leads : LeadsTo ts (inner_attributes (bumped ts)).1 = further (inner_attributes_leads (bumped ts)) in
     let first = behind end inner_leads laid in
-    let found = list_found end is_over (turn k) (turn_found end k) (inner_attributes (bumped ts)).1 first.laid in
+    let found = list_found end is_list_over (member_turn k) (turn_found end k) (inner_attributes (bumped ts)).1 first.laid in
     let last = behind end found.leads first.laid in
     when (symbol ts == 123)
     (λ e. rw e (placed_widened 0 end _ _ _ (omega arith) (past_within end _ last.laid) found.placed))
@@ -236,6 +236,6 @@ module _ (edition : EditionYear) (k : AstIdKind) (text part : List ℕ) (range :
   part_fits fits = members_fit text part range ms fits (sym cut) here_placed
 
   -- where they are moved, they stand in the range
-  pub part_moved : (r : Result (Vec Member Global) AllocError) → IfOk r (λ v. map member_view v.items ≡ map (moved range.start) ms) → IfOk r (λ v. ArePlaced range.start range.end (map member_view v.items))
+  pub part_moved : (r : Result (Vec Member Global) AllocError) → IfOk r (λ v. map member_view v.items ≡ map (moved_member range.start) ms) → IfOk r (λ v. ArePlaced range.start range.end (map member_view v.items))
   part_moved (Ok v) e = rw e (members_moved text part range ms (sym cut) here_placed)
   part_moved (Err e) h = tt

@@ -10,26 +10,26 @@ use Rattle.rust_cursor.specs.Elements.{turns, perhaps}
 use Rattle.rust_paths.specs.declared.names.TextRange.{TextRange}
 use Rattle.rust_metas.specs.Attributes.{inner_attributes}
 use Rattle.rust_members.specs.declared.member.MemberKind.TheVariants as member
-use Rattle.rust_members.specs.Members.{MemberRead, moved}
-use Rattle.rust_members.specs.Parts.{associated, part}
+use Rattle.rust_members.specs.Members.{MemberRead, moved_member}
+use Rattle.rust_members.specs.Parts.{associated, part_member}
 
 -- a member of an item of this kind, or none
-unfoldable pub turn : AstIdKind → Reader (Option MemberRead)
-turn kind.Enum = part member.Variant
-turn kind.Struct = part member.Field
-turn kind.Union = part member.Field
-turn _ = associated
+unfoldable pub member_turn : AstIdKind → Reader (Option MemberRead)
+member_turn kind.Enum = part_member member.Variant
+member_turn kind.Struct = part_member member.Field
+member_turn kind.Union = part_member member.Field
+member_turn _ = associated
 
 -- a list of members ends with the text, and before its `}`
-unfoldable pub is_over : Tokens → Bool
-is_over ts = is_empty ts || symbol ts == 125
+unfoldable pub is_list_over : Tokens → Bool
+is_list_over ts = is_empty ts || symbol ts == 125
 
-abbrev pub list : AstIdKind → Reader (List MemberRead)
-list k = turns is_over (perhaps (turn k))
+abbrev pub member_list : AstIdKind → Reader (List MemberRead)
+member_list k = turns is_list_over (perhaps (member_turn k))
 
 -- behind the `{` inner attributes may stand
 unfoldable pub members_from : AstIdKind → Tokens → List MemberRead
-members_from k ts = if symbol ts == 123 then (list k (inner_attributes (bumped ts)).1).0 else []
+members_from k ts = if symbol ts == 123 then (member_list k (inner_attributes (bumped ts)).1).0 else []
 
 -- the members in a text of an edition that begins with the `{` of an item of this kind
 abbrev pub members_in : EditionYear → AstIdKind → List ℕ → List MemberRead
@@ -50,7 +50,7 @@ cut_out text range = if is_cut text range then Some (slice_range text range.star
 
 abbrev pub members_at : EditionYear → AstIdKind → ℕ → Option (List ℕ) → List MemberRead
 members_at edition k place None = []
-members_at edition k place (Some braces) = map (moved place) (members_in edition k braces)
+members_at edition k place (Some braces) = map (moved_member place) (members_in edition k braces)
 
 -- the members in these braces of a text, at their places in it
 abbrev pub members : EditionYear → AstIdKind → List ℕ → TextRange → List MemberRead

@@ -16,15 +16,15 @@ pub record MemberRead : Type 0 where
 
 -- ---- the same in a text with so many bytes in front
 
-abbrev pub moved_range : ℕ → TextRange → TextRange
-moved_range by r = record { start = by + r.start; end = by + r.end }
+abbrev pub range_moved_by : ℕ → TextRange → TextRange
+range_moved_by by r = record { start = by + r.start; end = by + r.end }
 
-abbrev pub moved : ℕ → MemberRead → MemberRead
-moved by m = record {
+abbrev pub moved_member : ℕ → MemberRead → MemberRead
+moved_member by m = record {
   kind = m.kind;
-  name = option_map (moved_range by) m.name;
-  range = moved_range by m.range;
-  body = option_map (moved_range by) m.body;
+  name = option_map (range_moved_by by) m.name;
+  range = range_moved_by by m.range;
+  body = option_map (range_moved_by by) m.body;
   attrs = m.attrs;
   visibility = m.visibility;
 }

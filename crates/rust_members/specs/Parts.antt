@@ -27,19 +27,19 @@ use Rattle.rust_members.specs.Members.{MemberRead}
 -- ---- of a trait or an impl
 
 -- what an item is as a member
-pub record Told : Type 0 where
+pub record MemberTold : Type 0 where
   pub kind : MemberKind
   pub attrs : List MetaView
   pub visibility : Option Visibility
 
-abbrev pub told_as : MemberKind → NamedView → Told
+abbrev pub told_as : MemberKind → NamedView → MemberTold
 told_as kind n = record { kind = kind; attrs = n.node.attrs; visibility = n.visibility }
 
-abbrev pub told_call : CallView → Told
+abbrev pub told_call : CallView → MemberTold
 told_call c = record { kind = member.MacroCall; attrs = c.node.attrs; visibility = None }
 
 -- what may stand in a trait or an impl
-abbrev pub told_of : ItemView → Option Told
+abbrev pub told_of : ItemView → Option MemberTold
 told_of (plain_item fn_kind n) = Some (told_as member.Function n)
 told_of (plain_item type_alias_kind n) = Some (told_as member.TypeAlias n)
 told_of (const_item n) = Some (told_as member.Constant n)
@@ -52,9 +52,9 @@ body_of member.Function body = body
 body_of _ body = None
 
 -- a member from a place on up to another
-abbrev pub kept : ℕ → ℕ → LeafRead → Option Told → Option MemberRead
-kept start end l None = None
-kept start end l (Some t) = Some (record {
+abbrev pub member_kept : ℕ → ℕ → LeafRead → Option MemberTold → Option MemberRead
+member_kept start end l None = None
+member_kept start end l (Some t) = Some (record {
   kind = t.kind;
   name = l.named;
   range = record { start = start; end = end };
@@ -64,16 +64,16 @@ kept start end l (Some t) = Some (record {
 })
 
 -- another item that stands there is none
-abbrev pub leaf_kept : ℕ → Option LeafRead → Reader (Option MemberRead)
-leaf_kept start None ts = (None, behind_others ts)
-leaf_kept start (Some l) ts = (kept start ts.past l (told_of l.item), ts)
+abbrev pub leaf_member : ℕ → Option LeafRead → Reader (Option MemberRead)
+leaf_member start None ts = (None, behind_others ts)
+leaf_member start (Some l) ts = (member_kept start ts.past l (told_of l.item), ts)
 
-abbrev pub behind_front : FrontRead → Reader (Option MemberRead)
-behind_front h ts = leaf_kept h.start (leaf h ts).0 (leaf h ts).1
+abbrev pub member_behind_front : FrontRead → Reader (Option MemberRead)
+member_behind_front h ts = leaf_member h.start (leaf h ts).0 (leaf h ts).1
 
 -- AssociatedItem, or none: then tokens are passed over
 unfoldable pub associated : Reader (Option MemberRead)
-associated ts = if is_at_end ts then (None, bumped ts) else behind_front (front ts).0 (front ts).1
+associated ts = if is_at_end ts then (None, bumped ts) else member_behind_front (front ts).0 (front ts).1
 
 -- ---- values
 
@@ -84,10 +84,10 @@ opens_generics stands.Parameters ts = false
 opens_generics _ ts = symbol ts == 60
 
 -- behind an operand or a type
-abbrev pub ended : Stand → Stand
-ended stands.Begun = stands.Ended
-ended stands.Type = stands.TypeEnded
-ended stand = stand
+abbrev pub ended_operand : Stand → Stand
+ended_operand stands.Begun = stands.Ended
+ended_operand stands.Type = stands.TypeEnded
+ended_operand stand = stand
 
 -- behind `::`, or a word with which no operand ends: it goes on
 abbrev pub going_on : Stand → Stand
@@ -121,7 +121,7 @@ abbrev pub stand_outside : Stand → Tokens → Stand
 stand_outside stand ts =
     if bytes_eq (word ts) (codes "as") || is_pair 45 62 ts then stands.Type
     else (if is_pair 58 58 ts then going_on stand
-    else (if opens_generics stand ts || can_end_here ts then ended stand
+    else (if opens_generics stand ts || can_end_here ts then ended_operand stand
     else (if symbol ts == 0 then going_on stand else behind_mark stand (symbol ts))))
 
 -- where what is behind the next token stands, or behind the brackets that it opens
@@ -186,8 +186,8 @@ part_of kind start attrs v (Some name) end = Some (record {
 })
 
 -- EnumVariant or StructField: up to the comma, which is taken too
-unfoldable pub part : MemberKind → Reader (Option MemberRead)
-part kind = do
+unfoldable pub part_member : MemberKind → Reader (Option MemberRead)
+part_member kind = do
   start ← look at
   attrs ← outer_attributes
   v ← visibility

@@ -5,7 +5,7 @@ use Rattle.rust_items.specs.Places.{IsNameIn}
 use Rattle.rust_members.specs.Members.{MemberRead}
 
 -- a member's place: it is not empty, from a byte place on and up to another, with the name and the body in it
-pub record IsPlaced (from to : ℕ) (m : MemberRead) : Type 0 where
+pub record IsMemberPlaced (from to : ℕ) (m : MemberRead) : Type 0 where
   pub begins : from ≤ m.range.start
   pub some : m.range.start < m.range.end
   pub ends : m.range.end ≤ to
@@ -15,7 +15,7 @@ pub record IsPlaced (from to : ℕ) (m : MemberRead) : Type 0 where
 -- each begins at the end of the one before it or behind that
 abbrev pub ArePlaced : ℕ → ℕ → List MemberRead → Type 0
 ArePlaced from to [] = Unit {0}
-ArePlaced from to (m ∷ ms) = IsPlaced from to m × ArePlaced m.range.end to ms
+ArePlaced from to (m ∷ ms) = IsMemberPlaced from to m × ArePlaced m.range.end to ms
 
 -- the places of a range that may be missing fit into a number behind so many bytes
 abbrev pub FitsMoved : ℕ → Option TextRange → Type 0

@@ -4,11 +4,11 @@ use Rattle.hir_input.specs.Attr.{meta_view}
 use Rattle.rust_members.specs.declared.member.Member.{Member}
 use Rattle.rust_members.specs.declared.associated.Told as code_told
 use Rattle.rust_members.specs.Members.{MemberRead}
-use Rattle.rust_members.specs.Parts.{Told}
+use Rattle.rust_members.specs.Parts.{MemberTold}
 
 -- a member as plain data
 abbrev pub member_view : Member → MemberRead
 member_view m = record { kind = m.kind; name = m.name; range = m.range; body = m.body; attrs = map meta_view m.attrs.items; visibility = m.visibility }
 
-abbrev pub told_view : code_told.Told → Told
+abbrev pub told_view : code_told.Told → MemberTold
 told_view t = record { kind = t.kind; attrs = map meta_view t.attrs.items; visibility = t.visibility }

@@ -72,7 +72,7 @@ fn body_of(kind: MemberKind, body: Option<TextRange>) -> Option<TextRange>
 
 fn kept(leaf: Leaf<'_>, start: usize, end: usize) -> Option<Member>
     ensures { option_map member_view result
-        ≡ spec.kept start end (leaf_view leaf.entry) (spec.told_of (item_view leaf.entry.item)) }
+        ≡ spec.member_kept start end (leaf_view leaf.entry) (spec.told_of (item_view leaf.entry.item)) }
 {
     let (name, body) = (leaf.named, leaf.body);
     match told_of(leaf.item) {
@@ -94,7 +94,7 @@ fn behind_front(
     front: Front,
 ) -> Result<Option<Member>, AllocError>
     ensures { Gives (option_map member_view)
-        (spec.behind_front (front_view front) cursor.old) result cursor.new }
+        (spec.member_behind_front (front_view front) cursor.old) result cursor.new }
 {
     let start = front.start;
     let wanted = Wanted {

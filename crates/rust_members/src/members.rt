@@ -3,8 +3,8 @@
 ghost use Rattle.std.specs.Prelude.{◌≡◌, ◌++◌, ◌+◌, ◌-◌, ◌<◌, ◌^◌, IfOk, OnOk, map, option_map, option_to_list};
 ghost use Rattle.rust_cursor.specs.Reader.{Gives};
 ghost use Rattle.rust_members.specs.Lists as spec;
-ghost use Rattle.rust_members.specs.Members.{moved, moved_range};
-ghost use Rattle.rust_members.specs.Places.{ArePlaced, FitsMoved, IsPlaced};
+ghost use Rattle.rust_members.specs.Members.{moved_member, range_moved_by};
+ghost use Rattle.rust_members.specs.Places.{ArePlaced, FitsMoved, IsMemberPlaced};
 ghost use Rattle.rust_members.specs.Views.{member_view};
 
 use crate::associated::associated;
@@ -17,21 +17,21 @@ use rust_metas::inner_attributes;
 use rust_paths::TextRange;
 use std::alloc::{AllocError, Global};
 
-#[tactic(auto, unfolding(crate::specs::Lists::is_over))]
+#[tactic(auto, unfolding(crate::specs::Lists::is_list_over))]
 fn is_over(cursor: &Cursor<'_>) -> bool
-    ensures { result ≡ spec.is_over cursor.now }
+    ensures { result ≡ spec.is_list_over cursor.now }
 {
     cursor.is_empty() || cursor.symbol() == b'}'
 }
 
 /// Takes a member of an item of the kind, or tokens that begin none.
-#[tactic(auto, unfolding(crate::specs::Lists::turn))]
+#[tactic(auto, unfolding(crate::specs::Lists::member_turn))]
 fn turn(
     alloc: Global,
     cursor: &mut Cursor<'_>,
     kind: AstIdKind,
 ) -> Result<Option<Member>, AllocError>
-    ensures { Gives (option_map member_view) (spec.turn kind cursor.old) result cursor.new }
+    ensures { Gives (option_map member_view) (spec.member_turn kind cursor.old) result cursor.new }
 {
     match kind {
         AstIdKind::Enum => part(alloc, cursor, MemberKind::Variant),
@@ -55,7 +55,7 @@ fn push_some(members: &mut Vec<Member>, member: Option<Member>) -> Result<(), Al
 
 #[tactic(auto, unfolding(rust_cursor::specs::Elements::turns), using(rust_cursor::proofs::Turns::turns_stop))]
 fn list(alloc: Global, cursor: &mut Cursor<'_>, kind: AstIdKind) -> Result<Vec<Member>, AllocError>
-    ensures { Gives (λ v. map member_view v.items) (spec.list kind cursor.old) result cursor.new }
+    ensures { Gives (λ v. map member_view v.items) (spec.member_list kind cursor.old) result cursor.new }
 {
     let mut members = Vec::new(alloc);
     let most = Cursor::most_turns();
@@ -93,7 +93,7 @@ fn members_in(
 fn moved_range(range: TextRange, by: usize) -> TextRange
     requires start { by + range.start < 2 ^ 64 }
     requires end { by + range.end < 2 ^ 64 }
-    ensures { result ≡ moved_range by range }
+    ensures { result ≡ range_moved_by by range }
 {
     TextRange {
         start: by + range.start,
@@ -103,7 +103,7 @@ fn moved_range(range: TextRange, by: usize) -> TextRange
 
 fn moved_name(name: Option<TextRange>, by: usize) -> Option<TextRange>
     requires { FitsMoved by name }
-    ensures { result ≡ option_map (moved_range by) name }
+    ensures { result ≡ option_map (range_moved_by by) name }
 {
     match name {
         Some(name) => Some(moved_range(name, by)),
@@ -114,8 +114,8 @@ fn moved_name(name: Option<TextRange>, by: usize) -> Option<TextRange>
 /// The member in a text with so many bytes in front.
 #[tactic(auto, using(crate::proofs::Moving::name_fits))]
 fn moved(mut member: Member, by: usize) -> Member
-    requires { IsPlaced 0 (18446744073709551615 - by) (member_view member) }
-    ensures { member_view result ≡ moved by (member_view member) }
+    requires { IsMemberPlaced 0 (18446744073709551615 - by) (member_view member) }
+    ensures { member_view result ≡ moved_member by (member_view member) }
 {
     member.name = moved_name(member.name, by);
     member.range = moved_range(member.range, by);
@@ -126,7 +126,7 @@ fn moved(mut member: Member, by: usize) -> Member
 fn all_moved(alloc: Global, members: Vec<Member>, by: usize) -> Result<Vec<Member>, AllocError>
     requires { ArePlaced 0 (18446744073709551615 - by) (map member_view members.items) }
     ensures { IfOk result (λ v. map member_view v.items
-        ≡ map (moved by) (map member_view members.items)) }
+        ≡ map (moved_member by) (map member_view members.items)) }
 {
     let mut all = Vec::with_capacity(alloc, members.len())?;
     for member in members {

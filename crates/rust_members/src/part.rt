@@ -40,7 +40,7 @@ fn opens_generics(cursor: &Cursor<'_>, stand: Stand) -> bool
 }
 
 fn ended(stand: Stand) -> Stand
-    ensures { result ≡ spec.ended stand }
+    ensures { result ≡ spec.ended_operand stand }
 {
     match stand {
         Stand::Begun => Stand::Ended,
@@ -246,13 +246,13 @@ fn part_of(
 }
 
 /// Takes a variant or a field with the comma behind it, or tokens that begin none.
-#[tactic(auto, unfolding(crate::specs::Parts::part))]
+#[tactic(auto, unfolding(crate::specs::Parts::part_member))]
 pub(crate) fn part(
     alloc: Global,
     cursor: &mut Cursor<'_>,
     kind: MemberKind,
 ) -> Result<Option<Member>, AllocError>
-    ensures { Gives (option_map member_view) (spec.part kind cursor.old) result cursor.new }
+    ensures { Gives (option_map member_view) (spec.part_member kind cursor.old) result cursor.new }
 {
     let start = cursor.at();
     let attrs = outer_attributes(alloc, cursor)?;

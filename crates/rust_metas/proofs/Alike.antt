@@ -17,7 +17,7 @@ use Rattle.rust_cursor.proofs.Parting.{Onward, on, gone, kept, Parting, Until, U
 use Rattle.rust_cursor.proofs.Twins.{is_edge, symbol_same, kind_same, text_same, open_same, end_same, symbol_test, after_symbol}
 use Rattle.rust_paths.specs.Names.{as_name}
 use Rattle.rust_paths.proofs.Alike.{name_until}
-use Rattle.rust_metas.specs.Conditions.{comma_from, behind_comma, is_word_kind, is_option_word, option_name, composed, pair, named, if_named, ended, condition_with, conditions, condition}
+use Rattle.rust_metas.specs.Conditions.{comma_from, behind_comma, is_word_kind, is_option_word, option_name, composed, pair, named_condition, if_named, ended_condition, condition_with, conditions, condition}
 use Rattle.rust_cursor.specs.Nests.{is_literal_kind}
 use Rattle.rust_metas.specs.Literals.{is_ended}
 use Rattle.rust_metas.proofs.Leads.{comma_from_leads, if_named_leads, ended_leads, condition_with_leads, conditions_leads}
@@ -39,8 +39,8 @@ pub ended_same : (b : Parting) (ts us : Tokens) → b.twins.are ts us → is_end
 unfolding is_ended
 ended_same b ts us h = rw (end_same b.twins ts us h, symbol_same b.twins ts us h) refl
 
-ended_until : (b : Parting) (c : CfgView) → UpTo b (ended c) (ended c)
-unfolding ended
+ended_until : (b : Parting) (c : CfgView) → UpTo b (ended_condition c) (ended_condition c)
+unfolding ended_condition
 ended_until b c ts us h =
     by_next (behind_comma_onward b ts us h) (λ g. gone g) (λ n. kept (record { value = ap (λ t. if t then c else invalid) (ended_same b ts us h); rest = n }))
 
@@ -100,7 +100,7 @@ inside_until b enter f m m' each leads leads' ts us h =
     (λ n. rw (symbol_same b.twins ts us h) (pass_until b (behind_closed c) (behind_closed_leads c) (b.closed c) (map_until f (each (bumped ts) (bumped us) n))))
 
 module _ (b : Parting) (enter : Entering b) (m : Reader (Option (List CfgView))) (i : UpTo b m m) (f : Forwards m) where
-  named_until : (w : List ℕ) → UpTo b (named m w) (named m w)
+  named_until : (w : List ℕ) → UpTo b (named_condition m w) (named_condition m w)
   named_until w ts us h =
       cond_until (open_same b.twins ts us h) (λ _. inside_until b enter (composed w) m m i f f ts us h)
       (λ _. cond_until (symbol_test b.twins 61 ts us h) (λ e. pair_until b enter w ts us h e) (λ _. kept (record { value = refl; rest = h })))
@@ -113,7 +113,7 @@ module _ (b : Parting) (enter : Entering b) (m : Reader (Option (List CfgView)))
   behind_word : Option (List ℕ) → Reader CfgView
   behind_word w = do
     c ← if_named m w
-    ended c
+    ended_condition c
 
   behind_word_leads : (w : Option (List ℕ)) → Forwards (behind_word w)
   unfolding behind_word
@@ -121,7 +121,7 @@ module _ (b : Parting) (enter : Entering b) (m : Reader (Option (List CfgView)))
 
   behind_word_until : (w : Option (List ℕ)) → UpTo b (behind_word w) (behind_word w)
   unfolding behind_word
-  behind_word_until w = bind_until b (if_named m w) (if_named m w) ended ended (if_named_until w) (ended_until b) ended_leads ended_leads
+  behind_word_until w = bind_until b (if_named m w) (if_named m w) ended_condition ended_condition (if_named_until w) (ended_until b) ended_leads ended_leads
 
   condition_with_until : UpTo b (condition_with m) (condition_with m)
   unfolding behind_word

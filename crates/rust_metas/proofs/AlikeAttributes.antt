@@ -8,7 +8,7 @@ use Rattle.rust_cursor.proofs.Leads.{through, when, bumped_leads}
 use Rattle.rust_cursor.proofs.Parting.{Onward, on, gone, kept, Parting, Until, UpTo, by_next, onward_leads, cond_onward, cond_until, pass_until, turns_until, Entering, Counted, Levels, levelled, level_enters, level_counted, until_level}
 use Rattle.rust_cursor.proofs.Tests.{begins_item_same}
 use Rattle.rust_cursor.proofs.Twins.{is_edge, symbol_same, kind_same, text_same, after_symbol}
-use Rattle.rust_metas.specs.Attributes.{deepest, is_doc, is_attribute, is_behind, behind_bracket, bracketed, opened, one_attribute, behind_docs_from, behind_docs, behind_attribute, attribute, attributes, outer_attributes, inner_attributes}
+use Rattle.rust_metas.specs.Attributes.{deepest, is_doc, is_attribute, is_behind, behind_bracket, bracketed, past_mark, one_attribute, behind_docs_from, behind_docs, behind_attribute, attribute, attributes, outer_attributes, inner_attributes}
 use Rattle.rust_metas.specs.Literals.{documentation}
 use Rattle.rust_metas.specs.Metas.{doc}
 use Rattle.rust_metas.proofs.AlikeMetas.{meta_until}
@@ -56,7 +56,7 @@ bracketed_until b enter a a' count ts us h =
     (λ g. gone (b.lost_on _ _ _ _ g (through (meta_leads a deepest (bumped ts)) (behind_bracket_leads _)) (through (meta_leads a' deepest (bumped us)) (behind_bracket_leads _))))
     (λ n. pass_until b behind_bracket behind_bracket_leads (behind_bracket_onward b) (meta_until b enter a a' deepest count (bumped ts) (bumped us) n))
 
-opened_onward : (b : Parting) → Entering b → (style : DocStyle) (ts us : Tokens) → b.twins.are ts us → Onward b.twins.are b.lost (opened style ts) (opened style us)
+opened_onward : (b : Parting) → Entering b → (style : DocStyle) (ts us : Tokens) → b.twins.are ts us → Onward b.twins.are b.lost (past_mark style ts) (past_mark style us)
 opened_onward b enter Outer ts us h = enter.onward ts us h
 opened_onward b enter Inner ts us h = onward_leads b (enter.onward ts us h) (bumped_leads (bumped ts)) (bumped_leads (bumped us)) (λ n. enter.onward (bumped ts) (bumped us) n)
 
@@ -64,8 +64,8 @@ one_attribute_until : (b : Parting) → Entering b → (a a' : ℕ) → Counted 
 unfolding one_attribute
 one_attribute_until b enter a a' count style ts us h =
     cond_until (is_doc_same b style ts us h) (λ f. doc_until b a a' count style ts us h f)
-    (λ _. by_next (opened_onward b enter style ts us h) (λ g. gone (b.lost_on _ _ _ _ g (bracketed_leads a (opened style ts)) (bracketed_leads a' (opened style us))))
-    (λ n. bracketed_until b enter a a' count (opened style ts) (opened style us) n))
+    (λ _. by_next (opened_onward b enter style ts us h) (λ g. gone (b.lost_on _ _ _ _ g (bracketed_leads a (past_mark style ts)) (bracketed_leads a' (past_mark style us))))
+    (λ n. bracketed_until b enter a a' count (past_mark style ts) (past_mark style us) n))
 
 attribute_until : (b : Parting) → Entering b → Levels b → (style : DocStyle) → UpTo b (attribute style) (attribute style)
 unfolding attribute

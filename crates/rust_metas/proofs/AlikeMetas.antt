@@ -16,7 +16,7 @@ use Rattle.rust_paths.specs.Paths.{path}
 use Rattle.rust_paths.proofs.Alike.{path_until}
 use Rattle.rust_metas.specs.Conditions.{behind_comma, condition}
 use Rattle.rust_metas.specs.Literals.{is_truth, is_literal, is_ended, root, next_literal, value}
-use Rattle.rust_metas.specs.Metas.{assigned, input, plain, is_call, member, meta_with, meta}
+use Rattle.rust_metas.specs.Metas.{assigned, input, plain_meta, is_call, member, meta_with, meta}
 use Rattle.rust_metas.proofs.Alike.{behind_comma_onward, ended_same, inside, inside_until, condition_until}
 use Rattle.rust_metas.proofs.Around.{literal_symbol}
 use Rattle.rust_metas.proofs.Leads.{behind_comma_leads, condition_leads, input_leads, member_leads, meta_leads}
@@ -52,8 +52,8 @@ input_until b enter a a' count p ts us h =
     cond_until (symbol_test b.twins 61 ts us h) (λ f. assigned_until b a a' count p ts us h f)
     (λ _. cond_until (open_same b.twins ts us h) (λ _. map_until (λ z. token_tree_meta p z root) (enter.text ts us h)) (λ _. kept (record { value = refl; rest = h })))
 
-plain_until : (b : Parting) → Entering b → (a a' : ℕ) → Counted b a a' → UpTo b (plain a) (plain a')
-unfolding plain
+plain_until : (b : Parting) → Entering b → (a a' : ℕ) → Counted b a a' → UpTo b (plain_meta a) (plain_meta a')
+unfolding plain_meta
 plain_until b enter a a' count = bind_until b path path (input a) (input a') (path_until b) (input_until b enter a a' count) (input_leads a) (input_leads a')
 
 -- ---- what stands in brackets behind a word

@@ -28,9 +28,9 @@ use Rattle.rust_paths.proofs.Leads.{path_leads}
 use Rattle.rust_paths.proofs.Around.{name_around, path_within}
 use Rattle.rust_cursor.specs.Nests.{is_literal_kind}
 use Rattle.rust_metas.specs.Literals.{is_truth, is_literal, is_ended, style_by, value, documentation}
-use Rattle.rust_metas.specs.Conditions.{comma_from, behind_comma, is_word_kind, is_option_word, option_name, pair, named, if_named, ended, condition_with, conditions, condition}
-use Rattle.rust_metas.specs.Metas.{input, plain, is_call, member, meta_with, meta, doc}
-use Rattle.rust_metas.specs.Attributes.{behind_docs_from, behind_docs, behind_attribute, deepest, is_style, is_doc, is_attribute, is_behind, bracketed, opened, one_attribute, attribute, attributes, inner_attributes}
+use Rattle.rust_metas.specs.Conditions.{comma_from, behind_comma, is_word_kind, is_option_word, option_name, pair, named_condition, if_named, ended_condition, condition_with, conditions, condition}
+use Rattle.rust_metas.specs.Metas.{input, plain_meta, is_call, member, meta_with, meta, doc}
+use Rattle.rust_metas.specs.Attributes.{behind_docs_from, behind_docs, behind_attribute, deepest, is_style, is_doc, is_attribute, is_behind, bracketed, past_mark, one_attribute, attribute, attributes, inner_attributes}
 use Rattle.rust_metas.proofs.Leads.{option_name_leads, if_named_leads, condition_with_leads, conditions_leads, condition_leads, member_leads, meta_leads, attribute_leads}
 
 -- ---- literals
@@ -111,7 +111,7 @@ pair_around c key ts e =
     when (is_literal_kind (kind (bumped ts))) (λ f. rw f (plain_around c (bumped ts) (kind_symbol (bumped ts) f) ∙ first)) (λ f. rw f first)
 
 module _ (end : ℕ) (inside : Reader (Option (List CfgView))) (i : (c : ℕ) → Remains end c inside) (f : Forwards inside) where
-  named_within : (c : ℕ) (w : List ℕ) → Remains end c (named inside w)
+  named_within : (c : ℕ) (w : List ℕ) → Remains end c (named_condition inside w)
   named_within c w ts s =
       when (is_at_open ts)
       (λ e. rw e (inside_within end c ts (inside (bumped ts)).1 s (opens_at end ts s e) (f (bumped ts)) (i (symbol ts) (bumped ts) (sound_on end (bumped_leads ts) s))))
@@ -122,7 +122,7 @@ module _ (end : ℕ) (inside : Reader (Option (List CfgView))) (i : (c : ℕ) �
   if_named_within c (Some w) ts s = named_within c w ts s
 
   condition_with_within : (c : ℕ) → Remains end c (condition_with inside)
-  unfolding ended
+  unfolding ended_condition
   condition_with_within c ts s =
       let first = option_name ts in
       let second = if_named inside first.0 first.1 in
@@ -148,8 +148,8 @@ input_within end c anchor p ts s =
     when (symbol ts == 61) (λ e. rw e (same_within c _ ts (value_around c anchor (bumped ts) ∙ other_around c 61 ts refl e)))
     (λ e. rw e (when (is_at_open ts) (λ f. rw f (tree_text_within c ts (opens_no_closer (symbol ts) (opens_at end ts s f)))) (λ f. rw f here)))
 
-plain_within : (end c anchor : ℕ) → Remains end c (plain anchor)
-unfolding plain
+plain_within : (end c anchor : ℕ) → Remains end c (plain_meta anchor)
+unfolding plain_meta
 plain_within end c anchor ts s = through (input_within end c anchor (path ts).0 (path ts).1 (sound_on end (path_leads ts) s)) (path_within end c ts s)
 
 -- behind a word and a bracket
@@ -215,7 +215,7 @@ bracketed_within end c anchor ts s e =
     (λ f. rw f (through (meta_within end anchor deepest c (bumped ts) s1) (entered_within c ts (square_opens ts e))))
     (λ f. rw f (subst (λ (b : ℕ). Within c (behind_closed b us) ts) is (inside_within end c ts us s (square_opens ts e) (meta_leads anchor deepest (bumped ts)) (meta_within end anchor deepest (symbol ts) (bumped ts) s1))))
 
-opened_within : (end c anchor : ℕ) (style : DocStyle) (ts : Tokens) → IsSound end ts → is_attribute style ts ≡ true → Within c (bracketed anchor (opened style ts)).1 ts
+opened_within : (end c anchor : ℕ) (style : DocStyle) (ts : Tokens) → IsSound end ts → is_attribute style ts ≡ true → Within c (bracketed anchor (past_mark style ts)).1 ts
 unfolding is_attribute
 opened_within end c anchor Outer ts s e =
     let both = both_true (symbol ts == 35) (symbol (bumped ts) == 91) e in

@@ -14,9 +14,9 @@ use Rattle.rust_cursor.proofs.Leads.{LeadsTo, here, further, through, Forwards, 
 use Rattle.rust_paths.proofs.Leads.{name_leads, path_leads}
 use Rattle.rust_cursor.specs.Nests.{is_literal_kind}
 use Rattle.rust_metas.specs.Literals.{is_literal, is_ended, value, documentation}
-use Rattle.rust_metas.specs.Conditions.{comma_from, behind_comma, is_option_word, option_name, pair, named, if_named, ended, condition_with, conditions, condition}
-use Rattle.rust_metas.specs.Metas.{input, plain, is_call, unsafe_with, cfg_with, member, cfg_attr_with, meta_with, meta, doc}
-use Rattle.rust_metas.specs.Attributes.{is_doc, is_behind, behind_bracket, bracketed, opened, one_attribute, behind_docs_from, behind_docs, behind_attribute, attribute, attributes, outer_attributes, inner_attributes}
+use Rattle.rust_metas.specs.Conditions.{comma_from, behind_comma, is_option_word, option_name, pair, named_condition, if_named, ended_condition, condition_with, conditions, condition}
+use Rattle.rust_metas.specs.Metas.{input, plain_meta, is_call, unsafe_with, cfg_meta_with, member, cfg_attr_with, meta_with, meta, doc}
+use Rattle.rust_metas.specs.Attributes.{is_doc, is_behind, behind_bracket, bracketed, past_mark, one_attribute, behind_docs_from, behind_docs, behind_attribute, attribute, attributes, outer_attributes, inner_attributes}
 
 -- ---- literals
 
@@ -48,7 +48,7 @@ pub pair_leads : (key : List ℕ) → Forwards (pair key)
 unfolding pair
 pair_leads key ts = when (is_literal_kind (kind (bumped ts))) (λ e. rw e (further (bumped_leads _))) (λ e. rw e (bumped_leads ts))
 
-pub named_leads : (inside : Reader (Option (List CfgView))) → Forwards inside → (word : List ℕ) → Forwards (named inside word)
+pub named_leads : (inside : Reader (Option (List CfgView))) → Forwards inside → (word : List ℕ) → Forwards (named_condition inside word)
 named_leads inside i word ts =
     when (is_at_open ts) (λ e. rw e (further (through (i _) (behind_closed_leads _ _))))
     (λ e. rw e (when (symbol ts == 61) (λ f. rw f (pair_leads word ts)) (λ f. rw f here)))
@@ -57,8 +57,8 @@ pub if_named_leads : (inside : Reader (Option (List CfgView))) → Forwards insi
 if_named_leads inside i None ts = here
 if_named_leads inside i (Some word) ts = named_leads inside i word ts
 
-pub ended_leads : (c : CfgView) → Forwards (ended c)
-unfolding ended
+pub ended_leads : (c : CfgView) → Forwards (ended_condition c)
+unfolding ended_condition
 ended_leads c ts = behind_comma_leads ts
 
 pub condition_with_leads : (inside : Reader (Option (List CfgView))) → Forwards inside → Forwards (condition_with inside)
@@ -81,15 +81,15 @@ input_leads anchor path ts =
     when (symbol ts == 61) (λ e. rw e (further (value_leads anchor _)))
     (λ e. rw e (when (is_at_open ts) (λ f. rw f (taken_leads_on _ _ ts)) (λ f. rw f here)))
 
-pub plain_leads : (anchor : ℕ) → Forwards (plain anchor)
-unfolding plain
+pub plain_leads : (anchor : ℕ) → Forwards (plain_meta anchor)
+unfolding plain_meta
 plain_leads anchor ts = through (path_leads ts) (input_leads anchor _ _)
 
 module _ (inner : Reader MetaView) (condition : Reader CfgView) (i : Forwards inner) (c : Forwards condition) where
   pub unsafe_leads : Forwards (unsafe_with inner)
   unsafe_leads ts = further (further (through (i _) (behind_closed_leads _ _)))
 
-  pub cfg_leads : Forwards (cfg_with condition)
+  pub cfg_leads : Forwards (cfg_meta_with condition)
   cfg_leads ts = further (further (through (c _) (behind_closed_leads _ _)))
 
   pub member_leads : Forwards (member inner)
@@ -122,7 +122,7 @@ pub bracketed_leads : (anchor : ℕ) → Forwards (bracketed anchor)
 unfolding bracketed
 bracketed_leads anchor ts = further (through (meta_leads anchor _ _) (behind_bracket_leads _))
 
-pub opened_leads : (style : DocStyle) (ts : Tokens) → LeadsTo ts (opened style ts)
+pub opened_leads : (style : DocStyle) (ts : Tokens) → LeadsTo ts (past_mark style ts)
 opened_leads Outer ts = bumped_leads ts
 opened_leads Inner ts = further (bumped_leads _)
 

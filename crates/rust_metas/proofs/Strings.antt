@@ -3,7 +3,7 @@ use Rattle.std.proofs.Common.{◌≡◌, ◌==◌, ◌≤◌, ◌++◌, ◌∷�
 use Rattle.std.proofs.lemmas.List.{append_assoc}
 use Rattle.std.proofs.lemmas.Bool.{ne_eqb}
 use Rattle.std.specs.Option.{option_and_then}
-use Rattle.rust_metas.specs.Strings.{prepend, character, unescaped, pushed, beside, ended}
+use Rattle.rust_metas.specs.Strings.{prepend, escaped_character, unescaped, pushed, beside, ended_string}
 
 prepend-prepend : (xs ys : List ℕ) (rest : Option (List ℕ)) → prepend xs (prepend ys rest) ≡ prepend (xs ++ ys) rest
 prepend-prepend xs ys None = refl
@@ -25,28 +25,28 @@ step (Some p) out new z n e =
     prepend-prepend out p.0 (unescaped p.1 z) ∙ ap (λ xs. prepend xs (unescaped p.1 z)) bytes ∙ ap (prepend new) (ap (λ k. unescaped k z) len ∙ unescaped-drop n z)
 
 -- one more character
-pub unescaped_more : (z rest after out new : List ℕ) (len : Option ℕ) (n : ℕ) → 1 ≤ length z → (get_or z 0 0 ≡ 34 → ⊥) → rest ≡ drop 1 z → pushed out (character (get_or z 0 0) rest) ≡ beside new len → len ≡ Some n
+pub unescaped_more : (z rest after out new : List ℕ) (len : Option ℕ) (n : ℕ) → 1 ≤ length z → (get_or z 0 0 ≡ 34 → ⊥) → rest ≡ drop 1 z → pushed out (escaped_character (get_or z 0 0) rest) ≡ beside new len → len ≡ Some n
     → after ≡ drop n rest → prepend new (unescaped 0 after) ≡ prepend out (unescaped 0 z)
 unescaped_more [] rest after out new len n l q r e f a = absurd (omega arith)
 unescaped_more (b ∷ z) rest after out new len n l q r e f a =
     let other : (b == 34) ≡ false = ne_eqb b 34 q in
-    let told : pushed out (character b z) ≡ beside new (Some n) = ap (λ k. pushed out (character b k)) (sym r) ∙ e ∙ ap (beside new) f in
-    rw other (sym (step (character b z) out new z n told ∙ ap (λ k. prepend new (unescaped 0 (drop n k))) (sym r) ∙ ap (λ k. prepend new (unescaped 0 k)) (sym a)))
+    let told : pushed out (escaped_character b z) ≡ beside new (Some n) = ap (λ k. pushed out (escaped_character b k)) (sym r) ∙ e ∙ ap (beside new) f in
+    rw other (sym (step (escaped_character b z) out new z n told ∙ ap (λ k. prepend new (unescaped 0 (drop n k))) (sym r) ∙ ap (λ k. prepend new (unescaped 0 k)) (sym a)))
 
 none_by : (read : Option (List ℕ × ℕ)) (out new z : List ℕ) → pushed out read ≡ None → None ≡ prepend out (option_and_then (λ p. prepend p.0 (unescaped p.1 z)) read)
 none_by None out new z e = refl
 none_by (Some p) out new z e = absurd cc
 
 -- no escape
-pub unescaped_none : (z rest out new : List ℕ) (len : Option ℕ) → 1 ≤ length z → (get_or z 0 0 ≡ 34 → ⊥) → rest ≡ drop 1 z → pushed out (character (get_or z 0 0) rest) ≡ beside new len → len ≡ None
+pub unescaped_none : (z rest out new : List ℕ) (len : Option ℕ) → 1 ≤ length z → (get_or z 0 0 ≡ 34 → ⊥) → rest ≡ drop 1 z → pushed out (escaped_character (get_or z 0 0) rest) ≡ beside new len → len ≡ None
     → None ≡ prepend out (unescaped 0 z)
 unescaped_none [] rest out new len l q r e f = absurd (omega arith)
 unescaped_none (b ∷ z) rest out new len l q r e f =
     let other : (b == 34) ≡ false = ne_eqb b 34 q in
-    let told : pushed out (character b z) ≡ beside new None = ap (λ k. pushed out (character b k)) (sym r) ∙ e ∙ ap (beside new) f in
-    rw other (none_by (character b z) out new z told)
+    let told : pushed out (escaped_character b z) ≡ beside new None = ap (λ k. pushed out (escaped_character b k)) (sym r) ∙ e ∙ ap (beside new) f in
+    rw other (none_by (escaped_character b z) out new z told)
 
 -- the quote
-pub unescaped_end : (z rest out : List ℕ) → 1 ≤ length z → get_or z 0 0 ≡ 34 → rest ≡ drop 1 z → prepend out (ended 0 rest) ≡ prepend out (unescaped 0 z)
+pub unescaped_end : (z rest out : List ℕ) → 1 ≤ length z → get_or z 0 0 ≡ 34 → rest ≡ drop 1 z → prepend out (ended_string 0 rest) ≡ prepend out (unescaped 0 z)
 unescaped_end [] rest out l q r = absurd (omega arith)
 unescaped_end (b ∷ z) rest out l q r = rw (q, r) refl

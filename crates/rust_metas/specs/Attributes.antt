@@ -46,13 +46,13 @@ bracketed anchor = do
   _ ← pass behind_bracket
   pure m
 
-abbrev pub opened : DocStyle → Tokens → Tokens
-opened Outer ts = bumped ts
-opened Inner ts = bumped (bumped ts)
+abbrev pub past_mark : DocStyle → Tokens → Tokens
+past_mark Outer ts = bumped ts
+past_mark Inner ts = bumped (bumped ts)
 
 -- OuterAttribute or InnerAttribute
 unfoldable pub one_attribute : ℕ → DocStyle → Reader MetaView
-one_attribute anchor style ts = if is_doc style ts then doc anchor ts else bracketed anchor (opened style ts)
+one_attribute anchor style ts = if is_doc style ts then doc anchor ts else bracketed anchor (past_mark style ts)
 
 abbrev pub behind_docs_from : ℕ → Tokens → Tokens
 behind_docs_from zero ts = ts

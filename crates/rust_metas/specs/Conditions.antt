@@ -3,7 +3,7 @@ use Rattle.std.specs.Prelude.{ℕ, zero, suc, Bool, true, false, ◌==◌, ◌||
 use Rattle.std.specs.Str.{bytes_eq}
 use Rattle.rust_lexer.specs.declared.kind.TokenKind.{TokenKind}
 use Rattle.rust_lexer.specs.declared.kind.TokenKind.TheVariants as kinds
-use Rattle.hir_input.specs.Cfg.{CfgView, invalid, atom, all_of, any_of, not_of, cfgs_from, flag, key_value}
+use Rattle.hir_input.specs.Cfg.{CfgView, invalid, atom, all_of, any_of, not_of, cfgs_from, flag_atom, key_value}
 use Rattle.rust_cursor.specs.Tokens.{Tokens}
 use Rattle.rust_cursor.specs.Reader.{Reader, ◌>>=◌, pure, look, pass}
 use Rattle.rust_cursor.specs.Words.{symbol, kind, text, bump, bumped, is_at_end, is_at_open}
@@ -71,25 +71,25 @@ group inside word = do
   _ ← pass (behind_closed bracket)
   pure (composed word conditions)
 
-abbrev pub named : Reader (Option (List CfgView)) → List ℕ → Reader CfgView
-named inside word ts =
+abbrev pub named_condition : Reader (Option (List CfgView)) → List ℕ → Reader CfgView
+named_condition inside word ts =
     if is_at_open ts then group inside word ts
-    else (if symbol ts == 61 then pair word ts else (atom (flag word), ts))
+    else (if symbol ts == 61 then pair word ts else (atom (flag_atom word), ts))
 
 abbrev pub if_named : Reader (Option (List CfgView)) → Option (List ℕ) → Reader CfgView
 if_named inside None ts = (invalid, ts)
-if_named inside (Some word) ts = named inside word ts
+if_named inside (Some word) ts = named_condition inside word ts
 
 -- a condition up to a comma; with more behind it, it is none
-unfoldable pub ended : CfgView → Reader CfgView
-ended c ts = (if is_ended ts then c else invalid, behind_comma ts)
+unfoldable pub ended_condition : CfgView → Reader CfgView
+ended_condition c ts = (if is_ended ts then c else invalid, behind_comma ts)
 
 -- ConfigurationPredicate and the comma behind it, by what reads those inside
 abbrev pub condition_with : Reader (Option (List CfgView)) → Reader CfgView
 condition_with inside = do
   word ← option_name
   c ← if_named inside word
-  ended c
+  ended_condition c
 
 abbrev pub some : {A : Type 0} → A × Tokens → Option A × Tokens
 some r = (Some r.0, r.1)

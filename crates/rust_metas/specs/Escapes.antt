@@ -8,8 +8,8 @@ abbrev pub stands_for : ℕ → ℕ → Escape
 stands_for character len = record { character = Some character; len = len }
 
 -- QUOTE_ESCAPE and ASCII_ESCAPE of one letter
-abbrev pub letter : ℕ → Option ℕ
-letter b =
+abbrev pub escape_letter : ℕ → Option ℕ
+escape_letter b =
     if b == 110 then Some 10
     else (if b == 114 then Some 13
     else (if b == 116 then Some 9
@@ -44,13 +44,13 @@ abbrev pub unicode : List ℕ → Option Escape
 unicode [] = None
 unicode (b ∷ z) = if b == 123 then scalar_of (number_from 0 0 z) else None
 
-abbrev pub is_blank : ℕ → Bool
-is_blank b = b == 32 || b == 9 || b == 10 || b == 13
+abbrev pub is_escaped_blank : ℕ → Bool
+is_escaped_blank b = b == 32 || b == 9 || b == 10 || b == 13
 
 -- how many blank bytes come first
 abbrev pub blanks : List ℕ → ℕ
 blanks [] = 0
-blanks (b ∷ z) = if is_blank b then suc (blanks z) else 0
+blanks (b ∷ z) = if is_escaped_blank b then suc (blanks z) else 0
 
 -- a line's end
 abbrev pub is_feed : ℕ → List ℕ → Bool
@@ -65,4 +65,4 @@ escape [] = None
 escape (b ∷ z) =
     if b == 120 then hex z
     else (if b == 117 then unicode z
-    else (if is_feed b z then Some (record { character = None; len = suc (blanks z) }) else lettered (letter b)))
+    else (if is_feed b z then Some (record { character = None; len = suc (blanks z) }) else lettered (escape_letter b)))

@@ -15,7 +15,7 @@ use Rattle.rust_cursor.specs.Nests.{is_literal_kind}
 use Rattle.rust_cursor.specs.Tokens.{Tokens}
 use Rattle.rust_cursor.specs.Reader.{Reader}
 use Rattle.rust_cursor.specs.Words.{symbol, word, kind, text, at, bumped, is_at_end}
-use Rattle.rust_metas.specs.Strings.{as_text, and_text, unescaped, raw, written}
+use Rattle.rust_metas.specs.Strings.{as_text, and_text, unescaped, raw_string_bytes, written}
 
 -- where all that is written in a text comes from
 abbrev pub root : SyntaxContext
@@ -34,7 +34,7 @@ span_from anchor start end = record { start = place (start - anchor); end = plac
 -- the string of a literal of this kind and text, if it is a string or a raw string without a suffix
 abbrev pub string_of : LiteralKind → List ℕ → Option (List ℕ)
 string_of literals.Str z = and_text (unescaped 0 (drop 1 z))
-string_of literals.RawStr z = and_text (raw (drop 1 z))
+string_of literals.RawStr z = and_text (raw_string_bytes (drop 1 z))
 string_of _ z = None
 
 abbrev pub string_by : Option TokenKind → List ℕ → Option (List ℕ)

@@ -24,17 +24,17 @@ assigned anchor path = do
   value ← value anchor
   pure (key_value_meta path value root)
 
-abbrev pub called : Option PathNode → Reader MetaView
-called path = do
+abbrev pub called_meta : Option PathNode → Reader MetaView
+called_meta path = do
   tokens ← tree_text
   pure (token_tree_meta path tokens root)
 
 -- AttrInput: `=` and a value, a token tree, or nothing
 unfoldable pub input : ℕ → Option PathNode → Reader MetaView
-input anchor path ts = if symbol ts == 61 then assigned anchor path ts else (if is_at_open ts then called path ts else (path_meta path root, ts))
+input anchor path ts = if symbol ts == 61 then assigned anchor path ts else (if is_at_open ts then called_meta path ts else (path_meta path root, ts))
 
-unfoldable pub plain : ℕ → Reader MetaView
-plain anchor = do
+unfoldable pub plain_meta : ℕ → Reader MetaView
+plain_meta anchor = do
   path ← path
   input anchor path
 
@@ -53,8 +53,8 @@ unsafe_with inner = do
   _ ← pass (behind_closed bracket)
   pure (unsafe_meta m)
 
-abbrev pub cfg_with : Reader CfgView → Reader MetaView
-cfg_with condition = do
+abbrev pub cfg_meta_with : Reader CfgView → Reader MetaView
+cfg_meta_with condition = do
   _ ← bump
   bracket ← look symbol
   _ ← bump
@@ -83,8 +83,8 @@ cfg_attr_with inner condition = do
 abbrev pub meta_with : ℕ → Reader MetaView → Reader CfgView → Reader MetaView
 meta_with anchor inner condition ts =
     if is_call (codes "unsafe") ts then unsafe_with inner ts
-    else (if is_call (codes "cfg") ts then cfg_with condition ts
-    else (if is_call (codes "cfg_attr") ts then cfg_attr_with inner condition ts else plain anchor ts))
+    else (if is_call (codes "cfg") ts then cfg_meta_with condition ts
+    else (if is_call (codes "cfg_attr") ts then cfg_attr_with inner condition ts else plain_meta anchor ts))
 
 -- A meta. The second number bounds how deep metas and conditions stand in one another; a deeper meta is one without a path.
 unfoldable pub meta : ℕ → ℕ → Reader MetaView

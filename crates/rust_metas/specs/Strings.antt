@@ -18,8 +18,8 @@ abbrev pub prepend : List ℕ → Option (List ℕ) → Option (List ℕ)
 prepend front rest = option_map (λ bytes. front ++ bytes) rest
 
 -- the end of a string, if just so many bytes stand behind its quote: a suffix makes it no string
-abbrev pub ended : ℕ → List ℕ → Option (List ℕ)
-ended count z = if length z == count then Some [] else None
+abbrev pub ended_string : ℕ → List ℕ → Option (List ℕ)
+ended_string count z = if length z == count then Some [] else None
 
 -- ---- with escapes
 
@@ -28,8 +28,8 @@ encoded None = []
 encoded (Some c) = encode_utf8 c
 
 -- what a byte stands for, with how many bytes behind it
-unfoldable pub character : ℕ → List ℕ → Option (List ℕ × ℕ)
-character b z = if b == 92 then option_map (λ e. (encoded e.character, e.len)) (escape z) else Some (b ∷ [], 0)
+unfoldable pub escaped_character : ℕ → List ℕ → Option (List ℕ × ℕ)
+escaped_character b z = if b == 92 then option_map (λ e. (encoded e.character, e.len)) (escape z) else Some (b ∷ [], 0)
 
 -- the bytes so far with those that were read, and how many bytes are left of an escape
 abbrev pub pushed : List ℕ → Option (List ℕ × ℕ) → Option (List ℕ × ℕ)
@@ -44,7 +44,7 @@ beside bytes (Some n) = Some (bytes, n)
 abbrev pub unescaped : ℕ → List ℕ → Option (List ℕ)
 unescaped left [] = None
 unescaped (suc left) (b ∷ z) = unescaped left z
-unescaped zero (b ∷ z) = if b == 34 then ended 0 z else option_and_then (λ p. prepend p.0 (unescaped p.1 z)) (character b z)
+unescaped zero (b ∷ z) = if b == 34 then ended_string 0 z else option_and_then (λ p. prepend p.0 (unescaped p.1 z)) (escaped_character b z)
 
 -- ---- raw
 
@@ -59,11 +59,11 @@ is_end count b z = b == 34 && not (nat_lt (hashes z) count)
 -- the bytes up to a quote with so many `#` behind it
 abbrev pub raw_from : ℕ → List ℕ → Option (List ℕ)
 raw_from count [] = None
-raw_from count (b ∷ z) = if is_end count b z then ended count z else prepend (b ∷ []) (raw_from count z)
+raw_from count (b ∷ z) = if is_end count b z then ended_string count z else prepend (b ∷ []) (raw_from count z)
 
 -- the bytes of a raw string behind its `r`
-abbrev pub raw : List ℕ → Option (List ℕ)
-raw z = raw_from (hashes z) (drop 1 (drop (hashes z) z))
+abbrev pub raw_string_bytes : List ℕ → Option (List ℕ)
+raw_string_bytes z = raw_from (hashes z) (drop 1 (drop (hashes z) z))
 
 -- ---- written
 

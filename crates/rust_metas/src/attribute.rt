@@ -35,7 +35,7 @@ fn is_doc(cursor: &Cursor<'_>, style: DocStyle) -> bool
 
 /// Passes over the `#`, and the `!` of an inner attribute.
 fn pass_mark(cursor: &mut Cursor<'_>, style: DocStyle)
-    ensures { cursor.new ≡ spec.opened style cursor.old }
+    ensures { cursor.new ≡ spec.past_mark style cursor.old }
 {
     cursor.bump();
     if style == DocStyle::Inner {

@@ -149,7 +149,7 @@ fn named(
     depth: usize,
 ) -> Result<CfgExpr, AllocError>
     ensures { Gives cfg_view
-        (spec.named (spec.conditions depth) word cursor.old) result cursor.new }
+        (spec.named_condition (spec.conditions depth) word cursor.old) result cursor.new }
 {
     if cursor.is_at_open() {
         return group(alloc, cursor, word, depth);
@@ -178,9 +178,9 @@ fn if_named(
 }
 
 /// A condition that goes up to a comma. With more behind it, it is none.
-#[tactic(auto, unfolding(crate::specs::Conditions::ended), using(hir_input::proofs::CfgLemmas::cfg_views))]
+#[tactic(auto, unfolding(crate::specs::Conditions::ended_condition), using(hir_input::proofs::CfgLemmas::cfg_views))]
 fn ended(cursor: &mut Cursor<'_>, condition: CfgExpr) -> CfgExpr
-    ensures { spec.ended (cfg_view condition) cursor.old ≡ (cfg_view result, cursor.new) }
+    ensures { spec.ended_condition (cfg_view condition) cursor.old ≡ (cfg_view result, cursor.new) }
 {
     let is_whole = is_ended(cursor);
     pass_comma(cursor);

@@ -32,7 +32,7 @@ fn digit(b: u8) -> u32
 
 /// The character of an escape of one letter.
 fn letter(b: u8) -> Option<char>
-    ensures { result ≡ spec.letter b }
+    ensures { result ≡ spec.escape_letter b }
 {
     match b {
         b'n' => Some('\n'),

@@ -41,7 +41,7 @@ fn called(
     cursor: &mut Cursor<'_>,
     path: Option<PathNode>,
 ) -> Result<Meta, AllocError>
-    ensures { Gives meta_view (spec.called path cursor.old) result cursor.new }
+    ensures { Gives meta_view (spec.called_meta path cursor.old) result cursor.new }
 {
     let rendered = cursor.tree_text(alloc)?;
     Ok(Meta::TokenTree {
@@ -71,9 +71,9 @@ fn input(
 }
 
 /// A path and its input.
-#[tactic(auto, unfolding(crate::specs::Metas::plain))]
+#[tactic(auto, unfolding(crate::specs::Metas::plain_meta))]
 fn plain(alloc: Global, cursor: &mut Cursor<'_>, anchor: usize) -> Result<Meta, AllocError>
-    ensures { Gives meta_view (spec.plain anchor cursor.old) result cursor.new }
+    ensures { Gives meta_view (spec.plain_meta anchor cursor.old) result cursor.new }
 {
     let path = path(alloc, cursor)?;
     input(alloc, cursor, anchor, path)
@@ -96,7 +96,7 @@ fn is_call(cursor: &Cursor<'_>, word: &str) -> bool
 #[tactic(auto, using(hir_input::proofs::MetaLemmas::meta_views))]
 fn cfg(alloc: Global, cursor: &mut Cursor<'_>, depth: usize) -> Result<Meta, AllocError>
     ensures { Gives meta_view
-        (spec.cfg_with (conditions.condition depth) cursor.old) result cursor.new }
+        (spec.cfg_meta_with (conditions.condition depth) cursor.old) result cursor.new }
 {
     cursor.bump();
     let bracket = cursor.symbol();

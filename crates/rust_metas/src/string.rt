@@ -17,9 +17,9 @@ pub(crate) fn text_from(bytes: Vec<u8>) -> Option<String>
 }
 
 /// Takes in what a byte stands for with those behind it, and tells how many of these it is.
-#[tactic(auto, unfolding(crate::specs::Strings::character))]
+#[tactic(auto, unfolding(crate::specs::Strings::escaped_character))]
 fn push_character(out: &mut Vec<u8>, b: u8, z: &[u8]) -> Result<Option<usize>, AllocError>
-    ensures { IfOk result (λ len. spec.pushed out.old.items (spec.character b z.now)
+    ensures { IfOk result (λ len. spec.pushed out.old.items (spec.escaped_character b z.now)
         ≡ spec.beside out.new.items len) }
 {
     if b != b'\\' {
@@ -39,7 +39,7 @@ fn push_character(out: &mut Vec<u8>, b: u8, z: &[u8]) -> Result<Option<usize>, A
 
 /// These bytes, if just so many stand behind a quote.
 fn ended(bytes: Vec<u8>, count: usize, z: &[u8]) -> Option<Vec<u8>>
-    ensures { option_map (λ v. v.items) result ≡ spec.prepend bytes.items (spec.ended count z.now) }
+    ensures { option_map (λ v. v.items) result ≡ spec.prepend bytes.items (spec.ended_string count z.now) }
 {
     if z.len() == count {
         return Some(bytes);
@@ -113,7 +113,7 @@ pub(crate) fn behind(z: &[u8], count: usize) -> &[u8]
 
 /// The bytes of a raw string behind its `r`.
 pub(crate) fn raw(alloc: Global, z: &[u8]) -> Result<Option<Vec<u8>>, AllocError>
-    ensures { IfOk result (λ v. option_map (λ v. v.items) v ≡ spec.raw z.now) }
+    ensures { IfOk result (λ v. option_map (λ v. v.items) v ≡ spec.raw_string_bytes z.now) }
 {
     let count = hashes(z);
     raw_from(alloc, count, behind(behind(z, count), 1))

@@ -15,7 +15,7 @@ use Rattle.rust_cursor.proofs.Parting.{Parting, Until, UpTo, kept, cond_until, w
 use Rattle.rust_cursor.proofs.Twins.{is_edge, symbol_same, word_same, kind_same, text_same, edge_word, edge_test, word_test, symbol_test, after_word, after_symbol, pair_same, after_pair}
 use Rattle.rust_paths.specs.Meaning.{path_node}
 use Rattle.rust_paths.specs.Names.{name_text, has_name, as_name, next_name, taken_with, name}
-use Rattle.rust_paths.specs.Paths.{is_raw, is_dollar_crate, is_segment, named_word, other_segment, segment, is_colons, is_joint, is_path_colons, and_word, more_from, more_segments, front, written_path, is_path_start, path_in, path, use_path}
+use Rattle.rust_paths.specs.Paths.{is_raw, is_dollar_crate, is_segment, named_word, other_segment, segment, is_colons, is_joint, is_path_colons, and_path_word, more_from, more_segments, front_of_path, written_path, is_path_start, path_in, path, use_path}
 use Rattle.rust_paths.specs.Visibilities.{in_path, path_scope, plain_scope, scope_of, scope, is_in, scoped, visibility}
 use Rattle.rust_paths.proofs.Around.{name_symbol, raw_symbol}
 use Rattle.rust_paths.proofs.Leads.{segment_leads, more_from_leads, more_segments_leads}
@@ -119,7 +119,7 @@ more_until : (b : Parting) (in_use : Bool) (n : ℕ) → UpTo b (more_from in_us
 more_until b in_use zero ts us h = kept (record { value = refl; rest = h })
 more_until b in_use (suc n) ts us h =
     cond_until (path_colons_same b in_use ts us h)
-    (λ e. then_until b (λ w us. and_word w (more_from in_use n us)) (λ w us. and_word w (more_from in_use n us)) (λ w. more_from_leads in_use n) (λ w. more_from_leads in_use n)
+    (λ e. then_until b (λ w us. and_path_word w (more_from in_use n us)) (λ w us. and_path_word w (more_from in_use n us)) (λ w. more_from_leads in_use n) (λ w. more_from_leads in_use n)
     (λ w ts us h. map_until (λ l. w ∷ l) (more_until b in_use n ts us h))
     (segment_until b (bumped (bumped ts)) (bumped (bumped us)) (colons_behind b ts us h (are_colons in_use ts e))))
     (λ _. kept (record { value = refl; rest = h }))
@@ -133,7 +133,7 @@ path_behind : Bool → Bool → Reader PathNode
 path_behind in_use absolute = do
   first ← segment
   more ← more_segments in_use
-  pure (path_node (front absolute (first ∷ more)))
+  pure (path_node (front_of_path absolute (first ∷ more)))
 
 path_behind_leads : (in_use absolute : Bool) → Forwards (path_behind in_use absolute)
 unfolding path_behind
@@ -143,7 +143,7 @@ path_behind_until : (b : Parting) (in_use absolute : Bool) → UpTo b (path_behi
 unfolding path_behind
 path_behind_until b in_use absolute =
     bind_until b segment segment _ _ (segment_until b)
-    (λ first ts us h. map_until (λ more. path_node (front absolute (first ∷ more))) (more_segments_until b in_use ts us h))
+    (λ first ts us h. map_until (λ more. path_node (front_of_path absolute (first ∷ more))) (more_segments_until b in_use ts us h))
     (λ first ts. more_segments_leads in_use ts) (λ first ts. more_segments_leads in_use ts)
 
 written_until : (b : Parting) (in_use : Bool) → UpTo b (written_path in_use) (written_path in_use)

@@ -15,7 +15,7 @@ use Rattle.rust_cursor.proofs.Places.{AreAlike, no_more, one_more, alike_join, I
 use Rattle.rust_cursor.proofs.Twins.{end_same, symbol_test, after_symbol}
 use Rattle.rust_paths.specs.Names.{name}
 use Rattle.rust_paths.specs.Paths.{use_path}
-use Rattle.rust_paths.specs.UseTrees.{Found, alias, alias_if, rename, begun, with_bare, listed, begun_list, with_list, star_or_list, renamed_tree, tree_behind, tree_with, comma_from, behind_comma, element_with, values, all_starts, first_too_deep, all_found, trees, some_list, no_list, list, tree_at, use_tree}
+use Rattle.rust_paths.specs.UseTrees.{FoundInUse, alias, alias_if, rename, begun_trees, with_bare, tree_with_list, begun_list, with_list, star_or_list, renamed_tree, tree_behind, tree_with, tree_comma_from, tree_behind_comma, element_with, values, all_starts, first_too_deep, all_found, trees, some_list, no_list, list, tree_at, use_tree}
 use Rattle.rust_paths.proofs.Alike.{name_until, use_path_until}
 use Rattle.rust_paths.proofs.Leads.{alias_if_leads, comma_from_leads, behind_comma_leads, tree_behind_leads, element_leads, list_leads}
 
@@ -37,12 +37,12 @@ rename_until b = bind_until b (eat_word (codes "as")) (eat_word (codes "as")) al
 -- ---- what is found
 
 -- the same trees, where what is told of places is alike
-pub record SameFound (place : ℕ → ℕ → Type 0) {A : Type 0} (f g : Found A) : Type 0 where
+pub record SameFound (place : ℕ → ℕ → Type 0) {A : Type 0} (f g : FoundInUse A) : Type 0 where
   pub value : g.value ≡ f.value
   pub starts : AreAlike place f.starts g.starts
   pub too_deep : IsAlike place f.too_deep g.too_deep
 
-begun_same : (place : ℕ → ℕ → Type 0) (p : Option PathNode) (s s' : ℕ) (l l' : List ℕ) → place s s' → AreAlike place l l' → AreAlike place (begun p s l) (begun p s' l')
+begun_same : (place : ℕ → ℕ → Type 0) (p : Option PathNode) (s s' : ℕ) (l l' : List ℕ) → place s s' → AreAlike place l l' → AreAlike place (begun_trees p s l) (begun_trees p s' l')
 begun_same place None s s' l l' h k = one_more h k
 begun_same place (Some Unreadable) s s' l l' h k = no_more
 begun_same place (Some (Readable q)) s s' l l' h k = one_more h k
@@ -52,52 +52,52 @@ begun_list_same place None s s' None o' l l' h e k = rw e no_more
 begun_list_same place None s s' (Some v) o' l l' h e k = rw e (one_more h k)
 begun_list_same place (Some q) s s' o o' l l' h e k = begun_same place (Some q) s s' l l' h k
 
-with_list_same : (place : ℕ → ℕ → Type 0) (p : Option PathNode) (s s' : ℕ) (f g : Found (Option (List UseTreeView))) → place s s' → SameFound place f g → SameFound place (with_list s p f) (with_list s' p g)
+with_list_same : (place : ℕ → ℕ → Type 0) (p : Option PathNode) (s s' : ℕ) (f g : FoundInUse (Option (List UseTreeView))) → place s s' → SameFound place f g → SameFound place (with_list s p f) (with_list s' p g)
 with_list_same place p s s' f g h k = record {
-  value = ap (listed p) k.value;
+  value = ap (tree_with_list p) k.value;
   starts = begun_list_same place p s s' f.value g.value f.starts g.starts h k.value k.starts;
   too_deep = k.too_deep;
 }
 
-values_same : (place : ℕ → ℕ → Type 0) (fs gs : List (Found (Option UseTreeView))) → AreAlike (SameFound place) fs gs → values gs ≡ values fs
+values_same : (place : ℕ → ℕ → Type 0) (fs gs : List (FoundInUse (Option UseTreeView))) → AreAlike (SameFound place) fs gs → values gs ≡ values fs
 values_same place fs gs no_more = refl
 values_same place fs gs (one_more {x = f} {y = g} {xs = fs'} {ys = gs'} h k) = ap (λ v. option_to_list v ++ values gs') h.value ∙ ap (λ l. option_to_list f.value ++ l) (values_same place fs' gs' k)
 
-starts_same : (place : ℕ → ℕ → Type 0) (fs gs : List (Found (Option UseTreeView))) → AreAlike (SameFound place) fs gs → AreAlike place (all_starts fs) (all_starts gs)
+starts_same : (place : ℕ → ℕ → Type 0) (fs gs : List (FoundInUse (Option UseTreeView))) → AreAlike (SameFound place) fs gs → AreAlike place (all_starts fs) (all_starts gs)
 starts_same place fs gs no_more = no_more
 starts_same place fs gs (one_more {xs = fs'} {ys = gs'} h k) = alike_join h.starts (starts_same place fs' gs' k)
 
-deep_same : (place : ℕ → ℕ → Type 0) (fs gs : List (Found (Option UseTreeView))) → AreAlike (SameFound place) fs gs → IsAlike place (first_too_deep fs) (first_too_deep gs)
+deep_same : (place : ℕ → ℕ → Type 0) (fs gs : List (FoundInUse (Option UseTreeView))) → AreAlike (SameFound place) fs gs → IsAlike place (first_too_deep fs) (first_too_deep gs)
 deep_same place fs gs no_more = neither
 deep_same place fs gs (one_more {xs = fs'} {ys = gs'} h k) = alike_or h.too_deep (deep_same place fs' gs' k)
 
-all_same : (place : ℕ → ℕ → Type 0) (fs gs : List (Found (Option UseTreeView))) → AreAlike (SameFound place) fs gs → SameFound place (all_found fs) (all_found gs)
+all_same : (place : ℕ → ℕ → Type 0) (fs gs : List (FoundInUse (Option UseTreeView))) → AreAlike (SameFound place) fs gs → SameFound place (all_found fs) (all_found gs)
 all_same place fs gs h = record { value = values_same place fs gs h; starts = starts_same place fs gs h; too_deep = deep_same place fs gs h }
 
 -- ---- trees
 
-comma_onward : (b : Parting) (n : ℕ) (ts us : Tokens) → b.twins.are ts us → Onward b.twins.are b.lost (comma_from n ts) (comma_from n us)
+comma_onward : (b : Parting) (n : ℕ) (ts us : Tokens) → b.twins.are ts us → Onward b.twins.are b.lost (tree_comma_from n ts) (tree_comma_from n us)
 comma_onward b zero ts us h = on h
 comma_onward b (suc n) ts us h =
     cond_onward (end_same b.twins ts us h) (λ _. on h)
     (λ _. cond_onward (symbol_test b.twins 44 ts us h) (λ f. on (after_symbol b.twins 44 ts us refl h f))
     (λ _. onward_leads b (b.tree ts us h) (comma_from_leads n _) (comma_from_leads n _) (λ k. comma_onward b n (behind_tree ts) (behind_tree us) k)))
 
-behind_comma_onward : (b : Parting) (ts us : Tokens) → b.twins.are ts us → Onward b.twins.are b.lost (behind_comma ts) (behind_comma us)
-unfolding behind_comma
+behind_comma_onward : (b : Parting) (ts us : Tokens) → b.twins.are ts us → Onward b.twins.are b.lost (tree_behind_comma ts) (tree_behind_comma us)
+unfolding tree_behind_comma
 behind_comma_onward b ts us h = comma_onward b _ ts us h
 
 -- readers of what is found
-abbrev pub FoundUntil : {A : Type 0} (b : Parting) → Entering b → Found A × Tokens → Found A × Tokens → Type 0
+abbrev pub FoundUntil : {A : Type 0} (b : Parting) → Entering b → FoundInUse A × Tokens → FoundInUse A × Tokens → Type 0
 FoundUntil b e = UntilBy (SameFound e.place) b.twins.are b.lost
 
-abbrev UpToFound : {A : Type 0} (b : Parting) → Entering b → Reader (Found A) → Type 0
+abbrev UpToFound : {A : Type 0} (b : Parting) → Entering b → Reader (FoundInUse A) → Type 0
 UpToFound b e reader = (ts us : Tokens) → b.twins.are ts us → FoundUntil b e (reader ts) (reader us)
 
 bare_same : (place : ℕ → ℕ → Type 0) (s s' : ℕ) (p : Option PathNode) (star : Bool) (r r' : Option _) → place s s' → r' ≡ r → SameFound place (with_bare s p star r) (with_bare s' p star r')
 bare_same place s s' p star r r' a e = record { value = ap (λ z. (with_bare s p star z).value) e; starts = begun_same place p s s' [] [] a no_more; too_deep = neither }
 
-module _ (b : Parting) (e : Entering b) (list : Reader (Found (Option (List UseTreeView)))) (l : UpToFound b e list) (f : Forwards list) where
+module _ (b : Parting) (e : Entering b) (list : Reader (FoundInUse (Option (List UseTreeView)))) (l : UpToFound b e list) (f : Forwards list) where
   star_or_list_until : (s s' : ℕ) (p : Option PathNode) → e.place s s' → (ts us : Tokens) → b.twins.are ts us → FoundUntil b e (star_or_list list s p ts) (star_or_list list s' p us)
   star_or_list_until s s' p a ts us h =
       cond_until (symbol_test b.twins 42 ts us h)

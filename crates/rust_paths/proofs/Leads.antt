@@ -11,10 +11,10 @@ use Rattle.rust_cursor.specs.Reader.{Reader}
 use Rattle.rust_cursor.specs.Words.{symbol, word, kind, at, by_first, is_empty, bumped, is_at_end}
 use Rattle.rust_cursor.specs.Elements.{one}
 use Rattle.rust_cursor.proofs.Leads.{LeadsTo, here, further, through, Forwards, when, bumped_leads, eat_word_leads, eat_pair_leads, behind_closed_leads, behind_tree_leads, behind_angles_leads, turns_leads}
-use Rattle.rust_paths.specs.Names.{Placed, placed, taken_with, next_name, name, placed_name}
+use Rattle.rust_paths.specs.Names.{Placed, placed_if, taken_with, next_name, name, placed_name}
 use Rattle.rust_paths.specs.Paths.{is_raw, is_dollar_crate, named_word, other_segment, segment, is_path_colons, more_from, more_segments, written_path, is_path_start, path_in, path, use_path}
 use Rattle.rust_paths.specs.Visibilities.{path_scope, plain_scope, scope, is_in, scoped, visibility}
-use Rattle.rust_paths.specs.UseTrees.{Found, alias, alias_if, rename, star_or_list, renamed_tree, tree_behind, tree_with, comma_from, behind_comma, element_with, list, tree_at, use_tree}
+use Rattle.rust_paths.specs.UseTrees.{FoundInUse, alias, alias_if, rename, star_or_list, renamed_tree, tree_behind, tree_with, tree_comma_from, tree_behind_comma, element_with, list, tree_at, use_tree}
 
 -- ---- names
 
@@ -51,7 +51,7 @@ pub record IsNext (ts : Tokens) (p : Placed) : Type 0 where
   pub end : p.end ≡ (bumped ts).past
   pub left : (placed_name ts).1 ≡ bumped ts
 
-placed_as : (ts : Tokens) (o : Option (List ℕ)) (p : Placed) → next_name ts ≡ o → placed (at ts) (taken_with o ts).0 (taken_with o ts).1.past ≡ Some p
+placed_as : (ts : Tokens) (o : Option (List ℕ)) (p : Placed) → next_name ts ≡ o → placed_if (at ts) (taken_with o ts).0 (taken_with o ts).1.past ≡ Some p
     → (is_empty ts ≡ false) × (p.start ≡ at ts) × (p.end ≡ (bumped ts).past) × ((taken_with o ts).1 ≡ bumped ts)
 placed_as ts None p n e = absurd cc
 placed_as ts (Some name) p n e =
@@ -142,30 +142,30 @@ pub rename_leads : Forwards rename
 unfolding rename
 rename_leads ts = through (eat_word_leads (codes "as") ts) (alias_if_leads _ _)
 
-pub comma_from_leads : (n : ℕ) (ts : Tokens) → LeadsTo ts (comma_from n ts)
+pub comma_from_leads : (n : ℕ) (ts : Tokens) → LeadsTo ts (tree_comma_from n ts)
 comma_from_leads zero ts = here
 comma_from_leads (suc n) ts =
     when (is_at_end ts) (λ e. rw e here)
     (λ e. rw e (when (symbol ts == 44) (λ f. rw f (bumped_leads ts)) (λ f. rw f (through (behind_tree_leads ts) (comma_from_leads n _)))))
 
-pub behind_comma_leads : (ts : Tokens) → LeadsTo ts (behind_comma ts)
-unfolding behind_comma
+pub behind_comma_leads : (ts : Tokens) → LeadsTo ts (tree_behind_comma ts)
+unfolding tree_behind_comma
 behind_comma_leads ts = comma_from_leads _ ts
 
-star_or_list_leads : (list : Reader (Found (Option (List UseTreeView)))) → Forwards list → (start : ℕ) (p : Option PathNode) → Forwards (star_or_list list start p)
+star_or_list_leads : (list : Reader (FoundInUse (Option (List UseTreeView)))) → Forwards list → (start : ℕ) (p : Option PathNode) → Forwards (star_or_list list start p)
 star_or_list_leads list l start p ts = when (symbol ts == 42) (λ e. rw e (bumped_leads ts)) (λ e. rw e (l ts))
 
 renamed_tree_leads : (start : ℕ) (p : Option PathNode) → Forwards (renamed_tree start p)
 renamed_tree_leads start p ts = rename_leads ts
 
-pub tree_behind_leads : (list : Reader (Found (Option (List UseTreeView)))) → Forwards list → (start : ℕ) (p : Option PathNode) (joined : Bool) → Forwards (tree_behind list start p joined)
+pub tree_behind_leads : (list : Reader (FoundInUse (Option (List UseTreeView)))) → Forwards list → (start : ℕ) (p : Option PathNode) (joined : Bool) → Forwards (tree_behind list start p joined)
 tree_behind_leads list l start p joined ts =
     when (joined || is_none p) (λ e. rw e (star_or_list_leads list l start p ts)) (λ e. rw e (renamed_tree_leads start p ts))
 
-pub tree_leads : (list : Reader (Found (Option (List UseTreeView)))) → Forwards list → Forwards (tree_with list)
+pub tree_leads : (list : Reader (FoundInUse (Option (List UseTreeView)))) → Forwards list → Forwards (tree_with list)
 tree_leads list l ts = through (use_path_leads ts) (through (eat_pair_leads _ _ _) (tree_behind_leads list l _ _ _ _))
 
-pub element_leads : (list : Reader (Found (Option (List UseTreeView)))) → Forwards list → Forwards (element_with list)
+pub element_leads : (list : Reader (FoundInUse (Option (List UseTreeView)))) → Forwards list → Forwards (element_with list)
 element_leads list l ts = through (tree_leads list l ts) (behind_comma_leads _)
 
 pub list_leads : (depth : ℕ) → Forwards (list depth)

@@ -9,11 +9,11 @@ use Rattle.hir_input.specs.declared.mod_path.PathKind.TheVariants.{Plain, Super}
 use Rattle.hir_input.specs.declared.ast.PathNode.{PathNode}
 use Rattle.hir_input.specs.declared.ast.PathNode.TheVariants.{Readable, Unreadable}
 use Rattle.hir_input.specs.Path.{Path, HasWords}
-use Rattle.hir_input.specs.Words.{Word, self_word, super_word, crate_word, absolute_word, dollar_crate_word, name_word, words, read_names, path_of, read_supers, read_words}
+use Rattle.hir_input.specs.Words.{PathWord, self_word, super_word, crate_word, absolute_word, dollar_crate_word, name_word, words, read_names, path_of, read_supers, read_words}
 use Rattle.hir_input.proofs.Reading.{before_names, behind, read-behind, read-words}
 use Rattle.rust_paths.specs.Meaning.{fits, node_of, read_all, all_words, path_node}
-use Rattle.rust_paths.specs.Inner.{start, word_behind, then_word, meant, meaning}
-use Rattle.rust_paths.specs.Paths.{front}
+use Rattle.rust_paths.specs.Inner.{path_start, word_behind, then_word, meant_path, meaning}
+use Rattle.rust_paths.specs.Paths.{front_of_path}
 
 abbrev at_path : PathKind → List (List ℕ) → Path
 at_path k ns = record { kind = k; names = ns }
@@ -23,14 +23,14 @@ before-last ns n None = refl
 before-last ns n (Some ms) = ap Some (append_assoc ns (n ∷ []) ms)
 
 -- a name more
-step-name : (k : PathKind) (ns : List (List ℕ)) (n : List ℕ) (vs : List Word) → HasWords k ns → HasWords k (ns ++ n ∷ [])
+step-name : (k : PathKind) (ns : List (List ℕ)) (n : List ℕ) (vs : List PathWord) → HasWords k ns → HasWords k (ns ++ n ∷ [])
     → behind k ns (name_word n ∷ vs) ≡ path_of k (before_names ns (read_names (name_word n ∷ vs))) → behind k (ns ++ n ∷ []) vs ≡ path_of k (before_names (ns ++ n ∷ []) (read_names vs))
     → node_of (read_words (words (at_path k (ns ++ n ∷ [])) ++ vs)) ≡ node_of (read_words (words (at_path k ns) ++ name_word n ∷ vs))
 step-name k ns n vs h g e f =
     ap node_of (read-behind k (ns ++ n ∷ []) vs g ∙ f ∙ ap (path_of k) (before-last ns n (read_names vs)) ∙ sym e ∙ sym (read-behind k ns (name_word n ∷ vs) h))
 
 -- a word that no path has there
-step-none : (k : PathKind) (ns : List (List ℕ)) (w : Word) (vs : List Word) → HasWords k ns → behind k ns (w ∷ vs) ≡ None → Unreadable ≡ node_of (read_words (words (at_path k ns) ++ w ∷ vs))
+step-none : (k : PathKind) (ns : List (List ℕ)) (w : PathWord) (vs : List PathWord) → HasWords k ns → behind k ns (w ∷ vs) ≡ None → Unreadable ≡ node_of (read_words (words (at_path k ns) ++ w ∷ vs))
 step-none k ns w vs h e = ap node_of (sym (read-behind k ns (w ∷ vs) h ∙ e))
 
 too_many-names : (k : ℕ) (o : Option (List (List ℕ))) → nat_lt k 4294967296 ≡ false → node_of (path_of (Super k) o) ≡ Unreadable
@@ -38,20 +38,20 @@ too_many-names k None h = refl
 too_many-names k (Some ns) h = rw h refl
 
 -- more `super` than a path can count
-too_many : (k : ℕ) (ws : List Word) → nat_lt k 4294967296 ≡ false → node_of (read_supers k ws) ≡ Unreadable
+too_many : (k : ℕ) (ws : List PathWord) → nat_lt k 4294967296 ≡ false → node_of (read_supers k ws) ≡ Unreadable
 too_many k [] h = too_many-names k (Some []) h
 too_many k (super_word ∷ ws) h = too_many (suc k) ws (grind (arith, nat_tests))
 too_many k (name_word n ∷ ws) h = too_many-names k (read_names (name_word n ∷ ws)) h
 too_many k (w ∷ ws) h = refl
 
-super-by : (few : Bool) (k : ℕ) (vs : List Word) → nat_lt k 4294967295 ≡ few → meant (if few then Some (at_path (Super (k + 1)) []) else None) (Some vs) ≡ node_of (read_words (words (at_path (Super k) []) ++ super_word ∷ vs))
+super-by : (few : Bool) (k : ℕ) (vs : List PathWord) → nat_lt k 4294967295 ≡ few → meant_path (if few then Some (at_path (Super (k + 1)) []) else None) (Some vs) ≡ node_of (read_words (words (at_path (Super k) []) ++ super_word ∷ vs))
 super-by true k vs h =
     let next : k + 1 ≡ suc k = omega arith in
     ap node_of (read-behind (Super (k + 1)) [] vs tt ∙ rw next refl ∙ sym (read-behind (Super k) [] (super_word ∷ vs) tt))
 super-by false k vs h =
     sym (ap node_of (read-behind (Super k) [] (super_word ∷ vs) tt) ∙ too_many (suc k) vs (grind (arith, nat_tests)))
 
-step : (k : PathKind) (ns : List (List ℕ)) (w : Word) (vs : List Word) → meant (word_behind k ns w) (Some vs) ≡ node_of (read_words (words (at_path k ns) ++ w ∷ vs))
+step : (k : PathKind) (ns : List (List ℕ)) (w : PathWord) (vs : List PathWord) → meant_path (word_behind k ns w) (Some vs) ≡ node_of (read_words (words (at_path k ns) ++ w ∷ vs))
 step Plain [] self_word vs = refl
 step Plain [] super_word vs = refl
 step Plain [] crate_word vs = refl
@@ -68,22 +68,22 @@ step (Super k) (m ∷ ms) w vs = step-none (Super k) (m ∷ ms) w vs tt refl
 step k ns (name_word n) vs = step-name k ns n vs tt tt refl refl
 step k ns w vs = step-none k ns w vs tt refl
 
-nothing : (p : Option Path) → meant p None ≡ Unreadable
+nothing : (p : Option Path) → meant_path p None ≡ Unreadable
 nothing None = refl
 nothing (Some p) = refl
 
-step-any : (p : Path) (w : Word) (o : Option (List Word)) → meant (word_behind p.kind p.names w) o ≡ meant (Some p) (option_map (λ vs. w ∷ vs) o)
+step-any : (p : Path) (w : PathWord) (o : Option (List PathWord)) → meant_path (word_behind p.kind p.names w) o ≡ meant_path (Some p) (option_map (λ vs. w ∷ vs) o)
 step-any p w None = nothing (word_behind p.kind p.names w)
 step-any p w (Some vs) = step p.kind p.names w vs
 
 -- the words behind a path mean what those behind it and the first mean
-pub meaning-step : (p : Option Path) (w : Option Word) (ws : List (Option Word)) → meaning (then_word p w) ws ≡ meaning p (w ∷ ws)
+pub meaning-step : (p : Option Path) (w : Option PathWord) (ws : List (Option PathWord)) → meaning (then_word p w) ws ≡ meaning p (w ∷ ws)
 meaning-step None None ws = refl
 meaning-step (Some p) None ws = refl
 meaning-step None (Some w) ws = refl
 meaning-step (Some p) (Some w) ws = step-any p w (all_words ws)
 
-pub meaning-start : (absolute : Bool) (ws : List (Option Word)) → path_node (front absolute ws) ≡ meaning (Some (start absolute)) ws
+pub meaning-start : (absolute : Bool) (ws : List (Option PathWord)) → path_node (front_of_path absolute ws) ≡ meaning (Some (path_start absolute)) ws
 meaning-start true ws = refl
 meaning-start false ws = ap (λ o. node_of (read_all o)) (sym (option_map_id (all_words ws)))
 

@@ -2,12 +2,12 @@
 use Rattle.std.proofs.Common.{◌≡◌, ◌<◌, ◌+◌, ◌-◌, ℕ, zero, suc, Bool, true, false, List, [], ◌∷◌, Option, Some, refl, sym, ap, ◌∙◌, arith}
 use Rattle.hir_input.specs.declared.ast.PathNode.{PathNode}
 use Rattle.hir_input.specs.Path.{Path}
-use Rattle.hir_input.specs.Words.{Word}
+use Rattle.hir_input.specs.Words.{PathWord}
 use Rattle.rust_cursor.specs.Tokens.{Tokens}
 use Rattle.rust_cursor.specs.Words.{bumped}
 use Rattle.rust_paths.specs.Meaning.{path_node}
-use Rattle.rust_paths.specs.Inner.{start, then_word, meaning, with_word, with_words}
-use Rattle.rust_paths.specs.Paths.{front, is_path_colons, segment, more_from}
+use Rattle.rust_paths.specs.Inner.{path_start, then_word, meaning, with_word, with_words}
+use Rattle.rust_paths.specs.Paths.{front_of_path, is_path_colons, segment, more_from}
 use Rattle.rust_paths.proofs.Meant.{meaning-step, meaning-start}
 
 -- no segment more
@@ -32,5 +32,5 @@ more_step in_use bound at p q ts once twice mid all below e o w told before =
     ∙ ap (λ n. with_words p (more_from in_use n ts)) (sym turn) ∙ before
 
 -- the whole of a path
-pub written : (absolute : Bool) (first : Option Word) (more : List (Option Word)) (p : Option Path) → then_word (Some (start absolute)) first ≡ p → path_node (front absolute (first ∷ more)) ≡ meaning p more
-written absolute first more p e = meaning-start absolute (first ∷ more) ∙ sym (meaning-step (Some (start absolute)) first more) ∙ ap (λ o. meaning o more) e
+pub written : (absolute : Bool) (first : Option PathWord) (more : List (Option PathWord)) (p : Option Path) → then_word (Some (path_start absolute)) first ≡ p → path_node (front_of_path absolute (first ∷ more)) ≡ meaning p more
+written absolute first more p e = meaning-start absolute (first ∷ more) ∙ sym (meaning-step (Some (path_start absolute)) first more) ∙ ap (λ o. meaning o more) e

@@ -14,7 +14,7 @@ use Rattle.rust_cursor.specs.Words.{symbol, at, bumped, is_at_end}
 use Rattle.rust_cursor.specs.Brackets.{behind_closed, behind_tree}
 use Rattle.rust_cursor.specs.Elements.{beyond, turns_from, one}
 use Rattle.rust_cursor.proofs.Turns.{turns_stop}
-use Rattle.rust_paths.specs.UseTrees.{Found, comma_from, list, element, trees, some_list, no_list, values, all_starts, first_too_deep}
+use Rattle.rust_paths.specs.UseTrees.{FoundInUse, tree_comma_from, list, element, trees, some_list, no_list, values, all_starts, first_too_deep}
 
 pub use_tree_view_made : (path : Option PathNode) (star : Bool) (rename : Option Rename) (list : Option (Vec UseTree Global))
     → use_tree_view (roll-UseTree (record { path = path; star = star; rename = rename; list = list }))
@@ -25,16 +25,16 @@ use_tree_view_made path star rename (Some v) = search (rules, the_lemmas)
 -- ---- commas
 
 -- nothing more stands in the list
-pub comma_end : (n : ℕ) (ts : Tokens) → is_at_end ts ≡ true → comma_from n ts ≡ ts
+pub comma_end : (n : ℕ) (ts : Tokens) → is_at_end ts ≡ true → tree_comma_from n ts ≡ ts
 comma_end zero ts e = refl
 comma_end (suc n) ts e = rw e refl
 
 -- a comma
-pub comma_here : (bound at : ℕ) (ts : Tokens) → at < bound → is_at_end ts ≡ false → (symbol ts == 44) ≡ true → comma_from (bound - at) ts ≡ bumped ts
+pub comma_here : (bound at : ℕ) (ts : Tokens) → at < bound → is_at_end ts ≡ false → (symbol ts == 44) ≡ true → tree_comma_from (bound - at) ts ≡ bumped ts
 comma_here bound at ts below e f = let turn : bound - at ≡ suc (bound - (at + 1)) = omega arith in rw (turn, e, f) refl
 
 -- something else
-pub comma_more : (bound at : ℕ) (ts : Tokens) → at < bound → is_at_end ts ≡ false → symbol ts ≢ 44 → comma_from (bound - at) ts ≡ comma_from (bound - (at + 1)) (behind_tree ts)
+pub comma_more : (bound at : ℕ) (ts : Tokens) → at < bound → is_at_end ts ≡ false → symbol ts ≢ 44 → tree_comma_from (bound - at) ts ≡ tree_comma_from (bound - (at + 1)) (behind_tree ts)
 comma_more bound at ts below e f =
     let turn : bound - at ≡ suc (bound - (at + 1)) = omega arith in
     let other : (symbol ts == 44) ≡ false = ne_eqb (symbol ts) 44 f in
@@ -64,7 +64,7 @@ list_some (suc depth) ts h e = let less : suc depth - 1 ≡ depth = omega arith 
 -- ---- the trees of a list
 
 -- what was found, with what is found behind it
-abbrev pub with_found : List UseTreeView → List ℕ → Option ℕ → List (Found (Option UseTreeView)) × Tokens → Found (List UseTreeView) × Tokens
+abbrev pub with_found : List UseTreeView → List ℕ → Option ℕ → List (FoundInUse (Option UseTreeView)) × Tokens → FoundInUse (List UseTreeView) × Tokens
 with_found done starts deep r = (record { value = done ++ values r.0; starts = starts ++ all_starts r.0; too_deep = option_or deep (first_too_deep r.0) }, r.1)
 
 turns-by : {A : Type 0} (ends : Tokens → Bool) (reader : Reader (List A)) (n : ℕ) (done : List A) (ts : Tokens) (b : Bool) → ends ts ≡ b
@@ -99,17 +99,17 @@ found_all done starts deep ts =
     ∙ ap (λ o. (record { value = done; starts = starts; too_deep = o }, ts)) (or-none deep)
 
 -- no turn more
-pub found_over : (tree : Reader (Found (Option UseTreeView))) (n : ℕ) (done : List UseTreeView) (starts : List ℕ) (deep : Option ℕ) (ts : Tokens) → n ≡ 0
+pub found_over : (tree : Reader (FoundInUse (Option UseTreeView))) (n : ℕ) (done : List UseTreeView) (starts : List ℕ) (deep : Option ℕ) (ts : Tokens) → n ≡ 0
     → with_found done starts deep (turns_from is_at_end (one tree) n [] ts) ≡ (record { value = done; starts = starts; too_deep = deep }, ts)
 found_over tree n done starts deep ts e = rw e (found_all done starts deep ts)
 
 -- no tree more
-pub found_end : (tree : Reader (Found (Option UseTreeView))) (n : ℕ) (done : List UseTreeView) (starts : List ℕ) (deep : Option ℕ) (ts : Tokens) → is_at_end ts ≡ true
+pub found_end : (tree : Reader (FoundInUse (Option UseTreeView))) (n : ℕ) (done : List UseTreeView) (starts : List ℕ) (deep : Option ℕ) (ts : Tokens) → is_at_end ts ≡ true
     → with_found done starts deep (turns_from is_at_end (one tree) n [] ts) ≡ (record { value = done; starts = starts; too_deep = deep }, ts)
 found_end tree n done starts deep ts e = ap (with_found done starts deep) (turns_stop is_at_end (one tree) n [] ts e) ∙ found_all done starts deep ts
 
 -- one tree more, or none
-pub found_more : (tree : Reader (Found (Option UseTreeView))) (bound at : ℕ) (done done' : List UseTreeView) (starts starts' : List ℕ) (deep deep' : Option ℕ) (found : Found (Option UseTreeView)) (ts mid after : Tokens) (all : Found (List UseTreeView) × Tokens)
+pub found_more : (tree : Reader (FoundInUse (Option UseTreeView))) (bound at : ℕ) (done done' : List UseTreeView) (starts starts' : List ℕ) (deep deep' : Option ℕ) (found : FoundInUse (Option UseTreeView)) (ts mid after : Tokens) (all : FoundInUse (List UseTreeView) × Tokens)
     → at < bound → is_at_end ts ≡ false → tree ts ≡ (found, mid) → after ≡ beyond ts.past mid → done' ≡ done ++ option_to_list found.value → starts' ≡ starts ++ found.starts → deep' ≡ option_or deep found.too_deep
     → with_found done starts deep (turns_from is_at_end (one tree) (bound - at) [] ts) ≡ all → with_found done' starts' deep' (turns_from is_at_end (one tree) (bound - (at + 1)) [] after) ≡ all
 found_more tree bound at done done' starts starts' deep deep' found ts mid after all below e told a d s f before =

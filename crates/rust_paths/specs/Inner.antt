@@ -5,16 +5,16 @@ use Rattle.hir_input.specs.declared.mod_path.PathKind.TheVariants.{Plain, Super,
 use Rattle.hir_input.specs.declared.ast.PathNode.{PathNode}
 use Rattle.hir_input.specs.declared.ast.PathNode.TheVariants.{Unreadable}
 use Rattle.hir_input.specs.Path.{Path}
-use Rattle.hir_input.specs.Words.{Word, self_word, super_word, crate_word, absolute_word, dollar_crate_word, name_word, words}
+use Rattle.hir_input.specs.Words.{PathWord, self_word, super_word, crate_word, absolute_word, dollar_crate_word, name_word, words}
 use Rattle.rust_cursor.specs.Tokens.{Tokens}
 use Rattle.rust_paths.specs.Meaning.{node_of, read_all, all_words}
 
 -- nothing, or `::`
-abbrev pub start : Bool → Path
-start absolute = record { kind = if absolute then Abs else Plain; names = [] }
+abbrev pub path_start : Bool → Path
+path_start absolute = record { kind = if absolute then Abs else Plain; names = [] }
 
 -- a path with a word behind it
-abbrev pub word_behind : PathKind → List (List ℕ) → Word → Option Path
+abbrev pub word_behind : PathKind → List (List ℕ) → PathWord → Option Path
 word_behind kind names (name_word n) = Some (record { kind = kind; names = names ++ n ∷ [] })
 word_behind Plain [] self_word = Some (record { kind = Super 0; names = [] })
 word_behind Plain [] super_word = Some (record { kind = Super 1; names = [] })
@@ -24,21 +24,21 @@ word_behind Plain [] (dollar_crate_word c) = Some (record { kind = DollarCrate c
 word_behind (Super n) [] super_word = if nat_lt n 4294967295 then Some (record { kind = Super (n + 1); names = [] }) else None
 word_behind kind names word = None
 
-abbrev pub then_word : Option Path → Option Word → Option Path
+abbrev pub then_word : Option Path → Option PathWord → Option Path
 then_word p None = None
 then_word None (Some w) = None
 then_word (Some p) (Some w) = word_behind p.kind p.names w
 
 -- the path of words that mean this one so far, or nothing, with these behind them
-abbrev pub meant : Option Path → Option (List Word) → PathNode
-meant None ws = Unreadable
-meant (Some p) ws = node_of (read_all (option_map (λ vs. words p ++ vs) ws))
+abbrev pub meant_path : Option Path → Option (List PathWord) → PathNode
+meant_path None ws = Unreadable
+meant_path (Some p) ws = node_of (read_all (option_map (λ vs. words p ++ vs) ws))
 
-abbrev pub meaning : Option Path → List (Option Word) → PathNode
-meaning p ws = meant p (all_words ws)
+abbrev pub meaning : Option Path → List (Option PathWord) → PathNode
+meaning p ws = meant_path p (all_words ws)
 
-abbrev pub with_word : Option Path → Option Word × Tokens → Option Path × Tokens
+abbrev pub with_word : Option Path → Option PathWord × Tokens → Option Path × Tokens
 with_word p r = (then_word p r.0, r.1)
 
-abbrev pub with_words : Option Path → List (Option Word) × Tokens → PathNode × Tokens
+abbrev pub with_words : Option Path → List (Option PathWord) × Tokens → PathNode × Tokens
 with_words p r = (meaning p r.0, r.1)

@@ -111,10 +111,10 @@ pub record Placed : Type 0 where
   pub start : ℕ
   pub end : ℕ
 
-abbrev pub placed : ℕ → Option (List ℕ) → ℕ → Option Placed
-placed start None end = None
-placed start (Some name) end = Some (record { name = name; start = start; end = end })
+abbrev pub placed_if : ℕ → Option (List ℕ) → ℕ → Option Placed
+placed_if start None end = None
+placed_if start (Some name) end = Some (record { name = name; start = start; end = end })
 
 -- a name with its range, if one comes next
 unfoldable pub placed_name : Reader (Option Placed)
-placed_name ts = (placed (at ts) (name ts).0 (name ts).1.past, (name ts).1)
+placed_name ts = (placed_if (at ts) (name ts).0 (name ts).1.past, (name ts).1)

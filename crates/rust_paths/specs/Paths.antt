@@ -2,7 +2,7 @@
 use Rattle.std.specs.Prelude.{ℕ, Bool, true, false, not, ◌==◌, ◌&&◌, ◌||◌, if◌then◌else◌, zero, suc, Option, Some, None, option_map, List, [], ◌∷◌, codes}
 use Rattle.std.specs.Str.{bytes_eq}
 use Rattle.hir_input.specs.declared.ast.PathNode.{PathNode}
-use Rattle.hir_input.specs.Words.{Word, self_word, super_word, crate_word, absolute_word, name_word}
+use Rattle.hir_input.specs.Words.{PathWord, self_word, super_word, crate_word, absolute_word, name_word}
 use Rattle.rust_lexer.specs.declared.kind.TokenKind.{TokenKind}
 use Rattle.rust_lexer.specs.declared.kind.TokenKind.TheVariants as kinds
 use Rattle.rust_cursor.specs.Tokens.{Tokens}
@@ -28,16 +28,16 @@ unfoldable pub is_segment : Tokens → Bool
 is_segment ts = if is_path_keyword (word ts) then true else (if is_raw (kind ts) then true else (if has_name ts then true else is_dollar_crate ts))
 
 -- a name, or a raw identifier that is none
-abbrev pub named_word : Reader (Option Word)
+abbrev pub named_word : Reader (Option PathWord)
 named_word ts = if is_raw (kind ts) then (option_map name_word (next_name ts), bumped ts) else (option_map name_word (name ts).0, (name ts).1)
 
 -- Generic arguments have no meaning here, nor has `$crate`, whose crate no text tells.
-unfoldable pub other_segment : Reader (Option Word)
+unfoldable pub other_segment : Reader (Option PathWord)
 other_segment ts =
     if symbol ts == 60 then (None, behind_angles ts) else (if is_dollar_crate ts then (None, bumped (bumped ts)) else named_word ts)
 
 -- PathIdentSegment: a name, `self`, `super` or `crate`. `Self` has no meaning here, nor has what is missing.
-unfoldable pub segment : Reader (Option Word)
+unfoldable pub segment : Reader (Option PathWord)
 segment ts =
     if bytes_eq (word ts) (codes "self") then (Some self_word, bumped ts)
     else (if bytes_eq (word ts) (codes "super") then (Some super_word, bumped ts)
@@ -58,27 +58,27 @@ is_joint ts = is_colons ts && (symbol (bumped (bumped ts)) == 42 || symbol (bump
 unfoldable pub is_path_colons : Bool → Tokens → Bool
 is_path_colons in_use ts = if in_use then is_colons ts && not (is_joint ts) else is_colons ts
 
-abbrev pub and_word : Option Word → List (Option Word) × Tokens → List (Option Word) × Tokens
-and_word w p = (w ∷ p.0, p.1)
+abbrev pub and_path_word : Option PathWord → List (Option PathWord) × Tokens → List (Option PathWord) × Tokens
+and_path_word w p = (w ∷ p.0, p.1)
 
 -- `::` and a segment, as often as they come
-abbrev pub more_from : Bool → ℕ → Reader (List (Option Word))
+abbrev pub more_from : Bool → ℕ → Reader (List (Option PathWord))
 more_from in_use zero ts = ([], ts)
 more_from in_use (suc n) ts =
-    if is_path_colons in_use ts then (let s = segment (bumped (bumped ts)) in and_word s.0 (more_from in_use n s.1)) else ([], ts)
+    if is_path_colons in_use ts then (let s = segment (bumped (bumped ts)) in and_path_word s.0 (more_from in_use n s.1)) else ([], ts)
 
-unfoldable pub more_segments : Bool → Reader (List (Option Word))
+unfoldable pub more_segments : Bool → Reader (List (Option PathWord))
 more_segments in_use = more_from in_use most
 
-abbrev pub front : Bool → List (Option Word) → List (Option Word)
-front absolute ws = if absolute then Some absolute_word ∷ ws else ws
+abbrev pub front_of_path : Bool → List (Option PathWord) → List (Option PathWord)
+front_of_path absolute ws = if absolute then Some absolute_word ∷ ws else ws
 
 abbrev pub written_path : Bool → Reader PathNode
 written_path in_use = do
   absolute ← eat_colons
   first ← segment
   more ← more_segments in_use
-  pure (path_node (front absolute (first ∷ more)))
+  pure (path_node (front_of_path absolute (first ∷ more)))
 
 -- a path comes next
 unfoldable pub is_path_start : Bool → Tokens → Bool

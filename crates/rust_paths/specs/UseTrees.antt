@@ -15,7 +15,7 @@ use Rattle.rust_paths.specs.Paths.{use_path}
 
 -- What was read; the first bytes of the trees in it that can be read, each before those in it, and so in the order of the numbers that imports
 -- have for them; and the place of the first list that was passed over, since it stands in too many others.
-pub record Found (A : Type 0) : Type 0 where
+pub record FoundInUse (A : Type 0) : Type 0 where
   pub value : A
   pub starts : List ℕ
   pub too_deep : Option ℕ
@@ -40,47 +40,47 @@ rename = do
 
 -- ---- trees
 
-abbrev pub bare : Option PathNode → Bool → Option Rename → UseTreeView
-bare path star rename = tree_from (record { path = path; star = star; rename = rename }) None
+abbrev pub bare_tree : Option PathNode → Bool → Option Rename → UseTreeView
+bare_tree path star rename = tree_from (record { path = path; star = star; rename = rename }) None
 
 -- a tree's first byte, and behind it those of the trees in it; a path that is unreadable drops them all
-abbrev pub begun : Option PathNode → ℕ → List ℕ → List ℕ
-begun (Some Unreadable) start below = []
-begun path start below = start ∷ below
+abbrev pub begun_trees : Option PathNode → ℕ → List ℕ → List ℕ
+begun_trees (Some Unreadable) start below = []
+begun_trees path start below = start ∷ below
 
 -- a tree without a list, that begins there
-abbrev pub with_bare : ℕ → Option PathNode → Bool → Option Rename → Found (Option UseTreeView)
-with_bare start path star rename = record { value = Some (bare path star rename); starts = begun path start []; too_deep = None }
+abbrev pub with_bare : ℕ → Option PathNode → Bool → Option Rename → FoundInUse (Option UseTreeView)
+with_bare start path star rename = record { value = Some (bare_tree path star rename); starts = begun_trees path start []; too_deep = None }
 
 -- a tree with a list, if there is something of it
-abbrev pub listed : Option PathNode → Option (List UseTreeView) → Option UseTreeView
-listed None None = None
-listed path list = Some (tree_from (record { path = path; star = false; rename = None }) list)
+abbrev pub tree_with_list : Option PathNode → Option (List UseTreeView) → Option UseTreeView
+tree_with_list None None = None
+tree_with_list path list = Some (tree_from (record { path = path; star = false; rename = None }) list)
 
 -- where it and the trees of its list begin
 abbrev pub begun_list : Option PathNode → ℕ → Option (List UseTreeView) → List ℕ → List ℕ
 begun_list None start None below = []
-begun_list path start list below = begun path start below
+begun_list path start list below = begun_trees path start below
 
-abbrev pub with_list : ℕ → Option PathNode → Found (Option (List UseTreeView)) → Found (Option UseTreeView)
+abbrev pub with_list : ℕ → Option PathNode → FoundInUse (Option (List UseTreeView)) → FoundInUse (Option UseTreeView)
 with_list start path found =
-    record { value = listed path found.value; starts = begun_list path start found.value found.starts; too_deep = found.too_deep }
+    record { value = tree_with_list path found.value; starts = begun_list path start found.value found.starts; too_deep = found.too_deep }
 
 -- behind a path and `::`, or behind neither: a star or a list
-abbrev pub star_or_list : Reader (Found (Option (List UseTreeView))) → ℕ → Option PathNode → Reader (Found (Option UseTreeView))
+abbrev pub star_or_list : Reader (FoundInUse (Option (List UseTreeView))) → ℕ → Option PathNode → Reader (FoundInUse (Option UseTreeView))
 star_or_list list start path ts =
     if symbol ts == 42 then (with_bare start path true None, bumped ts) else (with_list start path (list ts).0, (list ts).1)
 
-abbrev pub renamed_tree : ℕ → Option PathNode → Reader (Found (Option UseTreeView))
+abbrev pub renamed_tree : ℕ → Option PathNode → Reader (FoundInUse (Option UseTreeView))
 renamed_tree start path = do
   rename ← rename
   pure (with_bare start path false rename)
 
-abbrev pub tree_behind : Reader (Found (Option (List UseTreeView))) → ℕ → Option PathNode → Bool → Reader (Found (Option UseTreeView))
+abbrev pub tree_behind : Reader (FoundInUse (Option (List UseTreeView))) → ℕ → Option PathNode → Bool → Reader (FoundInUse (Option UseTreeView))
 tree_behind list start path joined = if joined || is_none path then star_or_list list start path else renamed_tree start path
 
 -- UseTree: a path, and behind it `::*`, `::` and a list, a rename, or nothing; the path may be missing before the first two.
-abbrev pub tree_with : Reader (Found (Option (List UseTreeView))) → Reader (Found (Option UseTreeView))
+abbrev pub tree_with : Reader (FoundInUse (Option (List UseTreeView))) → Reader (FoundInUse (Option UseTreeView))
 tree_with list = do
   start ← look at
   path ← use_path
@@ -90,57 +90,57 @@ tree_with list = do
 -- ---- lists
 
 -- up to a comma, and it, or up to a bracket that closes
-abbrev pub comma_from : ℕ → Tokens → Tokens
-comma_from zero ts = ts
-comma_from (suc n) ts = if is_at_end ts then ts else (if symbol ts == 44 then bumped ts else comma_from n (behind_tree ts))
+abbrev pub tree_comma_from : ℕ → Tokens → Tokens
+tree_comma_from zero ts = ts
+tree_comma_from (suc n) ts = if is_at_end ts then ts else (if symbol ts == 44 then bumped ts else tree_comma_from n (behind_tree ts))
 
-unfoldable pub behind_comma : Tokens → Tokens
-behind_comma ts = comma_from most ts
+unfoldable pub tree_behind_comma : Tokens → Tokens
+tree_behind_comma ts = tree_comma_from most ts
 
-abbrev pub element_with : Reader (Found (Option (List UseTreeView))) → Reader (Found (Option UseTreeView))
+abbrev pub element_with : Reader (FoundInUse (Option (List UseTreeView))) → Reader (FoundInUse (Option UseTreeView))
 element_with list = do
   found ← tree_with list
-  _ ← pass behind_comma
+  _ ← pass tree_behind_comma
   pure found
 
-abbrev pub values : List (Found (Option UseTreeView)) → List UseTreeView
+abbrev pub values : List (FoundInUse (Option UseTreeView)) → List UseTreeView
 values [] = []
 values (f ∷ fs) = option_to_list f.value ++ values fs
 
-abbrev pub all_starts : List (Found (Option UseTreeView)) → List ℕ
+abbrev pub all_starts : List (FoundInUse (Option UseTreeView)) → List ℕ
 all_starts [] = []
 all_starts (f ∷ fs) = f.starts ++ all_starts fs
 
-abbrev pub first_too_deep : List (Found (Option UseTreeView)) → Option ℕ
+abbrev pub first_too_deep : List (FoundInUse (Option UseTreeView)) → Option ℕ
 first_too_deep [] = None
 first_too_deep (f ∷ fs) = option_or f.too_deep (first_too_deep fs)
 
-abbrev pub all_found : List (Found (Option UseTreeView)) → Found (List UseTreeView)
+abbrev pub all_found : List (FoundInUse (Option UseTreeView)) → FoundInUse (List UseTreeView)
 all_found fs = record { value = values fs; starts = all_starts fs; too_deep = first_too_deep fs }
 
 -- the elements of a list
-abbrev pub trees : Reader (Found (Option UseTreeView)) → Reader (Found (List UseTreeView))
+abbrev pub trees : Reader (FoundInUse (Option UseTreeView)) → Reader (FoundInUse (List UseTreeView))
 trees element ts = (all_found (elements (one element) ts).0, (elements (one element) ts).1)
 
-abbrev pub some_list : Found (List UseTreeView) → Found (Option (List UseTreeView))
+abbrev pub some_list : FoundInUse (List UseTreeView) → FoundInUse (Option (List UseTreeView))
 some_list found = record { value = Some found.value; starts = found.starts; too_deep = found.too_deep }
 
 -- no list, or one that is passed over
-abbrev pub no_list : Option ℕ → Found (Option (List UseTreeView))
+abbrev pub no_list : Option ℕ → FoundInUse (Option (List UseTreeView))
 no_list too_deep = record { value = None; starts = []; too_deep = too_deep }
 
 -- A list in braces. The number bounds how deep lists stand in one another; one that is deeper is passed over.
-unfoldable pub list : ℕ → Reader (Found (Option (List UseTreeView)))
+unfoldable pub list : ℕ → Reader (FoundInUse (Option (List UseTreeView)))
 list zero ts = if symbol ts == 123 then (no_list (Some (at ts)), behind_tree ts) else (no_list None, ts)
 list (suc depth) ts =
     if symbol ts == 123 then (let r = trees (element_with (list depth)) (bumped ts) in (some_list r.0, behind_closed 123 r.1)) else (no_list None, ts)
 
-unfoldable pub element : ℕ → Reader (Found (Option UseTreeView))
+unfoldable pub element : ℕ → Reader (FoundInUse (Option UseTreeView))
 element depth = element_with (list depth)
 
-unfoldable pub tree_at : ℕ → Reader (Found (Option UseTreeView))
+unfoldable pub tree_at : ℕ → Reader (FoundInUse (Option UseTreeView))
 tree_at depth = tree_with (list depth)
 
 -- A use tree, if one is written, with lists that stand in one another as far as 128 deep.
-unfoldable pub use_tree : Reader (Found (Option UseTreeView))
+unfoldable pub use_tree : Reader (FoundInUse (Option UseTreeView))
 use_tree = tree_at 128

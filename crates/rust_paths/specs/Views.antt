@@ -7,7 +7,7 @@ use Rattle.rust_paths.specs.declared.use_trees.FoundList.{FoundList}
 use Rattle.rust_paths.specs.declared.use_trees.FoundTrees.{FoundTrees}
 use Rattle.rust_paths.specs.declared.use_trees.TreeStarts.{TreeStarts}
 use Rattle.rust_paths.specs.Names.{Placed}
-use Rattle.rust_paths.specs.UseTrees.{Found}
+use Rattle.rust_paths.specs.UseTrees.{FoundInUse}
 
 -- a name with its range, as plain data
 abbrev pub placed_view : PlacedName → Placed
@@ -18,11 +18,11 @@ abbrev pub starts_view : TreeStarts → List ℕ
 starts_view s = option_to_list s.own ++ s.below.items
 
 -- a use tree that was found, as plain data
-abbrev pub found_view : FoundUseTree → Found (Option UseTreeView)
+abbrev pub found_view : FoundUseTree → FoundInUse (Option UseTreeView)
 found_view f = record { value = option_map use_tree_view f.tree; starts = starts_view f.starts; too_deep = f.too_deep }
 
-abbrev pub list_view : FoundList → Found (Option (List UseTreeView))
+abbrev pub list_view : FoundList → FoundInUse (Option (List UseTreeView))
 list_view f = record { value = option_map (λ v. map use_tree_view v.items) f.list; starts = f.starts.items; too_deep = f.too_deep }
 
-abbrev pub trees_view : FoundTrees → Found (List UseTreeView)
+abbrev pub trees_view : FoundTrees → FoundInUse (List UseTreeView)
 trees_view f = record { value = map use_tree_view f.trees.items; starts = f.starts.items; too_deep = f.too_deep }

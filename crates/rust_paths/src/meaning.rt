@@ -2,7 +2,7 @@
 
 ghost use Rattle.std.specs.Prelude.{◌≡◌, OnOk, Some, None, option_map, []};
 ghost use Rattle.hir_input.specs.Words.{crate_word, name_word, self_word, super_word};
-ghost use Rattle.rust_paths.specs.Inner.{meaning, start, then_word};
+ghost use Rattle.rust_paths.specs.Inner.{meaning, path_start, then_word};
 
 use hir_input::ast::PathNode;
 use hir_input::{ModPath, Name, PathKind};
@@ -32,7 +32,7 @@ impl Model for PathWords {
 impl PathWords {
     /// No words, or `::`.
     pub(crate) fn new(alloc: Global, is_absolute: bool) -> Self
-        ensures { result ≡ Some (start is_absolute) }
+        ensures { result ≡ Some (path_start is_absolute) }
     {
         let kind = if is_absolute {
             PathKind::Abs

@@ -108,7 +108,7 @@ fn rename(alloc: Global, cursor: &mut Cursor<'_>) -> Result<Option<Rename>, Allo
 
 #[tactic(auto, using(crate::proofs::Trees::use_tree_view_made))]
 fn bare(path: Option<PathNode>, star: bool, rename: Option<Rename>) -> UseTree
-    ensures { use_tree_view result ≡ spec.bare path star rename }
+    ensures { use_tree_view result ≡ spec.bare_tree path star rename }
 {
     UseTree {
         path,
@@ -120,7 +120,7 @@ fn bare(path: Option<PathNode>, star: bool, rename: Option<Rename>) -> UseTree
 
 /// Where a tree begins, and those in it, if the path can be read.
 fn begun(alloc: Global, path: &Option<PathNode>, start: usize, below: Vec<usize>) -> TreeStarts
-    ensures { starts_view result ≡ spec.begun path.now start below.items }
+    ensures { starts_view result ≡ spec.begun_trees path.now start below.items }
 {
     if let Some(PathNode::Unreadable) = path {
         return TreeStarts::none(alloc);
@@ -171,7 +171,7 @@ fn found_bare(
 #[tactic(auto, using(crate::proofs::Trees::use_tree_view_made))]
 fn listed(path: Option<PathNode>, list: Option<Vec<UseTree>>) -> Option<UseTree>
     ensures { option_map use_tree_view result
-        ≡ spec.listed path (option_map (λ v. map use_tree_view v.items) list) }
+        ≡ spec.tree_with_list path (option_map (λ v. map use_tree_view v.items) list) }
 {
     if path.is_none() && list.is_none() {
         return None;
@@ -219,9 +219,9 @@ fn may_be_listed(joined: bool, path: &Option<PathNode>) -> bool
 }
 
 /// Passes over what stands before the next comma, and it, or up to a bracket that closes.
-#[tactic(auto, unfolding(crate::specs::UseTrees::behind_comma), using(crate::proofs::Trees::comma_end, crate::proofs::Trees::comma_here, crate::proofs::Trees::comma_more))]
+#[tactic(auto, unfolding(crate::specs::UseTrees::tree_behind_comma), using(crate::proofs::Trees::comma_end, crate::proofs::Trees::comma_here, crate::proofs::Trees::comma_more))]
 fn pass_comma(cursor: &mut Cursor<'_>)
-    ensures { cursor.new ≡ spec.behind_comma cursor.old }
+    ensures { cursor.new ≡ spec.tree_behind_comma cursor.old }
 {
     let most = Cursor::most_turns();
     for _turn in 0..most {

@@ -7,14 +7,14 @@ use Rattle.rust_lexer.specs.declared.kind.TokenKind.{TokenKind}
 use Rattle.rust_lexer.specs.Bytes.{is_continuation}
 use Rattle.rust_lexer.specs.Cut.{symbol_kind, is_punctuation}
 use Rattle.rust_lexer.specs.Piece.{Piece}
-use Rattle.rust_lexer.specs.Terminated.{is_closed, is_terminated}
+use Rattle.rust_lexer.specs.Terminated.{is_closed_token, is_terminated}
 use Rattle.rust_lexer.specs.Tokens.{is_significant, is_significant_kind, tokens, tokens_from}
 use Rattle.rust_cursor.specs.Tokens.{place_if_open, last_unended}
 use Rattle.rust_lexer.proofs.Counted.{when, is_kept, counted, counted_is, counted_nil, token_step, white_step, line_step, comment_step}
 use Rattle.rust_lexer.proofs.Standing.{word_cut, mark_cut}
 use Rattle.rust_written.specs.Gaps.{Blank, white, line, comment, is_white_byte, IsBlank, AreBlank, blank_before, gap_before}
-use Rattle.rust_written.specs.Words.{Link, joined, apart, free, Word, IsBoundary, IsCutOff, Stands, Fits, Spells, IsAt, AreTokens}
-use Rattle.rust_written.specs.Standing.{is_letter, ends_word, is_mark, WordsStand, MarksStand}
+use Rattle.rust_written.specs.Words.{Link, joined, apart, free, Word, IsBoundary, IsCutOff, Stands, FitsLink, Spells, BeginsAt, AreTokens}
+use Rattle.rust_written.specs.Standing.{is_plain_letter, ends_word, is_plain_mark, WordsStand, MarksStand}
 use Rattle.rust_written.specs.Round.{IsPlain, TokensAgain}
 
 -- ---- gaps
@@ -55,7 +55,7 @@ gap_step at (g ∷ gs) rest h w =
     ∙ gap_step (at + blank_len g) gs rest h.1 w
     ∙ ap (λ n. counted 0 n rest) (omega arith)
 
-link_at : (l : Link) (gap : List Blank) (past : ℕ) → Fits l gap → IsAt l past (past + gap_len gap)
+link_at : (l : Link) (gap : List Blank) (past : ℕ) → FitsLink l gap → BeginsAt l past (past + gap_len gap)
 unfolding gap_len
 link_at joined [] past h = omega arith
 link_at joined (g ∷ gs) past h = absurd h
@@ -127,7 +127,7 @@ tokens_again ws text p h =
 -- whether the last of words is ended; where there are none, this
 abbrev pub ends_closed : Bool → List Word → Bool
 ends_closed b [] = b
-ends_closed b (w ∷ ws) = ends_closed (is_closed w.kind w.text) ws
+ends_closed b (w ∷ ws) = ends_closed (is_closed_token w.kind w.text) ws
 
 last_none : (last : Option ℕ) (ts : List Piece) → last_unended last ts ≡ None → last_unended None ts ≡ None
 last_none last [] e = refl
@@ -151,7 +151,7 @@ last_word : (ws : List Word) (past : ℕ) (ts : List Piece) (b : Bool) (last : O
 last_word [] past [] b last h is e = is e
 last_word [] past (t ∷ ts) b last h is e = absurd h
 last_word (w ∷ ws) past [] b last h is e = absurd h
-last_word (w ∷ ws) past (t ∷ ts) b last h is e = last_word ws (t.at + length t.text) ts (is_closed w.kind w.text) (place_if_open t) h.3 (λ c. rw (h.0, h.1, c) refl) e
+last_word (w ∷ ws) past (t ∷ ts) b last h is e = last_word ws (t.at + length t.text) ts (is_closed_token w.kind w.text) (place_if_open t) h.3 (λ c. rw (h.0, h.1, c) refl) e
 
 -- If the last word is ended, the last token of the text is.
 pub last_ended : (ws : List Word) (text : List ℕ) → IsPlain text → Spells ws text → ends_closed true ws ≡ true → last_unended None (tokens text) ≡ None
@@ -161,13 +161,13 @@ last_ended ws text p h e =
 
 -- ---- which words stand
 
-letter_front : (b : ℕ) → is_letter b ≡ true → is_continuation b ≡ false
+letter_front : (b : ℕ) → is_plain_letter b ≡ true → is_continuation b ≡ false
 letter_front b e = grind (arith, nat_tests)
 
 end_front : (b : ℕ) → ends_word b ≡ true → is_continuation b ≡ false
 end_front b e = grind (arith, nat_tests)
 
-mark_front : (b : ℕ) → is_mark b ≡ true → is_continuation b ≡ false
+mark_front : (b : ℕ) → is_plain_mark b ≡ true → is_continuation b ≡ false
 mark_front b e = grind (arith, nat_tests)
 
 pub words_stand : WordsStand

@@ -3,21 +3,21 @@ use Rattle.std.proofs.Common.{◌≡◌, ◌<◌, ◌≤◌, ℕ, ◌+◌, true,
 use Rattle.rust_lexer.specs.Piece.{Piece}
 use Rattle.rust_cursor.specs.Tokens.{Tokens}
 use Rattle.rust_cursor.specs.Words.{opens, closes, documents, identifies, symbol, word, kind, text, at, is_empty, is_at_open, is_at_end, is_at_identifier, is_at_doc, bumped}
-use Rattle.rust_written.specs.Words.{Link, joined, Word, IsAt, AreTokens}
+use Rattle.rust_written.specs.Words.{Link, joined, Word, BeginsAt, AreTokens}
 use Rattle.rust_written.specs.Trees as trees
 
 -- a word comes next
 pub record Shows (w : Word) (ts : Tokens) : Type 0 where
   pub kind_is : kind ts ≡ Some w.kind
   pub text_is : text ts ≡ w.text
-  pub symbol_is : symbol ts ≡ trees.symbol_of w
-  pub word_is : word ts ≡ trees.text_of w
+  pub symbol_is : symbol ts ≡ trees.symbol_of_word w
+  pub word_is : word ts ≡ trees.word_text w
   pub some : is_empty ts ≡ false
   pub open_is : is_at_open ts ≡ opens w.kind
   pub end_is : is_at_end ts ≡ closes w.kind
   pub identifier_is : is_at_identifier ts ≡ identifies w.kind
   pub doc_is : is_at_doc ts ≡ documents w.kind
-  pub at_is : IsAt w.link ts.past (at ts)
+  pub at_is : BeginsAt w.link ts.past (at ts)
   pub past : ts.past < (bumped ts).past
 
 -- words come next, one behind the other
@@ -48,7 +48,7 @@ past_behind (w ∷ ws) ts h = let one = h.0.past in let more = past_behind ws (b
 
 -- ---- from the tokens of a text
 
-link_past : (l : Link) (past at : ℕ) → IsAt l past at → past ≤ at
+link_past : (l : Link) (past at : ℕ) → BeginsAt l past at → past ≤ at
 link_past joined past at h = omega arith
 link_past _ past at h = omega arith
 
@@ -60,7 +60,7 @@ bumped_past : (ts : Tokens) (t : Piece) (left : List Piece) → ts.left ≡ t �
 unfolding bumped
 bumped_past ts t left e = rw e refl
 
-shows : (w : Word) (ts : Tokens) (t : Piece) (left : List Piece) → ts.left ≡ t ∷ left → t.kind ≡ w.kind → t.text ≡ w.text → IsAt w.link ts.past t.at → 0 < length w.text → Shows w ts
+shows : (w : Word) (ts : Tokens) (t : Piece) (left : List Piece) → ts.left ≡ t ∷ left → t.kind ≡ w.kind → t.text ≡ w.text → BeginsAt w.link ts.past t.at → 0 < length w.text → Shows w ts
 unfolding symbol word kind text is_empty is_at_open is_at_end is_at_identifier is_at_doc at
 shows w ts t left e k x l n = record {
   kind_is = rw e (ap Some k);

@@ -7,7 +7,7 @@ use Rattle.rust_cursor.specs.Words.{bumped}
 use Rattle.rust_cursor.specs.Nests.{is_mark}
 use Rattle.rust_cursor.specs.Extents.{ExcerptRead, excerpt, goes_on, opened_behind, block_at, impl_rest, item_rest, value_rest}
 use Rattle.rust_cursor.proofs.Rests.{Behind, taking_rest, impl_rest_taking, item_rest_taking, value_rest_taking, stops_here, ends_here, rest_end}
-use Rattle.rust_written.specs.Trees.{mark, curly, open_of, close_of, Trees, group, tree_words, trees_words, AreTrees, GoesBehind, GoesOn, GoesOnType, angles_behind, angles_behind_all, before_behind, and_words, spaced}
+use Rattle.rust_written.specs.Trees.{mark, curly, open_of, close_of, Trees, group, tree_words, trees_words, AreTrees, GoesBehind, GoesOn, GoesOnType, angles_behind_word, angles_behind_all, before_behind_word, and_words, spaced}
 use Rattle.rust_written.specs.Impls.{before_behind_all}
 use Rattle.rust_written.proofs.Begins.{Shows, Begins, behind, behind_append, begins_left, begins_right}
 use Rattle.rust_written.proofs.Nested.{nest, last_leave}
@@ -36,8 +36,8 @@ no_braces o ts s = rw s.symbol_is refl
 semicolon_end : (is_value : Bool) (done : List ℕ) (last : Behind) (a : ℕ) (before : Before) (ts : Tokens) → Shows (mark 59) ts
     → taking_rest is_value done last (nest 0 0 0 0 a before) ts ≡ (whole (and_words done (mark 59 ∷ [])), bumped ts)
 semicolon_end is_value done last a before ts s =
-    let n = angles_behind before a (mark 59) in
-    let after = before_behind before (mark 59) in
+    let n = angles_behind_word before a (mark 59) in
+    let after = before_behind_word before (mark 59) in
     rest_end is_value done last (nest 0 0 0 0 a before) (nest 0 0 0 0 n after) ts s.some (no_stop a before ts s) (flat_word a before (mark 59) ts (refl, refl) s refl) (ends_there is_value (is_mark before) n after ts s)
     ∙ ap (λ t. (excerpt t true (block_at (opened_behind last.1 (nest 0 0 0 0 a before) ts) ts), bumped ts)) (next_word (mark 59) done ts s)
     ∙ ap (λ o. (excerpt (and_words done (mark 59 ∷ [])) true o, bumped ts)) (no_braces (opened_behind last.1 (nest 0 0 0 0 a before) ts) ts s)

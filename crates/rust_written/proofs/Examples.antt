@@ -7,9 +7,9 @@ use Rattle.hir_input.specs.declared.ids.AstIdKind.TheVariants as kind
 use Rattle.hir_input.specs.Syntax.{NamedView, fn_kind, enum_kind, no_fields, no_items, item_and, plain_item, const_item, struct_item, bare_module, listed_module, items_from}
 use Rattle.rust_cursor.specs.Elements.{most}
 use Rattle.rust_cursor.specs.Words as cursor
-use Rattle.rust_written.specs.Trees.{word, mark, joined_mark, Tree, single, group, Trees, no_trees, tree_and, round, curly, AreTrees, GoesOn, GoesOnType}
+use Rattle.rust_written.specs.Trees.{word_spelled, mark, joined_mark, Tree, single, group, Trees, no_trees, tree_and, round, curly, AreTrees, GoesOn, GoesOnType}
 use Rattle.rust_written.specs.Impls.{ImplHeader}
-use Rattle.rust_written.specs.Written.{Scope, Front, unwritten, everywhere, in_crate, functions, enums, constants, Items, blocked, valued, structure, unit_shape, tuple_shape, implemented, file_module, module_of, used, no_more, also, views, row, rows, IsNamed, IsPlainBlock, AreItems}
+use Rattle.rust_written.specs.Written.{Scope, Front, unwritten, everywhere, in_crate, functions, enums, constants, Items, blocked, valued, structure, unit_shape, tuple_shape, implemented, file_module, module_of, used, no_more, also, views, written_row, rows, IsNamed, IsPlainBlock, AreItems}
 use Rattle.hir_input.specs.declared.ast.PathNode.{PathNode}
 use Rattle.hir_input.specs.declared.ast.PathNode.TheVariants.{Readable}
 use Rattle.hir_input.specs.declared.ast.Rename.{Rename}
@@ -18,7 +18,7 @@ use Rattle.hir_input.specs.declared.mod_path.PathKind.TheVariants as path
 use Rattle.hir_input.specs.Syntax.{use_item, impl_item, tuple_fields}
 use Rattle.hir_input.specs.UseTreeView.{UseTreeView, bare_tree, listed_tree, trees_from}
 use Rattle.rust_written.specs.UseTrees.{named, self_segment, crate_segment, as_name, as_nothing, UseTrees, path_tree, star_tree, list_tree, no_uses, use_and, IsPlainName}
-use Rattle.rust_written.specs.Spelled.{text_of}
+use Rattle.rust_written.specs.Spelled.{spelled_text}
 use Rattle.rust_cursor.specs.Nests.{leads_on}
 use Rattle.rust_cursor.specs.Extents.{begins_item, begins_within}
 use Rattle.rust_leaves.specs.Heads.{follows_unsafe}
@@ -26,7 +26,7 @@ use Rattle.rust_paths.specs.Names.{plain_name, is_keyword, is_path_keyword}
 use Rattle.rust_leaves.specs.Texts.{bare}
 use Rattle.hir_input.specs.Bodies.{without_bodies}
 use Rattle.rust_items.specs.SourceFiles.{FileView, IsFileView}
-use Rattle.rust_written.specs.Laws.{Writes}
+use Rattle.rust_written.specs.Laws.{WritesItems}
 use Rattle.rust_written.proofs.Outlines.{typing_inside}
 use Rattle.rust_written.proofs.Spelled.{writable}
 
@@ -36,7 +36,7 @@ trees [] = no_trees
 trees (t ∷ ts) = tree_and t (trees ts)
 
 abbrev name : List ℕ → Tree
-name text = single (word text)
+name text = single (word_spelled text)
 
 abbrev sign : ℕ → Tree
 sign c = single (mark c)
@@ -65,7 +65,7 @@ function body =
 abbrev short_body : Trees
 short_body = trees (name (codes "x") ∷ [])
 
-function_text : text_of (function short_body) ≡ codes " pub fn f ( x : u8 ) -> Vec < u8 > { x }"
+function_text : spelled_text (function short_body) ≡ codes " pub fn f ( x : u8 ) -> Vec < u8 > { x }"
 function_text = refl
 
 function_read : items_from (views (function short_body)) ≡ item_and (plain_item fn_kind (seen (codes "f") (Some Pub) (codes "( x : u8 ) - > Vec < u8 > { x }"))) no_items
@@ -93,7 +93,7 @@ function_well body b first = (
   tt,
 )
 
-pub function_writes : Writes (function short_body) (text_of (function short_body))
+pub function_writes : WritesItems (function short_body) (spelled_text (function short_body))
 unfolding most
 function_writes = writable (function short_body) (function_well short_body (plain, tt) refl) refl (omega arith)
 
@@ -101,14 +101,14 @@ function_writes = writable (function short_body) (function_well short_body (plai
 abbrev long_body : Trees
 long_body = trees (name (codes "let") ∷ name (codes "y") ∷ sign 61 ∷ group curly (trees (name (codes "x") ∷ sign 43 ∷ name (codes "x") ∷ [])) ∷ sign 59 ∷ name (codes "y") ∷ [])
 
-long_text : text_of (function long_body) ≡ codes " pub fn f ( x : u8 ) -> Vec < u8 > { let y = { x + x } ; y }"
+long_text : spelled_text (function long_body) ≡ codes " pub fn f ( x : u8 ) -> Vec < u8 > { let y = { x + x } ; y }"
 long_text = refl
 
-pub long_writes : Writes (function long_body) (text_of (function long_body))
+pub long_writes : WritesItems (function long_body) (spelled_text (function long_body))
 unfolding most
 long_writes = writable (function long_body) (function_well long_body (plain, (plain, (plain, ((plain, (plain, (plain, tt))), (plain, (plain, tt)))))) refl) refl (omega arith)
 
-pub body_typed : (edition : EditionYear) (read again : FileView) → IsFileView edition (text_of (function short_body)) read → IsFileView edition (text_of (function long_body)) again
+pub body_typed : (edition : EditionYear) (read again : FileView) → IsFileView edition (spelled_text (function short_body)) read → IsFileView edition (spelled_text (function long_body)) again
     → without_bodies read.syntax ≡ without_bodies again.syntax
 body_typed edition read again s t = typing_inside edition (function short_body) (function long_body) _ _ read again function_writes long_writes refl s t
 
@@ -121,7 +121,7 @@ outer =
     (also (valued constants private (codes "SIZE") (trees (sign 58 ∷ name (codes "u8") ∷ sign 61 ∷ name (codes "A") ∷ []))) no_more)) in
     also (module_of private (codes "outer") inner) (also (file_module everyone (codes "file")) no_more)
 
-outer_text : text_of outer ≡ codes " mod outer { pub ( crate ) struct Unit ; enum Kind { A , B } const SIZE : u8 = A ; } pub mod file ;"
+outer_text : spelled_text outer ≡ codes " mod outer { pub ( crate ) struct Unit ; enum Kind { A , B } const SIZE : u8 = A ; } pub mod file ;"
 outer_text = refl
 
 outer_read : items_from (views outer)
@@ -131,7 +131,7 @@ outer_read : items_from (views outer)
 outer_read = refl
 
 outer_rows : rows 0 outer
-    ≡ row 0 kind.Module (codes "outer") ∷ row 1 kind.Struct (codes "Unit") ∷ row 1 kind.Enum (codes "Kind") ∷ row 1 kind.Const (codes "SIZE") ∷ row 0 kind.Module (codes "file") ∷ []
+    ≡ written_row 0 kind.Module (codes "outer") ∷ written_row 1 kind.Struct (codes "Unit") ∷ written_row 1 kind.Enum (codes "Kind") ∷ written_row 1 kind.Const (codes "SIZE") ∷ written_row 0 kind.Module (codes "file") ∷ []
 outer_rows = refl
 
 outer_well : AreItems 128 outer
@@ -146,7 +146,7 @@ outer_well =
     (refl, refl, refl, refl, (refl, refl, refl, refl, (refl, refl, refl, refl, (refl, refl, refl, refl, refl)))) in
     ((holds, ((unit, record { trees = tt; goes = refl; has_generics = refl; shape = tt }, tt), ((choice, tt, (plain, (plain, (plain, tt))), refl, tt, tt), ((size, (plain, (plain, (plain, (plain, tt)))), numbers, refl, tt), tt))), tt), ((file, tt), tt))
 
-pub outer_writes : Writes outer (text_of outer)
+pub outer_writes : WritesItems outer (spelled_text outer)
 unfolding most
 outer_writes = writable outer outer_well refl (omega arith)
 
@@ -157,7 +157,7 @@ pair =
     let fields = record { scope = everywhere; of_type = trees (name (codes "T") ∷ []) } ∷ record { scope = unwritten; of_type = trees (name (codes "u8") ∷ []) } ∷ [] in
     also (structure everyone (codes "Pair") (Some (trees (name (codes "T") ∷ []))) (tuple_shape fields (Some (trees (name (codes "T") ∷ sign 58 ∷ name (codes "Copy") ∷ []))))) no_more
 
-pair_text : text_of pair ≡ codes " pub struct Pair < T > ( pub T , u8 , ) where T : Copy ;"
+pair_text : spelled_text pair ≡ codes " pub struct Pair < T > ( pub T , u8 , ) where T : Copy ;"
 pair_text = refl
 
 pair_read : items_from (views pair) ≡ item_and (struct_item (seen (codes "Pair") (Some Pub) (codes "< T > ( pub T , u8 , ) where T : Copy ;")) (tuple_fields (Some Pub ∷ None ∷ []))) no_items
@@ -185,7 +185,7 @@ pair_well =
       tt,
     )
 
-pub pair_writes : Writes pair (text_of pair)
+pub pair_writes : WritesItems pair (spelled_text pair)
 unfolding most
 pair_writes = writable pair pair_well refl (omega arith)
 
@@ -204,7 +204,7 @@ implements =
     let method = trees (name (codes "fn") ∷ name (codes "f") ∷ group round no_trees ∷ group curly no_trees ∷ []) in
     also (implemented (codes "unsafe" ∷ []) impl_header method) no_more
 
-implements_text : text_of implements ≡ codes " unsafe impl < T > From < T > for List where T : Copy { fn f ( ) { } }"
+implements_text : spelled_text implements ≡ codes " unsafe impl < T > From < T > for List where T : Copy { fn f ( ) { } }"
 implements_text = refl
 
 implements_read : items_from (views implements)
@@ -228,7 +228,7 @@ implements_well = (
   tt,
 )
 
-pub implements_writes : Writes implements (text_of implements)
+pub implements_writes : WritesItems implements (spelled_text implements)
 unfolding most
 implements_writes = writable implements implements_well refl (omega arith)
 
@@ -241,7 +241,7 @@ uses =
     (use_and (list_tree None (use_and (path_tree (record { absolute = true; first = named (codes "c"); more = named (codes "D") ∷ [] }) as_nothing) no_uses)) no_uses)) in
     also (used everyone (list_tree (Some (record { absolute = false; first = crate_segment; more = named (codes "a") ∷ [] })) inner)) no_more
 
-uses_text : text_of uses ≡ codes " pub use crate :: a :: { self as me , b :: * , { :: c :: D as _ } } ;"
+uses_text : spelled_text uses ≡ codes " pub use crate :: a :: { self as me , b :: * , { :: c :: D as _ } } ;"
 uses_text = refl
 
 -- the path of these names
@@ -276,6 +276,6 @@ uses_well =
     let me : IsPlainName (codes "me") = record { plain = refl; name = refl } in
     ((((tt, (a, tt)), (((tt, tt), me), ((b, tt), ((tt, (((c, (d, tt)), tt), tt)), tt)))), tt), tt)
 
-pub uses_writes : Writes uses (text_of uses)
+pub uses_writes : WritesItems uses (spelled_text uses)
 unfolding most
 uses_writes = writable uses uses_well refl (omega arith)

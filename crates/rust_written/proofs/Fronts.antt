@@ -22,7 +22,7 @@ use Rattle.rust_metas.specs.Literals.{style_by}
 use Rattle.rust_metas.specs.Attributes.{is_style, is_doc, is_attribute, is_behind, attribute, attributes, outer_attributes, inner_attributes}
 use Rattle.rust_leaves.specs.declared.head.Head.{Head}
 use Rattle.rust_leaves.specs.declared.head.Head.TheVariants as heads
-use Rattle.rust_leaves.specs.Heads.{follows_const, follows_async, follows_unsafe, follows_safe, follows_default, follows_extern, behind_abi, behind_modifier, behind_modifiers_from, is_modifier, is_modifier_before, behind_modifiers, head, head_by, union_head}
+use Rattle.rust_leaves.specs.Heads.{may_follow_const, follows_async, follows_unsafe, follows_safe, follows_default, follows_extern, behind_abi, behind_modifier, behind_modifiers_from, is_modifier, is_modifier_before, behind_modifiers, head, head_by, union_head}
 use Rattle.rust_leaves.specs.Fronts.{FrontRead, front, front_behind}
 use Rattle.rust_leaves.specs.Leaves.{NameRead, named}
 use Rattle.rust_leaves.proofs.Steps.{modifiers_stop}
@@ -31,7 +31,7 @@ use Rattle.rust_written.specs.Trees as trees
 use Rattle.rust_written.proofs.Begins.{Shows, Begins, behind, behind_append, begins_left, begins_right}
 use Rattle.rust_cursor.proofs.Nesting.{shorter}
 use Rattle.rust_written.proofs.Uses.{fewer_left}
-use Rattle.rust_written.specs.Written.{Front, front_words, front_view, modifies, first_modifier, AreModifiers, Scope, unwritten, everywhere, scope_words, scope_view, BlockKind, functions, unions, enums, traits, block_word, ValueKind, statics, aliases, constants, value_word, IsNamed}
+use Rattle.rust_written.specs.Written.{Front, front_words, front_visibility, modifies, first_modifier, AreModifiers, Scope, unwritten, everywhere, scope_words, scope_view, BlockKind, functions, unions, enums, traits, block_word, ValueKind, statics, aliases, constants, value_word, IsNamed}
 
 -- ---- no attributes
 
@@ -48,20 +48,20 @@ not_doc : (s : DocStyle) (w : Word) (ts : Tokens) → Shows w ts → documents w
 unfolding is_doc
 not_doc s w ts h e = ap (λ k. is_style s (style_by k)) h.kind_is ∙ ap (is_style s) (plain_style w.kind e) ∙ no_style s
 
-not_attribute : (s : DocStyle) (w : Word) (ts : Tokens) → Shows w ts → (trees.symbol_of w == 35) ≡ false → is_attribute s ts ≡ false
+not_attribute : (s : DocStyle) (w : Word) (ts : Tokens) → Shows w ts → (trees.symbol_of_word w == 35) ≡ false → is_attribute s ts ≡ false
 unfolding is_attribute
 not_attribute Outer w ts h e = rw (h.symbol_is, e) refl
 not_attribute Inner w ts h e = rw (h.symbol_is, e) refl
 
-none_here : (s : DocStyle) (w : Word) (ts : Tokens) → Shows w ts → documents w.kind ≡ false → (trees.symbol_of w == 35) ≡ false → is_behind s ts ≡ true
+none_here : (s : DocStyle) (w : Word) (ts : Tokens) → Shows w ts → documents w.kind ≡ false → (trees.symbol_of_word w == 35) ≡ false → is_behind s ts ≡ true
 unfolding is_behind
 none_here s w ts h d e = rw (not_doc s w ts h d, not_attribute s w ts h e) refl
 
-pub outer_none : (w : Word) (ts : Tokens) → Shows w ts → documents w.kind ≡ false → (trees.symbol_of w == 35) ≡ false → outer_attributes ts ≡ ([], ts)
+pub outer_none : (w : Word) (ts : Tokens) → Shows w ts → documents w.kind ≡ false → (trees.symbol_of_word w == 35) ≡ false → outer_attributes ts ≡ ([], ts)
 unfolding outer_attributes attributes turns
 outer_none w ts h d e = turns_stop (is_behind Outer) (one (attribute Outer)) most [] ts (none_here Outer w ts h d e)
 
-pub inner_none : (w : Word) (ts : Tokens) → Shows w ts → documents w.kind ≡ false → (trees.symbol_of w == 35) ≡ false → inner_attributes ts ≡ ([], ts)
+pub inner_none : (w : Word) (ts : Tokens) → Shows w ts → documents w.kind ≡ false → (trees.symbol_of_word w == 35) ≡ false → inner_attributes ts ≡ ([], ts)
 unfolding inner_attributes attributes turns
 inner_none w ts h d e = turns_stop (is_behind Inner) (one (attribute Inner)) most [] ts (none_here Inner w ts h d e)
 
@@ -72,7 +72,7 @@ inner_empty ts e = turns_stop (is_behind Inner) (one (attribute Inner)) most [] 
 
 -- ---- visibilities
 
-pub scope_reads : (v : Scope) (w : List ℕ) (more : List Word) (ts : Tokens) → bytes_eq w (codes "pub") ≡ false → Begins (scope_words v ++ trees.word w ∷ more) ts → visibility ts ≡ (scope_view v, behind (scope_words v) ts)
+pub scope_reads : (v : Scope) (w : List ℕ) (more : List Word) (ts : Tokens) → bytes_eq w (codes "pub") ≡ false → Begins (scope_words v ++ trees.word_spelled w ∷ more) ts → visibility ts ≡ (scope_view v, behind (scope_words v) ts)
 unfolding visibility scoped is_in scope scope_of
 scope_reads unwritten w more ts e b = rw (b.0.word_is, e) refl
 scope_reads everywhere w more ts e b = rw (b.0.word_is, b.1.0.symbol_is) refl
@@ -82,9 +82,9 @@ scope_reads _ w more ts e b = rw (b.0.word_is, b.1.0.symbol_is, b.1.1.0.word_is,
 
 -- the words behind a visibility
 abbrev modified : List (List ℕ) → List ℕ → List Word → List Word
-modified ms w more = map trees.word ms ++ trees.word w ∷ more
+modified ms w more = map trees.word_spelled ms ++ trees.word_spelled w ∷ more
 
-first_modified : (ms : List (List ℕ)) (w : List ℕ) (more : List Word) (ts : Tokens) → Begins (modified ms w more) ts → Shows (trees.word (first_modifier ms w)) ts
+first_modified : (ms : List (List ℕ)) (w : List ℕ) (more : List Word) (ts : Tokens) → Begins (modified ms w more) ts → Shows (trees.word_spelled (first_modifier ms w)) ts
 first_modified [] w more ts b = b.0
 first_modified (m ∷ ms) w more ts b = b.0
 
@@ -97,24 +97,24 @@ by_word false true u s d g o e v1 v2 v3 v4 v5 v6 v7 v8 x h = h
 by_word false false true s d g o e v1 v2 v3 v4 v5 v6 v7 v8 x h = rw h refl
 by_word false false false s d g o e v1 v2 v3 v4 v5 v6 v7 v8 x h = h
 
-no_abi : (x : List ℕ) (ts : Tokens) → Shows (trees.word x) ts → behind_abi ts ≡ ts
+no_abi : (x : List ℕ) (ts : Tokens) → Shows (trees.word_spelled x) ts → behind_abi ts ≡ ts
 unfolding behind_abi
 no_abi x ts s = rw s.kind_is refl
 
-modifier_shown : (m x : List ℕ) (ts : Tokens) → Shows (trees.word m) ts → Shows (trees.word x) (bumped ts) → modifies m x ≡ true → is_modifier ts ≡ true
+modifier_shown : (m x : List ℕ) (ts : Tokens) → Shows (trees.word_spelled m) ts → Shows (trees.word_spelled x) (bumped ts) → modifies m x ≡ true → is_modifier ts ≡ true
 unfolding is_modifier is_modifier_before
 modifier_shown m x ts s n e =
     rw (s.word_is, no_abi x (bumped ts) n, n.word_is)
     (by_word (bytes_eq m (codes "const")) (bytes_eq m (codes "async")) (bytes_eq m (codes "unsafe")) (bytes_eq m (codes "safe")) (bytes_eq m (codes "default")) (bytes_eq m (codes "gen")) (bytes_eq m (codes "auto"))
-    (bytes_eq m (codes "extern")) (follows_const x) (follows_async x) (follows_unsafe x) (follows_safe x) (follows_default x) (bytes_eq x (codes "fn")) (bytes_eq x (codes "trait")) (follows_extern x)
+    (bytes_eq m (codes "extern")) (may_follow_const x) (follows_async x) (follows_unsafe x) (follows_safe x) (follows_default x) (bytes_eq x (codes "fn")) (bytes_eq x (codes "trait")) (follows_extern x)
     (bytes_eq x (codes "auto") && bytes_eq (word (bumped (bumped ts))) (codes "trait")) e)
 
-one_modifier : (x : List ℕ) (ts : Tokens) → Shows (trees.word x) (bumped ts) → behind_modifier ts ≡ bumped ts
+one_modifier : (x : List ℕ) (ts : Tokens) → Shows (trees.word_spelled x) (bumped ts) → behind_modifier ts ≡ bumped ts
 unfolding behind_modifier
 one_modifier x ts n = when (bytes_eq (word ts) (codes "extern")) (λ e. rw e (no_abi x (bumped ts) n)) (λ e. rw e refl)
 
 modifiers_read : (ms : List (List ℕ)) (w : List ℕ) (more : List Word) (n : ℕ) (ts : Tokens) → length ts.left ≤ n → AreModifiers ms w → Begins (modified ms w more) ts
-    → is_modifier (behind (map trees.word ms) ts) ≡ false → behind_modifiers_from n ts ≡ behind (map trees.word ms) ts
+    → is_modifier (behind (map trees.word_spelled ms) ts) ≡ false → behind_modifiers_from n ts ≡ behind (map trees.word_spelled ms) ts
 modifiers_read [] w more n ts l a b e = modifiers_stop n ts e
 modifiers_read (m ∷ ms) w more zero ts l a b e = absurd (let one : length (bumped ts).left + 1 ≡ length ts.left = shorter ts b.0.some in omega (arith, one, l))
 modifiers_read (m ∷ ms) w more (suc n) ts l a b e =
@@ -133,23 +133,23 @@ no_pub (m ∷ ms) w e a =
 
 -- ---- the first word
 
-split_front : (v : Front) (w : List ℕ) (more : List Word) (ts : Tokens) → Begins (front_words v ++ trees.word w ∷ more) ts → Begins (scope_words v.scope ++ modified v.modifiers w more) ts
-split_front v w more ts b = subst (λ l. Begins l ts) (append_assoc (scope_words v.scope) (map trees.word v.modifiers) (trees.word w ∷ more)) b
+split_front : (v : Front) (w : List ℕ) (more : List Word) (ts : Tokens) → Begins (front_words v ++ trees.word_spelled w ∷ more) ts → Begins (scope_words v.scope ++ modified v.modifiers w more) ts
+split_front v w more ts b = subst (λ l. Begins l ts) (append_assoc (scope_words v.scope) (map trees.word_spelled v.modifiers) (trees.word_spelled w ∷ more)) b
 
-modified_from : (ms : List (List ℕ)) (w : List ℕ) (more : List Word) → (rest : List Word) × (modified ms w more ≡ trees.word (first_modifier ms w) ∷ rest)
+modified_from : (ms : List (List ℕ)) (w : List ℕ) (more : List Word) → (rest : List Word) × (modified ms w more ≡ trees.word_spelled (first_modifier ms w) ∷ rest)
 modified_from [] w more = (more, refl)
 modified_from (m ∷ ms) w more = (modified ms w more, refl)
 
-scope_first : (v : Scope) (w : List ℕ) (more : List Word) (ts : Tokens) → Begins (scope_words v ++ trees.word w ∷ more) ts → (x : List ℕ) × Shows (trees.word x) ts
+scope_first : (v : Scope) (w : List ℕ) (more : List Word) (ts : Tokens) → Begins (scope_words v ++ trees.word_spelled w ∷ more) ts → (x : List ℕ) × Shows (trees.word_spelled x) ts
 scope_first unwritten w more ts b = (w, b.0)
 scope_first _ w more ts b = (codes "pub", b.0)
 
 -- behind a visibility stands the first modifier, or the item's word
-scope_begins : (v : Front) (w : List ℕ) (more : List Word) (ts : Tokens) → Begins (front_words v ++ trees.word w ∷ more) ts
-    → Begins (scope_words v.scope ++ trees.word (first_modifier v.modifiers w) ∷ (modified_from v.modifiers w more).0) ts
+scope_begins : (v : Front) (w : List ℕ) (more : List Word) (ts : Tokens) → Begins (front_words v ++ trees.word_spelled w ∷ more) ts
+    → Begins (scope_words v.scope ++ trees.word_spelled (first_modifier v.modifiers w) ∷ (modified_from v.modifiers w more).0) ts
 scope_begins v w more ts b = subst (λ l. Begins (scope_words v.scope ++ l) ts) (modified_from v.modifiers w more).1 (split_front v w more ts b)
 
-pub first_shows : (v : Front) (w : List ℕ) (more : List Word) (ts : Tokens) → Begins (front_words v ++ trees.word w ∷ more) ts → (x : List ℕ) × Shows (trees.word x) ts
+pub first_shows : (v : Front) (w : List ℕ) (more : List Word) (ts : Tokens) → Begins (front_words v ++ trees.word_spelled w ∷ more) ts → (x : List ℕ) × Shows (trees.word_spelled x) ts
 first_shows v w more ts b = scope_first v.scope (first_modifier v.modifiers w) (modified_from v.modifiers w more).0 ts (scope_begins v w more ts b)
 
 -- ---- the words of kinds
@@ -165,7 +165,7 @@ block_head unions = heads.Union
 block_head enums = heads.Enum
 block_head traits = heads.Trait
 
-pub block_heads : (k : BlockKind) (n : List ℕ) (ts : Tokens) → IsNamed n → Shows (trees.word (block_word k)) ts → Shows (trees.word n) (bumped ts) → Heads (block_head k) ts
+pub block_heads : (k : BlockKind) (n : List ℕ) (ts : Tokens) → IsNamed n → Shows (trees.word_spelled (block_word k)) ts → Shows (trees.word_spelled n) (bumped ts) → Heads (block_head k) ts
 unfolding is_modifier is_modifier_before head head_by union_head has_name
 block_heads unions n ts h s m = record { modifier = rw s.word_is refl; head = rw (s.word_is, m.kind_is, m.text_is, name_in (bumped ts).edition n h.plain) refl }
 block_heads _ n ts h s m = record { modifier = rw s.word_is refl; head = rw s.word_is refl }
@@ -179,8 +179,8 @@ pub no_keyword : (w n : List ℕ) → IsNamed n → plain_name year.E2024 w ≡ 
 no_keyword w n m k =
     when (bytes_eq n w) (λ e. let same : n ≡ w = (bytes_eq-Decides n w).0 e in absurd (let none : None ≡ Some n = sym k ∙ ap (plain_name year.E2024) (sym same) ∙ m.plain in cc)) (λ e. e)
 
-no_modifier : (n : List ℕ) → IsNamed n → follows_const n ≡ false
-unfolding follows_const plain_name is_keyword is_path_keyword
+no_modifier : (n : List ℕ) → IsNamed n → may_follow_const n ≡ false
+unfolding may_follow_const plain_name is_keyword is_path_keyword
 no_modifier n m =
     rw (
       no_keyword (codes "fn") n m refl,
@@ -200,31 +200,31 @@ no_item_word w rest e = last (bytes_eq w (codes "pub")) (bytes_eq w (codes "mod"
     last _ _ _ _ _ rest e = absurd cc
 
 -- what a value begins with is no item
-no_trait : (t : trees.Trees) → trees.GoesOn true t (trees.mark 59) → bytes_eq (trees.text_of (trees.first_of t (trees.mark 59))) (codes "trait") ≡ false
+no_trait : (t : trees.Trees) → trees.GoesOn true t (trees.mark 59) → bytes_eq (trees.word_text (trees.first_of t (trees.mark 59))) (codes "trait") ≡ false
 unfolding begins_item word
-no_trait (trees.tree_and (trees.single w) t) g = no_item_word (trees.text_of w) _ g.2
+no_trait (trees.tree_and (trees.single w) t) g = no_item_word (trees.word_text w) _ g.2
 no_trait (trees.tree_and (trees.group trees.round is) t) g = refl
 no_trait _ g = refl
 
-pub value_heads : (k : ValueKind) (n : List ℕ) (t : trees.Trees) (ts : Tokens) → IsNamed n → trees.GoesOn true t (trees.mark 59) → Shows (trees.word (value_word k)) ts → Shows (trees.word n) (bumped ts)
+pub value_heads : (k : ValueKind) (n : List ℕ) (t : trees.Trees) (ts : Tokens) → IsNamed n → trees.GoesOn true t (trees.mark 59) → Shows (trees.word_spelled (value_word k)) ts → Shows (trees.word_spelled n) (bumped ts)
     → Shows (trees.first_of t (trees.mark 59)) (bumped (bumped ts)) → Heads (value_head k) ts
 unfolding is_modifier is_modifier_before head head_by
 value_heads constants n t ts h g s m f = record { modifier = rw (s.word_is, m.word_is, no_modifier n h, f.word_is, no_trait t g) (and_right (bytes_eq n (codes "auto")) false refl); head = rw s.word_is refl }
 value_heads _ n t ts h g s m f = record { modifier = rw s.word_is refl; head = rw s.word_is refl }
 
-pub struct_heads : (ts : Tokens) → Shows (trees.word (codes "struct")) ts → Heads heads.Struct ts
+pub struct_heads : (ts : Tokens) → Shows (trees.word_spelled (codes "struct")) ts → Heads heads.Struct ts
 unfolding is_modifier is_modifier_before head head_by
 struct_heads ts s = record { modifier = rw s.word_is refl; head = rw s.word_is refl }
 
-pub use_heads : (ts : Tokens) → Shows (trees.word (codes "use")) ts → Heads heads.Use ts
+pub use_heads : (ts : Tokens) → Shows (trees.word_spelled (codes "use")) ts → Heads heads.Use ts
 unfolding is_modifier is_modifier_before head head_by
 use_heads ts s = record { modifier = rw s.word_is refl; head = rw s.word_is refl }
 
-pub impl_heads : (ts : Tokens) → Shows (trees.word (codes "impl")) ts → Heads heads.Impl ts
+pub impl_heads : (ts : Tokens) → Shows (trees.word_spelled (codes "impl")) ts → Heads heads.Impl ts
 unfolding is_modifier is_modifier_before head head_by
 impl_heads ts s = record { modifier = rw s.word_is refl; head = rw s.word_is refl }
 
-pub module_heads : (ts : Tokens) → Shows (trees.word (codes "mod")) ts → Heads heads.Module ts
+pub module_heads : (ts : Tokens) → Shows (trees.word_spelled (codes "mod")) ts → Heads heads.Module ts
 unfolding is_modifier is_modifier_before head head_by
 module_heads ts s = record { modifier = rw s.word_is refl; head = rw s.word_is refl }
 
@@ -232,9 +232,9 @@ module_heads ts s = record { modifier = rw s.word_is refl; head = rw s.word_is r
 
 -- what is read in front of an item without attributes
 abbrev pub front_at : ℕ → Front → Head → FrontRead
-front_at start v h = record { start = start; attrs = []; visibility = front_view v; head = h }
+front_at start v h = record { start = start; attrs = []; visibility = front_visibility v; head = h }
 
-front_steps : (start : ℕ) (v : Front) (h : Head) (ts us vs : Tokens) → visibility ts ≡ (front_view v, us) → behind_modifiers us ≡ vs → Heads h vs → front_behind start [] ts ≡ (front_at start v h, bumped vs)
+front_steps : (start : ℕ) (v : Front) (h : Head) (ts us vs : Tokens) → visibility ts ≡ (front_visibility v, us) → behind_modifiers us ≡ vs → Heads h vs → front_behind start [] ts ≡ (front_at start v h, bumped vs)
 unfolding front_behind
 front_steps start v h ts us vs s m is = rw (s, m, is.head) refl
 
@@ -242,22 +242,22 @@ front_found : (ts : Tokens) → outer_attributes ts ≡ ([], ts) → front ts �
 unfolding front
 front_found ts e = rw e refl
 
-all_modifiers : (ms : List (List ℕ)) (w : List ℕ) (more : List Word) (ts : Tokens) → length ts.left ≤ most → AreModifiers ms w → Begins (modified ms w more) ts → is_modifier (behind (map trees.word ms) ts) ≡ false
-    → behind_modifiers ts ≡ behind (map trees.word ms) ts
+all_modifiers : (ms : List (List ℕ)) (w : List ℕ) (more : List Word) (ts : Tokens) → length ts.left ≤ most → AreModifiers ms w → Begins (modified ms w more) ts → is_modifier (behind (map trees.word_spelled ms) ts) ≡ false
+    → behind_modifiers ts ≡ behind (map trees.word_spelled ms) ts
 unfolding behind_modifiers
 all_modifiers ms w more ts l a b e = modifiers_read ms w more most ts l a b e
 
-pub front_reads : (v : Front) (w : List ℕ) (h : Head) (more : List Word) (ts : Tokens) → length ts.left ≤ most → bytes_eq w (codes "pub") ≡ false → AreModifiers v.modifiers w → Begins (front_words v ++ trees.word w ∷ more) ts
+pub front_reads : (v : Front) (w : List ℕ) (h : Head) (more : List Word) (ts : Tokens) → length ts.left ≤ most → bytes_eq w (codes "pub") ≡ false → AreModifiers v.modifiers w → Begins (front_words v ++ trees.word_spelled w ∷ more) ts
     → Heads h (behind (front_words v) ts) → front ts ≡ (front_at (at ts) v h, bumped (behind (front_words v) ts))
 front_reads v w h more ts few e a b is =
     let first = first_shows v w more ts b in
-    let ms = map trees.word v.modifiers in
+    let ms = map trees.word_spelled v.modifiers in
     let split = split_front v w more ts b in
     let us = behind (scope_words v.scope) ts in
     let same = behind_append (scope_words v.scope) ms ts in
     let fewer = fewer_left (scope_words v.scope) ts (begins_left (scope_words v.scope) (modified v.modifiers w more) ts split) in
     let heads_there : Heads h (behind ms us) = subst (Heads h) same is in
-    front_found ts (outer_none (trees.word first.0) ts first.1 refl refl)
+    front_found ts (outer_none (trees.word_spelled first.0) ts first.1 refl refl)
     ∙ front_steps (at ts) v h ts us (behind ms us)
     (scope_reads v.scope (first_modifier v.modifiers w) (modified_from v.modifiers w more).0 ts (no_pub v.modifiers w e a) (scope_begins v w more ts b))
     (all_modifiers v.modifiers w more us (omega (arith, few, fewer)) a (begins_right (scope_words v.scope) (modified v.modifiers w more) ts split) heads_there.modifier)
@@ -269,6 +269,6 @@ front_reads v w h more ts few e a b is =
 abbrev pub named_at : List ℕ → Tokens → NameRead
 named_at n ts = record { name = Some n; hashed = n; range = Some (record { start = at ts; end = (bumped ts).past }) }
 
-pub named_reads : (n : List ℕ) (ts : Tokens) → IsNamed n → Shows (trees.word n) ts → named ts ≡ (named_at n ts, bumped ts)
+pub named_reads : (n : List ℕ) (ts : Tokens) → IsNamed n → Shows (trees.word_spelled n) ts → named ts ≡ (named_at n ts, bumped ts)
 unfolding named placed_name name next_name
 named_reads n ts h s = rw (s.kind_is, s.text_is, name_in ts.edition n h.plain, h.name, h.bare) refl

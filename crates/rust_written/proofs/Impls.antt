@@ -13,9 +13,9 @@ use Rattle.rust_cursor.specs.Nests.{is_dash, is_mark, nest_behind}
 use Rattle.rust_cursor.specs.Angles.{begins_binder, is_lone_for, is_header_end, is_reached, is_closed, reaching, reached, behind_angles, behind_field, is_trait_impl}
 use Rattle.rust_cursor.proofs.Reaches.{reaching_stop, reaching_end}
 use Rattle.rust_written.specs.Words.{Word}
-use Rattle.rust_written.specs.Trees.{mark, Bracket, round, curly, open_of, single, group, Trees, no_trees, tree_and, tree_words, trees_words, AreTrees, first_of, GoesBehind, angles_behind, before_behind, behind_group}
+use Rattle.rust_written.specs.Trees.{mark, Bracket, round, curly, open_of, single, group, Trees, no_trees, tree_and, tree_words, trees_words, AreTrees, first_of, GoesBehind, angles_behind_word, before_behind_word, behind_group}
 use Rattle.rust_written.specs.Trees as trees
-use Rattle.rust_written.specs.Impls.{before_behind_all, trees_append, StaysOpen, AreGenerics, generics, is_header_word, HasNoComma, IsFieldType, IsOnePart, IsPart, ImplHeader, trait_part, where_part, type_part, behind_generics, header_trees, HasGenerics, HasTrait, IsImplHeader}
+use Rattle.rust_written.specs.Impls.{before_behind_all, trees_append, StaysOpen, AreGenerics, generics, is_header_word, HasNoComma, IsFieldType, IsOnePart, IsImplPart, ImplHeader, trait_part, where_part, type_part, behind_generics, header_trees, HasGenerics, HasTrait, IsImplHeader}
 use Rattle.rust_written.proofs.Begins.{Shows, Begins, behind, behind_append, begins_left, begins_right, past_behind}
 use Rattle.rust_written.proofs.Same.{shows_first}
 use Rattle.rust_written.proofs.Nested.{nest, and_false, plain_word}
@@ -52,8 +52,8 @@ all_before_angles : (is : Trees) (before : Before) (a : ℕ) (end : Word) (more 
     → Begins (trees_words is ++ end ∷ more) ts → AreBefore reaches.Angles before a is ts
 all_before_angles no_trees before a end more ts h g n o b = tt
 all_before_angles (tree_and (single w) is) before a end more ts h g n o b = (
-  before_angles a (angles_behind before a w) ts (b.0.end_is ∙ h.0.1) (ap (λ (c : ℕ). c == 59) b.0.symbol_is ∙ g.1) o.0,
-  all_before_angles is (before_behind before w) (angles_behind before a w) end more (bumped ts) h.1 g.4 o.0 o.1 b.1,
+  before_angles a (angles_behind_word before a w) ts (b.0.end_is ∙ h.0.1) (ap (λ (c : ℕ). c == 59) b.0.symbol_is ∙ g.1) o.0,
+  all_before_angles is (before_behind_word before w) (angles_behind_word before a w) end more (bumped ts) h.1 g.4 o.0 o.1 b.1,
 )
 all_before_angles (tree_and (group k is') is) before a end more ts h g n o b =
     let ws = tree_words (group k is') in
@@ -75,15 +75,15 @@ flat_closed : (before : Before) → is_closed reaches.Angles (nest 0 0 0 0 0 bef
 unfolding is_closed
 flat_closed before = refl
 
-no_angle : (before : Before) → angles_behind before 1 (mark 62) ≡ 0
+no_angle : (before : Before) → angles_behind_word before 1 (mark 62) ≡ 0
 unfolding is_glued at
 no_angle before = rw (and_false (is_dash before)) refl
 
 close_behind : (before : Before) (ts : Tokens) → Shows (mark 62) ts → is_dash before ≡ false → reaching reaches.Angles (nest 0 0 0 0 1 before) ts ≡ bumped ts
 close_behind before ts s e =
-    let step : nest_behind (nest 0 0 0 0 1 before) ts ≡ nest 0 0 0 0 (angles_behind before 1 (mark 62)) (before_behind before (mark 62)) = flat_word 1 before (mark 62) ts (refl, refl) s (clear_close before e) in
-    let last : nest_behind (nest 0 0 0 0 1 before) ts ≡ nest 0 0 0 0 0 (before_behind before (mark 62)) = step ∙ ap (λ n. nest 0 0 0 0 n (before_behind before (mark 62))) (no_angle before) in
-    reaching_end reaches.Angles (nest 0 0 0 0 1 before) ts (close_reached before ts s) (ap (λ k. is_closed reaches.Angles k) last ∙ flat_closed (before_behind before (mark 62)))
+    let step : nest_behind (nest 0 0 0 0 1 before) ts ≡ nest 0 0 0 0 (angles_behind_word before 1 (mark 62)) (before_behind_word before (mark 62)) = flat_word 1 before (mark 62) ts (refl, refl) s (clear_close before e) in
+    let last : nest_behind (nest 0 0 0 0 1 before) ts ≡ nest 0 0 0 0 0 (before_behind_word before (mark 62)) = step ∙ ap (λ n. nest 0 0 0 0 n (before_behind_word before (mark 62))) (no_angle before) in
+    reaching_end reaches.Angles (nest 0 0 0 0 1 before) ts (close_reached before ts s) (ap (λ k. is_closed reaches.Angles k) last ∙ flat_closed (before_behind_word before (mark 62)))
 
 -- what stands between `<` and `>`
 abbrev pub enclosed : Trees → List Word
@@ -96,7 +96,7 @@ one_open : (before : Before) → is_closed reaches.Angles (nest 0 0 0 0 1 before
 unfolding is_closed
 one_open before = refl
 
-behind_less : before_behind befores.Other (mark 60) ≡ befores.Other
+behind_less : before_behind_word befores.Other (mark 60) ≡ befores.Other
 unfolding symbol kind is_at_identifier is_at_end is_at_doc
 behind_less = refl
 
@@ -137,8 +137,8 @@ all_before_comma : (is : Trees) (before : Before) (a : ℕ) (end : Word) (more :
     → AreBefore reaches.Field before a is ts
 all_before_comma no_trees before a end more ts h g o b = tt
 all_before_comma (tree_and (single w) is) before a end more ts h g o b = (
-  before_field a (angles_behind before a w) ts (b.0.end_is ∙ h.0.1) (ap (λ (c : ℕ). a == 0 && c == 44) b.0.symbol_is ∙ o.0),
-  all_before_comma is (before_behind before w) (angles_behind before a w) end more (bumped ts) h.1 g.4 o.1 b.1,
+  before_field a (angles_behind_word before a w) ts (b.0.end_is ∙ h.0.1) (ap (λ (c : ℕ). a == 0 && c == 44) b.0.symbol_is ∙ o.0),
+  all_before_comma is (before_behind_word before w) (angles_behind_word before a w) end more (bumped ts) h.1 g.4 o.1 b.1,
 )
 all_before_comma (tree_and (group k is') is) before a end more ts h g o b =
     let ws = tree_words (group k is') in
@@ -195,9 +195,9 @@ all_before_header no_trees before a end more ts h g o b = tt
 all_before_header (tree_and (single w) is) before a end more ts h g o b =
     let p = plain_word w ts b.0 h.0 in
     let no : (a == 0 && is_header_word (word ts)) ≡ false = ap (λ t. a == 0 && is_header_word t) b.0.word_is ∙ o.0 in (
-      before_header a (angles_behind before a w) ts (ap (λ (c : ℕ). c == 59) b.0.symbol_is ∙ g.1)
+      before_header a (angles_behind_word before a w) ts (ap (λ (c : ℕ). c == 59) b.0.symbol_is ∙ g.1)
           (no_header_word (a == 0) (symbol ts == 123) (bytes_eq (word ts) (codes "where")) (bytes_eq (word ts) (codes "for")) (not (begins_binder (bumped ts))) p.opens_curly no),
-      all_before_header is (before_behind before w) (angles_behind before a w) end more (bumped ts) h.1 g.4 o.1 b.1,
+      all_before_header is (before_behind_word before w) (angles_behind_word before a w) end more (bumped ts) h.1 g.4 o.1 b.1,
     )
 all_before_header (tree_and (group k is') is) before a end more ts h g o b =
     let ws = tree_words (group k is') in
@@ -213,7 +213,7 @@ all_before_header (tree_and (group k is') is) before a end more ts h g o b =
     no_word flat _ ts s = rw s.word_is (and_false flat)
 
 -- up to what ends a part
-part_behind : (is : Trees) (end : Word) (more : List Word) (ts : Tokens) → AreTrees is → IsPart is end → Begins (trees_words is ++ end ∷ more) ts
+part_behind : (is : Trees) (end : Word) (more : List Word) (ts : Tokens) → AreTrees is → IsImplPart is end → Begins (trees_words is ++ end ∷ more) ts
     → is_reached reaches.Header (nest 0 0 0 0 0 (before_behind_all befores.Other is)) (behind (trees_words is) ts) ≡ true → reached reaches.Header ts ≡ behind (trees_words is) ts
 unfolding reached
 part_behind is end more ts h p b e =
@@ -228,11 +228,11 @@ either_true true b e = refl
 either_true false b e = e
 
 -- at `where`, at a `for` that no `<` follows, and at a block
-where_here : (before : Before) (ts : Tokens) → Shows (trees.word (codes "where")) ts → is_reached reaches.Header (nest 0 0 0 0 0 before) ts ≡ true
+where_here : (before : Before) (ts : Tokens) → Shows (trees.word_spelled (codes "where")) ts → is_reached reaches.Header (nest 0 0 0 0 0 before) ts ≡ true
 unfolding is_reached
 where_here before ts s = rw (s.some, s.symbol_is, s.word_is) (either_true (begins (nest 0 0 0 0 0 before) ts) true refl)
 
-for_here : (before : Before) (next : Word) (ts : Tokens) → Shows (trees.word (codes "for")) ts → Shows next (bumped ts) → (trees.symbol_of next == 60) ≡ false → is_reached reaches.Header (nest 0 0 0 0 0 before) ts ≡ true
+for_here : (before : Before) (next : Word) (ts : Tokens) → Shows (trees.word_spelled (codes "for")) ts → Shows next (bumped ts) → (trees.symbol_of_word next == 60) ≡ false → is_reached reaches.Header (nest 0 0 0 0 0 before) ts ≡ true
 unfolding is_reached
 for_here before next ts s n e =
     let no : (symbol (bumped ts) == 60) ≡ false = ap (λ (c : ℕ). c == 60) n.symbol_is ∙ e in
@@ -261,22 +261,22 @@ first_before end w ws ts b =
     lt-ltb ts.past end (omega arith)
 
 -- behind a trait's path stands `for`
-trait_found : (end : ℕ) (t : Trees) (next : Word) (more : List Word) (ts : Tokens) → AreTrees t → IsPart t (trees.word (codes "for")) → (trees.symbol_of next == 60) ≡ false
-    → UpTo end (trees_words t ++ trees.word (codes "for") ∷ more) ts → Shows next (bumped (behind (trees_words t) ts)) → is_trait_impl end ts ≡ true
+trait_found : (end : ℕ) (t : Trees) (next : Word) (more : List Word) (ts : Tokens) → AreTrees t → IsImplPart t (trees.word_spelled (codes "for")) → (trees.symbol_of_word next == 60) ≡ false
+    → UpTo end (trees_words t ++ trees.word_spelled (codes "for") ∷ more) ts → Shows next (bumped (behind (trees_words t) ts)) → is_trait_impl end ts ≡ true
 trait_found end t next more ts h p e b n =
     let us = behind (trees_words t) ts in
-    let rest = up_to_right end (trees_words t) (trees.word (codes "for") ∷ more) ts b in
-    found_word end ts us (codes "for") (part_behind t (trees.word (codes "for")) more ts h p b.0 (for_here (before_behind_all befores.Other t) next us rest.0.0 n e)) rest.0.0.word_is
-    ∙ first_before end (trees.word (codes "for")) more us rest
+    let rest = up_to_right end (trees_words t) (trees.word_spelled (codes "for") ∷ more) ts b in
+    found_word end ts us (codes "for") (part_behind t (trees.word_spelled (codes "for")) more ts h p b.0 (for_here (before_behind_all befores.Other t) next us rest.0.0 n e)) rest.0.0.word_is
+    ∙ first_before end (trees.word_spelled (codes "for")) more us rest
 
 -- a type without a trait is followed by `where` or the block
-none_before_where : (end : ℕ) (t : Trees) (more : List Word) (ts : Tokens) → AreTrees t → IsPart t (trees.word (codes "where")) → Begins (trees_words t ++ trees.word (codes "where") ∷ more) ts → is_trait_impl end ts ≡ false
+none_before_where : (end : ℕ) (t : Trees) (more : List Word) (ts : Tokens) → AreTrees t → IsImplPart t (trees.word_spelled (codes "where")) → Begins (trees_words t ++ trees.word_spelled (codes "where") ∷ more) ts → is_trait_impl end ts ≡ false
 none_before_where end t more ts h p b =
     let us = behind (trees_words t) ts in
-    let last = (begins_right (trees_words t) (trees.word (codes "where") ∷ more) ts b).0 in
-    found_word end ts us (codes "where") (part_behind t (trees.word (codes "where")) more ts h p b (where_here (before_behind_all befores.Other t) us last)) last.word_is
+    let last = (begins_right (trees_words t) (trees.word_spelled (codes "where") ∷ more) ts b).0 in
+    found_word end ts us (codes "where") (part_behind t (trees.word_spelled (codes "where")) more ts h p b (where_here (before_behind_all befores.Other t) us last)) last.word_is
 
-none_before_block : (end : ℕ) (t : Trees) (more : List Word) (ts : Tokens) → AreTrees t → IsPart t (open_of curly) → Begins (trees_words t ++ open_of curly ∷ more) ts → is_trait_impl end ts ≡ false
+none_before_block : (end : ℕ) (t : Trees) (more : List Word) (ts : Tokens) → AreTrees t → IsImplPart t (open_of curly) → Begins (trees_words t ++ open_of curly ∷ more) ts → is_trait_impl end ts ≡ false
 none_before_block end t more ts h p b =
     let us = behind (trees_words t) ts in
     let last = (begins_right (trees_words t) (open_of curly ∷ more) ts b).0 in
@@ -292,7 +292,7 @@ split_block : (end : ℕ) (t u : Trees) (more : List Word) (ts : Tokens) → Has
 split_block end t u more ts b =
     subst (λ l. UpTo end l ts) (ap (λ l. l ++ open_of curly ∷ more) (append_words t u) ∙ append_assoc (trees_words t) (trees_words u) (open_of curly ∷ more)) b
 
-type_found : (end : ℕ) (s : Trees) (w : Option Trees) (more : List Word) (ts : Tokens) → AreTrees s → IsPart s (first_of (where_part w) (open_of curly)) → HasBlock end (trees_append s (where_part w)) more ts
+type_found : (end : ℕ) (s : Trees) (w : Option Trees) (more : List Word) (ts : Tokens) → AreTrees s → IsImplPart s (first_of (where_part w) (open_of curly)) → HasBlock end (trees_append s (where_part w)) more ts
     → is_trait_impl end ts ≡ false
 type_found end s None more ts h p b = none_before_block end s more ts h p (split_block end s no_trees more ts b).0
 type_found end s (Some w) more ts h p b = none_before_where end s (trees_words w ++ open_of curly ∷ more) ts h p (split_block end s (where_part (Some w)) more ts b).0
@@ -301,16 +301,16 @@ trait_read : (end : ℕ) (h : ImplHeader) (of_trait : Option Trees) (more : List
     → HasBlock end (trees_append (trait_part of_trait) (type_part h)) more ts → is_trait_impl end ts ≡ is_some of_trait
 trait_read end h None more ts p a b = type_found end h.self_type h.where_clause more ts (append_trees h.self_type (where_part h.where_clause) a).0 p b
 trait_read end h (Some t) more ts p a b =
-    let for_word = tree_and (single (trees.word (codes "for"))) no_trees in
+    let for_word = tree_and (single (trees.word_spelled (codes "for"))) no_trees in
     let tail = trees_words (type_part h) ++ open_of curly ∷ more in
     let parts = append_trees t for_word (append_trees (trees_append t for_word) (type_part h) a).0 in
     let all : UpTo end (trees_words (trees_append t for_word) ++ tail) ts = split_block end (trees_append t for_word) (type_part h) more ts b in
-    let split : UpTo end (trees_words t ++ trees.word (codes "for") ∷ tail) ts =
+    let split : UpTo end (trees_words t ++ trees.word_spelled (codes "for") ∷ tail) ts =
     subst (λ l. UpTo end l ts) (ap (λ l. l ++ tail) (append_words t for_word) ∙ append_assoc (trees_words t) (trees_words for_word) tail) all in
-    let behind_for = (begins_right (trees_words t) (trees.word (codes "for") ∷ tail) ts split.0).1 in
+    let behind_for = (begins_right (trees_words t) (trees.word_spelled (codes "for") ∷ tail) ts split.0).1 in
     trait_found end t (first_of (type_part h) (open_of curly)) tail ts parts.0 p.0 p.1 split (shows_first (type_part h) (open_of curly) more (bumped (behind (trees_words t) ts)) behind_for)
 
-pub no_generics : (w : Word) (ts : Tokens) → Shows w ts → (trees.symbol_of w == 60) ≡ false → behind_angles ts ≡ ts
+pub no_generics : (w : Word) (ts : Tokens) → Shows w ts → (trees.symbol_of_word w == 60) ≡ false → behind_angles ts ≡ ts
 unfolding behind_angles
 no_generics w ts s e = rw (s.symbol_is, e) refl
 

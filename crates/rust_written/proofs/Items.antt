@@ -28,7 +28,7 @@ use Rattle.rust_written.specs.Trees as trees
 use Rattle.rust_written.specs.Impls.{ImplHeader, header_trees}
 use Rattle.rust_written.proofs.Begins.{Shows, Begins, behind, behind_append, begins_left, begins_right, past_behind}
 use Rattle.rust_written.proofs.Same.{shows_first}
-use Rattle.rust_written.specs.Written.{Front, front_words, front_view, impl_front, AreModifiers, BlockKind, functions, block_word, block_kind, ValueKind, statics, value_word, value_id, Item, Items, blocked, valued, structure, Shape, struct_words, implemented, file_module, module_of, used, no_more, also, braced, ended, item_words, words, item_view, views, row, item_rows, rows, IsNamed, IsItem, AreItems}
+use Rattle.rust_written.specs.Written.{Front, front_words, front_visibility, impl_front, AreModifiers, BlockKind, functions, block_word, block_kind, ValueKind, statics, value_word, value_id, Item, Items, blocked, valued, structure, Shape, struct_words, implemented, file_module, module_of, used, no_more, also, braced, ended, item_words, words, item_view, views, written_row, item_rows, rows, IsNamed, IsItem, AreItems}
 use Rattle.rust_written.specs.UseTrees.{UseTree, use_words}
 use Rattle.rust_written.proofs.Uses.{fewer_left}
 use Rattle.rust_written.proofs.Fronts.{inner_none, first_shows, block_head, block_heads, value_head, value_heads, struct_heads, impl_heads, use_heads, module_heads, Heads, front_at, front_reads, named_at, named_reads}
@@ -44,8 +44,8 @@ flaw_rows : (is_ended is_nameless : Bool) (start : ℕ) (f : Found) → (and_fla
 flaw_rows true true start f = refl
 flaw_rows _ _ start f = refl
 
-rows_if : (e : Bool) (depth start end : ℕ) (body : Option TextRange) (k : AstIdKind) (n : List ℕ) (range : Option TextRange) (f : Found) → (and_item depth start end body k n range e f).rows ≡ f.rows ++ row depth k n ∷ []
-rows_if e depth start end body k n range f = flaw_rows e (is_none range && needs_name k) start (and_row (row depth k n) (span_of start end body range) f)
+rows_if : (e : Bool) (depth start end : ℕ) (body : Option TextRange) (k : AstIdKind) (n : List ℕ) (range : Option TextRange) (f : Found) → (and_item depth start end body k n range e f).rows ≡ f.rows ++ written_row depth k n ∷ []
+rows_if e depth start end body k n range f = flaw_rows e (is_none range && needs_name k) start (and_row (written_row depth k n) (span_of start end body range) f)
 
 flaw_problems : (is_nameless : Bool) (start : ℕ) (f : Found) → is_nameless ≡ false → (and_flaw true is_nameless start f).problems ≡ f.problems
 flaw_problems true start f e = absurd cc
@@ -54,7 +54,7 @@ flaw_problems false start f e = refl
 -- nothing is wrong with an item that has its end and the name that it needs
 no_flaw : (depth start end : ℕ) (body : Option TextRange) (k : AstIdKind) (n : List ℕ) (range : Option TextRange) (f : Found) → (is_none range && needs_name k) ≡ false
     → (and_item depth start end body k n range true f).problems ≡ f.problems
-no_flaw depth start end body k n range f e = flaw_problems (is_none range && needs_name k) start (and_row (row depth k n) (span_of start end body range) f) e
+no_flaw depth start end body k n range f e = flaw_problems (is_none range && needs_name k) start (and_row (written_row depth k n) (span_of start end body range) f) e
 
 -- the front of an item of a kind that holds no items
 abbrev IsLeafHead : Head → Type 0
@@ -78,7 +78,7 @@ leaf_found_is depth r l f ts us e = rw e refl
 -- an item without items
 leaf_turns : (left : ℕ) (v : Front) (h : Head) (w n : List ℕ) (item : ItemView) (k : AstIdKind) (ws : List Word) (f : Found) (ts : Tokens) → IsLeafHead h → is_at_end ts ≡ false
     → front ts ≡ (front_at (at ts) v h, bumped (behind (front_words v) ts)) → Reads h v (at ts) item k n ws (bumped (behind (front_words v) ts))
-    → Turns left item (row (depth_of left) k n ∷ []) (front_words v ++ trees.word w ∷ ws) f ts
+    → Turns left item (written_row (depth_of left) k n ∷ []) (front_words v ++ trees.word_spelled w ∷ ws) f ts
 leaf_turns left v h w n item k ws f ts i e fronts reads =
     let us = bumped (behind (front_words v) ts) in
     let l : LeafRead = record { item = item; kind = k; name = n; named = reads.0; body = reads.1; is_ended = true; too_deep = None; use_trees = reads.2 } in
@@ -87,21 +87,21 @@ leaf_turns left v h w n item k ws f ts i e fronts reads =
       turn_behind left (front_at (at ts) v h) f ts us e fronts
           ∙ leaf_by_head left h (front_at (at ts) v h) f us i
           ∙ leaf_found_is (depth_of left) (front_at (at ts) v h) l f us rest reads.4
-          ∙ ap (λ r. (Some item, (and_leaf (depth_of left) (at ts) rest.past l f, r))) (sym (behind_append (front_words v) (trees.word w ∷ ws) ts)),
+          ∙ ap (λ r. (Some item, (and_leaf (depth_of left) (at ts) rest.past l f, r))) (sym (behind_append (front_words v) (trees.word_spelled w ∷ ws) ts)),
       rows_if true (depth_of left) (at ts) rest.past reads.1 k n reads.0 f,
       no_flaw (depth_of left) (at ts) rest.past reads.1 k n reads.0 f reads.3,
     )
 
 -- ---- the first word of an item
 
-pub item_first : (i : Item) (more : List Word) (ts : Tokens) → Begins (item_words i ++ more) ts → (x : List ℕ) × Shows (trees.word x) ts
-item_first (blocked k v n h b) more ts s = first_shows v (block_word k) (trees.word n ∷ (trees_words h ++ braced b)) ts (begins_left (item_words (blocked k v n h b)) more ts s)
-item_first (valued k v n t) more ts s = first_shows v (value_word k) (trees.word n ∷ ended t) ts (begins_left (item_words (valued k v n t)) more ts s)
-item_first (structure v n g z) more ts s = first_shows v (codes "struct") (trees.word n ∷ struct_words g z) ts (begins_left (item_words (structure v n g z)) more ts s)
+pub item_first : (i : Item) (more : List Word) (ts : Tokens) → Begins (item_words i ++ more) ts → (x : List ℕ) × Shows (trees.word_spelled x) ts
+item_first (blocked k v n h b) more ts s = first_shows v (block_word k) (trees.word_spelled n ∷ (trees_words h ++ braced b)) ts (begins_left (item_words (blocked k v n h b)) more ts s)
+item_first (valued k v n t) more ts s = first_shows v (value_word k) (trees.word_spelled n ∷ ended t) ts (begins_left (item_words (valued k v n t)) more ts s)
+item_first (structure v n g z) more ts s = first_shows v (codes "struct") (trees.word_spelled n ∷ struct_words g z) ts (begins_left (item_words (structure v n g z)) more ts s)
 item_first (implemented ms h b) more ts s = first_shows (impl_front ms) (codes "impl") (trees_words (header_trees h) ++ braced b) ts (begins_left (item_words (implemented ms h b)) more ts s)
-item_first (file_module v n) more ts s = first_shows v (codes "mod") (trees.word n ∷ mark 59 ∷ []) ts (begins_left (item_words (file_module v n)) more ts s)
+item_first (file_module v n) more ts s = first_shows v (codes "mod") (trees.word_spelled n ∷ mark 59 ∷ []) ts (begins_left (item_words (file_module v n)) more ts s)
 item_first (used v t) more ts s = first_shows v (codes "use") (use_words t ++ mark 59 ∷ []) ts (begins_left (item_words (used v t)) more ts s)
-item_first (module_of v n is) more ts s = first_shows v (codes "mod") (trees.word n ∷ open_mark 123 ∷ (words is ++ close_mark 125 ∷ [])) ts (begins_left (item_words (module_of v n is)) more ts s)
+item_first (module_of v n is) more ts s = first_shows v (codes "mod") (trees.word_spelled n ∷ open_mark 123 ∷ (words is ++ close_mark 125 ∷ [])) ts (begins_left (item_words (module_of v n is)) more ts s)
 
 -- nothing goes on with an item
 pub next_stops : (is : Items) (ts : Tokens) → Begins (words is) ts → goes_on (behind (words is) ts) ≡ false → goes_on ts ≡ false
@@ -111,7 +111,7 @@ next_stops (also i is) ts b e = let first = item_first i (words is) ts b in rw f
 -- ---- items without items
 
 -- what stands behind the front of an item without attributes
-front_of : (v : Front) (h : Head) (w : List ℕ) (more : List Word) (ts : Tokens) → length ts.left ≤ most → bytes_eq w (codes "pub") ≡ false → AreModifiers v.modifiers w → Begins (front_words v ++ trees.word w ∷ more) ts → Heads h (behind (front_words v) ts)
+front_of : (v : Front) (h : Head) (w : List ℕ) (more : List Word) (ts : Tokens) → length ts.left ≤ most → bytes_eq w (codes "pub") ≡ false → AreModifiers v.modifiers w → Begins (front_words v ++ trees.word_spelled w ∷ more) ts → Heads h (behind (front_words v) ts)
     → (is_at_end ts ≡ false) × (front ts ≡ (front_at (at ts) v h, bumped (behind (front_words v) ts)))
 front_of v h w more ts few e a b is = ((first_shows v w more ts b).1.end_is, front_reads v w h more ts few e a b is)
 
@@ -132,27 +132,27 @@ leaf_value statics = tt
 leaf_value _ = tt
 
 -- behind a visibility, a word and a name
-behind_name : (v : Front) (w n : List ℕ) (ws : List Word) (ts : Tokens) → behind (front_words v ++ trees.word w ∷ trees.word n ∷ ws) ts ≡ behind ws (bumped (bumped (behind (front_words v) ts)))
-behind_name v w n ws ts = behind_append (front_words v) (trees.word w ∷ trees.word n ∷ ws) ts
+behind_name : (v : Front) (w n : List ℕ) (ws : List Word) (ts : Tokens) → behind (front_words v ++ trees.word_spelled w ∷ trees.word_spelled n ∷ ws) ts ≡ behind ws (bumped (bumped (behind (front_words v) ts)))
+behind_name v w n ws ts = behind_append (front_words v) (trees.word_spelled w ∷ trees.word_spelled n ∷ ws) ts
 
 blocked_turns : (left : ℕ) (k : BlockKind) (v : Front) (n : List ℕ) (h b : Trees) (f : Found) (ts : Tokens) → length ts.left ≤ most → IsItem left (blocked k v n h b) → Begins (item_words (blocked k v n h b)) ts
     → goes_on (behind (item_words (blocked k v n h b)) ts) ≡ false → Turns left (item_view (blocked k v n h b)) (item_rows (depth_of left) (blocked k v n h b)) (item_words (blocked k v n h b)) f ts
 blocked_turns left k v n h b f ts few is begun e =
     let ws = trees_words h ++ braced b in
     let us = behind (front_words v) ts in
-    let inner = begins_right (front_words v) (trees.word (block_word k) ∷ trees.word n ∷ ws) ts begun in
-    let fronts = front_of v (block_head k) (block_word k) (trees.word n ∷ ws) ts few (no_pub_block k) is.5 begun (block_heads k n us is.0 inner.0 inner.1.0) in
+    let inner = begins_right (front_words v) (trees.word_spelled (block_word k) ∷ trees.word_spelled n ∷ ws) ts begun in
+    let fronts = front_of v (block_head k) (block_word k) (trees.word_spelled n ∷ ws) ts few (no_pub_block k) is.5 begun (block_heads k n us is.0 inner.0 inner.1.0) in
     let next : goes_on (behind ws (bumped (bumped us))) ≡ false = ap goes_on (sym (behind_name v (block_word k) n ws ts)) ∙ e in
-    leaf_turns left v (block_head k) (block_word k) n (item_view (blocked k v n h b)) (ast_kind (block_kind k)) (trees.word n ∷ ws) f ts (leaf_block k) fronts.0 fronts.1
+    leaf_turns left v (block_head k) (block_word k) n (item_view (blocked k v n h b)) (ast_kind (block_kind k)) (trees.word_spelled n ∷ ws) f ts (leaf_block k) fronts.0 fronts.1
     (blocked_reads k v n h b (at ts) (bumped us) is.0 is.1 is.2 is.3 is.4 inner.1.0 inner.1.1 next)
 
 valued_turns : (left : ℕ) (k : ValueKind) (v : Front) (n : List ℕ) (t : Trees) (f : Found) (ts : Tokens) → length ts.left ≤ most → IsItem left (valued k v n t) → Begins (item_words (valued k v n t)) ts
     → Turns left (item_view (valued k v n t)) (item_rows (depth_of left) (valued k v n t)) (item_words (valued k v n t)) f ts
 valued_turns left k v n t f ts few is begun =
     let us = behind (front_words v) ts in
-    let inner = begins_right (front_words v) (trees.word (value_word k) ∷ trees.word n ∷ ended t) ts begun in
-    let fronts = front_of v (value_head k) (value_word k) (trees.word n ∷ ended t) ts few (no_pub_value k) is.4 begun (value_heads k n t us is.0 is.2 inner.0 inner.1.0 (shows_first t (mark 59) [] (bumped (bumped us)) inner.1.1)) in
-    leaf_turns left v (value_head k) (value_word k) n (item_view (valued k v n t)) (value_id k) (trees.word n ∷ ended t) f ts (leaf_value k) fronts.0 fronts.1
+    let inner = begins_right (front_words v) (trees.word_spelled (value_word k) ∷ trees.word_spelled n ∷ ended t) ts begun in
+    let fronts = front_of v (value_head k) (value_word k) (trees.word_spelled n ∷ ended t) ts few (no_pub_value k) is.4 begun (value_heads k n t us is.0 is.2 inner.0 inner.1.0 (shows_first t (mark 59) [] (bumped (bumped us)) inner.1.1)) in
+    leaf_turns left v (value_head k) (value_word k) n (item_view (valued k v n t)) (value_id k) (trees.word_spelled n ∷ ended t) f ts (leaf_value k) fronts.0 fronts.1
     (value_reads k v n t (at ts) (bumped us) is.0 is.1 is.2 is.3 inner.1.0 inner.1.1)
 
 structure_turns : (left : ℕ) (v : Front) (n : List ℕ) (g : Option Trees) (z : Shape) (f : Found) (ts : Tokens) → length ts.left ≤ most → IsItem left (structure v n g z) → Begins (item_words (structure v n g z)) ts
@@ -161,13 +161,13 @@ structure_turns : (left : ℕ) (v : Front) (n : List ℕ) (g : Option Trees) (z 
 structure_turns left v n g z f ts few is begun e =
     let us = behind (front_words v) ts in
     let ws = struct_words g z in
-    let inner = begins_right (front_words v) (trees.word (codes "struct") ∷ trees.word n ∷ ws) ts begun in
-    let front : length (front_words v) + length us.left ≡ length ts.left = fewer_left (front_words v) ts (begins_left (front_words v) (trees.word (codes "struct") ∷ trees.word n ∷ ws) ts begun) in
+    let inner = begins_right (front_words v) (trees.word_spelled (codes "struct") ∷ trees.word_spelled n ∷ ws) ts begun in
+    let front : length (front_words v) + length us.left ≡ length ts.left = fewer_left (front_words v) ts (begins_left (front_words v) (trees.word_spelled (codes "struct") ∷ trees.word_spelled n ∷ ws) ts begun) in
     let one : length (bumped us).left + 1 ≡ length us.left = shorter us inner.0.some in
     let two : length (bumped (bumped us)).left + 1 ≡ length (bumped us).left = shorter (bumped us) inner.1.0.some in
-    let fronts = front_of v heads.Struct (codes "struct") (trees.word n ∷ ws) ts few refl is.2 begun (struct_heads us inner.0) in
+    let fronts = front_of v heads.Struct (codes "struct") (trees.word_spelled n ∷ ws) ts few refl is.2 begun (struct_heads us inner.0) in
     let next : goes_on (behind ws (bumped (bumped us))) ≡ false = ap goes_on (sym (behind_name v (codes "struct") n ws ts)) ∙ e in
-    leaf_turns left v heads.Struct (codes "struct") n (item_view (structure v n g z)) kind.Struct (trees.word n ∷ ws) f ts tt fronts.0 fronts.1
+    leaf_turns left v heads.Struct (codes "struct") n (item_view (structure v n g z)) kind.Struct (trees.word_spelled n ∷ ws) f ts tt fronts.0 fronts.1
     (structure_reads v n g z (at ts) (bumped us) (omega (arith, few, front, one, two)) is.0 is.1 inner.1.0 inner.1.1 next)
 
 impl_turns : (left : ℕ) (ms : List (List ℕ)) (h : ImplHeader) (b : Trees) (f : Found) (ts : Tokens) → length ts.left ≤ most → IsItem left (implemented ms h b) → Begins (item_words (implemented ms h b)) ts
@@ -177,9 +177,9 @@ impl_turns left ms h b f ts few is begun e =
     let v = impl_front ms in
     let us = behind (front_words v) ts in
     let ws = trees_words (header_trees h) ++ braced b in
-    let inner = begins_right (front_words v) (trees.word (codes "impl") ∷ ws) ts begun in
+    let inner = begins_right (front_words v) (trees.word_spelled (codes "impl") ∷ ws) ts begun in
     let fronts = front_of v heads.Impl (codes "impl") ws ts few refl is.4 begun (impl_heads us inner.0) in
-    let next : goes_on (behind ws (bumped us)) ≡ false = ap goes_on (sym (behind_append (front_words v) (trees.word (codes "impl") ∷ ws) ts)) ∙ e in
+    let next : goes_on (behind ws (bumped us)) ≡ false = ap goes_on (sym (behind_append (front_words v) (trees.word_spelled (codes "impl") ∷ ws) ts)) ∙ e in
     leaf_turns left v heads.Impl (codes "impl") [] (item_view (implemented ms h b)) kind.Impl ws f ts tt fronts.0 fronts.1
     (impl_reads ms h b (at ts) (bumped us) is.0 is.1 is.2 is.3 inner.1 next)
 
@@ -188,8 +188,8 @@ used_turns : (left : ℕ) (v : Front) (t : UseTree) (f : Found) (ts : Tokens) �
 used_turns left v t f ts few is begun =
     let us = behind (front_words v) ts in
     let ws = use_words t ++ mark 59 ∷ [] in
-    let inner = begins_right (front_words v) (trees.word (codes "use") ∷ ws) ts begun in
-    let front : length (front_words v) + length us.left ≡ length ts.left = fewer_left (front_words v) ts (begins_left (front_words v) (trees.word (codes "use") ∷ ws) ts begun) in
+    let inner = begins_right (front_words v) (trees.word_spelled (codes "use") ∷ ws) ts begun in
+    let front : length (front_words v) + length us.left ≡ length ts.left = fewer_left (front_words v) ts (begins_left (front_words v) (trees.word_spelled (codes "use") ∷ ws) ts begun) in
     let one : length (bumped us).left + 1 ≡ length us.left = shorter us inner.0.some in
     let fronts = front_of v heads.Use (codes "use") ws ts few refl is.1 begun (use_heads us inner.0) in
     leaf_turns left v heads.Use (codes "use") [] (item_view (used v t)) kind.Use ws f ts tt fronts.0 fronts.1
@@ -200,7 +200,7 @@ used_turns left v t f ts few is begun =
 module_parts : (left start : ℕ) (v : Front) (m : NameRead) (semicolon : Bool) (b : BlockRead) (inner f : Found) (ts us vs rest : Tokens) → named ts ≡ (m, us) → eat 59 us ≡ (semicolon, vs)
     → inside_unless semicolon (inside left) nothing_found vs ≡ (b, (inner, rest))
     → by_head (inside left) (depth_of left) heads.Module (front_at start v heads.Module) f ts
-    ≡ (Some (module_from (named_node b.attrs m.name (front_view v) []) semicolon b.items), (and_parent (depth_of left) start rest.past kind.Module m (semicolon || b.is_ended) inner f, rest))
+    ≡ (Some (module_from (named_node b.attrs m.name (front_visibility v) []) semicolon b.items), (and_parent (depth_of left) start rest.past kind.Module m (semicolon || b.is_ended) inner f, rest))
 module_parts left start v m semicolon b inner f ts us vs rest e g h = rw (e, g, h) refl
 
 eaten : (c : ℕ) (ts : Tokens) → (symbol ts == c) ≡ true → eat c ts ≡ (true, bumped ts)
@@ -221,23 +221,23 @@ block_parts turn list f f' ts us e g h = rw (e, g, h) refl
 
 -- the front of a module, and its name
 module_turn : (left : ℕ) (v : Front) (n : List ℕ) (more : List Word) (semicolon : Bool) (b : BlockRead) (inner f : Found) (ts vs rest : Tokens) → length ts.left ≤ most → IsNamed n → AreModifiers v.modifiers (codes "mod")
-    → Begins (front_words v ++ trees.word (codes "mod") ∷ trees.word n ∷ more) ts → eat 59 (bumped (bumped (behind (front_words v) ts))) ≡ (semicolon, vs)
+    → Begins (front_words v ++ trees.word_spelled (codes "mod") ∷ trees.word_spelled n ∷ more) ts → eat 59 (bumped (bumped (behind (front_words v) ts))) ≡ (semicolon, vs)
     → inside_unless semicolon (inside left) nothing_found vs ≡ (b, (inner, rest))
     → turn left f ts ≡ (
-      Some (module_from (named_node b.attrs (Some n) (front_view v) []) semicolon b.items),
+      Some (module_from (named_node b.attrs (Some n) (front_visibility v) []) semicolon b.items),
       (and_parent (depth_of left) (at ts) rest.past kind.Module (named_at n (bumped (behind (front_words v) ts))) (semicolon || b.is_ended) inner f, rest),
     )
 module_turn left v n more semicolon b inner f ts vs rest few m a begun g h =
     let us = behind (front_words v) ts in
-    let shown = begins_right (front_words v) (trees.word (codes "mod") ∷ trees.word n ∷ more) ts begun in
-    let fronts = front_of v heads.Module (codes "mod") (trees.word n ∷ more) ts few refl a begun (module_heads us shown.0) in
+    let shown = begins_right (front_words v) (trees.word_spelled (codes "mod") ∷ trees.word_spelled n ∷ more) ts begun in
+    let fronts = front_of v heads.Module (codes "mod") (trees.word_spelled n ∷ more) ts few refl a begun (module_heads us shown.0) in
     turn_behind left (front_at (at ts) v heads.Module) f ts (bumped us) fronts.0 fronts.1
     ∙ module_parts left (at ts) v (named_at n (bumped us)) semicolon b inner f (bumped us) (bumped (bumped us)) vs rest (named_reads n (bumped us) m shown.1.0) g h
 
-parent_rows : (e : Bool) (depth start end : ℕ) (m : NameRead) (inner f : Found) → (and_parent depth start end kind.Module m e inner f).rows ≡ f.rows ++ row depth kind.Module m.hashed ∷ inner.rows
+parent_rows : (e : Bool) (depth start end : ℕ) (m : NameRead) (inner f : Found) → (and_parent depth start end kind.Module m e inner f).rows ≡ f.rows ++ written_row depth kind.Module m.hashed ∷ inner.rows
 parent_rows e depth start end m inner f =
     ap (λ l. l ++ inner.rows) (rows_if e depth start end None kind.Module m.hashed m.range f)
-    ∙ append_assoc f.rows (row depth kind.Module m.hashed ∷ []) inner.rows
+    ∙ append_assoc f.rows (written_row depth kind.Module m.hashed ∷ []) inner.rows
 
 parent_problems : (depth start end : ℕ) (m : NameRead) (inner f : Found) → (is_none m.range && needs_name kind.Module) ≡ false → inner.problems ≡ []
     → (and_parent depth start end kind.Module m true inner f).problems ≡ f.problems
@@ -252,7 +252,7 @@ file_turns left v n f ts few is begun =
     let us = behind (front_words v) ts in
     let name = named_at n (bumped us) in
     let vs = bumped (bumped us) in
-    let shown = begins_right (front_words v) (trees.word (codes "mod") ∷ trees.word n ∷ mark 59 ∷ []) ts begun in
+    let shown = begins_right (front_words v) (trees.word_spelled (codes "mod") ∷ trees.word_spelled n ∷ mark 59 ∷ []) ts begun in
     let found = and_parent (depth_of left) (at ts) (bumped vs).past kind.Module name true nothing_found f in (
       found,
       module_turn left v n (mark 59 ∷ []) true no_block nothing_found f ts (bumped vs) (bumped vs) few is.0 is.1 begun (eaten 59 vs (ap (λ (c : ℕ). c == 59) shown.1.1.0.symbol_is)) refl
@@ -267,7 +267,7 @@ deeper : (left : ℕ) → suc left ≤ 128 → depth_of left ≡ suc (depth_of (
 deeper left h = omega arith
 
 -- where a word was taken, the place is another
-went_on : (x : List ℕ) (ws : List Word) (ts : Tokens) → Begins ws ts → Shows (trees.word x) ts → 0 < length ws → (behind ws ts).past ≡ ts.past → ⊥
+went_on : (x : List ℕ) (ws : List Word) (ts : Tokens) → Begins ws ts → Shows (trees.word_spelled x) ts → 0 < length ws → (behind ws ts).past ≡ ts.past → ⊥
 went_on x [] ts b s l e = absurd (omega arith)
 went_on x (w ∷ ws) ts b s l e =
     let one : ts.past < (bumped ts).past = b.0.past in
@@ -279,7 +279,7 @@ unfolding beyond
 beyond_none past ts e = let other : (ts.past == past) ≡ false = ne_eqb ts.past past e in rw other refl
 
 -- a list of items goes on at an item
-goes_here : (is_top : Bool) (x : List ℕ) (ts : Tokens) → Shows (trees.word x) ts → is_list_end is_top ts ≡ false
+goes_here : (is_top : Bool) (x : List ℕ) (ts : Tokens) → Shows (trees.word_spelled x) ts → is_list_end is_top ts ≡ false
 unfolding is_list_end
 goes_here true x ts s = rw s.some refl
 goes_here false x ts s = rw (s.some, s.symbol_is) refl
@@ -297,7 +297,7 @@ no_item : (is_top : Bool) (left : ℕ) (f : Found) (ts : Tokens) → is_list_end
 no_item is_top left f ts e n done l =
     (f, finding_stop (is_list_end is_top) (turn left) n done f ts e ∙ ap (λ d. (d, (f, ts))) (sym (append-nil done)), sym (append-nil f.rows), refl)
 
-one_item : (is_top : Bool) (left : ℕ) (i : ItemView) (is : List ItemView) (rs qs : List Row) (x : List ℕ) (ws vs : List Word) (f : Found) (ts : Tokens) → Begins ws ts → Shows (trees.word x) ts → 0 < length ws → Turns left i rs ws f ts
+one_item : (is_top : Bool) (left : ℕ) (i : ItemView) (is : List ItemView) (rs qs : List Row) (x : List ℕ) (ws vs : List Word) (f : Found) (ts : Tokens) → Begins ws ts → Shows (trees.word_spelled x) ts → 0 < length ws → Turns left i rs ws f ts
     → ((f' : Found) → Finds is_top left is qs vs f' (behind ws ts)) → Finds is_top left (i ∷ is) (rs ++ qs) (ws ++ vs) f ts
 one_item is_top left i is rs qs x ws vs f ts b s some t more zero done l =
     let few : length ws + length (behind ws ts).left ≡ length ts.left = fewer_left ws ts b in absurd (omega arith)
@@ -319,20 +319,20 @@ some_behind [] w ws = omega arith
 some_behind (v ∷ vs) w ws = omega arith
 
 item_some : (i : Item) → 0 < length (item_words i)
-item_some (blocked k v n h b) = some_behind (front_words v) (trees.word (block_word k)) (trees.word n ∷ (trees_words h ++ braced b))
-item_some (valued k v n t) = some_behind (front_words v) (trees.word (value_word k)) (trees.word n ∷ ended t)
-item_some (structure v n g z) = some_behind (front_words v) (trees.word (codes "struct")) (trees.word n ∷ struct_words g z)
-item_some (implemented ms h b) = some_behind (front_words (impl_front ms)) (trees.word (codes "impl")) (trees_words (header_trees h) ++ braced b)
-item_some (file_module v n) = some_behind (front_words v) (trees.word (codes "mod")) (trees.word n ∷ mark 59 ∷ [])
-item_some (used v t) = some_behind (front_words v) (trees.word (codes "use")) (use_words t ++ mark 59 ∷ [])
-item_some (module_of v n is) = some_behind (front_words v) (trees.word (codes "mod")) (trees.word n ∷ open_mark 123 ∷ (words is ++ close_mark 125 ∷ []))
+item_some (blocked k v n h b) = some_behind (front_words v) (trees.word_spelled (block_word k)) (trees.word_spelled n ∷ (trees_words h ++ braced b))
+item_some (valued k v n t) = some_behind (front_words v) (trees.word_spelled (value_word k)) (trees.word_spelled n ∷ ended t)
+item_some (structure v n g z) = some_behind (front_words v) (trees.word_spelled (codes "struct")) (trees.word_spelled n ∷ struct_words g z)
+item_some (implemented ms h b) = some_behind (front_words (impl_front ms)) (trees.word_spelled (codes "impl")) (trees_words (header_trees h) ++ braced b)
+item_some (file_module v n) = some_behind (front_words v) (trees.word_spelled (codes "mod")) (trees.word_spelled n ∷ mark 59 ∷ [])
+item_some (used v t) = some_behind (front_words v) (trees.word_spelled (codes "use")) (use_words t ++ mark 59 ∷ [])
+item_some (module_of v n is) = some_behind (front_words v) (trees.word_spelled (codes "mod")) (trees.word_spelled n ∷ open_mark 123 ∷ (words is ++ close_mark 125 ∷ []))
 
 -- before a module's items, and behind them
 inner_of : (is : Items) (ts : Tokens) → Begins (words is ++ close_mark 125 ∷ []) ts → inner_attributes ts ≡ ([], ts)
 inner_of no_more ts b = inner_none (close_mark 125) ts b.0 refl refl
 inner_of (also i is) ts b =
     let first = item_first i (words is) ts (begins_left (words (also i is)) (close_mark 125 ∷ []) ts b) in
-    inner_none (trees.word first.0) ts first.1 refl refl
+    inner_none (trees.word_spelled first.0) ts first.1 refl refl
 
 closes_list : (ts : Tokens) → Shows (close_mark 125) ts → is_list_end false ts ≡ true
 unfolding is_list_end
@@ -345,11 +345,11 @@ finding_all : (left : ℕ) (f : Found) (ts : Tokens) → finding (is_list_end fa
 unfolding finding
 finding_all left f ts = refl
 
-behind_few : (v : Front) (n : List ℕ) (more : List Word) (ts : Tokens) → length ts.left ≤ most → Begins (front_words v ++ trees.word (codes "mod") ∷ trees.word n ∷ open_mark 123 ∷ more) ts
+behind_few : (v : Front) (n : List ℕ) (more : List Word) (ts : Tokens) → length ts.left ≤ most → Begins (front_words v ++ trees.word_spelled (codes "mod") ∷ trees.word_spelled n ∷ open_mark 123 ∷ more) ts
     → length (bumped (bumped (bumped (behind (front_words v) ts)))).left ≤ most
 behind_few v n more ts few b =
     let us = behind (front_words v) ts in
-    let tail = trees.word (codes "mod") ∷ trees.word n ∷ open_mark 123 ∷ more in
+    let tail = trees.word_spelled (codes "mod") ∷ trees.word_spelled n ∷ open_mark 123 ∷ more in
     let shown = begins_right (front_words v) tail ts b in
     let front : length (front_words v) + length us.left ≡ length ts.left = fewer_left (front_words v) ts (begins_left (front_words v) tail ts b) in
     let one : length (bumped us).left + 1 ≡ length us.left = shorter us shown.0.some in
@@ -367,7 +367,7 @@ listed_turns left v n is f ts deep few m a begun found =
     let name = named_at n (bumped us) in
     let vs = bumped (bumped us) in
     let mid = bumped vs in
-    let shown = begins_right (front_words v) (trees.word (codes "mod") ∷ trees.word n ∷ open_mark 123 ∷ tail) ts begun in
+    let shown = begins_right (front_words v) (trees.word_spelled (codes "mod") ∷ trees.word_spelled n ∷ open_mark 123 ∷ tail) ts begun in
     let brace : Shows (open_mark 123) vs = shown.1.1.0 in
     let within : Begins tail mid = shown.1.1.1 in
     let end = behind (words is) mid in
@@ -385,7 +385,7 @@ listed_turns left v n is f ts deep few m a begun found =
       module_turn (suc left) v n (open_mark 123 ∷ tail) false block list.0 f ts vs (bumped end) few m a begun (uneaten 59 vs (ap (λ (c : ℕ). c == 59) brace.symbol_is)) held
           ∙ ap (λ r. (Some (item_view (module_of v n is)), (all, r))) rest,
       parent_rows true (depth_of (suc left)) (at ts) (bumped end).past name list.0 f
-          ∙ ap (λ l. f.rows ++ row (depth_of (suc left)) kind.Module n ∷ l) (list.2 ∙ ap (λ d. rows d is) (deeper left deep)),
+          ∙ ap (λ l. f.rows ++ written_row (depth_of (suc left)) kind.Module n ∷ l) (list.2 ∙ ap (λ d. rows d is) (deeper left deep)),
       parent_problems (depth_of (suc left)) (at ts) (bumped end).past name list.0 f refl list.3,
     )
 

@@ -35,7 +35,7 @@ use Rattle.rust_written.proofs.Begins.{Shows, Begins, behind, behind_append, beg
 use Rattle.rust_written.proofs.Same.{shows_first}
 use Rattle.rust_written.proofs.Ends.{whole, item_semicolon, value_semicolon, item_block, impl_block}
 use Rattle.rust_written.proofs.Impls.{impl_header_read}
-use Rattle.rust_written.specs.Written.{Front, impl_front, front_view, BlockKind, functions, unions, enums, traits, block_kind, ValueKind, statics, aliases, constants, value_item, value_id, braced, ended, Shape, unit_shape, tuple_shape, record_shape, struct_trees, struct_words, shape_view, IsStruct, named_by, IsNamed, IsPlainBlock, IsOfKind, IsValue}
+use Rattle.rust_written.specs.Written.{Front, impl_front, front_visibility, BlockKind, functions, unions, enums, traits, block_kind, ValueKind, statics, aliases, constants, value_item, value_id, braced, ended, Shape, unit_shape, tuple_shape, record_shape, struct_trees, struct_words, shape_view, IsStruct, named_by, IsNamed, IsPlainBlock, IsOfKind, IsValue}
 use Rattle.rust_written.proofs.Structs.{struct_read}
 use Rattle.rust_written.proofs.Fronts.{inner_none, no_keyword, named_at, named_reads, front_at, block_head, value_head}
 
@@ -94,7 +94,7 @@ no_inner h b ts p begun =
     let us = behind (trees_words h) ts in
     let inside : Begins (trees_words b ++ close_of curly ∷ []) (bumped us) = (begins_right (trees_words h) (braced b) ts begun).1 in
     let first : Shows (first_of b (close_of curly)) (bumped us) = shows_first b (close_of curly) [] (bumped us) inside in
-    let plain = or_parts (trees.symbol_of (first_of b (close_of curly)) == 35) (documents (first_of b (close_of curly)).kind) p in
+    let plain = or_parts (trees.symbol_of_word (first_of b (close_of curly)) == 35) (documents (first_of b (close_of curly)).kind) p in
     ap (λ r. r.0) (inner_none (first_of b (close_of curly)) (bumped us) first plain.1 plain.0)
 
 function_reads : (v : Option Visibility) (n : NameRead) (block : Option Tokens) (ws : List Word) (ts us : Tokens) → named ts ≡ (n, us) → block_attributes block ≡ [] → (e : Ends item_end block ws us)
@@ -107,8 +107,8 @@ block_reads : (k : PlainKind) (v : Option Visibility) (n : NameRead) (block : Op
 block_reads k v n block ws ts us m e = rw (m, e) refl
 
 pub blocked_reads : (k : BlockKind) (v : Front) (n : List ℕ) (h b : Trees) (start : ℕ) (ts : Tokens) → IsNamed n → AreTrees h → AreTrees b → GoesOn false h (open_of curly) → IsOfKind k b
-    → Shows (trees.word n) ts → Begins (trees_words h ++ braced b) (bumped ts) → goes_on (behind (trees_words h ++ braced b) (bumped ts)) ≡ false
-    → Reads (block_head k) v start (plain_item (block_kind k) (named_by v n (trees_words h ++ braced b))) (ast_kind (block_kind k)) n (trees.word n ∷ (trees_words h ++ braced b)) ts
+    → Shows (trees.word_spelled n) ts → Begins (trees_words h ++ braced b) (bumped ts) → goes_on (behind (trees_words h ++ braced b) (bumped ts)) ≡ false
+    → Reads (block_head k) v start (plain_item (block_kind k) (named_by v n (trees_words h ++ braced b))) (ast_kind (block_kind k)) n (trees.word_spelled n ∷ (trees_words h ++ braced b)) ts
 unfolding leaf union_item enumeration trait_item
 blocked_reads functions v n h b start ts m i j g f s begun e =
     let ws = trees_words h ++ braced b in
@@ -118,23 +118,23 @@ blocked_reads functions v n h b start ts m i j g f s begun e =
       (rest_is block ws (bumped ts)).braces,
       [],
       refl,
-      ap (λ r. (Some r.0, r.1)) (function_reads (front_view v) (named_at n ts) block ws ts (bumped ts) (named_reads n ts m s) (no_inner h b (bumped ts) f begun) ends),
+      ap (λ r. (Some r.0, r.1)) (function_reads (front_visibility v) (named_at n ts) block ws ts (bumped ts) (named_reads n ts m s) (no_inner h b (bumped ts) f begun) ends),
     )
 blocked_reads unions v n h b start ts m i j g f s begun e =
     let ws = trees_words h ++ braced b in
     let block = block_behind h (bumped ts) in
     let ends = block_ends h b (bumped ts) i j g begun e in
-    ((named_at n ts).range, (rest_is block ws (bumped ts)).braces, [], refl, ap (λ r. (Some r.0, r.1)) (block_reads union_kind (front_view v) (named_at n ts) block ws ts (bumped ts) (named_reads n ts m s) ends))
+    ((named_at n ts).range, (rest_is block ws (bumped ts)).braces, [], refl, ap (λ r. (Some r.0, r.1)) (block_reads union_kind (front_visibility v) (named_at n ts) block ws ts (bumped ts) (named_reads n ts m s) ends))
 blocked_reads enums v n h b start ts m i j g f s begun e =
     let ws = trees_words h ++ braced b in
     let block = block_behind h (bumped ts) in
     let ends = block_ends h b (bumped ts) i j g begun e in
-    ((named_at n ts).range, (rest_is block ws (bumped ts)).braces, [], refl, ap (λ r. (Some r.0, r.1)) (block_reads enum_kind (front_view v) (named_at n ts) block ws ts (bumped ts) (named_reads n ts m s) ends))
+    ((named_at n ts).range, (rest_is block ws (bumped ts)).braces, [], refl, ap (λ r. (Some r.0, r.1)) (block_reads enum_kind (front_visibility v) (named_at n ts) block ws ts (bumped ts) (named_reads n ts m s) ends))
 blocked_reads traits v n h b start ts m i j g f s begun e =
     let ws = trees_words h ++ braced b in
     let block = block_behind h (bumped ts) in
     let ends = block_ends h b (bumped ts) i j g begun e in
-    ((named_at n ts).range, (rest_is block ws (bumped ts)).braces, [], refl, ap (λ r. (Some r.0, r.1)) (block_reads trait_kind (front_view v) (named_at n ts) block ws ts (bumped ts) (named_reads n ts m s) ends))
+    ((named_at n ts).range, (rest_is block ws (bumped ts)).braces, [], refl, ap (λ r. (Some r.0, r.1)) (block_reads trait_kind (front_visibility v) (named_at n ts) block ws ts (bumped ts) (named_reads n ts m s) ends))
 
 -- ---- impls
 
@@ -188,21 +188,21 @@ const_steps : (v : Option Visibility) (n : NameRead) (ws : List Word) (ts us : T
 unfolding constant
 const_steps v n ws ts us m w e = rw (m, w, e) refl
 
-pub value_reads : (k : ValueKind) (v : Front) (n : List ℕ) (t : Trees) (start : ℕ) (ts : Tokens) → IsNamed n → AreTrees t → GoesOn true t (mark 59) → IsValue k t → Shows (trees.word n) ts
-    → Begins (ended t) (bumped ts) → Reads (value_head k) v start (value_item k (named_by v n (ended t))) (value_id k) n (trees.word n ∷ ended t) ts
+pub value_reads : (k : ValueKind) (v : Front) (n : List ℕ) (t : Trees) (start : ℕ) (ts : Tokens) → IsNamed n → AreTrees t → GoesOn true t (mark 59) → IsValue k t → Shows (trees.word_spelled n) ts
+    → Begins (ended t) (bumped ts) → Reads (value_head k) v start (value_item k (named_by v n (ended t))) (value_id k) n (trees.word_spelled n ∷ ended t) ts
 unfolding leaf
 value_reads aliases v n t start ts m i g u s b =
     let ends = values_end t (bumped ts) i g b in
-    ((named_at n ts).range, None, [], refl, ap (λ r. (Some r.0, r.1)) (alias_steps (front_view v) (named_at n ts) (ended t) ts (bumped ts) (named_reads n ts m s) ends))
+    ((named_at n ts).range, None, [], refl, ap (λ r. (Some r.0, r.1)) (alias_steps (front_visibility v) (named_at n ts) (ended t) ts (bumped ts) (named_reads n ts m s) ends))
 value_reads statics v n t start ts m i g u s b =
     let ends = values_end t (bumped ts) i g b in
     let no_word = no_eat (codes "mut") n ts s.word_is (not_mut n m) in
-    ((named_at n ts).range, None, [], refl, ap (λ r. (Some r.0, r.1)) (static_steps (front_view v) (named_at n ts) (ended t) ts (bumped ts) no_word (named_reads n ts m s) ends))
+    ((named_at n ts).range, None, [], refl, ap (λ r. (Some r.0, r.1)) (static_steps (front_visibility v) (named_at n ts) (ended t) ts (bumped ts) no_word (named_reads n ts m s) ends))
 value_reads constants v n t start ts m i g u s b =
     let ends = values_end t (bumped ts) i g b in
     let first : Shows (first_of t (mark 59)) (bumped ts) = shows_first t (mark 59) [] (bumped ts) b in
-    let no_word = no_eat (codes "_") (trees.text_of (first_of t (mark 59))) (bumped ts) first.word_is u in
-    ((named_at n ts).range, None, [], refl, ap (λ r. (Some r.0, r.1)) (const_steps (front_view v) (named_at n ts) (ended t) ts (bumped ts) (named_reads n ts m s) no_word ends))
+    let no_word = no_eat (codes "_") (trees.word_text (first_of t (mark 59))) (bumped ts) first.word_is u in
+    ((named_at n ts).range, None, [], refl, ap (λ r. (Some r.0, r.1)) (const_steps (front_visibility v) (named_at n ts) (ended t) ts (bumped ts) (named_reads n ts m s) no_word ends))
 
 -- ---- structs
 
@@ -211,11 +211,11 @@ struct_steps : (v : Option Visibility) (n : NameRead) (shape : FieldsView) (bloc
 unfolding structure
 struct_steps v n shape block ws ts us m f e = rw (m, e, f) refl
 
-struct_reads : (v : Front) (n : List ℕ) (shape : FieldsView) (block : Option Tokens) (ws : List Word) (start : ℕ) (ts : Tokens) → IsNamed n → Shows (trees.word n) ts → struct_fields (behind ws (bumped ts)).past block (bumped ts) ≡ shape
-    → Ends item_end block ws (bumped ts) → Reads heads.Struct v start (struct_item (named_by v n ws) shape) kind.Struct n (trees.word n ∷ ws) ts
+struct_reads : (v : Front) (n : List ℕ) (shape : FieldsView) (block : Option Tokens) (ws : List Word) (start : ℕ) (ts : Tokens) → IsNamed n → Shows (trees.word_spelled n) ts → struct_fields (behind ws (bumped ts)).past block (bumped ts) ≡ shape
+    → Ends item_end block ws (bumped ts) → Reads heads.Struct v start (struct_item (named_by v n ws) shape) kind.Struct n (trees.word_spelled n ∷ ws) ts
 unfolding leaf
 struct_reads v n shape block ws start ts m s f ends =
-    ((named_at n ts).range, (rest_is block ws (bumped ts)).braces, [], refl, ap (λ r. (Some r.0, r.1)) (struct_steps (front_view v) (named_at n ts) shape block ws ts (bumped ts) (named_reads n ts m s) f ends))
+    ((named_at n ts).range, (rest_is block ws (bumped ts)).braces, [], refl, ap (λ r. (Some r.0, r.1)) (struct_steps (front_visibility v) (named_at n ts) shape block ws ts (bumped ts) (named_reads n ts m s) f ends))
 
 -- the braces that a struct ends with
 abbrev struct_block : Option Trees → Shape → Tokens → Option Tokens
@@ -243,15 +243,15 @@ struct_fields_are g (tuple_shape fs w) ts l is b =
 struct_fields_are g (record_shape w b) ts l is begun =
     struct_read g (record_shape w b) (trees_words b ++ close_of curly ∷ []) (behind (trees_words (struct_trees g (record_shape w b))) ts).past ts l is begun (omega arith)
 
-pub structure_reads : (v : Front) (n : List ℕ) (g : Option Trees) (s : Shape) (start : ℕ) (ts : Tokens) → length (bumped ts).left ≤ most → IsNamed n → IsStruct g s → Shows (trees.word n) ts → Begins (struct_words g s) (bumped ts)
+pub structure_reads : (v : Front) (n : List ℕ) (g : Option Trees) (s : Shape) (start : ℕ) (ts : Tokens) → length (bumped ts).left ≤ most → IsNamed n → IsStruct g s → Shows (trees.word_spelled n) ts → Begins (struct_words g s) (bumped ts)
     → goes_on (behind (struct_words g s) (bumped ts)) ≡ false
-    → Reads heads.Struct v start (struct_item (named_by v n (struct_words g s)) (shape_view s)) kind.Struct n (trees.word n ∷ struct_words g s) ts
+    → Reads heads.Struct v start (struct_item (named_by v n (struct_words g s)) (shape_view s)) kind.Struct n (trees.word_spelled n ∷ struct_words g s) ts
 structure_reads v n g s start ts l m is shown b e =
     struct_reads v n (shape_view s) (struct_block g s (bumped ts)) (struct_words g s) start ts m shown (struct_fields_are g s (bumped ts) l is b) (struct_ends g s (bumped ts) is b e)
 
 -- ---- uses
 
-use_steps : (v : Option Visibility) (tree : use_spec.Found (Option UseTreeView)) (e : Bool) (ts us vs : Tokens) → use_tree ts ≡ (tree, us) → eat 59 us ≡ (e, vs) → use_declaration [] v ts ≡ (use_read [] v tree e, vs)
+use_steps : (v : Option Visibility) (tree : use_spec.FoundInUse (Option UseTreeView)) (e : Bool) (ts us vs : Tokens) → use_tree ts ≡ (tree, us) → eat 59 us ≡ (e, vs) → use_declaration [] v ts ≡ (use_read [] v tree e, vs)
 unfolding use_declaration
 use_steps v tree e ts us vs t s = rw (t, s) refl
 
@@ -260,7 +260,7 @@ unfolding eat
 eaten ts s = rw s.symbol_is refl
 
 pub used_reads : (v : Front) (t : UseTree) (start : ℕ) (ts : Tokens) → IsUse 128 t → length ts.left ≤ most → Begins (use_words t ++ mark 59 ∷ []) ts
-    → Reads heads.Use v start (use_item (record { node = node [] []; visibility = front_view v; use_tree = Some (use_view t) })) kind.Use [] (use_words t ++ mark 59 ∷ []) ts
+    → Reads heads.Use v start (use_item (record { node = node [] []; visibility = front_visibility v; use_tree = Some (use_view t) })) kind.Use [] (use_words t ++ mark 59 ∷ []) ts
 unfolding leaf
 used_reads v t start ts h l b =
     let us = behind (use_words t) ts in
@@ -272,6 +272,6 @@ used_reads v t start ts h l b =
       None,
       read.0,
       refl,
-      ap (λ r. (Some r.0, r.1)) (use_steps (front_view v) found true ts us (bumped us) read.1 (eaten us last))
-          ∙ ap (λ k. (Some (use_read [] (front_view v) found true), k)) (sym (behind_append (use_words t) (mark 59 ∷ []) ts)),
+      ap (λ r. (Some r.0, r.1)) (use_steps (front_visibility v) found true ts us (bumped us) read.1 (eaten us last))
+          ∙ ap (λ k. (Some (use_read [] (front_visibility v) found true), k)) (sym (behind_append (use_words t) (mark 59 ∷ []) ts)),
     )

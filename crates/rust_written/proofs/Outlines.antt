@@ -11,8 +11,8 @@ use Rattle.rust_ids.specs.Ids.{AreIds}
 use Rattle.rust_ids.proofs.Consequences.{determined}
 use Rattle.rust_items.specs.Ids.{with_ids}
 use Rattle.rust_items.proofs.Bodiless.{with_bodiless}
-use Rattle.rust_written.specs.Written.{Item, Items, structure, Field, field_view, outline_field, Shape, tuple_shape, shape_view, outline_shape, implemented, module_of, no_more, also, item_view, views, item_rows, rows, named_by, item_outline, outline, valued, statics}
-use Rattle.rust_written.specs.Laws.{IsRead, TypingInside}
+use Rattle.rust_written.specs.Written.{Item, Items, structure, Field, field_visibility, outline_field, Shape, tuple_shape, shape_view, outline_shape, implemented, module_of, no_more, also, item_view, views, item_rows, rows, named_by, item_outline, outline, valued, statics}
+use Rattle.rust_written.specs.Laws.{IsRead, TypingBetween}
 use Rattle.rust_written.proofs.Texts.{read_again}
 
 -- ---- outlines
@@ -24,9 +24,9 @@ same_trait : (t : Option Trees) → is_some (option_map (λ (_ : Trees). no_tree
 same_trait None = refl
 same_trait (Some t) = refl
 
-same_fields : (fs : List Field) → map field_view (map outline_field fs) ≡ map field_view fs
+same_fields : (fs : List Field) → map field_visibility (map outline_field fs) ≡ map field_visibility fs
 same_fields [] = refl
-same_fields (f ∷ fs) = ap (λ l. field_view f ∷ l) (same_fields fs)
+same_fields (f ∷ fs) = ap (λ l. field_visibility f ∷ l) (same_fields fs)
 
 same_shape : (z : Shape) → shape_view (outline_shape z) ≡ shape_view z
 same_shape (tuple_shape fs w) = ap tuple_fields (same_fields fs)
@@ -68,7 +68,7 @@ same_bare before after ids e = ap (λ l. (with_ids l ids).0) (sym (views_outline
 same_rows : (before after : Items) → outline before ≡ outline after → rows 0 before ≡ rows 0 after
 same_rows before after e = sym (rows_outline 0 before) ∙ ap (rows 0) e ∙ rows_outline 0 after
 
-pub typing_inside : TypingInside
+pub typing_inside : TypingBetween
 typing_inside edition before after old new read again w x e s t =
     let r : IsRead before read = read_again edition before old read w s in
     let q : IsRead after again = read_again edition after new again x t in

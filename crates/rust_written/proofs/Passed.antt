@@ -10,7 +10,7 @@ use Rattle.rust_cursor.specs.Nests.{is_mark, behind_free, is_flat, nest_behind}
 use Rattle.rust_cursor.specs.Extents.{begins, begins_item, begins_behind, begins_within, opened_behind}
 use Rattle.rust_cursor.proofs.Rests.{Behind, taking_rest, and_next, stops_here, ends_here, rest_more}
 use Rattle.rust_written.specs.Words.{Word}
-use Rattle.rust_written.specs.Trees.{Bracket, round, curly, open_of, close_of, single, group, Trees, no_trees, tree_and, tree_words, trees_words, IsTree, AreTrees, first_of, Holds, MayStand, GoesBehind, angles_behind, angles_behind_all, before_behind, behind_group, and_word, and_words}
+use Rattle.rust_written.specs.Trees.{Bracket, round, curly, open_of, close_of, single, group, Trees, no_trees, tree_and, tree_words, trees_words, IsTree, AreTrees, first_of, HoldsWithin, MayStand, GoesBehind, angles_behind_word, angles_behind_all, before_behind_word, behind_group, and_word, and_words}
 use Rattle.rust_written.specs.Trees as trees
 use Rattle.rust_written.specs.Impls.{before_behind_all}
 use Rattle.rust_written.proofs.Begins.{Shows, Begins, behind, behind_append, begins_left, begins_right}
@@ -111,13 +111,13 @@ flat_ends true is_call a before ts e f = rw e refl
 flat_ends false is_call a before ts e f = rw (e, f) refl
 
 pub takes_flat_word : (is_value : Bool) (done : List ℕ) (last : Behind) (a : ℕ) (before : Before) (w next : Word) (ts : Tokens) → IsTree (single w) → Shows w ts → Shows next (bumped ts)
-    → trees.IsClear before w → (trees.symbol_of w == 59) ≡ false → trees.begins_item w next ≡ false → trees.may_begin_behind before w ≡ false
-    → TakesFlat is_value done last a before (angles_behind before a w) (before_behind before w) (w ∷ []) ts
+    → trees.IsClear before w → (trees.symbol_of_word w == 59) ≡ false → trees.word_begins_item w next ≡ false → trees.may_begin_behind before w ≡ false
+    → TakesFlat is_value done last a before (angles_behind_word before a w) (before_behind_word before w) (w ∷ []) ts
 takes_flat_word is_value done last a before w next ts h s n clear semicolon item impl =
     let p = plain_word w ts s h in
-    takes_word is_value done last (nest 0 0 0 0 a before) (nest 0 0 0 0 (angles_behind before a w) (before_behind before w)) w ts s
+    takes_word is_value done last (nest 0 0 0 0 a before) (nest 0 0 0 0 (angles_behind_word before a w) (before_behind_word before w)) w ts s
     (flat_stops a before ts p.closes_curly (word_begins a before w next ts s n item impl)) (flat_word a before w ts h s clear)
-    (flat_ends is_value (is_mark before) (angles_behind before a w) (before_behind before w) ts (ap (λ (c : ℕ). c == 59) s.symbol_is ∙ semicolon) p.closes_curly)
+    (flat_ends is_value (is_mark before) (angles_behind_word before a w) (before_behind_word before w) ts (ap (λ (c : ℕ). c == 59) s.symbol_is ∙ semicolon) p.closes_curly)
 
 close_no_semicolon : (k : Bracket) (ts : Tokens) → Shows (close_of k) ts → (symbol ts == 59) ≡ false
 close_no_semicolon round ts s = rw s.symbol_is refl
@@ -168,7 +168,7 @@ takes_curly is done last a before ts h b =
     (λ n. takes_word true (and_words done (open_of curly ∷ ws)) n (nest 1 0 0 0 a before) (nest 0 0 0 0 a befores.End) (close_of curly) us shut refl (last_leave 0 0 0 a before us shut)
     (rw shut.symbol_is refl))
 
-takes_group : (is_value : Bool) (k : Bracket) (is : Trees) (done : List ℕ) (last : Behind) (a : ℕ) (before : Before) (ts : Tokens) → AreTrees is → MayStand is_value k → Holds before k is
+takes_group : (is_value : Bool) (k : Bracket) (is : Trees) (done : List ℕ) (last : Behind) (a : ℕ) (before : Before) (ts : Tokens) → AreTrees is → MayStand is_value k → HoldsWithin before k is
     → Begins (tree_words (group k is)) ts → TakesFlat is_value done last a before a (behind_group before k) (tree_words (group k is)) ts
 takes_group true curly is done last a before ts h may g b = takes_curly is done last a before ts h b
 takes_group false curly is done last a before ts h may g b = absurd cc
@@ -179,8 +179,8 @@ pub takes_header : (is : Trees) (is_value : Bool) (end : Word) (more : List Word
     → Begins (trees_words is ++ end ∷ more) ts → TakesFlat is_value done last a before (angles_behind_all before a is) (before_behind_all before is) (trees_words is) ts
 takes_header no_trees is_value end more done last a before ts h g b = (last, refl)
 takes_header (tree_and (single w) is) is_value end more done last a before ts h g b =
-    let mid = before_behind before w in
-    let n = angles_behind before a w in
+    let mid = before_behind_word before w in
+    let n = angles_behind_word before a w in
     takes_append is_value done last (nest 0 0 0 0 a before) (nest 0 0 0 0 n mid) (nest 0 0 0 0 (angles_behind_all mid n is) (before_behind_all mid is)) (w ∷ []) (trees_words is) ts
     (takes_flat_word is_value done last a before w (first_of is end) ts h.0 b.0 (shows_first is end more (bumped ts) b.1) g.0 g.1 g.2 g.3)
     (λ j. takes_header is is_value end more (and_word done w) j n mid (bumped ts) h.1 g.4 b.1)
@@ -193,9 +193,9 @@ takes_header (tree_and (group k is') is) is_value end more done last a before ts
     (λ j. takes_header is is_value end more (and_words done ws) j a mid (behind ws ts) h.1 g.2 (begins_right ws (trees_words is ++ end ∷ more) ts split))
 
 -- a brace behind a header is no macro call's
-pub header_last : (is : Trees) (is_value : Bool) (before : Before) (end : Word) → GoesBehind is_value before is end → (is_mark (before_behind_all before is) && trees.symbol_of end == 123) ≡ false
+pub header_last : (is : Trees) (is_value : Bool) (before : Before) (end : Word) → GoesBehind is_value before is end → (is_mark (before_behind_all before is) && trees.symbol_of_word end == 123) ≡ false
 header_last no_trees is_value before end g = g
-header_last (tree_and (single w) is) is_value before end g = header_last is is_value (before_behind before w) end g.4
+header_last (tree_and (single w) is) is_value before end g = header_last is is_value (before_behind_word before w) end g.4
 header_last (tree_and (group k is') is) is_value before end g = header_last is is_value (behind_group before k) end g.2
 
 and_true : (b : Bool) → (b && true) ≡ false → b ≡ false

@@ -12,7 +12,7 @@ use Rattle.rust_cursor.specs.Extents.{begins, begins_item, begins_behind, begins
 use Rattle.rust_cursor.specs.Angles.{is_header_end, is_barred, is_reached, is_closed, reaching}
 use Rattle.rust_cursor.proofs.Reaches.{reaching_more}
 use Rattle.rust_written.specs.Words.{Word}
-use Rattle.rust_written.specs.Trees.{Bracket, curly, open_of, close_of, single, group, Trees, no_trees, tree_and, tree_words, trees_words, IsTree, AreTrees, first_of, Holds, MayStand, GoesBehind, angles_behind, angles_behind_all, before_behind, behind_group}
+use Rattle.rust_written.specs.Trees.{Bracket, curly, open_of, close_of, single, group, Trees, no_trees, tree_and, tree_words, trees_words, IsTree, AreTrees, first_of, HoldsWithin, MayStand, GoesBehind, angles_behind_word, angles_behind_all, before_behind_word, behind_group}
 use Rattle.rust_written.specs.Trees as trees
 use Rattle.rust_written.specs.Impls.{before_behind_all}
 use Rattle.rust_written.proofs.Begins.{Shows, Begins, behind, behind_append, begins_left, begins_right}
@@ -92,19 +92,19 @@ pub flat_reached : (r : Reach) (a : ℕ) (before : Before) (ts : Tokens) → is_
 flat_reached r a before ts some e = reached_by r (nest 0 0 0 0 a before) ts some ∙ e
 
 pub passes_flat_word : (r : Reach) (a : ℕ) (before : Before) (w next : Word) (ts : Tokens) → IsTree (single w) → Shows w ts → Shows next (bumped ts)
-    → trees.IsClear before w → trees.begins_item w next ≡ false → trees.may_begin_behind before w ≡ false → IsBefore r a (angles_behind before a w) ts
-    → Passes r (nest 0 0 0 0 a before) (nest 0 0 0 0 (angles_behind before a w) (before_behind before w)) (w ∷ []) ts
+    → trees.IsClear before w → trees.word_begins_item w next ≡ false → trees.may_begin_behind before w ≡ false → IsBefore r a (angles_behind_word before a w) ts
+    → Passes r (nest 0 0 0 0 a before) (nest 0 0 0 0 (angles_behind_word before a w) (before_behind_word before w)) (w ∷ []) ts
 passes_flat_word r a before w next ts h s n clear item impl is =
     let p = plain_word w ts s h in
-    passes_word r (nest 0 0 0 0 a before) (nest 0 0 0 0 (angles_behind before a w) (before_behind before w)) w ts
+    passes_word r (nest 0 0 0 0 a before) (nest 0 0 0 0 (angles_behind_word before a w) (before_behind_word before w)) w ts
     (flat_reached r a before ts s.some (is.barred before p.closes_curly (word_begins a before w next ts s n item impl)))
-    (flat_word a before w ts h s clear) (is.unclosed (before_behind before w))
+    (flat_word a before w ts h s clear) (is.unclosed (before_behind_word before w))
 
 -- a bracket that is no brace closes the only one that is open
 last_barred : (r : Reach) (k : Bracket) (f a : ℕ) (before : Before) (ts : Tokens) → IsOther k → Shows (close_of k) ts → is_reached r (nest 0 0 (0 + 1) f a before) ts ≡ false
 last_barred r k f a before ts h s = stays_reached r (nest 0 0 (0 + 1) f a before) ts s.some (rw (close_no_end k ts h s, close_no_item k ts s, and_false (f == 0)) refl)
 
-pub passes_other : (r : Reach) (k : Bracket) (is : Trees) (a : ℕ) (before : Before) (ts : Tokens) → IsOther k → AreTrees is → Holds before k is → Begins (tree_words (group k is)) ts → IsBefore r a a ts
+pub passes_other : (r : Reach) (k : Bracket) (is : Trees) (a : ℕ) (before : Before) (ts : Tokens) → IsOther k → AreTrees is → HoldsWithin before k is → Begins (tree_words (group k is)) ts → IsBefore r a a ts
     → Passes r (nest 0 0 0 0 a before) (nest 0 0 0 0 a (behind_free before)) (tree_words (group k is)) ts
 passes_other r k is a before ts n h g b before_is =
     let ws = trees_words is in
@@ -127,7 +127,7 @@ may_be_other curly h = absurd cc
 may_be_other _ h = tt
 
 -- a bracket that is no brace
-pub passes_group : (r : Reach) (k : Bracket) (is : Trees) (a : ℕ) (before : Before) (ts : Tokens) → IsOther k → AreTrees is → Holds before k is → Begins (tree_words (group k is)) ts → IsBefore r a a ts
+pub passes_group : (r : Reach) (k : Bracket) (is : Trees) (a : ℕ) (before : Before) (ts : Tokens) → IsOther k → AreTrees is → HoldsWithin before k is → Begins (tree_words (group k is)) ts → IsBefore r a a ts
     → Passes r (nest 0 0 0 0 a before) (nest 0 0 0 0 a (behind_group before k)) (tree_words (group k is)) ts
 passes_group r curly is a before ts n h g b i = absurd n
 passes_group r k is a before ts n h g b i = passes_other r k is a before ts n h g b i
@@ -135,7 +135,7 @@ passes_group r k is a before ts n h g b i = passes_other r k is a before ts n h 
 -- nothing is looked for at these words
 abbrev pub AreBefore : Reach → Before → ℕ → Trees → Tokens → Type 0
 AreBefore r before a no_trees ts = Unit {0}
-AreBefore r before a (tree_and (single w) is) ts = IsBefore r a (angles_behind before a w) ts × AreBefore r (before_behind before w) (angles_behind before a w) is (bumped ts)
+AreBefore r before a (tree_and (single w) is) ts = IsBefore r a (angles_behind_word before a w) ts × AreBefore r (before_behind_word before w) (angles_behind_word before a w) is (bumped ts)
 AreBefore r before a (tree_and (group k is') is) ts = IsBefore r a a ts × AreBefore r (behind_group before k) a is (behind (tree_words (group k is')) ts)
 
 -- trees are passed over
@@ -143,8 +143,8 @@ pub passes_trees : (is : Trees) (r : Reach) (a : ℕ) (before : Before) (end : W
     → Passes r (nest 0 0 0 0 a before) (nest 0 0 0 0 (angles_behind_all before a is) (before_behind_all before is)) (trees_words is) ts
 passes_trees no_trees r a before end more ts h g b are = refl
 passes_trees (tree_and (single w) is) r a before end more ts h g b are =
-    let mid = before_behind before w in
-    let n = angles_behind before a w in
+    let mid = before_behind_word before w in
+    let n = angles_behind_word before a w in
     passes_append r (nest 0 0 0 0 a before) (nest 0 0 0 0 n mid) (nest 0 0 0 0 (angles_behind_all mid n is) (before_behind_all mid is)) (w ∷ []) (trees_words is) ts
     (passes_flat_word r a before w (first_of is end) ts h.0 b.0 (shows_first is end more (bumped ts) b.1) g.0 g.2 g.3 are.0)
     (passes_trees is r n mid end more (bumped ts) h.1 g.4 b.1 are.1)

@@ -9,7 +9,7 @@ use Rattle.rust_cursor.specs.Words.{symbol, bumped}
 use Rattle.rust_cursor.specs.Nests.{lets_any, behind_free, is_flat, nest_behind}
 use Rattle.rust_cursor.specs.Extents.{begins_item, begins_within}
 use Rattle.rust_written.specs.Words.{Word}
-use Rattle.rust_written.specs.Trees.{Bracket, round, curly, open_of, close_of, Tree, single, group, Trees, no_trees, tree_and, tree_words, trees_words, IsTree, AreTrees, first_of, behind_group, Unless, StaysIn, Holds}
+use Rattle.rust_written.specs.Trees.{Bracket, round, curly, open_of, close_of, Tree, single, group, Trees, no_trees, tree_and, tree_words, trees_words, IsTree, AreTrees, first_of, behind_group, Unless, StaysIn, HoldsWithin}
 use Rattle.rust_written.specs.Trees as trees
 use Rattle.rust_written.proofs.Begins.{Shows, Begins, behind, begins_left, begins_right}
 use Rattle.rust_written.proofs.Same.{shows_first, within_same, before_same}
@@ -241,21 +241,21 @@ kept_and : (vs ws : List Word) (o a : ℕ) (before mid : Before) (ts : Tokens) �
     → IsKept (vs ++ ws) o a before ts
 kept_and vs ws o a before mid ts one more = (more.0, stays_append vs ws (nest 0 0 (o + 1) 0 a before) (nest 0 0 (o + 1) 0 a mid) (nest 0 0 (o + 1) 0 a more.0) ts one more.1)
 
-word_kept : (w next : Word) (o a : ℕ) (before : Before) (ts : Tokens) → IsTree (single w) → Shows w ts → Shows next (bumped ts) → trees.IsClear before w → trees.begins_within w next ≡ false
-    → Stays (w ∷ []) (nest 0 0 (o + 1) 0 a before) (nest 0 0 (o + 1) 0 a (trees.before_behind before w)) ts
+word_kept : (w next : Word) (o a : ℕ) (before : Before) (ts : Tokens) → IsTree (single w) → Shows w ts → Shows next (bumped ts) → trees.IsClear before w → trees.word_begins_within w next ≡ false
+    → Stays (w ∷ []) (nest 0 0 (o + 1) 0 a before) (nest 0 0 (o + 1) 0 a (trees.before_behind_word before w)) ts
 word_kept w next o a before ts h s n clear item =
     let p = plain_word w ts s h in
-    word_wide w (nest 0 0 (o + 1) 0 a before) o 0 a (trees.before_behind before w) ts (stays_kept o 0 a before ts p.closes_curly (within_same w next ts s n ∙ item))
+    word_wide w (nest 0 0 (o + 1) 0 a before) o 0 a (trees.before_behind_word before w) ts (stays_kept o 0 a before ts p.closes_curly (within_same w next ts s n ∙ item))
     (out_plain o a before ts p ∙ ap (λ k. nest 0 0 (o + 1) 0 a k) (before_same before w ts s clear))
 
 -- what stands in a bracket that is no brace, and may stand there
-within_by : (k : Bracket) (is : Trees) (o a : ℕ) (before : Before) (ts : Tokens) → IsOther k → AreTrees is → Holds before k is → Begins (trees_words is ++ close_of k ∷ []) ts
+within_by : (k : Bracket) (is : Trees) (o a : ℕ) (before : Before) (ts : Tokens) → IsOther k → AreTrees is → HoldsWithin before k is → Begins (trees_words is ++ close_of k ∷ []) ts
     → (StaysIn befores.Other is (close_of k) → IsKept (trees_words is) o a befores.Other ts) → Within (trees_words is) o a before ts
 within_by curly is o a before ts n h g b kept = absurd n
 within_by k is o a before ts n h g b kept =
     within_from (trees_words is) o a before ts (λ l. trees_free is o o a l ts (omega arith) h (begins_left (trees_words is) (close_of k ∷ []) ts b)) (map_unless (lets_any before) kept g)
 
-group_kept : (k : Bracket) (is : Trees) (o a : ℕ) (before : Before) (ts : Tokens) → AreTrees is → Holds before k is → Begins (tree_words (group k is)) ts
+group_kept : (k : Bracket) (is : Trees) (o a : ℕ) (before : Before) (ts : Tokens) → AreTrees is → HoldsWithin before k is → Begins (tree_words (group k is)) ts
     → (StaysIn befores.Other is (close_of k) → IsKept (trees_words is) (o + 1) a befores.Other (bumped ts))
     → Stays (tree_words (group k is)) (nest 0 0 (o + 1) 0 a before) (nest 0 0 (o + 1) 0 a (behind_group before k)) ts
 group_kept curly is o a before ts h g b kept =
@@ -264,7 +264,7 @@ group_kept curly is o a before ts h g b kept =
 group_kept k is o a before ts h g b kept =
     other_kept k (trees_words is) o a before ts tt b.0 (begins_right (trees_words is) (close_of k ∷ []) (bumped ts) b.1).0 (within_by k is (o + 1) a before (bumped ts) tt h g b.1 kept)
 
-stays_parts : (k : Bracket) (is more : Trees) (before : Before) (end : Word) → StaysIn before (tree_and (group k is) more) end → Holds before k is × StaysIn (behind_group before k) more end
+stays_parts : (k : Bracket) (is more : Trees) (before : Before) (end : Word) → StaysIn before (tree_and (group k is) more) end → HoldsWithin before k is × StaysIn (behind_group before k) more end
 stays_parts curly is more before end g = (tt, g)
 stays_parts _ is more before end g = g
 
@@ -273,7 +273,7 @@ trees_kept : (is : Trees) (o a : ℕ) (before : Before) (end : Word) (rest : Lis
     → IsKept (trees_words is) o a before ts
 trees_kept no_trees o a before end rest ts h g b = (before, refl)
 trees_kept (tree_and (single w) more) o a before end rest ts h g b =
-    let after = trees.before_behind before w in
+    let after = trees.before_behind_word before w in
     kept_and (w ∷ []) (trees_words more) o a before after ts
     (word_kept w (first_of more end) o a before ts h.0 b.0 (shows_first more end rest (bumped ts) b.1) g.0 g.1)
     (trees_kept more o a after end rest (bumped ts) h.1 g.2 b.1)
@@ -286,6 +286,6 @@ trees_kept (tree_and (group k is) more) o a before end rest ts h g b =
     (group_kept k is o a before ts h.0 parts.0 here (λ i. trees_kept is (o + 1) a befores.Other (close_of k) [] (bumped ts) h.0 i here.1))
     (trees_kept more o a (behind_group before k) end rest (behind ws ts) h.1 parts.1 (begins_right ws (trees_words more ++ end ∷ rest) ts split))
 
-pub within : (k : Bracket) (is : Trees) (o a : ℕ) (before : Before) (ts : Tokens) → IsOther k → AreTrees is → Holds before k is → Begins (trees_words is ++ close_of k ∷ []) ts
+pub within : (k : Bracket) (is : Trees) (o a : ℕ) (before : Before) (ts : Tokens) → IsOther k → AreTrees is → HoldsWithin before k is → Begins (trees_words is ++ close_of k ∷ []) ts
     → Within (trees_words is) o a before ts
 within k is o a before ts n h g b = within_by k is o a before ts n h g b (λ i. trees_kept is o a befores.Other (close_of k) [] ts h i b)

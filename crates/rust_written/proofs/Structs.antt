@@ -14,7 +14,7 @@ use Rattle.rust_cursor.proofs.Nesting.{shorter}
 use Rattle.rust_cursor.proofs.Turns.{turns_stop}
 use Rattle.rust_paths.specs.Visibilities.{visibility, scoped, is_in, scope, scope_of}
 use Rattle.rust_metas.specs.Attributes.{outer_attributes}
-use Rattle.rust_leaves.specs.Leaves.{is_before, field, are_over, fields, fields_at}
+use Rattle.rust_leaves.specs.Leaves.{is_before, header_field, are_over, fields, fields_at}
 use Rattle.rust_written.specs.Words.{Word}
 use Rattle.rust_written.specs.Trees.{mark, round, curly, open_of, close_of, single, group, Trees, no_trees, tree_and, tree_words, trees_words, AreTrees, first_of}
 use Rattle.rust_written.specs.Trees as trees
@@ -22,7 +22,7 @@ use Rattle.rust_written.specs.Impls.{trees_append, where_part, generics}
 use Rattle.rust_written.proofs.Begins.{Shows, Begins, behind, behind_append, begins_left, begins_right, past_behind}
 use Rattle.rust_written.proofs.Same.{shows_first}
 use Rattle.rust_written.proofs.Impls.{append_words, append_trees, generics_words, enclosed, generics_passed, no_generics, field_type_passed}
-use Rattle.rust_written.specs.Written.{Scope, unwritten, everywhere, scope_words, scope_view, Field, Shape, unit_shape, tuple_shape, record_shape, scope_trees, fields_trees, shape_trees, struct_trees, shape_end, field_view, shape_view, BeginsType, IsField, AreFields, IsShape, IsStruct}
+use Rattle.rust_written.specs.Written.{Scope, unwritten, everywhere, scope_words, scope_view, Field, Shape, unit_shape, tuple_shape, record_shape, scope_trees, fields_trees, shape_trees, struct_trees, shape_end, field_visibility, shape_view, BeginsType, IsField, AreFields, IsShape, IsStruct}
 use Rattle.rust_written.proofs.Uses.{fewer_left, beyond_none, one_element, past_more}
 use Rattle.rust_written.proofs.Fronts.{outer_none}
 
@@ -42,11 +42,11 @@ field_scope _ w ts e b s = rw (b.0.word_is, b.1.0.symbol_is, b.1.1.0.word_is, b.
 -- the first word of a field is no attribute and no end
 pub record IsFirst (w : Word) : Type 0 where
   pub plain : documents w.kind ≡ false
-  pub hash : (trees.symbol_of w == 35) ≡ false
+  pub hash : (trees.symbol_of_word w == 35) ≡ false
 
 first_word : (v : Scope) (w : Word) (ts : Tokens) → IsFirst w → Begins (scope_words v) ts → Shows w (behind (scope_words v) ts) → (x : Word) × IsFirst x × Shows x ts
 first_word unwritten w ts f b s = (w, f, s)
-first_word _ w ts f b s = (trees.word (codes "pub"), record { plain = refl; hash = refl }, b.0)
+first_word _ w ts f b s = (trees.word_spelled (codes "pub"), record { plain = refl; hash = refl }, b.0)
 
 -- ---- a field
 
@@ -58,8 +58,8 @@ comma_eaten ts s = rw s.symbol_is refl
 before : (end : ℕ) (ts : Tokens) → ts.past < end → is_before end ts ≡ true
 before end ts l = grind (arith, nat_tests, l)
 
-field_steps : (end : ℕ) (v : Option Visibility) (ts us vs : Tokens) → outer_attributes ts ≡ ([], ts) → visibility ts ≡ (v, us) → is_before end us ≡ true → behind_field us ≡ vs → eat 44 vs ≡ (true, bumped vs) → field end ts ≡ (v, bumped vs)
-unfolding field
+field_steps : (end : ℕ) (v : Option Visibility) (ts us vs : Tokens) → outer_attributes ts ≡ ([], ts) → visibility ts ≡ (v, us) → is_before end us ≡ true → behind_field us ≡ vs → eat 44 vs ≡ (true, bumped vs) → header_field end ts ≡ (v, bumped vs)
+unfolding header_field
 field_steps end v ts us vs o s t f e = rw (o, s, t, f, e) refl
 
 abbrev field_words : Field → List Word
@@ -70,7 +70,7 @@ ended_by : (ws : List Word) → 0 < length (ws ++ mark 44 ∷ [])
 ended_by [] = omega arith
 ended_by (w ∷ ws) = omega arith
 
-field_read : (end : ℕ) (f : Field) (ts : Tokens) → AreTrees f.of_type → IsField f → Begins (field_words f) ts → (behind (field_words f) ts).past ≤ end → field end ts ≡ (field_view f, behind (field_words f) ts)
+field_read : (end : ℕ) (f : Field) (ts : Tokens) → AreTrees f.of_type → IsField f → Begins (field_words f) ts → (behind (field_words f) ts).past ≤ end → header_field end ts ≡ (field_visibility f, behind (field_words f) ts)
 field_read end f ts h is b e =
     let tail = trees_words f.of_type ++ mark 44 ∷ [] in
     let us = behind (scope_words f.scope) ts in
@@ -79,13 +79,13 @@ field_read end f ts h is b e =
     let rest = begins_right (scope_words f.scope) tail ts b in
     let begin = first_of f.of_type (mark 44) in
     let shown = shows_first f.of_type (mark 44) [] us rest in
-    let plain = or_parts (trees.symbol_of begin == 35) (documents begin.kind) is.plain in
+    let plain = or_parts (trees.symbol_of_word begin == 35) (documents begin.kind) is.plain in
     let first = first_word f.scope begin ts (record { plain = plain.1; hash = plain.0 }) front shown in
     let comma : Shows (mark 44) vs = (begins_right (trees_words f.of_type) (mark 44 ∷ []) us rest).0 in
     let all : (behind (field_words f) ts).past ≡ (behind tail us).past = ap (λ (k : Tokens). k.past) (behind_append (scope_words f.scope) tail ts) in
     let more : us.past < (behind tail us).past = past_more tail us rest (ended_by (trees_words f.of_type)) in
-    field_steps end (field_view f) ts us vs (outer_none first.0 ts first.2 first.1.plain first.1.hash) (field_scope f.scope begin ts is.begins front shown) (before end us (omega (arith, all, more, e))) (field_type_passed f.of_type [] us h is.passed rest) (comma_eaten vs comma)
-    ∙ ap (λ k. (field_view f, k)) (sym (behind_append (scope_words f.scope) tail ts ∙ behind_append (trees_words f.of_type) (mark 44 ∷ []) us))
+    field_steps end (field_visibility f) ts us vs (outer_none first.0 ts first.2 first.1.plain first.1.hash) (field_scope f.scope begin ts is.begins front shown) (before end us (omega (arith, all, more, e))) (field_type_passed f.of_type [] us h is.passed rest) (comma_eaten vs comma)
+    ∙ ap (λ k. (field_visibility f, k)) (sym (behind_append (scope_words f.scope) tail ts ∙ behind_append (trees_words f.of_type) (mark 44 ∷ []) us))
 
 -- ---- the fields of a tuple
 
@@ -128,9 +128,9 @@ field_goes f ts h b =
     goes _ ts b e = b.0.end_is
 
 fields_read : (end : ℕ) (fs : List Field) (n : ℕ) (done : List (Option Visibility)) (ts : Tokens) → length ts.left ≤ n → AreTrees (fields_trees fs) → AreFields fs → Begins (trees_words (fields_trees fs) ++ close_of round ∷ []) ts
-    → (behind (trees_words (fields_trees fs)) ts).past ≤ end → turns_from (are_over end) (one (field end)) n done ts ≡ (done ++ map field_view fs, behind (trees_words (fields_trees fs)) ts)
+    → (behind (trees_words (fields_trees fs)) ts).past ≤ end → turns_from (are_over end) (one (header_field end)) n done ts ≡ (done ++ map field_visibility fs, behind (trees_words (fields_trees fs)) ts)
 fields_read end [] n done ts l h is b e =
-    turns_stop (are_over end) (one (field end)) n done ts (ap (λ t. t || not (is_before end ts)) b.0.end_is) ∙ ap (λ d. (d, ts)) (sym (append-nil done))
+    turns_stop (are_over end) (one (header_field end)) n done ts (ap (λ t. t || not (is_before end ts)) b.0.end_is) ∙ ap (λ d. (d, ts)) (sym (append-nil done))
 fields_read end (f ∷ fs) n done ts l h is b e =
     let ws = field_words f in
     let more = trees_words (fields_trees fs) ++ close_of round ∷ [] in
@@ -147,23 +147,23 @@ fields_read end (f ∷ fs) n done ts l h is b e =
     let place : (behind (trees_words (fields_trees (f ∷ fs))) ts).past ≡ (behind (trees_words (fields_trees fs)) us).past = ap (λ (k : Tokens). k.past) all in
     step n f fs done ts us l few some (goes_on_here (field_goes f ts parts.0 first) (before end ts (omega (arith, e, went, over, place)))) (field_read end f ts parts.0 is.0 first (omega (arith, e, over, place))) (beyond_none ts.past us went)
     (λ m d k. fields_read end fs m d us k parts.1 is.1 rest (omega (arith, e, place)))
-    ∙ ap (λ k. (done ++ map field_view (f ∷ fs), k)) (sym all)
+    ∙ ap (λ k. (done ++ map field_visibility (f ∷ fs), k)) (sym all)
   where
     goes_on_here : is_at_end ts ≡ false → is_before end ts ≡ true → are_over end ts ≡ false
     goes_on_here p q = rw (p, q) refl
 
     step : (n : ℕ) (f : Field) (fs : List Field) (done : List (Option Visibility)) (ts us : Tokens) → length ts.left ≤ n → length (field_words f) + length us.left ≡ length ts.left → 0 < length (field_words f) → are_over end ts ≡ false
-        → field end ts ≡ (field_view f, us) → beyond ts.past us ≡ us
-        → ((m : ℕ) (d : List (Option Visibility)) → length us.left ≤ m → turns_from (are_over end) (one (field end)) m d us ≡ (d ++ map field_view fs, behind (trees_words (fields_trees fs)) us))
-        → turns_from (are_over end) (one (field end)) n done ts ≡ (done ++ map field_view (f ∷ fs), behind (trees_words (fields_trees fs)) us)
+        → header_field end ts ≡ (field_visibility f, us) → beyond ts.past us ≡ us
+        → ((m : ℕ) (d : List (Option Visibility)) → length us.left ≤ m → turns_from (are_over end) (one (header_field end)) m d us ≡ (d ++ map field_visibility fs, behind (trees_words (fields_trees fs)) us))
+        → turns_from (are_over end) (one (header_field end)) n done ts ≡ (done ++ map field_visibility (f ∷ fs), behind (trees_words (fields_trees fs)) us)
     step zero f fs done ts us l few some goes read stays more = absurd (omega (arith, few, some, l))
     step (suc n) f fs done ts us l few some goes read stays more =
-        one_element (are_over end) (field end) n done (field_view f) ts us goes read stays
-        ∙ more n (done ++ field_view f ∷ []) (omega (arith, few, some, l))
-        ∙ ap (λ d. (d, behind (trees_words (fields_trees fs)) us)) (append_assoc done (field_view f ∷ []) (map field_view fs))
+        one_element (are_over end) (header_field end) n done (field_visibility f) ts us goes read stays
+        ∙ more n (done ++ field_visibility f ∷ []) (omega (arith, few, some, l))
+        ∙ ap (λ d. (d, behind (trees_words (fields_trees fs)) us)) (append_assoc done (field_visibility f ∷ []) (map field_visibility fs))
 
 all_fields : (end : ℕ) (fs : List Field) (ts : Tokens) → length ts.left ≤ most → AreTrees (fields_trees fs) → AreFields fs → Begins (trees_words (fields_trees fs) ++ close_of round ∷ []) ts → (behind (trees_words (fields_trees fs)) ts).past ≤ end
-    → (fields end ts).0 ≡ map field_view fs
+    → (fields end ts).0 ≡ map field_visibility fs
 unfolding fields turns
 all_fields end fs ts l h is b e = ap (λ r. r.0) (fields_read end fs most [] ts l h is b e)
 
@@ -187,7 +187,7 @@ record_at None more end ts b = when (is_before end ts) (λ t. rw (t, b.0.symbol_
 record_at (Some w) more end ts b = no_symbol true end ts (ap (λ s. s == 40) b.0.symbol_is) (ap (λ s. s == 123) b.0.symbol_is)
 
 tuple_at : (end : ℕ) (fs : List Field) (rest : List Word) (ts : Tokens) → length ts.left ≤ most → AreTrees (fields_trees fs) → AreFields fs → Begins (tree_words (group round (fields_trees fs)) ++ rest) ts
-    → (behind (tree_words (group round (fields_trees fs))) ts).past ≤ end → fields_at false end ts ≡ tuple_fields (map field_view fs)
+    → (behind (tree_words (group round (fields_trees fs))) ts).past ≤ end → fields_at false end ts ≡ tuple_fields (map field_visibility fs)
 tuple_at end fs rest ts l h is b e =
     let here = begins_left (tree_words (group round (fields_trees fs))) rest ts b in
     let one : length (bumped ts).left + 1 ≡ length ts.left = shorter ts here.0.some in

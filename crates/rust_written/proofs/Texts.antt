@@ -6,7 +6,7 @@ use Rattle.hir_input.specs.Syntax.{items_from, source_file}
 use Rattle.hir_input.specs.declared.edition.EditionYear.{EditionYear}
 use Rattle.rust_lexer.specs.Piece.{Piece}
 use Rattle.rust_lexer.specs.declared.kind.TokenKind.{TokenKind}
-use Rattle.rust_lexer.specs.Terminated.{is_closed}
+use Rattle.rust_lexer.specs.Terminated.{is_closed_token}
 use Rattle.rust_lexer.specs.Tokens.{is_significant, tokens}
 use Rattle.rust_lexer.specs.declared.kind.DocStyle.TheVariants.{Inner}
 use Rattle.rust_cursor.specs.Tokens.{Tokens, last_unended, tokens_of}
@@ -29,7 +29,7 @@ use Rattle.rust_written.proofs.Again.{tokens_again, ends_closed, last_ended}
 use Rattle.rust_written.proofs.Begins.{Begins, behind, begins, over, AreSome}
 use Rattle.rust_written.specs.Written.{Front, front_words, impl_front, block_word, value_word, Shape, unit_shape, tuple_shape, record_shape, struct_trees, struct_words, Item, Items, blocked, valued, structure, implemented, file_module, module_of, used, no_more, also, braced, ended, item_words, words, views, rows}
 use Rattle.rust_written.specs.UseTrees.{use_words}
-use Rattle.rust_written.specs.Laws.{Writes, ReadAgain}
+use Rattle.rust_written.specs.Laws.{WritesItems, ReadAgain}
 use Rattle.rust_written.proofs.Fronts.{inner_none, inner_empty}
 use Rattle.rust_written.proofs.Items.{item_first, finds_reads}
 use Rattle.rust_cursor.proofs.Few.{tokens_short}
@@ -88,7 +88,7 @@ text_unended edition text = refl
 
 closed_append : (b : Bool) (ws vs : List Word) → ends_closed b (ws ++ vs) ≡ ends_closed (ends_closed b ws) vs
 closed_append b [] vs = refl
-closed_append b (w ∷ ws) vs = closed_append (is_closed w.kind w.text) ws vs
+closed_append b (w ∷ ws) vs = closed_append (is_closed_token w.kind w.text) ws vs
 
 -- words whose last one is ended
 abbrev AreClosed : List Word → Type 0
@@ -112,20 +112,20 @@ closed_struct g (tuple_shape fs w) = closed_end (struct_trees g (tuple_shape fs 
 closed_struct g (record_shape w b) = closed_block (struct_trees g (record_shape w b)) b
 
 closed_front : (v : Front) (w : Word) (ws : List Word) → AreClosed ws → AreClosed (front_words v ++ w ∷ ws)
-closed_front v w ws e = closed_behind (front_words v) (w ∷ ws) (λ b. e (is_closed w.kind w.text))
+closed_front v w ws e = closed_behind (front_words v) (w ∷ ws) (λ b. e (is_closed_token w.kind w.text))
 
 closed_named : (v : Front) (w n : Word) (ws : List Word) → AreClosed ws → AreClosed (front_words v ++ w ∷ n ∷ ws)
-closed_named v w n ws e = closed_front v w (n ∷ ws) (λ b. e (is_closed n.kind n.text))
+closed_named v w n ws e = closed_front v w (n ∷ ws) (λ b. e (is_closed_token n.kind n.text))
 
 closed_item : (i : Item) → AreClosed (item_words i)
-closed_item (blocked k v n h b) = closed_named v (trees.word (block_word k)) (trees.word n) (trees_words h ++ braced b) (closed_block h b)
-closed_item (valued k v n t) = closed_named v (trees.word (value_word k)) (trees.word n) (ended t) (closed_end t)
-closed_item (structure v n g s) = closed_named v (trees.word (codes "struct")) (trees.word n) (struct_words g s) (closed_struct g s)
-closed_item (implemented ms h b) = closed_front (impl_front ms) (trees.word (codes "impl")) (trees_words (header_trees h) ++ braced b) (closed_block (header_trees h) b)
-closed_item (file_module v n) = closed_named v (trees.word (codes "mod")) (trees.word n) (mark 59 ∷ []) (λ _. refl)
-closed_item (used v t) = closed_front v (trees.word (codes "use")) (use_words t ++ mark 59 ∷ []) (closed_behind (use_words t) (mark 59 ∷ []) (λ _. refl))
+closed_item (blocked k v n h b) = closed_named v (trees.word_spelled (block_word k)) (trees.word_spelled n) (trees_words h ++ braced b) (closed_block h b)
+closed_item (valued k v n t) = closed_named v (trees.word_spelled (value_word k)) (trees.word_spelled n) (ended t) (closed_end t)
+closed_item (structure v n g s) = closed_named v (trees.word_spelled (codes "struct")) (trees.word_spelled n) (struct_words g s) (closed_struct g s)
+closed_item (implemented ms h b) = closed_front (impl_front ms) (trees.word_spelled (codes "impl")) (trees_words (header_trees h) ++ braced b) (closed_block (header_trees h) b)
+closed_item (file_module v n) = closed_named v (trees.word_spelled (codes "mod")) (trees.word_spelled n) (mark 59 ∷ []) (λ _. refl)
+closed_item (used v t) = closed_front v (trees.word_spelled (codes "use")) (use_words t ++ mark 59 ∷ []) (closed_behind (use_words t) (mark 59 ∷ []) (λ _. refl))
 closed_item (module_of v n is) =
-    closed_named v (trees.word (codes "mod")) (trees.word n) (open_mark 123 ∷ (words is ++ close_mark 125 ∷ [])) (closed_behind (open_mark 123 ∷ words is) (close_mark 125 ∷ []) (λ _. refl))
+    closed_named v (trees.word_spelled (codes "mod")) (trees.word_spelled n) (open_mark 123 ∷ (words is ++ close_mark 125 ∷ [])) (closed_behind (open_mark 123 ∷ words is) (close_mark 125 ∷ []) (λ _. refl))
 
 closed_items : (is : Items) → ends_closed true (words is) ≡ true
 closed_items no_more = refl
@@ -135,7 +135,7 @@ closed_items (also i is) = closed_append true (item_words i) (words is) ∙ ap (
 
 no_attributes : (is : Items) (ts : Tokens) → Begins (words is) ts → is_empty (behind (words is) ts) ≡ true → inner_attributes ts ≡ ([], ts)
 no_attributes no_more ts b e = inner_empty ts (end_inner ts e)
-no_attributes (also i is) ts b e = let first = item_first i (words is) ts b in inner_none (trees.word first.0) ts first.1 refl refl
+no_attributes (also i is) ts b e = let first = item_first i (words is) ts b in inner_none (trees.word_spelled first.0) ts first.1 refl refl
 
 abbrev turns_top : EditionYear → List ℕ → Tokens → Type 0
 turns_top edition text ts = read_of edition text ≡ finding_from (is_list_end true) (turn 128) most [] nothing_found ts
@@ -159,7 +159,7 @@ same_problems : (at : Option ℕ) (f : Found) → at ≡ None → (and_problem_a
 same_problems None f e = refl
 same_problems (Some n) f e = absurd cc
 
-read_text : (edition : EditionYear) (is : Items) (text : List ℕ) → Writes is text → IsReadOf edition is (with_feeds text)
+read_text : (edition : EditionYear) (is : Items) (text : List ℕ) → WritesItems is text → IsReadOf edition is (with_feeds text)
 unfolding items_in found_in
 read_text edition is text w =
     let feeds = with_feeds text in

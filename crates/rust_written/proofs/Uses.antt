@@ -22,14 +22,14 @@ use Rattle.hir_input.specs.declared.edition.EditionYear.TheVariants as year
 use Rattle.rust_paths.proofs.Naming.{name_in}
 use Rattle.rust_paths.specs.Meaning.{path_node}
 use Rattle.rust_paths.specs.Names.{plain_name, is_keyword, is_path_keyword, has_name, name, next_name}
-use Rattle.rust_paths.specs.Paths.{is_raw, is_dollar_crate, is_segment, other_segment, segment, is_colons, is_joint, is_path_colons, more_from, more_segments, front, is_path_start, use_path}
-use Rattle.rust_paths.specs.UseTrees.{Found, begun, with_bare, listed, begun_list, with_list, some_list, all_found, star_or_list, tree_behind, rename, alias, tree_with, comma_from, behind_comma, element_with, values, all_starts, first_too_deep, list, use_tree, tree_at}
+use Rattle.rust_paths.specs.Paths.{is_raw, is_dollar_crate, is_segment, other_segment, segment, is_colons, is_joint, is_path_colons, more_from, more_segments, front_of_path, is_path_start, use_path}
+use Rattle.rust_paths.specs.UseTrees.{FoundInUse, begun_trees, with_bare, tree_with_list, begun_list, with_list, some_list, all_found, star_or_list, tree_behind, rename, alias, tree_with, tree_comma_from, tree_behind_comma, element_with, values, all_starts, first_too_deep, list, use_tree, tree_at}
 use Rattle.rust_paths.proofs.Steps.{more_stop}
 use Rattle.rust_paths.proofs.Trees.{comma_end}
 use Rattle.rust_written.specs.Words.{Word}
 use Rattle.rust_written.specs.Trees as trees
 use Rattle.rust_written.proofs.Begins.{Shows, Begins, behind, behind_append, begins_left, begins_right, past_behind}
-use Rattle.rust_written.specs.UseTrees.{Segment, named, Path, segment_word, segment_meaning, colons, more_words, front_words, path_words, path_view, Alias, no_alias, as_name, as_nothing, alias_words, alias_view, UseTree, UseTrees, path_tree, star_tree, list_tree, no_uses, use_and, prefix_words, use_words, list_words, comma_words, use_view, use_views, IsPlainName, IsSegment, AreSegments, IsPath, IsPrefix, IsAlias, IsUse, AreUses}
+use Rattle.rust_written.specs.UseTrees.{Segment, named, WrittenPath, segment_word, segment_meaning, colons, more_words, path_front_words, path_words, path_view, Alias, no_alias, as_name, as_nothing, alias_words, alias_view, UseTree, UseTrees, path_tree, star_tree, list_tree, no_uses, use_and, prefix_words, use_words, list_words, comma_words, use_view, use_views, IsPlainName, IsSegment, AreSegments, IsPath, IsPrefix, IsAlias, IsUse, AreUses}
 
 -- ---- how many tokens are left
 
@@ -48,7 +48,7 @@ not_word n k p e =
     (λ f. let same : n ≡ k = (bytes_eq-Decides n k).0 f in absurd (let none : None ≡ Some n = sym e ∙ ap (plain_name year.E2024) (sym same) ∙ p.plain in cc))
     (λ f. f)
 
-name_reads : (n : List ℕ) (ts : Tokens) → IsPlainName n → Shows (trees.word n) ts → name ts ≡ (Some n, bumped ts)
+name_reads : (n : List ℕ) (ts : Tokens) → IsPlainName n → Shows (trees.word_spelled n) ts → name ts ≡ (Some n, bumped ts)
 unfolding name next_name
 name_reads n ts p s = rw (s.kind_is, s.text_is, name_in ts.edition n p.plain, p.name) refl
 
@@ -85,7 +85,7 @@ unfolding is_segment is_path_keyword has_name
 segment_is (named n) ts p s = rw (s.kind_is, s.text_is, name_in ts.edition n p.plain) (whether (is_path_keyword (word ts)))
 segment_is _ ts p s = rw s.word_is refl
 
-segment_flat : (g : Segment) → trees.symbol_of (segment_word g) ≡ 0
+segment_flat : (g : Segment) → trees.symbol_of_word (segment_word g) ≡ 0
 segment_flat (named n) = refl
 segment_flat _ = refl
 
@@ -136,9 +136,9 @@ more_reads (s ∷ ss) (suc n) ts h l b e =
     let turn : is_path_colons true ts ≡ true = path_colons s ts (colons_here ts b.0 b.1.0) b.1.1.0 in
     rw (turn, segment_reads s us h.0 b.1.1.0, rest) refl
 
-segments_read : (absolute : Bool) (p : Path) (ts us vs : Tokens) → is_path_start true ts ≡ true → eat_pair 58 58 ts ≡ (absolute, us) → segment us ≡ (Some (segment_meaning p.first), vs)
+segments_read : (absolute : Bool) (p : WrittenPath) (ts us vs : Tokens) → is_path_start true ts ≡ true → eat_pair 58 58 ts ≡ (absolute, us) → segment us ≡ (Some (segment_meaning p.first), vs)
     → (rest : Tokens) → more_from true most vs ≡ (map (λ s. Some (segment_meaning s)) p.more, rest)
-    → use_path ts ≡ (Some (path_node (front absolute (Some (segment_meaning p.first) ∷ map (λ s. Some (segment_meaning s)) p.more))), rest)
+    → use_path ts ≡ (Some (path_node (front_of_path absolute (Some (segment_meaning p.first) ∷ map (λ s. Some (segment_meaning s)) p.more))), rest)
 unfolding use_path more_segments
 segments_read absolute p ts us vs start e s rest more = rw (start, e, s, more) refl
 
@@ -153,9 +153,9 @@ start_segment ts e = rw e (whether (is_path_colons true ts))
 first_flat : (g : Segment) (ts : Tokens) → Shows (segment_word g) ts → (symbol ts == 58) ≡ false
 first_flat g ts s = let flat : symbol ts ≡ 0 = s.symbol_is ∙ segment_flat g in rw flat refl
 
-path_by : (absolute : Bool) (p : Path) (ts : Tokens) → IsPath p → length ts.left ≤ most → Begins (front_words absolute ++ segment_word p.first ∷ more_words p.more) ts
-    → is_path_colons true (behind (front_words absolute ++ segment_word p.first ∷ more_words p.more) ts) ≡ false
-    → use_path ts ≡ (Some (path_node (front absolute (Some (segment_meaning p.first) ∷ map (λ s. Some (segment_meaning s)) p.more))), behind (front_words absolute ++ segment_word p.first ∷ more_words p.more) ts)
+path_by : (absolute : Bool) (p : WrittenPath) (ts : Tokens) → IsPath p → length ts.left ≤ most → Begins (path_front_words absolute ++ segment_word p.first ∷ more_words p.more) ts
+    → is_path_colons true (behind (path_front_words absolute ++ segment_word p.first ∷ more_words p.more) ts) ≡ false
+    → use_path ts ≡ (Some (path_node (front_of_path absolute (Some (segment_meaning p.first) ∷ map (λ s. Some (segment_meaning s)) p.more))), behind (path_front_words absolute ++ segment_word p.first ∷ more_words p.more) ts)
 path_by false p ts h l b e =
     let one : length (bumped ts).left + 1 ≡ length ts.left = shorter ts b.0.some in
     segments_read false p ts ts (bumped ts) (start_segment ts (segment_is p.first ts h.0 b.0)) (eat_none ts (no_colons ts (first_flat p.first ts b.0))) (segment_reads p.first ts h.0 b.0)
@@ -170,11 +170,11 @@ path_by true p ts h l b e =
     (behind (more_words p.more) (bumped us)) (more_reads p.more most (bumped us) h.1 (omega (arith, one, two, three, l)) b.1.1.1 e)
 
 -- a path, with no `::` behind it that is its own
-path_reads : (p : Path) (ts : Tokens) → IsPath p → length ts.left ≤ most → Begins (path_words p) ts → is_path_colons true (behind (path_words p) ts) ≡ false → use_path ts ≡ (Some (path_view p), behind (path_words p) ts)
+path_reads : (p : WrittenPath) (ts : Tokens) → IsPath p → length ts.left ≤ most → Begins (path_words p) ts → is_path_colons true (behind (path_words p) ts) ≡ false → use_path ts ≡ (Some (path_view p), behind (path_words p) ts)
 path_reads p ts h l b e = path_by p.absolute p ts h l b e
 
 -- no path before a star or a list
-path_none : (ts : Tokens) (w : Word) → Shows w ts → trees.text_of w ≡ [] → (trees.symbol_of w == 58) ≡ false → (trees.symbol_of w == 36) ≡ false → is_raw (Some w.kind) ≡ false → has_name ts ≡ false → use_path ts ≡ (None, ts)
+path_none : (ts : Tokens) (w : Word) → Shows w ts → trees.word_text w ≡ [] → (trees.symbol_of_word w == 58) ≡ false → (trees.symbol_of_word w == 36) ≡ false → is_raw (Some w.kind) ≡ false → has_name ts ≡ false → use_path ts ≡ (None, ts)
 unfolding use_path is_path_start is_segment is_path_keyword is_dollar_crate
 path_none ts w s e f g h i =
     let colon : is_path_colons true ts ≡ false = no_path_colons ts (ap (λ (c : ℕ). c == 58) s.symbol_is ∙ f) in
@@ -206,19 +206,19 @@ other_word : (w : List ℕ) (ts : Tokens) → bytes_eq (word ts) w ≡ false →
 unfolding eat_word
 other_word w ts e = rw e refl
 
-alias_named : (n : List ℕ) (ts : Tokens) → IsPlainName n → Shows (trees.word n) ts → word (bumped ts) ≡ [] → alias ts ≡ (record { name = Some n }, bumped ts)
+alias_named : (n : List ℕ) (ts : Tokens) → IsPlainName n → Shows (trees.word_spelled n) ts → word (bumped ts) ≡ [] → alias ts ≡ (record { name = Some n }, bumped ts)
 unfolding alias
 alias_named n ts p s e = let other : bytes_eq (word (bumped ts)) (codes "_") ≡ false = rw e refl in rw (name_reads n ts p s, other_word (codes "_") (bumped ts) other) refl
 
-no_name_here : (ts : Tokens) → Shows (trees.word (codes "_")) ts → name ts ≡ (None, ts)
+no_name_here : (ts : Tokens) → Shows (trees.word_spelled (codes "_")) ts → name ts ≡ (None, ts)
 unfolding name next_name plain_name is_keyword is_path_keyword
 no_name_here ts s = rw (s.kind_is, s.text_is) refl
 
-alias_none : (ts : Tokens) → Shows (trees.word (codes "_")) ts → alias ts ≡ (record { name = None }, bumped ts)
+alias_none : (ts : Tokens) → Shows (trees.word_spelled (codes "_")) ts → alias ts ≡ (record { name = None }, bumped ts)
 unfolding alias
 alias_none ts s = let found : bytes_eq (word ts) (codes "_") ≡ true = rw s.word_is refl in rw (no_name_here ts s, taken_word (codes "_") ts found) refl
 
-rename_some : (r : Rename) (ts us : Tokens) → Shows (trees.word (codes "as")) ts → alias (bumped ts) ≡ (r, us) → rename ts ≡ (Some r, us)
+rename_some : (r : Rename) (ts us : Tokens) → Shows (trees.word_spelled (codes "as")) ts → alias (bumped ts) ≡ (r, us) → rename ts ≡ (Some r, us)
 unfolding rename
 rename_some r ts us s e = let found : bytes_eq (word ts) (codes "as") ≡ true = rw s.word_is refl in rw (taken_word (codes "as") ts found, e) refl
 
@@ -234,23 +234,23 @@ alias_flat _ ts b e = rw b.0.symbol_is refl
 
 -- ---- trees
 
-tree_steps : (inner : Reader (Found (Option (List UseTreeView)))) (path : Option PathNode) (joined : Bool) (ts us vs : Tokens) → use_path ts ≡ (path, us) → eat_pair 58 58 us ≡ (joined, vs)
+tree_steps : (inner : Reader (FoundInUse (Option (List UseTreeView)))) (path : Option PathNode) (joined : Bool) (ts us vs : Tokens) → use_path ts ≡ (path, us) → eat_pair 58 58 us ≡ (joined, vs)
     → tree_with inner ts ≡ tree_behind inner (at ts) path joined vs
 tree_steps inner path joined ts us vs e f = rw (e, f) refl
 
 -- a tree that was found, with these first bytes
-abbrev pub found_at : List ℕ → UseTreeView → Found (Option UseTreeView)
+abbrev pub found_at : List ℕ → UseTreeView → FoundInUse (Option UseTreeView)
 found_at starts v = record { value = Some v; starts = starts; too_deep = None }
 
 -- a use tree is read, wherever its trees begin
-pub record IsUseRead (inner : Reader (Found (Option (List UseTreeView)))) (t : UseTree) (ts : Tokens) : Type 0 where
+pub record IsUseRead (inner : Reader (FoundInUse (Option (List UseTreeView)))) (t : UseTree) (ts : Tokens) : Type 0 where
   starts : List ℕ
   reads : tree_with inner ts ≡ (found_at starts (use_view t), behind (use_words t) ts)
 
 -- what stands behind a path and `::`, or behind neither
 pub record Starts (w : Word) : Type 0 where
-  pub joint : (trees.symbol_of w == 42 || trees.symbol_of w == 123) ≡ true
-  pub other : (trees.symbol_of w == 58) ≡ false
+  pub joint : (trees.symbol_of_word w == 42 || trees.symbol_of_word w == 123) ≡ true
+  pub other : (trees.symbol_of_word w == 58) ≡ false
   pub none : (ts : Tokens) → Shows w ts → use_path ts ≡ (None, ts)
 
 star_starts : Starts (trees.mark 42)
@@ -259,7 +259,7 @@ star_starts = record { joint = refl; other = refl; none = λ ts s. path_none ts 
 brace_starts : Starts (trees.open_mark 123)
 brace_starts = record { joint = refl; other = refl; none = λ ts s. path_none ts (trees.open_mark 123) s refl refl refl refl (no_name_brace ts s) }
 
-prefix_steps : (inner : Reader (Found (Option (List UseTreeView)))) (p : Option Path) (w : Word) (tail : List Word) (ts : Tokens) → Starts w → IsPrefix p → length ts.left ≤ most → Begins (prefix_words p ++ w ∷ tail) ts
+prefix_steps : (inner : Reader (FoundInUse (Option (List UseTreeView)))) (p : Option WrittenPath) (w : Word) (tail : List Word) (ts : Tokens) → Starts w → IsPrefix p → length ts.left ≤ most → Begins (prefix_words p ++ w ∷ tail) ts
     → tree_with inner ts ≡ star_or_list inner (at ts) (option_map path_view p) (behind (prefix_words p) ts)
 prefix_steps inner None w tail ts start h l b =
     tree_steps inner None false ts ts ts (start.none ts b.0) (eat_none ts (no_colons ts (ap (λ (c : ℕ). c == 58) b.0.symbol_is ∙ start.other)))
@@ -273,7 +273,7 @@ prefix_steps inner (Some p) w tail ts start h l b =
     tree_steps inner (Some (path_view p)) true ts us vs (path_reads p ts h l (begins_left (path_words p) (colons ++ w ∷ tail) ts all) (joint us pair next)) (eat_here us pair)
     ∙ ap (star_or_list inner (at ts) (Some (path_view p))) (sym (behind_append (path_words p) colons ts))
 
-path_tree_reads : (inner : Reader (Found (Option (List UseTreeView)))) (p : Path) (a : Alias) (ts : Tokens) → IsPath p → IsAlias a → length ts.left ≤ most → Begins (use_words (path_tree p a)) ts
+path_tree_reads : (inner : Reader (FoundInUse (Option (List UseTreeView)))) (p : WrittenPath) (a : Alias) (ts : Tokens) → IsPath p → IsAlias a → length ts.left ≤ most → Begins (use_words (path_tree p a)) ts
     → IsUseEnd (behind (use_words (path_tree p a)) ts) → IsUseRead inner (path_tree p a) ts
 path_tree_reads inner p a ts h i l b e =
     let us = behind (path_words p) ts in
@@ -282,7 +282,7 @@ path_tree_reads inner p a ts h i l b e =
     let end : IsUseEnd (behind (alias_words a) us) = subst IsUseEnd same e in
     let flat = alias_flat a us more end in
     let found = rename_reads a us i more end in
-    let starts = begun (Some (path_view p)) (at ts) [] in
+    let starts = begun_trees (Some (path_view p)) (at ts) [] in
     record {
       starts = starts;
       reads = tree_steps inner (Some (path_view p)) false ts us us (path_reads p ts h l (begins_left (path_words p) (alias_words a) ts b) (no_path_colons us flat)) (eat_none us (no_colons us flat))
@@ -290,15 +290,15 @@ path_tree_reads inner p a ts h i l b e =
           ∙ ap (λ k. (found_at starts (use_view (path_tree p a)), k)) (sym same);
     }
 
-star_here : (inner : Reader (Found (Option (List UseTreeView)))) (start : ℕ) (path : Option PathNode) (ts : Tokens) → Shows (trees.mark 42) ts → star_or_list inner start path ts ≡ (with_bare start path true None, bumped ts)
+star_here : (inner : Reader (FoundInUse (Option (List UseTreeView)))) (start : ℕ) (path : Option PathNode) (ts : Tokens) → Shows (trees.mark 42) ts → star_or_list inner start path ts ≡ (with_bare start path true None, bumped ts)
 star_here inner start path ts s = rw s.symbol_is refl
 
-star_tree_reads : (inner : Reader (Found (Option (List UseTreeView)))) (p : Option Path) (ts : Tokens) → IsPrefix p → length ts.left ≤ most → Begins (use_words (star_tree p)) ts
+star_tree_reads : (inner : Reader (FoundInUse (Option (List UseTreeView)))) (p : Option WrittenPath) (ts : Tokens) → IsPrefix p → length ts.left ≤ most → Begins (use_words (star_tree p)) ts
     → IsUseRead inner (star_tree p) ts
 star_tree_reads inner p ts h l b =
     let us = behind (prefix_words p) ts in
     let star : Shows (trees.mark 42) us = (begins_right (prefix_words p) (trees.mark 42 ∷ []) ts b).0 in
-    let starts = begun (option_map path_view p) (at ts) [] in
+    let starts = begun_trees (option_map path_view p) (at ts) [] in
     record {
       starts = starts;
       reads = prefix_steps inner p (trees.mark 42) [] ts star_starts h l b
@@ -308,7 +308,7 @@ star_tree_reads inner p ts h l b =
 
 -- ---- commas
 
-comma_one : (n : ℕ) (ts : Tokens) → 0 < n → is_at_end ts ≡ false → (symbol ts == 44) ≡ true → comma_from n ts ≡ bumped ts
+comma_one : (n : ℕ) (ts : Tokens) → 0 < n → is_at_end ts ≡ false → (symbol ts == 44) ≡ true → tree_comma_from n ts ≡ bumped ts
 comma_one zero ts l e f = absurd (omega arith)
 comma_one (suc n) ts l e f = rw (e, f) refl
 
@@ -316,18 +316,18 @@ some_most : 0 < most
 unfolding most
 some_most = omega arith
 
-comma_here : (ts : Tokens) → Shows (trees.mark 44) ts → behind_comma ts ≡ bumped ts
-unfolding behind_comma
+comma_here : (ts : Tokens) → Shows (trees.mark 44) ts → tree_behind_comma ts ≡ bumped ts
+unfolding tree_behind_comma
 comma_here ts s = comma_one most ts some_most s.end_is (ap (λ (c : ℕ). c == 44) s.symbol_is)
 
-comma_none : (ts : Tokens) → Shows (trees.close_mark 125) ts → behind_comma ts ≡ ts
-unfolding behind_comma
+comma_none : (ts : Tokens) → Shows (trees.close_mark 125) ts → tree_behind_comma ts ≡ ts
+unfolding tree_behind_comma
 comma_none ts s = comma_end most ts s.end_is
 
 -- behind an element of a list
 record After (us : UseTrees) (mid : Tokens) : Type 0 where
   pub after : Tokens
-  pub comma : behind_comma mid ≡ after
+  pub comma : tree_behind_comma mid ≡ after
   pub begun : Begins (list_words us ++ trees.close_mark 125 ∷ []) after
   pub rest : behind (comma_words us) mid ≡ behind (list_words us) after
   pub end : IsUseEnd mid
@@ -359,8 +359,8 @@ after_element (use_and t us) mid b =
 
 -- ---- lists
 
-path_some : (p : Path) → 0 < length (path_words p)
-path_some p = let sum = length-append (front_words p.absolute) (segment_word p.first ∷ more_words p.more) in omega (arith, sum)
+path_some : (p : WrittenPath) → 0 < length (path_words p)
+path_some p = let sum = length-append (path_front_words p.absolute) (segment_word p.first ∷ more_words p.more) in omega (arith, sum)
 
 use_some : (t : UseTree) → 0 < length (use_words t)
 use_some (path_tree p a) = let sum = length-append (path_words p) (alias_words a) in let some = path_some p in omega (arith, sum, some)
@@ -380,11 +380,11 @@ segment_goes : (g : Segment) (ts : Tokens) → Shows (segment_word g) ts → is_
 segment_goes (named n) ts s = s.end_is
 segment_goes _ ts s = s.end_is
 
-path_goes : (absolute : Bool) (g : Segment) (more : List Word) (ts : Tokens) → Begins (front_words absolute ++ segment_word g ∷ more) ts → is_at_end ts ≡ false
+path_goes : (absolute : Bool) (g : Segment) (more : List Word) (ts : Tokens) → Begins (path_front_words absolute ++ segment_word g ∷ more) ts → is_at_end ts ≡ false
 path_goes false g more ts b = segment_goes g ts b.0
 path_goes true g more ts b = b.0.end_is
 
-prefix_goes : (p : Option Path) (w : Word) (more : List Word) (ts : Tokens) → closes w.kind ≡ false → Begins (prefix_words p ++ w ∷ more) ts → is_at_end ts ≡ false
+prefix_goes : (p : Option WrittenPath) (w : Word) (more : List Word) (ts : Tokens) → closes w.kind ≡ false → Begins (prefix_words p ++ w ∷ more) ts → is_at_end ts ≡ false
 prefix_goes None w more ts e b = b.0.end_is ∙ e
 prefix_goes (Some p) w more ts e b = path_goes p.absolute p.first (more_words p.more) ts (begins_left (path_words p) colons ts (begins_left (prefix_words (Some p)) (w ∷ more) ts b))
 
@@ -401,12 +401,12 @@ pub one_element : {A : Type 0} (ends : Tokens → Bool) (reader : Reader A) (n :
     → turns_from ends (one reader) (suc n) done ts ≡ turns_from ends (one reader) n (done ++ a ∷ []) us
 one_element ends reader n done a ts us e r b = rw (e, r, b) refl
 
-element_steps : (inner : Reader (Found (Option (List UseTreeView)))) (found : Found (Option UseTreeView)) (ts mid after : Tokens) → tree_with inner ts ≡ (found, mid) → behind_comma mid ≡ after → element_with inner ts ≡ (found, after)
+element_steps : (inner : Reader (FoundInUse (Option (List UseTreeView)))) (found : FoundInUse (Option UseTreeView)) (ts mid after : Tokens) → tree_with inner ts ≡ (found, mid) → tree_behind_comma mid ≡ after → element_with inner ts ≡ (found, after)
 element_steps inner found ts mid after e f = rw (e, f) refl
 
 -- the trees of a list are read, wherever they begin
-pub record AreUsesRead (us : UseTrees) (depth n : ℕ) (done : List (Found (Option UseTreeView))) (ts : Tokens) : Type 0 where
-  found : List (Found (Option UseTreeView))
+pub record AreUsesRead (us : UseTrees) (depth n : ℕ) (done : List (FoundInUse (Option UseTreeView))) (ts : Tokens) : Type 0 where
+  found : List (FoundInUse (Option UseTreeView))
   values_are : values found ≡ use_views us
   none_deep : first_too_deep found ≡ None
   turns : turns_from is_at_end (one (element_with (list depth))) n done ts ≡ (done ++ found, behind (list_words us) ts)
@@ -419,29 +419,29 @@ closed_behind : (ts : Tokens) → Shows (trees.close_mark 125) ts → behind_clo
 unfolding behind_closed to_closing
 closed_behind ts s = ap bumped (closing_stop 123 flat ts (closes_here ts s))
 
-list_steps : (depth : ℕ) (fs : List (Found (Option UseTreeView))) (ts us : Tokens) → (symbol ts == 123) ≡ true → turns_from is_at_end (one (element_with (list depth))) most [] (bumped ts) ≡ (fs, us)
+list_steps : (depth : ℕ) (fs : List (FoundInUse (Option UseTreeView))) (ts us : Tokens) → (symbol ts == 123) ≡ true → turns_from is_at_end (one (element_with (list depth))) most [] (bumped ts) ≡ (fs, us)
     → list (suc depth) ts ≡ (some_list (all_found fs), behind_closed 123 us)
 unfolding list turns
 list_steps depth fs ts us e f = rw (e, f) refl
 
-list_here : (inner : Reader (Found (Option (List UseTreeView)))) (start : ℕ) (path : Option PathNode) (found : Found (Option (List UseTreeView))) (ts us : Tokens) → Shows (trees.open_mark 123) ts → inner ts ≡ (found, us)
+list_here : (inner : Reader (FoundInUse (Option (List UseTreeView)))) (start : ℕ) (path : Option PathNode) (found : FoundInUse (Option (List UseTreeView))) (ts us : Tokens) → Shows (trees.open_mark 123) ts → inner ts ≡ (found, us)
     → star_or_list inner start path ts ≡ (with_list start path found, us)
 list_here inner start path found ts us s e = rw (s.symbol_is, e) refl
 
-listed_some : (path : Option PathNode) (vs : List UseTreeView) → listed path (Some vs) ≡ Some (tree_from (record { path = path; star = false; rename = None }) (Some vs))
+listed_some : (path : Option PathNode) (vs : List UseTreeView) → tree_with_list path (Some vs) ≡ Some (tree_from (record { path = path; star = false; rename = None }) (Some vs))
 listed_some None vs = refl
 listed_some (Some p) vs = refl
 
 -- a list that was found
-abbrev starts_in : ℕ → Option Path → List (Found (Option UseTreeView)) → List ℕ
+abbrev starts_in : ℕ → Option WrittenPath → List (FoundInUse (Option UseTreeView)) → List ℕ
 starts_in start p fs = begun_list (option_map path_view p) start (Some (values fs)) (all_starts fs)
 
-list_found : (start : ℕ) (p : Option Path) (us : UseTrees) (fs : List (Found (Option UseTreeView))) (ts end : Tokens) → values fs ≡ use_views us → first_too_deep fs ≡ None → end ≡ behind (use_words (list_tree p us)) ts
-    → ◌≡◌ {A = Found (Option UseTreeView) × Tokens} (with_list start (option_map path_view p) (some_list (all_found fs)), end) (found_at (starts_in start p fs) (use_view (list_tree p us)), behind (use_words (list_tree p us)) ts)
+list_found : (start : ℕ) (p : Option WrittenPath) (us : UseTrees) (fs : List (FoundInUse (Option UseTreeView))) (ts end : Tokens) → values fs ≡ use_views us → first_too_deep fs ≡ None → end ≡ behind (use_words (list_tree p us)) ts
+    → ◌≡◌ {A = FoundInUse (Option UseTreeView) × Tokens} (with_list start (option_map path_view p) (some_list (all_found fs)), end) (found_at (starts_in start p fs) (use_view (list_tree p us)), behind (use_words (list_tree p us)) ts)
 list_found start p us fs ts end v d e =
     let path = option_map path_view p in
     let starts = starts_in start p fs in
-    ap (λ vs. (record { value = listed path (Some vs); starts = starts; too_deep = first_too_deep fs }, end)) v
+    ap (λ vs. (record { value = tree_with_list path (Some vs); starts = starts; too_deep = first_too_deep fs }, end)) v
     ∙ ap (λ w. (record { value = w; starts = starts; too_deep = first_too_deep fs }, end)) (listed_some path (use_views us))
     ∙ ap (λ o. (record { value = Some (use_view (list_tree p us)); starts = starts; too_deep = o }, end)) d
     ∙ ap (λ k. (found_at starts (use_view (list_tree p us)), k)) e
@@ -459,9 +459,9 @@ mutual
       let within = begins_right (prefix_words p) (trees.open_mark 123 ∷ tail) ts b in
       let end = behind (list_words us) (bumped vs) in
       let shut : Shows (trees.close_mark 125) end = (begins_right (list_words us) (trees.close_mark 125 ∷ []) (bumped vs) within.1).0 in
-      let front : length (prefix_words p) + length vs.left ≡ length ts.left = fewer_left (prefix_words p) ts (begins_left (prefix_words p) (trees.open_mark 123 ∷ tail) ts b) in
+      let front_of_path : length (prefix_words p) + length vs.left ≡ length ts.left = fewer_left (prefix_words p) ts (begins_left (prefix_words p) (trees.open_mark 123 ∷ tail) ts b) in
       let one : length (bumped vs).left + 1 ≡ length vs.left = shorter vs within.0.some in
-      let found = uses_read us depth most [] (bumped vs) h.1 (omega (arith, front, one, l)) (omega (arith, front, one, l)) within.1 in
+      let found = uses_read us depth most [] (bumped vs) h.1 (omega (arith, front_of_path, one, l)) (omega (arith, front_of_path, one, l)) within.1 in
       let read = some_list (all_found found.found) in
       record {
         starts = starts_in (at ts) p found.found;
@@ -472,7 +472,7 @@ mutual
             (sym (behind_append (prefix_words p) (trees.open_mark 123 ∷ tail) ts ∙ behind_append (list_words us) (trees.close_mark 125 ∷ []) (bumped vs)));
       }
 
-  uses_read : (us : UseTrees) (depth n : ℕ) (done : List (Found (Option UseTreeView))) (ts : Tokens) → AreUses depth us → length ts.left ≤ n → length ts.left ≤ most → Begins (list_words us ++ trees.close_mark 125 ∷ []) ts
+  uses_read : (us : UseTrees) (depth n : ℕ) (done : List (FoundInUse (Option UseTreeView))) (ts : Tokens) → AreUses depth us → length ts.left ≤ n → length ts.left ≤ most → Begins (list_words us ++ trees.close_mark 125 ∷ []) ts
       → AreUsesRead us depth n done ts
   uses_read no_uses depth n done ts h l m b =
       record { found = []; values_are = refl; none_deep = refl; turns = turns_stop is_at_end (one (element_with (list depth))) n done ts b.0.end_is ∙ ap (λ d. (d, ts)) (sym (append-nil done)) }
@@ -493,7 +493,7 @@ mutual
       let went = past_more ws ts first some in
       let later = next.past in
       let one_read = tree_reads t depth ts h.0 m first next.end in
-      let found : Found (Option UseTreeView) = found_at one_read.starts (use_view t) in
+      let found : FoundInUse (Option UseTreeView) = found_at one_read.starts (use_view t) in
       let read = element_steps (list depth) found ts mid next.after one_read.reads next.comma in
       let more = uses_read us depth n (done ++ found ∷ []) next.after h.1 (omega (arith, few, some, less, l)) (omega (arith, few, some, less, m)) next.begun in
       record {

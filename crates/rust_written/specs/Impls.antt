@@ -5,7 +5,7 @@ use Rattle.rust_cursor.specs.declared.cursor.nest.Before.{Before}
 use Rattle.rust_cursor.specs.declared.cursor.nest.Before.TheVariants as befores
 use Rattle.rust_cursor.specs.Nests.{is_dash}
 use Rattle.rust_written.specs.Words.{Word}
-use Rattle.rust_written.specs.Trees.{word, mark, text_of, symbol_of, single, group, Trees, no_trees, tree_and, open_of, curly, first_of, before_behind, behind_group, GoesBehind, GoesOnType, AreClosed, angles_behind, angles_behind_all}
+use Rattle.rust_written.specs.Trees.{word_spelled, mark, word_text, symbol_of_word, single, group, Trees, no_trees, tree_and, open_of, curly, first_of, before_behind_word, behind_group, GoesBehind, GoesOnType, AreClosed, angles_behind_word, angles_behind_all}
 
 abbrev pub trees_append : Trees → Trees → Trees
 trees_append no_trees us = us
@@ -14,7 +14,7 @@ trees_append (tree_and t ts) us = tree_and t (trees_append ts us)
 -- what the last of trees is for what comes behind them
 abbrev pub before_behind_all : Before → Trees → Before
 before_behind_all before no_trees = before
-before_behind_all before (tree_and (single w) ts) = before_behind_all (before_behind before w) ts
+before_behind_all before (tree_and (single w) ts) = before_behind_all (before_behind_word before w) ts
 before_behind_all before (tree_and (group b is) ts) = before_behind_all (behind_group before b) ts
 
 -- ---- generics
@@ -22,7 +22,7 @@ before_behind_all before (tree_and (group b is) ts) = before_behind_all (behind_
 -- an angle bracket stays open
 abbrev pub StaysOpen : Before → ℕ → Trees → Type 0
 StaysOpen before a no_trees = Unit {0}
-StaysOpen before a (tree_and (single w) ts) = ((angles_behind before a w == 0) ≡ false) × StaysOpen (before_behind before w) (angles_behind before a w) ts
+StaysOpen before a (tree_and (single w) ts) = ((angles_behind_word before a w == 0) ≡ false) × StaysOpen (before_behind_word before w) (angles_behind_word before a w) ts
 StaysOpen before a (tree_and (group b is) ts) = StaysOpen (behind_group before b) a ts
 
 -- what may stand between `<` and `>`
@@ -41,7 +41,7 @@ generics (Some g) = tree_and (single (mark 60)) (trees_append g (tree_and (singl
 -- no comma stands in no bracket
 abbrev pub HasNoComma : Before → ℕ → Trees → Type 0
 HasNoComma before a no_trees = Unit {0}
-HasNoComma before a (tree_and (single w) ts) = ((a == 0 && symbol_of w == 44) ≡ false) × HasNoComma (before_behind before w) (angles_behind before a w) ts
+HasNoComma before a (tree_and (single w) ts) = ((a == 0 && symbol_of_word w == 44) ≡ false) × HasNoComma (before_behind_word before w) (angles_behind_word before a w) ts
 HasNoComma before a (tree_and (group b is) ts) = HasNoComma (behind_group before b) a ts
 
 -- the type of a field, up to its comma
@@ -58,11 +58,11 @@ is_header_word w = bytes_eq w (codes "where") || bytes_eq w (codes "for")
 -- neither `for` nor `where` stands in no bracket
 abbrev pub IsOnePart : Before → ℕ → Trees → Type 0
 IsOnePart before a no_trees = Unit {0}
-IsOnePart before a (tree_and (single w) ts) = ((a == 0 && is_header_word (text_of w)) ≡ false) × IsOnePart (before_behind before w) (angles_behind before a w) ts
+IsOnePart before a (tree_and (single w) ts) = ((a == 0 && is_header_word (word_text w)) ≡ false) × IsOnePart (before_behind_word before w) (angles_behind_word before a w) ts
 IsOnePart before a (tree_and (group b is) ts) = IsOnePart (behind_group before b) a ts
 
 -- a trait's path or a type, before this word
-pub record IsPart (ts : Trees) (behind : Word) : Type 0 where
+pub record IsImplPart (ts : Trees) (behind : Word) : Type 0 where
   pub goes : GoesOnType ts behind
   pub one : IsOnePart befores.Other 0 ts
   pub closed : AreClosed ts
@@ -77,12 +77,12 @@ pub record ImplHeader : Type 0 where
 -- a trait's path, and `for`
 abbrev pub trait_part : Option Trees → Trees
 trait_part None = no_trees
-trait_part (Some t) = trees_append t (tree_and (single (word (codes "for"))) no_trees)
+trait_part (Some t) = trees_append t (tree_and (single (word_spelled (codes "for"))) no_trees)
 
 -- `where`, and what is behind it
 abbrev pub where_part : Option Trees → Trees
 where_part None = no_trees
-where_part (Some w) = tree_and (single (word (codes "where"))) w
+where_part (Some w) = tree_and (single (word_spelled (codes "where"))) w
 
 abbrev pub type_part : ImplHeader → Trees
 type_part h = trees_append h.self_type (where_part h.where_clause)
@@ -95,13 +95,13 @@ header_trees h = trees_append (generics h.generics) (behind_generics h)
 
 -- generics are well formed, or what stands first begins with no `<`
 abbrev pub HasGenerics : Option Trees → Word → Type 0
-HasGenerics None next = (symbol_of next == 60) ≡ false
+HasGenerics None next = (symbol_of_word next == 60) ≡ false
 HasGenerics (Some g) next = AreGenerics g
 
 -- a trait's path ends with its `for`, and behind it no `<` comes; without one, the type ends before `where` or the block
 abbrev pub HasTrait : Option Trees → ImplHeader → Type 0
-HasTrait None h = IsPart h.self_type (first_of (where_part h.where_clause) (open_of curly))
-HasTrait (Some t) h = IsPart t (word (codes "for")) × ((symbol_of (first_of (type_part h) (open_of curly)) == 60) ≡ false)
+HasTrait None h = IsImplPart h.self_type (first_of (where_part h.where_clause) (open_of curly))
+HasTrait (Some t) h = IsImplPart t (word_spelled (codes "for")) × ((symbol_of_word (first_of (type_part h) (open_of curly)) == 60) ≡ false)
 
 -- all before the block of an impl is passed over as what it is
 pub record IsImplHeader (h : ImplHeader) : Type 0 where

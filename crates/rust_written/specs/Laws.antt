@@ -10,12 +10,12 @@ use Rattle.rust_items.specs.LineEnds.{with_feeds}
 use Rattle.rust_items.specs.SourceFiles.{FileView, IsFileView}
 use Rattle.rust_written.specs.Words.{Spells}
 use Rattle.rust_written.specs.Round.{IsPlain}
-use Rattle.rust_written.specs.Spelled.{are_standing, text_of}
+use Rattle.rust_written.specs.Spelled.{are_standing, spelled_text}
 use Rattle.rust_written.specs.Written.{Items, words, views, rows, AreItems, outline}
 use Rattle.hir_input.specs.declared.ids.FileAstId.{FileAstId}
 
 -- a text of so few bytes spells these items, with a line feed alone for each line's end
-pub record Writes (is : Items) (text : List ℕ) : Type 0 where
+pub record WritesItems (is : Items) (text : List ℕ) : Type 0 where
   pub are : AreItems 128 is
   pub plain : IsPlain (with_feeds text)
   pub spells : Spells (words is) (with_feeds text)
@@ -29,13 +29,13 @@ pub record IsRead (is : Items) (file : FileView) : Type 0 where
   pub problems : file.problems ≡ []
 
 abbrev pub ReadAgain : Type 0
-ReadAgain = (edition : EditionYear) (is : Items) (text : List ℕ) (file : FileView) → Writes is text → IsFileView edition text file → IsRead is file
+ReadAgain = (edition : EditionYear) (is : Items) (text : List ℕ) (file : FileView) → WritesItems is text → IsFileView edition text file → IsRead is file
 
 -- Typing between names and ends changes no syntax but for its body texts, and no id.
-abbrev pub TypingInside : Type 0
-TypingInside = (edition : EditionYear) (before after : Items) (old new : List ℕ) (read again : FileView) → Writes before old → Writes after new → outline before ≡ outline after
+abbrev pub TypingBetween : Type 0
+TypingBetween = (edition : EditionYear) (before after : Items) (old new : List ℕ) (read again : FileView) → WritesItems before old → WritesItems after new → outline before ≡ outline after
     → IsFileView edition old read → IsFileView edition new again → without_bodies read.syntax ≡ without_bodies again.syntax
 
 -- Well formed items of words of ASCII are spelled by a text, and so are read again.
 abbrev pub Writable : Type 0
-Writable = (is : Items) → AreItems 128 is → are_standing (words is) ≡ true → length (text_of is) ≤ most → Writes is (text_of is)
+Writable = (is : Items) → AreItems 128 is → are_standing (words is) ≡ true → length (spelled_text is) ≤ most → WritesItems is (spelled_text is)

@@ -17,8 +17,8 @@ use Rattle.rust_written.specs.Words.{Link, joined, free, Word}
 -- ---- words
 
 -- a keyword or an identifier
-abbrev pub word : List ℕ → Word
-word text = record { kind = kind.Ident; text = text; link = free }
+abbrev pub word_spelled : List ℕ → Word
+word_spelled text = record { kind = kind.Ident; text = text; link = free }
 
 abbrev pub mark : ℕ → Word
 mark c = record { kind = kind.Punct; text = c ∷ []; link = free }
@@ -34,12 +34,12 @@ abbrev pub close_mark : ℕ → Word
 close_mark c = record { kind = kind.CloseDelim; text = c ∷ []; link = free }
 
 -- a bracket or a mark, or 0
-abbrev pub symbol_of : Word → ℕ
-symbol_of w = symbol_from w.kind (slice_index w.text 0)
+abbrev pub symbol_of_word : Word → ℕ
+symbol_of_word w = symbol_from w.kind (slice_index w.text 0)
 
 -- a keyword or an identifier that is not raw, or nothing
-abbrev pub text_of : Word → List ℕ
-text_of w = word_by w.kind w.text
+abbrev pub word_text : Word → List ℕ
+word_text w = word_by w.kind w.text
 
 -- ---- trees
 
@@ -84,7 +84,7 @@ is_bracket c = c == 40 || (c == 41 || (c == 91 || (c == 93 || (c == 123 || c == 
 -- no bracket stands alone
 abbrev mutual
   pub IsTree : Tree → Type 0
-  IsTree (single w) = (is_bracket (symbol_of w) ≡ false) × (closes w.kind ≡ false)
+  IsTree (single w) = (is_bracket (symbol_of_word w) ≡ false) × (closes w.kind ≡ false)
   IsTree (group b ts) = AreTrees ts
 
   pub AreTrees : Trees → Type 0
@@ -119,8 +119,8 @@ as_token w = record { kind = w.kind; text = w.text; at = linked_at w.link }
 abbrev pub as_tokens : List Word → Tokens
 as_tokens ws = record { past = 0; left = map as_token ws; unended = None; edition = year.E2024 }
 
-abbrev pub before_behind : Before → Word → Before
-before_behind before w = nests.before_behind before (as_tokens (w ∷ []))
+abbrev pub before_behind_word : Before → Word → Before
+before_behind_word before w = nests.before_behind before (as_tokens (w ∷ []))
 
 -- what a bracket is for the word behind it
 abbrev pub behind_group : Before → Bracket → Before
@@ -129,25 +129,25 @@ behind_group before _ = behind_free before
 
 -- a `>` behind a `-` or a `=` is written right behind it, or apart from it
 abbrev pub IsClear : Before → Word → Type 0
-IsClear before w = (symbol_of w == 62 && (is_dash before && is_free w.link)) ≡ false
+IsClear before w = (symbol_of_word w == 62 && (is_dash before && is_free w.link)) ≡ false
 
 -- ---- what begins an item
 
 -- a word that begins an item, by the word behind it
-abbrev pub begins_item : Word → Word → Bool
-begins_item w next = extents.begins_item (as_tokens (w ∷ next ∷ []))
+abbrev pub word_begins_item : Word → Word → Bool
+word_begins_item w next = extents.begins_item (as_tokens (w ∷ next ∷ []))
 
 -- the same in `(` or `[`
-abbrev pub begins_within : Word → Word → Bool
-begins_within w next = extents.begins_within (as_tokens (w ∷ next ∷ []))
+abbrev pub word_begins_within : Word → Word → Bool
+word_begins_within w next = extents.begins_within (as_tokens (w ∷ next ∷ []))
 
 abbrev pub is_impl_word : List ℕ → Bool
 is_impl_word w = bytes_eq w (codes "impl") || (bytes_eq w (codes "unsafe") || bytes_eq w (codes "const"))
 
 -- behind what can end a type or a value, a word that may begin an item
 abbrev pub may_begin_behind : Before → Word → Bool
-may_begin_behind befores.End w = symbol_of w == 35 || is_impl_word (text_of w)
-may_begin_behind befores.Angle w = is_impl_word (text_of w)
+may_begin_behind befores.End w = symbol_of_word w == 35 || is_impl_word (word_text w)
+may_begin_behind befores.Angle w = is_impl_word (word_text w)
 may_begin_behind _ w = false
 
 -- ---- headers
@@ -159,14 +159,14 @@ Unless false A = A
 -- In `(` and `[` nothing begins an item; anything may stand in those of macro calls and attributes, and in braces.
 abbrev pub StaysIn : Before → Trees → Word → Type 0
 StaysIn before no_trees behind = Unit {0}
-StaysIn before (tree_and (single w) ts) behind = IsClear before w × (begins_within w (first_of ts behind) ≡ false) × StaysIn (before_behind before w) ts behind
+StaysIn before (tree_and (single w) ts) behind = IsClear before w × (word_begins_within w (first_of ts behind) ≡ false) × StaysIn (before_behind_word before w) ts behind
 StaysIn before (tree_and (group curly is) ts) behind = StaysIn befores.End ts behind
 StaysIn before (tree_and (group b is) ts) behind = Unless (lets_any before) (StaysIn befores.Other is (close_of b)) × StaysIn (behind_group before b) ts behind
 
 -- the same of what stands in one of them
-abbrev pub Holds : Before → Bracket → Trees → Type 0
-Holds before curly is = Unit {0}
-Holds before b is = Unless (lets_any before) (StaysIn befores.Other is (close_of b))
+abbrev pub HoldsWithin : Before → Bracket → Trees → Type 0
+HoldsWithin before curly is = Unit {0}
+HoldsWithin before b is = Unless (lets_any before) (StaysIn befores.Other is (close_of b))
 
 abbrev pub MayStand : (braces : Bool) → Bracket → Type 0
 MayStand braces curly = braces ≡ true
@@ -174,10 +174,10 @@ MayStand braces _ = Unit {0}
 
 -- a brace behind them is no macro call's
 abbrev pub GoesBehind : (braces : Bool) → Before → Trees → Word → Type 0
-GoesBehind braces before no_trees behind = (is_mark before && symbol_of behind == 123) ≡ false
+GoesBehind braces before no_trees behind = (is_mark before && symbol_of_word behind == 123) ≡ false
 GoesBehind braces before (tree_and (single w) ts) behind =
-    IsClear before w × ((symbol_of w == 59) ≡ false) × (begins_item w (first_of ts behind) ≡ false) × (may_begin_behind before w ≡ false) × GoesBehind braces (before_behind before w) ts behind
-GoesBehind braces before (tree_and (group b is) ts) behind = MayStand braces b × Holds before b is × GoesBehind braces (behind_group before b) ts behind
+    IsClear before w × ((symbol_of_word w == 59) ≡ false) × (word_begins_item w (first_of ts behind) ≡ false) × (may_begin_behind before w ≡ false) × GoesBehind braces (before_behind_word before w) ts behind
+GoesBehind braces before (tree_and (group b is) ts) behind = MayStand braces b × HoldsWithin before b is × GoesBehind braces (behind_group before b) ts behind
 
 -- behind a name, nothing ends an item or begins one; braces may stand there or not
 abbrev pub GoesOn : (braces : Bool) → Trees → Word → Type 0
@@ -190,13 +190,13 @@ GoesOnType ts behind = GoesBehind false befores.Other ts behind
 -- ---- angle brackets
 
 -- how many are open behind a word; the `>` of `->` and `=>` closes none
-abbrev pub angles_behind : Before → ℕ → Word → ℕ
-angles_behind before n w = if symbol_of w == 60 then n + 1 else (if symbol_of w == 62 then (if nests.is_arrow before (as_tokens (w ∷ [])) then n else n - 1) else n)
+abbrev pub angles_behind_word : Before → ℕ → Word → ℕ
+angles_behind_word before n w = if symbol_of_word w == 60 then n + 1 else (if symbol_of_word w == 62 then (if nests.is_arrow before (as_tokens (w ∷ [])) then n else n - 1) else n)
 
 -- how many are open behind trees
 abbrev pub angles_behind_all : Before → ℕ → Trees → ℕ
 angles_behind_all before n no_trees = n
-angles_behind_all before n (tree_and (single w) ts) = angles_behind_all (before_behind before w) (angles_behind before n w) ts
+angles_behind_all before n (tree_and (single w) ts) = angles_behind_all (before_behind_word before w) (angles_behind_word before n w) ts
 angles_behind_all before n (tree_and (group b is) ts) = angles_behind_all (behind_group before b) n ts
 
 -- each is closed that is opened where a type begins

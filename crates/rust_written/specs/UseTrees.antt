@@ -8,9 +8,9 @@ use Rattle.hir_input.specs.Words as meanings
 use Rattle.rust_paths.specs.Meaning.{path_node}
 use Rattle.hir_input.specs.Name.{is_name}
 use Rattle.rust_paths.specs.Names.{plain_name}
-use Rattle.rust_paths.specs.Paths.{front}
+use Rattle.rust_paths.specs.Paths.{front_of_path}
 use Rattle.rust_written.specs.Words.{Word}
-use Rattle.rust_written.specs.Trees.{word, mark, joined_mark, open_mark, close_mark}
+use Rattle.rust_written.specs.Trees.{word_spelled, mark, joined_mark, open_mark, close_mark}
 
 -- ---- paths
 
@@ -22,18 +22,18 @@ pub data Segment : Type 0 where
   crate_segment : Segment
 
 -- `::` in front, if it is written, a segment, and more behind `::`
-pub record Path : Type 0 where
+pub record WrittenPath : Type 0 where
   pub absolute : Bool
   pub first : Segment
   pub more : List Segment
 
 abbrev pub segment_word : Segment → Word
-segment_word (named n) = word n
-segment_word self_segment = word (codes "self")
-segment_word super_segment = word (codes "super")
-segment_word crate_segment = word (codes "crate")
+segment_word (named n) = word_spelled n
+segment_word self_segment = word_spelled (codes "self")
+segment_word super_segment = word_spelled (codes "super")
+segment_word crate_segment = word_spelled (codes "crate")
 
-abbrev pub segment_meaning : Segment → meanings.Word
+abbrev pub segment_meaning : Segment → meanings.PathWord
 segment_meaning (named n) = meanings.name_word n
 segment_meaning self_segment = meanings.self_word
 segment_meaning super_segment = meanings.super_word
@@ -46,15 +46,15 @@ abbrev pub more_words : List Segment → List Word
 more_words [] = []
 more_words (s ∷ ss) = mark 58 ∷ joined_mark 58 ∷ segment_word s ∷ more_words ss
 
-abbrev pub front_words : Bool → List Word
-front_words absolute = if absolute then colons else []
+abbrev pub path_front_words : Bool → List Word
+path_front_words absolute = if absolute then colons else []
 
-abbrev pub path_words : Path → List Word
-path_words p = front_words p.absolute ++ segment_word p.first ∷ more_words p.more
+abbrev pub path_words : WrittenPath → List Word
+path_words p = path_front_words p.absolute ++ segment_word p.first ∷ more_words p.more
 
 -- the path that the words mean
-abbrev pub path_view : Path → PathNode
-path_view p = path_node (front p.absolute (Some (segment_meaning p.first) ∷ map (λ s. Some (segment_meaning s)) p.more))
+abbrev pub path_view : WrittenPath → PathNode
+path_view p = path_node (front_of_path p.absolute (Some (segment_meaning p.first) ∷ map (λ s. Some (segment_meaning s)) p.more))
 
 -- ---- trees
 
@@ -66,8 +66,8 @@ pub data Alias : Type 0 where
 
 abbrev pub alias_words : Alias → List Word
 alias_words no_alias = []
-alias_words (as_name n) = word (codes "as") ∷ word n ∷ []
-alias_words as_nothing = word (codes "as") ∷ word (codes "_") ∷ []
+alias_words (as_name n) = word_spelled (codes "as") ∷ word_spelled n ∷ []
+alias_words as_nothing = word_spelled (codes "as") ∷ word_spelled (codes "_") ∷ []
 
 abbrev pub alias_view : Alias → Option Rename
 alias_view no_alias = None
@@ -77,15 +77,15 @@ alias_view as_nothing = Some (record { name = None })
 mutual
   -- a path with an alias or without; a star, and a list, behind a path or behind none
   pub data UseTree : Type 0 where
-    path_tree : Path → Alias → UseTree
-    star_tree : Option Path → UseTree
-    list_tree : Option Path → UseTrees → UseTree
+    path_tree : WrittenPath → Alias → UseTree
+    star_tree : Option WrittenPath → UseTree
+    list_tree : Option WrittenPath → UseTrees → UseTree
 
   pub data UseTrees : Type 0 where
     no_uses : UseTrees
     use_and : UseTree → UseTrees → UseTrees
 
-abbrev pub prefix_words : Option Path → List Word
+abbrev pub prefix_words : Option WrittenPath → List Word
 prefix_words None = []
 prefix_words (Some p) = path_words p ++ colons
 
@@ -129,10 +129,10 @@ abbrev pub AreSegments : List Segment → Type 0
 AreSegments [] = Unit {0}
 AreSegments (s ∷ ss) = IsSegment s × AreSegments ss
 
-abbrev pub IsPath : Path → Type 0
+abbrev pub IsPath : WrittenPath → Type 0
 IsPath p = IsSegment p.first × AreSegments p.more
 
-abbrev pub IsPrefix : Option Path → Type 0
+abbrev pub IsPrefix : Option WrittenPath → Type 0
 IsPrefix None = Unit {0}
 IsPrefix (Some p) = IsPath p
 

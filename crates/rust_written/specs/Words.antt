@@ -38,27 +38,27 @@ pub record Stands (w : Word) (rest : List ℕ) : Type 0 where
   pub ends : IsBoundary rest
 
 -- a gap as a word's link wants it
-abbrev pub Fits : Link → List Blank → Type 0
-Fits joined (g ∷ gs) = ⊥
-Fits apart [] = ⊥
-Fits _ _ = Unit {0}
+abbrev pub FitsLink : Link → List Blank → Type 0
+FitsLink joined (g ∷ gs) = ⊥
+FitsLink apart [] = ⊥
+FitsLink _ _ = Unit {0}
 
 -- the text is these words, each behind a gap, and a gap behind the last
 abbrev pub Spells : List Word → List ℕ → Type 0
 Spells [] text = (gap : List Blank) × AreBlank gap × (text ≡ gap_before gap [])
 Spells (w ∷ ws) text =
-    (gap : List Blank) × (rest : List ℕ) × AreBlank gap × Fits w.link gap × Stands w rest × (text ≡ gap_before gap (w.text ++ rest)) × Spells ws rest
+    (gap : List Blank) × (rest : List ℕ) × AreBlank gap × FitsLink w.link gap × Stands w rest × (text ≡ gap_before gap (w.text ++ rest)) × Spells ws rest
 
 -- ---- what is read again
 
 -- behind what ends at the first place, a word so linked begins at the second
-abbrev pub IsAt : Link → ℕ → ℕ → Type 0
-IsAt joined past at = at ≡ past
-IsAt apart past at = past < at
-IsAt free past at = past ≤ at
+abbrev pub BeginsAt : Link → ℕ → ℕ → Type 0
+BeginsAt joined past at = at ≡ past
+BeginsAt apart past at = past < at
+BeginsAt free past at = past ≤ at
 
 -- the tokens are these words, in place behind what ends there
 abbrev pub AreTokens : ℕ → List Word → List Piece → Type 0
 AreTokens past [] [] = Unit {0}
-AreTokens past (w ∷ ws) (t ∷ ts) = (t.kind ≡ w.kind) × (t.text ≡ w.text) × IsAt w.link past t.at × AreTokens (t.at + length t.text) ws ts
+AreTokens past (w ∷ ws) (t ∷ ts) = (t.kind ≡ w.kind) × (t.text ≡ w.text) × BeginsAt w.link past t.at × AreTokens (t.at + length t.text) ws ts
 AreTokens past _ _ = ⊥

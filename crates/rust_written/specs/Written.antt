@@ -11,13 +11,13 @@ use Rattle.rust_cursor.specs.Words.{documents}
 use Rattle.hir_input.specs.Name.{is_name}
 use Rattle.rust_paths.specs.Names.{plain_name}
 use Rattle.rust_ids.specs.Row.{Row}
-use Rattle.rust_leaves.specs.Heads.{follows_const, follows_async, follows_unsafe, follows_safe, follows_default, follows_extern}
+use Rattle.rust_leaves.specs.Heads.{may_follow_const, follows_async, follows_unsafe, follows_safe, follows_default, follows_extern}
 use Rattle.rust_leaves.specs.Kinds.{node, named_node}
 use Rattle.rust_leaves.specs.Texts.{bare}
 use Rattle.rust_written.specs.Words.{Word}
 use Rattle.rust_written.specs.Impls.{trees_append, where_part, generics, HasGenerics, IsFieldType, ImplHeader, header_trees, IsImplHeader}
 use Rattle.rust_written.specs.UseTrees.{UseTree, use_words, use_view, IsUse}
-use Rattle.rust_written.specs.Trees.{word, mark, open_mark, close_mark, symbol_of, text_of, round, curly, open_of, close_of, single, group, Trees, no_trees, tree_and, tree_words, trees_words, AreTrees, first_of, GoesOn, spaced}
+use Rattle.rust_written.specs.Trees.{word_spelled, mark, open_mark, close_mark, symbol_of_word, word_text, round, curly, open_of, close_of, single, group, Trees, no_trees, tree_and, tree_words, trees_words, AreTrees, first_of, GoesOn, spaced}
 
 -- ---- visibilities
 
@@ -30,11 +30,11 @@ pub data Scope : Type 0 where
   in_self : Scope
 
 abbrev pub within : List ℕ → List Word
-within w = word (codes "pub") ∷ open_mark 40 ∷ word w ∷ close_mark 41 ∷ []
+within w = word_spelled (codes "pub") ∷ open_mark 40 ∷ word_spelled w ∷ close_mark 41 ∷ []
 
 abbrev pub scope_words : Scope → List Word
 scope_words unwritten = []
-scope_words everywhere = word (codes "pub") ∷ []
+scope_words everywhere = word_spelled (codes "pub") ∷ []
 scope_words in_crate = within (codes "crate")
 scope_words in_super = within (codes "super")
 scope_words in_self = within (codes "self")
@@ -51,7 +51,7 @@ scope_view in_self = Some PubSelf
 -- a modifier stands before this word
 abbrev pub modifies : List ℕ → List ℕ → Bool
 modifies m next =
-    if bytes_eq m (codes "const") then follows_const next
+    if bytes_eq m (codes "const") then may_follow_const next
     else (if bytes_eq m (codes "async") then follows_async next
     else (if bytes_eq m (codes "unsafe") then follows_unsafe next
     else (if bytes_eq m (codes "safe") then follows_safe next
@@ -76,10 +76,10 @@ pub record Front : Type 0 where
   pub modifiers : List (List ℕ)
 
 abbrev pub front_words : Front → List Word
-front_words v = scope_words v.scope ++ map word v.modifiers
+front_words v = scope_words v.scope ++ map word_spelled v.modifiers
 
-abbrev pub front_view : Front → Option Visibility
-front_view v = scope_view v.scope
+abbrev pub front_visibility : Front → Option Visibility
+front_visibility v = scope_view v.scope
 
 -- an impl has no visibility
 abbrev pub impl_front : List (List ℕ) → Front
@@ -140,12 +140,12 @@ pub data Shape : Type 0 where
   record_shape : Option Trees → Trees → Shape
 
 abbrev pub scope_in : List ℕ → Trees
-scope_in w = tree_and (single (word (codes "pub"))) (tree_and (group round (tree_and (single (word w)) no_trees)) no_trees)
+scope_in w = tree_and (single (word_spelled (codes "pub"))) (tree_and (group round (tree_and (single (word_spelled w)) no_trees)) no_trees)
 
 -- a visibility as trees
 abbrev pub scope_trees : Scope → Trees
 scope_trees unwritten = no_trees
-scope_trees everywhere = tree_and (single (word (codes "pub"))) no_trees
+scope_trees everywhere = tree_and (single (word_spelled (codes "pub"))) no_trees
 scope_trees in_crate = scope_in (codes "crate")
 scope_trees in_super = scope_in (codes "super")
 scope_trees in_self = scope_in (codes "self")
@@ -172,12 +172,12 @@ abbrev pub struct_words : Option Trees → Shape → List Word
 struct_words g (record_shape w b) = trees_words (struct_trees g (record_shape w b)) ++ tree_words (group curly b)
 struct_words g s = trees_words (struct_trees g s) ++ mark 59 ∷ []
 
-abbrev pub field_view : Field → Option Visibility
-field_view f = scope_view f.scope
+abbrev pub field_visibility : Field → Option Visibility
+field_visibility f = scope_view f.scope
 
 abbrev pub shape_view : Shape → FieldsView
 shape_view (unit_shape w) = no_fields
-shape_view (tuple_shape fs w) = tuple_fields (map field_view fs)
+shape_view (tuple_shape fs w) = tuple_fields (map field_visibility fs)
 shape_view (record_shape w b) = record_fields
 
 -- ---- items
@@ -209,13 +209,13 @@ ended t = trees_words t ++ mark 59 ∷ []
 
 abbrev mutual
   pub item_words : Item → List Word
-  item_words (blocked k v n h b) = front_words v ++ word (block_word k) ∷ word n ∷ (trees_words h ++ braced b)
-  item_words (valued k v n t) = front_words v ++ word (value_word k) ∷ word n ∷ ended t
-  item_words (structure v n g s) = front_words v ++ word (codes "struct") ∷ word n ∷ struct_words g s
-  item_words (implemented ms h b) = front_words (impl_front ms) ++ word (codes "impl") ∷ (trees_words (header_trees h) ++ braced b)
-  item_words (file_module v n) = front_words v ++ word (codes "mod") ∷ word n ∷ mark 59 ∷ []
-  item_words (used v t) = front_words v ++ word (codes "use") ∷ (use_words t ++ mark 59 ∷ [])
-  item_words (module_of v n is) = front_words v ++ word (codes "mod") ∷ word n ∷ open_mark 123 ∷ (words is ++ close_mark 125 ∷ [])
+  item_words (blocked k v n h b) = front_words v ++ word_spelled (block_word k) ∷ word_spelled n ∷ (trees_words h ++ braced b)
+  item_words (valued k v n t) = front_words v ++ word_spelled (value_word k) ∷ word_spelled n ∷ ended t
+  item_words (structure v n g s) = front_words v ++ word_spelled (codes "struct") ∷ word_spelled n ∷ struct_words g s
+  item_words (implemented ms h b) = front_words (impl_front ms) ++ word_spelled (codes "impl") ∷ (trees_words (header_trees h) ++ braced b)
+  item_words (file_module v n) = front_words v ++ word_spelled (codes "mod") ∷ word_spelled n ∷ mark 59 ∷ []
+  item_words (used v t) = front_words v ++ word_spelled (codes "use") ∷ (use_words t ++ mark 59 ∷ [])
+  item_words (module_of v n is) = front_words v ++ word_spelled (codes "mod") ∷ word_spelled n ∷ open_mark 123 ∷ (words is ++ close_mark 125 ∷ [])
 
   pub words : Items → List Word
   words no_more = []
@@ -225,7 +225,7 @@ abbrev mutual
 
 -- without attributes, and without an id as yet
 abbrev pub named_by : Front → List ℕ → List Word → NamedView
-named_by v n body = named_node [] (Some n) (front_view v) (spaced body)
+named_by v n body = named_node [] (Some n) (front_visibility v) (spaced body)
 
 abbrev mutual
   pub item_view : Item → ItemView
@@ -234,7 +234,7 @@ abbrev mutual
   item_view (structure v n g s) = struct_item (named_by v n (struct_words g s)) (shape_view s)
   item_view (implemented ms h b) = impl_item (node [] (spaced (trees_words (header_trees h) ++ braced b))) (is_some h.of_trait)
   item_view (file_module v n) = module_from (named_by v n []) true None
-  item_view (used v t) = use_item (record { node = node [] []; visibility = front_view v; use_tree = Some (use_view t) })
+  item_view (used v t) = use_item (record { node = node [] []; visibility = front_visibility v; use_tree = Some (use_view t) })
   item_view (module_of v n is) = module_from (named_by v n []) false (Some (views is))
 
   pub views : Items → List ItemView
@@ -243,18 +243,18 @@ abbrev mutual
 
 -- ---- what their ids are made from
 
-abbrev pub row : ℕ → AstIdKind → List ℕ → Row
-row depth kind name = record { depth = depth; kind = kind; name = name }
+abbrev pub written_row : ℕ → AstIdKind → List ℕ → Row
+written_row depth kind name = record { depth = depth; kind = kind; name = name }
 
 abbrev mutual
   pub item_rows : ℕ → Item → List Row
-  item_rows depth (blocked k v n h b) = row depth (ast_kind (block_kind k)) n ∷ []
-  item_rows depth (valued k v n t) = row depth (value_id k) n ∷ []
-  item_rows depth (structure v n g s) = row depth kind.Struct n ∷ []
-  item_rows depth (implemented ms h b) = row depth kind.Impl [] ∷ []
-  item_rows depth (file_module v n) = row depth kind.Module n ∷ []
-  item_rows depth (used v t) = row depth kind.Use [] ∷ []
-  item_rows depth (module_of v n is) = row depth kind.Module n ∷ rows (suc depth) is
+  item_rows depth (blocked k v n h b) = written_row depth (ast_kind (block_kind k)) n ∷ []
+  item_rows depth (valued k v n t) = written_row depth (value_id k) n ∷ []
+  item_rows depth (structure v n g s) = written_row depth kind.Struct n ∷ []
+  item_rows depth (implemented ms h b) = written_row depth kind.Impl [] ∷ []
+  item_rows depth (file_module v n) = written_row depth kind.Module n ∷ []
+  item_rows depth (used v t) = written_row depth kind.Use [] ∷ []
+  item_rows depth (module_of v n is) = written_row depth kind.Module n ∷ rows (suc depth) is
 
   pub rows : ℕ → Items → List Row
   rows depth no_more = []
@@ -270,7 +270,7 @@ pub record IsNamed (n : List ℕ) : Type 0 where
 
 -- a block begins with no attribute and no documentation
 abbrev pub IsPlainBlock : Trees → Type 0
-IsPlainBlock b = (symbol_of (first_of b (close_of curly)) == 35 || documents (first_of b (close_of curly)).kind) ≡ false
+IsPlainBlock b = (symbol_of_word (first_of b (close_of curly)) == 35 || documents (first_of b (close_of curly)).kind) ≡ false
 
 abbrev pub IsOfKind : BlockKind → Trees → Type 0
 IsOfKind functions b = IsPlainBlock b
@@ -278,19 +278,19 @@ IsOfKind _ b = Unit {0}
 
 -- a `_` behind a constant's name would be read with it
 abbrev pub IsValue : ValueKind → Trees → Type 0
-IsValue constants t = bytes_eq (text_of (first_of t (mark 59))) (codes "_") ≡ false
+IsValue constants t = bytes_eq (word_text (first_of t (mark 59))) (codes "_") ≡ false
 IsValue _ t = Unit {0}
 
 -- a field's type begins neither as an attribute, nor as what would go on with its visibility
 abbrev pub BeginsType : Scope → Word → Type 0
-BeginsType unwritten w = bytes_eq (text_of w) (codes "pub") ≡ false
-BeginsType everywhere w = (symbol_of w == 40) ≡ false
+BeginsType unwritten w = bytes_eq (word_text w) (codes "pub") ≡ false
+BeginsType everywhere w = (symbol_of_word w == 40) ≡ false
 BeginsType _ w = Unit {0}
 
 pub record IsField (f : Field) : Type 0 where
   pub passed : IsFieldType f.of_type
   pub begins : BeginsType f.scope (first_of f.of_type (mark 44))
-  pub plain : (symbol_of (first_of f.of_type (mark 44)) == 35 || documents (first_of f.of_type (mark 44)).kind) ≡ false
+  pub plain : (symbol_of_word (first_of f.of_type (mark 44)) == 35 || documents (first_of f.of_type (mark 44)).kind) ≡ false
 
 abbrev pub AreFields : List Field → Type 0
 AreFields [] = Unit {0}

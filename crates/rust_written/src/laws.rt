@@ -1,6 +1,6 @@
 //! What follows from the definitions; the functions do nothing.
 
-ghost use Rattle.rust_written.specs.Laws.{ReadAgain, TypingInside, Writable};
+ghost use Rattle.rust_written.specs.Laws.{ReadAgain, TypingBetween, Writable};
 ghost use Rattle.rust_written.specs.Round.{TokensAgain};
 ghost use Rattle.rust_written.specs.Standing.{WordsStand, MarksStand};
 
@@ -11,7 +11,7 @@ fn read_again()
 
 // Typing inside an item changes no syntax but for its body texts.
 fn typing_inside()
-    ensures { TypingInside }
+    ensures { TypingBetween }
 {}
 
 // Items of ASCII have a text, and so are read again.

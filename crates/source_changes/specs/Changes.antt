@@ -7,7 +7,7 @@ use Rattle.rust_items.specs.SourceFiles.{IsSourceFile}
 use Rattle.item_changes.specs.ChangeWords.{change_word, side_of}
 use Rattle.source_rows.specs.Changes.{RowChange, row_changes}
 use Rattle.source_rows.specs.Skeletons.{skeleton}
-use Rattle.source_rows.specs.Parts.{Part, parts}
+use Rattle.source_rows.specs.Parts.{Part, item_parts}
 use Rattle.source_rows.specs.Rows.{bodies, part_rows}
 use Rattle.source_rows.specs.Sources.{Source, place_at}
 use Rattle.source_changes.specs.declared.Compared.{Compared}
@@ -16,7 +16,7 @@ use Rattle.source_changes.specs.declared.Compared.{Compared}
 
 -- the items of a text of an edition, as its reader gives them, and their members
 abbrev pub AreParts : EditionYear → List ℕ → List Part → Type 0
-AreParts edition text ps = (file : SourceFile) × IsSourceFile edition text file × (ps ≡ parts edition text file.places.items)
+AreParts edition text ps = (file : SourceFile) × IsSourceFile edition text file × (ps ≡ item_parts edition text file.places.items)
 
 -- every token but those between the braces of functions, comments, and documentation unless it is asked for
 abbrev pub seen_texts : Bool → List ℕ → List Part → List (List ℕ)

@@ -16,7 +16,7 @@ use Rattle.rust_cursor.specs.Brackets.{behind_closed}
 use Rattle.rust_cursor.specs.Elements.{most, beyond, turns_from, turns, elements, one}
 use Rattle.rust_cursor.proofs.Leads.{LeadsTo, here, further, through, when, bumped_leads, eat_pair_leads, behind_closed_leads, behind_tree_leads, beyond_leads}
 use Rattle.rust_paths.specs.Paths.{use_path}
-use Rattle.rust_paths.specs.UseTrees.{Found, begun, begun_list, values, all_starts, bare, listed, star_or_list, tree_behind, tree_with, tree_at, element_with, list, comma_from, behind_comma, rename, use_tree}
+use Rattle.rust_paths.specs.UseTrees.{FoundInUse, begun_trees, begun_list, values, all_starts, bare_tree, tree_with_list, star_or_list, tree_behind, tree_with, tree_at, element_with, list, tree_comma_from, tree_behind_comma, rename, use_tree}
 use Rattle.rust_paths.proofs.Leads.{use_path_leads, rename_leads}
 use Rattle.rust_items.proofs.UsesTold.{counted}
 use Rattle.source_listing.specs.Told.{nodes_of, kept_nodes, IsReadAt, AreToldFor}
@@ -94,13 +94,13 @@ module _ (R : ℕ → Tree → Type 0) (start : ℕ) where
   Root : Option UseTreeView → Type 0
   Root w = (t : Tree) → option_and_then kept_tree w ≡ Some t → R start t
 
-  star_at : (p : Option PathNode) → Root (Some (bare p true None)) → AllZip R (begun p start []) (kept_nodes (Some (bare p true None)))
+  star_at : (p : Option PathNode) → Root (Some (bare_tree p true None)) → AllZip R (begun_trees p start []) (kept_nodes (Some (bare_tree p true None)))
   unfolding Root
   star_at None root = (root _ refl, tt)
   star_at (Some Unreadable) root = tt
   star_at (Some (Readable q)) root = (root _ refl, tt)
 
-  path_at : (p : Option PathNode) (r : Option Rename) → is_none p ≡ false → Root (Some (bare p false r)) → AllZip R (begun p start []) (kept_nodes (Some (bare p false r)))
+  path_at : (p : Option PathNode) (r : Option Rename) → is_none p ≡ false → Root (Some (bare_tree p false r)) → AllZip R (begun_trees p start []) (kept_nodes (Some (bare_tree p false r)))
   unfolding Root
   path_at None r e root = absurd cc
   path_at (Some Unreadable) r e root = tt
@@ -109,7 +109,7 @@ module _ (R : ℕ → Tree → Type 0) (start : ℕ) where
   none_below : (ss : List ℕ) → ss ≡ [] → AllZip R ss []
   none_below ss e = subst (λ (l : List ℕ). AllZip R l []) (sym e) tt
 
-  listed_at : (p : Option PathNode) (ss : List ℕ) (l : Option (List UseTreeView)) → IsListed R ss l → Root (listed p l) → AllZip R (begun_list p start l ss) (kept_nodes (listed p l))
+  listed_at : (p : Option PathNode) (ss : List ℕ) (l : Option (List UseTreeView)) → IsListed R ss l → Root (tree_with_list p l) → AllZip R (begun_list p start l ss) (kept_nodes (tree_with_list p l))
   unfolding IsListed Root
   listed_at None ss None h root = tt
   listed_at (Some Unreadable) ss None h root = tt
@@ -120,11 +120,11 @@ module _ (R : ℕ → Tree → Type 0) (start : ℕ) where
 
 -- ---- what is told of what is read
 
-record ListTold (ts : Tokens) (l : Found (Option (List UseTreeView)) × Tokens) : Type 0 where
+record ListTold (ts : Tokens) (l : FoundInUse (Option (List UseTreeView)) × Tokens) : Type 0 where
   each : IsListed (IsFound ts) l.0.starts l.0.value
   leads : LeadsTo ts l.1
 
-record TreeTold (ts : Tokens) (t : Found (Option UseTreeView) × Tokens) : Type 0 where
+record TreeTold (ts : Tokens) (t : FoundInUse (Option UseTreeView) × Tokens) : Type 0 where
   each : AllZip (IsFound ts) t.0.starts (kept_nodes t.0.value)
   leads : LeadsTo ts t.1
 
@@ -132,28 +132,28 @@ either_none : (a b : Bool) → (a || b) ≡ false → b ≡ false
 either_none true b e = absurd cc
 either_none false b e = e
 
-comma_from_leads : (n : ℕ) (ts : Tokens) → LeadsTo ts (comma_from n ts)
+comma_from_leads : (n : ℕ) (ts : Tokens) → LeadsTo ts (tree_comma_from n ts)
 comma_from_leads zero ts = here
 comma_from_leads (suc n) ts =
     when (is_at_end ts) (λ e. rw e here)
     (λ e. rw e (when (symbol ts == 44) (λ f. rw f (bumped_leads ts)) (λ f. rw f (through (behind_tree_leads ts) (comma_from_leads n _)))))
 
-comma_leads : (ts : Tokens) → LeadsTo ts (behind_comma ts)
-unfolding behind_comma
+comma_leads : (ts : Tokens) → LeadsTo ts (tree_behind_comma ts)
+unfolding tree_behind_comma
 comma_leads ts = comma_from_leads _ ts
 
-module _ (read : Reader (Found (Option (List UseTreeView)))) (h : (ts : Tokens) → ListTold ts (read ts)) where
+module _ (read : Reader (FoundInUse (Option (List UseTreeView)))) (h : (ts : Tokens) → ListTold ts (read ts)) where
   -- of a tree that begins there, behind its path
   module _ (ts : Tokens) where
     star_told : (p : Option PathNode) (us : Tokens) → LeadsTo ts us → Root (IsFound ts) (at ts) (star_or_list read (at ts) p us).0.value → TreeTold ts (star_or_list read (at ts) p us)
     star_told p us leads root =
         when (symbol us == 42)
         (λ e.
-        let v : (star_or_list read (at ts) p us).0.value ≡ Some (bare p true None) = rw e refl in
+        let v : (star_or_list read (at ts) p us).0.value ≡ Some (bare_tree p true None) = rw e refl in
         let all = star_at (IsFound ts) (at ts) p (subst (Root (IsFound ts) (at ts)) v root) in
         rw e (record { each = all; leads = through leads (bumped_leads us) }))
         (λ e.
-        let v : (star_or_list read (at ts) p us).0.value ≡ listed p (read us).0.value = rw e refl in
+        let v : (star_or_list read (at ts) p us).0.value ≡ tree_with_list p (read us).0.value = rw e refl in
         let inner = listed_is (IsFound us) (IsFound ts) (later leads) (read us).0.starts (read us).0.value (h us).each in
         let all = listed_at (IsFound ts) (at ts) p (read us).0.starts (read us).0.value inner (subst (Root (IsFound ts) (at ts)) v root) in
         rw e (record { each = all; leads = through leads (h us).leads }))
@@ -167,7 +167,7 @@ module _ (read : Reader (Found (Option (List UseTreeView)))) (h : (ts : Tokens) 
         let all = star_told p us leads (subst (Root (IsFound ts) (at ts)) v root) in
         rw e all)
         (λ e.
-        let v : (tree_behind read (at ts) p joined us).0.value ≡ Some (bare p false (rename us).0) = rw e refl in
+        let v : (tree_behind read (at ts) p joined us).0.value ≡ Some (bare_tree p false (rename us).0) = rw e refl in
         let all = path_at (IsFound ts) (at ts) p (rename us).0 (either_none joined (is_none p) e) (subst (Root (IsFound ts) (at ts)) v root) in
         rw e (record { each = all; leads = through leads (rename_leads us) }))
 
@@ -183,23 +183,23 @@ module _ (depth : ℕ) (h : (ts : Tokens) → ListTold ts (list depth ts)) where
 
 -- ---- lists
 
-values_push : (fs : List (Found (Option UseTreeView))) (f : Found (Option UseTreeView)) → values (fs ++ f ∷ []) ≡ values fs ++ option_to_list f.value
+values_push : (fs : List (FoundInUse (Option UseTreeView))) (f : FoundInUse (Option UseTreeView)) → values (fs ++ f ∷ []) ≡ values fs ++ option_to_list f.value
 values_push [] f = append-nil (option_to_list f.value)
 values_push (g ∷ fs) f = ap (λ ws. option_to_list g.value ++ ws) (values_push fs f) ∙ sym (append_assoc (option_to_list g.value) (values fs) (option_to_list f.value))
 
-starts_push : (fs : List (Found (Option UseTreeView))) (f : Found (Option UseTreeView)) → all_starts (fs ++ f ∷ []) ≡ all_starts fs ++ f.starts
+starts_push : (fs : List (FoundInUse (Option UseTreeView))) (f : FoundInUse (Option UseTreeView)) → all_starts (fs ++ f ∷ []) ≡ all_starts fs ++ f.starts
 starts_push [] f = append-nil f.starts
 starts_push (g ∷ fs) f = ap (λ ss. g.starts ++ ss) (starts_push fs f) ∙ sym (append_assoc g.starts (all_starts fs) f.starts)
 
-nodes_push : (fs : List (Found (Option UseTreeView))) (f : Found (Option UseTreeView)) → nodes_in (values (fs ++ f ∷ [])) ≡ nodes_in (values fs) ++ kept_nodes f.value
+nodes_push : (fs : List (FoundInUse (Option UseTreeView))) (f : FoundInUse (Option UseTreeView)) → nodes_in (values (fs ++ f ∷ [])) ≡ nodes_in (values fs) ++ kept_nodes f.value
 nodes_push fs f = ap nodes_in (values_push fs f) ∙ nodes_both (values fs) (option_to_list f.value) ∙ ap (λ ns. nodes_in (values fs) ++ ns) (option_nodes f.value)
 
-module _ (read : Reader (Found (Option UseTreeView))) (h : (ts : Tokens) → TreeTold ts (read ts)) (base : Tokens) where
-  record AreTold (l : List (Found (Option UseTreeView)) × Tokens) : Type 0 where
+module _ (read : Reader (FoundInUse (Option UseTreeView))) (h : (ts : Tokens) → TreeTold ts (read ts)) (base : Tokens) where
+  record AreTold (l : List (FoundInUse (Option UseTreeView)) × Tokens) : Type 0 where
     each : AllZip (IsFound base) (all_starts l.0) (nodes_in (values l.0))
     leads : LeadsTo base l.1
 
-  more_told : (fs : List (Found (Option UseTreeView))) (ts : Tokens) → LeadsTo base ts → AllZip (IsFound base) (all_starts fs) (nodes_in (values fs))
+  more_told : (fs : List (FoundInUse (Option UseTreeView))) (ts : Tokens) → LeadsTo base ts → AllZip (IsFound base) (all_starts fs) (nodes_in (values fs))
       → AllZip (IsFound base) (all_starts (fs ++ (read ts).0 ∷ [])) (nodes_in (values (fs ++ (read ts).0 ∷ [])))
   more_told fs ts p e =
       let f = (read ts).0 in
@@ -207,7 +207,7 @@ module _ (read : Reader (Found (Option UseTreeView))) (h : (ts : Tokens) → Tre
       let both = both_zip (IsFound base) (all_starts fs) f.starts (nodes_in (values fs)) (kept_nodes f.value) e here in
       subst (λ (ss : List ℕ). AllZip (IsFound base) ss (nodes_in (values (fs ++ f ∷ [])))) (sym (starts_push fs f)) (subst (AllZip (IsFound base) (all_starts fs ++ f.starts)) (sym (nodes_push fs f)) both)
 
-  turns_told : (n : ℕ) (fs : List (Found (Option UseTreeView))) (ts : Tokens) → LeadsTo base ts → AllZip (IsFound base) (all_starts fs) (nodes_in (values fs)) → AreTold (turns_from is_at_end (one read) n fs ts)
+  turns_told : (n : ℕ) (fs : List (FoundInUse (Option UseTreeView))) (ts : Tokens) → LeadsTo base ts → AllZip (IsFound base) (all_starts fs) (nodes_in (values fs)) → AreTold (turns_from is_at_end (one read) n fs ts)
   turns_told zero fs ts p e = record { each = e; leads = p }
   turns_told (suc n) fs ts p e =
       when (is_at_end ts) (λ s. rw s (record { each = e; leads = p }))

@@ -17,7 +17,7 @@ use Rattle.rust_ids.specs.Ids.{kind_place}
 use Rattle.source_listing.specs.declared.repeated.Key as code_key
 use Rattle.source_listing.specs.declared.repeated.Named as code_named
 use Rattle.source_listing.specs.Repeated.{Named, is_alike, first_alike}
-use Rattle.source_listing.specs.Inner.{Key, key_view, id_key, key, is_around, has_key, same_key, Firsts, first_in, PutsFirst, FindsFirsts, named_view}
+use Rattle.source_listing.specs.Inner.{NamedKey, named_key_view, id_key, key, is_around, has_named_key, same_named_key, Firsts, first_in, PutsFirst, FindsFirsts, listed_named_view}
 
 never : {P : Type 0} → (P → ⊥) → Decides false P
 never f = (λ h. absurd (false≢true h), λ p. absurd (f p))
@@ -43,7 +43,7 @@ some_decide test d (Some a) (Some b) = Decides-like _ (ap Some) (λ e. cc) (d a 
 some_decide test d None (Some b) = never (λ e. cc)
 some_decide test d (Some a) None = never (λ e. cc)
 
-keys_decide : DecidesEqOf key_view same_key
+keys_decide : DecidesEqOf named_key_view same_named_key
 keys_decide a b =
     Decides-like _ (λ p i. record { around = p.0 i; text = p.1 i }) (λ e. (ap (λ k. k.around) e, ap (λ k. k.text) e))
     (Decides-and _ _ (some_decide (λ x y. (x.0 == y.0 && x.1 == y.1) && x.2 == y.2) fields_decide a.around b.around) (texts_decide a.text.now b.text.now))
@@ -54,20 +54,20 @@ around_decides (Some a) (Some id) = Decides-like _ (ap Some) (λ e. cc) (triple_
 around_decides None (Some id) = never (λ e. cc)
 around_decides (Some a) None = never (λ e. cc)
 
-key_decides : (k : Key) (x : Named) → Decides (has_key k x) (k ≡ key x)
+key_decides : (k : NamedKey) (x : Named) → Decides (has_named_key k x) (k ≡ key x)
 key_decides k x =
     Decides-like _ (λ p i. record { around = p.0 i; text = p.1 i }) (λ e. (ap (λ z. z.around) e, ap (λ z. z.text) e))
     (Decides-and _ _ (around_decides k.around x.around) (texts_decide k.text x.text))
 
-key_is : (k q : code_key.Key) (x : Named) → key_view k ≡ key x → same_key k q ≡ has_key (key_view q) x
-key_is k q x e = same_from_decides (same_key k q) (has_key (key_view q) x) (Decides-like _ (λ p. sym p ∙ e) (λ p. e ∙ sym p) (keys_decide k q)) (key_decides (key_view q) x)
+key_is : (k q : code_key.Key) (x : Named) → named_key_view k ≡ key x → same_named_key k q ≡ has_named_key (named_key_view q) x
+key_is k q x e = same_from_decides (same_named_key k q) (has_named_key (named_key_view q) x) (Decides-like _ (λ p. sym p ∙ e) (λ p. e ∙ sym p) (keys_decide k q)) (key_decides (named_key_view q) x)
 
-key_same : (k q z : code_key.Key) → same_key k q ≡ true → same_key k z ≡ same_key q z
-key_same k q z h = let e : key_view k ≡ key_view q = (keys_decide k q).0 h in same_from_decides (same_key k z) (same_key q z) (keys_decide k z) (Decides-like _ (λ p. e ∙ p) (λ p. sym e ∙ p) (keys_decide q z))
+key_same : (k q z : code_key.Key) → same_named_key k q ≡ true → same_named_key k z ≡ same_named_key q z
+key_same k q z h = let e : named_key_view k ≡ named_key_view q = (keys_decide k q).0 h in same_from_decides (same_named_key k z) (same_named_key q z) (keys_decide k z) (Decides-like _ (λ p. e ∙ p) (λ p. sym e ∙ p) (keys_decide q z))
 
 -- a table has the same at keys that are one
-first_same : (table : Firsts) (k q : code_key.Key) → same_key k q ≡ true → first_in table k ≡ first_in table q
-first_same table k q h = λ i. option_map (λ n. named_view n.now) (get_by (λ z. key_same k q z h i) table)
+first_same : (table : Firsts) (k q : code_key.Key) → same_named_key k q ≡ true → first_in table k ≡ first_in table q
+first_same table k q h = λ i. option_map (λ n. listed_named_view n.now) (get_by (λ z. key_same k q z h i) table)
 
 -- ---- one more import
 
@@ -78,21 +78,21 @@ or-first (Some z) x y e = refl
 -- there is one of its key
 pub put_none : (table : Firsts) (k : code_key.Key) (x : Named) (y : Named) → first_in table k ≡ Some y → PutsFirst table table k x
 put_none table k x y e q =
-    ⊎_elim (λ (t : same_key k q ≡ true). rw t (or-first (first_in table q) x y (sym (first_same table k q t) ∙ e))) (λ (t : same_key k q ≡ false). rw t refl) (cases_Bool (same_key k q))
+    ⊎_elim (λ (t : same_named_key k q ≡ true). rw t (or-first (first_in table q) x y (sym (first_same table k q t) ∙ e))) (λ (t : same_named_key k q ≡ false). rw t refl) (cases_Bool (same_named_key k q))
 
 -- there is none
 pub put_first : (old new : Firsts) (k : code_key.Key) (b : Bor code_named.Named) → first_in old k ≡ None
-    → ((q : code_key.Key) → get same_key new q ≡ cond (same_key k q) (Some b) (get same_key old q)) → PutsFirst old new k (named_view b.now)
+    → ((q : code_key.Key) → get same_named_key new q ≡ cond (same_named_key k q) (Some b) (get same_named_key old q)) → PutsFirst old new k (listed_named_view b.now)
 put_first old new k b e put q =
     ⊎_elim
-    (λ (t : same_key k q ≡ true).
+    (λ (t : same_named_key k q ≡ true).
     let none : first_in old q ≡ None = sym (first_same old k q t) ∙ e in
-    let here : get same_key new q ≡ Some b = put q ∙ ap (λ c. cond c (Some b) (get same_key old q)) t in
-    rw (t, none) (ap (option_map (λ (n : Bor code_named.Named). named_view n.now)) here))
-    (λ (t : same_key k q ≡ false).
-    let there : get same_key new q ≡ get same_key old q = put q ∙ ap (λ c. cond c (Some b) (get same_key old q)) t in
-    rw t (ap (option_map (λ (n : Bor code_named.Named). named_view n.now)) there))
-    (cases_Bool (same_key k q))
+    let here : get same_named_key new q ≡ Some b = put q ∙ ap (λ c. cond c (Some b) (get same_named_key old q)) t in
+    rw (t, none) (ap (option_map (λ (n : Bor code_named.Named). listed_named_view n.now)) here))
+    (λ (t : same_named_key k q ≡ false).
+    let there : get same_named_key new q ≡ get same_named_key old q = put q ∙ ap (λ c. cond c (Some b) (get same_named_key old q)) t in
+    rw t (ap (option_map (λ (n : Bor code_named.Named). listed_named_view n.now)) there))
+    (cases_Bool (same_named_key k q))
 
 last_or : (o : Option Named) (p : Named → Bool) (x : Named) (b : Bool) → b ≡ p x → (if b then option_or o (Some x) else o) ≡ option_or o (find p (x ∷ []))
 last_or o p x true e = rw (← e) refl
@@ -100,31 +100,31 @@ last_or None p x false e = rw (← e) refl
 last_or (Some y) p x false e = refl
 
 -- the table finds the first ones of one more
-pub finds_more : (old new : Firsts) (xs : List Named) (k : code_key.Key) (x : Named) → key_view k ≡ key x → PutsFirst old new k x → FindsFirsts old xs → FindsFirsts new (xs ++ x ∷ [])
+pub finds_more : (old new : Firsts) (xs : List Named) (k : code_key.Key) (x : Named) → named_key_view k ≡ key x → PutsFirst old new k x → FindsFirsts old xs → FindsFirsts new (xs ++ x ∷ [])
 finds_more old new xs k x e put finds q =
-    let p = has_key (key_view q) in
-    put q ∙ ap (λ o. if same_key k q then option_or o (Some x) else o) (finds q)
-    ∙ last_or (find p xs) p x (same_key k q) (key_is k q x e) ∙ sym (find-append p xs (x ∷ []))
+    let p = has_named_key (named_key_view q) in
+    put q ∙ ap (λ o. if same_named_key k q then option_or o (Some x) else o) (finds q)
+    ∙ last_or (find p xs) p x (same_named_key k q) (key_is k q x e) ∙ sym (find-append p xs (x ∷ []))
 
 -- ---- imports that are alike have one key
 
-alike_around : (x y : Option FileAstId) (a b : List ℕ) → is_alike (record { around = x; spot = None; text = a }) (record { around = y; spot = None; text = b }) ≡ has_key (key (record { around = x; spot = None; text = a })) (record { around = y; spot = None; text = b })
+alike_around : (x y : Option FileAstId) (a b : List ℕ) → is_alike (record { around = x; spot = None; text = a }) (record { around = y; spot = None; text = b }) ≡ has_named_key (key (record { around = x; spot = None; text = a })) (record { around = y; spot = None; text = b })
 alike_around None None a b = refl
 alike_around None (Some y) a b = refl
 alike_around (Some x) None a b = refl
 alike_around (Some x) (Some y) a b = refl
 
-alike_is : (x y : Named) → is_alike x y ≡ has_key (key x) y
+alike_is : (x y : Named) → is_alike x y ≡ has_named_key (key x) y
 alike_is x y = alike_around x.around y.around x.text y.text
 
 -- what is found of its key is the first that is alike
-pub first_is : (table : Firsts) (xs : List Named) (k : code_key.Key) (x : Named) → key_view k ≡ key x → FindsFirsts table xs → first_in table k ≡ first_alike x xs
-first_is table xs k x e finds = finds k ∙ ap (λ z. find (has_key z) xs) e ∙ (λ i. find (λ y. sym (alike_is x y) i) xs)
+pub first_is : (table : Firsts) (xs : List Named) (k : code_key.Key) (x : Named) → named_key_view k ≡ key x → FindsFirsts table xs → first_in table k ≡ first_alike x xs
+first_is table xs k x e finds = finds k ∙ ap (λ z. find (has_named_key z) xs) e ∙ (λ i. find (λ y. sym (alike_is x y) i) xs)
 
 -- ---- along a list
 
 pub finds_next : {A : Type 0} (f : A → Named) (old new : Firsts) (xs : List A) (i : ℕ) (x : A) (k : code_key.Key) → i < length xs → slice_index_or xs i x ≡ x
-    → key_view k ≡ key (f x) → PutsFirst old new k (f x) → FindsFirsts old (map f (take i xs)) → FindsFirsts new (map f (take (i + 1) xs))
+    → named_key_view k ≡ key (f x) → PutsFirst old new k (f x) → FindsFirsts old (map f (take i xs)) → FindsFirsts new (map f (take (i + 1) xs))
 finds_next f old new xs i x k l g e put finds =
     let more : take (i + 1) xs ≡ take i xs ++ x ∷ [] = take_more xs i x l ∙ ap (λ y. take i xs ++ y ∷ []) g in
     subst (FindsFirsts new) (sym (ap (map f) more ∙ map-append f (take i xs) (x ∷ []))) (finds_more old new (map f (take i xs)) k (f x) e put finds)

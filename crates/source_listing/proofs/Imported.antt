@@ -11,8 +11,8 @@ use Rattle.def_collector.specs.Declarations.{declarations}
 use Rattle.def_collector.specs.DeclarationView.{DeclarationView, view_of}
 use Rattle.source_listing.specs.Lines.{Source}
 use Rattle.source_listing.specs.declared.finder.Spot.{Spot}
-use Rattle.source_listing.specs.Imports.{import_line, import_lines, of_seen, of_uses, seen_lines}
-use Rattle.source_listing.specs.Inner.{IsSameTreeFinder, IsTreeFinderOf, places_in, text_in}
+use Rattle.source_listing.specs.Imports.{placed_import_line, import_lines, of_seen, of_uses, seen_lines}
+use Rattle.source_listing.specs.Inner.{IsSameTreeFinder, IsTreeFinderOf, places_in, finder_text}
 use Rattle.source_listing.specs.Uses.{FilePlaces, placed}
 use Rattle.source_listing.specs.declared.uses.TreeFinder.{TreeFinder}
 
@@ -25,7 +25,7 @@ seen_of_all each see text places ds f e =
 -- the lines of what is collected are those of what is declared
 pub lines_of_all : {D : Type 0} (see : D → DeclarationView) (s : Source) (reserved : List (List ℕ)) (places : FilePlaces) (ds : List D) (f : Forest)
     → map see ds ≡ map view_of (declarations f) → flat_map (λ d. seen_lines s reserved places (see d)) ds ≡ import_lines s reserved places f
-lines_of_all see s reserved places ds f e = seen_of_all (import_line s.path reserved) see s.text places ds f e
+lines_of_all see s reserved places ds f e = seen_of_all (placed_import_line s.path reserved) see s.text places ds f e
 
 -- what is collected is contained, each by itself
 pub contained_at : {D : Type 0} (P : ℕ → Type 0) (id : D → ℕ) (ds : List D) (i : ℕ) (d : D) → All P (map id ds) → i < length ds → slice_index_or ds i d ≡ d → P (id d)
@@ -46,7 +46,7 @@ one_more_seen told ds i d before after l g e n =
 
 -- what is told by the places that are found in a text is told by those of the text
 pub seen_by_finder : {A : Type 0} (each : (ℕ → Option Spot) → Import → List A) (text : List ℕ) (places : FilePlaces) (f : TreeFinder) (d : DeclarationView) → IsTreeFinderOf text places f
-    → of_seen each (text_in f) (places_in f) d ≡ of_seen each text places d
+    → of_seen each (finder_text f) (places_in f) d ≡ of_seen each text places d
 seen_by_finder each text places f d is =
     ap (λ t. of_seen each t (places_in f) d) is.0.0 ∙ ap (λ ps. of_seen each text (placed ps f.uses.all.now) d) is.0.1 ∙ ap (λ us. of_seen each text (placed places.items us) d) is.1
 

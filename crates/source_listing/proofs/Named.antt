@@ -3,7 +3,7 @@ use Rattle.std.proofs.Common.{◌≡◌, ℕ, ◌≤◌, ◌-◌, List, [], ◌�
 use Rattle.std.specs.Str.Pattern.{FindsTextPrefix, StripsPrefix}
 use Rattle.std.specs.Prelude.{slice_index_or}
 use Rattle.std.proofs.lemmas.Str.Pattern.{starts_text}
-use Rattle.source_listing.specs.Search.{segment}
+use Rattle.source_listing.specs.Search.{bare_segment}
 use Rattle.source_listing.specs.Sought.{joined_names, name_before, text_behind}
 
 -- the clause of `strip_prefix` at a text
@@ -27,11 +27,11 @@ read_more done name (Some path) = ap Some (sym (append_assoc done name path))
 
 -- one more name is read, and what stands behind it is left
 pub read_next : (ws : List (Bor (List ℕ))) (d e name : Bor (List ℕ)) (found : Option (Bor (List ℕ))) (all : Option (List ℕ)) (done more : List ℕ) → 2 ≤ length ws → all ≡ read_before done (joined_names (map (λ w. w.now) ws))
-    → option_map (λ x. x.now) found ≡ name_before (slice_index_or ws 1 d).now (slice_index_or ws 0 e).now → found ≡ Some name → more ≡ done ++ segment name.now
+    → option_map (λ x. x.now) found ≡ name_before (slice_index_or ws 1 d).now (slice_index_or ws 0 e).now → found ≡ Some name → more ≡ done ++ bare_segment name.now
     → all ≡ read_before more (joined_names (map (λ w. w.now) (take (length ws - 2) (drop 2 ws))))
 read_next [] d e name found all done more l a f n m = absurd (omega arith)
 read_next (word ∷ []) d e name found all done more l a f n m = absurd (omega arith)
 read_next (word ∷ gap ∷ rest) d e name found all done more l a f n m =
     let is : name_before gap.now word.now ≡ Some name.now = sym f ∙ ap (option_map (λ x. x.now)) n in
     let left : take (length (word ∷ gap ∷ rest) - 2) (drop 2 (word ∷ gap ∷ rest)) ≡ rest = take_all (length (word ∷ gap ∷ rest) - 2) rest (omega arith) in
-    a ∙ rw (is, left, m) (read_more done (segment name.now) (joined_names (map (λ w. w.now) rest)))
+    a ∙ rw (is, left, m) (read_more done (bare_segment name.now) (joined_names (map (λ w. w.now) rest)))

@@ -12,7 +12,7 @@ use Rattle.tree_walk.specs.Rows.{is_file_enabled}
 use Rattle.item_tree.specs.Walk.{children, children_at}
 use Rattle.item_tree.proofs.Walking.{flat_map_of_id}
 use Rattle.rust_items.specs.declared.source_file.ItemPlace.{ItemPlace}
-use Rattle.source_rows.specs.Listed.{Reading, header_of, members_of}
+use Rattle.source_rows.specs.Listed.{MemberReading, header_of, members_of}
 use Rattle.source_listing.specs.Lines.{Choice, Source, is_chosen}
 use Rattle.source_listing.specs.Places.{place_of, spot_at}
 use Rattle.source_listing.specs.Objects.{ItemView, item_in, item_entry, member_objects, entry_object, whole_object, own_objects, node_objects, listed_objects, tree_objects}
@@ -22,7 +22,7 @@ use Rattle.source_listing.specs.declared.lines.Printer.{Printer}
 use Rattle.source_listing.specs.Inner.{IsPrinterOf, file_of, item_at, objects_at, places_of, reserved_of}
 use Rattle.source_listing.proofs.Printers.{file_is}
 
-module _ (s : Source) (x : Reading) (reserved : List (List ℕ)) (places : List ItemPlace) (c : Choice) where
+module _ (s : Source) (x : MemberReading) (reserved : List (List ℕ)) (places : List ItemPlace) (c : Choice) where
   forest_is : (level : ℕ) (a : Bool) (f : Forest) → flat_map (node_objects s x reserved places c level a) (nodes f) ≡ listed_objects s x reserved places c level a f
   forest_is level a empty = refl
   forest_is level a (more n f) = ap (λ ds. node_objects s x reserved places c level a n ++ ds) (forest_is level a f)
@@ -89,7 +89,7 @@ module _ (s : Source) (x : Reading) (reserved : List (List ℕ)) (places : List 
 -- ---- under printers
 
 -- of all ids by a printer that is made for a file
-pub objects_are : (s : Source) (places : List ItemPlace) (edition : Edition) (p : Printer) (x : Reading) (c : Choice) (u : Unfolding) (a : Bool) (is : List ℕ) (none ds : List Data) → IsPrinterOf s places edition p
+pub objects_are : (s : Source) (places : List ItemPlace) (edition : Edition) (p : Printer) (x : MemberReading) (c : Choice) (u : Unfolding) (a : Bool) (is : List ℕ) (none ds : List Data) → IsPrinterOf s places edition p
     → StandFor u is u.forest → a ≡ is_file_enabled u → none ≡ [] → ds ≡ none ++ flat_map (objects_at (file_of p) x (reserved_of p) (places_of p) c u 0 a) is → ds ≡ tree_objects s x edition.reserved.items places c u
 objects_are s places edition p x c u a is none ds h f t g e =
     e ∙ ap (λ xs. xs ++ flat_map (objects_at (file_of p) x (reserved_of p) (places_of p) c u 0 a) is) g

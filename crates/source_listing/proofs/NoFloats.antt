@@ -16,7 +16,7 @@ use Rattle.item_tree.specs.Node.{Node, leaf, parent, Forest, empty, more, node_a
 use Rattle.tree_walk.specs.Rows.{Subject, no_subject, used, called, is_file_enabled}
 use Rattle.rust_items.specs.declared.log.Problem.{Problem}
 use Rattle.rust_items.specs.declared.source_file.ItemPlace.{ItemPlace}
-use Rattle.source_rows.specs.Listed.{Listed, Reading, header_of, members_of}
+use Rattle.source_rows.specs.Listed.{Listed, MemberReading, header_of, members_of}
 use Rattle.source_listing.specs.declared.finder.Spot.{Spot}
 use Rattle.source_listing.specs.ImportObjects.{alias_form, import_form, import_object, seen_objects, import_objects}
 use Rattle.source_listing.specs.Uses.{FilePlaces}
@@ -105,7 +105,7 @@ member_none : (text : List ℕ) (reserved : List (List ℕ)) (m : Listed) → ha
 member_none text reserved m =
     object_none m.is_active (Some (member_spot text m)) (member_entry reserved m) no_items refl refl refl (visibility_none reserved (Some m.visibility)) refl
 
-module _ (s : Source) (x : Reading) (reserved : List (List ℕ)) (places : List ItemPlace) (c : Choice) where
+module _ (s : Source) (x : MemberReading) (reserved : List (List ℕ)) (places : List ItemPlace) (c : Choice) where
   at_none : (level : ℕ) (i : ItemView) (place : Option ItemPlace) (ds : List Data) → items_have_float (items_of ds) ≡ false → has_float (whole_object s x reserved places c level i place ds) ≡ false
   at_none level i place ds e =
       let members = member_objects s.text reserved c level (members_of x place i.is_active) in

@@ -7,13 +7,13 @@ use Rattle.std.proofs.lemmas.List.{map-append}
 use Rattle.std.proofs.lemmas.List.Elements.{filter-append}
 use Rattle.tree_walk.specs.Rows.{RowView}
 use Rattle.rust_items.specs.declared.source_file.ItemPlace.{ItemPlace}
-use Rattle.source_rows.specs.Listed.{Listed, Reading}
+use Rattle.source_rows.specs.Listed.{Listed, MemberReading}
 use Rattle.source_listing.specs.Lines.{Source, Choice, is_chosen, is_listed}
 use Rattle.source_listing.specs.Objects.{member_object, member_objects}
 use Rattle.source_listing.specs.Outlines.{Look, member_line, member_lines, outline_text, whole_lines}
 
 -- the lines of one more item
-pub one_more : (s : Source) (x : Reading) (reserved : List (List ℕ)) (places : List ItemPlace) (k : Look) (rs : List RowView) (r : RowView)
+pub one_more : (s : Source) (x : MemberReading) (reserved : List (List ℕ)) (places : List ItemPlace) (k : Look) (rs : List RowView) (r : RowView)
     → outline_text s x reserved places k (rs ++ r ∷ []) ≡ outline_text s x reserved places k rs ++ outline_text s x reserved places k (r ∷ [])
 one_more s x reserved places k rs r =
     ap (flat_map (whole_lines s x reserved places k)) (filter-append (is_listed k.choice) rs (r ∷ []))

@@ -8,9 +8,9 @@ use Rattle.tree_walk.specs.Rows.{RowView}
 use Rattle.rust_items.specs.declared.source_file.ItemPlace.{ItemPlace}
 use Rattle.source_listing.specs.Lines.{Source}
 use Rattle.std.proofs.lemmas.List.Folds.{flat_map-map}
-use Rattle.source_rows.specs.Listed.{Listed, Reading}
+use Rattle.source_rows.specs.Listed.{Listed, MemberReading}
 use Rattle.source_listing.specs.Tags.{scope_field}
-use Rattle.source_listing.specs.Search.{Query, segment, is_member_found, whole_found, found_lines, found_member, found_members}
+use Rattle.source_listing.specs.Search.{Query, bare_segment, is_member_found, whole_found, found_lines, found_member, found_members}
 
 -- a line, pushed part by part, of which the first has a place and blanks
 pub line_pushed : (o p i v w n e o1 o2 o3 o4 o5 : List ℕ) → o1 ≡ o ++ p ++ i → o2 ≡ o1 ++ v → o3 ≡ o2 ++ w → o4 ≡ o3 ++ n → o5 ≡ o4 ++ e
@@ -18,7 +18,7 @@ pub line_pushed : (o p i v w n e o1 o2 o3 o4 o5 : List ℕ) → o1 ≡ o ++ p ++
 line_pushed o p i v w n e o1 o2 o3 o4 o5 a b c d f = rw (f, d, c, b, a) (simp append_assoc)
 
 -- the lines of one more item and its members that are looked for
-pub one_more_found : (s : Source) (x : Reading) (reserved : List (List ℕ)) (places : List ItemPlace) (q : Query) (rs : List RowView) (r : RowView)
+pub one_more_found : (s : Source) (x : MemberReading) (reserved : List (List ℕ)) (places : List ItemPlace) (q : Query) (rs : List RowView) (r : RowView)
     → found_lines s x reserved places q (rs ++ r ∷ []) ≡ found_lines s x reserved places q rs ++ found_lines s x reserved places q (r ∷ [])
 one_more_found s x reserved places q rs r = flat_map-append (whole_found s x reserved places q) rs (r ∷ [])
 
@@ -30,10 +30,10 @@ one_more_found_member s reserved q r around ms m =
     ap (flat_map (found_member s reserved)) (filter-append (is_member_found q r around) ms (m ∷ []))
     ∙ flat_map-append (found_member s reserved) (filter (is_member_found q r around) ms) (filter (is_member_found q r around) (m ∷ []))
 
-pub segments_of : {A : Type 0} (f : A → List ℕ) (xs : List A) → flat_map segment (map f xs) ≡ flat_map (λ x. segment (f x)) xs
-segments_of f xs = flat_map-map segment f xs
+pub segments_of : {A : Type 0} (f : A → List ℕ) (xs : List A) → flat_map bare_segment (map f xs) ≡ flat_map (λ x. bare_segment (f x)) xs
+segments_of f xs = flat_map-map bare_segment f xs
 
 -- what a tag stands in, pushed one after another
-pub scope_pushed : {A : Type 0} (f : A → List ℕ) (xs : List A) (first : A) (rest : List A) (word o o1 o2 o3 o4 o5 : List ℕ) → xs ≡ first ∷ rest → o1 ≡ o ++ codes "\t" → o2 ≡ o1 ++ word → o3 ≡ o2 ++ codes ":" → o4 ≡ o3 ++ f first → o5 ≡ o4 ++ flat_map (λ x. segment (f x)) rest
+pub scope_pushed : {A : Type 0} (f : A → List ℕ) (xs : List A) (first : A) (rest : List A) (word o o1 o2 o3 o4 o5 : List ℕ) → xs ≡ first ∷ rest → o1 ≡ o ++ codes "\t" → o2 ≡ o1 ++ word → o3 ≡ o2 ++ codes ":" → o4 ≡ o3 ++ f first → o5 ≡ o4 ++ flat_map (λ x. bare_segment (f x)) rest
     → o5 ≡ o ++ scope_field word (map f xs)
 scope_pushed f xs first rest word o o1 o2 o3 o4 o5 e a b c d g = rw (e, g, d, c, b, a, ← segments_of f rest) (simp append_assoc)

@@ -13,7 +13,7 @@ use Rattle.item_tree.proofs.Walking.{flat_map_of_id, leaf_of_id, parent_of_id}
 use Rattle.item_tree.specs.Imports.{Import, imports}
 use Rattle.item_tree.specs.Tree.{Tree}
 use Rattle.source_listing.specs.Places.{place_of}
-use Rattle.source_listing.specs.Uses.{FilePlaces, Trees, trees_of, tree_spots, import_spot}
+use Rattle.source_listing.specs.Uses.{FilePlaces, Trees, use_trees_at, tree_spots, import_spot}
 use Rattle.source_listing.specs.Repeated.{Named, named_import, leaf_named, node_named, forest_named, first_alike, line_if_any, repeat_lines}
 use Rattle.source_listing.specs.Inner.{own_named, lent_named, own_named_at, named_at}
 
@@ -62,7 +62,7 @@ one_named text places reserved around u is (Some n) at e f =
 
 -- the imports of a use, by where its use trees stand
 pub own_use : (text text' : List ℕ) (places : FilePlaces) (reserved : List (List ℕ)) (around : Option FileAstId) (u : Unfolding) (i : ℕ) (a at : FileAstId) (v : ℕ) (t : Tree) (trees : Option Trees) (xs : List Import) (before after : List Named)
-    → IsLent u i (lent_leaf a (use_item v t)) → option_map node_ast (node_at u.forest i) ≡ Some at → text' ≡ text → trees ≡ option_map (trees_of places.use_trees) (place_of at places.items) → xs ≡ imports t
+    → IsLent u i (lent_leaf a (use_item v t)) → option_map node_ast (node_at u.forest i) ≡ Some at → text' ≡ text → trees ≡ option_map (use_trees_at places.use_trees) (place_of at places.items) → xs ≡ imports t
     → after ≡ before ++ map (named_import reserved around (tree_spots text' trees)) xs → after ≡ before ++ own_named_at text places reserved u around i
 own_use text text' places reserved around u i a at v t trees xs before after p q e f x g =
     g ∙ ap (λ z. before ++ map (named_import reserved around (tree_spots z trees)) xs) e ∙ ap (λ z. before ++ map (named_import reserved around (tree_spots text z)) xs) f

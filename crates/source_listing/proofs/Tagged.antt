@@ -7,12 +7,12 @@ use Rattle.std.proofs.lemmas.List.{take_more, map-append}
 use Rattle.std.proofs.lemmas.List.Elements.{filter-append}
 use Rattle.tree_walk.specs.Rows.{RowView}
 use Rattle.rust_items.specs.declared.source_file.ItemPlace.{ItemPlace}
-use Rattle.source_rows.specs.Listed.{Listed, Reading}
+use Rattle.source_rows.specs.Listed.{Listed, MemberReading}
 use Rattle.source_listing.specs.Lines.{Choice, is_chosen, is_listed}
 use Rattle.source_listing.specs.Tags.{if_any, member_tag, member_tags, tags_under, whole_tags}
 
 -- the tags of one more item
-pub one_more : (path text : List ℕ) (x : Reading) (places : List ItemPlace) (c : Choice) (rs : List RowView) (r : RowView)
+pub one_more : (path text : List ℕ) (x : MemberReading) (places : List ItemPlace) (c : Choice) (rs : List RowView) (r : RowView)
     → tags_under path text x places c (rs ++ r ∷ []) ≡ tags_under path text x places c rs ++ tags_under path text x places c (r ∷ [])
 one_more path text x places c rs r =
     ap (flat_map (whole_tags path text x places c)) (filter-append (is_listed c) rs (r ∷ []))

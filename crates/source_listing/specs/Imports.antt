@@ -23,8 +23,8 @@ import_text reserved kind.Glob path alias = shown_path reserved path ++ codes ":
 import_text reserved kind.TypeOnly path alias = shown_path reserved path ++ codes "::{self" ++ shown_rename reserved alias ++ codes "}"
 
 -- the place of its use tree, by the number of that, and the import
-abbrev pub import_line : List ℕ → List (List ℕ) → (ℕ → Option Spot) → Import → List ℕ
-import_line path reserved spots x = item_place path (spots x.index) ++ import_text reserved x.kind x.path x.alias ++ codes "\n"
+abbrev pub placed_import_line : List ℕ → List (List ℕ) → (ℕ → Option Spot) → Import → List ℕ
+placed_import_line path reserved spots x = item_place path (spots x.index) ++ import_text reserved x.kind x.path x.alias ++ codes "\n"
 
 abbrev pub spots_of_any : List ℕ → FilePlaces → Option FileAstId → ℕ → Option Spot
 spots_of_any text places None index = None
@@ -47,8 +47,8 @@ module _ {A : Type 0} (each : (ℕ → Option Spot) → Import → List A) where
 
 -- the lines of a declaration, of which a use alone has any
 abbrev pub seen_lines : Source → List (List ℕ) → FilePlaces → DeclarationView → List ℕ
-seen_lines s reserved places d = of_seen (import_line s.path reserved) s.text places d
+seen_lines s reserved places d = of_seen (placed_import_line s.path reserved) s.text places d
 
 -- the imports of all uses, in the order in which they are written
 abbrev pub import_lines : Source → List (List ℕ) → FilePlaces → Forest → List ℕ
-import_lines s reserved places f = of_uses (import_line s.path reserved) s.text places f
+import_lines s reserved places f = of_uses (placed_import_line s.path reserved) s.text places f

@@ -16,7 +16,7 @@ use Rattle.item_tree.specs.Walk.{of_id}
 use Rattle.tree_walk.specs.Views.{subject_view}
 use Rattle.rust_ids.specs.Ids.{kind_place}
 use Rattle.rust_items.specs.declared.source_file.ItemPlace.{ItemPlace}
-use Rattle.source_rows.specs.Listed.{Reading}
+use Rattle.source_rows.specs.Listed.{MemberReading}
 use Rattle.source_listing.specs.declared.json.Item as code_item
 use Rattle.source_listing.specs.declared.lines.Printer.{Printer}
 use Rattle.source_listing.specs.declared.finder.Finder.{Finder}
@@ -63,15 +63,15 @@ IsSameFile old new = (new.path ≡ old.path) × (new.edition ≡ old.edition) ×
 
 -- ---- objects by the ids of items
 
-abbrev pub item_view : code_item.Item → ItemView
-item_view x = record { id = x.id; name = option_copied x.name; subject = subject_view x.subject; visibility = option_copied x.visibility; is_active = x.is_active }
+abbrev pub shown_item_view : code_item.Item → ItemView
+shown_item_view x = record { id = x.id; name = option_copied x.name; subject = subject_view x.subject; visibility = option_copied x.visibility; is_active = x.is_active }
 
 -- the item of an id, alone in a list
 abbrev pub item_at : Unfolding → Bool → ℕ → List ItemView
 item_at u is_active i = of_id u [] (λ n. item_in is_active n ∷ []) i
 
 -- the objects of the item of an id
-abbrev pub objects_at : Source → Reading → List (List ℕ) → List ItemPlace → Choice → Unfolding → ℕ → Bool → ℕ → List Data
+abbrev pub objects_at : Source → MemberReading → List (List ℕ) → List ItemPlace → Choice → Unfolding → ℕ → Bool → ℕ → List Data
 objects_at s x reserved places c u level is_active i = of_id u [] (node_objects s x reserved places c level is_active) i
 
 -- the members of an object that tell what it is
@@ -91,17 +91,17 @@ placed_members is_active spot inner ms =
 
 -- ---- imports by the ids of items
 
-abbrev pub trees_view : code_trees.UseTrees → Trees
-trees_view t = record { place = t.place; starts = t.starts.now }
+abbrev pub placed_trees_view : code_trees.UseTrees → Trees
+placed_trees_view t = record { place = t.place; starts = t.starts.now }
 
-abbrev pub text_in : TreeFinder → List ℕ
-text_in f = f.finder.lines
+abbrev pub finder_text : TreeFinder → List ℕ
+finder_text f = f.finder.lines
 
 abbrev pub places_in : TreeFinder → FilePlaces
 places_in f = placed f.finder.places.all.now f.uses.all.now
 
 abbrev pub file_in : List ℕ → TreeFinder → Source
-file_in path f = record { path = path; text = text_in f }
+file_in path f = record { path = path; text = finder_text f }
 
 -- the use trees that are found are those of a text and of its items
 abbrev pub IsTreeFinderOf : List ℕ → FilePlaces → TreeFinder → Type 0
@@ -115,8 +115,8 @@ FindsTrees f = AreDistinct (places_in f).items
 abbrev pub IsSameTreeFinder : TreeFinder → TreeFinder → Type 0
 IsSameTreeFinder old new = IsSameFinder old.finder new.finder × (new.uses.all.now ≡ old.uses.all.now)
 
-abbrev pub named_view : code_named.Named → Named
-named_view x = record { around = x.around; spot = x.spot; text = string_bytes x.text }
+abbrev pub listed_named_view : code_named.Named → Named
+listed_named_view x = record { around = x.around; spot = x.spot; text = string_bytes x.text }
 
 module _ (text : List ℕ) (places : FilePlaces) (reserved : List (List ℕ)) where
   -- those of a node itself
@@ -138,17 +138,17 @@ module _ (text : List ℕ) (places : FilePlaces) (reserved : List (List ℕ)) wh
 
 -- ---- the first imports that are alike, by what they have in common
 
-pub record Key : Type 0 where
+pub record NamedKey : Type 0 where
   pub around : Option (ℕ × ℕ × ℕ)
   pub text : List ℕ
 
-abbrev pub key_view : code_key.Key → Key
-key_view k = record { around = k.around; text = k.text.now }
+abbrev pub named_key_view : code_key.Key → NamedKey
+named_key_view k = record { around = k.around; text = k.text.now }
 
 abbrev pub id_key : FileAstId → ℕ × ℕ × ℕ
 id_key id = (kind_place id.kind, id.hash, id.number)
 
-abbrev pub key : Named → Key
+abbrev pub key : Named → NamedKey
 key x = record { around = option_map id_key x.around; text = x.text }
 
 abbrev pub is_around : Option (ℕ × ℕ × ℕ) → Option FileAstId → Bool
@@ -156,22 +156,22 @@ is_around None None = true
 is_around (Some a) (Some id) = a.0 == kind_place id.kind && (a.1 == id.hash && a.2 == id.number)
 is_around _ _ = false
 
-abbrev pub has_key : Key → Named → Bool
-has_key k x = is_around k.around x.around && bytes_eq k.text x.text
+abbrev pub has_named_key : NamedKey → Named → Bool
+has_named_key k x = is_around k.around x.around && bytes_eq k.text x.text
 
-abbrev pub same_key : code_key.Key → code_key.Key → Bool
-same_key = keys.ghosts.eq
+abbrev pub same_named_key : code_key.Key → code_key.Key → Bool
+same_named_key = keys.ghosts.eq
 
 abbrev pub Firsts : Type 0
 Firsts = HashMap code_key.Key (Bor code_named.Named) (BuildHasherDefault FoldHasher)
 
 abbrev pub first_in : Firsts → code_key.Key → Option Named
-first_in table k = option_map (λ n. named_view n.now) (get same_key table k)
+first_in table k = option_map (λ n. listed_named_view n.now) (get same_named_key table k)
 
 -- this import is put in, unless one of its key is there
 abbrev pub PutsFirst : Firsts → Firsts → code_key.Key → Named → Type 0
-PutsFirst old new k x = (q : code_key.Key) → first_in new q ≡ (if same_key k q then option_or (first_in old q) (Some x) else first_in old q)
+PutsFirst old new k x = (q : code_key.Key) → first_in new q ≡ (if same_named_key k q then option_or (first_in old q) (Some x) else first_in old q)
 
 -- the table finds the first of each key among these imports
 abbrev pub FindsFirsts : Firsts → List Named → Type 0
-FindsFirsts table xs = (q : code_key.Key) → first_in table q ≡ find (has_key (key_view q)) xs
+FindsFirsts table xs = (q : code_key.Key) → first_in table q ≡ find (has_named_key (named_key_view q)) xs

@@ -67,9 +67,9 @@ visibility_text reserved (Some (PubSelf Implicit)) = []
 visibility_text reserved (Some (Module path e)) = visible_in reserved path ++ codes " "
 visibility_text reserved (Some v) = shown_visibility reserved v
 
-abbrev pub name_text : List (List ℕ) → Option (List ℕ) → List ℕ
-name_text reserved None = []
-name_text reserved (Some name) = codes " " ++ shown_name reserved name
+abbrev pub listed_name : List (List ℕ) → Option (List ℕ) → List ℕ
+listed_name reserved None = []
+listed_name reserved (Some name) = codes " " ++ shown_name reserved name
 
 -- a use tree in short: the trees of a list are left out
 abbrev pub short_tree : List (List ℕ) → Tree → List ℕ

@@ -18,7 +18,7 @@ use Rattle.line_index.specs.Positions.{position_of}
 use Rattle.rust_items.specs.declared.log.Problem.{Problem}
 use Rattle.rust_items.specs.declared.source_file.ItemPlace.{ItemPlace}
 use Rattle.source_rows.specs.Labels.{member_word}
-use Rattle.source_rows.specs.Listed.{Listed, Reading, header_of, members_of}
+use Rattle.source_rows.specs.Listed.{Listed, MemberReading, header_of, members_of}
 use Rattle.source_problems.specs.declared.problem.SourceProblemKind.{SourceProblemKind}
 use Rattle.source_problems.specs.Problems.{told_kind}
 use Rattle.source_listing.specs.declared.finder.Spot.{Spot}
@@ -131,7 +131,7 @@ member_objects text reserved c level ms = map (member_object text reserved) (fil
 abbrev pub file_form : List ℕ → Items → Data
 file_form path items = object (member (codes "items") (array items) (member (codes "path") (string path) no_members))
 
-module _ (s : Source) (x : Reading) (reserved : List (List ℕ)) (places : List ItemPlace) (c : Choice) where
+module _ (s : Source) (x : MemberReading) (reserved : List (List ℕ)) (places : List ItemPlace) (c : Choice) where
   -- the object of an item that stands there, around those of its listed members and then these
   abbrev pub whole_object : ℕ → ItemView → Option ItemPlace → List Data → Data
   whole_object level i place inner =

@@ -6,13 +6,13 @@ use Rattle.hir_input.specs.Cfg.{AtomView}
 use Rattle.tree_walk.specs.Rows.{RowView, Subject, no_subject}
 use Rattle.rust_items.specs.declared.source_file.ItemPlace.{ItemPlace}
 use Rattle.source_rows.specs.Labels.{member_word}
-use Rattle.source_rows.specs.Listed.{Listed, Reading, header_of, members_of}
+use Rattle.source_rows.specs.Listed.{Listed, MemberReading, header_of, members_of}
 use Rattle.source_listing.specs.Colors.{bold, colored, cyan, faint}
-use Rattle.source_listing.specs.Lines.{Choice, Source, indent, is_chosen, is_listed, line_end, name_text, place_at, stand_text, subject_text, visibility_text, item_word}
+use Rattle.source_listing.specs.Lines.{Choice, Source, indent, is_chosen, is_listed, line_end, listed_name, place_at, stand_text, subject_text, visibility_text, item_word}
 use Rattle.source_listing.specs.Places.{place_of}
 
 -- where the headers and the members of a file are read
-abbrev pub reading : Source → EditionYear → Option (List AtomView) → Reading
+abbrev pub reading : Source → EditionYear → Option (List AtomView) → MemberReading
 reading s year options = record { text = s.text; edition = year; options = options }
 
 -- which items have lines, and whether these are in colour
@@ -27,7 +27,7 @@ header_text (b ∷ bs) = codes " " ++ b ∷ bs
 
 -- what the word of a kind is followed by: the header of an impl, a name, or what else an item is told by
 abbrev pub title : List (List ℕ) → List ℕ → Option (List ℕ) → Subject → List ℕ
-title reserved header name subject = header_text header ++ name_text reserved name ++ subject_text reserved subject
+title reserved header name subject = header_text header ++ listed_name reserved name ++ subject_text reserved subject
 
 -- the line of an item: its place, four blanks for each item that it stands in, its visibility, the word of its kind, its title, and whether a cfg disables it
 abbrev pub item_line : Source → List (List ℕ) → Bool → Option ItemPlace → List ℕ → RowView → List ℕ
@@ -46,14 +46,14 @@ abbrev pub member_lines : Source → List (List ℕ) → Look → ℕ → List L
 member_lines s reserved k level ms = flat_map (member_line s reserved k.is_colored level) (filter (λ m. is_chosen k.choice (level + 1) m.is_active) ms)
 
 -- the line of an item, and behind it those of its listed members
-abbrev pub lines_at : Source → Reading → List (List ℕ) → Look → RowView → Option ItemPlace → List ℕ
-lines_at s x reserved k r place =
+abbrev pub outline_lines : Source → MemberReading → List (List ℕ) → Look → RowView → Option ItemPlace → List ℕ
+outline_lines s x reserved k r place =
     item_line s reserved k.is_colored place (header_of x r.id.kind place) r ++ member_lines s reserved k r.level (members_of x place r.is_active)
 
 -- the same of an item that is found by its id
-abbrev pub whole_lines : Source → Reading → List (List ℕ) → List ItemPlace → Look → RowView → List ℕ
-whole_lines s x reserved places k r = lines_at s x reserved k r (place_of r.id places)
+abbrev pub whole_lines : Source → MemberReading → List (List ℕ) → List ItemPlace → Look → RowView → List ℕ
+whole_lines s x reserved places k r = outline_lines s x reserved k r (place_of r.id places)
 
 -- the lines of the rows that are listed
-abbrev pub outline_text : Source → Reading → List (List ℕ) → List ItemPlace → Look → List RowView → List ℕ
+abbrev pub outline_text : Source → MemberReading → List (List ℕ) → List ItemPlace → Look → List RowView → List ℕ
 outline_text s x reserved places k rs = flat_map (whole_lines s x reserved places k) (filter (is_listed k.choice) rs)

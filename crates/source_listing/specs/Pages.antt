@@ -18,9 +18,9 @@ is_id_line line = starts_with nat_eq (unindented line) id_opening
 abbrev pub text_lines : List ℕ → List (List ℕ)
 text_lines text = slice_split (λ b. b == 10) text
 
-abbrev pub joined : List (List ℕ) → List ℕ
-joined lines = join_by (λ line. line) (10 ∷ []) lines
+abbrev pub joined_lines : List (List ℕ) → List ℕ
+joined_lines lines = join_by (λ line. line) (10 ∷ []) lines
 
 -- the other lines
-abbrev pub without_ids : List ℕ → List ℕ
-without_ids page = joined (filter (λ line. not (is_id_line line)) (text_lines page))
+abbrev pub lines_without_ids : List ℕ → List ℕ
+lines_without_ids page = joined_lines (filter (λ line. not (is_id_line line)) (text_lines page))

@@ -4,10 +4,10 @@ use Rattle.std.specs.List.{flat_map, ends_with}
 use Rattle.std.specs.Option.{option_or}
 use Rattle.std.specs.Str.{bytes_eq}
 use Rattle.tree_walk.specs.Rows.{RowView}
-use Rattle.source_rows.specs.Listed.{Listed, Reading, members_of, type_name_of}
+use Rattle.source_rows.specs.Listed.{Listed, MemberReading, members_of, type_name_of}
 use Rattle.rust_items.specs.declared.source_file.ItemPlace.{ItemPlace}
 use Rattle.source_rows.specs.Labels.{member_word}
-use Rattle.source_listing.specs.Lines.{Source, at_text, name_text, item_word}
+use Rattle.source_listing.specs.Lines.{Source, at_text, listed_name, item_word}
 use Rattle.source_listing.specs.Places.{place_of, stands_at}
 
 -- what is looked for: names with two colons before each, from the top on or anywhere, with or without what a cfg disables
@@ -16,24 +16,24 @@ pub record Query : Type 0 where
   pub is_anywhere : Bool
   pub only_active : Bool
 
-abbrev pub segment : List ℕ → List ℕ
-segment name = codes "::" ++ name
+abbrev pub bare_segment : List ℕ → List ℕ
+bare_segment name = codes "::" ++ name
 
 abbrev pub own_segment : Option (List ℕ) → List ℕ
 own_segment None = []
-own_segment (Some name) = segment name
+own_segment (Some name) = bare_segment name
 
 -- the names of the modules that an item stands in, and its own
 abbrev pub item_path : RowView → List ℕ
-item_path r = flat_map segment r.scope ++ own_segment r.name
+item_path r = flat_map bare_segment r.scope ++ own_segment r.name
 
 -- what the members of an item stand in: its name, or that of an impl's type
-abbrev pub holder : Reading → RowView → Option ItemPlace → Option (List ℕ)
+abbrev pub holder : MemberReading → RowView → Option ItemPlace → Option (List ℕ)
 holder x r place = option_or r.name (type_name_of x r.id.kind place)
 
 -- the names of the modules that an item stands in, what members of it stand in, and the name of one
 abbrev pub path_inside : RowView → Option (List ℕ) → List ℕ → List ℕ
-path_inside r around name = flat_map segment r.scope ++ own_segment around ++ segment name
+path_inside r around name = flat_map bare_segment r.scope ++ own_segment around ++ bare_segment name
 
 abbrev pub is_path : Query → List ℕ → Bool
 is_path q path = if q.is_anywhere then ends_with nat_eq path q.path else bytes_eq path q.path
@@ -50,7 +50,7 @@ is_member_found q r around m = is_shown q m.is_active && is_path q (path_inside 
 
 -- a place, the word of a kind and a name
 abbrev pub found_text : Source → List (List ℕ) → Option ℕ → List ℕ → Option (List ℕ) → List ℕ
-found_text s reserved at word name = at_text s at ++ word ++ name_text reserved name ++ codes "\n"
+found_text s reserved at word name = at_text s at ++ word ++ listed_name reserved name ++ codes "\n"
 
 -- those of an item
 abbrev pub found_line : Source → List (List ℕ) → Option ItemPlace → RowView → List ℕ
@@ -67,13 +67,13 @@ unfoldable pub found_members : Source → List (List ℕ) → Query → RowView 
 found_members s reserved q r around ms = flat_map (found_member s reserved) (filter (is_member_found q r around) ms)
 
 -- the line of an item and those of its members, where they are looked for
-abbrev pub found_at : Source → Reading → List (List ℕ) → Query → RowView → Option ItemPlace → List ℕ
+abbrev pub found_at : Source → MemberReading → List (List ℕ) → Query → RowView → Option ItemPlace → List ℕ
 found_at s x reserved q r place =
     if_found s reserved q place r ++ found_members s reserved q r (holder x r place) (members_of x place r.is_active)
 
-abbrev pub whole_found : Source → Reading → List (List ℕ) → List ItemPlace → Query → RowView → List ℕ
+abbrev pub whole_found : Source → MemberReading → List (List ℕ) → List ItemPlace → Query → RowView → List ℕ
 whole_found s x reserved places q r = found_at s x reserved q r (place_of r.id places)
 
 -- the lines of the rows that are looked for
-abbrev pub found_lines : Source → Reading → List (List ℕ) → List ItemPlace → Query → List RowView → List ℕ
+abbrev pub found_lines : Source → MemberReading → List (List ℕ) → List ItemPlace → Query → List RowView → List ℕ
 found_lines s x reserved places q rs = flat_map (whole_found s x reserved places q) rs

@@ -3,7 +3,7 @@ use Rattle.std.specs.Prelude.{ℕ, Bool, true, false, ◌==◌, nat_eq, if◌the
 use Rattle.std.specs.List.{slice_split, starts_with}
 use Rattle.std.specs.Option.{option_or}
 use Rattle.rust_lexer.specs.Identifier.{is_identifier}
-use Rattle.source_listing.specs.Search.{segment}
+use Rattle.source_listing.specs.Search.{bare_segment}
 
 -- a path that is looked for: names with two colons before each, from the top on or anywhere
 pub record Sought : Type 0 where
@@ -32,12 +32,12 @@ name_before gap word = if length gap == 0 then sought_name word else None
 -- a name in front of others
 abbrev pub in_front : Option (List ℕ) → Option (List ℕ) → Option (List ℕ)
 in_front None names = None
-in_front (Some name) names = option_map (λ path. segment name ++ path) names
+in_front (Some name) names = option_map (λ path. bare_segment name ++ path) names
 
 -- the path of the names that stand between colons, two after each but the last
 abbrev pub joined_names : List (List ℕ) → Option (List ℕ)
 joined_names [] = None
-joined_names (word ∷ []) = option_map segment (sought_name word)
+joined_names (word ∷ []) = option_map bare_segment (sought_name word)
 joined_names (word ∷ gap ∷ words) = in_front (name_before gap word) (joined_names words)
 
 abbrev pub sought_names : List ℕ → Option (List ℕ)

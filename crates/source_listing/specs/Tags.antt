@@ -6,13 +6,13 @@ use Rattle.hir_input.specs.Id.{hex_digit}
 use Rattle.tree_walk.specs.Rows.{RowView}
 use Rattle.line_index.specs.Positions.{position_of}
 use Rattle.source_rows.specs.Labels.{kind_texts}
-use Rattle.source_rows.specs.Listed.{Listed, Reading, members_of}
+use Rattle.source_rows.specs.Listed.{Listed, MemberReading, members_of}
 use Rattle.rust_items.specs.declared.source_file.ItemPlace.{ItemPlace}
 use Rattle.rust_members.specs.declared.member.MemberKind.{MemberKind}
 use Rattle.rust_members.specs.declared.member.MemberKind.TheVariants as member
 use Rattle.source_listing.specs.Lines.{Choice, is_chosen, is_listed}
 use Rattle.source_listing.specs.Places.{place_of, stands_at}
-use Rattle.source_listing.specs.Search.{holder, segment}
+use Rattle.source_listing.specs.Search.{holder, bare_segment}
 
 -- the letter of a member's kind; constants, which Universal Ctags passes over, have that of items
 abbrev pub member_letter : MemberKind → Option (List ℕ)
@@ -31,7 +31,7 @@ scope_word _ _ = codes "module"
 -- what a tag stands in: the word for the innermost, and the names from the outermost on
 abbrev pub scope_field : List ℕ → List (List ℕ) → List ℕ
 scope_field word [] = []
-scope_field word (name ∷ names) = codes "\t" ++ word ++ codes ":" ++ name ++ flat_map segment names
+scope_field word (name ∷ names) = codes "\t" ++ word ++ codes ":" ++ name ++ flat_map bare_segment names
 
 -- what Universal Ctags writes for a control character or a backslash in the path of a file, behind a backslash
 abbrev pub escaped : ℕ → List ℕ
@@ -47,8 +47,8 @@ is_escaped c = nat_lt c 32 || (c == 127 || c == 92)
 abbrev pub path_char : ℕ → List ℕ
 path_char c = if is_escaped c then 92 ∷ escaped c else encode_utf8 c
 
-abbrev pub written_path : List ℕ → List ℕ
-written_path path = flat_map path_char (chars path)
+abbrev pub tag_path : List ℕ → List ℕ
+tag_path path = flat_map path_char (chars path)
 
 -- name, file, line, letter, and what it stands in
 abbrev pub tag_text : List ℕ → List ℕ → ℕ → List ℕ → List ℕ → List (List ℕ) → List ℕ
@@ -79,17 +79,17 @@ unfoldable pub member_tags : List ℕ → List ℕ → Choice → RowView → Op
 member_tags path text c r name ms = flat_map (λ m. if_any (member_tag path text r name m)) (filter (λ m. is_chosen c (r.level + 1) m.is_active) ms)
 
 -- the tag of an item, and behind it those of its listed members
-abbrev pub tags_at : List ℕ → List ℕ → Reading → Choice → RowView → Option ItemPlace → List (List ℕ)
+abbrev pub tags_at : List ℕ → List ℕ → MemberReading → Choice → RowView → Option ItemPlace → List (List ℕ)
 tags_at path text x c r place =
     if_any (tag path text place r) ++ member_tags path text c r (holder x r place) (members_of x place r.is_active)
 
-abbrev pub whole_tags : List ℕ → List ℕ → Reading → List ItemPlace → Choice → RowView → List (List ℕ)
+abbrev pub whole_tags : List ℕ → List ℕ → MemberReading → List ItemPlace → Choice → RowView → List (List ℕ)
 whole_tags path text x places c r = tags_at path text x c r (place_of r.id places)
 
 -- the tags of the listed items, in their order
-abbrev pub tags_under : List ℕ → List ℕ → Reading → List ItemPlace → Choice → List RowView → List (List ℕ)
+abbrev pub tags_under : List ℕ → List ℕ → MemberReading → List ItemPlace → Choice → List RowView → List (List ℕ)
 tags_under path text x places c rs = flat_map (whole_tags path text x places c) (filter (is_listed c) rs)
 
 -- those of a file
-abbrev pub tags : List ℕ → Reading → List ItemPlace → Choice → List RowView → List (List ℕ)
-tags path x places c rs = tags_under (written_path path) x.text x places c rs
+abbrev pub tags : List ℕ → MemberReading → List ItemPlace → Choice → List RowView → List (List ℕ)
+tags path x places c rs = tags_under (tag_path path) x.text x places c rs

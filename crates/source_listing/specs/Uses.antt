@@ -25,8 +25,8 @@ pub record Trees : Type 0 where
   pub place : ItemPlace
   pub starts : List ℕ
 
-abbrev pub trees_of : List ℕ → ItemPlace → Trees
-trees_of use_trees p = record { place = p; starts = from_place p.range.start use_trees }
+abbrev pub use_trees_at : List ℕ → ItemPlace → Trees
+use_trees_at use_trees p = record { place = p; starts = from_place p.range.start use_trees }
 
 -- a use tree stands at its first byte
 abbrev pub tree_spot : List ℕ → ℕ → Trees → Spot
@@ -37,4 +37,4 @@ tree_spots text trees index = option_map (tree_spot text index) trees
 
 -- where the use tree of this number stands in the item of an id
 abbrev pub import_spot : List ℕ → FilePlaces → FileAstId → ℕ → Option Spot
-import_spot text places id = tree_spots text (option_map (trees_of places.use_trees) (place_of id places.items))
+import_spot text places id = tree_spots text (option_map (use_trees_at places.use_trees) (place_of id places.items))

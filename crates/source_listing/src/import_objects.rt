@@ -7,7 +7,7 @@ ghost use Rattle.def_collector.specs.DeclarationView.{declaration_view};
 ghost use Rattle.def_collector.specs.Listed.{listed_import};
 ghost use Rattle.item_tree.specs.Shown.{IsContained};
 ghost use Rattle.source_listing.specs.ImportObjects as spec;
-ghost use Rattle.source_listing.specs.Inner.{FindsTrees, IsSameTreeFinder, places_in, text_in, trees_view};
+ghost use Rattle.source_listing.specs.Inner.{FindsTrees, IsSameTreeFinder, places_in, finder_text, placed_trees_view};
 ghost use Rattle.source_listing.specs.Places.{AreDistinct};
 ghost use Rattle.source_listing.specs.Uses.{placed, tree_spots};
 
@@ -99,8 +99,8 @@ fn push_import(
     import: &Listed,
     out: &mut Vec<Value>,
 ) -> Result<(), AllocError>
-    ensures objects { let spots = tree_spots (text_in finder.old)
-        (option_map trees_view trees.entry) in
+    ensures objects { let spots = tree_spots (finder_text finder.old)
+        (option_map placed_trees_view trees.entry) in
         let objects = spec.import_object edition.now.reserved.items spots (listed_import import.now) in
         OnOk result (map view out.new.items ≡ map view out.old.items ++ objects) }
     ensures same { IsSameTreeFinder finder.old finder.new }
@@ -120,8 +120,8 @@ fn push_imports(
     imports: &[Listed],
     out: &mut Vec<Value>,
 ) -> Result<(), AllocError>
-    ensures objects { let spots = tree_spots (text_in finder.old)
-        (option_map trees_view trees.entry) in
+    ensures objects { let spots = tree_spots (finder_text finder.old)
+        (option_map placed_trees_view trees.entry) in
         let objects = flat_map (spec.import_object edition.now.reserved.items spots) (map listed_import imports.now) in
         OnOk result (map view out.new.items ≡ map view out.old.items ++ objects) }
     ensures same { IsSameTreeFinder finder.old finder.new }
@@ -144,7 +144,7 @@ fn push_declaration(
     requires finds { FindsTrees finder.old }
     requires contained { IsContained tree.now declaration.now.id }
     ensures objects { let objects = spec.seen_objects
-        (text_in finder.old) edition.now.reserved.items (places_in finder.old) in
+        (finder_text finder.old) edition.now.reserved.items (places_in finder.old) in
         OnOk result (map view out.new.items ≡ map view out.old.items ++ objects (declaration_view tree.now declaration.now)) }
     ensures same { IsSameTreeFinder finder.old finder.new }
 {

@@ -6,7 +6,7 @@ ghost use Rattle.def_collector.specs.Listed.{listed_import};
 ghost use Rattle.item_tree.specs.Shown.{IsContained};
 ghost use Rattle.item_tree.specs.UseText.{shown_rename};
 ghost use Rattle.source_listing.specs.Imports as spec;
-ghost use Rattle.source_listing.specs.Inner.{FindsTrees, IsSameTreeFinder, file_in, places_in, text_in, trees_view};
+ghost use Rattle.source_listing.specs.Inner.{FindsTrees, IsSameTreeFinder, file_in, places_in, finder_text, placed_trees_view};
 ghost use Rattle.source_listing.specs.Places.{AreDistinct};
 ghost use Rattle.source_listing.specs.Uses.{placed, tree_spots};
 ghost use Rattle.source_listing.specs.Views.{source_view};
@@ -70,9 +70,9 @@ fn push_import(
     import: &Listed,
     out: &mut String,
 ) -> Result<(), AllocError>
-    ensures text { let spots = tree_spots (text_in finder.old)
-        (option_map trees_view trees.entry) in
-        let line = spec.import_line path.now edition.now.reserved.items spots in
+    ensures text { let spots = tree_spots (finder_text finder.old)
+        (option_map placed_trees_view trees.entry) in
+        let line = spec.placed_import_line path.now edition.now.reserved.items spots in
         OnOk result (string_bytes out.new ≡ string_bytes out.old ++ line (listed_import import.now)) }
     ensures same { IsSameTreeFinder finder.old finder.new }
 {
@@ -91,9 +91,9 @@ fn push_imports(
     imports: &[Listed],
     out: &mut String,
 ) -> Result<(), AllocError>
-    ensures text { let spots = tree_spots (text_in finder.old)
-        (option_map trees_view trees.entry) in
-        let line = spec.import_line path.now edition.now.reserved.items spots in
+    ensures text { let spots = tree_spots (finder_text finder.old)
+        (option_map placed_trees_view trees.entry) in
+        let line = spec.placed_import_line path.now edition.now.reserved.items spots in
         OnOk result (string_bytes out.new ≡ string_bytes out.old ++ flat_map line (map listed_import imports.now)) }
     ensures same { IsSameTreeFinder finder.old finder.new }
 {

@@ -9,7 +9,7 @@ ghost use Rattle.item_tree.specs.Shown.{IsContained};
 ghost use Rattle.item_tree.specs.Walk.{AreContained, count_at};
 ghost use Rattle.source_rows.specs.Listed.{header_of, members_of};
 ghost use Rattle.source_rows.specs.ListedViews.{listed_view, reading_view};
-ghost use Rattle.source_listing.specs.Inner.{IsSameFile, entry_members, file_of, item_at, item_view, objects_at, placed_members, places_of, reserved_of, stand_members};
+ghost use Rattle.source_listing.specs.Inner.{IsSameFile, entry_members, file_of, item_at, shown_item_view, objects_at, placed_members, places_of, reserved_of, stand_members};
 ghost use Rattle.source_listing.specs.Objects as spec;
 ghost use Rattle.source_listing.specs.Outlines.{reading};
 ghost use Rattle.source_listing.specs.Places.{AreDistinct, place_of, spot_at};
@@ -202,7 +202,7 @@ fn put_item(
 ) -> Result<(), AllocError>
     requires { members_view members.old.entries ≡ no_members }
     ensures { let entry = spec.item_entry edition.now.reserved.items header.now
-        (item_view item.now) in
+        (shown_item_view item.now) in
         OnOk result (members_view members.new.entries ≡ entry_members entry) }
 {
     let visibility = visibility_value(alloc, edition, item.visibility)?;
@@ -337,7 +337,7 @@ fn member_values(
 
 fn item_of(tree: &ItemTree, id: ModItemId, is_active: bool) -> Item<'_>
     requires { IsContained tree.now id }
-    ensures { item_view result ∷ [] ≡ item_at tree.now is_active id }
+    ensures { shown_item_view result ∷ [] ≡ item_at tree.now is_active id }
 {
     Item {
         id: id.ast_id(tree),
@@ -358,7 +358,7 @@ fn item_object(
     inner: Vec<Value>,
 ) -> Result<Value, AllocError>
     ensures { let header = header_of (reading_view reading.entry) item.now.id.kind stand.place in
-        let entry = spec.item_entry edition.now.reserved.items header (item_view item.now) in
+        let entry = spec.item_entry edition.now.reserved.items header (shown_item_view item.now) in
         IfOk result (λ object. view object ≡ spec.entry_object item.now.is_active stand.spot entry (items_view inner.items)) }
 {
     let header = reading.header(alloc, item.id.kind, stand.place)?;

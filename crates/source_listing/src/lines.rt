@@ -133,7 +133,7 @@ pub(crate) fn push_name(
     name: Option<&Name>,
     out: &mut String,
 ) -> Result<(), AllocError>
-    ensures { let text = spec.name_text edition.now.reserved.items (option_copied name.entry) in
+    ensures { let text = spec.listed_name edition.now.reserved.items (option_copied name.entry) in
         OnOk result (string_bytes out.new ≡ string_bytes out.old ++ text) }
 {
     match name {

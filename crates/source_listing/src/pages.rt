@@ -34,7 +34,7 @@ fn push_unless_id<'a>(line: &'a str, lines: &mut Vec<&'a str>) -> Result<(), All
 
 /// Lines with a line feed between each two.
 fn joined(alloc: Global, lines: &[&str]) -> Result<String, AllocError>
-    ensures { IfOk result (λ text. string_bytes text ≡ spec.joined (map (λ l. l.now) lines.now)) }
+    ensures { IfOk result (λ text. string_bytes text ≡ spec.joined_lines (map (λ l. l.now) lines.now)) }
 {
     let Some((first, rest)) = lines.split_first() else {
         return Ok(String::new(alloc));
@@ -58,7 +58,7 @@ fn joined(alloc: Global, lines: &[&str]) -> Result<String, AllocError>
 ///
 /// Only if memory runs out.
 pub fn without_ids(alloc: Global, page: &str) -> Result<String, AllocError>
-    ensures { IfOk result (λ text. string_bytes text ≡ spec.without_ids page.now) }
+    ensures { IfOk result (λ text. string_bytes text ≡ spec.lines_without_ids page.now) }
 {
     let mut lines = Vec::new(alloc);
     for line in page.split('\n') {

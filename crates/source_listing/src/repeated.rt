@@ -5,7 +5,7 @@ ghost use Rattle.def_collector.specs.Listed.{listed_import};
 ghost use Rattle.item_tree.specs.Shown.{IsContained};
 ghost use Rattle.item_tree.specs.Walk.{AreContained};
 ghost use Rattle.source_listing.specs.Imports.{import_text};
-ghost use Rattle.source_listing.specs.Inner.{FindsTrees, IsSameTreeFinder, PutsFirst, first_in, key, key_view, named_at, named_view, own_named_at, places_in, text_in, trees_view};
+ghost use Rattle.source_listing.specs.Inner.{FindsTrees, IsSameTreeFinder, PutsFirst, first_in, key, named_key_view, named_at, listed_named_view, own_named_at, places_in, finder_text, placed_trees_view};
 ghost use Rattle.source_listing.specs.Places.{AreDistinct};
 ghost use Rattle.source_listing.specs.Repeated as spec;
 ghost use Rattle.source_listing.specs.Uses.{placed, tree_spots};
@@ -41,7 +41,7 @@ fn named_import(
 ) -> Result<Named, AllocError>
     ensures { let text = import_text edition.now.reserved.items import.now.kind import.now.path
         import.now.alias in
-        IfOk result (λ n. named_view n ≡ record { around = around; spot = spot; text = text }) }
+        IfOk result (λ n. listed_named_view n ≡ record { around = around; spot = spot; text = text }) }
 {
     let mut text = String::new(alloc);
     push_import_text(edition, import, &mut text)?;
@@ -58,10 +58,10 @@ fn push_listed(
     imports: &[Listed],
     found: &mut Vec<Named>,
 ) -> Result<(), AllocError>
-    ensures named { let spots = tree_spots (text_in finder.old)
-        (option_map trees_view trees.entry) in
+    ensures named { let spots = tree_spots (finder_text finder.old)
+        (option_map placed_trees_view trees.entry) in
         let own = map (spec.named_import edition.now.reserved.items around spots) (map listed_import imports.now) in
-        OnOk result (map named_view found.new.items ≡ map named_view found.old.items ++ own) }
+        OnOk result (map listed_named_view found.new.items ≡ map listed_named_view found.old.items ++ own) }
     ensures same { IsSameTreeFinder finder.old finder.new }
 {
     for import in imports {
@@ -83,9 +83,9 @@ fn push_own(
 ) -> Result<(), AllocError>
     requires finds { FindsTrees finder.old }
     requires contained { IsContained tree.now id }
-    ensures named { let own = own_named_at (text_in finder.old)
+    ensures named { let own = own_named_at (finder_text finder.old)
         (places_in finder.old) edition.now.reserved.items tree.now around id in
-        OnOk result (map named_view found.new.items ≡ map named_view found.old.items ++ own) }
+        OnOk result (map listed_named_view found.new.items ≡ map listed_named_view found.old.items ++ own) }
     ensures same { IsSameTreeFinder finder.old finder.new }
 {
     match tree.index(id) {
@@ -112,9 +112,9 @@ fn push_all(
     requires finds { FindsTrees finder.old }
     requires contained { AreContained tree.now ids.now }
     ensures named { let all = flat_map
-        (named_at (text_in finder.old)
+        (named_at (finder_text finder.old)
         (places_in finder.old) edition.now.reserved.items tree.now around) ids.now in
-        OnOk result (map named_view found.new.items ≡ map named_view found.old.items ++ all) }
+        OnOk result (map listed_named_view found.new.items ≡ map listed_named_view found.old.items ++ all) }
     ensures same { IsSameTreeFinder finder.old finder.new }
 {
     for id in ids {
@@ -136,9 +136,9 @@ fn push_one(
 ) -> Result<(), AllocError>
     requires finds { FindsTrees finder.old }
     requires contained { IsContained tree.now id }
-    ensures named { let all = named_at (text_in finder.old)
+    ensures named { let all = named_at (finder_text finder.old)
         (places_in finder.old) edition.now.reserved.items tree.now around id in
-        OnOk result (map named_view found.new.items ≡ map named_view found.old.items ++ all) }
+        OnOk result (map listed_named_view found.new.items ≡ map listed_named_view found.old.items ++ all) }
     ensures same { IsSameTreeFinder finder.old finder.new }
 {
     push_own(alloc, edition, finder, tree, around, id, found)?;
@@ -162,7 +162,7 @@ pub(crate) struct Key<'n> {
 }
 
 fn key_of(import: &Named) -> Key<'_>
-    ensures { key_view result ≡ key (named_view import.now) }
+    ensures { named_key_view result ≡ key (listed_named_view import.now) }
 {
     Key {
         around: match import.around {
@@ -196,7 +196,7 @@ fn push_repeat(
     first: &Named,
     out: &mut String,
 ) -> Result<(), AllocError>
-    ensures { let line = spec.repeat_line path.now (named_view import.now) (named_view first.now) in
+    ensures { let line = spec.repeat_line path.now (listed_named_view import.now) (listed_named_view first.now) in
         OnOk result (string_bytes out.new ≡ string_bytes out.old ++ line) }
 {
     push_spot(path, import.spot, out)?;
@@ -214,11 +214,11 @@ fn push_if_repeated<'n>(
     firsts: &mut Firsts<'n>,
     out: &mut String,
 ) -> Result<(), AllocError>
-    ensures text { let line = spec.line_if_any path.now (named_view import.now)
+    ensures text { let line = spec.line_if_any path.now (listed_named_view import.now)
         (first_in firsts.old key.entry) in
         OnOk result (string_bytes out.new ≡ string_bytes out.old ++ line) }
     ensures first { OnOk result
-        (PutsFirst firsts.old firsts.new key.entry (named_view import.now)) }
+        (PutsFirst firsts.old firsts.new key.entry (listed_named_view import.now)) }
 {
     match firsts.get(&key).copied() {
         Some(first) => push_repeat(path, import, first, out),
@@ -231,7 +231,7 @@ fn push_if_repeated<'n>(
 
 /// The lines of those imports that repeat an earlier one.
 fn lines_of(alloc: Global, path: &str, imports: &[Named]) -> Result<String, AllocError>
-    ensures { let lines = spec.repeat_lines path.now [] (map named_view imports.now) in
+    ensures { let lines = spec.repeat_lines path.now [] (map listed_named_view imports.now) in
         IfOk result (λ text. string_bytes text ≡ lines) }
 {
     let mut out = String::new(alloc);

@@ -33,14 +33,14 @@ pub struct Query<'a> {
 
 /// Two colons and a name.
 pub(crate) fn push_segment(name: &str, path: &mut String) -> Result<(), AllocError>
-    ensures { OnOk result (string_bytes path.new ≡ string_bytes path.old ++ spec.segment name.now) }
+    ensures { OnOk result (string_bytes path.new ≡ string_bytes path.old ++ spec.bare_segment name.now) }
 {
     path.push_str("::")?;
     path.push_str(name)
 }
 
 pub(crate) fn push_scope(scope: &[&Name], path: &mut String) -> Result<(), AllocError>
-    ensures { let segments = flat_map (λ n. spec.segment n.now) scope.now in
+    ensures { let segments = flat_map (λ n. spec.bare_segment n.now) scope.now in
         OnOk result (string_bytes path.new ≡ string_bytes path.old ++ segments) }
 {
     for name in scope {

@@ -113,7 +113,7 @@ fn push_path_char(c: char, out: &mut String) -> Result<(), AllocError>
 
 /// A path as Universal Ctags writes it.
 fn written_path(alloc: Global, path: &str) -> Result<String, AllocError>
-    ensures { IfOk result (λ text. string_bytes text ≡ spec.written_path path.now) }
+    ensures { IfOk result (λ text. string_bytes text ≡ spec.tag_path path.now) }
 {
     let mut text = String::new(alloc);
     for c in path.chars() {

@@ -1,6 +1,6 @@
 //! Where imports are written.
 ghost use Rattle.std.specs.Prelude.{◌≡◌, option_map};
-ghost use Rattle.source_listing.specs.Inner.{FindsTrees, IsSameTreeFinder, IsTreeFinderOf, places_in, text_in, trees_view};
+ghost use Rattle.source_listing.specs.Inner.{FindsTrees, IsSameTreeFinder, IsTreeFinderOf, places_in, finder_text, placed_trees_view};
 ghost use Rattle.source_listing.specs.Places.{place_of};
 ghost use Rattle.source_listing.specs.Uses as spec;
 
@@ -38,7 +38,7 @@ impl<'a> TreeFinder<'a> {
     pub(crate) fn find(&mut self, id: FileAstId) -> Option<UseTrees<'a>>
         requires { FindsTrees self.old }
         ensures trees { let places = places_in self.old in
-            option_map trees_view result ≡ option_map (spec.trees_of places.use_trees) (place_of id places.items) }
+            option_map placed_trees_view result ≡ option_map (spec.use_trees_at places.use_trees) (place_of id places.items) }
         ensures same { IsSameTreeFinder self.old self.new }
     {
         match self.finder.places.find(id) {
@@ -52,8 +52,8 @@ impl<'a> TreeFinder<'a> {
 
     /// Where the use tree of a number stands.
     pub(crate) fn spot(&mut self, trees: Option<UseTrees<'_>>, index: UseTreeIdx) -> Option<Spot>
-        ensures spot { result ≡ spec.tree_spots (text_in self.old)
-            (option_map trees_view trees.entry) index.0 }
+        ensures spot { result ≡ spec.tree_spots (finder_text self.old)
+            (option_map placed_trees_view trees.entry) index.0 }
         ensures same { IsSameTreeFinder self.old self.new }
     {
         match trees {

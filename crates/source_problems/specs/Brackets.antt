@@ -21,13 +21,13 @@ abbrev pub none : List OpenBracket
 none = []
 
 -- with a problem in front
-abbrev pub and_problem : SourceProblem → Step → Step
-and_problem p s = (p ∷ s.0, s.1)
+abbrev pub problem_before : SourceProblem → Step → Step
+problem_before p s = (p ∷ s.0, s.1)
 
 -- a `}` at this place: it closes the last brace, and nothing closes what was opened behind that
 abbrev pub close_braces : ℕ → List OpenBracket → Step
 close_braces at [] = (problem kind.Unmatched at ∷ [], [])
-close_braces at (o ∷ opened) = if o.symbol == 123 then ([], opened) else and_problem (problem kind.Unclosed o.at) (close_braces at opened)
+close_braces at (o ∷ opened) = if o.symbol == 123 then ([], opened) else problem_before (problem kind.Unclosed o.at) (close_braces at opened)
 
 -- another bracket: it closes the last one, if that is no brace
 abbrev pub close_other : ℕ → ℕ → List OpenBracket → Step
@@ -49,19 +49,19 @@ taken_by token.CloseDelim t opened = close (symbol_of t) t.at opened
 taken_by _ t opened = (unended t, opened)
 
 -- a token, by what is open before it
-abbrev pub taken : Piece → List OpenBracket → Step
-taken t opened = taken_by t.kind t opened
+abbrev pub bracket_taken : Piece → List OpenBracket → Step
+bracket_taken t opened = taken_by t.kind t opened
 
 -- nothing closes these
-abbrev pub unclosed : List OpenBracket → List SourceProblem
-unclosed [] = []
-unclosed (o ∷ opened) = problem kind.Unclosed o.at ∷ unclosed opened
+abbrev pub unclosed_brackets : List OpenBracket → List SourceProblem
+unclosed_brackets [] = []
+unclosed_brackets (o ∷ opened) = problem kind.Unclosed o.at ∷ unclosed_brackets opened
 
 -- what is wrong with tokens, by what is open before them
 abbrev pub problems_from : List Piece → List OpenBracket → List SourceProblem
-problems_from [] opened = unclosed opened
-problems_from (t ∷ ts) opened = (taken t opened).0 ++ problems_from ts (taken t opened).1
+problems_from [] opened = unclosed_brackets opened
+problems_from (t ∷ ts) opened = (bracket_taken t opened).0 ++ problems_from ts (bracket_taken t opened).1
 
 -- behind these problems come those of a step, and its brackets are open
-abbrev pub Adds : Step → List SourceProblem → Step → Type 0
-Adds step before after = (after.0 ≡ before ++ step.0) × (after.1 ≡ step.1)
+abbrev pub AddsProblems : Step → List SourceProblem → Step → Type 0
+AddsProblems step before after = (after.0 ≡ before ++ step.0) × (after.1 ≡ step.1)

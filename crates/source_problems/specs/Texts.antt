@@ -14,12 +14,12 @@ use Rattle.source_problems.specs.Problems.{problem, told}
 use Rattle.source_problems.specs.Brackets.{none, problems_from}
 use Rattle.source_problems.specs.Items.{syntax_problems}
 
-abbrev pub moved : (ℕ → ℕ) → SourceProblem → SourceProblem
-moved place p = problem p.kind (place p.at)
+abbrev pub problem_moved_by : (ℕ → ℕ) → SourceProblem → SourceProblem
+problem_moved_by place p = problem p.kind (place p.at)
 
 -- what is wrong with the brackets and the quotes of a text, at their places in the text as it is
 abbrev pub bracket_problems : List ℕ → List SourceProblem
-bracket_problems text = map (moved (place_in text)) (problems_from (tokens (with_feeds text)) none)
+bracket_problems text = map (problem_moved_by (place_in text)) (problems_from (tokens (with_feeds text)) none)
 
 -- all that is wrong with a text of which this was read
 abbrev pub all_problems : List ℕ → SourceFile → List SourceProblem

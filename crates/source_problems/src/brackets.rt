@@ -35,7 +35,7 @@ fn close_braces(
     opened: &mut VecDeque<OpenBracket>,
     problems: &mut Vec<SourceProblem>,
 ) -> Result<(), AllocError>
-    ensures { OnOk result (spec.Adds (spec.close_braces at opened.old.items) problems.old.items
+    ensures { OnOk result (spec.AddsProblems (spec.close_braces at opened.old.items) problems.old.items
         (problems.new.items, opened.new.items)) }
 {
     'opened: while let Some(bracket) = opened.pop_front() {
@@ -54,7 +54,7 @@ fn close_other(
     opened: &mut VecDeque<OpenBracket>,
     problems: &mut Vec<SourceProblem>,
 ) -> Result<(), AllocError>
-    ensures { OnOk result (spec.Adds
+    ensures { OnOk result (spec.AddsProblems
         (spec.close_other symbol at opened.old.items) problems.old.items
         (problems.new.items, opened.new.items)) }
 {
@@ -78,7 +78,7 @@ fn close(
     opened: &mut VecDeque<OpenBracket>,
     problems: &mut Vec<SourceProblem>,
 ) -> Result<(), AllocError>
-    ensures { OnOk result (spec.Adds (spec.close symbol at opened.old.items) problems.old.items
+    ensures { OnOk result (spec.AddsProblems (spec.close symbol at opened.old.items) problems.old.items
         (problems.new.items, opened.new.items)) }
 {
     if symbol == b'}' {
@@ -93,7 +93,7 @@ fn take(
     opened: &mut VecDeque<OpenBracket>,
     problems: &mut Vec<SourceProblem>,
 ) -> Result<(), AllocError>
-    ensures { OnOk result (spec.Adds (spec.taken token.now opened.old.items) problems.old.items
+    ensures { OnOk result (spec.AddsProblems (spec.bracket_taken token.now opened.old.items) problems.old.items
         (problems.new.items, opened.new.items)) }
 {
     let (symbol, at) = (token.symbol(), token.at());
@@ -122,7 +122,7 @@ fn push_unclosed(
     mut opened: VecDeque<OpenBracket>,
     problems: &mut Vec<SourceProblem>,
 ) -> Result<(), AllocError>
-    ensures { OnOk result (problems.new.items ≡ problems.old.items ++ spec.unclosed opened.items) }
+    ensures { OnOk result (problems.new.items ≡ problems.old.items ++ spec.unclosed_brackets opened.items) }
 {
     'opened: while let Some(bracket) = opened.pop_front() {
         push(problems, bracket.at, SourceProblemKind::Unclosed)?;

@@ -23,7 +23,7 @@ fn placed(
     ends: &LineEnds,
 ) -> Result<Vec<SourceProblem>, AllocError>
     ensures { IfOk result (λ v. v.items
-        ≡ map (spec.moved (place_by ends.now.len ends.now.returns.items)) problems.now) }
+        ≡ map (spec.problem_moved_by (place_by ends.now.len ends.now.returns.items)) problems.now) }
 {
     let mut moved = Vec::with_capacity(alloc, problems.len())?;
     for problem in problems {
@@ -42,7 +42,7 @@ fn feed_problems(
     ends: &LineEnds,
 ) -> Result<Vec<SourceProblem>, AllocError>
     ensures { IfOk result (λ v. v.items
-        ≡ map (spec.moved (place_by ends.now.len ends.now.returns.items)) (brackets.problems_from (tokens feeds.now) brackets.none)) }
+        ≡ map (spec.problem_moved_by (place_by ends.now.len ends.now.returns.items)) (brackets.problems_from (tokens feeds.now) brackets.none)) }
 {
     let problems = bracket_problems(alloc, feeds)?;
     placed(alloc, &problems, ends)

@@ -11,10 +11,10 @@ use Rattle.rust_cursor.proofs.Nesting.{not_first}
 use Rattle.source_rows.specs.declared.kept.Hole.{Hole}
 use Rattle.source_rows.specs.declared.items.Part as code_part
 use Rattle.rust_items.specs.declared.source_file.ItemPlace.{ItemPlace}
-use Rattle.source_rows.specs.Headers.{gap, is_over, reach_behind, spaced, spaced_from}
+use Rattle.source_rows.specs.Headers.{gap_text, is_over, reach_behind, spaced_tokens, spaced_from}
 use Rattle.source_rows.specs.Labels.{Outer}
-use Rattle.source_rows.specs.Parts.{Part, still_open, parts_of, behind, parts_from}
-use Rattle.source_rows.specs.Rows.{outside, begun}
+use Rattle.source_rows.specs.Parts.{Part, still_open, parts_of, around_behind, item_parts_from}
+use Rattle.source_rows.specs.Rows.{outside, holes_begun}
 use Rattle.source_rows.specs.Views.{part_view}
 
 -- ---- headers
@@ -23,17 +23,17 @@ stop_from : (is_cut : Bool) (reach : ℕ) (done : List ℕ) (before : ℕ) (ts :
 stop_from is_cut reach done before ts [] e = refl
 stop_from is_cut reach done before ts (t ∷ more) e = rw e refl
 
-pub spaced_stop : (is_cut : Bool) (reach : ℕ) (done : List ℕ) (before : ℕ) (ts : Tokens) → is_over is_cut reach done ts ≡ true → spaced is_cut reach done before ts ≡ done
+pub spaced_stop : (is_cut : Bool) (reach : ℕ) (done : List ℕ) (before : ℕ) (ts : Tokens) → is_over is_cut reach done ts ≡ true → spaced_tokens is_cut reach done before ts ≡ done
 spaced_stop is_cut reach done before ts e = stop_from is_cut reach done before ts ts.left e
 
 more_from : (is_cut : Bool) (reach : ℕ) (done : List ℕ) (before past : ℕ) (left : List Piece) (u : Option ℕ) (y : EditionYear) → (let here : Tokens = record { past = past; left = left; unended = u; edition = y } in
-    is_over is_cut reach done here ≡ false → spaced is_cut reach done before here ≡ spaced is_cut (reach_behind reach here) (done ++ (gap before here ++ text here)) (symbol here) (bumped here))
+    is_over is_cut reach done here ≡ false → spaced_tokens is_cut reach done before here ≡ spaced_tokens is_cut (reach_behind reach here) (done ++ (gap_text before here ++ text here)) (symbol here) (bumped here))
 unfolding is_empty bumped
 more_from is_cut reach done before past [] u y e = absurd cc
 more_from is_cut reach done before past (t ∷ ts) u y e = rw e refl
 
 pub spaced_more : (is_cut : Bool) (reach : ℕ) (done : List ℕ) (before : ℕ) (ts : Tokens) → is_over is_cut reach done ts ≡ false
-    → spaced is_cut reach done before ts ≡ spaced is_cut (reach_behind reach ts) (done ++ (gap before ts ++ text ts)) (symbol ts) (bumped ts)
+    → spaced_tokens is_cut reach done before ts ≡ spaced_tokens is_cut (reach_behind reach ts) (done ++ (gap_text before ts ++ text ts)) (symbol ts) (bumped ts)
 spaced_more is_cut reach done before ts e = more_from is_cut reach done before ts.past ts.left ts.unended ts.edition e
 
 -- a header that is not over has a token
@@ -48,13 +48,13 @@ drop_next xs i x h e = let one : suc i ≡ i + 1 = omega arith in drop-cons xs i
 
 -- one more item
 pub parts_more : (edition : EditionYear) (text : List ℕ) (done pushed : List Part) (around open_around next : List Outer) (items : List ItemPlace) (i : ℕ) (s : ItemPlace) (all : List Part) → i < length items → s ≡ get_or items i s
-    → open_around ≡ still_open s.range.start around → pushed ≡ done ++ parts_of edition text open_around s → next ≡ behind text open_around s.id.kind s → done ++ parts_from edition text around (drop i items) ≡ all
-    → pushed ++ parts_from edition text next (drop (i + 1) items) ≡ all
+    → open_around ≡ still_open s.range.start around → pushed ≡ done ++ parts_of edition text open_around s → next ≡ around_behind text open_around s.id.kind s → done ++ item_parts_from edition text around (drop i items) ≡ all
+    → pushed ++ item_parts_from edition text next (drop (i + 1) items) ≡ all
 parts_more edition text done pushed around open_around next items i s all h e o p n inv =
     let rest : List ItemPlace = drop (i + 1) items in
-    (λ k. p k ++ parts_from edition text (n k) rest) ∙ append_assoc done (parts_of edition text open_around s) (parts_from edition text (behind text open_around s.id.kind s) rest)
-    ∙ (λ k. done ++ (parts_of edition text (o k) s ++ parts_from edition text (behind text (o k) s.id.kind s) rest))
-    ∙ ap (λ (ss : List ItemPlace). done ++ parts_from edition text around ss) (sym (drop_next items i s h e)) ∙ inv
+    (λ k. p k ++ item_parts_from edition text (n k) rest) ∙ append_assoc done (parts_of edition text open_around s) (item_parts_from edition text (around_behind text open_around s.id.kind s) rest)
+    ∙ (λ k. done ++ (parts_of edition text (o k) s ++ item_parts_from edition text (around_behind text (o k) s.id.kind s) rest))
+    ∙ ap (λ (ss : List ItemPlace). done ++ item_parts_from edition text around ss) (sym (drop_next items i s h e)) ∙ inv
 
 -- ---- what of parts are no tokens of those around them
 
@@ -64,25 +64,25 @@ later place start h = grind (arith, nat_tests)
 there : (place start : ℕ) → place ≤ start → nat_le place start ≡ true
 there place start h = grind (arith, nat_tests)
 
-begun_first : (place : ℕ) (q : Part) (qs : List Part) → q.range.start < place → begun place (q ∷ qs) ≡ outside q.range q.kept ++ begun place qs
+begun_first : (place : ℕ) (q : Part) (qs : List Part) → q.range.start < place → holes_begun place (q ∷ qs) ≡ outside q.range q.kept ++ holes_begun place qs
 begun_first place q qs h = rw (later place q.range.start h) refl
 
-begun_none : (place : ℕ) (q : Part) (qs : List Part) → place ≤ q.range.start → begun place (q ∷ qs) ≡ []
+begun_none : (place : ℕ) (q : Part) (qs : List Part) → place ≤ q.range.start → holes_begun place (q ∷ qs) ≡ []
 begun_none place q qs h = rw (there place q.range.start h) refl
 
 -- one more part
 pub begun_more : (place : ℕ) (done pushed : List Hole) (parts : List code_part.Part) (i : ℕ) (q : code_part.Part) (all : List Hole) → i < length parts → q ≡ get_or parts i q → q.range.start < place
-    → pushed ≡ done ++ outside q.range q.kept → done ++ begun place (map part_view (drop i parts)) ≡ all → pushed ++ begun place (map part_view (drop (i + 1) parts)) ≡ all
+    → pushed ≡ done ++ outside q.range q.kept → done ++ holes_begun place (map part_view (drop i parts)) ≡ all → pushed ++ holes_begun place (map part_view (drop (i + 1) parts)) ≡ all
 begun_more place done pushed parts i q all h e b p inv =
     let rest : List Part = map part_view (drop (i + 1) parts) in
-    ap (λ (hs : List Hole). hs ++ begun place rest) p ∙ append_assoc done (outside q.range q.kept) (begun place rest)
+    ap (λ (hs : List Hole). hs ++ holes_begun place rest) p ∙ append_assoc done (outside q.range q.kept) (holes_begun place rest)
     ∙ ap (λ (hs : List Hole). done ++ hs) (sym (begun_first place (part_view q) rest b))
-    ∙ ap (λ (qs : List code_part.Part). done ++ begun place (map part_view qs)) (sym (drop_next parts i q h e)) ∙ inv
+    ∙ ap (λ (qs : List code_part.Part). done ++ holes_begun place (map part_view qs)) (sym (drop_next parts i q h e)) ∙ inv
 
 -- the first part that does not begin before the place
 pub begun_stop : (place : ℕ) (done : List Hole) (parts : List code_part.Part) (i : ℕ) (q : code_part.Part) (all : List Hole) → i < length parts → q ≡ get_or parts i q → place ≤ q.range.start
-    → done ++ begun place (map part_view (drop i parts)) ≡ all → done ≡ all
+    → done ++ holes_begun place (map part_view (drop i parts)) ≡ all → done ≡ all
 begun_stop place done parts i q all h e b inv =
     let rest : List Part = map part_view (drop (i + 1) parts) in
     sym (append-nil done) ∙ ap (λ (hs : List Hole). done ++ hs) (sym (begun_none place (part_view q) rest b))
-    ∙ ap (λ (qs : List code_part.Part). done ++ begun place (map part_view qs)) (sym (drop_next parts i q h e)) ∙ inv
+    ∙ ap (λ (qs : List code_part.Part). done ++ holes_begun place (map part_view qs)) (sym (drop_next parts i q h e)) ∙ inv

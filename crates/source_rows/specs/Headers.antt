@@ -20,12 +20,12 @@ abbrev pub clings_before : ℕ → Bool
 clings_before c = c == 60 || (c == 62 || (c == 41 || (c == 40 || (c == 93 || (c == 44 || (c == 59 || c == 58))))))
 
 -- the `!` of a macro call comes next
-abbrev pub is_call : Tokens → Bool
-is_call ts = symbol ts == 33 && is_at_open (bumped ts)
+abbrev pub is_call_mark : Tokens → Bool
+is_call_mark ts = symbol ts == 33 && is_at_open (bumped ts)
 
 -- what stands between a token of this symbol and the next
-abbrev pub gap : ℕ → Tokens → List ℕ
-gap before ts = if clings_behind before || (clings_before (symbol ts) || is_call ts) then [] else 32 ∷ []
+abbrev pub gap_text : ℕ → Tokens → List ℕ
+gap_text before ts = if clings_behind before || (clings_before (symbol ts) || is_call_mark ts) then [] else 32 ∷ []
 
 -- what can follow a header, of which this is done: `{`, `;`, `=`, and a `!` that is not its first token
 abbrev pub can_follow : List ℕ → ℕ → Bool
@@ -48,14 +48,14 @@ abbrev pub spaced_from : Bool → ℕ → List ℕ → ℕ → Tokens → List P
 spaced_from is_cut reach done before ts [] = done
 spaced_from is_cut reach done before ts (_ ∷ more) =
     if is_over is_cut reach done ts then done
-    else spaced_from is_cut (reach_behind reach ts) (done ++ (gap before ts ++ text ts)) (symbol ts) (bumped ts) more
+    else spaced_from is_cut (reach_behind reach ts) (done ++ (gap_text before ts ++ text ts)) (symbol ts) (bumped ts) more
 
-abbrev pub spaced : Bool → ℕ → List ℕ → ℕ → Tokens → List ℕ
-spaced is_cut reach done before ts = spaced_from is_cut reach done before ts ts.left
+abbrev pub spaced_tokens : Bool → ℕ → List ℕ → ℕ → Tokens → List ℕ
+spaced_tokens is_cut reach done before ts = spaced_from is_cut reach done before ts ts.left
 
 -- the header of an item, which this is the text of, or what of it stands before its braces
 unfoldable pub header_in : Bool → EditionYear → List ℕ → List ℕ
-header_in is_cut edition item = spaced is_cut 0 [] 60 (behind_angles (front (tokens_of edition item)).1)
+header_in is_cut edition item = spaced_tokens is_cut 0 [] 60 (behind_angles (front (tokens_of edition item)).1)
 
 -- the header of an item that stands there in a text; if it is an impl whose braces are known, they are these
 abbrev pub header : EditionYear → List ℕ → TextRange → Option TextRange → List ℕ

@@ -64,8 +64,8 @@ pub record Outer : Type 0 where
   pub name : List ℕ
 
 -- the names of modules, from the outermost on, with `::` behind each
-abbrev pub path_of : List Outer → List ℕ
-path_of around = flat_map (λ a. a.name ++ codes "::") around
+abbrev pub modules_path : List Outer → List ℕ
+modules_path around = flat_map (λ a. a.name ++ codes "::") around
 
 -- a word, and a text with a blank in front if it is not empty
 abbrev pub label : List ℕ → List ℕ → List ℕ

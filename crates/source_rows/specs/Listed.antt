@@ -16,12 +16,12 @@ use Rattle.rust_members.specs.declared.member.MemberKind.{MemberKind}
 use Rattle.rust_members.specs.Members.{MemberRead}
 use Rattle.source_rows.specs.Headers.{header}
 use Rattle.source_rows.specs.Labels.{has_members, text_at}
-use Rattle.source_rows.specs.Parts.{members_in}
+use Rattle.source_rows.specs.Parts.{body_members}
 use Rattle.source_rows.specs.Enabled.{any_disables}
 use Rattle.source_rows.specs.Types.{type_name}
 
 -- a text of an edition, and the cfgs that are set, where members are asked for
-pub record Reading : Type 0 where
+pub record MemberReading : Type 0 where
   pub text : List ℕ
   pub edition : EditionYear
   pub options : Option (List AtomView)
@@ -39,9 +39,9 @@ pub record Listed : Type 0 where
 abbrev pub name_at : EditionYear → List ℕ → TextRange → Option (List ℕ)
 name_at edition text range = (name (tokens_of edition (text_at text range))).0
 
-abbrev pub told : List AtomView → Bool → MemberRead → ℕ → Option (List ℕ) → Option Listed
-told options is_active m at None = None
-told options is_active m at (Some name) = Some (record {
+abbrev pub member_told : List AtomView → Bool → MemberRead → ℕ → Option (List ℕ) → Option Listed
+member_told options is_active m at None = None
+member_told options is_active m at (Some name) = Some (record {
   kind = m.kind;
   name = name;
   visibility = read_visibility m.visibility;
@@ -52,7 +52,7 @@ told options is_active m at (Some name) = Some (record {
 
 abbrev pub told_by : EditionYear → List AtomView → List ℕ → Bool → MemberRead → Option TextRange → Option Listed
 told_by edition options text is_active m None = None
-told_by edition options text is_active m (Some range) = told options is_active m range.start (name_at edition text range)
+told_by edition options text is_active m (Some range) = member_told options is_active m range.start (name_at edition text range)
 
 -- a member without a name is not told
 abbrev pub listed : EditionYear → List AtomView → List ℕ → Bool → MemberRead → Option Listed
@@ -61,7 +61,7 @@ listed edition options text is_active m = told_by edition options text is_active
 -- the members of an item that stands there, which a cfg disables or not
 abbrev pub listed_members : EditionYear → List AtomView → List ℕ → ItemPlace → Bool → List Listed
 listed_members edition options text p is_active =
-    filter_map (listed edition options text is_active) (members_in edition p.id.kind text (has_members p.id.kind) p.body)
+    filter_map (listed edition options text is_active) (body_members edition p.id.kind text (has_members p.id.kind) p.body)
 
 -- those of an item whose place is known, where they are asked for
 abbrev pub members_by : Option (List AtomView) → EditionYear → List ℕ → Option ItemPlace → Bool → List Listed
@@ -69,7 +69,7 @@ members_by (Some options) edition text (Some p) is_active = listed_members editi
 members_by _ edition text _ is_active = []
 
 -- the members of the item at this place
-abbrev pub members_of : Reading → Option ItemPlace → Bool → List Listed
+abbrev pub members_of : MemberReading → Option ItemPlace → Bool → List Listed
 members_of x p is_active = members_by x.options x.edition x.text p is_active
 
 -- what an impl is told by: the type, or the trait and the type
@@ -78,7 +78,7 @@ impl_header edition text kind.Impl (Some p) = header edition text p.range p.body
 impl_header edition text _ _ = []
 
 -- the header of an impl at this place
-abbrev pub header_of : Reading → AstIdKind → Option ItemPlace → List ℕ
+abbrev pub header_of : MemberReading → AstIdKind → Option ItemPlace → List ℕ
 header_of x k p = impl_header x.edition x.text k p
 
 -- the name of the type that an impl is of
@@ -87,5 +87,5 @@ impl_type edition text kind.Impl (Some p) = type_name edition (text_at text p.ra
 impl_type edition text _ _ = None
 
 -- the name of an impl's type
-abbrev pub type_name_of : Reading → AstIdKind → Option ItemPlace → Option (List ℕ)
+abbrev pub type_name_of : MemberReading → AstIdKind → Option ItemPlace → Option (List ℕ)
 type_name_of x k p = impl_type x.edition x.text k p

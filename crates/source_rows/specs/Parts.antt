@@ -9,7 +9,7 @@ use Rattle.rust_members.specs.declared.member.MemberKind.{MemberKind}
 use Rattle.rust_members.specs.declared.member.MemberKind.TheVariants as member
 use Rattle.rust_members.specs.Members.{MemberRead}
 use Rattle.rust_members.specs.Lists.{members}
-use Rattle.source_rows.specs.Labels.{item_word, has_members, member_word, text_at, text_at_some, Outer, path_of, label}
+use Rattle.source_rows.specs.Labels.{item_word, has_members, member_word, text_at, text_at_some, Outer, modules_path, label}
 use Rattle.source_rows.specs.Headers.{header}
 
 -- a part: what it is called, where it is told, where it stands, the name that counts among the tokens around it, and the braces whose tokens do not count
@@ -21,9 +21,9 @@ pub record Part : Type 0 where
   pub body : Option TextRange
 
 -- at its name, or where it begins
-abbrev pub told_at : TextRange → Option TextRange → ℕ
-told_at range None = range.start
-told_at range (Some name) = name.start
+abbrev pub part_told_at : TextRange → Option TextRange → ℕ
+part_told_at range None = range.start
+part_told_at range (Some name) = name.start
 
 -- ---- members
 
@@ -39,19 +39,19 @@ member_path text path name = path ++ codes "::" ++ text_at_some text name
 abbrev pub member_part : List ℕ → List ℕ → MemberRead → Part
 member_part text path m = record {
   label = label (member_word m.kind) (member_path text path m.name);
-  at = told_at m.range m.name;
+  at = part_told_at m.range m.name;
   range = m.range;
   kept = kept_name m.kind m.name;
   body = m.body;
 }
 
 -- the members of an item of this kind in this body, if it may have some
-abbrev pub members_in : EditionYear → AstIdKind → List ℕ → Bool → Option TextRange → List MemberRead
-members_in edition k text true (Some body) = members edition k text body
-members_in edition k text _ body = []
+abbrev pub body_members : EditionYear → AstIdKind → List ℕ → Bool → Option TextRange → List MemberRead
+body_members edition k text true (Some body) = members edition k text body
+body_members edition k text _ body = []
 
 abbrev pub member_parts : EditionYear → List ℕ → List ℕ → ItemPlace → List Part
-member_parts edition text path s = map (member_part text path) (members_in edition s.id.kind text (has_members s.id.kind) s.body)
+member_parts edition text path s = map (member_part text path) (body_members edition s.id.kind text (has_members s.id.kind) s.body)
 
 -- ---- items
 
@@ -61,46 +61,46 @@ impl_braces kind.Impl body = body
 impl_braces _ body = None
 
 -- an item's name as it is written; without one, its header
-abbrev pub name_of : EditionYear → List ℕ → ItemPlace → Option TextRange → List ℕ
-name_of edition text s None = header edition text s.range (impl_braces s.id.kind s.body)
-name_of edition text s (Some name) = text_at text name
+abbrev pub part_name : EditionYear → List ℕ → ItemPlace → Option TextRange → List ℕ
+part_name edition text s None = header edition text s.range (impl_braces s.id.kind s.body)
+part_name edition text s (Some name) = text_at text name
 
 -- the braces of a function alone
 abbrev pub fn_body : AstIdKind → Option TextRange → Option TextRange
 fn_body kind.Fn body = body
 fn_body _ body = None
 
-abbrev pub item_part : List ℕ → ItemPlace → Part
-item_part path s = record {
+abbrev pub part_of_item : List ℕ → ItemPlace → Part
+part_of_item path s = record {
   label = label (item_word s.id.kind) path;
-  at = told_at s.range s.name;
+  at = part_told_at s.range s.name;
   range = s.range;
   kept = None;
   body = fn_body s.id.kind s.body;
 }
 
-abbrev pub item_path : EditionYear → List ℕ → List Outer → ItemPlace → List ℕ
-item_path edition text around s = path_of around ++ name_of edition text s s.name
+abbrev pub part_path : EditionYear → List ℕ → List Outer → ItemPlace → List ℕ
+part_path edition text around s = modules_path around ++ part_name edition text s s.name
 
 -- an item, and behind it its members
 abbrev pub parts_of : EditionYear → List ℕ → List Outer → ItemPlace → List Part
-parts_of edition text around s = item_part (item_path edition text around s) s ∷ member_parts edition text (item_path edition text around s) s
+parts_of edition text around s = part_of_item (part_path edition text around s) s ∷ member_parts edition text (part_path edition text around s) s
 
 -- the modules that end behind a place
 abbrev pub still_open : ℕ → List Outer → List Outer
 still_open place around = filter (λ a. nat_lt place a.end) around
 
 -- what stands around an item that follows this one, where these stand around it
-abbrev pub behind : List ℕ → List Outer → AstIdKind → ItemPlace → List Outer
-behind text around kind.Module s = around ++ record { end = s.range.end; name = text_at_some text s.name } ∷ []
-behind text around _ s = around
+abbrev pub around_behind : List ℕ → List Outer → AstIdKind → ItemPlace → List Outer
+around_behind text around kind.Module s = around ++ record { end = s.range.end; name = text_at_some text s.name } ∷ []
+around_behind text around _ s = around
 
-abbrev pub parts_from : EditionYear → List ℕ → List Outer → List ItemPlace → List Part
-parts_from edition text around [] = []
-parts_from edition text around (s ∷ ss) =
+abbrev pub item_parts_from : EditionYear → List ℕ → List Outer → List ItemPlace → List Part
+item_parts_from edition text around [] = []
+item_parts_from edition text around (s ∷ ss) =
     let open_around = still_open s.range.start around in
-    parts_of edition text open_around s ++ parts_from edition text (behind text open_around s.id.kind s) ss
+    parts_of edition text open_around s ++ item_parts_from edition text (around_behind text open_around s.id.kind s) ss
 
 -- the parts of a text of an edition with items that stand so, in preorder
-abbrev pub parts : EditionYear → List ℕ → List ItemPlace → List Part
-parts edition text items = parts_from edition text [] items
+abbrev pub item_parts : EditionYear → List ℕ → List ItemPlace → List Part
+item_parts edition text items = item_parts_from edition text [] items

@@ -12,13 +12,13 @@ abbrev pub hole : ℕ → ℕ → Hole
 hole start end = record { start = start; end = end }
 
 -- what stands between braces
-abbrev pub inside : Option TextRange → List Hole
-inside None = []
-inside (Some body) = if nat_lt body.start body.end then hole (body.start + 1) (body.end - 1) ∷ [] else []
+abbrev pub hole_inside : Option TextRange → List Hole
+hole_inside None = []
+hole_inside (Some body) = if nat_lt body.start body.end then hole (body.start + 1) (body.end - 1) ∷ [] else []
 
 -- what of a text are no tokens of its skeleton: what stands between the braces of functions
 abbrev pub bodies : List Part → List Hole
-bodies parts = flat_map (λ p. inside p.body) parts
+bodies parts = flat_map (λ p. hole_inside p.body) parts
 
 -- what of a part are no tokens of those around it: all but a name that counts there
 abbrev pub outside : TextRange → Option TextRange → List Hole
@@ -26,23 +26,23 @@ outside range None = hole range.start range.end ∷ []
 outside range (Some name) = hole range.start name.start ∷ hole name.end range.end ∷ []
 
 -- the same of those of some parts, in preorder, that begin before a place
-abbrev pub begun : ℕ → List Part → List Hole
-begun place [] = []
-begun place (q ∷ qs) = if nat_le place q.range.start then [] else outside q.range q.kept ++ begun place qs
+abbrev pub holes_begun : ℕ → List Part → List Hole
+holes_begun place [] = []
+holes_begun place (q ∷ qs) = if nat_le place q.range.start then [] else outside q.range q.kept ++ holes_begun place qs
 
 -- what of a part are no tokens of its own, where these come behind it
 abbrev pub holes : Part → List Part → List Hole
-holes p behind = inside p.body ++ begun p.range.end behind
+holes p behind = hole_inside p.body ++ holes_begun p.range.end behind
 
 -- the same in the part's own text
 abbrev pub moved_back : ℕ → Hole → Hole
 moved_back by h = hole (h.start - by) (h.end - by)
 
-abbrev pub own : Bool → List ℕ → Part → List Part → List (List ℕ)
-own has_docs text p behind = skeleton has_docs (map (moved_back p.range.start) (holes p behind)) (text_at text p.range)
+abbrev pub own_tokens : Bool → List ℕ → Part → List Part → List (List ℕ)
+own_tokens has_docs text p behind = skeleton has_docs (map (moved_back p.range.start) (holes p behind)) (text_at text p.range)
 
 abbrev pub part_row : Bool → List ℕ → Part → List Part → TextRow
-part_row has_docs text p behind = record { label = p.label; at = p.at; own = own has_docs text p behind }
+part_row has_docs text p behind = record { label = p.label; at = p.at; own = own_tokens has_docs text p behind }
 
 -- each part with its own tokens
 abbrev pub part_rows : Bool → List ℕ → List Part → List TextRow

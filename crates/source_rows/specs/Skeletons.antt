@@ -7,14 +7,14 @@ use Rattle.rust_lexer.specs.Tokens.{tokens, is_significant}
 use Rattle.source_rows.specs.declared.kept.Hole.{Hole}
 
 -- a comment that documents something
-abbrev pub documents : TokenKind → Bool
-documents (kinds.LineComment _) = true
-documents (kinds.BlockComment _) = true
-documents _ = false
+abbrev pub is_documentation : TokenKind → Bool
+is_documentation (kinds.LineComment _) = true
+is_documentation (kinds.BlockComment _) = true
+is_documentation _ = false
 
 -- a token counts that is neither white space nor a comment; documentation counts where that is asked
 abbrev pub counts : Bool → Piece → Bool
-counts has_docs t = is_significant t && (has_docs || not (documents t.kind))
+counts has_docs t = is_significant t && (has_docs || not (is_documentation t.kind))
 
 -- those of some parts, in order, that do not end before a place
 abbrev pub not_over : ℕ → List Hole → List Hole

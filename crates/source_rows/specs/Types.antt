@@ -12,8 +12,8 @@ use Rattle.rust_leaves.specs.Fronts.{front}
 use Rattle.source_rows.specs.declared.types.TypeRead.{TypeRead}
 
 -- a type of which nothing is read
-abbrev pub begun : TypeRead
-begun = record { is_path = true; name = None }
+abbrev pub begun_type : TypeRead
+begun_type = record { is_path = true; name = None }
 
 -- a header ends before its `where`, and before its braces
 abbrev pub is_type_over : Tokens → Bool
@@ -24,16 +24,16 @@ abbrev pub is_link : Tokens → Bool
 is_link ts = symbol ts == 58 || is_path_keyword (word ts)
 
 -- behind a name of a path; what else comes is in no path
-abbrev pub named : TypeRead → Option (List ℕ) → Tokens → TypeRead × Tokens
-named r None ts = (record { is_path = false; name = r.name }, behind_tree ts)
-named r (Some n) ts = (record { is_path = r.is_path; name = Some n }, ts)
+abbrev pub type_named : TypeRead → Option (List ℕ) → Tokens → TypeRead × Tokens
+type_named r None ts = (record { is_path = false; name = r.name }, behind_tree ts)
+type_named r (Some n) ts = (record { is_path = r.is_path; name = Some n }, ts)
 
 -- a step on in a header: the type is what stands behind a `for`, and of a path what stands in angle brackets does not count
 abbrev pub type_step : TypeRead → Tokens → TypeRead × Tokens
 type_step r ts =
-    if is_lone_for ts then (begun, bumped ts)
+    if is_lone_for ts then (begun_type, bumped ts)
     else (if symbol ts == 60 then (r, behind_angles ts)
-    else (if is_link ts then (r, bumped ts) else named r (name ts).0 (name ts).1))
+    else (if is_link ts then (r, bumped ts) else type_named r (name ts).0 (name ts).1))
 
 abbrev pub type_from : ℕ → TypeRead → Tokens → TypeRead
 type_from zero r ts = r
@@ -41,7 +41,7 @@ type_from (suc n) r ts = if is_type_over ts then r else type_from n (type_step r
 
 -- the type of a header
 unfoldable pub type_read : Tokens → TypeRead
-type_read ts = type_from most begun ts
+type_read ts = type_from most begun_type ts
 
 -- the last name of a type that is a path
 abbrev pub path_name : TypeRead → Option (List ℕ)

@@ -28,7 +28,7 @@ fn clings_before(symbol: u8) -> bool
 
 /// Whether the `!` of a macro call comes next.
 fn is_call(cursor: &Cursor<'_>) -> bool
-    ensures { result ≡ spec.is_call cursor.now }
+    ensures { result ≡ spec.is_call_mark cursor.now }
 {
     if cursor.symbol() != b'!' {
         return false;
@@ -41,7 +41,7 @@ fn is_call(cursor: &Cursor<'_>) -> bool
 /// Adds the text of the next token, behind one of this symbol.
 fn push_token(out: &mut String, before: u8, cursor: &Cursor<'_>) -> Result<(), AllocError>
     ensures { OnOk result (string_bytes out.new ≡ string_bytes out.old
-        ++ (spec.gap before cursor.now ++ text cursor.now)) }
+        ++ (spec.gap_text before cursor.now ++ text cursor.now)) }
 {
     if clings_behind(before) || clings_before(cursor.symbol()) || is_call(cursor) {
         return out.push_str(cursor.text());
@@ -94,7 +94,7 @@ fn reach_behind(reach: usize, cursor: &Cursor<'_>) -> usize
 
 #[tactic(auto, using(crate::proofs::Steps::spaced_stop, crate::proofs::Steps::spaced_more))]
 fn spaced(alloc: Global, is_cut: bool, cursor: &mut Cursor<'_>) -> Result<String, AllocError>
-    ensures { IfOk result (λ out. string_bytes out ≡ spec.spaced is_cut 0 [] 60 cursor.old) }
+    ensures { IfOk result (λ out. string_bytes out ≡ spec.spaced_tokens is_cut 0 [] 60 cursor.old) }
 {
     let mut out = String::new(alloc);
     let mut before = b'<';

@@ -2,7 +2,7 @@
 
 ghost use Rattle.std.specs.Prelude.{◌≡◌, ◌++◌, ◌∷◌, [], IfOk, OnOk, map, string_bytes};
 ghost use Rattle.rust_members.specs.Views.{member_view};
-ghost use Rattle.source_rows.specs.Labels.{has_members, path_of};
+ghost use Rattle.source_rows.specs.Labels.{has_members, modules_path};
 ghost use Rattle.source_rows.specs.Parts as spec;
 ghost use Rattle.source_rows.specs.Views.{outer_view, part_view};
 
@@ -35,7 +35,7 @@ pub(crate) struct Around<'t> {
 }
 
 fn told_at(range: TextRange, name: Option<TextRange>) -> usize
-    ensures { result ≡ spec.told_at range name }
+    ensures { result ≡ spec.part_told_at range name }
 {
     match name {
         Some(name) => name.start,
@@ -117,7 +117,7 @@ pub fn members_in(
     body: Option<TextRange>,
     edition: EditionYear,
 ) -> Result<Vec<Member>, AllocError>
-    ensures { let read = spec.members_in edition kind text.now (has_members kind) body in
+    ensures { let read = spec.body_members edition kind text.now (has_members kind) body in
         IfOk result (λ v. map member_view v.items ≡ read) }
 {
     if !has_members(kind) {
@@ -145,7 +145,7 @@ fn push_name(
     item: &ItemPlace,
     out: &mut String,
 ) -> Result<(), AllocError>
-    ensures { let name = spec.name_of edition text.now item.now item.now.name in
+    ensures { let name = spec.part_name edition text.now item.now item.now.name in
         OnOk result (string_bytes out.new ≡ string_bytes out.old ++ name) }
 {
     match item.name {
@@ -160,7 +160,7 @@ fn push_name(
 
 fn push_path(around: &[Around<'_>], out: &mut String) -> Result<(), AllocError>
     ensures { OnOk result (string_bytes out.new ≡ string_bytes out.old
-        ++ path_of (map outer_view around.now)) }
+        ++ modules_path (map outer_view around.now)) }
 {
     for module in around {
         out.push_str(module.name)?;
@@ -177,7 +177,7 @@ fn item_path(
     item: &ItemPlace,
 ) -> Result<String, AllocError>
     ensures { IfOk result (λ out. string_bytes out
-        ≡ spec.item_path edition text.now (map outer_view around.now) item.now) }
+        ≡ spec.part_path edition text.now (map outer_view around.now) item.now) }
 {
     let mut out = String::new(alloc);
     push_path(around, &mut out)?;
@@ -195,7 +195,7 @@ fn fn_body(kind: AstIdKind, body: Option<TextRange>) -> Option<TextRange>
 }
 
 fn item_part(alloc: Global, path: &str, item: &ItemPlace) -> Result<Part, AllocError>
-    ensures { IfOk result (λ part. part_view part ≡ spec.item_part path.now item.now) }
+    ensures { IfOk result (λ part. part_view part ≡ spec.part_of_item path.now item.now) }
 {
     let mut label = String::new(alloc);
     push_label(&mut label, kind_texts(item.id.kind).word, path)?;
@@ -252,7 +252,7 @@ fn enter<'t>(
     around: &mut Vec<Around<'t>>,
 ) -> Result<(), AllocError>
     ensures { OnOk result (map outer_view around.new.items
-        ≡ spec.behind text.now (map outer_view around.old.items) item.now.id.kind item.now) }
+        ≡ spec.around_behind text.now (map outer_view around.old.items) item.now.id.kind item.now) }
 {
     match item.id.kind {
         AstIdKind::Module => {
@@ -274,7 +274,7 @@ pub fn parts(
     edition: EditionYear,
     items: &[ItemPlace],
 ) -> Result<Vec<Part>, AllocError>
-    ensures { IfOk result (λ v. map part_view v.items ≡ spec.parts edition text.now items.now) }
+    ensures { IfOk result (λ v. map part_view v.items ≡ spec.item_parts edition text.now items.now) }
 {
     let mut parts = Vec::new(alloc);
     let mut around = Vec::new(alloc);

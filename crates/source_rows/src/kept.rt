@@ -15,7 +15,7 @@ pub struct Hole {
 }
 
 fn documents(kind: TokenKind) -> bool
-    ensures { result ≡ spec.documents kind }
+    ensures { result ≡ spec.is_documentation kind }
 {
     matches!(kind, TokenKind::LineComment(_) | TokenKind::BlockComment(_))
 }

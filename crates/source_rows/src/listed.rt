@@ -61,7 +61,7 @@ fn told(
     name: Name,
     at: usize,
 ) -> Result<ListedMember, AllocError>
-    ensures { let told = spec.told around.entry.options.now around.entry.is_active
+    ensures { let told = spec.member_told around.entry.options.now around.entry.is_active
         (member_view member.now) at (Some name) in
         IfOk result (λ m. Some (listed_view m) ≡ told) }
 {

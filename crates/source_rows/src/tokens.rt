@@ -15,7 +15,7 @@ use std::alloc::{AllocError, Global};
 
 /// Adds what stands between braces.
 fn push_inside(body: Option<TextRange>, holes: &mut Vec<Hole>) -> Result<(), AllocError>
-    ensures { OnOk result (holes.new.items ≡ holes.old.items ++ spec.inside body) }
+    ensures { OnOk result (holes.new.items ≡ holes.old.items ++ spec.hole_inside body) }
 {
     let Some(body) = body else {
         return Ok(());
@@ -71,7 +71,7 @@ fn push_outside(
 #[tactic(auto, using(crate::proofs::Steps::begun_more, crate::proofs::Steps::begun_stop))]
 fn push_begun(place: usize, parts: &[Part], holes: &mut Vec<Hole>) -> Result<(), AllocError>
     ensures { OnOk result (holes.new.items ≡ holes.old.items
-        ++ spec.begun place (map part_view parts.now)) }
+        ++ spec.holes_begun place (map part_view parts.now)) }
 {
     for part in parts {
         if part.range.start >= place {

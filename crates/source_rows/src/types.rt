@@ -19,7 +19,7 @@ pub(crate) struct TypeRead {
 }
 
 fn begun() -> TypeRead
-    ensures { result ≡ spec.begun }
+    ensures { result ≡ spec.begun_type }
 {
     TypeRead {
         is_path: true,
@@ -54,7 +54,7 @@ fn is_link(cursor: &Cursor<'_>) -> bool
 /// Takes a name of a path, or passes over what is in none.
 fn take_name(alloc: Global, cursor: &mut Cursor<'_>, read: &mut TypeRead) -> Result<(), AllocError>
     ensures { let next = names.name cursor.old in
-        OnOk result (spec.named read.old next.0 next.1 ≡ (read.new, cursor.new)) }
+        OnOk result (spec.type_named read.old next.0 next.1 ≡ (read.new, cursor.new)) }
 {
     match name(alloc, cursor)? {
         Some(name) => {

@@ -34,7 +34,7 @@ use Rattle.source_session.specs.Files.{CrateFiles}
 use Rattle.source_session.specs.Inner.{AreSetTo, AreTogether, IsPlaced, IsSetTo, LeavesPlaced, session_of}
 use Rattle.source_session.specs.Inside.{CanReplace, HasRoom, IsInside, IsMadeAlone, IsMadeOrNot, IsRetyped, IsRetypedIf, MakesAlone}
 use Rattle.source_session.specs.Sessions.{IsEdited}
-use Rattle.source_session.specs.Texts.{Change, IsKeptWith, IsReading, Texts, bytes_kept, change_fault, changed_text, spliced, text_after, text_in, unless_fault}
+use Rattle.source_session.specs.Texts.{TextChange, IsKeptWith, IsReading, Texts, bytes_kept, change_fault, changed_text, spliced, text_after, text_in, unless_fault}
 use Rattle.source_session.proofs.Kept.{text_step}
 use Rattle.source_session.proofs.Made.{together_after}
 use Rattle.source_session.proofs.Read.{left_first}
@@ -116,7 +116,7 @@ module _ (edition : EditionYear) (s u : State) (old new : Texts) (file : ℕ) (r
   abbrev edit : EditView
   edit = set (File (record { 0 = file })) again.syntax
 
-  abbrev change : Change
+  abbrev change : TextChange
   change = Some (file, Some after)
 
   syntax_is : again.syntax ≡ now.syntax

@@ -15,23 +15,23 @@ use Rattle.item_tree_db.specs.declared.place.Place.{Place}
 use Rattle.item_tree_db.specs.declared.place.Place.TheVariants.{File, Block}
 use Rattle.item_tree_db.specs.State.{State, unfolding_at}
 use Rattle.def_collector.specs.Declarations.{node_name}
-use Rattle.def_collector.specs.DeclarationView.{id_of}
+use Rattle.def_collector.specs.DeclarationView.{declaration_id}
 use Rattle.def_collector.specs.declared.collector.Declaration as code
 use Rattle.decl_index.specs.declared.entry.Entry.{Entry}
 use Rattle.decl_index.specs.Entries.{IsDeclared}
 use Rattle.rust_items.specs.declared.source_file.ItemPlace.{ItemPlace}
 use Rattle.source_listing.specs.Ends.{IsEndOf}
 use Rattle.source_listing.specs.Places.{AreDistinct, place_of}
-use Rattle.source_listing.specs.Search.{segment}
+use Rattle.source_listing.specs.Search.{bare_segment}
 use Rattle.source_listing.proofs.Found.{found_later}
 use Rattle.source_listing.proofs.Pushed.{segments_of}
 use Rattle.source_session.specs.declared.texts.SourceText.{SourceText}
 use Rattle.source_session.specs.Finders.{HaveDistinctIds, declared_scope, found_with, head_place, head_scope}
-use Rattle.source_session.specs.Found.{found_in}
+use Rattle.source_session.specs.Found.{found_value}
 use Rattle.source_session.specs.Inner.{IsPlaced}
 use Rattle.source_session.specs.Sought.{found_scope}
 use Rattle.source_session.specs.SourceTexts.{text_bytes, text_places}
-use Rattle.source_session.specs.Texts.{Texts, text_at, text_in}
+use Rattle.source_session.specs.Texts.{Texts, text_of_place, text_in}
 
 -- ---- what is around items
 
@@ -66,7 +66,7 @@ later id (suc k) (x ∷ xs) s once e =
     (λ t. rw t rest)
     (cases_Bool (x.0 == id))
 
-ids_are : (ds : List code.Declaration) → map own_id (map declared_scope ds) ≡ map id_of ds
+ids_are : (ds : List code.Declaration) → map own_id (map declared_scope ds) ≡ map declaration_id ds
 ids_are [] = refl
 ids_are (d ∷ ds) = ap (λ is. d.id ∷ is) (ids_are ds)
 
@@ -76,7 +76,7 @@ drop_scopes (suc k) [] = refl
 drop_scopes (suc k) (d ∷ ds) = drop_scopes k ds
 
 -- of declarations with different ids, the first one behind some is the only one
-pub scope_later : (id k : ℕ) (ds left found : List code.Declaration) → AllPairs (λ i j. i ≢ j) (map id_of ds) → left ≡ drop k ds → 0 < length found → head_scope found ≡ found_scope id (map declared_scope left) → head_scope found ≡ found_scope id (map declared_scope ds)
+pub scope_later : (id k : ℕ) (ds left found : List code.Declaration) → AllPairs (λ i j. i ≢ j) (map declaration_id ds) → left ≡ drop k ds → 0 < length found → head_scope found ≡ found_scope id (map declared_scope left) → head_scope found ≡ found_scope id (map declared_scope ds)
 scope_later id k ds left [] once is some e = absurd (omega (arith, some))
 scope_later id k ds left (d ∷ found) once is some e =
     let s = map (λ name. name.now) d.path.items in
@@ -84,7 +84,7 @@ scope_later id k ds left (d ∷ found) once is some e =
     (ap (found_scope id) (sym (ap (map declared_scope) is ∙ drop_scopes k ds)) ∙ sym e))
 
 -- names one after another
-pub segments_are : (names : List (Bor (List ℕ))) → flat_map (λ n. segment n.now) names ≡ flat_map segment (map (λ n. n.now) names)
+pub segments_are : (names : List (Bor (List ℕ))) → flat_map (λ n. bare_segment n.now) names ≡ flat_map bare_segment (map (λ n. n.now) names)
 segments_are names = sym (segments_of (λ n. n.now) names)
 
 -- ---- where items stand
@@ -118,6 +118,6 @@ pub contained : (s : State) (e : Entry) (u : Unfolding) → IsDeclared s e → u
 contained s e u d is = subst (λ (v : Unfolding). IsContained v e.id) (sym is) (has_some node_name (node_at (unfolding_at s e.place e.krate.0).forest e.id) e.name d.named)
 
 -- its object is that of an item of its place
-pub is_object : (texts : Texts) (place : Place) (krate : Crate) (id : Option FileAstId) → found_with (text_bytes (text_at texts place)) (text_places (text_at texts place)) place krate id ≡ found_in texts place krate id
+pub is_object : (texts : Texts) (place : Place) (krate : Crate) (id : Option FileAstId) → found_with (text_bytes (text_of_place texts place)) (text_places (text_of_place texts place)) place krate id ≡ found_value texts place krate id
 is_object texts (File file) krate id = refl
 is_object texts (Block block) krate id = refl

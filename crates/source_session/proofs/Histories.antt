@@ -8,7 +8,7 @@ use Rattle.serde_json.specs.Find.{as_object}
 use Rattle.serde_json.specs.Written.{has_float}
 use Rattle.hir_input.specs.declared.edition.EditionYear.{EditionYear}
 use Rattle.hir_input_json.specs.Editions.{EditionView}
-use Rattle.hir_input_json.specs.Reading.{Reading, right, wrong, behind}
+use Rattle.hir_input_json.specs.Reading.{Reading, right, wrong, pointer_behind}
 use Rattle.item_tree_db.specs.Edits.{EditView}
 use Rattle.item_tree_db.specs.History.{last_some}
 use Rattle.item_tree_db.proofs.Histories.{after_join, after_none, last_append, or_else}
@@ -19,14 +19,14 @@ use Rattle.source_session.specs.declared.error.LineError.{LineError}
 use Rattle.source_session.specs.declared.error.LineError.TheVariants.{NotJson, NotRequest, NotChanged, Refused, TooLong, OutOfMemory}
 use Rattle.source_session.specs.Histories.{Says, Exchange, answer_of, AsksNext, AsksFirst, StandAll, StandFirst, Stand, StandOf, OpensNone, IsLedByAnswers}
 use Rattle.source_session.specs.Lines.{Settings, Asked, first_line, later_line}
-use Rattle.source_session.specs.Replies.{Open, Outcome, Reply, Replies, IsDone, IsOutcome, IsRefusedAs, IsReplyUnless, IsReplyOf, IsReply, asked_of, of_session, of_opened, id_of, number_of, reply_text, out_of_memory}
+use Rattle.source_session.specs.Replies.{Open, Outcome, Reply, Replies, IsCarriedOut, IsOutcome, IsRefusedAs, IsReplyUnless, IsReplyOf, IsReply, asked_of, of_session, of_opened, id_value, reply_number, reply_text, out_of_memory}
 use Rattle.source_session.specs.Sessions.{Session, new_session, AreMade, IsUnedited}
-use Rattle.source_session.specs.Texts.{Change, FileTexts, text_in, text_after, leaves, AreMeant}
+use Rattle.source_session.specs.Texts.{TextChange, FileTexts, text_in, text_after, left_text, AreMeant}
 use Rattle.source_session.proofs.Made.{same_length}
 use Rattle.source_session.proofs.Meant.{meant_over}
 
 -- edits in two goes
-pub made_join : (s u v : Session) (es fs : List EditView) (cs ds : List Change) → AreMade s es cs u → AreMade u fs ds v → AreMade s (es ++ fs) (cs ++ ds) v
+pub made_join : (s u v : Session) (es fs : List EditView) (cs ds : List TextChange) → AreMade s es cs u → AreMade u fs ds v → AreMade s (es ++ fs) (cs ++ ds) v
 made_join s u v es fs cs ds a b = record {
   count = b.count ∙ a.count;
   files = b.files ∙ a.files;
@@ -34,9 +34,9 @@ made_join s u v es fs cs ds a b = record {
   table = after_join s.table u.table v.table es fs a.table b.table;
   texts = λ file.
       b.texts file
-      ∙ ap (unwrap_or (last_some (leaves file) ds)) (a.texts file)
-      ∙ sym (or_else (last_some (leaves file) ds) (last_some (leaves file) cs) (text_in s.texts file))
-      ∙ ap (λ o. unwrap_or o (text_in s.texts file)) (sym (last_append (leaves file) cs ds));
+      ∙ ap (unwrap_or (last_some (left_text file) ds)) (a.texts file)
+      ∙ sym (or_else (last_some (left_text file) ds) (last_some (left_text file) cs) (text_in s.texts file))
+      ∙ ap (λ o. unwrap_or o (text_in s.texts file)) (sym (last_append (left_text file) cs ds));
 }
 
 -- none
@@ -47,7 +47,7 @@ made_none s = record { count = refl; files = refl; edition = refl; table = after
 
 record LedOn (s u : Session) (Asks : Asked → Type 0) (outcome : Outcome) : Type 0 where
   edits : List EditView
-  changes : List Change
+  changes : List TextChange
   made : AreMade s edits changes u
   stand : Stand outcome Asks s.edition.0 (text_in s.texts) edits changes
 
@@ -56,7 +56,7 @@ led_still s u Asks outcome same stand = record { edits = []; changes = []; made 
 
 -- a line that asks for this
 module _ (s : Session) (Asks : Asked → Type 0) (a : Asked) (asks : Asks a) where
-  stand_stopped : (es : List EditView) (cs : List Change) (n : ℕ) → (n ≡ 0) ⊎ AreMeant s.edition.0 (text_in s.texts) a.edits es cs → Stand (Err OutOfMemory) Asks s.edition.0 (text_in s.texts) (take n es) (take n cs)
+  stand_stopped : (es : List EditView) (cs : List TextChange) (n : ℕ) → (n ≡ 0) ⊎ AreMeant s.edition.0 (text_in s.texts) a.edits es cs → Stand (Err OutOfMemory) Asks s.edition.0 (text_in s.texts) (take n es) (take n cs)
   stand_stopped es cs n (inl z) = inl (ap (λ k. take k es) z, ap (λ k. take k cs) z)
   stand_stopped es cs n (inr meant) = inr (n, (es, cs, (a, asks, meant), refl, refl))
 
@@ -68,12 +68,12 @@ module _ (s : Session) (Asks : Asked → Type 0) (a : Asked) (asks : Asks a) whe
   led_undone u (NotRequest pointer) h = absurd h
   led_undone u TooLong h = absurd h
 
-  led_done : (u : Session) (outcome : Outcome) → IsDone s a u outcome → LedOn s u Asks outcome
+  led_done : (u : Session) (outcome : Outcome) → IsCarriedOut s a u outcome → LedOn s u Asks outcome
   led_done u (Ok values) h = record { edits = h.0.edits; changes = h.0.changes; made = h.0.made; stand = (a, asks, h.0.meant) }
   led_done u (Err e) h = led_undone u e h
 
 -- if there is no memory for the answer
-stand_unsaid : (Asks : Asked → Type 0) (edition : EditionYear) (texts : FileTexts) (outcome : Outcome) (es : List EditView) (cs : List Change) → Stand outcome Asks edition texts es cs → Stand (Err OutOfMemory) Asks edition texts es cs
+stand_unsaid : (Asks : Asked → Type 0) (edition : EditionYear) (texts : FileTexts) (outcome : Outcome) (es : List EditView) (cs : List TextChange) → Stand outcome Asks edition texts es cs → Stand (Err OutOfMemory) Asks edition texts es cs
 stand_unsaid Asks edition texts (Ok values) es cs h =
     inr (length es, (es, cs, h, sym (take_all (length es) es (omega arith)), sym (take_all (length es) cs (omega (arith, same_length edition texts h.0.edits es cs h.2)))))
 stand_unsaid Asks edition texts (Err (Refused place cause)) es cs h = inr (place, h)
@@ -103,12 +103,12 @@ module _ (old : Open) (line : List ℕ) (new : Open) (r : Reply) (P : Outcome �
   by_refused e none h = subst P (sym (ap (λ (x : Reply). x.outcome) h.1)) (refused e none h.0)
 
   by_unless : (d : Data) → IsJsonText line d → (b : Bool) → IsReplyUnless b old d new r → P r.outcome
-  by_unless d text true h = elim h as (λ _. P r.outcome) [ inl w ↦ by_refused OutOfMemory tt w | inr w ↦ by_refused (NotRequest (behind (codes "id") [])) tt w ]
+  by_unless d text true h = elim h as (λ _. P r.outcome) [ inl w ↦ by_refused OutOfMemory tt w | inr w ↦ by_refused (NotRequest (pointer_behind (codes "id") [])) tt w ]
   by_unless d text false h = elim h.1 as (λ _. P r.outcome) [ inl w ↦ subst P (sym w.1) (refused OutOfMemory tt w.0) | inr o ↦ done d text o ]
 
   by_value : (d : Data) → IsJsonText line d → (o : Option Members) → IsReplyOf o old d new r → P r.outcome
   by_value d text None h = by_refused (NotRequest []) tt h
-  by_value d text (Some ms) h = by_unless d text (has_float (id_of d)) h
+  by_value d text (Some ms) h = by_unless d text (has_float (id_value d)) h
 
   by_told : (told : Told) → IsToldOf line told → IsReply old told new r → P r.outcome
   by_told (whole bytes) t h = elim h as (λ _. P r.outcome) [
@@ -127,8 +127,8 @@ record Answered (P : Outcome → Type 0) (text : List ℕ) : Type 0 where
   says : Says text outcome
   holds : P outcome
 
-answered : (P : Outcome → Type 0) (new : Open) (r : Reply) (text : List ℕ) → P r.outcome → (P r.outcome → P (Err OutOfMemory)) → (text ≡ reply_text r.id (number_of new) r.outcome) ⊎ (text ≡ out_of_memory) → Answered P text
-answered P new r text h unsaid (inl e) = record { outcome = r.outcome; says = inl (r.id, number_of new, e); holds = h }
+answered : (P : Outcome → Type 0) (new : Open) (r : Reply) (text : List ℕ) → P r.outcome → (P r.outcome → P (Err OutOfMemory)) → (text ≡ reply_text r.id (reply_number new) r.outcome) ⊎ (text ≡ out_of_memory) → Answered P text
+answered P new r text h unsaid (inl e) = record { outcome = r.outcome; says = inl (r.id, reply_number new, e); holds = h }
 answered P new r text h unsaid (inr e) = record { outcome = Err OutOfMemory; says = inr (e, refl); holds = unsaid h }
 
 abbrev exchange_of : {P : Outcome → Type 0} → (line text : List ℕ) → Answered P text → Exchange
@@ -176,17 +176,17 @@ begins_line line told new text t h =
 -- ---- over texts that are the same
 
 module _ (edition : EditionYear) (old new : FileTexts) (same : (file : ℕ) → old file ≡ new file) where
-  all_over : (Asks : Asked → Type 0) (es : List EditView) (cs : List Change) → StandAll Asks edition old es cs → StandAll Asks edition new es cs
+  all_over : (Asks : Asked → Type 0) (es : List EditView) (cs : List TextChange) → StandAll Asks edition old es cs → StandAll Asks edition new es cs
   all_over Asks es cs h = (h.0, h.1, meant_over edition old new same h.0.edits es cs h.2)
 
-  first_over : (n : ℕ) (Asks : Asked → Type 0) (es : List EditView) (cs : List Change) → StandFirst n Asks edition old es cs → StandFirst n Asks edition new es cs
+  first_over : (n : ℕ) (Asks : Asked → Type 0) (es : List EditView) (cs : List TextChange) → StandFirst n Asks edition old es cs → StandFirst n Asks edition new es cs
   first_over n Asks es cs h = (h.0, h.1, all_over Asks h.0 h.1 h.2, h.3, h.4)
 
-  stopped_over : (Asks : Asked → Type 0) (es : List EditView) (cs : List Change) → Stand (Err OutOfMemory) Asks edition old es cs → Stand (Err OutOfMemory) Asks edition new es cs
+  stopped_over : (Asks : Asked → Type 0) (es : List EditView) (cs : List TextChange) → Stand (Err OutOfMemory) Asks edition old es cs → Stand (Err OutOfMemory) Asks edition new es cs
   stopped_over Asks es cs (inl none) = inl none
   stopped_over Asks es cs (inr h) = inr (h.0, first_over h.0 Asks es cs h.1)
 
-  stand_over : (outcome : Outcome) (Asks : Asked → Type 0) (es : List EditView) (cs : List Change) → Stand outcome Asks edition old es cs → Stand outcome Asks edition new es cs
+  stand_over : (outcome : Outcome) (Asks : Asked → Type 0) (es : List EditView) (cs : List TextChange) → Stand outcome Asks edition old es cs → Stand outcome Asks edition new es cs
   stand_over (Ok values) Asks es cs h = all_over Asks es cs h
   stand_over (Err (Refused place cause)) Asks es cs h = first_over place Asks es cs h
   stand_over (Err OutOfMemory) Asks es cs h = stopped_over Asks es cs h
@@ -195,7 +195,7 @@ module _ (edition : EditionYear) (old new : FileTexts) (same : (file : ℕ) → 
   stand_over (Err (NotChanged place cause)) Asks es cs h = h
   stand_over (Err TooLong) Asks es cs h = h
 
-stand_of_over : (count : ℕ) (edition : EditionYear) (old new : FileTexts) → ((file : ℕ) → old file ≡ new file) → (xs : List Exchange) (es : List EditView) (cs : List Change) → StandOf (AsksNext count) count edition old xs es cs → StandOf (AsksNext count) count edition new xs es cs
+stand_of_over : (count : ℕ) (edition : EditionYear) (old new : FileTexts) → ((file : ℕ) → old file ≡ new file) → (xs : List Exchange) (es : List EditView) (cs : List TextChange) → StandOf (AsksNext count) count edition old xs es cs → StandOf (AsksNext count) count edition new xs es cs
 stand_of_over count edition old new same [] es cs h = h
 stand_of_over count edition old new same (x ∷ xs) es cs h = (
   h.0,
@@ -203,7 +203,7 @@ stand_of_over count edition old new same (x ∷ xs) es cs h = (
   h.2,
   h.3,
   stand_over edition old new same x.outcome (AsksNext count x.line) h.0 h.2 h.4,
-  stand_of_over count edition (text_after old h.2) (text_after new h.2) (λ file. ap (unwrap_or (last_some (leaves file) h.2)) (same file)) xs h.1 h.3 h.5,
+  stand_of_over count edition (text_after old h.2) (text_after new h.2) (λ file. ap (unwrap_or (last_some (left_text file) h.2)) (same file)) xs h.1 h.3 h.5,
   h.6,
   h.7,
 )
@@ -215,7 +215,7 @@ record IsLedOn (Asks : List ℕ → Asked → Type 0) (s : Session) (xs : List E
   session : Session
   is_open : new ≡ Some session
   edits : List EditView
-  changes : List Change
+  changes : List TextChange
   made : AreMade s edits changes session
   stand : StandOf Asks s.count s.edition.0 (text_in s.texts) xs edits changes
 

@@ -30,11 +30,11 @@ use Rattle.source_session.proofs.Kept.{text_over}
 use Rattle.source_session.proofs.Read.{AreLeft, left_first, set_after}
 use Rattle.source_session.proofs.Touching.{behind_by_after, touched_first}
 use Rattle.source_session.specs.Touched.{AreTouched, IsBehindBy, Touched}
-use Rattle.source_session.specs.Texts.{Texts, FileTexts, Change, text_in, text_after, leaves, AreMeant, FailsAt}
+use Rattle.source_session.specs.Texts.{Texts, FileTexts, TextChange, text_in, text_after, left_text, AreMeant, FailsAt}
 
 -- ---- the places of texts
 
-placed_leaves : (file : ℕ) (c : Change) → LeavesPlaced c → IfSome (leaves file c) IsPlaced
+placed_leaves : (file : ℕ) (c : TextChange) → LeavesPlaced c → IfSome (left_text file c) IsPlaced
 placed_leaves file None h = tt
 placed_leaves file (Some c) h = elim (c.0 == file) as (λ b. IfSome (if b then Some c.1 else None) IsPlaced) [ true ↦ h | false ↦ tt ]
 
@@ -46,17 +46,17 @@ some_else : {A : Type 0} (P : A → Type 0) (o : Option A) (d : A) → IfSome o 
 some_else P None d h k = k
 some_else P (Some a) d h k = h
 
-placed_last : (file : ℕ) (cs : List Change) → All LeavesPlaced cs → IfSome (last_some (leaves file) cs) IsPlaced
+placed_last : (file : ℕ) (cs : List TextChange) → All LeavesPlaced cs → IfSome (last_some (left_text file) cs) IsPlaced
 placed_last file [] h = tt
-placed_last file (c ∷ cs) h = some_either IsPlaced (last_some (leaves file) cs) (leaves file c) (placed_last file cs (λ k d within. h (suc k) d (omega (arith, within)))) (placed_leaves file c (h 0 None (omega arith)))
+placed_last file (c ∷ cs) h = some_either IsPlaced (last_some (left_text file) cs) (left_text file c) (placed_last file cs (λ k d within. h (suc k) d (omega (arith, within)))) (placed_leaves file c (h 0 None (omega arith)))
 
-placed_after : (texts : Texts) (cs : List Change) → ((file : ℕ) → IsPlaced (text_in texts file)) → All LeavesPlaced cs → (file : ℕ) → IsPlaced (text_after (text_in texts) cs file)
-placed_after texts cs old new file = some_else IsPlaced (last_some (leaves file) cs) (text_in texts file) (placed_last file cs new) (old file)
+placed_after : (texts : Texts) (cs : List TextChange) → ((file : ℕ) → IsPlaced (text_in texts file)) → All LeavesPlaced cs → (file : ℕ) → IsPlaced (text_after (text_in texts) cs file)
+placed_after texts cs old new file = some_else IsPlaced (last_some (left_text file) cs) (text_in texts file) (placed_last file cs new) (old file)
 
 -- ---- what belongs together
 
 -- after edits of the table and changes of the texts
-pub together_after : (count : ℕ) (edition : EditionYear) (s u : State) (edits : List EditView) (old new : Texts) (changes : List Change) (index : IndexView) (were are : Touched) → AreTogether count edition s old index were → IsBehindBy index are u → IsAfter s edits u
+pub together_after : (count : ℕ) (edition : EditionYear) (s u : State) (edits : List EditView) (old new : Texts) (changes : List TextChange) (index : IndexView) (were are : Touched) → AreTogether count edition s old index were → IsBehindBy index are u → IsAfter s edits u
     → All LeavesPlaced changes → ((file : ℕ) → text_in new file ≡ text_after (text_in old) changes file) → ((file : ℕ) → AreLeft edition file edits changes) → AreTogether count edition u new index are
 together_after count edition s u edits old new changes index were are t behind after placed texts left = record {
   known = λ n own small. rw after.count (t.known n own small);
@@ -67,7 +67,7 @@ together_after count edition s u edits old new changes index were are t behind a
 
 -- ---- outcomes
 
-pub same_length : (edition : EditionYear) (texts : FileTexts) (ls : List LineEdit) (es : List EditView) (cs : List Change) → AreMeant edition texts ls es cs → length cs ≡ length es
+pub same_length : (edition : EditionYear) (texts : FileTexts) (ls : List LineEdit) (es : List EditView) (cs : List TextChange) → AreMeant edition texts ls es cs → length cs ≡ length es
 same_length edition texts [] [] [] h = refl
 same_length edition texts (l ∷ ls) (e ∷ es) (c ∷ cs) h = ap suc (same_length edition (text_after texts (c ∷ [])) ls es cs h.1)
 same_length edition texts [] (e ∷ es) cs h = absurd h
@@ -103,7 +103,7 @@ stopped_all s asked u e = record {
 }
 
 -- an edit is refused, or memory runs out in it
-module _ (s : Session) (asked : List LineEdit) (u : Session) (edits : List EditView) (changes : List Change) (place : ℕ) (meant : AreMeant s.edition.0 (text_in s.texts) asked edits changes) (made : AreMade s (take place edits) (take place changes) u) where
+module _ (s : Session) (asked : List LineEdit) (u : Session) (edits : List EditView) (changes : List TextChange) (place : ℕ) (meant : AreMeant s.edition.0 (text_in s.texts) asked edits changes) (made : AreMade s (take place edits) (take place changes) u) where
   pub refused_at : (cause : EditFault) → IsUnmade s.table edits (refusal_of place cause) → IsUnedited s asked u (line_refusal place cause)
   refused_at TooManyEdits h = record { edits = edits; changes = changes; meant = meant; made = made; none_before = h.0; passes = h.1 }
   refused_at (Lower TooManyItems) h = record { edits = edits; changes = changes; meant = meant; made = made; none_before = h.0; passes = h.1 }
@@ -126,7 +126,7 @@ after_first s u edits (Ok number) ok err = subst (λ es. IsAfter s es u) (sym (t
 after_first s u edits (Err all) ok err = err
 
 -- what all edits of a line come to
-module _ (s u : Session) (asked : List LineEdit) (edits : List Edit) (changes : List Change) (meant : AreMeant s.edition.0 (text_in s.texts) asked (map edit_view edits) changes) where
+module _ (s u : Session) (asked : List LineEdit) (edits : List Edit) (changes : List TextChange) (meant : AreMeant s.edition.0 (text_in s.texts) asked (map edit_view edits) changes) where
   edited_by : (number : ℕ) → AreMade s (take (length edits) (map edit_view edits)) (take (length edits) changes) u → number ≡ u.table.number → number ≤ last_number → FirstFit s.table (map edit_view edits) (length edits) → IsEdited s asked u
   edited_by number made is small fit =
       let es = map edit_view edits in
@@ -150,7 +150,7 @@ module _ (s u : Session) (asked : List LineEdit) (edits : List Edit) (changes : 
 -- ---- a table and the texts of its files
 
 -- room was made for the texts, the table answered, and the first changes were made
-module _ (s u : State) (old room new : Texts) (edits : List Edit) (changes : List Change) (made : Result ℕ AllRefused) (n : ℕ) (ok : OnOk made (IsAfter s (map edit_view edits) u)) (refused : IfErr made (λ all. IsAfter s (edits_before all edits) u))
+module _ (s u : State) (old room new : Texts) (edits : List Edit) (changes : List TextChange) (made : Result ℕ AllRefused) (n : ℕ) (ok : OnOk made (IsAfter s (map edit_view edits) u)) (refused : IfErr made (λ all. IsAfter s (edits_before all edits) u))
     (count_is : n ≡ made_count (length edits) made) (same : (file : ℕ) → text_in room file ≡ text_in old file) (put : (file : ℕ) → text_in new file ≡ text_after (text_in room) (take n changes) file) where
   texts_after : (file : ℕ) → text_in new file ≡ text_after (text_in old) (take (made_count (length edits) made) changes) file
   texts_after file = put file ∙ text_over old room (take n changes) same file ∙ ap (λ k. text_after (text_in old) (take k changes) file) count_is

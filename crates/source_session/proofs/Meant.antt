@@ -10,12 +10,12 @@ use Rattle.source_session.specs.declared.error.LineError.TheVariants.{NotJson, N
 use Rattle.source_session.specs.declared.splice.ChangeFault.{ChangeFault}
 use Rattle.source_session.specs.Edits.{LineEdit, of_table, set_text, change_text}
 use Rattle.source_session.specs.Inner.{IsFailing, TellsFault}
-use Rattle.source_session.specs.Texts.{Change, FileTexts, leaves, text_after, bytes_kept, changed_text, Means, AreMeant, Fails, FailsAt}
+use Rattle.source_session.specs.Texts.{TextChange, FileTexts, left_text, text_after, bytes_kept, changed_text, Means, AreMeant, Fails, FailsAt}
 
 -- ---- over texts that are the same
 
 module _ (edition : EditionYear) (old new : FileTexts) (same : (file : ℕ) → old file ≡ new file) where
-  means_over : (l : LineEdit) (e : EditView) (c : Change) → Means edition old l e c → Means edition new l e c
+  means_over : (l : LineEdit) (e : EditView) (c : TextChange) → Means edition old l e c → Means edition new l e c
   means_over (of_table f) e c h = h
   means_over (set_text file text) e c h = h
   means_over (change_text file range text) e c h = (h.0, subst (λ t. changed_text (bytes_kept t) range text ≡ Ok h.0) (same file) h.1, h.2)
@@ -25,11 +25,11 @@ module _ (edition : EditionYear) (old new : FileTexts) (same : (file : ℕ) → 
   fails_over (set_text file text) cause h = h
   fails_over (change_text file range text) cause h = subst (λ t. changed_text (bytes_kept t) range text ≡ Err cause) (same file) h
 
-pub meant_over : (edition : EditionYear) (old new : FileTexts) → ((file : ℕ) → old file ≡ new file) → (ls : List LineEdit) (es : List EditView) (cs : List Change) → AreMeant edition old ls es cs → AreMeant edition new ls es cs
+pub meant_over : (edition : EditionYear) (old new : FileTexts) → ((file : ℕ) → old file ≡ new file) → (ls : List LineEdit) (es : List EditView) (cs : List TextChange) → AreMeant edition old ls es cs → AreMeant edition new ls es cs
 meant_over edition old new same [] [] [] h = h
 meant_over edition old new same (l ∷ ls) (e ∷ es) (c ∷ cs) h = (
   means_over edition old new same l e c h.0,
-  meant_over edition (text_after old (c ∷ [])) (text_after new (c ∷ [])) (λ file. ap (unwrap_or (leaves file c)) (same file)) ls es cs h.1,
+  meant_over edition (text_after old (c ∷ [])) (text_after new (c ∷ [])) (λ file. ap (unwrap_or (left_text file c)) (same file)) ls es cs h.1,
 )
 meant_over edition old new same [] (e ∷ es) cs h = absurd h
 meant_over edition old new same [] [] (c ∷ cs) h = absurd h
@@ -39,10 +39,10 @@ meant_over edition old new same (l ∷ ls) (e ∷ es) [] h = absurd h
 -- ---- behind others
 
 -- the first change, and those behind it
-after_first : (texts : FileTexts) (c : Change) (cs : List Change) (file : ℕ) → text_after texts (c ∷ cs) file ≡ text_after (text_after texts (c ∷ [])) cs file
-after_first texts c cs file = or_else (last_some (leaves file) cs) (leaves file c) (texts file)
+after_first : (texts : FileTexts) (c : TextChange) (cs : List TextChange) (file : ℕ) → text_after texts (c ∷ cs) file ≡ text_after (text_after texts (c ∷ [])) cs file
+after_first texts c cs file = or_else (last_some (left_text file) cs) (left_text file c) (texts file)
 
-pub meant_push : (edition : EditionYear) (texts : FileTexts) (ls : List LineEdit) (es : List EditView) (cs : List Change) (l : LineEdit) (e : EditView) (c : Change) → AreMeant edition texts ls es cs → Means edition (text_after texts cs) l e c → AreMeant edition texts (ls ++ l ∷ []) (es ++ e ∷ []) (cs ++ c ∷ [])
+pub meant_push : (edition : EditionYear) (texts : FileTexts) (ls : List LineEdit) (es : List EditView) (cs : List TextChange) (l : LineEdit) (e : EditView) (c : TextChange) → AreMeant edition texts ls es cs → Means edition (text_after texts cs) l e c → AreMeant edition texts (ls ++ l ∷ []) (es ++ e ∷ []) (cs ++ c ∷ [])
 meant_push edition texts [] [] [] l e c are is = (is, tt)
 meant_push edition texts (k ∷ ls) (f ∷ es) (d ∷ cs) l e c are is =
     let next = text_after texts (d ∷ []) in
@@ -53,7 +53,7 @@ meant_push edition texts (k ∷ ls) [] cs l e c are is = absurd are
 meant_push edition texts (k ∷ ls) (f ∷ es) [] l e c are is = absurd are
 
 -- the first that means nothing
-pub fails_behind : (edition : EditionYear) (texts : FileTexts) (ls : List LineEdit) (es : List EditView) (cs : List Change) (l : LineEdit) (rest : List LineEdit) (cause : ChangeFault) → AreMeant edition texts ls es cs → Fails (text_after texts cs) l cause → FailsAt edition texts (ls ++ l ∷ rest) (length ls) cause
+pub fails_behind : (edition : EditionYear) (texts : FileTexts) (ls : List LineEdit) (es : List EditView) (cs : List TextChange) (l : LineEdit) (rest : List LineEdit) (cause : ChangeFault) → AreMeant edition texts ls es cs → Fails (text_after texts cs) l cause → FailsAt edition texts (ls ++ l ∷ rest) (length ls) cause
 fails_behind edition texts [] [] [] l rest cause are fails = fails
 fails_behind edition texts (k ∷ ls) (f ∷ es) (d ∷ cs) l rest cause are fails =
     let next = text_after texts (d ∷ []) in
@@ -63,7 +63,7 @@ fails_behind edition texts [] [] (d ∷ cs) l rest cause are fails = absurd are
 fails_behind edition texts (k ∷ ls) [] cs l rest cause are fails = absurd are
 fails_behind edition texts (k ∷ ls) (f ∷ es) [] l rest cause are fails = absurd are
 
-meant_length : (edition : EditionYear) (texts : FileTexts) (ls : List LineEdit) (es : List EditView) (cs : List Change) → AreMeant edition texts ls es cs → length cs ≡ length ls
+meant_length : (edition : EditionYear) (texts : FileTexts) (ls : List LineEdit) (es : List EditView) (cs : List TextChange) → AreMeant edition texts ls es cs → length cs ≡ length ls
 meant_length edition texts [] [] [] are = refl
 meant_length edition texts (l ∷ ls) (e ∷ es) (c ∷ cs) are = ap suc (meant_length edition (text_after texts (c ∷ [])) ls es cs are.1)
 meant_length edition texts [] (e ∷ es) cs are = absurd are
@@ -72,7 +72,7 @@ meant_length edition texts (l ∷ ls) [] cs are = absurd are
 meant_length edition texts (l ∷ ls) (e ∷ es) [] are = absurd are
 
 -- what is told of an edit behind others is told of all
-pub tells_behind : (edition : EditionYear) (texts : FileTexts) (ls : List LineEdit) (es : List EditView) (cs : List Change) (l : LineEdit) (rest : List LineEdit) (e : LineError) → AreMeant edition texts ls es cs → TellsFault (IsFailing (text_after texts cs) l (length cs)) e
+pub tells_behind : (edition : EditionYear) (texts : FileTexts) (ls : List LineEdit) (es : List EditView) (cs : List TextChange) (l : LineEdit) (rest : List LineEdit) (e : LineError) → AreMeant edition texts ls es cs → TellsFault (IsFailing (text_after texts cs) l (length cs)) e
     → TellsFault (FailsAt edition texts (ls ++ l ∷ rest)) e
 tells_behind edition texts ls es cs l rest (NotChanged place cause) are h =
     subst (λ k. FailsAt edition texts (ls ++ l ∷ rest) k cause) (sym (h.0 ∙ meant_length edition texts ls es cs are)) (fails_behind edition texts ls es cs l rest cause are h.1)

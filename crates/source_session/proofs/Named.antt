@@ -25,13 +25,13 @@ use Rattle.source_listing.specs.Outlines.{reading}
 use Rattle.source_listing.proofs.NoFloats.{no_float_in_outline, no_float_in_imports, no_float_in_problems}
 use Rattle.source_session.specs.declared.show.LineShow.{LineShow}
 use Rattle.source_session.specs.declared.show.LineShow.TheVariants.{Table, Outline, TreeItems, ImportPlaces, Changes, Problems, Find}
-use Rattle.source_session.specs.Found.{ast_of, found_form, found_in, id_form, in_file, place_by_id}
+use Rattle.source_session.specs.Found.{ast_of, found_form, found_value, id_form, in_file, place_by_id}
 use Rattle.source_session.specs.Inner.{AreUnfloating, Knowing}
 use Rattle.source_session.specs.Sessions.{Session}
-use Rattle.source_session.specs.Shown.{all_items, change_form, change_with, item_objects, items_member, pathless, tree_of, IsShown}
+use Rattle.source_session.specs.Shown.{all_items, change_form, change_with, item_objects, items_member, pathless, shown_tree, IsShowValue}
 use Rattle.source_session.specs.Sought.{is_sought}
-use Rattle.source_session.specs.SourceTexts.{text_bytes, text_places, all_places, text_problems}
-use Rattle.source_session.specs.Texts.{Texts, text_at, text_in}
+use Rattle.source_session.specs.SourceTexts.{text_bytes, text_places, places_of_text, text_problems}
+use Rattle.source_session.specs.Texts.{Texts, text_of_place, text_in}
 
 -- ---- crates
 
@@ -60,7 +60,7 @@ no_float_in_file : (file : HirFileId) (krate : Crate) (id : Data) (text : List �
 no_float_in_file file krate id text None h = ap (λ b. b || false) h
 no_float_in_file file krate id text (Some place) h = ap (λ b. b || false) h
 
-no_float_found : (texts : Texts) (place : Place) (krate : Crate) (id : Option FileAstId) → has_float (found_in texts place krate id) ≡ false
+no_float_found : (texts : Texts) (place : Place) (krate : Crate) (id : Option FileAstId) → has_float (found_value texts place krate id) ≡ false
 no_float_found texts (File file) krate id = let t = text_in texts file.0 in no_float_in_file file krate (id_form id) (text_bytes t) (place_by_id t id) (no_float_id id)
 no_float_found texts (Block block) krate id = ap (λ b. b || false) (no_float_id id)
 
@@ -83,22 +83,22 @@ no_float_in_changes (c ∷ cs) = rw (no_float_change_form c, no_float_in_changes
 
 no_float_items : (u : Session) (krate : Crate) (place : Place) → AreUnfloating (item_objects u krate place)
 no_float_items u krate place =
-    let t = text_at u.texts place in
-    let s = pathless (text_bytes t) in no_float_in_outline s (reading s u.edition.0 None) u.edition.1 (text_places t) all_items (tree_of u krate place)
+    let t = text_of_place u.texts place in
+    let s = pathless (text_bytes t) in no_float_in_outline s (reading s u.edition.0 None) u.edition.1 (text_places t) all_items (shown_tree u krate place)
 
 -- ---- shows
 
-no_float_shown : (u : Session) (show : LineShow) (d : Data) → IsShown u show d → has_float d ≡ false
+no_float_shown : (u : Session) (show : LineShow) (d : Data) → IsShowValue u show d → has_float d ≡ false
 no_float_shown u (Table (OfTree show)) d h = ap has_float h
 no_float_shown u (Table (Changed since)) d h = ap has_float h.2
 no_float_shown u (Outline krate file) d h = ap has_float h ∙ no_float_items u krate (File file)
 no_float_shown u (TreeItems krate place) d h = ap has_float h ∙ no_float_change (item_objects u krate place) (place, krate, change_number u.table place krate.0) (no_float_items u krate place)
-no_float_shown u (ImportPlaces krate place) d h = let t = text_at u.texts place in ap has_float h ∙ no_float_in_imports (text_bytes t) u.edition.1 (all_places t) (tree_of u krate place).forest
+no_float_shown u (ImportPlaces krate place) d h = let t = text_of_place u.texts place in ap has_float h ∙ no_float_in_imports (text_bytes t) u.edition.1 (places_of_text t) (shown_tree u krate place).forest
 no_float_shown u (Changes since) d h = ap has_float h.2 ∙ no_float_in_changes h.0
 no_float_shown u (Problems file) d h = let t = text_in u.texts file.0 in ap has_float h ∙ no_float_in_problems (text_bytes t) (text_problems t)
 no_float_shown u (Find q) d h = ap has_float h.2 ∙ no_float_in_found u.table u.texts (filter (is_sought u.files u.table q) h.0)
 
-pub no_float_in_shown : (u : Session) (shows : List LineShow) (ds : List Data) → AllZip (IsShown u) shows ds → AreUnfloating ds
+pub no_float_in_shown : (u : Session) (shows : List LineShow) (ds : List Data) → AllZip (IsShowValue u) shows ds → AreUnfloating ds
 no_float_in_shown u [] [] are = refl
 no_float_in_shown u [] (d ∷ ds) are = absurd are
 no_float_in_shown u (x ∷ xs) [] are = absurd are

@@ -9,9 +9,9 @@ use Rattle.std.proofs.lemmas.List.{length-append, length-drop}
 use Rattle.std.proofs.Math.Seq.{drop-append-add}
 use Rattle.item_tree.specs.Node.{Unfolding}
 use Rattle.def_collector.specs.Declarations.{Declaration, declared_at}
-use Rattle.def_collector.specs.DeclarationView.{DeclarationView, collected, defined}
+use Rattle.def_collector.specs.DeclarationView.{DeclarationView, collected_declaration, defined}
 use Rattle.def_collector.specs.declared.collector.Declaration as code
-use Rattle.source_listing.specs.Search.{segment}
+use Rattle.source_listing.specs.Search.{bare_segment}
 use Rattle.source_listing.specs.Sought.{Sought}
 use Rattle.source_session.specs.Finders.{declared_scope}
 use Rattle.source_session.specs.Sought.{own_scope, scope_at, path_within, is_at}
@@ -30,14 +30,14 @@ ends_more front text end e =
     ∙ e
 
 -- where the name alone ends as the path that is looked for, it is found
-pub name_tells : (u : Unfolding) (i : ℕ) (name : List ℕ) (q : Sought) → (q.is_anywhere && ends_with nat_eq (segment name) q.path) ≡ true → is_at q (path_within u i name) ≡ true
+pub name_tells : (u : Unfolding) (i : ℕ) (name : List ℕ) (q : Sought) → (q.is_anywhere && ends_with nat_eq (bare_segment name) q.path) ≡ true → is_at q (path_within u i name) ≡ true
 name_tells u i name q h =
-    let both = and_parts q.is_anywhere (ends_with nat_eq (segment name) q.path) h in
-    rw (both.0) (ends_more (flat_map segment (scope_at u i)) (segment name) q.path both.1)
+    let both = and_parts q.is_anywhere (ends_with nat_eq (bare_segment name) q.path) h in
+    rw (both.0) (ends_more (flat_map bare_segment (scope_at u i)) (bare_segment name) q.path both.1)
 
 -- ---- what is around items
 
-scopes_of : (u : Unfolding) (ds : List code.Declaration) → map declared_scope ds ≡ map (λ (d : ℕ × DeclarationView). (d.0, d.1.path)) (map (collected u) ds)
+scopes_of : (u : Unfolding) (ds : List code.Declaration) → map declared_scope ds ≡ map (λ (d : ℕ × DeclarationView). (d.0, d.1.path)) (map (collected_declaration u) ds)
 scopes_of u [] = refl
 scopes_of u (d ∷ ds) = ap (λ xs. declared_scope d ∷ xs) (scopes_of u ds)
 
@@ -46,7 +46,7 @@ scopes_are [] = refl
 scopes_are (d ∷ ds) = ap (λ xs. own_scope d ∷ xs) (scopes_are ds)
 
 -- what is collected of a tree tells what is around its items
-pub all_scopes : (u : Unfolding) (ds : List code.Declaration) → map (collected u) ds ≡ map defined (declared_at u) → map declared_scope ds ≡ map own_scope (declared_at u)
+pub all_scopes : (u : Unfolding) (ds : List code.Declaration) → map (collected_declaration u) ds ≡ map defined (declared_at u) → map declared_scope ds ≡ map own_scope (declared_at u)
 all_scopes u ds e = scopes_of u ds ∙ ap (map (λ (d : ℕ × DeclarationView). (d.0, d.1.path))) e ∙ scopes_are (declared_at u)
 
 -- ---- lists

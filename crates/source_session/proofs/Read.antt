@@ -11,7 +11,7 @@ use Rattle.rust_items.specs.SourceFiles.{IsBareFile}
 use Rattle.source_session.specs.declared.texts.SourceText.{SourceText}
 use Rattle.source_session.specs.Edits.{LineEdit, of_table, set_text, change_text}
 use Rattle.source_session.specs.Inner.{AreSetTo, IsSetTo}
-use Rattle.source_session.specs.Texts.{AreMeant, Change, FileTexts, IsReading, Means, Texts, forgets, leaves, text_after, text_in}
+use Rattle.source_session.specs.Texts.{AreMeant, TextChange, FileTexts, IsReading, Means, Texts, forgets, left_text, text_after, text_in}
 
 -- what is left of the syntax of a file, and of its text, if anything is
 abbrev pub AreOfOne : EditionYear → Option (Option SyntaxView) → Option (Option SourceText) → Type 0
@@ -21,8 +21,8 @@ AreOfOne edition None (Some text) = ⊥
 AreOfOne edition (Some syntax) None = ⊥
 
 -- the same by edits of the table, and by changes of the texts
-abbrev pub AreLeft : EditionYear → ℕ → List EditView → List Change → Type 0
-AreLeft edition file edits changes = AreOfOne edition (last_some (sets (File (record { 0 = file }))) edits) (last_some (leaves file) changes)
+abbrev pub AreLeft : EditionYear → ℕ → List EditView → List TextChange → Type 0
+AreLeft edition file edits changes = AreOfOne edition (last_some (sets (File (record { 0 = file }))) edits) (last_some (left_text file) changes)
 
 -- ---- one edit
 
@@ -30,25 +30,25 @@ one_if : (edition : EditionYear) (b : Bool) (syntax : Option SyntaxView) (text :
 one_if edition true syntax text h = h
 one_if edition false syntax text h = tt
 
-one_forgotten : (edition : EditionYear) (e : EditView) (file : ℕ) → AreOfOne edition (sets (File (record { 0 = file })) e) (leaves file (forgets e))
+one_forgotten : (edition : EditionYear) (e : EditView) (file : ℕ) → AreOfOne edition (sets (File (record { 0 = file })) e) (left_text file (forgets e))
 one_forgotten edition (set (File at) syntax) file = one_if edition (at.0 == file) (Some syntax) None tt
 one_forgotten edition (set (Block block) syntax) file = tt
 one_forgotten edition (remove (File at)) file = one_if edition (at.0 == file) None None tt
 one_forgotten edition (remove (Block block)) file = tt
 one_forgotten edition (set_cfg krate options) file = tt
 
-one_read : (edition : EditionYear) (at : ℕ) (text : List ℕ) (e : EditView) (c : Change) (file : ℕ) → IsReading edition at text e c → AreOfOne edition (sets (File (record { 0 = file })) e) (leaves file c)
+one_read : (edition : EditionYear) (at : ℕ) (text : List ℕ) (e : EditView) (c : TextChange) (file : ℕ) → IsReading edition at text e c → AreOfOne edition (sets (File (record { 0 = file })) e) (left_text file c)
 one_read edition at text e c file r =
     let kept = r.kept in
     let is : IsSetTo edition (Some r.read.syntax) kept = record { read = r.read; is_read = subst (λ x. IsBareFile edition x r.read) (sym r.text_is) r.is_read; rest = r.rest; syntax_is = refl } in
-    subst (λ d. AreOfOne edition (sets (File (record { 0 = file })) e) (leaves file d)) (sym r.change_is)
-    (subst (λ f. AreOfOne edition (sets (File (record { 0 = file })) f) (leaves file (Some (at, Some kept)))) (sym r.edit_is)
+    subst (λ d. AreOfOne edition (sets (File (record { 0 = file })) e) (left_text file d)) (sym r.change_is)
+    (subst (λ f. AreOfOne edition (sets (File (record { 0 = file })) f) (left_text file (Some (at, Some kept)))) (sym r.edit_is)
     (one_if edition (at == file) (Some r.read.syntax) (Some kept) is))
 
-one_meant : (edition : EditionYear) (texts : FileTexts) (l : LineEdit) (e : EditView) (c : Change) (file : ℕ) → Means edition texts l e c → AreOfOne edition (sets (File (record { 0 = file })) e) (leaves file c)
+one_meant : (edition : EditionYear) (texts : FileTexts) (l : LineEdit) (e : EditView) (c : TextChange) (file : ℕ) → Means edition texts l e c → AreOfOne edition (sets (File (record { 0 = file })) e) (left_text file c)
 one_meant edition texts (of_table f) e c file h =
-    subst (λ d. AreOfOne edition (sets (File (record { 0 = file })) e) (leaves file d)) (sym h.1)
-    (subst (λ g. AreOfOne edition (sets (File (record { 0 = file })) g) (leaves file (forgets f))) (sym h.0) (one_forgotten edition f file))
+    subst (λ d. AreOfOne edition (sets (File (record { 0 = file })) e) (left_text file d)) (sym h.1)
+    (subst (λ g. AreOfOne edition (sets (File (record { 0 = file })) g) (left_text file (forgets f))) (sym h.0) (one_forgotten edition f file))
 one_meant edition texts (set_text at text) e c file h = one_read edition at text e c file h
 one_meant edition texts (change_text at range new) e c file h = one_read edition at h.0 e c file h.2
 
@@ -61,11 +61,11 @@ one_or edition None b (Some c) d h k = absurd h
 one_or edition (Some a) b None d h k = absurd h
 
 -- the first of them
-pub left_first : (n : ℕ) (edition : EditionYear) (texts : FileTexts) (ls : List LineEdit) (es : List EditView) (cs : List Change) (file : ℕ) → AreMeant edition texts ls es cs → AreLeft edition file (take n es) (take n cs)
+pub left_first : (n : ℕ) (edition : EditionYear) (texts : FileTexts) (ls : List LineEdit) (es : List EditView) (cs : List TextChange) (file : ℕ) → AreMeant edition texts ls es cs → AreLeft edition file (take n es) (take n cs)
 left_first zero edition texts ls es cs file h = tt
 left_first (suc n) edition texts [] [] [] file h = tt
 left_first (suc n) edition texts (l ∷ ls) (e ∷ es) (c ∷ cs) file h =
-    one_or edition (last_some (sets (File (record { 0 = file }))) (take n es)) (sets (File (record { 0 = file })) e) (last_some (leaves file) (take n cs)) (leaves file c)
+    one_or edition (last_some (sets (File (record { 0 = file }))) (take n es)) (sets (File (record { 0 = file })) e) (last_some (left_text file) (take n cs)) (left_text file c)
     (left_first n edition (text_after texts (c ∷ [])) ls es cs file h.1) (one_meant edition texts l e c file h.0)
 left_first (suc n) edition texts [] (e ∷ es) cs file h = absurd h
 left_first (suc n) edition texts [] [] (c ∷ cs) file h = absurd h
@@ -81,10 +81,10 @@ one_else edition (Some a) (Some c) syntax text h k = h
 one_else edition None (Some c) syntax text h k = absurd h
 one_else edition (Some a) None syntax text h k = absurd h
 
-pub set_after : (edition : EditionYear) (s u : State) (edits : List EditView) (old new : Texts) (changes : List Change) → AreSetTo edition s old → IsAfter s edits u → ((file : ℕ) → text_in new file ≡ text_after (text_in old) changes file)
+pub set_after : (edition : EditionYear) (s u : State) (edits : List EditView) (old new : Texts) (changes : List TextChange) → AreSetTo edition s old → IsAfter s edits u → ((file : ℕ) → text_in new file ≡ text_after (text_in old) changes file)
     → ((file : ℕ) → AreLeft edition file edits changes) → AreSetTo edition u new
 set_after edition s u edits old new changes are after texts left file =
     let at = File (record { 0 = file }) in
     subst (λ t. IfSome t (IsSetTo edition (present u at))) (sym (texts file))
     (subst (λ x. IfSome (text_after (text_in old) changes file) (IsSetTo edition x)) (sym (after.syntaxes at))
-    (one_else edition (last_some (sets at) edits) (last_some (leaves file) changes) (present s at) (text_in old file) (left file) (are file)))
+    (one_else edition (last_some (sets at) edits) (last_some (left_text file) changes) (present s at) (text_in old file) (left file) (are file)))

@@ -17,7 +17,7 @@ use Rattle.hir_input_json.proofs.Held.{field_without}
 use Rattle.source_session.specs.declared.keys.LineObject.{LineObject}
 use Rattle.source_session.specs.declared.keys.LineObject.TheVariants.{Whole}
 use Rattle.source_session.specs.Keys.{is_known, unknown_key, only_known}
-use Rattle.source_session.specs.Lines.{Settings, settings, Asked, asked, first_line, later_line}
+use Rattle.source_session.specs.Lines.{Settings, settings, Asked, line_asked, first_line, later_line}
 use Rattle.source_session.specs.Replies.{Open, asked_of, of_opened, of_session}
 
 -- ---- lines
@@ -27,7 +27,7 @@ abbrev pub rest_of : Data → Data
 rest_of d = without (codes "edition") (without (codes "skipped") (without (codes "crates") d))
 
 -- has the same edits and shows
-pub asked_rest : (count : ℕ) (d : Data) → asked count (rest_of d) ≡ asked count d
+pub asked_rest : (count : ℕ) (d : Data) → line_asked count (rest_of d) ≡ line_asked count d
 asked_rest count d =
     let a = without (codes "crates") d in
     let b = without (codes "skipped") a in
@@ -36,13 +36,13 @@ asked_rest count d =
     rw (edits, shows) refl
 
 module _ (d : Data) (s : Settings) (n : ℕ) (known : only_known Whole d ≡ right tt) (opened : settings d ≡ right s) (count : n ≡ length s.crates) where
-  pub first_read : (a : Asked) → asked n (rest_of d) ≡ right a → first_line d ≡ right (s, a)
-  first_read a e = rw (known, opened, subst (λ k. asked k d ≡ right a) count (sym (asked_rest n d) ∙ e)) refl
+  pub first_read : (a : Asked) → line_asked n (rest_of d) ≡ right a → first_line d ≡ right (s, a)
+  first_read a e = rw (known, opened, subst (λ k. line_asked k d ≡ right a) count (sym (asked_rest n d) ∙ e)) refl
 
-  wrong_rest : (p : List ℕ) → asked n (rest_of d) ≡ wrong p → first_line d ≡ wrong p
-  wrong_rest p e = rw (known, opened, subst (λ k. asked k d ≡ wrong p) count (sym (asked_rest n d) ∙ e)) refl
+  wrong_rest : (p : List ℕ) → line_asked n (rest_of d) ≡ wrong p → first_line d ≡ wrong p
+  wrong_rest p e = rw (known, opened, subst (λ k. line_asked k d ≡ wrong p) count (sym (asked_rest n d) ∙ e)) refl
 
-  pub first_tells : (e : Fault) → Tells (asked n (rest_of d)) e → Tells (first_line d) e
+  pub first_tells : (e : Fault) → Tells (line_asked n (rest_of d)) e → Tells (first_line d) e
   first_tells e h = λ w. wrong_rest (pointer_in e) (h w)
 
 -- ---- lines without their ids

@@ -3,7 +3,7 @@ use Rattle.std.specs.Prelude.{ℕ, ◌^◌, ◌≤◌, nat_lt, List, [], length,
 use Rattle.serde_json.specs.Data.{Data, Items, no_items, item}
 use Rattle.serde_json.specs.Written.{has_float}
 use Rattle.hir_input_json.specs.Reading.{Reading, right, wrong, reading_map, here, under, ◌>>=◌}
-use Rattle.hir_input_json.specs.Forms.{required_at, on_word, id_at, whole, text, items_in, members_in}
+use Rattle.hir_input_json.specs.Forms.{required_at, on_word, number_form, whole_form, text_form, array_items, object_members}
 use Rattle.item_tree_db.specs.Edits as table
 use Rattle.item_tree_request.specs.Edits as request
 use Rattle.item_tree_request.specs.Named.{EditNamesCrate}
@@ -30,13 +30,13 @@ if_short text = if nat_lt (2 ^ 32) (length text) then None else Some text
 -- a text that is short
 abbrev pub short_text : Data → Reading (List ℕ)
 short_text d = do
-  s ← text d
+  s ← text_form d
   here (if_short s)
 
 -- a file set to a text
 abbrev pub text_edit : Data → Reading LineEdit
 text_edit d = do
-  file ← id_at (codes "file") d
+  file ← number_form (codes "file") d
   written ← required_at (codes "text") short_text d
   right (set_text file written)
 
@@ -45,44 +45,44 @@ abbrev pub range_in : Items → Reading TextRange
 range_in no_items = wrong []
 range_in (item a no_items) = wrong []
 range_in (item a (item b no_items)) = do
-  start ← under (decimal 0) (whole (2 ^ 64) a)
-  end ← under (decimal 1) (whole (2 ^ 64) b)
+  start ← under (decimal 0) (whole_form (2 ^ 64) a)
+  end ← under (decimal 1) (whole_form (2 ^ 64) b)
   right (record { start = start; end = end })
 range_in (item a (item b (item c ds))) = wrong []
 
 -- a range of a text
 abbrev pub range : Data → Reading TextRange
 range d = do
-  ds ← items_in d
+  ds ← array_items d
   range_in ds
 
 -- a range of the text of a file replaced
 abbrev pub change_edit : Data → Reading LineEdit
 change_edit d = do
-  file ← id_at (codes "file") d
+  file ← number_form (codes "file") d
   place ← required_at (codes "range") range d
   written ← required_at (codes "text") short_text d
   right (change_text file place written)
 
 -- an edit of a table of this many crates, by its word
-abbrev pub edit : ℕ → Data → Reading LineEdit
-edit count d = do
-  _ ← members_in d
+abbrev pub edit_form : ℕ → Data → Reading LineEdit
+edit_form count d = do
+  _ ← object_members d
   _ ← only_known OfEdits d
-  word ← required_at (codes "edit") text d
+  word ← required_at (codes "edit") text_form d
   on_word word (codes "set_text") (text_edit d) (on_word word (codes "change_text") (change_edit d) (reading_map of_table (request.edit count d)))
 
 -- the same of a value without a float
 abbrev pub line_edit : ℕ → Data → Reading LineEdit
-line_edit count d = if has_float d then wrong [] else edit count d
+line_edit count d = if has_float d then wrong [] else edit_form count d
 
 -- ---- what was read
 
 -- an edit of a line as data
-abbrev pub edit_view : code.LineEdit → LineEdit
-edit_view (Table e) = of_table (table.edit_view e)
-edit_view (SetText file text) = set_text file.0 (string_bytes text)
-edit_view (ChangeText file range text) = change_text file.0 range (string_bytes text)
+abbrev pub line_edit_view : code.LineEdit → LineEdit
+line_edit_view (Table e) = of_table (table.edit_view e)
+line_edit_view (SetText file text) = set_text file.0 (string_bytes text)
+line_edit_view (ChangeText file range text) = change_text file.0 range (string_bytes text)
 
 -- a crate that it names is one of this many, and a text is short
 abbrev pub IsUsable : ℕ → code.LineEdit → Type 0

@@ -6,24 +6,24 @@ use Rattle.std.specs.Str.{bytes_eq}
 use Rattle.source_session.specs.declared.keys.LineObject.{LineObject}
 use Rattle.source_session.specs.declared.keys.LineObject.TheVariants.{Whole, OfEdits, OfShows}
 use Rattle.source_session.specs.Keys.{is_known}
-use Rattle.source_session.specs.Parts.{parts, part_at, last_part}
+use Rattle.source_session.specs.Parts.{parts_between, part_at, last_part}
 
 -- ---- tables
 
 -- words, and what is told of each of them
-abbrev pub Row : Type 0
-Row = List (List ℕ) × List ℕ
+abbrev pub ExpectedRow : Type 0
+ExpectedRow = List (List ℕ) × List ℕ
 
 abbrev pub other : List ℕ
 other = codes "another value"
 
 -- what the first row tells that has the word
-abbrev pub told_by_row : List Row → List ℕ → List ℕ
+abbrev pub told_by_row : List ExpectedRow → List ℕ → List ℕ
 told_by_row [] word = other
 told_by_row (row ∷ rows) word = if list_any (bytes_eq word) row.0 then row.1 else told_by_row rows word
 
 -- by the keys of lines, and of what stands in their lists
-abbrev pub line_keys : List Row
+abbrev pub line_keys : List ExpectedRow
 line_keys =
     (codes "crates" ∷ codes "skipped" ∷ codes "edits" ∷ codes "shows" ∷ codes "reserved" ∷ codes "cfg" ∷ codes "attrs" ∷ codes "stmts" ∷ codes "files" ∷ [], codes "a list")
     ∷ (codes "edition" ∷ codes "syntax" ∷ [], codes "an object")
@@ -41,7 +41,7 @@ line_keys =
     ∷ []
 
 -- by the keys of what stands in syntaxes
-abbrev pub syntax_keys : List Row
+abbrev pub syntax_keys : List ExpectedRow
 syntax_keys =
     (codes "attrs" ∷ codes "items" ∷ codes "stmts" ∷ codes "metas" ∷ codes "list" ∷ codes "all" ∷ codes "any" ∷ [], codes "a list")
     ∷ (codes "hash" ∷ [], codes "a number below 2^16")
@@ -57,7 +57,7 @@ syntax_keys =
     ∷ []
 
 -- by the keys of lists, of what stands in them
-abbrev pub lists : List Row
+abbrev pub lists : List ExpectedRow
 lists =
     (codes "edits" ∷ codes "shows" ∷ [], codes "an object without a float")
     ∷ (codes "crates" ∷ codes "attrs" ∷ codes "items" ∷ codes "metas" ∷ codes "list" ∷ [], codes "an object")
@@ -79,20 +79,20 @@ abbrev pub steps_of : List (List ℕ) → Steps
 steps_of ps = record { count = length ps; list = part_at ps 1; before = part_at ps (length ps - 2); last = last_part ps }
 
 -- an edit or a show
-abbrev pub listed : List ℕ → Option LineObject
-listed list = if bytes_eq list (codes "edits") then Some OfEdits else (if bytes_eq list (codes "shows") then Some OfShows else None)
+abbrev pub listed_object : List ℕ → Option LineObject
+listed_object list = if bytes_eq list (codes "edits") then Some OfEdits else (if bytes_eq list (codes "shows") then Some OfShows else None)
 
 -- the object whose key the last step is, if none but its keys may stand in it
 abbrev pub object_of_key : Steps → Option LineObject
-object_of_key s = if s.count == 2 then Some Whole else (if s.count == 4 then listed s.list else None)
+object_of_key s = if s.count == 2 then Some Whole else (if s.count == 4 then listed_object s.list else None)
 
 -- whether that object has no such key
 abbrev pub is_unknown : Steps → Bool
 is_unknown s = option_map_or (λ o. not (is_known o s.last)) (object_of_key s) false
 
 -- whether a line has a key that opens a session
-abbrev pub opens : Steps → Bool
-opens s = s.count == 2 && list_any (bytes_eq s.last) (codes "crates" ∷ codes "skipped" ∷ codes "edition" ∷ codes "start" ∷ [])
+abbrev pub opens_session : Steps → Bool
+opens_session s = s.count == 2 && list_any (bytes_eq s.last) (codes "crates" ∷ codes "skipped" ∷ codes "edition" ∷ codes "start" ∷ [])
 
 -- whether a step leads into a list
 abbrev pub is_place : List ℕ → Bool
@@ -100,16 +100,16 @@ is_place [] = false
 is_place (b ∷ bs) = nat_le 48 b && nat_le b 57
 
 -- by the last step, or the one before where it leads into a list
-abbrev pub told_at : Steps → List ℕ
-told_at s = if is_place s.last then told_by_row lists s.before else (if nat_le s.count 4 then told_by_row line_keys s.last else told_by_row syntax_keys s.last)
+abbrev pub steps_told_at : Steps → List ℕ
+steps_told_at s = if is_place s.last then told_by_row lists s.before else (if nat_le s.count 4 then told_by_row line_keys s.last else told_by_row syntax_keys s.last)
 
 -- what was expected, with a session open or not
 abbrev pub expected_at : Bool → Steps → List ℕ
 expected_at is_open s =
     if s.count == 1 then codes "an object"
     else (if is_unknown s then codes "no such key"
-    else (if is_open && opens s then codes "nothing: the session is open" else told_at s))
+    else (if is_open && opens_session s then codes "nothing: the session is open" else steps_told_at s))
 
 -- the same by the pointer
 abbrev pub expected : Bool → List ℕ → List ℕ
-expected is_open pointer = expected_at is_open (steps_of (parts 47 pointer))
+expected is_open pointer = expected_at is_open (steps_of (parts_between 47 pointer))

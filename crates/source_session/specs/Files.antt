@@ -7,7 +7,7 @@ use Rattle.std.specs.Ordering.{nat_cmp}
 use Rattle.serde_json.specs.Data.{Data}
 use Rattle.hir_input.specs.declared.ids.Crate.{Crate}
 use Rattle.hir_input_json.specs.Reading.{Reading, reading_map}
-use Rattle.hir_input_json.specs.Forms.{list_of, maybe_at, whole}
+use Rattle.hir_input_json.specs.Forms.{list_of, maybe_at, whole_form}
 use Rattle.item_tree_db.specs.declared.place.Place.{Place}
 use Rattle.item_tree_db.specs.declared.place.Place.TheVariants.{File, Block}
 use Rattle.item_tree_db.specs.Since.{Change}
@@ -22,7 +22,7 @@ CrateFiles = List (Option Files)
 
 -- a list of files
 abbrev pub file_set : Data → Reading Files
-file_set d = reading_map set.from_list (list_of (whole (2 ^ 32)) d)
+file_set d = reading_map set.from_list (list_of (whole_form (2 ^ 32)) d)
 
 -- those of a crate, if they are given
 abbrev pub crate_files : Data → Reading (Option Files)

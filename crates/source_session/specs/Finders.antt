@@ -11,7 +11,7 @@ use Rattle.item_tree_db.specs.declared.place.Place.{Place}
 use Rattle.item_tree_db.specs.declared.place.Place.TheVariants.{File, Block}
 use Rattle.item_tree_db.specs.State.{State, unfolding_at}
 use Rattle.def_collector.specs.Declarations.{declared_at}
-use Rattle.def_collector.specs.DeclarationView.{id_of}
+use Rattle.def_collector.specs.DeclarationView.{declaration_id}
 use Rattle.def_collector.specs.declared.collector.Declaration as code
 use Rattle.rust_items.specs.declared.source_file.ItemPlace.{ItemPlace}
 use Rattle.source_listing.specs.Places.{AreDistinct, place_of}
@@ -21,7 +21,7 @@ use Rattle.source_session.specs.declared.found.Finder.{Finder}
 use Rattle.source_session.specs.Found.{id_form, in_block, in_file}
 use Rattle.source_session.specs.Sought.{own_scope}
 use Rattle.source_session.specs.SourceTexts.{text_bytes, text_places}
-use Rattle.source_session.specs.Texts.{Texts, text_at}
+use Rattle.source_session.specs.Texts.{Texts, text_of_place}
 
 -- ---- what is around items
 
@@ -37,7 +37,7 @@ head_scope (d ∷ ds) = Some (map (λ name. name.now) d.path.items)
 -- what is around each item of a tree is known, once
 pub record KnowsScopes (u : Unfolding) (x : Scopes) : Type 0 where
   pub all : map declared_scope x.declarations.items ≡ map own_scope (declared_at u)
-  pub once : AllPairs (λ i j. i ≢ j) (map id_of x.declarations.items)
+  pub once : AllPairs (λ i j. i ≢ j) (map declaration_id x.declarations.items)
 
 -- ---- where items stand
 
@@ -58,8 +58,8 @@ pub record FindsIn (s : State) (texts : Texts) (at : Place) (of : Crate) (f : Fi
   pub krate : f.krate ≡ of
   pub tree : f.tree.now ≡ unfolding_at s at of.0
   pub scopes : IfSome f.scopes (KnowsScopes f.tree.now)
-  pub lines : f.spots.lines ≡ text_bytes (text_at texts at)
-  pub places : f.spots.places.now ≡ text_places (text_at texts at)
+  pub lines : f.spots.lines ≡ text_bytes (text_of_place texts at)
+  pub places : f.spots.places.now ≡ text_places (text_of_place texts at)
   pub distinct : AreDistinct f.spots.places.now
 
 -- those of some place
@@ -68,7 +68,7 @@ IsFinder s texts f = FindsIn s texts f.place f.krate f
 
 -- no two items of one text have the same id
 abbrev pub HaveDistinctIds : Texts → Type 0
-HaveDistinctIds texts = (place : Place) → AreDistinct (text_places (text_at texts place))
+HaveDistinctIds texts = (place : Place) → AreDistinct (text_places (text_of_place texts place))
 
 -- the id of an item in its file
 abbrev pub ast_in : Unfolding → ℕ → Option FileAstId

@@ -59,13 +59,13 @@ abbrev pub in_block : BlockId → Crate → Data → Data
 in_block block krate id = object (member (codes "block") (count_form block.0) (member (codes "crate") (count_form krate.0) (member (codes "id") id no_members)))
 
 -- an item of the tree of a place
-abbrev pub found_in : Texts → Place → Crate → Option FileAstId → Data
-found_in texts (File file) krate id = let t = text_in texts file.0 in in_file file krate (id_form id) (text_bytes t) (place_by_id t id)
-found_in texts (Block block) krate id = in_block block krate (id_form id)
+abbrev pub found_value : Texts → Place → Crate → Option FileAstId → Data
+found_value texts (File file) krate id = let t = text_in texts file.0 in in_file file krate (id_form id) (text_bytes t) (place_by_id t id)
+found_value texts (Block block) krate id = in_block block krate (id_form id)
 
 -- the object of an entry
 abbrev pub found_form : State → Texts → Entry → Data
-found_form s texts e = found_in texts e.place e.krate (ast_of s e)
+found_form s texts e = found_value texts e.place e.krate (ast_of s e)
 
 -- the objects of the entries of a table that are looked for
 abbrev pub IsFound : CrateFiles → State → Texts → SoughtItem → Data → Type 0

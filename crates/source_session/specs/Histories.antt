@@ -10,7 +10,7 @@ use Rattle.source_session.specs.declared.error.LineError.TheVariants.{NotJson, N
 use Rattle.source_session.specs.Lines.{Settings, Asked, first_line, later_line}
 use Rattle.source_session.specs.Replies.{Open, Outcome, reply_text, out_of_memory}
 use Rattle.source_session.specs.Sessions.{Session, new_session, AreMade}
-use Rattle.source_session.specs.Texts.{Change, FileTexts, text_in, text_after, AreMeant}
+use Rattle.source_session.specs.Texts.{TextChange, FileTexts, text_in, text_after, AreMeant}
 
 -- an answer says this outcome, under some id and number; or there was no memory for an answer
 abbrev pub Says : List ℕ → Outcome → Type 0
@@ -41,20 +41,20 @@ AsksFirst settings line asked = (d : Data) × IsJsonText line d × (first_line d
 -- ---- which of its edits stand, where `Asks` tells what it asks for
 
 -- none of them
-abbrev pub StandNone : List EditView → List Change → Type 0
+abbrev pub StandNone : List EditView → List TextChange → Type 0
 StandNone edits changes = (edits ≡ []) × (changes ≡ [])
 
 -- all of them
-abbrev pub StandAll : (Asked → Type 0) → EditionYear → FileTexts → List EditView → List Change → Type 0
+abbrev pub StandAll : (Asked → Type 0) → EditionYear → FileTexts → List EditView → List TextChange → Type 0
 StandAll Asks edition texts edits changes = (asked : Asked) × Asks asked × AreMeant edition texts asked.edits edits changes
 
 -- the first n of them
-abbrev pub StandFirst : ℕ → (Asked → Type 0) → EditionYear → FileTexts → List EditView → List Change → Type 0
+abbrev pub StandFirst : ℕ → (Asked → Type 0) → EditionYear → FileTexts → List EditView → List TextChange → Type 0
 StandFirst n Asks edition texts edits changes =
-    (es : List EditView) × (cs : List Change) × StandAll Asks edition texts es cs × (edits ≡ take n es) × (changes ≡ take n cs)
+    (es : List EditView) × (cs : List TextChange) × StandAll Asks edition texts es cs × (edits ≡ take n es) × (changes ≡ take n cs)
 
 -- by its answer: all if it has shows, those before an edit that is refused, none after another error, and some first ones if memory ran out
-abbrev pub Stand : Outcome → (Asked → Type 0) → EditionYear → FileTexts → List EditView → List Change → Type 0
+abbrev pub Stand : Outcome → (Asked → Type 0) → EditionYear → FileTexts → List EditView → List TextChange → Type 0
 Stand (Ok values) Asks edition texts edits changes = StandAll Asks edition texts edits changes
 Stand (Err (Refused place cause)) Asks edition texts edits changes = StandFirst place Asks edition texts edits changes
 Stand (Err OutOfMemory) Asks edition texts edits changes = StandNone edits changes ⊎ ((n : ℕ) × StandFirst n Asks edition texts edits changes)
@@ -64,10 +64,10 @@ Stand (Err (NotChanged place cause)) Asks edition texts edits changes = StandNon
 Stand (Err TooLong) Asks edition texts edits changes = StandNone edits changes
 
 -- those of lines, one after another; behind the first each asks the open session
-abbrev pub StandOf : (List ℕ → Asked → Type 0) → ℕ → EditionYear → FileTexts → List Exchange → List EditView → List Change → Type 0
+abbrev pub StandOf : (List ℕ → Asked → Type 0) → ℕ → EditionYear → FileTexts → List Exchange → List EditView → List TextChange → Type 0
 StandOf Asks count edition texts [] edits changes = StandNone edits changes
 StandOf Asks count edition texts (x ∷ xs) edits changes =
-    (es : List EditView) × (fs : List EditView) × (cs : List Change) × (ds : List Change)
+    (es : List EditView) × (fs : List EditView) × (cs : List TextChange) × (ds : List TextChange)
     × Stand x.outcome (Asks x.line) edition texts es cs × StandOf (AsksNext count) count edition (text_after texts cs) xs fs ds × (edits ≡ es ++ fs) × (changes ≡ cs ++ ds)
 
 -- ---- whole conversations
@@ -88,7 +88,7 @@ pub record IsOpenedBy (x : Exchange) (later : List Exchange) (new : Open) : Type
   pub asked : Asked
   pub opens : AsksFirst settings x.line asked
   pub edits : List EditView
-  pub changes : List Change
+  pub changes : List TextChange
   pub stand : StandOf (AsksFirst settings) (length settings.crates) settings.edition.0 (text_in []) (x ∷ later) edits changes
   pub session : Session
   pub is_open : new ≡ Some session

@@ -23,20 +23,20 @@ use Rattle.source_session.specs.declared.expected.Steps as code_steps
 use Rattle.source_session.specs.Expected.{Steps}
 use Rattle.source_session.specs.Files.{CrateFiles, is_in_crate}
 use Rattle.source_session.specs.Found.{found_form}
-use Rattle.source_session.specs.Sought.{SoughtItem, is_at, path_of}
+use Rattle.source_session.specs.Sought.{SoughtItem, is_at, entry_path}
 use Rattle.source_session.specs.declared.texts.SourceText.{SourceText}
 use Rattle.source_session.specs.declared.reply.Reply as reply
 use Rattle.source_session.specs.Replies.{Outcome, Reply}
 use Rattle.source_session.specs.Sessions.{Session, IsEdited, IsUnedited}
 use Rattle.source_session.specs.Touched.{Touched, IsBehindBy}
-use Rattle.source_session.specs.Texts.{Texts, Change, FileTexts, IsKeptWith, slot_in, text_in, Fails}
+use Rattle.source_session.specs.Texts.{Texts, TextChange, FileTexts, IsKeptWith, slot_in, text_in, Fails}
 
 -- something is kept for a file
 abbrev pub HasSlot : Texts → ℕ → Type 0
 HasSlot texts file = IsSome (slot_in texts file)
 
 -- there is room for the text that a change brings
-abbrev pub HasSlotFor : Texts → Change → Type 0
+abbrev pub HasSlotFor : Texts → TextChange → Type 0
 HasSlotFor texts None = Unit {0}
 HasSlotFor texts (Some (file, None)) = Unit {0}
 HasSlotFor texts (Some (file, Some text)) = HasSlot texts file
@@ -46,7 +46,7 @@ abbrev pub IsPlaced : Option SourceText → Type 0
 IsPlaced text = IfSome text (λ t. AreDistinct t.places.items)
 
 -- so are those of what a change leaves
-abbrev pub LeavesPlaced : Change → Type 0
+abbrev pub LeavesPlaced : TextChange → Type 0
 LeavesPlaced change = IfSome change (λ c. IsPlaced c.1)
 
 -- memory runs out, or the error tells what P says of its place and cause
@@ -100,7 +100,7 @@ pub record AreTogether (count : ℕ) (edition : EditionYear) (table : State) (te
 
 -- the object of an entry, if it is in its crate and its item has the path that is looked for
 abbrev pub found_one : CrateFiles → State → Texts → SoughtItem → Entry → List Data
-found_one files s texts q e = if is_in_crate files e.krate e.place && is_at q.path (path_of s e) then found_form s texts e ∷ [] else []
+found_one files s texts q e = if is_in_crate files e.krate e.place && is_at q.path (entry_path s e) then found_form s texts e ∷ [] else []
 
 -- the steps of a pointer as data
 abbrev pub steps_view : code_steps.Steps → Steps

@@ -19,7 +19,7 @@ use Rattle.source_session.specs.declared.inside.Inside.{Inside}
 use Rattle.source_session.specs.declared.texts.SourceText.{SourceText}
 use Rattle.source_session.specs.Edits.{LineEdit}
 use Rattle.source_session.specs.Inner.{AreSetTo, IsPlaced, LeavesPlaced}
-use Rattle.source_session.specs.Texts.{AreMeant, Change, Texts, change_fault, spliced, text_after, text_in}
+use Rattle.source_session.specs.Texts.{AreMeant, TextChange, Texts, change_fault, spliced, text_after, text_in}
 
 -- ---- a text in place
 
@@ -61,7 +61,7 @@ pub record IsInside (text : SourceText) (range : TextRange) (typed : List ℕ) (
 -- the edits of a line are one, which is made: it leads from a table and texts to others, and fits
 pub record IsMadeAlone (edition : EditionYear) (s : State) (old : Texts) (asked : List LineEdit) (u : State) (new : Texts) : Type 0 where
   pub edit : EditView
-  pub change : Change
+  pub change : TextChange
   pub meant : AreMeant edition (text_in old) asked (edit ∷ []) (change ∷ [])
   pub after : IsAfter s (edit ∷ []) u
   pub place : Place

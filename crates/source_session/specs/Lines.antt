@@ -4,7 +4,7 @@ use Rattle.serde_json.specs.Data.{Data}
 use Rattle.item_tree.specs.CrateView.{CrateView}
 use Rattle.hir_input_json.specs.Reading.{Reading, right, ◌>>=◌}
 use Rattle.hir_input_json.specs.Editions.{EditionView, edition_at}
-use Rattle.hir_input_json.specs.Forms.{field, optional_at, by_first, wrong_at, whole, name, list_at}
+use Rattle.hir_input_json.specs.Forms.{field, optional_at, by_form, wrong_at, whole_form, identifier_form, list_at}
 use Rattle.item_tree_request.specs.Edits.{crate_data}
 use Rattle.source_session.specs.declared.keys.LineObject.TheVariants.{Whole}
 use Rattle.source_session.specs.Keys.{only_known}
@@ -30,7 +30,7 @@ usual_skipped =
     codes "doc" ∷ codes "stable" ∷ codes "unstable" ∷ codes "target_feature" ∷ codes "allow" ∷ codes "expect" ∷ codes "warn" ∷ codes "deny" ∷ codes "forbid" ∷ codes "repr" ∷ codes "inline" ∷ codes "track_caller" ∷ codes "must_use" ∷ []
 
 abbrev pub skipped_at : Data → Reading (List (List ℕ))
-skipped_at d = by_first (field (codes "skipped") d) (λ _. list_at name (codes "skipped") d) (right usual_skipped)
+skipped_at d = by_form (field (codes "skipped") d) (λ _. list_at identifier_form (codes "skipped") d) (right usual_skipped)
 
 -- each by its form, in this order
 abbrev pub settings : Data → Reading Settings
@@ -39,7 +39,7 @@ settings d = do
   crates ← list_at crate_data (codes "crates") d
   skipped ← skipped_at d
   language ← edition_at d
-  start ← optional_at 0 (codes "start") (whole (2 ^ 64)) d
+  start ← optional_at 0 (codes "start") (whole_form (2 ^ 64)) d
   right (record { crates = crates; files = files; skipped = skipped; edition = language; start = start })
 
 -- what is asked of a session
@@ -48,15 +48,15 @@ pub record Asked : Type 0 where
   pub shows : List LineShow
 
 -- of one with this many crates
-abbrev pub asked : ℕ → Data → Reading Asked
-asked count d = do
+abbrev pub line_asked : ℕ → Data → Reading Asked
+line_asked count d = do
   edits ← list_at (line_edit count) (codes "edits") d
   shows ← list_at (line_show count) (codes "shows") d
   right (record { edits = edits; shows = shows })
 
 -- no member stands at this key
 abbrev pub none_at : List ℕ → Data → Reading (Unit {0})
-none_at key d = by_first (field key d) (λ _. wrong_at key) (right tt)
+none_at key d = by_form (field key d) (λ _. wrong_at key) (right tt)
 
 -- nothing that opens a session
 abbrev pub no_settings : Data → Reading (Unit {0})
@@ -71,7 +71,7 @@ abbrev pub first_line : Data → Reading (Settings × Asked)
 first_line d = do
   _ ← only_known Whole d
   opened ← settings d
-  rest ← asked (length opened.crates) d
+  rest ← line_asked (length opened.crates) d
   right (opened, rest)
 
 -- a line of a session with this many crates
@@ -79,4 +79,4 @@ abbrev pub later_line : ℕ → Data → Reading Asked
 later_line count d = do
   _ ← only_known Whole d
   _ ← no_settings d
-  asked count d
+  line_asked count d

@@ -4,8 +4,8 @@ use Rattle.std.specs.Option.{unwrap_or}
 use Rattle.std.specs.List.{slice_split}
 
 -- what stands between the bytes of a text that are this one
-abbrev pub parts : ℕ → List ℕ → List (List ℕ)
-parts mark text = slice_split (λ b. b == mark) text
+abbrev pub parts_between : ℕ → List ℕ → List (List ℕ)
+parts_between mark text = slice_split (λ b. b == mark) text
 
 -- the part at a place, empty where there is none
 abbrev pub part_at : List (List ℕ) → ℕ → List ℕ

@@ -6,7 +6,7 @@ use Rattle.serde_json.specs.Data.{Data, Members, null, array}
 use Rattle.serde_json.specs.Find.{as_object}
 use Rattle.serde_json.specs.View.{items_of}
 use Rattle.serde_json.specs.Written.{compact_text, has_float}
-use Rattle.hir_input_json.specs.Reading.{Reading, right, wrong, behind, ◌>>=◌}
+use Rattle.hir_input_json.specs.Reading.{Reading, right, wrong, pointer_behind, ◌>>=◌}
 use Rattle.hir_input_json.specs.Forms.{field}
 use Rattle.item_tree_request.specs.Requests.{IsJsonText}
 use Rattle.line_stream.specs.Answers.{Answering}
@@ -16,7 +16,7 @@ use Rattle.source_session.specs.declared.error.LineError.TheVariants.{NotJson, N
 use Rattle.source_session.specs.Errors.{error_form}
 use Rattle.source_session.specs.Lines.{Settings, Asked, first_line, later_line}
 use Rattle.source_session.specs.Sessions.{Session, new_session, IsEdited, IsUnedited}
-use Rattle.source_session.specs.Shown.{IsShown}
+use Rattle.source_session.specs.Shown.{IsShowValue}
 
 -- ---- texts
 
@@ -49,9 +49,9 @@ abbrev pub Open : Type 0
 Open = Option Session
 
 -- the number of its last edit
-abbrev pub number_of : Open → Option ℕ
-number_of None = None
-number_of (Some u) = Some u.table.number
+abbrev pub reply_number : Open → Option ℕ
+reply_number None = None
+reply_number (Some u) = Some u.table.number
 
 -- what is asked of a session
 abbrev pub of_session : Session → Reading Asked → Reading (Session × Asked)
@@ -71,22 +71,22 @@ asked_of None d = of_opened (first_line d)
 asked_of (Some s) d = of_session s (later_line s.count d)
 
 -- the edits are made, and the values are those of the shows
-abbrev pub IsDone : Session → Asked → Session → Outcome → Type 0
-IsDone s a u (Ok values) = IsEdited s a.edits u × AllZip (IsShown u) a.shows values
-IsDone s a u (Err e) = IsUnedited s a.edits u e
+abbrev pub IsCarriedOut : Session → Asked → Session → Outcome → Type 0
+IsCarriedOut s a u (Ok values) = IsEdited s a.edits u × AllZip (IsShowValue u) a.shows values
+IsCarriedOut s a u (Err e) = IsUnedited s a.edits u e
 
 -- what is asked is done, or a line of wrong form changes nothing
 abbrev pub IsOutcome : Open → Reading (Session × Asked) → Open → Outcome → Type 0
 IsOutcome old (wrong pointer) new outcome = (new ≡ old) × (outcome ≡ Err (NotRequest pointer))
-IsOutcome old (right (s, a)) new outcome = (u : Session) × (new ≡ Some u) × IsDone s a u outcome
+IsOutcome old (right (s, a)) new outcome = (u : Session) × (new ≡ Some u) × IsCarriedOut s a u outcome
 
 -- nothing changes, and memory runs out
 abbrev pub IsWanting : Open → Open → Outcome → Type 0
 IsWanting old new outcome = (new ≡ old) × (outcome ≡ Err OutOfMemory)
 
 -- the id that an object gives
-abbrev pub id_of : Data → Data
-id_of d = unwrap_or (field (codes "id") d) null
+abbrev pub id_value : Data → Data
+id_value d = unwrap_or (field (codes "id") d) null
 
 -- ---- replies
 
@@ -101,12 +101,12 @@ IsRefusedAs e old new r = (new ≡ old) × (r ≡ record { id = null; outcome = 
 
 -- an object is answered under its id, unless that holds a float
 abbrev pub IsReplyUnless : Bool → Open → Data → Open → Reply → Type 0
-IsReplyUnless true old d new r = IsRefusedAs OutOfMemory old new r ⊎ IsRefusedAs (NotRequest (behind (codes "id") [])) old new r
-IsReplyUnless false old d new r = (r.id ≡ id_of d) × (IsWanting old new r.outcome ⊎ IsOutcome old (asked_of old d) new r.outcome)
+IsReplyUnless true old d new r = IsRefusedAs OutOfMemory old new r ⊎ IsRefusedAs (NotRequest (pointer_behind (codes "id") [])) old new r
+IsReplyUnless false old d new r = (r.id ≡ id_value d) × (IsWanting old new r.outcome ⊎ IsOutcome old (asked_of old d) new r.outcome)
 
 -- the same, by the id that it gives
 abbrev pub IsReplyTo : Open → Data → Open → Reply → Type 0
-IsReplyTo old d new r = IsReplyUnless (has_float (id_of d)) old d new r
+IsReplyTo old d new r = IsReplyUnless (has_float (id_value d)) old d new r
 
 -- a value that is no object is no request
 abbrev pub IsReplyOf : Option Members → Open → Data → Open → Reply → Type 0
@@ -137,4 +137,4 @@ IsReply old no_memory new r = IsRefusedAs OutOfMemory old new r
 
 -- the answers of a conversation: the text of a reply, or the text for out of memory
 abbrev pub Replies : Answering Open
-Replies old told new text = (r : Reply) × IsReply old told new r × ((text ≡ reply_text r.id (number_of new) r.outcome) ⊎ (text ≡ out_of_memory))
+Replies old told new text = (r : Reply) × IsReply old told new r × ((text ≡ reply_text r.id (reply_number new) r.outcome) ⊎ (text ≡ out_of_memory))

@@ -12,7 +12,7 @@ use Rattle.source_session.specs.declared.splice.ChangeFault.{ChangeFault}
 use Rattle.source_session.specs.Edits.{LineEdit}
 use Rattle.source_session.specs.Files.{CrateFiles}
 use Rattle.source_session.specs.Lines.{Settings}
-use Rattle.source_session.specs.Texts.{Texts, Change, text_in, text_after, AreMeant, FailsAt}
+use Rattle.source_session.specs.Texts.{Texts, TextChange, text_in, text_after, AreMeant, FailsAt}
 
 -- what stands between lines
 pub record Session : Type 0 where
@@ -28,7 +28,7 @@ abbrev pub new_session : Settings → Session
 new_session s = record { count = length s.crates; files = s.files; edition = s.edition; table = new_table s.crates s.skipped s.start; texts = [] }
 
 -- these edits of the table, which leave this of the texts, lead from the session s to u
-pub record AreMade (s : Session) (edits : List EditView) (changes : List Change) (u : Session) : Type 0 where
+pub record AreMade (s : Session) (edits : List EditView) (changes : List TextChange) (u : Session) : Type 0 where
   pub count : u.count ≡ s.count
   pub files : u.files ≡ s.files
   pub edition : u.edition ≡ s.edition
@@ -38,7 +38,7 @@ pub record AreMade (s : Session) (edits : List EditView) (changes : List Change)
 -- all edits of a line are made, and none passes a size
 pub record IsEdited (s : Session) (asked : List LineEdit) (u : Session) : Type 0 where
   pub edits : List EditView
-  pub changes : List Change
+  pub changes : List TextChange
   pub meant : AreMeant s.edition.0 (text_in s.texts) asked edits changes
   pub made : AreMade s edits changes u
   pub none_passes : NonePasses s.table edits (length edits)
@@ -46,7 +46,7 @@ pub record IsEdited (s : Session) (asked : List LineEdit) (u : Session) : Type 0
 -- the edit at this place is the first that passes a size, and passes this one; those before it are made
 pub record IsRefused (s : Session) (asked : List LineEdit) (u : Session) (place : ℕ) (cause : EditFault) : Type 0 where
   pub edits : List EditView
-  pub changes : List Change
+  pub changes : List TextChange
   pub meant : AreMeant s.edition.0 (text_in s.texts) asked edits changes
   pub made : AreMade s (take place edits) (take place changes) u
   pub none_before : NonePasses s.table edits place
@@ -55,7 +55,7 @@ pub record IsRefused (s : Session) (asked : List LineEdit) (u : Session) (place 
 -- the first of the edits of a line are made, down to none, and memory runs out
 pub record IsStopped (s : Session) (asked : List LineEdit) (u : Session) : Type 0 where
   pub edits : List EditView
-  pub changes : List Change
+  pub changes : List TextChange
   pub count : ℕ
   pub meant : (count ≡ 0) ⊎ AreMeant s.edition.0 (text_in s.texts) asked edits changes
   pub made : AreMade s (take count edits) (take count changes) u

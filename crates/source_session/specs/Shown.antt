@@ -10,7 +10,7 @@ use Rattle.item_tree_db.specs.declared.place.Place.{Place}
 use Rattle.item_tree_db.specs.declared.place.Place.TheVariants.{File, Block}
 use Rattle.item_tree_db.specs.Since.{Change, IsSince}
 use Rattle.item_tree_db.specs.State.{State, change_number, unfolding_at}
-use Rattle.item_tree_request.specs.Outputs.{change_line, printed}
+use Rattle.item_tree_request.specs.Outputs.{table_change_line, printed}
 use Rattle.item_tree_request.specs.declared.request.show.Show.{Show}
 use Rattle.item_tree_request.specs.declared.request.show.Show.TheVariants.{OfTree, Changed}
 use Rattle.source_listing.specs.ImportObjects.{import_objects}
@@ -22,14 +22,14 @@ use Rattle.source_session.specs.declared.show.LineShow.TheVariants.{Table, Outli
 use Rattle.source_session.specs.Files.{CrateFiles, is_change_in}
 use Rattle.source_session.specs.Found.{IsFound}
 use Rattle.source_session.specs.Sessions.{Session}
-use Rattle.source_session.specs.SourceTexts.{text_bytes, text_places, all_places, text_problems}
-use Rattle.source_session.specs.Texts.{text_at, text_in}
+use Rattle.source_session.specs.SourceTexts.{text_bytes, text_places, places_of_text, text_problems}
+use Rattle.source_session.specs.Texts.{text_of_place, text_in}
 
 -- ---- trees
 
 -- a crate's tree of a place
-abbrev pub tree_of : Session → Crate → Place → Unfolding
-tree_of u krate place = unfolding_at u.table place krate.0
+abbrev pub shown_tree : Session → Crate → Place → Unfolding
+shown_tree u krate place = unfolding_at u.table place krate.0
 
 -- all items, at every depth, also those that a cfg disables
 abbrev pub all_items : Choice
@@ -42,9 +42,9 @@ pathless text = record { path = []; text = text }
 -- the objects of the items of a place, without members
 abbrev pub item_objects : Session → Crate → Place → List Data
 item_objects u krate place =
-    let t = text_at u.texts place in
+    let t = text_of_place u.texts place in
     let s = pathless (text_bytes t) in
-    tree_objects s (reading s u.edition.0 None) u.edition.1 (text_places t) all_items (tree_of u krate place)
+    tree_objects s (reading s u.edition.0 None) u.edition.1 (text_places t) all_items (shown_tree u krate place)
 
 -- those of a file
 abbrev pub outline_form : Session → Crate → HirFileId → Data
@@ -52,7 +52,7 @@ outline_form u krate file = array (items_of (item_objects u krate (File file)))
 
 -- the objects of the imports of a place
 abbrev pub imports_form : Session → Crate → Place → Data
-imports_form u krate place = let t = text_at u.texts place in array (items_of (import_objects (text_bytes t) u.edition.1 (all_places t) (tree_of u krate place).forest))
+imports_form u krate place = let t = text_of_place u.texts place in array (items_of (import_objects (text_bytes t) u.edition.1 (places_of_text t) (shown_tree u krate place).forest))
 
 -- the objects of the problems of a file's text
 abbrev pub problems_form : Session → HirFileId → Data
@@ -87,7 +87,7 @@ AreChangeValues files s since d = (changes : List Change) × AreOwnChanges files
 
 -- their lines
 abbrev pub AreChangeLines : CrateFiles → State → ℕ → Data → Type 0
-AreChangeLines files s since d = (changes : List Change) × AreOwnChanges files s since changes × (d ≡ string (flat_map change_line changes))
+AreChangeLines files s since d = (changes : List Change) × AreOwnChanges files s since changes × (d ≡ string (flat_map table_change_line changes))
 
 -- ---- shows
 
@@ -97,11 +97,11 @@ IsTextOf files reserved s (OfTree show) d = d ≡ string (printed reserved s sho
 IsTextOf files reserved s (Changed since) d = AreChangeLines files s since d
 
 -- the value of a show
-abbrev pub IsShown : Session → LineShow → Data → Type 0
-IsShown u (Table show) d = IsTextOf u.files u.edition.1 u.table show d
-IsShown u (Outline krate file) d = d ≡ outline_form u krate file
-IsShown u (TreeItems krate place) d = d ≡ tree_form u krate place
-IsShown u (ImportPlaces krate place) d = d ≡ imports_form u krate place
-IsShown u (Changes since) d = AreChangeValues u.files u.table since d
-IsShown u (Problems file) d = d ≡ problems_form u file
-IsShown u (Find sought) d = IsFound u.files u.table u.texts sought d
+abbrev pub IsShowValue : Session → LineShow → Data → Type 0
+IsShowValue u (Table show) d = IsTextOf u.files u.edition.1 u.table show d
+IsShowValue u (Outline krate file) d = d ≡ outline_form u krate file
+IsShowValue u (TreeItems krate place) d = d ≡ tree_form u krate place
+IsShowValue u (ImportPlaces krate place) d = d ≡ imports_form u krate place
+IsShowValue u (Changes since) d = AreChangeValues u.files u.table since d
+IsShowValue u (Problems file) d = d ≡ problems_form u file
+IsShowValue u (Find sought) d = IsFound u.files u.table u.texts sought d

@@ -5,7 +5,7 @@ use Rattle.serde_json.specs.Written.{has_float}
 use Rattle.hir_input.specs.declared.ids.Crate.{Crate}
 use Rattle.hir_input.specs.declared.ids.HirFileId.{HirFileId}
 use Rattle.hir_input_json.specs.Reading.{Reading, right, wrong, reading_map, here, under, ◌>>=◌}
-use Rattle.hir_input_json.specs.Forms.{required_at, optional_at, on_word, id_at, below, text, members_in}
+use Rattle.hir_input_json.specs.Forms.{required_at, optional_at, on_word, number_form, below, text_form, object_members}
 use Rattle.item_tree_db.specs.declared.place.Place.TheVariants.{File}
 use Rattle.item_tree_request.specs.Named as request
 use Rattle.item_tree_request.specs.Shows as request_shows
@@ -23,19 +23,19 @@ use Rattle.source_session.specs.Sought.{asked_path_in}
 -- one of this many crates, which are numbered from 0
 abbrev pub crate_in : ℕ → Data → Reading Crate
 crate_in count d = do
-  number ← id_at (codes "crate") d
+  number ← number_form (codes "crate") d
   known ← under (codes "crate") (here (below count number))
   right (record { 0 = known })
 
 -- a file
-abbrev pub file_in : Data → Reading HirFileId
-file_in d = reading_map (λ number. record { 0 = number }) (id_at (codes "file") d)
+abbrev pub file_named : Data → Reading HirFileId
+file_named d = reading_map (λ number. record { 0 = number }) (number_form (codes "file") d)
 
 -- a show of a crate's tree of a file
-abbrev pub tree_show : (Crate → HirFileId → LineShow) → ℕ → Data → Reading LineShow
-tree_show of count d = do
+abbrev pub line_tree_show : (Crate → HirFileId → LineShow) → ℕ → Data → Reading LineShow
+line_tree_show of count d = do
   krate ← crate_in count d
-  file ← file_in d
+  file ← file_named d
   right (of krate file)
 
 -- the places of imports of a file
@@ -50,7 +50,7 @@ values_by word = on_word word (codes "json") (right true) (on_word word (codes "
 
 abbrev pub wants_values : Data → Reading Bool
 wants_values d = do
-  word ← text d
+  word ← text_form d
   values_by word
 
 -- whether a show is to be answered by values, by default by a text
@@ -77,38 +77,38 @@ request_show count d = do
 -- ---- shows
 
 -- by the word for what is shown
-abbrev pub show_by : ℕ → List ℕ → Data → Reading LineShow
-show_by count word d =
-    on_word word (codes "outline") (tree_show Outline count d)
-    (on_word word (codes "import_places") (tree_show import_places count d)
-    (on_word word (codes "problems") (reading_map Problems (file_in d))
+abbrev pub line_show_by : ℕ → List ℕ → Data → Reading LineShow
+line_show_by count word d =
+    on_word word (codes "outline") (line_tree_show Outline count d)
+    (on_word word (codes "import_places") (line_tree_show import_places count d)
+    (on_word word (codes "problems") (reading_map Problems (file_named d))
     (on_word word (codes "find") (reading_map Find (asked_path_in d))
     (request_show count d))))
 
 -- a show after edits of a table of this many crates, by its word
-abbrev pub show : ℕ → Data → Reading LineShow
-show count d = do
-  _ ← members_in d
+abbrev pub show_form : ℕ → Data → Reading LineShow
+show_form count d = do
+  _ ← object_members d
   _ ← only_known OfShows d
-  word ← required_at (codes "show") text d
-  show_by count word d
+  word ← required_at (codes "show") text_form d
+  line_show_by count word d
 
 -- the same of a value without a float
 abbrev pub line_show : ℕ → Data → Reading LineShow
-line_show count d = if has_float d then wrong [] else show count d
+line_show count d = if has_float d then wrong [] else show_form count d
 
 -- ---- crates
 
 -- the crate is one of this many
-abbrev pub IsNamed : ℕ → Crate → Type 0
-IsNamed count krate = (krate.0 < count) × (krate.0 < 2 ^ 32)
+abbrev pub IsCrateOf : ℕ → Crate → Type 0
+IsCrateOf count krate = (krate.0 < count) × (krate.0 < 2 ^ 32)
 
 -- so is the one that a show names, if it names one
-abbrev pub NamesCrate : ℕ → LineShow → Type 0
-NamesCrate count (Table show) = request.NamesCrate count show
-NamesCrate count (Outline krate file) = IsNamed count krate
-NamesCrate count (TreeItems krate place) = IsNamed count krate
-NamesCrate count (ImportPlaces krate place) = IsNamed count krate
-NamesCrate count (Changes since) = Unit {0}
-NamesCrate count (Problems file) = Unit {0}
-NamesCrate count (Find sought) = Unit {0}
+abbrev pub ShowNamesCrate : ℕ → LineShow → Type 0
+ShowNamesCrate count (Table show) = request.NamesCrate count show
+ShowNamesCrate count (Outline krate file) = IsCrateOf count krate
+ShowNamesCrate count (TreeItems krate place) = IsCrateOf count krate
+ShowNamesCrate count (ImportPlaces krate place) = IsCrateOf count krate
+ShowNamesCrate count (Changes since) = Unit {0}
+ShowNamesCrate count (Problems file) = Unit {0}
+ShowNamesCrate count (Find sought) = Unit {0}

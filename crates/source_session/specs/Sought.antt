@@ -5,17 +5,17 @@ use Rattle.std.specs.Option.{unwrap_or}
 use Rattle.serde_json.specs.Data.{Data}
 use Rattle.hir_input_json.specs.Reading.{Reading, right, here, ◌>>=◌}
 use Rattle.hir_input.specs.Name.{name_in}
-use Rattle.hir_input_json.specs.Forms.{required_at, text}
+use Rattle.hir_input_json.specs.Forms.{required_at, text_form}
 use Rattle.item_tree.specs.Node.{Unfolding}
 use Rattle.item_tree_db.specs.State.{State, unfolding_at}
 use Rattle.def_collector.specs.Declarations.{Declaration, declared_at}
 use Rattle.decl_index.specs.declared.entry.Entry.{Entry}
-use Rattle.decl_index.specs.Lookup.{has_name}
+use Rattle.decl_index.specs.Lookup.{entry_has_name}
 use Rattle.rust_paths.specs.Names.{behind_hash}
-use Rattle.source_listing.specs.Search.{segment, is_path}
+use Rattle.source_listing.specs.Search.{bare_segment, is_path}
 use Rattle.source_listing.specs.Sought.{Sought, sought}
 use Rattle.source_session.specs.Files.{CrateFiles, is_in_crate}
-use Rattle.source_session.specs.Parts.{parts, last_part}
+use Rattle.source_session.specs.Parts.{parts_between, last_part}
 
 -- a path that is looked for, and its last name
 pub record SoughtItem : Type 0 where
@@ -30,12 +30,12 @@ without_hash word = unwrap_or (behind_hash word) word
 
 -- the last name of a path: what stands behind its last colon
 abbrev pub last_name : List ℕ → Reading (List ℕ)
-last_name s = here (name_in (without_hash (last_part (parts 58 s))))
+last_name s = here (name_in (without_hash (last_part (parts_between 58 s))))
 
 -- a path as the command takes it
 abbrev pub asked_path : Data → Reading SoughtItem
 asked_path d = do
-  s ← text d
+  s ← text_form d
   path ← here (sought s)
   name ← last_name s
   right (record { path = path; name = name })
@@ -64,11 +64,11 @@ scope_at u i = scope_by_id i (map own_scope (declared_at u))
 
 -- these names and then this one
 abbrev pub path_within : Unfolding → ℕ → List ℕ → List ℕ
-path_within u i name = flat_map segment (scope_at u i) ++ segment name
+path_within u i name = flat_map bare_segment (scope_at u i) ++ bare_segment name
 
 -- the path of an entry's item
-abbrev pub path_of : State → Entry → List ℕ
-path_of s e = path_within (unfolding_at s e.place e.krate.0) e.id e.name
+abbrev pub entry_path : State → Entry → List ℕ
+entry_path s e = path_within (unfolding_at s e.place e.krate.0) e.id e.name
 
 -- whether a path is the one that is looked for, or ends as that may
 abbrev pub is_at : Sought → List ℕ → Bool
@@ -76,4 +76,4 @@ is_at q path = is_path (record { path = q.path; is_anywhere = q.is_anywhere; onl
 
 -- whether the entry has the last name and is in its crate, and its item has the path
 abbrev pub is_sought : CrateFiles → State → SoughtItem → Entry → Bool
-is_sought files s q e = has_name q.name e && (is_in_crate files e.krate e.place && is_at q.path (path_of s e))
+is_sought files s q e = entry_has_name q.name e && (is_in_crate files e.krate e.place && is_at q.path (entry_path s e))

@@ -16,8 +16,8 @@ abbrev pub text_use_trees : Option SourceText → List ℕ
 text_use_trees t = option_map_or (λ x. x.use_trees.items) t []
 
 -- the places of the items and of the use trees
-abbrev pub all_places : Option SourceText → FilePlaces
-all_places t = placed (text_places t) (text_use_trees t)
+abbrev pub places_of_text : Option SourceText → FilePlaces
+places_of_text t = placed (text_places t) (text_use_trees t)
 
 abbrev pub text_problems : Option SourceText → List Problem
 text_problems t = option_map_or (λ x. x.problems.items) t []

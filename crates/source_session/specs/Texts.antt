@@ -30,16 +30,16 @@ abbrev pub text_in : Texts → ℕ → Option SourceText
 text_in texts file = option_and_then (λ text. text) (slot_in texts file)
 
 -- the text of a place; a block has none
-abbrev pub text_at : Texts → Place → Option SourceText
-text_at texts (File file) = text_in texts file.0
-text_at texts (Block block) = None
+abbrev pub text_of_place : Texts → Place → Option SourceText
+text_of_place texts (File file) = text_in texts file.0
+text_of_place texts (Block block) = None
 
 -- what an edit leaves of the text of a file, if it sets or removes the file
-abbrev pub Change : Type 0
-Change = Option (ℕ × Option SourceText)
+abbrev pub TextChange : Type 0
+TextChange = Option (ℕ × Option SourceText)
 
 -- a file that an edit of the table sets or removes has no text
-abbrev pub forgets : EditView → Change
+abbrev pub forgets : EditView → TextChange
 forgets (set (File file) syntax) = Some (file.0, None)
 forgets (set (Block block) syntax) = None
 forgets (remove (File file)) = Some (file.0, None)
@@ -47,17 +47,17 @@ forgets (remove (Block block)) = None
 forgets (set_cfg krate options) = None
 
 -- what it leaves of this file
-abbrev pub leaves : ℕ → Change → Option (Option SourceText)
-leaves file None = None
-leaves file (Some (at, text)) = if at == file then Some text else None
+abbrev pub left_text : ℕ → TextChange → Option (Option SourceText)
+left_text file None = None
+left_text file (Some (at, text)) = if at == file then Some text else None
 
 -- the texts of all files, by their numbers
 abbrev pub FileTexts : Type 0
 FileTexts = ℕ → Option SourceText
 
 -- the text of a file after edits: what the last of them leaves that sets or removes the file
-abbrev pub text_after : FileTexts → List Change → FileTexts
-text_after texts changes file = unwrap_or (last_some (leaves file) changes) (texts file)
+abbrev pub text_after : FileTexts → List TextChange → FileTexts
+text_after texts changes file = unwrap_or (last_some (left_text file) changes) (texts file)
 
 -- ---- a range of a text replaced
 
@@ -102,7 +102,7 @@ pub record IsKeptWith (read : FileView) (kept : SourceText) : Type 0 where
   pub problems : kept.problems.items ≡ read.problems
 
 -- the file is set to what is read of the text in an edition, without the texts of bodies, and the text is kept
-pub record IsReading (edition : EditionYear) (file : ℕ) (text : List ℕ) (edit : EditView) (change : Change) : Type 0 where
+pub record IsReading (edition : EditionYear) (file : ℕ) (text : List ℕ) (edit : EditView) (change : TextChange) : Type 0 where
   pub read : FileView
   pub is_read : IsBareFile edition text read
   pub edit_is : edit ≡ set (File (record { 0 = file })) read.syntax
@@ -112,14 +112,14 @@ pub record IsReading (edition : EditionYear) (file : ℕ) (text : List ℕ) (edi
   pub rest : IsKeptWith read kept
 
 -- an edit of a line over these texts means this edit of the table, and leaves this of a text; a change is the setting of the changed text
-abbrev pub Means : EditionYear → FileTexts → LineEdit → EditView → Change → Type 0
+abbrev pub Means : EditionYear → FileTexts → LineEdit → EditView → TextChange → Type 0
 Means edition texts (of_table e) edit change = (edit ≡ e) × (change ≡ forgets e)
 Means edition texts (set_text file text) edit change = IsReading edition file text edit change
 Means edition texts (change_text file range new) edit change =
     (text : List ℕ) × (changed_text (bytes_kept (texts file)) range new ≡ Ok text) × IsReading edition file text edit change
 
 -- each of them does, over the texts that those before it leave
-abbrev pub AreMeant : EditionYear → FileTexts → List LineEdit → List EditView → List Change → Type 0
+abbrev pub AreMeant : EditionYear → FileTexts → List LineEdit → List EditView → List TextChange → Type 0
 AreMeant edition texts [] [] [] = Unit {0}
 AreMeant edition texts (l ∷ ls) (e ∷ es) (c ∷ cs) = Means edition texts l e c × AreMeant edition (text_after texts (c ∷ [])) ls es cs
 AreMeant edition texts [] (e ∷ es) cs = ⊥
@@ -140,4 +140,4 @@ abbrev pub FailsAt : EditionYear → FileTexts → List LineEdit → ℕ → Cha
 FailsAt edition texts [] place cause = ⊥
 FailsAt edition texts (l ∷ ls) zero cause = Fails texts l cause
 FailsAt edition texts (l ∷ ls) (suc place) cause =
-    (e : EditView) × (c : Change) × Means edition texts l e c × FailsAt edition (text_after texts (c ∷ [])) ls place cause
+    (e : EditView) × (c : TextChange) × Means edition texts l e c × FailsAt edition (text_after texts (c ∷ [])) ls place cause

@@ -4,10 +4,10 @@ ghost use Rattle.serde_json.specs.Data.{null};
 ghost use Rattle.serde_json.specs.View.{view};
 ghost use Rattle.serde_json.specs.Written.{has_float};
 ghost use Rattle.hir_input_json.specs.Held.{held};
-ghost use Rattle.line_stream.specs.Lines.{told};
+ghost use Rattle.line_stream.specs.Lines.{line_told};
 ghost use Rattle.source_session.specs.Inner.{IsUnfloating, outcome_view, reply_view};
 ghost use Rattle.source_session.specs.LineViews.{asked_view, IsOwn};
-ghost use Rattle.source_session.specs.Replies.{IsDone, IsOutcome, IsReply, IsReplyTo, IsValueReply, IsWanting, asked_of, number_of};
+ghost use Rattle.source_session.specs.Replies.{IsCarriedOut, IsOutcome, IsReply, IsReplyTo, IsValueReply, IsWanting, asked_of, reply_number};
 
 use crate::error::LineError;
 use crate::line::{Asked, first_line, later_line};
@@ -63,7 +63,7 @@ impl Session {
     // Makes the edits that are asked for, and shows what is asked for.
     fn perform(&mut self, alloc: Global, asked: Asked) -> Outcome
         requires { IsOwn self.old.count asked }
-        ensures done { IsDone self.old (asked_view asked) self.new (outcome_view result) }
+        ensures done { IsCarriedOut self.old (asked_view asked) self.new (outcome_view result) }
         ensures no_float { IsUnfloating result }
     {
         self.edit(alloc, asked.edits)?;
@@ -139,7 +139,7 @@ impl Conversation {
 
     // Answers a line.
     fn reply(&mut self, alloc: Global, line: Line) -> Reply
-        ensures reply { IsReply self.old (told line) self.new (reply_view result) }
+        ensures reply { IsReply self.old (line_told line) self.new (reply_view result) }
         ensures id { has_float (view result.id) ≡ false }
         ensures outcome { IsUnfloating result.outcome }
     {
@@ -158,7 +158,7 @@ impl Conversation {
     }
 
     fn number(&self) -> Option<u64>
-        ensures { result ≡ number_of self.now }
+        ensures { result ≡ reply_number self.now }
     {
         match &self.session {
             Some(session) => Some(session.number()),

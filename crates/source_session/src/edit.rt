@@ -1,10 +1,10 @@
 //! Edits of a line, read from their forms.
 ghost use Rattle.std.specs.Prelude.{◌≡◌, ◌^◌, ℕ, IfOk, codes, string_bytes};
 ghost use Rattle.serde_json.specs.View.{view};
-ghost use Rattle.hir_input_json.specs.Forms.{required_at as required_form, whole};
+ghost use Rattle.hir_input_json.specs.Forms.{required_at as required_form, whole_form};
 ghost use Rattle.hir_input_json.specs.Held.{held};
 ghost use Rattle.hir_input_json.specs.Reads.{Reads};
-ghost use Rattle.source_session.specs.Edits.{edit as edit_form, line_edit, text_edit, change_edit, range as range_form, short_text, edit_view, IsUsable, IsShort};
+ghost use Rattle.source_session.specs.Edits.{edit_form as edit_form, line_edit, text_edit, change_edit, range as range_form, short_text, line_edit_view, IsUsable, IsShort};
 
 use crate::keys::{LineObject, only_known};
 use hir_input::HirFileId;
@@ -56,7 +56,7 @@ fn text_at(alloc: Global, members: &mut Map<String, Value>) -> Result<String, Fa
 }
 
 fn set_text_of(alloc: Global, members: &mut Map<String, Value>) -> Result<LineEdit, Fault>
-    ensures reads { Reads edit_view result (text_edit (held members.old)) }
+    ensures reads { Reads line_edit_view result (text_edit (held members.old)) }
     ensures usable { (count : ℕ) → IfOk result (IsUsable count) }
 {
     let file = HirFileId(id_at(alloc, members, "file")?);
@@ -66,7 +66,7 @@ fn set_text_of(alloc: Global, members: &mut Map<String, Value>) -> Result<LineEd
 
 // A place in a text.
 fn place_of(alloc: Global, value: &Value) -> Result<usize, Fault>
-    ensures { Reads (λ place. place) result (whole (2 ^ 64) (view value.now)) }
+    ensures { Reads (λ place. place) result (whole_form (2 ^ 64) (view value.now)) }
 {
     let place = value.as_u64().ok_or_else(|| Fault::here(alloc))?;
     Ok(place as usize)
@@ -99,7 +99,7 @@ fn range_at(alloc: Global, members: &Map<String, Value>) -> Result<TextRange, Fa
 }
 
 fn change_text_of(alloc: Global, members: &mut Map<String, Value>) -> Result<LineEdit, Fault>
-    ensures reads { Reads edit_view result (change_edit (held members.old)) }
+    ensures reads { Reads line_edit_view result (change_edit (held members.old)) }
     ensures usable { (count : ℕ) → IfOk result (IsUsable count) }
 {
     let file = HirFileId(id_at(alloc, members, "file")?);
@@ -114,7 +114,7 @@ fn members_edit(
     members: &mut Map<String, Value>,
     count: usize,
 ) -> Result<LineEdit, Fault>
-    ensures reads { Reads edit_view result (edit_form count (held members.old)) }
+    ensures reads { Reads line_edit_view result (edit_form count (held members.old)) }
     ensures usable { IfOk result (IsUsable count) }
 {
     only_known(alloc, members, LineObject::OfEdits)?;
@@ -129,7 +129,7 @@ fn members_edit(
 ///
 /// `WrongForm` comes only where it is not of its form (`Edits.line_edit`), and tells where.
 pub(crate) fn edit_of(alloc: Global, value: Value, count: usize) -> Result<LineEdit, Fault>
-    ensures reads { Reads edit_view result (line_edit count (view value)) }
+    ensures reads { Reads line_edit_view result (line_edit count (view value)) }
     ensures usable { IfOk result (IsUsable count) }
 {
     if has_float(&value) {

@@ -103,7 +103,7 @@ fn steps_of<'a>(parts: &[&'a str]) -> Steps<'a>
 
 // An edit or a show.
 fn listed(list: &str) -> Option<LineObject>
-    ensures { result ≡ spec.listed list.now }
+    ensures { result ≡ spec.listed_object list.now }
 {
     match list {
         "edits" => Some(LineObject::OfEdits),
@@ -145,7 +145,7 @@ impl Steps<'_> {
 
     // Whether the line has a key that opens a session.
     fn opens(self) -> bool
-        ensures { result ≡ spec.opens (steps_view self.entry) }
+        ensures { result ≡ spec.opens_session (steps_view self.entry) }
     {
         if self.count != 2 {
             return false;
@@ -154,7 +154,7 @@ impl Steps<'_> {
     }
 
     fn told(self) -> &'static str
-        ensures { result.now ≡ spec.told_at (steps_view self.entry) }
+        ensures { result.now ≡ spec.steps_told_at (steps_view self.entry) }
     {
         if is_place(self.last) {
             return of_list(self.before);

@@ -2,7 +2,7 @@
 ghost use Rattle.std.specs.Prelude.{◌≡◌, ◌^◌, codes};
 ghost use Rattle.std.specs.FinSet as set;
 ghost use Rattle.serde_json.specs.View.{items_view, view};
-ghost use Rattle.hir_input_json.specs.Forms.{each, list_at as each_at, whole};
+ghost use Rattle.hir_input_json.specs.Forms.{each, list_at as each_at, whole_form};
 ghost use Rattle.hir_input_json.specs.Held.{held};
 ghost use Rattle.hir_input_json.specs.Reads.{Reads};
 ghost use Rattle.source_session.specs.Files as spec;
@@ -56,14 +56,14 @@ impl Files {
 // ---- read from their forms
 
 fn number_of(alloc: Global, value: &Value) -> Result<u32, Fault>
-    ensures { Reads (λ number. number) result (whole (2 ^ 32) (view value.now)) }
+    ensures { Reads (λ number. number) result (whole_form (2 ^ 32) (view value.now)) }
 {
     let number = value.as_u64().ok_or_else(|| Fault::here(alloc))?;
     u32::try_from(number).ok().ok_or_else(|| Fault::here(alloc))
 }
 
 fn numbers_of(alloc: Global, items: &[Value]) -> Result<Vec<u32>, Fault>
-    ensures { Reads (λ v. v.items) result (each (whole (2 ^ 32)) (items_view items.now)) }
+    ensures { Reads (λ v. v.items) result (each (whole_form (2 ^ 32)) (items_view items.now)) }
 {
     let mut numbers = Vec::with_capacity(alloc, items.len())?;
     for item in items {

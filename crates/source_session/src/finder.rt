@@ -3,10 +3,10 @@
 //! Both go on from the item that was found last, so that items in the order of the text cost one pass over it in all.
 ghost use Rattle.std.specs.Prelude.{◌≡◌, ◌≢◌, ◌++◌, IfOk, OnOk, map, option_copied, string_bytes};
 ghost use Rattle.std.specs.List.{AllPairs, flat_map};
-ghost use Rattle.def_collector.specs.DeclarationView.{id_of};
+ghost use Rattle.def_collector.specs.DeclarationView.{declaration_id};
 ghost use Rattle.line_index.specs.Positions.{position_of};
 ghost use Rattle.source_listing.specs.Places.{AreDistinct, is_id, place_of, stands_at};
-ghost use Rattle.source_listing.specs.Search.{segment};
+ghost use Rattle.source_listing.specs.Search.{bare_segment};
 ghost use Rattle.source_session.specs.Finders.{IsSameText, KnowsScopes, declared_scope, head_place, head_scope};
 ghost use Rattle.source_session.specs.Sought.{found_scope, scope_by_id};
 ghost use Rattle.source_session.specs.SourceTexts.{text_bytes, text_places};
@@ -52,7 +52,7 @@ fn declared_from<'d, 'tree>(
     next: usize,
     id: ModItemId,
 ) -> &'d [Declaration<'tree>]
-    requires { AllPairs (λ i j. i ≢ j) (map id_of declarations.now) }
+    requires { AllPairs (λ i j. i ≢ j) (map declaration_id declarations.now) }
     ensures { head_scope result.now ≡ found_scope id (map declared_scope declarations.now) }
 {
     let left = declared_first(&declarations[next.min(declarations.len())..], id);
@@ -64,7 +64,7 @@ fn declared_from<'d, 'tree>(
 
 /// Adds a name and the colons before it.
 pub(crate) fn push_segment(name: &Name, path: &mut String) -> Result<(), AllocError>
-    ensures { OnOk result (string_bytes path.new ≡ string_bytes path.old ++ segment name.now) }
+    ensures { OnOk result (string_bytes path.new ≡ string_bytes path.old ++ bare_segment name.now) }
 {
     path.push_str("::")?;
     path.push_str(name.text())
@@ -72,7 +72,7 @@ pub(crate) fn push_segment(name: &Name, path: &mut String) -> Result<(), AllocEr
 
 fn push_names(names: &[&Name], path: &mut String) -> Result<(), AllocError>
     ensures { OnOk result (string_bytes path.new ≡ string_bytes path.old
-        ++ flat_map (λ n. segment n.now) names.now) }
+        ++ flat_map (λ n. bare_segment n.now) names.now) }
 {
     for name in names {
         push_segment(name, path)?;
@@ -95,10 +95,10 @@ impl<'tree> Scopes<'tree> {
     /// Adds the names of the modules around the item of an id.
     #[tactic(auto, using(crate::proofs::Finders::segments_are))]
     pub(crate) fn push_scope(&mut self, id: ModItemId, path: &mut String) -> Result<(), AllocError>
-        requires { AllPairs (λ i j. i ≢ j) (map id_of self.old.declarations.items) }
+        requires { AllPairs (λ i j. i ≢ j) (map declaration_id self.old.declarations.items) }
         ensures pushed { let scope = scope_by_id id
             (map declared_scope self.old.declarations.items) in
-            OnOk result (string_bytes path.new ≡ string_bytes path.old ++ flat_map segment scope) }
+            OnOk result (string_bytes path.new ≡ string_bytes path.old ++ flat_map bare_segment scope) }
         ensures same { self.new.declarations.items ≡ self.old.declarations.items }
     {
         match declared_from(&self.declarations, self.next, id) {

@@ -1,7 +1,7 @@
 //! Edits inside bodies: the text is not read anew. What was read of it stays, and what stands behind the body is moved.
 ghost use Rattle.std.specs.Prelude.{[], ◌∷◌, IfOk, IfSome, map};
 ghost use Rattle.source_session.specs.Edits as line;
-ghost use Rattle.source_session.specs.Edits.{edit_view};
+ghost use Rattle.source_session.specs.Edits.{line_edit_view};
 ghost use Rattle.source_session.specs.Inside.{IsInside, MakesAlone};
 
 use crate::difference::difference;
@@ -106,7 +106,7 @@ pub(crate) fn edit_inside_body(
     texts: &mut Texts,
     edits: &[LineEdit],
 ) -> Result<bool, AllocError>
-    ensures { MakesAlone sources.old texts.old.entries (map edit_view edits.now) sources.new
+    ensures { MakesAlone sources.old texts.old.entries (map line_edit_view edits.now) sources.new
         texts.new.entries result }
 {
     match edits {

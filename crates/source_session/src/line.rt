@@ -5,11 +5,11 @@ ghost use Rattle.hir_input.specs.Name.{name_in};
 ghost use Rattle.hir_input_json.specs.Forms.{each, list_at as each_at};
 ghost use Rattle.hir_input_json.specs.Held.{held, without};
 ghost use Rattle.hir_input_json.specs.Reads.{Reads};
-ghost use Rattle.source_session.specs.Edits.{edit_view, line_edit, IsUsable};
+ghost use Rattle.source_session.specs.Edits.{line_edit_view, line_edit, IsUsable};
 ghost use Rattle.source_session.specs.Lines as spec;
 ghost use Rattle.source_session.specs.Lines.{none_at};
 ghost use Rattle.source_session.specs.LineViews.{asked_view, first_view, settings_view, IsOwn};
-ghost use Rattle.source_session.specs.Shows.{NamesCrate, line_show};
+ghost use Rattle.source_session.specs.Shows.{ShowNamesCrate, line_show};
 
 use crate::edit::{LineEdit, edit_of};
 use crate::files::{Files, crate_files_at};
@@ -145,7 +145,7 @@ fn no_settings_in(alloc: Global, members: &Map<String, Value>) -> Result<(), Fau
 // ---- edits and shows
 
 fn edits_of(alloc: Global, items: Vec<Value>, count: usize) -> Result<Vec<LineEdit>, Fault>
-    ensures reads { Reads (λ v. map edit_view v.items) result
+    ensures reads { Reads (λ v. map line_edit_view v.items) result
         (each (line_edit count) (items_view items.items)) }
     ensures usable { IfOk result (λ v. All (IsUsable count) v.items) }
 {
@@ -160,7 +160,7 @@ fn edits_of(alloc: Global, items: Vec<Value>, count: usize) -> Result<Vec<LineEd
 
 fn shows_of(alloc: Global, items: Vec<Value>, count: usize) -> Result<Vec<LineShow>, Fault>
     ensures reads { Reads (λ v. v.items) result (each (line_show count) (items_view items.items)) }
-    ensures known { IfOk result (λ v. All (NamesCrate count) v.items) }
+    ensures known { IfOk result (λ v. All (ShowNamesCrate count) v.items) }
 {
     let mut shows = Vec::with_capacity(alloc, items.len())?;
     for item in items {
@@ -176,7 +176,7 @@ fn edits_in(
     members: &mut Map<String, Value>,
     count: usize,
 ) -> Result<Vec<LineEdit>, Fault>
-    ensures reads { Reads (λ v. map edit_view v.items) result
+    ensures reads { Reads (λ v. map line_edit_view v.items) result
         (each_at (line_edit count) (codes "edits") (held members.old)) }
     ensures usable { IfOk result (λ v. All (IsUsable count) v.items) }
     ensures left { OnOk result (held members.new ≡ without (codes "edits") (held members.old)) }
@@ -192,7 +192,7 @@ fn shows_in(
 ) -> Result<Vec<LineShow>, Fault>
     ensures reads { Reads (λ v. v.items) result
         (each_at (line_show count) (codes "shows") (held members.old)) }
-    ensures known { IfOk result (λ v. All (NamesCrate count) v.items) }
+    ensures known { IfOk result (λ v. All (ShowNamesCrate count) v.items) }
 {
     let items = list_at(alloc, members, "shows")?;
     shows_of(alloc, items, count).in_member(alloc, "shows")
@@ -200,7 +200,7 @@ fn shows_in(
 
 #[tactic(auto, using(hir_input_json::proofs::Held::field_without))]
 fn asked_in(alloc: Global, members: &mut Map<String, Value>, count: usize) -> Result<Asked, Fault>
-    ensures reads { Reads asked_view result (spec.asked count (held members.old)) }
+    ensures reads { Reads asked_view result (spec.line_asked count (held members.old)) }
     ensures own { IfOk result (IsOwn count) }
 {
     let edits = edits_in(alloc, members, count)?;

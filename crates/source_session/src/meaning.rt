@@ -2,7 +2,7 @@
 ghost use Rattle.std.specs.Prelude.{◌≡◌, ℕ, All, IfOk, IfErr, length, map, string_bytes};
 ghost use Rattle.item_tree_db.specs.Edits.{edit_view as table_view};
 ghost use Rattle.item_tree_request.specs.Named.{EditNamesCrate};
-ghost use Rattle.source_session.specs.Edits.{IsShort, IsUsable, change_text, edit_view};
+ghost use Rattle.source_session.specs.Edits.{IsShort, IsUsable, change_text, line_edit_view};
 ghost use Rattle.source_session.specs.Inner.{LeavesPlaced, IsFailing, TellsFault};
 ghost use Rattle.source_session.specs.Texts.{AreMeant, FailsAt, IsReading, Means, forgets, text_after as after, text_in};
 
@@ -104,12 +104,12 @@ fn meaning_of(
 ) -> Result<Meaning, LineError>
     requires { IsUsable count edit }
     ensures means { IfOk result
-        (λ m. Means edition (after (text_in texts.now.entries) changes.now) (edit_view edit)
+        (λ m. Means edition (after (text_in texts.now.entries) changes.now) (line_edit_view edit)
         (table_view m.edit) m.change) }
     ensures known { IfOk result (λ m. EditNamesCrate count m.edit) }
     ensures placed { IfOk result (λ m. LeavesPlaced m.change) }
     ensures fails { IfErr result
-        (TellsFault (IsFailing (after (text_in texts.now.entries) changes.now) (edit_view edit)
+        (TellsFault (IsFailing (after (text_in texts.now.entries) changes.now) (line_edit_view edit)
         (length changes.now))) }
 {
     match edit {
@@ -139,10 +139,10 @@ pub(crate) fn meanings_of(
 ) -> Result<Meanings, LineError>
     requires { All (IsUsable count) edits.items }
     ensures meant { IfOk result
-        (λ m. AreMeant edition (text_in texts.now.entries) (map edit_view edits.items)
+        (λ m. AreMeant edition (text_in texts.now.entries) (map line_edit_view edits.items)
         (map table_view m.edits.items) m.changes.items) }
     ensures fails { IfErr result
-        (TellsFault (FailsAt edition (text_in texts.now.entries) (map edit_view edits.items))) }
+        (TellsFault (FailsAt edition (text_in texts.now.entries) (map line_edit_view edits.items))) }
     ensures known { IfOk result (λ m. All (EditNamesCrate count) m.edits.items) }
     ensures placed { IfOk result (λ m. All LeavesPlaced m.changes.items) }
     ensures count { IfOk result (λ m. length m.edits.items ≡ length edits.items) }

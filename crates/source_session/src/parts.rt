@@ -11,7 +11,7 @@ use std::alloc::{AllocError, Global};
 /// Only if memory runs out.
 pub(crate) fn parts(alloc: Global, text: &str, mark: char) -> Result<Vec<&str>, AllocError>
     requires { mark < 128 }
-    ensures { IfOk result (λ parts. map (λ p. p.now) parts.items ≡ spec.parts mark text.now) }
+    ensures { IfOk result (λ parts. map (λ p. p.now) parts.items ≡ spec.parts_between mark text.now) }
 {
     let mut parts = Vec::new(alloc);
     for part in text.split(mark) {

@@ -1,7 +1,7 @@
 //! A session: a table of trees, the texts of its files, and an index of its names.
 ghost use Rattle.std.specs.Prelude.{ℕ, ◌≡◌, All, MatchResult, map};
 ghost use Rattle.decl_index.specs.Entries.{IndexView};
-ghost use Rattle.source_session.specs.Edits.{IsUsable, edit_view};
+ghost use Rattle.source_session.specs.Edits.{IsUsable, line_edit_view};
 ghost use Rattle.source_session.specs.LineViews.{settings_view};
 ghost use Rattle.source_session.specs.Inner.{AreSetTo, AreTogether, IsPlaced, Knowing, LeadsBy};
 ghost use Rattle.source_session.specs.Refusals.{made_count, outcome_of};
@@ -91,7 +91,7 @@ fn edit_files(
 ) -> Result<(), LineError>
     requires usable { All (IsUsable count) edits.items }
     requires known { Knowing count sources.old }
-    ensures edited { LeadsBy count edition sources.old texts.old.entries (map edit_view edits.items)
+    ensures edited { LeadsBy count edition sources.old texts.old.entries (map line_edit_view edits.items)
         sources.new texts.new.entries result }
     ensures together { (index : IndexView)
         → AreTogether count edition sources.old texts.old.entries index (touched_keys touched.old)
@@ -121,7 +121,7 @@ fn edit_texts(
     requires known { Knowing count sources.old }
     requires read { AreSetTo edition sources.old texts.old.entries }
     requires placed { (file : ℕ) → IsPlaced (text_in texts.old.entries file) }
-    ensures edited { LeadsBy count edition sources.old texts.old.entries (map edit_view edits.items)
+    ensures edited { LeadsBy count edition sources.old texts.old.entries (map line_edit_view edits.items)
         sources.new texts.new.entries result }
     ensures together { (index : IndexView)
         → AreTogether count edition sources.old texts.old.entries index (touched_keys touched.old)
@@ -159,8 +159,8 @@ impl Session {
     pub(crate) fn edit(&mut self, alloc: Global, edits: Vec<LineEdit>) -> Result<(), LineError>
         requires { All (IsUsable self.old.count) edits.items }
         ensures { MatchResult result
-            (λ _. IsEdited self.old (map edit_view edits.items) self.new)
-            (IsUnedited self.old (map edit_view edits.items) self.new) }
+            (λ _. IsEdited self.old (map line_edit_view edits.items) self.new)
+            (IsUnedited self.old (map line_edit_view edits.items) self.new) }
     {
         edit_texts(
             alloc,

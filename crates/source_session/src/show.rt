@@ -6,7 +6,7 @@ ghost use Rattle.hir_input_json.specs.Reads.{Reads};
 ghost use Rattle.item_tree_request.specs.Named as request;
 ghost use Rattle.source_session.specs.Sought.{asked_path_in};
 ghost use Rattle.source_session.specs.Shows as spec;
-ghost use Rattle.source_session.specs.Shows.{NamesCrate, IsNamed};
+ghost use Rattle.source_session.specs.Shows.{ShowNamesCrate, IsCrateOf};
 
 use crate::keys::{LineObject, only_known};
 use crate::sought::{SoughtItem, sought_of};
@@ -41,7 +41,7 @@ pub enum LineShow {
 // One of this many crates.
 fn crate_at(alloc: Global, members: &Map<String, Value>, count: usize) -> Result<Crate, Fault>
     ensures reads { Reads (λ krate. krate) result (spec.crate_in count (held members.now)) }
-    ensures known { IfOk result (IsNamed count) }
+    ensures known { IfOk result (IsCrateOf count) }
 {
     let krate = id_at(alloc, members, "crate")?;
     if krate as usize >= count {
@@ -51,7 +51,7 @@ fn crate_at(alloc: Global, members: &Map<String, Value>, count: usize) -> Result
 }
 
 fn file_at(alloc: Global, members: &Map<String, Value>) -> Result<HirFileId, Fault>
-    ensures { Reads (λ file. file) result (spec.file_in (held members.now)) }
+    ensures { Reads (λ file. file) result (spec.file_named (held members.now)) }
 {
     Ok(HirFileId(id_at(alloc, members, "file")?))
 }
@@ -95,7 +95,7 @@ fn as_values(alloc: Global, members: &Map<String, Value>) -> Result<bool, Fault>
 // What a show of a tree is answered by, if by values.
 fn tree_values(show: TreeShow) -> LineShow
     ensures shown { result ≡ spec.tree_values show.kind show }
-    ensures known { (count : ℕ) → IsNamed count show.krate → NamesCrate count result }
+    ensures known { (count : ℕ) → IsCrateOf count show.krate → ShowNamesCrate count result }
 {
     let (krate, place) = (show.krate, show.place);
     match show.kind {
@@ -107,7 +107,7 @@ fn tree_values(show: TreeShow) -> LineShow
 
 fn answered_by(by_values: bool, show: Show) -> LineShow
     ensures shown { result ≡ spec.answered_by by_values show }
-    ensures known { (count : ℕ) → request.NamesCrate count show → NamesCrate count result }
+    ensures known { (count : ℕ) → request.NamesCrate count show → ShowNamesCrate count result }
 {
     if !by_values {
         return LineShow::Table(show);
@@ -124,7 +124,7 @@ fn request_show(
     count: usize,
 ) -> Result<LineShow, Fault>
     ensures reads { Reads (λ show. show) result (spec.request_show count (held members.now)) }
-    ensures known { IfOk result (NamesCrate count) }
+    ensures known { IfOk result (ShowNamesCrate count) }
 {
     let show = show_in(alloc, members, count)?;
     let by_values = as_values(alloc, members)?;
@@ -139,8 +139,8 @@ fn members_show(
     members: &Map<String, Value>,
     count: usize,
 ) -> Result<LineShow, Fault>
-    ensures reads { Reads (λ show. show) result (spec.show count (held members.now)) }
-    ensures known { IfOk result (NamesCrate count) }
+    ensures reads { Reads (λ show. show) result (spec.show_form count (held members.now)) }
+    ensures known { IfOk result (ShowNamesCrate count) }
 {
     only_known(alloc, members, LineObject::OfShows)?;
     match word_at(alloc, members, "show")? {
@@ -169,7 +169,7 @@ fn members_show(
 /// `WrongForm` comes only where it is not of its form (`Shows.line_show`), and tells where.
 pub(crate) fn show_of(alloc: Global, value: Value, count: usize) -> Result<LineShow, Fault>
     ensures reads { Reads (λ show. show) result (spec.line_show count (view value)) }
-    ensures known { IfOk result (NamesCrate count) }
+    ensures known { IfOk result (ShowNamesCrate count) }
 {
     if has_float(&value) {
         return Err(Fault::here(alloc));

@@ -4,11 +4,11 @@ ghost use Rattle.std.specs.List.{AllZip, flat_map};
 ghost use Rattle.serde_json.specs.Data.{string};
 ghost use Rattle.serde_json.specs.View.{view};
 ghost use Rattle.item_tree_db.specs.State.{IsKnown};
-ghost use Rattle.item_tree_request.specs.Outputs.{Knows, change_line, printed};
+ghost use Rattle.item_tree_request.specs.Outputs.{Knows, table_change_line, printed};
 ghost use Rattle.source_session.specs.Files.{is_change_in};
 ghost use Rattle.source_session.specs.Found.{IsFound};
-ghost use Rattle.source_session.specs.Shows.{IsNamed, NamesCrate};
-ghost use Rattle.source_session.specs.Shown.{AreChangeLines, AreChangeValues, AreOwnChanges, IsShown, IsTextOf, change_form, change_with, imports_form, item_objects, items_member, outline_form, problems_form, tree_form};
+ghost use Rattle.source_session.specs.Shows.{IsCrateOf, ShowNamesCrate};
+ghost use Rattle.source_session.specs.Shown.{AreChangeLines, AreChangeValues, AreOwnChanges, IsShowValue, IsTextOf, change_form, change_with, imports_form, item_objects, items_member, outline_form, problems_form, tree_form};
 
 use crate::files::{Files, is_in_crate};
 use crate::found::found_values;
@@ -101,7 +101,7 @@ fn changes_value(
 
 fn push_changes(changes: &[(Place, Crate, u64)], text: &mut String) -> Result<(), AllocError>
     ensures { OnOk result (string_bytes text.new ≡ string_bytes text.old
-        ++ flat_map change_line changes.now) }
+        ++ flat_map table_change_line changes.now) }
 {
     for (place, krate, change) in changes {
         push_change(*place, *krate, *change, text)?;
@@ -188,7 +188,7 @@ fn table_value(
 impl Session {
     // The objects of the items of a place.
     fn items(&self, alloc: Global, krate: Crate, place: Place) -> Result<Vec<Value>, AllocError>
-        requires { IsNamed self.now.count krate }
+        requires { IsCrateOf self.now.count krate }
         ensures { IfOk result (λ items. map view items.items ≡ item_objects self.now krate place) }
     {
         let choice = Choice {
@@ -220,7 +220,7 @@ impl Session {
     }
 
     fn outline(&self, alloc: Global, krate: Crate, file: HirFileId) -> Result<Value, AllocError>
-        requires { IsNamed self.now.count krate }
+        requires { IsCrateOf self.now.count krate }
         ensures { IfOk result (λ value. view value ≡ outline_form self.now krate file) }
     {
         let items = self.items(alloc, krate, Place::File(file))?;
@@ -228,7 +228,7 @@ impl Session {
     }
 
     fn tree_items(&self, alloc: Global, krate: Crate, place: Place) -> Result<Value, AllocError>
-        requires { IsNamed self.now.count krate }
+        requires { IsCrateOf self.now.count krate }
         ensures { IfOk result (λ value. view value ≡ tree_form self.now krate place) }
     {
         let items = self.items(alloc, krate, place)?;
@@ -237,7 +237,7 @@ impl Session {
     }
 
     fn import_places(&self, alloc: Global, krate: Crate, place: Place) -> Result<Value, AllocError>
-        requires { IsNamed self.now.count krate }
+        requires { IsCrateOf self.now.count krate }
         ensures { IfOk result (λ value. view value ≡ imports_form self.now krate place) }
     {
         let tree = self.sources.tree(place, krate);
@@ -293,8 +293,8 @@ impl Session {
 
     // The value of a show.
     fn show(&mut self, alloc: Global, show: &LineShow) -> Result<Value, AllocError>
-        requires { NamesCrate self.old.count show.now }
-        ensures shown { IfOk result (λ value. IsShown self.old show.now (view value)) }
+        requires { ShowNamesCrate self.old.count show.now }
+        ensures shown { IfOk result (λ value. IsShowValue self.old show.now (view value)) }
         ensures same { self.new ≡ self.old }
     {
         match show {
@@ -320,9 +320,9 @@ impl Session {
         alloc: Global,
         shows: &[LineShow],
     ) -> Result<Vec<Value>, AllocError>
-        requires { All (NamesCrate self.old.count) shows.now }
+        requires { All (ShowNamesCrate self.old.count) shows.now }
         ensures shown { IfOk result
-            (λ values. AllZip (IsShown self.old) shows.now (map view values.items)) }
+            (λ values. AllZip (IsShowValue self.old) shows.now (map view values.items)) }
         ensures same { self.new ≡ self.old }
     {
         let mut values = Vec::with_capacity(alloc, shows.len())?;

@@ -1,7 +1,7 @@
 //! The texts of files, with what was read of them.
 ghost use Rattle.std.specs.Prelude.{◌≡◌, ℕ, ◌==◌, ◌∷◌, List, All, IfSome, OnOk, if◌then◌else◌, take, option_copied, option_map};
 ghost use Rattle.source_session.specs.Inner.{HasSlot, HasSlotFor};
-ghost use Rattle.source_session.specs.Texts.{Change as ChangeView, leaves, text_after, text_at, text_in};
+ghost use Rattle.source_session.specs.Texts.{TextChange as ChangeView, left_text, text_after, text_of_place, text_in};
 
 use item_tree_db::Place;
 use rust_items::{ItemPlace, Problem};
@@ -38,7 +38,7 @@ pub(crate) fn text_of(texts: &Texts, file: u32) -> Option<&SourceText>
 
 /// The text of a place. A block has none.
 pub(crate) fn text_at(texts: &Texts, place: Place) -> Option<&SourceText>
-    ensures { option_copied result ≡ text_at texts.now.entries place }
+    ensures { option_copied result ≡ text_of_place texts.now.entries place }
 {
     match place {
         Place::File(file) => text_of(texts, file.0),
@@ -48,7 +48,7 @@ pub(crate) fn text_at(texts: &Texts, place: Place) -> Option<&SourceText>
 
 // What a change leaves of a file.
 fn left_of(change: &Change, file: u32) -> Option<Option<&SourceText>>
-    ensures { option_map option_copied result ≡ leaves file change.now }
+    ensures { option_map option_copied result ≡ left_text file change.now }
 {
     match change {
         Some((at, text)) if *at == file => Some(text.as_ref()),

@@ -7,7 +7,7 @@ use Rattle.item_tree.specs.Node.{Node, leaf, parent, Forest, empty, more, nodes,
 use Rattle.item_tree.specs.Shown.{StandFor}
 use Rattle.item_tree.specs.Walk.{of_id, children, children_at}
 use Rattle.item_tree.proofs.Walking.{flat_map_of_id}
-use Rattle.tree_walk.specs.Rows.{Around, RowView, row, below, node_rows, forest_rows, rows, top}
+use Rattle.tree_walk.specs.Rows.{Around, RowView, row, around_inside, node_rows, forest_rows, rows, top}
 use Rattle.tree_walk.specs.Inner.Rows.{rows_at}
 
 forest_is : (a : Around) (f : Forest) → flat_map (node_rows a) (nodes f) ≡ forest_rows a f
@@ -22,19 +22,19 @@ pub top_rows : (u : Unfolding) (a : Around) (is : List ℕ) → a ≡ top u → 
 top_rows u a is t e = ap (λ b. flat_map (rows_at u b) is) t ∙ ids_rows u (top u) is u.forest e
 
 -- of an item: its row, and those of its children
-node_is : (a : Around) (n : Node) → node_rows a n ≡ row a n ∷ forest_rows (below (row a n)) (children n)
+node_is : (a : Around) (n : Node) → node_rows a n ≡ row a n ∷ forest_rows (around_inside (row a n)) (children n)
 node_is a (leaf h l) = refl
 node_is a (parent h t f) = refl
 
 one_rows : (u : Unfolding) (a : Around) (is : List ℕ) (o : Option Node) (r : RowView) → r ∷ [] ≡ option_map_or (λ n. row a n ∷ []) o [] → StandFor u is (option_map_or children o empty)
-    → option_map_or (node_rows a) o [] ≡ r ∷ flat_map (rows_at u (below r)) is
+    → option_map_or (node_rows a) o [] ≡ r ∷ flat_map (rows_at u (around_inside r)) is
 one_rows u a is None r e s = absurd (cc)
 one_rows u a is (Some n) r e s =
     let e : row a n ≡ r = cc in
-    node_is a n ∙ ap (λ r. r ∷ forest_rows (below r) (children n)) e ∙ ap (λ rs. r ∷ rs) (sym (ids_rows u (below r) is (children n) s))
+    node_is a n ∙ ap (λ r. r ∷ forest_rows (around_inside r) (children n)) e ∙ ap (λ rs. r ∷ rs) (sym (ids_rows u (around_inside r) is (children n) s))
 
 -- the row of an item, and then those of its children, are its rows
-pub row_adds : (u : Unfolding) (a b : Around) (i : ℕ) (is : List ℕ) (r : RowView) (before mid after : List RowView) → r ∷ [] ≡ of_id u [] (λ n. row a n ∷ []) i → StandFor u is (children_at u i) → b ≡ below r
+pub row_adds : (u : Unfolding) (a b : Around) (i : ℕ) (is : List ℕ) (r : RowView) (before mid after : List RowView) → r ∷ [] ≡ of_id u [] (λ n. row a n ∷ []) i → StandFor u is (children_at u i) → b ≡ around_inside r
     → mid ≡ before ++ r ∷ [] → after ≡ mid ++ flat_map (rows_at u b) is → after ≡ before ++ rows_at u a i
 row_adds u a b i is r before mid after e s d f g =
-    rw (g, f, d) (append_assoc before (r ∷ []) (flat_map (rows_at u (below r)) is) ∙ ap (λ (rs : List RowView). before ++ rs) (sym (one_rows u a is (node_at u.forest i) r e s)))
+    rw (g, f, d) (append_assoc before (r ∷ []) (flat_map (rows_at u (around_inside r)) is) ∙ ap (λ (rs : List RowView). before ++ rs) (sym (one_rows u a is (node_at u.forest i) r e s)))

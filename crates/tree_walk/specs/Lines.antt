@@ -6,13 +6,13 @@ use Rattle.item_tree.specs.Node.{Node, leaf, parent, Forest, empty, more, node_a
 use Rattle.def_collector.specs.Declarations.{node_name}
 
 -- the name of an item, behind a space
-abbrev pub spaced : Option (List ℕ) → List ℕ
-spaced None = []
-spaced (Some name) = codes " " ++ name
+abbrev pub spaced_name : Option (List ℕ) → List ℕ
+spaced_name None = []
+spaced_name (Some name) = codes " " ++ name
 
 -- the line of an item
 unfoldable pub line : List ℕ → FileAstId → Option (List ℕ) → List ℕ
-line indent id name = indent ++ shown_id id ++ spaced name ++ codes "\n"
+line indent id name = indent ++ shown_id id ++ spaced_name name ++ codes "\n"
 
 -- what stands in an item is indented by four spaces more
 abbrev pub deeper : List ℕ → List ℕ

@@ -65,14 +65,14 @@ abbrev pub row : Around → Node → RowView
 row a n = record { level = a.level; scope = a.scope; id = node_ast n; name = node_name n; subject = node_subject n; visibility = node_visibility n; is_active = a.is_active && is_enabled n }
 
 -- around what stands in an item
-abbrev pub below : RowView → Around
-below r = record { level = r.level + 1; scope = scope_below r.scope r.id.kind r.name; is_active = r.is_active }
+abbrev pub around_inside : RowView → Around
+around_inside r = record { level = r.level + 1; scope = scope_below r.scope r.id.kind r.name; is_active = r.is_active }
 
 -- the row of an item, before those of the items in it
 abbrev mutual
   pub node_rows : Around → Node → List RowView
   node_rows around (leaf h l) = row around (leaf h l) ∷ []
-  node_rows around (parent h t f) = row around (parent h t f) ∷ forest_rows (below (row around (parent h t f))) f
+  node_rows around (parent h t f) = row around (parent h t f) ∷ forest_rows (around_inside (row around (parent h t f))) f
 
   pub forest_rows : Around → Forest → List RowView
   forest_rows around empty = []

@@ -165,7 +165,7 @@ fn row_of<'tree>(
 /// What stands around the items in an item.
 fn below<'tree>(alloc: Global, row: &Row<'tree>) -> Result<Around<'tree>, AllocError>
     requires { row.now.level + 1 < 2 ^ 64 }
-    ensures { IfOk result (λ a. around_view a ≡ spec.below (row_view row.now)) }
+    ensures { IfOk result (λ a. around_view a ≡ spec.around_inside (row_view row.now)) }
 {
     let mut scope = Vec::from_slice(alloc, &row.scope)?;
     if let (AstIdKind::Module, Some(name)) = (row.id.kind, row.name) {

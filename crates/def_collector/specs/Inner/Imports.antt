@@ -11,15 +11,15 @@ use Rattle.def_collector.specs.Listed.{listed_import}
 -- ---- imports with the nodes at their places
 
 -- the node at the place that the list has at the import's index
-abbrev pub node_of : UseTreeView → List ℕ → Import → Option UseTreeView
-node_of w places x = option_and_then (slice_get (written_nodes w)) (slice_get places x.index)
+abbrev pub import_node : UseTreeView → List ℕ → Import → Option UseTreeView
+import_node w places x = option_and_then (slice_get (written_nodes w)) (slice_get places x.index)
 
 -- there is one
 abbrev pub IsAtLeaf : UseTreeView → List ℕ → Import → Type 0
-IsAtLeaf w places x = IsSome (node_of w places x)
+IsAtLeaf w places x = IsSome (import_node w places x)
 
 abbrev pub at_leaf : UseTreeView → List ℕ → Import → Import × Option UseTreeView
-at_leaf w places x = (x, node_of w places x)
+at_leaf w places x = (x, import_node w places x)
 
 abbrev pub seen : WrittenImport → Import × Option UseTreeView
 seen w = (listed_import w.import, Some (use_tree_view w.leaf.now))

@@ -11,7 +11,7 @@ use Rattle.hir_input.specs.contracts.ids.SyntaxContext as context
 use Rattle.hir_input.specs.contracts.span.Span as span
 use Rattle.hir_input.specs.Cfg.{AtomView, CfgView, CfgViews, invalid, atom, all_of, any_of, not_of, no_cfgs, cfg_and}
 use Rattle.hir_input.specs.Literal.{LiteralView}
-use Rattle.hir_input.specs.Code.Parts.{front, behind}
+use Rattle.hir_input.specs.Code.Parts.{front_code, behind_code}
 use Rattle.hir_input.specs.Attr.{MetaView, MetaViews, path_meta, key_value_meta, token_tree_meta, cfg_meta, cfg_attr_meta, unsafe_meta, no_metas, meta_and}
 
 -- ---- conditions
@@ -42,15 +42,15 @@ abbrev mutual
 mutual
   pub cfg_inj : (c d : CfgView) → cfg_to c ≡ cfg_to d → c ≡ d
   cfg_inj invalid invalid h = refl
-  cfg_inj (atom a) (atom b) h = ap atom (atom_code.inj a b (ap behind h))
-  cfg_inj (all_of cs) (all_of ds) h = ap all_of (cfgs_inj cs ds (ap behind h))
-  cfg_inj (any_of cs) (any_of ds) h = ap any_of (cfgs_inj cs ds (ap behind h))
-  cfg_inj (not_of c) (not_of d) h = ap not_of (cfg_inj c d (ap behind h))
+  cfg_inj (atom a) (atom b) h = ap atom (atom_code.inj a b (ap behind_code h))
+  cfg_inj (all_of cs) (all_of ds) h = ap all_of (cfgs_inj cs ds (ap behind_code h))
+  cfg_inj (any_of cs) (any_of ds) h = ap any_of (cfgs_inj cs ds (ap behind_code h))
+  cfg_inj (not_of c) (not_of d) h = ap not_of (cfg_inj c d (ap behind_code h))
   cfg_inj _ _ h = cc
 
   cfgs_inj : (cs ds : CfgViews) → cfgs_to cs ≡ cfgs_to ds → cs ≡ ds
   cfgs_inj no_cfgs no_cfgs h = refl
-  cfgs_inj (cfg_and c cs) (cfg_and d ds) h = λ i. cfg_and (cfg_inj c d (ap front h) i) (cfgs_inj cs ds (ap behind h) i)
+  cfgs_inj (cfg_and c cs) (cfg_and d ds) h = λ i. cfg_and (cfg_inj c d (ap front_code h) i) (cfgs_inj cs ds (ap behind_code h) i)
   cfgs_inj _ _ h = cc
 
 abbrev pub cfg_code : Coded CfgView
@@ -90,18 +90,18 @@ abbrev mutual
 
 mutual
   pub meta_inj : (m n : MetaView) → meta_to m ≡ meta_to n → m ≡ n
-  meta_inj (path_meta p x) (path_meta q y) h = ap (λ r. path_meta r.0 r.1) (path_code.inj (p, x) (q, y) (ap behind h))
-  meta_inj (key_value_meta p v x) (key_value_meta q w y) h = ap (λ r. key_value_meta r.0.0 r.1 r.0.1) (key_value_code.inj ((p, x), v) ((q, y), w) (ap behind h))
-  meta_inj (token_tree_meta p t x) (token_tree_meta q u y) h = ap (λ r. token_tree_meta r.0.0 r.1 r.0.1) (tokens_code.inj ((p, x), t) ((q, y), u) (ap behind h))
-  meta_inj (cfg_meta c) (cfg_meta d) h = ap cfg_meta (cfg_inj c d (ap behind h))
+  meta_inj (path_meta p x) (path_meta q y) h = ap (λ r. path_meta r.0 r.1) (path_code.inj (p, x) (q, y) (ap behind_code h))
+  meta_inj (key_value_meta p v x) (key_value_meta q w y) h = ap (λ r. key_value_meta r.0.0 r.1 r.0.1) (key_value_code.inj ((p, x), v) ((q, y), w) (ap behind_code h))
+  meta_inj (token_tree_meta p t x) (token_tree_meta q u y) h = ap (λ r. token_tree_meta r.0.0 r.1 r.0.1) (tokens_code.inj ((p, x), t) ((q, y), u) (ap behind_code h))
+  meta_inj (cfg_meta c) (cfg_meta d) h = ap cfg_meta (cfg_inj c d (ap behind_code h))
   meta_inj (cfg_attr_meta c ms) (cfg_attr_meta d ns) h =
-      λ i. cfg_attr_meta (cfg_inj c d (ap (λ g. front (behind g)) h) i) (metas_inj ms ns (ap (λ g. behind (behind g)) h) i)
-  meta_inj (unsafe_meta m) (unsafe_meta n) h = ap unsafe_meta (meta_inj m n (ap behind h))
+      λ i. cfg_attr_meta (cfg_inj c d (ap (λ g. front_code (behind_code g)) h) i) (metas_inj ms ns (ap (λ g. behind_code (behind_code g)) h) i)
+  meta_inj (unsafe_meta m) (unsafe_meta n) h = ap unsafe_meta (meta_inj m n (ap behind_code h))
   meta_inj _ _ h = cc
 
   metas_inj : (ms ns : MetaViews) → metas_to ms ≡ metas_to ns → ms ≡ ns
   metas_inj no_metas no_metas h = refl
-  metas_inj (meta_and m ms) (meta_and n ns) h = λ i. meta_and (meta_inj m n (ap front h) i) (metas_inj ms ns (ap behind h) i)
+  metas_inj (meta_and m ms) (meta_and n ns) h = λ i. meta_and (meta_inj m n (ap front_code h) i) (metas_inj ms ns (ap behind_code h) i)
   metas_inj _ _ h = cc
 
 abbrev pub meta_code : Coded MetaView

@@ -2,15 +2,15 @@
 use Rattle.std.specs.Prelude.{ℕ}
 use base.Stored.{Gv, gnil, gnum, gcons}
 
-abbrev pub front : Gv → Gv
-front gnil = gnil
-front (gnum n) = gnil
-front (gcons a b) = a
+abbrev pub front_code : Gv → Gv
+front_code gnil = gnil
+front_code (gnum n) = gnil
+front_code (gcons a b) = a
 
-abbrev pub behind : Gv → Gv
-behind gnil = gnil
-behind (gnum n) = gnil
-behind (gcons a b) = b
+abbrev pub behind_code : Gv → Gv
+behind_code gnil = gnil
+behind_code (gnum n) = gnil
+behind_code (gcons a b) = b
 
 -- the number in front of a code
 abbrev pub number_of : Gv → ℕ

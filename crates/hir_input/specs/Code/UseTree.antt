@@ -7,7 +7,7 @@ use Rattle.hir_input.specs.declared.ast.PathNode.{PathNode}
 use Rattle.hir_input.specs.declared.ast.Rename.{Rename}
 use Rattle.hir_input.specs.contracts.ast.PathNode as path_node
 use Rattle.hir_input.specs.contracts.ast.Rename as rename
-use Rattle.hir_input.specs.Code.Parts.{front, behind}
+use Rattle.hir_input.specs.Code.Parts.{front_code, behind_code}
 use Rattle.hir_input.specs.UseTreeView.{UseNode, UseTreeView, bare_tree, listed_tree, UseTreeViews, no_trees, tree_and}
 
 abbrev pub use_node_code : Coded UseNode
@@ -29,16 +29,16 @@ abbrev mutual
 
 mutual
   pub tree_inj : (t u : UseTreeView) → tree_to t ≡ tree_to u → t ≡ u
-  tree_inj (bare_tree n) (bare_tree m) h = ap bare_tree (use_node_code.inj n m (ap behind h))
+  tree_inj (bare_tree n) (bare_tree m) h = ap bare_tree (use_node_code.inj n m (ap behind_code h))
   tree_inj (listed_tree n ts) (listed_tree m us) h =
-      let p = use_node_code.inj n m (ap (λ g. front (behind g)) h) in
-      let q = trees_inj ts us (ap (λ g. behind (behind g)) h) in
+      let p = use_node_code.inj n m (ap (λ g. front_code (behind_code g)) h) in
+      let q = trees_inj ts us (ap (λ g. behind_code (behind_code g)) h) in
       λ i. listed_tree (p i) (q i)
   tree_inj _ _ h = cc
 
   trees_inj : (ts us : UseTreeViews) → trees_to ts ≡ trees_to us → ts ≡ us
   trees_inj no_trees no_trees h = refl
-  trees_inj (tree_and t ts) (tree_and u us) h = λ i. tree_and (tree_inj t u (ap front h) i) (trees_inj ts us (ap behind h) i)
+  trees_inj (tree_and t ts) (tree_and u us) h = λ i. tree_and (tree_inj t u (ap front_code h) i) (trees_inj ts us (ap behind_code h) i)
   trees_inj _ _ h = cc
 
 abbrev pub use_tree_code : Coded UseTreeView

@@ -4,7 +4,7 @@ ghost use Rattle.serde_json.specs.View.{view, items_view};
 ghost use Rattle.hir_input.specs.Syntax.{fields_view};
 ghost use Rattle.hir_input_json.specs.Forms.{each, required_at as required_form};
 ghost use Rattle.hir_input_json.specs.Held.{held};
-ghost use Rattle.hir_input_json.specs.Items.{fields as fields_form, tuple_field};
+ghost use Rattle.hir_input_json.specs.Items.{fields_form as fields_form, tuple_field};
 ghost use Rattle.hir_input_json.specs.Reads.{Reads};
 
 use crate::fault::{Fault, ReadIn};

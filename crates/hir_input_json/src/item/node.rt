@@ -1,9 +1,9 @@
 //! What items have in common, read from its keys.
 ghost use Rattle.std.specs.Prelude.{◌≡◌, OnOk, codes};
 ghost use Rattle.hir_input_json.specs.Held.{held, without};
-ghost use Rattle.hir_input_json.specs.Items.{node as node_form, named as named_form};
+ghost use Rattle.hir_input_json.specs.Items.{node_form as node_form, named_form as named_form};
 ghost use Rattle.hir_input_json.specs.Reads.{Reads};
-ghost use Rattle.hir_input_json.specs.Inner.{node_view, named_view};
+ghost use Rattle.hir_input_json.specs.Inner.{node_view, named_parts_view};
 
 use crate::fault::Fault;
 use crate::member::{text_at, u16_at, u32_at};
@@ -85,7 +85,7 @@ pub(crate) fn node_at(alloc: Global, members: &mut Map<String, Value>) -> Result
 
 #[tactic(auto, using(crate::proofs::Held::field_without))]
 pub(crate) fn named_at(alloc: Global, members: &mut Map<String, Value>) -> Result<Named, Fault>
-    ensures reads { Reads named_view result (named_form (held members.old)) }
+    ensures reads { Reads named_parts_view result (named_form (held members.old)) }
     ensures left { OnOk result
         (held members.new ≡ without (codes "vis")
         (without (codes "name")

@@ -17,14 +17,14 @@ use Rattle.item_tree.specs.declared.fault.LowerError.{LowerError}
 use Rattle.item_tree.specs.CrateView.{crate_view}
 use Rattle.item_tree.specs.Node.{Ctor, Node, Forest, empty, add, count, Unfolding}
 use Rattle.item_tree.specs.Kept.{kept, kept_all, top_attrs_of}
-use Rattle.item_tree.specs.Column.{is_empty, unless, some_unless, column_of, places_from, plain_place}
+use Rattle.item_tree.specs.Column.{has_no_attributes, unless, some_unless, column_of, places_from, plain_place}
 use Rattle.item_tree.specs.Inner.Meeting.{meet, meet_all}
-use Rattle.item_tree.specs.Layout.{vis_id, ctor_map, ctor_vis, forest_vis, kind_bit, ids, Row, row_tag, row_key, row_attrs, row_item, rows_of}
+use Rattle.item_tree.specs.Layout.{vis_id, ctor_map, ctor_vis, forest_vis, kind_bit, ids, LayoutRow, row_tag, row_key, row_attrs, row_item, rows_of}
 use Rattle.item_tree.specs.Imports.{super_limit}
 use Rattle.item_tree.specs.KeptUse.{use_tree_limit}
 use Rattle.item_tree.specs.Size.{item_limit, visibility_limit, most_attrs, forest_supers, item_written, items_written, Sizes, IsPassed, no_sizes, only_visibilities}
 use Rattle.item_tree.specs.Shown.{ctor_ids}
-use Rattle.item_tree.specs.Stored.{keys_in, items_in, places_in, column_in}
+use Rattle.item_tree.specs.Stored.{keys_in, row_items, column_places, column_in}
 
 -- the kind of item that it is
 abbrev pub named_kind : NamedKind → PlainKind
@@ -78,11 +78,11 @@ pub record Keeps (old new : Rows) : Type 0 where
   pub arena : new.arena ≡ old.arena
 
 -- these rows were added at the end of each column
-pub record Adds (old new : Rows) (rows : List Row) : Type 0 where
+pub record Adds (old new : Rows) (rows : List LayoutRow) : Type 0 where
   pub tags : new.tags.items ≡ old.tags.items ++ map row_tag rows
   pub keys : keys_in new ≡ keys_in old ++ map row_key rows
-  pub items : items_in new ≡ items_in old ++ map row_item rows
-  pub places : places_in new ≡ places_in old ++ places_from (length (column_in old)) (map row_attrs rows)
+  pub items : row_items new ≡ row_items old ++ map row_item rows
+  pub places : column_places new ≡ column_places old ++ places_from (length (column_in old)) (map row_attrs rows)
   pub column : column_in new ≡ column_in old ++ column_of (map row_attrs rows)
 
 -- the rows of the forest were added, and these are the ids of its nodes; of its use trees w at most are written in one
@@ -163,11 +163,11 @@ CtorIsLowered old new c r = MatchResult r (MeetsCtor old new c) (IsPassed (sizes
 
 -- the value stands at the end of the column, unless it is enabled and empty, and this is its place
 pub record Puts (old new : Vec AttrsOrCfg Global) (c : Collected) (place : ℕ) : Type 0 where
-  pub added : map collected new.items ≡ map collected old.items ++ unless (is_empty c) c
-  pub given : plain_place place ≡ some_unless (is_empty c) (length old.items)
+  pub added : map collected new.items ≡ map collected old.items ++ unless (has_no_attributes c) c
+  pub given : plain_place place ≡ some_unless (has_no_attributes c) (length old.items)
 
 -- one row was added at the end, and this is its id
-pub record Pushes (old new : Rows) (r : Row) (i : ℕ) : Type 0 where
+pub record Pushes (old new : Rows) (r : LayoutRow) (i : ℕ) : Type 0 where
   pub given : i ≡ 2 * row_count old + kind_bit (row_tag r)
   pub added : Adds old new (r ∷ [])
   pub arena_kept : new.arena ≡ old.arena

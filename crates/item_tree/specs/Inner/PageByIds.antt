@@ -3,18 +3,18 @@ use Rattle.std.specs.Prelude.{◌≡◌, ℕ, ◌*◌, replicate, List, [], ◌�
 use Rattle.std.specs.declared.alloc.Global.{Global}
 use Rattle.hir_input.specs.declared.ids.FileAstId.{FileAstId}
 use Rattle.item_tree_attrs.specs.Collected.{Collected}
-use Rattle.item_tree.specs.Line.{Line, text, blank, text_of}
+use Rattle.item_tree.specs.Line.{Line, text, blank, lines_text}
 use Rattle.item_tree.specs.Node.{Node, node_head, Unfolding}
 use Rattle.item_tree.specs.Page.{item_opening, id_text, attrs_lines, own_lines, with_blanks}
 use Rattle.item_tree.specs.Walk.{of_id}
 
 -- the text has gained these lines at its end
 abbrev pub Gains : String Global → String Global → List Line → Type 0
-Gains old new lines = string_bytes new ≡ string_bytes old ++ text_of lines
+Gains old new lines = string_bytes new ≡ string_bytes old ++ lines_text lines
 
 -- the text has gained the line of an id, and the indent of the line behind it
 abbrev pub Starts : String Global → String Global → ℕ → FileAstId → Type 0
-Starts old new level ast_id = string_bytes new ≡ string_bytes old ++ (text_of (text level (id_text ast_id) ∷ []) ++ replicate (4 * level) 32)
+Starts old new level ast_id = string_bytes new ≡ string_bytes old ++ (lines_text (text level (id_text ast_id) ∷ []) ++ replicate (4 * level) 32)
 
 -- the line of an id and that of a header
 abbrev pub item_lines : ℕ → FileAstId → List ℕ → List Line

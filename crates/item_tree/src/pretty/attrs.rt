@@ -3,7 +3,7 @@ ghost use Rattle.std.specs.Prelude.{◌≡◌, ◌++◌, IfOk, OnOk, option_map,
 ghost use Rattle.std.specs.List.{flat_map};
 ghost use Rattle.hir_input.specs.Cfg.{cfg_view};
 ghost use Rattle.item_tree_attrs.specs.Collected.{collected};
-ghost use Rattle.item_tree_attrs.specs.Query.{listed};
+ghost use Rattle.item_tree_attrs.specs.Query.{listed_attrs};
 ghost use Rattle.item_tree.specs.Line.{lines_of_text};
 ghost use Rattle.item_tree.specs.Page.{attr_text, false_cfg_text, shown_input};
 ghost use Rattle.item_tree.specs.Inner.PageByIds.{Gains, lent_lines};
@@ -43,7 +43,7 @@ impl Printer<'_> {
         attrs: Attrs<'_>,
     ) -> Result<(), AllocError>
         ensures { let reserved = self.entry.edition.now.reserved.items in
-            let lines = flat_map (λ a. lines_of_text self.entry.level (attr_text reserved opening.now a)) (listed attrs.entry) in
+            let lines = flat_map (λ a. lines_of_text self.entry.level (attr_text reserved opening.now a)) (listed_attrs attrs.entry) in
             OnOk result (Gains out.old out.new lines) }
     {
         for attr in attrs.as_slice() {

@@ -15,6 +15,6 @@ found (Some (Left attr)) = Left attr ∷ []
 found (Some (Right cfg)) = Right (cfg_view cfg.now) ∷ []
 
 -- the attributes of c now stand behind those that were there, and its false cfg was met
-pub record Adds (old new : List Attr) (met : Option (Bor CfgExpr)) (c : Collected) : Type 0 where
+pub record AddsCollected (old new : List Attr) (met : Option (Bor CfgExpr)) (c : Collected) : Type 0 where
   pub attrs : new ≡ old ++ c.attrs
   pub false_cfg : option_map (λ cfg. cfg_view cfg.now) met ≡ c.false_cfg

@@ -8,7 +8,7 @@ use Rattle.item_tree.specs.Node.{Unfolding, nothing}
 use Rattle.item_tree_db.specs.declared.place.Place.{Place}
 use Rattle.item_tree_db.specs.declared.rows.Row.{Row}
 use Rattle.item_tree_db.specs.Edits.{EditView}
-use Rattle.item_tree_db.specs.History.{sets, gives, under}
+use Rattle.item_tree_db.specs.History.{sets, gives, under_options}
 use Rattle.item_tree_db.specs.Refusal.{TreeFits}
 use Rattle.item_tree_db.specs.Inner.Settled.{settled_row, fresh_row}
 use Rattle.item_tree_db.specs.Inner.Shelf.{Shelved, Places, placed_at, source_in, syntax_in, row_in, AreOwn, HasRows}
@@ -82,5 +82,5 @@ pub record IsLed (t : Table) (crates : List CrateView) (edit : EditView) (place 
 -- the edit leads from the table t to these crates and places
 pub record IsStep (t : Table) (edit : EditView) (crates : List CrateView) (places : Places) : Type 0 where
   pub count : length crates ≡ length t.crates
-  pub under_it : (i : ℕ) → slice_get crates i ≡ under (gives i edit) (slice_get t.crates i)
+  pub under_it : (i : ℕ) → slice_get crates i ≡ under_options (gives i edit) (slice_get t.crates i)
   pub led : (place : Place) → IsLed t crates edit place (placed_at t.places place) (placed_at places place)

@@ -17,7 +17,7 @@ pub record IsMade (s : State) (edits : List EditView) (u : State) : Type 0 where
   pub none_passes : NonePasses s edits (length edits)
 
 -- no edit of the request passes a size, and the text is its output
-pub record IsServed (IsText : ShowText) (q : Request) (text : List ℕ) : Type 0 where
+pub record IsRequestServed (IsText : ShowText) (q : Request) (text : List ℕ) : Type 0 where
   pub none_passes : NonePasses (first_table q) q.edits (length q.edits)
   pub is_output : IsOutput IsText q text
 

@@ -2,11 +2,11 @@
 ghost use Rattle.std.specs.Prelude.{◌≡◌, ◌^◌, All, IfOk, codes, length, map};
 ghost use Rattle.serde_json.specs.View.{view, items_view};
 ghost use Rattle.item_tree.specs.CrateView.{crate_view};
-ghost use Rattle.hir_input_json.specs.Forms.{each, required_at as required_form, whole, list_at as each_at};
+ghost use Rattle.hir_input_json.specs.Forms.{each, required_at as required_form, whole_form, list_at as each_at};
 ghost use Rattle.hir_input_json.specs.Held.{held};
 ghost use Rattle.hir_input_json.specs.Reads.{Reads};
 ghost use Rattle.item_tree_request.specs.Named.{NamesCrate};
-ghost use Rattle.item_tree_request.specs.Shows.{show as show_form, place_at as place_form, tree_show};
+ghost use Rattle.item_tree_request.specs.Shows.{show as show_form, place_form as place_form, tree_show};
 
 use hir_input::{BlockId, Crate, HirFileId};
 use hir_input_json::member::{field, id_at, list_at, members_of, word_at};
@@ -76,7 +76,7 @@ fn tree_show_of(
 
 fn since_at(alloc: Global, members: &Map<String, Value>) -> Result<u64, Fault>
     ensures { Reads (λ since. since) result
-        (required_form (codes "since") (whole (2 ^ 64)) (held members.now)) }
+        (required_form (codes "since") (whole_form (2 ^ 64)) (held members.now)) }
 {
     field(members, "since")
         .and_then(Value::as_u64)

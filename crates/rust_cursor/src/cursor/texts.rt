@@ -525,20 +525,20 @@ fn leads_item(first: u8) -> bool
 }
 
 fn opens(symbol: u8) -> bool
-    ensures { result ≡ spec.opens symbol }
+    ensures { result ≡ spec.is_opening_byte symbol }
 {
     matches!(symbol, b'(' | b'[' | b'{')
 }
 
 fn closes(symbol: u8) -> bool
-    ensures { result ≡ spec.closes symbol }
+    ensures { result ≡ spec.is_closing_byte symbol }
 {
     matches!(symbol, b')' | b']' | b'}')
 }
 
 /// Whether a symbol is no bracket.
 fn is_punctuation(symbol: u8) -> bool
-    ensures { result ≡ spec.is_punctuation symbol }
+    ensures { result ≡ spec.is_mark_symbol symbol }
 {
     symbol != 0 && !opens(symbol) && !closes(symbol)
 }

@@ -9,7 +9,7 @@ use Rattle.hir_input.specs.Attr.{MetaView}
 use Rattle.hir_input.specs.Syntax.{ItemView}
 use Rattle.rust_lexer.specs.declared.kind.DocStyle.TheVariants.{Inner}
 use Rattle.rust_metas.specs.Attributes.{inner_attributes, is_behind}
-use Rattle.rust_lexer.specs.Alone.{Stop, opening, stop, front, moved}
+use Rattle.rust_lexer.specs.Alone.{Stop, opening, stop, tokens_in_front, moved}
 use Rattle.rust_lexer.specs.Piece.{Piece}
 use Rattle.rust_lexer.specs.Symbol.{symbol_of}
 use Rattle.rust_lexer.specs.Tokens.{is_significant, tokens, tokens_from}
@@ -115,7 +115,7 @@ pub part_ended : (edition : EditionYear) (q w : List ℕ) (o : Stop) (y : List �
 unfolding tokens_of
 part_ended edition q w o y p e =
     let x = ended w o in
-    let before = front 0 0 w (stop o ∷ []) in
+    let before = tokens_in_front 0 0 w (stop o ∷ []) in
     let t = stop_at o (0 + length w) in
     let all : tokens x ≡ before ++ t ∷ [] = plain_is x p.plain.mark p.plain.shebang p.plain.fence ∙ own o 0 w [] p.ends refl in
     let counted : filter is_significant (t ∷ []) ≡ t ∷ [] = rw (last_counts o (0 + length w)) refl in

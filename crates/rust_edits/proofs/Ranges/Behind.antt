@@ -7,7 +7,7 @@ use Rattle.std.specs.List.{filter}
 use Rattle.std.proofs.lemmas.List.Elements.{filter-append}
 use Rattle.std.proofs.lemmas.Bool.Decides.{nat_tests}
 use Rattle.hir_input.specs.declared.edition.EditionYear.{EditionYear}
-use Rattle.rust_lexer.specs.Alone.{Stop, opening, stop, behind_lead, EndsAlone, is_fence, is_full, overhang, front, moved}
+use Rattle.rust_lexer.specs.Alone.{Stop, opening, stop, behind_lead, EndsAlone, is_fence, is_full, overhang, tokens_in_front, moved}
 use Rattle.rust_lexer.specs.Cut.{first_cut}
 use Rattle.rust_lexer.specs.Bytes.{is_continuation}
 use Rattle.rust_lexer.specs.Piece.{Piece}
@@ -67,7 +67,7 @@ pub plain_on : (w : List ℕ) (o : Stop) (y : List ℕ) → EndsAlone w o → is
 plain_on w o y alone clean p = record {
   mark = mark_on o w [] y ∙ p.mark;
   shebang =
-      ap is_shebang (own o 0 w y alone clean) ∙ shebang_on o (0 + length w) (front 0 0 w (stop o ∷ [])) [] (tokens_from 0 (suc (0 + length w)) y)
+      ap is_shebang (own o 0 w y alone clean) ∙ shebang_on o (0 + length w) (tokens_in_front 0 0 w (stop o ∷ [])) [] (tokens_from 0 (suc (0 + length w)) y)
       ∙ ap is_shebang (sym (own o 0 w [] alone refl)) ∙ p.shebang;
   fence = fence_on o w [] y ∙ p.fence;
 }
@@ -77,7 +77,7 @@ pub plain_back : (w : List ℕ) (o : Stop) (y : List ℕ) → EndsAlone w o → 
 plain_back w o y alone clean p = record {
   mark = mark_on o w y [] ∙ p.mark;
   shebang =
-      ap is_shebang (own o 0 w [] alone refl) ∙ shebang_on o (0 + length w) (front 0 0 w (stop o ∷ [])) (tokens_from 0 (suc (0 + length w)) y) []
+      ap is_shebang (own o 0 w [] alone refl) ∙ shebang_on o (0 + length w) (tokens_in_front 0 0 w (stop o ∷ [])) (tokens_from 0 (suc (0 + length w)) y) []
       ∙ ap is_shebang (sym (own o 0 w y alone clean)) ∙ p.shebang;
   fence = fence_on o w y [] ∙ p.fence;
 }
@@ -140,7 +140,7 @@ pub unended_behind : (edition : EditionYear) (w : List ℕ) (o : Stop) (y : List
 unfolding tokens_of
 unended_behind edition w o y alone clean p q =
     let d = suc (length w) in
-    let xs = front 0 0 w (stop o ∷ []) in
+    let xs = tokens_in_front 0 0 w (stop o ∷ []) in
     let all : tokens (w ++ stop o ∷ y) ≡ xs ++ stop_at o (0 + length w) ∷ tokens_from 0 (suc (0 + length w)) y = plain_tokens (w ++ stop o ∷ y) p ∙ own o 0 w y alone clean in
     let place : suc (0 + length w) ≡ 0 + d = omega arith in
     ap (last_unended None) all ∙ last_append None xs (stop_at o (0 + length w) ∷ tokens_from 0 (suc (0 + length w)) y)
@@ -170,7 +170,7 @@ end_last past (x ∷ xs) t = end_last (end_of x) xs t
 end_whole : (edition : EditionYear) (w : List ℕ) (o : Stop) → EndsAlone w o → IsBare (ended w o) → end_from (tokens_of edition (ended w o)).past (tokens_of edition (ended w o)).left ≡ suc (length w)
 unfolding tokens_of
 end_whole edition w o alone p =
-    let xs = front 0 0 w (stop o ∷ []) in
+    let xs = tokens_in_front 0 0 w (stop o ∷ []) in
     let t = stop_at o (0 + length w) in
     let counted : filter is_significant (t ∷ []) ≡ t ∷ [] = rw (last_counts o (0 + length w)) refl in
     let place : end_of t ≡ suc (length w) = omega arith in

@@ -8,7 +8,7 @@ use Rattle.hir_input.specs.declared.ast.PathNode.{PathNode}
 use Rattle.hir_input.specs.declared.ast.Visibility.{Visibility}
 use Rattle.hir_input.specs.declared.edition.EditionYear.{EditionYear}
 use Rattle.hir_input.specs.Attr.{MetaView}
-use Rattle.hir_input.specs.Words.{Word, name_word}
+use Rattle.hir_input.specs.Words.{PathWord, name_word}
 use Rattle.rust_lexer.specs.declared.kind.DocStyle.TheVariants.{Outer}
 use Rattle.rust_lexer.specs.Piece.{Piece}
 use Rattle.rust_cursor.specs.declared.cursor.generics.Reach.TheVariants as reaches
@@ -67,13 +67,13 @@ head_leads : Forwards head
 head_leads ts = (head_takes ts).leads
 
 -- the parts of a path
-abbrev behind_first : Bool → Option Word → Reader PathNode
-behind_first absolute first ts = (path_node (paths.front absolute (first ∷ (more_segments false ts).0)), (more_segments false ts).1)
+abbrev behind_first : Bool → Option PathWord → Reader PathNode
+behind_first absolute first ts = (path_node (paths.front_of_path absolute (first ∷ (more_segments false ts).0)), (more_segments false ts).1)
 
 abbrev behind_colons : Bool → Reader PathNode
 behind_colons absolute ts = behind_first absolute (segment ts).0 (segment ts).1
 
-behind_first_leads : (absolute : Bool) (first : Option Word) → Forwards (behind_first absolute first)
+behind_first_leads : (absolute : Bool) (first : Option PathWord) → Forwards (behind_first absolute first)
 behind_first_leads absolute first ts = more_segments_leads false ts
 
 behind_colons_leads : (absolute : Bool) → Forwards (behind_colons absolute)
@@ -256,7 +256,7 @@ module _ (past past' : ℕ) (t : Piece) (l : List Piece) (u : Option ℕ) (y : E
   written_alike : Same Any (written_path false)
   written_alike =
       bind_alike behind_colons behind_colons_leads
-      (λ absolute _. bind_alike (behind_first absolute) (behind_first_leads absolute) (λ first _. with_alike (λ more. path_node (paths.front absolute (first ∷ more))) (λ x s. tt) segments_alike) segment_alike)
+      (λ absolute _. bind_alike (behind_first absolute) (behind_first_leads absolute) (λ first _. with_alike (λ more. path_node (paths.front_of_path absolute (first ∷ more))) (λ x s. tt) segments_alike) segment_alike)
       colons_alike
 
   path_alike : Same Any path

@@ -7,7 +7,7 @@ use Rattle.std.specs.List.{filter, list_any}
 use Rattle.std.proofs.lemmas.List.{append_cancel_left, length-take-le, length-drop, drop-drop, take-append-drop, take_at}
 use Rattle.hir_input.specs.declared.edition.EditionYear.{EditionYear}
 use Rattle.hir_input.specs.Syntax.{ItemView}
-use Rattle.rust_lexer.specs.Alone.{Stop, stop, EndsAlone, front, is_full, overhang}
+use Rattle.rust_lexer.specs.Alone.{Stop, stop, EndsAlone, tokens_in_front, is_full, overhang}
 use Rattle.rust_lexer.specs.Bytes.{is_continuation}
 use Rattle.rust_lexer.specs.Tokens.{is_significant, tokens, tokens_from}
 use Rattle.rust_lexer.specs.Piece.{Piece}
@@ -36,7 +36,7 @@ use Rattle.rust_edits.proofs.Typing.Begins.{Begins, unfiltered, begins_whole}
 use Rattle.rust_edits.proofs.Typing.ProblemsIn.{AreIn, problems_in, unended_kept}
 use Rattle.rust_edits.proofs.Typing.BodyStarts.{begins_leads}
 use Rattle.rust_edits.proofs.Typing.Unended.{last_append}
-use Rattle.rust_edits.specs.Ranges.Laws.{ends_items, EndsOwn, is_unfinished, is_unfinished_at, text_at}
+use Rattle.rust_edits.specs.Ranges.Laws.{ends_items, EndsOwn, is_unfinished, is_unfinished_at, range_text}
 use Rattle.rust_edits.specs.Ranges.Joined.{IsBare, HoldsItems, is_told_up_to, FrontHolds}
 use Rattle.rust_cursor.proofs.Near.{Ending, Near, fewer, nothing, more_left, near_twins}
 use Rattle.rust_cursor.proofs.NearPassing.{beyond_near, near_parting}
@@ -151,7 +151,7 @@ cuts_on b uneven n m (suc k) before done' f g h ts us given close a few c =
 whole_ended : (edition : EditionYear) (w : List ℕ) (o : Stop) → EndsAlone w o → IsBare (ended w o) → (tokens_of edition (ended w o)).unended ≡ None
 unfolding tokens_of
 whole_ended edition w o alone p =
-    let xs = front 0 0 w (stop o ∷ []) in
+    let xs = tokens_in_front 0 0 w (stop o ∷ []) in
     ap (last_unended None) (plain_tokens (ended w o) p ∙ own o 0 w [] alone refl) ∙ last_append None xs (stop_at o (0 + length w) ∷ []) ∙ last_stop o (0 + length w) (last_unended None xs) []
 
 module _ (edition : EditionYear) (w : List ℕ) (o : Stop) (y : List ℕ) (alone : EndsAlone w o) (last : ends_items o ≡ true) (plain : IsBare (ended w o)) (clean : is_continuation (slice_index y 0) ≡ false) (short : length (w ++ stop o ∷ y) < most) where
@@ -284,7 +284,7 @@ front_holds edition text read i p ps is top_item told bare full own short =
     let start : p.range.start ≡ place s = ap (λ (r : TextRange). r.start) there in
     let cut = take p.range.end text in
     let feeds : with_feeds cut ≡ take e x = ap (λ k. with_feeds (take k text)) (range ∙ place_is text e within) ∙ feeds_take e text in
-    let part_is : take k (drop s x) ≡ ended own.before own.last = sym (part_feeds text s k fits) ∙ ap (λ (r : TextRange). with_feeds (text_at text r)) (sym there) ∙ own.bytes in
+    let part_is : take k (drop s x) ≡ ended own.before own.last = sym (part_feeds text s k fits) ∙ ap (λ (r : TextRange). with_feeds (range_text text r)) (sym there) ∙ own.bytes in
     let full_front : is_full (take s x) ≡ true = ap is_full (sym (ap (λ n. with_feeds (take n text)) (start ∙ place_is text s (omega arith)) ∙ feeds_take s text)) ∙ full in
     let token : Begins s (tokens_of edition x).left = begins_leads t.leads (sym (top_is ts) ∙ t.some) in
     let ends : EndsOwn (with_feeds cut) =

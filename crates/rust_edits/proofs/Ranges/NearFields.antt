@@ -24,7 +24,7 @@ use Rattle.rust_paths.proofs.Leads.{visibility_leads}
 use Rattle.rust_metas.specs.Attributes.{outer_attributes}
 use Rattle.rust_metas.proofs.AlikeAttributes.{outer_attributes_until}
 use Rattle.rust_metas.proofs.Leads.{outer_attributes_leads}
-use Rattle.rust_leaves.specs.Leaves.{is_before, field, are_over, fields, symbol_before, fields_at, struct_fields}
+use Rattle.rust_leaves.specs.Leaves.{is_before, header_field, are_over, fields, symbol_within, fields_at, struct_fields}
 use Rattle.rust_leaves.proofs.Fields.{type_leads, field_leads, not_before, over_ends, none_seen, symbol_is}
 use Rattle.rust_lexer.specs.Piece.{Piece}
 
@@ -120,8 +120,8 @@ module _ {n m : ℕ} (b : Ending) (xs ys e e' : Tokens) (hs : Headers n m b xs y
   before_both : (ts us : Tokens) → Near b ts us → is_before e'.past us ≡ is_before e.past ts
   before_both ts us h = lt_by us.past e'.past b.by ∙ sym (ap (λ z. nat_lt z e.past) (past_same b ts us h) ∙ ap (λ z. nat_lt (us.past + b.by) z) hs.past)
 
-  field_read : (ts us : Tokens) → LeadsTo xs ts → LeadsTo ys us → Near b ts us → SameRead n m e.past e'.past b (field e.past ts) (field e'.past us)
-  unfolding field
+  field_read : (ts us : Tokens) → LeadsTo xs ts → LeadsTo ys us → Near b ts us → SameRead n m e.past e'.past b (header_field e.past ts) (header_field e'.past us)
+  unfolding header_field
   field_read ts us p q h =
       by_kept (outer_attributes_until (near_parting b) (near_enters b) (near_levels b) ts us h)
       (λ g. behind_it (over_on (passed _ _ (through p (outer_attributes_leads ts)) (through q (outer_attributes_leads us)) g) (visibility_leads _) (visibility_leads _)))
@@ -138,7 +138,7 @@ module _ {n m : ℕ} (b : Ending) (xs ys e e' : Tokens) (hs : Headers n m b xs y
       to' : LeadsTo ys (visibility (outer_attributes us).1).1
       to' = through q (through (outer_attributes_leads us) (visibility_leads _))
 
-      behind_it : AreOver n m e.past e'.past (visibility (outer_attributes ts).1).1 (visibility (outer_attributes us).1).1 → SameRead n m e.past e'.past b (field e.past ts) (field e'.past us)
+      behind_it : AreOver n m e.past e'.past (visibility (outer_attributes ts).1).1 (visibility (outer_attributes us).1).1 → SameRead n m e.past e'.past b (header_field e.past ts) (header_field e'.past us)
       behind_it o = record {
         value = none_seen _ _ _ _ (not_before e.past (visibility (outer_attributes ts).1).1 o.past) (not_before e'.past (visibility (outer_attributes us).1).1 o.past_short);
         go = over (over_on o (type_leads _) (type_leads _));
@@ -148,20 +148,20 @@ module _ {n m : ℕ} (b : Ending) (xs ys e e' : Tokens) (hs : Headers n m b xs y
   over_same ts us h = ap (λ t. t || not (is_before e'.past us)) (end_same (near_twins b) ts us h) ∙ ap (λ t. is_at_end ts || not t) (before_both ts us h)
 
   fields_from : (k : ℕ) (done done' : List (Option Visibility)) (ts us : Tokens) → LeadsTo xs ts → LeadsTo ys us → done' ≡ done → Goes n m e.past e'.past b ts us
-      → (turns_from (are_over e'.past) (one (field e'.past)) k done' us).0 ≡ (turns_from (are_over e.past) (one (field e.past)) k done ts).0
+      → (turns_from (are_over e'.past) (one (header_field e'.past)) k done' us).0 ≡ (turns_from (are_over e.past) (one (header_field e.past)) k done ts).0
   fields_from zero done done' ts us p q d g = d
   fields_from (suc k) done done' ts us p q d (over o) = rw (over_ends e.past ts o.past, over_ends e'.past us o.past_short) d
   fields_from (suc k) done done' ts us p q d (close h) =
       let r = field_read ts us p q h in
-      let to = through (field_leads e.past ts) (beyond_leads ts.past (field e.past ts).1) in
-      let to' = through (field_leads e'.past us) (beyond_leads us.past (field e'.past us).1) in
+      let to = through (field_leads e.past ts) (beyond_leads ts.past (header_field e.past ts).1) in
+      let to' = through (field_leads e'.past us) (beyond_leads us.past (header_field e'.past us).1) in
       when (are_over e.past ts) (λ t. rw (over_same ts us h, t) d)
       (λ t. rw (over_same ts us h, t)
-      (fields_from k (done ++ (field e.past ts).0 ∷ []) (done' ++ (field e'.past us).0 ∷ []) (beyond ts.past (field e.past ts).1) (beyond us.past (field e'.past us).1) (through p to) (through q to')
-      (ap (λ l. l ++ (field e'.past us).0 ∷ []) d ∙ ap (λ o. done ++ o ∷ []) r.value) (next to to' r.go)))
+      (fields_from k (done ++ (header_field e.past ts).0 ∷ []) (done' ++ (header_field e'.past us).0 ∷ []) (beyond ts.past (header_field e.past ts).1) (beyond us.past (header_field e'.past us).1) (through p to) (through q to')
+      (ap (λ l. l ++ (header_field e'.past us).0 ∷ []) d ∙ ap (λ o. done ++ o ∷ []) r.value) (next to to' r.go)))
     where
-      next : LeadsTo ts (beyond ts.past (field e.past ts).1) → LeadsTo us (beyond us.past (field e'.past us).1) → Goes n m e.past e'.past b (field e.past ts).1 (field e'.past us).1
-          → Goes n m e.past e'.past b (beyond ts.past (field e.past ts).1) (beyond us.past (field e'.past us).1)
+      next : LeadsTo ts (beyond ts.past (header_field e.past ts).1) → LeadsTo us (beyond us.past (header_field e'.past us).1) → Goes n m e.past e'.past b (header_field e.past ts).1 (header_field e'.past us).1
+          → Goes n m e.past e'.past b (beyond ts.past (header_field e.past ts).1) (beyond us.past (header_field e'.past us).1)
       next to to' (close k) = goes _ _ (through p to) (through q to') (beyond_near b ts us _ _ h k)
       next to to' (over o) = over (over_on o (beyond_leads ts.past _) (beyond_leads us.past _))
 
@@ -172,11 +172,11 @@ module _ {n m : ℕ} (b : Ending) (xs ys e e' : Tokens) (hs : Headers n m b xs y
   fields_at_same : (has : Bool) (ts us : Tokens) → LeadsTo xs ts → LeadsTo ys us → Goes n m e.past e'.past b ts us → fields_at has e'.past us ≡ fields_at has e.past ts
   fields_at_same has ts us p q (over o) = rw (not_before e.past ts o.past, not_before e'.past us o.past_short) refl
   fields_at_same has ts us p q (close h) =
-      when (symbol_before e.past ts == 40)
+      when (symbol_within e.past ts == 40)
       (λ f. rw (symbols, f) (ap tuple_fields (same_fields (bumped ts) (bumped us) (through p (bumped_leads ts)) (through q (bumped_leads us)) (after_symbol (near_twins b) 40 ts us refl h (symbol_is e.past ts f)))))
       (λ f. rw (symbols, f) refl)
     where
-      symbols : symbol_before e'.past us ≡ symbol_before e.past ts
+      symbols : symbol_within e'.past us ≡ symbol_within e.past ts
       symbols = ap (λ t. if t then symbol us else 0) (before_both ts us h) ∙ ap (λ s. if is_before e.past ts then s else 0) (symbol_same (near_twins b) ts us h)
 
   header_same : (has : Bool) → Near b xs ys → fields_at has e'.past (behind_angles ys) ≡ fields_at has e.past (behind_angles xs)

@@ -20,7 +20,7 @@ use Rattle.rust_leaves.specs.Fronts.{FrontRead, front_behind, front}
 use Rattle.rust_leaves.specs.Heads.{behind_modifiers, head}
 use Rattle.rust_leaves.proofs.AlikeFronts.{modifiers_alike, head_until}
 use Rattle.rust_items.proofs.Leads.{behind_modifiers_leads, head_takes}
-use Rattle.rust_paths.specs.Names.{next_name, taken_with, name, Placed, placed, placed_name}
+use Rattle.rust_paths.specs.Names.{next_name, taken_with, name, Placed, placed_if, placed_name}
 
 -- the same, so much further on
 pub record FrontNear (b : Ending) (f g : FrontRead) : Type 0 where
@@ -70,7 +70,7 @@ pub data PlacedNear (b : Ending) : Option Placed → Option Placed → Type 0 wh
   placed_near : {p q : Placed} → q.name ≡ p.name → p.start ≡ q.start + b.by → p.end ≡ q.end + b.by → PlacedNear b (Some p) (Some q)
 
 placed_kept : (b : Ending) (o o' : Option (List ℕ)) (ts us : Tokens) → o' ≡ o → Near b ts us → ((n : List ℕ) → o ≡ Some n → Near b (bumped ts) (bumped us))
-    → UntilBy (PlacedNear b) b (placed (at ts) (taken_with o ts).0 (taken_with o ts).1.past, (taken_with o ts).1) (placed (at us) (taken_with o' us).0 (taken_with o' us).1.past, (taken_with o' us).1)
+    → UntilBy (PlacedNear b) b (placed_if (at ts) (taken_with o ts).0 (taken_with o ts).1.past, (taken_with o ts).1) (placed_if (at us) (taken_with o' us).0 (taken_with o' us).1.past, (taken_with o' us).1)
 placed_kept b None o' ts us e h next = rw e (kept (record { value = no_place; rest = h }))
 placed_kept b (Some n) o' ts us e h next = rw e (kept (record { value = placed_near refl (at_same b ts us h) (past_same b (bumped ts) (bumped us) (next n refl)); rest = next n refl }))
 

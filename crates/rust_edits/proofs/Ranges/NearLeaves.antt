@@ -39,7 +39,7 @@ use Rattle.rust_metas.specs.Attributes.{inner_attributes}
 use Rattle.rust_metas.proofs.AlikeAttributes.{inner_attributes_until}
 use Rattle.rust_metas.proofs.Around.{inner_some}
 use Rattle.rust_metas.proofs.Leads.{inner_attributes_leads}
-use Rattle.rust_leaves.specs.Leaves.{NameRead, RestRead, LeafRead, no_name, name_read, named, next_range, named_or, alias, alias_if, renamed, rename_of, range_to, rest_read, bare_end, item_end, impl_end, macro_end, value_end, semicolon_end, call_end, block_attributes, has_trait}
+use Rattle.rust_leaves.specs.Leaves.{NameRead, RestRead, LeafRead, no_name, name_read, named, next_range, named_or, crate_alias, crate_alias_if, renamed, rename_of, range_to, rest_read, bare_end, item_end, impl_end, macro_end, value_end, semicolon_end, call_end, block_attributes, has_trait}
 use Rattle.rust_leaves.specs.Kinds.{node, named_node, leaf_read, plain_read, function, block_item, macro_def, type_alias, static_value, constant, structure, implementation, told_at, crate_item, use_read, use_declaration, macro_definition, union_item, enumeration, trait_item, is_called, called, call_behind, some_read, invocation, leaf_by, leaf}
 use Rattle.rust_leaves.specs.declared.head.Head.{Head}
 use Rattle.rust_leaves.specs.declared.head.Head.TheVariants as heads
@@ -101,8 +101,8 @@ named_or_until b w empty ts us h =
     (λ e. kept (record { value = record { name = ap (λ z. as_name (Some z)) (word_same (near_twins b) ts us h); hashed = word_same (near_twins b) ts us h; range = ap Some (next_range_near b ts us h) }; rest = after_word (near_twins b) w ts us empty h e }))
     (λ _. named_until b ts us h)
 
-alias_until : (b : Ending) (ts us : Tokens) → Near b ts us → UntilBy (NameNear b) b (alias ts) (alias us)
-unfolding alias
+alias_until : (b : Ending) (ts us : Tokens) → Near b ts us → UntilBy (NameNear b) b (crate_alias ts) (crate_alias us)
+unfolding crate_alias
 alias_until b ts us h =
     cond_until (word_test (near_twins b) (codes "_") ts us h)
     (λ e. kept (record { value = record { name = refl; hashed = refl; range = ap Some (next_range_near b ts us h) }; rest = after_word (near_twins b) (codes "_") ts us refl h e }))
@@ -112,13 +112,13 @@ data AliasNear (b : Ending) : Option NameRead → Option NameRead → Type 0 whe
   no_alias : AliasNear b None None
   one_alias : {n m : NameRead} → NameNear b n m → AliasNear b (Some n) (Some m)
 
-alias_if_until : (b : Ending) (found : Bool) (ts us : Tokens) → Near b ts us → UntilBy (AliasNear b) b (alias_if found ts) (alias_if found us)
+alias_if_until : (b : Ending) (found : Bool) (ts us : Tokens) → Near b ts us → UntilBy (AliasNear b) b (crate_alias_if found ts) (crate_alias_if found us)
 alias_if_until b true ts us h = by_kept (alias_until b ts us h) (λ g. gone g) (λ k. kept (record { value = one_alias k.value; rest = k.rest }))
 alias_if_until b false ts us h = kept (record { value = no_alias; rest = h })
 
 renamed_until : (b : Ending) (ts us : Tokens) → Near b ts us → UntilBy (AliasNear b) b (renamed ts) (renamed us)
 unfolding renamed
-renamed_until b ts us h = then_until (near_parting b) alias_if alias_if alias_if_leads alias_if_leads (alias_if_until b) (eat_word_until (near_parting b) (codes "as") refl ts us h)
+renamed_until b ts us h = then_until (near_parting b) crate_alias_if crate_alias_if alias_if_leads alias_if_leads (alias_if_until b) (eat_word_until (near_parting b) (codes "as") refl ts us h)
 
 rename_same : (b : Ending) (o o' : Option NameRead) → AliasNear b o o' → rename_of o' ≡ rename_of o
 rename_same b _ _ no_alias = refl

@@ -26,7 +26,7 @@ use Rattle.rust_items.specs.LineEnds.{with_feeds, place_in, moved_range, moved_s
 use Rattle.rust_items.specs.Places.{Telling, IsNameIn, IsBodyIn, ArePlaces, nothing, placed}
 use Rattle.rust_items.specs.SourceFiles.{places, behind_attributes, file_view, found_in, items_in, read_of, IsFile}
 use Rattle.rust_items.proofs.Places.{Span, place_span, items_found, turn_found}
-use Rattle.rust_edits.specs.Ranges.Laws.{ends_items, is_unfinished, is_unfinished_at, text_at, Bytes, bytes_of, further_on, RangeAlone}
+use Rattle.rust_edits.specs.Ranges.Laws.{ends_items, is_unfinished, is_unfinished_at, range_text, Bytes, bytes_of, further_on, RangeAlone}
 use Rattle.rust_edits.proofs.Ranges.Parts.{ended, IsPart, tokens_behind}
 use Rattle.rust_edits.proofs.Ranges.Alone.{part_in, StandsAlone, IsOwn, item_alone}
 use Rattle.rust_edits.proofs.Ranges.Feeds.{part, part_feeds, part_place}
@@ -261,7 +261,7 @@ range_alone edition text read alone i p ps is top own is' =
     let range : p.range ≡ record { start = place s; end = place (s + k) } =
     range_of place p here.span _ first here.range ∙ ap (λ (n : ℕ). record { start = place s; end = place n }) (omega arith) in
     let cut = part text s k fits in
-    let there : text_at text p.range ≡ cut = ap (text_at text) range in
+    let there : range_text text p.range ≡ cut = ap (range_text text) range in
     let w = own.ends.before in
     let o = own.ends.last in
     let v = ended w o in

@@ -26,10 +26,10 @@ use Rattle.rust_items.specs.declared.source_file.ItemPlace.{ItemPlace}
 use Rattle.rust_items.specs.declared.source_file.SourceFile.{SourceFile}
 use Rattle.rust_metas.proofs.Leads.{inner_attributes_leads}
 use Rattle.rust_items.specs.Found.{Found, Finder, nothing_found, and_problem, and_problem_if, and_problem_at, and_row}
-use Rattle.rust_items.specs.Ids.{first, numbered_named, numbered_node, held_with_ids, with_ids, item_with_ids}
+use Rattle.rust_items.specs.Ids.{first_numbers, numbered_named, numbered_node, held_with_ids, with_ids, item_with_ids}
 use Rattle.rust_items.specs.Items.{BlockRead, span_of, needs_name, and_flaw, and_item, and_parent, leaf_found, leaf_turn, finding_from, finding, is_list_end, items, as_extern, extern_kept, extern_found, extern_turn, extern_block, by_head, turn_with, inside, depth_of, turn}
 use Rattle.rust_items.specs.LineEnds.{moved_span}
-use Rattle.rust_items.specs.Places.{Telling, held, ArePlaces, nothing, placed}
+use Rattle.rust_items.specs.Places.{Telling, items_held, ArePlaces, nothing, placed}
 use Rattle.rust_items.specs.SourceFiles.{places, behind_attributes, file_view, found_in, read_of, IsFile}
 use Rattle.rust_items.proofs.Leads.{front_start}
 use Rattle.rust_items.proofs.Places.{Span, row_kind, place_kind, place_span, adds_use_trees, adds_problem_at, adds_item, AreFound, turn_found, items_found}
@@ -39,7 +39,7 @@ use Rattle.rust_edits.proofs.Typing.Typing.{items_are}
 
 -- ---- how many there are
 
-count_held : (i : ItemView) → item_count i ≡ suc (items_count (held i))
+count_held : (i : ItemView) → item_count i ≡ suc (items_count (items_held i))
 count_held (listed_module n semicolon is) = refl
 count_held _ = refl
 
@@ -52,7 +52,7 @@ places_count (placed {i = i} place inside behind) =
     omega arith
 
 mutual
-  count_same : (own : List FileAstId) (i : ItemView) (ids : List FileAstId) → item_count (held_with_ids (first own).0 i ids).0 ≡ item_count i
+  count_same : (own : List FileAstId) (i : ItemView) (ids : List FileAstId) → item_count (held_with_ids (first_numbers own).0 i ids).0 ≡ item_count i
   count_same own (listed_module m semicolon is) ids = ap suc (counts_same is ids)
   count_same own (listed_extern_block m is) ids = ap suc (counts_same is ids)
   count_same own _ ids = refl
@@ -60,27 +60,27 @@ mutual
   counts_same : (is : ItemViews) (ids : List FileAstId) → items_count (with_ids is ids).0 ≡ items_count is
   counts_same no_items ids = refl
   counts_same (item_and i is) ids =
-      let head = count_same ids i (first ids).1 in
-      let rest = counts_same is (held_with_ids (first ids).0 i (first ids).1).1 in
+      let head = count_same ids i (first_numbers ids).1 in
+      let rest = counts_same is (held_with_ids (first_numbers ids).0 i (first_numbers ids).1).1 in
       omega arith
 
 -- ---- ids that are left
 
-first_left : (ids : List FileAstId) → (first ids).1 ≡ drop 1 ids
+first_left : (ids : List FileAstId) → (first_numbers ids).1 ≡ drop 1 ids
 first_left [] = refl
 first_left (id ∷ ids) = refl
 
 drop_sum : {A : Type 0} (m n : ℕ) (xs : List A) → drop n (drop m xs) ≡ drop (m + n) xs
 drop_sum m n xs = drop-drop n m xs
 
-left_by : (i : ItemView) (ids : List FileAstId) → (item_with_ids i ids).1 ≡ drop (items_count (held i)) (first ids).1 → (item_with_ids i ids).1 ≡ drop (item_count i) ids
+left_by : (i : ItemView) (ids : List FileAstId) → (item_with_ids i ids).1 ≡ drop (items_count (items_held i)) (first_numbers ids).1 → (item_with_ids i ids).1 ≡ drop (item_count i) ids
 left_by i ids e =
     let c = count_held i in
-    let sum : 1 + items_count (held i) ≡ item_count i = omega arith in
-    e ∙ ap (drop (items_count (held i))) (first_left ids) ∙ drop_sum 1 (items_count (held i)) ids ∙ ap (λ k. drop k ids) sum
+    let sum : 1 + items_count (items_held i) ≡ item_count i = omega arith in
+    e ∙ ap (drop (items_count (items_held i))) (first_left ids) ∙ drop_sum 1 (items_count (items_held i)) ids ∙ ap (λ k. drop k ids) sum
 
 mutual
-  held_left : (own : List FileAstId) (i : ItemView) (ids : List FileAstId) → (held_with_ids (first own).0 i ids).1 ≡ drop (items_count (held i)) ids
+  held_left : (own : List FileAstId) (i : ItemView) (ids : List FileAstId) → (held_with_ids (first_numbers own).0 i ids).1 ≡ drop (items_count (items_held i)) ids
   held_left own (listed_module m semicolon is) ids = ids_left is ids
   held_left own (listed_extern_block m is) ids = ids_left is ids
   held_left own _ ids = refl
@@ -88,10 +88,10 @@ mutual
   ids_left : (is : ItemViews) (ids : List FileAstId) → (with_ids is ids).1 ≡ drop (items_count is) ids
   ids_left no_items ids = refl
   ids_left (item_and i is) ids =
-      ids_left is (item_with_ids i ids).1 ∙ ap (drop (items_count is)) (left_by i ids (held_left ids i (first ids).1)) ∙ drop_sum (item_count i) (items_count is) ids
+      ids_left is (item_with_ids i ids).1 ∙ ap (drop (items_count is)) (left_by i ids (held_left ids i (first_numbers ids).1)) ∙ drop_sum (item_count i) (items_count is) ids
 
 item_left : (i : ItemView) (ids : List FileAstId) → (item_with_ids i ids).1 ≡ drop (item_count i) ids
-item_left i ids = left_by i ids (held_left ids i (first ids).1)
+item_left i ids = left_by i ids (held_left ids i (first_numbers ids).1)
 
 -- ---- items without ids
 
@@ -99,13 +99,13 @@ drop_none : {A : Type 0} (k : ℕ) → drop {A = A} k [] ≡ []
 drop_none zero = refl
 drop_none (suc k) = refl
 
-pub none_held : (own : List FileAstId) (i : ItemView) → (held_with_ids (first own).0 i []).1 ≡ []
-none_held own i = held_left own i [] ∙ drop_none (items_count (held i))
+pub none_held : (own : List FileAstId) (i : ItemView) → (held_with_ids (first_numbers own).0 i []).1 ≡ []
+none_held own i = held_left own i [] ∙ drop_none (items_count (items_held i))
 
 mutual
-  held_again : (own other : List FileAstId) (i : ItemView) (ids : List FileAstId) → (held_with_ids (first own).0 (held_with_ids (first other).0 i ids).0 []).0 ≡ (held_with_ids (first own).0 i []).0
-  held_again own other (listed_module v semicolon is) ids = ap (listed_module (numbered_named (first own).0 v) semicolon) (ids_again is ids)
-  held_again own other (listed_extern_block v is) ids = ap (listed_extern_block (numbered_node (first own).0 v)) (ids_again is ids)
+  held_again : (own other : List FileAstId) (i : ItemView) (ids : List FileAstId) → (held_with_ids (first_numbers own).0 (held_with_ids (first_numbers other).0 i ids).0 []).0 ≡ (held_with_ids (first_numbers own).0 i []).0
+  held_again own other (listed_module v semicolon is) ids = ap (listed_module (numbered_named (first_numbers own).0 v) semicolon) (ids_again is ids)
+  held_again own other (listed_extern_block v is) ids = ap (listed_extern_block (numbered_node (first_numbers own).0 v)) (ids_again is ids)
   held_again own other _ ids = refl
 
   pub ids_again : (is : ItemViews) (ids : List FileAstId) → (with_ids (with_ids is ids).0 []).0 ≡ (with_ids is []).0
@@ -113,13 +113,13 @@ mutual
   ids_again (item_and i is) ids =
       let head = item_with_ids i ids in
       let rest = with_ids is head.1 in
-      ap (λ l. item_and (held_with_ids (first []).0 head.0 []).0 (with_ids rest.0 l).0) (none_held [] head.0)
-      ∙ ap (λ h. item_and h (with_ids rest.0 []).0) (held_again [] ids i (first ids).1)
-      ∙ ap (item_and (held_with_ids (first []).0 i []).0) (ids_again is head.1)
-      ∙ ap (λ l. item_and (held_with_ids (first []).0 i []).0 (with_ids is l).0) (sym (none_held [] i))
+      ap (λ l. item_and (held_with_ids (first_numbers []).0 head.0 []).0 (with_ids rest.0 l).0) (none_held [] head.0)
+      ∙ ap (λ h. item_and h (with_ids rest.0 []).0) (held_again [] ids i (first_numbers ids).1)
+      ∙ ap (item_and (held_with_ids (first_numbers []).0 i []).0) (ids_again is head.1)
+      ∙ ap (λ l. item_and (held_with_ids (first_numbers []).0 i []).0 (with_ids is l).0) (sym (none_held [] i))
 
 pub without_again : (i : ItemView) (ids : List FileAstId) → without_ids (item_with_ids i ids).0 ≡ without_ids i
-without_again i ids = held_again [] ids i (first ids).1
+without_again i ids = held_again [] ids i (first_numbers ids).1
 
 -- ---- places with ids
 
@@ -395,7 +395,7 @@ module _ (end : ℕ) (top start : Tokens) (place : ℕ → ℕ) where
               let many = length-append segment tail.spans in
               let own = length-map ps place_span in
               let c = item_count head.0 in
-              let count : c ≡ item_count j = count_same ids j (first ids).1 in
+              let count : c ≡ item_count j = count_same ids j (first_numbers ids).1 in
               let short : c ≤ length ids = omega arith in
               let shift = length-map segment (moved_span place) in
               let exact : length (map (moved_span place) segment) ≡ c = omega arith in
@@ -421,7 +421,7 @@ module _ (end : ℕ) (top start : Tokens) (place : ℕ → ℕ) where
               let many = length-append segment tail.spans in
               let own = length-map ps place_span in
               let c = item_count head.0 in
-              let count : c ≡ item_count j = count_same ids j (first ids).1 in
+              let count : c ≡ item_count j = count_same ids j (first_numbers ids).1 in
               let shift = length-map segment (moved_span place) in
               let exact : length (map (moved_span place) segment) ≡ c = omega arith in
               let dropped = length-drop c ids in

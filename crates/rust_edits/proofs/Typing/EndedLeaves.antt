@@ -25,7 +25,7 @@ use Rattle.rust_leaves.specs.declared.head.Head.{Head}
 use Rattle.rust_leaves.specs.declared.head.Head.TheVariants as heads
 use Rattle.rust_leaves.specs.Fronts.{FrontRead}
 use Rattle.rust_leaves.specs.Kinds.{is_called, leaf_by, leaf, function, union_item, enumeration, trait_item, macro_def, type_alias, static_value, constant, structure, implementation, crate_item, use_read, use_declaration, macro_definition, invocation}
-use Rattle.rust_leaves.specs.Leaves.{LeafRead, named, alias, alias_if, renamed, impl_end, item_end, macro_end, value_end, call_end}
+use Rattle.rust_leaves.specs.Leaves.{LeafRead, named, crate_alias, crate_alias_if, renamed, impl_end, item_end, macro_end, value_end, call_end}
 use Rattle.rust_leaves.proofs.Beside.{LeafAlike, named_local, named_or_local}
 use Rattle.rust_leaves.proofs.Crates.{is_called_same, called_next}
 use Rattle.rust_items.proofs.UntilLeaves.{FrontAlike, BeginPlain, LeafUntil, leaf_lost, leaf_same, leaf_until, LeafLost}
@@ -82,14 +82,14 @@ module _ (b : Bodies) (same : SameLoose b) where
 
   -- ---- extern crates
 
-  alias_beside : (ts us : Tokens) → Beside b ts us → Beside b (alias ts).1 (alias us).1
-  unfolding alias
+  alias_beside : (ts us : Tokens) → Beside b ts us → Beside b (crate_alias ts).1 (crate_alias us).1
+  unfolding crate_alias
   alias_beside ts us h =
       when (bytes_eq (word ts) (codes "_"))
       (λ e. let f : bytes_eq (word us) (codes "_") ≡ true = word_test b (codes "_") ts us h ∙ e in rw (e, f) (after_word b (codes "_") ts us refl h e))
       (λ e. let f : bytes_eq (word us) (codes "_") ≡ false = word_test b (codes "_") ts us h ∙ e in rw (e, f) (named_local b ts us h).rest)
 
-  alias_if_beside : (found : Bool) (ts us : Tokens) → Beside b ts us → Beside b (alias_if found ts).1 (alias_if found us).1
+  alias_if_beside : (found : Bool) (ts us : Tokens) → Beside b ts us → Beside b (crate_alias_if found ts).1 (crate_alias_if found us).1
   alias_if_beside true ts us h = alias_beside ts us h
   alias_if_beside false ts us h = h
 

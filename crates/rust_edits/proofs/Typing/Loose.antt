@@ -3,7 +3,7 @@ use Rattle.std.proofs.Common.{◌≡◌, ℕ, suc, false, List, [], ◌∷◌, l
 use Rattle.std.specs.Prelude.{slice_index}
 use Rattle.std.specs.List.{filter}
 use Rattle.hir_input.specs.declared.edition.EditionYear.{EditionYear}
-use Rattle.rust_lexer.specs.Alone.{StandsAlone, front, moved}
+use Rattle.rust_lexer.specs.Alone.{StandsAlone, tokens_in_front, moved}
 use Rattle.rust_lexer.specs.Piece.{Piece}
 use Rattle.rust_lexer.specs.Symbol.{symbol_from, symbol_of}
 use Rattle.rust_lexer.specs.Tokens.{is_significant, is_significant_kind}
@@ -50,7 +50,7 @@ loose_counted d l (t ∷ ts) =
 
 loose_body : (at : ℕ) (m : List ℕ) → loose_from none_loose (body at m) ≡ loose_in m
 unfolding body inside_of
-loose_body at m = loose_counted (suc at) none_loose (front 0 0 m (125 ∷ []))
+loose_body at m = loose_counted (suc at) none_loose (tokens_in_front 0 0 m (125 ∷ []))
 
 same_loose : (edition : EditionYear) (q m m' s : List ℕ) (h : StandsAlone m) (h' : StandsAlone m') → loose_in m' ≡ loose_in m → SameLoose (bodies edition q m m' s h h')
 same_loose edition q m m' s h h' e =

@@ -5,7 +5,7 @@ use Rattle.hir_input.specs.declared.edition.EditionYear.{EditionYear}
 use Rattle.rust_lexer.specs.declared.kind.DocStyle.TheVariants.{Inner}
 use Rattle.rust_lexer.specs.declared.kind.TokenKind.{TokenKind}
 use Rattle.rust_lexer.specs.declared.kind.TokenKind.TheVariants as kinds
-use Rattle.rust_lexer.specs.Alone.{StandsAlone, opening, front, moved}
+use Rattle.rust_lexer.specs.Alone.{StandsAlone, opening, tokens_in_front, moved}
 use Rattle.rust_lexer.specs.Piece.{Piece}
 use Rattle.rust_lexer.specs.Symbol.{symbol_from, symbol_of}
 use Rattle.rust_lexer.specs.Tokens.{is_significant}
@@ -39,7 +39,7 @@ counted_behind low past (t ∷ ts) h =
 
 body_behind : (at : ℕ) (m : List ℕ) → AreBehind (suc at) (at + 1) (body at m)
 unfolding body inside_of
-body_behind at m = counted_behind (suc at) (at + 1) (front 0 0 m (125 ∷ [])) (omega arith)
+body_behind at m = counted_behind (suc at) (at + 1) (tokens_in_front 0 0 m (125 ∷ [])) (omega arith)
 
 pub bodies : (edition : EditionYear) (q m m' s : List ℕ) → StandsAlone m → StandsAlone m' → Bodies
 bodies edition q m m' s h h' = record {
@@ -128,10 +128,10 @@ moved_plain d (t ∷ []) = refl
 moved_plain d (t ∷ u ∷ []) = refl
 moved_plain d (t ∷ u ∷ v ∷ l) = refl
 
-pub body_plain : (at : ℕ) (m : List ℕ) (c : Piece) (r : List Piece) → symbol_of c ≡ 125 → first_plain (body at m ++ c ∷ r) ≡ first_plain (filter is_significant (front 0 0 m (125 ∷ [])))
+pub body_plain : (at : ℕ) (m : List ℕ) (c : Piece) (r : List Piece) → symbol_of c ≡ 125 → first_plain (body at m ++ c ∷ r) ≡ first_plain (filter is_significant (tokens_in_front 0 0 m (125 ∷ [])))
 unfolding body inside_of
 body_plain at m c r e =
-    let ts = front 0 0 m (125 ∷ []) in
+    let ts = tokens_in_front 0 0 m (125 ∷ []) in
     closed_plain (filter is_significant (map (moved (suc at)) ts)) c r e ∙ ap first_plain (filter_moved (suc at) ts) ∙ moved_plain (suc at) (filter is_significant ts)
 
 plain_inside : (y : EditionYear) (at past d : ℕ) (m s : List ℕ) (r : List Piece) (u : Option ℕ) → BeginsPlain m

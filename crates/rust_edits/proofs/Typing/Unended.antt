@@ -3,7 +3,7 @@ use Rattle.std.proofs.Common.{◌≡◌, ◌≤◌, ℕ, zero, suc, ◌+◌, ◌
 use Rattle.std.specs.Prelude.{not}
 use Rattle.std.proofs.lemmas.Bool.Decides.{nat_tests}
 use Rattle.hir_input.specs.declared.edition.EditionYear.{EditionYear}
-use Rattle.rust_lexer.specs.Alone.{StandsAlone, is_fence, front, moved}
+use Rattle.rust_lexer.specs.Alone.{StandsAlone, is_fence, tokens_in_front, moved}
 use Rattle.rust_lexer.specs.Bytes.{is_wide_start}
 use Rattle.rust_lexer.specs.Cut.{first_cut}
 use Rattle.rust_lexer.specs.Piece.{Piece}
@@ -69,8 +69,8 @@ unended_is edition q m m' s o h h' =
     let y' = m' ++ 125 ∷ s in
     let d = suc (length q) + length m' in
     let close = piece (first_cut 125 s) 0 125 s in
-    let first = front 0 0 q (123 ∷ []) in
-    let within = map (moved (suc (length q))) (front 0 0 m' (125 ∷ [])) in
+    let first = tokens_in_front 0 0 q (123 ∷ []) in
+    let within = map (moved (suc (length q))) (tokens_in_front 0 0 m' (125 ∷ [])) in
     let behind = map (moved d) (tokens_from 0 0 (125 ∷ s)) in
     let old = apart q m m s o.full o.one h in
     let new = apart q m m' s o.full o.one h' in

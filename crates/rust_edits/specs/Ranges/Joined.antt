@@ -22,7 +22,7 @@ use Rattle.rust_items.specs.Found.{Found, and_all}
 use Rattle.rust_items.specs.Ids.{with_ids}
 use Rattle.rust_items.specs.LineEnds.{with_feeds, place_in, moved_span, moved_problem}
 use Rattle.rust_items.specs.SourceFiles.{found_in, read_of, IsSourceFile}
-use Rattle.rust_edits.specs.Ranges.Laws.{EndsOwn, IsAtTop, Bytes, bytes_of, text_at, without_ids}
+use Rattle.rust_edits.specs.Ranges.Laws.{EndsOwn, IsAtTop, Bytes, bytes_of, range_text, without_ids}
 
 -- A text begins with no byte order mark, no shebang line and no dashes of frontmatter.
 pub record IsBare (text : List ℕ) : Type 0 where
@@ -158,7 +158,7 @@ is_told_up_to place problems = list_any (λ p. nat_le p.at place) problems
 abbrev pub FrontHolds : Type 0
 FrontHolds = (edition : EditionYear) (text : List ℕ) (read : SourceFile) (i : ItemView) (p : ItemPlace) (ps : List ItemPlace) → IsSourceFile edition text read → IsAtTop read i (p ∷ ps)
     → is_told_up_to p.range.end read.problems.items ≡ false → IsBare (with_feeds text) → is_full (with_feeds (take p.range.start text)) ≡ true
-    → EndsOwn (with_feeds (text_at text p.range)) → length (with_feeds text) < most → HoldsItems edition (with_feeds (take p.range.end text))
+    → EndsOwn (with_feeds (range_text text p.range)) → length (with_feeds text) < most → HoldsItems edition (with_feeds (take p.range.end text))
 
 -- Whole items behind whole items hold whole items.
 abbrev pub BothHold : Type 0

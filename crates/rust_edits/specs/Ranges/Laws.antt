@@ -63,13 +63,13 @@ is_unfinished_at place problems = list_any (λ p. is_unfinished p.kind && p.at =
 -- ---- read alone
 
 -- the text of a range
-abbrev pub text_at : List ℕ → TextRange → List ℕ
-text_at text r = slice_range text r.start r.end
+abbrev pub range_text : List ℕ → TextRange → List ℕ
+range_text text r = slice_range text r.start r.end
 
 -- An item ends with its own `;` or `}`: the text of its range ends so, and the end of the item was found. It begins with no byte order mark.
 pub record EndsItself (text : List ℕ) (read : SourceFile) (range : TextRange) : Type 0 where
-  pub ends : EndsOwn (with_feeds (text_at text range))
-  pub unmarked : has_mark (with_feeds (text_at text range)) ≡ false
+  pub ends : EndsOwn (with_feeds (range_text text range))
+  pub unmarked : has_mark (with_feeds (range_text text range)) ≡ false
   pub finished : is_unfinished_at range.start read.problems.items ≡ false
 
 -- an item whose ids are 0, as they are where none are left to be taken
@@ -101,4 +101,4 @@ pub record IsItem (i : ItemView) (start : ℕ) (ps : List ItemPlace) (alone : So
 -- The text of the range of an item at the top that ends with its own `;` or `}`, read alone, is exactly that item.
 abbrev pub RangeAlone : Type 0
 RangeAlone = (edition : EditionYear) (text : List ℕ) (read alone : SourceFile) (i : ItemView) (p : ItemPlace) (ps : List ItemPlace) → IsSourceFile edition text read → IsAtTop read i (p ∷ ps)
-    → EndsItself text read p.range → IsSourceFile edition (text_at text p.range) alone → IsItem i p.range.start (p ∷ ps) alone
+    → EndsItself text read p.range → IsSourceFile edition (range_text text p.range) alone → IsItem i p.range.start (p ∷ ps) alone

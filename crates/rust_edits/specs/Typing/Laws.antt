@@ -4,7 +4,7 @@ use Rattle.std.specs.List.{filter}
 use Rattle.hir_input.specs.declared.edition.EditionYear.{EditionYear}
 use Rattle.hir_input.specs.Bodies.{without_bodies}
 use Rattle.rust_lexer.specs.declared.kind.DocStyle.TheVariants.{Inner}
-use Rattle.rust_lexer.specs.Alone.{is_fence, is_full, overhang, front, StandsAlone}
+use Rattle.rust_lexer.specs.Alone.{is_fence, is_full, overhang, tokens_in_front, StandsAlone}
 use Rattle.rust_lexer.specs.Piece.{Piece}
 use Rattle.rust_lexer.specs.Symbol.{symbol_of}
 use Rattle.rust_lexer.specs.Tokens.{has_mark, is_shebang, is_significant, tokens_from}
@@ -39,7 +39,7 @@ first_plain ts =
 
 -- what stands between braces begins, behind white space and comments, with no inner attribute
 abbrev pub BeginsPlain : List ℕ → Type 0
-BeginsPlain m = first_plain (filter is_significant (front 0 0 m (125 ∷ []))) ≡ true
+BeginsPlain m = first_plain (filter is_significant (tokens_in_front 0 0 m (125 ∷ []))) ≡ true
 
 -- a text of which what stands in a body was typed anew
 pub record IsTyped (edition : EditionYear) (q m m' s : List ℕ) : Type 0 where

@@ -1,7 +1,7 @@
 -- Brackets that are loose in a body, and where problems stand in two texts that differ between the braces of a body.
 use Rattle.std.specs.Prelude.{◌≡◌, ℕ, ◌+◌, ◌-◌, ◌==◌, if◌then◌else◌, List, [], ◌∷◌, map}
 use Rattle.hir_input.specs.declared.edition.EditionYear.{EditionYear}
-use Rattle.rust_lexer.specs.Alone.{front}
+use Rattle.rust_lexer.specs.Alone.{tokens_in_front}
 use Rattle.rust_lexer.specs.Piece.{Piece}
 use Rattle.rust_lexer.specs.Symbol.{symbol_of}
 use Rattle.rust_cursor.specs.Nests.{opens_other, closes_other}
@@ -31,7 +31,7 @@ loose_from l (t ∷ ts) = loose_from (loose_behind l (symbol_of t)) ts
 
 -- those of what stands between two braces, across the braces in it
 abbrev pub loose_in : List ℕ → Loose
-loose_in m = loose_from none_loose (front 0 0 m (125 ∷ []))
+loose_in m = loose_from none_loose (tokens_in_front 0 0 m (125 ∷ []))
 
 -- Whatever is typed inside a body, if as many brackets in it close nothing and as many stay open as before, the same problems are told of the
 -- text, where they stood; those behind the body move with the text.

@@ -19,8 +19,8 @@ abbrev pub CountsOne : Counts → Counts → Key → Type 0
 CountsOne old new key = (q : Key) → count_of new q ≡ count_of old q + (if same_key key q then 1 else 0)
 
 -- the items that are less deep, and those of one depth before a place
-abbrev pub reached : List Row → ℕ → ℕ → ℕ → Bool
-reached rows depth at j = nat_lt (depth_at rows j) depth || (depth_at rows j == depth && nat_lt j at)
+abbrev pub is_numbered_before : List Row → ℕ → ℕ → ℕ → Bool
+is_numbered_before rows depth at j = nat_lt (depth_at rows j) depth || (depth_at rows j == depth && nat_lt j at)
 
 -- the items that pass a test have their ids and are counted
 pub record IsNumbered (done : ℕ → Bool) (rows : List Row) (ids : List FileAstId) (counts : Counts) : Type 0 where

@@ -1,7 +1,7 @@
 use Rattle.std.proofs.Common.{◌≡◌, ◌+◌, ◌*◌, ◌++◌, map, take}
 use Rattle.std.specs.List.{sum_by, flat_map}
 use Rattle.item_tree.specs.Walk.{count_at}
-use Rattle.def_collector.specs.DeclarationView.{collected}
+use Rattle.def_collector.specs.DeclarationView.{collected_declaration}
 use Rattle.def_collector.specs.Inner.Declared.{defined_from}
 use Rattle.def_collector.proofs.collector.+add.Given as goal
 
@@ -15,4 +15,4 @@ abbrev pub decreases-add_one : goal.decreases-add_one
 decreases-add_one l = 3 * count_at l.tree.now l.id
 
 abbrev pub invariant-add_all-loop-id : goal.invariant-add_all-loop-id
-invariant-add_all-loop-id l = map (collected l.tree) l.found.items ≡ map (collected l.tree) l.initial.found.items ++ flat_map (defined_from l.tree (map (λ name. name.now) l.path)) (take l.id-index l.ids)
+invariant-add_all-loop-id l = map (collected_declaration l.tree) l.found.items ≡ map (collected_declaration l.tree) l.initial.found.items ++ flat_map (defined_from l.tree (map (λ name. name.now) l.path)) (take l.id-index l.ids)

@@ -1,6 +1,6 @@
 use Rattle.std.proofs.Common.{◌≡◌, Some, sym, ◌∙◌}
 use Rattle.hir_input.specs.UseTreeView.{use_tree_view}
-use Rattle.def_collector.specs.Inner.Imports.{at_leaf, node_of}
+use Rattle.def_collector.specs.Inner.Imports.{at_leaf, import_node}
 use Rattle.def_collector.specs.Listed.{listed_import}
 use Rattle.def_collector.proofs.Leaves.{node_there, one_found}
 use Rattle.def_collector.proofs.written.at_leaves.Goals as goal
@@ -12,7 +12,7 @@ loop-import-preserved c =
     let x = listed_import c.in-Some.import in
     let left = c.in-Some.ensures.steps.0 in
     let rest = rw left at c.loop-import.invariant.rest in
-    let node : Some (use_tree_view c.unwrap-leaf.result.now) ≡ node_of w places x = rw c.unwrap-leaf.ensures at c.at.ensures ∙ sym (node_there w places x rest.0 0) in
+    let node : Some (use_tree_view c.unwrap-leaf.result.now) ≡ import_node w places x = rw c.unwrap-leaf.ensures at c.at.ensures ∙ sym (node_there w places x rest.0 0) in
     record {
       found =
           rw c.in_ok-push.ensures.items

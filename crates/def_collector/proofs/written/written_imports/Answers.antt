@@ -1,6 +1,6 @@
 use Rattle.std.proofs.Common.{◌∙◌}
 use Rattle.hir_input.specs.UseTreeView.{use_tree_view}
-use Rattle.def_collector.specs.Inner.Imports.{node_of}
+use Rattle.def_collector.specs.Inner.Imports.{import_node}
 use Rattle.def_collector.specs.Written.{written_imports}
 use Rattle.def_collector.proofs.Leaves.{are_at, are_written, imported, unpaired, written_at}
 use Rattle.def_collector.proofs.written.written_imports.Goals as goal
@@ -20,4 +20,4 @@ returns-then-eq-clause-leaves c =
 
 pub returns-then-eq-clause-imports : goal.returns-then-eq-clause-imports
 returns-then-eq-clause-imports c =
-    imported c.in_ok-list.list.items _ (node_of (use_tree_view c.args.written.now) c.deref.result.now) c.in_ok-list.ensures ∙ c.in_ok-imports.ensures
+    imported c.in_ok-list.list.items _ (import_node (use_tree_view c.args.written.now) c.deref.result.now) c.in_ok-list.ensures ∙ c.in_ok-imports.ensures

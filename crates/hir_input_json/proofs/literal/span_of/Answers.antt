@@ -2,7 +2,7 @@
 use Rattle.std.proofs.Common.{◌≡◌, ◌<◌, [], length, rules, sym, ap, ◌∙◌}
 use Rattle.serde_json.specs.View.{view, items_view}
 use Rattle.hir_input_json.specs.Literals.{span_in}
-use Rattle.hir_input_json.specs.Forms.{items_in}
+use Rattle.hir_input_json.specs.Forms.{array_items}
 use Rattle.hir_input_json.specs.Reading.{right, wrong, ◌>>=◌}
 use Rattle.hir_input_json.proofs.Spans.{span_of_fewer, span_of_more}
 use Rattle.hir_input_json.proofs.literal.span_of.Goals as goal
@@ -11,7 +11,7 @@ use Rattle.hir_input_json.proofs.literal.span_of.Goals.{in_default-as_slice-via-
 pub returns-in_default-as_slice : goal.returns-in_default-as_slice
 returns-in_default-as_slice c = λ told.
     let vs = c.as_slice.result.now in
-    let read : items_in (view c.args.value.now) ≡ right (items_view vs) = search rules in
+    let read : array_items (view c.args.value.now) ≡ right (items_view vs) = search rules in
     let none : span_in c.args.ctxt (items_view vs) ≡ wrong [] = elim c.in_default-as_slice.branch as (λ _. span_in c.args.ctxt (items_view vs) ≡ wrong []) [
       | in_default-as_slice-via-then-as_slice-lt2 w ↦ let few : length vs < 2 = search rules in span_of_fewer c.args.ctxt vs few
       | in_default-as_slice-via-else-as_slice-lt2+else-this-lt3 w ↦ let many : 2 < length vs = search rules in span_of_more c.args.ctxt vs many

@@ -8,7 +8,7 @@ use Rattle.hir_input_json.proofs.Attrs.{meta_reads_itself}
 use Rattle.hir_input.proofs.MetaLemmas.{meta_views}
 use Rattle.std.proofs.lemmas.Grind.{common_steps}
 use Rattle.hir_input.specs.Attr.{meta_view}
-use Rattle.hir_input_json.specs.Metas.{meta}
+use Rattle.hir_input_json.specs.Metas.{meta_form}
 use Rattle.hir_input_json.proofs.Lists.{read_next, read_rest}
 use Rattle.hir_input_json.proofs.meta.+metas.Goals as goal
 
@@ -37,7 +37,7 @@ unsafe_of-returns t c = grind (arith, meta_views)
 
 pub metas_of-loop-item-preserved : goal.metas_of-loop-item-preserved
 metas_of-loop-item-preserved t c = (
-  read_next meta_view meta _ _ _ _ _ _ _ (decimal c.len-place.result) _ c.loop-item.invariant.0 c.in-Some.ensures.steps.0 c.meta_of.ensures c.in_ok-read.ensures c.in_ok-push.ensures.items,
+  read_next meta_view meta_form _ _ _ _ _ _ _ (decimal c.len-place.result) _ c.loop-item.invariant.0 c.in-Some.ensures.steps.0 c.meta_of.ensures c.in_ok-read.ensures c.in_ok-push.ensures.items,
   read_rest _ _ _ _ c.in-Some.ensures.steps.0 c.loop-item.invariant.1,
 )
 

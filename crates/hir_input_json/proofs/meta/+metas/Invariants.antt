@@ -3,7 +3,7 @@ use Rattle.std.proofs.Common.{◌≡◌, ◌≤◌, map, ◌+◌, ◌*◌, lengt
 use Rattle.serde_json.specs.Data.{depth, items_depth}
 use Rattle.serde_json.specs.View.{view, items_view}
 use Rattle.hir_input.specs.Attr.{meta_view}
-use Rattle.hir_input_json.specs.Metas.{meta}
+use Rattle.hir_input_json.specs.Metas.{meta_form}
 use Rattle.hir_input_json.specs.Forms.{each, each_from}
 use Rattle.hir_input_json.specs.Held.{held}
 use Rattle.hir_input_json.proofs.Lists.{joined}
@@ -26,5 +26,5 @@ decreases-metas_of l = 4 * items_depth (items_view l.items.items) + 4
 
 abbrev pub invariant-metas_of-loop-item : goal.invariant-metas_of-loop-item
 invariant-metas_of-loop-item l =
-    (each meta (items_view l.fn.items.items) ≡ joined (map meta_view l.metas.items) (each_from (length l.metas.items) meta (items_view l.item-iterator.rest.items)))
+    (each meta_form (items_view l.fn.items.items) ≡ joined (map meta_view l.metas.items) (each_from (length l.metas.items) meta_form (items_view l.item-iterator.rest.items)))
     × (items_depth (items_view l.item-iterator.rest.items) ≤ items_depth (items_view l.fn.items.items))

@@ -5,7 +5,7 @@ use Rattle.hir_input_json.proofs.Inside.{depth_found_in}
 use Rattle.hir_input_json.proofs.UseTrees.{use_tree_reads_itself, use_tree_view_made}
 use Rattle.std.proofs.lemmas.Grind.{common_steps}
 use Rattle.hir_input.specs.UseTreeView.{use_tree_view}
-use Rattle.hir_input_json.specs.UseTrees.{use_tree}
+use Rattle.hir_input_json.specs.UseTrees.{use_tree_form}
 use Rattle.hir_input_json.proofs.Lists.{read_next, read_rest}
 use Rattle.hir_input_json.proofs.use_tree.+trees.Goals as goal
 
@@ -32,7 +32,7 @@ use_tree_in-returns t c = grind (arith, field_without, depth_found_in, use_tree_
 
 pub use_trees_of-loop-item-preserved : goal.use_trees_of-loop-item-preserved
 use_trees_of-loop-item-preserved t c = (
-  read_next use_tree_view use_tree _ _ _ _ _ _ _ (decimal c.len-place.result) _ c.loop-item.invariant.0 c.in-Some.ensures.steps.0 c.use_tree_of.ensures c.in_ok-read.ensures c.in_ok-push.ensures.items,
+  read_next use_tree_view use_tree_form _ _ _ _ _ _ _ (decimal c.len-place.result) _ c.loop-item.invariant.0 c.in-Some.ensures.steps.0 c.use_tree_of.ensures c.in_ok-read.ensures c.in_ok-push.ensures.items,
   read_rest _ _ _ _ c.in-Some.ensures.steps.0 c.loop-item.invariant.1,
 )
 

@@ -3,7 +3,7 @@ use Rattle.std.proofs.Common.{◌≡◌, ◌≤◌, map, ◌+◌, ◌*◌, optio
 use Rattle.serde_json.specs.Data.{depth, items_depth}
 use Rattle.serde_json.specs.View.{view, items_view}
 use Rattle.hir_input.specs.UseTreeView.{use_tree_view}
-use Rattle.hir_input_json.specs.UseTrees.{use_tree}
+use Rattle.hir_input_json.specs.UseTrees.{use_tree_form}
 use Rattle.hir_input_json.specs.Forms.{each, each_from}
 use Rattle.hir_input_json.specs.Held.{held}
 use Rattle.hir_input_json.proofs.Inside.{depth_of}
@@ -24,5 +24,5 @@ decreases-use_trees_of l = 3 * items_depth (items_view l.items.items) + 3
 
 abbrev pub invariant-use_trees_of-loop-item : goal.invariant-use_trees_of-loop-item
 invariant-use_trees_of-loop-item l =
-    (each use_tree (items_view l.fn.items.items) ≡ joined (map use_tree_view l.trees.items) (each_from (length l.trees.items) use_tree (items_view l.item-iterator.rest.items)))
+    (each use_tree_form (items_view l.fn.items.items) ≡ joined (map use_tree_view l.trees.items) (each_from (length l.trees.items) use_tree_form (items_view l.item-iterator.rest.items)))
     × (items_depth (items_view l.item-iterator.rest.items) ≤ items_depth (items_view l.fn.items.items))

@@ -1,7 +1,7 @@
 use Rattle.std.proofs.Common.{◌≡◌, ap, map, subst, ◌∙◌}
 use Rattle.std.specs.List.{flat_map}
 use Rattle.std.specs.Prelude.{IfOk}
-use Rattle.item_changes.specs.Changes.{change_of, item_key, items, same_item_key}
+use Rattle.item_changes.specs.Changes.{change_of, item_key, tree_items, same_item_key}
 use Rattle.item_changes.specs.Inner.{keyed_view, match_view}
 use Rattle.item_changes.specs.Views.{change_view}
 use Rattle.item_changes.specs.contracts.keys.KeyPartialEq.TheImpl as keys
@@ -14,5 +14,5 @@ returns c =
     let olds = ap (map keyed_view) c.deref.ensures.value ∙ c.in_ok-olds.ensures in
     let news = ap (map keyed_view) c.deref-2.ensures.value ∙ c.in_ok-news.ensures in
     let found =
-    matched_as keys.ghosts.eq same_item_key keyed_view (λ i. item_key i.0) keys_same c.deref.result.now c.deref-2.result.now (items c.args.old.now) (items c.args.new.now) olds news c.in_ok-found.found.items c.in_ok-found.ensures in
+    matched_as keys.ghosts.eq same_item_key keyed_view (λ i. item_key i.0) keys_same c.deref.result.now c.deref-2.result.now (tree_items c.args.old.now) (tree_items c.args.new.now) olds news c.in_ok-found.found.items c.in_ok-found.ensures in
     subst (λ ms. IfOk c.changes_of.result (λ v. map change_view v.items ≡ flat_map change_of ms)) (ap (map match_view) c.deref-3.ensures.value ∙ found) c.changes_of.ensures

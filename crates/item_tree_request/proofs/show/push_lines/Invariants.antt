@@ -1,8 +1,8 @@
 -- what is written and the lines of what is left are the lines of all
 use Rattle.std.proofs.Common.{◌≡◌, ◌++◌, string_bytes}
 use Rattle.std.specs.List.{flat_map}
-use Rattle.item_tree_request.specs.Outputs.{change_line}
+use Rattle.item_tree_request.specs.Outputs.{table_change_line}
 use Rattle.item_tree_request.proofs.show.push_lines.Given as goal
 
 abbrev pub invariant-loop-place : goal.invariant-loop-place
-invariant-loop-place l = string_bytes l.text ++ flat_map change_line l.place-iterator ≡ string_bytes l.initial.text ++ flat_map change_line l.fn.changes
+invariant-loop-place l = string_bytes l.text ++ flat_map table_change_line l.place-iterator ≡ string_bytes l.initial.text ++ flat_map table_change_line l.fn.changes

@@ -1,11 +1,11 @@
 use Rattle.std.proofs.Common.{MatchOption}
 use Rattle.rust_ids.specs.Ids.{AreIds}
-use Rattle.rust_ids.specs.Inner.Numbering.{IsNumbered, reached}
+use Rattle.rust_ids.specs.Inner.Numbering.{IsNumbered, is_numbered_before}
 use Rattle.rust_ids.proofs.Steps.{left_behind}
 use Rattle.rust_ids.proofs.ids.assign.Given as goal
 
 abbrev pub invariant-loop-level : goal.invariant-loop-level
-invariant-loop-level l = MatchOption l.level (AreIds l.nodes l.ids.items) (λ depth. IsNumbered (reached l.nodes depth 0) l.nodes l.ids.items l.counts)
+invariant-loop-level l = MatchOption l.level (AreIds l.nodes l.ids.items) (λ depth. IsNumbered (is_numbered_before l.nodes depth 0) l.nodes l.ids.items l.counts)
 
 abbrev pub decreases-loop-level : goal.decreases-loop-level
 decreases-loop-level l = left_behind l.level

@@ -1,10 +1,10 @@
 use Rattle.std.proofs.Common.{◌≡◌, suc, eqb}
 use Rattle.rust_ids.specs.Ids.{last_below, depth_at}
-use Rattle.rust_ids.specs.Inner.Numbering.{IsNumbered, reached}
+use Rattle.rust_ids.specs.Inner.Numbering.{IsNumbered, is_numbered_before}
 use Rattle.rust_ids.proofs.numbering.number_level.Given as goal
 
 abbrev pub invariant-loop-at : goal.invariant-loop-at
 invariant-loop-at l = record {
-  numbered : IsNumbered (reached l.nodes l.depth l.at) l.nodes l.ids.items l.counts;
+  numbered : IsNumbered (is_numbered_before l.nodes l.depth l.at) l.nodes l.ids.items l.counts;
   around : l.around ≡ last_below (λ j. eqb (suc (depth_at l.nodes j)) l.depth) l.at;
 }

@@ -1,8 +1,8 @@
 use Rattle.std.proofs.Common.{◌≡◌, map, ◌-◌}
 use Rattle.rust_cursor.specs.Elements.{turns_from, one}
-use Rattle.rust_leaves.specs.Leaves.{field, are_over, fields}
+use Rattle.rust_leaves.specs.Leaves.{header_field, are_over, fields}
 use Rattle.rust_leaves.specs.Views.{field_view}
 use Rattle.rust_leaves.proofs.structs.fields.Given as goal
 
 abbrev pub invariant-loop-turn : goal.invariant-loop-turn
-invariant-loop-turn l = turns_from (are_over l.end) (one (field l.end)) (l.most - l._turn) (map field_view l.fields.items) l.cursor ≡ fields l.end l.fn.cursor
+invariant-loop-turn l = turns_from (are_over l.end) (one (header_field l.end)) (l.most - l._turn) (map field_view l.fields.items) l.cursor ≡ fields l.end l.fn.cursor

@@ -2,7 +2,7 @@ use Rattle.std.proofs.Common.{◌≡◌, ℕ, Option, Some, None, refl, ap, ◌�
 use Rattle.std.specs.Prelude.{option_map}
 use Rattle.std.proofs.lemmas.Iterator.{YieldsList-from_chars}
 use Rattle.std.proofs.lemmas.Iterator.Consumers.{nth_from_yields_List}
-use Rattle.rust_lexer.specs.Identifier.{is_start}
+use Rattle.rust_lexer.specs.Identifier.{may_start}
 use Rattle.rust_lexer.proofs.identifier.starts.Goals as goal
 
 itself : (o : Option ℕ) → o ≡ option_map (λ c. c) o
@@ -12,4 +12,4 @@ itself (Some c) = refl
 pub returns : goal.returns
 returns c =
     c.is_start.ensures
-    ∙ ap is_start (itself c.nth.result ∙ nth_from_yields_List c.nth.result _ 0 c.nth.ensures.ran (YieldsList-from_chars c.args.word.now c.utf8.word cc))
+    ∙ ap may_start (itself c.nth.result ∙ nth_from_yields_List c.nth.result _ 0 c.nth.ensures.ran (YieldsList-from_chars c.args.word.now c.utf8.word cc))

@@ -1,5 +1,5 @@
 use Rattle.std.proofs.Common.{rules, ◌≡◌, ◌∷◌, ◌-◌, map, ap, subst, sym, ◌++◌, ◌∙◌}
-use Rattle.rust_members.specs.Members.{moved}
+use Rattle.rust_members.specs.Members.{moved_member}
 use Rattle.rust_members.specs.Places.{ArePlaced}
 use Rattle.rust_members.specs.Views.{member_view}
 use Rattle.rust_members.specs.declared.member.Member.{Member}
@@ -13,7 +13,7 @@ loop-member-preserved c =
     let done = c.loop-member.all.items in
     let rest = c.next.new.self.rest.items in
     let step : c.loop-member.member-iterator.rest.items ≡ c.in-Some.member ∷ rest = search rules in
-    let same = ap (λ (ms : List Member). map member_view done ++ map (moved by) (map member_view ms)) (sym step) ∙ c.loop-member.invariant.same in
+    let same = ap (λ (ms : List Member). map member_view done ++ map (moved_member by) (map member_view ms)) (sym step) ∙ c.loop-member.invariant.same in
     let placed = subst (λ (ms : List Member). ArePlaced 0 (18446744073709551615 - by) (map member_view ms)) step c.loop-member.invariant.placed in
     record {
       same = all_more by done c.push.new.self.items _ (member_view c.in-Some.member) (map member_view rest) _ c.in_ok-push.ensures.items c.moved.ensures same;

@@ -1,11 +1,11 @@
 use Rattle.std.proofs.Common.{◌≡◌, ◌++◌, ◌-◌, map}
-use Rattle.rust_members.specs.Members.{moved}
+use Rattle.rust_members.specs.Members.{moved_member}
 use Rattle.rust_members.specs.Places.{ArePlaced}
 use Rattle.rust_members.specs.Views.{member_view}
 use Rattle.rust_members.proofs.members.all_moved.Given as goal
 
 abbrev pub invariant-loop-member : goal.invariant-loop-member
 invariant-loop-member l = record {
-  same : map member_view l.all.items ++ map (moved l.by) (map member_view l.member-iterator.rest.items) ≡ map (moved l.by) (map member_view l.fn.members.items);
+  same : map member_view l.all.items ++ map (moved_member l.by) (map member_view l.member-iterator.rest.items) ≡ map (moved_member l.by) (map member_view l.fn.members.items);
   placed : ArePlaced 0 (18446744073709551615 - l.by) (map member_view l.member-iterator.rest.items);
 }

@@ -2,7 +2,7 @@ use Rattle.std.proofs.Common.{rules, ap, map, ◌++◌, ◌∙◌}
 use Rattle.std.specs.List.{flat_map}
 use Rattle.std.proofs.lemmas.List.{take_all}
 use Rattle.serde_json.specs.View.{view}
-use Rattle.def_collector.specs.DeclarationView.{id_of, declaration_view}
+use Rattle.def_collector.specs.DeclarationView.{declaration_id, declaration_view}
 use Rattle.item_tree.specs.Shown.{IsContained}
 use Rattle.source_listing.specs.ImportObjects.{import_object, seen_objects}
 use Rattle.source_listing.specs.Uses.{placed}
@@ -11,7 +11,7 @@ use Rattle.source_listing.proofs.import_objects.import_items.Goals as goal
 
 pub push_declaration-requires-clause-contained : goal.push_declaration-requires-clause-contained
 push_declaration-requires-clause-contained c =
-    contained_at (IsContained c.args.tree.now) id_of c.in_ok-collected.collected.declarations.items c.loop-declaration.declaration-index c.declaration-item.result c.in_ok-collected.ensures.contained (search rules) (search rules)
+    contained_at (IsContained c.args.tree.now) declaration_id c.in_ok-collected.collected.declarations.items c.loop-declaration.declaration-index c.declaration-item.result c.in_ok-collected.ensures.contained (search rules) (search rules)
 
 pub returns : goal.returns
 returns c =

@@ -1,9 +1,9 @@
 use Rattle.std.proofs.Common.{rules, ap, map, string_bytes, ◌++◌, ◌∙◌}
 use Rattle.std.specs.List.{flat_map}
 use Rattle.std.proofs.lemmas.List.{take_all}
-use Rattle.def_collector.specs.DeclarationView.{id_of, declaration_view}
+use Rattle.def_collector.specs.DeclarationView.{declaration_id, declaration_view}
 use Rattle.item_tree.specs.Shown.{IsContained}
-use Rattle.source_listing.specs.Imports.{import_line, seen_lines}
+use Rattle.source_listing.specs.Imports.{placed_import_line, seen_lines}
 use Rattle.source_listing.specs.Uses.{placed}
 use Rattle.source_listing.specs.Views.{source_view}
 use Rattle.source_listing.proofs.Imported.{contained_at, finder_same, lines_of_all, one_more_seen, seen_by_finder}
@@ -11,7 +11,7 @@ use Rattle.source_listing.proofs.imports.import_lines.Goals as goal
 
 pub push_declaration-requires-clause-contained : goal.push_declaration-requires-clause-contained
 push_declaration-requires-clause-contained c =
-    contained_at (IsContained c.args.tree.now) id_of c.in_ok-collected.collected.declarations.items c.loop-declaration.declaration-index c.declaration-item.result c.in_ok-collected.ensures.contained (search rules) (search rules)
+    contained_at (IsContained c.args.tree.now) declaration_id c.in_ok-collected.collected.declarations.items c.loop-declaration.declaration-index c.declaration-item.result c.in_ok-collected.ensures.contained (search rules) (search rules)
 
 pub returns : goal.returns
 returns c =
@@ -33,6 +33,6 @@ loop-declaration-preserved c =
     let out = string_bytes before.out in
     record {
       text = one_more_seen (λ x. seen_lines s reserved places (see x)) c.deref-declaration-items.result.now before.declaration-index d out (string_bytes c.push_declaration.new.out) (search rules) (search rules) before.invariant.text
-          (c.in_ok-push_declaration.ensures.text ∙ ap (λ line. out ++ line) (seen_by_finder (import_line s.path reserved) s.text places before.finder (see d) before.invariant.is));
+          (c.in_ok-push_declaration.ensures.text ∙ ap (λ line. out ++ line) (seen_by_finder (placed_import_line s.path reserved) s.text places before.finder (see d) before.invariant.is));
       is = finder_same s.text places before.finder c.push_declaration.new.finder c.in_ok-push_declaration.ensures.same before.invariant.is;
     }

@@ -2,13 +2,13 @@ use Rattle.std.proofs.Common.{◌≡◌, ◌++◌, map, option_map, take, string
 use Rattle.std.specs.List.{flat_map}
 use Rattle.def_collector.specs.Listed.{listed_import}
 use Rattle.source_listing.specs.Imports as spec
-use Rattle.source_listing.specs.Inner.{IsSameTreeFinder, text_in, trees_view}
+use Rattle.source_listing.specs.Inner.{IsSameTreeFinder, finder_text, placed_trees_view}
 use Rattle.source_listing.specs.Uses.{tree_spots}
 use Rattle.source_listing.proofs.imports.push_imports.Given as goal
 
 abbrev pub invariant-loop-import : goal.invariant-loop-import
 invariant-loop-import l =
-    let line = spec.import_line l.path l.edition.reserved.items (tree_spots (text_in l.fn.finder) (option_map trees_view l.trees)) in
+    let line = spec.placed_import_line l.path l.edition.reserved.items (tree_spots (finder_text l.fn.finder) (option_map placed_trees_view l.trees)) in
     record {
       text : string_bytes l.out ≡ string_bytes l.initial.out ++ flat_map line (map listed_import (take l.import-index l.imports));
       same : IsSameTreeFinder l.fn.finder l.finder;

@@ -4,7 +4,7 @@ use Rattle.std.proofs.lemmas.List.{map-append}
 use Rattle.serde_json.specs.View.{items_of, view}
 use Rattle.source_rows.specs.Listed.{header_of, members_of}
 use Rattle.source_rows.specs.ListedViews.{reading_view}
-use Rattle.source_listing.specs.Inner.{file_of, item_view, objects_at, places_of, reserved_of}
+use Rattle.source_listing.specs.Inner.{file_of, shown_item_view, objects_at, places_of, reserved_of}
 use Rattle.source_listing.specs.Objects.{item_entry, member_objects, entry_object}
 use Rattle.source_listing.specs.Views.{choice_view}
 use Rattle.source_listing.proofs.Nested.{object_adds, object_is}
@@ -19,7 +19,7 @@ push_object-returns-clause-objects t c =
     let u = c.args.listing.tree.now in
     let level = c.args.around.level in
     let is = c.children-ids.result.now in
-    let y = item_view c.item_of-item.result in
+    let y = shown_item_view c.item_of-item.result in
     let place = c.stand-stand.result.place in
     let spot = c.stand-stand.result.spot in
     let members = map view c.in_ok-inner.inner.items in

@@ -2,11 +2,11 @@ use Rattle.std.proofs.Common.{◌≡◌, map, ap, subst, ◌∙◌, string_bytes
 use Rattle.std.specs.Prelude.{filter, not}
 use Rattle.std.proofs.lemmas.Iterator.Splits.{YieldsList-from_str_split}
 use Rattle.std.proofs.lemmas.Iterator.Consumers.{YieldsList-end}
-use Rattle.source_listing.specs.Pages.{is_id_line, joined}
+use Rattle.source_listing.specs.Pages.{is_id_line, joined_lines}
 use Rattle.source_listing.proofs.pages.without_ids.Goals as goal
 
 pub returns : goal.returns
 returns c =
     let all = YieldsList-end (YieldsList-from_str_split 10 c.args.page.now (lit< tt) (cc) (cc) (cc)) c.loop-line.yielded _ c.loop-line.yielded_by _ _ c.in-None.is c.next.ensures.steps in
     let kept = ap (map (λ x. x.now)) c.deref.ensures.value ∙ c.loop-line.invariant ∙ ap (filter (λ line. not (is_id_line line))) all.0 in
-    subst (λ lines. IfOk c.joined.result (λ text. string_bytes text ≡ joined lines)) kept c.joined.ensures
+    subst (λ lines. IfOk c.joined.result (λ text. string_bytes text ≡ joined_lines lines)) kept c.joined.ensures

@@ -1,10 +1,10 @@
 use Rattle.std.proofs.Common.{◌≡◌, [], map, take, string_bytes}
-use Rattle.source_listing.specs.Inner.{FindsFirsts, named_view}
+use Rattle.source_listing.specs.Inner.{FindsFirsts, listed_named_view}
 use Rattle.source_listing.specs.Repeated as spec
 use Rattle.source_listing.proofs.repeated.lines_of.Given as goal
 
 abbrev pub invariant-loop-import : goal.invariant-loop-import
 invariant-loop-import l = record {
-  text : string_bytes l.out ≡ spec.repeat_lines l.path [] (map named_view (take l.import-index l.imports));
-  firsts : FindsFirsts l.firsts (map named_view (take l.import-index l.imports));
+  text : string_bytes l.out ≡ spec.repeat_lines l.path [] (map listed_named_view (take l.import-index l.imports));
+  firsts : FindsFirsts l.firsts (map listed_named_view (take l.import-index l.imports));
 }

@@ -1,14 +1,14 @@
 use Rattle.std.proofs.Common.{◌≡◌, ◌++◌, map, option_map, take}
 use Rattle.def_collector.specs.Listed.{listed_import}
-use Rattle.source_listing.specs.Inner.{IsSameTreeFinder, named_view, text_in, trees_view}
+use Rattle.source_listing.specs.Inner.{IsSameTreeFinder, listed_named_view, finder_text, placed_trees_view}
 use Rattle.source_listing.specs.Repeated as spec
 use Rattle.source_listing.specs.Uses.{tree_spots}
 use Rattle.source_listing.proofs.repeated.push_listed.Given as goal
 
 abbrev pub invariant-loop-import : goal.invariant-loop-import
 invariant-loop-import l =
-    let named = spec.named_import l.edition.reserved.items l.around (tree_spots (text_in l.fn.finder) (option_map trees_view l.trees)) in
+    let named = spec.named_import l.edition.reserved.items l.around (tree_spots (finder_text l.fn.finder) (option_map placed_trees_view l.trees)) in
     record {
-      named : map named_view l.found.items ≡ map named_view l.initial.found.items ++ map named (map listed_import (take l.import-index l.imports));
+      named : map listed_named_view l.found.items ≡ map listed_named_view l.initial.found.items ++ map named (map listed_import (take l.import-index l.imports));
       same : IsSameTreeFinder l.fn.finder l.finder;
     }

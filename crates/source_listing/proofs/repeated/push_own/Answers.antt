@@ -1,7 +1,7 @@
 use Rattle.std.proofs.Common.{ap, map, option_map, ◌∙◌}
 use Rattle.std.proofs.lemmas.Result.{on_ok_weaker}
 use Rattle.def_collector.specs.Listed.{listed_import}
-use Rattle.source_listing.specs.Inner.{named_view, places_in, text_in, trees_view}
+use Rattle.source_listing.specs.Inner.{listed_named_view, places_in, finder_text, placed_trees_view}
 use Rattle.source_listing.proofs.Repeats.{own_use}
 use Rattle.source_listing.proofs.repeated.push_own.Goals as goal
 
@@ -9,6 +9,6 @@ pub returns-in_ok-imports-in-Use-clause-named : goal.returns-in_ok-imports-in-Us
 returns-in_ok-imports-in-Use-clause-named c =
     let old = c.args.finder.now in
     let found = c.find-trees.ensures in
-    on_ok_weaker c.push_listed.result (own_use (text_in old) (text_in c.find-trees.new.self) (places_in old) c.args.edition.now.reserved.items c.args.around c.args.tree.now c.args.id _ c.ast_id.result _ _
-    (option_map trees_view c.find-trees.result) (map listed_import c.deref.result.now) (map named_view c.args.found.now.items) (map named_view c.push_listed.new.found.items)
+    on_ok_weaker c.push_listed.result (own_use (finder_text old) (finder_text c.find-trees.new.self) (places_in old) c.args.edition.now.reserved.items c.args.around c.args.tree.now c.args.id _ c.ast_id.result _ _
+    (option_map placed_trees_view c.find-trees.result) (map listed_import c.deref.result.now) (map listed_named_view c.args.found.now.items) (map listed_named_view c.push_listed.new.found.items)
     c.in-Use.ensures c.ast_id.ensures found.same.0.0 found.trees (ap (map listed_import) c.deref.ensures.value ∙ c.in_ok-imports-in-Use.ensures)) c.push_listed.ensures.named

@@ -1,10 +1,10 @@
 -- the reading is what was read, and then the reading of what is left
 use Rattle.std.proofs.Common.{◌≡◌, ◌^◌, drop, length}
 use Rattle.serde_json.specs.View.{items_view}
-use Rattle.hir_input_json.specs.Forms.{each, each_from, whole}
+use Rattle.hir_input_json.specs.Forms.{each, each_from, whole_form}
 use Rattle.hir_input_json.proofs.Lists.{joined}
 use Rattle.source_session.proofs.files.numbers_of.Given as goal
 
 abbrev pub invariant-loop-item : goal.invariant-loop-item
 invariant-loop-item l =
-    (each (whole (2 ^ 32)) (items_view l.items) ≡ joined l.numbers.items (each_from (length l.numbers.items) (whole (2 ^ 32)) (items_view (drop l.item-index l.items))))
+    (each (whole_form (2 ^ 32)) (items_view l.items) ≡ joined l.numbers.items (each_from (length l.numbers.items) (whole_form (2 ^ 32)) (items_view (drop l.item-index l.items))))

@@ -3,10 +3,10 @@ use Rattle.std.proofs.Common.{◌≡◌, All, length, map}
 use Rattle.serde_json.specs.View.{items_view}
 use Rattle.hir_input_json.specs.Forms.{each, each_from}
 use Rattle.hir_input_json.proofs.Lists.{joined}
-use Rattle.source_session.specs.Edits.{edit_view, line_edit, IsUsable}
+use Rattle.source_session.specs.Edits.{line_edit_view, line_edit, IsUsable}
 use Rattle.source_session.proofs.line.edits_of.Given as goal
 
 abbrev pub invariant-loop-item : goal.invariant-loop-item
 invariant-loop-item l =
-    (each (line_edit l.count) (items_view l.fn.items.items) ≡ joined (map edit_view l.edits.items) (each_from (length l.edits.items) (line_edit l.count) (items_view l.item-iterator.rest.items)))
+    (each (line_edit l.count) (items_view l.fn.items.items) ≡ joined (map line_edit_view l.edits.items) (each_from (length l.edits.items) (line_edit l.count) (items_view l.item-iterator.rest.items)))
     × All (IsUsable l.count) l.edits.items

@@ -3,10 +3,10 @@ use Rattle.std.proofs.Common.{◌≡◌, All, length}
 use Rattle.serde_json.specs.View.{items_view}
 use Rattle.hir_input_json.specs.Forms.{each, each_from}
 use Rattle.hir_input_json.proofs.Lists.{joined}
-use Rattle.source_session.specs.Shows.{line_show, NamesCrate}
+use Rattle.source_session.specs.Shows.{line_show, ShowNamesCrate}
 use Rattle.source_session.proofs.line.shows_of.Given as goal
 
 abbrev pub invariant-loop-item : goal.invariant-loop-item
 invariant-loop-item l =
     (each (line_show l.count) (items_view l.fn.items.items) ≡ joined l.shows.items (each_from (length l.shows.items) (line_show l.count) (items_view l.item-iterator.rest.items)))
-    × All (NamesCrate l.count) l.shows.items
+    × All (ShowNamesCrate l.count) l.shows.items

@@ -3,7 +3,7 @@ use Rattle.std.proofs.lemmas.List.{append_assoc, length-append, map-append}
 use Rattle.std.proofs.lemmas.List.Elements.{All-push}
 use Rattle.item_tree_db.specs.Edits as table
 use Rattle.item_tree_request.specs.Named.{EditNamesCrate}
-use Rattle.source_session.specs.Edits.{edit_view}
+use Rattle.source_session.specs.Edits.{line_edit_view}
 use Rattle.source_session.specs.Inner.{LeavesPlaced, IsFailing, TellsFault}
 use Rattle.source_session.specs.Texts.{AreMeant, FailsAt, Means, text_after, text_in}
 use Rattle.source_session.proofs.Meant.{meant_push, tells_behind}
@@ -22,16 +22,16 @@ loop-edit-preserved c =
     let step : c.loop-edit.edit-iterator.rest.items ≡ edit ∷ rest = search rules in
     let es = c.in_ok-push.ensures.items in
     let cs = c.in_ok-push-2.ensures.items in
-    let views = map-append edit_view done (edit ∷ []) in
+    let views = map-append line_edit_view done (edit ∷ []) in
     let tables = ap (map table.edit_view) es ∙ map-append table.edit_view made (m.edit ∷ []) in
-    let means = subst (λ ds. Means c.args.edition (text_after texts ds) (edit_view edit) (table.edit_view m.edit) m.change) c.deref.ensures.value c.in_ok-meaning.ensures.means in
-    let meant = meant_push c.args.edition texts (map edit_view done) (map table.edit_view made) changes (edit_view edit) (table.edit_view m.edit) m.change old.2 means in
+    let means = subst (λ ds. Means c.args.edition (text_after texts ds) (line_edit_view edit) (table.edit_view m.edit) m.change) c.deref.ensures.value c.in_ok-meaning.ensures.means in
+    let meant = meant_push c.args.edition texts (map line_edit_view done) (map table.edit_view made) changes (line_edit_view edit) (table.edit_view m.edit) m.change old.2 means in
     let longer = ap length es in (
       done ++ edit ∷ [],
       old.1 ∙ ap (λ xs. done ++ xs) step ∙ sym (append_assoc done (edit ∷ []) rest),
       subst (λ ls. AreMeant c.args.edition texts ls (map table.edit_view c.push.new.self.items) c.push-in-loop-edit.new.self.items) (sym views)
-          (subst (λ xs. AreMeant c.args.edition texts (map edit_view done ++ edit_view edit ∷ []) xs c.push-in-loop-edit.new.self.items) (sym tables)
-          (subst (AreMeant c.args.edition texts (map edit_view done ++ edit_view edit ∷ []) (map table.edit_view made ++ table.edit_view m.edit ∷ [])) (sym cs) meant)),
+          (subst (λ xs. AreMeant c.args.edition texts (map line_edit_view done ++ line_edit_view edit ∷ []) xs c.push-in-loop-edit.new.self.items) (sym tables)
+          (subst (AreMeant c.args.edition texts (map line_edit_view done ++ line_edit_view edit ∷ []) (map table.edit_view made ++ table.edit_view m.edit ∷ [])) (sym cs) meant)),
       subst (All (EditNamesCrate c.args.count)) (sym es) (All-push (EditNamesCrate c.args.count) made m.edit old.3 c.in_ok-meaning.ensures.known),
       subst (All LeavesPlaced) (sym cs) (All-push LeavesPlaced changes m.change old.4 c.in_ok-meaning.ensures.placed),
       omega (arith, longer, old.5, length-append made (m.edit ∷ []), length-append done (edit ∷ [])),
@@ -48,8 +48,8 @@ returns-in_err-meaning-clause-fails c =
     let step : c.loop-edit.edit-iterator.rest.items ≡ edit ∷ rest = search rules in
     let e = c.in_err-meaning.field-0.0 in
     let is : c.from_residual-in_err-meaning.result ≡ Err e = search rules in
-    let told = subst (λ ds. TellsFault (IsFailing (text_after texts ds) (edit_view edit) (length ds)) e) c.deref.ensures.value c.in_err-meaning.ensures.fails in
-    let all = ap (map edit_view) (old.1 ∙ ap (λ xs. done ++ xs) step) ∙ map-append edit_view done (edit ∷ rest) in
-    subst (λ r. IfErr r (TellsFault (FailsAt c.args.edition texts (map edit_view c.args.edits.items)))) (sym is)
+    let told = subst (λ ds. TellsFault (IsFailing (text_after texts ds) (line_edit_view edit) (length ds)) e) c.deref.ensures.value c.in_err-meaning.ensures.fails in
+    let all = ap (map line_edit_view) (old.1 ∙ ap (λ xs. done ++ xs) step) ∙ map-append line_edit_view done (edit ∷ rest) in
+    subst (λ r. IfErr r (TellsFault (FailsAt c.args.edition texts (map line_edit_view c.args.edits.items)))) (sym is)
     (subst (λ ls. TellsFault (FailsAt c.args.edition texts ls) e) (sym all)
-    (tells_behind c.args.edition texts (map edit_view done) (map table.edit_view c.loop-edit.made.items) changes (edit_view edit) (map edit_view rest) e old.2 told))
+    (tells_behind c.args.edition texts (map line_edit_view done) (map table.edit_view c.loop-edit.made.items) changes (line_edit_view edit) (map line_edit_view rest) e old.2 told))

@@ -3,7 +3,7 @@ use Rattle.hir_input_json.specs.Editions.{EditionView}
 use Rattle.item_tree_db.specs.Edits.{edit_view as table_view}
 use Rattle.item_tree_db.specs.Refusal.{last_number}
 use Rattle.source_session.specs.declared.error.LineError.TheVariants.{OutOfMemory}
-use Rattle.source_session.specs.Edits.{edit_view}
+use Rattle.source_session.specs.Edits.{line_edit_view}
 use Rattle.source_session.specs.Inner.{session_of}
 use Rattle.source_session.specs.Refusals.{made_count}
 use Rattle.source_session.specs.Sessions.{IsEdited, IsUnedited}
@@ -16,7 +16,7 @@ pub returns-in_err-meanings-clause-edited : goal.returns-in_err-meanings-clause-
 returns-in_err-meanings-clause-edited c = λ files reserved.
     let edition : EditionView = (c.args.edition, reserved) in
     let s = session_of c.args.count files edition c.args.sources.now c.args.texts.now.entries in
-    let asked = map edit_view c.args.edits.items in
+    let asked = map line_edit_view c.args.edits.items in
     let e = c.in_err-meanings.field-0.0 in
     let is : c.from_residual.result ≡ Err e = search rules in
     subst (λ r. MatchResult r (λ _. IsEdited s asked s) (IsUnedited s asked s)) (sym is) (unmeant s asked e c.in_err-meanings.ensures.fails)
@@ -26,7 +26,7 @@ returns-in_err-make_room-clause-edited c = λ files reserved.
     let edition : EditionView = (c.args.edition, reserved) in
     let s = session_of c.args.count files edition c.args.sources.now c.args.texts.now.entries in
     let u = session_of c.args.count files edition c.args.sources.now c.make_room.new.texts.entries in
-    let asked = map edit_view c.args.edits.items in
+    let asked = map line_edit_view c.args.edits.items in
     let is : c.from_residual-in_err-make_room.result ≡ Err OutOfMemory = search rules in
     subst (λ r. MatchResult r (λ _. IsEdited s asked u) (IsUnedited s asked u)) (sym is) (stopped_none s asked u refl refl refl refl c.make_room.ensures.texts)
 
@@ -42,7 +42,7 @@ returns-clause-edited c = λ files reserved.
     let u = session_of c.args.count files edition c.edit_all-made.new.self new in
     let edits = c.in_ok-meanings.meanings.edits.items in
     let changes = c.in_ok-meanings.meanings.changes.items in
-    let asked = map edit_view c.args.edits.items in
+    let asked = map line_edit_view c.args.edits.items in
     let made = c.edit_all-made.result in
     let e = c.edit_all-made.ensures in
     let most : c.len-most.result ≡ length edits = search rules in
@@ -62,4 +62,4 @@ returns-clause-together c = λ index t.
     let n : c.made_count.result ≡ made_count (length edits) made = c.made_count.ensures ∙ ap (λ k. made_count k made) most in
     let touched = subst (λ es. AreTouched (map table_view es) (touched_keys c.args.touched.now) (touched_keys c.touch_all.new.touched)) c.deref-2.ensures.value c.touch_all.ensures in
     files_together c.args.sources.now c.edit_all-made.new.self c.args.texts.now.entries c.make_room.new.texts.entries c.put_first.new.texts.entries edits changes made c.made_count.result e.ok e.refused n
-    c.make_room.ensures.texts c.put_first.ensures c.args.count c.args.edition (map edit_view c.args.edits.items) (touched_keys c.args.touched.now) (touched_keys c.touch_all.new.touched) c.in_ok-meanings.ensures.meant touched index t e.footing c.in_ok-meanings.ensures.placed
+    c.make_room.ensures.texts c.put_first.ensures c.args.count c.args.edition (map line_edit_view c.args.edits.items) (touched_keys c.args.touched.now) (touched_keys c.touch_all.new.touched) c.in_ok-meanings.ensures.meant touched index t e.footing c.in_ok-meanings.ensures.placed

@@ -1,6 +1,6 @@
 use Rattle.std.proofs.Common.{◌≡◌, Err, MatchResult, map, refl, rules, sym, ap, subst}
 use Rattle.source_session.specs.declared.error.LineError.TheVariants.{OutOfMemory}
-use Rattle.source_session.specs.Edits.{edit_view}
+use Rattle.source_session.specs.Edits.{line_edit_view}
 use Rattle.source_session.specs.Inner.{AreTogether, Knowing, session_of}
 use Rattle.source_session.specs.Inside.{MakesAlone}
 use Rattle.source_session.specs.Sessions.{IsEdited, IsUnedited}
@@ -16,9 +16,9 @@ returns-in_err-edit_inside_body-clause-edited c = λ files reserved.
     let u = c.edit_inside_body.new.sources in
     let old = c.args.texts.now.entries in
     let new = c.edit_inside_body.new.texts.entries in
-    let asked = map edit_view c.args.edits.items in
+    let asked = map line_edit_view c.args.edits.items in
     let over = session_of c.args.count files (c.args.edition, reserved) in
-    let makes = subst (λ es. MakesAlone s old (map edit_view es) u new c.edit_inside_body.result) c.deref.ensures.value c.edit_inside_body.ensures in
+    let makes = subst (λ es. MakesAlone s old (map line_edit_view es) u new c.edit_inside_body.result) c.deref.ensures.value c.edit_inside_body.ensures in
     let none = none_if c.args.edition s u old new asked c.edit_inside_body.result c.requires.read c.requires.placed makes c.in_err-edit_inside_body.field-0.0 c.in_err-edit_inside_body.was in
     let is : c.from_residual.result ≡ Err OutOfMemory = search rules in
     subst (λ r. MatchResult r (λ _. IsEdited (over s old) asked (over u new)) (IsUnedited (over s old) asked (over u new))) (sym is)
@@ -30,7 +30,7 @@ returns-in_err-edit_inside_body-clause-together c = λ index t.
     let u = c.edit_inside_body.new.sources in
     let old = c.args.texts.now.entries in
     let new = c.edit_inside_body.new.texts.entries in
-    let none = none_if c.args.edition s u old new (map edit_view c.deref.result.now) c.edit_inside_body.result c.requires.read c.requires.placed c.edit_inside_body.ensures c.in_err-edit_inside_body.field-0.0 c.in_err-edit_inside_body.was in
+    let none = none_if c.args.edition s u old new (map line_edit_view c.deref.result.now) c.edit_inside_body.result c.requires.read c.requires.placed c.edit_inside_body.ensures c.in_err-edit_inside_body.field-0.0 c.in_err-edit_inside_body.was in
     subst (λ v. AreTogether c.args.count c.args.edition v new index (touched_keys c.args.touched.now)) (sym none.0) (subst (λ texts. AreTogether c.args.count c.args.edition s texts index (touched_keys c.args.touched.now)) (sym none.1) t)
 
 pub returns-then-branch-clause-edited : goal.returns-then-branch-clause-edited
@@ -39,8 +39,8 @@ returns-then-branch-clause-edited c = λ files reserved.
     let u = c.edit_inside_body.new.sources in
     let old = c.args.texts.now.entries in
     let new = c.edit_inside_body.new.texts.entries in
-    let asked = map edit_view c.args.edits.items in
-    let makes = subst (λ es. MakesAlone s old (map edit_view es) u new c.edit_inside_body.result) c.deref.ensures.value c.edit_inside_body.ensures in
+    let asked = map line_edit_view c.args.edits.items in
+    let makes = subst (λ es. MakesAlone s old (map line_edit_view es) u new c.edit_inside_body.result) c.deref.ensures.value c.edit_inside_body.ensures in
     let made = made_by c.args.edition s u old new asked c.edit_inside_body.result c.requires.read c.requires.placed makes c.in_ok-edit_inside_body.field-0 c.in_ok-edit_inside_body.was c.if-branch.true in
     edited_alone c.args.edition s u old new asked made c.args.count files reserved
 
@@ -50,7 +50,7 @@ returns-then-branch-clause-together c =
     let u = c.edit_inside_body.new.sources in
     let old = c.args.texts.now.entries in
     let new = c.edit_inside_body.new.texts.entries in
-    let asked = map edit_view c.deref.result.now in
+    let asked = map line_edit_view c.deref.result.now in
     let made = made_by c.args.edition s u old new asked c.edit_inside_body.result c.requires.read c.requires.placed c.edit_inside_body.ensures c.in_ok-edit_inside_body.field-0 c.in_ok-edit_inside_body.was c.if-branch.true in
     together_alone c.args.edition s u old new asked made c.args.count (touched_keys c.args.touched.now)
 
@@ -60,7 +60,7 @@ edit_files-requires-clause-known c =
     let u = c.edit_inside_body.new.sources in
     let old = c.args.texts.now.entries in
     let new = c.edit_inside_body.new.texts.entries in
-    let none = none_by c.args.edition s u old new (map edit_view c.deref.result.now) c.edit_inside_body.result c.requires.read c.requires.placed c.edit_inside_body.ensures c.in_ok-edit_inside_body.field-0 c.in_ok-edit_inside_body.was c.if-branch.false in
+    let none = none_by c.args.edition s u old new (map line_edit_view c.deref.result.now) c.edit_inside_body.result c.requires.read c.requires.placed c.edit_inside_body.ensures c.in_ok-edit_inside_body.field-0 c.in_ok-edit_inside_body.was c.if-branch.false in
     subst (Knowing c.args.count) (sym none.0) c.requires.known
 
 pub returns-clause-together : goal.returns-clause-together
@@ -69,5 +69,5 @@ returns-clause-together c = λ index t.
     let u = c.edit_inside_body.new.sources in
     let old = c.args.texts.now.entries in
     let new = c.edit_inside_body.new.texts.entries in
-    let none = none_by c.args.edition s u old new (map edit_view c.deref.result.now) c.edit_inside_body.result c.requires.read c.requires.placed c.edit_inside_body.ensures c.in_ok-edit_inside_body.field-0 c.in_ok-edit_inside_body.was c.if-branch.false in
+    let none = none_by c.args.edition s u old new (map line_edit_view c.deref.result.now) c.edit_inside_body.result c.requires.read c.requires.placed c.edit_inside_body.ensures c.in_ok-edit_inside_body.field-0 c.in_ok-edit_inside_body.was c.if-branch.false in
     c.edit_files.ensures.together index (subst (λ v. AreTogether c.args.count c.args.edition v new index (touched_keys c.args.touched.now)) (sym none.0) (subst (λ texts. AreTogether c.args.count c.args.edition s texts index (touched_keys c.args.touched.now)) (sym none.1) t))

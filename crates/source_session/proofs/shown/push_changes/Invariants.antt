@@ -1,8 +1,8 @@
 -- the lines of the changes so far are added
 use Rattle.std.proofs.Common.{◌≡◌, ◌++◌, take, string_bytes}
 use Rattle.std.specs.List.{flat_map}
-use Rattle.item_tree_request.specs.Outputs.{change_line}
+use Rattle.item_tree_request.specs.Outputs.{table_change_line}
 use Rattle.source_session.proofs.shown.push_changes.Given as goal
 
 abbrev pub invariant-loop-place : goal.invariant-loop-place
-invariant-loop-place l = string_bytes l.text ≡ string_bytes l.initial.text ++ flat_map change_line (take l.place-index l.changes)
+invariant-loop-place l = string_bytes l.text ≡ string_bytes l.initial.text ++ flat_map table_change_line (take l.place-index l.changes)

@@ -1,5 +1,5 @@
 use Rattle.std.proofs.Common.{◌≡◌, None, option_copied, rules, sym, ◌∙◌}
-use Rattle.source_session.specs.Texts.{leaves, text_in}
+use Rattle.source_session.specs.Texts.{left_text, text_in}
 use Rattle.source_session.proofs.Kept.{skips_last, takes_last}
 use Rattle.source_session.proofs.texts.text_after.Goals as goal
 
@@ -12,5 +12,5 @@ returns-in-Some-left_of c =
 pub loop-last-preserved : goal.loop-last-preserved
 loop-last-preserved c =
     let last = c.in-Some.last.now in
-    let none : leaves c.args.file last ≡ None = search rules in
+    let none : left_text c.args.file last ≡ None = search rules in
     sym (skips_last (text_in c.args.texts.now.entries) c.loop-last.left.now c.in-Some.front.now last c.args.file c.in-Some.ensures.cases.0 none) ∙ c.loop-last.invariant

@@ -1,7 +1,7 @@
 use Rattle.std.proofs.Common.{◌≡◌, ◌++◌, ◌∙◌, ap, sym, subst, length}
 use Rattle.std.specs.Prelude.{◌==◌, not, is_some}
 use Rattle.item_tree_attrs.specs.Collected.{collected}
-use Rattle.item_tree.specs.Line.{text_of}
+use Rattle.item_tree.specs.Line.{lines_text}
 use Rattle.item_tree.specs.Page.{top_opening}
 use Rattle.item_tree.specs.Inner.PageByIds.{Gains, gap, lent_lines, list_lines}
 use Rattle.item_tree.specs.Shown.{lent_attrs}
@@ -18,4 +18,4 @@ returns c =
     let some : c.is_some.result ≡ is_some lent = c.is_some.ensures ∙ sym (is_some-map (λ a. collected a.now) c.top_level_attrs-attrs.result) ∙ ap is_some c.top_level_attrs-attrs.ensures in
     let between = subst (λ b. Gains c.push_attrs.new.out c.push_gap.new.out (gap b (not (length ids == 0)))) some (subst (λ b. Gains c.push_attrs.new.out c.push_gap.new.out (gap c.is_some.result (not b))) c.is_empty.ensures c.in_ok-push_gap.ensures) in
     let whole = gains_three c.new-out.result c.push_attrs.new.out c.push_gap.new.out c.push_items.new.out (lent_lines reserved top_opening 0 lent) (gap (is_some lent) (not (length ids == 0))) (list_lines reserved u 0 ids) attrs between c.in_ok-push_items.ensures in
-    whole ∙ ap (λ bytes. bytes ++ text_of (lent_lines reserved top_opening 0 lent ++ (gap (is_some lent) (not (length ids == 0)) ++ list_lines reserved u 0 ids))) c.new-out.ensures.bytes ∙ ap text_of (sym (page_of_ids reserved u ids c.top_level_items-ids.ensures.stand))
+    whole ∙ ap (λ bytes. bytes ++ lines_text (lent_lines reserved top_opening 0 lent ++ (gap (is_some lent) (not (length ids == 0)) ++ list_lines reserved u 0 ids))) c.new-out.ensures.bytes ∙ ap lines_text (sym (page_of_ids reserved u ids c.top_level_items-ids.ensures.stand))

@@ -6,7 +6,7 @@ use Rattle.serde_json.specs.View.{view}
 use Rattle.serde_json.specs.Written.{has_float}
 use Rattle.hir_input_json.specs.Held.{held}
 use Rattle.source_session.specs.Inner.{outcome_view, reply_view}
-use Rattle.source_session.specs.Replies.{IsOutcome, IsReplyUnless, IsWanting, asked_of, id_of}
+use Rattle.source_session.specs.Replies.{IsOutcome, IsReplyUnless, IsWanting, asked_of, id_value}
 use Rattle.source_session.proofs.Readings.{asked_no_id, view_or_null}
 use Rattle.source_session.proofs.conversation.Conversation.reply_to.Goals as goal
 
@@ -17,7 +17,7 @@ returns-clause-reply c =
     let d = held c.args.members in
     let outcome = outcome_view c.ask-outcome.result in
     let none : view Null ≡ null = search (rules, the_lemmas) in
-    let id : view c.unwrap_or-id.result ≡ id_of d = ap view c.unwrap_or-id.ensures ∙ view_or_null c.taken.result Null none ∙ ap (λ o. unwrap_or o null) c.taken.ensures.taken in
-    let plain : has_float (id_of d) ≡ false = search (rules, id) in
+    let id : view c.unwrap_or-id.result ≡ id_value d = ap view c.unwrap_or-id.ensures ∙ view_or_null c.taken.result Null none ∙ ap (λ o. unwrap_or o null) c.taken.ensures.taken in
+    let plain : has_float (id_value d) ≡ false = search (rules, id) in
     let done = subst (λ r. IsWanting old new outcome ⊎ IsOutcome old r new outcome) (ap (asked_of old) c.taken.ensures.left ∙ asked_no_id old d) c.ask-outcome.ensures.outcome in
     subst (λ b. IsReplyUnless b old d new (reply_view (record { id = c.unwrap_or-id.result; outcome = c.ask-outcome.result }))) (sym plain) (id, done)

@@ -5,11 +5,11 @@ use Rattle.serde_json.specs.Data.{array}
 use Rattle.serde_json.specs.View.{items_of, view}
 use Rattle.serde_json.specs.declared.value.Value.{Array, the_lemmas}
 use Rattle.decl_index.specs.Entries.{IsDeclared}
-use Rattle.decl_index.specs.Lookup.{has_name}
+use Rattle.decl_index.specs.Lookup.{entry_has_name}
 use Rattle.source_session.specs.Files.{is_in_crate}
 use Rattle.source_session.specs.Found.{IsFound, found_form}
 use Rattle.source_session.specs.Inner.{found_one}
-use Rattle.source_session.specs.Sought.{is_at, path_of}
+use Rattle.source_session.specs.Sought.{is_at, entry_path}
 use Rattle.source_session.proofs.Finders.{all_placed}
 use Rattle.source_session.proofs.Paths.{found_all}
 use Rattle.source_session.proofs.session.Session.find.Goals as goal
@@ -17,7 +17,7 @@ use Rattle.source_session.proofs.session.Session.find.Goals as goal
 pub found_values-requires-clause-declared : goal.found_values-requires-clause-declared
 found_values-requires-clause-declared c =
     let known = IsDeclared c.self.inside.sources in
-    subst (All known) (sym c.lookup-entries.ensures) (All-filter (has_name c.name.result.now) known c.refresh.new.index.1 c.in_ok-refresh.ensures.index.listing.declared)
+    subst (All known) (sym c.lookup-entries.ensures) (All-filter (entry_has_name c.name.result.now) known c.refresh.new.index.1 c.in_ok-refresh.ensures.index.listing.declared)
 
 pub found_values-requires-clause-placed : goal.found_values-requires-clause-placed
 found_values-requires-clause-placed c = all_placed c.self.inside.texts.entries c.self.invariant.placed
@@ -29,8 +29,8 @@ returns-clause-found c =
     let texts = c.self.inside.texts.entries in
     let q = c.args.sought.now in
     let all = c.refresh.new.index.1 in
-    let looked = c.lookup-entries.ensures ∙ ap (λ name. filter (has_name name) all) c.name.ensures in
+    let looked = c.lookup-entries.ensures ∙ ap (λ name. filter (entry_has_name name) all) c.name.ensures in
     let own = ap (λ fs. flat_map (found_one fs s texts q) c.lookup-entries.result.now) c.deref.ensures.value in
-    let values = c.in_ok-values.ensures ∙ own ∙ ap (flat_map (found_one files s texts q)) looked ∙ found_all (has_name q.name) (λ e. is_in_crate files e.krate e.place && is_at q.path (path_of s e)) (found_form s texts) all in
+    let values = c.in_ok-values.ensures ∙ own ∙ ap (flat_map (found_one files s texts q)) looked ∙ found_all (entry_has_name q.name) (λ e. is_in_crate files e.krate e.place && is_at q.path (entry_path s e)) (found_form s texts) all in
     let made : view (Array c.in_ok-values.values) ≡ array (items_of (map view c.in_ok-values.values.items)) = search (rules, the_lemmas) in
     subst (λ u. IsFound u.files u.table u.texts q (view (Array c.in_ok-values.values))) c.self.view_is (all, c.in_ok-refresh.ensures.index.listing, made ∙ ap (λ ds. array (items_of ds)) values)

@@ -2,12 +2,12 @@ use Rattle.std.proofs.Common.{◌≡◌, Err, map, rules, sym, subst}
 use Rattle.std.specs.List.{AllZip}
 use Rattle.serde_json.specs.View.{view}
 use Rattle.source_session.specs.declared.error.LineError.TheVariants.{OutOfMemory}
-use Rattle.source_session.specs.Edits.{edit_view}
+use Rattle.source_session.specs.Edits.{line_edit_view}
 use Rattle.source_session.specs.Inner.{outcome_view}
 use Rattle.source_session.specs.LineViews.{asked_view}
-use Rattle.source_session.specs.Replies.{IsDone}
+use Rattle.source_session.specs.Replies.{IsCarriedOut}
 use Rattle.source_session.specs.Sessions.{IsEdited}
-use Rattle.source_session.specs.Shown.{IsShown}
+use Rattle.source_session.specs.Shown.{IsShowValue}
 use Rattle.source_session.proofs.Made.{stopped_all}
 use Rattle.source_session.proofs.Named.{no_float_in_shown}
 use Rattle.source_session.proofs.session.Session.perform.Goals as goal
@@ -16,23 +16,23 @@ pub returns-in_err-values-clause-done : goal.returns-in_err-values-clause-done
 returns-in_err-values-clause-done c =
     let s = c.args.self.now in
     let u = c.show_all.new.self in
-    let edits = map edit_view c.args.asked.edits.items in
+    let edits = map line_edit_view c.args.asked.edits.items in
     let is : c.from_residual-in_err-values.result ≡ Err OutOfMemory = search rules in
     let edited = subst (IsEdited s edits) (sym c.show_all.ensures.same) c.in_ok-edit.ensures in
-    subst (λ r. IsDone s (asked_view c.args.asked) u (outcome_view r)) (sym is) (stopped_all s edits u edited)
+    subst (λ r. IsCarriedOut s (asked_view c.args.asked) u (outcome_view r)) (sym is) (stopped_all s edits u edited)
 
 pub returns-clause-done : goal.returns-clause-done
 returns-clause-done c =
     let s = c.args.self.now in
-    let edits = map edit_view c.args.asked.edits.items in
+    let edits = map line_edit_view c.args.asked.edits.items in
     let values = map view c.in_ok-values.values.items in
-    let over = subst (λ shows. AllZip (IsShown c.edit.new.self) shows values) c.deref.ensures.value c.in_ok-values.ensures.shown in (
+    let over = subst (λ shows. AllZip (IsShowValue c.edit.new.self) shows values) c.deref.ensures.value c.in_ok-values.ensures.shown in (
       subst (IsEdited s edits) (sym c.show_all.ensures.same) c.in_ok-edit.ensures,
-      subst (λ u. AllZip (IsShown u) c.args.asked.shows.items values) (sym c.show_all.ensures.same) over,
+      subst (λ u. AllZip (IsShowValue u) c.args.asked.shows.items values) (sym c.show_all.ensures.same) over,
     )
 
 pub returns-clause-no_float : goal.returns-clause-no_float
 returns-clause-no_float c =
     let u = c.edit.new.self in
     let values = map view c.in_ok-values.values.items in
-    no_float_in_shown u c.args.asked.shows.items values (subst (λ shows. AllZip (IsShown u) shows values) c.deref.ensures.value c.in_ok-values.ensures.shown)
+    no_float_in_shown u c.args.asked.shows.items values (subst (λ shows. AllZip (IsShowValue u) shows values) c.deref.ensures.value c.in_ok-values.ensures.shown)

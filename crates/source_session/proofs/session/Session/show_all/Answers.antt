@@ -2,7 +2,7 @@ use Rattle.std.proofs.Common.{◌+◌, ◌∷◌, [], map, sym, ap, ◌∙◌, s
 use Rattle.std.proofs.lemmas.List.{map-append}
 use Rattle.std.specs.List.{AllZip}
 use Rattle.serde_json.specs.View.{view}
-use Rattle.source_session.specs.Shown.{IsShown}
+use Rattle.source_session.specs.Shown.{IsShowValue}
 use Rattle.source_session.proofs.Named.{zip_more}
 use Rattle.source_session.proofs.session.Session.show_all.Goals as goal
 
@@ -14,9 +14,9 @@ loop-show-preserved c =
     let old = c.loop-show.invariant in
     let value = c.in_ok-show.field-0 in
     let values = map view c.loop-show.values.items in
-    let here = subst (λ show. IsShown c.loop-show.self show (view value)) c.show-item.is c.in_ok-show.ensures.shown in
-    let shown = subst (λ s. IsShown s (get_or shows i c.show-item.result) (view value)) old.1 here in
+    let here = subst (λ show. IsShowValue c.loop-show.self show (view value)) c.show-item.is c.in_ok-show.ensures.shown in
+    let shown = subst (λ s. IsShowValue s (get_or shows i c.show-item.result) (view value)) old.1 here in
     let pushed = ap (map view) c.in_ok-push.ensures.items ∙ map-append view c.loop-show.values.items (value ∷ []) in (
-      subst (AllZip (IsShown u) (take (i + 1) shows)) (sym pushed) (zip_more (IsShown u) shows values i c.show-item.result (view value) c.loop-show-test.true old.0 shown),
+      subst (AllZip (IsShowValue u) (take (i + 1) shows)) (sym pushed) (zip_more (IsShowValue u) shows values i c.show-item.result (view value) c.loop-show-test.true old.0 shown),
       c.show.ensures.same ∙ old.1,
     )

@@ -2,10 +2,10 @@
 use Rattle.std.proofs.Common.{◌≡◌, map, take}
 use Rattle.std.specs.List.{AllZip}
 use Rattle.serde_json.specs.View.{view}
-use Rattle.source_session.specs.Shown.{IsShown}
+use Rattle.source_session.specs.Shown.{IsShowValue}
 use Rattle.source_session.proofs.session.Session.show_all.Given as goal
 
 abbrev pub invariant-loop-show : goal.invariant-loop-show
 invariant-loop-show l =
-    AllZip (IsShown l.fn.self) (take l.show-index l.shows) (map view l.values.items)
+    AllZip (IsShowValue l.fn.self) (take l.show-index l.shows) (map view l.values.items)
     × (l.self ≡ l.fn.self)
