@@ -5,7 +5,7 @@
 #   refused_memory.sh PROGRAM OUTLINES ITEMTREE [TESTS ..]
 #
 # The program on each request of tests/requests that it answers, and OUTLINES on each of tests/outlines, has to end with status 5,
-# the line `out of memory` and nothing written. ITEMTREE with each of its commands on a small file has to end with status 2, a line
+# the line `out of memory` and nothing written, or to do without and write all that it writes else. ITEMTREE with each of its commands on a small file has to end with status 2, a line
 # that ends so, and nothing written but the head of a tags file. ITEMTREE's serve on tests/itemtree/session.jsonl may end so before it
 # reads a line; otherwise it has to answer each line with one, one of them at most with an error of want of memory, and to go on.
 # Each test of the binaries TESTS whose name holds `when_memory_is_refused` has to pass in every run. Each whose name holds
@@ -50,16 +50,19 @@ judge() {
     if [ "$1" = 0 ]; then passed=$((passed + 1)); else failed=$((failed + 1)); echo "$2"; fi
 }
 
+# Whether that run wrote what is wanted of the request.
+answered() { [ "$status" = 0 ] && cmp -s "$own/out" "$here/$1.out"; }
+
 # A program and a request, by its path in tests without an ending.
 try_request() {
     local request
     for ((request = 1; ; request++)); do
         refuse "$request" "$1" < "$here/$2.json"
         [ "$made" -ge "$request" ] || break
-        ended_out_of_memory
+        ended_out_of_memory || answered "$2"
         judge $? "$2: status $status with request $request for memory refused"
     done
-    [ "$status" = 0 ] && cmp -s "$own/out" "$here/$2.out"
+    answered "$2"
     judge $? "$2: status $status with no request for memory refused"
 }
 
@@ -128,7 +131,7 @@ try() {
     "$@"
     echo "counts: $1 $passed $failed"
 }
-export -f refuse ended_out_of_memory judge try_request try_command went_on try_session try_test try_marked try
+export -f refuse ended_out_of_memory answered judge try_request try_command went_on try_session try_test try_marked try
 
 # Each subject is three words, ended by a null byte each, since a path may hold any other.
 subjects() {

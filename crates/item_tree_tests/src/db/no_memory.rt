@@ -39,7 +39,6 @@ fn is_read(sources: &Sources) -> bool {
         && sources.block_syntax(BLOCK).is_some()
         && are_trees_lent(sources)
         && sources.changed(Place::Block(BLOCK), CRATE) == 3
-        && count_changes(sources) == 6
 }
 
 fn is_removed(sources: &mut Sources) -> bool {
@@ -53,7 +52,7 @@ fn is_made(alloc: Global, crates: Vec<CrateData>) -> bool {
 
 fn is_table_read(alloc: Global) -> Result<bool, AllocError> {
     let mut sources = table(alloc, 0)?;
-    let is_set = are_set(alloc, &mut sources)?;
+    let is_set = are_set(alloc, &mut sources)? && count_changes(&sources) == 6;
     leave_none(alloc)?;
     let is_read = is_read(&sources);
     let is_removed = is_removed(&mut sources);
