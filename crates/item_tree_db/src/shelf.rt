@@ -215,7 +215,7 @@ impl Shelf {
         }
     }
 
-    /// Removes what is set at a place. Takes no memory.
+    /// Removes what is set at a place. Needs no memory.
     pub fn remove(&mut self, alloc: Global, place: Place, number: u64)
         ensures { HasPut place (option_map (removed number) (placed_at self.old place)) self.old
             self.new }
@@ -241,7 +241,7 @@ impl Shelf {
         }
     }
 
-    /// Brings one crate other trees. An equal tree stays, with its number. Takes no memory.
+    /// Brings one crate other trees. An equal tree stays, with its number. Needs no memory.
     pub fn recast(&mut self, index: usize, fresh: Vec<(Place, Row)>, number: u64)
         ensures { (place : Place) →
             placed_at self.new place ≡ recast_each number index fresh.items place (placed_at self.old place) }

@@ -212,7 +212,7 @@ impl Sources {
 
     /// Makes an edit, and gives its number.
     ///
-    /// A refusal changes nothing and hands the edit back. A removal takes no memory. Where the edit names a crate, the caller
+    /// A refusal changes nothing and hands the edit back. A removal needs no memory. Where the edit names a crate, the caller
     /// shows that the table knows it.
     ///
     /// # Errors
