@@ -128,6 +128,32 @@ pub(crate) fn plain_run(mut z: &[u8]) -> usize
     ensures within { result ≤ length z.entry.now }
 {
     let mut count = 0;
+    while let [a, b, c, d, rest @ ..] = z {
+        if !is_plain(*a) {
+            return count;
+        }
+        if !is_plain(*b) {
+            return count + 1;
+        }
+        if !is_plain(*c) {
+            return count + 2;
+        }
+        if !is_plain(*d) {
+            return count + 3;
+        }
+        count += 4;
+        z = rest;
+    }
+    count + plain_run_bytewise(z)
+}
+
+/// The same, one by one, for the few bytes at the end of a text.
+#[inline(never)]
+fn plain_run_bytewise(mut z: &[u8]) -> usize
+    ensures value { result ≡ inner.plain_run z.entry.now }
+    ensures within { result ≤ length z.entry.now }
+{
+    let mut count = 0;
     while let [b, rest @ ..] = z {
         if !is_plain(*b) {
             return count;
