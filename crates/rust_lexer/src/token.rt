@@ -110,10 +110,15 @@ impl<'a> Token<'a> {
     pub fn is_significant(&self) -> bool
         ensures { result ≡ is_significant self.now }
     {
-        match self.kind {
-            TokenKind::ByteOrderMark | TokenKind::Shebang | TokenKind::Frontmatter => false,
-            _ => !self.is_blank(),
-        }
+        !matches!(
+            self.kind,
+            TokenKind::Whitespace
+                | TokenKind::LineComment(None)
+                | TokenKind::BlockComment(None)
+                | TokenKind::ByteOrderMark
+                | TokenKind::Shebang
+                | TokenKind::Frontmatter
+        )
     }
 
     /// Whether it is white space or a comment that documents nothing.
