@@ -1,6 +1,7 @@
 -- Positions from place to place.
-use Rattle.std.proofs.Common.{◌≡◌, ◌≢◌, ℕ, Bool, true, false, cond, ⊎_elim, ◌+◌, ◌-◌, ◌≤◌, ◌==◌, List, [], ◌∷◌, ◌++◌, sym, take, drop, length, length-take, min, refl, ap, ◌∙◌, arith, rules}
-use Rattle.std.proofs.lemmas.List.{take_min, take_all, take_more}
+use Rattle.std.proofs.Common.{◌≡◌, ◌≢◌, ℕ, Bool, true, false, cond, ⊎_elim, ◌+◌, ◌-◌, ◌≤◌, ◌==◌, List, [], ◌∷◌, ◌++◌, sym, take, drop, length, length-take, length-take-le, length-drop, min, refl, ap, ◌∙◌, arith, rules}
+use Rattle.std.proofs.lemmas.List.{take_min, take_all, take_more, take_rest}
+use Rattle.std.proofs.lemmas.List.Sums.{count_by-le-length, sum_by-take-drop}
 use Rattle.std.proofs.Math.Seq.{take-add}
 use Rattle.std.specs.List.{count_by}
 use Rattle.std.specs.Prelude.{if◌then◌else◌, slice_index_or}
@@ -69,6 +70,26 @@ line_from_feeds p (b ∷ z) = line_from_feeds (behind_byte p b) z ∙ line_of_by
 -- each line feed ends a line
 pub line_is : (p : Position) (z : List ℕ) → (behind p z).line ≡ p.line + count_by (λ b. b == 10) z
 line_is p z = line_from_feeds p z ∙ ap (λ n. p.line + n) (feeds_counted z)
+
+-- a part of k bytes is passed, of as many feeds
+pub feeds_on : (count n k : ℕ) (z : List ℕ) (total : ℕ) → n ≡ count_by (λ b. b == 10) (take k z) → count + count_by (λ b. b == 10) z ≡ total
+    → count + n + count_by (λ b. b == 10) (take (length z - k) (drop k z)) ≡ total
+feeds_on count n k z total e h =
+    let apart = sum_by-take-drop (λ b. cond (b == 10) 1 0) z k in
+    let rest = ap (λ l. count_by (λ b. b == 10) l) (take_rest z k) in
+    omega (arith, apart, rest, e, h)
+
+pub left_on : (count n k : ℕ) (z : List ℕ) (total : ℕ) → k ≤ length z → n ≡ count_by (λ b. b == 10) (take k z) → count + length z ≤ total
+    → count + n + length (take (length z - k) (drop k z)) ≤ total
+left_on count n k z total some e h =
+    let few = count_by-le-length (λ b. b == 10) (take k z) in
+    let front = length-take-le k z some in
+    let rest = ap length (take_rest z k) in
+    let behind = length-drop k z in
+    omega (arith, few, front, rest, behind, e, h)
+
+pub feeds_within : (z : List ℕ) → count_by (λ b. b == 10) z ≤ length z
+feeds_within z = count_by-le-length (λ b. b == 10) z
 
 sum_of : (from at : ℕ) → from ≤ at → from + (at - from) ≡ at
 sum_of from at e = omega arith

@@ -53,17 +53,36 @@ fn is_continuation(byte: u8) -> bool
     128 <= byte && byte < 192
 }
 
-/// How many line feeds stand in a text.
-fn feeds(text: &[u8]) -> usize
-    ensures { result ≡ count_by (λ b. b == 10) text.now }
+// At most so many line feeds are counted in one byte: sixteen bytes of a text are then one vector of counts.
+const BLOCK: usize = 192;
+
+/// How many line feeds stand in so few bytes.
+#[inline(always)]
+fn feeds_of_block(block: &[u8]) -> u8
+    requires { length block.now ≤ BLOCK }
+    ensures { result ≡ count_by (λ b. b == 10) block.now }
 {
     let mut count = 0;
-    for byte in text {
+    for byte in block {
         if *byte == b'\n' {
             count += 1;
         }
     }
     count
+}
+
+/// How many line feeds stand in a text.
+#[tactic(auto, using(crate::proofs::Positions::feeds_within))]
+fn feeds(text: &[u8]) -> usize
+    ensures { result ≡ count_by (λ b. b == 10) text.now }
+{
+    let mut count = 0;
+    let mut left = text;
+    while BLOCK < left.len() {
+        count += feeds_of_block(&left[..BLOCK]) as usize;
+        left = &left[BLOCK..];
+    }
+    count + feeds_of_block(left) as usize
 }
 
 /// The column behind a text, from its end back to its last line feed.

@@ -1,6 +1,9 @@
-use Rattle.std.proofs.Common.{◌≡◌, ◌==◌, take}
+use Rattle.std.proofs.Common.{◌≡◌, ◌≤◌, ◌==◌, ◌+◌, length}
 use Rattle.std.specs.List.{count_by}
 use Rattle.line_index.proofs.feeds.Given as goal
 
-abbrev pub invariant-loop-byte : goal.invariant-loop-byte
-invariant-loop-byte l = l.count ≡ count_by (λ b. b == 10) (take l.byte-index l.text)
+abbrev pub invariant-loop-left : goal.invariant-loop-left
+invariant-loop-left l = (l.count + count_by (λ b. b == 10) l.left ≡ count_by (λ b. b == 10) l.text) × (l.count + length l.left ≤ length l.text)
+
+abbrev pub decreases-loop-left : goal.decreases-loop-left
+decreases-loop-left l = length l.left
