@@ -75,6 +75,13 @@ closing_any c ts n =
     ∙ sym (closing_more c (deep n.braces n.others) ts (closing_by c n ts ∙ s) ∙ inner (nest_behind (deep n.braces n.others) ts))))
     ts n
 
+-- a turn that counts brackets alone
+pub closing_counted : (c : ℕ) (n m : Nest) (ts ts' all : Tokens) → is_closing c n ts ≡ false → m.braces ≡ (nest_behind n ts).braces → m.others ≡ (nest_behind n ts).others → ts' ≡ bumped ts
+    → closing c n ts ≡ all → closing c m ts' ≡ all
+closing_counted c n m ts ts' all s b o t told =
+    ap (closing c m) t ∙ closing_any c (bumped ts) m ∙ ap (λ k. upto c k m.others (bumped ts)) b ∙ ap (λ j. upto c (nest_behind n ts).braces j (bumped ts)) o
+    ∙ sym (closing_any c (bumped ts) (nest_behind n ts)) ∙ sym (closing_more c n ts s) ∙ told
+
 upto_none : (c k j : ℕ) (ts : Tokens) → is_empty ts ≡ true → upto c k j ts ≡ ts
 upto_none c k j ts e = closing_stop c (deep k j) ts (closing_empty c (deep k j) ts e)
 

@@ -1,6 +1,6 @@
 -- Where no item begins.
-use Rattle.std.proofs.Common.{◌≡◌, ◌≢◌, ◌==◌, ◌&&◌, ◌||◌, ℕ, Bool, true, false, List, [], ◌∷◌, length, refl, sym, ap, ◌∙◌, arith}
-use Rattle.std.specs.Prelude.{if◌then◌else◌, codes, slice_index}
+use Rattle.std.proofs.Common.{◌≡◌, ◌≢◌, ◌==◌, ◌&&◌, ◌||◌, ℕ, Bool, true, false, List, refl, sym, ap, ◌∙◌, arith}
+use Rattle.std.specs.Prelude.{if◌then◌else◌, codes}
 use Rattle.std.specs.Str.{bytes_eq}
 use Rattle.std.proofs.lemmas.Bool.{false_from_ne_true}
 use Rattle.std.proofs.lemmas.Bool.Decides.{nat_tests}
@@ -12,52 +12,37 @@ use Rattle.rust_cursor.specs.Tokens.{Tokens}
 use Rattle.rust_cursor.specs.Words.{symbol, word}
 use Rattle.rust_cursor.specs.Extents.{begins, begins_behind, begins_impl_or_const, begins_item, begins_within, leads_item}
 
-no_byte : (w : List ℕ) → (length w == 0) ≡ true → w ≡ []
-no_byte [] e = refl
-no_byte (b ∷ w) e = absurd (grind (arith, nat_tests))
-
 no_mark : (c : ℕ) → c ≢ 35 → (c == 35) ≡ false
 no_mark c h = grind (arith, nat_tests)
 
--- a word with none of the first bytes is none of the words
-other_word : (w k : List ℕ) → leads_item (slice_index w 0) ≡ false → leads_item (slice_index k 0) ≡ true → bytes_eq w k ≡ false
+-- a word with none of the lengths and first bytes is none of the words
+other_word : (w k : List ℕ) → leads_item w ≡ false → leads_item k ≡ true → bytes_eq w k ≡ false
 other_word w k e h =
-    false_from_ne_true (bytes_eq w k) (λ is. let same : slice_index w 0 ≡ slice_index k 0 = ap (λ z. slice_index z 0) ((bytes_eq-Decides w k).0 is) in
-    let both : false ≡ true = sym e ∙ ap leads_item same ∙ h in absurd cc)
+    false_from_ne_true (bytes_eq w k) (λ is. let both : false ≡ true = sym e ∙ ap leads_item ((bytes_eq-Decides w k).0 is) ∙ h in absurd cc)
 
-no_item : (ts : Tokens) → leads_item (slice_index (word ts) 0) ≡ false → begins_item ts ≡ false
+pub no_item : (ts : Tokens) → leads_item (word ts) ≡ false → begins_item ts ≡ false
 unfolding begins_item
 no_item ts e =
-    let none : (k : List ℕ) → leads_item (slice_index k 0) ≡ true → bytes_eq (word ts) k ≡ false = λ k h. other_word (word ts) k e h in
-    rw (
-      none (codes "pub") refl,
-      none (codes "mod") refl,
-      none (codes "struct") refl,
-      none (codes "enum") refl,
-      none (codes "trait") refl,
-      none (codes "use") refl,
-      none (codes "fn") refl,
-      none (codes "static") refl,
-      none (codes "type") refl,
-      none (codes "macro_rules") refl,
-      none (codes "extern") refl,
-    ) refl
+    let none : (k : List ℕ) → leads_item k ≡ true → bytes_eq (word ts) k ≡ false = λ k h. other_word (word ts) k e h in
+    rw (none (codes "pub") refl, none (codes "mod") refl, none (codes "struct") refl, none (codes "enum") refl, none (codes "trait") refl)
+    (rw (none (codes "use") refl, none (codes "fn") refl, none (codes "static") refl, none (codes "type") refl)
+    (rw (none (codes "macro_rules") refl, none (codes "extern") refl) refl))
 
-no_impl : (ts : Tokens) → leads_item (slice_index (word ts) 0) ≡ false → begins_impl_or_const ts ≡ false
+no_impl : (ts : Tokens) → leads_item (word ts) ≡ false → begins_impl_or_const ts ≡ false
 unfolding begins_impl_or_const
 no_impl ts e =
-    let none : (k : List ℕ) → leads_item (slice_index k 0) ≡ true → bytes_eq (word ts) k ≡ false = λ k h. other_word (word ts) k e h in
+    let none : (k : List ℕ) → leads_item k ≡ true → bytes_eq (word ts) k ≡ false = λ k h. other_word (word ts) k e h in
     rw (none (codes "impl") refl, none (codes "unsafe") refl, none (codes "const") refl) refl
 
-no_behind : (before : Before) (ts : Tokens) → leads_item (slice_index (word ts) 0) ≡ false → (symbol ts == 35) ≡ false → begins_behind before ts ≡ false
+no_behind : (before : Before) (ts : Tokens) → leads_item (word ts) ≡ false → (symbol ts == 35) ≡ false → begins_behind before ts ≡ false
 no_behind befores.End ts e h = rw h (no_impl ts e)
 no_behind befores.Angle ts e h = no_impl ts e
 no_behind _ ts e h = refl
 
-no_within : (ts : Tokens) → leads_item (slice_index (word ts) 0) ≡ false → begins_within ts ≡ false
+no_within : (ts : Tokens) → leads_item (word ts) ≡ false → begins_within ts ≡ false
 unfolding begins_within
 no_within ts e =
-    let none : (k : List ℕ) → leads_item (slice_index k 0) ≡ true → bytes_eq (word ts) k ≡ false = λ k h. other_word (word ts) k e h in
+    let none : (k : List ℕ) → leads_item k ≡ true → bytes_eq (word ts) k ≡ false = λ k h. other_word (word ts) k e h in
     rw (none (codes "pub") refl, none (codes "use") refl, none (codes "static") refl) (no_item ts e)
 
 neither : (flat free item behind within : Bool) → item ≡ false → behind ≡ false → within ≡ false → (if flat then item || behind else free && within) ≡ false
@@ -65,13 +50,7 @@ neither true free item behind within i b w = rw (i, b) refl
 neither false true item behind within i b w = w
 neither false false item behind within i b w = refl
 
--- a token begins none that is neither a `#` nor a word with one of these first bytes
-pub none_leads : (nest : Nest) (ts : Tokens) → leads_item (slice_index (word ts) 0) ≡ false → symbol ts ≢ 35 → false ≡ begins nest ts
+-- a token begins none that is neither a `#` nor a word with one of these lengths and first bytes
+pub none_leads : (nest : Nest) (ts : Tokens) → leads_item (word ts) ≡ false → symbol ts ≢ 35 → false ≡ begins nest ts
 none_leads nest ts e h =
     sym (neither (nest.others == 0) (nest.free == 0) (begins_item ts) (begins_behind nest.before ts) (begins_within ts) (no_item ts e) (no_behind nest.before ts e (no_mark (symbol ts) h)) (no_within ts e))
-
--- nor one that is neither a word nor a `#`
-pub none_begins : (nest : Nest) (ts : Tokens) → (length (word ts) == 0) ≡ true → symbol ts ≢ 35 → false ≡ begins nest ts
-none_begins nest ts e h =
-    let none : leads_item (slice_index (word ts) 0) ≡ false = ap (λ w. leads_item (slice_index w 0)) (no_byte (word ts) e) in
-    none_leads nest ts none h

@@ -1,17 +1,45 @@
 -- Places from which spans are counted: they stand before the braces or behind them, as what is left does.
-use Rattle.std.proofs.Common.{◌≡◌, ◌≤◌, ◌<◌, ℕ, ◌+◌, ◌-◌, ◌==◌, false, Option, List, [], ◌∷◌, length, refl, ap, arith}
+use Rattle.std.proofs.Common.{◌≡◌, ◌≤◌, ◌<◌, ℕ, ◌+◌, ◌-◌, ◌==◌, false, Option, List, [], ◌∷◌, ◌++◌, length, refl, ap, subst, arith, map}
 use Rattle.std.specs.Prelude.{nat_lt}
 use Rattle.std.proofs.lemmas.Bool.Decides.{nat_tests}
 use Rattle.rust_lexer.specs.Piece.{Piece}
 use Rattle.rust_lexer.specs.Symbol.{symbol_of}
+use Rattle.rust_lexer.specs.Alone.{moved}
 use Rattle.rust_cursor.specs.Tokens.{Tokens, end_of}
 use Rattle.rust_cursor.specs.Words.{symbol, at, bumped}
-use Rattle.rust_cursor.specs.Beside.{Bodies, Beside, ahead, behind}
-use Rattle.rust_cursor.proofs.Leads.{LeadsTo, when, bumped_leads}
+use Rattle.rust_cursor.specs.Beside.{Bodies, AreBefore, AreOpen, Beside, ahead, behind}
+use Rattle.rust_cursor.proofs.Leads.{LeadsTo, here, further, when, bumped_leads}
+use Rattle.rust_cursor.proofs.Braced.{tokens_at, bumped_at}
 use Rattle.rust_cursor.proofs.Parting.{Onward, into, on}
 use Rattle.rust_cursor.proofs.Views.{before_at, behind_at, next_ahead, not_brace}
-use Rattle.rust_cursor.proofs.Until.{over_leads, over_moved, Gone}
-use Rattle.rust_cursor.proofs.Settled.{Settled, still, within, settle}
+use Rattle.rust_cursor.proofs.Until.{over_leads, over_moved, Gone, gone_on, behind_opening}
+
+-- the tokens of the first text before the braces
+abbrev ahead_of : Bodies → ℕ → List Piece → List Piece → Option ℕ → Tokens
+ahead_of b past x r u = tokens_at b.edition past (x ++ b.opening ∷ (b.old ++ moved b.by b.closing ∷ map (moved b.by) r)) u
+
+-- by the steps from one to the other
+data Along : Tokens → Tokens → Type 0 where
+  ends : {ts us : Tokens} → ts ≡ us → Along ts us
+  goes : {ts us : Tokens} → LeadsTo (bumped ts) us → Along ts us
+
+along : {ts us : Tokens} → LeadsTo ts us → Along ts us
+along here = ends refl
+along (further p) = goes p
+
+-- what stands past the opening brace went into the braces
+past_opening : (b : Bodies) (past : ℕ) (x r : List Piece) (u : Option ℕ) (ts : Tokens) → AreOpen b r → AreBefore b.opening.at past x
+    → LeadsTo (ahead_of b past x r u) ts → b.opening.at < ts.past → Gone b ts
+past_opening b past [] r u ts o i p far = first (along p)
+  where
+    first : Along (ahead_of b past [] r u) ts → Gone b ts
+    first (ends e) = let same : past ≡ ts.past = ap (λ (t : Tokens). t.past) e in let low : past ≤ b.opening.at = i in absurd (omega (arith, same, low, far))
+    first (goes q) = gone_on (behind_opening b past r u o) q
+past_opening b past (t ∷ x) r u ts o i p far = first (along p) (λ q. past_opening b (end_of t) x r u ts o i.1 q far)
+  where
+    first : Along (ahead_of b past (t ∷ x) r u) ts → (LeadsTo (ahead_of b (end_of t) x r u) ts → Gone b ts) → Gone b ts
+    first (ends e) more = let same : past ≡ ts.past = ap (λ (t : Tokens). t.past) e in let low : past ≤ b.opening.at = i.0 in absurd (omega (arith, same, low, far))
+    first (goes q) more = more (subst (λ (k : Tokens). LeadsTo k ts) (bumped_at b.edition past t (x ++ b.opening ∷ (b.old ++ moved b.by b.closing ∷ map (moved b.by) r)) u) q)
 
 -- A place before the braces, as what is left of both; or one behind them, as that is.
 pub data Level (b : Bodies) (a a' : ℕ) (ts us : Tokens) : Type 0 where
@@ -30,13 +58,9 @@ level_here b ts us (ahead past (t ∷ x) r u u' i j) = level_ahead refl (before_
 level_here b ts us (behind past [] u u' i) = level_behind past refl refl (let far = b.apart in omega arith) (behind past [] u u' i)
 level_here b ts us (behind past (t ∷ r) u u' i) = let low : end_of b.closing ≤ past = i.0.0 in let far = b.apart in level_behind t.at refl refl (omega arith) (behind past (t ∷ r) u u' i)
 
-settled_ahead : {A : Type 0} {b : Bodies} {r : List Piece} {u : Option ℕ} {ts : Tokens} → Settled b r u ts → (Gone b ts → A) → (ts.past ≤ b.opening.at → A) → A
-settled_ahead {b = b} (still past x i) left same = same (before_at b.opening.at past x i)
-settled_ahead (within g) left same = left g
-
 -- what is left of tokens before the braces stands before them, or went into them
 ahead_on : {b : Bodies} {vs : Tokens} (ts us : Tokens) → ts.past ≤ b.opening.at → Beside b ts us → LeadsTo ts vs → (b.opening.at < vs.past) → Gone b vs
-ahead_on {b} {vs} ts us i (ahead past x r u u' j k) p far = settled_ahead (settle b past x r u vs k j p) (λ g. g) (λ n. absurd (omega arith))
+ahead_on {b} {vs} ts us i (ahead past x r u u' j k) p far = past_opening b past x r u vs k j p far
 ahead_on {b} {vs} ts us i (behind past r u u' j) p far = let low = behind_at (end_of b.closing) past r j in let apart = b.apart in absurd (omega arith)
 
 -- and of those behind them behind them

@@ -5,7 +5,6 @@ pub mod Turns
 pub mod Scans
 pub mod Reaches
 pub mod Leads
-pub mod Clipped
 pub mod Matched
 pub mod Laid
 pub mod Rests
@@ -18,13 +17,11 @@ pub mod Parting
 pub mod Views
 pub mod Braced
 pub mod Unkept
-pub mod Outer
 pub mod Walk
 pub mod Passing
 pub mod Local
 pub mod Until
 pub mod Ordered
-pub mod Settled
 pub mod Alike
 pub mod Places
 pub mod Level

@@ -32,9 +32,3 @@ closing_more bracket nest ts e = more_from bracket nest ts.past ts.left ts.unend
 pub closing_some : (bracket : ℕ) (nest : Nest) (ts : Tokens) → is_closing bracket nest ts ≡ false → is_empty ts ≡ false
 unfolding is_closing
 closing_some bracket nest ts e = not_first (is_empty ts) _ e
-
--- a turn
-pub closing_turn : (bracket : ℕ) (nest behind : Nest) (ts ts' all : Tokens) → is_closing bracket nest ts ≡ false → behind ≡ nest_behind nest ts → ts' ≡ bumped ts → closing bracket nest ts ≡ all → closing bracket behind ts' ≡ all
-closing_turn bracket nest behind ts ts' all s b n told =
-    let step = closing_more bracket nest ts s in
-    cc

@@ -1,5 +1,5 @@
 -- What is asked of tokens that look alike: where an item begins, where a walk goes on, and where it ends.
-use Rattle.std.proofs.Common.{◌≡◌, ◌≢◌, ℕ, ◌==◌, Bool, true, false, List, [], length, refl, ◌∙◌, sym, arith, codes}
+use Rattle.std.proofs.Common.{◌≡◌, ◌≢◌, ℕ, ◌==◌, Bool, true, false, List, refl, ap, ◌∙◌, sym, arith, codes}
 use Rattle.std.specs.Str.{bytes_eq}
 use Rattle.std.proofs.lemmas.Bool.Decides.{nat_tests}
 use Rattle.rust_cursor.specs.declared.cursor.generics.Reach.{Reach}
@@ -11,11 +11,11 @@ use Rattle.rust_cursor.specs.declared.cursor.texts.Extent.{Extent}
 use Rattle.rust_cursor.specs.declared.cursor.texts.Extent.TheVariants as extents
 use Rattle.rust_cursor.specs.Angles.{begins_binder, is_lone_for, is_header_end, is_barred, is_reached}
 use Rattle.rust_cursor.specs.Brackets.{is_closing}
-use Rattle.rust_cursor.specs.Extents.{begins, begins_item, follows_const, begins_impl_or_const, begins_behind, begins_within, stops, ends, goes_on, more, has_blank, is_joined}
+use Rattle.rust_cursor.specs.Extents.{begins, begins_item, follows_const, begins_impl_or_const, begins_behind, begins_within, stops, ends, goes_on, more, has_blank, is_joined, leads_item}
 use Rattle.rust_cursor.specs.Nests.{nest_behind}
 use Rattle.rust_cursor.specs.Tokens.{Tokens}
 use Rattle.rust_cursor.specs.Words.{symbol, word, bumped}
-use Rattle.rust_cursor.proofs.Begins.{none_begins}
+use Rattle.rust_cursor.proofs.Begins.{no_item, none_leads}
 use Rattle.rust_cursor.proofs.Leads.{when}
 use Rattle.rust_cursor.proofs.Twins.{Twins, is_edge, symbol_same, word_same, kind_same, text_same, empty_same, end_same, identifier_same, doc_same, edge_word, edge_identifier, edge_test, after_word, after_symbol, pair_same}
 
@@ -48,23 +48,17 @@ within_same b ts us h n = rw (word_same b ts us h, identifier_same b (bumped ts)
 
 edge_begins : (n : Nest) (ts : Tokens) → is_edge (symbol ts) ≡ true → begins n ts ≡ false
 edge_begins n ts e =
-    let empty = edge_word ts e in
     let other : symbol ts ≢ 35 = grind (arith, nat_tests) in
-    let none : (length (word ts) == 0) ≡ true = rw empty refl in
-    sym (none_begins n ts none other)
+    sym (none_leads n ts (ap leads_item (edge_word ts e)) other)
 
 pub begins_same : (b : Twins) (n : Nest) (ts us : Tokens) → b.are ts us → begins n us ≡ begins n ts
 begins_same b n ts us h =
     when (is_edge (symbol ts)) (λ e. edge_begins n us (edge_test b ts us h e) ∙ sym (edge_begins n ts e))
     (λ e. let k = b.next ts us h e in rw (item_same b ts us h k, behind_same b n.before ts us h k, within_same b ts us h k) refl)
 
-no_item : (ts : Tokens) → word ts ≡ [] → begins_item ts ≡ false
-unfolding begins_item
-no_item ts e = rw e refl
-
 pub begins_item_same : (b : Twins) (ts us : Tokens) → b.are ts us → begins_item us ≡ begins_item ts
 begins_item_same b ts us h =
-    when (is_edge (symbol ts)) (λ e. no_item us (edge_word us (edge_test b ts us h e)) ∙ sym (no_item ts (edge_word ts e)))
+    when (is_edge (symbol ts)) (λ e. no_item us (ap leads_item (edge_word us (edge_test b ts us h e))) ∙ sym (no_item ts (ap leads_item (edge_word ts e))))
     (λ e. item_same b ts us h (b.next ts us h e))
 
 -- ---- walks

@@ -130,38 +130,32 @@ lower_tests m n m' n' h h' = grind (arith, nat_tests)
 higher_tests : (m n m' n' : ℕ) → m < n → m' < n' → nat_lt n' m' ≡ nat_lt n m
 higher_tests m n m' n' h h' = grind (arith, nat_tests)
 
+-- in each text what is before the braces ends before what is behind them
+parted : (b : Bodies) (past past' : ℕ) (x r : List Piece) → AreBefore b.opening.at past x → AreBehind (end_of b.closing) past' r
+    → (past < past' + b.by) × (past < past' + b.by_new)
+parted b past past' x r i j =
+    let low = before_at b.opening.at past x i in
+    let high = behind_at (end_of b.closing) past' r j in
+    let old = b.apart in
+    let new = b.apart_new in
+    (omega arith, omega arith)
+
 -- one reader took nothing where the other took nothing
 pub taken_same : (b : Bodies) (ts us ts' us' : Tokens) → Beside b ts us → Beside b ts' us' → (us'.past == us.past) ≡ (ts'.past == ts.past)
 taken_same b ts us ts' us' (ahead past x r u v i j) (ahead past' x' r' u' v' i' j') = refl
 taken_same b ts us ts' us' (ahead past x r u v i j) (behind past' r' u' v' i') =
-    let low = before_at b.opening.at past x i in
-    let high = behind_at (end_of b.closing) past' r' i' in
-    let old = b.apart in
-    let new = b.apart_new in
-    apart_tests past (past' + b.by) past (past' + b.by_new) (omega arith) (omega arith)
+    let p = parted b past past' x r' i i' in apart_tests past (past' + b.by) past (past' + b.by_new) p.0 p.1
 taken_same b ts us ts' us' (behind past r u v i) (ahead past' x' r' u' v' i' j') =
-    let low = before_at b.opening.at past' x' i' in
-    let high = behind_at (end_of b.closing) past r i in
-    let old = b.apart in
-    let new = b.apart_new in
-    apart_back past' (past + b.by) past' (past + b.by_new) (omega arith) (omega arith)
+    let p = parted b past' past x' r i' i in apart_back past' (past + b.by) past' (past + b.by_new) p.0 p.1
 taken_same b ts us ts' us' (behind past r u v i) (behind past' r' u' v' i') = glued_by past' past b.by b.by_new
 
 -- one stands before the other in both texts
 pub before_same : (b : Bodies) (ts us ts' us' : Tokens) → Beside b ts us → Beside b ts' us' → nat_lt us.past us'.past ≡ nat_lt ts.past ts'.past
 before_same b ts us ts' us' (ahead past x r u v i j) (ahead past' x' r' u' v' i' j') = refl
 before_same b ts us ts' us' (ahead past x r u v i j) (behind past' r' u' v' i') =
-    let low = before_at b.opening.at past x i in
-    let high = behind_at (end_of b.closing) past' r' i' in
-    let old = b.apart in
-    let new = b.apart_new in
-    lower_tests past (past' + b.by) past (past' + b.by_new) (omega arith) (omega arith)
+    let p = parted b past past' x r' i i' in lower_tests past (past' + b.by) past (past' + b.by_new) p.0 p.1
 before_same b ts us ts' us' (behind past r u v i) (ahead past' x' r' u' v' i' j') =
-    let low = before_at b.opening.at past' x' i' in
-    let high = behind_at (end_of b.closing) past r i in
-    let old = b.apart in
-    let new = b.apart_new in
-    higher_tests past' (past + b.by) past' (past + b.by_new) (omega arith) (omega arith)
+    let p = parted b past' past x' r i' i in higher_tests past' (past + b.by) past' (past + b.by_new) p.0 p.1
 before_same b ts us ts' us' (behind past r u v i) (behind past' r' u' v' i') = lower_by past past' b.by b.by_new
 
 -- ---- tokens beside look alike

@@ -1,5 +1,5 @@
 -- Where a token stands: in which brackets, and behind what.
-use Rattle.std.specs.Prelude.{ℕ, ◌+◌, ◌-◌, ◌==◌, Bool, true, false, not, ◌&&◌, ◌||◌, if◌then◌else◌, Option, Some, List, [], ◌∷◌, codes}
+use Rattle.std.specs.Prelude.{ℕ, ◌+◌, ◌-◌, ◌==◌, Bool, true, false, not, ◌&&◌, ◌||◌, if◌then◌else◌, Option, Some, List, [], ◌∷◌, length, slice_index, codes}
 use Rattle.std.specs.List.{list_any}
 use Rattle.std.specs.Str.{bytes_eq}
 use Rattle.rust_lexer.specs.declared.kind.TokenKind.{TokenKind}
@@ -73,7 +73,21 @@ angles_behind nest ts =
 
 -- ---- what a token is for the next
 
--- a keyword with which neither a type nor a value ends
+-- a keyword with which neither a type nor a value ends has this length and this first byte
+abbrev pub leads_on_by : ℕ → ℕ → Bool
+leads_on_by n c =
+    if n == 2 then c == 97 || (c == 102 || c == 105)
+    else (if n == 3 then c == 100 || (c == 102 || (c == 108 || (c == 109 || (c == 112 || (c == 114 || c == 117)))))
+    else (if n == 4 then c == 101 || (c == 105 || (c == 108 || (c == 109 || c == 116)))
+    else (if n == 5 then c == 97 || (c == 98 || (c == 99 || (c == 109 || (c == 116 || (c == 119 || c == 121)))))
+    else (if n == 6 then c == 101 || (c == 114 || (c == 115 || c == 117))
+    else (if n == 8 then c == 99 else false)))))
+
+-- a word that may be such a keyword, by its length and its first byte
+abbrev pub may_lead_on : List ℕ → Bool
+may_lead_on w = leads_on_by (length w) (slice_index w 0)
+
+-- such a keyword
 unfoldable pub leads_on : List ℕ → Bool
 leads_on w =
     list_any (bytes_eq w) (codes "as" ∷ codes "async" ∷ codes "break" ∷ codes "const" ∷ codes "continue" ∷ codes "dyn" ∷ codes "else" ∷ codes "enum"

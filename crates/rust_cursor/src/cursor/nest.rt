@@ -150,6 +150,7 @@ impl<'t> Cursor<'t> {
         self.symbol_before(before)
     }
 
+    #[inline(always)]
     fn before_outside(&self, nest: Nest) -> Before
         requires { nest.others + 1 < 2 ^ 64 }
         ensures { result ≡ spec.before_outside nest self.now }
@@ -184,6 +185,24 @@ impl<'t> Cursor<'t> {
             is_torn: nest.is_torn || closes_none(nest.others, symbol),
             before: self.before_outside(nest),
         }
+    }
+
+    /// Counts the brackets that what stands behind the next token is in, and nothing else of it.
+    #[inline(always)]
+    #[tactic(auto, unfolding(crate::specs::Nests::nest_behind))]
+    pub(crate) fn brackets_behind(&self, nest: &mut Nest)
+        requires braces { nest.old.braces + 1 < 2 ^ 64 }
+        requires others { nest.old.others + 1 < 2 ^ 64 }
+        ensures braces { nest.new.braces ≡ (spec.nest_behind nest.old self.now).braces }
+        ensures others { nest.new.others ≡ (spec.nest_behind nest.old self.now).others }
+    {
+        let symbol = self.symbol();
+        if nest.braces != 0 {
+            nest.braces = braces_behind(nest.braces, symbol);
+            return;
+        }
+        nest.others = others_behind(nest.others, symbol);
+        nest.braces = braces_behind(0, symbol);
     }
 
     /// Tells where what stands behind the next token is, in braces.
@@ -374,28 +393,51 @@ pub(crate) fn first_byte(word: &str) -> u8
     }
 }
 
+/// The keywords with which neither a type nor a value ends.
+const LEADING: [&str; 32] = [
+    "as", "async", "break", "const", "continue", "dyn", "else", "enum", "extern", "fn", "for",
+    "if", "impl", "in", "let", "loop", "match", "mod", "move", "mut", "pub", "ref", "return",
+    "static", "struct", "trait", "type", "unsafe", "use", "where", "while", "yield",
+];
+
+/// Whether one of these has this length and this first byte.
+#[inline(always)]
+fn leads_on_by(len: usize, first: u8) -> bool
+    ensures { result ≡ spec.leads_on_by len first }
+{
+    match len {
+        2 => matches!(first, b'a' | b'f' | b'i'),
+        3 => matches!(first, b'd' | b'f' | b'l' | b'm' | b'p' | b'r' | b'u'),
+        4 => matches!(first, b'e' | b'i' | b'l' | b'm' | b't'),
+        5 => matches!(first, b'a' | b'b' | b'c' | b'm' | b't' | b'w' | b'y'),
+        6 => matches!(first, b'e' | b'r' | b's' | b'u'),
+        8 => first == b'c',
+        _ => false,
+    }
+}
+
+/// Whether a word may be one of these, by its length and its first byte.
+#[inline(always)]
+fn may_lead_on(word: &str) -> bool
+    ensures { result ≡ spec.may_lead_on word.now }
+{
+    leads_on_by(word.len(), first_byte(word))
+}
+
+#[tactic(auto, unfolding(crate::specs::Nests::leads_on))]
+fn is_leading(word: &str) -> bool
+    ensures { result ≡ spec.leads_on word.now }
+{
+    is_among(word, &LEADING)
+}
+
 /// Whether neither a type nor a value ends with the word.
 fn leads_on(word: &str) -> bool
     ensures { result ≡ spec.leads_on word.now }
 {
-    // Most words that are no keywords are told by their first byte.
-    match first_byte(word) {
-        b'a' => is_among(word, &["as", "async"]),
-        b'b' => is_among(word, &["break"]),
-        b'c' => is_among(word, &["const", "continue"]),
-        b'd' => is_among(word, &["dyn"]),
-        b'e' => is_among(word, &["else", "enum", "extern"]),
-        b'f' => is_among(word, &["fn", "for"]),
-        b'i' => is_among(word, &["if", "impl", "in"]),
-        b'l' => is_among(word, &["let", "loop"]),
-        b'm' => is_among(word, &["match", "mod", "move", "mut"]),
-        b'p' => is_among(word, &["pub"]),
-        b'r' => is_among(word, &["ref", "return"]),
-        b's' => is_among(word, &["static", "struct"]),
-        b't' => is_among(word, &["trait", "type"]),
-        b'u' => is_among(word, &["unsafe", "use"]),
-        b'w' => is_among(word, &["where", "while"]),
-        b'y' => is_among(word, &["yield"]),
-        _ => false,
+    // Most words are told by their length and their first byte.
+    if !may_lead_on(word) {
+        return false;
     }
+    is_leading(word)
 }

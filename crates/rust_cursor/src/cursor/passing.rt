@@ -38,7 +38,7 @@ impl<'t> Cursor<'t> {
         let _ = &self.next;
         let mut nest = Nest::flat();
         'tokens: while !self.is_closing(bracket, nest) {
-            self.nest_behind(&mut nest);
+            self.brackets_behind(&mut nest);
             self.bump();
         }
     }

@@ -46,22 +46,25 @@ impl<'t> Cursor<'t> {
         if self.symbol() != first {
             return false;
         }
-        let mut ahead = self.ahead();
-        ahead.bump();
-        ahead.is_glued() && ahead.symbol() == second
+        let behind = self.second();
+        behind.is_glued() && behind.symbol() == second
     }
 
     /// Takes two symbols with nothing between them, if they come next.
-    #[tactic(auto, unfolding(crate::specs::Words::eat_pair))]
+    #[tactic(auto, unfolding(crate::specs::Words::eat_pair, crate::specs::Words::is_pair))]
     pub fn eat_pair(&mut self, first: u8, second: u8) -> bool
         ensures { spec.eat_pair first second self.old ≡ (result, self.new) }
     {
-        let found = self.is_pair(first, second);
-        if found {
-            self.bump();
-            self.bump();
+        if self.symbol() != first {
+            return false;
         }
-        found
+        let mut behind = self.second();
+        if !behind.is_glued() || behind.symbol() != second {
+            return false;
+        }
+        behind.bump();
+        *self = behind;
+        true
     }
 
     /// Takes `::`, if it comes next.

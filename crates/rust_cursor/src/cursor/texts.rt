@@ -40,14 +40,6 @@ pub struct Excerpt<'t> {
 }
 
 impl<'t> Cursor<'t> {
-    pub(crate) fn second(&self) -> Cursor<'t>
-        ensures { result ≡ bumped self.now }
-    {
-        let mut second = self.ahead();
-        second.bump();
-        second
-    }
-
     /// Whether a word comes next that can begin an item only.
     #[tactic(auto, unfolding(crate::specs::Extents::begins_item))]
     pub fn begins_item(&self) -> bool
@@ -119,8 +111,8 @@ impl<'t> Cursor<'t> {
     pub(crate) fn begins(&self, nest: Nest) -> bool
         ensures { result ≡ spec.begins nest self.now }
     {
-        // Most words begin none, and are told by their first byte.
-        if !leads_item(first_byte(self.word())) && self.symbol() != b'#' {
+        // Most words begin none, and are told by their length and their first byte.
+        if !leads_item(self.word()) && self.symbol() != b'#' {
             return false;
         }
         if nest.others == 0 {
@@ -338,7 +330,7 @@ impl<'t> Cursor<'t> {
         Ok(())
     }
 
-    #[tactic(auto, unfolding(crate::specs::Extents::taken), using(crate::proofs::Clipped::clipped_stop))]
+    #[tactic(auto, unfolding(crate::specs::Extents::taken), using(crate::proofs::Unkept::clipped_stop))]
     fn take_excerpt(
         &mut self,
         alloc: Global,
@@ -516,12 +508,28 @@ fn push_token(text: &mut String, token: &str) -> Result<(), AllocError>
     }
 }
 
-/// Whether a word that can begin an item begins with the byte.
+/// Whether a word that can begin an item has this length and this first byte.
 #[inline(always)]
-fn leads_item(first: u8) -> bool
-    ensures { result ≡ spec.leads_item first }
+fn leads_by(len: usize, first: u8) -> bool
+    ensures { result ≡ spec.leads_by len first }
 {
-    matches!(first, b'c' | b'e' | b'i' | b'm' | b'p' | b's' | b'u') || matches!(first, b'f' | b't')
+    match len {
+        2 => first == b'f',
+        3 => matches!(first, b'm' | b'p' | b'u'),
+        4 => matches!(first, b'e' | b'i' | b't'),
+        5 => matches!(first, b'c' | b't'),
+        6 => matches!(first, b'e' | b's' | b'u'),
+        11 => first == b'm',
+        _ => false,
+    }
+}
+
+/// Whether a word may begin an item, by its length and its first byte.
+#[inline(always)]
+fn leads_item(word: &str) -> bool
+    ensures { result ≡ spec.leads_item word.now }
+{
+    leads_by(word.len(), first_byte(word))
 }
 
 fn opens(symbol: u8) -> bool

@@ -1,10 +1,9 @@
 use Rattle.std.proofs.Common.{sym, ap, ◌∙◌}
-use Rattle.std.specs.Prelude.{slice_index}
 use Rattle.rust_cursor.specs.Extents.{leads_item}
 use Rattle.rust_cursor.proofs.Begins.{none_leads}
 use Rattle.rust_cursor.proofs.cursor.Cursor.begins.Goals as goal
 
 pub returns-then-symbol-ne35 : goal.returns-then-symbol-ne35
 returns-then-symbol-ne35 c =
-    none_leads c.args.nest c.args.self.now (ap (λ w. leads_item (slice_index w 0)) (sym c.word.ensures) ∙ ap leads_item (sym c.first_byte.ensures) ∙ sym c.leads_item.ensures ∙ c.if-not-leads_item.true)
+    none_leads c.args.nest c.args.self.now (ap leads_item (sym c.word.ensures) ∙ sym c.leads_item.ensures ∙ c.if-not-leads_item.true)
     (λ e. c.if-symbol-ne35.true (c.symbol.ensures ∙ e))

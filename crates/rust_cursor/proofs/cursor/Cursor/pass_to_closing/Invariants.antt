@@ -7,8 +7,6 @@ invariant-tokens l = record {
   same : closing l.bracket l.nest l.self ≡ to_closing l.bracket l.initial.self;
   braces : l.nest.braces + length l.self.left < 2 ^ 64;
   others : l.nest.others + length l.self.left < 2 ^ 64;
-  angles : l.nest.angles + length l.self.left < 2 ^ 64;
-  inner : l.nest.inner + length l.self.left < 2 ^ 64;
 }
 
 abbrev pub decreases-tokens : goal.decreases-tokens

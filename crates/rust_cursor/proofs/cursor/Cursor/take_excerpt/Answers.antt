@@ -3,7 +3,7 @@ use Rattle.std.specs.Prelude.{string_bytes}
 use Rattle.rust_cursor.specs.Extents.{more, taken}
 use Rattle.rust_cursor.proofs.Nesting.{shorter, fewer}
 use Rattle.rust_cursor.proofs.Scans.{taking_some}
-use Rattle.rust_cursor.proofs.Clipped.{clipped_turn, clipped_last, text_kept}
+use Rattle.rust_cursor.proofs.Unkept.{clipped_turn, clipped_last, text_kept}
 use Rattle.rust_cursor.proofs.cursor.Cursor.take_excerpt.Goals as goal
 
 pub nest_behind-requires : goal.nest_behind-requires

@@ -4,8 +4,7 @@ use Rattle.rust_cursor.specs.Extents.{more, taking}
 use Rattle.rust_cursor.specs.Nests.{is_mark, nest_inside}
 use Rattle.rust_cursor.proofs.Inside.{inside}
 use Rattle.rust_cursor.proofs.Nesting.{shorter, fewer}
-use Rattle.rust_cursor.proofs.Clipped.{clipped_turn, text_kept}
-use Rattle.rust_cursor.proofs.Unkept.{unkept}
+use Rattle.rust_cursor.proofs.Unkept.{clipped_turn, text_kept, unkept}
 use Rattle.rust_cursor.proofs.cursor.Cursor.take_inside.Goals as goal
 
 pub nest_inside-requires-clause-braces : goal.nest_inside-requires-clause-braces
