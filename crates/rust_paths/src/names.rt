@@ -50,9 +50,39 @@ fn is_since_2024(edition: EditionYear) -> bool
     matches!(edition, EditionYear::E2024)
 }
 
-/// Whether the word is a keyword of the edition, but for those that a path may hold.
+/// Whether one of these has this length and this first byte.
+#[inline(always)]
+fn is_keyword_by(len: usize, first: u8) -> bool
+    ensures { result ≡ spec.is_keyword_by len first }
+{
+    match len {
+        2 => matches!(first, b'a' | b'd' | b'f' | b'i'),
+        3 => matches!(
+            first,
+            b'b' | b'd' | b'f' | b'g' | b'l' | b'm' | b'p' | b'r' | b't' | b'u'
+        ),
+        4 => matches!(first, b'e' | b'i' | b'l' | b'm' | b'p' | b't'),
+        5 => matches!(first, b'a' | b'b' | b'c' | b'f' | b'm' | b't' | b'w' | b'y'),
+        6 => matches!(first, b'b' | b'e' | b'r' | b's' | b't' | b'u'),
+        7 => matches!(first, b'u' | b'v'),
+        8 => matches!(first, b'a' | b'c' | b'o'),
+        _ => false,
+    }
+}
+
+/// Whether a word may be one of these, by its length and its first byte.
+#[inline(always)]
+fn may_be_keyword(word: &str) -> bool
+    ensures { result ≡ spec.may_be_keyword word.now }
+{
+    match word.as_bytes() {
+        [first, ..] => is_keyword_by(word.len(), *first),
+        [] => false,
+    }
+}
+
 #[tactic(auto, unfolding(crate::specs::Names::is_keyword))]
-fn is_keyword(edition: EditionYear, word: &str) -> bool
+fn is_keyword_among(edition: EditionYear, word: &str) -> bool
     ensures { result ≡ spec.is_keyword edition word.now }
 {
     if is_among(word, &KEYWORDS) {
@@ -65,6 +95,18 @@ fn is_keyword(edition: EditionYear, word: &str) -> bool
         return is_since_2024(edition);
     }
     false
+}
+
+/// Whether the word is a keyword of the edition, but for those that a path may hold.
+#[tactic(auto, using(crate::proofs::Naming::no_keyword))]
+fn is_keyword(edition: EditionYear, word: &str) -> bool
+    ensures { result ≡ spec.is_keyword edition word.now }
+{
+    // Most names are told by their length and their first byte.
+    if !may_be_keyword(word) {
+        return false;
+    }
+    is_keyword_among(edition, word)
 }
 
 /// Whether a path may hold the keyword.
