@@ -124,45 +124,26 @@ impl<'t> Cursor<'t> {
     pub fn ahead(&self) -> Self
         ensures { result ≡ self.now }
     {
-        match &self.next {
-            Some(token) => Cursor {
-                past: self.past,
-                next: Some(token.copy()),
-                lexer: self.lexer.copy(),
-                last: self.last,
-                edition: self.edition,
-            },
-            None => Cursor {
-                past: self.past,
-                next: None,
-                lexer: self.lexer.copy(),
-                last: self.last,
-                edition: self.edition(),
-            },
+        let next = match &self.next {
+            Some(token) => Some(token.copy()),
+            None => None,
+        };
+        Cursor {
+            past: self.past,
+            next,
+            lexer: self.lexer.copy(),
+            last: self.last,
+            edition: self.edition,
         }
     }
 
     /// Another cursor behind the next token, to look ahead.
-    #[inline(never)]
-    #[tactic(auto, unfolding(crate::specs::Words::bumped))]
     pub(crate) fn second(&self) -> Self
         ensures { result ≡ spec.bumped self.now }
     {
-        let past = match &self.next {
-            Some(token) => token.end(),
-            None => return self.ahead(),
-        };
-        let mut lexer = self.lexer.copy();
-        let mut last = self.last;
-        let mut next = None;
-        find_significant(&mut lexer, &mut last, &mut next);
-        Cursor {
-            past,
-            next,
-            lexer,
-            last,
-            edition: self.edition(),
-        }
+        let mut second = self.ahead();
+        second.bump();
+        second
     }
 
     /// The edition of the text.

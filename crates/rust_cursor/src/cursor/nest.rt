@@ -111,6 +111,7 @@ impl<'t> Cursor<'t> {
     }
 
     /// Whether a type or a value can end with the next token: a name, a literal, or a bracket that closes.
+    #[inline(always)]
     pub fn can_end(&self) -> bool
         ensures { result ≡ spec.can_end self.now }
     {
@@ -120,6 +121,7 @@ impl<'t> Cursor<'t> {
         is_literal_kind(self.kind()) || self.is_at_end()
     }
 
+    #[inline(always)]
     fn symbol_before(&self, before: Before) -> Before
         ensures { result ≡ spec.symbol_before before self.now }
     {
@@ -138,6 +140,7 @@ impl<'t> Cursor<'t> {
         }
     }
 
+    #[inline(always)]
     fn before_behind(&self, before: Before) -> Before
         ensures { result ≡ spec.before_behind before self.now }
     {
@@ -216,6 +219,7 @@ impl<'t> Cursor<'t> {
     }
 
     /// Tells where what stands behind the next token is.
+    #[inline(always)]
     #[tactic(auto, unfolding(crate::specs::Nests::nest_behind))]
     pub(crate) fn nest_behind(&self, nest: &mut Nest)
         requires braces { nest.old.braces + 1 < 2 ^ 64 }
@@ -424,6 +428,7 @@ fn may_lead_on(word: &str) -> bool
     leads_on_by(word.len(), first_byte(word))
 }
 
+#[inline(never)]
 #[tactic(auto, unfolding(crate::specs::Nests::leads_on))]
 fn is_leading(word: &str) -> bool
     ensures { result ≡ spec.leads_on word.now }
