@@ -1,14 +1,12 @@
 -- Raw names, and names of all editions.
-use Rattle.std.proofs.Common.{◌≡◌, ◌≢◌, ◌==◌, ℕ, List, [], ◌∷◌, Bool, true, false, Bor, MatchOption, Option, Some, None, option_map, if◌then◌else◌, refl, sym, ap, ◌∙◌, arith}
+use Rattle.std.proofs.Common.{◌≡◌, ◌≢◌, ◌==◌, ℕ, List, [], ◌∷◌, Bool, true, false, Bor, MatchOption, Option, Some, None, option_map, if◌then◌else◌, refl, sym, arith}
 use Rattle.std.specs.List.{list_any}
 use Rattle.std.specs.Str.{bytes_eq}
 use Rattle.std.proofs.lemmas.Bool.Decides.{nat_tests}
 use Rattle.hir_input.specs.declared.edition.EditionYear.{EditionYear}
 use Rattle.hir_input.specs.declared.edition.EditionYear.TheVariants as year
 use Rattle.rust_paths.specs.Names.{keywords, keywords_since_2018, keywords_since_2024, is_since_2018, is_since_2024, may_be_keyword, is_keyword, is_path_keyword, is_underscore, plain_name, behind_hash}
-use Rattle.std.specs.List.{filter}
-use Rattle.std.proofs.lemmas.Map.Views.{any-filter_same}
-use Rattle.std.proofs.lemmas.Slice.Eq.{bytes_eq-Decides}
+use Rattle.rust_cursor.proofs.Keywords.{none_passed}
 
 -- a text without `r` in front
 pub hash_no_r : (text : List ℕ) → ((rest : List ℕ) → text ≢ 114 ∷ rest) → behind_hash text ≡ None
@@ -27,9 +25,6 @@ hash_then text rest None e h = sym (hash_no_hash text rest e h)
 hash_then text rest (Some x) e h = rw (e, h) refl
 
 -- ---- keywords
-
-none_passed : (test : List ℕ → Bool) (w : List ℕ) (ks : List (List ℕ)) → test w ≡ false → list_any (bytes_eq w) (filter test ks) ≡ false
-none_passed test w ks e = any-filter_same (bytes_eq w) test (test w) (λ k same. ap test (sym ((bytes_eq-Decides w k).0 same))) ks ∙ rw e refl
 
 pub no_keyword : (edition : EditionYear) (w : List ℕ) → may_be_keyword w ≡ false → is_keyword edition w ≡ false
 unfolding is_keyword
