@@ -255,8 +255,8 @@ out_round c b ts k j g =
         closing_stop c (deep k (suc j)) ts closed ∙ sym (ap (λ t. around c (behind_closing b t)) (closing_stop b (deep k j) ts s) ∙ rw (g, f) (closing_stop c (deep 0 0) ts (shut_by_brace c 0 ts f)))
     at_end ts k j s (by_other z y i f h) e =
         let opened : is_shut c k (suc j) ts ≡ false = shut_not c k (suc j) ts e (not_one ts k j h) in
-        let none : opens_other (symbol ts) ≡ false = other_side (symbol ts) f in
-        let curly : (symbol ts == 123) ≡ false = other_curly (symbol ts) f in
+        let none : opens_other (symbol ts) ≡ false = (closer (symbol ts) f).0 in
+        let curly : (symbol ts == 123) ≡ false = (closer (symbol ts) f).1 in
         let ks : braces_behind k (symbol ts) ≡ 0 = rw (z, curly, h) refl in
         let js : others_next k (suc j) (symbol ts) ≡ 0 = rw (z, y, none, f) (omega arith) in
         upto_more c k (suc j) ts opened ∙ ap (λ m. upto c m (others_next k (suc j) (symbol ts)) (bumped ts)) ks ∙ ap (λ m. upto c 0 m (bumped ts)) js
@@ -266,11 +266,8 @@ out_round c b ts k j g =
         not_one ts k j h (by_brace z f) = cc
         not_one ts k j h (by_other z y i f g) = omega arith
 
-        other_side : (s : ℕ) → closes_other s ≡ true → opens_other s ≡ false
-        other_side s f = when (s == 41) (λ e. rw (eqb-true s 41 e) refl) (λ e. let r = rw e at f in rw (eqb-true s 93 r) refl)
-
-        other_curly : (s : ℕ) → closes_other s ≡ true → (s == 123) ≡ false
-        other_curly s f = when (s == 41) (λ e. rw (eqb-true s 41 e) refl) (λ e. let r = rw e at f in rw (eqb-true s 93 r) refl)
+        closer : (s : ℕ) → closes_other s ≡ true → (opens_other s ≡ false) × ((s == 123) ≡ false)
+        closer s f = when (s == 41) (λ e. rw (eqb-true s 41 e) (refl, refl)) (λ e. let r = rw e at f in rw (eqb-true s 93 r) (refl, refl))
 
 pub one_deeper : (k s : ℕ) → (k ≡ 0 → (s == 125) ≡ false) → braces_behind (suc k) s ≡ suc (braces_behind k s)
 one_deeper k s h =

@@ -1,5 +1,5 @@
 -- What passes over tokens comes to tokens beside: up to brackets, behind angle brackets, and to the end of an item.
-use Rattle.std.proofs.Common.{◌≡◌, ◌≢◌, ◌<◌, ℕ, zero, suc, ◌+◌, ◌-◌, ◌==◌, ◌&&◌, Bool, true, false, Option, Some, None, List, [], ◌∷◌, ◌++◌, length, refl, ap, ◌∙◌, sym, arith, map}
+use Rattle.std.proofs.Common.{◌≡◌, ◌≢◌, ℕ, suc, ◌+◌, ◌-◌, ◌==◌, ◌&&◌, Bool, true, false, Option, Some, None, List, [], ◌∷◌, ◌++◌, refl, ap, ◌∙◌, sym, arith, map}
 use Rattle.std.specs.Prelude.{not}
 use Rattle.std.proofs.lemmas.Bool.Decides.{nat_tests}
 use Rattle.std.proofs.lemmas.Bool.{eqb-true}
@@ -21,14 +21,13 @@ use Rattle.rust_cursor.specs.Angles.{is_reached, is_closed, reaching, reached, b
 use Rattle.rust_cursor.specs.Brackets.{is_closing, closing, to_closing, behind_closing, behind_closed, behind_tree}
 use Rattle.rust_cursor.specs.Elements.{beyond}
 use Rattle.rust_cursor.specs.Beside.{Bodies, AreOpen, Beside, ahead, behind}
-use Rattle.rust_cursor.proofs.Leads.{when, symbol_some, stops_empty, reached_empty, closing_empty, still_same}
-use Rattle.rust_cursor.proofs.Steps.{closing_stop, closing_more, closing_some}
+use Rattle.rust_cursor.proofs.Leads.{when, from_last, symbol_some, stops_empty, reached_empty, closing_empty, still_same}
+use Rattle.rust_cursor.proofs.Steps.{closing_stop, closing_more}
 use Rattle.rust_cursor.proofs.Scans.{taking_stop, taking_end, taking_more}
 use Rattle.rust_cursor.proofs.Reaches.{reaching_stop, reaching_end, reaching_more}
 use Rattle.rust_cursor.proofs.Views.{beside_twins, symbol_same, word_same, open_same, not_brace, next_ahead, next_behind, next_none, taken_same, before_same}
 use Rattle.rust_cursor.proofs.Tests.{stops_same, ends_same, closing_same, reached_same}
 use Rattle.rust_cursor.proofs.Braced.{tokens_at, symbol_at, some_at, bumped_at, Stays}
-use Rattle.rust_cursor.proofs.Nesting.{shorter}
 use Rattle.rust_cursor.proofs.Walk.{Walk, inner_by, walk_beside}
 use Rattle.rust_cursor.proofs.Inside.{stops_deep}
 
@@ -247,16 +246,15 @@ not_open bracket n ts e =
     when (n.braces == 0) (λ i. let j = rw (i, is) at h in absurd (both_no (bracket == 123) (n.others == 0) j)) (λ i. absurd (let j = rw i at h in cc)))
     (λ f. f)
 
-closing_ends : (bracket fuel : ℕ) (ts : Tokens) (n : Nest) → length ts.left < fuel → (symbol (closing bracket n ts) == 123) ≡ false
-closing_ends bracket zero ts n h = absurd (omega arith)
-closing_ends bracket (suc fuel) ts n h =
-    when (is_closing bracket n ts)
-    (λ p. rw (closing_stop bracket n ts p) (not_open bracket n ts p))
-    (λ p. let less = shorter ts (closing_some bracket n ts p) in rw (closing_more bracket n ts p) (closing_ends bracket fuel (bumped ts) (nest_behind n ts) (omega arith)))
-
 to_closing_ends : (bracket : ℕ) (ts : Tokens) → (symbol (to_closing bracket ts) == 123) ≡ false
 unfolding to_closing
-to_closing_ends bracket ts = closing_ends bracket (suc (length ts.left)) ts flat (omega arith)
+to_closing_ends bracket ts =
+    from_last (λ ts. (n : Nest) → (symbol (closing bracket n ts) == 123) ≡ false)
+    (λ ts e n. let p = closing_empty bracket n ts e in rw (closing_stop bracket n ts p) (not_open bracket n ts p))
+    (λ ts e inner n. when (is_closing bracket n ts)
+    (λ p. rw (closing_stop bracket n ts p) (not_open bracket n ts p))
+    (λ p. rw (closing_more bracket n ts p) (inner (nest_behind n ts))))
+    ts flat
 
 behind_closing_beside : (b : Bodies) (bracket : ℕ) (ts us : Tokens) → (symbol ts == 123) ≡ false → Beside b ts us → Beside b (behind_closing bracket ts) (behind_closing bracket us)
 behind_closing_beside b bracket ts us e h =
