@@ -1,7 +1,7 @@
 -- What is read, with what is wanted of it.
 use Rattle.std.specs.Prelude.{Bool, Option, List, [], ◌++◌, option_map}
 use Rattle.hir_input.specs.Attr.{MetaView}
-use Rattle.hir_input.specs.Syntax.{NodeView, NamedView, UseView, CallView, ItemView, ItemViews, plain_item, const_item, struct_item, bare_module, listed_module, use_item, extern_crate, bare_extern_block, listed_extern_block, impl_item, macro_call, macro_rules, asm_item, no_items, item_and}
+use Rattle.hir_input.specs.Syntax.{NodeView, NamedView, ItemView, ItemViews, plain_item, const_item, struct_item, bare_module, listed_module, use_item, extern_crate, bare_extern_block, listed_extern_block, impl_item, macro_call, macro_rules, asm_item, no_items, item_and}
 use Rattle.rust_cursor.specs.Extents.{kept_text}
 use Rattle.rust_cursor.specs.Reader.{Reader}
 use Rattle.rust_metas.specs.Docs.{kept_metas}
@@ -24,35 +24,38 @@ clipped_front w h = record { start = h.start; attrs = kept_metas w.docs h.attrs;
 
 -- ---- items
 
+abbrev pub named_changed : (NodeView → NodeView) → NamedView → NamedView
+named_changed change n = record { node = change n.node; name = n.name; visibility = n.visibility }
+
+-- an item with its own node changed
+abbrev pub item_changed : (NodeView → NodeView) → ItemView → ItemView
+item_changed change (plain_item kind n) = plain_item kind (named_changed change n)
+item_changed change (const_item n) = const_item (named_changed change n)
+item_changed change (struct_item n fields) = struct_item (named_changed change n) fields
+item_changed change (bare_module n semicolon) = bare_module (named_changed change n) semicolon
+item_changed change (listed_module n semicolon is) = listed_module (named_changed change n) semicolon is
+item_changed change (use_item u) = use_item (record { node = change u.node; visibility = u.visibility; use_tree = u.use_tree })
+item_changed change (extern_crate n rename) = extern_crate (named_changed change n) rename
+item_changed change (bare_extern_block n) = bare_extern_block (change n)
+item_changed change (listed_extern_block n is) = listed_extern_block (change n) is
+item_changed change (impl_item n of_trait) = impl_item (change n) of_trait
+item_changed change (macro_call c) = macro_call (record { node = change c.node; path = c.path; expand_to = c.expand_to; ctxt = c.ctxt })
+item_changed change (macro_rules n name) = macro_rules (change n) name
+item_changed change (asm_item n) = asm_item (change n)
+
 -- what every node has, with its documentation and its body text if they are wanted
 abbrev pub clipped_node : Wanted → NodeView → NodeView
 clipped_node w n = record { hash = n.hash; number = n.number; attrs = kept_metas w.docs n.attrs; body = kept_text w.bodies n.body }
 
 abbrev pub clipped_named : Wanted → NamedView → NamedView
-clipped_named w n = record { node = clipped_node w n.node; name = n.name; visibility = n.visibility }
-
-abbrev pub clipped_use : Wanted → UseView → UseView
-clipped_use w u = record { node = clipped_node w u.node; visibility = u.visibility; use_tree = u.use_tree }
-
-abbrev pub clipped_call : Wanted → CallView → CallView
-clipped_call w c = record { node = clipped_node w c.node; path = c.path; expand_to = c.expand_to; ctxt = c.ctxt }
+clipped_named w = named_changed (clipped_node w)
 
 -- an item, with what is wanted of it and of those in it
 abbrev mutual
   pub clipped_item : Wanted → ItemView → ItemView
-  clipped_item w (plain_item kind n) = plain_item kind (clipped_named w n)
-  clipped_item w (const_item n) = const_item (clipped_named w n)
-  clipped_item w (struct_item n fields) = struct_item (clipped_named w n) fields
-  clipped_item w (bare_module n semicolon) = bare_module (clipped_named w n) semicolon
   clipped_item w (listed_module n semicolon is) = listed_module (clipped_named w n) semicolon (clipped_list w is)
-  clipped_item w (use_item u) = use_item (clipped_use w u)
-  clipped_item w (extern_crate n rename) = extern_crate (clipped_named w n) rename
-  clipped_item w (bare_extern_block n) = bare_extern_block (clipped_node w n)
   clipped_item w (listed_extern_block n is) = listed_extern_block (clipped_node w n) (clipped_list w is)
-  clipped_item w (impl_item n of_trait) = impl_item (clipped_node w n) of_trait
-  clipped_item w (macro_call c) = macro_call (clipped_call w c)
-  clipped_item w (macro_rules n name) = macro_rules (clipped_node w n) name
-  clipped_item w (asm_item n) = asm_item (clipped_node w n)
+  clipped_item w i = item_changed (clipped_node w) i
 
   pub clipped_list : Wanted → ItemViews → ItemViews
   clipped_list w no_items = no_items
@@ -83,24 +86,9 @@ clipped_leaf_if w l = option_map (clipped_leaf w) l
 abbrev pub node_behind : List MetaView → NodeView → NodeView
 node_behind attrs n = record { hash = n.hash; number = n.number; attrs = attrs ++ n.attrs; body = n.body }
 
-abbrev pub named_behind : List MetaView → NamedView → NamedView
-named_behind attrs n = record { node = node_behind attrs n.node; name = n.name; visibility = n.visibility }
-
 -- an item with these attributes before its own
 abbrev pub item_behind : List MetaView → ItemView → ItemView
-item_behind attrs (plain_item kind n) = plain_item kind (named_behind attrs n)
-item_behind attrs (const_item n) = const_item (named_behind attrs n)
-item_behind attrs (struct_item n fields) = struct_item (named_behind attrs n) fields
-item_behind attrs (bare_module n semicolon) = bare_module (named_behind attrs n) semicolon
-item_behind attrs (listed_module n semicolon is) = listed_module (named_behind attrs n) semicolon is
-item_behind attrs (use_item u) = use_item (record { node = node_behind attrs u.node; visibility = u.visibility; use_tree = u.use_tree })
-item_behind attrs (extern_crate n rename) = extern_crate (named_behind attrs n) rename
-item_behind attrs (bare_extern_block n) = bare_extern_block (node_behind attrs n)
-item_behind attrs (listed_extern_block n is) = listed_extern_block (node_behind attrs n) is
-item_behind attrs (impl_item n of_trait) = impl_item (node_behind attrs n) of_trait
-item_behind attrs (macro_call c) = macro_call (record { node = node_behind attrs c.node; path = c.path; expand_to = c.expand_to; ctxt = c.ctxt })
-item_behind attrs (macro_rules n name) = macro_rules (node_behind attrs n) name
-item_behind attrs (asm_item n) = asm_item (node_behind attrs n)
+item_behind attrs = item_changed (node_behind attrs)
 
 -- an item with what is wanted of it, behind these attributes
 unfoldable pub wanted_item : Wanted → List MetaView → ItemView → ItemView

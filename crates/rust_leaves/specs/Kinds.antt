@@ -47,12 +47,16 @@ function attrs visibility = do
   r ← item_end
   pure (plain_read fn_kind (attrs ++ block_attributes r.block) visibility n r)
 
+-- a name, and what is left up to an end
+abbrev pub named_leaf : Reader RestRead → PlainKind → List MetaView → Option Visibility → Reader LeafRead
+named_leaf end k attrs visibility = do
+  n ← named
+  r ← end
+  pure (plain_read k attrs visibility n r)
+
 -- Union, Enumeration and Trait: a name, and all that is left
 abbrev pub block_item : PlainKind → List MetaView → Option Visibility → Reader LeafRead
-block_item k attrs visibility = do
-  n ← named
-  r ← item_end
-  pure (plain_read k attrs visibility n r)
+block_item = named_leaf item_end
 
 unfoldable pub union_item : List MetaView → Option Visibility → Reader LeafRead
 union_item = block_item union_kind
@@ -65,25 +69,36 @@ trait_item = block_item trait_kind
 
 -- a macro 2.0
 unfoldable pub macro_def : List MetaView → Option Visibility → Reader LeafRead
-macro_def attrs visibility = do
-  n ← named
-  r ← macro_end
-  pure (plain_read macro_def_kind attrs visibility n r)
+macro_def = named_leaf macro_end macro_def_kind
 
 -- TypeAlias
 unfoldable pub type_alias : List MetaView → Option Visibility → Reader LeafRead
-type_alias attrs visibility = do
-  n ← named
-  r ← value_end
-  pure (plain_read type_alias_kind attrs visibility n r)
+type_alias = named_leaf value_end type_alias_kind
 
 -- StaticItem
 unfoldable pub static_value : List MetaView → Option Visibility → Reader LeafRead
 static_value attrs visibility = do
   _ ← eat_word (codes "mut")
-  n ← named
-  r ← value_end
-  pure (plain_read static_kind attrs visibility n r)
+  named_leaf value_end static_kind attrs visibility
+
+-- the kind of an item that has nothing else of its own, by its word
+abbrev pub plain_kind : Head → PlainKind
+plain_kind head.Enum = enum_kind
+plain_kind head.MacroDef = macro_def_kind
+plain_kind head.Static = static_kind
+plain_kind head.TypeAlias = type_alias_kind
+plain_kind head.Union = union_kind
+plain_kind _ = trait_kind
+
+-- how far it goes
+abbrev pub plain_end : Head → Reader RestRead
+plain_end head.MacroDef = macro_end
+plain_end head.Static = value_end
+plain_end head.TypeAlias = value_end
+plain_end _ = item_end
+
+unfoldable pub plain_leaf : Head → List MetaView → Option Visibility → Reader LeafRead
+plain_leaf h = named_leaf (plain_end h) (plain_kind h)
 
 -- ConstantItem: `_` is no name
 unfoldable pub constant : List MetaView → Option Visibility → Reader LeafRead

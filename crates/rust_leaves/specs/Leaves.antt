@@ -102,33 +102,27 @@ bare_end is_ended = record { body = []; is_ended = is_ended; block = None; brace
 abbrev pub past : Tokens → ℕ
 past ts = ts.past
 
--- up to a semicolon or a block
-unfoldable pub item_end : Reader RestRead
-item_end = do
-  read ← item_rest
+abbrev pub rest_by : Reader ExcerptRead → Reader RestRead
+rest_by reader = do
+  read ← reader
   end ← look past
   pure (rest_read read end)
+
+-- up to a semicolon or a block
+unfoldable pub item_end : Reader RestRead
+item_end = rest_by item_rest
 
 -- the same of an impl
 unfoldable pub impl_end : Reader RestRead
-impl_end = do
-  read ← impl_rest
-  end ← look past
-  pure (rest_read read end)
+impl_end = rest_by impl_rest
 
 -- the same of a macro with parameters
 unfoldable pub macro_end : Reader RestRead
-macro_end = do
-  read ← macro_rest
-  end ← look past
-  pure (rest_read read end)
+macro_end = rest_by macro_rest
 
 -- up to a semicolon
 unfoldable pub value_end : Reader RestRead
-value_end = do
-  read ← value_rest
-  end ← look past
-  pure (rest_read read end)
+value_end = rest_by value_rest
 
 abbrev pub semicolon_end : ExcerptRead → Reader RestRead
 semicolon_end read = do

@@ -8,7 +8,7 @@ ghost use Rattle.rust_leaves.specs.Kinds as spec;
 ghost use Rattle.rust_leaves.specs.Views.{leaf_view};
 
 use crate::head::second;
-use crate::leaf::Leaf;
+use crate::leaf::{Leaf, read_leaf};
 use crate::named::{call_end, item_name_or};
 use crate::texts::{bare, last_text};
 use crate::wanted::Wanted;
@@ -38,16 +38,7 @@ pub(crate) fn macro_definition<'t>(
         name: named.name,
         body: rest.body,
     });
-    Ok(Leaf {
-        item,
-        kind: AstIdKind::MacroRules,
-        name: named.hashed,
-        named: named.range,
-        body: rest.braces,
-        is_ended: rest.is_ended,
-        too_deep: None,
-        use_trees: TreeStarts::none(alloc),
-    })
+    Ok(read_leaf!(alloc, MacroRules, item, named.hashed, named.range, rest))
 }
 
 /// Whether a `!` and a bracket come next.
@@ -81,16 +72,7 @@ fn call_behind<'t>(
         ctxt: SyntaxContext::Root(EditionYear::E2024),
         body: rest.body,
     });
-    Ok(Leaf {
-        item,
-        kind: AstIdKind::MacroCall,
-        name,
-        named: None,
-        body: rest.braces,
-        is_ended: rest.is_ended,
-        too_deep: None,
-        use_trees: TreeStarts::none(alloc),
-    })
+    Ok(read_leaf!(alloc, MacroCall, item, name, None, rest))
 }
 
 /// Takes a macro call, or nothing where none is written.

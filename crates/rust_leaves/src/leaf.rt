@@ -1,16 +1,16 @@
 //! Items that hold no items.
 
-ghost use Rattle.std.specs.Prelude.{[], map, option_map};
+ghost use Rattle.std.specs.Prelude.{◌≡◌, [], map, option_map};
 ghost use Rattle.hir_input.specs.Attr.{meta_view};
 ghost use Rattle.rust_cursor.specs.Reader.{Gives};
-ghost use Rattle.rust_leaves.specs.Clipped.{leaf_behind, wanted_leaf, with_value};
+ghost use Rattle.rust_leaves.specs.Clipped.{clipped_rest, leaf_behind, wanted_leaf, with_value};
 ghost use Rattle.rust_leaves.specs.Kinds as spec;
-ghost use Rattle.rust_leaves.specs.Views.{front_view, leaf_view};
+ghost use Rattle.rust_leaves.specs.Views.{front_view, leaf_view, name_view, rest_view};
 
 use crate::calls::{invocation, macro_definition};
 use crate::front::Front;
 use crate::head::Head;
-use crate::named::{impl_end, item_end, item_name, macro_end, value_end, with_inner};
+use crate::named::{Named, Rest, impl_end, item_end, item_name, macro_end, value_end, with_inner};
 use crate::structs::{has_trait, structure};
 use crate::uses::{crate_item, use_declaration};
 use crate::wanted::Wanted;
@@ -40,11 +40,31 @@ pub struct Leaf<'t> {
     pub use_trees: TreeStarts,
 }
 
-// What was read of an item of a kind that has nothing else of its own.
+// What was read of an item other than a use.
+macro_rules! read_leaf {
+    ($alloc:expr, $kind:ident, $item:expr, $name:expr, $named:expr, $rest:expr) => {
+        Leaf {
+            item: $item,
+            kind: AstIdKind::$kind,
+            name: $name,
+            named: $named,
+            body: $rest.braces,
+            is_ended: $rest.is_ended,
+            too_deep: None,
+            use_trees: TreeStarts::none($alloc),
+        }
+    };
+}
+
+pub(crate) use read_leaf;
+
+// The same of one of a kind that has nothing else of its own.
 macro_rules! named_leaf {
     ($kind:ident, $alloc:expr, $attrs:expr, $visibility:expr, $named:expr, $rest:expr) => {
-        Leaf {
-            item: Item::$kind(NamedNode {
+        read_leaf!(
+            $alloc,
+            $kind,
+            Item::$kind(NamedNode {
                 hash: 0,
                 number: 0,
                 attrs: $attrs,
@@ -52,14 +72,10 @@ macro_rules! named_leaf {
                 visibility: $visibility,
                 body: $rest.body,
             }),
-            kind: AstIdKind::$kind,
-            name: $named.hashed,
-            named: $named.range,
-            body: $rest.braces,
-            is_ended: $rest.is_ended,
-            too_deep: None,
-            use_trees: TreeStarts::none($alloc),
-        }
+            $named.hashed,
+            $named.range,
+            $rest
+        )
     };
 }
 
@@ -81,92 +97,66 @@ fn function<'t>(
     Ok(named_leaf!(Fn, alloc, attrs, visibility, named, rest))
 }
 
-#[tactic(auto, using(hir_input::proofs::SyntaxViews::item_views, crate::proofs::Clipped::union_clipped))]
-fn union_item<'t>(
+/// What is left of an item that has nothing else of its own, behind its name.
+fn plain_end<'t>(
+    alloc: Global,
+    cursor: &mut Cursor<'t>,
+    keeps_body: bool,
+    head: Head,
+) -> Result<Rest<'t>, AllocError>
+    ensures { Gives rest_view
+        (with_value (clipped_rest keeps_body) (spec.plain_end head cursor.old)) result cursor.new }
+{
+    match head {
+        Head::MacroDef => macro_end(alloc, cursor, keeps_body),
+        Head::Static | Head::TypeAlias => value_end(alloc, cursor, keeps_body),
+        _ => item_end(alloc, cursor, keeps_body),
+    }
+}
+
+/// What was read of an item that has nothing else of its own.
+#[tactic(auto, using(hir_input::proofs::SyntaxViews::item_views))]
+fn plain_of<'t>(
+    alloc: Global,
+    head: Head,
+    attrs: Vec<Meta>,
+    visibility: Option<Visibility>,
+    named: Named<'t>,
+    rest: Rest<'t>,
+) -> Leaf<'t>
+    ensures { leaf_view result ≡ spec.plain_read (spec.plain_kind head) (map meta_view attrs.items)
+        visibility (name_view named.entry) (rest_view rest.entry) }
+{
+    match head {
+        Head::Enum => named_leaf!(Enum, alloc, attrs, visibility, named, rest),
+        Head::MacroDef => named_leaf!(MacroDef, alloc, attrs, visibility, named, rest),
+        Head::Static => named_leaf!(Static, alloc, attrs, visibility, named, rest),
+        Head::TypeAlias => named_leaf!(TypeAlias, alloc, attrs, visibility, named, rest),
+        Head::Union => named_leaf!(Union, alloc, attrs, visibility, named, rest),
+        _ => named_leaf!(Trait, alloc, attrs, visibility, named, rest),
+    }
+}
+
+/// Takes an item that has nothing else of its own, by its word.
+#[tactic(auto, using(crate::proofs::Clipped::plain_leaf_clipped))]
+fn plain_leaf<'t>(
     alloc: Global,
     cursor: &mut Cursor<'t>,
     wanted: Wanted,
+    head: Head,
     attrs: Vec<Meta>,
     visibility: Option<Visibility>,
 ) -> Result<Leaf<'t>, AllocError>
     ensures { Gives leaf_view
         (with_value (wanted_leaf wanted (map meta_view attrs.items))
-        (spec.union_item [] visibility cursor.old)) result cursor.new }
+        (spec.plain_leaf head [] visibility cursor.old)) result cursor.new }
 {
     let named = item_name(alloc, cursor)?;
-    let rest = item_end(alloc, cursor, wanted.bodies)?;
-    Ok(named_leaf!(Union, alloc, attrs, visibility, named, rest))
+    let rest = plain_end(alloc, cursor, wanted.bodies, head)?;
+    Ok(plain_of(alloc, head, attrs, visibility, named, rest))
 }
 
-#[tactic(auto, using(hir_input::proofs::SyntaxViews::item_views, crate::proofs::Clipped::enumeration_clipped))]
-fn enumeration<'t>(
-    alloc: Global,
-    cursor: &mut Cursor<'t>,
-    wanted: Wanted,
-    attrs: Vec<Meta>,
-    visibility: Option<Visibility>,
-) -> Result<Leaf<'t>, AllocError>
-    ensures { Gives leaf_view
-        (with_value (wanted_leaf wanted (map meta_view attrs.items))
-        (spec.enumeration [] visibility cursor.old)) result cursor.new }
-{
-    let named = item_name(alloc, cursor)?;
-    let rest = item_end(alloc, cursor, wanted.bodies)?;
-    Ok(named_leaf!(Enum, alloc, attrs, visibility, named, rest))
-}
-
-#[tactic(auto, using(hir_input::proofs::SyntaxViews::item_views, crate::proofs::Clipped::trait_clipped))]
-fn trait_item<'t>(
-    alloc: Global,
-    cursor: &mut Cursor<'t>,
-    wanted: Wanted,
-    attrs: Vec<Meta>,
-    visibility: Option<Visibility>,
-) -> Result<Leaf<'t>, AllocError>
-    ensures { Gives leaf_view
-        (with_value (wanted_leaf wanted (map meta_view attrs.items))
-        (spec.trait_item [] visibility cursor.old)) result cursor.new }
-{
-    let named = item_name(alloc, cursor)?;
-    let rest = item_end(alloc, cursor, wanted.bodies)?;
-    Ok(named_leaf!(Trait, alloc, attrs, visibility, named, rest))
-}
-
-#[tactic(auto, using(hir_input::proofs::SyntaxViews::item_views, crate::proofs::Clipped::macro_def_clipped))]
-fn macro_def<'t>(
-    alloc: Global,
-    cursor: &mut Cursor<'t>,
-    wanted: Wanted,
-    attrs: Vec<Meta>,
-    visibility: Option<Visibility>,
-) -> Result<Leaf<'t>, AllocError>
-    ensures { Gives leaf_view
-        (with_value (wanted_leaf wanted (map meta_view attrs.items))
-        (spec.macro_def [] visibility cursor.old)) result cursor.new }
-{
-    let named = item_name(alloc, cursor)?;
-    let rest = macro_end(alloc, cursor, wanted.bodies)?;
-    Ok(named_leaf!(MacroDef, alloc, attrs, visibility, named, rest))
-}
-
-#[tactic(auto, using(hir_input::proofs::SyntaxViews::item_views, crate::proofs::Clipped::type_alias_clipped))]
-fn type_alias<'t>(
-    alloc: Global,
-    cursor: &mut Cursor<'t>,
-    wanted: Wanted,
-    attrs: Vec<Meta>,
-    visibility: Option<Visibility>,
-) -> Result<Leaf<'t>, AllocError>
-    ensures { Gives leaf_view
-        (with_value (wanted_leaf wanted (map meta_view attrs.items))
-        (spec.type_alias [] visibility cursor.old)) result cursor.new }
-{
-    let named = item_name(alloc, cursor)?;
-    let rest = value_end(alloc, cursor, wanted.bodies)?;
-    Ok(named_leaf!(TypeAlias, alloc, attrs, visibility, named, rest))
-}
-
-#[tactic(auto, using(hir_input::proofs::SyntaxViews::item_views, crate::proofs::Clipped::static_clipped))]
+#[tactic(auto, using(crate::proofs::Clipped::static_clipped))]
 fn static_value<'t>(
     alloc: Global,
     cursor: &mut Cursor<'t>,
@@ -179,9 +169,7 @@ fn static_value<'t>(
         (spec.static_value [] visibility cursor.old)) result cursor.new }
 {
     cursor.eat_word("mut");
-    let named = item_name(alloc, cursor)?;
-    let rest = value_end(alloc, cursor, wanted.bodies)?;
-    Ok(named_leaf!(Static, alloc, attrs, visibility, named, rest))
+    plain_leaf(alloc, cursor, wanted, Head::Static, attrs, visibility)
 }
 
 #[tactic(auto, using(hir_input::proofs::SyntaxViews::item_views, crate::proofs::Clipped::constant_clipped))]
@@ -224,16 +212,7 @@ fn implementation<'t>(
         is_trait_impl,
         body: rest.body,
     });
-    Ok(Leaf {
-        item,
-        kind: AstIdKind::Impl,
-        name: "",
-        named: None,
-        body: rest.braces,
-        is_ended: rest.is_ended,
-        too_deep: None,
-        use_trees: TreeStarts::none(alloc),
-    })
+    Ok(read_leaf!(alloc, Impl, item, "", None, rest))
 }
 
 /// Takes an item that holds no items, behind the words that begin it, or nothing where none is written. Of its body text and its
@@ -259,14 +238,14 @@ pub fn take_leaf<'t>(
         Head::ExternCrate => crate_item(alloc, cursor, attrs, visibility)?,
         Head::Fn => function(alloc, cursor, wanted, attrs, visibility)?,
         Head::Impl => implementation(alloc, cursor, wanted, attrs)?,
-        Head::Trait => trait_item(alloc, cursor, wanted, attrs, visibility)?,
         Head::Struct => structure(alloc, cursor, wanted, attrs, visibility)?,
-        Head::Union => union_item(alloc, cursor, wanted, attrs, visibility)?,
-        Head::Enum => enumeration(alloc, cursor, wanted, attrs, visibility)?,
         Head::Const => constant(alloc, cursor, wanted, attrs, visibility)?,
         Head::Static => static_value(alloc, cursor, wanted, attrs, visibility)?,
-        Head::TypeAlias => type_alias(alloc, cursor, wanted, attrs, visibility)?,
-        Head::MacroDef => macro_def(alloc, cursor, wanted, attrs, visibility)?,
+        Head::Trait => plain_leaf(alloc, cursor, wanted, Head::Trait, attrs, visibility)?,
+        Head::Union => plain_leaf(alloc, cursor, wanted, Head::Union, attrs, visibility)?,
+        Head::Enum => plain_leaf(alloc, cursor, wanted, Head::Enum, attrs, visibility)?,
+        Head::TypeAlias => plain_leaf(alloc, cursor, wanted, Head::TypeAlias, attrs, visibility)?,
+        Head::MacroDef => plain_leaf(alloc, cursor, wanted, Head::MacroDef, attrs, visibility)?,
         Head::MacroRules => macro_definition(alloc, cursor, wanted, attrs)?,
         Head::Module | Head::ExternBlock | Head::Other => return invocation(
             alloc, cursor, wanted, attrs,

@@ -9,7 +9,7 @@ ghost use Rattle.rust_leaves.specs.Kinds as kinds;
 ghost use Rattle.rust_leaves.specs.Leaves as spec;
 ghost use Rattle.rust_leaves.specs.Views.{field_view, leaf_view};
 
-use crate::leaf::Leaf;
+use crate::leaf::{Leaf, read_leaf};
 use crate::named::{item_end, item_name};
 use crate::wanted::Wanted;
 use hir_input::ast::{Item, Struct, StructKind, TupleField, Visibility};
@@ -162,14 +162,5 @@ pub(crate) fn structure<'t>(
         kind,
         body: rest.body,
     });
-    Ok(Leaf {
-        item,
-        kind: AstIdKind::Struct,
-        name: named.hashed,
-        named: named.range,
-        body: rest.braces,
-        is_ended: rest.is_ended,
-        too_deep: None,
-        use_trees: TreeStarts::none(alloc),
-    })
+    Ok(read_leaf!(alloc, Struct, item, named.hashed, named.range, rest))
 }
