@@ -1,25 +1,20 @@
 -- Conditions of tokens that look alike are the same, until one goes past where the texts part.
-use Rattle.std.proofs.Common.{◌≡◌, ◌==◌, ◌||◌, ℕ, zero, suc, true, false, Option, Some, None, List, [], ◌∷◌, refl, ap, codes}
-use Rattle.std.specs.Prelude.{if◌then◌else◌, slice_index}
-use Rattle.std.specs.Str.{bytes_eq}
-use Rattle.std.proofs.lemmas.Bool.{eqb-true}
+use Rattle.std.proofs.Common.{◌≡◌, ◌==◌, ℕ, zero, suc, true, false, Option, Some, None, List, refl, ap}
+use Rattle.std.specs.Prelude.{if◌then◌else◌}
 use Rattle.hir_input.specs.Cfg.{CfgView, invalid}
-use Rattle.rust_lexer.specs.declared.kind.TokenKind.{TokenKind}
-use Rattle.rust_lexer.specs.declared.kind.TokenKind.TheVariants as kinds
-use Rattle.rust_lexer.specs.Piece.{Piece}
-use Rattle.rust_lexer.specs.Symbol.{symbol_of}
 use Rattle.rust_cursor.specs.Brackets.{behind_closed, behind_tree}
 use Rattle.rust_cursor.specs.Reader.{Reader, ◌>>=◌}
 use Rattle.rust_cursor.specs.Tokens.{Tokens}
-use Rattle.rust_cursor.specs.Words.{by_first, symbol, kind, text, bumped}
-use Rattle.rust_cursor.proofs.Leads.{through, Forwards, when, behind_closed_leads}
+use Rattle.rust_cursor.specs.Words.{symbol, bumped}
+use Rattle.rust_cursor.proofs.Leads.{through, Forwards, behind_closed_leads}
 use Rattle.rust_cursor.proofs.Parting.{Onward, on, gone, kept, Parting, Until, UpTo, by_next, onward_leads, cond_onward, cond_until, map_until, pass_until, bind_until, elements_until, Entering}
 use Rattle.rust_cursor.proofs.Twins.{is_edge, symbol_same, kind_same, text_same, open_same, end_same, symbol_test, after_symbol}
 use Rattle.rust_paths.specs.Names.{as_name}
 use Rattle.rust_paths.proofs.Alike.{name_until}
-use Rattle.rust_metas.specs.Conditions.{comma_from, behind_comma, is_word_kind, is_option_word, option_name, composed, pair, named_condition, if_named, ended_condition, condition_with, conditions, condition}
+use Rattle.rust_metas.specs.Conditions.{comma_from, behind_comma, is_option_word, option_name, composed, pair, named_condition, if_named, ended_condition, condition_with, conditions, condition}
 use Rattle.rust_cursor.specs.Nests.{is_literal_kind}
 use Rattle.rust_metas.specs.Literals.{is_ended}
+use Rattle.rust_metas.proofs.Around.{option_symbol}
 use Rattle.rust_metas.proofs.Leads.{comma_from_leads, if_named_leads, ended_leads, condition_with_leads, conditions_leads}
 
 -- ---- what stands between commas
@@ -46,29 +41,8 @@ ended_until b c ts us h =
 
 -- ---- conditions
 
--- no option's word begins with such a byte
-no_option : (z : List ℕ) → is_edge (slice_index z 0) ≡ true → (if bytes_eq z (codes "_") then false else (if bytes_eq z (codes "r#true") || bytes_eq z (codes "r#false") then true else false)) ≡ false
-no_option [] e = refl
-no_option (c ∷ z) e =
-    when (c == 123) (λ f. let is : c ≡ 123 = eqb-true c 123 f in rw is refl)
-    (λ f. when (c == 59) (λ g. let is : c ≡ 59 = eqb-true c 59 g in rw is refl)
-    (λ g. when (c == 125) (λ k. let is : c ≡ 125 = eqb-true c 125 k in rw is refl) (λ k. absurd (let no = rw (f, g, k) at e in cc))))
-
-no_option_kind : (k : TokenKind) (z : List ℕ) → is_edge (symbol_of (record { kind = k; text = z; at = 0 })) ≡ true
-    → (if bytes_eq z (codes "_") then false else (if bytes_eq z (codes "r#true") || bytes_eq z (codes "r#false") then true else is_word_kind (Some k))) ≡ false
-no_option_kind kinds.OpenDelim z e = no_option z e
-no_option_kind kinds.CloseDelim z e = no_option z e
-no_option_kind kinds.Punct z e = no_option z e
-no_option_kind _ z e = absurd cc
-
 option_no_edge : (ts : Tokens) → is_option_word ts ≡ true → is_edge (symbol ts) ≡ false
-unfolding is_option_word symbol text kind
-option_no_edge ts e = no_first ts.left e
-  where
-    no_first : (left : List Piece) → (if bytes_eq (by_first [] (λ t. t.text) left) (codes "_") then false else (if bytes_eq (by_first [] (λ t. t.text) left) (codes "r#true") || bytes_eq (by_first [] (λ t. t.text) left) (codes "r#false") then true else is_word_kind (by_first None (λ t. Some t.kind) left))) ≡ true
-        → is_edge (by_first 0 symbol_of left) ≡ false
-    no_first [] e = absurd cc
-    no_first (t ∷ left) e = when (is_edge (symbol_of t)) (λ f. let none = no_option_kind t.kind t.text f in absurd cc) (λ f. f)
+option_no_edge ts e = option_symbol (λ s. is_edge s ≡ false) refl refl ts e
 
 option_word_same : (b : Parting) (ts us : Tokens) → b.twins.are ts us → is_option_word us ≡ is_option_word ts
 unfolding is_option_word

@@ -9,7 +9,7 @@ use Rattle.rust_cursor.specs.Elements.{elements, one}
 use Rattle.rust_cursor.specs.Reader.{Reader, ◌>>=◌, pure}
 use Rattle.rust_cursor.specs.Tokens.{Tokens}
 use Rattle.rust_cursor.specs.Words.{symbol, word, bumped, is_at_open}
-use Rattle.rust_cursor.proofs.Leads.{through, Forwards, when, turns_leads}
+use Rattle.rust_cursor.proofs.Leads.{through, Forwards, when}
 use Rattle.rust_cursor.proofs.Parting.{kept, Parting, Until, UpTo, cond_until, map_until, pass_until, bind_until, elements_until, Entering, Counted}
 use Rattle.rust_cursor.proofs.Twins.{is_edge, word_same, kind_same, text_same, open_same, edge_word, edge_test, symbol_test, after_word, after_symbol}
 use Rattle.rust_paths.specs.Paths.{path}
@@ -19,7 +19,7 @@ use Rattle.rust_metas.specs.Literals.{is_truth, is_literal, is_ended, root, next
 use Rattle.rust_metas.specs.Metas.{assigned, input, plain_meta, is_call, member, meta_with, meta}
 use Rattle.rust_metas.proofs.Alike.{behind_comma_onward, ended_same, inside, inside_until, condition_until}
 use Rattle.rust_metas.proofs.Around.{literal_symbol}
-use Rattle.rust_metas.proofs.Leads.{behind_comma_leads, condition_leads, input_leads, member_leads, meta_leads}
+use Rattle.rust_metas.proofs.Leads.{behind_comma_leads, condition_leads, input_leads, member_leads, members_leads, meta_leads}
 
 -- ---- literals
 
@@ -86,23 +86,17 @@ module _ (b : Parting) (enter : Entering b) (a a' : ℕ) (count : Counted b a a'
   member_until : UpTo b (member inner) (member inner')
   member_until ts us h = pass_until b behind_comma behind_comma_leads (behind_comma_onward b) (i ts us h)
 
-  members_leads : Forwards (elements (one (member inner)))
-  members_leads = turns_leads _ (one (member inner)) (member_leads inner condition f d)
-
-  members_leads' : Forwards (elements (one (member inner')))
-  members_leads' = turns_leads _ (one (member inner')) (member_leads inner' condition f' d)
-
   conditional_until : UpTo b (conditional inner condition) (conditional inner' condition)
   conditional_until =
       bind_until b condition condition _ _ c
       (λ x ts us h. map_until (λ metas. (x, metas)) (elements_until b (member inner) (member inner') member_until (member_leads inner condition f d) (member_leads inner' condition f' d) ts us h))
-      (λ x ts. members_leads ts) (λ x ts. members_leads' ts)
+      (λ x. members_leads inner condition f d) (λ x. members_leads inner' condition f' d)
 
   conditional_leads : Forwards (conditional inner condition)
-  conditional_leads ts = through (d ts) (members_leads (condition ts).1)
+  conditional_leads ts = through (d ts) (members_leads inner condition f d (condition ts).1)
 
   conditional_leads' : Forwards (conditional inner' condition)
-  conditional_leads' ts = through (d ts) (members_leads' (condition ts).1)
+  conditional_leads' ts = through (d ts) (members_leads inner' condition f' d (condition ts).1)
 
   meta_with_until : UpTo b (meta_with a inner condition) (meta_with a' inner' condition)
   meta_with_until ts us h =

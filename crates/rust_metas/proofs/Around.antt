@@ -1,5 +1,5 @@
 -- Attributes stay in the brackets that they stand in.
-use Rattle.std.proofs.Common.{◌≡◌, ◌==◌, ◌||◌, ◌&&◌, ℕ, zero, suc, Bool, true, false, Option, Some, None, List, [], ◌∷◌, refl, ◌∙◌, subst, codes}
+use Rattle.std.proofs.Common.{◌≡◌, ◌==◌, ◌||◌, ◌&&◌, ℕ, zero, suc, Bool, true, false, Option, Some, None, List, [], ◌∷◌, refl, sym, ◌∙◌, subst, codes}
 use Rattle.std.specs.Prelude.{if◌then◌else◌, not, slice_index}
 use Rattle.std.specs.Str.{bytes_eq}
 use Rattle.std.proofs.lemmas.Bool.{eqb-true}
@@ -18,7 +18,7 @@ use Rattle.rust_cursor.specs.Words.{by_first, symbol, word, kind, text, at, is_e
 use Rattle.rust_cursor.specs.Brackets.{behind_closed, behind_tree}
 use Rattle.rust_cursor.specs.Elements.{elements, one}
 use Rattle.rust_cursor.specs.Extents.{begins_item}
-use Rattle.rust_cursor.proofs.Leads.{LeadsTo, here, further, through, Forwards, when, bumped_leads, behind_tree_leads, turns_leads}
+use Rattle.rust_cursor.proofs.Leads.{LeadsTo, here, further, through, Forwards, when, bumped_leads, behind_tree_leads}
 use Rattle.rust_cursor.proofs.Local.{both_true}
 use Rattle.rust_cursor.proofs.Around.{around, Within, same_within, is_plain, IsSound, sound_on, Remains, NoCloser, OpensAt, round, opens_at, opens_no_closer, not_end, plain_of, plain_upto, plain_around, other_around, word_symbol, entered_within, inside_within, tree_within, turns_within, elements_within, tree_text_within, to_around}
 use Rattle.rust_cursor.proofs.Enclosed.{AreEnclosed}
@@ -31,7 +31,7 @@ use Rattle.rust_metas.specs.Literals.{is_truth, is_literal, is_ended, style_by, 
 use Rattle.rust_metas.specs.Conditions.{comma_from, behind_comma, is_word_kind, is_option_word, option_name, pair, named_condition, if_named, ended_condition, condition_with, conditions, condition}
 use Rattle.rust_metas.specs.Metas.{input, plain_meta, is_call, member, meta_with, meta, doc}
 use Rattle.rust_metas.specs.Attributes.{behind_docs_from, behind_docs, behind_attribute, deepest, is_style, is_doc, is_attribute, is_behind, bracketed, past_mark, one_attribute, attribute, attributes, inner_attributes}
-use Rattle.rust_metas.proofs.Leads.{option_name_leads, if_named_leads, condition_with_leads, conditions_leads, condition_leads, member_leads, meta_leads, attribute_leads}
+use Rattle.rust_metas.proofs.Leads.{option_name_leads, if_named_leads, condition_with_leads, conditions_leads, condition_leads, member_leads, members_leads, meta_leads, attribute_leads}
 
 -- ---- literals
 
@@ -43,7 +43,7 @@ literal_first (t ∷ left) e = by t.kind t.text e
     by (kinds.Literal l) z e = refl
     by _ z e = absurd cc
 
-kind_symbol : (ts : Tokens) → is_literal_kind (kind ts) ≡ true → symbol ts ≡ 0
+pub kind_symbol : (ts : Tokens) → is_literal_kind (kind ts) ≡ true → symbol ts ≡ 0
 unfolding kind symbol
 kind_symbol ts e = literal_first ts.left e
 
@@ -75,34 +75,36 @@ behind_comma_within : (end c : ℕ) (ts : Tokens) → IsSound end ts → Within 
 unfolding behind_comma
 behind_comma_within end c ts s = comma_within end c _ ts s
 
-option_text : (z : List ℕ) → (if bytes_eq z (codes "_") then false else (if bytes_eq z (codes "r#true") || bytes_eq z (codes "r#false") then true else false)) ≡ true → is_plain (slice_index z 0) ≡ true
-option_text [] e = refl
-option_text (b ∷ z) e =
-    when (b == 114) (λ f. rw (eqb-true b 114 f) refl)
-    (λ f. when (b == 95) (λ g. absurd (let is = eqb-true b 95 g in let no = rw is at e in by_tail z no)) (λ g. absurd (let no = rw (f, g) at e in cc)))
-  where
-    by_tail : (z : List ℕ) → (if bytes_eq (95 ∷ z) (codes "_") then false else (if bytes_eq (95 ∷ z) (codes "r#true") || bytes_eq (95 ∷ z) (codes "r#false") then true else false)) ≡ true → ⊥
-    by_tail z e = when (bytes_eq (95 ∷ z) (codes "_")) (λ f. let no = rw f at e in cc) (λ f. let no = rw f at e in cc)
+-- an option's word begins with no symbol, or with the `r` of `r#true`
+module _ (P : ℕ → Type 0) (none : P 0) (raw : P 114) where
+  option_text : (z : List ℕ) → (if bytes_eq z (codes "_") then false else (if bytes_eq z (codes "r#true") || bytes_eq z (codes "r#false") then true else false)) ≡ true → P (slice_index z 0)
+  option_text [] e = none
+  option_text (b ∷ z) e =
+      when (b == 114) (λ f. subst P (sym (eqb-true b 114 f)) raw)
+      (λ f. when (b == 95) (λ g. absurd (let is = eqb-true b 95 g in let no = rw is at e in by_tail z no)) (λ g. absurd (let no = rw (f, g) at e in cc)))
+    where
+      by_tail : (z : List ℕ) → (if bytes_eq (95 ∷ z) (codes "_") then false else (if bytes_eq (95 ∷ z) (codes "r#true") || bytes_eq (95 ∷ z) (codes "r#false") then true else false)) ≡ true → ⊥
+      by_tail z e = when (bytes_eq (95 ∷ z) (codes "_")) (λ f. let no = rw f at e in cc) (λ f. let no = rw f at e in cc)
 
-option_kind : (k : TokenKind) (z : List ℕ) → (if bytes_eq z (codes "_") then false else (if bytes_eq z (codes "r#true") || bytes_eq z (codes "r#false") then true else is_word_kind (Some k))) ≡ true
-    → is_plain (symbol_of (record { kind = k; text = z; at = 0 })) ≡ true
-option_kind kinds.OpenDelim z e = option_text z e
-option_kind kinds.CloseDelim z e = option_text z e
-option_kind kinds.Punct z e = option_text z e
-option_kind _ z e = refl
+  option_kind : (k : TokenKind) (z : List ℕ) → (if bytes_eq z (codes "_") then false else (if bytes_eq z (codes "r#true") || bytes_eq z (codes "r#false") then true else is_word_kind (Some k))) ≡ true
+      → P (symbol_of (record { kind = k; text = z; at = 0 }))
+  option_kind kinds.OpenDelim z e = option_text z e
+  option_kind kinds.CloseDelim z e = option_text z e
+  option_kind kinds.Punct z e = option_text z e
+  option_kind _ z e = none
 
-option_plain : (ts : Tokens) → is_option_word ts ≡ true → is_plain (symbol ts) ≡ true
-unfolding is_option_word symbol text kind
-option_plain ts e = first ts.left e
-  where
-    first : (left : List Piece) → (if bytes_eq (by_first [] (λ t. t.text) left) (codes "_") then false else (if bytes_eq (by_first [] (λ t. t.text) left) (codes "r#true") || bytes_eq (by_first [] (λ t. t.text) left) (codes "r#false") then true else is_word_kind (by_first None (λ t. Some t.kind) left))) ≡ true
-        → is_plain (by_first 0 symbol_of left) ≡ true
-    first [] e = refl
-    first (t ∷ left) e = option_kind t.kind t.text e
+  pub option_symbol : (ts : Tokens) → is_option_word ts ≡ true → P (symbol ts)
+  unfolding is_option_word symbol text kind
+  option_symbol ts e = first ts.left e
+    where
+      first : (left : List Piece) → (if bytes_eq (by_first [] (λ t. t.text) left) (codes "_") then false else (if bytes_eq (by_first [] (λ t. t.text) left) (codes "r#true") || bytes_eq (by_first [] (λ t. t.text) left) (codes "r#false") then true else is_word_kind (by_first None (λ t. Some t.kind) left))) ≡ true
+          → P (by_first 0 symbol_of left)
+      first [] e = none
+      first (t ∷ left) e = option_kind t.kind t.text e
 
 option_name_around : (c : ℕ) (ts : Tokens) → around c (option_name ts).1 ≡ around c ts
 unfolding option_name
-option_name_around c ts = when (is_option_word ts) (λ e. rw e (plain_upto c ts (plain_of (symbol ts) (option_plain ts e)))) (λ e. rw e (name_around c ts))
+option_name_around c ts = when (is_option_word ts) (λ e. rw e (plain_upto c ts (plain_of (symbol ts) (option_symbol (λ s. is_plain s ≡ true) refl refl ts e)))) (λ e. rw e (name_around c ts))
 
 pair_around : (c : ℕ) (key : List ℕ) (ts : Tokens) → (symbol ts == 61) ≡ true → around c (pair key ts).1 ≡ around c ts
 unfolding pair
@@ -165,9 +167,6 @@ module _ (end : ℕ) (inner : Reader MetaView) (condition : Reader CfgView) (i :
   member_within : (c : ℕ) → Remains end c (member inner)
   member_within c ts s = through (behind_comma_within end c (inner ts).1 (sound_on end (f ts) s)) (i c ts s)
 
-  members_leads : Forwards (elements (one (member inner)))
-  members_leads = turns_leads _ (one (member inner)) (member_leads inner condition f d)
-
   meta_with_within : (anchor c : ℕ) → Remains end c (meta_with anchor inner condition)
   meta_with_within anchor c ts s =
       let twice = bumped (bumped ts) in
@@ -176,7 +175,7 @@ module _ (end : ℕ) (inner : Reader MetaView) (condition : Reader CfgView) (i :
       when (is_call (codes "unsafe") ts) (λ e. rw e (call_within end c (codes "unsafe") ts (inner twice).1 refl s e (f twice) (i b twice s2)))
       (λ e. rw e (when (is_call (codes "cfg") ts) (λ g. rw g (call_within end c (codes "cfg") ts (condition twice).1 refl s g (d twice) (j b twice s2)))
       (λ g. rw g (when (is_call (codes "cfg_attr") ts)
-      (λ h. rw h (call_within end c (codes "cfg_attr") ts (elements (one (member inner)) (condition twice).1).1 refl s h (through (d twice) (members_leads (condition twice).1))
+      (λ h. rw h (call_within end c (codes "cfg_attr") ts (elements (one (member inner)) (condition twice).1).1 refl s h (through (d twice) (members_leads inner condition f d (condition twice).1))
       (through (elements_within end b (one (member inner)) (member_leads inner condition f d) (member_within b) (condition twice).1 (sound_on end (d twice) s2)) (j b twice s2))))
       (λ h. rw h (plain_within end c anchor ts s))))))
 

@@ -23,6 +23,10 @@ unfolding kept_metas
 kept_none true = refl
 kept_none false = refl
 
+pub docs_kept : (ms : List MetaView) → kept_metas true ms ≡ ms
+unfolding kept_metas
+docs_kept ms = refl
+
 -- a meta that is kept, and one that is not
 pub meta_kept : (m : MetaView) → is_doc_meta m ≡ false → kept_metas false (m ∷ []) ≡ m ∷ []
 unfolding kept_metas

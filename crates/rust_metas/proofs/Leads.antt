@@ -8,7 +8,7 @@ use Rattle.rust_lexer.specs.declared.kind.DocStyle.TheVariants.{Outer, Inner}
 use Rattle.rust_cursor.specs.Tokens.{Tokens}
 use Rattle.rust_cursor.specs.Reader.{Reader}
 use Rattle.rust_cursor.specs.Words.{symbol, word, kind, bumped, is_at_end, is_at_open}
-use Rattle.rust_cursor.specs.Elements.{one}
+use Rattle.rust_cursor.specs.Elements.{elements, one}
 use Rattle.rust_cursor.specs.Extents.{begins_item}
 use Rattle.rust_cursor.proofs.Leads.{LeadsTo, here, further, through, Forwards, when, bumped_leads, behind_closed_leads, behind_tree_leads, turns_leads, taken_leads_on}
 use Rattle.rust_paths.proofs.Leads.{name_leads, path_leads}
@@ -20,7 +20,7 @@ use Rattle.rust_metas.specs.Attributes.{is_doc, is_behind, behind_bracket, brack
 
 -- ---- literals
 
-pub value_leads : (anchor : ℕ) → Forwards (value anchor)
+value_leads : (anchor : ℕ) → Forwards (value anchor)
 unfolding value
 value_leads anchor ts = when (is_literal ts && is_ended (bumped ts)) (λ e. rw e (bumped_leads ts)) (λ e. rw e here)
 
@@ -44,7 +44,7 @@ pub option_name_leads : Forwards option_name
 unfolding option_name
 option_name_leads ts = when (is_option_word ts) (λ e. rw e (bumped_leads ts)) (λ e. rw e (name_leads ts))
 
-pub pair_leads : (key : List ℕ) → Forwards (pair key)
+pair_leads : (key : List ℕ) → Forwards (pair key)
 unfolding pair
 pair_leads key ts = when (is_literal_kind (kind (bumped ts))) (λ e. rw e (further (bumped_leads _))) (λ e. rw e (bumped_leads ts))
 
@@ -81,24 +81,27 @@ input_leads anchor path ts =
     when (symbol ts == 61) (λ e. rw e (further (value_leads anchor _)))
     (λ e. rw e (when (is_at_open ts) (λ f. rw f (taken_leads_on _ _ ts)) (λ f. rw f here)))
 
-pub plain_leads : (anchor : ℕ) → Forwards (plain_meta anchor)
+plain_leads : (anchor : ℕ) → Forwards (plain_meta anchor)
 unfolding plain_meta
 plain_leads anchor ts = through (path_leads ts) (input_leads anchor _ _)
 
 module _ (inner : Reader MetaView) (condition : Reader CfgView) (i : Forwards inner) (c : Forwards condition) where
-  pub unsafe_leads : Forwards (unsafe_with inner)
+  unsafe_leads : Forwards (unsafe_with inner)
   unsafe_leads ts = further (further (through (i _) (behind_closed_leads _ _)))
 
-  pub cfg_leads : Forwards (cfg_meta_with condition)
+  cfg_leads : Forwards (cfg_meta_with condition)
   cfg_leads ts = further (further (through (c _) (behind_closed_leads _ _)))
 
   pub member_leads : Forwards (member inner)
   member_leads ts = through (i ts) (behind_comma_leads _)
 
-  pub cfg_attr_leads : Forwards (cfg_attr_with inner condition)
-  cfg_attr_leads ts = further (further (through (c _) (through (turns_leads is_at_end (one (member inner)) member_leads _) (behind_closed_leads _ _))))
+  pub members_leads : Forwards (elements (one (member inner)))
+  members_leads = turns_leads is_at_end (one (member inner)) member_leads
 
-  pub meta_with_leads : (anchor : ℕ) → Forwards (meta_with anchor inner condition)
+  cfg_attr_leads : Forwards (cfg_attr_with inner condition)
+  cfg_attr_leads ts = further (further (through (c _) (through (members_leads _) (behind_closed_leads _ _))))
+
+  meta_with_leads : (anchor : ℕ) → Forwards (meta_with anchor inner condition)
   meta_with_leads anchor ts =
       when (is_call (codes "unsafe") ts) (λ e. rw e (unsafe_leads ts))
       (λ e. rw e (when (is_call (codes "cfg") ts) (λ f. rw f (cfg_leads ts))
@@ -111,7 +114,7 @@ meta_leads anchor (suc depth) ts = meta_with_leads (meta anchor depth) (conditio
 
 -- ---- attributes
 
-pub doc_leads : (anchor : ℕ) → Forwards (doc anchor)
+doc_leads : (anchor : ℕ) → Forwards (doc anchor)
 unfolding doc
 doc_leads anchor ts = documentation_leads anchor ts
 
@@ -122,11 +125,11 @@ pub bracketed_leads : (anchor : ℕ) → Forwards (bracketed anchor)
 unfolding bracketed
 bracketed_leads anchor ts = further (through (meta_leads anchor _ _) (behind_bracket_leads _))
 
-pub opened_leads : (style : DocStyle) (ts : Tokens) → LeadsTo ts (past_mark style ts)
+opened_leads : (style : DocStyle) (ts : Tokens) → LeadsTo ts (past_mark style ts)
 opened_leads Outer ts = bumped_leads ts
 opened_leads Inner ts = further (bumped_leads _)
 
-pub one_attribute_leads : (anchor : ℕ) (style : DocStyle) → Forwards (one_attribute anchor style)
+one_attribute_leads : (anchor : ℕ) (style : DocStyle) → Forwards (one_attribute anchor style)
 unfolding one_attribute
 one_attribute_leads anchor style ts = when (is_doc style ts) (λ e. rw e (doc_leads anchor ts)) (λ e. rw e (through (opened_leads style ts) (bracketed_leads anchor _)))
 
@@ -143,7 +146,7 @@ pub attribute_leads : (style : DocStyle) → Forwards (attribute style)
 unfolding attribute
 attribute_leads style ts = through (one_attribute_leads _ style ts) (behind_attribute_leads style _)
 
-pub attributes_leads : (style : DocStyle) → Forwards (attributes style)
+attributes_leads : (style : DocStyle) → Forwards (attributes style)
 unfolding attributes
 attributes_leads style ts = turns_leads (is_behind style) (one (attribute style)) (attribute_leads style) ts
 

@@ -1,28 +1,25 @@
 -- Metas, with those that document or without them.
-use Rattle.std.specs.Prelude.{Bool, true, false, not, Option, Some, None, List, codes}
+use Rattle.std.specs.Prelude.{Bool, true, false, not, Option, Some, List, codes}
 use Rattle.std.specs.List.{filter}
 use Rattle.std.specs.Option.{option_map_or}
 use Rattle.std.specs.Str.{bytes_eq}
 use Rattle.hir_input.specs.declared.ast.PathNode.{PathNode}
-use Rattle.hir_input.specs.declared.ast.PathNode.TheVariants.{Readable, Unreadable}
-use Rattle.hir_input.specs.Attr.{MetaView, path_meta, key_value_meta, token_tree_meta, cfg_meta, cfg_attr_meta, unsafe_meta}
+use Rattle.hir_input.specs.declared.ast.PathNode.TheVariants.{Readable}
+use Rattle.hir_input.specs.Attr.{MetaView, path_meta, key_value_meta, token_tree_meta}
 use Rattle.hir_input.specs.Path.{ident_of}
 use Rattle.rust_cursor.specs.Reader.{Reader}
 
 -- a path that is the one name `doc`
 abbrev pub is_doc_path : Option PathNode → Bool
 is_doc_path (Some (Readable path)) = option_map_or (λ name. bytes_eq name (codes "doc")) (ident_of path) false
-is_doc_path (Some Unreadable) = false
-is_doc_path None = false
+is_doc_path _ = false
 
 -- a meta that documents: one of a comment, or the same written out
 abbrev pub is_doc_meta : MetaView → Bool
 is_doc_meta (path_meta path ctxt) = is_doc_path path
 is_doc_meta (key_value_meta path value ctxt) = is_doc_path path
 is_doc_meta (token_tree_meta path tokens ctxt) = is_doc_path path
-is_doc_meta (cfg_meta condition) = false
-is_doc_meta (cfg_attr_meta condition metas) = false
-is_doc_meta (unsafe_meta inner) = false
+is_doc_meta _ = false
 
 -- metas, without those that document unless they are kept
 unfoldable pub kept_metas : Bool → List MetaView → List MetaView

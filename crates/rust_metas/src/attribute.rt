@@ -153,48 +153,15 @@ fn is_doc_meta(meta: &Meta) -> bool
     ensures { result ≡ docs.is_doc_meta (meta_view meta.now) }
 {
     match meta {
-        Meta::Path { path, .. } => is_doc_path(path),
-        Meta::KeyValue { path, .. } => is_doc_path(path),
-        Meta::TokenTree { path, .. } => is_doc_path(path),
-        Meta::Cfg(_) => false,
-        Meta::CfgAttr { .. } => false,
-        Meta::Unsafe(_) => false,
+        Meta::Path { path, .. } | Meta::KeyValue { path, .. } | Meta::TokenTree { path, .. } => {
+            is_doc_path(path)
+        }
+        _ => false,
     }
 }
 
-/// A meta that was read, unless it documents.
-#[tactic(auto, using(crate::proofs::Kept::meta_kept, crate::proofs::Kept::meta_dropped))]
-fn undocumenting(meta: Meta) -> Option<Meta>
-    ensures { option_to_list (option_map meta_view result)
-        ≡ docs.kept_metas false (meta_view meta ∷ []) }
-{
-    if is_doc_meta(&meta) {
-        return None;
-    }
-    Some(meta)
-}
-
-/// An attribute that does not document: a comment is passed over.
-#[tactic(auto, using(crate::proofs::Kept::doc_passed))]
-fn undocumenting_attribute(
-    alloc: Global,
-    cursor: &mut Cursor<'_>,
-    style: DocStyle,
-) -> Result<Option<Meta>, AllocError>
-    ensures { Gives (λ m. option_to_list (option_map meta_view m))
-        (docs.kept_by false (one (spec.attribute style)) cursor.old) result cursor.new }
-{
-    if is_doc(cursor, style) {
-        cursor.bump();
-        pass_behind(cursor, style);
-        return Ok(None);
-    }
-    let meta = attribute(alloc, cursor, style)?;
-    Ok(undocumenting(meta))
-}
-
-/// An attribute, if it is kept.
-#[tactic(auto, unfolding(crate::specs::Docs::kept_metas))]
+/// An attribute, if it is kept. A comment that is not is passed over.
+#[tactic(auto, using(crate::proofs::Kept::docs_kept, crate::proofs::Kept::doc_passed, crate::proofs::Kept::meta_kept, crate::proofs::Kept::meta_dropped))]
 fn kept_attribute(
     alloc: Global,
     cursor: &mut Cursor<'_>,
@@ -204,10 +171,19 @@ fn kept_attribute(
     ensures { Gives (λ m. option_to_list (option_map meta_view m))
         (docs.kept_by keeps_docs (one (spec.attribute style)) cursor.old) result cursor.new }
 {
-    if !keeps_docs {
-        return undocumenting_attribute(alloc, cursor, style);
+    if keeps_docs {
+        let meta = attribute(alloc, cursor, style)?;
+        return Ok(Some(meta));
+    }
+    if is_doc(cursor, style) {
+        cursor.bump();
+        pass_behind(cursor, style);
+        return Ok(None);
     }
     let meta = attribute(alloc, cursor, style)?;
+    if is_doc_meta(&meta) {
+        return Ok(None);
+    }
     Ok(Some(meta))
 }
 

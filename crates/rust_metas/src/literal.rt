@@ -154,8 +154,7 @@ pub(crate) fn style_by(kind: Option<TokenKind>) -> Option<DocStyle>
     ensures { result ≡ spec.style_by kind }
 {
     match kind {
-        Some(TokenKind::LineComment(style)) => style,
-        Some(TokenKind::BlockComment(style)) => style,
+        Some(TokenKind::LineComment(style) | TokenKind::BlockComment(style)) => style,
         _ => None,
     }
 }
