@@ -1,20 +1,17 @@
 -- What stands before an item's own parts is the same of tokens that look alike, until one goes past where the texts part.
-use Rattle.std.proofs.Common.{◌≡◌, ◌==◌, ℕ, zero, suc, Bool, true, false, Some, None, List, [], ◌∷◌, refl, sym, ap, subst, ◌∙◌, codes}
+use Rattle.std.proofs.Common.{◌≡◌, ◌==◌, ℕ, zero, suc, Bool, true, false, List, [], refl, sym, ap, subst, ◌∙◌, codes}
 use Rattle.std.specs.Prelude.{if◌then◌else◌}
 use Rattle.std.specs.Str.{bytes_eq}
 use Rattle.std.proofs.lemmas.Bool.{and_parts}
-use Rattle.rust_lexer.specs.declared.kind.TokenKind.{TokenKind}
-use Rattle.rust_lexer.specs.declared.kind.TokenKind.TheVariants as kinds
-use Rattle.rust_lexer.specs.Piece.{Piece}
-use Rattle.rust_lexer.specs.Symbol.{symbol_of}
 use Rattle.rust_cursor.specs.Brackets.{behind_tree}
 use Rattle.rust_cursor.specs.Tokens.{Tokens}
-use Rattle.rust_cursor.specs.Words.{by_first, symbol, word, kind, is_at_identifier, is_pair, bumped}
+use Rattle.rust_cursor.specs.Words.{symbol, word, kind, is_at_identifier, is_pair, bumped}
 use Rattle.rust_cursor.proofs.Leads.{LeadsTo, here, through, when, behind_tree_leads}
 use Rattle.rust_cursor.proofs.Parting.{Onward, on, kept, Parting, Until, UpTo, onward_leads, cond_onward}
 use Rattle.rust_cursor.proofs.Twins.{is_edge, symbol_same, word_same, kind_same, identifier_same, end_same, doc_same, pair_same, edge_word, edge_identifier, edge_test, after_word, after_symbol, after_pair}
 use Rattle.rust_paths.specs.Names.{has_name}
 use Rattle.rust_paths.proofs.Alike.{has_name_same}
+use Rattle.rust_metas.proofs.Around.{kind_symbol}
 use Rattle.rust_leaves.specs.declared.head.Head.{Head}
 use Rattle.rust_leaves.specs.declared.head.Head.TheVariants as heads
 use Rattle.rust_cursor.specs.Nests.{is_literal_kind}
@@ -22,16 +19,7 @@ use Rattle.rust_leaves.specs.Heads.{behind_abi, is_auto_trait, is_modifier_befor
 
 -- a literal is no edge
 literal_no_edge : (ts : Tokens) → is_literal_kind (kind ts) ≡ true → is_edge (symbol ts) ≡ false
-unfolding kind symbol
-literal_no_edge ts e = none ts.left e
-  where
-    by : (k : TokenKind) (z : List ℕ) → is_literal_kind (Some k) ≡ true → is_edge (symbol_of (record { kind = k; text = z; at = 0 })) ≡ false
-    by (kinds.Literal _) z e = refl
-    by _ z e = absurd cc
-
-    none : (left : List Piece) → is_literal_kind (by_first None (λ t. Some t.kind) left) ≡ true → is_edge (by_first 0 symbol_of left) ≡ false
-    none [] e = refl
-    none (t ∷ left) e = by t.kind t.text e
+literal_no_edge ts e = ap is_edge (kind_symbol ts e)
 
 abi_alike : (b : Parting) (ts us : Tokens) → b.twins.are ts us → b.twins.are (behind_abi ts) (behind_abi us)
 unfolding behind_abi
