@@ -1,8 +1,7 @@
 -- Items without bodies, or with what is wanted of them.
-use Rattle.std.proofs.Common.{◌≡◌, Bool, true, false, List, [], ◌∷◌, Option, Some, None, refl, ap, ◌∙◌, map}
-use Rattle.std.specs.Prelude.{option_map, option_to_list}
+use Rattle.std.proofs.Common.{◌≡◌, Bool, true, false, List, [], ◌∷◌, Option, Some, None, refl, ap, ◌∙◌, map, option_map, option_to_list}
 use Rattle.hir_input.specs.Bodies.{item_without_bodies, items_without_bodies, named_without_body, node_without_body}
-use Rattle.hir_input.specs.Syntax.{ItemView, ItemViews, NamedView, NodeView, plain_item, fn_kind, static_kind, type_alias_kind, const_item, struct_item, bare_module, listed_module, use_item, extern_crate, bare_extern_block, listed_extern_block, impl_item, macro_call, macro_rules, asm_item, no_items, item_and, items_from, module_from, extern_block_from}
+use Rattle.hir_input.specs.Syntax.{ItemView, ItemViews, NamedView, NodeView, plain_item, fn_kind, listed_module, listed_extern_block, no_items, item_and, items_from, module_from, extern_block_from}
 use Rattle.rust_metas.specs.Docs.{kept_metas}
 use Rattle.rust_leaves.specs.declared.wanted.Wanted.{Wanted}
 use Rattle.rust_leaves.specs.Clipped.{clipped_item, clipped_list}
@@ -23,9 +22,6 @@ extern_block_alike n (Some is) = ap (listed_extern_block (node_without_body n)) 
 -- what is an item of an extern block is one without bodies too
 pub extern_alike : (i : ItemView) → option_map item_without_bodies (as_extern i) ≡ as_extern (item_without_bodies i)
 extern_alike (plain_item fn_kind n) = refl
-extern_alike (plain_item static_kind n) = refl
-extern_alike (plain_item type_alias_kind n) = refl
-extern_alike (macro_call c) = refl
 extern_alike _ = refl
 
 pub list_of : {A B : Type 0} (change : A → B) (o : Option A) → map change (option_to_list o) ≡ option_to_list (option_map change o)
@@ -48,17 +44,7 @@ mutual
   pub item_whole : (i : ItemView) → clipped_item all i ≡ i
   item_whole (listed_module n semicolon is) = ap (listed_module n semicolon) (list_whole is)
   item_whole (listed_extern_block n is) = ap (listed_extern_block n) (list_whole is)
-  item_whole (plain_item k m) = refl
-  item_whole (const_item m) = refl
-  item_whole (struct_item m _) = refl
-  item_whole (bare_module m semicolon) = refl
-  item_whole (use_item u) = refl
-  item_whole (extern_crate m rename) = refl
-  item_whole (bare_extern_block m) = refl
-  item_whole (impl_item m is_trait) = refl
-  item_whole (macro_call c) = refl
-  item_whole (macro_rules m name) = refl
-  item_whole (asm_item m) = refl
+  item_whole _ = refl
 
   pub list_whole : (is : ItemViews) → clipped_list all is ≡ is
   list_whole no_items = refl
@@ -70,17 +56,7 @@ mutual
   item_bare : (i : ItemView) → clipped_item bare i ≡ item_without_bodies i
   item_bare (listed_module n semicolon is) = ap (listed_module (named_without_body n) semicolon) (list_bare is)
   item_bare (listed_extern_block n is) = ap (listed_extern_block (node_without_body n)) (list_bare is)
-  item_bare (plain_item k m) = refl
-  item_bare (const_item m) = refl
-  item_bare (struct_item m _) = refl
-  item_bare (bare_module m semicolon) = refl
-  item_bare (use_item u) = refl
-  item_bare (extern_crate m rename) = refl
-  item_bare (bare_extern_block m) = refl
-  item_bare (impl_item m is_trait) = refl
-  item_bare (macro_call c) = refl
-  item_bare (macro_rules m name) = refl
-  item_bare (asm_item m) = refl
+  item_bare _ = refl
 
   pub list_bare : (is : ItemViews) → clipped_list bare is ≡ items_without_bodies is
   list_bare no_items = refl
@@ -93,7 +69,4 @@ wanted_from w (i ∷ is) = ap (item_and (clipped_item w i)) (wanted_from w is)
 -- what is an item of an extern block is one with what is wanted of it too
 pub extern_clipped : (w : Wanted) (i : ItemView) → as_extern (clipped_item w i) ≡ option_map (clipped_item w) (as_extern i)
 extern_clipped w (plain_item fn_kind n) = refl
-extern_clipped w (plain_item static_kind n) = refl
-extern_clipped w (plain_item type_alias_kind n) = refl
-extern_clipped w (macro_call c) = refl
 extern_clipped w _ = refl

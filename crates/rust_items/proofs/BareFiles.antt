@@ -1,12 +1,11 @@
 -- What is read of a text with what is wanted of it: its places are as before.
-use Rattle.std.proofs.Common.{◌≡◌, ◌≢◌, ◌≤◌, ℕ, List, [], map, length, refl, sym, ap, subst, ◌∙◌}
-use Rattle.std.specs.Prelude.{AllPairs, IfOk, Result, Ok, Err}
+use Rattle.std.proofs.Common.{◌≡◌, ◌≢◌, ◌≤◌, ℕ, List, [], map, length, refl, sym, ap, subst, ◌∙◌, AllPairs, IfOk, Result, Ok, Err}
 use Rattle.std.specs.declared.alloc.AllocError.{AllocError}
 use Rattle.hir_input.specs.declared.edition.EditionYear.{EditionYear}
 use Rattle.hir_input.specs.declared.ids.FileAstId.{FileAstId}
 use Rattle.hir_input.specs.Attr.{MetaView}
 use Rattle.hir_input.specs.Bodies.{without_bodies}
-use Rattle.hir_input.specs.Syntax.{ItemView, ItemViews, plain_item, const_item, struct_item, bare_module, listed_module, use_item, extern_crate, bare_extern_block, listed_extern_block, impl_item, macro_call, macro_rules, asm_item, SyntaxView, source_file, items_from, items_of, syntax_view}
+use Rattle.hir_input.specs.Syntax.{ItemView, ItemViews, plain_item, SyntaxView, source_file, items_from, items_of, syntax_view}
 use Rattle.rust_cursor.specs.Tokens.{tokens_of}
 use Rattle.rust_metas.specs.Attributes.{inner_attributes}
 use Rattle.rust_ids.specs.Ids.{AreIds}
@@ -95,48 +94,15 @@ bare_seen edition text file is = record { read = is.read; is_read = is.is_read; 
 
 clipped_id : (w : Wanted) (i : ItemView) → id_of (clipped_item w i) ≡ id_of i
 clipped_id w (plain_item k m) = refl
-clipped_id w (const_item m) = refl
-clipped_id w (struct_item m _) = refl
-clipped_id w (bare_module m semicolon) = refl
-clipped_id w (listed_module m semicolon is) = refl
-clipped_id w (use_item u) = refl
-clipped_id w (extern_crate m rename) = refl
-clipped_id w (bare_extern_block m) = refl
-clipped_id w (listed_extern_block m is) = refl
-clipped_id w (impl_item m is_trait) = refl
-clipped_id w (macro_call c) = refl
-clipped_id w (macro_rules m name) = refl
-clipped_id w (asm_item m) = refl
+clipped_id w _ = refl
 
 clipped_name : (w : Wanted) (i : ItemView) → name_of (clipped_item w i) ≡ name_of i
 clipped_name w (plain_item k m) = refl
-clipped_name w (const_item m) = refl
-clipped_name w (struct_item m _) = refl
-clipped_name w (bare_module m semicolon) = refl
-clipped_name w (listed_module m semicolon is) = refl
-clipped_name w (use_item u) = refl
-clipped_name w (extern_crate m rename) = refl
-clipped_name w (bare_extern_block m) = refl
-clipped_name w (listed_extern_block m is) = refl
-clipped_name w (impl_item m is_trait) = refl
-clipped_name w (macro_call c) = refl
-clipped_name w (macro_rules m name) = refl
-clipped_name w (asm_item m) = refl
+clipped_name w _ = refl
 
 clipped_held : (w : Wanted) (i : ItemView) → items_held (clipped_item w i) ≡ clipped_list w (items_held i)
 clipped_held w (plain_item k m) = refl
-clipped_held w (const_item m) = refl
-clipped_held w (struct_item m _) = refl
-clipped_held w (bare_module m semicolon) = refl
-clipped_held w (listed_module m semicolon is) = refl
-clipped_held w (use_item u) = refl
-clipped_held w (extern_crate m rename) = refl
-clipped_held w (bare_extern_block m) = refl
-clipped_held w (listed_extern_block m is) = refl
-clipped_held w (impl_item m is_trait) = refl
-clipped_held w (macro_call c) = refl
-clipped_held w (macro_rules m name) = refl
-clipped_held w (asm_item m) = refl
+clipped_held w _ = refl
 
 clipped_place : {N : Telling} (w : Wanted) (from to : ℕ) (i : ItemView) (p : ItemPlace) → IsPlace N from to i p → IsPlace N from to (clipped_item w i) p
 clipped_place w from to i p place =

@@ -1,6 +1,5 @@
 -- The places of a block are those of its items and macro calls.
-use Rattle.std.proofs.Common.{◌≡◌, ◌<◌, ◌==◌, ◌&&◌, ℕ, zero, suc, Bool, true, false, not, Option, Some, None, List, [], ◌∷◌, ◌++◌, length, refl, sym, subst, ap, ◌∙◌, arith, append_assoc, append-nil}
-use Rattle.std.specs.Prelude.{is_some, option_to_list}
+use Rattle.std.proofs.Common.{◌≡◌, ◌<◌, ◌==◌, ◌&&◌, ℕ, zero, suc, Bool, true, false, not, Option, Some, None, List, [], ◌∷◌, ◌++◌, length, refl, sym, subst, ap, ◌∙◌, arith, append_assoc, append-nil, is_some, option_to_list}
 use Rattle.std.proofs.lemmas.Bool.{and_parts, ne_eqb}
 use Rattle.std.proofs.lemmas.List.Elements.{All-nil}
 use Rattle.hir_input.specs.declared.edition.EditionYear.{EditionYear}
@@ -44,8 +43,7 @@ stmt_list other_stmt = []
 
 abbrev tail_list : TailView → List ItemView
 tail_list (call_tail c) = macro_call c ∷ []
-tail_list no_tail = []
-tail_list other_tail = []
+tail_list _ = []
 
 abbrev stmts_list : List StmtView → List ItemView
 stmts_list [] = []
@@ -62,8 +60,7 @@ stmts_push (r ∷ ss) s = ap (λ l. stmt_list r ++ l) (stmts_push ss s) ∙ sym 
 
 items_listed : (ss : List StmtView) (t : TailView) → stmt_items ss t ≡ items_from (stmts_list ss ++ tail_list t)
 items_listed [] (call_tail c) = refl
-items_listed [] no_tail = refl
-items_listed [] other_tail = refl
+items_listed [] _ = refl
 items_listed (item_stmt i ∷ ss) t = ap (λ is. item_and i is) (items_listed ss t)
 items_listed (call_stmt c ∷ ss) t = ap (λ is. item_and (macro_call c) is) (items_listed ss t)
 items_listed (other_stmt ∷ ss) t = items_listed ss t
@@ -71,8 +68,7 @@ items_listed (other_stmt ∷ ss) t = items_listed ss t
 -- statements with their ids hold the items with the same ids
 block_with_ids : (ss : List StmtView) (t : TailView) (ids : List FileAstId) → stmt_items (stmts_with_ids ss ids).0 (tail_with_id t (stmts_with_ids ss ids).1) ≡ (with_ids (stmt_items ss t) ids).0
 block_with_ids [] (call_tail c) ids = refl
-block_with_ids [] no_tail ids = refl
-block_with_ids [] other_tail ids = refl
+block_with_ids [] _ ids = refl
 block_with_ids (item_stmt i ∷ ss) t ids = ap (λ is. item_and (item_with_ids i ids).0 is) (block_with_ids ss t (item_with_ids i ids).1)
 block_with_ids (call_stmt c ∷ ss) t ids = ap (λ is. item_and (macro_call (numbered_call (first_numbers ids).0 c)) is) (block_with_ids ss t (first_numbers ids).1)
 block_with_ids (other_stmt ∷ ss) t ids = block_with_ids ss t ids

@@ -2,7 +2,7 @@
 use Rattle.std.proofs.Common.{◌≡◌, List, refl, sym, ap, ◌∙◌}
 use Rattle.hir_input.specs.declared.ids.FileAstId.{FileAstId}
 use Rattle.hir_input.specs.Bodies.{items_without_bodies}
-use Rattle.hir_input.specs.Syntax.{ItemView, ItemViews, plain_item, const_item, struct_item, bare_module, listed_module, use_item, extern_crate, bare_extern_block, listed_extern_block, impl_item, macro_call, macro_rules, asm_item, no_items, item_and}
+use Rattle.hir_input.specs.Syntax.{ItemView, ItemViews, listed_module, listed_extern_block, no_items, item_and}
 use Rattle.rust_leaves.specs.declared.wanted.Wanted.{Wanted}
 use Rattle.rust_leaves.specs.Clipped.{clipped_node, clipped_named, clipped_item, clipped_list}
 use Rattle.rust_items.specs.Ids.{first_numbers, numbered_named, numbered_node, held_with_ids, with_ids}
@@ -13,17 +13,7 @@ mutual
       → held_with_ids (first_numbers own).0 (clipped_item w i) ids ≡ (clipped_item w (held_with_ids (first_numbers own).0 i ids).0, (held_with_ids (first_numbers own).0 i ids).1)
   held_clipped w own (listed_module m semicolon is) ids = ap (λ r. (listed_module (numbered_named (first_numbers own).0 (clipped_named w m)) semicolon r.0, r.1)) (with_clipped w is ids)
   held_clipped w own (listed_extern_block m is) ids = ap (λ r. (listed_extern_block (numbered_node (first_numbers own).0 (clipped_node w m)) r.0, r.1)) (with_clipped w is ids)
-  held_clipped w own (plain_item k m) ids = refl
-  held_clipped w own (const_item m) ids = refl
-  held_clipped w own (struct_item m _) ids = refl
-  held_clipped w own (bare_module m semicolon) ids = refl
-  held_clipped w own (use_item u) ids = refl
-  held_clipped w own (extern_crate m rename) ids = refl
-  held_clipped w own (bare_extern_block m) ids = refl
-  held_clipped w own (impl_item m is_trait) ids = refl
-  held_clipped w own (macro_call c) ids = refl
-  held_clipped w own (macro_rules m name) ids = refl
-  held_clipped w own (asm_item m) ids = refl
+  held_clipped w own _ ids = refl
 
   pub with_clipped : (w : Wanted) (is : ItemViews) (ids : List FileAstId) → with_ids (clipped_list w is) ids ≡ (clipped_list w (with_ids is ids).0, (with_ids is ids).1)
   with_clipped w no_items ids = refl

@@ -1,6 +1,5 @@
 -- What is read with what is wanted, step by step.
-use Rattle.std.proofs.Common.{◌≡◌, ◌≢◌, ◌<◌, ◌-◌, ◌+◌, ◌==◌, ◌||◌, ℕ, zero, suc, Bool, true, false, Option, Some, None, List, [], ◌++◌, map, refl, sym, ap, ◌∙◌}
-use Rattle.std.specs.Prelude.{if◌then◌else◌, option_map, option_to_list, IfOk, Result, Ok, Err}
+use Rattle.std.proofs.Common.{◌≡◌, ◌≢◌, ◌<◌, ◌-◌, ◌+◌, ◌==◌, ◌||◌, ℕ, zero, suc, Bool, true, false, Option, Some, None, List, [], ◌++◌, map, refl, sym, ap, ◌∙◌, if◌then◌else◌, option_map, option_to_list, IfOk, Result, Ok, Err}
 use Rattle.std.specs.declared.alloc.AllocError.{AllocError}
 use Rattle.std.proofs.lemmas.List.{map-append}
 use Rattle.hir_input.specs.declared.ids.AstIdKind.TheVariants as kind
@@ -227,7 +226,6 @@ by_head_clipped : (w : Wanted) (left : ℕ) (head : Head) (h : FrontRead) (f : F
     → with_value (wanted_item_if w h.attrs) (by_head (inside left) (depth_of left) head (unattributed h) f ts) ≡ wanted_by_head w left head h f ts
 unfolding with_value wanted_item_if wanted_behind module_item
 by_head_clipped w left heads.Module h f ts = refl
-by_head_clipped w left heads.ExternBlock h f ts = refl
 by_head_clipped w left _ h f ts = refl
 
 pub behind_front_clipped : (w : Wanted) (left : ℕ) (h : FrontRead) (f : Found) (ts : Tokens) → wanted_behind w (behind_front left) h f ts ≡ wanted_by_head w left h.head h f ts

@@ -1,11 +1,10 @@
 -- The places of a whole text, with the ids of its items.
-use Rattle.std.proofs.Common.{true, ◌≡◌, ◌≢◌, ◌<◌, ◌≤◌, ◌+◌, ◌-◌, ℕ, zero, suc, Option, Some, List, [], ◌∷◌, map, length, refl, sym, ap, subst, ◌∙◌, arith, get_or}
-use Rattle.std.specs.Prelude.{option_map, AllPairs}
+use Rattle.std.proofs.Common.{true, ◌≡◌, ◌≢◌, ◌<◌, ◌≤◌, ◌+◌, ◌-◌, ℕ, zero, suc, Option, Some, List, [], ◌∷◌, map, length, refl, sym, ap, subst, ◌∙◌, arith, get_or, option_map, AllPairs}
 use Rattle.std.proofs.lemmas.List.{length-map}
 use Rattle.hir_input.specs.declared.edition.EditionYear.{EditionYear}
 use Rattle.hir_input.specs.declared.ids.AstIdKind.{AstIdKind}
 use Rattle.hir_input.specs.declared.ids.FileAstId.{FileAstId}
-use Rattle.hir_input.specs.Syntax.{ItemView, ItemViews, plain_item, const_item, struct_item, bare_module, listed_module, use_item, extern_crate, bare_extern_block, listed_extern_block, impl_item, macro_call, macro_rules, asm_item, items_of}
+use Rattle.hir_input.specs.Syntax.{ItemView, ItemViews, plain_item, listed_module, listed_extern_block, items_of}
 use Rattle.rust_cursor.specs.Tokens.{Tokens, tokens_of}
 use Rattle.rust_cursor.proofs.Laid.{behind, past_within, tokens_laid}
 use Rattle.rust_cursor.proofs.Leads.{LeadsTo, here}
@@ -41,33 +40,11 @@ renumbered n o = option_map (λ id. record { kind = id.kind; hash = n.hash; numb
 
 held_id : (n : Numbers) (i : ItemView) (ids : List FileAstId) → id_of (held_with_ids n i ids).0 ≡ renumbered n (id_of i)
 held_id n (plain_item k m) ids = refl
-held_id n (const_item m) ids = refl
-held_id n (struct_item m _) ids = refl
-held_id n (bare_module m semicolon) ids = refl
-held_id n (listed_module m semicolon is) ids = refl
-held_id n (use_item u) ids = refl
-held_id n (extern_crate m rename) ids = refl
-held_id n (bare_extern_block m) ids = refl
-held_id n (listed_extern_block m is) ids = refl
-held_id n (impl_item m is_trait) ids = refl
-held_id n (macro_call c) ids = refl
-held_id n (macro_rules m name) ids = refl
-held_id n (asm_item m) ids = refl
+held_id n _ ids = refl
 
 held_name : (n : Numbers) (i : ItemView) (ids : List FileAstId) → name_of (held_with_ids n i ids).0 ≡ name_of i
 held_name n (plain_item k m) ids = refl
-held_name n (const_item m) ids = refl
-held_name n (struct_item m _) ids = refl
-held_name n (bare_module m semicolon) ids = refl
-held_name n (listed_module m semicolon is) ids = refl
-held_name n (use_item u) ids = refl
-held_name n (extern_crate m rename) ids = refl
-held_name n (bare_extern_block m) ids = refl
-held_name n (listed_extern_block m is) ids = refl
-held_name n (impl_item m is_trait) ids = refl
-held_name n (macro_call c) ids = refl
-held_name n (macro_rules m name) ids = refl
-held_name n (asm_item m) ids = refl
+held_name n _ ids = refl
 
 held_items : (n : Numbers) (i : ItemView) (ids : List FileAstId) → items_held (held_with_ids n i ids).0 ≡ (with_ids (items_held i) ids).0
 held_items n (listed_module m semicolon is) ids = refl
@@ -115,12 +92,11 @@ numbered {from} {to} (placed {i = i} {is = is} {p = p} {ps = ps} {mid = mid} pla
 
 kinds_same : (ids : List FileAstId) (rows : List Row) → length ids ≡ length rows → ((k : ℕ) → k < length rows → (id_at ids k).kind ≡ (nth_row rows k).kind) → map id_kind ids ≡ map row_kind rows
 kinds_same [] [] e h = refl
-kinds_same [] (row ∷ rows) e h = absurd (omega arith)
-kinds_same (id ∷ ids) [] e h = absurd (omega arith)
 kinds_same (id ∷ ids) (row ∷ rows) e h =
     let first : id.kind ≡ row.kind = h 0 (omega arith) in
     let rest : map id_kind ids ≡ map row_kind rows = kinds_same ids rows (omega arith) (λ k l. h (suc k) (omega arith)) in
     ap (λ k. k ∷ map id_kind ids) first ∙ ap (λ ks. row.kind ∷ ks) rest
+kinds_same _ _ e h = absurd (omega arith)
 
 none_left : (ids : List FileAstId) → places ids [] ≡ []
 none_left [] = refl

@@ -1,9 +1,7 @@
 -- What is left behind items that hold none is left of the tokens before them, and what they are.
-use Rattle.std.proofs.Common.{◌≡◌, ◌==◌, ◌&&◌, ℕ, zero, suc, Bool, true, false, Option, Some, None, List, [], codes, refl, ap, ◌∙◌, arith}
-use Rattle.std.specs.Prelude.{is_some}
+use Rattle.std.proofs.Common.{◌≡◌, ◌==◌, ◌&&◌, ℕ, zero, suc, Bool, true, false, Option, Some, None, List, [], codes, refl, ap, ◌∙◌, arith, is_some, bytes_eq}
 use Rattle.std.specs.List.{AllZip}
 use Rattle.std.specs.Option.{option_or}
-use Rattle.std.specs.Str.{bytes_eq}
 use Rattle.std.proofs.lemmas.Bool.{and_parts}
 use Rattle.hir_input.specs.declared.ids.AstIdKind.{AstIdKind}
 use Rattle.hir_input.specs.declared.ids.AstIdKind.TheVariants as ast
@@ -12,7 +10,7 @@ use Rattle.hir_input.specs.declared.ast.Visibility.{Visibility}
 use Rattle.hir_input.specs.Attr.{MetaView}
 use Rattle.hir_input.specs.Syntax.{PlainKind, union_kind, enum_kind, trait_kind, no_items}
 use Rattle.rust_cursor.specs.Tokens.{Tokens}
-use Rattle.rust_cursor.specs.Words.{symbol, word, kind, text, at, eat, eat_word, is_empty, is_at_open, bumped}
+use Rattle.rust_cursor.specs.Words.{symbol, word, kind, text, at, eat, eat_word, is_empty, is_at_open, bumped, is_at_end}
 use Rattle.rust_cursor.specs.Extents.{ExcerptRead, tree_body}
 use Rattle.rust_cursor.proofs.Leads.{LeadsTo, here, further, through, Forwards, when, bumped_leads, eat_leads, eat_word_leads, behind_tree_leads, taken_leads_on, Takes, takes, takes_leads, takes_behind, takes_before, symbol_some, word_none, HasBlock, no_block, block, taken_block}
 use Rattle.rust_paths.specs.declared.names.TextRange.{TextRange}
@@ -25,7 +23,6 @@ use Rattle.rust_leaves.specs.declared.head.Head.{Head}
 use Rattle.rust_leaves.specs.declared.head.Head.TheVariants as heads
 use Rattle.rust_cursor.specs.Nests.{is_literal_kind}
 use Rattle.rust_leaves.specs.Heads.{behind_abi, is_modifier, behind_modifier, behind_modifiers_from, behind_modifiers, head_by, behind_head, head, behind_others}
-use Rattle.rust_cursor.specs.Words.{is_at_end}
 use Rattle.rust_leaves.specs.Leaves.{LeafRead, range_to, name_read, named, named_or, crate_alias, crate_alias_if, renamed, impl_end, item_end, macro_end, value_end, semicolon_end, call_end}
 use Rattle.rust_leaves.specs.Kinds.{function, block_item, union_item, enumeration, trait_item, macro_def, type_alias, static_value, constant, structure, implementation, told_at, crate_item, use_declaration, macro_definition, is_called, invocation, leaf_by, leaf}
 use Rattle.rust_leaves.specs.Fronts.{FrontRead, front_behind, front}
@@ -244,101 +241,65 @@ pub record IsLeaf (ts us : Tokens) (l : LeafRead) : Type 0 where
   pub told : (l.kind ≡ ast.ExternCrate → ⊥) → IsToken ts (name_of l.item) l.named
   pub uses : AllZip (IsRead ts us) l.use_trees (trees_in l.item)
 
+-- an item by what is told of it
+plain_leaf : {ts us : Tokens} (l : LeafRead) → id_of l.item ≡ Some (blank l.kind) → items_held l.item ≡ no_items → AllZip (IsRead ts us) l.use_trees (trees_in l.item) → LeadsTo ts us → IsNamed ts us l.named → IsBraced ts us l.body
+    → ((l.kind ≡ ast.ExternCrate → ⊥) → IsToken ts (name_of l.item) l.named) → IsLeaf ts us l
+plain_leaf l e f uses leads name body told = record { leads = leads; id = e; alone = f; name = name; body = body; told = told; uses = uses }
+
 module _ (attrs : List MetaView) (v : Option Visibility) (ts : Tokens) where
   pub function_leaf : IsLeaf ts (function attrs v ts).1 (function attrs v ts).0
   unfolding function
-  function_leaf = record { leads = through (named_leads ts) (item_end_leads _); id = refl; alone = refl; name = name_before (named_named ts) (item_end_leads _); body = braces_behind (named_leads ts) (item_end_braced _); told = λ _. named_told ts; uses = tt }
+  function_leaf = plain_leaf _ refl refl tt (through (named_leads ts) (item_end_leads _)) (name_before (named_named ts) (item_end_leads _)) (braces_behind (named_leads ts) (item_end_braced _)) (λ _. named_told ts)
 
   block_leaf : (k : PlainKind) → IsLeaf ts (block_item k attrs v ts).1 (block_item k attrs v ts).0
-  block_leaf k = record { leads = through (named_leads ts) (item_end_leads _); id = refl; alone = refl; name = name_before (named_named ts) (item_end_leads _); body = braces_behind (named_leads ts) (item_end_braced _); told = λ _. named_told ts; uses = tt }
-
-  pub union_leaf : IsLeaf ts (union_item attrs v ts).1 (union_item attrs v ts).0
-  unfolding union_item
-  union_leaf = block_leaf union_kind
-
-  pub enum_leaf : IsLeaf ts (enumeration attrs v ts).1 (enumeration attrs v ts).0
-  unfolding enumeration
-  enum_leaf = block_leaf enum_kind
-
-  pub trait_leaf : IsLeaf ts (trait_item attrs v ts).1 (trait_item attrs v ts).0
-  unfolding trait_item
-  trait_leaf = block_leaf trait_kind
+  block_leaf k = plain_leaf _ refl refl tt (through (named_leads ts) (item_end_leads _)) (name_before (named_named ts) (item_end_leads _)) (braces_behind (named_leads ts) (item_end_braced _)) (λ _. named_told ts)
 
   pub macro_def_leaf : IsLeaf ts (macro_def attrs v ts).1 (macro_def attrs v ts).0
   unfolding macro_def
-  macro_def_leaf = record { leads = through (named_leads ts) (macro_end_leads _); id = refl; alone = refl; name = name_before (named_named ts) (macro_end_leads _); body = braces_behind (named_leads ts) (macro_end_braced _); told = λ _. named_told ts; uses = tt }
+  macro_def_leaf = plain_leaf _ refl refl tt (through (named_leads ts) (macro_end_leads _)) (name_before (named_named ts) (macro_end_leads _)) (braces_behind (named_leads ts) (macro_end_braced _)) (λ _. named_told ts)
 
   pub type_alias_leaf : IsLeaf ts (type_alias attrs v ts).1 (type_alias attrs v ts).0
   unfolding type_alias
-  type_alias_leaf = record { leads = through (named_leads ts) (value_end_leads _); id = refl; alone = refl; name = name_before (named_named ts) (value_end_leads _); body = braces_behind (named_leads ts) (value_end_braced _); told = λ _. named_told ts; uses = tt }
+  type_alias_leaf = plain_leaf _ refl refl tt (through (named_leads ts) (value_end_leads _)) (name_before (named_named ts) (value_end_leads _)) (braces_behind (named_leads ts) (value_end_braced _)) (λ _. named_told ts)
 
   pub static_leaf : IsLeaf ts (static_value attrs v ts).1 (static_value attrs v ts).0
   unfolding static_value
-  static_leaf = record {
-    leads = through (eat_word_leads _ ts) (through (named_leads _) (value_end_leads _));
-    id = refl;
-    alone = refl;
-    name = name_behind (eat_word_leads _ ts) (name_before (named_named _) (value_end_leads _));
-    body = braces_behind (through (eat_word_leads _ ts) (named_leads _)) (value_end_braced _);
-    told = λ _. told_behind (eat_word_leads _ ts) _ _ (named_told _);
-    uses = tt;
-  }
+  static_leaf =
+      plain_leaf _ refl refl tt (through (eat_word_leads _ ts) (through (named_leads _) (value_end_leads _))) (name_behind (eat_word_leads _ ts) (name_before (named_named _) (value_end_leads _)))
+      (braces_behind (through (eat_word_leads _ ts) (named_leads _)) (value_end_braced _)) (λ _. told_behind (eat_word_leads _ ts) _ _ (named_told _))
 
   pub const_leaf : IsLeaf ts (constant attrs v ts).1 (constant attrs v ts).0
   unfolding constant
-  const_leaf = record {
-    leads = through (named_leads ts) (through (eat_word_leads _ _) (value_end_leads _));
-    id = refl;
-    alone = refl;
-    name = name_before (named_named ts) (through (eat_word_leads _ _) (value_end_leads _));
-    body = braces_behind (through (named_leads ts) (eat_word_leads _ _)) (value_end_braced _);
-    told = λ _. named_told ts;
-    uses = tt;
-  }
+  const_leaf =
+      plain_leaf _ refl refl tt (through (named_leads ts) (through (eat_word_leads _ _) (value_end_leads _))) (name_before (named_named ts) (through (eat_word_leads _ _) (value_end_leads _)))
+      (braces_behind (through (named_leads ts) (eat_word_leads _ _)) (value_end_braced _)) (λ _. named_told ts)
 
   pub struct_leaf : IsLeaf ts (structure attrs v ts).1 (structure attrs v ts).0
   unfolding structure
-  struct_leaf = record { leads = through (named_leads ts) (item_end_leads _); id = refl; alone = refl; name = name_before (named_named ts) (item_end_leads _); body = braces_behind (named_leads ts) (item_end_braced _); told = λ _. named_told ts; uses = tt }
+  struct_leaf = plain_leaf _ refl refl tt (through (named_leads ts) (item_end_leads _)) (name_before (named_named ts) (item_end_leads _)) (braces_behind (named_leads ts) (item_end_braced _)) (λ _. named_told ts)
 
   pub impl_leaf : IsLeaf ts (implementation attrs ts).1 (implementation attrs ts).0
   unfolding implementation
-  impl_leaf = record { leads = impl_end_leads ts; id = refl; alone = refl; name = nameless; body = impl_end_braced ts; told = λ _. untold; uses = tt }
+  impl_leaf = plain_leaf _ refl refl tt (impl_end_leads ts) nameless (impl_end_braced ts) (λ _. untold)
 
   pub crate_leaf : IsLeaf ts (crate_item attrs v ts).1 (crate_item attrs v ts).0
   unfolding crate_item
-  crate_leaf = record {
-    leads = through (named_or_leads (codes "self") ts) (through (renamed_leads _) (eat_leads _ _));
-    id = refl;
-    alone = refl;
-    name = name_before (told_named (named_or (codes "self") ts).0.range ts (named_or (codes "self") ts).1 (named_or_named (codes "self") refl ts) (named_or_leads (codes "self") ts)) (eat_leads _ _);
-    body = unbraced;
-    told = λ other. absurd (other refl);
-    uses = tt;
-  }
+  crate_leaf =
+      plain_leaf _ refl refl tt (through (named_or_leads (codes "self") ts) (through (renamed_leads _) (eat_leads _ _)))
+      (name_before (told_named (named_or (codes "self") ts).0.range ts (named_or (codes "self") ts).1 (named_or_named (codes "self") refl ts) (named_or_leads (codes "self") ts)) (eat_leads _ _)) unbraced (λ other. absurd (other refl))
 
   pub use_leaf : IsLeaf ts (use_declaration attrs v ts).1 (use_declaration attrs v ts).0
   unfolding use_declaration
-  use_leaf = record {
-    leads = through (use_tree_leads ts) (eat_leads _ _);
-    id = refl;
-    alone = refl;
-    name = nameless;
-    body = unbraced;
-    told = λ _. untold;
-    uses = zip_is (IsRead ts (use_tree ts).1) (IsRead ts (eat 59 (use_tree ts).1).1) (read_around here (eat_leads 59 (use_tree ts).1)) (use_tree ts).0.starts (written_trees (use_tree ts).0.value) (use_tree_told ts);
-  }
+  use_leaf =
+      plain_leaf _ refl refl
+      (zip_is (IsRead ts (use_tree ts).1) (IsRead ts (eat 59 (use_tree ts).1).1) (read_around here (eat_leads 59 (use_tree ts).1)) (use_tree ts).0.starts (written_trees (use_tree ts).0.value) (use_tree_told ts))
+      (through (use_tree_leads ts) (eat_leads _ _)) nameless unbraced (λ _. untold)
 
   pub macro_rules_leaf : IsLeaf ts (macro_definition attrs ts).1 (macro_definition attrs ts).0
   unfolding macro_definition
-  macro_rules_leaf = record {
-    leads = through (named_or_leads (codes "try") ts) (call_end_leads _);
-    id = refl;
-    alone = refl;
-    name = name_before (named_or_named (codes "try") refl ts) (call_end_leads _);
-    body = braces_behind (named_or_leads (codes "try") ts) (call_end_braced _);
-    told = λ _. named_or_told 116 (codes "ry") refl ts;
-    uses = tt;
-  }
+  macro_rules_leaf =
+      plain_leaf _ refl refl tt (through (named_or_leads (codes "try") ts) (call_end_leads _)) (name_before (named_or_named (codes "try") refl ts) (call_end_leads _))
+      (braces_behind (named_or_leads (codes "try") ts) (call_end_braced _)) (λ _. named_or_told 116 (codes "ry") refl ts)
 
 -- an item of tokens, one at least
 pub record IsTaken (ts us : Tokens) (l : LeafRead) : Type 0 where
@@ -370,27 +331,6 @@ invocation_found attrs ts us p =
     }))
     (λ e. rw e p)
 
-leaf_by_found : (h : Head) (attrs : List MetaView) (v : Option Visibility) (ts us : Tokens) → TakesBy h ts us → LeafFound ts (leaf_by h attrs v us).1 (leaf_by h attrs v us).0
-leaf_by_found heads.Use attrs v ts us t = leaf_taken (t.word (λ e. absurd cc)) (use_leaf attrs v us)
-leaf_by_found heads.ExternCrate attrs v ts us t = leaf_taken (t.word (λ e. absurd cc)) (crate_leaf attrs v us)
-leaf_by_found heads.Fn attrs v ts us t = leaf_taken (t.word (λ e. absurd cc)) (function_leaf attrs v us)
-leaf_by_found heads.Impl attrs v ts us t = leaf_taken (t.word (λ e. absurd cc)) (impl_leaf attrs v us)
-leaf_by_found heads.Trait attrs v ts us t = leaf_taken (t.word (λ e. absurd cc)) (trait_leaf attrs v us)
-leaf_by_found heads.Struct attrs v ts us t = leaf_taken (t.word (λ e. absurd cc)) (struct_leaf attrs v us)
-leaf_by_found heads.Union attrs v ts us t = leaf_taken (t.word (λ e. absurd cc)) (union_leaf attrs v us)
-leaf_by_found heads.Enum attrs v ts us t = leaf_taken (t.word (λ e. absurd cc)) (enum_leaf attrs v us)
-leaf_by_found heads.Const attrs v ts us t = leaf_taken (t.word (λ e. absurd cc)) (const_leaf attrs v us)
-leaf_by_found heads.Static attrs v ts us t = leaf_taken (t.word (λ e. absurd cc)) (static_leaf attrs v us)
-leaf_by_found heads.TypeAlias attrs v ts us t = leaf_taken (t.word (λ e. absurd cc)) (type_alias_leaf attrs v us)
-leaf_by_found heads.MacroDef attrs v ts us t = leaf_taken (t.word (λ e. absurd cc)) (macro_def_leaf attrs v us)
-leaf_by_found heads.MacroRules attrs v ts us t = leaf_taken (t.word (λ e. absurd cc)) (macro_rules_leaf attrs v us)
-leaf_by_found _ attrs v ts us t = invocation_found attrs ts us t.leads
-
--- behind what stands in front of an item
-pub leaf_found : (h : FrontRead) (ts us : Tokens) → TakesBy h.head ts us → LeafFound ts (leaf h us).1 (leaf h us).0
-unfolding leaf
-leaf_found h ts us t = leaf_by_found h.head h.attrs h.visibility ts us t
-
 -- the same of the item's own parts
 abbrev pub LeafAt : Tokens → Tokens → Option LeafRead → Type 0
 LeafAt ts us None = LeadsTo ts us
@@ -400,15 +340,20 @@ alone_at : (ts us : Tokens) (o : Option LeafRead) → LeafFound ts us o → Leaf
 alone_at ts us None p = p
 alone_at ts us (Some l) p = p.leaf
 
+taken_at : (ts us vs : Tokens) (o : Option LeafRead) → Takes ts us → LeafAt us vs o → LeafFound ts vs o
+taken_at ts us vs None t p = through (takes_leads t) p
+taken_at ts us vs (Some l) t p = leaf_taken t p
+
 leaf_by_at : (h : Head) (attrs : List MetaView) (v : Option Visibility) (ts : Tokens) → LeafAt ts (leaf_by h attrs v ts).1 (leaf_by h attrs v ts).0
+unfolding trait_item union_item enumeration
 leaf_by_at heads.Use attrs v ts = use_leaf attrs v ts
 leaf_by_at heads.ExternCrate attrs v ts = crate_leaf attrs v ts
 leaf_by_at heads.Fn attrs v ts = function_leaf attrs v ts
 leaf_by_at heads.Impl attrs v ts = impl_leaf attrs v ts
-leaf_by_at heads.Trait attrs v ts = trait_leaf attrs v ts
+leaf_by_at heads.Trait attrs v ts = block_leaf attrs v ts trait_kind
 leaf_by_at heads.Struct attrs v ts = struct_leaf attrs v ts
-leaf_by_at heads.Union attrs v ts = union_leaf attrs v ts
-leaf_by_at heads.Enum attrs v ts = enum_leaf attrs v ts
+leaf_by_at heads.Union attrs v ts = block_leaf attrs v ts union_kind
+leaf_by_at heads.Enum attrs v ts = block_leaf attrs v ts enum_kind
 leaf_by_at heads.Const attrs v ts = const_leaf attrs v ts
 leaf_by_at heads.Static attrs v ts = static_leaf attrs v ts
 leaf_by_at heads.TypeAlias attrs v ts = type_alias_leaf attrs v ts
@@ -419,3 +364,12 @@ leaf_by_at _ attrs v ts = alone_at ts (invocation attrs ts).1 (invocation attrs 
 pub leaf_at : (h : FrontRead) (ts : Tokens) → LeafAt ts (leaf h ts).1 (leaf h ts).0
 unfolding leaf
 leaf_at h ts = leaf_by_at h.head h.attrs h.visibility ts
+
+leaf_by_found : (h : Head) (attrs : List MetaView) (v : Option Visibility) (ts us : Tokens) → TakesBy h ts us → LeafFound ts (leaf_by h attrs v us).1 (leaf_by h attrs v us).0
+leaf_by_found heads.Other attrs v ts us t = invocation_found attrs ts us t.leads
+leaf_by_found h attrs v ts us t = taken_at ts us (leaf_by h attrs v us).1 (leaf_by h attrs v us).0 (t.word (λ e. absurd cc)) (leaf_by_at h attrs v us)
+
+-- behind what stands in front of an item
+pub leaf_found : (h : FrontRead) (ts us : Tokens) → TakesBy h.head ts us → LeafFound ts (leaf h us).1 (leaf h us).0
+unfolding leaf
+leaf_found h ts us t = leaf_by_found h.head h.attrs h.visibility ts us t

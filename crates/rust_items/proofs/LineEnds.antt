@@ -1,6 +1,5 @@
 -- Texts with line feeds alone.
-use Rattle.std.proofs.Common.{◌≡◌, ◌≢◌, ◌<◌, ◌≤◌, ◌+◌, ◌-◌, ◌==◌, ◌++◌, ℕ, zero, suc, Bool, true, false, List, [], ◌∷◌, map, length, get_or, take, drop, if◌then◌else◌, Option, Some, None, refl, sym, ap, ◌∙◌, arith, append_assoc, append-nil, length-append, lit<, ⊎_elim}
-use Rattle.std.specs.Prelude.{nat_le, nat_lt, option_map, slice_range}
+use Rattle.std.proofs.Common.{◌≡◌, ◌≢◌, ◌<◌, ◌≤◌, ◌+◌, ◌-◌, ◌==◌, ◌++◌, ℕ, zero, suc, Bool, true, false, List, [], ◌∷◌, map, length, get_or, take, drop, if◌then◌else◌, Option, Some, None, refl, sym, ap, ◌∙◌, arith, append_assoc, append-nil, length-append, lit<, ⊎_elim, nat_le, nat_lt, option_map, slice_range}
 use Rattle.std.specs.List.{prefix_len, list_any}
 use Rattle.std.specs.List.Sorted.{IsPartitionPoint}
 use Rattle.std.specs.Str.Pattern.{FindsChar}
@@ -29,16 +28,10 @@ returns_behind at (b ∷ z) rest h =
     rw other (returns_behind (suc at) z rest (λ i l. h (suc i) (omega arith)) ∙ ap (λ n. returns_from n rest) (omega arith))
 
 pub feeds_same : (z : List ℕ) → ((i : ℕ) → i < length z → get_or z i 0 ≢ 13) → with_feeds z ≡ z
-feeds_same [] h = refl
-feeds_same (b ∷ z) h =
-    let other : (b == 13) ≡ false = ne_eqb b 13 (h 0 (omega arith)) in
-    rw other (ap (λ l. b ∷ l) (feeds_same z (λ i l. h (suc i) (omega arith))))
+feeds_same z h = rw append-nil at (feeds_behind z [] h)
 
 pub returns_none : (at : ℕ) (z : List ℕ) → ((i : ℕ) → i < length z → get_or z i 0 ≢ 13) → returns_from at z ≡ []
-returns_none at [] h = refl
-returns_none at (b ∷ z) h =
-    let other : (b == 13) ≡ false = ne_eqb b 13 (h 0 (omega arith)) in
-    rw other (returns_none (suc at) z (λ i l. h (suc i) (omega arith)))
+returns_none at z h = rw append-nil at (returns_behind at z [] h)
 
 -- behind one more return
 pub feeds_step : (done front behind all : List ℕ) → ((i : ℕ) → i < length front → get_or front i 0 ≢ 13) → done ++ with_feeds (front ++ 13 ∷ behind) ≡ all
@@ -241,8 +234,7 @@ held_first at b c z mid r e i =
 
 held_part : (at : ℕ) (z front mid back : List ℕ) → with_feeds z ≡ front ++ (mid ++ back) → list_any (λ c. c == 10) mid ≡ false → IsHeld at z (length front) mid
 held_part at [] [] [] back e h = (refl, refl)
-held_part at [] [] (m ∷ mid) back e h = absurd cc
-held_part at [] (f ∷ front) mid back e h = absurd cc
+held_part at [] _ _ back e h = absurd cc
 held_part at (b ∷ z) [] [] back e h = (refl, refl)
 held_part at (b ∷ z) [] (m ∷ mid) back e h =
     ⊎_elim (λ (r : is_return b z ≡ true). let ten = feed_first z (mid ++ back) b m r (rw r at e) in let wrong : true ≡ false = rw ten at h in absurd cc)

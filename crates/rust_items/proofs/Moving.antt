@@ -1,6 +1,5 @@
 -- The places of a file are those of another, moved, where what was found stands alike in both.
-use Rattle.std.proofs.Common.{◌≡◌, ◌≤◌, ℕ, Option, Some, List, [], ◌∷◌, length, refl, ap, sym, ◌∙◌, map}
-use Rattle.std.specs.Prelude.{option_map}
+use Rattle.std.proofs.Common.{◌≡◌, ◌≤◌, ℕ, Option, Some, List, [], ◌∷◌, length, refl, ap, sym, ◌∙◌, map, option_map}
 use Rattle.hir_input.specs.declared.edition.EditionYear.{EditionYear}
 use Rattle.hir_input.specs.declared.ids.FileAstId.{FileAstId}
 use Rattle.rust_cursor.proofs.Places.{AreAlike, no_more, one_more, IsAlike, neither, both}

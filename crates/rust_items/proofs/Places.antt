@@ -1,6 +1,5 @@
 -- Items stand where their places say.
-use Rattle.std.proofs.Common.{◌≡◌, ◌≤◌, ◌+◌, ◌-◌, ◌==◌, ◌&&◌, ℕ, zero, suc, Bool, true, false, Option, Some, None, List, [], ◌∷◌, ◌++◌, map, length, refl, sym, subst, ap, ◌∙◌, arith, append_assoc, append-nil}
-use Rattle.std.specs.Prelude.{option_to_list, All, is_none}
+use Rattle.std.proofs.Common.{◌≡◌, ◌≤◌, ◌+◌, ◌-◌, ◌==◌, ◌&&◌, ℕ, zero, suc, Bool, true, false, Option, Some, None, List, [], ◌∷◌, ◌++◌, map, length, refl, sym, subst, ap, ◌∙◌, arith, append_assoc, append-nil, option_to_list, All, is_none}
 use Rattle.std.specs.List.{AllZip}
 use Rattle.std.proofs.lemmas.List.Elements.{All-nil, All-cons}
 use Rattle.std.proofs.lemmas.List.{map-append}
@@ -8,7 +7,7 @@ use Rattle.hir_input.specs.declared.ids.AstIdKind.{AstIdKind}
 use Rattle.hir_input.specs.declared.ids.AstIdKind.TheVariants as kind
 use Rattle.hir_input.specs.declared.ast.Visibility.{Visibility}
 use Rattle.hir_input.specs.Attr.{MetaView}
-use Rattle.hir_input.specs.Syntax.{NodeView, NamedView, ItemView, ItemViews, plain_item, fn_kind, static_kind, type_alias_kind, macro_call, no_items, item_and, items_from, module_from, extern_block_from}
+use Rattle.hir_input.specs.Syntax.{ItemView, ItemViews, plain_item, fn_kind, static_kind, type_alias_kind, macro_call, no_items, item_and, items_from, module_from, extern_block_from}
 use Rattle.hir_input.specs.UseTreeView.{UseTreeView}
 use Rattle.rust_cursor.specs.Tokens.{Tokens}
 use Rattle.rust_cursor.specs.Words.{symbol, at, eat, is_at_end, bumped}
@@ -31,7 +30,7 @@ use Rattle.rust_leaves.specs.Kinds.{node, named_node}
 use Rattle.rust_leaves.specs.Fronts.{FrontRead, front}
 use Rattle.rust_items.specs.Items.{BlockRead, span_of, needs_name, and_flaw, and_item, and_leaf, and_parent, leaf_found, leaf_turn, finding_from, finding, is_list_end, block_of, as_extern, extern_kept, extern_found, extern_turn, extern_inside, extern_block, one_more, unmatched, inside_unless, module_with, by_head, turn_with, inside, turn, depth_of, items}
 use Rattle.rust_items.specs.Places.{Telling, id_of, name_of, items_held, IsNameIn, IsBodyIn, IsPlace, ArePlaces, nothing, placed}
-use Rattle.rust_items.proofs.Leads.{IsNamed, nameless, by_token, name_behind, name_before, IsBraced, unbraced, braced, blank, IsLeaf, IsTaken, LeafFound, TakesBy, front_takes, front_start, named_leads, named_named, behind_others_leads}
+use Rattle.rust_items.proofs.Leads.{IsNamed, nameless, by_token, name_behind, name_before, IsBraced, unbraced, braced, blank, IsTaken, LeafFound, TakesBy, front_takes, front_start, named_leads, named_named, behind_others_leads}
 use Rattle.rust_items.proofs.Leads as leads
 use Rattle.rust_items.specs.Uses.{trees_in, trees_within}
 use Rattle.rust_items.proofs.TreesRead.{IsRead, read_around}
@@ -266,8 +265,7 @@ read_in end ts us start w laid r =
 starts_in : (end : ℕ) (ts us : Tokens) (starts : List ℕ) (ws : List UseTreeView) → IsLaid end ts → AllZip (IsRead ts us) starts ws → All (IsIn (at ts) us.past) starts
 starts_in end ts us [] [] laid z = All-nil (IsIn (at ts) us.past)
 starts_in end ts us (s ∷ ss) (w ∷ ws) laid z = All-cons (IsIn (at ts) us.past) s ss (read_in end ts us s w laid z.0) (starts_in end ts us ss ws laid z.1)
-starts_in end ts us [] (w ∷ ws) laid z = absurd z
-starts_in end ts us (s ∷ ss) [] laid z = absurd z
+starts_in end ts us _ _ laid z = absurd z
 
 -- an item that holds none
 leaf_is : (end : ℕ) (ts us : Tokens) (depth : ℕ) (l : LeafRead) (f : Found) → IsLaid end ts → IsTaken ts us l → AreFound ts us f (and_leaf depth (at ts) us.past l f) (item_and l.item no_items)
@@ -286,20 +284,26 @@ abbrev pub listed : Option (List ItemView) → ItemViews
 listed None = no_items
 listed (Some is) = items_from is
 
--- an item that holds these
-parent_is : (end : ℕ) (ts ms us : Tokens) (f g : Found) (depth : ℕ) (k : AstIdKind) (n : NameRead) (is_ended : Bool) (i : ItemView) (is : ItemViews) → IsLaid end ts → Takes ts ms → AreFound ms us nothing_found g is
-    → id_of i ≡ Some (blank k) → items_held i ≡ is → trees_in i ≡ trees_within (items_held i) → IsNamed ts ms n.range → IsToken ts (name_of i) n.range → AreFound ts us f (and_parent depth (at ts) us.past k n is_ended g f) (item_and i no_items)
-parent_is end ts ms us f g depth k n is_ended i is laid t b e same trees name spelled =
+-- an item of a kind that holds these, with this name
+record Holds (k : AstIdKind) (name : Option (List ℕ)) (is : ItemViews) (i : ItemView) : Type 0 where
+  id : id_of i ≡ Some (blank k)
+  named : name_of i ≡ name
+  held : items_held i ≡ is
+  trees : trees_in i ≡ trees_within (items_held i)
+
+parent_is : (end : ℕ) (ts ms us : Tokens) (f g : Found) (depth : ℕ) (k : AstIdKind) (n : NameRead) (is_ended : Bool) (i : ItemView) (is : ItemViews) → Holds k n.name is i → IsLaid end ts → Takes ts ms
+    → AreFound ms us nothing_found g is → IsNamed ts ms n.range → IsToken ts n.name n.range → AreFound ts us f (and_parent depth (at ts) us.past k n is_ended g f) (item_and i no_items)
+parent_is end ts ms us f g depth k n is_ended i is h laid t b name spelled =
     let strict = takes_strict end t laid in
     record {
       leads = through (takes_leads t) b.leads;
       places = unnumbered k (at ts) us.past None n.range ∷ b.places;
       adds = adds_more (adds_item f depth (at ts) us.past None k n.hashed n.range is_ended) (adds_all _ g b.places b.adds);
-      are = placed (place_is end ts us i k None n.range laid (takes_before t b.leads) e (name_before name b.leads) unbraced (λ _. spelled)) (rw same (widened (at ts + 1) us.past (omega arith) (omega arith) (retold (told_behind (takes_leads t)) b.are))) nothing;
+      are = placed (place_is end ts us i k None n.range laid (takes_before t b.leads) h.id (name_before name b.leads) unbraced (λ _. rw h.named spelled)) (rw h.held (widened (at ts + 1) us.past (omega arith) (omega arith) (retold (told_behind (takes_leads t)) b.are))) nothing;
       starts = b.starts;
       more = ap (λ l. l ++ g.use_trees) (same_item depth (at ts) us.past None k n.hashed n.range is_ended f) ∙ ap (λ l. f.use_trees ++ l) b.more;
-      uses = holder_uses b.places [] b.starts [] (sym (append-nil b.places)) (sym (append-nil b.starts)) trees (place_within end ts us laid (takes_before t b.leads))
-          (subst (λ (js : ItemViews). UsesIn (IsRead ts us) (at ts) us.past js b.places b.starts) (sym same) (widened_uses (at ts) us.past (omega arith) (omega arith) (retold_uses (read_around (takes_leads t) here) b.uses))) no_uses;
+      uses = holder_uses b.places [] b.starts [] (sym (append-nil b.places)) (sym (append-nil b.starts)) h.trees (place_within end ts us laid (takes_before t b.leads))
+          (subst (λ (js : ItemViews). UsesIn (IsRead ts us) (at ts) us.past js b.places b.starts) (sym h.held) (widened_uses (at ts) us.past (omega arith) (omega arith) (retold_uses (read_around (takes_leads t) here) b.uses))) no_uses;
     }
 
 -- ---- items that hold none
@@ -380,47 +384,23 @@ unfolding extern_inside
 extern_inside_found end depth f ts laid =
     when (symbol ts == 123) (λ e. rw e (block_found end (extern_turn depth) (extern_turn_found end depth) f ts laid)) (λ e. rw e (no_block_found f ts))
 
-extern_id : (attrs : List MetaView) (is : Option (List ItemView)) → id_of (extern_block_from (node attrs []) is) ≡ Some (blank kind.ExternBlock)
-extern_id attrs None = refl
-extern_id attrs (Some is) = refl
-
-extern_name : (n : NodeView) (is : Option (List ItemView)) → name_of (extern_block_from n is) ≡ None
-extern_name n None = refl
-extern_name n (Some is) = refl
-
-extern_held : (n : NodeView) (is : Option (List ItemView)) → items_held (extern_block_from n is) ≡ listed is
-extern_held n None = refl
-extern_held n (Some is) = refl
-
-extern_trees : (n : NodeView) (is : Option (List ItemView)) → trees_in (extern_block_from n is) ≡ trees_within (items_held (extern_block_from n is))
-extern_trees n None = refl
-extern_trees n (Some is) = refl
+extern_holds : (attrs : List MetaView) (is : Option (List ItemView)) → Holds kind.ExternBlock None (listed is) (extern_block_from (node attrs []) is)
+extern_holds attrs None = record { id = refl; named = refl; held = refl; trees = refl }
+extern_holds attrs _ = record { id = refl; named = refl; held = refl; trees = refl }
 
 extern_block_found : (end : ℕ) (ts us : Tokens) (depth : ℕ) (attrs : List MetaView) (f : Found) → IsLaid end ts → Takes ts us
     → AreFound ts (extern_block depth (at ts) attrs f us).1.1 f (extern_block depth (at ts) attrs f us).1.0 (item_and (extern_block depth (at ts) attrs f us).0 no_items)
 unfolding extern_block
 extern_block_found end ts us depth attrs f laid t =
     let first = behind end (takes_leads t) laid in
-    parent_is end ts us _ f _ depth kind.ExternBlock no_name _ _ _ laid t (extern_inside_found end (one_more depth) nothing_found us first.laid) (extern_id _ _) (extern_held _ _) (extern_trees (node (attrs ++ (extern_inside (one_more depth) nothing_found us).0.attrs) []) (extern_inside (one_more depth) nothing_found us).0.items) nameless (rw (extern_name _ _) untold)
+    parent_is end ts us _ f _ depth kind.ExternBlock no_name _ _ _ (extern_holds _ _) laid t (extern_inside_found end (one_more depth) nothing_found us first.laid) nameless untold
 
 -- ---- modules
 
-module_id : (attrs : List MetaView) (name : Option (List ℕ)) (v : Option Visibility) (semicolon : Bool) (is : Option (List ItemView))
-    → id_of (module_from (named_node attrs name v []) semicolon is) ≡ Some (blank kind.Module)
-module_id attrs name v semicolon None = refl
-module_id attrs name v semicolon (Some is) = refl
-
-module_held : (n : NamedView) (semicolon : Bool) (is : Option (List ItemView)) → items_held (module_from n semicolon is) ≡ listed is
-module_held n semicolon None = refl
-module_held n semicolon (Some is) = refl
-
-module_name : (n : NamedView) (semicolon : Bool) (is : Option (List ItemView)) → name_of (module_from n semicolon is) ≡ n.name
-module_name n semicolon None = refl
-module_name n semicolon (Some is) = refl
-
-module_trees : (n : NamedView) (semicolon : Bool) (is : Option (List ItemView)) → trees_in (module_from n semicolon is) ≡ trees_within (items_held (module_from n semicolon is))
-module_trees n semicolon None = refl
-module_trees n semicolon (Some is) = refl
+module_holds : (attrs : List MetaView) (name : Option (List ℕ)) (v : Option Visibility) (semicolon : Bool) (is : Option (List ItemView))
+    → Holds kind.Module name (listed is) (module_from (named_node attrs name v []) semicolon is)
+module_holds attrs name v semicolon None = record { id = refl; named = refl; held = refl; trees = refl }
+module_holds attrs name v semicolon _ = record { id = refl; named = refl; held = refl; trees = refl }
 
 module _ (end : ℕ) (inside : Finder BlockRead) (finds : FindsIn end inside) (depth : ℕ) where
   pub unless_found : (semicolon : Bool) → FindsIn end (inside_unless semicolon inside)
@@ -433,8 +413,8 @@ module _ (end : ℕ) (inside : Finder BlockRead) (finds : FindsIn end inside) (d
       let name_leads = through (named_leads us) (eat_leads 59 (named us).1) in
       let first = behind end (through (takes_leads t) name_leads) laid in
       let b = unless_found (eat 59 (named us).1).0 nothing_found (eat 59 (named us).1).1 first.laid in
-      rw s (parent_is end ts (eat 59 (named us).1).1 _ f _ depth kind.Module (named us).0 _ _ _ laid (takes_before t name_leads) b (module_id _ _ _ _ _) (module_held _ _ _) (module_trees (named_node (h.attrs ++ (inside_unless (eat 59 (named us).1).0 inside nothing_found (eat 59 (named us).1).1).0.attrs) (named us).0.name h.visibility []) (eat 59 (named us).1).0 (inside_unless (eat 59 (named us).1).0 inside nothing_found (eat 59 (named us).1).1).0.items)
-      (name_behind (takes_leads t) (name_before (named_named us) (eat_leads 59 (named us).1))) (rw (module_name _ _ _) (told_behind (takes_leads t) _ _ (named_told us))))
+      rw s (parent_is end ts (eat 59 (named us).1).1 _ f _ depth kind.Module (named us).0 _ _ _ (module_holds _ _ _ _ _) laid (takes_before t name_leads) b
+      (name_behind (takes_leads t) (name_before (named_named us) (eat_leads 59 (named us).1))) (told_behind (takes_leads t) _ _ (named_told us)))
 
   head_found : (head : Head) (ts us : Tokens) (h : FrontRead) (f : Found) → h.start ≡ at ts → IsLaid end ts → TakesBy head ts us → TakesBy h.head ts us
       → AreFound ts (by_head inside depth head h f us).1.1 f (by_head inside depth head h f us).1.0 (items_from (option_to_list (by_head inside depth head h f us).0))

@@ -1,6 +1,5 @@
 -- Which braces are a body is told by the places of what was read.
-use Rattle.std.proofs.Common.{◌≡◌, ◌<◌, ◌≤◌, ◌==◌, ◌||◌, ℕ, Option, Some, None, List, [], ◌∷◌, length, refl, ap, ◌∙◌, map, arith}
-use Rattle.std.specs.Prelude.{nat_lt, option_map}
+use Rattle.std.proofs.Common.{◌≡◌, ◌<◌, ◌≤◌, ◌==◌, ◌||◌, ℕ, Option, Some, None, List, [], ◌∷◌, length, refl, ap, ◌∙◌, map, arith, nat_lt, option_map}
 use Rattle.std.proofs.lemmas.Bool.Decides.{nat_tests}
 use Rattle.hir_input.specs.declared.edition.EditionYear.{EditionYear}
 use Rattle.hir_input.specs.declared.ids.FileAstId.{FileAstId}
@@ -38,10 +37,9 @@ module _ (place : ℕ → ℕ) (end : ℕ) (rises : (m n : ℕ) → m < n → n 
 
   places_told : (ids : List FileAstId) (spans : List ItemSpan) → length ids ≡ length spans → AreIn end spans → has_body_at (place at) (places ids (map (moved_span place) spans)) ≡ has_body at spans
   places_told [] [] e h = refl
-  places_told [] (s ∷ ss) e h = absurd (omega arith)
-  places_told (id ∷ ids) [] e h = absurd (omega arith)
   places_told (id ∷ ids) (s ∷ ss) e h =
       ap (λ t. t || has_body_at (place at) (places ids (map (moved_span place) ss))) (body_told s.body h.0.1.1) ∙ ap (λ t. begins_at at s.body || t) (places_told ids ss (omega arith) h.1)
+  places_told _ _ e h = absurd (omega arith)
 
 pub file_told : (edition : EditionYear) (old : List ℕ) (read : FileView) (f : IsFileView edition old read) (at : ℕ) → at ≤ length (with_feeds old)
     → has_body_at (place_in old at) read.places ≡ has_body at (found_in edition (with_feeds old)).spans

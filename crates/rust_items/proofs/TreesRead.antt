@@ -1,8 +1,6 @@
 -- Where a use tree tells that trees begin, those of it that can be read are read.
-use Rattle.std.proofs.Common.{◌≡◌, ◌==◌, ◌||◌, ℕ, zero, suc, Bool, true, false, Option, Some, None, List, [], ◌∷◌, ◌++◌, codes, refl, sym, ap, ◌∙◌, subst, append-nil, append_assoc, arith}
-use Rattle.std.specs.Prelude.{is_none, option_map, option_to_list}
+use Rattle.std.proofs.Common.{◌≡◌, ◌==◌, ◌||◌, ℕ, zero, suc, Bool, true, false, Option, Some, None, List, [], ◌∷◌, ◌++◌, codes, refl, sym, ap, ◌∙◌, subst, append-nil, append_assoc, arith, is_none, option_map, option_to_list, bytes_eq}
 use Rattle.std.specs.List.{AllZip}
-use Rattle.std.specs.Str.{bytes_eq}
 use Rattle.hir_input.specs.declared.ast.PathNode.{PathNode}
 use Rattle.hir_input.specs.declared.ast.PathNode.TheVariants.{Readable, Unreadable}
 use Rattle.hir_input.specs.declared.ast.Rename.{Rename}
@@ -25,14 +23,12 @@ use Rattle.rust_items.specs.Uses.{is_readable, all_readable_trees, readable_tree
 pub both_zip : {A B : Type 0} (R : A → B → Type 0) (xs us : List A) (ys ws : List B) → AllZip R xs ys → AllZip R us ws → AllZip R (xs ++ us) (ys ++ ws)
 both_zip R [] us [] ws p q = q
 both_zip R (x ∷ xs) us (y ∷ ys) ws p q = (p.0, both_zip R xs us ys ws p.1 q)
-both_zip R [] us (y ∷ ys) ws p q = absurd p
-both_zip R (x ∷ xs) us [] ws p q = absurd p
+both_zip R _ us _ ws p q = absurd p
 
 pub zip_is : {A B : Type 0} (R S : A → B → Type 0) → ((x : A) (y : B) → R x y → S x y) → (xs : List A) (ys : List B) → AllZip R xs ys → AllZip S xs ys
 zip_is R S f [] [] p = tt
 zip_is R S f (x ∷ xs) (y ∷ ys) p = (f x y p.0, zip_is R S f xs ys p.1)
-zip_is R S f [] (y ∷ ys) p = absurd p
-zip_is R S f (x ∷ xs) [] p = absurd p
+zip_is R S f _ _ p = absurd p
 
 -- ---- a path that is read is of tokens
 
@@ -80,9 +76,8 @@ PathTakes (Some (Readable q)) ts us = Takes ts us
 PathTakes _ ts us = Unit {0}
 
 path_any : (p : Option PathNode) (ts us : Tokens) → Takes ts us → PathTakes p ts us
-path_any None ts us t = tt
-path_any (Some Unreadable) ts us t = tt
 path_any (Some (Readable q)) ts us t = t
+path_any _ ts us t = tt
 
 path_first : (o : Option PathWord) (more : List (Option PathWord)) (ts us vs : Tokens) → SegmentTakes o ts us → LeadsTo us vs → PathTakes (Some (path_node (o ∷ more))) ts vs
 path_first None more ts us vs t p = tt
@@ -104,9 +99,8 @@ unfolding use_path
 path_takes ts = when (is_path_start true ts) (λ e. rw e (written_takes ts)) (λ e. rw e tt)
 
 path_further : (p : Option PathNode) (ts us vs : Tokens) → PathTakes p ts us → LeadsTo us vs → PathTakes p ts vs
-path_further None ts us vs t p = tt
-path_further (Some Unreadable) ts us vs t p = tt
 path_further (Some (Readable q)) ts us vs t p = takes_before t p
+path_further _ ts us vs t p = tt
 
 -- ---- where a tree is read
 
@@ -177,9 +171,8 @@ either_none true b e = absurd cc
 either_none false b e = e
 
 bare_takes : (p : Option PathNode) (ts us vs : Tokens) → PathTakes p ts us → LeadsTo us vs → is_none p ≡ false → is_readable p ≡ true → Takes ts vs
-bare_takes None ts us vs t p e r = absurd cc
-bare_takes (Some Unreadable) ts us vs t p e r = absurd cc
 bare_takes (Some (Readable q)) ts us vs t p e r = takes_before t p
+bare_takes _ ts us vs t p e r = absurd cc
 
 module _ (depth : ℕ) (h : (ts : Tokens) → ListTold ts (list depth ts)) (ts us : Tokens) (p : Option PathNode) (leads : LeadsTo ts us) (path : PathTakes p ts us) where
   -- the tree that is read from here on is this

@@ -1,22 +1,19 @@
 -- The items of two texts that differ between the braces of one item are the same but for body texts.
-use Rattle.std.proofs.Common.{◌≡◌, ◌≤◌, ◌<◌, ◌+◌, ◌==◌, ◌||◌, ℕ, zero, suc, Bool, true, false, Option, Some, None, List, [], ◌∷◌, ◌++◌, map, refl, ap, sym, subst, ◌∙◌, arith, append_assoc, append-nil}
+use Rattle.std.proofs.Common.{◌≡◌, ◌≤◌, ◌<◌, ◌+◌, ◌==◌, ◌||◌, ℕ, zero, suc, Bool, true, false, Option, Some, None, List, [], ◌∷◌, ◌++◌, map, refl, ap, sym, subst, ◌∙◌, arith, append_assoc, append-nil, option_map, option_to_list, eqb-true}
 use Rattle.hir_input.specs.declared.ast.Visibility.{Visibility}
-use Rattle.std.specs.Prelude.{option_map, option_to_list}
-use Rattle.std.proofs.lemmas.Bool.{eqb-true}
 use Rattle.std.proofs.lemmas.List.{map-append}
 use Rattle.hir_input.specs.declared.edition.EditionYear.{EditionYear}
 use Rattle.hir_input.specs.declared.ids.AstIdKind.{AstIdKind}
 use Rattle.hir_input.specs.declared.ids.AstIdKind.TheVariants as kind
 use Rattle.hir_input.specs.Attr.{MetaView}
 use Rattle.hir_input.specs.Bodies.{item_without_bodies}
-use Rattle.hir_input.specs.Syntax.{ItemView, ItemViews, fn_kind, static_kind, type_alias_kind, plain_item, macro_call, module_from, extern_block_from}
+use Rattle.hir_input.specs.Syntax.{ItemView, ItemViews, module_from, extern_block_from}
 use Rattle.rust_cursor.specs.Tokens.{Tokens}
 use Rattle.rust_cursor.specs.Words.{symbol, at, eat, is_at_end, bumped}
 use Rattle.rust_cursor.specs.Elements.{most, beyond}
 use Rattle.rust_cursor.specs.Beside.{Bodies, Beside, ahead, behind}
 use Rattle.rust_cursor.proofs.Leads.{LeadsTo, further, through, when, eat_leads, beyond_leads}
 use Rattle.rust_cursor.proofs.Around.{IsSound, sound_on}
-use Rattle.rust_cursor.proofs.Laid.{IsLaid, past_within}
 use Rattle.rust_cursor.proofs.Laid as laid
 use Rattle.rust_cursor.proofs.Views.{before_at, behind_at, symbol_same, empty_same, end_same}
 use Rattle.rust_cursor.proofs.Passing.{beyond_beside, behind_tree_beside}
@@ -286,8 +283,7 @@ module _ (b : Bodies) (depth start start' : ℕ) (i : SamePlace b start start') 
       → FoundUntil ItemAlike b f ((extern_kept depth start end l o f).0, ((extern_kept depth start end l o f).1, ts)) ((extern_kept depth start' end' m o' f').0, ((extern_kept depth start' end' m o' f').1, us))
   kept_until end end' ts us l m None None j a d h = same (record { value = refl; found = e; rest = h })
   kept_until end end' ts us l m (Some _) (Some _) j a d h = same (record { value = d; found = leaf_rows_same b depth start end start' end' l m f f' i j a e; rest = h })
-  kept_until end end' ts us l m None (Some _) j a d h = absurd cc
-  kept_until end end' ts us l m (Some _) None j a d h = absurd cc
+  kept_until end end' ts us l m _ _ j a d h = absurd cc
 
   kept_misses : (end : ℕ) (l : LeafRead) (o : Option ItemView) → Elsewhere b.opening.at l.body → Misses b.opening.at f (extern_kept depth start end l o f).1
   kept_misses end l None h = misses_none b.opening.at f _ refl
@@ -347,24 +343,7 @@ by_found (same k) x y = y k
 
 -- the braces are passed
 passed : Bodies → Bodies
-passed b = record {
-  edition = b.edition;
-  passed = true;
-  opening = b.opening;
-  closing = b.closing;
-  old = b.old;
-  new = b.new;
-  by = b.by;
-  by_new = b.by_new;
-  opens = b.opens;
-  is_bracket = b.is_bracket;
-  closes = b.closes;
-  old_behind = b.old_behind;
-  apart = b.apart;
-  apart_new = b.apart_new;
-  old_matched = b.old_matched;
-  new_matched = b.new_matched;
-}
+passed b = record b { passed = true }
 
 plain_passed : (b : Bodies) → BeginPlain b → BeginPlain (passed b)
 unfolding passed

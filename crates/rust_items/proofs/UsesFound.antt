@@ -1,6 +1,5 @@
 -- The use trees of items, with the ranges of the items' places.
-use Rattle.std.proofs.Common.{◌≡◌, ◌<◌, ◌≤◌, ℕ, List, [], ◌∷◌, ◌++◌, map, refl, sym, ap, ◌∙◌, subst, append_assoc, arith}
-use Rattle.std.specs.Prelude.{All}
+use Rattle.std.proofs.Common.{◌≡◌, ◌<◌, ◌≤◌, ℕ, List, [], ◌∷◌, ◌++◌, map, refl, sym, ap, ◌∙◌, subst, append_assoc, arith, All}
 use Rattle.std.specs.List.{AllZip}
 use Rattle.std.proofs.lemmas.List.{map-append}
 use Rattle.std.proofs.lemmas.List.Elements.{All-nil, All-append, All-map, All-weaker}
@@ -153,8 +152,7 @@ module _ (place : ℕ → ℕ) (end : ℕ) (rises : (m n : ℕ) → m < n → n 
   zip_moved : (ss : List ℕ) (ts : List UseTreeView) → AllZip R ss ts → AllZip S (map place ss) ts
   zip_moved [] [] z = tt
   zip_moved (s ∷ ss) (t ∷ ts) z = (told s t z.0, zip_moved ss ts z.1)
-  zip_moved [] (t ∷ ts) z = absurd z
-  zip_moved (s ∷ ss) [] z = absurd z
+  zip_moved _ _ z = absurd z
 
   moved_in : (range : TextRange) (ss : List ℕ) → range.end ≤ end → All (IsIn range.start range.end) ss → All (IsIn (place range.start) (place range.end)) (map place ss)
   moved_in range ss l h =

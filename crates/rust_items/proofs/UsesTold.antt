@@ -55,9 +55,8 @@ range_of p = p.range
 
 ranges_kept : (ids : List FileAstId) (ps : List ItemPlace) → length ids ≡ length ps → map range_of (places ids (map place_span ps)) ≡ map range_of ps
 ranges_kept [] [] e = refl
-ranges_kept [] (p ∷ ps) e = absurd (omega arith)
-ranges_kept (id ∷ ids) [] e = absurd (omega arith)
 ranges_kept (id ∷ ids) (p ∷ ps) e = ap (λ l. p.range ∷ l) (ranges_kept ids ps (omega arith))
+ranges_kept _ _ e = absurd (omega arith)
 
 -- ---- lists side by side, by what is seen of them
 
@@ -65,14 +64,12 @@ module _ {A B C D : Type 0} (R : C → D → Type 0) (f : A → C) (g : B → D)
   zip_seen : (xs : List A) (ys : List B) → AllZip (λ x y. R (f x) (g y)) xs ys → AllZip R (map f xs) (map g ys)
   zip_seen [] [] z = tt
   zip_seen (x ∷ xs) (y ∷ ys) z = (z.0, zip_seen xs ys z.1)
-  zip_seen [] (y ∷ ys) z = absurd z
-  zip_seen (x ∷ xs) [] z = absurd z
+  zip_seen _ _ z = absurd z
 
   zip_of_seen : (xs : List A) (ys : List B) → AllZip R (map f xs) (map g ys) → AllZip (λ x y. R (f x) (g y)) xs ys
   zip_of_seen [] [] z = tt
   zip_of_seen (x ∷ xs) (y ∷ ys) z = (z.0, zip_of_seen xs ys z.1)
-  zip_of_seen [] (y ∷ ys) z = absurd z
-  zip_of_seen (x ∷ xs) [] z = absurd z
+  zip_of_seen _ _ z = absurd z
 
 -- ---- a text
 

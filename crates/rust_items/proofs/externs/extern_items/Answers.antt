@@ -1,5 +1,4 @@
-use Rattle.std.proofs.Common.{map, sym, ◌∙◌, false}
-use Rattle.std.specs.Prelude.{option_map}
+use Rattle.std.proofs.Common.{map, sym, ◌∙◌, false, option_map}
 use Rattle.hir_input.specs.Syntax.{extern_item_view}
 use Rattle.rust_items.specs.Clipped.{clipped_turn}
 use Rattle.rust_items.specs.Found.{log_view}

@@ -1,5 +1,4 @@
-use Rattle.std.proofs.Common.{map, sym, ◌∙◌}
-use Rattle.std.specs.Prelude.{option_map}
+use Rattle.std.proofs.Common.{map, sym, ◌∙◌, option_map}
 use Rattle.hir_input.specs.Syntax.{item_view}
 use Rattle.rust_items.specs.Clipped.{clipped_turn}
 use Rattle.rust_items.specs.Found.{log_view}

@@ -1,5 +1,4 @@
-use Rattle.std.proofs.Common.{◌≡◌, rules, sym, subst, ap, ◌∙◌, arith, length, List, ℕ, Some, lit<}
-use Rattle.std.specs.Prelude.{string_bytes}
+use Rattle.std.proofs.Common.{◌≡◌, rules, sym, subst, ap, ◌∙◌, arith, length, List, ℕ, Some, lit<, string_bytes}
 use Rattle.std.specs.List.Sorted.{IsNonDecreasing}
 use Rattle.std.proofs.lemmas.Str.Pattern.{split_parts}
 use Rattle.rust_items.specs.LineEnds.{with_feeds, returns_from}

@@ -1,5 +1,4 @@
-use Rattle.std.proofs.Common.{rules, sym, subst, List, ℕ}
-use Rattle.std.specs.Prelude.{nat_lt}
+use Rattle.std.proofs.Common.{rules, sym, subst, List, ℕ, nat_lt}
 use Rattle.std.specs.List.Sorted.{IsNonDecreasing}
 use Rattle.std.proofs.lemmas.List.Sorted.{IsPartitionedBy-ltb, IsPartitionPoint-from_clause}
 use Rattle.rust_items.proofs.LineEnds.{point_place}
