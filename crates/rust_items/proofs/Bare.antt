@@ -1,11 +1,6 @@
 -- Items without bodies, or with what is wanted of them.
 use Rattle.std.proofs.Common.{◌≡◌, Bool, true, false, List, [], ◌∷◌, Option, Some, None, refl, ap, ◌∙◌, map, option_map, option_to_list}
-use Rattle.hir_input.specs.Bodies.{item_without_bodies, items_without_bodies, named_without_body, node_without_body}
-use Rattle.hir_input.specs.Syntax.{ItemView, ItemViews, NamedView, NodeView, plain_item, fn_kind, listed_module, listed_extern_block, no_items, item_and, items_from, module_from, extern_block_from}
-use Rattle.rust_metas.specs.Docs.{kept_metas}
-use Rattle.rust_leaves.specs.declared.wanted.Wanted.{Wanted}
-use Rattle.rust_leaves.specs.Clipped.{clipped_item, clipped_list}
-use Rattle.rust_items.specs.Items.{as_extern}
+use Rattle.rust_items.proofs.Common.{item_without_bodies, items_without_bodies, named_without_body, node_without_body, ItemView, ItemViews, NamedView, NodeView, plain_item, fn_kind, listed_module, listed_extern_block, no_items, item_and, items_from, module_from, extern_block_from, kept_metas, Wanted, clipped_item, clipped_list, as_extern}
 
 pub from_list : (is : List ItemView) → items_without_bodies (items_from is) ≡ items_from (map item_without_bodies is)
 from_list [] = refl

@@ -1,27 +1,10 @@
 -- What is read of a text with what is wanted of it: its places are as before.
 use Rattle.std.proofs.Common.{◌≡◌, ◌≢◌, ◌≤◌, ℕ, List, [], map, length, refl, sym, ap, subst, ◌∙◌, AllPairs, IfOk, Result, Ok, Err}
 use Rattle.std.specs.declared.alloc.AllocError.{AllocError}
-use Rattle.hir_input.specs.declared.edition.EditionYear.{EditionYear}
-use Rattle.hir_input.specs.declared.ids.FileAstId.{FileAstId}
-use Rattle.hir_input.specs.Attr.{MetaView}
-use Rattle.hir_input.specs.Bodies.{without_bodies}
-use Rattle.hir_input.specs.Syntax.{ItemView, ItemViews, plain_item, SyntaxView, source_file, items_from, items_of, syntax_view}
-use Rattle.rust_cursor.specs.Tokens.{tokens_of}
-use Rattle.rust_metas.specs.Attributes.{inner_attributes}
-use Rattle.rust_ids.specs.Ids.{AreIds}
-use Rattle.rust_metas.specs.Docs.{kept_metas}
-use Rattle.rust_leaves.specs.declared.wanted.Wanted.{Wanted}
-use Rattle.rust_leaves.specs.Clipped.{clipped_item, clipped_list}
+use Rattle.rust_items.proofs.Common.{EditionYear, FileAstId, MetaView, without_bodies, ItemView, ItemViews, plain_item, SyntaxView, source_file, items_from, items_of, syntax_view, tokens_of, inner_attributes, AreIds, kept_metas, Wanted, clipped_item, clipped_list, ItemPlace, Telling, id_of, name_of, IsWritten, items_held, IsPlace, ArePlaces, nothing, placed, clipped_items, with_ids, with_feeds, returns_from, place_by, place_in, moved_span, moved_problem, FileView, file_view, places, read_of, found_in, items_in, clipped_syntax, clipped_file, IsClipped, IsClippedFile, IsBareFile, IsFileView, IsSourceFile, reading_file}
 use Rattle.rust_items.specs.declared.log.Problem.{Problem}
-use Rattle.rust_items.specs.declared.source_file.ItemPlace.{ItemPlace}
 use Rattle.rust_items.specs.declared.source_file.Reading.{Reading}
 use Rattle.rust_items.specs.declared.source_file.SourceFile.{SourceFile}
-use Rattle.rust_items.specs.Places.{Telling, id_of, name_of, IsWritten, items_held, IsPlace, ArePlaces, nothing, placed}
-use Rattle.rust_items.specs.Clipped.{clipped_items}
-use Rattle.rust_items.specs.Ids.{with_ids}
-use Rattle.rust_items.specs.LineEnds.{with_feeds, returns_from, place_by, place_in, moved_span, moved_problem}
-use Rattle.rust_items.specs.SourceFiles.{FileView, file_view, places, read_of, found_in, items_in, clipped_syntax, clipped_file, IsClipped, IsClippedFile, IsBareFile, IsFileView, IsSourceFile}
-use Rattle.rust_items.specs.Views.{reading_file}
 use Rattle.rust_items.proofs.Bare.{all, bare, list_whole, list_bare, wanted_from}
 use Rattle.rust_items.proofs.Bodiless.{with_clipped}
 use Rattle.rust_items.proofs.FilePlaces.{view_placed, view_distinct}

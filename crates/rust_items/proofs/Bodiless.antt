@@ -1,11 +1,6 @@
 -- Ids stand beside documentation and bodies: items without them take the same.
 use Rattle.std.proofs.Common.{◌≡◌, List, refl, sym, ap, ◌∙◌}
-use Rattle.hir_input.specs.declared.ids.FileAstId.{FileAstId}
-use Rattle.hir_input.specs.Bodies.{items_without_bodies}
-use Rattle.hir_input.specs.Syntax.{ItemView, ItemViews, listed_module, listed_extern_block, no_items, item_and}
-use Rattle.rust_leaves.specs.declared.wanted.Wanted.{Wanted}
-use Rattle.rust_leaves.specs.Clipped.{clipped_node, clipped_named, clipped_item, clipped_list}
-use Rattle.rust_items.specs.Ids.{first_numbers, numbered_named, numbered_node, held_with_ids, with_ids}
+use Rattle.rust_items.proofs.Common.{FileAstId, items_without_bodies, ItemView, ItemViews, listed_module, listed_extern_block, no_items, item_and, Wanted, clipped_node, clipped_named, clipped_item, clipped_list, first_numbers, numbered_named, numbered_node, held_with_ids, with_ids}
 use Rattle.rust_items.proofs.Bare.{bare, list_bare}
 
 mutual

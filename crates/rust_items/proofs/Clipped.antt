@@ -3,29 +3,12 @@ use Rattle.std.proofs.Common.{◌≡◌, ◌≢◌, ◌<◌, ◌-◌, ◌+◌, �
 use Rattle.std.specs.declared.alloc.AllocError.{AllocError}
 use Rattle.std.proofs.lemmas.List.{map-append}
 use Rattle.hir_input.specs.declared.ids.AstIdKind.TheVariants as kind
-use Rattle.hir_input.specs.declared.ast.Visibility.{Visibility}
-use Rattle.hir_input.specs.Attr.{MetaView}
-use Rattle.hir_input.specs.Syntax.{ItemView, bare_module, listed_module, bare_extern_block, listed_extern_block, items_from, module_from, extern_block_from}
-use Rattle.rust_cursor.specs.Tokens.{Tokens}
-use Rattle.rust_cursor.specs.Words.{symbol, at, eat, is_at_end, bumped}
-use Rattle.rust_cursor.specs.Brackets.{behind_tree}
-use Rattle.rust_cursor.specs.Elements.{most, beyond}
-use Rattle.rust_cursor.specs.Extents.{kept_text}
-use Rattle.rust_metas.specs.Attributes.{inner_attributes}
-use Rattle.rust_metas.specs.Docs.{kept_metas, kept_by}
+use Rattle.rust_items.proofs.Common.{Visibility, MetaView, ItemView, bare_module, listed_module, bare_extern_block, listed_extern_block, items_from, module_from, extern_block_from, Tokens, symbol, at, eat, is_at_end, bumped, behind_tree, most, beyond, kept_text, inner_attributes, kept_metas, kept_by, Head, Wanted, with_value, clipped_front, clipped_item, clipped_list, clipped_leaf, clipped_leaf_if, wanted_item, wanted_leaf, wanted_leaf_if, unattributed, leaf_behind, FrontRead, front, named_node, node, leaf, LeafRead, no_name, named, clipped_item_if, clipped_items, clipped_block, clipped_turn, wanted_item_if, wanted_behind, Found, Finder, Finds, nothing_found, and_problem, BlockRead, finding_from, finding, is_list_end, empty_block, deep_block, block_of, leaf_found, leaf_turn, as_extern, and_rest, extern_kept, extern_found, extern_by, extern_turn, extern_inside, extern_block, one_more, unmatched, and_parent, depth_of, inside_unless, some_item, by_head, inside, behind_front, turn, module_item}
 use Rattle.rust_metas.proofs.Kept.{kept_append, kept_none}
-use Rattle.rust_leaves.specs.declared.head.Head.{Head}
 use Rattle.rust_leaves.specs.declared.head.Head.TheVariants as heads
-use Rattle.rust_leaves.specs.declared.wanted.Wanted.{Wanted}
-use Rattle.rust_leaves.specs.Clipped.{with_value, clipped_front, clipped_item, clipped_list, clipped_leaf, clipped_leaf_if, wanted_item, wanted_leaf, wanted_leaf_if, unattributed, leaf_behind}
-use Rattle.rust_leaves.specs.Fronts.{FrontRead, front}
-use Rattle.rust_leaves.specs.Kinds.{named_node, node, leaf}
-use Rattle.rust_leaves.specs.Leaves.{LeafRead, no_name, named}
 use Rattle.rust_leaves.proofs.Clipped.{with_if, text_none, leaf_front}
 use Rattle.rust_items.specs.declared.log.ProblemKind.TheVariants as problem
-use Rattle.rust_items.specs.Clipped.{clipped_item_if, clipped_items, clipped_block, clipped_turn, wanted_item_if, wanted_behind}
-use Rattle.rust_items.specs.Found.{Found, Finder, Finds, nothing_found, and_problem}
-use Rattle.rust_items.specs.Items.{BlockRead, finding_from, finding, is_list_end, empty_block, no_block, deep_block, block_of, leaf_found, leaf_turn, as_extern, and_rest, extern_kept, extern_found, extern_by, extern_turn, extern_inside, extern_block, one_more, unmatched, and_parent, depth_of, inside_unless, some_item, by_head, inside, behind_front, turn, module_item}
+use Rattle.rust_items.specs.Items.{no_block}
 use Rattle.rust_items.proofs.Bare.{list_of, all, item_whole, wanted_from, extern_clipped}
 use Rattle.rust_items.proofs.Steps.{inside_deep, inside_none, inside_some}
 

@@ -1,29 +1,10 @@
 -- The places of a whole text, with the ids of its items.
 use Rattle.std.proofs.Common.{true, ◌≡◌, ◌≢◌, ◌<◌, ◌≤◌, ◌+◌, ◌-◌, ℕ, zero, suc, Option, Some, List, [], ◌∷◌, map, length, refl, sym, ap, subst, ◌∙◌, arith, get_or, option_map, AllPairs}
 use Rattle.std.proofs.lemmas.List.{length-map}
-use Rattle.hir_input.specs.declared.edition.EditionYear.{EditionYear}
-use Rattle.hir_input.specs.declared.ids.AstIdKind.{AstIdKind}
-use Rattle.hir_input.specs.declared.ids.FileAstId.{FileAstId}
-use Rattle.hir_input.specs.Syntax.{ItemView, ItemViews, plain_item, listed_module, listed_extern_block, items_of}
-use Rattle.rust_cursor.specs.Tokens.{Tokens, tokens_of}
-use Rattle.rust_cursor.proofs.Laid.{behind, past_within, tokens_laid}
-use Rattle.rust_cursor.proofs.Leads.{LeadsTo, here}
-use Rattle.rust_metas.proofs.Leads.{inner_attributes_leads}
-use Rattle.rust_ids.specs.Row.{Row}
-use Rattle.rust_ids.specs.Ids.{AreIds, nth_row, id_at}
+use Rattle.rust_items.proofs.Common.{EditionYear, AstIdKind, FileAstId, ItemView, ItemViews, plain_item, listed_module, listed_extern_block, items_of, Tokens, tokens_of, past_within, tokens_laid, LeadsTo, here, inner_attributes_leads, Row, AreIds, nth_row, id_at, Numbers, ItemSpan, ProblemKind, ItemPlace, SourceBlock, IsBlock, IsBlockOf, Found, nothing_found, and_problem_at, held_with_ids, with_ids, Telling, id_of, name_of, IsWritten, items_held, IsPlace, ArePlaces, nothing, placed, with_feeds, returns_from, place_by, place_in, moved_span, FileView, places, behind_attributes, found_in, items_in, IsFileView}
+use Rattle.rust_cursor.proofs.Laid.{behind}
 use Rattle.rust_ids.proofs.Consequences.{distinct}
-use Rattle.rust_items.specs.declared.ids.Numbers.{Numbers}
-use Rattle.rust_items.specs.declared.log.ItemSpan.{ItemSpan}
-use Rattle.rust_items.specs.declared.log.ProblemKind.{ProblemKind}
-use Rattle.rust_items.specs.declared.source_file.ItemPlace.{ItemPlace}
-use Rattle.rust_items.specs.declared.blocks.SourceBlock.{SourceBlock}
-use Rattle.rust_items.specs.Blocks.{IsBlock, IsBlockOf}
-use Rattle.rust_items.specs.Found.{Found, nothing_found, and_problem_at}
-use Rattle.rust_items.specs.Ids.{held_with_ids, with_ids}
-use Rattle.rust_items.specs.Places.{Telling, id_of, name_of, IsWritten, items_held, IsPlace, ArePlaces, nothing, placed}
 use Rattle.rust_items.proofs.Names.{IsToken, told_behind, told_written}
-use Rattle.rust_items.specs.LineEnds.{with_feeds, returns_from, place_by, place_in, moved_span}
-use Rattle.rust_items.specs.SourceFiles.{FileView, places, behind_attributes, found_in, items_in, IsFileView}
 use Rattle.rust_items.proofs.LineEnds.{returns_count, place_rises_in, place_within, moved_place, places_moved}
 use Rattle.rust_items.proofs.Places.{few, widened, retold, row_kind, place_kind, place_span, Adds, adds_problem_at, AreFound, same_problem_at, items_found}
 use Rattle.rust_items.proofs.TreesRead.{IsRead, read_around}

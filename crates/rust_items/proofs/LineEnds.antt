@@ -7,11 +7,7 @@ use Rattle.std.proofs.lemmas.Str.Pattern.{split_parts}
 use Rattle.std.proofs.Math.Nat.{eq-or-lt_of_le}
 use Rattle.std.proofs.lemmas.Bool.{ne_eqb, cases_Bool, and_parts, eqb-true}
 use Rattle.std.proofs.lemmas.Bool.Decides.{nat_tests}
-use Rattle.hir_input.specs.Syntax.{ItemViews}
-use Rattle.rust_paths.specs.declared.names.TextRange.{TextRange}
-use Rattle.rust_items.specs.declared.source_file.ItemPlace.{ItemPlace}
-use Rattle.rust_items.specs.LineEnds.{is_return, with_feeds, returns_from, place_by, place_in, moved_range}
-use Rattle.rust_items.specs.Places.{Telling, name_of, IsBodyIn, IsNameIn, IsPlace, ArePlaces, nothing, placed}
+use Rattle.rust_items.proofs.Common.{ItemViews, TextRange, ItemPlace, is_return, with_feeds, returns_from, place_by, place_in, moved_range, Telling, name_of, IsBodyIn, IsNameIn, IsPlace, ArePlaces, nothing, placed}
 
 -- ---- where no return stands
 

@@ -1,13 +1,7 @@
 -- The places of a file are those of another, moved, where what was found stands alike in both.
 use Rattle.std.proofs.Common.{◌≡◌, ◌≤◌, ℕ, Option, Some, List, [], ◌∷◌, length, refl, ap, sym, ◌∙◌, map, option_map}
-use Rattle.hir_input.specs.declared.edition.EditionYear.{EditionYear}
-use Rattle.hir_input.specs.declared.ids.FileAstId.{FileAstId}
-use Rattle.rust_cursor.proofs.Places.{AreAlike, no_more, one_more, IsAlike, neither, both}
-use Rattle.rust_paths.specs.declared.names.TextRange.{TextRange}
-use Rattle.rust_leaves.proofs.Beside.{SameRange}
-use Rattle.rust_items.specs.declared.log.ItemSpan.{ItemSpan}
-use Rattle.rust_items.specs.LineEnds.{moved_range, moved_span}
-use Rattle.rust_items.specs.SourceFiles.{FileView, places, found_in, IsFile}
+use Rattle.rust_items.proofs.Common.{EditionYear, FileAstId, AreAlike, no_more, IsAlike, neither, both, TextRange, SameRange, ItemSpan, moved_range, moved_span, FileView, places, found_in, IsFile}
+use Rattle.rust_cursor.proofs.Places.{one_more}
 use Rattle.rust_items.proofs.LineEnds.{moved_place}
 use Rattle.rust_items.proofs.UntilItems.{SpanAlike}
 use Rattle.rust_items.proofs.Within.{IsIn, IsMaybeIn, AreIn, spans_in}

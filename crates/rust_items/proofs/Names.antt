@@ -4,20 +4,10 @@ use Rattle.std.specs.List.{list_any, filter}
 use Rattle.std.proofs.lemmas.Slice.Eq.{bytes_eq-Decides}
 use Rattle.rust_lexer.specs.declared.kind.TokenKind.{TokenKind}
 use Rattle.rust_lexer.specs.declared.kind.TokenKind.TheVariants as kinds
-use Rattle.rust_lexer.specs.Piece.{Piece}
+use Rattle.rust_items.proofs.Common.{Piece, EditionYear, Tokens, tokens_of, end_of, word_by, by_first, rest, word, kind, text, at, is_empty, bumped, LeadsTo, here, further, through, when, TextRange, Placed, placed_if, placed_name, taken_with, name, next_name, name_text, plain_name, raw_name, behind_hash, unless_path_keyword, as_name, is_keyword, is_path_keyword, is_underscore, placed_next, name_read, named, named_or, with_feeds, place_in, moved_range, IsWritten}
 use Rattle.rust_lexer.specs.Tokens.{tokens, is_significant, text_of, AreInPlace}
 use Rattle.rust_lexer.proofs.Laws.{tokens_lossless, tokens_placed}
-use Rattle.hir_input.specs.declared.edition.EditionYear.{EditionYear}
-use Rattle.rust_cursor.specs.Tokens.{Tokens, tokens_of, end_of}
-use Rattle.rust_cursor.specs.Words.{word_by, by_first, rest, word, kind, text, at, is_empty, bumped}
-use Rattle.rust_cursor.proofs.Leads.{LeadsTo, here, further, through, when}
-use Rattle.rust_paths.specs.declared.names.TextRange.{TextRange}
 use Rattle.hir_input.specs.Name.{is_name}
-use Rattle.rust_paths.specs.Names.{Placed, placed_if, placed_name, taken_with, name, next_name, name_text, plain_name, raw_name, behind_hash, unless_path_keyword, as_name, is_keyword, is_path_keyword, is_underscore}
-use Rattle.rust_paths.proofs.Leads.{placed_next}
-use Rattle.rust_leaves.specs.Leaves.{name_read, named, named_or}
-use Rattle.rust_items.specs.LineEnds.{with_feeds, place_in, moved_range}
-use Rattle.rust_items.specs.Places.{IsWritten}
 use Rattle.rust_items.proofs.LineEnds.{part_moved}
 
 -- ---- a name of a token

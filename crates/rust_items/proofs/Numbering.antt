@@ -1,13 +1,9 @@
 -- Steps of what gives items their ids.
 use Rattle.std.proofs.Common.{◌≡◌, List, [], ◌∷◌, ◌++◌, Option, Some, None, refl, sym, ap, ◌∙◌, append_assoc, append-nil, rules, Bool, map, option_map}
-use Rattle.hir_input.specs.declared.ids.FileAstId.{FileAstId}
-use Rattle.hir_input.specs.Syntax.{ItemView, items_from, item_and, NamedView, NodeView, module_from, extern_block_from, listed_module, listed_extern_block, named_from, item_view, module_view, extern_block_view}
+use Rattle.rust_items.proofs.Common.{FileAstId, ItemView, items_from, item_and, NamedView, NodeView, module_from, extern_block_from, listed_module, listed_extern_block, named_from, item_view, module_view, extern_block_view, module_view-fields, Numbers, held_with_ids, item_with_ids, with_ids, list_with_ids, some_with_ids, listed_by, numbered_named, numbered_node}
 use Rattle.hir_input.specs.declared.ast.Module as ast_module
 use Rattle.hir_input.specs.declared.ast.ExternBlock as ast_extern_block
 use Rattle.hir_input.specs.declared.ast.Item.{Item, the_lemmas}
-use Rattle.hir_input.proofs.SyntaxViews.{module_view-fields}
-use Rattle.rust_items.specs.declared.ids.Numbers.{Numbers}
-use Rattle.rust_items.specs.Ids.{held_with_ids, item_with_ids, with_ids, list_with_ids, some_with_ids, listed_by, numbered_named, numbered_node}
 
 -- what is done, and then this
 abbrev pub behind : List ItemView → List ItemView × List FileAstId → List ItemView × List FileAstId

@@ -1,12 +1,6 @@
 -- Steps of what reads blocks.
 use Rattle.std.proofs.Common.{◌≡◌, ◌<◌, ◌+◌, ◌-◌, ℕ, zero, suc, Bool, true, false, List, [], ◌∷◌, ◌++◌, refl, sym, ap, ◌∙◌, arith, append-nil, append_assoc}
-use Rattle.hir_input.specs.declared.ids.FileAstId.{FileAstId}
-use Rattle.hir_input.specs.Syntax.{StmtView}
-use Rattle.rust_cursor.specs.Tokens.{Tokens}
-use Rattle.rust_cursor.specs.Elements.{beyond}
-use Rattle.rust_items.specs.Found.{Found}
-use Rattle.rust_items.specs.Items.{is_list_end}
-use Rattle.rust_items.specs.Blocks.{PartView, BodyRead, and_part, part, parts_from, stmt_with_ids, stmts_with_ids}
+use Rattle.rust_items.proofs.Common.{FileAstId, StmtView, Tokens, beyond, Found, is_list_end, PartView, BodyRead, and_part, part, parts_from, stmt_with_ids, stmts_with_ids}
 
 pub parts_stop : (is_top : Bool) (n : ℕ) (done : BodyRead) (f : Found) (ts : Tokens) → is_list_end is_top ts ≡ true → parts_from is_top n done f ts ≡ (done, (f, ts))
 parts_stop is_top zero done f ts e = refl

@@ -1,17 +1,8 @@
 -- Steps of what is read in turns.
 use Rattle.std.proofs.Common.{◌≡◌, ◌≢◌, ◌==◌, ◌<◌, ◌+◌, ◌-◌, ℕ, zero, suc, Bool, true, false, List, [], ◌∷◌, ◌++◌, Option, refl, sym, ap, ◌∙◌, arith, append-nil, option_to_list, ne_eqb}
-use Rattle.hir_input.specs.declared.ids.FileAstId.{FileAstId}
-use Rattle.hir_input.specs.Syntax.{ItemView}
-use Rattle.rust_cursor.specs.Tokens.{Tokens}
-use Rattle.rust_cursor.specs.Words.{symbol, at}
-use Rattle.rust_cursor.specs.Brackets.{behind_tree}
-use Rattle.rust_cursor.specs.Elements.{beyond}
-use Rattle.rust_items.specs.declared.log.ItemSpan.{ItemSpan}
+use Rattle.rust_items.proofs.Common.{FileAstId, ItemView, Tokens, symbol, at, behind_tree, beyond, ItemSpan, ItemPlace, Found, Finder, and_problem, finding_from, deep_block, block_of, inside, turn, places}
 use Rattle.rust_items.specs.declared.log.ProblemKind.TheVariants as problem
-use Rattle.rust_items.specs.declared.source_file.ItemPlace.{ItemPlace}
-use Rattle.rust_items.specs.Found.{Found, Finder, and_problem}
-use Rattle.rust_items.specs.Items.{finding_from, no_block, deep_block, block_of, inside, turn}
-use Rattle.rust_items.specs.SourceFiles.{places}
+use Rattle.rust_items.specs.Items.{no_block}
 
 -- ---- lists of items
 

@@ -1,14 +1,7 @@
 -- Which braces are a body is told by the places of what was read.
 use Rattle.std.proofs.Common.{◌≡◌, ◌<◌, ◌≤◌, ◌==◌, ◌||◌, ℕ, Option, Some, None, List, [], ◌∷◌, length, refl, ap, ◌∙◌, map, arith, nat_lt, option_map}
 use Rattle.std.proofs.lemmas.Bool.Decides.{nat_tests}
-use Rattle.hir_input.specs.declared.edition.EditionYear.{EditionYear}
-use Rattle.hir_input.specs.declared.ids.FileAstId.{FileAstId}
-use Rattle.rust_cursor.proofs.Leads.{when}
-use Rattle.rust_paths.specs.declared.names.TextRange.{TextRange}
-use Rattle.rust_items.specs.declared.log.ItemSpan.{ItemSpan}
-use Rattle.rust_items.specs.LineEnds.{with_feeds, place_in, moved_range, moved_span}
-use Rattle.rust_items.specs.SourceFiles.{FileView, places, found_in, IsFileView}
-use Rattle.rust_items.specs.Typed.{begins_at, has_body, has_body_at}
+use Rattle.rust_items.proofs.Common.{EditionYear, FileAstId, when, TextRange, ItemSpan, with_feeds, place_in, moved_range, moved_span, FileView, places, found_in, IsFileView, begins_at, has_body, has_body_at}
 use Rattle.rust_items.proofs.LineEnds.{place_rises_in}
 use Rattle.rust_items.proofs.Within.{IsMaybeIn, AreIn, spans_in, as_many}
 

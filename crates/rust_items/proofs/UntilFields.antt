@@ -1,27 +1,9 @@
 -- The fields of a struct in tokens beside are the same, or the struct's header goes into the braces.
 use Rattle.std.proofs.Common.{◌≡◌, ◌≤◌, ◌+◌, ◌==◌, ◌||◌, ℕ, zero, suc, Bool, true, false, Option, Some, None, List, [], ◌∷◌, ◌++◌, refl, ap, ◌∙◌, arith, if◌then◌else◌, not}
-use Rattle.hir_input.specs.declared.ast.Visibility.{Visibility}
-use Rattle.hir_input.specs.Syntax.{FieldsView, tuple_fields}
-use Rattle.rust_lexer.specs.Piece.{Piece}
-use Rattle.rust_cursor.specs.Tokens.{Tokens, end_of}
-use Rattle.rust_cursor.specs.Words.{symbol, at, is_at_end, bumped}
+use Rattle.rust_items.proofs.Common.{Visibility, FieldsView, tuple_fields, Piece, Tokens, end_of, symbol, at, is_at_end, bumped, most, beyond, turns_from, turns, one, Bodies, AreBehind, Beside, ahead, behind, LeadsTo, when, bumped_leads, beyond_leads, HasBlock, no_block, block, takes_leads, IsLaid, at_behind, before_at, behind_at, symbol_same, end_same, before_same, BothBeside, behind_angles_beside, behind_field_beside, beyond_beside, eat_local, after_symbol, over_leads, over_moved, Gone, gone_on, by_kept, visibility, visibility_local, visibility_leads, outer_attributes, outer_attributes_until, is_before, header_field, are_over, fields, symbol_within, fields_at, struct_fields}
 use Rattle.rust_cursor.specs.Angles.{behind_angles}
-use Rattle.rust_cursor.specs.Elements.{most, beyond, turns_from, turns, one}
-use Rattle.rust_cursor.specs.Beside.{Bodies, AreBehind, Beside, ahead, behind}
-use Rattle.rust_cursor.proofs.Leads.{LeadsTo, when, bumped_leads, beyond_leads, HasBlock, no_block, block, takes_leads}
-use Rattle.rust_cursor.proofs.Laid.{IsLaid, at_behind}
 use Rattle.rust_cursor.proofs.Laid as laid
-use Rattle.rust_cursor.proofs.Views.{before_at, behind_at, symbol_same, end_same, before_same}
-use Rattle.rust_cursor.proofs.Passing.{BothBeside, behind_angles_beside, behind_field_beside, beyond_beside}
 use Rattle.rust_cursor.proofs.Passing as passing
-use Rattle.rust_cursor.proofs.Local.{eat_local, after_symbol}
-use Rattle.rust_cursor.proofs.Until.{over_leads, over_moved, Gone, gone_on, by_kept}
-use Rattle.rust_paths.specs.Visibilities.{visibility}
-use Rattle.rust_paths.proofs.Beside.{visibility_local}
-use Rattle.rust_paths.proofs.Leads.{visibility_leads}
-use Rattle.rust_metas.specs.Attributes.{outer_attributes}
-use Rattle.rust_metas.proofs.UntilAttributes.{outer_attributes_until}
-use Rattle.rust_leaves.specs.Leaves.{is_before, header_field, are_over, fields, symbol_within, fields_at, struct_fields}
 use Rattle.rust_leaves.proofs.Fields.{type_leads, not_before, over_ends, none_seen, symbol_is}
 
 -- ---- the other text first

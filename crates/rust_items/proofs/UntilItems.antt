@@ -1,48 +1,12 @@
 -- The items of two texts that differ between the braces of one item are the same but for body texts.
 use Rattle.std.proofs.Common.{◌≡◌, ◌≤◌, ◌<◌, ◌+◌, ◌==◌, ◌||◌, ℕ, zero, suc, Bool, true, false, Option, Some, None, List, [], ◌∷◌, ◌++◌, map, refl, ap, sym, subst, ◌∙◌, arith, append_assoc, append-nil, option_map, option_to_list, eqb-true}
-use Rattle.hir_input.specs.declared.ast.Visibility.{Visibility}
+use Rattle.rust_items.proofs.Common.{Visibility, EditionYear, AstIdKind, MetaView, item_without_bodies, ItemView, ItemViews, module_from, extern_block_from, Tokens, symbol, at, eat, is_at_end, bumped, most, beyond, Bodies, Beside, ahead, behind, LeadsTo, further, through, when, eat_leads, beyond_leads, IsSound, sound_on, before_at, behind_at, symbol_same, empty_same, end_same, beyond_beside, behind_tree_beside, eat_local, Gone, gone_on, by_kept, by_next, bumped_onward, by_stayed, AreAlike, no_more, alike_join, SamePlace, at_place, past_place, Row, TextRange, inner_attributes, inner_attributes_leads, inner_attributes_until, Head, FrontRead, front, NameRead, LeafRead, no_name, named, node, named_node, leaf, behind_others_beside, SameRange, RangeAlike, LeafAlike, named_local, ItemSpan, ProblemKind, ItemPlace, Found, Finder, nothing_found, and_problem_if, and_problem_at, BlockRead, span_of, and_flaw, and_item, and_leaf, and_parent, leaf_found, leaf_turn, finding_from, finding, is_list_end, block_of, as_extern, extern_kept, extern_found, extern_turn, extern_inside, extern_block, one_more, unmatched, inside_unless, module_with, some_item, by_head, turn_with, inside, turn, depth_of, items, begins_at, has_body, found_in, read_of, Telling, IsBodyIn, ArePlaces, nothing, placed}
 use Rattle.std.proofs.lemmas.List.{map-append}
-use Rattle.hir_input.specs.declared.edition.EditionYear.{EditionYear}
-use Rattle.hir_input.specs.declared.ids.AstIdKind.{AstIdKind}
 use Rattle.hir_input.specs.declared.ids.AstIdKind.TheVariants as kind
-use Rattle.hir_input.specs.Attr.{MetaView}
-use Rattle.hir_input.specs.Bodies.{item_without_bodies}
-use Rattle.hir_input.specs.Syntax.{ItemView, ItemViews, module_from, extern_block_from}
-use Rattle.rust_cursor.specs.Tokens.{Tokens}
-use Rattle.rust_cursor.specs.Words.{symbol, at, eat, is_at_end, bumped}
-use Rattle.rust_cursor.specs.Elements.{most, beyond}
-use Rattle.rust_cursor.specs.Beside.{Bodies, Beside, ahead, behind}
-use Rattle.rust_cursor.proofs.Leads.{LeadsTo, further, through, when, eat_leads, beyond_leads}
-use Rattle.rust_cursor.proofs.Around.{IsSound, sound_on}
 use Rattle.rust_cursor.proofs.Laid as laid
-use Rattle.rust_cursor.proofs.Views.{before_at, behind_at, symbol_same, empty_same, end_same}
-use Rattle.rust_cursor.proofs.Passing.{beyond_beside, behind_tree_beside}
-use Rattle.rust_cursor.proofs.Local.{eat_local}
-use Rattle.rust_cursor.proofs.Until.{Gone, gone_on, by_kept, by_next, bumped_onward}
-use Rattle.rust_cursor.proofs.Alike.{by_stayed}
-use Rattle.rust_cursor.proofs.Places.{AreAlike, no_more, alike_join, SamePlace, at_place, past_place}
 use Rattle.rust_cursor.proofs.Places as places
-use Rattle.rust_ids.specs.Row.{Row}
-use Rattle.rust_paths.specs.declared.names.TextRange.{TextRange}
-use Rattle.rust_metas.specs.Attributes.{inner_attributes}
-use Rattle.rust_metas.proofs.Leads.{inner_attributes_leads}
-use Rattle.rust_metas.proofs.UntilAttributes.{inner_attributes_until}
-use Rattle.rust_leaves.specs.declared.head.Head.{Head}
 use Rattle.rust_leaves.specs.declared.head.Head.TheVariants as heads
-use Rattle.rust_leaves.specs.Fronts.{FrontRead, front}
-use Rattle.rust_leaves.specs.Leaves.{NameRead, LeafRead, no_name, named}
-use Rattle.rust_leaves.specs.Kinds.{node, named_node, leaf}
-use Rattle.rust_leaves.proofs.Fronts.{behind_others_beside}
-use Rattle.rust_leaves.proofs.Beside.{SameRange, RangeAlike, LeafAlike, named_local}
-use Rattle.rust_items.specs.declared.log.ItemSpan.{ItemSpan}
-use Rattle.rust_items.specs.declared.log.ProblemKind.{ProblemKind}
 use Rattle.rust_items.specs.declared.log.ProblemKind.TheVariants as problem
-use Rattle.rust_items.specs.declared.source_file.ItemPlace.{ItemPlace}
-use Rattle.rust_items.specs.Found.{Found, Finder, nothing_found, and_problem_if, and_problem_at}
-use Rattle.rust_items.specs.Items.{BlockRead, span_of, and_flaw, and_item, and_leaf, and_parent, leaf_found, leaf_turn, finding_from, finding, is_list_end, block_of, as_extern, extern_kept, extern_found, extern_turn, extern_inside, extern_block, one_more, unmatched, inside_unless, module_with, some_item, by_head, turn_with, inside, turn, depth_of, items}
-use Rattle.rust_items.specs.Typed.{begins_at, has_body}
-use Rattle.rust_items.specs.SourceFiles.{found_in, read_of}
-use Rattle.rust_items.specs.Places.{Telling, IsBodyIn, ArePlaces, nothing, placed}
 use Rattle.rust_items.proofs.Bare.{extern_alike, list_of, module_alike, extern_block_alike}
 use Rattle.rust_items.proofs.Leads.{named_leads, behind_others_leads, front_takes, front_start}
 use Rattle.rust_items.proofs.Places.{adds_item, adds_problem_at, adds_use_trees, AreFound, Finds, FindsIn, list_from, list_found, place_span, inside_found, turn_found, turn_with_found, extern_turn_found, extern_inside_found, unless_found, items_found}

@@ -3,12 +3,7 @@ use Rattle.std.proofs.Common.{◌≡◌, ◌<◌, ◌≤◌, ℕ, List, [], ◌�
 use Rattle.std.specs.List.{AllZip}
 use Rattle.std.proofs.lemmas.List.{map-append}
 use Rattle.std.proofs.lemmas.List.Elements.{All-nil, All-append, All-map, All-weaker}
-use Rattle.hir_input.specs.Syntax.{ItemView, ItemViews, listed_module, listed_extern_block, no_items, item_and, items_from}
-use Rattle.hir_input.specs.UseTreeView.{UseTreeView}
-use Rattle.rust_paths.specs.declared.names.TextRange.{TextRange}
-use Rattle.rust_items.specs.declared.source_file.ItemPlace.{ItemPlace}
-use Rattle.rust_items.specs.Places.{items_held}
-use Rattle.rust_items.specs.Uses.{trees_in, trees_within, preorder_of, preorder, AreTreesOf}
+use Rattle.rust_items.proofs.Common.{ItemView, ItemViews, listed_module, listed_extern_block, no_items, item_and, items_from, UseTreeView, TextRange, ItemPlace, items_held, trees_in, trees_within, preorder_of, preorder, AreTreesOf}
 use Rattle.rust_items.proofs.LineEnds.{moved_place, place_le}
 use Rattle.rust_items.proofs.TreesRead.{both_zip, zip_is}
 

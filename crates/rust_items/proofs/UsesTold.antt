@@ -3,21 +3,7 @@ use Rattle.std.proofs.Common.{◌≡◌, ◌≤◌, ◌<◌, ℕ, suc, List, [],
 use Rattle.std.specs.List.{AllZip}
 use Rattle.std.proofs.lemmas.List.{length-map, map-append}
 use Rattle.std.proofs.lemmas.List.Elements.{All-nil}
-use Rattle.hir_input.specs.declared.edition.EditionYear.{EditionYear}
-use Rattle.hir_input.specs.declared.ids.FileAstId.{FileAstId}
-use Rattle.hir_input.specs.Syntax.{ItemView, ItemViews, listed_module, listed_extern_block, no_items, item_and, items_of, syntax_view}
-use Rattle.hir_input.specs.UseTreeView.{UseTreeView}
-use Rattle.rust_cursor.specs.Tokens.{Tokens, tokens_of}
-use Rattle.rust_cursor.specs.Words.{at}
-use Rattle.rust_cursor.proofs.Leads.{LeadsTo, here, further}
-use Rattle.rust_paths.specs.declared.names.TextRange.{TextRange}
-use Rattle.rust_paths.specs.UseTrees.{tree_at}
-use Rattle.rust_items.specs.declared.ids.Numbers.{Numbers}
-use Rattle.rust_items.specs.declared.source_file.ItemPlace.{ItemPlace}
-use Rattle.rust_items.specs.Ids.{first_numbers, held_with_ids, with_ids}
-use Rattle.rust_items.specs.LineEnds.{with_feeds, place_in, moved_span}
-use Rattle.rust_items.specs.SourceFiles.{places, items_in}
-use Rattle.rust_items.specs.Uses.{trees_in, trees_within, preorder_of, preorder, left_behind, IsTreeAt, AreTreesIn, AreTreesOf, UsesAreTold}
+use Rattle.rust_items.proofs.Common.{EditionYear, FileAstId, ItemView, ItemViews, listed_module, listed_extern_block, no_items, item_and, items_of, syntax_view, UseTreeView, Tokens, tokens_of, at, LeadsTo, here, further, TextRange, tree_at, Numbers, ItemPlace, first_numbers, held_with_ids, with_ids, with_feeds, place_in, moved_span, places, items_in, trees_in, trees_within, preorder_of, preorder, left_behind, IsTreeAt, AreTreesIn, AreTreesOf, UsesAreTold}
 use Rattle.rust_items.proofs.FilePlaces.{id_kind, kinds, spans_moved, text_found}
 use Rattle.rust_items.proofs.LineEnds.{moved_place, place_rises_in, place_within}
 use Rattle.rust_items.proofs.Places.{place_kind, place_span}

@@ -1,13 +1,7 @@
 -- What is told of items stands in the text.
 use Rattle.std.proofs.Common.{◌≡◌, ◌<◌, ◌≤◌, ◌+◌, ℕ, Option, Some, None, List, [], ◌∷◌, length, ap, sym, subst, ◌∙◌, map, arith}
 use Rattle.std.proofs.lemmas.List.{length-map}
-use Rattle.hir_input.specs.declared.edition.EditionYear.{EditionYear}
-use Rattle.hir_input.specs.Syntax.{ItemViews}
-use Rattle.rust_paths.specs.declared.names.TextRange.{TextRange}
-use Rattle.rust_items.specs.declared.log.ItemSpan.{ItemSpan}
-use Rattle.rust_items.specs.declared.source_file.ItemPlace.{ItemPlace}
-use Rattle.rust_items.specs.Places.{Telling, IsBodyIn, IsNameIn, ArePlaces, nothing, placed}
-use Rattle.rust_items.specs.SourceFiles.{FileView, found_in, IsFile}
+use Rattle.rust_items.proofs.Common.{EditionYear, ItemViews, TextRange, ItemSpan, ItemPlace, Telling, IsBodyIn, IsNameIn, ArePlaces, nothing, placed, FileView, found_in, IsFile}
 use Rattle.rust_items.proofs.FilePlaces.{text_found}
 use Rattle.rust_items.proofs.Places.{row_kind, place_kind, place_span}
 

@@ -1,7 +1,5 @@
 use Rattle.std.proofs.Common.{sym, ◌∙◌}
-use Rattle.rust_items.specs.Found.{log_view}
-use Rattle.rust_items.specs.Blocks.{parts}
-use Rattle.rust_items.specs.Views.{body_view, block_part_view}
+use Rattle.rust_items.proofs.Common.{log_view, parts, body_view, block_part_view}
 use Rattle.rust_items.proofs.Parts.{parts_more}
 use Rattle.rust_items.proofs.blocks.parts.Goals as goal
 

@@ -1,7 +1,5 @@
 use Rattle.std.proofs.Common.{◌≡◌, ◌-◌}
-use Rattle.rust_items.specs.Found.{log_view}
-use Rattle.rust_items.specs.Blocks.{parts_from, parts}
-use Rattle.rust_items.specs.Views.{body_view}
+use Rattle.rust_items.proofs.Common.{log_view, parts_from, parts, body_view}
 use Rattle.rust_items.proofs.blocks.parts.Given as goal
 
 abbrev pub invariant-loop-turn : goal.invariant-loop-turn

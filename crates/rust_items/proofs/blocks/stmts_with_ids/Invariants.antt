@@ -1,7 +1,5 @@
 use Rattle.std.proofs.Common.{◌≡◌, map}
-use Rattle.hir_input.specs.Syntax.{stmt_view}
-use Rattle.rust_items.specs.Blocks.{stmts_with_ids}
-use Rattle.rust_items.specs.Views.{supply_view}
+use Rattle.rust_items.proofs.Common.{stmt_view, stmts_with_ids, supply_view}
 use Rattle.rust_items.proofs.Parts.{behind}
 use Rattle.rust_items.proofs.blocks.stmts_with_ids.Given as goal
 

@@ -1,8 +1,5 @@
 use Rattle.std.proofs.Common.{◌≡◌, map, ◌-◌, false}
-use Rattle.hir_input.specs.Syntax.{extern_item_view}
-use Rattle.rust_items.specs.Clipped.{clipped_turn}
-use Rattle.rust_items.specs.Found.{log_view}
-use Rattle.rust_items.specs.Items.{finding_from, finding, is_list_end, extern_turn}
+use Rattle.rust_items.proofs.Common.{extern_item_view, clipped_turn, log_view, finding_from, finding, is_list_end, extern_turn}
 use Rattle.rust_items.proofs.externs.extern_items.Given as goal
 
 abbrev pub invariant-loop-turn : goal.invariant-loop-turn

@@ -1,8 +1,5 @@
 use Rattle.std.proofs.Common.{map, option_map, Some, sym, ap, ◌∙◌}
-use Rattle.hir_input.specs.Syntax.{ItemView, item_view, module_from, named_from}
-use Rattle.hir_input.proofs.SyntaxViews.{item_view-made_module}
-use Rattle.rust_items.specs.Ids.{held_with_ids}
-use Rattle.rust_items.specs.Views.{supply_view}
+use Rattle.rust_items.proofs.Common.{ItemView, item_view, module_from, named_from, item_view-made_module, held_with_ids, supply_view}
 use Rattle.rust_items.proofs.Numbering.{module_fields, module_listed}
 use Rattle.rust_items.proofs.ids.+ids.Goals as goal
 

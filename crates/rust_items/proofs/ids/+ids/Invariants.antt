@@ -1,7 +1,5 @@
 use Rattle.std.proofs.Common.{◌≡◌, map}
-use Rattle.hir_input.specs.Syntax.{item_view}
-use Rattle.rust_items.specs.Ids.{list_with_ids}
-use Rattle.rust_items.specs.Views.{supply_view}
+use Rattle.rust_items.proofs.Common.{item_view, list_with_ids, supply_view}
 use Rattle.rust_items.proofs.Numbering.{behind}
 use Rattle.rust_items.proofs.ids.+ids.Given as goal
 

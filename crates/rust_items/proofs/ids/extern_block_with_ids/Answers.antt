@@ -1,6 +1,5 @@
 use Rattle.std.proofs.Common.{map, option_map, sym, ap, ◌∙◌}
-use Rattle.hir_input.specs.Syntax.{ItemView, node_from, extern_item_view}
-use Rattle.rust_items.specs.Views.{supply_view}
+use Rattle.rust_items.proofs.Common.{ItemView, node_from, extern_item_view, supply_view}
 use Rattle.rust_items.proofs.Numbering.{extern_made, extern_view_made}
 use Rattle.rust_items.proofs.ids.extern_block_with_ids.Goals as goal
 

@@ -1,8 +1,5 @@
 use Rattle.std.proofs.Common.{map, sym, ◌∙◌, option_map}
-use Rattle.hir_input.specs.Syntax.{item_view}
-use Rattle.rust_items.specs.Clipped.{clipped_turn}
-use Rattle.rust_items.specs.Found.{log_view}
-use Rattle.rust_items.specs.Items.{finding, is_list_end, turn}
+use Rattle.rust_items.proofs.Common.{item_view, clipped_turn, log_view, finding, is_list_end, turn}
 use Rattle.rust_items.proofs.Steps.{finding_more}
 use Rattle.rust_items.proofs.items.+items.Goals as goal
 

@@ -1,8 +1,5 @@
 use Rattle.std.proofs.Common.{◌≡◌, map, ◌+◌, ◌-◌, ◌*◌}
-use Rattle.hir_input.specs.Syntax.{item_view}
-use Rattle.rust_items.specs.Clipped.{clipped_turn}
-use Rattle.rust_items.specs.Found.{log_view}
-use Rattle.rust_items.specs.Items.{finding_from, finding, is_list_end, turn}
+use Rattle.rust_items.proofs.Common.{item_view, clipped_turn, log_view, finding_from, finding, is_list_end, turn}
 use Rattle.rust_items.proofs.items.+items.Given as goal
 
 abbrev pub decreases-module_inside : goal.decreases-module_inside

@@ -1,6 +1,5 @@
 use Rattle.std.proofs.Common.{◌≡◌, ◌++◌, length, map}
-use Rattle.rust_items.specs.LineEnds.{moved_span, place_by}
-use Rattle.rust_items.specs.SourceFiles.{places}
+use Rattle.rust_items.proofs.Common.{moved_span, place_by, places}
 use Rattle.rust_items.proofs.source_file.places.Given as goal
 
 abbrev pub invariant-loop-left : goal.invariant-loop-left

@@ -1,10 +1,6 @@
 use Rattle.std.proofs.Common.{rules, ◌≡◌, Some, option_map, sym, ap, ◌∙◌}
-use Rattle.hir_input.specs.Syntax.{item_view}
-use Rattle.rust_leaves.specs.Clipped.{leaf_behind}
+use Rattle.rust_items.proofs.Common.{item_view, leaf_behind, wanted_behind, log_view, and_rest, leaf_found, leaf_kept, leaf_turn}
 use Rattle.rust_leaves.specs.Views.{front_view, leaf_view}
-use Rattle.rust_items.specs.Clipped.{wanted_behind}
-use Rattle.rust_items.specs.Found.{log_view}
-use Rattle.rust_items.specs.Items.{and_rest, leaf_found, leaf_kept, leaf_turn}
 use Rattle.rust_items.proofs.Clipped.{leaf_turn_clipped, finds_by}
 use Rattle.rust_items.proofs.turn.leaf_turn.Goals as goal
 
