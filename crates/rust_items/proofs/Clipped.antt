@@ -1,5 +1,5 @@
 -- What is read with what is wanted, step by step.
-use Rattle.std.proofs.Common.{◌≡◌, ◌≢◌, ◌<◌, ◌-◌, ◌+◌, ◌==◌, ◌||◌, ℕ, zero, suc, Bool, true, false, Option, Some, None, List, [], ◌++◌, map, refl, sym, ap, ◌∙◌, if◌then◌else◌, option_map, option_to_list, IfOk, Result, Ok, Err}
+use Rattle.std.proofs.Common.{◌≡◌, ◌≢◌, ◌<◌, ◌-◌, ◌==◌, ◌||◌, ℕ, zero, suc, Bool, true, false, Option, Some, None, List, [], ◌++◌, map, refl, sym, ap, ◌∙◌, if◌then◌else◌, option_map, option_to_list, IfOk, Result, Ok, Err}
 use Rattle.std.specs.declared.alloc.AllocError.{AllocError}
 use Rattle.std.proofs.lemmas.List.{map-append}
 use Rattle.hir_input.specs.declared.ids.AstIdKind.TheVariants as kind

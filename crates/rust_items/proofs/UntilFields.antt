@@ -1,5 +1,5 @@
 -- The fields of a struct in tokens beside are the same, or the struct's header goes into the braces.
-use Rattle.std.proofs.Common.{◌≡◌, ◌≤◌, ◌+◌, ◌==◌, ◌||◌, ℕ, zero, suc, Bool, true, false, Option, Some, None, List, [], ◌∷◌, ◌++◌, refl, ap, ◌∙◌, arith, if◌then◌else◌, not}
+use Rattle.std.proofs.Common.{◌≡◌, ◌≤◌, ◌==◌, ◌||◌, ℕ, zero, suc, Bool, true, false, Option, Some, None, List, [], ◌∷◌, ◌++◌, refl, ap, ◌∙◌, arith, if◌then◌else◌, not}
 use Rattle.rust_items.proofs.Common.{Visibility, FieldsView, tuple_fields, Piece, Tokens, end_of, symbol, at, is_at_end, bumped, most, beyond, turns_from, turns, one, Bodies, AreBehind, Beside, ahead, behind, LeadsTo, when, bumped_leads, beyond_leads, HasBlock, no_block, block, takes_leads, IsLaid, at_behind, before_at, behind_at, symbol_same, end_same, before_same, BothBeside, behind_angles_beside, behind_field_beside, beyond_beside, eat_local, after_symbol, over_leads, over_moved, Gone, gone_on, by_kept, visibility, visibility_local, visibility_leads, outer_attributes, outer_attributes_until, is_before, header_field, are_over, fields, symbol_within, fields_at, struct_fields}
 use Rattle.rust_cursor.specs.Angles.{behind_angles}
 use Rattle.rust_cursor.proofs.Laid as laid
