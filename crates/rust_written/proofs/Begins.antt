@@ -1,9 +1,6 @@
 -- Words at the front of what is left of the tokens.
-use Rattle.std.proofs.Common.{◌≡◌, ◌<◌, ◌≤◌, ℕ, ◌+◌, true, false, List, [], ◌∷◌, ◌++◌, length, refl, ap, sym, subst, arith, Some}
-use Rattle.rust_lexer.specs.Piece.{Piece}
-use Rattle.rust_cursor.specs.Tokens.{Tokens}
-use Rattle.rust_cursor.specs.Words.{opens, closes, documents, identifies, symbol, word, kind, text, at, is_empty, is_at_open, is_at_end, is_at_identifier, is_at_doc, bumped}
-use Rattle.rust_written.specs.Words.{Link, joined, Word, BeginsAt, AreTokens}
+use Rattle.std.proofs.Common.{◌≡◌, ◌<◌, ◌≤◌, ◌==◌, ℕ, ◌+◌, true, false, List, [], ◌∷◌, ◌++◌, length, refl, ap, sym, subst, arith, Some}
+use Rattle.rust_written.proofs.Common.{Piece, Tokens, opens, closes, documents, identifies, symbol, word, kind, text, at, is_empty, is_at_open, is_at_end, is_at_identifier, is_at_doc, bumped, eat, Link, joined, Word, BeginsAt, AreTokens}
 use Rattle.rust_written.specs.Trees as trees
 
 -- a word comes next
@@ -45,6 +42,14 @@ begins_right (w ∷ ws) vs ts h = begins_right ws vs (bumped ts) h.1
 pub past_behind : (ws : List Word) (ts : Tokens) → Begins ws ts → ts.past ≤ (behind ws ts).past
 past_behind [] ts h = omega arith
 past_behind (w ∷ ws) ts h = let one = h.0.past in let more = past_behind ws (bumped ts) h.1 in omega (arith, one, more)
+
+pub some_behind : (vs : List Word) (w : Word) (ws : List Word) → 0 < length (vs ++ w ∷ ws)
+some_behind [] w ws = omega arith
+some_behind (v ∷ vs) w ws = omega arith
+
+pub eaten : (c : ℕ) (ts : Tokens) → (symbol ts == c) ≡ true → eat c ts ≡ (true, bumped ts)
+unfolding eat
+eaten c ts e = rw e refl
 
 -- ---- from the tokens of a text
 

@@ -1,14 +1,7 @@
 -- Items are taken to their ends.
 use Rattle.std.proofs.Common.{◌≡◌, ℕ, ◌||◌, ◌==◌, Bool, true, false, Option, Some, None, List, [], ◌∷◌, ◌++◌, refl, ap, ◌∙◌, sym}
-use Rattle.rust_cursor.specs.declared.cursor.nest.Before.{Before}
+use Rattle.rust_written.proofs.Common.{Before, Tokens, bumped, is_mark, ExcerptRead, excerpt, goes_on, opened_behind, block_at, impl_rest, item_rest, value_rest, Behind, taking_rest, impl_rest_taking, item_rest_taking, value_rest_taking, stops_here, ends_here, rest_end, mark, curly, open_of, close_of, Trees, group, tree_words, trees_words, AreTrees, GoesBehind, GoesOn, GoesOnType, angles_behind_word, angles_behind_all, before_behind_word, and_words, spaced, before_behind_all}
 use Rattle.rust_cursor.specs.declared.cursor.nest.Before.TheVariants as befores
-use Rattle.rust_cursor.specs.Tokens.{Tokens}
-use Rattle.rust_cursor.specs.Words.{bumped}
-use Rattle.rust_cursor.specs.Nests.{is_mark}
-use Rattle.rust_cursor.specs.Extents.{ExcerptRead, excerpt, goes_on, opened_behind, block_at, impl_rest, item_rest, value_rest}
-use Rattle.rust_cursor.proofs.Rests.{Behind, taking_rest, impl_rest_taking, item_rest_taking, value_rest_taking, stops_here, ends_here, rest_end}
-use Rattle.rust_written.specs.Trees.{mark, curly, open_of, close_of, Trees, group, tree_words, trees_words, AreTrees, GoesBehind, GoesOn, GoesOnType, angles_behind_word, angles_behind_all, before_behind_word, and_words, spaced}
-use Rattle.rust_written.specs.Impls.{before_behind_all}
 use Rattle.rust_written.proofs.Begins.{Shows, Begins, behind, behind_append, begins_left, begins_right}
 use Rattle.rust_written.proofs.Nested.{nest, last_leave}
 use Rattle.rust_written.proofs.Flat.{flat_word, semicolon_begins}

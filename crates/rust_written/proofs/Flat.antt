@@ -1,17 +1,10 @@
 -- What stands in no bracket.
-use Rattle.std.proofs.Common.{◌≡◌, ℕ, ◌+◌, ◌-◌, ◌==◌, ◌&&◌, Bool, true, false, [], codes, refl, ap, ◌∙◌, ◌∷◌}
-use Rattle.std.specs.Prelude.{if◌then◌else◌}
-use Rattle.std.specs.Str.{bytes_eq}
+use Rattle.std.proofs.Common.{◌≡◌, ℕ, ◌+◌, ◌-◌, ◌==◌, ◌&&◌, Bool, true, false, [], codes, refl, ap, ◌∙◌, ◌∷◌, if◌then◌else◌, bytes_eq}
 use Rattle.std.proofs.lemmas.Bool.{or_parts}
-use Rattle.rust_cursor.specs.declared.cursor.nest.Before.{Before}
+use Rattle.rust_written.proofs.Common.{Before, Tokens, symbol, word, is_glued, bumped, nest_behind, Word, mark, Bracket, round, open_of, single, IsTree, is_free}
 use Rattle.rust_cursor.specs.declared.cursor.nest.Before.TheVariants as befores
-use Rattle.rust_cursor.specs.Tokens.{Tokens}
-use Rattle.rust_cursor.specs.Words.{symbol, word, is_glued, bumped}
-use Rattle.rust_cursor.specs.Nests.{nest_behind}
 use Rattle.rust_cursor.specs.Nests as nests
 use Rattle.rust_cursor.specs.Extents as extents
-use Rattle.rust_written.specs.Words.{Word}
-use Rattle.rust_written.specs.Trees.{mark, Bracket, round, open_of, single, IsTree, is_free}
 use Rattle.rust_written.specs.Trees as trees
 use Rattle.rust_written.proofs.Begins.{Shows}
 use Rattle.rust_written.proofs.Same.{glued_same, arrow_same, before_same, begins_same}

@@ -1,37 +1,18 @@
 -- What stands in front of an item, and its name.
-use Rattle.std.proofs.Common.{◌≡◌, ◌≤◌, ℕ, zero, suc, ◌+◌, length, ◌==◌, ◌||◌, ◌&&◌, Bool, true, false, Some, None, List, [], ◌∷◌, ◌++◌, codes, refl, ap, ◌∙◌, sym, subst, arith, append_assoc}
-use Rattle.std.specs.Prelude.{if◌then◌else◌, map}
+use Rattle.std.proofs.Common.{◌≡◌, ◌≤◌, ℕ, zero, suc, ◌+◌, length, ◌==◌, ◌||◌, ◌&&◌, Bool, true, false, Some, None, List, [], ◌∷◌, ◌++◌, codes, refl, ap, ◌∙◌, sym, subst, arith, append_assoc, if◌then◌else◌, map, bytes_eq}
 use Rattle.std.proofs.lemmas.Slice.Eq.{bytes_eq-Decides}
-use Rattle.rust_lexer.proofs.Counted.{when}
-use Rattle.std.specs.Str.{bytes_eq}
+use Rattle.rust_written.proofs.Common.{when, TokenKind, Outer, Inner, Tokens, at, word, bumped, documents, turns, one, most, turns_stop, is_item_word, begins_item, name_in, plain_name, is_keyword, is_path_keyword, has_name, placed_name, name, next_name, visibility, scoped, is_in, scope, scope_of, is_style, is_doc, is_attribute, is_behind, attribute, attributes, outer_attributes, inner_attributes, Head, NameRead, named, Word, shorter, Front, front_words, front_visibility, modifies, first_modifier, AreModifiers, Scope, unwritten, everywhere, scope_words, scope_view, BlockKind, functions, unions, enums, traits, block_word, ValueKind, statics, aliases, constants, value_word, IsNamed}
 use Rattle.std.proofs.lemmas.Bool.{and_right}
 use Rattle.rust_lexer.specs.declared.kind.DocStyle.{DocStyle}
-use Rattle.rust_lexer.specs.declared.kind.TokenKind.{TokenKind}
 use Rattle.rust_lexer.specs.declared.kind.TokenKind.TheVariants as kinds
-use Rattle.rust_lexer.specs.declared.kind.DocStyle.TheVariants.{Outer, Inner}
-use Rattle.rust_cursor.specs.Tokens.{Tokens}
-use Rattle.rust_cursor.specs.Words.{at, word, bumped, documents}
-use Rattle.rust_cursor.specs.Elements.{turns, one, most}
-use Rattle.rust_cursor.proofs.Turns.{turns_stop}
-use Rattle.rust_cursor.specs.Extents.{is_item_word, begins_item}
-use Rattle.hir_input.specs.declared.edition.EditionYear.TheVariants as year
-use Rattle.rust_paths.proofs.Naming.{name_in}
-use Rattle.rust_paths.specs.Names.{plain_name, is_keyword, is_path_keyword, has_name, placed_name, name, next_name}
-use Rattle.rust_paths.specs.Visibilities.{visibility, scoped, is_in, scope, scope_of}
 use Rattle.rust_metas.specs.Literals.{style_by}
-use Rattle.rust_metas.specs.Attributes.{is_style, is_doc, is_attribute, is_behind, attribute, attributes, outer_attributes, inner_attributes}
-use Rattle.rust_leaves.specs.declared.head.Head.{Head}
 use Rattle.rust_leaves.specs.declared.head.Head.TheVariants as heads
 use Rattle.rust_leaves.specs.Heads.{may_follow_const, follows_async, follows_unsafe, follows_safe, follows_default, follows_extern, behind_abi, behind_modifier, behind_modifiers_from, is_modifier, is_modifier_before, behind_modifiers, head, head_by, union_head}
 use Rattle.rust_leaves.specs.Fronts.{FrontRead, front, front_behind}
-use Rattle.rust_leaves.specs.Leaves.{NameRead, named}
 use Rattle.rust_leaves.proofs.Steps.{modifiers_stop}
-use Rattle.rust_written.specs.Words.{Word}
 use Rattle.rust_written.specs.Trees as trees
 use Rattle.rust_written.proofs.Begins.{Shows, Begins, behind, behind_append, begins_left, begins_right}
-use Rattle.rust_cursor.proofs.Nesting.{shorter}
-use Rattle.rust_written.proofs.Uses.{fewer_left}
-use Rattle.rust_written.specs.Written.{Front, front_words, front_visibility, modifies, first_modifier, AreModifiers, Scope, unwritten, everywhere, scope_words, scope_view, BlockKind, functions, unions, enums, traits, block_word, ValueKind, statics, aliases, constants, value_word, IsNamed}
+use Rattle.rust_written.proofs.Uses.{fewer_left, no_keyword}
 
 -- ---- no attributes
 
@@ -175,22 +156,17 @@ value_head statics = heads.Static
 value_head aliases = heads.TypeAlias
 value_head constants = heads.Const
 
-pub no_keyword : (w n : List ℕ) → IsNamed n → plain_name year.E2024 w ≡ None → bytes_eq n w ≡ false
-no_keyword w n m k =
-    when (bytes_eq n w) (λ e. let same : n ≡ w = (bytes_eq-Decides n w).0 e in absurd (let none : None ≡ Some n = sym k ∙ ap (plain_name year.E2024) (sym same) ∙ m.plain in cc)) (λ e. e)
-
 no_modifier : (n : List ℕ) → IsNamed n → may_follow_const n ≡ false
 unfolding may_follow_const plain_name is_keyword is_path_keyword
 no_modifier n m =
     rw (
-      no_keyword (codes "fn") n m refl,
-      no_keyword (codes "unsafe") n m refl,
-      no_keyword (codes "extern") n m refl,
-      no_keyword (codes "async") n m refl,
-      no_keyword (codes "trait") n m refl,
-      no_keyword (codes "impl") n m refl,
-    )
-    refl
+      no_keyword (codes "fn") n m.plain refl,
+      no_keyword (codes "unsafe") n m.plain refl,
+      no_keyword (codes "extern") n m.plain refl,
+      no_keyword (codes "async") n m.plain refl,
+      no_keyword (codes "trait") n m.plain refl,
+      no_keyword (codes "impl") n m.plain refl,
+    ) refl
 
 no_item_word : (w : List ℕ) (rest : Bool) → (if is_item_word w then true else rest) ≡ false → bytes_eq w (codes "trait") ≡ false
 no_item_word w rest e = last (bytes_eq w (codes "pub")) (bytes_eq w (codes "mod")) (bytes_eq w (codes "struct")) (bytes_eq w (codes "enum")) (bytes_eq w (codes "trait")) rest e

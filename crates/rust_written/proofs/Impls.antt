@@ -1,21 +1,9 @@
 -- Generics, the types of fields and the headers of impls are passed over.
-use Rattle.std.proofs.Common.{◌≡◌, ◌<◌, ◌≤◌, ℕ, ◌==◌, ◌||◌, ◌&&◌, Bool, true, false, Option, Some, None, List, [], ◌∷◌, ◌++◌, codes, refl, ap, ◌∙◌, sym, subst, arith, append_assoc}
-use Rattle.std.specs.Prelude.{if◌then◌else◌, not, nat_lt, is_some}
-use Rattle.std.specs.Str.{bytes_eq}
-use Rattle.std.proofs.lemmas.Bool.{lt-ltb}
+use Rattle.std.proofs.Common.{◌≡◌, ◌<◌, ◌≤◌, ℕ, ◌==◌, ◌||◌, ◌&&◌, Bool, true, false, Option, Some, None, List, [], ◌∷◌, ◌++◌, codes, refl, ap, ◌∙◌, sym, subst, arith, append_assoc, if◌then◌else◌, not, nat_lt, is_some, bytes_eq, lt-ltb}
 use Rattle.rust_cursor.specs.declared.cursor.generics.Reach.TheVariants as reaches
-use Rattle.rust_cursor.specs.declared.cursor.nest.Before.{Before}
+use Rattle.rust_written.proofs.Common.{Before, Tokens, symbol, word, is_at_end, bumped, is_glued, at, kind, is_at_identifier, is_at_doc, begins, is_dash, is_mark, nest_behind, begins_binder, is_lone_for, is_header_end, is_reached, is_closed, reaching, reached, behind_angles, behind_field, is_trait_impl, reaching_stop, reaching_end, Word, mark, Bracket, round, curly, open_of, single, group, Trees, no_trees, tree_and, tree_words, trees_words, AreTrees, first_of, GoesBehind, angles_behind_word, before_behind_word, behind_group, before_behind_all, trees_append, StaysOpen, AreGenerics, generics, is_header_word, HasNoComma, IsFieldType, IsOnePart, IsImplPart, ImplHeader, trait_part, where_part, type_part, behind_generics, header_trees, HasGenerics, HasTrait, IsImplHeader}
 use Rattle.rust_cursor.specs.declared.cursor.nest.Before.TheVariants as befores
-use Rattle.rust_cursor.specs.Tokens.{Tokens}
-use Rattle.rust_cursor.specs.Words.{symbol, word, is_at_end, bumped, is_glued, at, kind, is_at_identifier, is_at_doc}
-use Rattle.rust_cursor.specs.Extents.{begins}
-use Rattle.rust_cursor.specs.Nests.{is_dash, is_mark, nest_behind}
-use Rattle.rust_cursor.specs.Angles.{begins_binder, is_lone_for, is_header_end, is_reached, is_closed, reaching, reached, behind_angles, behind_field, is_trait_impl}
-use Rattle.rust_cursor.proofs.Reaches.{reaching_stop, reaching_end}
-use Rattle.rust_written.specs.Words.{Word}
-use Rattle.rust_written.specs.Trees.{mark, Bracket, round, curly, open_of, single, group, Trees, no_trees, tree_and, tree_words, trees_words, AreTrees, first_of, GoesBehind, angles_behind_word, before_behind_word, behind_group}
 use Rattle.rust_written.specs.Trees as trees
-use Rattle.rust_written.specs.Impls.{before_behind_all, trees_append, StaysOpen, AreGenerics, generics, is_header_word, HasNoComma, IsFieldType, IsOnePart, IsImplPart, ImplHeader, trait_part, where_part, type_part, behind_generics, header_trees, HasGenerics, HasTrait, IsImplHeader}
 use Rattle.rust_written.proofs.Begins.{Shows, Begins, behind, behind_append, begins_left, begins_right, past_behind}
 use Rattle.rust_written.proofs.Same.{shows_first}
 use Rattle.rust_written.proofs.Nested.{nest, and_false, plain_word}

@@ -1,36 +1,15 @@
 -- Lists of items, and modules.
-use Rattle.std.specs.Prelude.{◌&&◌, is_none}
-use Rattle.std.proofs.Common.{◌≡◌, ◌<◌, ◌≤◌, ℕ, zero, suc, ◌+◌, ◌==◌, ◌||◌, Bool, true, false, Option, Some, None, List, [], ◌∷◌, ◌++◌, codes, length, refl, ap, ◌∙◌, sym, arith, append_assoc, append-nil}
-use Rattle.std.specs.Str.{bytes_eq}
-use Rattle.std.proofs.lemmas.Bool.{ne_eqb}
-use Rattle.hir_input.specs.declared.ids.AstIdKind.{AstIdKind}
+use Rattle.std.proofs.Common.{◌≡◌, ◌<◌, ◌≤◌, ℕ, zero, suc, ◌+◌, ◌==◌, ◌||◌, Bool, true, false, Option, Some, None, List, [], ◌∷◌, ◌++◌, codes, length, refl, ap, ◌∙◌, sym, subst, arith, append_assoc, append-nil, ◌&&◌, is_none, bytes_eq}
+use Rattle.rust_written.proofs.Common.{AstIdKind, ItemView, module_from, ast_kind, TextRange, Tokens, symbol, at, bumped, is_at_end, eat, goes_on, most, beyond, shorter, inner_attributes, Head, NameRead, LeafRead, named, named_node, leaf, Found, Finder, nothing_found, and_row, span_of, needs_name, and_flaw, and_leaf, and_item, leaf_turn, finding_from, finding, is_list_end, BlockRead, no_block, and_parent, block_of, depth_of, inside_unless, by_head, inside, turn, Word, Trees, mark, open_mark, close_mark, trees_words, ImplHeader, header_trees, Front, front_words, front_visibility, impl_front, AreModifiers, BlockKind, functions, block_word, block_kind, ValueKind, statics, value_word, value_id, Item, Items, blocked, valued, structure, Shape, struct_words, implemented, file_module, module_of, used, no_more, also, braced, ended, item_words, words, item_view, views, written_row, item_rows, rows, IsNamed, IsItem, AreItems, UseTree, use_words}
 use Rattle.hir_input.specs.declared.ids.AstIdKind.TheVariants as kind
-use Rattle.hir_input.specs.Syntax.{ItemView, module_from, ast_kind}
-use Rattle.rust_paths.specs.declared.names.TextRange.{TextRange}
-use Rattle.rust_cursor.specs.Tokens.{Tokens}
-use Rattle.rust_cursor.specs.Words.{symbol, at, bumped, is_at_end, eat}
-use Rattle.rust_cursor.specs.Extents.{goes_on}
-use Rattle.rust_cursor.specs.Elements.{most, beyond}
-use Rattle.rust_cursor.proofs.Nesting.{shorter}
-use Rattle.rust_metas.specs.Attributes.{inner_attributes}
 use Rattle.rust_ids.specs.Row.{Row}
-use Rattle.rust_leaves.specs.declared.head.Head.{Head}
 use Rattle.rust_leaves.specs.declared.head.Head.TheVariants as heads
 use Rattle.rust_leaves.specs.Fronts.{FrontRead, front}
-use Rattle.rust_leaves.specs.Leaves.{NameRead, LeafRead, named}
-use Rattle.rust_leaves.specs.Kinds.{named_node, leaf}
-use Rattle.rust_items.specs.Found.{Found, Finder, nothing_found, and_row}
-use Rattle.rust_items.specs.Items.{span_of, needs_name, and_flaw, and_leaf, and_item, leaf_turn, finding_from, finding, is_list_end, BlockRead, no_block, and_parent, block_of, depth_of, inside_unless, by_head, inside, turn}
 use Rattle.rust_items.proofs.Steps.{finding_stop}
-use Rattle.rust_written.specs.Words.{Word}
-use Rattle.rust_written.specs.Trees.{Trees, mark, open_mark, close_mark, trees_words}
 use Rattle.rust_written.specs.Trees as trees
-use Rattle.rust_written.specs.Impls.{ImplHeader, header_trees}
-use Rattle.rust_written.proofs.Begins.{Shows, Begins, behind, behind_append, begins_left, begins_right, past_behind}
+use Rattle.rust_written.proofs.Begins.{Shows, Begins, behind, behind_append, begins_left, begins_right, some_behind, eaten}
 use Rattle.rust_written.proofs.Same.{shows_first}
-use Rattle.rust_written.specs.Written.{Front, front_words, front_visibility, impl_front, AreModifiers, BlockKind, functions, block_word, block_kind, ValueKind, statics, value_word, value_id, Item, Items, blocked, valued, structure, Shape, struct_words, implemented, file_module, module_of, used, no_more, also, braced, ended, item_words, words, item_view, views, written_row, item_rows, rows, IsNamed, IsItem, AreItems}
-use Rattle.rust_written.specs.UseTrees.{UseTree, use_words}
-use Rattle.rust_written.proofs.Uses.{fewer_left}
+use Rattle.rust_written.proofs.Uses.{fewer_left, beyond_none, past_more}
 use Rattle.rust_written.proofs.Fronts.{inner_none, first_shows, block_head, block_heads, value_head, value_heads, struct_heads, impl_heads, use_heads, module_heads, Heads, front_at, front_reads, named_at, named_reads}
 use Rattle.rust_written.proofs.Leaves.{Reads, blocked_reads, value_reads, structure_reads, impl_reads, used_reads}
 
@@ -94,14 +73,18 @@ leaf_turns left v h w n item k ws f ts i e fronts reads =
 
 -- ---- the first word of an item
 
+-- an item begins with what stands in front of its word
+pub item_begins : (i : Item) → (v : Front) × (w : List ℕ) × (ws : List Word) × (item_words i ≡ front_words v ++ trees.word_spelled w ∷ ws)
+item_begins (blocked k v n h b) = (v, block_word k, trees.word_spelled n ∷ (trees_words h ++ braced b), refl)
+item_begins (valued k v n t) = (v, value_word k, trees.word_spelled n ∷ ended t, refl)
+item_begins (structure v n g z) = (v, codes "struct", trees.word_spelled n ∷ struct_words g z, refl)
+item_begins (implemented ms h b) = (impl_front ms, codes "impl", trees_words (header_trees h) ++ braced b, refl)
+item_begins (file_module v n) = (v, codes "mod", trees.word_spelled n ∷ mark 59 ∷ [], refl)
+item_begins (used v t) = (v, codes "use", use_words t ++ mark 59 ∷ [], refl)
+item_begins (module_of v n is) = (v, codes "mod", trees.word_spelled n ∷ open_mark 123 ∷ (words is ++ close_mark 125 ∷ []), refl)
+
 pub item_first : (i : Item) (more : List Word) (ts : Tokens) → Begins (item_words i ++ more) ts → (x : List ℕ) × Shows (trees.word_spelled x) ts
-item_first (blocked k v n h b) more ts s = first_shows v (block_word k) (trees.word_spelled n ∷ (trees_words h ++ braced b)) ts (begins_left (item_words (blocked k v n h b)) more ts s)
-item_first (valued k v n t) more ts s = first_shows v (value_word k) (trees.word_spelled n ∷ ended t) ts (begins_left (item_words (valued k v n t)) more ts s)
-item_first (structure v n g z) more ts s = first_shows v (codes "struct") (trees.word_spelled n ∷ struct_words g z) ts (begins_left (item_words (structure v n g z)) more ts s)
-item_first (implemented ms h b) more ts s = first_shows (impl_front ms) (codes "impl") (trees_words (header_trees h) ++ braced b) ts (begins_left (item_words (implemented ms h b)) more ts s)
-item_first (file_module v n) more ts s = first_shows v (codes "mod") (trees.word_spelled n ∷ mark 59 ∷ []) ts (begins_left (item_words (file_module v n)) more ts s)
-item_first (used v t) more ts s = first_shows v (codes "use") (use_words t ++ mark 59 ∷ []) ts (begins_left (item_words (used v t)) more ts s)
-item_first (module_of v n is) more ts s = first_shows v (codes "mod") (trees.word_spelled n ∷ open_mark 123 ∷ (words is ++ close_mark 125 ∷ [])) ts (begins_left (item_words (module_of v n is)) more ts s)
+item_first i more ts s = let b = item_begins i in first_shows b.0 b.1 b.2 ts (subst (λ l. Begins l ts) b.3 (begins_left (item_words i) more ts s))
 
 -- nothing goes on with an item
 pub next_stops : (is : Items) (ts : Tokens) → Begins (words is) ts → goes_on (behind (words is) ts) ≡ false → goes_on ts ≡ false
@@ -203,10 +186,6 @@ module_parts : (left start : ℕ) (v : Front) (m : NameRead) (semicolon : Bool) 
     ≡ (Some (module_from (named_node b.attrs m.name (front_visibility v) []) semicolon b.items), (and_parent (depth_of left) start rest.past kind.Module m (semicolon || b.is_ended) inner f, rest))
 module_parts left start v m semicolon b inner f ts us vs rest e g h = rw (e, g, h) refl
 
-eaten : (c : ℕ) (ts : Tokens) → (symbol ts == c) ≡ true → eat c ts ≡ (true, bumped ts)
-unfolding eat
-eaten c ts e = rw e refl
-
 uneaten : (c : ℕ) (ts : Tokens) → (symbol ts == c) ≡ false → eat c ts ≡ (false, ts)
 unfolding eat
 uneaten c ts e = rw e refl
@@ -266,18 +245,6 @@ file_turns left v n f ts few is begun =
 deeper : (left : ℕ) → suc left ≤ 128 → depth_of left ≡ suc (depth_of (suc left))
 deeper left h = omega arith
 
--- where a word was taken, the place is another
-went_on : (x : List ℕ) (ws : List Word) (ts : Tokens) → Begins ws ts → Shows (trees.word_spelled x) ts → 0 < length ws → (behind ws ts).past ≡ ts.past → ⊥
-went_on x [] ts b s l e = absurd (omega arith)
-went_on x (w ∷ ws) ts b s l e =
-    let one : ts.past < (bumped ts).past = b.0.past in
-    let more : (bumped ts).past ≤ (behind ws (bumped ts)).past = past_behind ws (bumped ts) b.1 in
-    absurd (omega arith)
-
-beyond_none : (past : ℕ) (ts : Tokens) → (ts.past ≡ past → ⊥) → beyond past ts ≡ ts
-unfolding beyond
-beyond_none past ts e = let other : (ts.past == past) ≡ false = ne_eqb ts.past past e in rw other refl
-
 -- a list of items goes on at an item
 goes_here : (is_top : Bool) (x : List ℕ) (ts : Tokens) → Shows (trees.word_spelled x) ts → is_list_end is_top ts ≡ false
 unfolding is_list_end
@@ -306,7 +273,7 @@ one_item is_top left i is rs qs x ws vs f ts b s some t more (suc n) done l =
     let few : length ws + length us.left ≡ length ts.left = fewer_left ws ts b in
     let rest = more t.0 n (done ++ i ∷ []) (omega arith) in (
       rest.0,
-      one_turn (is_list_end is_top) (turn left) n done i f t.0 ts us (goes_here is_top x ts s) t.1 (beyond_none ts.past us (went_on x ws ts b s some))
+      one_turn (is_list_end is_top) (turn left) n done i f t.0 ts us (goes_here is_top x ts s) t.1 (beyond_none ts.past us (past_more ws ts b some))
           ∙ rest.1
           ∙ ap (λ d. (d, (rest.0, behind vs us))) (append_assoc done (i ∷ []) is)
           ∙ ap (λ r. (done ++ i ∷ is, (rest.0, r))) (sym (behind_append ws vs ts)),
@@ -314,18 +281,8 @@ one_item is_top left i is rs qs x ws vs f ts b s some t more (suc n) done l =
       rest.3 ∙ t.3,
     )
 
-some_behind : (vs : List Word) (w : Word) (ws : List Word) → 0 < length (vs ++ w ∷ ws)
-some_behind [] w ws = omega arith
-some_behind (v ∷ vs) w ws = omega arith
-
 item_some : (i : Item) → 0 < length (item_words i)
-item_some (blocked k v n h b) = some_behind (front_words v) (trees.word_spelled (block_word k)) (trees.word_spelled n ∷ (trees_words h ++ braced b))
-item_some (valued k v n t) = some_behind (front_words v) (trees.word_spelled (value_word k)) (trees.word_spelled n ∷ ended t)
-item_some (structure v n g z) = some_behind (front_words v) (trees.word_spelled (codes "struct")) (trees.word_spelled n ∷ struct_words g z)
-item_some (implemented ms h b) = some_behind (front_words (impl_front ms)) (trees.word_spelled (codes "impl")) (trees_words (header_trees h) ++ braced b)
-item_some (file_module v n) = some_behind (front_words v) (trees.word_spelled (codes "mod")) (trees.word_spelled n ∷ mark 59 ∷ [])
-item_some (used v t) = some_behind (front_words v) (trees.word_spelled (codes "use")) (use_words t ++ mark 59 ∷ [])
-item_some (module_of v n is) = some_behind (front_words v) (trees.word_spelled (codes "mod")) (trees.word_spelled n ∷ open_mark 123 ∷ (words is ++ close_mark 125 ∷ []))
+item_some i = let b = item_begins i in rw b.3 (some_behind (front_words b.0) (trees.word_spelled b.1) b.2)
 
 -- before a module's items, and behind them
 inner_of : (is : Items) (ts : Tokens) → Begins (words is ++ close_mark 125 ∷ []) ts → inner_attributes ts ≡ ([], ts)

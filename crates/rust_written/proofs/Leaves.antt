@@ -1,43 +1,20 @@
 -- Items that hold no items.
-use Rattle.std.proofs.Common.{◌≤◌, length, ◌≡◌, ℕ, ◌==◌, Bool, true, false, Option, Some, None, List, [], ◌∷◌, ◌++◌, codes, refl, ap, ◌∙◌, sym, arith}
-use Rattle.std.specs.Prelude.{◌&&◌, is_none, is_some}
-use Rattle.std.specs.Str.{bytes_eq}
+use Rattle.std.proofs.Common.{◌≤◌, length, ◌≡◌, ℕ, ◌==◌, Bool, true, false, Option, Some, None, List, [], ◌∷◌, ◌++◌, codes, refl, ap, ◌∙◌, sym, arith, ◌&&◌, is_none, is_some, bytes_eq}
 use Rattle.std.proofs.lemmas.Bool.{or_parts}
-use Rattle.hir_input.specs.declared.ids.AstIdKind.{AstIdKind}
+use Rattle.rust_written.proofs.Common.{AstIdKind, Visibility, ItemView, PlainKind, fn_kind, static_kind, type_alias_kind, ast_kind, plain_item, const_item, struct_item, impl_item, FieldsView, use_item, plain_name, is_keyword, is_path_keyword, TextRange, Tokens, Reader, bumped, documents, eat_word, eat, ExcerptRead, excerpt, goes_on, impl_rest, item_rest, value_rest, Head, NameRead, RestRead, rest_read, no_name, named, has_trait, impl_end, item_end, value_end, block_attributes, struct_fields, named_node, plain_read, leaf_read, function, block_item, union_item, enumeration, trait_item, type_alias, static_value, constant, implementation, leaf, node, use_read, use_declaration, UseTreeView, most, needs_name, UseTree, use_words, use_view, IsUse, Word, Trees, mark, curly, open_of, close_of, first_of, trees_words, AreTrees, GoesOn, GoesOnType, spaced, ImplHeader, header_trees, IsImplHeader, Front, impl_front, front_visibility, BlockKind, functions, block_kind, ValueKind, statics, aliases, constants, value_item, value_id, braced, ended, Shape, record_shape, struct_trees, struct_words, shape_view, IsStruct, named_by, IsNamed, IsPlainBlock, IsOfKind, IsValue}
 use Rattle.hir_input.specs.declared.ids.AstIdKind.TheVariants as kind
-use Rattle.hir_input.specs.declared.ast.Visibility.{Visibility}
-use Rattle.hir_input.specs.Syntax.{ItemView, PlainKind, fn_kind, union_kind, enum_kind, static_kind, trait_kind, type_alias_kind, ast_kind, plain_item, const_item, struct_item, impl_item, FieldsView}
-use Rattle.rust_paths.specs.Names.{plain_name, is_keyword, is_path_keyword}
-use Rattle.rust_paths.specs.declared.names.TextRange.{TextRange}
-use Rattle.rust_cursor.specs.Tokens.{Tokens}
-use Rattle.rust_cursor.specs.Reader.{Reader}
-use Rattle.rust_cursor.specs.Words.{word, bumped, documents, eat_word}
-use Rattle.rust_cursor.specs.Extents.{ExcerptRead, excerpt, goes_on, impl_rest, item_rest, value_rest}
-use Rattle.rust_leaves.specs.declared.head.Head.{Head}
 use Rattle.rust_leaves.specs.declared.head.Head.TheVariants as heads
-use Rattle.rust_leaves.specs.Leaves.{NameRead, RestRead, rest_read, no_name, named, has_trait, impl_end, item_end, value_end, block_attributes, struct_fields}
-use Rattle.rust_leaves.specs.Kinds.{named_node, plain_read, leaf_read, function, block_item, union_item, enumeration, trait_item, type_alias, static_value, constant, structure, implementation, leaf}
-use Rattle.hir_input.specs.UseTreeView.{UseTreeView}
-use Rattle.hir_input.specs.Syntax.{use_item}
-use Rattle.rust_cursor.specs.Words.{eat}
-use Rattle.rust_cursor.specs.Elements.{most}
+use Rattle.rust_leaves.specs.Kinds.{structure}
 use Rattle.rust_paths.specs.UseTrees.{use_tree}
 use Rattle.rust_paths.specs.UseTrees as use_spec
-use Rattle.rust_leaves.specs.Kinds.{node, use_read, use_declaration}
-use Rattle.rust_items.specs.Items.{needs_name}
-use Rattle.rust_written.specs.UseTrees.{UseTree, use_words, use_view, IsUse}
-use Rattle.rust_written.proofs.Uses.{IsUseEnd, found_at, use_reads}
-use Rattle.rust_written.specs.Words.{Word}
-use Rattle.rust_written.specs.Trees.{Trees, mark, curly, open_of, close_of, first_of, trees_words, AreTrees, GoesOn, GoesOnType, spaced}
-use Rattle.rust_written.specs.Impls.{ImplHeader, header_trees, IsImplHeader}
+use Rattle.rust_written.proofs.Uses.{IsUseEnd, found_at, use_reads, no_keyword, other_word}
 use Rattle.rust_written.specs.Trees as trees
-use Rattle.rust_written.proofs.Begins.{Shows, Begins, behind, behind_append, begins_left, begins_right, past_behind}
+use Rattle.rust_written.proofs.Begins.{Shows, Begins, behind, behind_append, begins_left, begins_right, past_behind, eaten}
 use Rattle.rust_written.proofs.Same.{shows_first}
 use Rattle.rust_written.proofs.Ends.{whole, item_semicolon, value_semicolon, item_block, impl_block}
 use Rattle.rust_written.proofs.Impls.{impl_header_read}
-use Rattle.rust_written.specs.Written.{Front, impl_front, front_visibility, BlockKind, functions, unions, enums, traits, block_kind, ValueKind, statics, aliases, constants, value_item, value_id, braced, ended, Shape, unit_shape, tuple_shape, record_shape, struct_trees, struct_words, shape_view, IsStruct, named_by, IsNamed, IsPlainBlock, IsOfKind, IsValue}
 use Rattle.rust_written.proofs.Structs.{struct_read}
-use Rattle.rust_written.proofs.Fronts.{inner_none, no_keyword, named_at, named_reads, front_at, block_head, value_head}
+use Rattle.rust_written.proofs.Fronts.{inner_none, named_at, named_reads, front_at, block_head, value_head}
 
 -- ---- ends
 
@@ -120,21 +97,11 @@ blocked_reads functions v n h b start ts m i j g f s begun e =
       refl,
       ap (λ r. (Some r.0, r.1)) (function_reads (front_visibility v) (named_at n ts) block ws ts (bumped ts) (named_reads n ts m s) (no_inner h b (bumped ts) f begun) ends),
     )
-blocked_reads unions v n h b start ts m i j g f s begun e =
+blocked_reads k v n h b start ts m i j g f s begun e =
     let ws = trees_words h ++ braced b in
     let block = block_behind h (bumped ts) in
     let ends = block_ends h b (bumped ts) i j g begun e in
-    ((named_at n ts).range, (rest_is block ws (bumped ts)).braces, [], refl, ap (λ r. (Some r.0, r.1)) (block_reads union_kind (front_visibility v) (named_at n ts) block ws ts (bumped ts) (named_reads n ts m s) ends))
-blocked_reads enums v n h b start ts m i j g f s begun e =
-    let ws = trees_words h ++ braced b in
-    let block = block_behind h (bumped ts) in
-    let ends = block_ends h b (bumped ts) i j g begun e in
-    ((named_at n ts).range, (rest_is block ws (bumped ts)).braces, [], refl, ap (λ r. (Some r.0, r.1)) (block_reads enum_kind (front_visibility v) (named_at n ts) block ws ts (bumped ts) (named_reads n ts m s) ends))
-blocked_reads traits v n h b start ts m i j g f s begun e =
-    let ws = trees_words h ++ braced b in
-    let block = block_behind h (bumped ts) in
-    let ends = block_ends h b (bumped ts) i j g begun e in
-    ((named_at n ts).range, (rest_is block ws (bumped ts)).braces, [], refl, ap (λ r. (Some r.0, r.1)) (block_reads trait_kind (front_visibility v) (named_at n ts) block ws ts (bumped ts) (named_reads n ts m s) ends))
+    ((named_at n ts).range, (rest_is block ws (bumped ts)).braces, [], refl, ap (λ r. (Some r.0, r.1)) (block_reads (block_kind k) (front_visibility v) (named_at n ts) block ws ts (bumped ts) (named_reads n ts m s) ends))
 
 -- ---- impls
 
@@ -165,14 +132,6 @@ impl_reads ms h b start ts i j is p begun e =
 
 -- ---- statics, type aliases and constants
 
-no_eat : (w v : List ℕ) (ts : Tokens) → word ts ≡ v → bytes_eq v w ≡ false → eat_word w ts ≡ (false, ts)
-unfolding eat_word
-no_eat w v ts e f = rw (e, f) refl
-
-not_mut : (n : List ℕ) → IsNamed n → bytes_eq n (codes "mut") ≡ false
-unfolding plain_name is_keyword is_path_keyword
-not_mut n m = no_keyword (codes "mut") n m refl
-
 static_steps : (v : Option Visibility) (n : NameRead) (ws : List Word) (ts us : Tokens) → eat_word (codes "mut") ts ≡ (false, ts) → named ts ≡ (n, us) → (e : Ends value_end None ws us)
     → static_value [] v ts ≡ (plain_read static_kind [] v n (rest_is None ws us), behind ws us)
 unfolding static_value
@@ -190,18 +149,18 @@ const_steps v n ws ts us m w e = rw (m, w, e) refl
 
 pub value_reads : (k : ValueKind) (v : Front) (n : List ℕ) (t : Trees) (start : ℕ) (ts : Tokens) → IsNamed n → AreTrees t → GoesOn true t (mark 59) → IsValue k t → Shows (trees.word_spelled n) ts
     → Begins (ended t) (bumped ts) → Reads (value_head k) v start (value_item k (named_by v n (ended t))) (value_id k) n (trees.word_spelled n ∷ ended t) ts
-unfolding leaf
+unfolding leaf plain_name is_keyword is_path_keyword
 value_reads aliases v n t start ts m i g u s b =
     let ends = values_end t (bumped ts) i g b in
     ((named_at n ts).range, None, [], refl, ap (λ r. (Some r.0, r.1)) (alias_steps (front_visibility v) (named_at n ts) (ended t) ts (bumped ts) (named_reads n ts m s) ends))
 value_reads statics v n t start ts m i g u s b =
     let ends = values_end t (bumped ts) i g b in
-    let no_word = no_eat (codes "mut") n ts s.word_is (not_mut n m) in
+    let no_word = other_word (codes "mut") ts (ap (λ (w : List ℕ). bytes_eq w (codes "mut")) s.word_is ∙ no_keyword (codes "mut") n m.plain refl) in
     ((named_at n ts).range, None, [], refl, ap (λ r. (Some r.0, r.1)) (static_steps (front_visibility v) (named_at n ts) (ended t) ts (bumped ts) no_word (named_reads n ts m s) ends))
 value_reads constants v n t start ts m i g u s b =
     let ends = values_end t (bumped ts) i g b in
     let first : Shows (first_of t (mark 59)) (bumped ts) = shows_first t (mark 59) [] (bumped ts) b in
-    let no_word = no_eat (codes "_") (trees.word_text (first_of t (mark 59))) (bumped ts) first.word_is u in
+    let no_word = other_word (codes "_") (bumped ts) (ap (λ (w : List ℕ). bytes_eq w (codes "_")) first.word_is ∙ u) in
     ((named_at n ts).range, None, [], refl, ap (λ r. (Some r.0, r.1)) (const_steps (front_visibility v) (named_at n ts) (ended t) ts (bumped ts) (named_reads n ts m s) no_word ends))
 
 -- ---- structs
@@ -223,9 +182,8 @@ struct_block g (record_shape w b) ts = block_behind (struct_trees g (record_shap
 struct_block g _ ts = None
 
 struct_ends : (g : Option Trees) (s : Shape) (ts : Tokens) → IsStruct g s → Begins (struct_words g s) ts → goes_on (behind (struct_words g s) ts) ≡ false → Ends item_end (struct_block g s ts) (struct_words g s) ts
-struct_ends g (unit_shape w) ts is b e = item_ends None (struct_words g (unit_shape w)) ts (item_semicolon (struct_trees g (unit_shape w)) ts is.trees is.goes b)
-struct_ends g (tuple_shape fs w) ts is b e = item_ends None (struct_words g (tuple_shape fs w)) ts (item_semicolon (struct_trees g (tuple_shape fs w)) ts is.trees is.goes b)
 struct_ends g (record_shape w b) ts is begun e = block_ends (struct_trees g (record_shape w b)) b ts is.trees is.shape is.goes begun e
+struct_ends g s ts is b e = item_ends None (struct_words g s) ts (item_semicolon (struct_trees g s) ts is.trees is.goes b)
 
 -- behind the last of them
 last_past : (ws : List Word) (w : Word) (ts : Tokens) → Begins (ws ++ w ∷ []) ts → (behind ws ts).past ≤ (behind (ws ++ w ∷ []) ts).past
@@ -236,12 +194,9 @@ last_past ws w ts b =
 
 struct_fields_are : (g : Option Trees) (s : Shape) (ts : Tokens) → length ts.left ≤ most → IsStruct g s → Begins (struct_words g s) ts → struct_fields (behind (struct_words g s) ts).past (struct_block g s ts) ts ≡ shape_view s
 unfolding struct_fields
-struct_fields_are g (unit_shape w) ts l is b =
-    let ws = trees_words (struct_trees g (unit_shape w)) in struct_read g (unit_shape w) [] (behind (ws ++ mark 59 ∷ []) ts).past ts l is b (last_past ws (mark 59) ts b)
-struct_fields_are g (tuple_shape fs w) ts l is b =
-    let ws = trees_words (struct_trees g (tuple_shape fs w)) in struct_read g (tuple_shape fs w) [] (behind (ws ++ mark 59 ∷ []) ts).past ts l is b (last_past ws (mark 59) ts b)
 struct_fields_are g (record_shape w b) ts l is begun =
     struct_read g (record_shape w b) (trees_words b ++ close_of curly ∷ []) (behind (trees_words (struct_trees g (record_shape w b))) ts).past ts l is begun (omega arith)
+struct_fields_are g s ts l is b = let ws = trees_words (struct_trees g s) in struct_read g s [] (behind (ws ++ mark 59 ∷ []) ts).past ts l is b (last_past ws (mark 59) ts b)
 
 pub structure_reads : (v : Front) (n : List ℕ) (g : Option Trees) (s : Shape) (start : ℕ) (ts : Tokens) → length (bumped ts).left ≤ most → IsNamed n → IsStruct g s → Shows (trees.word_spelled n) ts → Begins (struct_words g s) (bumped ts)
     → goes_on (behind (struct_words g s) (bumped ts)) ≡ false
@@ -254,10 +209,6 @@ structure_reads v n g s start ts l m is shown b e =
 use_steps : (v : Option Visibility) (tree : use_spec.FoundInUse (Option UseTreeView)) (e : Bool) (ts us vs : Tokens) → use_tree ts ≡ (tree, us) → eat 59 us ≡ (e, vs) → use_declaration [] v ts ≡ (use_read [] v tree e, vs)
 unfolding use_declaration
 use_steps v tree e ts us vs t s = rw (t, s) refl
-
-eaten : (ts : Tokens) → Shows (mark 59) ts → eat 59 ts ≡ (true, bumped ts)
-unfolding eat
-eaten ts s = rw s.symbol_is refl
 
 pub used_reads : (v : Front) (t : UseTree) (start : ℕ) (ts : Tokens) → IsUse 128 t → length ts.left ≤ most → Begins (use_words t ++ mark 59 ∷ []) ts
     → Reads heads.Use v start (use_item (record { node = node [] []; visibility = front_visibility v; use_tree = Some (use_view t) })) kind.Use [] (use_words t ++ mark 59 ∷ []) ts
@@ -272,6 +223,6 @@ used_reads v t start ts h l b =
       None,
       read.0,
       refl,
-      ap (λ r. (Some r.0, r.1)) (use_steps (front_visibility v) found true ts us (bumped us) read.1 (eaten us last))
+      ap (λ r. (Some r.0, r.1)) (use_steps (front_visibility v) found true ts us (bumped us) read.1 (eaten 59 us (rw last.symbol_is refl)))
           ∙ ap (λ k. (Some (use_read [] (front_visibility v) found true), k)) (sym (behind_append (use_words t) (mark 59 ∷ []) ts)),
     )

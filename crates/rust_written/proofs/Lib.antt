@@ -1,3 +1,4 @@
+pub mod Common
 pub mod Uses
 pub mod Fronts
 pub mod Structs

@@ -1,17 +1,10 @@
 -- In which brackets what stands behind words is.
-use Rattle.std.proofs.Common.{◌≡◌, ◌≤◌, ℕ, ◌+◌, ◌-◌, ◌==◌, ◌&&◌, Bool, true, false, refl, ap, ◌∙◌, arith}
-use Rattle.std.specs.Prelude.{if◌then◌else◌, not}
+use Rattle.std.proofs.Common.{◌≡◌, ◌≤◌, ℕ, ◌+◌, ◌-◌, ◌==◌, ◌&&◌, Bool, true, false, refl, ap, ◌∙◌, arith, if◌then◌else◌, not}
 use Rattle.std.proofs.lemmas.Bool.Decides.{nat_tests}
 use Rattle.std.proofs.lemmas.Bool.{or_parts, eq-eqb}
-use Rattle.rust_cursor.specs.declared.cursor.nest.Before.{Before}
+use Rattle.rust_written.proofs.Common.{Before, Nest, Tokens, symbol, lets_any, behind_free, nest_behind, Word, Bracket, round, curly, open_of, close_of, single, is_bracket, IsTree}
 use Rattle.rust_cursor.specs.declared.cursor.nest.Before.TheVariants as befores
-use Rattle.rust_cursor.specs.declared.cursor.nest.Nest.{Nest}
-use Rattle.rust_cursor.specs.Tokens.{Tokens}
-use Rattle.rust_cursor.specs.Words.{symbol}
-use Rattle.rust_cursor.specs.Nests.{lets_any, behind_free, nest_behind}
 use Rattle.rust_cursor.specs.Nests as nests
-use Rattle.rust_written.specs.Words.{Word}
-use Rattle.rust_written.specs.Trees.{Bracket, round, curly, open_of, close_of, single, is_bracket, IsTree}
 use Rattle.rust_written.proofs.Begins.{Shows}
 
 -- in so many braces, in so many other brackets opened in them, in so many around them, of which from this one on any tokens may

@@ -1,18 +1,11 @@
 -- What stands between names and ends is in no item but its body text.
-use Rattle.std.proofs.Common.{◌≡◌, ℕ, suc, List, [], ◌∷◌, ◌++◌, refl, ap, ◌∙◌, sym, subst}
+use Rattle.std.proofs.Common.{◌≡◌, ℕ, suc, List, [], ◌∷◌, ◌++◌, refl, ap, ◌∙◌, sym, subst, false, Option, Some, None, is_some, option_map, map}
 use Rattle.hir_input.specs.declared.ids.FileAstId.{FileAstId}
 use Rattle.hir_input.specs.Bodies.{item_without_bodies, items_without_bodies, named_without_body, without_bodies}
-use Rattle.hir_input.specs.Syntax.{ItemView, ItemViews, struct_item, tuple_fields, listed_module, impl_item, item_and, items_from, source_file}
-use Rattle.std.specs.Prelude.{false, Option, Some, None, is_some, option_map, map}
-use Rattle.rust_leaves.specs.Kinds.{node}
-use Rattle.rust_written.specs.Trees.{Trees, no_trees}
+use Rattle.rust_written.proofs.Common.{ItemView, ItemViews, struct_item, tuple_fields, listed_module, impl_item, item_and, items_from, source_file, node, Trees, no_trees, AreIds, with_ids, Item, Items, structure, Field, field_visibility, outline_field, Shape, tuple_shape, shape_view, outline_shape, implemented, module_of, no_more, also, item_view, views, item_rows, rows, named_by, item_outline, outline, valued, statics, IsRead, TypingBetween}
 use Rattle.hir_input.specs.declared.ids.AstIdKind.TheVariants as kind
-use Rattle.rust_ids.specs.Ids.{AreIds}
 use Rattle.rust_ids.proofs.Consequences.{determined}
-use Rattle.rust_items.specs.Ids.{with_ids}
 use Rattle.rust_items.proofs.Bodiless.{with_bodiless}
-use Rattle.rust_written.specs.Written.{Item, Items, structure, Field, field_visibility, outline_field, Shape, tuple_shape, shape_view, outline_shape, implemented, module_of, no_more, also, item_view, views, item_rows, rows, named_by, item_outline, outline, valued, statics}
-use Rattle.rust_written.specs.Laws.{IsRead, TypingBetween}
 use Rattle.rust_written.proofs.Texts.{read_again}
 
 -- ---- outlines

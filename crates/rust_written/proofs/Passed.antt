@@ -1,18 +1,8 @@
 -- What is left of an item is taken word by word.
-use Rattle.std.proofs.Common.{◌≡◌, ℕ, ◌+◌, ◌==◌, ◌||◌, ◌&&◌, Bool, true, false, Option, Some, List, [], ◌∷◌, ◌++◌, refl, ap, ◌∙◌, sym, subst, append_assoc}
-use Rattle.std.specs.Prelude.{if◌then◌else◌, not}
-use Rattle.rust_cursor.specs.declared.cursor.nest.Before.{Before}
+use Rattle.std.proofs.Common.{◌≡◌, ℕ, ◌+◌, ◌==◌, ◌||◌, ◌&&◌, Bool, true, false, Option, Some, List, [], ◌∷◌, ◌++◌, refl, ap, ◌∙◌, sym, subst, append_assoc, if◌then◌else◌, not}
+use Rattle.rust_written.proofs.Common.{Before, Nest, Tokens, symbol, bumped, is_mark, behind_free, is_flat, nest_behind, begins, begins_item, begins_behind, begins_within, opened_behind, Behind, taking_rest, and_next, stops_here, ends_here, rest_more, Word, Bracket, round, curly, open_of, close_of, single, group, Trees, no_trees, tree_and, tree_words, trees_words, IsTree, AreTrees, first_of, HoldsWithin, MayStand, GoesBehind, angles_behind_word, angles_behind_all, before_behind_word, behind_group, and_word, and_words, before_behind_all}
 use Rattle.rust_cursor.specs.declared.cursor.nest.Before.TheVariants as befores
-use Rattle.rust_cursor.specs.declared.cursor.nest.Nest.{Nest}
-use Rattle.rust_cursor.specs.Tokens.{Tokens}
-use Rattle.rust_cursor.specs.Words.{symbol, bumped}
-use Rattle.rust_cursor.specs.Nests.{is_mark, behind_free, is_flat, nest_behind}
-use Rattle.rust_cursor.specs.Extents.{begins, begins_item, begins_behind, begins_within, opened_behind}
-use Rattle.rust_cursor.proofs.Rests.{Behind, taking_rest, and_next, stops_here, ends_here, rest_more}
-use Rattle.rust_written.specs.Words.{Word}
-use Rattle.rust_written.specs.Trees.{Bracket, round, curly, open_of, close_of, single, group, Trees, no_trees, tree_and, tree_words, trees_words, IsTree, AreTrees, first_of, HoldsWithin, MayStand, GoesBehind, angles_behind_word, angles_behind_all, before_behind_word, behind_group, and_word, and_words}
 use Rattle.rust_written.specs.Trees as trees
-use Rattle.rust_written.specs.Impls.{before_behind_all}
 use Rattle.rust_written.proofs.Begins.{Shows, Begins, behind, behind_append, begins_left, begins_right}
 use Rattle.rust_written.proofs.Same.{shows_first}
 use Rattle.rust_written.proofs.Nested.{nest, and_false, plain_word, IsOther, free_in, inside_of, out_open, out_enter, last_leave}

@@ -1,20 +1,9 @@
 -- What is passed over up to what is looked for.
-use Rattle.std.proofs.Common.{◌≡◌, ℕ, ◌+◌, ◌==◌, ◌||◌, ◌&&◌, Bool, true, false, List, [], ◌∷◌, ◌++◌, refl, ap, ◌∙◌, sym, subst, append_assoc}
-use Rattle.std.specs.Prelude.{if◌then◌else◌, not}
+use Rattle.std.proofs.Common.{◌≡◌, ℕ, ◌+◌, ◌==◌, ◌||◌, ◌&&◌, Bool, true, false, List, [], ◌∷◌, ◌++◌, refl, ap, ◌∙◌, sym, subst, append_assoc, if◌then◌else◌, not}
 use Rattle.rust_cursor.specs.declared.cursor.generics.Reach.{Reach}
 use Rattle.rust_cursor.specs.declared.cursor.generics.Reach.TheVariants as reaches
-use Rattle.rust_cursor.specs.declared.cursor.nest.Before.{Before}
-use Rattle.rust_cursor.specs.declared.cursor.nest.Nest.{Nest}
-use Rattle.rust_cursor.specs.Tokens.{Tokens}
-use Rattle.rust_cursor.specs.Words.{symbol, is_empty, is_at_end, bumped}
-use Rattle.rust_cursor.specs.Nests.{behind_free, is_flat, nest_behind}
-use Rattle.rust_cursor.specs.Extents.{begins, begins_item, begins_behind, begins_within}
-use Rattle.rust_cursor.specs.Angles.{is_header_end, is_barred, is_reached, is_closed, reaching}
-use Rattle.rust_cursor.proofs.Reaches.{reaching_more}
-use Rattle.rust_written.specs.Words.{Word}
-use Rattle.rust_written.specs.Trees.{Bracket, curly, open_of, close_of, single, group, Trees, no_trees, tree_and, tree_words, trees_words, IsTree, AreTrees, first_of, HoldsWithin, MayStand, GoesBehind, angles_behind_word, angles_behind_all, before_behind_word, behind_group}
+use Rattle.rust_written.proofs.Common.{Before, Nest, Tokens, symbol, is_empty, is_at_end, bumped, behind_free, is_flat, nest_behind, begins, begins_item, begins_behind, begins_within, is_header_end, is_barred, is_reached, is_closed, reaching, reaching_more, Word, Bracket, curly, open_of, close_of, single, group, Trees, no_trees, tree_and, tree_words, trees_words, IsTree, AreTrees, first_of, HoldsWithin, MayStand, GoesBehind, angles_behind_word, angles_behind_all, before_behind_word, behind_group, before_behind_all}
 use Rattle.rust_written.specs.Trees as trees
-use Rattle.rust_written.specs.Impls.{before_behind_all}
 use Rattle.rust_written.proofs.Begins.{Shows, Begins, behind, behind_append, begins_left, begins_right}
 use Rattle.rust_written.proofs.Same.{shows_first}
 use Rattle.rust_written.proofs.Nested.{nest, and_false, plain_word, IsOther, free_in, inside_of, out_open}

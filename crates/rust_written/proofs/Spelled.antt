@@ -1,27 +1,16 @@
 -- Words are spelled by a text.
-use Rattle.std.proofs.Common.{◌≡◌, ◌≢◌, ◌<◌, ◌≤◌, ℕ, zero, suc, ◌&&◌, Bool, true, false, List, [], ◌∷◌, ◌++◌, length, get_or, codes, refl, sym, ap, ◌∙◌, subst, arith}
-use Rattle.std.specs.Prelude.{not, slice_index, map}
+use Rattle.std.proofs.Common.{◌≡◌, ◌≢◌, ◌<◌, ◌≤◌, ℕ, zero, suc, ◌&&◌, Bool, true, false, List, [], ◌∷◌, ◌++◌, length, get_or, refl, sym, ap, ◌∙◌, subst, arith, not, slice_index, map}
 use Rattle.std.specs.List.{list_all}
 use Rattle.std.proofs.lemmas.Bool.{and_parts, not-true}
 use Rattle.std.proofs.lemmas.Bool.Decides.{nat_tests}
-use Rattle.rust_lexer.specs.declared.kind.TokenKind.{TokenKind}
+use Rattle.rust_written.proofs.Common.{TokenKind, is_continuation, most, white, IsPlain, is_plain_letter, is_plain_word_byte, ends_word, is_plain_mark, IsAsciiWord, Link, joined, Word, Stands, Spells, Scope, unwritten, scope_words, Item, Items, no_more, also, words, item_words, lead, spell, spelled_text, is_ascii_word, is_opening, is_closing_symbol, is_mark_before, stands_by, are_standing, Writable}
 use Rattle.rust_lexer.specs.declared.kind.TokenKind.TheVariants as kinds
-use Rattle.rust_lexer.specs.Bytes.{is_continuation}
 use Rattle.rust_lexer.specs.Cut.{symbol_kind, is_punctuation, first_cut}
-use Rattle.rust_cursor.specs.Elements.{most}
 use Rattle.rust_items.specs.LineEnds.{with_feeds}
 use Rattle.rust_items.proofs.LineEnds.{feeds_behind}
-use Rattle.rust_written.specs.Gaps.{white}
-use Rattle.rust_written.specs.Round.{IsPlain}
-use Rattle.rust_written.specs.Standing.{is_plain_letter, is_plain_word_byte, ends_word, is_plain_mark, IsAsciiWord}
-use Rattle.rust_written.specs.Words.{Link, joined, Word, Stands, Spells}
 use Rattle.rust_written.specs.Trees as trees
-use Rattle.rust_written.specs.Impls.{header_trees}
 use Rattle.rust_written.proofs.Again.{words_stand, marks_stand}
-use Rattle.rust_written.specs.UseTrees.{use_words}
-use Rattle.rust_written.specs.Written.{Scope, unwritten, scope_words, Item, Items, blocked, valued, structure, struct_words, implemented, file_module, module_of, used, no_more, also, words, item_words, block_word, value_word, braced, ended}
-use Rattle.rust_written.specs.Spelled.{lead, spell, spelled_text, is_ascii_word, is_opening, is_closing_symbol, is_mark_before, stands_by, are_standing}
-use Rattle.rust_written.specs.Laws.{Writable}
+use Rattle.rust_written.proofs.Items.{item_begins}
 
 -- ---- words
 
@@ -90,13 +79,7 @@ plain_front unwritten [] w ws more = plain_blank _
 plain_front _ _ w ws more = plain_blank _
 
 plain_item : (i : Item) (more : List Word) → IsPlain (spell (item_words i ++ more))
-plain_item (blocked k v n h b) more = plain_front v.scope v.modifiers (block_word k) (trees.word_spelled n ∷ (trees.trees_words h ++ braced b)) more
-plain_item (valued k v n t) more = plain_front v.scope v.modifiers (value_word k) (trees.word_spelled n ∷ ended t) more
-plain_item (structure v n g z) more = plain_front v.scope v.modifiers (codes "struct") (trees.word_spelled n ∷ struct_words g z) more
-plain_item (implemented ms h b) more = plain_front unwritten ms (codes "impl") (trees.trees_words (header_trees h) ++ braced b) more
-plain_item (file_module v n) more = plain_front v.scope v.modifiers (codes "mod") (trees.word_spelled n ∷ trees.mark 59 ∷ []) more
-plain_item (used v t) more = plain_front v.scope v.modifiers (codes "use") (use_words t ++ trees.mark 59 ∷ []) more
-plain_item (module_of v n is) more = plain_front v.scope v.modifiers (codes "mod") (trees.word_spelled n ∷ trees.open_mark 123 ∷ (words is ++ trees.close_mark 125 ∷ [])) more
+plain_item i more = let b = item_begins i in subst (λ (ws : List Word). IsPlain (spell (ws ++ more))) (sym b.3) (plain_front b.0.scope b.0.modifiers b.1 b.2 more)
 
 plain_items : (is : Items) → IsPlain (spelled_text is)
 plain_items no_more = (refl, refl, refl)

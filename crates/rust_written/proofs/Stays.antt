@@ -1,15 +1,7 @@
 -- What stands in brackets is passed over, and leaves them as they were.
-use Rattle.std.proofs.Common.{◌≡◌, ◌≤◌, ℕ, ◌+◌, ◌==◌, ◌&&◌, Bool, true, false, List, [], ◌∷◌, ◌++◌, refl, ap, ◌∙◌, sym, subst, arith, append_assoc}
-use Rattle.std.specs.Prelude.{if◌then◌else◌, not}
-use Rattle.rust_cursor.specs.declared.cursor.nest.Before.{Before}
+use Rattle.std.proofs.Common.{◌≡◌, ◌≤◌, ℕ, ◌+◌, ◌==◌, ◌&&◌, Bool, true, false, List, [], ◌∷◌, ◌++◌, refl, ap, ◌∙◌, sym, subst, arith, append_assoc, if◌then◌else◌, not}
+use Rattle.rust_written.proofs.Common.{Before, Nest, Tokens, symbol, bumped, lets_any, behind_free, is_flat, nest_behind, begins_item, begins_within, Word, Bracket, round, curly, open_of, close_of, Tree, single, group, Trees, no_trees, tree_and, tree_words, trees_words, IsTree, AreTrees, first_of, behind_group, Unless, StaysIn, HoldsWithin}
 use Rattle.rust_cursor.specs.declared.cursor.nest.Before.TheVariants as befores
-use Rattle.rust_cursor.specs.declared.cursor.nest.Nest.{Nest}
-use Rattle.rust_cursor.specs.Tokens.{Tokens}
-use Rattle.rust_cursor.specs.Words.{symbol, bumped}
-use Rattle.rust_cursor.specs.Nests.{lets_any, behind_free, is_flat, nest_behind}
-use Rattle.rust_cursor.specs.Extents.{begins_item, begins_within}
-use Rattle.rust_written.specs.Words.{Word}
-use Rattle.rust_written.specs.Trees.{Bracket, round, curly, open_of, close_of, Tree, single, group, Trees, no_trees, tree_and, tree_words, trees_words, IsTree, AreTrees, first_of, behind_group, Unless, StaysIn, HoldsWithin}
 use Rattle.rust_written.specs.Trees as trees
 use Rattle.rust_written.proofs.Begins.{Shows, Begins, behind, begins_left, begins_right}
 use Rattle.rust_written.proofs.Same.{shows_first, within_same, before_same}

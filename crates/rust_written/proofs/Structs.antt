@@ -1,28 +1,13 @@
 -- Structs: their generics, and their fields.
-use Rattle.std.proofs.Common.{◌≡◌, ◌≤◌, ◌<◌, ℕ, zero, suc, ◌+◌, ◌==◌, ◌||◌, Bool, true, false, Option, Some, None, List, [], ◌∷◌, ◌++◌, codes, length, refl, ap, ◌∙◌, sym, subst, arith, append_assoc, append-nil}
-use Rattle.std.specs.Prelude.{map, not, if◌then◌else◌}
+use Rattle.std.proofs.Common.{◌≡◌, ◌≤◌, ◌<◌, ℕ, zero, suc, ◌+◌, ◌==◌, ◌||◌, Bool, true, false, Option, Some, None, List, [], ◌∷◌, ◌++◌, codes, length, refl, ap, ◌∙◌, sym, subst, arith, append_assoc, append-nil, map, not, if◌then◌else◌}
 use Rattle.std.proofs.lemmas.Bool.Decides.{nat_tests}
 use Rattle.std.proofs.lemmas.Bool.{or_parts}
-use Rattle.hir_input.specs.declared.ast.Visibility.{Visibility}
-use Rattle.hir_input.specs.Syntax.{no_fields, record_fields, tuple_fields}
-use Rattle.rust_cursor.specs.Tokens.{Tokens}
-use Rattle.rust_cursor.specs.Words.{symbol, is_at_end, bumped, documents, eat}
-use Rattle.rust_cursor.specs.Elements.{most, turns, turns_from, one, beyond}
-use Rattle.rust_cursor.specs.Angles.{behind_angles, behind_field}
+use Rattle.rust_written.proofs.Common.{Visibility, no_fields, record_fields, tuple_fields, Tokens, symbol, is_at_end, bumped, documents, eat, most, turns, turns_from, one, beyond, behind_angles, behind_field, shorter, turns_stop, visibility, scoped, is_in, scope, scope_of, outer_attributes, is_before, header_field, are_over, fields, fields_at, Word, mark, round, curly, open_of, close_of, single, group, Trees, no_trees, tree_and, tree_words, trees_words, AreTrees, first_of, trees_append, where_part, generics, Scope, unwritten, everywhere, scope_words, scope_view, Field, Shape, unit_shape, tuple_shape, record_shape, scope_trees, fields_trees, shape_trees, struct_trees, shape_end, field_visibility, shape_view, BeginsType, IsField, AreFields, IsShape, IsStruct}
 use Rattle.rust_cursor.proofs.Leads.{when}
-use Rattle.rust_cursor.proofs.Nesting.{shorter}
-use Rattle.rust_cursor.proofs.Turns.{turns_stop}
-use Rattle.rust_paths.specs.Visibilities.{visibility, scoped, is_in, scope, scope_of}
-use Rattle.rust_metas.specs.Attributes.{outer_attributes}
-use Rattle.rust_leaves.specs.Leaves.{is_before, header_field, are_over, fields, fields_at}
-use Rattle.rust_written.specs.Words.{Word}
-use Rattle.rust_written.specs.Trees.{mark, round, curly, open_of, close_of, single, group, Trees, no_trees, tree_and, tree_words, trees_words, AreTrees, first_of}
 use Rattle.rust_written.specs.Trees as trees
-use Rattle.rust_written.specs.Impls.{trees_append, where_part, generics}
-use Rattle.rust_written.proofs.Begins.{Shows, Begins, behind, behind_append, begins_left, begins_right, past_behind}
+use Rattle.rust_written.proofs.Begins.{Shows, Begins, behind, behind_append, begins_left, begins_right, past_behind, some_behind, eaten}
 use Rattle.rust_written.proofs.Same.{shows_first}
 use Rattle.rust_written.proofs.Impls.{append_words, append_trees, generics_words, enclosed, generics_passed, no_generics, field_type_passed}
-use Rattle.rust_written.specs.Written.{Scope, unwritten, everywhere, scope_words, scope_view, Field, Shape, unit_shape, tuple_shape, record_shape, scope_trees, fields_trees, shape_trees, struct_trees, shape_end, field_visibility, shape_view, BeginsType, IsField, AreFields, IsShape, IsStruct}
 use Rattle.rust_written.proofs.Uses.{fewer_left, beyond_none, one_element, past_more}
 use Rattle.rust_written.proofs.Fronts.{outer_none}
 
@@ -50,10 +35,6 @@ first_word _ w ts f b s = (trees.word_spelled (codes "pub"), record { plain = re
 
 -- ---- a field
 
-comma_eaten : (ts : Tokens) → Shows (mark 44) ts → eat 44 ts ≡ (true, bumped ts)
-unfolding eat
-comma_eaten ts s = rw s.symbol_is refl
-
 -- what stands before this place
 before : (end : ℕ) (ts : Tokens) → ts.past < end → is_before end ts ≡ true
 before end ts l = grind (arith, nat_tests, l)
@@ -64,11 +45,6 @@ field_steps end v ts us vs o s t f e = rw (o, s, t, f, e) refl
 
 abbrev field_words : Field → List Word
 field_words f = scope_words f.scope ++ (trees_words f.of_type ++ mark 44 ∷ [])
-
--- a comma is behind it
-ended_by : (ws : List Word) → 0 < length (ws ++ mark 44 ∷ [])
-ended_by [] = omega arith
-ended_by (w ∷ ws) = omega arith
 
 field_read : (end : ℕ) (f : Field) (ts : Tokens) → AreTrees f.of_type → IsField f → Begins (field_words f) ts → (behind (field_words f) ts).past ≤ end → header_field end ts ≡ (field_visibility f, behind (field_words f) ts)
 field_read end f ts h is b e =
@@ -83,8 +59,8 @@ field_read end f ts h is b e =
     let first = first_word f.scope begin ts (record { plain = plain.1; hash = plain.0 }) front shown in
     let comma : Shows (mark 44) vs = (begins_right (trees_words f.of_type) (mark 44 ∷ []) us rest).0 in
     let all : (behind (field_words f) ts).past ≡ (behind tail us).past = ap (λ (k : Tokens). k.past) (behind_append (scope_words f.scope) tail ts) in
-    let more : us.past < (behind tail us).past = past_more tail us rest (ended_by (trees_words f.of_type)) in
-    field_steps end (field_visibility f) ts us vs (outer_none first.0 ts first.2 first.1.plain first.1.hash) (field_scope f.scope begin ts is.begins front shown) (before end us (omega (arith, all, more, e))) (field_type_passed f.of_type [] us h is.passed rest) (comma_eaten vs comma)
+    let more : us.past < (behind tail us).past = past_more tail us rest (some_behind (trees_words f.of_type) (mark 44) []) in
+    field_steps end (field_visibility f) ts us vs (outer_none first.0 ts first.2 first.1.plain first.1.hash) (field_scope f.scope begin ts is.begins front shown) (before end us (omega (arith, all, more, e))) (field_type_passed f.of_type [] us h is.passed rest) (eaten 44 vs (rw comma.symbol_is refl))
     ∙ ap (λ k. (field_visibility f, k)) (sym (behind_append (scope_words f.scope) tail ts ∙ behind_append (trees_words f.of_type) (mark 44 ∷ []) us))
 
 -- ---- the fields of a tuple
@@ -104,11 +80,7 @@ field_trees_are f fs h =
     (more.0, more.1.1)
 
 some_field : (f : Field) → 0 < length (field_words f)
-some_field f = last (scope_words f.scope) (trees_words f.of_type)
-  where
-    last : (vs ws : List Word) → 0 < length (vs ++ (ws ++ mark 44 ∷ []))
-    last [] ws = ended_by ws
-    last (v ∷ vs) ws = omega arith
+some_field f = rw (← append_assoc (scope_words f.scope) (trees_words f.of_type) (mark 44 ∷ [])) (some_behind (scope_words f.scope ++ trees_words f.of_type) (mark 44) [])
 
 -- a field begins with no bracket that closes
 field_goes : (f : Field) (ts : Tokens) → AreTrees f.of_type → Begins (field_words f) ts → is_at_end ts ≡ false

@@ -1,35 +1,14 @@
 -- A text that spells items is read as these.
-use Rattle.std.proofs.Common.{◌≡◌, ◌<◌, ◌≤◌, ℕ, Bool, true, false, Option, Some, None, List, [], ◌∷◌, ◌++◌, codes, length, refl, ap, ◌∙◌, subst, arith}
-use Rattle.std.specs.Prelude.{map}
-use Rattle.std.specs.List.{filter}
-use Rattle.hir_input.specs.Syntax.{items_from, source_file}
+use Rattle.std.proofs.Common.{◌≡◌, ◌<◌, ◌≤◌, ℕ, Bool, true, false, Option, Some, None, List, [], ◌∷◌, ◌++◌, codes, length, refl, ap, ◌∙◌, subst, arith, map, filter}
+use Rattle.rust_written.proofs.Common.{items_from, source_file, Piece, TokenKind, is_closed_token, Inner, Tokens, last_unended, tokens_of, symbol, kind, is_empty, bumped, most, goes_on, inner_attributes, is_behind, is_doc, is_attribute, AreIds, Found, nothing_found, and_problem_at, with_ids, finding, finding_from, is_list_end, turn, Word, Spells, IsCutOff, AreTokens, Trees, mark, open_mark, close_mark, curly, open_of, close_of, trees_words, header_trees, Front, front_words, impl_front, block_word, value_word, Shape, record_shape, struct_trees, struct_words, Item, Items, blocked, valued, structure, implemented, file_module, module_of, used, no_more, also, braced, ended, item_words, words, views, rows, use_words, WritesItems, ReadAgain}
 use Rattle.hir_input.specs.declared.edition.EditionYear.{EditionYear}
-use Rattle.rust_lexer.specs.Piece.{Piece}
-use Rattle.rust_lexer.specs.declared.kind.TokenKind.{TokenKind}
-use Rattle.rust_lexer.specs.Terminated.{is_closed_token}
 use Rattle.rust_lexer.specs.Tokens.{is_significant, tokens}
-use Rattle.rust_lexer.specs.declared.kind.DocStyle.TheVariants.{Inner}
-use Rattle.rust_cursor.specs.Tokens.{Tokens, last_unended, tokens_of}
-use Rattle.rust_cursor.specs.Words.{symbol, kind, is_empty, bumped}
-use Rattle.rust_cursor.specs.Elements.{most}
-use Rattle.rust_cursor.specs.Extents.{goes_on}
-use Rattle.rust_metas.specs.Attributes.{inner_attributes, is_behind, is_doc, is_attribute}
-use Rattle.rust_ids.specs.Ids.{AreIds}
 use Rattle.rust_items.specs.declared.log.ProblemKind.TheVariants as problem
-use Rattle.rust_items.specs.Found.{Found, nothing_found, and_problem_at}
-use Rattle.rust_items.specs.Ids.{with_ids}
-use Rattle.rust_items.specs.Items.{finding, finding_from, is_list_end, turn}
 use Rattle.rust_items.specs.LineEnds.{with_feeds, place_in, moved_problem}
 use Rattle.rust_items.specs.SourceFiles.{read_of, found_in, items_in}
-use Rattle.rust_written.specs.Words.{Word, Spells, IsCutOff, AreTokens}
-use Rattle.rust_written.specs.Trees.{Trees, mark, open_mark, close_mark, curly, open_of, close_of, trees_words}
 use Rattle.rust_written.specs.Trees as trees
-use Rattle.rust_written.specs.Impls.{header_trees}
 use Rattle.rust_written.proofs.Again.{tokens_again, ends_closed, last_ended}
 use Rattle.rust_written.proofs.Begins.{Begins, behind, begins, over, AreSome}
-use Rattle.rust_written.specs.Written.{Front, front_words, impl_front, block_word, value_word, Shape, unit_shape, tuple_shape, record_shape, struct_trees, struct_words, Item, Items, blocked, valued, structure, implemented, file_module, module_of, used, no_more, also, braced, ended, item_words, words, views, rows}
-use Rattle.rust_written.specs.UseTrees.{use_words}
-use Rattle.rust_written.specs.Laws.{WritesItems, ReadAgain}
 use Rattle.rust_written.proofs.Fronts.{inner_none, inner_empty}
 use Rattle.rust_written.proofs.Items.{item_first, finds_reads}
 use Rattle.rust_cursor.proofs.Few.{tokens_short}
@@ -107,9 +86,8 @@ closed_end : (t : Trees) → AreClosed (ended t)
 closed_end t = closed_behind (trees_words t) (mark 59 ∷ []) (λ _. refl)
 
 closed_struct : (g : Option Trees) (s : Shape) → AreClosed (struct_words g s)
-closed_struct g (unit_shape w) = closed_end (struct_trees g (unit_shape w))
-closed_struct g (tuple_shape fs w) = closed_end (struct_trees g (tuple_shape fs w))
 closed_struct g (record_shape w b) = closed_block (struct_trees g (record_shape w b)) b
+closed_struct g s = closed_end (struct_trees g s)
 
 closed_front : (v : Front) (w : Word) (ws : List Word) → AreClosed ws → AreClosed (front_words v ++ w ∷ ws)
 closed_front v w ws e = closed_behind (front_words v) (w ∷ ws) (λ b. e (is_closed_token w.kind w.text))

@@ -1,35 +1,21 @@
 -- Use trees are read again.
-use Rattle.std.proofs.Common.{◌≡◌, ◌<◌, ◌≤◌, ℕ, zero, suc, ◌+◌, ◌==◌, ◌||◌, Bool, true, false, Option, Some, None, option_map, List, [], ◌∷◌, ◌++◌, codes, map, length, refl, ap, ◌∙◌, sym, subst, arith, append_assoc, append-nil, length-append}
-use Rattle.std.specs.Prelude.{if◌then◌else◌}
-use Rattle.std.specs.Str.{bytes_eq}
+use Rattle.std.proofs.Common.{◌≡◌, ◌<◌, ◌≤◌, ℕ, zero, suc, ◌+◌, ◌==◌, ◌||◌, Bool, true, false, Option, Some, None, option_map, List, [], ◌∷◌, ◌++◌, codes, map, length, refl, ap, ◌∙◌, sym, subst, arith, append_assoc, append-nil, length-append, if◌then◌else◌, bytes_eq, eq-eqb}
 use Rattle.std.proofs.lemmas.Bool.Decides.{nat_tests}
 use Rattle.std.proofs.lemmas.Slice.Eq.{bytes_eq-Decides}
-use Rattle.std.proofs.lemmas.Bool.{eq-eqb}
 use Rattle.hir_input.specs.declared.ast.PathNode.{PathNode}
 use Rattle.hir_input.specs.declared.ast.Rename.{Rename}
-use Rattle.hir_input.specs.UseTreeView.{UseTreeView, tree_from}
-use Rattle.rust_lexer.proofs.Counted.{when}
-use Rattle.rust_cursor.specs.Tokens.{Tokens}
-use Rattle.rust_cursor.specs.Reader.{Reader}
-use Rattle.rust_cursor.specs.Words.{symbol, word, kind, at, is_at_end, bumped, closes, eat_word, is_pair, is_glued, eat_pair}
-use Rattle.rust_cursor.specs.Nests.{flat}
+use Rattle.rust_written.proofs.Common.{UseTreeView, tree_from, when, Tokens, Reader, symbol, word, kind, at, is_at_end, bumped, closes, eat_word, is_pair, is_glued, eat_pair, flat, most, turns, turns_from, one, beyond, shorter, turns_stop, name_in, plain_name, is_keyword, is_path_keyword, has_name, name, next_name, Word, Segment, WrittenPath, segment_word, segment_meaning, colons, more_words, path_front_words, path_words, path_view, Alias, no_alias, as_name, as_nothing, alias_words, alias_view, UseTree, UseTrees, path_tree, star_tree, list_tree, no_uses, use_and, prefix_words, use_words, list_words, comma_words, use_view, use_views, IsPlainName, IsSegment, AreSegments, IsPath, IsPrefix, IsAlias, IsUse, AreUses}
 use Rattle.rust_cursor.specs.Brackets.{is_closing, to_closing, behind_closed}
-use Rattle.rust_cursor.specs.Elements.{most, turns, turns_from, one, beyond}
-use Rattle.rust_cursor.proofs.Nesting.{shorter}
 use Rattle.rust_cursor.proofs.Steps.{closing_stop}
-use Rattle.rust_cursor.proofs.Turns.{turns_stop}
 use Rattle.hir_input.specs.declared.edition.EditionYear.TheVariants as year
-use Rattle.rust_paths.proofs.Naming.{name_in}
 use Rattle.rust_paths.specs.Meaning.{path_node}
-use Rattle.rust_paths.specs.Names.{plain_name, is_keyword, is_path_keyword, has_name, name, next_name}
 use Rattle.rust_paths.specs.Paths.{is_raw, is_dollar_crate, is_segment, other_segment, segment, is_colons, is_joint, is_path_colons, more_from, more_segments, front_of_path, is_path_start, use_path}
 use Rattle.rust_paths.specs.UseTrees.{FoundInUse, begun_trees, with_bare, tree_with_list, begun_list, with_list, some_list, all_found, star_or_list, tree_behind, rename, alias, tree_with, tree_comma_from, tree_behind_comma, element_with, values, all_starts, first_too_deep, list, use_tree, tree_at}
 use Rattle.rust_paths.proofs.Steps.{more_stop}
 use Rattle.rust_paths.proofs.Trees.{comma_end}
-use Rattle.rust_written.specs.Words.{Word}
 use Rattle.rust_written.specs.Trees as trees
 use Rattle.rust_written.proofs.Begins.{Shows, Begins, behind, behind_append, begins_left, begins_right, past_behind}
-use Rattle.rust_written.specs.UseTrees.{Segment, named, WrittenPath, segment_word, segment_meaning, colons, more_words, path_front_words, path_words, path_view, Alias, no_alias, as_name, as_nothing, alias_words, alias_view, UseTree, UseTrees, path_tree, star_tree, list_tree, no_uses, use_and, prefix_words, use_words, list_words, comma_words, use_view, use_views, IsPlainName, IsSegment, AreSegments, IsPath, IsPrefix, IsAlias, IsUse, AreUses}
+use Rattle.rust_written.specs.UseTrees.{named}
 
 -- ---- how many tokens are left
 
@@ -42,11 +28,9 @@ fewer_left (w ∷ ws) ts b =
 
 -- ---- names
 
-not_word : (n k : List ℕ) → IsPlainName n → plain_name year.E2024 k ≡ None → bytes_eq n k ≡ false
-not_word n k p e =
-    when (bytes_eq n k)
-    (λ f. let same : n ≡ k = (bytes_eq-Decides n k).0 f in absurd (let none : None ≡ Some n = sym e ∙ ap (plain_name year.E2024) (sym same) ∙ p.plain in cc))
-    (λ f. f)
+pub no_keyword : (w n : List ℕ) → plain_name year.E2024 n ≡ Some n → plain_name year.E2024 w ≡ None → bytes_eq n w ≡ false
+no_keyword w n p k =
+    when (bytes_eq n w) (λ e. let same : n ≡ w = (bytes_eq-Decides n w).0 e in absurd (let none : None ≡ Some n = sym k ∙ ap (plain_name year.E2024) (sym same) ∙ p in cc)) (λ e. e)
 
 name_reads : (n : List ℕ) (ts : Tokens) → IsPlainName n → Shows (trees.word_spelled n) ts → name ts ≡ (Some n, bumped ts)
 unfolding name next_name
@@ -54,26 +38,10 @@ name_reads n ts p s = rw (s.kind_is, s.text_is, name_in ts.edition n p.plain, p.
 
 -- ---- segments
 
-no_word_self : plain_name year.E2024 (codes "self") ≡ None
-unfolding plain_name is_keyword is_path_keyword
-no_word_self = refl
-
-no_word_super : plain_name year.E2024 (codes "super") ≡ None
-unfolding plain_name is_keyword is_path_keyword
-no_word_super = refl
-
-no_word_crate : plain_name year.E2024 (codes "crate") ≡ None
-unfolding plain_name is_keyword is_path_keyword
-no_word_crate = refl
-
-no_word_type : plain_name year.E2024 (codes "Self") ≡ None
-unfolding plain_name is_keyword is_path_keyword
-no_word_type = refl
-
 segment_reads : (g : Segment) (ts : Tokens) → IsSegment g → Shows (segment_word g) ts → segment ts ≡ (Some (segment_meaning g), bumped ts)
-unfolding segment other_segment is_dollar_crate
+unfolding segment other_segment is_dollar_crate plain_name is_keyword is_path_keyword
 segment_reads (named n) ts p s =
-    rw (s.word_is, not_word n (codes "self") p no_word_self, not_word n (codes "super") p no_word_super, not_word n (codes "crate") p no_word_crate, not_word n (codes "Self") p no_word_type, s.symbol_is, s.kind_is, name_reads n ts p s) refl
+    rw (s.word_is, no_keyword (codes "self") n p.plain refl, no_keyword (codes "super") n p.plain refl, no_keyword (codes "crate") n p.plain refl, no_keyword (codes "Self") n p.plain refl, s.symbol_is, s.kind_is, name_reads n ts p s) refl
 segment_reads _ ts p s = rw s.word_is refl
 
 whether : (b : Bool) → (if b then true else true) ≡ true
@@ -202,7 +170,7 @@ taken_word : (w : List ℕ) (ts : Tokens) → bytes_eq (word ts) w ≡ true → 
 unfolding eat_word
 taken_word w ts e = rw e refl
 
-other_word : (w : List ℕ) (ts : Tokens) → bytes_eq (word ts) w ≡ false → eat_word w ts ≡ (false, ts)
+pub other_word : (w : List ℕ) (ts : Tokens) → bytes_eq (word ts) w ≡ false → eat_word w ts ≡ (false, ts)
 unfolding eat_word
 other_word w ts e = rw e refl
 

@@ -1,6 +1,5 @@
 -- Generics, the types of fields, and what stands between `impl` and its block.
-use Rattle.std.specs.Prelude.{◌≡◌, ℕ, ◌==◌, ◌&&◌, ◌||◌, Bool, false, Option, Some, None, List, codes}
-use Rattle.std.specs.Str.{bytes_eq}
+use Rattle.std.specs.Prelude.{◌≡◌, ℕ, ◌==◌, ◌&&◌, ◌||◌, Bool, false, Option, Some, None, List, codes, bytes_eq}
 use Rattle.rust_cursor.specs.declared.cursor.nest.Before.{Before}
 use Rattle.rust_cursor.specs.declared.cursor.nest.Before.TheVariants as befores
 use Rattle.rust_cursor.specs.Nests.{is_dash}

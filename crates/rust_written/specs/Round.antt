@@ -1,6 +1,5 @@
 -- The laws.
-use Rattle.std.specs.Prelude.{◌≡◌, ℕ, false, None, List}
-use Rattle.std.specs.List.{filter}
+use Rattle.std.specs.Prelude.{◌≡◌, ℕ, false, None, List, filter}
 use Rattle.rust_lexer.specs.Frontmatter.{frontmatter}
 use Rattle.rust_lexer.specs.Tokens.{has_mark, is_shebang, is_significant, tokens, tokens_from}
 use Rattle.rust_written.specs.Words.{Word, Spells, AreTokens}
