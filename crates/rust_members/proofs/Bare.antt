@@ -1,6 +1,6 @@
 -- What a member is stands neither in documentation nor in body texts.
 use Rattle.std.proofs.Common.{◌≡◌, ℕ, Option, Some, None, refl, sym, ap, ◌∙◌}
-use Rattle.hir_input.specs.Syntax.{ItemView, plain_item, fn_kind, union_kind, enum_kind, trait_kind, macro_def_kind, type_alias_kind, static_kind, const_item, struct_item, bare_module, listed_module, use_item, extern_crate, bare_extern_block, listed_extern_block, impl_item, macro_call, macro_rules, asm_item}
+use Rattle.hir_input.specs.Syntax.{ItemView, plain_item, fn_kind}
 use Rattle.rust_cursor.specs.Tokens.{Tokens}
 use Rattle.rust_metas.specs.Docs.{kept_metas}
 use Rattle.rust_leaves.specs.Clipped.{with_value, clipped_front, clipped_item, clipped_leaf, clipped_leaf_if, leaf_behind}
@@ -14,24 +14,7 @@ use Rattle.rust_members.specs.Parts.{MemberTold, told_of, member_kept, leaf_memb
 told_bare : (i : ItemView) → told_of (clipped_item bare i) ≡ told_of i
 unfolding kept_metas
 told_bare (plain_item fn_kind n) = refl
-told_bare (plain_item union_kind n) = refl
-told_bare (plain_item enum_kind n) = refl
-told_bare (plain_item trait_kind n) = refl
-told_bare (plain_item macro_def_kind n) = refl
-told_bare (plain_item type_alias_kind n) = refl
-told_bare (plain_item static_kind n) = refl
-told_bare (const_item n) = refl
-told_bare (struct_item n fields) = refl
-told_bare (bare_module n semicolon) = refl
-told_bare (listed_module n semicolon is) = refl
-told_bare (use_item u) = refl
-told_bare (extern_crate n rename) = refl
-told_bare (bare_extern_block n) = refl
-told_bare (listed_extern_block n is) = refl
-told_bare (impl_item n of_trait) = refl
-told_bare (macro_call c) = refl
-told_bare (macro_rules n name) = refl
-told_bare (asm_item n) = refl
+told_bare _ = refl
 
 kept_bare : (start end : ℕ) (l : LeafRead) (t : Option MemberTold) → member_kept start end (clipped_leaf bare l) t ≡ member_kept start end l t
 unfolding clipped_leaf

@@ -1,6 +1,5 @@
 -- Members stand where they are read.
-use Rattle.std.proofs.Common.{◌≡◌, ◌<◌, ◌≤◌, ◌==◌, ◌-◌, ◌^◌, ℕ, zero, suc, Bool, Option, Some, None, List, [], ◌∷◌, ◌++◌, map, length, sym, ◌∙◌, arith, append_assoc, append-nil}
-use Rattle.std.specs.Prelude.{option_to_list, IfOk, Result, Ok, Err, Vec}
+use Rattle.std.proofs.Common.{◌≡◌, ◌<◌, ◌≤◌, ◌==◌, ◌-◌, ◌^◌, ℕ, zero, suc, Bool, Option, Some, None, List, [], ◌∷◌, ◌++◌, map, length, sym, ◌∙◌, arith, append_assoc, append-nil, option_to_list, IfOk, Result, Ok, Err, Vec}
 use Rattle.std.specs.declared.alloc.AllocError.{AllocError}
 use Rattle.std.specs.declared.alloc.Global.{Global}
 use Rattle.hir_input.specs.declared.edition.EditionYear.{EditionYear}
@@ -144,7 +143,7 @@ associated_found end ts laid =
     when (is_at_end ts) (λ e. rw e (none_found (bumped_leads ts)))
     (λ e. rw (e, front_start ts) (leaf_kept_found end ts _ _ laid (leaf_found (front ts).0 ts (front ts).1 (front_takes ts))))
 
--- ---- of an enum, a struct or a union
+-- ---- variants and fields
 
 behind_operand_leads : (stand : Stand) (ts : Tokens) → LeadsTo ts (behind_operand stand ts)
 behind_operand_leads stand ts =

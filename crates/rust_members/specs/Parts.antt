@@ -1,6 +1,5 @@
--- One member: of a trait or an impl, of an enum, of a struct or a union.
-use Rattle.std.specs.Prelude.{ℕ, zero, suc, Bool, true, false, not, ◌==◌, ◌&&◌, ◌||◌, if◌then◌else◌, Option, Some, None, List, codes}
-use Rattle.std.specs.Str.{bytes_eq}
+-- One member: of a trait or an impl, a variant, or a field.
+use Rattle.std.specs.Prelude.{ℕ, zero, suc, Bool, true, false, not, ◌==◌, ◌&&◌, ◌||◌, if◌then◌else◌, Option, Some, None, List, codes, bytes_eq}
 use Rattle.hir_input.specs.declared.ast.Visibility.{Visibility}
 use Rattle.hir_input.specs.Attr.{MetaView}
 use Rattle.hir_input.specs.Syntax.{CallView, ItemView, NamedView, plain_item, fn_kind, type_alias_kind, const_item, macro_call}
@@ -171,7 +170,7 @@ abbrev pub behind_part : MemberKind → Tokens → Tokens
 behind_part member.Variant ts = behind_value ts
 behind_part _ ts = behind_value (behind_type ts)
 
--- ---- of an enum, a struct or a union
+-- ---- variants and fields
 
 -- without a name it is none
 abbrev pub part_of : MemberKind → ℕ → List MetaView → Option Visibility → Option TextRange → ℕ → Option MemberRead

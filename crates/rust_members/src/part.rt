@@ -1,4 +1,4 @@
-//! What stands in an enum, a struct or a union.
+//! Variants and fields.
 
 ghost use Rattle.std.specs.Prelude.{◌≡◌, map, option_map};
 ghost use Rattle.hir_input.specs.Attr.{meta_view};

@@ -1,5 +1,4 @@
-use Rattle.std.proofs.Common.{map, sym, ◌∙◌}
-use Rattle.std.specs.Prelude.{option_map}
+use Rattle.std.proofs.Common.{map, sym, ◌∙◌, option_map}
 use Rattle.rust_cursor.proofs.Turns.{turns_perhaps}
 use Rattle.rust_members.specs.Lists.{member_turn, is_list_over, member_list}
 use Rattle.rust_members.specs.Views.{member_view}
