@@ -98,21 +98,13 @@ front_of : (v : Front) (h : Head) (w : List ℕ) (more : List Word) (ts : Tokens
     → (is_at_end ts ≡ false) × (front ts ≡ (front_at (at ts) v h, bumped (behind (front_words v) ts)))
 front_of v h w more ts few e a b is = ((first_shows v w more ts b).1.end_is, front_reads v w h more ts few e a b is)
 
-no_pub_block : (k : BlockKind) → bytes_eq (block_word k) (codes "pub") ≡ false
-no_pub_block functions = refl
-no_pub_block _ = refl
+block_front : (k : BlockKind) → (bytes_eq (block_word k) (codes "pub") ≡ false) × IsLeafHead (block_head k)
+block_front functions = (refl, tt)
+block_front _ = (refl, tt)
 
-leaf_block : (k : BlockKind) → IsLeafHead (block_head k)
-leaf_block functions = tt
-leaf_block _ = tt
-
-no_pub_value : (k : ValueKind) → bytes_eq (value_word k) (codes "pub") ≡ false
-no_pub_value statics = refl
-no_pub_value _ = refl
-
-leaf_value : (k : ValueKind) → IsLeafHead (value_head k)
-leaf_value statics = tt
-leaf_value _ = tt
+value_front : (k : ValueKind) → (bytes_eq (value_word k) (codes "pub") ≡ false) × IsLeafHead (value_head k)
+value_front statics = (refl, tt)
+value_front _ = (refl, tt)
 
 -- behind a visibility, a word and a name
 behind_name : (v : Front) (w n : List ℕ) (ws : List Word) (ts : Tokens) → behind (front_words v ++ trees.word_spelled w ∷ trees.word_spelled n ∷ ws) ts ≡ behind ws (bumped (bumped (behind (front_words v) ts)))
@@ -124,9 +116,9 @@ blocked_turns left k v n h b f ts few is begun e =
     let ws = trees_words h ++ braced b in
     let us = behind (front_words v) ts in
     let inner = begins_right (front_words v) (trees.word_spelled (block_word k) ∷ trees.word_spelled n ∷ ws) ts begun in
-    let fronts = front_of v (block_head k) (block_word k) (trees.word_spelled n ∷ ws) ts few (no_pub_block k) is.5 begun (block_heads k n us is.0 inner.0 inner.1.0) in
+    let fronts = front_of v (block_head k) (block_word k) (trees.word_spelled n ∷ ws) ts few (block_front k).0 is.5 begun (block_heads k n us is.0 inner.0 inner.1.0) in
     let next : goes_on (behind ws (bumped (bumped us))) ≡ false = ap goes_on (sym (behind_name v (block_word k) n ws ts)) ∙ e in
-    leaf_turns left v (block_head k) (block_word k) n (item_view (blocked k v n h b)) (ast_kind (block_kind k)) (trees.word_spelled n ∷ ws) f ts (leaf_block k) fronts.0 fronts.1
+    leaf_turns left v (block_head k) (block_word k) n (item_view (blocked k v n h b)) (ast_kind (block_kind k)) (trees.word_spelled n ∷ ws) f ts (block_front k).1 fronts.0 fronts.1
     (blocked_reads k v n h b (at ts) (bumped us) is.0 is.1 is.2 is.3 is.4 inner.1.0 inner.1.1 next)
 
 valued_turns : (left : ℕ) (k : ValueKind) (v : Front) (n : List ℕ) (t : Trees) (f : Found) (ts : Tokens) → length ts.left ≤ most → IsItem left (valued k v n t) → Begins (item_words (valued k v n t)) ts
@@ -134,8 +126,8 @@ valued_turns : (left : ℕ) (k : ValueKind) (v : Front) (n : List ℕ) (t : Tree
 valued_turns left k v n t f ts few is begun =
     let us = behind (front_words v) ts in
     let inner = begins_right (front_words v) (trees.word_spelled (value_word k) ∷ trees.word_spelled n ∷ ended t) ts begun in
-    let fronts = front_of v (value_head k) (value_word k) (trees.word_spelled n ∷ ended t) ts few (no_pub_value k) is.4 begun (value_heads k n t us is.0 is.2 inner.0 inner.1.0 (shows_first t (mark 59) [] (bumped (bumped us)) inner.1.1)) in
-    leaf_turns left v (value_head k) (value_word k) n (item_view (valued k v n t)) (value_id k) (trees.word_spelled n ∷ ended t) f ts (leaf_value k) fronts.0 fronts.1
+    let fronts = front_of v (value_head k) (value_word k) (trees.word_spelled n ∷ ended t) ts few (value_front k).0 is.4 begun (value_heads k n t us is.0 is.2 inner.0 inner.1.0 (shows_first t (mark 59) [] (bumped (bumped us)) inner.1.1)) in
+    leaf_turns left v (value_head k) (value_word k) n (item_view (valued k v n t)) (value_id k) (trees.word_spelled n ∷ ended t) f ts (value_front k).1 fronts.0 fronts.1
     (value_reads k v n t (at ts) (bumped us) is.0 is.1 is.2 is.3 inner.1.0 inner.1.1)
 
 structure_turns : (left : ℕ) (v : Front) (n : List ℕ) (g : Option Trees) (z : Shape) (f : Found) (ts : Tokens) → length ts.left ≤ most → IsItem left (structure v n g z) → Begins (item_words (structure v n g z)) ts

@@ -1,7 +1,7 @@
 -- Items that hold no items.
 use Rattle.std.proofs.Common.{◌≤◌, length, ◌≡◌, ℕ, ◌==◌, Bool, true, false, Option, Some, None, List, [], ◌∷◌, ◌++◌, codes, refl, ap, ◌∙◌, sym, arith, ◌&&◌, is_none, is_some, bytes_eq}
 use Rattle.std.proofs.lemmas.Bool.{or_parts}
-use Rattle.rust_written.proofs.Common.{AstIdKind, Visibility, ItemView, PlainKind, fn_kind, static_kind, type_alias_kind, ast_kind, plain_item, const_item, struct_item, impl_item, FieldsView, use_item, plain_name, is_keyword, is_path_keyword, TextRange, Tokens, Reader, bumped, documents, eat_word, eat, ExcerptRead, excerpt, goes_on, impl_rest, item_rest, value_rest, Head, NameRead, RestRead, rest_read, no_name, named, has_trait, impl_end, item_end, value_end, block_attributes, struct_fields, named_node, plain_read, leaf_read, function, block_item, union_item, enumeration, trait_item, type_alias, static_value, constant, implementation, leaf, node, use_read, use_declaration, UseTreeView, most, needs_name, UseTree, use_words, use_view, IsUse, Word, Trees, mark, curly, open_of, close_of, first_of, trees_words, AreTrees, GoesOn, GoesOnType, spaced, ImplHeader, header_trees, IsImplHeader, Front, impl_front, front_visibility, BlockKind, functions, block_kind, ValueKind, statics, aliases, constants, value_item, value_id, braced, ended, Shape, record_shape, struct_trees, struct_words, shape_view, IsStruct, named_by, IsNamed, IsPlainBlock, IsOfKind, IsValue}
+use Rattle.rust_written.proofs.Common.{AstIdKind, Visibility, ItemView, PlainKind, fn_kind, static_kind, type_alias_kind, ast_kind, plain_item, const_item, struct_item, impl_item, FieldsView, use_item, plain_name, is_keyword, is_path_keyword, TextRange, Tokens, Reader, bumped, documents, eat_word, eat, ExcerptRead, excerpt, goes_on, item_rest, Head, NameRead, RestRead, rest_read, no_name, named, has_trait, impl_end, item_end, value_end, block_attributes, struct_fields, named_node, plain_read, leaf_read, function, block_item, union_item, enumeration, trait_item, type_alias, static_value, constant, implementation, leaf, node, use_read, use_declaration, UseTreeView, most, needs_name, UseTree, use_words, use_view, IsUse, Word, Trees, mark, curly, open_of, close_of, first_of, trees_words, AreTrees, GoesOn, GoesOnType, spaced, ImplHeader, header_trees, IsImplHeader, Front, impl_front, front_visibility, BlockKind, functions, block_kind, ValueKind, statics, aliases, constants, value_item, value_id, braced, ended, Shape, record_shape, struct_trees, struct_words, shape_view, IsStruct, named_by, IsNamed, IsPlainBlock, IsOfKind, IsValue}
 use Rattle.hir_input.specs.declared.ids.AstIdKind.TheVariants as kind
 use Rattle.rust_leaves.specs.declared.head.Head.TheVariants as heads
 use Rattle.rust_leaves.specs.Kinds.{structure}
@@ -11,7 +11,7 @@ use Rattle.rust_written.proofs.Uses.{IsUseEnd, found_at, use_reads, no_keyword, 
 use Rattle.rust_written.specs.Trees as trees
 use Rattle.rust_written.proofs.Begins.{Shows, Begins, behind, behind_append, begins_left, begins_right, past_behind, eaten}
 use Rattle.rust_written.proofs.Same.{shows_first}
-use Rattle.rust_written.proofs.Ends.{whole, item_semicolon, value_semicolon, item_block, impl_block}
+use Rattle.rust_written.proofs.Ends.{item_semicolon, value_semicolon, item_block, impl_block}
 use Rattle.rust_written.proofs.Impls.{impl_header_read}
 use Rattle.rust_written.proofs.Structs.{struct_read}
 use Rattle.rust_written.proofs.Fronts.{inner_none, named_at, named_reads, front_at, block_head, value_head}
@@ -32,14 +32,6 @@ item_ends : (block : Option Tokens) (ws : List Word) (ts : Tokens) → item_rest
 unfolding item_end rest_of
 item_ends block ws ts e = ap rest_of e
 
-impl_ends : (block : Option Tokens) (ws : List Word) (ts : Tokens) → impl_rest ts ≡ (excerpt (spaced ws) true block, behind ws ts) → Ends impl_end block ws ts
-unfolding impl_end rest_of
-impl_ends block ws ts e = ap rest_of e
-
-value_ends : (ws : List Word) (ts : Tokens) → value_rest ts ≡ (whole (spaced ws), behind ws ts) → Ends value_end None ws ts
-unfolding value_end rest_of
-value_ends ws ts e = ap rest_of e
-
 -- the braces behind a header
 abbrev pub block_behind : Trees → Tokens → Option Tokens
 block_behind h ts = Some (behind (trees_words h) ts)
@@ -50,10 +42,12 @@ block_ends h b ts i j g begun e = item_ends (block_behind h ts) (trees_words h +
 
 impl_block_ends : (h b : Trees) (ts : Tokens) → AreTrees h → AreTrees b → GoesOnType h (open_of curly) → Begins (trees_words h ++ braced b) ts → goes_on (behind (trees_words h ++ braced b) ts) ≡ false
     → Ends impl_end (block_behind h ts) (trees_words h ++ braced b) ts
-impl_block_ends h b ts i j g begun e = impl_ends (block_behind h ts) (trees_words h ++ braced b) ts (impl_block h b ts i j g begun e)
+unfolding impl_end rest_of
+impl_block_ends h b ts i j g begun e = ap rest_of (impl_block h b ts i j g begun e)
 
 pub values_end : (t : Trees) (ts : Tokens) → AreTrees t → GoesOn true t (mark 59) → Begins (ended t) ts → Ends value_end None (ended t) ts
-values_end t ts h g b = value_ends (ended t) ts (value_semicolon t ts h g b)
+unfolding value_end rest_of
+values_end t ts h g b = ap rest_of (value_semicolon t ts h g b)
 
 -- ---- a leaf
 

@@ -151,14 +151,6 @@ path_none ts w s e f g h i =
     let dollar : (symbol ts == 36) ≡ false = ap (λ (c : ℕ). c == 36) s.symbol_is ∙ g in
     rw (colon, plain, raw, i, dollar) refl
 
-no_name_star : (ts : Tokens) → Shows (trees.mark 42) ts → has_name ts ≡ false
-unfolding has_name
-no_name_star ts s = rw s.kind_is refl
-
-no_name_brace : (ts : Tokens) → Shows (trees.open_mark 123) ts → has_name ts ≡ false
-unfolding has_name
-no_name_brace ts s = rw s.kind_is refl
-
 -- ---- aliases
 
 -- what stands behind a use tree: no `::`, and no word
@@ -222,10 +214,12 @@ pub record Starts (w : Word) : Type 0 where
   pub none : (ts : Tokens) → Shows w ts → use_path ts ≡ (None, ts)
 
 star_starts : Starts (trees.mark 42)
-star_starts = record { joint = refl; other = refl; none = λ ts s. path_none ts (trees.mark 42) s refl refl refl refl (no_name_star ts s) }
+unfolding has_name
+star_starts = record { joint = refl; other = refl; none = λ ts s. path_none ts (trees.mark 42) s refl refl refl refl (rw s.kind_is refl) }
 
 brace_starts : Starts (trees.open_mark 123)
-brace_starts = record { joint = refl; other = refl; none = λ ts s. path_none ts (trees.open_mark 123) s refl refl refl refl (no_name_brace ts s) }
+unfolding has_name
+brace_starts = record { joint = refl; other = refl; none = λ ts s. path_none ts (trees.open_mark 123) s refl refl refl refl (rw s.kind_is refl) }
 
 prefix_steps : (inner : Reader (FoundInUse (Option (List UseTreeView)))) (p : Option WrittenPath) (w : Word) (tail : List Word) (ts : Tokens) → Starts w → IsPrefix p → length ts.left ≤ most → Begins (prefix_words p ++ w ∷ tail) ts
     → tree_with inner ts ≡ star_or_list inner (at ts) (option_map path_view p) (behind (prefix_words p) ts)
