@@ -1,6 +1,6 @@
 -- Items are taken to their ends.
 use Rattle.std.proofs.Common.{◌≡◌, ℕ, ◌||◌, ◌==◌, Bool, true, false, Option, Some, None, List, [], ◌∷◌, ◌++◌, refl, ap, ◌∙◌, sym}
-use Rattle.rust_written.proofs.Common.{Before, Tokens, bumped, is_mark, ExcerptRead, excerpt, goes_on, opened_behind, block_at, impl_rest, item_rest, value_rest, Behind, taking_rest, impl_rest_taking, item_rest_taking, value_rest_taking, stops_here, ends_here, rest_end, mark, curly, open_of, close_of, Trees, group, tree_words, trees_words, AreTrees, GoesBehind, GoesOn, GoesOnType, angles_behind_word, angles_behind_all, before_behind_word, and_words, spaced, before_behind_all}
+use Rattle.rust_written.proofs.Common.{Before, Tokens, bumped, is_mark, ExcerptRead, excerpt, goes_on, opened_behind, block_at, Behind, taking_rest, stops_here, ends_here, rest_end, mark, curly, open_of, close_of, Trees, group, tree_words, trees_words, AreTrees, GoesBehind, GoesOn, angles_behind_word, angles_behind_all, before_behind_word, and_words, spaced, before_behind_all}
 use Rattle.rust_cursor.specs.declared.cursor.nest.Before.TheVariants as befores
 use Rattle.rust_written.proofs.Begins.{Shows, Begins, behind, behind_append, begins_left, begins_right}
 use Rattle.rust_written.proofs.Nested.{nest, last_leave}
@@ -36,7 +36,7 @@ semicolon_end is_value done last a before ts s =
     ∙ ap (λ o. (excerpt (and_words done (mark 59 ∷ [])) true o, bumped ts)) (no_braces (opened_behind last.1 (nest 0 0 0 0 a before) ts) ts s)
 
 -- up to a semicolon
-semicolon_taken : (is_value : Bool) (t : Trees) (ts : Tokens) → AreTrees t → GoesOn is_value t (mark 59) → Begins (trees_words t ++ mark 59 ∷ []) ts
+pub semicolon_taken : (is_value : Bool) (t : Trees) (ts : Tokens) → AreTrees t → GoesOn is_value t (mark 59) → Begins (trees_words t ++ mark 59 ∷ []) ts
     → taking_rest is_value [] (0, None) (nest 0 0 0 0 0 befores.End) ts ≡ (whole (spaced (trees_words t ++ mark 59 ∷ [])), behind (trees_words t ++ mark 59 ∷ []) ts)
 semicolon_taken is_value t ts h g b =
     let ws = trees_words t in
@@ -46,14 +46,6 @@ semicolon_taken is_value t ts h g b =
     ∙ semicolon_end is_value (spaced ws) k.0 (angles_behind_all befores.End 0 t) (before_behind_all befores.End t) us (begins_right ws (mark 59 ∷ []) ts b).0
     ∙ ap (λ l. (whole l, bumped us)) (sym (and_words-append ws (mark 59 ∷ []) []))
     ∙ ap (λ r. (whole (spaced (ws ++ mark 59 ∷ [])), r)) (sym (behind_append ws (mark 59 ∷ []) ts))
-
-pub item_semicolon : (t : Trees) (ts : Tokens) → AreTrees t → GoesOn false t (mark 59) → Begins (trees_words t ++ mark 59 ∷ []) ts
-    → item_rest ts ≡ (whole (spaced (trees_words t ++ mark 59 ∷ [])), behind (trees_words t ++ mark 59 ∷ []) ts)
-item_semicolon t ts h g b = item_rest_taking ts ∙ semicolon_taken false t ts h g b
-
-pub value_semicolon : (t : Trees) (ts : Tokens) → AreTrees t → GoesOn true t (mark 59) → Begins (trees_words t ++ mark 59 ∷ []) ts
-    → value_rest ts ≡ (whole (spaced (trees_words t ++ mark 59 ∷ [])), behind (trees_words t ++ mark 59 ∷ []) ts)
-value_semicolon t ts h g b = value_rest_taking ts ∙ semicolon_taken true t ts h g b
 
 -- ---- a block
 
@@ -84,7 +76,7 @@ block_taken b done last a before ts c h begun e =
     ∙ ap (λ r. (whole_with ts (and_words done (tree_words (group curly b))), r)) (sym same)
 
 -- up to a block
-block_from : (before : Before) (t b : Trees) (ts : Tokens) → AreTrees t → AreTrees b → GoesBehind false before t (open_of curly) → Begins (trees_words t ++ tree_words (group curly b)) ts
+pub block_from : (before : Before) (t b : Trees) (ts : Tokens) → AreTrees t → AreTrees b → GoesBehind false before t (open_of curly) → Begins (trees_words t ++ tree_words (group curly b)) ts
     → goes_on (behind (trees_words t ++ tree_words (group curly b)) ts) ≡ false
     → taking_rest false [] (0, None) (nest 0 0 0 0 0 before) ts ≡ (whole_with (behind (trees_words t) ts) (spaced (trees_words t ++ tree_words (group curly b))), behind (trees_words t ++ tree_words (group curly b)) ts)
 block_from before t b ts h i g begun e =
@@ -97,13 +89,3 @@ block_from before t b ts h i g begun e =
     ∙ block_taken b (spaced ws) k.0 (angles_behind_all before 0 t) (before_behind_all before t) us (block_last t false before g) i (begins_right ws vs ts begun) (ap goes_on (sym same) ∙ e)
     ∙ ap (λ l. (whole_with us l, behind vs us)) (sym (and_words-append ws vs []))
     ∙ ap (λ r. (whole_with us (spaced (ws ++ vs)), r)) (sym same)
-
-pub item_block : (t b : Trees) (ts : Tokens) → AreTrees t → AreTrees b → GoesOn false t (open_of curly) → Begins (trees_words t ++ tree_words (group curly b)) ts
-    → goes_on (behind (trees_words t ++ tree_words (group curly b)) ts) ≡ false
-    → item_rest ts ≡ (whole_with (behind (trees_words t) ts) (spaced (trees_words t ++ tree_words (group curly b))), behind (trees_words t ++ tree_words (group curly b)) ts)
-item_block t b ts h i g begun e = item_rest_taking ts ∙ block_from befores.End t b ts h i g begun e
-
-pub impl_block : (t b : Trees) (ts : Tokens) → AreTrees t → AreTrees b → GoesOnType t (open_of curly) → Begins (trees_words t ++ tree_words (group curly b)) ts
-    → goes_on (behind (trees_words t ++ tree_words (group curly b)) ts) ≡ false
-    → impl_rest ts ≡ (whole_with (behind (trees_words t) ts) (spaced (trees_words t ++ tree_words (group curly b))), behind (trees_words t ++ tree_words (group curly b)) ts)
-impl_block t b ts h i g begun e = impl_rest_taking ts ∙ block_from befores.Other t b ts h i g begun e

@@ -1,8 +1,9 @@
 -- Items that hold no items.
 use Rattle.std.proofs.Common.{◌≤◌, length, ◌≡◌, ℕ, ◌==◌, Bool, true, false, Option, Some, None, List, [], ◌∷◌, ◌++◌, codes, refl, ap, ◌∙◌, sym, arith, ◌&&◌, is_none, is_some, bytes_eq}
 use Rattle.std.proofs.lemmas.Bool.{or_parts}
-use Rattle.rust_written.proofs.Common.{AstIdKind, Visibility, ItemView, PlainKind, fn_kind, static_kind, type_alias_kind, ast_kind, plain_item, const_item, struct_item, impl_item, FieldsView, use_item, plain_name, is_keyword, is_path_keyword, TextRange, Tokens, Reader, bumped, documents, eat_word, eat, ExcerptRead, excerpt, goes_on, item_rest, Head, NameRead, RestRead, rest_read, no_name, named, has_trait, impl_end, item_end, value_end, block_attributes, struct_fields, named_node, plain_read, leaf_read, function, block_item, union_item, enumeration, trait_item, type_alias, static_value, constant, implementation, leaf, node, use_read, use_declaration, UseTreeView, most, needs_name, UseTree, use_words, use_view, IsUse, Word, Trees, mark, curly, open_of, close_of, first_of, trees_words, AreTrees, GoesOn, GoesOnType, spaced, ImplHeader, header_trees, IsImplHeader, Front, impl_front, front_visibility, BlockKind, functions, block_kind, ValueKind, statics, aliases, constants, value_item, value_id, braced, ended, Shape, record_shape, struct_trees, struct_words, shape_view, IsStruct, named_by, IsNamed, IsPlainBlock, IsOfKind, IsValue}
+use Rattle.rust_written.proofs.Common.{AstIdKind, Visibility, ItemView, PlainKind, fn_kind, static_kind, type_alias_kind, ast_kind, plain_item, const_item, struct_item, impl_item, FieldsView, use_item, plain_name, is_keyword, is_path_keyword, TextRange, Tokens, Reader, bumped, documents, eat_word, eat, ExcerptRead, excerpt, goes_on, item_rest, Head, NameRead, RestRead, rest_read, no_name, named, has_trait, impl_end, item_end, value_end, block_attributes, struct_fields, named_node, plain_read, leaf_read, function, block_item, union_item, enumeration, trait_item, type_alias, static_value, constant, implementation, leaf, node, use_read, use_declaration, UseTreeView, most, needs_name, UseTree, use_words, use_view, IsUse, Word, Trees, mark, curly, open_of, close_of, first_of, trees_words, AreTrees, GoesOn, GoesOnType, spaced, ImplHeader, header_trees, IsImplHeader, Front, impl_front, front_visibility, BlockKind, functions, block_kind, ValueKind, statics, aliases, constants, value_item, value_id, braced, ended, Shape, record_shape, struct_trees, struct_words, shape_view, IsStruct, named_by, IsNamed, IsPlainBlock, IsOfKind, IsValue, item_rest_taking, impl_rest_taking, value_rest_taking}
 use Rattle.hir_input.specs.declared.ids.AstIdKind.TheVariants as kind
+use Rattle.rust_cursor.specs.declared.cursor.nest.Before.TheVariants as befores
 use Rattle.rust_leaves.specs.declared.head.Head.TheVariants as heads
 use Rattle.rust_leaves.specs.Kinds.{structure}
 use Rattle.rust_paths.specs.UseTrees.{use_tree}
@@ -11,7 +12,7 @@ use Rattle.rust_written.proofs.Uses.{IsUseEnd, found_at, use_reads, no_keyword, 
 use Rattle.rust_written.specs.Trees as trees
 use Rattle.rust_written.proofs.Begins.{Shows, Begins, behind, behind_append, begins_left, begins_right, past_behind, eaten}
 use Rattle.rust_written.proofs.Same.{shows_first}
-use Rattle.rust_written.proofs.Ends.{item_semicolon, value_semicolon, item_block, impl_block}
+use Rattle.rust_written.proofs.Ends.{semicolon_taken, block_from}
 use Rattle.rust_written.proofs.Impls.{impl_header_read}
 use Rattle.rust_written.proofs.Structs.{struct_read}
 use Rattle.rust_written.proofs.Fronts.{inner_none, named_at, named_reads, front_at, block_head, value_head}
@@ -38,16 +39,16 @@ block_behind h ts = Some (behind (trees_words h) ts)
 
 pub block_ends : (h b : Trees) (ts : Tokens) → AreTrees h → AreTrees b → GoesOn false h (open_of curly) → Begins (trees_words h ++ braced b) ts → goes_on (behind (trees_words h ++ braced b) ts) ≡ false
     → Ends item_end (block_behind h ts) (trees_words h ++ braced b) ts
-block_ends h b ts i j g begun e = item_ends (block_behind h ts) (trees_words h ++ braced b) ts (item_block h b ts i j g begun e)
+block_ends h b ts i j g begun e = item_ends (block_behind h ts) (trees_words h ++ braced b) ts (item_rest_taking ts ∙ block_from befores.End h b ts i j g begun e)
 
 impl_block_ends : (h b : Trees) (ts : Tokens) → AreTrees h → AreTrees b → GoesOnType h (open_of curly) → Begins (trees_words h ++ braced b) ts → goes_on (behind (trees_words h ++ braced b) ts) ≡ false
     → Ends impl_end (block_behind h ts) (trees_words h ++ braced b) ts
 unfolding impl_end rest_of
-impl_block_ends h b ts i j g begun e = ap rest_of (impl_block h b ts i j g begun e)
+impl_block_ends h b ts i j g begun e = ap rest_of (impl_rest_taking ts ∙ block_from befores.Other h b ts i j g begun e)
 
 pub values_end : (t : Trees) (ts : Tokens) → AreTrees t → GoesOn true t (mark 59) → Begins (ended t) ts → Ends value_end None (ended t) ts
 unfolding value_end rest_of
-values_end t ts h g b = ap rest_of (value_semicolon t ts h g b)
+values_end t ts h g b = ap rest_of (value_rest_taking ts ∙ semicolon_taken true t ts h g b)
 
 -- ---- a leaf
 
@@ -104,15 +105,10 @@ impl_steps : (is_trait : Bool) (block : Option Tokens) (ws : List Word) (ts : To
 unfolding implementation
 impl_steps is_trait block ws ts t i e = rw (e, i, t) refl
 
-trait_is : (h : ImplHeader) (more : List Word) (ts : Tokens) → AreTrees (header_trees h) → IsImplHeader h → Begins (trees_words (header_trees h) ++ open_of curly ∷ more) ts
-    → has_trait (behind (trees_words (header_trees h) ++ open_of curly ∷ more) ts).past ts ≡ is_some h.of_trait
-unfolding has_trait
-trait_is h more ts a is b = impl_header_read (behind (trees_words (header_trees h) ++ open_of curly ∷ more) ts).past h more ts a is b (omega arith)
-
 pub impl_reads : (ms : List (List ℕ)) (h : ImplHeader) (b : Trees) (start : ℕ) (ts : Tokens) → AreTrees (header_trees h) → AreTrees b → IsImplHeader h → IsPlainBlock b → Begins (trees_words (header_trees h) ++ braced b) ts
     → goes_on (behind (trees_words (header_trees h) ++ braced b) ts) ≡ false
     → Reads heads.Impl (impl_front ms) start (impl_item (node [] (spaced (trees_words (header_trees h) ++ braced b))) (is_some h.of_trait)) kind.Impl [] (trees_words (header_trees h) ++ braced b) ts
-unfolding leaf
+unfolding leaf has_trait
 impl_reads ms h b start ts i j is p begun e =
     let t = header_trees h in
     let ws = trees_words t ++ braced b in
@@ -121,7 +117,7 @@ impl_reads ms h b start ts i j is p begun e =
       (rest_is block ws ts).braces,
       [],
       refl,
-      ap (λ r. (Some r.0, r.1)) (impl_steps (is_some h.of_trait) block ws ts (trait_is h (trees_words b ++ close_of curly ∷ []) ts i is begun) (no_inner t b ts p begun) (impl_block_ends t b ts i j is.goes begun e)),
+      ap (λ r. (Some r.0, r.1)) (impl_steps (is_some h.of_trait) block ws ts (impl_header_read (behind ws ts).past h (trees_words b ++ close_of curly ∷ []) ts i is begun (omega arith)) (no_inner t b ts p begun) (impl_block_ends t b ts i j is.goes begun e)),
     )
 
 -- ---- statics, type aliases and constants
@@ -164,12 +160,6 @@ struct_steps : (v : Option Visibility) (n : NameRead) (shape : FieldsView) (bloc
 unfolding structure
 struct_steps v n shape block ws ts us m f e = rw (m, e, f) refl
 
-struct_reads : (v : Front) (n : List ℕ) (shape : FieldsView) (block : Option Tokens) (ws : List Word) (start : ℕ) (ts : Tokens) → IsNamed n → Shows (trees.word_spelled n) ts → struct_fields (behind ws (bumped ts)).past block (bumped ts) ≡ shape
-    → Ends item_end block ws (bumped ts) → Reads heads.Struct v start (struct_item (named_by v n ws) shape) kind.Struct n (trees.word_spelled n ∷ ws) ts
-unfolding leaf
-struct_reads v n shape block ws start ts m s f ends =
-    ((named_at n ts).range, (rest_is block ws (bumped ts)).braces, [], refl, ap (λ r. (Some r.0, r.1)) (struct_steps (front_visibility v) (named_at n ts) shape block ws ts (bumped ts) (named_reads n ts m s) f ends))
-
 -- the braces that a struct ends with
 abbrev struct_block : Option Trees → Shape → Tokens → Option Tokens
 struct_block g (record_shape w b) ts = block_behind (struct_trees g (record_shape w b)) ts
@@ -177,7 +167,7 @@ struct_block g _ ts = None
 
 struct_ends : (g : Option Trees) (s : Shape) (ts : Tokens) → IsStruct g s → Begins (struct_words g s) ts → goes_on (behind (struct_words g s) ts) ≡ false → Ends item_end (struct_block g s ts) (struct_words g s) ts
 struct_ends g (record_shape w b) ts is begun e = block_ends (struct_trees g (record_shape w b)) b ts is.trees is.shape is.goes begun e
-struct_ends g s ts is b e = item_ends None (struct_words g s) ts (item_semicolon (struct_trees g s) ts is.trees is.goes b)
+struct_ends g s ts is b e = item_ends None (struct_words g s) ts (item_rest_taking ts ∙ semicolon_taken false (struct_trees g s) ts is.trees is.goes b)
 
 -- behind the last of them
 last_past : (ws : List Word) (w : Word) (ts : Tokens) → Begins (ws ++ w ∷ []) ts → (behind ws ts).past ≤ (behind (ws ++ w ∷ []) ts).past
@@ -195,8 +185,17 @@ struct_fields_are g s ts l is b = let ws = trees_words (struct_trees g s) in str
 pub structure_reads : (v : Front) (n : List ℕ) (g : Option Trees) (s : Shape) (start : ℕ) (ts : Tokens) → length (bumped ts).left ≤ most → IsNamed n → IsStruct g s → Shows (trees.word_spelled n) ts → Begins (struct_words g s) (bumped ts)
     → goes_on (behind (struct_words g s) (bumped ts)) ≡ false
     → Reads heads.Struct v start (struct_item (named_by v n (struct_words g s)) (shape_view s)) kind.Struct n (trees.word_spelled n ∷ struct_words g s) ts
+unfolding leaf
 structure_reads v n g s start ts l m is shown b e =
-    struct_reads v n (shape_view s) (struct_block g s (bumped ts)) (struct_words g s) start ts m shown (struct_fields_are g s (bumped ts) l is b) (struct_ends g s (bumped ts) is b e)
+    let ws = struct_words g s in
+    let block = struct_block g s (bumped ts) in (
+      (named_at n ts).range,
+      (rest_is block ws (bumped ts)).braces,
+      [],
+      refl,
+      ap (λ r. (Some r.0, r.1)) (struct_steps (front_visibility v) (named_at n ts) (shape_view s) block ws ts (bumped ts) (named_reads n ts m shown)
+          (struct_fields_are g s (bumped ts) l is b) (struct_ends g s (bumped ts) is b e)),
+    )
 
 -- ---- uses
 
