@@ -16,7 +16,7 @@ unfoldable pub use Rattle.rust_cursor.specs.Words.{at, bumped, eat, eat_pair, ea
 pub use Rattle.rust_cursor.specs.declared.cursor.nest.Before.{Before}
 pub use Rattle.rust_cursor.specs.Nests.{behind_free, flat, is_dash, is_flat, is_mark, lets_any}
 unfoldable pub use Rattle.rust_cursor.specs.Nests.{leads_on, nest_behind}
-pub use Rattle.rust_cursor.specs.Extents.{ExcerptRead, begins, begins_behind, block_at, excerpt, goes_on, impl_rest, is_item_word, item_rest, opened_behind, value_rest}
+pub use Rattle.rust_cursor.specs.Extents.{ExcerptRead, begins, begins_behind, block_at, excerpt, goes_on, is_item_word, item_rest, opened_behind}
 unfoldable pub use Rattle.rust_cursor.specs.Extents.{begins_item, begins_within}
 pub use Rattle.rust_cursor.specs.Elements.{one, turns_from}
 unfoldable pub use Rattle.rust_cursor.specs.Elements.{beyond, most, turns}
