@@ -218,13 +218,9 @@ front_found : (ts : Tokens) → outer_attributes ts ≡ ([], ts) → front ts �
 unfolding front
 front_found ts e = rw e refl
 
-all_modifiers : (ms : List (List ℕ)) (w : List ℕ) (more : List Word) (ts : Tokens) → length ts.left ≤ most → AreModifiers ms w → Begins (modified ms w more) ts → is_modifier (behind (map trees.word_spelled ms) ts) ≡ false
-    → behind_modifiers ts ≡ behind (map trees.word_spelled ms) ts
-unfolding behind_modifiers
-all_modifiers ms w more ts l a b e = modifiers_read ms w more most ts l a b e
-
 pub front_reads : (v : Front) (w : List ℕ) (h : Head) (more : List Word) (ts : Tokens) → length ts.left ≤ most → bytes_eq w (codes "pub") ≡ false → AreModifiers v.modifiers w → Begins (front_words v ++ trees.word_spelled w ∷ more) ts
     → Heads h (behind (front_words v) ts) → front ts ≡ (front_at (at ts) v h, bumped (behind (front_words v) ts))
+unfolding behind_modifiers
 front_reads v w h more ts few e a b is =
     let first = first_shows v w more ts b in
     let ms = map trees.word_spelled v.modifiers in
@@ -236,7 +232,7 @@ front_reads v w h more ts few e a b is =
     front_found ts (outer_none (trees.word_spelled first.0) ts first.1 refl refl)
     ∙ front_steps (at ts) v h ts us (behind ms us)
     (scope_reads v.scope (first_modifier v.modifiers w) (modified_from v.modifiers w more).0 ts (no_pub v.modifiers w e a) (scope_begins v w more ts b))
-    (all_modifiers v.modifiers w more us (omega (arith, few, fewer)) a (begins_right (scope_words v.scope) (modified v.modifiers w more) ts split) heads_there.modifier)
+    (modifiers_read v.modifiers w more most us (omega (arith, few, fewer)) a (begins_right (scope_words v.scope) (modified v.modifiers w more) ts split) heads_there.modifier)
     heads_there
     ∙ ap (λ k. (front_at (at ts) v h, bumped k)) (sym same)
 

@@ -290,10 +290,6 @@ closes_list ts s = rw (s.some, s.symbol_is) refl
 closes_item : (ts : Tokens) → Shows (close_mark 125) ts → goes_on ts ≡ false
 closes_item ts s = rw s.symbol_is refl
 
-finding_all : (left : ℕ) (f : Found) (ts : Tokens) → finding (is_list_end false) (turn left) f ts ≡ finding_from (is_list_end false) (turn left) most [] f ts
-unfolding finding
-finding_all left f ts = refl
-
 behind_few : (v : Front) (n : List ℕ) (more : List Word) (ts : Tokens) → length ts.left ≤ most → Begins (front_words v ++ trees.word_spelled (codes "mod") ∷ trees.word_spelled n ∷ open_mark 123 ∷ more) ts
     → length (bumped (bumped (bumped (behind (front_words v) ts)))).left ≤ most
 behind_few v n more ts few b =
@@ -310,6 +306,7 @@ behind_few v n more ts few b =
 listed_turns : (left : ℕ) (v : Front) (n : List ℕ) (is : Items) (f : Found) (ts : Tokens) → suc left ≤ 128 → length ts.left ≤ most → IsNamed n → AreModifiers v.modifiers (codes "mod") → Begins (item_words (module_of v n is)) ts
     → ((us : Tokens) → length us.left ≤ most → Begins (words is ++ close_mark 125 ∷ []) us → Finds false left (views is) (rows (depth_of left) is) (words is) nothing_found us)
     → Turns (suc left) (item_view (module_of v n is)) (item_rows (depth_of (suc left)) (module_of v n is)) (item_words (module_of v n is)) f ts
+unfolding finding
 listed_turns left v n is f ts deep few m a begun found =
     let tail = words is ++ close_mark 125 ∷ [] in
     let us = behind (front_words v) ts in
@@ -326,7 +323,7 @@ listed_turns left v n is f ts deep few m a begun found =
     let block : BlockRead = record { attrs = []; items = Some (views is); is_ended = true } in
     let held : inside (suc left) nothing_found vs ≡ (block, (list.0, bumped end)) =
     inside_listed left nothing_found vs (ap (λ (c : ℕ). c == 123) brace.symbol_is)
-    ∙ block_parts (turn left) (views is) nothing_found list.0 vs end (inner_of is mid within) (finding_all left nothing_found mid ∙ list.1) (eaten 125 end (ap (λ (c : ℕ). c == 125) shut.symbol_is)) in
+    ∙ block_parts (turn left) (views is) nothing_found list.0 vs end (inner_of is mid within) list.1 (eaten 125 end (ap (λ (c : ℕ). c == 125) shut.symbol_is)) in
     let all = and_parent (depth_of (suc left)) (at ts) (bumped end).past kind.Module name true list.0 f in
     let rest : bumped end ≡ behind (item_words (module_of v n is)) ts =
     sym (behind_name v (codes "mod") n (open_mark 123 ∷ tail) ts ∙ behind_append (words is) (close_mark 125 ∷ []) mid) in (

@@ -16,14 +16,11 @@ abbrev pub Stays : List Word → Nest → Nest → Tokens → Type 0
 Stays [] n m ts = n ≡ m
 Stays (w ∷ ws) n m ts = (stays n ts ≡ true) × (is_flat (nest_behind n ts) ≡ false) × Stays ws (nest_behind n ts) m (bumped ts)
 
-stays_from : (ws : List Word) (n n' m : Nest) (ts : Tokens) → n ≡ n' → Stays ws n' m ts → Stays ws n m ts
-stays_from ws n n' m ts e h = subst (λ k. Stays ws k m ts) (sym e) h
-
 pub stays_word : (w : Word) (n m : Nest) (ts : Tokens) → stays n ts ≡ true → nest_behind n ts ≡ m → is_flat m ≡ false → Stays (w ∷ []) n m ts
 stays_word w n m ts s e f = (s, ap is_flat e ∙ f, e)
 
 pub stays_append : (ws vs : List Word) (n m k : Nest) (ts : Tokens) → Stays ws n m ts → Stays vs m k (behind ws ts) → Stays (ws ++ vs) n k ts
-stays_append [] vs n m k ts h i = stays_from vs n m k ts h i
+stays_append [] vs n m k ts h i = subst (λ l. Stays vs l k ts) (sym h) i
 stays_append (w ∷ ws) vs n m k ts h i = (h.0, h.1, stays_append ws vs (nest_behind n ts) m k (bumped ts) h.2 i)
 
 -- from a bracket on that opens to the one that closes, past what stands between

@@ -134,11 +134,6 @@ fields_read end (f ∷ fs) n done ts l h is b e =
         ∙ more n (done ++ field_visibility f ∷ []) (omega (arith, few, some, l))
         ∙ ap (λ d. (d, behind (trees_words (fields_trees fs)) us)) (append_assoc done (field_visibility f ∷ []) (map field_visibility fs))
 
-all_fields : (end : ℕ) (fs : List Field) (ts : Tokens) → length ts.left ≤ most → AreTrees (fields_trees fs) → AreFields fs → Begins (trees_words (fields_trees fs) ++ close_of round ∷ []) ts → (behind (trees_words (fields_trees fs)) ts).past ≤ end
-    → (fields end ts).0 ≡ map field_visibility fs
-unfolding fields turns
-all_fields end fs ts l h is b e = ap (λ r. r.0) (fields_read end fs most [] ts l h is b e)
-
 -- ---- shapes
 
 -- a struct ends with braces
@@ -160,6 +155,7 @@ record_at (Some w) more end ts b = no_symbol true end ts (ap (λ s. s == 40) b.0
 
 tuple_at : (end : ℕ) (fs : List Field) (rest : List Word) (ts : Tokens) → length ts.left ≤ most → AreTrees (fields_trees fs) → AreFields fs → Begins (tree_words (group round (fields_trees fs)) ++ rest) ts
     → (behind (tree_words (group round (fields_trees fs))) ts).past ≤ end → fields_at false end ts ≡ tuple_fields (map field_visibility fs)
+unfolding fields turns
 tuple_at end fs rest ts l h is b e =
     let here = begins_left (tree_words (group round (fields_trees fs))) rest ts b in
     let one : length (bumped ts).left + 1 ≡ length ts.left = shorter ts here.0.some in
@@ -169,7 +165,7 @@ tuple_at end fs rest ts l h is b e =
     let close : (behind ws (bumped ts)).past ≤ (behind last (behind ws (bumped ts))).past = past_behind last (behind ws (bumped ts)) (begins_right ws last (bumped ts) here.1) in
     let inner : (bumped ts).past ≤ (behind ws (bumped ts)).past = past_behind ws (bumped ts) (begins_left ws last (bumped ts) here.1) in
     let first : ts.past < (bumped ts).past = here.0.past in
-    rw (before end ts (omega (arith, all, close, inner, first, e)), here.0.symbol_is) (ap tuple_fields (all_fields end fs (bumped ts) (omega (arith, one, l)) h is here.1 (omega (arith, all, close, e))))
+    rw (before end ts (omega (arith, all, close, inner, first, e)), here.0.symbol_is) (ap (λ r. tuple_fields r.0) (fields_read end fs most [] (bumped ts) (omega (arith, one, l)) h is here.1 (omega (arith, all, close, e))))
 
 shape_read : (s : Shape) (more : List Word) (end : ℕ) (ts : Tokens) → length ts.left ≤ most → AreTrees (shape_trees s) → IsShape s → Begins (trees_words (shape_trees s) ++ shape_end s ∷ more) ts → (behind (trees_words (shape_trees s)) ts).past ≤ end
     → fields_at (has_block s) end ts ≡ shape_view s

@@ -115,13 +115,6 @@ no_attributes : (is : Items) (ts : Tokens) → Begins (words is) ts → is_empty
 no_attributes no_more ts b e = inner_empty ts (end_inner ts e)
 no_attributes (also i is) ts b e = let first = item_first i (words is) ts b in inner_none (trees.word_spelled first.0) ts first.1 refl refl
 
-abbrev turns_top : EditionYear → List ℕ → Tokens → Type 0
-turns_top edition text ts = read_of edition text ≡ finding_from (is_list_end true) (turn 128) most [] nothing_found ts
-
-all_turns : (edition : EditionYear) (text : List ℕ) → inner_attributes (tokens_of edition text) ≡ ([], tokens_of edition text) → turns_top edition text (tokens_of edition text)
-unfolding finding
-all_turns edition text e = ap (λ r. finding_from (is_list_end true) (turn 128) most [] nothing_found r.1) e
-
 -- what is read of a text, and found in it
 record IsReadOf (edition : EditionYear) (is : Items) (text : List ℕ) : Type 0 where
   pub attributes : inner_attributes (tokens_of edition text) ≡ ([], tokens_of edition text)
@@ -138,7 +131,7 @@ same_problems None f e = refl
 same_problems (Some n) f e = absurd cc
 
 read_text : (edition : EditionYear) (is : Items) (text : List ℕ) → WritesItems is text → IsReadOf edition is (with_feeds text)
-unfolding items_in found_in
+unfolding items_in found_in finding
 read_text edition is text w =
     let feeds = with_feeds text in
     let ts = tokens_of edition feeds in
@@ -149,7 +142,7 @@ read_text edition is text w =
     let none = no_attributes is ts b.0 b.1 in
     let end = behind (words is) ts in
     let found = finds_reads is true 128 nothing_found ts (omega arith) few w.are b.0 (ends_list end b.1) (end_goes_on end b.1) most [] few in
-    let all = all_turns edition feeds none ∙ found.1 in
+    let all : read_of edition feeds ≡ (views is, (found.0, end)) = ap (λ r. finding_from (is_list_end true) (turn 128) most [] nothing_found r.1) none ∙ found.1 in
     let unended : end.unended ≡ None =
     unended_behind (words is) ts ∙ text_unended edition feeds ∙ last_ended (words is) feeds w.plain w.spells (closed_items is) in
     record {
