@@ -59,19 +59,16 @@ close_reached before ts s =
     flat_reached reaches.Angles 1 before ts s.some
     (angles_bar (symbol ts == 125) (is_at_end ts) (begins (nest 0 0 0 0 1 before) ts) (symbol ts == 59) (rw s.symbol_is refl) s.end_is (mark_begins 1 before (mark 62) ts s refl refl) (rw s.symbol_is refl))
 
-flat_closed : (before : Before) → is_closed reaches.Angles (nest 0 0 0 0 0 before) ≡ true
-unfolding is_closed
-flat_closed before = refl
-
 no_angle : (before : Before) → angles_behind_word before 1 (mark 62) ≡ 0
 unfolding is_glued at
 no_angle before = rw (and_false (is_dash before)) refl
 
 close_behind : (before : Before) (ts : Tokens) → Shows (mark 62) ts → is_dash before ≡ false → reaching reaches.Angles (nest 0 0 0 0 1 before) ts ≡ bumped ts
+unfolding is_closed
 close_behind before ts s e =
     let step : nest_behind (nest 0 0 0 0 1 before) ts ≡ nest 0 0 0 0 (angles_behind_word before 1 (mark 62)) (before_behind_word before (mark 62)) = flat_word 1 before (mark 62) ts (refl, refl) s (clear_close before e) in
     let last : nest_behind (nest 0 0 0 0 1 before) ts ≡ nest 0 0 0 0 0 (before_behind_word before (mark 62)) = step ∙ ap (λ n. nest 0 0 0 0 n (before_behind_word before (mark 62))) (no_angle before) in
-    reaching_end reaches.Angles (nest 0 0 0 0 1 before) ts (close_reached before ts s) (ap (λ k. is_closed reaches.Angles k) last ∙ flat_closed (before_behind_word before (mark 62)))
+    reaching_end reaches.Angles (nest 0 0 0 0 1 before) ts (close_reached before ts s) (ap (λ k. is_closed reaches.Angles k) last)
 
 -- what stands between `<` and `>`
 abbrev pub enclosed : Trees → List Word

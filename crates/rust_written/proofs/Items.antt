@@ -287,9 +287,6 @@ closes_list : (ts : Tokens) → Shows (close_mark 125) ts → is_list_end false 
 unfolding is_list_end
 closes_list ts s = rw (s.some, s.symbol_is) refl
 
-closes_item : (ts : Tokens) → Shows (close_mark 125) ts → goes_on ts ≡ false
-closes_item ts s = rw s.symbol_is refl
-
 behind_few : (v : Front) (n : List ℕ) (more : List Word) (ts : Tokens) → length ts.left ≤ most → Begins (front_words v ++ trees.word_spelled (codes "mod") ∷ trees.word_spelled n ∷ open_mark 123 ∷ more) ts
     → length (bumped (bumped (bumped (behind (front_words v) ts)))).left ≤ most
 behind_few v n more ts few b =
@@ -347,7 +344,7 @@ mutual
   turn_reads (module_of v n is) zero f ts deep few i begun e = absurd i
   turn_reads (module_of v n is) (suc left) f ts deep few i begun e =
       listed_turns left v n is f ts deep few i.0 i.2 begun (λ us l b. let shut = (begins_right (words is) (close_mark 125 ∷ []) us b).0 in
-      finds_reads is false left nothing_found us (omega arith) l i.1 (begins_left (words is) (close_mark 125 ∷ []) us b) (closes_list (behind (words is) us) shut) (closes_item (behind (words is) us) shut))
+      finds_reads is false left nothing_found us (omega arith) l i.1 (begins_left (words is) (close_mark 125 ∷ []) us b) (closes_list (behind (words is) us) shut) (rw shut.symbol_is refl))
 
   pub finds_reads : (is : Items) (is_top : Bool) (left : ℕ) (f : Found) (ts : Tokens) → left ≤ 128 → length ts.left ≤ most → AreItems left is → Begins (words is) ts
       → is_list_end is_top (behind (words is) ts) ≡ true → goes_on (behind (words is) ts) ≡ false → Finds is_top left (views is) (rows (depth_of left) is) (words is) f ts

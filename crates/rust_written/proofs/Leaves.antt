@@ -1,7 +1,7 @@
 -- Items that hold no items.
 use Rattle.std.proofs.Common.{◌≤◌, length, ◌≡◌, ℕ, ◌==◌, Bool, true, false, Option, Some, None, List, [], ◌∷◌, ◌++◌, codes, refl, ap, ◌∙◌, sym, arith, ◌&&◌, is_none, is_some, bytes_eq}
 use Rattle.std.proofs.lemmas.Bool.{or_parts}
-use Rattle.rust_written.proofs.Common.{AstIdKind, Visibility, ItemView, PlainKind, fn_kind, static_kind, type_alias_kind, ast_kind, plain_item, const_item, struct_item, impl_item, FieldsView, use_item, plain_name, is_keyword, is_path_keyword, TextRange, Tokens, Reader, bumped, documents, eat_word, eat, ExcerptRead, excerpt, goes_on, item_rest, Head, NameRead, RestRead, rest_read, no_name, named, has_trait, impl_end, item_end, value_end, block_attributes, struct_fields, named_node, plain_read, leaf_read, function, block_item, union_item, enumeration, trait_item, type_alias, static_value, constant, implementation, leaf, node, use_read, use_declaration, UseTreeView, most, needs_name, UseTree, use_words, use_view, IsUse, Word, Trees, mark, curly, open_of, close_of, first_of, trees_words, AreTrees, GoesOn, GoesOnType, spaced, ImplHeader, header_trees, IsImplHeader, Front, impl_front, front_visibility, BlockKind, functions, block_kind, ValueKind, statics, aliases, constants, value_item, value_id, braced, ended, Shape, record_shape, struct_trees, struct_words, shape_view, IsStruct, named_by, IsNamed, IsPlainBlock, IsOfKind, IsValue, item_rest_taking, impl_rest_taking, value_rest_taking}
+use Rattle.rust_written.proofs.Common.{AstIdKind, Visibility, ItemView, PlainKind, fn_kind, static_kind, type_alias_kind, ast_kind, plain_item, const_item, struct_item, impl_item, FieldsView, use_item, plain_name, is_keyword, is_path_keyword, TextRange, Tokens, Reader, bumped, documents, eat_word, eat, ExcerptRead, excerpt, goes_on, item_rest, Head, NameRead, RestRead, rest_read, no_name, named, has_trait, impl_end, item_end, value_end, block_attributes, struct_fields, named_node, plain_read, leaf_read, function, block_item, union_item, enumeration, trait_item, type_alias, static_value, constant, implementation, leaf, node, use_read, use_declaration, UseTreeView, most, needs_name, UseTree, use_words, use_view, IsUse, Word, Trees, mark, curly, open_of, close_of, first_of, trees_words, AreTrees, GoesOn, spaced, ImplHeader, header_trees, IsImplHeader, Front, impl_front, front_visibility, BlockKind, functions, block_kind, ValueKind, statics, aliases, constants, value_item, value_id, braced, ended, Shape, record_shape, struct_trees, struct_words, shape_view, IsStruct, named_by, IsNamed, IsPlainBlock, IsOfKind, IsValue, item_rest_taking, impl_rest_taking, value_rest_taking}
 use Rattle.hir_input.specs.declared.ids.AstIdKind.TheVariants as kind
 use Rattle.rust_cursor.specs.declared.cursor.nest.Before.TheVariants as befores
 use Rattle.rust_leaves.specs.declared.head.Head.TheVariants as heads
@@ -40,11 +40,6 @@ block_behind h ts = Some (behind (trees_words h) ts)
 pub block_ends : (h b : Trees) (ts : Tokens) → AreTrees h → AreTrees b → GoesOn false h (open_of curly) → Begins (trees_words h ++ braced b) ts → goes_on (behind (trees_words h ++ braced b) ts) ≡ false
     → Ends item_end (block_behind h ts) (trees_words h ++ braced b) ts
 block_ends h b ts i j g begun e = item_ends (block_behind h ts) (trees_words h ++ braced b) ts (item_rest_taking ts ∙ block_from befores.End h b ts i j g begun e)
-
-impl_block_ends : (h b : Trees) (ts : Tokens) → AreTrees h → AreTrees b → GoesOnType h (open_of curly) → Begins (trees_words h ++ braced b) ts → goes_on (behind (trees_words h ++ braced b) ts) ≡ false
-    → Ends impl_end (block_behind h ts) (trees_words h ++ braced b) ts
-unfolding impl_end rest_of
-impl_block_ends h b ts i j g begun e = ap rest_of (impl_rest_taking ts ∙ block_from befores.Other h b ts i j g begun e)
 
 pub values_end : (t : Trees) (ts : Tokens) → AreTrees t → GoesOn true t (mark 59) → Begins (ended t) ts → Ends value_end None (ended t) ts
 unfolding value_end rest_of
@@ -108,7 +103,7 @@ impl_steps is_trait block ws ts t i e = rw (e, i, t) refl
 pub impl_reads : (ms : List (List ℕ)) (h : ImplHeader) (b : Trees) (start : ℕ) (ts : Tokens) → AreTrees (header_trees h) → AreTrees b → IsImplHeader h → IsPlainBlock b → Begins (trees_words (header_trees h) ++ braced b) ts
     → goes_on (behind (trees_words (header_trees h) ++ braced b) ts) ≡ false
     → Reads heads.Impl (impl_front ms) start (impl_item (node [] (spaced (trees_words (header_trees h) ++ braced b))) (is_some h.of_trait)) kind.Impl [] (trees_words (header_trees h) ++ braced b) ts
-unfolding leaf has_trait
+unfolding leaf has_trait impl_end rest_of
 impl_reads ms h b start ts i j is p begun e =
     let t = header_trees h in
     let ws = trees_words t ++ braced b in
@@ -117,7 +112,7 @@ impl_reads ms h b start ts i j is p begun e =
       (rest_is block ws ts).braces,
       [],
       refl,
-      ap (λ r. (Some r.0, r.1)) (impl_steps (is_some h.of_trait) block ws ts (impl_header_read (behind ws ts).past h (trees_words b ++ close_of curly ∷ []) ts i is begun (omega arith)) (no_inner t b ts p begun) (impl_block_ends t b ts i j is.goes begun e)),
+      ap (λ r. (Some r.0, r.1)) (impl_steps (is_some h.of_trait) block ws ts (impl_header_read (behind ws ts).past h (trees_words b ++ close_of curly ∷ []) ts i is begun (omega arith)) (no_inner t b ts p begun) (ap rest_of (impl_rest_taking ts ∙ block_from befores.Other t b ts i j is.goes begun e))),
     )
 
 -- ---- statics, type aliases and constants

@@ -71,9 +71,6 @@ takes_stays (w ∷ ws) is_value done last n m ts b h =
 opened_same : (o : Option Tokens) (n : Nest) (ts : Tokens) → (n.braces == 0) ≡ false → opened_behind o n ts ≡ o
 opened_same o n ts e = rw e refl
 
-braced_goes : (n : Nest) (ts : Tokens) → (n.braces == 0) ≡ false → stops_here n ts ≡ false
-braced_goes n ts e = rw e refl
-
 -- words in braces, with the braces that were opened
 abbrev TakesBraced : Bool → List ℕ → Behind → Nest → Nest → List Word → Tokens → Type 0
 TakesBraced is_value done last n m ws ts = (end : ℕ) × (taking_rest is_value done last n ts ≡ taking_rest is_value (and_words done ws) (end, last.1) m (behind ws ts))
@@ -83,7 +80,7 @@ takes_braced [] is_value done last n m ts b h = (last.0, ap (λ k. taking_rest i
 takes_braced (w ∷ ws) is_value done last n m ts b h =
     let mid = nest_behind n ts in
     let end = symbol ts in
-    let first = word_taken is_value done last n mid w ts b.0 (braced_goes n ts h.0) refl (ends_not is_value (is_mark n.before) mid ts h.1) in
+    let first = word_taken is_value done last n mid w ts b.0 (rw h.0 refl) refl (ends_not is_value (is_mark n.before) mid ts h.1) in
     let rest = takes_braced ws is_value (and_word done w) (end, last.1) mid m (bumped ts) b.1 h.2 in
     (rest.0, first ∙ ap (λ o. taking_rest is_value (and_word done w) (end, o) mid (bumped ts)) (opened_same last.1 n ts h.0) ∙ rest.1)
 

@@ -51,13 +51,10 @@ unfolding is_list_end
 ends_list ts e = rw e refl
 
 -- the last token of a text, if it is not ended, stays while words are taken
-unended_bumped : (ts : Tokens) → (bumped ts).unended ≡ ts.unended
-unfolding bumped
-unended_bumped ts = refl
-
 unended_behind : (ws : List Word) (ts : Tokens) → (behind ws ts).unended ≡ ts.unended
+unfolding bumped
 unended_behind [] ts = refl
-unended_behind (w ∷ ws) ts = unended_behind ws (bumped ts) ∙ unended_bumped ts
+unended_behind (w ∷ ws) ts = unended_behind ws (bumped ts)
 
 text_unended : (edition : EditionYear) (text : List ℕ) → (tokens_of edition text).unended ≡ last_unended None (tokens text)
 unfolding tokens_of
@@ -76,11 +73,8 @@ AreClosed ws = (b : Bool) → ends_closed b ws ≡ true
 closed_behind : (ws vs : List Word) → AreClosed vs → AreClosed (ws ++ vs)
 closed_behind ws vs e b = closed_append b ws vs ∙ e (ends_closed b ws)
 
-closed_braces : (b : Trees) → AreClosed (braced b)
-closed_braces b = closed_behind (open_of curly ∷ trees_words b) (close_of curly ∷ []) (λ _. refl)
-
 closed_block : (t b : Trees) → AreClosed (trees_words t ++ braced b)
-closed_block t b = closed_behind (trees_words t) (braced b) (closed_braces b)
+closed_block t b = closed_behind (trees_words t) (braced b) (closed_behind (open_of curly ∷ trees_words b) (close_of curly ∷ []) (λ _. refl))
 
 closed_end : (t : Trees) → AreClosed (ended t)
 closed_end t = closed_behind (trees_words t) (mark 59 ∷ []) (λ _. refl)
