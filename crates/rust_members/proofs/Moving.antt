@@ -47,22 +47,15 @@ placed_widened low high from to (m ∷ ms) l h p =
 
 -- ---- parts of a text
 
-boundary_of : (text : List ℕ) (at : ℕ) → is_boundary text at ≡ true → IsCharBoundary text at
-boundary_of text at e = (grind (arith, nat_tests), λ low high. grind (arith, nat_tests))
+pub boundary_is : (text : List ℕ) (at : ℕ) → is_boundary text at ≡ true → IsCharBoundary text at
+boundary_is text at e = (grind (arith, nat_tests), λ low high. grind (arith, nat_tests))
 
 boundary_from : (text : List ℕ) (at : ℕ) → IsCharBoundary text at → is_boundary text at ≡ true
 boundary_from text at h = let within : at ≤ length text = h.0 in let first : at < length text → 128 ≤ get_or text at 0 → 192 ≤ get_or text at 0 = h.1 in grind (arith, nat_tests)
 
 -- the standard library's test tells the same
 pub boundary_tells : (text : List ℕ) (at : ℕ) (told : Bool) → (IsTrue told ↔ IsCharBoundary text at) → told ≡ is_boundary text at
-boundary_tells text at told h = same_from_decides told (is_boundary text at) (h.0, h.1) (boundary_of text at, boundary_from text at)
-
--- where a part is cut out, both its ends are boundaries
-pub boundary_is : (text : List ℕ) (at : ℕ) → is_boundary text at ≡ true → IsCharBoundary text at
-boundary_is = boundary_of
-
-some_part : (a b : List ℕ) → Some a ≡ Some b → a ≡ b
-some_part a b e = cc
+boundary_tells text at told h = same_from_decides told (is_boundary text at) (h.0, h.1) (boundary_is text at, boundary_from text at)
 
 -- a part has its range's length
 pub cut_length : (text part : List ℕ) (range : TextRange) → cut_out text range ≡ Some part → (length part + range.start ≡ range.end) × (range.end ≤ length text)
@@ -71,10 +64,11 @@ cut_length text part range e = ⊎_elim
     let same : Some (slice_range text range.start range.end) ≡ Some part = rw t at e in
     let tests = and_parts (nat_le range.start range.end) (is_boundary text range.start && is_boundary text range.end) t in
     let order : range.start ≤ range.end = leb-true range.start range.end tests.0 in
-    let within : range.end ≤ length text = (boundary_of text range.end (and_parts (is_boundary text range.start) (is_boundary text range.end) tests.1).1).0 in
+    let within : range.end ≤ length text = (boundary_is text range.end (and_parts (is_boundary text range.start) (is_boundary text range.end) tests.1).1).0 in
     let long : length (slice_range text range.start range.end) ≡ range.end - range.start =
     length-take-le (range.end - range.start) (drop range.start text) (omega (arith, length-drop range.start text)) in
-    let one : length part ≡ range.end - range.start = ap length (some_part part (slice_range text range.start range.end) (sym same)) ∙ long in
+    let whole : part ≡ slice_range text range.start range.end = cc in
+    let one : length part ≡ range.end - range.start = ap length whole ∙ long in
     (omega arith, within))
     (λ (t : is_cut text range ≡ false). let none : None ≡ Some part = rw t at e in absurd cc)
     (cases_Bool (is_cut text range))
