@@ -1,17 +1,8 @@
 -- What was found to begin with nothing that stands in front of a text alone does not.
 use Rattle.std.proofs.Common.{◌≡◌, ◌==◌, ◌||◌, ◌&&◌, ℕ, Bool, true, false, List, [], ◌∷◌, refl, sym, subst}
-use Rattle.std.specs.Prelude.{not, slice_index}
-use Rattle.std.proofs.lemmas.Bool.{and_parts, eqb-true, not-true}
-use Rattle.rust_lexer.specs.declared.kind.TokenKind.{TokenKind}
+use Rattle.rust_edits.proofs.Words.{not, slice_index, TokenKind, is_fence, is_wide_start, first_cut, symbol_from, has_mark, is_shebang, tokens_from, with_feeds, begins_bare}
+use Rattle.rust_edits.proofs.Lemmas.{and_parts, eqb-true, not-true, when}
 use Rattle.rust_lexer.specs.declared.kind.TokenKind.TheVariants as kinds
-use Rattle.rust_lexer.specs.Alone.{is_fence}
-use Rattle.rust_lexer.specs.Bytes.{is_wide_start}
-use Rattle.rust_lexer.specs.Cut.{first_cut}
-use Rattle.rust_lexer.specs.Symbol.{symbol_from}
-use Rattle.rust_lexer.specs.Tokens.{has_mark, is_shebang, tokens_from}
-use Rattle.rust_cursor.proofs.Leads.{when}
-use Rattle.rust_items.specs.LineEnds.{with_feeds}
-use Rattle.rust_edits.specs.Edits.{begins_bare}
 
 -- neither a byte order mark, frontmatter nor a shebang line
 abbrev pub IsBare : List ℕ → Type 0

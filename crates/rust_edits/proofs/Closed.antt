@@ -1,28 +1,12 @@
 -- What was found to stand alone in braces does.
 use Rattle.std.proofs.Common.{◌≡◌, ◌≤◌, ◌+◌, ◌-◌, ◌==◌, ℕ, zero, suc, true, false, Option, Some, None, List, [], ◌∷◌, ◌++◌, length, map, IsUtf8, refl, ap, sym, subst, ◌∙◌, arith}
-use Rattle.std.specs.Prelude.{nat_le, slice_index}
-use Rattle.std.specs.List.{filter}
-use Rattle.std.proofs.lemmas.Bool.{and_parts, eqb-true, false≢true}
-use Rattle.std.proofs.lemmas.Bool.Decides.{nat_tests}
-use Rattle.rust_lexer.specs.declared.kind.TokenKind.{TokenKind}
+use Rattle.rust_edits.proofs.Words.{nat_le, slice_index, filter, TokenKind, overhang, tokens_in_front, moved, braces_from, StandsAlone, is_continuation, is_wide_start, first_cut, Piece, symbol_from, symbol_of, is_nil, is_significant, piece, tokens, tokens_from, whole, rest, with_feeds, first_plain, BeginsPlain, Loose, none_loose, loose_behind, loose_from, loose_in, in_braces, closes_last, begins_plain, is_alone, loose_inside}
+use Rattle.rust_edits.proofs.Lemmas.{and_parts, eqb-true, false≢true, and_from, nat_tests, plain_is, close_of, close_symbol, left_of, front_of, counted_apart, when}
 use Rattle.rust_lexer.specs.declared.kind.TokenKind.TheVariants as kinds
-use Rattle.rust_lexer.specs.Alone.{overhang, tokens_in_front, moved, braces_from, StandsAlone}
-use Rattle.rust_lexer.specs.Bytes.{is_continuation, is_wide_start}
-use Rattle.rust_lexer.specs.Cut.{first_cut}
-use Rattle.rust_lexer.specs.Piece.{Piece}
-use Rattle.rust_lexer.specs.Symbol.{symbol_from, symbol_of}
-use Rattle.rust_lexer.specs.Tokens.{is_nil, is_significant, piece, tokens, tokens_from, whole}
-use Rattle.rust_lexer.proofs.Whole.{OpensAt, plain_is, close_of, close_symbol, left_of, front_of, counted_apart}
-use Rattle.rust_cursor.specs.Words.{rest}
-use Rattle.rust_cursor.proofs.Leads.{when}
-use Rattle.rust_items.specs.LineEnds.{with_feeds}
-use Rattle.rust_edits.specs.Typing.Laws.{first_plain, BeginsPlain}
-use Rattle.rust_edits.specs.Typing.Loose.{Loose, none_loose, loose_behind, loose_from, loose_in}
-use Rattle.rust_edits.specs.Inner.{in_braces, closes_last, begins_plain, is_alone, loose_inside}
+use Rattle.rust_lexer.proofs.Whole.{OpensAt}
 use Rattle.rust_edits.proofs.Typing.Full.{feeds_full, feeds_lead}
 use Rattle.rust_edits.proofs.Typing.Returns.{feeds_body}
 use Rattle.rust_edits.proofs.Typing.Texts.{body_plain}
-use Rattle.rust_edits.proofs.Steps.{both_true}
 
 -- a `}` takes no byte of a `}` behind it
 close_whole : (x : List ℕ) → whole (first_cut 125 (x ++ 125 ∷ [])) (x ++ 125 ∷ []) ≤ length x
@@ -155,7 +139,7 @@ alone_is m u e = (alone, sym (plain_same x alone) ∙ parts.0)
 -- and what may stand in a body is found so
 pub is_found : (m : List ℕ) → StandsAlone (with_feeds m) × BeginsPlain (with_feeds m) → is_alone (with_feeds (in_braces m)) ≡ true
 is_found m h =
-    subst (λ (w : List ℕ). is_alone w ≡ true) (sym (feeds_body [] m [])) (both_true (begins_plain (tokens (123 ∷ z))) (closes_last 0 (tokens (123 ∷ z))) (plain_same x h.0 ∙ h.1) closed)
+    subst (λ (w : List ℕ). is_alone w ≡ true) (sym (feeds_body [] m [])) (and_from (begins_plain (tokens (123 ∷ z))) (closes_last 0 (tokens (123 ∷ z))) (plain_same x h.0 ∙ h.1) closed)
   where
     x : List ℕ
     x = with_feeds m

@@ -1,12 +1,8 @@
 -- Where a text is cut about a range in braces, and that it is cut there in one way only.
-use Rattle.std.proofs.Common.{◌≡◌, ◌≤◌, ◌+◌, ◌-◌, ℕ, suc, List, [], ◌∷◌, ◌++◌, length, get_or, take, IsUtf8, refl, ap, sym, subst, ◌∙◌, arith, length-append}
-use Rattle.std.specs.Prelude.{IsCharBoundary}
-use Rattle.std.proofs.lemmas.List.{take_at, append_cancel_left}
-use Rattle.std.proofs.lemmas.Str.{IsCharBoundary-from_take, IsCharBoundary-after_ascii}
-use Rattle.rust_paths.specs.declared.names.TextRange.{TextRange}
+use Rattle.std.proofs.Common.{◌≡◌, ◌+◌, ◌-◌, ℕ, suc, List, ◌∷◌, ◌++◌, length, get_or, take, IsUtf8, refl, ap, sym, subst, ◌∙◌, arith, length-append}
+use Rattle.rust_edits.proofs.Words.{IsCharBoundary, TextRange, ArePartsAbout, AreCut, IsUncut, LacksByte}
+use Rattle.rust_edits.proofs.Lemmas.{take_at, append_cancel_left, IsCharBoundary-from_take, IsCharBoundary-after_ascii}
 use Rattle.rust_edits.specs.declared.parts.Parts.{Parts}
-use Rattle.rust_edits.specs.Edits.{ArePartsAbout}
-use Rattle.rust_edits.specs.Inner.{AreCut, IsUncut, LacksByte}
 
 -- ---- lists fall apart in one way at a place
 
@@ -21,10 +17,6 @@ tail_alike x xs ys e = cc
 
 -- ---- where a text may be cut
 
-at_brace : (q y : List ℕ) → IsCharBoundary (q ++ 123 ∷ y) (length q)
-at_brace [] y = (omega arith, λ l h. absurd (omega (arith, h)))
-at_brace (b ∷ q) y = let rest = at_brace q y in (let low = rest.0 in omega (arith, low), λ l h. rest.1 (omega (arith, l)) h)
-
 pub cut_here : (text x y : List ℕ) (n : ℕ) → IsUtf8 text → text ≡ x ++ y → length x ≡ n → IsUtf8 x → IsCharBoundary text n
 cut_here text x y n u e l v =
     let long : length text ≡ length x + length y = ap length e ∙ length-append x y in
@@ -33,9 +25,6 @@ cut_here text x y n u e l v =
 -- ---- the parts
 
 module _ (text : List ℕ) (body range : TextRange) (q a b c s : List ℕ) (p : ArePartsAbout text body range q a b c s) where
-  pub opens_here : IsCharBoundary text body.start
-  opens_here = subst (λ (t : List ℕ). IsCharBoundary t body.start) (sym p.whole) (subst (IsCharBoundary (q ++ 123 ∷ (a ++ (b ++ (c ++ 125 ∷ s))))) p.opens (at_brace q (a ++ (b ++ (c ++ 125 ∷ s)))))
-
   -- what is left behind what is cut off
   pub from_brace : (x y : List ℕ) → text ≡ x ++ y → length x ≡ body.start → y ≡ 123 ∷ (a ++ (b ++ (c ++ 125 ∷ s)))
   from_brace x y e n = back_alike x y q (123 ∷ (a ++ (b ++ (c ++ 125 ∷ s)))) (n ∙ sym p.opens) (sym e ∙ p.whole)
@@ -94,28 +83,7 @@ uncut_byte text byte u f low rest e =
     f (IsCharBoundary-after_ascii text 0 u (omega (arith, long)) (omega (arith, first, low)))
 
 module _ (text : List ℕ) (body range : TextRange) where
-  pub uncut_open : (IsCharBoundary text body.start → ⊥) → IsUncut text body range
-  uncut_open f q a b c s p = f (opens_here text body range q a b c s p)
-
-  pub uncut_low : (body.start ≤ range.start → ⊥) → IsUncut text body range
-  uncut_low f q a b c s p = let opens = p.opens in let starts = p.starts in f (omega (arith, opens, starts))
-
-  pub uncut_first : (1 ≤ range.start - body.start → ⊥) → IsUncut text body range
-  uncut_first f q a b c s p = let opens = p.opens in let starts = p.starts in f (omega (arith, opens, starts))
-
-  pub uncut_end : (range.start ≤ range.end → ⊥) → IsUncut text body range
-  uncut_end f q a b c s p = let ends = p.ends in f (omega (arith, ends))
-
-  pub uncut_close : (range.end ≤ body.end → ⊥) → IsUncut text body range
-  uncut_close f q a b c s p = let closes = p.closes in f (omega (arith, closes))
-
-  pub uncut_last : (1 ≤ body.end - range.end → ⊥) → IsUncut text body range
-  uncut_last f q a b c s p = let closes = p.closes in f (omega (arith, closes))
-
   module _ (x : List ℕ) (opens : length x ≡ body.start) where
-    pub uncut_brace : (y : List ℕ) → text ≡ x ++ y → LacksByte y 123 → IsUncut text body range
-    uncut_brace y e f q a b c s p = f (omega arith) (a ++ (b ++ (c ++ 125 ∷ s))) (from_brace text body range q a b c s p x y e opens)
-
     pub uncut_front : (y : List ℕ) (n : ℕ) → text ≡ x ++ 123 ∷ y → IsUtf8 y → n ≡ range.start - body.start - 1 → (IsCharBoundary y n → ⊥) → IsUncut text body range
     uncut_front y n e u same f q a b c s p =
         let first = p.opens in

@@ -1,26 +1,9 @@
 -- What was read of a text has places in the text with an edit in a body.
 use Rattle.std.proofs.Common.{◌≡◌, ◌≤◌, ◌<◌, ◌+◌, ◌-◌, ◌^◌, ◌&&◌, ℕ, true, false, Option, List, [], ◌∷◌, length, refl, ap, sym, subst, ◌∙◌, map, arith}
-use Rattle.std.specs.Prelude.{All, nat_le, nat_lt, option_map}
-use Rattle.std.specs.List.{list_all}
-use Rattle.std.proofs.lemmas.List.Elements.{All-head, All-tail}
-use Rattle.std.proofs.lemmas.Bool.{le-leb, lt-ltb}
-use Rattle.hir_input.specs.declared.edition.EditionYear.{EditionYear}
-use Rattle.hir_input.specs.declared.ids.FileAstId.{FileAstId}
-use Rattle.rust_cursor.proofs.Ordered.{close_some}
-use Rattle.rust_cursor.proofs.Places.{AreAlike, no_more, one_more, IsAlike, neither, both, unmoved, moves}
-use Rattle.rust_paths.specs.declared.names.TextRange.{TextRange}
-use Rattle.rust_leaves.proofs.Beside.{SameRange}
-use Rattle.rust_items.specs.declared.log.Problem.{Problem}
-use Rattle.rust_items.specs.LineEnds.{with_feeds, place_in, moved_problem, moved_range, moved_span}
-use Rattle.rust_items.specs.SourceFiles.{FileView, places, found_in, IsFile}
-use Rattle.rust_items.proofs.FilePlaces.{text_found}
-use Rattle.rust_items.proofs.LineEnds.{before, place_le, place_rises_in, place_within}
-use Rattle.rust_items.proofs.UntilItems.{SpanAlike}
-use Rattle.rust_items.proofs.Within.{IsIn, IsMaybeIn, AreIn, spans_in}
-use Rattle.rust_edits.specs.Typing.Laws.{with_body, IsTyped}
-use Rattle.rust_edits.specs.Typing.Moved.{close_at}
+use Rattle.rust_edits.proofs.Words.{All, nat_le, nat_lt, option_map, list_all, EditionYear, FileAstId, TextRange, Problem, with_feeds, place_in, moved_problem, moved_range, moved_span, FileView, places, IsFile, with_body, IsTyped, close_at, has_place, has_range, has_some_range, has_item, has_problem, HasPlaces}
+use Rattle.rust_edits.proofs.Lemmas.{All-head, All-tail, le-leb, lt-ltb, and_from, close_some, AreAlike, no_more, one_more, IsAlike, neither, both, unmoved, moves, SameRange, before, place_le, place_rises_in, place_within, SpanAlike, IsIn, IsMaybeIn, AreIn, spans_in}
 use Rattle.rust_edits.proofs.Typing.Loose.{both_told}
-use Rattle.rust_edits.proofs.Typing.Moved.{uses_below}
+use Rattle.rust_edits.proofs.Typing.Moved.{uses_within}
 use Rattle.rust_edits.proofs.Typing.ProblemsAlike.{ProblemAlike}
 use Rattle.rust_edits.proofs.Typing.ProblemsIn.{problems_in}
 use Rattle.rust_edits.proofs.Typing.ProblemsIn as within
@@ -28,8 +11,6 @@ use Rattle.rust_edits.proofs.Typing.Returns.{not_le, feeds_body, body_length, pl
 use Rattle.rust_edits.proofs.Typing.Texts.{IsMoved}
 use Rattle.rust_edits.proofs.Typing.Typing.{both_read}
 use Rattle.rust_edits.specs.declared.shift.Shift.{Shift}
-use Rattle.rust_edits.specs.Edits.{has_place, has_range, has_some_range, has_item, has_problem, HasPlaces}
-use Rattle.rust_edits.proofs.Steps.{both_true}
 
 has_low : (s : Shift) (at : ℕ) → at ≤ s.opening → has_place s at ≡ true
 has_low s at h = let e : nat_le at s.opening ≡ true = le-leb at s.opening h in rw e refl
@@ -85,7 +66,7 @@ module _ (q m m' s : List ℕ) (shift : Shift) (opening : shift.opening ≡ leng
       has_high shift (place n) (omega (arith, high, opening)) (omega (arith, high, closing)) (omega (arith, below, high, closing, closing_new, old, new, short))
 
   range_kept : (r t : TextRange) → IsIn (length x) r → SameRange Same r t → has_range shift (moved_range place r) ≡ true
-  range_kept r t l h = both_true (has_place shift (place r.start)) (has_place shift (place r.end)) (place_kept (with_feeds m') r.start t.start l.0 h.start) (place_kept (with_feeds m') r.end t.end l.1 h.end)
+  range_kept r t l h = and_from (has_place shift (place r.start)) (has_place shift (place r.end)) (place_kept (with_feeds m') r.start t.start l.0 h.start) (place_kept (with_feeds m') r.end t.end l.1 h.end)
 
   maybe_kept : (o p : Option TextRange) → IsMaybeIn (length x) o → IsAlike (SameRange Same) o p → has_some_range shift (option_map (moved_range place) o) ≡ true
   maybe_kept o p l neither = refl
@@ -94,25 +75,25 @@ module _ (q m m' s : List ℕ) (shift : Shift) (opening : shift.opening ≡ leng
   span_kept : (a t : _) → SpanAlike Same a t → IsIn (length x) a.range × (IsMaybeIn (length x) a.name × IsMaybeIn (length x) a.body)
       → (has_range shift (moved_range place a.range) && (has_some_range shift (option_map (moved_range place) a.name) && has_some_range shift (option_map (moved_range place) a.body))) ≡ true
   span_kept a t h l =
-      both_true (has_range shift (moved_range place a.range)) (has_some_range shift (option_map (moved_range place) a.name) && has_some_range shift (option_map (moved_range place) a.body)) (range_kept a.range t.range l.0 h.range)
-      (both_true (has_some_range shift (option_map (moved_range place) a.name)) (has_some_range shift (option_map (moved_range place) a.body)) (maybe_kept a.name t.name l.1.0 h.name) (maybe_kept a.body t.body l.1.1 h.body))
+      and_from (has_range shift (moved_range place a.range)) (has_some_range shift (option_map (moved_range place) a.name) && has_some_range shift (option_map (moved_range place) a.body)) (range_kept a.range t.range l.0 h.range)
+      (and_from (has_some_range shift (option_map (moved_range place) a.name)) (has_some_range shift (option_map (moved_range place) a.body)) (maybe_kept a.name t.name l.1.0 h.name) (maybe_kept a.body t.body l.1.1 h.body))
 
   items_kept : (ids : List FileAstId) {ss ts : List _} → AreIn (length x) ss → AreAlike (SpanAlike Same) ss ts → list_all (has_item shift) (places ids (map (moved_span place) ss)) ≡ true
   items_kept [] l a = refl
   items_kept (id ∷ ids) l no_more = refl
   items_kept (id ∷ ids) l (one_more {x = a} {y = t} {xs = ss} {ys = ts} h k) =
-      both_true (has_range shift (moved_range place a.range) && (has_some_range shift (option_map (moved_range place) a.name) && has_some_range shift (option_map (moved_range place) a.body)))
+      and_from (has_range shift (moved_range place a.range) && (has_some_range shift (option_map (moved_range place) a.name) && has_some_range shift (option_map (moved_range place) a.body)))
       (list_all (has_item shift) (places ids (map (moved_span place) ss))) (span_kept a t h l.0) (items_kept ids l.1 k)
 
   starts_kept : {ns ts : List ℕ} → All (λ n. n ≤ length x) ns → AreAlike Same ns ts → list_all (has_place shift) (map place ns) ≡ true
   starts_kept l no_more = refl
   starts_kept l (one_more {x = n} {y = k} {xs = ns} {ys = ts} h r) =
-      both_true (has_place shift (place n)) (list_all (has_place shift) (map place ns)) (place_kept (with_feeds m') n k (All-head (λ i. i ≤ length x) n ns l) h) (starts_kept (All-tail (λ i. i ≤ length x) n ns l) r)
+      and_from (has_place shift (place n)) (list_all (has_place shift) (map place ns)) (place_kept (with_feeds m') n k (All-head (λ i. i ≤ length x) n ns l) h) (starts_kept (All-tail (λ i. i ≤ length x) n ns l) r)
 
   problems_kept : {ps rs : List Problem} → within.AreIn (length x) ps → AreAlike (ProblemAlike (IsMoved (with_feeds q) (with_feeds m) (with_feeds m) (with_feeds s))) ps rs → list_all (has_problem shift) (map (moved_problem place) ps) ≡ true
   problems_kept l no_more = refl
   problems_kept l (one_more {x = p} {y = r} {xs = ps} {ys = rs} h k) =
-      both_true (has_place shift (place p.at)) (list_all (has_problem shift) (map (moved_problem place) ps)) (place_kept (with_feeds m) p.at r.at l.0 h.place) (problems_kept l.1 k)
+      and_from (has_place shift (place p.at)) (list_all (has_problem shift) (map (moved_problem place) ps)) (place_kept (with_feeds m) p.at r.at l.0 h.place) (problems_kept l.1 k)
 
   -- the text as it was is one in which the same was typed
   unedited : (edition : EditionYear) → IsTyped edition (with_feeds q) (with_feeds m) (with_feeds m') (with_feeds s) → IsTyped edition (with_feeds q) (with_feeds m) (with_feeds m) (with_feeds s)
@@ -122,10 +103,8 @@ module _ (q m m' s : List ℕ) (shift : Shift) (opening : shift.opening ≡ leng
   read_kept edition read t f =
       let f' = subst (λ (z : List ℕ). IsFile edition z place read) (feeds_body q m s) f in
       let r = both_read edition (with_feeds q) (with_feeds m) (with_feeds m') (with_feeds s) t in
-      let own = text_found edition x in
-      let below : All (λ n. n ≤ length x) (found_in edition x).use_trees = subst (All (λ n. n ≤ length x)) (sym own.more) (uses_below (length x) (omega arith) own.uses) in
       record {
         items = ap (list_all (has_item shift)) f'.places ∙ items_kept f'.ids (spans_in edition x) r.found.spans;
-        use_trees = ap (list_all (has_place shift)) f'.use_trees ∙ starts_kept below r.found.use_trees;
+        use_trees = ap (list_all (has_place shift)) f'.use_trees ∙ starts_kept (uses_within edition x) r.found.use_trees;
         problems = ap (list_all (has_problem shift)) f'.problems ∙ problems_kept (problems_in edition x) (both_told edition (with_feeds q) (with_feeds m) (with_feeds m) (with_feeds s) (unedited edition t) refl);
       }

@@ -1,11 +1,7 @@
 -- What has places is moved, and loose brackets are compared.
 use Rattle.std.proofs.Common.{◌≡◌, ◌≤◌, ◌==◌, ℕ, Bool, true, List, [], ◌∷◌, ◌++◌, length, take, drop, refl, ap, sym, subst, ◌∙◌, map, append-nil}
-use Rattle.std.proofs.lemmas.List.{drop_all, take_all}
-use Rattle.std.specs.List.{list_all}
-use Rattle.std.proofs.lemmas.Bool.{and_parts, eqb-true, eq-eqb}
-use Rattle.rust_edits.specs.Typing.Loose.{Loose}
-use Rattle.rust_edits.specs.Inner.{or_kept, same_loose}
-use Rattle.rust_edits.proofs.Steps.{both_true}
+use Rattle.rust_edits.proofs.Words.{list_all, Loose, or_kept, same_loose}
+use Rattle.rust_edits.proofs.Lemmas.{drop_all, take_all, and_parts, eqb-true, eq-eqb, and_from}
 
 all_moved : {A : Type 0} (has : A → Bool) (move : A → A) (xs : List A) → list_all has xs ≡ true → map (or_kept has move) xs ≡ map move xs
 all_moved has move [] e = refl
@@ -27,4 +23,4 @@ same_is l m e =
     ap (λ (n : ℕ). record { closing = n; opening = m.opening }) (sym (eqb-true l.closing m.closing both.0)) ∙ ap (λ (n : ℕ). record { closing = l.closing; opening = n }) (sym (eqb-true l.opening m.opening both.1))
 
 pub same_of : (l m : Loose) → m ≡ l → same_loose l m ≡ true
-same_of l m e = subst (λ (k : Loose). same_loose l k ≡ true) (sym e) (both_true (l.closing == l.closing) (l.opening == l.opening) (eq-eqb l.closing l.closing refl) (eq-eqb l.opening l.opening refl))
+same_of l m e = subst (λ (k : Loose). same_loose l k ≡ true) (sym e) (and_from (l.closing == l.closing) (l.opening == l.opening) (eq-eqb l.closing l.closing refl) (eq-eqb l.opening l.opening refl))

@@ -1,16 +1,7 @@
 -- An edit inside a body moves what is read.
 use Rattle.std.proofs.Common.{◌≡◌, ◌<◌, ◌+◌, ◌^◌, ℕ, suc, Bool, true, List, ◌∷◌, ◌++◌, length, take, drop, IsUtf8, ap, sym, subst, ◌∙◌, map, arith, append_assoc, length-append}
-use Rattle.std.proofs.lemmas.List.{take_at, drop_at}
-use Rattle.std.proofs.lemmas.Str.{IsUtf8-append}
-use Rattle.hir_input.specs.declared.edition.EditionYear.{EditionYear}
-use Rattle.rust_paths.specs.declared.names.TextRange.{TextRange}
-use Rattle.rust_items.specs.declared.source_file.ItemPlace.{ItemPlace}
-use Rattle.rust_items.specs.LineEnds.{with_feeds, moved_problem}
-use Rattle.rust_items.specs.SourceFiles.{FileView, IsFileView}
-use Rattle.rust_items.specs.Typed.{has_body_at}
-use Rattle.rust_edits.specs.Typing.Laws.{with_body, IsBody, IsTyped}
-use Rattle.rust_edits.specs.Typing.Loose.{loose_in}
-use Rattle.rust_edits.specs.Typing.Moved.{shifted, shifted_by, close_at, moved_place}
+use Rattle.rust_edits.proofs.Words.{EditionYear, TextRange, ItemPlace, with_feeds, moved_problem, FileView, IsFileView, has_body_at, with_body, IsBody, IsTyped, loose_in, shifted, shifted_by, close_at, moved_place, edited, shifted_place, begins_bare, Shifts, ReadsMoved, PlacesAreKept, in_braces, is_alone, loose_inside, same_loose, AreCut, IsShift}
+use Rattle.rust_edits.proofs.Lemmas.{take_at, drop_at, IsUtf8-append}
 use Rattle.rust_edits.proofs.Typing.Anew.{is_read_anew}
 use Rattle.rust_edits.proofs.Typing.Full.{feeds_full}
 use Rattle.rust_edits.proofs.Typing.Loose.{problems_move}
@@ -21,8 +12,6 @@ use Rattle.rust_edits.proofs.Typing.Told.{body_is_told}
 use Rattle.rust_edits.proofs.Typing.Typing.{typing_inside}
 use Rattle.rust_edits.specs.declared.parts.Parts.{Parts}
 use Rattle.rust_edits.specs.declared.shift.Shift.{Shift}
-use Rattle.rust_edits.specs.Edits.{edited, shifted_place, begins_bare, Shifts, ReadsMoved, PlacesAreKept}
-use Rattle.rust_edits.specs.Inner.{in_braces, is_alone, loose_inside, same_loose, AreCut, IsShift}
 use Rattle.rust_edits.proofs.Closed.{alone_is, loose_is}
 use Rattle.rust_edits.proofs.Bare.{IsBare, bare_is}
 use Rattle.rust_edits.proofs.Kept.{read_kept}

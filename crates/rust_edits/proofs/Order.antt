@@ -1,15 +1,11 @@
 -- Items are in the order in which they begin, and the last that begins up to a place is found by halving.
 use Rattle.std.proofs.Common.{◌≡◌, ◌≤◌, ◌<◌, ℕ, zero, suc, true, false, Option, Some, None, List, [], ◌∷◌, length, get_or, refl, ap, sym, ◌∙◌, arith}
-use Rattle.std.specs.Prelude.{nat_le, slice_get, option_and_then}
 use Rattle.std.specs.List.Sorted.{IsPartitionPoint, IsPartitionedBy}
-use Rattle.std.proofs.lemmas.Bool.Decides.{nat_tests}
 use Rattle.std.proofs.lemmas.Option.{slice_get-get_or}
-use Rattle.std.proofs.lemmas.Bool.{le-leb}
-use Rattle.hir_input.specs.Syntax.{ItemViews}
-use Rattle.rust_items.specs.declared.source_file.ItemPlace.{ItemPlace}
-use Rattle.rust_items.specs.Places.{Telling, ArePlaces, nothing, placed}
+use Rattle.rust_edits.proofs.Words.{nat_le, slice_get, option_and_then, ItemViews, ItemPlace, Telling, ArePlaces, placed, BeginFrom, ItemsAreInOrder, last_begun, body_about}
+use Rattle.rust_edits.proofs.Lemmas.{nat_tests, le-leb}
+use Rattle.rust_items.specs.Places.{nothing}
 use Rattle.rust_items.proofs.FilePlaces.{view_placed}
-use Rattle.rust_edits.specs.Edits.{BeginFrom, ItemsAreInOrder, last_begun, body_about}
 
 -- ---- what is read of a text
 

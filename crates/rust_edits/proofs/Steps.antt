@@ -1,16 +1,8 @@
 -- Steps of the functions.
-use Rattle.std.proofs.Common.{◌≡◌, ◌<◌, ◌==◌, ◌&&◌, ℕ, zero, suc, Bool, true, false, Option, Some, None, List, [], ◌∷◌, length, get_or, IfSome, refl, ap, sym, ◌∙◌, arith}
-use Rattle.std.specs.Prelude.{◌↔◌, IfNone, IsSome, is_some}
-use Rattle.std.proofs.lemmas.Bool.{false≢true}
-use Rattle.std.proofs.lemmas.Bool.Decides.{nat_tests}
-use Rattle.rust_cursor.proofs.Leads.{when}
-use Rattle.rust_paths.specs.declared.names.TextRange.{TextRange}
-use Rattle.rust_items.specs.declared.source_file.ItemPlace.{ItemPlace}
-use Rattle.rust_items.specs.Typed.{begins_at, has_body_at}
-
-pub both_true : (b c : Bool) → b ≡ true → c ≡ true → (b && c) ≡ true
-both_true true c e f = f
-both_true false c e f = e
+use Rattle.std.proofs.Common.{◌≡◌, ◌<◌, ◌==◌, ℕ, zero, suc, true, false, Option, Some, None, List, [], ◌∷◌, length, get_or, IfSome, refl, ap, sym, ◌∙◌, arith}
+use Rattle.std.specs.Prelude.{◌↔◌}
+use Rattle.rust_edits.proofs.Words.{IfNone, IsSome, is_some, TextRange, ItemPlace, begins_at, has_body_at}
+use Rattle.rust_edits.proofs.Lemmas.{false≢true, nat_tests, when}
 
 -- the braces of one of these items are those of one of them
 held_at : (items : List ItemPlace) (i : ℕ) (item : ItemPlace) (r : TextRange) → item.body ≡ Some r → i < length items → item ≡ get_or items i item → has_body_at r.start items ≡ true

@@ -1,16 +1,10 @@
 -- Which edits are told.
 use Rattle.std.proofs.Common.{◌≡◌, ℕ, Bool, true, false, Option, Some, None, List, ◌++◌, length, IsUtf8, ap, sym, subst, ◌∙◌, ◌<◌, ◌^◌, ◌∷◌, arith, length-append}
-use Rattle.std.specs.Prelude.{◌↔◌, IsSome}
-use Rattle.std.proofs.lemmas.Bool.{false≢true}
-use Rattle.std.proofs.lemmas.Option.{none-some, same_Some}
-use Rattle.std.proofs.lemmas.Str.{IsUtf8-append}
-use Rattle.rust_items.specs.LineEnds.{with_feeds}
-use Rattle.rust_items.specs.declared.source_file.ItemPlace.{ItemPlace}
-use Rattle.rust_paths.specs.declared.names.TextRange.{TextRange}
-use Rattle.rust_edits.specs.Typing.Loose.{Loose, loose_in}
+use Rattle.std.specs.Prelude.{◌↔◌}
+use Rattle.std.proofs.lemmas.Option.{same_Some}
+use Rattle.rust_edits.proofs.Words.{IsSome, with_feeds, ItemPlace, TextRange, Loose, loose_in, body_about, begins_bare, ArePartsAbout, MayStandInside, MayEdit, TellsLoose, in_braces, is_alone, AreCut, EndsFit}
+use Rattle.rust_edits.proofs.Lemmas.{false≢true, IsUtf8-append}
 use Rattle.rust_edits.specs.declared.parts.Parts.{Parts}
-use Rattle.rust_edits.specs.Edits.{body_about, begins_bare, ArePartsAbout, MayStandInside, MayEdit, TellsLoose}
-use Rattle.rust_edits.specs.Inner.{in_braces, is_alone, AreCut, IsUncut, EndsFit}
 use Rattle.rust_edits.proofs.Closed.{alone_is, is_found}
 use Rattle.rust_edits.proofs.Cuts.{SameParts, same_parts}
 
@@ -18,18 +12,9 @@ pub none_told : (A P : Type 0) → (P → ⊥) → IsSome {T = A} None ↔ P
 none_told A P f = (λ e. absurd (false≢true e), λ p. absurd (f p))
 
 module _ (items : List ItemPlace) (old typed : List ℕ) (range : TextRange) where
-  pub not_bare : begins_bare old ≡ false → MayEdit items old range typed → ⊥
-  not_bare e m = false≢true (sym e ∙ m.bare)
-
-  pub no_body : None ≡ body_about range.start items → MayEdit items old range typed → ⊥
-  no_body e m = none-some m.body (e ∙ m.about)
-
   module _ (body : TextRange) (about : Some body ≡ body_about range.start items) where
     own_parts : (m : MayEdit items old range typed) → ArePartsAbout old body range m.before m.front m.replaced m.back m.behind
     own_parts m = subst (λ (r : TextRange). ArePartsAbout old r range m.before m.front m.replaced m.back m.behind) (same_Some m.body body (sym m.about ∙ sym about)) m.parts
-
-    pub not_cut : IsUncut old body range → MayEdit items old range typed → ⊥
-    not_cut f m = f m.before m.front m.replaced m.back m.behind (own_parts m)
 
     module _ (p : Parts) (cut : AreCut old body range p) where
       same : (m : MayEdit items old range typed) → SameParts p m.front m.replaced m.back

@@ -1,36 +1,12 @@
 -- The text of an item, from the end of what stands before it on, read alone is exactly that item.
 use Rattle.std.proofs.Common.{◌≡◌, ◌+◌, ◌==◌, ◌||◌, ℕ, suc, true, false, Option, Some, None, List, [], ◌∷◌, ◌++◌, length, refl, sym, ap, ◌∙◌, subst, arith, map, append-nil}
-use Rattle.std.specs.Prelude.{option_to_list, is_some}
-use Rattle.std.specs.List.{filter}
-use Rattle.std.proofs.lemmas.List.Elements.{filter-append}
-use Rattle.std.proofs.lemmas.Bool.{ne_eqb}
-use Rattle.hir_input.specs.declared.edition.EditionYear.{EditionYear}
-use Rattle.hir_input.specs.Attr.{MetaView}
-use Rattle.hir_input.specs.Syntax.{ItemView}
-use Rattle.rust_lexer.specs.declared.kind.DocStyle.TheVariants.{Inner}
-use Rattle.rust_metas.specs.Attributes.{inner_attributes, is_behind}
-use Rattle.rust_lexer.specs.Alone.{Stop, opening, stop, tokens_in_front, moved}
-use Rattle.rust_lexer.specs.Piece.{Piece}
-use Rattle.rust_lexer.specs.Symbol.{symbol_of}
-use Rattle.rust_lexer.specs.Tokens.{is_significant, tokens, tokens_from}
-use Rattle.rust_lexer.proofs.Apart.{tokens_first, tokens_moved, own, stop_at}
-use Rattle.rust_lexer.proofs.Whole.{plain_is, filter_moved}
-use Rattle.rust_cursor.specs.Elements.{most, beyond}
-use Rattle.rust_cursor.specs.Tokens.{Tokens, tokens_of}
-use Rattle.rust_cursor.specs.Words.{by_first, at, is_empty}
-use Rattle.rust_cursor.proofs.Around.{tokens_sound}
-use Rattle.rust_cursor.proofs.Laid.{IsLaid, behind, at_behind, taken_behind}
-use Rattle.rust_cursor.proofs.Leads.{LeadsTo, here, further, when, bumped_leads}
-use Rattle.rust_cursor.proofs.Near.{Ending, Near, near, more_left, is_last, are_ended}
+use Rattle.rust_edits.proofs.Words.{option_to_list, is_some, filter, EditionYear, MetaView, ItemView, Inner, inner_attributes, is_behind, Stop, opening, stop, tokens_in_front, moved, Piece, symbol_of, is_significant, tokens, tokens_from, most, beyond, Tokens, tokens_of, by_first, at, is_empty, Found, nothing_found, read_of, finding_from, finding, is_list_end, turn, items}
+use Rattle.rust_edits.proofs.Lemmas.{filter-append, ne_eqb, tokens_first, tokens_moved, own, stop_at, plain_is, filter_moved, tokens_sound, IsLaid, behind, at_behind, taken_behind, LeadsTo, here, further, when, bumped_leads, Ending, Near, near, more_left, is_last, are_ended, turn_found}
 use Rattle.rust_edits.proofs.Ranges.Parts.{ended, IsPart, tokens_behind}
-use Rattle.rust_items.specs.Found.{Found, nothing_found}
-use Rattle.rust_items.specs.SourceFiles.{read_of}
 use Rattle.rust_edits.proofs.Ranges.Inner.{no_inner, turn_none}
-use Rattle.rust_items.specs.Items.{finding_from, finding, is_list_end, turn, items}
 use Rattle.rust_edits.proofs.Ranges.NearItems.{FoundNear, FoundAlike, flat, is_sound, turn_whole}
 use Rattle.rust_edits.proofs.Ranges.NearLeaves.{Given, Ends, passes, before_end, at_end}
 use Rattle.rust_edits.proofs.Ranges.NearTurns.{turn_ends}
-use Rattle.rust_items.proofs.Places.{turn_found}
 
 pub uneven : (left : List Piece) → false ≡ true → left ≡ []
 uneven left e = absurd cc

@@ -1,66 +1,20 @@
 -- A text that ends with a `;` or a `}` of its own, and what stands behind it: what is in front stays, and the tokens behind are those of the other text, moved.
-use Rattle.rust_edits.specs.Ranges.Joined.{IsBare}
-use Rattle.std.proofs.Common.{◌≡◌, ◌≤◌, ◌+◌, ◌==◌, ◌&&◌, ◌||◌, ℕ, suc, Bool, true, false, Option, Some, None, List, [], ◌∷◌, ◌++◌, length, refl, sym, ap, ◌∙◌, arith, map, append_assoc, length-append, zero}
-use Rattle.std.specs.Prelude.{not, nat_le, slice_index, option_map, if◌then◌else◌}
-use Rattle.std.proofs.lemmas.Bool.{and_parts}
-use Rattle.std.specs.List.{filter}
-use Rattle.std.proofs.lemmas.List.Elements.{filter-append}
-use Rattle.std.proofs.lemmas.Bool.Decides.{nat_tests}
-use Rattle.hir_input.specs.declared.edition.EditionYear.{EditionYear}
-use Rattle.rust_lexer.specs.Alone.{Stop, opening, stop, behind_lead, EndsAlone, is_fence, is_full, overhang, tokens_in_front, moved}
-use Rattle.rust_lexer.specs.Cut.{first_cut}
-use Rattle.rust_lexer.specs.Bytes.{is_continuation}
-use Rattle.rust_lexer.specs.Piece.{Piece}
-use Rattle.rust_lexer.specs.Symbol.{symbol_of}
-use Rattle.rust_lexer.specs.Terminated.{is_terminated}
-use Rattle.rust_lexer.specs.Tokens.{has_mark, is_blank, is_bracket_next, is_shebang, is_significant, tokens, tokens_from, whole}
-use Rattle.rust_lexer.proofs.Apart.{own, stop_at, tokens_moved}
+use Rattle.std.proofs.Common.{◌≡◌, ◌≤◌, ◌+◌, ℕ, suc, Bool, true, false, Option, Some, None, List, [], ◌∷◌, ◌++◌, length, refl, sym, ap, ◌∙◌, arith, map, append_assoc, length-append, zero}
+use Rattle.std.specs.Prelude.{if◌then◌else◌}
+use Rattle.rust_edits.proofs.Words.{IsBare, nat_le, slice_index, option_map, filter, EditionYear, Stop, opening, stop, behind_lead, EndsAlone, is_fence, is_full, overhang, tokens_in_front, moved, first_cut, is_continuation, Piece, symbol_of, is_terminated, has_mark, is_shebang, is_significant, tokens, tokens_from, whole, Tokens, end_of, tokens_of, place_if_open, last_unended, by_first, rest, bumped}
+use Rattle.rust_edits.proofs.Lemmas.{and_from, and_parts, filter-append, nat_tests, own, stop_at, tokens_moved, plain_is, filter_moved, LeadsTo, here, further}
 use Rattle.rust_lexer.proofs.Same.{by_stop}
-use Rattle.rust_lexer.proofs.Whole.{plain_is, filter_moved}
-use Rattle.rust_cursor.specs.Tokens.{Tokens, end_of, tokens_of, place_if_open, last_unended}
-use Rattle.rust_cursor.specs.Words.{by_first, rest, bumped}
-use Rattle.rust_cursor.proofs.Leads.{LeadsTo, here, further, when}
 use Rattle.rust_edits.proofs.Ranges.Alone.{last_counts}
 use Rattle.rust_edits.proofs.Ranges.Parts.{ended}
-use Rattle.rust_edits.proofs.Typing.Unended.{last_append}
+use Rattle.rust_edits.proofs.Typing.Unended.{fence_by, mark_by, shebang_on, last_append}
 
 -- ---- what may stand in front of a text
-
-module _ (s : ℕ) (feed : (s == 10 || s == 13) ≡ false) (dash : (s == 45) ≡ false) where
-  fence_by : (x y y' : List ℕ) → is_fence (x ++ s ∷ y') ≡ is_fence (x ++ s ∷ y)
-  fence_by [] y y' = rw (feed, dash) refl
-  fence_by (b ∷ []) y y' =
-      when (b == 10 || b == 13) (λ e. rw e (fence_by [] y y')) (λ e. when (b == 45) (λ f. rw (e, f, dash) refl) (λ f. rw (e, f) refl))
-  fence_by (b ∷ c ∷ []) y y' =
-      when (b == 10 || b == 13) (λ e. rw e (fence_by (c ∷ []) y y'))
-      (λ e. when (b == 45) (λ f. when (c == 45) (λ g. rw (e, f, g, dash) refl) (λ g. rw (e, f, g) refl)) (λ f. rw (e, f) refl))
-  fence_by (b ∷ c ∷ d ∷ x) y y' =
-      when (b == 10 || b == 13) (λ e. rw e (fence_by (c ∷ d ∷ x) y y'))
-      (λ e. when (b == 45)
-      (λ f. when (c == 45) (λ g. when (d == 45) (λ i. rw (e, f, g, i) (grind (arith, nat_tests))) (λ i. rw (e, f, g, i) refl)) (λ g. rw (e, f, g) refl))
-      (λ f. rw (e, f) refl))
-
-mark_by : (s : ℕ) → (s == 239) ≡ false → (s == 187) ≡ false → (x y y' : List ℕ) → has_mark (x ++ s ∷ y') ≡ has_mark (x ++ s ∷ y)
-mark_by s p q [] y y' = rw p refl
-mark_by s p q (a ∷ []) y y' = when (a == 239) (λ e. rw (e, q) refl) (λ e. rw e refl)
-mark_by s p q (a ∷ b ∷ []) y y' = refl
-mark_by s p q (a ∷ b ∷ c ∷ x) y y' = refl
 
 fence_on : (o : Stop) (x y y' : List ℕ) → is_fence (x ++ stop o ∷ y') ≡ is_fence (x ++ stop o ∷ y)
 fence_on o x y y' = by_stop (λ s. is_fence (x ++ s ∷ y') ≡ is_fence (x ++ s ∷ y)) (fence_by 123 refl refl x y y') (fence_by 125 refl refl x y y') (fence_by 59 refl refl x y y') o
 
 mark_on : (o : Stop) (x y y' : List ℕ) → has_mark (x ++ stop o ∷ y') ≡ has_mark (x ++ stop o ∷ y)
 mark_on o x y y' = by_stop (λ s. has_mark (x ++ s ∷ y') ≡ has_mark (x ++ s ∷ y)) (mark_by 123 refl refl x y y') (mark_by 125 refl refl x y y') (mark_by 59 refl refl x y y') o
-
-bracket_on : (o : Stop) (at : ℕ) (xs l l' : List Piece) → is_bracket_next (xs ++ stop_at o at ∷ l') ≡ is_bracket_next (xs ++ stop_at o at ∷ l)
-bracket_on o at (t ∷ xs) l l' = when (is_blank t.kind) (λ e. rw e (bracket_on o at xs l l')) (λ e. rw e refl)
-bracket_on opening at _ l l' = refl
-bracket_on _ at _ l l' = refl
-
-shebang_on : (o : Stop) (at : ℕ) (xs l l' : List Piece) → is_shebang (xs ++ stop_at o at ∷ l') ≡ is_shebang (xs ++ stop_at o at ∷ l)
-shebang_on o at (t ∷ u ∷ xs) l l' = ap (λ r. symbol_of t == 35 && (symbol_of u == 33 && not r)) (bracket_on o at xs l l')
-shebang_on opening at _ l l' = refl
-shebang_on _ at _ l l' = refl
 
 -- nothing stands in front of the longer text either
 pub plain_on : (w : List ℕ) (o : Stop) (y : List ℕ) → EndsAlone w o → is_continuation (slice_index y 0) ≡ false → IsBare (ended w o) → IsBare (w ++ stop o ∷ y)
@@ -84,9 +38,6 @@ plain_back w o y alone clean p = record {
 
 -- ---- texts one behind the other
 
-and_both : (a b : Bool) → a ≡ true → b ≡ true → (a && b) ≡ true
-and_both a b e f = rw (e, f) refl
-
 le_more : (i m n : ℕ) → nat_le i m ≡ true → m ≤ n → nat_le i n ≡ true
 le_more i m n e l = grind (arith, nat_tests)
 
@@ -95,13 +46,13 @@ full_both [] z e f = f
 full_both (b ∷ x) z e f =
     let parts = and_parts (nat_le (behind_lead b) (length x)) (is_full x) e in
     let sizes = length-append x z in
-    and_both (nat_le (behind_lead b) (length (x ++ z))) (is_full (x ++ z)) (le_more (behind_lead b) (length x) (length (x ++ z)) parts.0 (omega arith)) (full_both x z parts.1 f)
+    and_from (nat_le (behind_lead b) (length (x ++ z))) (is_full (x ++ z)) (le_more (behind_lead b) (length x) (length (x ++ z)) parts.0 (omega arith)) (full_both x z parts.1 f)
 
 pub full_stop : (o : Stop) (z : List ℕ) → is_full z ≡ true → is_full (stop o ∷ z) ≡ true
 full_stop o z e = by_stop (λ s. is_full (s ∷ z) ≡ true) (first 123 refl) (first 125 refl) (first 59 refl) o
   where
     first : (s : ℕ) → behind_lead s ≡ 0 → is_full (s ∷ z) ≡ true
-    first s f = let l : nat_le (behind_lead s) (length z) ≡ true = grind (arith, nat_tests) in and_both (nat_le (behind_lead s) (length z)) (is_full z) l e
+    first s f = let l : nat_le (behind_lead s) (length z) ≡ true = grind (arith, nat_tests) in and_from (nat_le (behind_lead s) (length z)) (is_full z) l e
 
 pub over_both : (left : ℕ) (x z u : List ℕ) → overhang left (x ++ z) u ≡ overhang (overhang left x (z ++ u)) z u
 over_both left [] z u = refl

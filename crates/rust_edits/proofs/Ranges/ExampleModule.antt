@@ -1,33 +1,9 @@
 -- A small module, by computing: a text that is one, and where its `{` stands.
 use Rattle.std.proofs.Common.{◌≡◌, ◌==◌, ◌||◌, ℕ, zero, suc, Bool, true, false, Option, None, Some, List, [], ◌∷◌, ◌++◌, codes, length, refl, sym, ap, ◌∙◌}
-use Rattle.std.specs.Prelude.{option_to_list, slice_index}
-use Rattle.hir_input.specs.declared.edition.EditionYear.{EditionYear}
-use Rattle.hir_input.specs.Attr.{MetaView}
-use Rattle.hir_input.specs.Syntax.{ItemView, module_from}
-use Rattle.rust_lexer.specs.declared.kind.DocStyle.TheVariants.{Inner}
+use Rattle.rust_edits.proofs.Words.{option_to_list, slice_index, EditionYear, MetaView, ItemView, module_from, Inner, closing, is_continuation, is_wide_start, is_wide_continue, first_cut, Piece, tokens, most, Tokens, tokens_of, symbol, text, kind, at, is_empty, is_at_end, bumped, eat, plain_name, is_keyword, is_path_keyword, next_name, name, placed_name, visibility, is_behind, is_doc, is_attribute, inner_attributes, head, FrontRead, front, named, Found, nothing_found, BlockRead, items, is_list_end, turn_with, inside, turn, depth_of, finding, finding_from, block_of, and_parent, some_item, named_node, IsBare, read_at, HoldsAt, OpensModule, EndsOwn}
+use Rattle.rust_edits.proofs.Lemmas.{tokens_at}
 use Rattle.rust_lexer.specs.declared.kind.TokenKind.TheVariants as kinds
-use Rattle.rust_lexer.specs.Alone.{closing}
-use Rattle.rust_lexer.specs.Bytes.{is_continuation, is_wide_start, is_wide_continue}
-use Rattle.rust_lexer.specs.Cut.{first_cut}
-use Rattle.rust_lexer.specs.Piece.{Piece}
-use Rattle.rust_lexer.specs.Tokens.{tokens}
-use Rattle.rust_cursor.specs.Elements.{most}
-use Rattle.rust_cursor.specs.Tokens.{Tokens, tokens_of}
-use Rattle.rust_cursor.specs.Words.{symbol, text, kind, at, is_empty, is_at_end, bumped, eat}
-use Rattle.rust_cursor.proofs.Braced.{tokens_at}
-use Rattle.rust_paths.specs.Names.{plain_name, is_keyword, is_path_keyword, next_name, name, placed_name}
-use Rattle.rust_paths.specs.Visibilities.{visibility}
-use Rattle.rust_metas.specs.Attributes.{is_behind, is_doc, is_attribute, inner_attributes}
-use Rattle.rust_leaves.specs.Heads.{head}
-use Rattle.rust_leaves.specs.Fronts.{FrontRead, front}
-use Rattle.rust_leaves.specs.Leaves.{named}
-use Rattle.rust_items.specs.Found.{Found, nothing_found}
-use Rattle.rust_items.specs.Items.{BlockRead, items, is_list_end, turn_with, inside, turn, depth_of, finding, finding_from, block_of, and_parent, some_item}
-use Rattle.rust_leaves.specs.Kinds.{named_node}
 use Rattle.hir_input.specs.declared.ids.AstIdKind.TheVariants as ast
-use Rattle.rust_edits.specs.Ranges.Joined.{IsBare}
-use Rattle.rust_edits.specs.Ranges.Inside.{read_at, HoldsAt, OpensModule}
-use Rattle.rust_edits.specs.Ranges.Laws.{EndsOwn}
 use Rattle.rust_edits.proofs.Ranges.Alone.{one_item}
 use Rattle.rust_edits.proofs.Ranges.Inner.{no_inner}
 use Rattle.rust_edits.proofs.Ranges.Examples.{mod_word, is_module, all, behind, not_inner, front_is, not_ended, some_left, starts}

@@ -1,46 +1,13 @@
 -- Small examples, by computing: a text that ends with its own token, which items are at the top, and a text that holds a whole item.
 use Rattle.std.proofs.Common.{◌≡◌, ◌<◌, ◌==◌, ℕ, true, false, Option, None, List, [], ◌∷◌, ◌++◌, codes, length, refl, ap, ◌∙◌, arith}
-use Rattle.std.specs.Prelude.{option_to_list, slice_index}
-use Rattle.hir_input.specs.declared.ast.Visibility.{Visibility}
-use Rattle.hir_input.specs.declared.edition.EditionYear.{EditionYear}
-use Rattle.hir_input.specs.Attr.{MetaView}
-use Rattle.hir_input.specs.Syntax.{NodeView, ItemView, listed_extern_block, bare_extern_block, no_items, item_and}
-use Rattle.rust_lexer.specs.declared.kind.DocStyle.TheVariants.{Inner, Outer}
+use Rattle.rust_edits.proofs.Words.{option_to_list, slice_index, EditionYear, MetaView, NodeView, ItemView, listed_extern_block, bare_extern_block, no_items, item_and, Inner, semicolon, closing, is_continuation, is_wide_start, is_wide_continue, first_cut, Piece, has_mark, tokens, most, goes_on, Tokens, tokens_of, symbol, word, text, kind, at, is_empty, is_at_end, bumped, eat, plain_name, is_keyword, is_path_keyword, next_name, name, placed_name, visibility, is_behind, is_doc, is_attribute, inner_attributes, Head, is_modifier, is_modifier_before, head, head_by, FrontRead, front, named, ItemPlace, Found, nothing_found, and_problem_at, items, module_with, by_head, inside, turn, depth_of, behind_attributes, found_in, read_of, IsBare, HoldsItems, BeginsAnew, behind_items, StandsBetween, at_top, EndsOwn}
+use Rattle.rust_edits.proofs.Lemmas.{tokens_at, tokens_laid, through, inner_attributes_leads, items_found}
 use Rattle.rust_lexer.specs.declared.kind.TokenKind.TheVariants as kinds
-use Rattle.rust_lexer.specs.Alone.{semicolon, closing}
-use Rattle.rust_lexer.specs.Bytes.{is_continuation, is_wide_start, is_wide_continue}
-use Rattle.rust_lexer.specs.Cut.{first_cut}
-use Rattle.rust_lexer.specs.Piece.{Piece}
-use Rattle.rust_lexer.specs.Tokens.{has_mark, tokens}
-use Rattle.rust_cursor.specs.Elements.{most, turns}
-use Rattle.rust_cursor.specs.Extents.{goes_on}
-use Rattle.rust_cursor.specs.Tokens.{Tokens, tokens_of}
-use Rattle.rust_cursor.specs.Words.{symbol, word, text, kind, at, is_empty, is_at_end, bumped, eat}
-use Rattle.rust_cursor.proofs.Braced.{tokens_at}
-use Rattle.rust_cursor.proofs.Laid.{tokens_laid}
 use Rattle.rust_cursor.proofs.Laid as laid
-use Rattle.rust_cursor.proofs.Leads.{through}
-use Rattle.rust_cursor.proofs.Turns.{turns_stop}
-use Rattle.rust_paths.specs.Names.{plain_name, is_keyword, is_path_keyword, next_name, name, placed_name}
-use Rattle.rust_paths.specs.Visibilities.{visibility}
-use Rattle.rust_metas.specs.Attributes.{is_behind, is_doc, is_attribute, attributes, outer_attributes, inner_attributes}
-use Rattle.rust_metas.proofs.Leads.{inner_attributes_leads}
-use Rattle.rust_leaves.specs.declared.head.Head.{Head}
 use Rattle.rust_leaves.specs.declared.head.Head.TheVariants as heads
-use Rattle.rust_leaves.specs.Heads.{is_modifier, is_modifier_before, behind_modifiers, head, head_by}
-use Rattle.rust_leaves.specs.Fronts.{FrontRead, front_behind, front}
-use Rattle.rust_leaves.specs.Leaves.{named}
-use Rattle.rust_leaves.proofs.Steps.{modifiers_stop}
 use Rattle.rust_items.specs.declared.log.ProblemKind.TheVariants as problem
-use Rattle.rust_items.specs.declared.source_file.ItemPlace.{ItemPlace}
-use Rattle.rust_items.specs.Found.{Found, nothing_found, and_problem_at}
-use Rattle.rust_items.specs.Items.{items, module_with, by_head, inside, turn, depth_of}
-use Rattle.rust_items.specs.SourceFiles.{behind_attributes, found_in, read_of}
-use Rattle.rust_items.proofs.Places.{items_found}
-use Rattle.rust_edits.specs.Ranges.Joined.{IsBare, HoldsItems, BeginsAnew, behind_items, StandsBetween}
-use Rattle.rust_edits.specs.Ranges.Laws.{at_top, EndsOwn}
 use Rattle.rust_edits.proofs.Ranges.Alone.{one_item}
-use Rattle.rust_edits.proofs.Ranges.Inner.{no_inner}
+use Rattle.rust_edits.proofs.Ranges.Inner.{front_bare, no_inner}
 use Rattle.rust_edits.proofs.Typing.ProblemsIn.{unended_kept}
 
 -- the `;` of `mod b;` is its own
@@ -74,9 +41,6 @@ mod_word = record { kind = kinds.Ident; text = codes "mod"; at = 0 }
 abbrev pub is_module : FrontRead
 is_module = record { start = 0; attrs = []; visibility = None; head = heads.Module }
 
-abbrev made : Option Visibility → Head × Tokens → FrontRead × Tokens
-made v h = (record { start = 0; attrs = []; visibility = v; head = h.0 }, h.1)
-
 module _ (y : EditionYear) (left : List Piece) where
   unfoldable pub all : Tokens
   all = tokens_at y 0 (mod_word ∷ left) None
@@ -88,30 +52,9 @@ module _ (y : EditionYear) (left : List Piece) where
   unfolding all mod_word is_behind is_doc is_attribute symbol kind
   not_inner = refl
 
-  not_outer : outer_attributes all ≡ ([], all)
-  unfolding all mod_word outer_attributes attributes turns is_behind is_doc is_attribute symbol kind
-  not_outer = turns_stop (is_behind Outer) _ _ [] all refl
-
-  unseen : visibility all ≡ (None, all)
-  unfolding all mod_word visibility word
-  unseen = refl
-
-  not_modified : is_modifier_before (word all) (bumped all) ≡ false
-  unfolding all mod_word is_modifier_before word
-  not_modified = refl
-
-  unmodified : behind_modifiers all ≡ all
-  unfolding behind_modifiers is_modifier
-  unmodified = modifiers_stop _ all not_modified
-
-  head_is : head all ≡ (heads.Module, behind)
-  unfolding all mod_word behind head head_by word bumped
-  head_is = refl
-
   pub front_is : front all ≡ (is_module, behind)
-  unfolding all mod_word front front_behind at
-  front_is =
-      ap (λ r. front_behind (at all) r.0 r.1) not_outer ∙ ap (λ v. made v.0 (head (behind_modifiers v.1))) unseen ∙ ap (λ ts. made None (head ts)) unmodified ∙ ap (made None) head_is
+  unfolding all mod_word behind is_behind is_doc is_attribute is_modifier is_modifier_before symbol kind word bumped at head head_by
+  front_is = front_bare all refl refl refl
 
   pub not_ended : is_at_end all ≡ false
   unfolding all mod_word is_at_end

@@ -1,10 +1,8 @@
 -- A part of a text, without the carriage returns before line feeds.
 use Rattle.std.proofs.Common.{◌≡◌, ◌<◌, ◌≤◌, ◌+◌, ◌-◌, ◌==◌, ◌&&◌, ℕ, zero, suc, true, false, List, [], ◌∷◌, length, take, drop, refl, sym, ap, ◌∙◌, subst, arith}
-use Rattle.std.specs.Prelude.{if◌then◌else◌, slice_range}
-use Rattle.std.proofs.lemmas.List.{length-take, length-drop}
-use Rattle.rust_items.specs.LineEnds.{is_return, with_feeds, place_in}
-use Rattle.rust_items.proofs.LineEnds.{before, below_none, before_return, before_other, place_held}
-use Rattle.rust_cursor.proofs.Leads.{when}
+use Rattle.std.specs.Prelude.{if◌then◌else◌}
+use Rattle.rust_edits.proofs.Words.{slice_range, is_return, with_feeds, place_in}
+use Rattle.rust_edits.proofs.Lemmas.{length-take, length-drop, before, below_none, before_return, before_other, place_held, when}
 
 -- in a text, the place of what stands there in the text without these
 abbrev pub place_of : List ℕ → ℕ → ℕ

@@ -1,31 +1,14 @@
 -- Files that are read of texts one behind the other.
-use Rattle.std.proofs.Common.{◌≡◌, ◌≤◌, ◌+◌, ◌==◌, ℕ, zero, suc, Bool, true, false, Option, Some, None, List, [], ◌∷◌, ◌++◌, length, take, drop, refl, sym, ap, ◌∙◌, subst, arith, map, length-append}
-use Rattle.std.specs.Prelude.{All, not, option_map}
-use Rattle.std.proofs.lemmas.List.{length-map, map-append, take_at, drop_at}
-use Rattle.hir_input.specs.declared.edition.EditionYear.{EditionYear}
-use Rattle.hir_input.specs.Attr.{MetaView}
-use Rattle.hir_input.specs.Syntax.{ItemView, ItemViews, SyntaxView, items_from, items_of}
-use Rattle.rust_lexer.specs.Alone.{Stop, opening, stop}
-use Rattle.rust_cursor.proofs.Leads.{when}
-use Rattle.rust_paths.specs.declared.names.TextRange.{TextRange}
-use Rattle.rust_items.specs.declared.log.Problem.{Problem}
-use Rattle.rust_items.specs.declared.source_file.SourceFile.{SourceFile}
-use Rattle.rust_items.specs.Found.{Found}
-use Rattle.rust_items.specs.Ids.{with_ids}
-use Rattle.rust_items.specs.LineEnds.{is_return, with_feeds, place_in, moved_range, moved_span, moved_problem}
-use Rattle.rust_items.specs.SourceFiles.{found_in, items_in, read_of, IsFile, file_view}
-use Rattle.rust_items.proofs.Places.{Span, place_span}
-use Rattle.rust_edits.specs.Ranges.Laws.{Bytes, bytes_of, without_ids}
-use Rattle.rust_edits.specs.Ranges.Joined.{HoldsItems, Follows, as_first, behind_items, IsBetween, each_item, file_items, file_attrs, PartTold, FileTells, ItemsStand, ItemsTold}
+use Rattle.std.proofs.Common.{◌≡◌, ◌≤◌, ◌+◌, ◌==◌, ℕ, zero, suc, Bool, true, false, List, [], ◌∷◌, ◌++◌, length, take, drop, refl, sym, ap, ◌∙◌, subst, arith, map, length-append}
+use Rattle.rust_edits.proofs.Words.{All, not, EditionYear, MetaView, ItemView, ItemViews, SyntaxView, items_from, items_of, Stop, opening, stop, Problem, SourceFile, Found, with_ids, is_return, with_feeds, place_in, moved_span, moved_problem, found_in, items_in, read_of, IsFile, file_view, Bytes, bytes_of, without_ids, HoldsItems, Follows, as_first, behind_items, IsBetween, each_item, file_items, file_attrs, PartTold, FileTells, ItemsStand, ItemsTold}
+use Rattle.rust_edits.proofs.Lemmas.{length-map, map-append, take_at, drop_at, when, place_span, spans_in, as_many, All-head, All-tail}
 use Rattle.rust_edits.proofs.Ranges.Feeds.{place_of, by_return, by_other, none_feed, place_is, place_add, place_taken}
-use Rattle.rust_edits.proofs.Ranges.Ranges.{AreIn, IsIn, IsInIf, made_same, cons_same, bytes, bytes_same, text_in}
-use Rattle.rust_edits.proofs.Typing.Moved.{uses_below}
+use Rattle.rust_edits.proofs.Ranges.Ranges.{SameUpTo, Moving, spans_move, all_fused, all_same, bytes, bytes_same}
+use Rattle.rust_edits.proofs.Typing.Moved.{uses_within}
 use Rattle.rust_edits.proofs.Typing.ProblemsIn as told
 use Rattle.rust_edits.proofs.Typing.ProblemsIn.{problems_in}
 use Rattle.rust_edits.proofs.Typing.Typing.{items_are}
-use Rattle.rust_items.proofs.FilePlaces.{text_found}
-use Rattle.std.proofs.lemmas.List.Elements.{All-head, All-tail}
-use Rattle.rust_edits.proofs.Ranges.Tops.{ids_again, none_held, places_spans, rows_spans, same_rows, same_spans}
+use Rattle.rust_edits.proofs.Ranges.Tops.{ids_again, none_held, places_spans}
 use Rattle.rust_edits.proofs.Ranges.Typed.{between}
 
 -- ---- items without ids
@@ -44,100 +27,26 @@ module _ (edition : EditionYear) (x : List ℕ) (place : ℕ → ℕ) (file : So
 
   places_read : map bytes_of file.places.items ≡ map bytes (map (moved_span place) (found_in edition x).spans)
   places_read =
-      let many = is.are_ids.as_many in
-      let rows = ap length (same_rows edition x) in
-      let count = rows_spans edition x in
-      let spans = ap length (same_spans edition x) in
+      let many = as_many edition x place (file_view file) is in
       let moved = length-map (found_in edition x).spans (moved_span place) in
       bytes_same file.places.items ∙ ap (λ l. map bytes (map place_span l)) is.places ∙ ap (map bytes) (places_spans is.ids (map (moved_span place) (found_in edition x).spans) (omega arith))
 
 -- ---- what is moved
 
--- all of these stand up to there
-abbrev AllIn : {A : Type 0} → (ℕ → A → Type 0) → ℕ → List A → Type 0
-AllIn In end [] = Unit {0}
-AllIn In end (a ∷ l) = In end a × AllIn In end l
-
-abbrev span_in : ℕ → Span → Type 0
-span_in end s = IsIn end s.range × (IsInIf end s.name × IsInIf end s.body)
-
-abbrev number_in : ℕ → ℕ → Type 0
-number_in end n = n ≤ end
-
-abbrev problem_in : ℕ → Problem → Type 0
-problem_in end p = p.at ≤ end
-
--- two maps of places that are the same up to there
-abbrev SameUpTo : ℕ → (ℕ → ℕ) → (ℕ → ℕ) → Type 0
-SameUpTo end f g = (n : ℕ) → n ≤ end → f n ≡ g n
-
--- what stands at places, and is moved with them
-record Moving (A : Type 0) : Type 1 where
-  on : (ℕ → ℕ) → A → A
-  within : ℕ → A → Type 0
-  fused : (f g : ℕ → ℕ) (a : A) → on f (on g a) ≡ on (λ n. f (g n)) a
-  same : (f g : ℕ → ℕ) (end : ℕ) → SameUpTo end f g → (a : A) → within end a → on f a ≡ on g a
-
-range_fused : (f g : ℕ → ℕ) (o : Option TextRange) → option_map (moved_range f) (option_map (moved_range g) o) ≡ option_map (moved_range (λ n. f (g n))) o
-range_fused f g None = refl
-range_fused f g (Some r) = refl
-
-range_same : (f g : ℕ → ℕ) (end : ℕ) → SameUpTo end f g → (r : TextRange) → IsIn end r → moved_range f r ≡ moved_range g r
-range_same f g end e r h = rw (e r.start h.0, e r.end h.1) refl
-
-range_if_same : (f g : ℕ → ℕ) (end : ℕ) → SameUpTo end f g → (o : Option TextRange) → IsInIf end o → option_map (moved_range f) o ≡ option_map (moved_range g) o
-range_if_same f g end e None h = refl
-range_if_same f g end e (Some r) h = ap Some (range_same f g end e r h)
-
 problem_same : (f g : ℕ → ℕ) (p : Problem) → f p.at ≡ g p.at → moved_problem f p ≡ moved_problem g p
 problem_same f g p e = rw e refl
 
-abbrev spans_move : Moving Span
-spans_move = record {
-  on = moved_span;
-  within = span_in;
-  fused = λ f g s. made_same _ _ _ _ _ _ refl (range_fused f g s.name) (range_fused f g s.body);
-  same = λ f g end e s h. made_same _ _ _ _ _ _ (range_same f g end e s.range h.0) (range_if_same f g end e s.name h.1.0) (range_if_same f g end e s.body h.1.1);
+abbrev numbers_move : Moving ℕ
+numbers_move = record {
+  on = λ f n. f n;
+  within = λ end l. All (λ n. n ≤ end) l;
+  fused = λ f g n. refl;
+  same = λ f g end e n l h. e n (All-head (λ i. i ≤ end) n l h);
+  rest = λ end n l h. All-tail (λ i. i ≤ end) n l h;
 }
 
-abbrev numbers_move : Moving ℕ
-numbers_move = record { on = λ f n. f n; within = number_in; fused = λ f g n. refl; same = λ f g end e n h. e n h }
-
 abbrev problems_move : Moving Problem
-problems_move = record { on = moved_problem; within = problem_in; fused = λ f g p. refl; same = λ f g end e p h. problem_same f g p (e p.at h) }
-
-module _ {A : Type 0} (m : Moving A) where
-  all_fused : (f g : ℕ → ℕ) (l : List A) → map (m.on f) (map (m.on g) l) ≡ map (m.on (λ n. f (g n))) l
-  all_fused f g [] = refl
-  all_fused f g (a ∷ l) = cons_same _ _ _ _ (m.fused f g a) (all_fused f g l)
-
-  all_same : (f g : ℕ → ℕ) (end : ℕ) → SameUpTo end f g → (l : List A) → AllIn m.within end l → map (m.on f) l ≡ map (m.on g) l
-  all_same f g end e [] h = refl
-  all_same f g end e (a ∷ l) h = cons_same _ _ _ _ (m.same f g end e a h.0) (all_same f g end e l h.1)
-
--- ---- what is found in a text stands in it
-
-spans_within : (edition : EditionYear) (x : List ℕ) → AllIn span_in (length x) (found_in edition x).spans
-spans_within edition x = by (found_in edition x).spans (subst (λ (l : List Span). AreIn (length x) l) (sym (same_spans edition x)) (text_in edition x))
-  where
-    by : (l : List Span) → AreIn (length x) l → AllIn span_in (length x) l
-    by [] h = tt
-    by (s ∷ l) h = (h.0, by l h.1)
-
-numbers_in : (end : ℕ) (l : List ℕ) → All (λ n. n ≤ end) l → AllIn number_in end l
-numbers_in end [] h = tt
-numbers_in end (n ∷ l) h = (All-head (λ i. i ≤ end) n l h, numbers_in end l (All-tail (λ i. i ≤ end) n l h))
-
-uses_within : (edition : EditionYear) (x : List ℕ) → AllIn number_in (length x) (found_in edition x).use_trees
-uses_within edition x =
-    let own = text_found edition x in numbers_in (length x) (found_in edition x).use_trees (subst (All (λ n. n ≤ length x)) (sym own.more) (uses_below (length x) (omega arith) own.uses))
-
-problems_within : (edition : EditionYear) (x : List ℕ) → AllIn problem_in (length x) (found_in edition x).problems
-problems_within edition x = by (found_in edition x).problems (problems_in edition x)
-  where
-    by : (l : List Problem) → told.AreIn (length x) l → AllIn problem_in (length x) l
-    by [] h = tt
-    by (p ∷ l) h = (h.0, by l h.1)
+problems_move = record { on = moved_problem; within = told.AreIn; fused = λ f g p. refl; same = λ f g end e p l h. problem_same f g p (e p.at h.0); rest = λ end p l h. h.1 }
 
 -- ---- texts with returns
 
@@ -267,7 +176,7 @@ module _ (q t s : List ℕ) (outer : Splits q (t ++ s)) (inner : Splits t s) whe
       place_second q (t ++ s) outer (n + e) (omega arith) ∙ ap (λ k. k + length q) (place_second t s inner n l) ∙ sum (place_in s n) (length t) (length q)
 
   -- what stands at places of the parts, at those of the whole
-  all_stand : {A : Type 0} (m : Moving A) (a o z : List A) → AllIn m.within d a → AllIn m.within e o → AllIn m.within (length (with_feeds s)) z
+  all_stand : {A : Type 0} (m : Moving A) (a o z : List A) → m.within d a → m.within e o → m.within (length (with_feeds s)) z
       → map (m.on place) (a ++ map (m.on (λ n. n + d)) (o ++ map (m.on (λ n. n + e)) z))
       ≡ map (m.on (λ n. place_in q n + 0)) a ++ (map (m.on (λ n. place_in t n + length q)) o ++ map (m.on (λ n. place_in s n + (length q + length t))) z)
   all_stand m a o z h i j =
@@ -302,11 +211,11 @@ items_stand edition q t s file m is =
     told_same _ _ _ _ _ _ _ _ _ _ (ap file_attrs whole.syntax ∙ b.attrs)
     (items_read edition (q' ++ (t' ++ s')) place file whole ∙ ap (map without_ids) b.items ∙ map_three without_ids (read_of edition q').0 (read_of edition t').0 (read_of edition s').0)
     (places_read edition (q' ++ (t' ++ s')) place file whole ∙ ap (λ (f : Found). map bytes (map (moved_span place) f.spans)) b.found
-    ∙ ap (map bytes) (all_stand q t s outer inner spans_move a.spans o.spans z.spans (spans_within edition q') (spans_within edition t') (spans_within edition s')) ∙ map_three bytes (map (moved_span (λ n. place_in q n + 0)) a.spans) (map (moved_span (λ n. place_in t n + length q)) o.spans) (map (moved_span (λ n. place_in s n + (length q + length t))) z.spans))
+    ∙ ap (map bytes) (all_stand q t s outer inner spans_move a.spans o.spans z.spans (spans_in edition q') (spans_in edition t') (spans_in edition s')) ∙ map_three bytes (map (moved_span (λ n. place_in q n + 0)) a.spans) (map (moved_span (λ n. place_in t n + length q)) o.spans) (map (moved_span (λ n. place_in s n + (length q + length t))) z.spans))
     (whole.use_trees ∙ ap (λ (f : Found). map place f.use_trees) b.found
     ∙ all_stand q t s outer inner numbers_move a.use_trees o.use_trees z.use_trees (uses_within edition q') (uses_within edition t') (uses_within edition s'))
     (whole.problems ∙ ap (λ (f : Found). map (moved_problem place) f.problems) b.found
-    ∙ all_stand q t s outer inner problems_move a.problems o.problems z.problems (problems_within edition q') (problems_within edition t') (problems_within edition s'))
+    ∙ all_stand q t s outer inner problems_move a.problems o.problems z.problems (problems_in edition q') (problems_in edition t') (problems_in edition s'))
 
 -- ---- one text
 
@@ -318,9 +227,9 @@ file_tells edition text file is =
     let still : SameUpTo (length x) place (λ n. place n + 0) = λ n l. nothing_added (place n) in
     told_same _ _ _ _ _ _ _ _ _ _ (ap file_attrs is.syntax)
     (items_read edition x place file is)
-    (places_read edition x place file is ∙ ap (map bytes) (all_same spans_move place (λ n. place n + 0) (length x) still f.spans (spans_within edition x)))
+    (places_read edition x place file is ∙ ap (map bytes) (all_same spans_move place (λ n. place n + 0) (length x) still f.spans (spans_in edition x)))
     (is.use_trees ∙ all_same numbers_move place (λ n. place n + 0) (length x) still f.use_trees (uses_within edition x))
-    (is.problems ∙ all_same problems_move place (λ n. place n + 0) (length x) still f.problems (problems_within edition x))
+    (is.problems ∙ all_same problems_move place (λ n. place n + 0) (length x) still f.problems (problems_in edition x))
 
 -- ---- what is told
 

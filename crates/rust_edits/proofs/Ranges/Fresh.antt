@@ -1,46 +1,16 @@
 -- What is read from a token on does not tell where the token before it ends.
 use Rattle.std.proofs.Common.{◌≡◌, ◌<◌, ◌≤◌, ◌==◌, ◌&&◌, ℕ, suc, Bool, true, false, Option, Some, None, List, [], ◌∷◌, length, refl, sym, ap, ◌∙◌, subst, arith, codes}
-use Rattle.std.specs.Prelude.{is_some, option_map, if◌then◌else◌}
-use Rattle.std.specs.Str.{bytes_eq}
-use Rattle.std.proofs.lemmas.Bool.Decides.{nat_tests}
-use Rattle.std.proofs.lemmas.Bool.{eq-eqb}
+use Rattle.std.specs.Prelude.{if◌then◌else◌}
+use Rattle.rust_edits.proofs.Words.{is_some, option_map, bytes_eq, Visibility, EditionYear, MetaView, Outer, Piece, is_reached, is_closed, reaching, reached, behind_angles, most, beyond, turns_from, turns, one, begins_item, begins_impl_or_const, begins_within, begun, nest_behind, leads_on, Reader, Tokens, end_of, symbol, word, kind, text, at, is_empty, is_at_open, is_at_end, is_at_identifier, is_at_doc, bumped, is_glued, is_pair, eat_pair, eat_colons, as_name, next_name, name_text, has_name, taken_with, name, is_raw, is_dollar_crate, is_segment, named_word, other_segment, segment, is_colons, is_path_colons, more_from, more_segments, written_path, is_path_start, path, visibility, is_doc, is_attribute, is_behind, one_attribute, attribute, attributes, outer_attributes, documentation, Head, FrontRead, front_behind, front, behind_abi, is_modifier, behind_modifier, behind_modifiers_from, behind_modifiers, behind_head, head_by, head, is_called, some_read, call_behind, invocation, leaf, LeafRead, Found, Finder, BlockRead, unmatched, leaf_found, leaf_turn, by_head, turn_with, inside, depth_of, turn}
+use Rattle.rust_edits.proofs.Lemmas.{nat_tests, eq-eqb, IsLaid, behind, LeadsTo, here, Forwards, through, when, bumped_leads, reaching_leads, turns_from_leads, segment_leads, more_from_leads, more_segments_leads, scoped_leads, visibility_leads, bracketed_leads, behind_attribute_leads, attribute_leads, behind_abi_leads, modifiers_leads, behind_modifiers_leads, head_takes}
 use Rattle.hir_input.specs.declared.ast.PathNode.{PathNode}
-use Rattle.hir_input.specs.declared.ast.Visibility.{Visibility}
-use Rattle.hir_input.specs.declared.edition.EditionYear.{EditionYear}
-use Rattle.hir_input.specs.Attr.{MetaView}
 use Rattle.hir_input.specs.Words.{PathWord, name_word}
-use Rattle.rust_lexer.specs.declared.kind.DocStyle.TheVariants.{Outer}
-use Rattle.rust_lexer.specs.Piece.{Piece}
 use Rattle.rust_cursor.specs.declared.cursor.generics.Reach.TheVariants as reaches
-use Rattle.rust_cursor.specs.Angles.{is_reached, is_closed, reaching, reached, behind_angles}
-use Rattle.rust_cursor.specs.Elements.{most, beyond, turns_from, turns, one}
-use Rattle.rust_cursor.specs.Extents.{begins_item, begins_impl_or_const, begins_within}
-use Rattle.rust_cursor.specs.Nests.{begun, nest_behind, leads_on}
-use Rattle.rust_cursor.specs.Reader.{Reader}
-use Rattle.rust_cursor.specs.Tokens.{Tokens, end_of}
-use Rattle.rust_cursor.specs.Words.{symbol, word, kind, text, at, is_empty, is_at_open, is_at_end, is_at_identifier, is_at_doc, bumped, is_glued, is_pair, eat_pair, eat_colons}
-use Rattle.rust_cursor.proofs.Laid.{IsLaid, behind}
-use Rattle.rust_cursor.proofs.Leads.{LeadsTo, here, Forwards, through, when, bumped_leads, reaching_leads, turns_from_leads}
-use Rattle.rust_paths.specs.Names.{as_name, next_name, name_text, has_name, taken_with, name}
 use Rattle.rust_paths.specs.Meaning.{path_node}
 use Rattle.rust_paths.specs.Paths as paths
-use Rattle.rust_paths.specs.Paths.{is_raw, is_dollar_crate, is_segment, named_word, other_segment, segment, is_colons, is_path_colons, more_from, more_segments, written_path, is_path_start, path}
-use Rattle.rust_paths.specs.Visibilities.{visibility}
-use Rattle.rust_paths.proofs.Leads.{segment_leads, more_from_leads, more_segments_leads, scoped_leads, visibility_leads}
-use Rattle.rust_metas.specs.Attributes.{is_doc, is_attribute, is_behind, one_attribute, attribute, attributes, outer_attributes}
-use Rattle.rust_metas.specs.Literals.{documentation}
 use Rattle.rust_metas.specs.Metas.{doc}
-use Rattle.rust_metas.proofs.Leads.{bracketed_leads, behind_attribute_leads, attribute_leads}
-use Rattle.rust_leaves.specs.declared.head.Head.{Head}
 use Rattle.rust_leaves.specs.declared.head.Head.TheVariants as heads
-use Rattle.rust_leaves.specs.Fronts.{FrontRead, front_behind, front}
-use Rattle.rust_leaves.specs.Heads.{behind_abi, is_modifier, behind_modifier, behind_modifiers_from, behind_modifiers, behind_head, head_by, head}
-use Rattle.rust_leaves.specs.Kinds.{is_called, some_read, call_behind, invocation, leaf}
-use Rattle.rust_leaves.specs.Leaves.{LeafRead}
 use Rattle.rust_leaves.specs.Texts.{bare, last_text_from, last_text}
-use Rattle.rust_items.specs.Found.{Found, Finder}
-use Rattle.rust_items.specs.Items.{BlockRead, unmatched, leaf_found, leaf_turn, by_head, turn_with, inside, depth_of, turn}
-use Rattle.rust_items.proofs.Leads.{behind_abi_leads, modifiers_leads, behind_modifiers_leads, head_takes}
 
 -- What is read from the first tokens and from the second: the same, behind their first token, or the same and nothing was taken.
 data Alike {X : Type 0} (Still : X → Type 0) (a a' b : Tokens) : X × Tokens → X × Tokens → Type 0 where

@@ -1,47 +1,12 @@
 -- Where a text of which no problem is told is cut behind an item, what is in front of the cut holds whole items.
 use Rattle.std.proofs.Common.{◌≡◌, ◌<◌, ◌≤◌, ◌+◌, ◌-◌, ◌==◌, ◌&&◌, ℕ, zero, suc, Bool, true, false, Option, Some, None, List, [], ◌∷◌, ◌++◌, length, take, drop, refl, sym, ap, ◌∙◌, subst, arith, map, append_assoc, length-append}
-use Rattle.std.specs.Prelude.{option_to_list, nat_le, slice_index}
-use Rattle.std.proofs.lemmas.Bool.{eqb-true, and_parts, or_parts, le-leb, ne_eqb}
-use Rattle.std.proofs.lemmas.Bool.Decides.{nat_tests}
-use Rattle.std.specs.List.{filter, list_any}
-use Rattle.std.proofs.lemmas.List.{append_cancel_left, length-take-le, length-drop, drop-drop, take-append-drop, take_at}
-use Rattle.hir_input.specs.declared.edition.EditionYear.{EditionYear}
-use Rattle.hir_input.specs.Syntax.{ItemView}
-use Rattle.rust_lexer.specs.Alone.{Stop, stop, EndsAlone, tokens_in_front, is_full, overhang}
-use Rattle.rust_lexer.specs.Bytes.{is_continuation}
-use Rattle.rust_lexer.specs.Tokens.{is_significant, tokens, tokens_from}
-use Rattle.rust_lexer.specs.Piece.{Piece}
-use Rattle.rust_lexer.proofs.Apart.{front_same, own, stop_at}
-use Rattle.rust_cursor.specs.Elements.{most, beyond}
-use Rattle.rust_cursor.specs.Tokens.{Tokens, tokens_of, last_unended}
-use Rattle.rust_cursor.specs.Words.{rest, at}
-use Rattle.rust_cursor.proofs.Around.{tokens_sound}
-use Rattle.rust_cursor.proofs.Laid.{IsLaid, behind, at_behind, past_within, tokens_laid}
-use Rattle.rust_cursor.proofs.Leads.{here, through, when, beyond_leads}
-use Rattle.rust_cursor.proofs.Parting.{by_next, by_kept}
-use Rattle.rust_cursor.proofs.Twins.{empty_same}
-use Rattle.rust_metas.specs.Attributes.{inner_attributes}
-use Rattle.rust_metas.proofs.AlikeAttributes.{inner_attributes_until}
-use Rattle.rust_metas.proofs.Leads.{inner_attributes_leads}
-use Rattle.rust_paths.specs.declared.names.TextRange.{TextRange}
-use Rattle.rust_items.specs.declared.log.Problem.{Problem}
+use Rattle.rust_edits.proofs.Words.{option_to_list, nat_le, slice_index, filter, list_any, EditionYear, ItemView, Stop, stop, EndsAlone, tokens_in_front, is_full, overhang, is_continuation, is_significant, tokens, tokens_from, Piece, most, beyond, Tokens, tokens_of, last_unended, rest, at, inner_attributes, TextRange, Problem, Found, nothing_found, and_problem_at, is_list_end, turn, with_feeds, place_in, moved_span, moved_problem, behind_attributes, found_in, read_of, ends_items, EndsOwn, is_unfinished, is_unfinished_at, range_text, IsBare, HoldsItems, is_told_up_to, FrontHolds}
+use Rattle.rust_edits.proofs.Lemmas.{eqb-true, and_parts, or_parts, le-leb, ne_eqb, nat_tests, append_cancel_left, length-take-le, length-drop, drop-drop, take-append-drop, take_at, front_same, own, stop_at, tokens_sound, IsLaid, behind, at_behind, past_within, tokens_laid, here, through, when, beyond_leads, by_next, by_kept, empty_same, inner_attributes_until, inner_attributes_leads, place_le, place_rises_in, place_span, items_found, turn_found, Ending, Near, fewer, nothing, more_left, near_twins, beyond_near, near_parting, near_enters, near_levels, tokens_short}
 use Rattle.rust_items.specs.declared.log.ProblemKind.TheVariants as problem
-use Rattle.rust_items.specs.Found.{Found, nothing_found, and_problem_at}
-use Rattle.rust_items.specs.Items.{is_list_end, turn}
-use Rattle.rust_items.specs.LineEnds.{with_feeds, place_in, moved_span, moved_problem}
-use Rattle.rust_items.proofs.LineEnds.{place_le, place_rises_in}
-use Rattle.rust_items.specs.SourceFiles.{behind_attributes, found_in, read_of}
-use Rattle.rust_items.proofs.Places.{place_span, items_found, turn_found}
 use Rattle.rust_edits.proofs.Typing.Begins.{Begins, unfiltered, begins_whole}
 use Rattle.rust_edits.proofs.Typing.ProblemsIn.{AreIn, problems_in, unended_kept}
 use Rattle.rust_edits.proofs.Typing.BodyStarts.{begins_leads}
 use Rattle.rust_edits.proofs.Typing.Unended.{last_append}
-use Rattle.rust_edits.specs.Ranges.Laws.{ends_items, EndsOwn, is_unfinished, is_unfinished_at, range_text}
-use Rattle.rust_edits.specs.Ranges.Joined.{IsBare, HoldsItems, is_told_up_to, FrontHolds}
-use Rattle.rust_cursor.proofs.Near.{Ending, Near, fewer, nothing, more_left, near_twins}
-use Rattle.rust_cursor.proofs.NearPassing.{beyond_near, near_parting}
-use Rattle.rust_cursor.proofs.NearTexts.{near_enters, near_levels}
-use Rattle.rust_cursor.proofs.Few.{tokens_short}
 use Rattle.rust_edits.proofs.Ranges.NearLeaves.{Given, given_on, Ends, passes, before_end, at_end}
 use Rattle.rust_edits.proofs.Ranges.NearItems.{FoundNear, FoundAlike, turn_whole, flat, is_sound}
 use Rattle.rust_edits.proofs.Ranges.NearTurns.{turn_ends}

@@ -1,16 +1,7 @@
 -- Two texts of whole items, one behind the other, are one; and so is what one has more than another.
 use Rattle.std.proofs.Common.{◌≡◌, ◌+◌, ℕ, false, List, [], ◌∷◌, ◌++◌, length, refl, sym, ap, ◌∙◌, subst, arith, map, append_assoc, length-append}
-use Rattle.std.specs.Prelude.{slice_index}
-use Rattle.hir_input.specs.Syntax.{ItemView}
-use Rattle.rust_lexer.specs.Alone.{Stop, opening, stop, EndsAlone, is_full, overhang}
-use Rattle.rust_lexer.specs.Bytes.{is_continuation, is_wide_start}
-use Rattle.rust_lexer.specs.Cut.{first_cut}
-use Rattle.rust_lexer.proofs.Apart.{front_same}
-use Rattle.rust_items.specs.Found.{Found}
-use Rattle.rust_items.specs.LineEnds.{moved_problem}
-use Rattle.rust_items.specs.SourceFiles.{found_in, read_of}
-use Rattle.rust_edits.specs.Ranges.Laws.{EndsOwn}
-use Rattle.rust_edits.specs.Ranges.Joined.{IsBare, HoldsItems, BothHold, RestHolds}
+use Rattle.rust_edits.proofs.Words.{slice_index, ItemView, Stop, opening, stop, EndsAlone, is_full, overhang, is_continuation, is_wide_start, first_cut, Found, moved_problem, found_in, read_of, EndsOwn, IsBare, HoldsItems, BothHold, RestHolds}
+use Rattle.rust_edits.proofs.Lemmas.{front_same}
 use Rattle.rust_edits.proofs.Ranges.Behind.{plain_on, full_both, full_stop, over_both}
 use Rattle.rust_edits.proofs.Ranges.Files.{none_mapped}
 use Rattle.rust_edits.proofs.Ranges.Parts.{ended}

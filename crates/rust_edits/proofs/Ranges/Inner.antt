@@ -1,33 +1,12 @@
 -- No item begins at an inner attribute or at inner documentation.
-use Rattle.std.proofs.Common.{◌≡◌, ◌==◌, ◌&&◌, ℕ, Bool, true, false, Option, Some, None, List, [], ◌∷◌, refl, sym, ap, ◌∙◌, subst}
-use Rattle.std.specs.Prelude.{is_some}
-use Rattle.std.proofs.lemmas.Bool.{eqb-true}
-use Rattle.hir_input.specs.declared.edition.EditionYear.{EditionYear}
+use Rattle.std.proofs.Common.{◌≡◌, ◌==◌, ◌&&◌, ℕ, Bool, true, false, Option, Some, None, List, [], ◌∷◌, codes, refl, sym, ap, ◌∙◌, subst}
+use Rattle.rust_edits.proofs.Words.{is_some, bytes_eq, Head, EditionYear, Outer, Inner, TokenKind, Piece, symbol_from, symbol_of, most, turns, turns_from, one, Tokens, by_first, word_by, symbol, word, kind, text, at, bumped, is_pair, is_at_end, is_path_keyword, name_text, has_name, is_raw, is_dollar_crate, is_segment, is_colons, is_path_colons, is_path_start, path, visibility, is_doc, is_style, is_attribute, is_behind, attribute, attributes, outer_attributes, inner_attributes, style_by, FrontRead, front, front_behind, is_modifier, is_modifier_before, behind_modifiers, behind_modifiers_from, head, invocation, leaf, Found, leaf_turn, turn}
+use Rattle.rust_edits.proofs.Lemmas.{eqb-true, and_parts, when, no_word_head, nothing_before}
 use Rattle.rust_lexer.specs.declared.kind.DocStyle.{DocStyle}
-use Rattle.rust_lexer.specs.declared.kind.DocStyle.TheVariants.{Outer, Inner}
-use Rattle.rust_lexer.specs.declared.kind.TokenKind.{TokenKind}
 use Rattle.rust_lexer.specs.declared.kind.TokenKind.TheVariants as kinds
-use Rattle.rust_lexer.specs.Piece.{Piece}
-use Rattle.rust_lexer.specs.Symbol.{symbol_from, symbol_of}
-use Rattle.rust_cursor.specs.Elements.{most, turns, turns_from, one}
-use Rattle.rust_cursor.specs.Tokens.{Tokens}
-use Rattle.rust_cursor.specs.Words.{by_first, word_by, symbol, word, kind, text, at, bumped, is_pair, is_at_end}
-use Rattle.rust_cursor.proofs.Leads.{when}
-use Rattle.std.proofs.lemmas.Bool.{and_parts}
 use Rattle.rust_cursor.proofs.Turns.{turns_stop}
-use Rattle.rust_paths.specs.Names.{is_path_keyword, name_text, has_name}
-use Rattle.rust_leaves.proofs.AlikeFronts.{no_word_head, nothing_before}
-use Rattle.rust_paths.specs.Paths.{is_raw, is_dollar_crate, is_segment, is_colons, is_path_colons, is_path_start, path}
-use Rattle.rust_paths.specs.Visibilities.{visibility}
-use Rattle.rust_metas.specs.Attributes.{is_doc, is_style, is_attribute, is_behind, attribute, attributes, outer_attributes, inner_attributes}
-use Rattle.rust_metas.specs.Literals.{style_by}
 use Rattle.rust_leaves.specs.declared.head.Head.TheVariants as heads
-use Rattle.rust_leaves.specs.Fronts.{FrontRead, front, front_behind}
-use Rattle.rust_leaves.specs.Heads.{is_modifier, is_modifier_before, behind_modifiers, behind_modifiers_from}
-use Rattle.rust_leaves.specs.Kinds.{invocation, leaf}
 use Rattle.rust_leaves.proofs.Steps.{modifiers_stop}
-use Rattle.rust_items.specs.Found.{Found}
-use Rattle.rust_items.specs.Items.{leaf_turn, turn}
 use Rattle.rust_metas.proofs.Around.{doc_symbol}
 
 -- brackets, punctuation and documentation
@@ -167,13 +146,21 @@ mute us e =
 abbrev nothing_front : Tokens → FrontRead
 nothing_front us = record { start = at us; attrs = []; visibility = None; head = heads.Other }
 
+-- an item with nothing in front of its head
+abbrev pub bare_front : Tokens → Head × Tokens → FrontRead × Tokens
+bare_front us h = (record { start = at us; attrs = []; visibility = None; head = h.0 }, h.1)
+
+pub front_bare : (us : Tokens) → is_behind Outer us ≡ true → bytes_eq (word us) (codes "pub") ≡ false → is_modifier us ≡ false → front us ≡ bare_front us (head us)
+unfolding front front_behind outer_attributes attributes turns visibility behind_modifiers
+front_bare us o p m =
+    let stop : turns_from (is_behind Outer) (one (attribute Outer)) most [] us ≡ ([], us) = turns_stop (is_behind Outer) (one (attribute Outer)) most [] us o in
+    let still : behind_modifiers_from most us ≡ us = modifiers_stop most us m in
+    rw (stop, p, still) refl
+
 front_mute : (us : Tokens) → IsMute us → front us ≡ (nothing_front us, us)
-unfolding front front_behind outer_attributes attributes turns visibility behind_modifiers is_modifier
+unfolding is_modifier
 front_mute us m =
-    let stop : turns_from (is_behind Outer) (one (attribute Outer)) most [] us ≡ ([], us) = turns_stop (is_behind Outer) (one (attribute Outer)) most [] us m.outer in
-    let none : is_modifier_before (word us) (bumped us) ≡ false = ap (λ w. is_modifier_before w (bumped us)) m.quiet.word ∙ nothing_before (bumped us) in
-    let still : behind_modifiers_from most us ≡ us = modifiers_stop most us none in
-    rw (stop, m.quiet.word, still, no_word_head us m.quiet.word) refl
+    front_bare us m.outer (rw m.quiet.word refl) (ap (λ w. is_modifier_before w (bumped us)) m.quiet.word ∙ nothing_before (bumped us)) ∙ ap (bare_front us) (no_word_head us m.quiet.word)
 
 path_mute : (us : Tokens) → IsMute us → path us ≡ (None, us)
 unfolding path is_path_start is_path_colons is_colons is_pair is_segment is_dollar_crate is_path_keyword

@@ -1,44 +1,9 @@
 -- Whole items and what is behind them are read one after the other.
 use Rattle.std.proofs.Common.{◌≡◌, Bool, ◌<◌, ◌+◌, ◌==◌, ◌||◌, ℕ, suc, true, false, Option, Some, None, List, [], ◌∷◌, ◌++◌, length, refl, sym, ap, ◌∙◌, subst, arith, map, append_assoc, append-nil, length-append}
-use Rattle.std.specs.Prelude.{option_map, not, slice_index}
-use Rattle.std.specs.List.{filter, list_any}
-use Rattle.std.proofs.lemmas.List.{map-append}
-use Rattle.hir_input.specs.declared.edition.EditionYear.{EditionYear}
-use Rattle.hir_input.specs.Attr.{MetaView}
-use Rattle.hir_input.specs.Syntax.{ItemView}
-use Rattle.rust_ids.specs.Row.{Row}
-use Rattle.rust_lexer.specs.Alone.{Stop, stop, EndsAlone, moved}
-use Rattle.rust_lexer.specs.Bytes.{is_continuation}
-use Rattle.rust_lexer.specs.Piece.{Piece}
-use Rattle.rust_lexer.specs.Symbol.{symbol_of}
-use Rattle.rust_lexer.specs.Tokens.{is_significant, tokens}
-use Rattle.rust_cursor.specs.Elements.{most}
-use Rattle.rust_cursor.specs.Tokens.{Tokens, tokens_of, last_unended}
-use Rattle.rust_cursor.specs.Words.{by_first, symbol}
-use Rattle.rust_cursor.proofs.Around.{tokens_sound}
-use Rattle.rust_cursor.proofs.Laid.{behind, tokens_laid}
-use Rattle.rust_cursor.proofs.Leads.{LeadsTo, through}
-use Rattle.rust_cursor.proofs.Parting.{by_kept}
-use Rattle.rust_paths.specs.declared.names.TextRange.{TextRange}
-use Rattle.rust_metas.specs.Attributes.{inner_attributes}
-use Rattle.rust_metas.proofs.AlikeAttributes.{inner_attributes_until}
-use Rattle.rust_metas.proofs.Leads.{inner_attributes_leads}
-use Rattle.rust_items.specs.declared.log.Problem.{Problem}
+use Rattle.rust_edits.proofs.Words.{option_map, not, slice_index, filter, list_any, EditionYear, MetaView, ItemView, Row, Stop, stop, EndsAlone, moved, is_continuation, Piece, symbol_of, is_significant, tokens, most, Tokens, tokens_of, last_unended, by_first, symbol, TextRange, inner_attributes, Problem, Found, nothing_found, and_problem_at, and_all, finding, items, moved_range, moved_span, moved_problem, behind_attributes, found_in, read_of, ends_items, read_at, HoldsAt, InsideJoin, TopHolds, IsBare, found_on, BeginsAnew}
+use Rattle.rust_edits.proofs.Lemmas.{map-append, tokens_sound, behind, tokens_laid, LeadsTo, through, by_kept, inner_attributes_until, inner_attributes_leads, Span, items_found, Ending, Near, near, fewer, near_parting, near_enters, near_levels, is_still, tokens_short}
 use Rattle.rust_items.specs.declared.log.ProblemKind.TheVariants as problem
-use Rattle.rust_items.specs.Found.{Found, nothing_found, and_problem_at, and_all}
-use Rattle.rust_items.specs.Items.{finding, items}
-use Rattle.rust_items.specs.LineEnds.{moved_range, moved_span, moved_problem}
-use Rattle.rust_items.specs.SourceFiles.{behind_attributes, found_in, read_of}
-use Rattle.rust_items.proofs.Places.{Span, items_found}
-use Rattle.rust_edits.specs.Ranges.Laws.{ends_items}
-use Rattle.rust_edits.specs.Ranges.Inside.{read_at}
-use Rattle.rust_edits.specs.Ranges.Joined.{IsBare, found_on, BeginsAnew}
-use Rattle.rust_cursor.proofs.Near.{Ending, Near, near, fewer}
-use Rattle.rust_cursor.proofs.NearPassing.{near_parting}
-use Rattle.rust_cursor.proofs.NearTexts.{near_enters, near_levels}
-use Rattle.rust_cursor.proofs.NearUntil.{is_still}
 use Rattle.rust_cursor.proofs.Parting as parting
-use Rattle.rust_cursor.proofs.Few.{tokens_short}
 use Rattle.rust_edits.proofs.Ranges.NearLeaves.{Given, given_on}
 use Rattle.rust_edits.proofs.Ranges.NearItems.{top_end, FoundNear, is_quiet}
 use Rattle.rust_edits.proofs.Ranges.Alone.{part_in, part_near, part_ended, start_near}
@@ -319,3 +284,37 @@ module _ (is_top : Bool) (left : ℕ) (edition : EditionYear) (w : List ℕ) (o 
       by_kept (inner_attributes_until (near_parting first) (near_enters first) (near_levels first) ts us first_near)
       (λ g. absurd (nothing_more i is (sym some ∙ ap (λ (r : List ItemView × (Found × Tokens)). r.0) (items_top is_top left nothing_found (inner_attributes us).1 ∙ run_none is_top left most [] nothing_found (inner_attributes us).1 g.none))))
       (λ k. joins quiet spent k)
+
+pub quiet_none : (f : Found) → f.problems ≡ [] → is_quiet f ≡ true
+quiet_none f e = ap (λ (ps : List Problem). not (list_any (λ _. true) ps)) e
+
+pub joined_whole : (is_top : Bool) (left : ℕ) (edition : EditionYear) (p y : List ℕ) → HoldsAt is_top (suc left) edition p → BeginsAnew edition y → length (p ++ y) < most → Joined is_top left edition (p ++ y) p y (length p)
+joined_whole is_top left edition p y h b short =
+    let w = h.ends.before in
+    let o = h.ends.last in
+    let text_is : p ++ y ≡ w ++ stop o ∷ y = ap (λ z. z ++ y) h.ends.bytes ∙ append_assoc w (stop o ∷ []) y in
+    let size : length p ≡ suc (length w) = ap length h.ends.bytes ∙ length-append w (stop o ∷ []) ∙ omega arith in
+    let back = sym h.ends.bytes in
+    subst (λ (z : List ℕ). Joined is_top left edition z p y (length p)) (sym text_is)
+    (subst (λ (d : ℕ). Joined is_top left edition (w ++ stop o ∷ y) p y d) (sym size)
+    (subst (λ (z : List ℕ). Joined is_top left edition (w ++ stop o ∷ y) z y (suc (length w))) back
+    (joined is_top left edition w o y h.ends.alone h.ends.ends (subst IsBare h.ends.bytes h.bare) b.bare b (subst (λ (z : List ℕ). length z < most) text_is short) h.first h.more
+    (ap (λ (z : List ℕ). (read_at is_top (suc left) edition z).0) back ∙ h.items)
+    (ap (λ (z : List ℕ). is_quiet (read_at is_top (suc left) edition z).1.0) back ∙ quiet_none (read_at is_top (suc left) edition p).1.0 h.sound)
+    (ap (λ (z : List ℕ). (read_at is_top (suc left) edition z).1.1.left) back ∙ h.spent))))
+
+-- ---- the laws
+
+pub top_holds : TopHolds
+top_holds edition text h short = record {
+  bare = h.bare;
+  ends = h.ends;
+  first = h.first;
+  more = h.more;
+  items = h.items;
+  sound = ap (λ (f : Found). f.problems) (sym (found_quiet edition text h.sound)) ∙ h.sound;
+  spent = top_spent edition text short;
+}
+
+pub inside_join : InsideJoin
+inside_join is_top left edition p y h b short = let j = joined_whole is_top left edition p y h b short in record { items = j.items; found = j.found }

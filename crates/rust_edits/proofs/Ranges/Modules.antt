@@ -1,48 +1,16 @@
 -- What a module holds is what is read of the text behind its `{`.
 use Rattle.std.proofs.Common.{◌≡◌, ◌+◌, ◌||◌, ℕ, zero, suc, Bool, true, false, Option, Some, None, List, [], ◌∷◌, ◌++◌, length, drop, refl, sym, ap, ◌∙◌, subst, arith, append_assoc, append-nil, length-append}
-use Rattle.std.specs.Prelude.{option_to_list}
-use Rattle.std.specs.List.{filter}
-use Rattle.std.proofs.lemmas.List.{drop_at}
-use Rattle.hir_input.specs.declared.edition.EditionYear.{EditionYear}
+use Rattle.rust_edits.proofs.Words.{option_to_list, filter, EditionYear, MetaView, ItemView, module_from, opening, stop, Piece, is_significant, tokens_from, most, beyond, Tokens, tokens_of, end_of, symbol, at, eat, bumped, is_at_end, inner_attributes, FrontRead, front, NameRead, named, named_node, Found, nothing_found, BlockRead, is_list_end, finding, finding_from, items, block_of, and_parent, inside_unless, module_with, some_item, by_head, turn_with, inside, depth_of, turn, IsBare, text_attrs, found_on, read_at, OpensModule, ModuleReads}
+use Rattle.rust_edits.proofs.Lemmas.{drop_at, own, stop_at, tokens_sound, IsLaid, behind, tokens_laid, LeadsTo, through, when, bumped_leads, by_kept, inner_attributes_until, inner_attributes_leads, named_leads, turn_found, turn_with_found, inside_found, Ending, Near, near_parting, near_enters, near_levels, Kept}
 use Rattle.hir_input.specs.declared.ids.AstIdKind.TheVariants as kind
-use Rattle.hir_input.specs.Attr.{MetaView}
-use Rattle.hir_input.specs.Syntax.{ItemView, module_from}
-use Rattle.rust_lexer.specs.Alone.{opening, stop}
-use Rattle.rust_lexer.specs.Piece.{Piece}
-use Rattle.rust_lexer.specs.Tokens.{is_significant, tokens_from}
-use Rattle.rust_lexer.proofs.Apart.{own, stop_at}
-use Rattle.rust_cursor.specs.Elements.{most, beyond}
-use Rattle.rust_cursor.specs.Tokens.{Tokens, tokens_of, end_of}
-use Rattle.rust_cursor.specs.Words.{symbol, at, eat, bumped, is_at_end}
-use Rattle.rust_cursor.proofs.Around.{tokens_sound}
-use Rattle.rust_cursor.proofs.Laid.{IsLaid, behind, tokens_laid}
-use Rattle.rust_cursor.proofs.Leads.{LeadsTo, through, when, bumped_leads}
 use Rattle.rust_cursor.proofs.Parting as parting
-use Rattle.rust_cursor.proofs.Parting.{by_kept}
-use Rattle.rust_metas.specs.Attributes.{inner_attributes}
-use Rattle.rust_metas.proofs.AlikeAttributes.{inner_attributes_until}
-use Rattle.rust_metas.proofs.Leads.{inner_attributes_leads}
-use Rattle.rust_leaves.specs.Fronts.{FrontRead, front}
-use Rattle.rust_leaves.specs.Leaves.{NameRead, named}
-use Rattle.rust_leaves.specs.Kinds.{named_node}
-use Rattle.rust_items.specs.Found.{Found, nothing_found}
-use Rattle.rust_items.specs.Items.{BlockRead, is_list_end, finding, finding_from, items, block_of, and_parent, inside_unless, module_with, some_item, by_head, turn_with, inside, depth_of, turn}
-use Rattle.rust_items.proofs.Leads.{named_leads}
-use Rattle.rust_items.proofs.Places.{turn_found, turn_with_found, inside_found}
-use Rattle.rust_edits.specs.Ranges.Joined.{IsBare, text_attrs, found_on}
-use Rattle.rust_edits.specs.Ranges.Inside.{read_at, OpensModule, ModuleReads}
-use Rattle.rust_cursor.proofs.Near.{Ending, Near}
-use Rattle.rust_cursor.proofs.NearPassing.{near_parting}
-use Rattle.rust_cursor.proofs.NearTexts.{near_enters, near_levels}
-use Rattle.rust_cursor.proofs.NearUntil.{Kept}
 use Rattle.rust_edits.proofs.Ranges.NearLeaves.{Given, given_on}
 use Rattle.rust_edits.proofs.Ranges.NearItems.{FoundAlike, is_quiet, quiet_before, quiet_sound, list_keeps, list_long, by_long, flat, front_leads, TurnLong}
 use Rattle.rust_edits.proofs.Ranges.NearTurns.{sound_parent, turn_long, inside_ends, inside_unended}
 use Rattle.rust_edits.proofs.Ranges.Alone.{start_near, most_is}
 use Rattle.rust_edits.proofs.Ranges.Behind.{behind_moved, past_whole}
 use Rattle.rust_edits.proofs.Ranges.Inner.{no_inner}
-use Rattle.rust_edits.proofs.Ranges.Inside.{quiet_none}
-use Rattle.rust_edits.proofs.Ranges.Joins.{items_top, level_at, level_near, found_both}
+use Rattle.rust_edits.proofs.Ranges.Joins.{quiet_none, items_top, level_at, level_near, found_both}
 use Rattle.rust_edits.proofs.Ranges.Seats.{HasPlace, IsLeft, all_left, left_on, edition_stays}
 use Rattle.rust_edits.proofs.Ranges.Plain.{true_false}
 use Rattle.rust_edits.proofs.Ranges.Tops.{turn_keeps, turn_with_keeps}
@@ -188,7 +156,7 @@ module _ (left : ℕ) (edition : EditionYear) (h z : List ℕ) (o : OpensModule 
   list_kept : Kept (FoundAlike level nothing_found) level (flat (list_in (inner_attributes (bumped nm.1)).1)) (flat (list_in (inner_attributes vs).1))
   list_kept =
       by_long
-      (list_long level (turn_with (inside left) (depth_of left)) turn_is_long (λ end. turn_with_found end (inside left) (inside_found end left) (depth_of left)) (turn_with_keeps (inside left) (depth_of left)) (length text) (length z) most
+      (list_long level (turn_with (inside left) (depth_of left)) turn_is_long (λ end. turn_with_found end (inside left) (inside_found end left) (depth_of left)) (turn_with_keeps left) (length text) (length z) most
       nothing_found [] [] nothing_found nothing_found (inner_attributes (bumped nm.1)).1 (inner_attributes vs).1
       (given_on inside_given (inner_attributes_leads (bumped nm.1)) (inner_attributes_leads vs)) attrs_kept.rest refl (start_near level nothing_found))
       (λ few uneven fails. absurd (true_false refl uneven)) (λ w. w)

@@ -1,26 +1,8 @@
 -- What stands in front of an item, and a name, is the same in a text that ends with a `;` or a `}` and in a longer one, until these pass the end.
 use Rattle.std.proofs.Common.{◌≡◌, ◌+◌, ℕ, Option, List, refl, Some, None, ◌∷◌, ap, ◌∙◌, map}
-use Rattle.std.specs.Prelude.{option_map}
-use Rattle.hir_input.specs.declared.ast.Visibility.{Visibility}
-use Rattle.hir_input.specs.Attr.{MetaView}
-use Rattle.rust_cursor.specs.Reader.{Reader, ◌>>=◌, pure, pass}
-use Rattle.rust_cursor.specs.Tokens.{Tokens}
-use Rattle.rust_cursor.specs.Words.{at, bumped}
-use Rattle.rust_cursor.proofs.Leads.{Forwards, through}
-use Rattle.rust_cursor.proofs.Near.{Ending, Near, at_same, past_same}
-use Rattle.rust_cursor.proofs.NearPassing.{near_parting}
-use Rattle.rust_cursor.proofs.NearTexts.{near_enters, near_levels}
-use Rattle.rust_cursor.proofs.NearUntil.{UntilBy}
-use Rattle.rust_cursor.proofs.Parting.{gone, kept, by_kept, then_until}
-use Rattle.rust_cursor.proofs.Places.{AreAlike, no_more, one_more, IsAlike, neither, both}
-use Rattle.rust_paths.proofs.Alike.{visibility_until, next_name_same, after_name}
-use Rattle.rust_paths.proofs.Leads.{visibility_leads}
-use Rattle.rust_metas.proofs.AlikeAttributes.{outer_attributes_until}
-use Rattle.rust_leaves.specs.Fronts.{FrontRead, front_behind, front}
-use Rattle.rust_leaves.specs.Heads.{behind_modifiers, head}
-use Rattle.rust_leaves.proofs.AlikeFronts.{modifiers_alike, head_until}
-use Rattle.rust_items.proofs.Leads.{behind_modifiers_leads, head_takes}
-use Rattle.rust_paths.specs.Names.{next_name, taken_with, name, Placed, placed_if, placed_name}
+use Rattle.rust_cursor.specs.Reader.{◌>>=◌}
+use Rattle.rust_edits.proofs.Words.{option_map, Visibility, MetaView, Reader, pure, pass, Tokens, at, bumped, FrontRead, front_behind, front, behind_modifiers, head, next_name, taken_with, name, Placed, placed_if, placed_name}
+use Rattle.rust_edits.proofs.Lemmas.{Forwards, through, Ending, Near, at_same, past_same, near_parting, near_enters, near_levels, UntilBy, gone, kept, by_kept, then_until, AreAlike, no_more, one_more, IsAlike, neither, both, visibility_until, next_name_same, after_name, visibility_leads, outer_attributes_until, modifiers_alike, head_until, behind_modifiers_leads, head_takes}
 
 -- the same, so much further on
 pub record FrontNear (b : Ending) (f g : FrontRead) : Type 0 where

@@ -1,47 +1,10 @@
 -- Items are the same in a text that ends with a `;` or a `}` and in a longer one, where they end there or before.
-use Rattle.std.specs.Prelude.{option_map, option_to_list, is_some, is_none, not}
-use Rattle.std.specs.List.{list_any}
 use Rattle.std.proofs.Common.{◌≡◌, ◌≤◌, ◌<◌, ◌+◌, ◌==◌, ◌&&◌, ℕ, zero, suc, Bool, true, false, Option, Some, None, List, [], ◌∷◌, ◌++◌, length, refl, sym, ap, ◌∙◌, subst, arith, map, append_assoc, codes}
-use Rattle.std.proofs.lemmas.List.{map-append}
-use Rattle.std.proofs.lemmas.Bool.{eq-eqb, not-true, and_right}
-use Rattle.hir_input.specs.declared.ids.AstIdKind.{AstIdKind}
-use Rattle.hir_input.specs.Attr.{MetaView}
-use Rattle.hir_input.specs.Syntax.{ItemView}
-use Rattle.rust_ids.specs.Row.{Row}
-use Rattle.rust_cursor.specs.Elements.{most, beyond}
-use Rattle.rust_cursor.specs.Tokens.{Tokens}
-use Rattle.rust_cursor.specs.Words.{symbol, at, eat, eat_word, bumped, is_at_end}
-use Rattle.rust_cursor.proofs.Laid.{IsLaid, behind}
-use Rattle.rust_cursor.proofs.Leads.{LeadsTo, here, further, through, when, bumped_leads, beyond_leads, eat_leads, eat_word_leads}
-use Rattle.rust_cursor.proofs.Near.{Ending, Near, fewer, nothing, bumped_onward, at_same, past_same, near_twins}
-use Rattle.rust_cursor.proofs.NearPassing.{beyond_near, near_parting}
-use Rattle.rust_cursor.proofs.NearTexts.{near_enters, near_levels}
-use Rattle.rust_cursor.proofs.NearUntil.{Kept, AtEnd, is_still, Outcome, lost, stays, comes, untaken, eat_outcome, eat_fewer}
-use Rattle.rust_cursor.proofs.Parting.{Same, by_next, by_kept}
-use Rattle.rust_cursor.proofs.Twins.{symbol_same, empty_same, end_same}
-use Rattle.rust_paths.specs.declared.names.TextRange.{TextRange}
-use Rattle.rust_paths.specs.Paths.{path}
-use Rattle.rust_paths.specs.UseTrees.{use_tree}
-use Rattle.rust_paths.proofs.Leads.{path_leads, use_tree_leads}
-use Rattle.rust_metas.specs.Attributes.{inner_attributes}
-use Rattle.rust_metas.proofs.Leads.{inner_attributes_leads}
-use Rattle.rust_metas.proofs.AlikeAttributes.{inner_attributes_until}
-use Rattle.rust_leaves.specs.declared.head.Head.{Head}
+use Rattle.rust_edits.proofs.Words.{option_map, option_to_list, is_some, is_none, not, list_any, AstIdKind, MetaView, ItemView, Row, most, beyond, Tokens, symbol, at, eat, eat_word, bumped, is_at_end, TextRange, path, use_tree, inner_attributes, Head, FrontRead, front, function, trait_item, enumeration, union_item, macro_def, type_alias, static_value, constant, structure, implementation, crate_item, use_declaration, macro_definition, is_called, invocation, leaf_by, leaf, LeafRead, named, named_or, renamed, Problem, ProblemKind, Found, Finder, nothing_found, and_problem, and_problem_at, and_row, and_all, span_of, and_flaw, and_item, and_leaf, leaf_found, leaf_turn, finding_from, finding, is_list_end, BlockRead, block_of, as_extern, extern_kept, extern_found, unmatched, extern_turn, extern_inside, inside, turn, moved_span, moved_problem, is_unfinished}
+use Rattle.rust_edits.proofs.Lemmas.{map-append, eq-eqb, not-true, and_right, IsLaid, behind, LeadsTo, here, further, through, when, bumped_leads, beyond_leads, eat_leads, eat_word_leads, Ending, Near, fewer, nothing, bumped_onward, at_same, past_same, near_twins, beyond_near, near_parting, near_enters, near_levels, Kept, AtEnd, is_still, Outcome, lost, stays, comes, untaken, eat_outcome, eat_fewer, Same, by_next, by_kept, symbol_same, empty_same, end_same, path_leads, use_tree_leads, inner_attributes_leads, inner_attributes_until, behind_others_onward, named_leads, named_or_leads, renamed_leads, behind_others_leads, front_takes, LeafAt, leaf_at, Finds, extern_turn_found}
 use Rattle.rust_leaves.specs.declared.head.Head.TheVariants as heads
-use Rattle.rust_leaves.specs.Fronts.{FrontRead, front}
-use Rattle.rust_leaves.specs.Kinds.{function, trait_item, enumeration, union_item, macro_def, type_alias, static_value, constant, structure, implementation, crate_item, use_declaration, macro_definition, is_called, invocation, leaf_by, leaf}
-use Rattle.rust_leaves.specs.Leaves.{LeafRead, named, named_or, renamed}
-use Rattle.rust_leaves.proofs.AlikeFronts.{behind_others_onward}
-use Rattle.rust_items.specs.declared.log.Problem.{Problem}
-use Rattle.rust_items.specs.declared.log.ProblemKind.{ProblemKind}
 use Rattle.rust_items.specs.declared.log.ProblemKind.TheVariants as problem
-use Rattle.rust_items.specs.Found.{Found, Finder, nothing_found, and_problem, and_problem_at, and_row, and_all}
-use Rattle.rust_items.specs.Items.{span_of, and_flaw, and_item, and_leaf, leaf_found, leaf_turn, finding_from, finding, is_list_end, BlockRead, block_of, as_extern, extern_kept, extern_found, unmatched, extern_turn, extern_inside, inside, turn}
-use Rattle.rust_items.specs.LineEnds.{moved_span, moved_problem}
-use Rattle.rust_items.proofs.Leads.{named_leads, named_or_leads, renamed_leads, behind_others_leads, front_takes, LeafAt, leaf_at}
-use Rattle.rust_items.proofs.Places.{Finds, extern_turn_found}
 use Rattle.rust_edits.proofs.Ranges.Tops.{Keeps, extern_turn_keeps}
-use Rattle.rust_edits.specs.Ranges.Laws.{is_unfinished}
 use Rattle.rust_edits.proofs.Ranges.NearFronts.{FrontNear, front_until, further_on}
 use Rattle.rust_edits.proofs.Ranges.NearLeaves.{some_on, LeafNear, Given, given_on, Ends, passes, before_end, at_end, SomeLeaf, no_leaf, one_leaf, leaf_ended, LeafEnds, leaf_ends, item_end_fewer, impl_end_fewer, macro_end_fewer, value_end_fewer, call_end_fewer}
 

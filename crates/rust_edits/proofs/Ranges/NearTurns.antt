@@ -1,34 +1,11 @@
 -- An item that ends with the last token of a text is the same in a longer text.
-use Rattle.std.specs.Prelude.{is_none, not}
-use Rattle.std.specs.List.{list_any}
 use Rattle.std.proofs.Common.{◌≡◌, ◌<◌, ◌+◌, ◌==◌, ◌||◌, ◌&&◌, ℕ, zero, suc, Bool, true, false, Option, Some, None, List, [], ◌∷◌, ◌++◌, length, refl, sym, ap, ◌∙◌, subst, arith}
-use Rattle.std.proofs.lemmas.Bool.{and_parts}
-use Rattle.hir_input.specs.declared.ids.AstIdKind.{AstIdKind}
+use Rattle.rust_edits.proofs.Words.{is_none, not, list_any, AstIdKind, MetaView, ItemView, extern_block_from, module_from, behind_tree, Tokens, symbol, at, eat, bumped, is_at_end, Head, FrontRead, front, named_node, node, leaf, NameRead, named, no_name, Problem, Found, Finder, nothing_found, and_problem, and_row, span_of, needs_name, and_item, leaf_turn, BlockRead, deep_block, unmatched, extern_inside, and_parent, extern_block, depth_of, inside_unless, module_with, some_item, by_head, turn_with, inside, turn, is_unfinished}
+use Rattle.rust_edits.proofs.Lemmas.{and_parts, IsLaid, behind, LeadsTo, through, when, eat_leads, Ending, Near, fewer, nothing, bumped_onward, at_same, past_same, near_twins, behind_tree_near, Step, at_last, next, step, untaken, eat_fewer, by_next, by_kept, symbol_same, end_same, named_leads, front_start, Finds, FindsIn, turn_with_found, inside_found, extern_inside_found, unless_found}
 use Rattle.hir_input.specs.declared.ids.AstIdKind.TheVariants as ast
-use Rattle.hir_input.specs.Attr.{MetaView}
-use Rattle.hir_input.specs.Syntax.{ItemView, extern_block_from, module_from}
-use Rattle.rust_cursor.specs.Brackets.{behind_tree}
-use Rattle.rust_cursor.specs.Tokens.{Tokens}
-use Rattle.rust_cursor.specs.Words.{symbol, at, eat, bumped, is_at_end}
-use Rattle.rust_cursor.proofs.Laid.{IsLaid, behind}
-use Rattle.rust_cursor.proofs.Leads.{LeadsTo, through, when, eat_leads}
-use Rattle.rust_cursor.proofs.Near.{Ending, Near, fewer, nothing, bumped_onward, at_same, past_same, near_twins}
-use Rattle.rust_cursor.proofs.NearPassing.{behind_tree_near}
-use Rattle.rust_cursor.proofs.NearUntil.{Step, at_last, next, step, untaken, eat_fewer}
-use Rattle.rust_cursor.proofs.Parting.{by_next, by_kept}
-use Rattle.rust_cursor.proofs.Twins.{symbol_same, end_same}
-use Rattle.rust_leaves.specs.declared.head.Head.{Head}
 use Rattle.rust_leaves.specs.declared.head.Head.TheVariants as heads
-use Rattle.rust_leaves.specs.Fronts.{FrontRead, front}
-use Rattle.rust_leaves.specs.Kinds.{named_node, node, leaf}
-use Rattle.rust_leaves.specs.Leaves.{NameRead, named, no_name}
-use Rattle.rust_items.specs.declared.log.Problem.{Problem}
 use Rattle.rust_items.specs.declared.log.ProblemKind.TheVariants as problem
-use Rattle.rust_items.specs.Found.{Found, Finder, nothing_found, and_problem, and_row}
-use Rattle.rust_items.specs.Items.{span_of, needs_name, and_item, leaf_turn, BlockRead, no_block, deep_block, unmatched, extern_inside, and_parent, one_more, extern_block, depth_of, inside_unless, module_with, some_item, by_head, turn_with, inside, turn}
-use Rattle.rust_items.proofs.Leads.{named_leads, front_start}
-use Rattle.rust_items.proofs.Places.{Finds, FindsIn, turn_with_found, inside_found, extern_inside_found, unless_found}
-use Rattle.rust_edits.specs.Ranges.Laws.{is_unfinished}
+use Rattle.rust_items.specs.Items.{no_block, one_more}
 use Rattle.rust_edits.proofs.Ranges.NearFronts.{FrontNear, front_until}
 use Rattle.rust_edits.proofs.Ranges.NearLeaves.{NameNear, named_until, Given, given_on, Ends, passes, before_end, at_end}
 use Rattle.rust_edits.proofs.Ranges.NearItems.{FoundNear, problem_near, item_near, all_near, flat, FoundAlike, is_quiet, told_problem, quiet_sound, not_quiet, found_told, turn_whole, block_whole, ends_long, TurnLong, block_ends, leaf_leads, leaf_fewer, is_sound, unfinished, found_leads, leaf_turn_ends, leaf_turn_fewer, extern_inside_fewer, extern_unended, block_fewer, extern_inside_ends, front_leads}
@@ -291,7 +268,7 @@ inside_ends b (suc left) n m before f g ts us given h a =
     (λ e. rw (symbol_same (near_twins b) ts us h, e)
     (weaker (λ c. absurd cc)
     (block_ends b (turn_with (inside left) (depth_of left)) (turn_long b (inside left) (inside_ends b left) (λ end. inside_found end left) (inside_unended left) (depth_of left))
-    (λ end. turn_with_found end (inside left) (inside_found end left) (depth_of left)) (turn_with_keeps (inside left) (depth_of left)) n m before f g ts us given h a)))
+    (λ end. turn_with_found end (inside left) (inside_found end left) (depth_of left)) (turn_with_keeps left) n m before f g ts us given h a)))
     (λ e. rw (symbol_same (near_twins b) ts us h, e) (before_end (record { value = record { value = refl; found = a }; rest = h })))
 
 module _ (b : Ending) (left : ℕ) where
@@ -305,14 +282,14 @@ module _ (b : Ending) (left : ℕ) where
   unfolding inside
   module_inside n m before f g ts us given h a =
       when (symbol ts == 123)
-      (λ e. rw (symbol_same (near_twins b) ts us h, e) (block_ends b (turn_with (inside left) (depth_of left)) inner_turn inner_finds (turn_with_keeps (inside left) (depth_of left)) n m before f g ts us given h a))
+      (λ e. rw (symbol_same (near_twins b) ts us h, e) (block_ends b (turn_with (inside left) (depth_of left)) inner_turn inner_finds (turn_with_keeps left) n m before f g ts us given h a))
       (λ e. rw (symbol_same (near_twins b) ts us h, e) (before_end (record { value = record { value = refl; found = a }; rest = h })))
 
   module_inside_takes : InsideTakes true (inside (suc left))
   unfolding inside
   module_inside_takes n f ts laid s e =
       when (symbol ts == 123)
-      (λ g. rw g (block_fewer b (turn_with (inside left) (depth_of left)) inner_turn inner_finds (turn_with_keeps (inside left) (depth_of left)) n f ts laid (rw g at e)))
+      (λ g. rw g (block_fewer b (turn_with (inside left) (depth_of left)) inner_turn inner_finds (turn_with_keeps left) n f ts laid (rw g at e)))
       (λ g. absurd (let no = rw g at e in cc))
 
 -- An item of a long text, from its first token on: where it is ended at the end of a short one, that has the same item, and nothing behind it.

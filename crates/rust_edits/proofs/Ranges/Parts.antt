@@ -1,12 +1,6 @@
 -- An item of a text, and the text that it is read from, alone.
-use Rattle.rust_edits.specs.Ranges.Joined.{IsBare}
-use Rattle.std.specs.Prelude.{◌≡◌, ℕ, false, List, [], ◌∷◌, ◌++◌, length, slice_index, Option}
-use Rattle.std.specs.List.{filter}
-use Rattle.hir_input.specs.declared.edition.EditionYear.{EditionYear}
-use Rattle.rust_lexer.specs.Alone.{Stop, stop, EndsAlone}
-use Rattle.rust_lexer.specs.Bytes.{is_continuation}
-use Rattle.rust_lexer.specs.Tokens.{is_significant, tokens_from}
-use Rattle.rust_cursor.specs.Tokens.{Tokens}
+use Rattle.std.specs.Prelude.{◌≡◌, ℕ, false, List, [], ◌∷◌, ◌++◌, length, Option}
+use Rattle.rust_edits.proofs.Words.{IsBare, slice_index, filter, EditionYear, Stop, stop, EndsAlone, is_continuation, is_significant, tokens_from, Tokens}
 
 -- a text that ends with such a byte
 abbrev pub ended : List ℕ → Stop → List ℕ

@@ -1,25 +1,9 @@
 -- The text of an item begins with no shebang line and no frontmatter: no item begins so.
-use Rattle.rust_edits.specs.Ranges.Joined.{IsBare}
 use Rattle.std.proofs.Common.{◌≡◌, ◌+◌, ◌==◌, ◌&&◌, ℕ, suc, Bool, true, false, Option, List, [], ◌∷◌, ◌++◌, length, refl, sym, ap, ◌∙◌, arith, map}
-use Rattle.std.specs.Prelude.{not, slice_index}
-use Rattle.std.specs.List.{filter}
-use Rattle.std.proofs.lemmas.Bool.{eqb-true}
-use Rattle.hir_input.specs.declared.edition.EditionYear.{EditionYear}
-use Rattle.rust_lexer.specs.declared.kind.DocStyle.TheVariants.{Outer}
-use Rattle.rust_lexer.specs.Alone.{Stop, stop, is_fence, moved, EndsAlone}
-use Rattle.rust_lexer.specs.Bytes.{is_continuation, is_wide_start}
-use Rattle.rust_lexer.specs.Cut.{first_cut}
-use Rattle.rust_lexer.specs.Piece.{Piece}
-use Rattle.rust_lexer.specs.Symbol.{symbol_of}
-use Rattle.rust_lexer.specs.Tokens.{has_mark, is_bracket_next, is_shebang, is_significant, piece, tokens_from}
-use Rattle.rust_lexer.proofs.Apart.{tokens_first, tokens_moved}
-use Rattle.rust_cursor.specs.Tokens.{Tokens}
-use Rattle.rust_cursor.specs.Words.{by_first, symbol, bumped}
-use Rattle.rust_cursor.proofs.Leads.{when}
-use Rattle.rust_metas.specs.Attributes.{is_attribute}
+use Rattle.rust_edits.proofs.Words.{IsBare, not, slice_index, filter, EditionYear, Outer, Stop, stop, is_fence, moved, EndsAlone, is_continuation, is_wide_start, first_cut, Piece, symbol_of, has_mark, is_bracket_next, is_shebang, is_significant, piece, tokens_from, Tokens, by_first, symbol, bumped, is_attribute}
+use Rattle.rust_edits.proofs.Lemmas.{eqb-true, and_parts, tokens_first, tokens_moved, when}
 use Rattle.rust_edits.proofs.Ranges.Parts.{ended}
 use Rattle.rust_edits.proofs.Ranges.Inner.{IsMute, symbol_mute}
-use Rattle.std.proofs.lemmas.Bool.{and_parts}
 use Rattle.rust_edits.proofs.Typing.Loose.{passed_symbol}
 
 abbrev starting : ℕ → Piece → List Piece → Option ℕ → EditionYear → Tokens

@@ -1,43 +1,16 @@
 -- The text of the range of an item, read alone, is exactly that item.
 use Rattle.std.proofs.Common.{◌≡◌, ◌<◌, ◌≤◌, ◌+◌, ◌-◌, ◌==◌, ◌&&◌, ℕ, suc, true, false, Option, Some, None, List, [], ◌∷◌, ◌++◌, map, length, take, drop, refl, sym, ap, ◌∙◌, subst, arith, append_assoc, length-append}
-use Rattle.std.specs.Prelude.{option_map, option_to_list, is_some}
-use Rattle.std.specs.List.{filter}
-use Rattle.std.proofs.lemmas.Bool.{eqb-true, eq-eqb, or_parts}
-use Rattle.std.proofs.lemmas.List.{length-map, append_cancel_left, length-take-le, length-drop, drop-drop, take-append-drop}
-use Rattle.hir_input.specs.declared.edition.EditionYear.{EditionYear}
-use Rattle.hir_input.specs.Attr.{MetaView}
-use Rattle.hir_input.specs.Syntax.{ItemView, ItemViews, no_items, item_and, items_from, source_file, syntax_view}
-use Rattle.rust_lexer.specs.Alone.{Stop, opening, stop, EndsAlone}
-use Rattle.rust_lexer.specs.Piece.{Piece}
-use Rattle.rust_lexer.specs.Tokens.{has_mark, is_significant, tokens_from}
-use Rattle.rust_cursor.specs.Tokens.{Tokens, tokens_of}
-use Rattle.rust_cursor.specs.Words.{at}
-use Rattle.rust_cursor.proofs.Laid.{behind, past_within, tokens_laid}
-use Rattle.rust_cursor.proofs.Leads.{LeadsTo, when}
-use Rattle.rust_paths.specs.declared.names.TextRange.{TextRange}
-use Rattle.rust_metas.proofs.Leads.{inner_attributes_leads}
-use Rattle.rust_items.specs.declared.log.Problem.{Problem}
-use Rattle.rust_items.specs.declared.source_file.ItemPlace.{ItemPlace}
-use Rattle.rust_items.specs.declared.source_file.SourceFile.{SourceFile}
-use Rattle.rust_items.specs.Found.{Found, nothing_found}
-use Rattle.rust_items.specs.Ids.{with_ids, item_with_ids}
-use Rattle.rust_items.specs.Items.{turn}
-use Rattle.rust_items.specs.LineEnds.{with_feeds, place_in, moved_range, moved_span, moved_problem}
-use Rattle.rust_items.specs.Places.{Telling, IsNameIn, IsBodyIn, ArePlaces, nothing, placed}
-use Rattle.rust_items.specs.SourceFiles.{places, behind_attributes, file_view, found_in, items_in, read_of, IsFile}
-use Rattle.rust_items.proofs.Places.{Span, place_span, items_found, turn_found}
-use Rattle.rust_edits.specs.Ranges.Laws.{ends_items, is_unfinished, is_unfinished_at, range_text, Bytes, bytes_of, further_on, RangeAlone}
+use Rattle.rust_edits.proofs.Words.{option_map, option_to_list, is_some, filter, EditionYear, MetaView, ItemView, ItemViews, no_items, item_and, items_from, source_file, syntax_view, Stop, opening, stop, EndsAlone, Piece, has_mark, is_significant, tokens_from, Tokens, tokens_of, at, TextRange, Problem, ItemPlace, SourceFile, Found, with_ids, item_with_ids, turn, with_feeds, place_in, moved_range, moved_span, moved_problem, places, file_view, found_in, items_in, IsFile, ends_items, is_unfinished, is_unfinished_at, range_text, Bytes, bytes_of, further_on, RangeAlone}
+use Rattle.rust_edits.proofs.Lemmas.{eqb-true, eq-eqb, or_parts, and_parts, length-map, append_cancel_left, length-take-le, length-drop, drop-drop, take-append-drop, behind, past_within, tokens_laid, LeadsTo, when, Span, place_span, turn_found, Ending, is_last, IsIn, IsMaybeIn, AreIn, spans_in, as_many}
 use Rattle.rust_edits.proofs.Ranges.Parts.{ended, IsPart, tokens_behind}
 use Rattle.rust_edits.proofs.Ranges.Alone.{part_in, StandsAlone, IsOwn, item_alone}
 use Rattle.rust_edits.proofs.Ranges.Feeds.{part, part_feeds, part_place}
 use Rattle.rust_edits.proofs.Ranges.Fresh.{none_there, turn_anywhere}
 use Rattle.rust_edits.proofs.Ranges.Inner.{IsMute, item_none}
-use Rattle.std.proofs.lemmas.Bool.{and_parts}
-use Rattle.rust_cursor.proofs.Near.{Ending, is_last}
 use Rattle.rust_edits.proofs.Ranges.NearItems.{is_sound}
 use Rattle.rust_edits.proofs.Ranges.Plain.{plain_text}
 use Rattle.rust_edits.proofs.Ranges.Seats.{HasPlace, IsLeft, all_left, left_on, year_is}
-use Rattle.rust_edits.proofs.Ranges.Tops.{turn_is, turn_strict, places_spans, without_again, same_first, found_keeps, file_turned, rows_spans, same_rows, same_spans}
+use Rattle.rust_edits.proofs.Ranges.Tops.{turn_is, turn_strict, places_spans, without_again, same_first, found_keeps, file_turned, same_spans}
 
 -- ---- one turn of a text
 
@@ -140,62 +113,55 @@ sound_at start o i f e none = rw (e, none) refl
 
 -- ---- bounds
 
-abbrev pub IsIn : ℕ → TextRange → Type 0
-IsIn end r = (r.start ≤ end) × (r.end ≤ end)
-
-abbrev pub IsInIf : ℕ → Option TextRange → Type 0
-IsInIf end None = Unit {0}
-IsInIf end (Some r) = IsIn end r
-
-abbrev pub AreIn : ℕ → List Span → Type 0
-AreIn end [] = Unit {0}
-AreIn end (s ∷ spans) = (IsIn end s.range × (IsInIf end s.name × IsInIf end s.body)) × AreIn end spans
-
-name_in : (end : ℕ) (r : TextRange) (o : Option TextRange) → r.end ≤ end → IsNameIn r o → IsInIf end o
-name_in end r None l h = tt
-name_in end r (Some n) l h = (omega (arith, h.1, h.2), omega (arith, h.2))
-
-body_in : (end : ℕ) (r : TextRange) (o : Option TextRange) → r.end ≤ end → IsBodyIn r o → IsInIf end o
-body_in end r None l h = tt
-body_in end r (Some b) l h = (omega (arith, h.1, h.2), omega (arith, h.2))
-
-places_in : {N : Telling} (end : ℕ) {from to : ℕ} {is : ItemViews} {ps rest : List ItemPlace} → ArePlaces N from to is ps rest → to ≤ end → AreIn end (map place_span rest) → AreIn end (map place_span ps)
-places_in end nothing l h = h
-places_in end (placed {p = p} place inside behind) l h =
-    let ends = place.ends in
-    let some = place.some in
-    let here : p.range.end ≤ end = omega arith in
-    (((omega arith, here), (name_in end p.range p.name here place.name, body_in end p.range p.body here place.body)), places_in end inside here (places_in end behind l h))
-
-pub text_in : (edition : EditionYear) (x : List ℕ) → AreIn (length x) (read_of edition x).1.0.spans
-text_in edition x =
-    let laid = (behind (length x) (inner_attributes_leads (tokens_of edition x)) (tokens_laid edition x)).laid in
-    let found = items_found (length x) true 128 nothing_found (behind_attributes edition x) laid in
-    let last = (behind (length x) found.leads laid).laid in
-    subst (λ (l : List Span). AreIn (length x) l) (sym found.adds.spans) (places_in (length x) found.are (past_within (length x) _ last) tt)
-
--- ---- places further on
-
 abbrev pub made : TextRange → Option TextRange → Option TextRange → Span
 made r n b = record { range = r; name = n; body = b }
 
 pub made_same : (r r' : TextRange) (n n' b b' : Option TextRange) → r ≡ r' → n ≡ n' → b ≡ b' → made r n b ≡ made r' n' b'
 made_same r r' n n' b b' e d c = rw (e, d, c) refl
 
-pub cons_same : {A : Type 0} (a b : A) (xs ys : List A) → a ≡ b → xs ≡ ys → a ∷ xs ≡ b ∷ ys
+cons_same : {A : Type 0} (a b : A) (xs ys : List A) → a ≡ b → xs ≡ ys → a ∷ xs ≡ b ∷ ys
 cons_same a b xs ys e d = rw (e, d) refl
 
-module _ (place place' : ℕ → ℕ) (s start end : ℕ) (shift : (n : ℕ) → n ≤ end → place (n + s) ≡ place' n + start) where
-  range_on : (r : TextRange) → IsIn end r → moved_range (λ n. n + start) (moved_range place' r) ≡ moved_range place (moved_range (λ n. n + s) r)
-  range_on r h = rw (shift r.start h.0, shift r.end h.1) refl
+-- two maps of places that are the same up to there
+abbrev pub SameUpTo : ℕ → (ℕ → ℕ) → (ℕ → ℕ) → Type 0
+SameUpTo end f g = (n : ℕ) → n ≤ end → f n ≡ g n
 
-  range_if_on : (o : Option TextRange) → IsInIf end o → option_map (moved_range (λ n. n + start)) (option_map (moved_range place') o) ≡ option_map (moved_range place) (option_map (moved_range (λ n. n + s)) o)
-  range_if_on None h = refl
-  range_if_on (Some r) h = ap Some (range_on r h)
+-- what stands at places, and is moved with them
+pub record Moving (A : Type 0) : Type 1 where
+  pub on : (ℕ → ℕ) → A → A
+  pub within : ℕ → List A → Type 0
+  pub fused : (f g : ℕ → ℕ) (a : A) → on f (on g a) ≡ on (λ n. f (g n)) a
+  pub same : (f g : ℕ → ℕ) (end : ℕ) → SameUpTo end f g → (a : A) (l : List A) → within end (a ∷ l) → on f a ≡ on g a
+  pub rest : (end : ℕ) (a : A) (l : List A) → within end (a ∷ l) → within end l
 
-  spans_on : (spans : List Span) → AreIn end spans → map (moved_span (λ n. n + start)) (map (moved_span place') spans) ≡ map (moved_span place) (map (moved_span (λ n. n + s)) spans)
-  spans_on [] h = refl
-  spans_on (p ∷ spans) h = cons_same _ _ _ _ (made_same _ _ _ _ _ _ (range_on p.range h.0.0) (range_if_on p.name h.0.1.0) (range_if_on p.body h.0.1.1)) (spans_on spans h.1)
+pub range_fused : (f g : ℕ → ℕ) (o : Option TextRange) → option_map (moved_range f) (option_map (moved_range g) o) ≡ option_map (moved_range (λ n. f (g n))) o
+range_fused f g None = refl
+range_fused f g (Some r) = refl
+
+pub range_same : (f g : ℕ → ℕ) (end : ℕ) → SameUpTo end f g → (r : TextRange) → IsIn end r → moved_range f r ≡ moved_range g r
+range_same f g end e r h = rw (e r.start h.0, e r.end h.1) refl
+
+pub range_if_same : (f g : ℕ → ℕ) (end : ℕ) → SameUpTo end f g → (o : Option TextRange) → IsMaybeIn end o → option_map (moved_range f) o ≡ option_map (moved_range g) o
+range_if_same f g end e None h = refl
+range_if_same f g end e (Some r) h = ap Some (range_same f g end e r h)
+
+abbrev pub spans_move : Moving Span
+spans_move = record {
+  on = moved_span;
+  within = AreIn;
+  fused = λ f g s. made_same _ _ _ _ _ _ refl (range_fused f g s.name) (range_fused f g s.body);
+  same = λ f g end e s l h. made_same _ _ _ _ _ _ (range_same f g end e s.range h.0.0) (range_if_same f g end e s.name h.0.1.0) (range_if_same f g end e s.body h.0.1.1);
+  rest = λ end s l h. h.1;
+}
+
+module _ {A : Type 0} (m : Moving A) where
+  pub all_fused : (f g : ℕ → ℕ) (l : List A) → map (m.on f) (map (m.on g) l) ≡ map (m.on (λ n. f (g n))) l
+  all_fused f g [] = refl
+  all_fused f g (a ∷ l) = cons_same _ _ _ _ (m.fused f g a) (all_fused f g l)
+
+  pub all_same : (f g : ℕ → ℕ) (end : ℕ) → SameUpTo end f g → (l : List A) → m.within end l → map (m.on f) l ≡ map (m.on g) l
+  all_same f g end e [] h = refl
+  all_same f g end e (a ∷ l) h = cons_same _ _ _ _ (m.same f g end e a l h) (all_same f g end e l (m.rest end a l h))
 
 -- what the law tells of a place
 abbrev pub bytes : Span → Bytes
@@ -221,20 +187,17 @@ module _ (edition : EditionYear) (by : Ending) (v : List ℕ) (f : Found) (r : O
   alone_syntax =
       is.syntax ∙ ap (λ (m : List MetaView). source_file m (with_ids (items_in edition v) is.ids).0) stands.attrs ∙ ap (λ (l : ItemViews). source_file [] (with_ids l is.ids).0) read_items
 
-  read_spans : (read_of edition v).1.0.spans ≡ stands.found.spans
-  read_spans = ap (λ (q : List ItemView × (Found × Tokens)). q.1.0.spans) stands.read
+  read_spans : (found_in edition v).spans ≡ stands.found.spans
+  read_spans = same_spans edition v ∙ ap (λ (q : List ItemView × (Found × Tokens)). q.1.0.spans) stands.read
 
   alone_spans : map place_span alone.places.items ≡ map (moved_span place) stands.found.spans
   alone_spans =
-      let many = is.are_ids.as_many in
-      let rows = ap length (same_rows edition v) in
-      let count = rows_spans edition v in
-      let moved = length-map (read_of edition v).1.0.spans (moved_span place) in
-      ap (map place_span) (is.places ∙ ap (λ (l : List Span). places is.ids (map (moved_span place) l)) (same_spans edition v))
-      ∙ places_spans is.ids (map (moved_span place) (read_of edition v).1.0.spans) (omega arith) ∙ ap (map (moved_span place)) read_spans
+      let many = as_many edition v place (file_view alone) is in
+      let moved = length-map (found_in edition v).spans (moved_span place) in
+      ap (map place_span) is.places ∙ places_spans is.ids (map (moved_span place) (found_in edition v).spans) (omega arith) ∙ ap (map (moved_span place)) read_spans
 
   alone_in : AreIn (length v) stands.found.spans
-  alone_in = subst (λ (l : List Span). AreIn (length v) l) read_spans (text_in edition v)
+  alone_in = subst (λ (l : List Span). AreIn (length v) l) read_spans (spans_in edition v)
 
 -- ---- the law
 
@@ -279,12 +242,13 @@ range_alone edition text read alone i p ps is top own is' =
     let far : length (take s x) ≡ s = length-take-le s x (omega arith) in
     let same_spans : t.segment ≡ map (moved_span (λ n. n + s)) stands.found.spans =
     append_cancel_left t.f.spans t.segment (map (moved_span (λ n. n + s)) stands.found.spans) (sym t.spans ∙ stands.same.spans ∙ ap (λ d. t.f.spans ++ map (moved_span (λ n. n + d)) stands.found.spans) far) in
-    let bounds : AreIn k stands.found.spans = subst (λ (n : ℕ). AreIn n stands.found.spans) size (alone_in edition by v t.f r t.item stands t.read alone (place_in cut) is'') in
+    let l = stands.found.spans in
+    let bounds : AreIn k l = subst (λ (n : ℕ). AreIn n stands.found.spans) size (alone_in edition by v t.f r t.item stands t.read alone (place_in cut) is'') in
     record {
       item = (item_with_ids t.item is''.ids).0;
       syntax = alone_syntax edition by v t.f r t.item stands t.read alone (place_in cut) is'';
       same = without_again t.item is''.ids ∙ sym t.same;
       places = bytes_on p.range.start alone.places.items ∙ ap (λ n. map bytes (map (moved_span (λ m. m + n)) (map place_span alone.places.items))) start
           ∙ ap (λ l. map bytes (map (moved_span (λ m. m + place s)) l)) (alone_spans edition by v t.f r t.item stands t.read alone (place_in cut) is'')
-          ∙ ap (map bytes) (spans_on place (place_in cut) s (place s) k (part_place text s k fits) stands.found.spans bounds ∙ ap (map (moved_span place)) (sym same_spans) ∙ sym t.places) ∙ sym (bytes_same (p ∷ ps));
+          ∙ ap (map bytes) (all_fused spans_move (λ n. n + place s) (place_in cut) l ∙ all_same spans_move (λ n. place_in cut n + place s) (λ n. place (n + s)) k (λ n h. sym (part_place text s k fits n h)) l bounds ∙ sym (all_fused spans_move place (λ n. n + s) l) ∙ ap (map (moved_span place)) (sym same_spans) ∙ sym t.places) ∙ sym (bytes_same (p ∷ ps));
     }

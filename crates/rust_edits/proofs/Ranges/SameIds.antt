@@ -1,19 +1,9 @@
 -- Where the items in their place are of the same kinds and names, each item keeps its id.
 use Rattle.std.proofs.Common.{◌≡◌, ℕ, List, [], ◌∷◌, ◌++◌, length, refl, sym, ap, ◌∙◌, arith, map}
-use Rattle.std.proofs.lemmas.List.{length-map}
-use Rattle.hir_input.specs.declared.edition.EditionYear.{EditionYear}
-use Rattle.hir_input.specs.declared.ids.FileAstId.{FileAstId}
-use Rattle.rust_ids.specs.Row.{Row}
-use Rattle.rust_items.specs.declared.source_file.ItemPlace.{ItemPlace}
-use Rattle.rust_items.specs.declared.source_file.SourceFile.{SourceFile}
-use Rattle.rust_items.specs.Found.{Found}
-use Rattle.rust_items.specs.LineEnds.{with_feeds, place_in, moved_span}
-use Rattle.rust_items.specs.SourceFiles.{places, found_in, IsFile, file_view}
-use Rattle.rust_items.proofs.Places.{Span}
+use Rattle.rust_edits.proofs.Words.{EditionYear, FileAstId, Row, ItemPlace, SourceFile, Found, with_feeds, place_in, moved_span, places, found_in, IsFile, file_view, StandsBetween, file_ids, IdsStay}
+use Rattle.rust_edits.proofs.Lemmas.{length-map, Span, as_many}
 use Rattle.rust_edits.proofs.Typing.Typing.{same_ids}
-use Rattle.rust_edits.specs.Ranges.Joined.{StandsBetween, file_ids, IdsStay}
 use Rattle.rust_edits.proofs.Ranges.Files.{front_split, items_split}
-use Rattle.rust_edits.proofs.Ranges.Tops.{rows_spans, same_rows, same_spans}
 use Rattle.rust_edits.proofs.Ranges.Typed.{between}
 
 ids_placed : (ids : List FileAstId) (spans : List Span) → length ids ≡ length spans → map (λ (p : ItemPlace). p.id) (places ids spans) ≡ ids
@@ -23,12 +13,8 @@ ids_placed (id ∷ ids) (s ∷ spans) e = ap (λ l. id ∷ l) (ids_placed ids sp
 
 ids_told : (edition : EditionYear) (x : List ℕ) (place : ℕ → ℕ) (file : SourceFile) (is : IsFile edition x place (file_view file)) → file_ids file ≡ is.ids
 ids_told edition x place file is =
-    let many = is.are_ids.as_many in
-    let rows = ap length (same_rows edition x) in
-    let count = rows_spans edition x in
-    let spans = ap length (same_spans edition x) in
-    let moved = length-map (found_in edition x).spans (moved_span place) in
-    ap (map (λ (p : ItemPlace). p.id)) is.places ∙ ids_placed is.ids (map (moved_span place) (found_in edition x).spans) (omega arith)
+    ap (map (λ (p : ItemPlace). p.id)) is.places
+    ∙ ids_placed is.ids (map (moved_span place) (found_in edition x).spans) (as_many edition x place (file_view file) is ∙ sym (length-map (found_in edition x).spans (moved_span place)))
 
 -- the whole text without returns
 feeds_between : (edition : EditionYear) (q t s : List ℕ) → StandsBetween edition (with_feeds q) (with_feeds t) (with_feeds s) → with_feeds (q ++ (t ++ s)) ≡ with_feeds q ++ (with_feeds t ++ with_feeds s)

@@ -1,19 +1,9 @@
 -- Tokens that are left of a text are those of what is left of the text.
 use Rattle.std.proofs.Common.{◌≡◌, ◌<◌, ◌+◌, ◌-◌, ℕ, zero, suc, true, false, Option, Some, None, List, [], ◌∷◌, length, take, drop, refl, sym, ap, ◌∙◌, arith}
-use Rattle.std.specs.Prelude.{slice_index}
-use Rattle.std.specs.List.{filter}
-use Rattle.std.proofs.lemmas.Bool.{cond_both}
-use Rattle.std.proofs.lemmas.List.{drop-drop}
-use Rattle.hir_input.specs.declared.edition.EditionYear.{EditionYear}
+use Rattle.rust_edits.proofs.Words.{slice_index, filter, EditionYear, is_continuation, cut, first_cut, Piece, has_mark, is_shebang, is_significant, lines_from, mark_from, matter_by, matter_from, piece, shebang_from, tokens, tokens_from, whole, Tokens, tokens_of, end_of, bumped}
+use Rattle.rust_edits.proofs.Lemmas.{cond_both, drop-drop, LeadsTo, here, further, when}
 use Rattle.rust_lexer.specs.declared.kind.TokenKind.TheVariants as kind
-use Rattle.rust_lexer.specs.Bytes.{is_continuation}
-use Rattle.rust_lexer.specs.Cut.{cut, first_cut}
 use Rattle.rust_lexer.specs.Frontmatter.{frontmatter}
-use Rattle.rust_lexer.specs.Piece.{Piece}
-use Rattle.rust_lexer.specs.Tokens.{has_mark, is_shebang, is_significant, lines_from, mark_from, matter_by, matter_from, piece, shebang_from, tokens, tokens_from, whole}
-use Rattle.rust_cursor.specs.Tokens.{Tokens, tokens_of, end_of}
-use Rattle.rust_cursor.specs.Words.{bumped}
-use Rattle.rust_cursor.proofs.Leads.{LeadsTo, here, further, when}
 
 -- ---- lists
 

@@ -1,14 +1,7 @@
 -- The ids of items at the top, in files of which the first rows are the same.
 use Rattle.std.proofs.Common.{◌≡◌, ◌<◌, ◌≤◌, ◌+◌, ◌-◌, ◌^◌, ◌==◌, ◌&&◌, ◌||◌, ℕ, zero, suc, Bool, true, false, None, List, [], ◌∷◌, ◌++◌, length, refl, sym, ap, ◌∙◌, arith, length-append}
-use Rattle.std.specs.Prelude.{min, nat_lt}
-use Rattle.std.proofs.lemmas.Bool.{eqb-true, and_right}
-use Rattle.std.proofs.lemmas.Bool.Decides.{nat_tests}
-use Rattle.hir_input.specs.declared.ids.AstIdKind.{AstIdKind}
-use Rattle.hir_input.specs.declared.ids.FileAstId.{FileAstId}
-use Rattle.rust_cursor.proofs.Leads.{when}
-use Rattle.rust_ids.specs.Ids.{nth_row, id_at, depth_at, last_below, count_below, module_at, module_around, hash_of, kind_place, Key, key_of, same_key, comes_before, earlier_alike}
-use Rattle.rust_ids.specs.Row.{Row}
-use Rattle.rust_edits.specs.Ranges.Joined.{TopKeysStay, FrontIdsStay}
+use Rattle.rust_edits.proofs.Words.{min, nat_lt, AstIdKind, FileAstId, nth_row, id_at, depth_at, last_below, count_below, module_at, module_around, hash_of, kind_place, Key, key_of, same_key, comes_before, earlier_alike, Row, TopKeysStay, FrontIdsStay}
+use Rattle.rust_edits.proofs.Lemmas.{eqb-true, and_right, nat_tests, when}
 
 -- ---- rows
 

@@ -1,41 +1,14 @@
 -- The items at the top of a text: each is what a turn finds.
-use Rattle.std.proofs.Common.{◌≡◌, ◌<◌, ◌≤◌, ◌+◌, ◌&&◌, ℕ, zero, suc, Bool, true, false, Option, Some, None, List, [], ◌∷◌, ◌++◌, map, length, take, drop, refl, sym, ap, ◌∙◌, subst, arith, append_assoc, append-nil, length-append, get_or}
-use Rattle.std.specs.Prelude.{option_to_list, is_none}
-use Rattle.std.specs.List.{list_any}
-use Rattle.std.proofs.lemmas.List.{length-map, map-append, append_cancel_left, take_at, drop_at, drop-drop, length-drop}
-use Rattle.hir_input.specs.declared.edition.EditionYear.{EditionYear}
-use Rattle.hir_input.specs.declared.ids.FileAstId.{FileAstId}
-use Rattle.hir_input.specs.declared.ids.AstIdKind.{AstIdKind}
+use Rattle.std.proofs.Common.{◌≡◌, ◌<◌, ◌≤◌, ◌+◌, ℕ, zero, suc, Bool, true, false, Option, Some, None, List, [], ◌∷◌, ◌++◌, map, length, take, drop, refl, sym, ap, ◌∙◌, subst, arith, append_assoc, append-nil, length-append, get_or}
+use Rattle.rust_edits.proofs.Words.{option_to_list, list_any, EditionYear, FileAstId, AstIdKind, ItemView, ItemViews, listed_module, listed_extern_block, no_items, item_and, items_from, items_of, SyntaxView, syntax_view, most, beyond, Tokens, tokens_of, at, is_at_end, TextRange, Head, FrontRead, front, leaf, LeafRead, NameRead, named, no_name, Problem, ProblemKind, ItemPlace, SourceFile, Found, Finder, nothing_found, first_numbers, numbered_named, numbered_node, held_with_ids, with_ids, item_with_ids, BlockRead, span_of, and_parent, leaf_found, leaf_turn, finding_from, finding, is_list_end, items, extern_turn, extern_block, by_head, turn_with, inside, depth_of, turn, moved_span, Telling, items_held, ArePlaces, placed, places, behind_attributes, file_view, found_in, read_of, IsFile, item_count, items_count, at_top, without_ids, IsAtTop}
+use Rattle.rust_edits.proofs.Lemmas.{length-map, map-append, append_cancel_left, take_at, drop_at, drop-drop, length-drop, IsLaid, behind, tokens_laid, LeadsTo, through, when, beyond_leads, inner_attributes_leads, front_start, Span, place_span, adds_use_trees, adds_problem_at, adds_item, AreFound, turn_found, Rows, found_rows, as_many}
 use Rattle.hir_input.specs.declared.ids.AstIdKind.TheVariants as kind
-use Rattle.hir_input.specs.Syntax.{ItemView, ItemViews, listed_module, listed_extern_block, no_items, item_and, items_from, items_of, SyntaxView, syntax_view}
-use Rattle.rust_cursor.specs.Elements.{most, beyond}
-use Rattle.rust_cursor.specs.Tokens.{Tokens, tokens_of}
-use Rattle.rust_cursor.specs.Words.{at, is_at_end}
-use Rattle.rust_cursor.proofs.Laid.{IsLaid, behind, tokens_laid}
-use Rattle.rust_cursor.proofs.Leads.{LeadsTo, through, when, beyond_leads}
-use Rattle.rust_paths.specs.declared.names.TextRange.{TextRange}
-use Rattle.rust_leaves.specs.declared.head.Head.{Head}
 use Rattle.rust_leaves.specs.declared.head.Head.TheVariants as heads
-use Rattle.rust_leaves.specs.Fronts.{FrontRead, front}
-use Rattle.rust_leaves.specs.Kinds.{leaf}
-use Rattle.rust_leaves.specs.Leaves.{LeafRead, NameRead, named, no_name}
-use Rattle.rust_items.specs.declared.log.Problem.{Problem}
-use Rattle.rust_items.specs.declared.log.ProblemKind.{ProblemKind}
 use Rattle.rust_items.specs.declared.log.ProblemKind.TheVariants as problem
-use Rattle.rust_items.specs.declared.source_file.ItemPlace.{ItemPlace}
-use Rattle.rust_items.specs.declared.source_file.SourceFile.{SourceFile}
-use Rattle.rust_metas.proofs.Leads.{inner_attributes_leads}
-use Rattle.rust_items.specs.Found.{Found, Finder, nothing_found, and_problem, and_problem_if, and_problem_at, and_row}
-use Rattle.rust_items.specs.Ids.{first_numbers, numbered_named, numbered_node, held_with_ids, with_ids, item_with_ids}
-use Rattle.rust_items.specs.Items.{BlockRead, span_of, needs_name, and_flaw, and_item, and_parent, leaf_found, leaf_turn, finding_from, finding, is_list_end, items, as_extern, extern_kept, extern_found, extern_turn, extern_block, by_head, turn_with, inside, depth_of, turn}
-use Rattle.rust_items.specs.LineEnds.{moved_span}
-use Rattle.rust_items.specs.Places.{Telling, items_held, ArePlaces, nothing, placed}
-use Rattle.rust_items.specs.SourceFiles.{places, behind_attributes, file_view, found_in, read_of, IsFile}
-use Rattle.rust_items.proofs.Leads.{front_start}
-use Rattle.rust_items.proofs.Places.{Span, row_kind, place_kind, place_span, adds_use_trees, adds_problem_at, adds_item, AreFound, turn_found, items_found}
-use Rattle.rust_items.proofs.UntilItems.{Rows, found_rows}
-use Rattle.rust_edits.specs.Ranges.Laws.{item_count, items_count, at_top, without_ids, IsAtTop}
+use Rattle.rust_items.specs.Places.{nothing}
 use Rattle.rust_edits.proofs.Typing.Typing.{items_are}
+use Rattle.rust_edits.proofs.Adding.{IfLeaf, any_place, Keeping, maybe, next_keeps}
+use Rattle.rust_edits.proofs.Adding as adding
 
 -- ---- how many there are
 
@@ -70,14 +43,11 @@ first_left : (ids : List FileAstId) → (first_numbers ids).1 ≡ drop 1 ids
 first_left [] = refl
 first_left (id ∷ ids) = refl
 
-drop_sum : {A : Type 0} (m n : ℕ) (xs : List A) → drop n (drop m xs) ≡ drop (m + n) xs
-drop_sum m n xs = drop-drop n m xs
-
 left_by : (i : ItemView) (ids : List FileAstId) → (item_with_ids i ids).1 ≡ drop (items_count (items_held i)) (first_numbers ids).1 → (item_with_ids i ids).1 ≡ drop (item_count i) ids
 left_by i ids e =
     let c = count_held i in
     let sum : 1 + items_count (items_held i) ≡ item_count i = omega arith in
-    e ∙ ap (drop (items_count (items_held i))) (first_left ids) ∙ drop_sum 1 (items_count (items_held i)) ids ∙ ap (λ k. drop k ids) sum
+    e ∙ ap (drop (items_count (items_held i))) (first_left ids) ∙ drop-drop (items_count (items_held i)) 1 ids ∙ ap (λ k. drop k ids) sum
 
 mutual
   held_left : (own : List FileAstId) (i : ItemView) (ids : List FileAstId) → (held_with_ids (first_numbers own).0 i ids).1 ≡ drop (items_count (items_held i)) ids
@@ -88,7 +58,7 @@ mutual
   ids_left : (is : ItemViews) (ids : List FileAstId) → (with_ids is ids).1 ≡ drop (items_count is) ids
   ids_left no_items ids = refl
   ids_left (item_and i is) ids =
-      ids_left is (item_with_ids i ids).1 ∙ ap (drop (items_count is)) (left_by i ids (held_left ids i (first_numbers ids).1)) ∙ drop_sum (item_count i) (items_count is) ids
+      ids_left is (item_with_ids i ids).1 ∙ ap (drop (items_count is)) (left_by i ids (held_left ids i (first_numbers ids).1)) ∙ drop-drop (items_count is) (item_count i) ids
 
 item_left : (i : ItemView) (ids : List FileAstId) → (item_with_ids i ids).1 ≡ drop (item_count i) ids
 item_left i ids = left_by i ids (held_left ids i (first_numbers ids).1)
@@ -157,63 +127,37 @@ any_fewer : (test : Problem → Bool) (ps qs : List Problem) → list_any test (
 any_fewer test [] qs e = refl
 any_fewer test (p ∷ ps) qs e = when (test p) (λ f. absurd (let no = rw f at e in cc)) (λ f. rw f (any_fewer test ps qs (rw f at e)))
 
-keeps_problem : (k : ProblemKind) (at : ℕ) (f g : Found) → Keeps f g → Keeps f (and_problem k at g)
-keeps_problem k at f g h = record { all = λ test e. h.all test (any_fewer test g.problems (record { kind = k; at = at } ∷ []) e) }
+any_leaf : (o : Option LeafRead) → IfLeaf (λ _. Unit {0}) (λ _. Unit {0}) o
+any_leaf None = tt
+any_leaf (Some l) = (tt, any_place l.too_deep)
 
-keeps_if : (t : Bool) (k : ProblemKind) (at : ℕ) (f g : Found) → Keeps f g → Keeps f (and_problem_if t k at g)
-keeps_if true k at f g h = keeps_problem k at f g h
-keeps_if false k at f g h = h
-
-keeps_at : (k : ProblemKind) (o : Option ℕ) (f g : Found) → Keeps f g → Keeps f (and_problem_at k o g)
-keeps_at k None f g h = h
-keeps_at k (Some at) f g h = keeps_problem k at f g h
-
-keeps_flaw : (ended nameless : Bool) (start : ℕ) (f g : Found) → Keeps f g → Keeps f (and_flaw ended nameless start g)
-keeps_flaw true nameless start f g h = keeps_if nameless problem.Nameless start f g h
-keeps_flaw false nameless start f g h = keeps_problem problem.Unfinished start f g h
-
-keeps_item : (depth start end : ℕ) (body : Option TextRange) (k : AstIdKind) (name : List ℕ) (range : Option TextRange) (ended : Bool) (f : Found) → Keeps f (and_item depth start end body k name range ended f)
-keeps_item depth start end body k name range ended f =
-    keeps_flaw ended (is_none range && needs_name k) start f (and_row (record { depth = depth; kind = k; name = name }) (span_of start end body range) f) (record { all = λ test e. e })
-
-keeps_parent : (depth start end : ℕ) (k : AstIdKind) (n : NameRead) (ended : Bool) (inner f : Found) → Keeps f (and_parent depth start end k n ended inner f)
-keeps_parent depth start end k n ended inner f = record {
-  all = λ test e. (keeps_item depth start end None k n.hashed n.range ended f).all test (any_fewer test (and_item depth start end None k n.hashed n.range ended f).problems inner.problems e);
+abbrev keeping : Keeping 0
+keeping = record {
+  keeps = Keeps;
+  place = λ n. Unit {0};
+  body = λ o. Unit {0};
+  reached = λ ts. Unit {0};
+  same = keeps_same;
+  joined = λ f g h i j. record { all = λ test e. i.all test (j.all test e) };
+  told = λ f g k n s h. record { all = λ test e. h.all test (any_fewer test g.problems (record { kind = k; at = n } ∷ []) e) };
+  row = λ f g r s b h. record { all = h.all };
+  uses = λ f g ns h. record { all = h.all };
+  held = λ f g more i h. record { all = λ test e. h.all test (any_fewer test g.problems more.problems e) };
+  none = tt;
+  on = λ ts us q l. tt;
+  behind = λ each finds f ts l. tt;
+  starts = λ ts l. tt;
+  leaves = λ h ts l. any_leaf (leaf h ts).0;
 }
 
-keeps_found : (depth start : ℕ) (o : Option LeafRead) (f : Found) (ts : Tokens) → Keeps f (leaf_found depth start o f ts).1.0
-keeps_found depth start None f ts = keeps_problem problem.NoItem start f f (keeps_same f)
-keeps_found depth start (Some l) f ts =
-    let item = and_item depth start ts.past l.body l.kind l.name l.named l.is_ended f in
-    let kept = keeps_at problem.TooDeep l.too_deep f item (keeps_item depth start ts.past l.body l.kind l.name l.named l.is_ended f) in
-    record { all = kept.all }
-
-keeps_head : (inside : Finder BlockRead) (depth : ℕ) (w : Head) (h : FrontRead) (f : Found) (ts : Tokens) → Keeps f (by_head inside depth w h f ts).1.0
-unfolding extern_block leaf_turn
-keeps_head inside depth heads.Module h f ts = keeps_parent depth h.start _ kind.Module (named ts).0 _ _ f
-keeps_head inside depth heads.ExternBlock h f ts = keeps_parent depth h.start _ kind.ExternBlock no_name _ _ f
-keeps_head inside depth _ h f ts = keeps_found depth h.start (leaf h ts).0 f (leaf h ts).1
-
-pub turn_with_keeps : (inside : Finder BlockRead) (depth : ℕ) (f : Found) (ts : Tokens) → Keeps f (turn_with inside depth f ts).1.0
-turn_with_keeps inside depth f ts =
-    when (is_at_end ts) (λ e. rw e (keeps_problem problem.Unmatched (at ts) f f (keeps_same f))) (λ e. rw e (keeps_head inside depth (front ts).0.head (front ts).0 f (front ts).1))
+pub turn_with_keeps : (left : ℕ) (f : Found) (ts : Tokens) → Keeps f (turn_with (inside left) (depth_of left) f ts).1.0
+turn_with_keeps left f ts = next_keeps 0 keeping left f ts tt
 
 pub turn_keeps : (left : ℕ) (f : Found) (ts : Tokens) → Keeps f (turn left f ts).1.0
-unfolding turn
-turn_keeps left f ts = turn_with_keeps (inside left) (depth_of left) f ts
-
-keeps_extern : (depth start : ℕ) (o : Option LeafRead) (f : Found) (ts : Tokens) → Keeps f (extern_found depth start o f ts).1.0
-keeps_extern depth start None f ts = keeps_problem problem.NoItem start f f (keeps_same f)
-keeps_extern depth start (Some l) f ts = by (as_extern l.item)
-  where
-    by : (o : Option ItemView) → Keeps f (extern_kept depth start ts.past l o f).1
-    by None = keeps_problem problem.NoItem start f f (keeps_same f)
-    by (Some i) = keeps_found depth start (Some l) f ts
+turn_keeps left f ts = adding.turn_keeps 0 keeping left f ts tt
 
 pub extern_turn_keeps : (depth : ℕ) (f : Found) (ts : Tokens) → Keeps f (extern_turn depth f ts).1.0
-unfolding extern_turn
-extern_turn_keeps depth f ts =
-    when (is_at_end ts) (λ e. rw e (keeps_problem problem.Unmatched (at ts) f f (keeps_same f))) (λ e. rw e (keeps_extern depth (front ts).0.start (leaf (front ts).0 (front ts).1).0 f (leaf (front ts).0 (front ts).1).1))
+extern_turn_keeps depth f ts = adding.extern_turn_keeps 0 keeping depth f ts tt
 
 -- ---- the range of an item
 
@@ -322,12 +266,6 @@ pub record IsTurned (top start : Tokens) (place : ℕ → ℕ) (g : Found) (i : 
   pub places : map place_span ps ≡ map (moved_span place) segment
   pub keeps : Keeps (turn 128 f ts).1.0 g
 
-pair_first : {A B : Type 0} (a c : A) (b d : B) → ◌≡◌ {A = A × B} (a, b) (c, d) → a ≡ c
-pair_first a c b d e = ap (λ p. p.0) e
-
-pair_second : {A B : Type 0} (a c : A) (b d : B) → ◌≡◌ {A = A × B} (a, b) (c, d) → b ≡ d
-pair_second a c b d e = ap (λ p. p.1) e
-
 none_placed : {N : Telling} {from to : ℕ} {ps : List ItemPlace} → ArePlaces N from to no_items ps [] → ps ≡ []
 none_placed nothing = refl
 
@@ -338,50 +276,29 @@ module _ (end : ℕ) (top start : Tokens) (place : ℕ → ℕ) where
   record AreTops (f : Found) (is : List ItemView) (g : Found) : Type 0 where
     spans : List Span
     are : g.spans ≡ f.spans ++ spans
-    rows : length g.rows ≡ length f.rows + length spans
     keeps : Keeps f g
     turned : (ids : List FileAstId) → length spans ≤ length ids → (k : ℕ) (i : ItemView) (ps : List ItemPlace) → k < length (Tops is ids spans) → get_or (Tops is ids spans) k (i, ps) ≡ (i, ps) → IsTurned top start place g i ps
 
-  row_count : (f g : Found) (ps : List ItemPlace) → map row_kind g.rows ≡ map row_kind f.rows ++ map place_kind ps → length g.rows ≡ length f.rows + length (map place_span ps)
-  row_count f g ps e =
-      let whole = ap length e in
-      let left = length-map g.rows row_kind in
-      let right = length-append (map row_kind f.rows) (map place_kind ps) in
-      let first = length-map f.rows row_kind in
-      let second = length-map ps place_kind in
-      let third = length-map ps place_span in
-      omega arith
-
   one_tops : (f : Found) (ts : Tokens) (is : List ItemView) (g : Found) → IsLaid end ts → LeadsTo top ts → Chain nothing_found start f ts → is_list_end true ts ≡ false → AreFound ts (turn 128 f ts).1.1 f (turn 128 f ts).1.0 (items_from (option_to_list (turn 128 f ts).0)) → AreTops (turn 128 f ts).1.0 is g
       → AreTops f (option_to_list (turn 128 f ts).0 ++ is) g
-  one_tops f ts is g laid leads chain some a tail = by (turn 128 f ts).0 refl a.places a.adds.spans a.adds.rows a.are
+  one_tops f ts is g laid leads chain some a tail = by (turn 128 f ts).0 refl a.places a.adds.spans a.are
     where
       kept : Keeps f g
       kept = record { all = λ test e. (turn_keeps 128 f ts).all test (tail.keeps.all test e) }
 
       by : {N : Telling} {from to : ℕ} (o : Option ItemView) → (turn 128 f ts).0 ≡ o → (ps : List ItemPlace) → (turn 128 f ts).1.0.spans ≡ f.spans ++ map place_span ps
-          → map row_kind (turn 128 f ts).1.0.rows ≡ map row_kind f.rows ++ map place_kind ps → ArePlaces N from to (items_from (option_to_list o)) ps [] → AreTops f (option_to_list o ++ is) g
-      by None e ps spans rows are =
-          let none = none_placed are in
-          let count = row_count f (turn 128 f ts).1.0 ps rows in
-          let zero_is : length (map place_span ps) ≡ 0 = ap (λ l. length (map place_span l)) none in
-          let more = tail.rows in
+          → ArePlaces N from to (items_from (option_to_list o)) ps [] → AreTops f (option_to_list o ++ is) g
+      by None e ps spans are =
           record {
             spans = tail.spans;
-            are = tail.are ∙ ap (λ l. l ++ tail.spans) (spans ∙ ap (λ l. f.spans ++ map place_span l) none ∙ append-nil f.spans);
-            rows = omega arith;
+            are = tail.are ∙ ap (λ l. l ++ tail.spans) (spans ∙ ap (λ l. f.spans ++ map place_span l) (none_placed are) ∙ append-nil f.spans);
             keeps = kept;
             turned = tail.turned;
           }
-      by (Some j) e ps spans rows are =
-          let segment = map place_span ps in
-          let count = row_count f (turn 128 f ts).1.0 ps rows in
-          let more = tail.rows in
-          let many = length-append segment tail.spans in
+      by (Some j) e ps spans are =
           record {
-            spans = segment ++ tail.spans;
-            are = tail.are ∙ ap (λ l. l ++ tail.spans) spans ∙ append_assoc f.spans segment tail.spans;
-            rows = omega arith;
+            spans = map place_span ps ++ tail.spans;
+            are = tail.are ∙ ap (λ l. l ++ tail.spans) spans ∙ append_assoc f.spans (map place_span ps) tail.spans;
             keeps = kept;
             turned = λ ids enough k i qs low at. pick j e ps spans (places_count are) ids enough k i qs low at;
           }
@@ -407,10 +324,10 @@ module _ (end : ℕ) (top start : Tokens) (place : ℕ → ℕ) where
                 chain = chain;
                 some = some;
                 read = e;
-                same = ap without_ids (sym (pair_first head.0 i (take c (places ids all)) qs at)) ∙ without_again j ids;
+                same = ap (λ (p : ItemView × List ItemPlace). without_ids p.0) (sym at) ∙ without_again j ids;
                 segment = segment;
                 spans = spans;
-                places = ap (map place_span) (sym (pair_second head.0 i (take c (places ids all)) qs at)) ∙ places_take c ids all short ∙ ap (take c) (map-append (moved_span place) segment tail.spans)
+                places = ap (λ (p : ItemView × List ItemPlace). map place_span p.1) (sym at) ∙ places_take c ids all short ∙ ap (take c) (map-append (moved_span place) segment tail.spans)
                     ∙ take_at (map (moved_span place) segment) (map (moved_span place) tail.spans) c exact;
                 keeps = tail.keeps;
               }
@@ -435,7 +352,7 @@ module _ (end : ℕ) (top start : Tokens) (place : ℕ → ℕ) where
               tail.turned (drop c ids) enough' k i qs (subst (λ (l : List (ItemView × List ItemPlace)). k < length l) tops (let here : suc k < suc (length (at_top (with_ids (items_from is) head.1).0 (drop c (places ids all)))) = low in omega arith)) (ap (λ (l : List (ItemView × List ItemPlace)). get_or l k (i, qs)) (sym tops) ∙ at)
 
   tops_of : {f : Found} {ts : Tokens} {is : List ItemView} {g : Found} → Turns f ts is g → IsLaid end ts → LeadsTo top ts → Chain nothing_found start f ts → AreTops f is g
-  tops_of {f = f} no_turn laid leads chain = record { spans = []; are = sym (append-nil f.spans); rows = omega arith; keeps = keeps_same f; turned = λ ids enough k i ps low e. absurd (omega arith) }
+  tops_of {f = f} no_turn laid leads chain = record { spans = []; are = sym (append-nil f.spans); keeps = keeps_same f; turned = λ ids enough k i ps low e. absurd (omega arith) }
   tops_of {f = f} {ts = ts} (one_turn {is = is} {g = g} some rest) laid leads chain =
       let a = turn_found end 128 f ts laid in
       let onward : LeadsTo ts (beyond ts.past (turn 128 f ts).1.1) = through a.leads (beyond_leads ts.past (turn 128 f ts).1.1) in
@@ -443,26 +360,11 @@ module _ (end : ℕ) (top start : Tokens) (place : ℕ → ℕ) where
 
 -- ---- of a whole text
 
--- as many rows are found as places
-pub rows_spans : (edition : EditionYear) (x : List ℕ) → length (read_of edition x).1.0.rows ≡ length (read_of edition x).1.0.spans
-rows_spans edition x =
-    let laid = (behind (length x) (inner_attributes_leads (tokens_of edition x)) (tokens_laid edition x)).laid in
-    let found = items_found (length x) true 128 nothing_found (behind_attributes edition x) laid in
-    let rows = length-map (read_of edition x).1.0.rows row_kind in
-    let same = ap length found.adds.rows in
-    let kinds = length-map found.places place_kind in
-    let spans = ap length found.adds.spans in
-    let many = length-map found.places place_span in
-    omega arith
-
 pub found_keeps : (edition : EditionYear) (x : List ℕ) → Keeps (read_of edition x).1.0 (found_in edition x)
 unfolding found_in
-found_keeps edition x = keeps_at problem.Unterminated (read_of edition x).1.1.unended (read_of edition x).1.0 (read_of edition x).1.0 (keeps_same (read_of edition x).1.0)
+found_keeps edition x = let r = (read_of edition x).1 in maybe 0 keeping r.0 r.0 problem.Unterminated r.1.unended (any_place r.1.unended) (keeps_same r.0)
 
--- what is found of a whole text are the rows and the spans that were read
-pub same_rows : (edition : EditionYear) (x : List ℕ) → (found_in edition x).rows ≡ (read_of edition x).1.0.rows
-same_rows edition x = ap (λ (r : Rows). r.0) (found_rows edition x)
-
+-- what is found of a whole text are the spans that were read
 pub same_spans : (edition : EditionYear) (x : List ℕ) → (found_in edition x).spans ≡ (read_of edition x).1.0.spans
 same_spans edition x = ap (λ (r : Rows). r.1.0) (found_rows edition x)
 
@@ -474,8 +376,7 @@ file_turned edition x place file i ps is (k, low, at) =
     let listed = all_turned nothing_found start in
     let tops = tops_of (length x) (tokens_of edition x) start place listed.turns laid leads at_start in
     let spans : (found_in edition x).spans ≡ tops.spans = same_spans edition x ∙ tops.are in
-    let many : length is.ids ≡ length (read_of edition x).1.0.rows = is.are_ids.as_many ∙ ap length (same_rows edition x) in
-    let count = tops.rows in
+    let many : length is.ids ≡ length tops.spans = as_many edition x place (file_view file) is ∙ ap length spans in
     let all : at_top (items_of (syntax_view file.syntax)) file.places.items ≡ Tops (length x) (tokens_of edition x) start place listed.new is.ids tops.spans =
     ap (λ (v : SyntaxView). at_top (items_of v) file.places.items) is.syntax
     ∙ ap (λ (l : ItemViews). at_top (with_ids l is.ids).0 file.places.items) (items_are edition x ∙ ap items_from listed.list)

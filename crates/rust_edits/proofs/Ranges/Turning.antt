@@ -1,25 +1,9 @@
 -- Turns at the top of a text, or between braces: each takes a token, and it does not matter how many more are allowed than there are tokens.
 use Rattle.std.proofs.Common.{◌≡◌, ◌<◌, ◌==◌, ℕ, zero, suc, Bool, true, false, Option, Some, None, List, [], ◌++◌, length, refl, sym, ◌∙◌, arith}
-use Rattle.std.specs.Prelude.{option_to_list}
-use Rattle.std.proofs.lemmas.Bool.{eq-eqb, or_parts, ne_eqb}
-use Rattle.hir_input.specs.Syntax.{ItemView}
-use Rattle.rust_cursor.specs.Brackets.{behind_tree}
-use Rattle.rust_cursor.specs.Elements.{beyond}
-use Rattle.rust_cursor.specs.Tokens.{Tokens}
-use Rattle.rust_cursor.specs.Words.{symbol, at, is_empty, is_at_open, is_at_end, bumped}
-use Rattle.rust_cursor.proofs.Laid.{IsLaid, behind, at_behind}
-use Rattle.rust_cursor.proofs.Leads.{LeadsTo, here, further, through, when, behind_closed_leads, behind_tree_leads, beyond_leads}
-use Rattle.rust_cursor.proofs.Nesting.{shorter}
-use Rattle.rust_leaves.specs.declared.head.Head.{Head}
+use Rattle.rust_edits.proofs.Words.{option_to_list, ItemView, behind_tree, beyond, Tokens, symbol, at, is_empty, is_at_open, is_at_end, bumped, Head, FrontRead, front, leaf, LeafRead, Found, Finder, BlockRead, leaf_found, leaf_turn, finding_from, is_list_end, by_head, inside, depth_of, turn}
+use Rattle.rust_edits.proofs.Lemmas.{eq-eqb, or_parts, ne_eqb, IsLaid, behind, at_behind, LeadsTo, here, further, through, when, behind_closed_leads, behind_tree_leads, beyond_leads, shorter, turn_found, fewer}
 use Rattle.rust_leaves.specs.declared.head.Head.TheVariants as heads
-use Rattle.rust_leaves.specs.Fronts.{FrontRead, front}
-use Rattle.rust_leaves.specs.Kinds.{leaf}
-use Rattle.rust_leaves.specs.Leaves.{LeafRead}
 use Rattle.rust_items.specs.declared.log.ProblemKind.TheVariants as problem
-use Rattle.rust_items.specs.Found.{Found, Finder}
-use Rattle.rust_items.specs.Items.{BlockRead, leaf_found, leaf_turn, finding_from, is_list_end, by_head, inside, depth_of, turn}
-use Rattle.rust_items.proofs.Places.{turn_found}
-use Rattle.rust_cursor.proofs.Near.{fewer}
 use Rattle.rust_edits.proofs.Ranges.NearItems.{is_quiet, told_problem}
 use Rattle.rust_edits.proofs.Ranges.Tops.{turn_strict}
 use Rattle.rust_edits.proofs.Typing.ProblemsAlike.{or_none}

@@ -1,31 +1,11 @@
 -- Texts of whole items one behind the other, and between others.
-use Rattle.std.proofs.Common.{◌≡◌, true, ◌<◌, ◌≤◌, ◌+◌, ◌==◌, ℕ, suc, Option, None, List, [], ◌∷◌, ◌++◌, length, refl, sym, ap, ◌∙◌, subst, arith, append_assoc, append-nil, length-append}
-use Rattle.std.specs.Prelude.{slice_index, option_map}
-use Rattle.hir_input.specs.declared.edition.EditionYear.{EditionYear}
-use Rattle.hir_input.specs.Syntax.{ItemView}
-use Rattle.rust_lexer.specs.declared.kind.DocStyle.TheVariants.{Inner}
-use Rattle.rust_lexer.specs.Alone.{Stop, stop}
-use Rattle.rust_lexer.specs.Bytes.{is_continuation}
-use Rattle.rust_lexer.specs.Tokens.{tokens}
+use Rattle.std.proofs.Common.{Bool, ◌≡◌, true, ◌<◌, ◌≤◌, ◌+◌, ◌==◌, ℕ, suc, Option, None, List, [], ◌∷◌, ◌++◌, length, refl, sym, ap, ◌∙◌, subst, arith, append_assoc, append-nil, length-append}
+use Rattle.rust_edits.proofs.Words.{read_at, slice_index, option_map, EditionYear, ItemView, Inner, Stop, stop, is_continuation, tokens, most, goes_on, Tokens, tokens_of, last_unended, kind, symbol, bumped, inner_attributes, is_attribute, is_behind, is_doc, Found, nothing_found, and_problem_at, and_all, behind_attributes, found_in, read_of, EndsOwn, IsBare, HoldsItems, BeginsAnew, text_attrs, found_on, ItemsJoin, Follows, as_first, behind_items, IsBetween, StandsBetween, TypingItems, MetaView}
+use Rattle.rust_edits.proofs.Lemmas.{when, Twins, symbol_same, kind_same, after_symbol, inner_attributes_leads, near_twins, nothing, tokens_short}
 use Rattle.rust_lexer.proofs.Laws.{tokens_few}
-use Rattle.rust_cursor.specs.Elements.{most}
-use Rattle.rust_cursor.specs.Extents.{goes_on}
-use Rattle.rust_cursor.specs.Tokens.{Tokens, tokens_of, last_unended}
-use Rattle.rust_cursor.specs.Words.{kind, symbol, bumped}
-use Rattle.rust_cursor.proofs.Leads.{when}
-use Rattle.rust_cursor.proofs.Twins.{Twins, symbol_same, kind_same, after_symbol}
-use Rattle.rust_metas.specs.Attributes.{inner_attributes, is_attribute, is_behind, is_doc}
-use Rattle.rust_metas.proofs.Leads.{inner_attributes_leads}
 use Rattle.rust_items.specs.declared.log.ProblemKind.TheVariants as problem
-use Rattle.rust_items.specs.Found.{Found, nothing_found, and_problem_at, and_all}
-use Rattle.rust_items.specs.SourceFiles.{behind_attributes, found_in, read_of}
-use Rattle.rust_edits.specs.Ranges.Laws.{EndsOwn}
-use Rattle.rust_edits.specs.Ranges.Joined.{IsBare, HoldsItems, BeginsAnew, text_attrs, found_on, ItemsJoin, Follows, as_first, behind_items, IsBetween, StandsBetween, TypingItems}
-use Rattle.rust_cursor.proofs.Near.{near_twins, nothing}
-use Rattle.rust_cursor.proofs.Few.{tokens_short}
 use Rattle.rust_edits.proofs.Ranges.Behind.{plain_on}
-use Rattle.rust_edits.proofs.Ranges.Joins.{Joined, joined, first_near, none_told, found_quiet, found_still, unended_join, items_top, top_spent}
-use Rattle.hir_input.specs.Attr.{MetaView}
+use Rattle.rust_edits.proofs.Ranges.Joins.{Joined, first_near, found_quiet, found_still, unended_join, items_top, joined_whole, top_holds}
 use Rattle.rust_edits.proofs.Ranges.Inner.{no_inner}
 use Rattle.rust_edits.proofs.Ranges.Parts.{ended}
 use Rattle.rust_edits.proofs.Ranges.Turning.{run_none}
@@ -43,23 +23,9 @@ found_joined edition text x y d j sound =
 
 pub items_join : ItemsJoin
 items_join edition x y h b short =
-    let w = h.ends.before in
-    let o = h.ends.last in
-    let text_is : x ++ y ≡ w ++ stop o ∷ y = ap (λ z. z ++ y) h.ends.bytes ∙ append_assoc w (stop o ∷ []) y in
-    let plain : IsBare (ended w o) = subst IsBare h.ends.bytes h.bare in
-    let sound : (found_in edition (ended w o)).problems ≡ [] = ap (λ (z : List ℕ). (found_in edition z).problems) (sym h.ends.bytes) ∙ h.sound in
-    let size : length x ≡ suc (length w) = ap length h.ends.bytes ∙ length-append w (stop o ∷ []) ∙ omega arith in
-    let j : Joined true 127 edition (w ++ stop o ∷ y) (ended w o) y (suc (length w)) =
-    joined true 127 edition w o y h.ends.alone h.ends.ends plain b.bare b (subst (λ (z : List ℕ). length z < most) text_is short) h.first h.more
-    (ap (λ (z : List ℕ). (read_of edition z).0) (sym h.ends.bytes) ∙ h.items) (none_told edition (ended w o) sound)
-    (top_spent edition (ended w o) (let sizes = length-append x y in let same : length (ended w o) ≡ length x = ap length (sym h.ends.bytes) in omega (arith, short))) in
-    record {
-      attrs = ap (λ (z : List ℕ). (inner_attributes (tokens_of edition z)).0) text_is ∙ j.attrs ∙ ap (λ (z : List ℕ). (inner_attributes (tokens_of edition z)).0) (sym h.ends.bytes);
-      items = ap (λ (z : List ℕ). (read_of edition z).0) text_is ∙ j.items ∙ ap (λ (z : List ℕ). (read_of edition z).0 ++ (read_of edition y).0) (sym h.ends.bytes);
-      found = ap (found_in edition) text_is ∙ found_joined edition (w ++ stop o ∷ y) (ended w o) y (suc (length w)) j sound
-          ∙ ap (λ (z : List ℕ). and_all (found_on (suc (length w)) (found_in edition y)) (found_in edition z)) (sym h.ends.bytes)
-          ∙ ap (λ (d : ℕ). and_all (found_on d (found_in edition y)) (found_in edition x)) (sym size);
-    }
+    let sizes = length-append x y in
+    let j = joined_whole true 127 edition x y (top_holds edition x h (omega (arith, short))) b short in
+    record { attrs = j.attrs; items = j.items; found = found_joined edition (x ++ y) x y (length x) j h.sound }
 
 -- ---- what begins a text begins the longer one
 
@@ -111,10 +77,10 @@ pub no_length : {A : Type 0} (l : List A) → length l ≤ 0 → l ≡ []
 no_length [] e = refl
 no_length (a ∷ l) e = absurd (omega arith)
 
-none_read : (edition : EditionYear) → read_of edition [] ≡ ([], (nothing_found, (inner_attributes (tokens_of edition [])).1))
-none_read edition =
+pub nothing_read : (is_top : Bool) (left : ℕ) (edition : EditionYear) → read_at is_top (suc left) edition [] ≡ ([], (nothing_found, (inner_attributes (tokens_of edition [])).1))
+nothing_read is_top left edition =
     let none : (tokens_of edition []).left ≡ [] = no_length (tokens_of edition []).left (tokens_short edition []) in
-    items_top true 127 nothing_found (behind_attributes edition []) ∙ run_none true 127 most [] nothing_found (behind_attributes edition []) (nothing (inner_attributes_leads (tokens_of edition [])) none)
+    items_top is_top left nothing_found (behind_attributes edition []) ∙ run_none is_top left most [] nothing_found (behind_attributes edition []) (nothing (inner_attributes_leads (tokens_of edition [])) none)
 
 none_open : (edition : EditionYear) → (tokens_of edition []).unended ≡ None
 unfolding tokens_of
@@ -123,7 +89,7 @@ none_open edition = ap (last_unended None) (no_length (tokens []) (tokens_few []
 none_found : (edition : EditionYear) → found_in edition [] ≡ nothing_found
 unfolding found_in
 none_found edition =
-    ap (λ (r : List ItemView × (Found × Tokens)). and_problem_at problem.Unterminated r.1.1.unended r.1.0) (none_read edition)
+    ap (λ (r : List ItemView × (Found × Tokens)). and_problem_at problem.Unterminated r.1.1.unended r.1.0) (nothing_read true 127 edition)
     ∙ ap (λ (u : Option ℕ). and_problem_at problem.Unterminated u nothing_found) (unended_kept (inner_attributes_leads (tokens_of edition [])) ∙ none_open edition)
 
 -- ---- between others
@@ -144,7 +110,7 @@ between_by edition _ _ s whole c short (as_first t) =
     record {
       attrs = j.attrs ∙ sym (append-nil (text_attrs edition t)) ∙ ap (λ l. text_attrs edition t ++ l) (sym (none_anew edition s c))
           ∙ ap (λ l. l ++ (text_attrs edition t ++ text_attrs edition s)) (sym (none_attrs (tokens_of edition []) (no_length (tokens_of edition []).left (tokens_short edition []))));
-      items = j.items ∙ ap (λ (r : List ItemView × (Found × Tokens)). r.0 ++ ((read_of edition t).0 ++ (read_of edition s).0)) (sym (none_read edition));
+      items = j.items ∙ ap (λ (r : List ItemView × (Found × Tokens)). r.0 ++ ((read_of edition t).0 ++ (read_of edition s).0)) (sym (nothing_read true 127 edition));
       found = j.found ∙ found_still (and_all (found_on (length t) (found_in edition s)) (found_in edition t))
           ∙ ap (and_all (found_on 0 (and_all (found_on (length t) (found_in edition s)) (found_in edition t)))) (sym (none_found edition));
     }

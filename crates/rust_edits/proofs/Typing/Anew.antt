@@ -1,17 +1,6 @@
 -- Something is read of the text in whose body something was typed.
 use Rattle.std.proofs.Common.{ℕ, List, refl, sym, subst, map}
-use Rattle.hir_input.specs.declared.edition.EditionYear.{EditionYear}
-use Rattle.hir_input.specs.declared.ids.FileAstId.{FileAstId}
-use Rattle.hir_input.specs.Syntax.{source_file}
-use Rattle.rust_cursor.specs.Tokens.{tokens_of}
-use Rattle.rust_ids.specs.Row.{Row}
-use Rattle.rust_ids.specs.Ids.{AreIds}
-use Rattle.rust_metas.specs.Attributes.{inner_attributes}
-use Rattle.rust_items.specs.Ids.{with_ids}
-use Rattle.rust_items.specs.LineEnds.{with_feeds, place_in, moved_span, moved_problem}
-use Rattle.rust_items.specs.SourceFiles.{FileView, places, found_in, items_in, IsFile}
-use Rattle.rust_edits.specs.Typing.Laws.{with_body}
-use Rattle.rust_edits.specs.Typing.Moved.{IsReadAnew}
+use Rattle.rust_edits.proofs.Words.{EditionYear, FileAstId, source_file, tokens_of, Row, AreIds, inner_attributes, with_ids, with_feeds, place_in, moved_span, moved_problem, FileView, places, found_in, items_in, IsFile, with_body, IsReadAnew}
 use Rattle.rust_edits.proofs.Typing.Returns.{feeds_body}
 use Rattle.rust_edits.proofs.Typing.Typing.{both_read}
 

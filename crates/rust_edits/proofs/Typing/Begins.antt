@@ -1,10 +1,6 @@
 -- A token begins at a place: then no token before it goes on behind that.
 use Rattle.std.proofs.Common.{◌≡◌, ◌≤◌, ℕ, zero, suc, ◌+◌, List, [], ◌∷◌, ◌++◌, length, arith}
-use Rattle.std.specs.List.{filter}
-use Rattle.rust_lexer.specs.Cut.{first_cut}
-use Rattle.rust_lexer.specs.Piece.{Piece}
-use Rattle.rust_lexer.specs.Tokens.{is_significant, tokens_from, whole}
-use Rattle.rust_lexer.specs.Alone.{overhang}
+use Rattle.rust_edits.proofs.Words.{filter, first_cut, Piece, is_significant, tokens_from, whole, overhang}
 use Rattle.rust_lexer.proofs.Counted.{when}
 
 -- one of these tokens begins there

@@ -1,29 +1,17 @@
 -- What is left of an item is ended in both of two texts or in neither, where as many brackets are loose between the braces of each.
 use Rattle.std.proofs.Common.{◌≡◌, ◌≢◌, ◌<◌, ℕ, zero, suc, ◌+◌, ◌-◌, ◌==◌, ◌||◌, ◌&&◌, Bool, true, false, Option, Some, None, List, [], ◌∷◌, ◌++◌, length, refl, ap, ◌∙◌, sym, subst, arith, map, length-append}
-use Rattle.std.specs.Prelude.{if◌then◌else◌, nat_lt}
-use Rattle.std.proofs.lemmas.Bool.{eqb-true}
-use Rattle.std.proofs.lemmas.Bool.Decides.{nat_tests}
-use Rattle.hir_input.specs.declared.edition.EditionYear.{EditionYear}
-use Rattle.rust_lexer.specs.Piece.{Piece}
-use Rattle.rust_lexer.specs.Symbol.{symbol_of}
-use Rattle.rust_lexer.specs.Alone.{moved, braces_from}
+use Rattle.std.specs.Prelude.{if◌then◌else◌}
+use Rattle.rust_edits.proofs.Words.{nat_lt, EditionYear, Piece, symbol_of, moved, braces_from, Tokens, end_of, symbol, bumped, opens_other, closes_other, braces_behind, count_behind, closes_none, behind_braces, flat_behind, is_mark, nest_inside, nest_behind, ExcerptRead, stops, ends, opened_behind, taking, taken, Bodies, AreOpen, Beside, ahead, Loose, none_loose, loose_behind, loose_from}
+use Rattle.rust_edits.proofs.Lemmas.{eqb-true, nat_tests, when, stops_empty, shorter, beside_twins, next_ahead, next_behind, tokens_at, symbol_at, some_at, bumped_at, inside_is, enters}
 use Rattle.rust_cursor.specs.declared.cursor.nest.Before.{Before}
 use Rattle.rust_cursor.specs.declared.cursor.nest.Nest.{Nest}
-use Rattle.rust_cursor.specs.Tokens.{Tokens, end_of}
-use Rattle.rust_cursor.specs.Words.{symbol, bumped}
-use Rattle.rust_cursor.specs.Nests.{opens_other, closes_other, braces_behind, count_behind, closes_none, behind_braces, flat_behind, is_mark, nest_inside, nest_behind}
 use Rattle.rust_cursor.specs.Extents as extents
-use Rattle.rust_cursor.specs.Extents.{ExcerptRead, stops, ends, opened_behind, taking, taken}
-use Rattle.rust_cursor.specs.Beside.{Bodies, AreOpen, Beside, ahead, behind}
-use Rattle.rust_cursor.proofs.Leads.{when, stops_empty}
-use Rattle.rust_cursor.proofs.Nesting.{shorter}
+use Rattle.rust_cursor.specs.Beside.{behind}
 use Rattle.rust_cursor.proofs.Scans.{taking_stop, taking_end, taking_more}
-use Rattle.rust_cursor.proofs.Views.{beside_twins, symbol_same, next_ahead, next_behind}
+use Rattle.rust_cursor.proofs.Views.{symbol_same}
 use Rattle.rust_cursor.proofs.Tests.{nest_same, stops_same, ends_same}
-use Rattle.rust_cursor.proofs.Braced.{tokens_at, symbol_at, some_at, bumped_at, inside_is, enters}
 use Rattle.rust_cursor.proofs.Inside.{stops_deep, not_last}
 use Rattle.rust_cursor.proofs.Walk.{nothing, matched_in}
-use Rattle.rust_edits.specs.Typing.Loose.{Loose, none_loose, loose_behind, loose_from}
 
 -- ---- what is counted in braces
 

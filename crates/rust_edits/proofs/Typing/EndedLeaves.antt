@@ -1,34 +1,16 @@
 -- Items that hold none are ended in both of two texts or in neither, until one goes into the braces.
 use Rattle.std.proofs.Common.{◌≡◌, ◌⊎◌, inl, inr, ◌==◌, ◌&&◌, ℕ, Bool, true, false, Option, Some, None, List, refl, ap, ◌∙◌, codes}
-use Rattle.std.specs.Prelude.{is_some}
-use Rattle.std.specs.Str.{bytes_eq}
-use Rattle.std.proofs.lemmas.Bool.{and_parts}
-use Rattle.hir_input.specs.declared.ast.Visibility.{Visibility}
-use Rattle.hir_input.specs.Attr.{MetaView}
-use Rattle.rust_cursor.specs.Tokens.{Tokens}
-use Rattle.rust_cursor.specs.Words.{symbol, word, is_at_open, bumped, eat, eat_word}
-use Rattle.rust_cursor.specs.Extents.{tree_body}
-use Rattle.rust_cursor.specs.Beside.{Bodies, Beside}
+use Rattle.rust_edits.proofs.Words.{is_some, bytes_eq, Visibility, MetaView, Tokens, symbol, word, is_at_open, bumped, eat, eat_word, tree_body, Bodies, Beside, path, use_tree, Head, FrontRead, is_called, leaf_by, leaf, function, union_item, enumeration, trait_item, macro_def, type_alias, static_value, constant, structure, implementation, crate_item, use_read, use_declaration, macro_definition, invocation, LeafRead, named, crate_alias, crate_alias_if, renamed, impl_end, item_end, macro_end, value_end, call_end}
+use Rattle.rust_edits.proofs.Lemmas.{and_parts, IsSound, when, eat_leads, IsAlike, neither, SamePlace, open_same, LeafAlike, named_local, named_or_local, FrontAlike, BeginPlain, LeafUntil, leaf_lost, leaf_same, leaf_until, LeafLost}
 use Rattle.rust_cursor.proofs.Alike.{by_stayed}
-use Rattle.rust_cursor.proofs.Around.{IsSound}
-use Rattle.rust_cursor.proofs.Leads.{when, eat_leads}
 use Rattle.rust_cursor.proofs.Local.{word_test, after_word, eat_local, eat_word_local}
 use Rattle.rust_cursor.proofs.Passing.{taken_both}
-use Rattle.rust_cursor.proofs.Places.{IsAlike, neither, SamePlace}
 use Rattle.rust_cursor.proofs.Until.{gone_on}
-use Rattle.rust_cursor.proofs.Views.{symbol_same, open_same}
-use Rattle.rust_paths.specs.Paths.{path}
-use Rattle.rust_paths.specs.UseTrees.{use_tree}
+use Rattle.rust_cursor.proofs.Views.{symbol_same}
 use Rattle.rust_paths.proofs.Beside.{path_local}
 use Rattle.rust_paths.proofs.UntilTrees.{use_tree_until}
-use Rattle.rust_leaves.specs.declared.head.Head.{Head}
 use Rattle.rust_leaves.specs.declared.head.Head.TheVariants as heads
-use Rattle.rust_leaves.specs.Fronts.{FrontRead}
-use Rattle.rust_leaves.specs.Kinds.{is_called, leaf_by, leaf, function, union_item, enumeration, trait_item, macro_def, type_alias, static_value, constant, structure, implementation, crate_item, use_read, use_declaration, macro_definition, invocation}
-use Rattle.rust_leaves.specs.Leaves.{LeafRead, named, crate_alias, crate_alias_if, renamed, impl_end, item_end, macro_end, value_end, call_end}
-use Rattle.rust_leaves.proofs.Beside.{LeafAlike, named_local, named_or_local}
 use Rattle.rust_leaves.proofs.Crates.{is_called_same, called_next}
-use Rattle.rust_items.proofs.UntilLeaves.{FrontAlike, BeginPlain, LeafUntil, leaf_lost, leaf_same, leaf_until, LeafLost}
 use Rattle.rust_edits.proofs.Typing.Ended.{SameLoose, taken_ended}
 
 -- whether an item is ended, if there is one, and the place of a use list in it that is too deep

@@ -1,13 +1,8 @@
 -- No character of a text of UTF-8 is cut off, with returns or without them.
+use Rattle.rust_edits.proofs.Words.{nat_le, nat_lt, slice_index, behind_lead, is_full, is_continuation, is_return, with_feeds}
+use Rattle.rust_edits.proofs.Lemmas.{and_parts, nat_tests, when}
 use lib.Utf8.{scalars, scalar, next, encode, encodes, scalar_cases}
 use Rattle.std.proofs.Common.{◌≡◌, ◌⊎◌, inl, inr, ◌+◌, ◌/◌, ◌<◌, ◌≤◌, ◌==◌, ℕ, true, false, List, [], ◌∷◌, ◌++◌, length, IsUtf8, refl, ap, sym, subst, ◌∙◌, arith}
-use Rattle.std.specs.Prelude.{nat_le, nat_lt, slice_index}
-use Rattle.std.proofs.lemmas.Bool.{and_parts}
-use Rattle.std.proofs.lemmas.Bool.Decides.{nat_tests}
-use Rattle.rust_lexer.specs.Alone.{behind_lead, is_full}
-use Rattle.rust_lexer.specs.Bytes.{is_continuation}
-use Rattle.rust_cursor.proofs.Leads.{when}
-use Rattle.rust_items.specs.LineEnds.{is_return, with_feeds}
 
 -- ---- one byte
 

@@ -1,31 +1,9 @@
 -- Problems stand where they stood, or are moved with the text.
 use Rattle.std.proofs.Common.{◌≡◌, ℕ, suc, false, List, [], ◌∷◌, length, refl, ap, sym, subst, ◌∙◌, map}
-use Rattle.std.specs.Prelude.{slice_index}
-use Rattle.std.specs.List.{filter}
-use Rattle.hir_input.specs.declared.edition.EditionYear.{EditionYear}
-use Rattle.rust_lexer.specs.Alone.{StandsAlone, tokens_in_front, moved}
-use Rattle.rust_lexer.specs.Piece.{Piece}
-use Rattle.rust_lexer.specs.Symbol.{symbol_from, symbol_of}
-use Rattle.rust_lexer.specs.Tokens.{is_significant, is_significant_kind}
-use Rattle.rust_lexer.specs.declared.kind.TokenKind.{TokenKind}
+use Rattle.rust_edits.proofs.Words.{slice_index, filter, EditionYear, StandsAlone, tokens_in_front, moved, Piece, symbol_from, symbol_of, is_significant, is_significant_kind, TokenKind, Bodies, tokens_of, Problem, ProblemKind, and_problem_at, with_feeds, place_in, moved_problem, FileView, found_in, read_of, IsFile, has_body, with_body, IsTyped, Loose, none_loose, loose_behind, loose_from, loose_in, ProblemsMove, shifted_by}
+use Rattle.rust_edits.proofs.Lemmas.{body, inside_of, tokens_sound, when, AreAlike, no_more, one_more, IsAlike, Rows, found_rows}
 use Rattle.rust_lexer.specs.declared.kind.TokenKind.TheVariants as kinds
-use Rattle.rust_lexer.proofs.Whole.{body, inside_of}
-use Rattle.rust_cursor.specs.Beside.{Bodies}
-use Rattle.rust_cursor.specs.Tokens.{tokens_of}
-use Rattle.rust_cursor.proofs.Around.{tokens_sound}
-use Rattle.rust_cursor.proofs.Leads.{when}
-use Rattle.rust_cursor.proofs.Places.{AreAlike, no_more, one_more, IsAlike}
-use Rattle.rust_items.specs.declared.log.Problem.{Problem}
-use Rattle.rust_items.specs.declared.log.ProblemKind.{ProblemKind}
 use Rattle.rust_items.specs.declared.log.ProblemKind.TheVariants as problem
-use Rattle.rust_items.specs.Found.{and_problem_at}
-use Rattle.rust_items.specs.LineEnds.{with_feeds, place_in, moved_problem}
-use Rattle.rust_items.specs.SourceFiles.{FileView, found_in, read_of, IsFile}
-use Rattle.rust_items.specs.Typed.{has_body}
-use Rattle.rust_items.proofs.UntilItems.{Rows, found_rows}
-use Rattle.rust_edits.specs.Typing.Laws.{with_body, IsTyped}
-use Rattle.rust_edits.specs.Typing.Loose.{Loose, none_loose, loose_behind, loose_from, loose_in, ProblemsMove}
-use Rattle.rust_edits.specs.Typing.Moved.{shifted_by}
 use Rattle.rust_edits.proofs.Typing.Ended.{SameLoose}
 use Rattle.rust_edits.proofs.Typing.Moved.{place_is}
 use Rattle.rust_edits.proofs.Typing.ProblemsAlike.{ProblemAlike, maybe_same, FileTold, of_none, alike, file_told}

@@ -1,20 +1,11 @@
 -- Items and use trees stand where they stood, or are moved with the text.
 use Rattle.std.proofs.Common.{◌≡◌, ◌≤◌, ℕ, List, ◌∷◌, length, refl, ap, sym, subst, ◌∙◌, map, arith}
-use Rattle.std.specs.Prelude.{All}
-use Rattle.std.proofs.lemmas.List.Elements.{All-nil, All-append, All-head, All-tail, All-weaker}
-use Rattle.hir_input.specs.declared.edition.EditionYear.{EditionYear}
-use Rattle.hir_input.specs.Syntax.{ItemViews}
+use Rattle.rust_edits.proofs.Words.{found_in, All, EditionYear, ItemViews, ItemPlace, with_feeds, place_in, FileView, IsFile, with_body, IsTyped, shifted_by, AreMoved, PlacesMove}
+use Rattle.rust_edits.proofs.Lemmas.{All-nil, All-append, All-head, All-tail, All-weaker, close_some, AreAlike, no_more, one_more, unmoved, moves}
 use Rattle.hir_input.specs.UseTreeView.{UseTreeView}
-use Rattle.rust_cursor.proofs.Ordered.{close_some}
-use Rattle.rust_cursor.proofs.Places.{AreAlike, no_more, one_more, unmoved, moves}
-use Rattle.rust_items.specs.declared.source_file.ItemPlace.{ItemPlace}
-use Rattle.rust_items.specs.LineEnds.{with_feeds, place_in}
-use Rattle.rust_items.specs.SourceFiles.{FileView, IsFile}
 use Rattle.rust_items.proofs.FilePlaces.{text_found}
 use Rattle.rust_items.proofs.Moving.{files_moved}
 use Rattle.rust_items.proofs.UsesFound.{IsIn, UsesIn, no_uses, leaf_uses, holder_uses}
-use Rattle.rust_edits.specs.Typing.Laws.{with_body, IsTyped}
-use Rattle.rust_edits.specs.Typing.Moved.{shifted_by, AreMoved, PlacesMove}
 use Rattle.rust_edits.proofs.Typing.Texts.{IsMoved}
 use Rattle.rust_edits.proofs.Typing.Typing.{both_read, same_ids}
 use Rattle.rust_edits.proofs.Typing.Returns.{feeds_body, body_length, place_stays, place_moves}
@@ -30,7 +21,7 @@ place_is q m m' s n k l (moves c low e f) =
     ap (place_in (with_body q m' s)) f ∙ place_moves q m m' s c (omega (arith, some, low)) (omega (arith, e, long, l)) ∙ ap (λ i. shifted_by q m m' (place_in (with_body q m s) i)) (sym e)
 
 -- use trees begin in the text
-pub uses_below : {R : ℕ → UseTreeView → Type 0} {from to : ℕ} {is : ItemViews} {ps : List ItemPlace} {us : List ℕ} (end : ℕ) → to ≤ end → UsesIn R from to is ps us → All (λ n. n ≤ end) us
+uses_below : {R : ℕ → UseTreeView → Type 0} {from to : ℕ} {is : ItemViews} {ps : List ItemPlace} {us : List ℕ} (end : ℕ) → to ≤ end → UsesIn R from to is ps us → All (λ n. n ≤ end) us
 uses_below end h no_uses = All-nil (λ n. n ≤ end)
 uses_below end h (leaf_uses {p = p} own behind e none w own_in each later) =
     let ends = w.ends in
@@ -39,6 +30,9 @@ uses_below end h (leaf_uses {p = p} own behind e none w own_in each later) =
 uses_below end h (holder_uses {p = p} inner later below behind e f same w a b) =
     let ends = w.ends in
     subst (All (λ n. n ≤ end)) (sym f) (All-append (λ n. n ≤ end) below behind (uses_below end (omega arith) a) (uses_below end h b))
+
+pub uses_within : (edition : EditionYear) (x : List ℕ) → All (λ n. n ≤ length x) (found_in edition x).use_trees
+uses_within edition x = let own = text_found edition x in subst (All (λ n. n ≤ length x)) (sym own.more) (uses_below (length x) (omega arith) own.uses)
 
 starts_are : (q m m' s : List ℕ) {xs ys : List ℕ} → All (λ n. n ≤ length (with_body (with_feeds q) (with_feeds m) (with_feeds s))) xs → AreAlike (IsMoved (with_feeds q) (with_feeds m) (with_feeds m') (with_feeds s)) xs ys
     → map (place_in (with_body q m' s)) ys ≡ map (shifted_by q m m') (map (place_in (with_body q m s)) xs)
@@ -57,11 +51,10 @@ read_moved edition q m m' s file file' t f g =
     let x = with_body (with_feeds q) (with_feeds m) (with_feeds s) in
     let x' = with_body (with_feeds q) (with_feeds m') (with_feeds s) in
     let r = both_read edition (with_feeds q) (with_feeds m) (with_feeds m') (with_feeds s) t in
-    let own = text_found edition x in
     let ids = same_ids edition x x' (place_in (with_body q m s)) (place_in (with_body q m' s)) file file' f g r.found.rows in
     record {
       places = files_moved edition x x' (place_in (with_body q m s)) (place_in (with_body q m' s)) (shifted_by q m m') (IsMoved (with_feeds q) (with_feeds m) (with_feeds m') (with_feeds s)) (place_is q m m' s) file file' f g ids r.found.spans;
-      use_trees = g.use_trees ∙ starts_are q m m' s (subst (All (λ n. n ≤ length x)) (sym own.more) (uses_below (length x) (omega arith) own.uses)) r.found.use_trees ∙ ap (map (shifted_by q m m')) (sym f.use_trees);
+      use_trees = g.use_trees ∙ starts_are q m m' s (uses_within edition x) r.found.use_trees ∙ ap (map (shifted_by q m m')) (sym f.use_trees);
     }
 
 pub places_move : PlacesMove

@@ -1,12 +1,9 @@
 -- The `{` of a body is a token.
 use Rattle.std.proofs.Common.{◌≡◌, ◌+◌, List, ◌∷◌, ◌++◌, length, subst, arith}
-use Rattle.rust_lexer.specs.Piece.{Piece}
-use Rattle.rust_lexer.specs.Tokens.{tokens}
+use Rattle.rust_edits.proofs.Words.{Piece, tokens, tokens_of, with_body}
+use Rattle.rust_edits.proofs.Lemmas.{plain_is}
 use Rattle.rust_edits.proofs.Typing.Begins.{Begins, unfiltered, begins_whole}
-use Rattle.rust_lexer.proofs.Whole.{plain_is}
-use Rattle.rust_cursor.specs.Tokens.{tokens_of}
 use Rattle.rust_edits.proofs.Typing.BodyStarts.{body_starts}
-use Rattle.rust_edits.specs.Typing.Laws.{with_body}
 use Rattle.rust_edits.specs.Typing.Opened.{BodyOpens}
 
 pub body_opens : BodyOpens

@@ -1,11 +1,7 @@
 -- Problems stand in the text.
 use Rattle.std.proofs.Common.{◌≤◌, ℕ, List, [], ◌∷◌, length, map, sym, subst, arith}
-use Rattle.std.specs.Prelude.{All}
-use Rattle.std.proofs.lemmas.List.Elements.{All-nil, All-cons}
-use Rattle.rust_items.specs.declared.log.Problem.{Problem}
-use Rattle.rust_items.specs.LineEnds.{with_feeds, place_in, moved_problem}
-use Rattle.rust_items.specs.SourceFiles.{found_in}
-use Rattle.rust_items.proofs.LineEnds.{place_le, place_rises_in, place_within}
+use Rattle.rust_edits.proofs.Words.{All, Problem, with_feeds, place_in, moved_problem, found_in}
+use Rattle.rust_edits.proofs.Lemmas.{All-nil, All-cons, place_le, place_rises_in, place_within}
 use Rattle.rust_edits.specs.Typing.Problems.{ProblemsStand}
 use Rattle.rust_edits.proofs.Typing.ProblemsIn.{AreIn, problems_in}
 

@@ -1,48 +1,22 @@
 -- The problems of two texts that differ between the braces of one item are the same, where they stood or moved with the text.
 use Rattle.std.proofs.Common.{◌≡◌, ◌≤◌, ◌<◌, ◌+◌, ◌==◌, ◌||◌, ◌&&◌, ℕ, zero, suc, Bool, true, false, Option, Some, None, List, [], ◌∷◌, ◌++◌, map, refl, ap, sym, ◌∙◌, arith}
-use Rattle.std.specs.Prelude.{is_none, is_some, option_to_list}
-use Rattle.std.proofs.lemmas.Bool.{eqb-true}
-use Rattle.std.proofs.lemmas.Bool.Decides.{nat_tests}
-use Rattle.hir_input.specs.declared.ids.AstIdKind.{AstIdKind}
+use Rattle.rust_edits.proofs.Words.{is_none, is_some, option_to_list, AstIdKind, MetaView, ItemView, ItemViews, fn_kind, static_kind, type_alias_kind, plain_item, macro_call, Tokens, symbol, eat, is_at_end, bumped, most, beyond, Bodies, Beside, ahead, TextRange, inner_attributes, Head, FrontRead, front, NameRead, LeafRead, no_name, named, leaf, Problem, ProblemKind, ItemPlace, Found, Finder, nothing_found, and_problem, and_problem_at, BlockRead, span_of, needs_name, and_flaw, and_item, and_leaf, and_parent, leaf_found, leaf_turn, finding_from, finding, is_list_end, block_of, as_extern, extern_kept, extern_found, extern_turn, extern_inside, extern_block, unmatched, inside_unless, module_with, some_item, by_head, turn_with, inside, turn, depth_of, items, begins_at, has_body, Telling, IsBodyIn, ArePlaces, placed}
+use Rattle.rust_edits.proofs.Lemmas.{eqb-true, nat_tests, IsSound, sound_on, LeadsTo, further, through, when, eat_leads, beyond_leads, AreAlike, no_more, one_more, alike_join, IsAlike, neither, both, SamePlace, at_place, before_at, behind_at, inner_attributes_leads, LeafAlike, named_local, named_leads, behind_others_leads, front_takes, front_start, Span, adds_item, adds_problem_at, adds_use_trees, AreFound, Finds, FindsIn, list_from, list_found, place_span, inside_found, turn_found, turn_with_found, extern_turn_found, extern_inside_found, unless_found, FrontAlike, front_until, BeginPlain, LeafLost, leaf_gone}
 use Rattle.hir_input.specs.declared.ids.AstIdKind.TheVariants as kind
-use Rattle.hir_input.specs.Attr.{MetaView}
 use Rattle.hir_input.specs.Bodies.{item_without_bodies}
-use Rattle.hir_input.specs.Syntax.{ItemView, ItemViews, fn_kind, static_kind, type_alias_kind, plain_item, macro_call}
-use Rattle.rust_cursor.specs.Tokens.{Tokens}
-use Rattle.rust_cursor.specs.Words.{symbol, eat, is_at_end, bumped}
-use Rattle.rust_cursor.specs.Elements.{most, beyond}
-use Rattle.rust_cursor.specs.Beside.{Bodies, Beside, ahead, behind}
-use Rattle.rust_cursor.proofs.Around.{IsSound, sound_on}
+use Rattle.rust_cursor.specs.Beside.{behind}
 use Rattle.rust_cursor.proofs.Laid as laid
-use Rattle.rust_cursor.proofs.Leads.{LeadsTo, further, through, when, eat_leads, beyond_leads}
 use Rattle.rust_cursor.proofs.Local.{eat_local}
 use Rattle.rust_cursor.proofs.Alike.{by_stayed}
 use Rattle.rust_cursor.proofs.Passing.{beyond_beside, behind_tree_beside}
-use Rattle.rust_cursor.proofs.Places.{AreAlike, no_more, one_more, alike_join, IsAlike, neither, both, SamePlace, at_place}
 use Rattle.rust_cursor.proofs.Until.{Gone, gone_on, by_kept, by_next, bumped_onward}
-use Rattle.rust_cursor.proofs.Views.{before_at, behind_at, symbol_same, empty_same, end_same}
-use Rattle.rust_paths.specs.declared.names.TextRange.{TextRange}
-use Rattle.rust_metas.specs.Attributes.{inner_attributes}
-use Rattle.rust_metas.proofs.Leads.{inner_attributes_leads}
+use Rattle.rust_cursor.proofs.Views.{symbol_same, empty_same, end_same}
 use Rattle.rust_metas.proofs.UntilAttributes.{inner_attributes_until}
-use Rattle.rust_leaves.specs.declared.head.Head.{Head}
 use Rattle.rust_leaves.specs.declared.head.Head.TheVariants as heads
-use Rattle.rust_leaves.specs.Fronts.{FrontRead, front}
-use Rattle.rust_leaves.specs.Leaves.{NameRead, LeafRead, no_name, named}
-use Rattle.rust_leaves.specs.Kinds.{leaf}
 use Rattle.rust_leaves.proofs.Fronts.{behind_others_beside}
-use Rattle.rust_leaves.proofs.Beside.{LeafAlike, named_local}
-use Rattle.rust_items.specs.declared.log.Problem.{Problem}
-use Rattle.rust_items.specs.declared.log.ProblemKind.{ProblemKind}
 use Rattle.rust_items.specs.declared.log.ProblemKind.TheVariants as problem
-use Rattle.rust_items.specs.declared.source_file.ItemPlace.{ItemPlace}
-use Rattle.rust_items.specs.Found.{Found, Finder, nothing_found, and_problem, and_problem_at}
-use Rattle.rust_items.specs.Items.{BlockRead, span_of, needs_name, and_flaw, and_item, and_leaf, and_parent, leaf_found, leaf_turn, finding_from, finding, is_list_end, block_of, as_extern, extern_kept, extern_found, extern_turn, extern_inside, extern_block, one_more as one_deeper, unmatched, inside_unless, module_with, some_item, by_head, turn_with, inside, turn, depth_of, items}
-use Rattle.rust_items.specs.Typed.{begins_at, has_body}
-use Rattle.rust_items.specs.Places.{Telling, IsBodyIn, ArePlaces, nothing, placed}
-use Rattle.rust_items.proofs.Leads.{named_leads, behind_others_leads, front_takes, front_start}
-use Rattle.rust_items.proofs.Places.{Span, adds_item, adds_problem_at, adds_use_trees, AreFound, Finds, FindsIn, list_from, list_found, place_span, inside_found, turn_found, turn_with_found, extern_turn_found, extern_inside_found, unless_found}
-use Rattle.rust_items.proofs.UntilLeaves.{FrontAlike, front_until, BeginPlain, LeafLost, leaf_gone}
+use Rattle.rust_items.specs.Items.{one_more as one_deeper}
+use Rattle.rust_items.specs.Places.{nothing}
 use Rattle.rust_edits.proofs.Typing.Ended.{SameLoose}
 use Rattle.rust_edits.proofs.Typing.EndedLeaves.{SameFlaws, LeafTold, lost as leaf_lost, told as told_leaf, leaf_told}
 

@@ -1,13 +1,7 @@
 -- Returns of a text with braces in it, and the places that they move.
 use Rattle.std.proofs.Common.{◌≡◌, ◌<◌, ◌≤◌, ◌+◌, ◌==◌, ℕ, suc, true, false, List, [], ◌∷◌, ◌++◌, length, refl, ap, ◌∙◌, arith, length-append}
-use Rattle.std.specs.Prelude.{nat_le, nat_lt, slice_index}
-use Rattle.std.proofs.lemmas.Bool.Decides.{nat_tests}
-use Rattle.rust_cursor.proofs.Leads.{when}
-use Rattle.rust_items.specs.LineEnds.{is_return, with_feeds, returns_from, place_in}
-use Rattle.std.proofs.lemmas.Bool.{and_parts, le-leb, lt-ltb}
-use Rattle.rust_items.proofs.LineEnds.{returns_count, prefix_short, below_none, before}
-use Rattle.rust_edits.specs.Typing.Laws.{with_body}
-use Rattle.rust_edits.specs.Typing.Moved.{shifted_by, close_at}
+use Rattle.rust_edits.proofs.Words.{nat_le, nat_lt, slice_index, is_return, with_feeds, returns_from, place_in, with_body, shifted_by, close_at}
+use Rattle.rust_edits.proofs.Lemmas.{nat_tests, when, and_parts, le-leb, lt-ltb, returns_count, prefix_short, below_none, before}
 
 pub not_le : (m n : ℕ) → n < m → nat_le m n ≡ false
 not_le m n h = grind (arith, nat_tests)

@@ -1,30 +1,11 @@
 -- The tokens of two texts that differ between two braces.
 use Rattle.std.proofs.Common.{◌≡◌, ◌≤◌, ◌<◌, ℕ, arith, true, false, suc, ◌+◌, Option, Some, List, [], ◌∷◌, ◌++◌, length, refl, ap, sym, subst, ◌∙◌, map}
-use Rattle.std.specs.List.{filter}
-use Rattle.hir_input.specs.declared.edition.EditionYear.{EditionYear}
-use Rattle.rust_lexer.specs.declared.kind.DocStyle.TheVariants.{Inner}
-use Rattle.rust_lexer.specs.declared.kind.TokenKind.{TokenKind}
+use Rattle.rust_edits.proofs.Words.{filter, EditionYear, Inner, TokenKind, StandsAlone, opening, tokens_in_front, moved, Piece, symbol_from, symbol_of, is_significant, Tokens, end_of, tokens_of, kind, symbol, bumped, turns, Bodies, AreBehind, Beside, ahead, is_style, is_doc, is_attribute, is_behind, inner_attributes, attributes, style_by, with_body, OpensAt, first_plain, BeginsPlain}
+use Rattle.rust_edits.proofs.Lemmas.{open_at, inside_of, body, body_matched, close_of, close_symbol, left_of, front_of, counted_apart, filter_moved, front_same, tokens_at, bumped_at, front_before, left_behind, Moves, SamePlace, BeginPlain}
 use Rattle.rust_lexer.specs.declared.kind.TokenKind.TheVariants as kinds
-use Rattle.rust_lexer.specs.Alone.{StandsAlone, opening, tokens_in_front, moved}
-use Rattle.rust_lexer.specs.Piece.{Piece}
-use Rattle.rust_lexer.specs.Symbol.{symbol_from, symbol_of}
-use Rattle.rust_lexer.specs.Tokens.{is_significant}
 use Rattle.rust_lexer.proofs.Counted.{when}
-use Rattle.rust_lexer.proofs.Whole.{open_at, inside_of, body, body_matched, close_of, close_symbol, left_of, front_of, counted_apart, filter_moved}
 use Rattle.rust_lexer.proofs.Whole as wholes
-use Rattle.rust_lexer.proofs.Apart.{front_same}
-use Rattle.rust_cursor.specs.Tokens.{Tokens, end_of, tokens_of}
-use Rattle.rust_cursor.specs.Words.{kind, symbol, bumped}
-use Rattle.rust_cursor.specs.Elements.{turns}
-use Rattle.rust_cursor.specs.Beside.{Bodies, AreBehind, Beside, ahead}
-use Rattle.rust_cursor.proofs.Braced.{tokens_at, bumped_at}
-use Rattle.rust_cursor.proofs.Ordered.{front_before, left_behind}
-use Rattle.rust_cursor.proofs.Places.{Moves, SamePlace}
 use Rattle.rust_cursor.proofs.Turns.{turns_stop}
-use Rattle.rust_metas.specs.Attributes.{is_style, is_doc, is_attribute, is_behind, inner_attributes, attributes}
-use Rattle.rust_metas.specs.Literals.{style_by}
-use Rattle.rust_items.proofs.UntilLeaves.{BeginPlain}
-use Rattle.rust_edits.specs.Typing.Laws.{with_body, OpensAt, first_plain, BeginsPlain}
 
 -- ---- the braces
 

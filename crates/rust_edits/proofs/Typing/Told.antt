@@ -1,10 +1,7 @@
 -- Which braces are a body is told by the places of what was read.
 use Rattle.std.proofs.Common.{◌≡◌, ◌+◌, ℕ, List, ◌∷◌, ◌++◌, length, ap, subst, ◌∙◌, arith, length-append}
-use Rattle.rust_items.specs.LineEnds.{with_feeds, place_in}
-use Rattle.rust_items.specs.SourceFiles.{found_in}
-use Rattle.rust_items.specs.Typed.{has_body, has_body_at}
+use Rattle.rust_edits.proofs.Words.{with_feeds, place_in, found_in, has_body, has_body_at, BodyIsTold}
 use Rattle.rust_items.proofs.Told.{file_told}
-use Rattle.rust_edits.specs.Typing.Moved.{BodyIsTold}
 
 pub body_is_told : BodyIsTold
 body_is_told edition q m s old read e f =

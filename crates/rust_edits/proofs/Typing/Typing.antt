@@ -1,25 +1,11 @@
 -- Typing inside a body changes no syntax but for its body texts.
 use Rattle.std.proofs.Common.{◌≡◌, ℕ, false, List, length, refl, ap, sym, subst, ◌∙◌, map}
-use Rattle.hir_input.specs.declared.edition.EditionYear.{EditionYear}
-use Rattle.hir_input.specs.declared.ids.FileAstId.{FileAstId}
-use Rattle.hir_input.specs.Attr.{MetaView}
+use Rattle.rust_edits.proofs.Words.{EditionYear, FileAstId, MetaView, ItemView, ItemViews, items_from, source_file, tokens_of, Bodies, Row, AreIds, inner_attributes, with_ids, place_in, has_body, FileView, found_in, items_in, read_of, IsFile, with_body, IsTyped, TypingInside}
+use Rattle.rust_edits.proofs.Lemmas.{tokens_sound, Rows, rows_of, RowsAlike, by_rows, ListAlike, FileUntil, of_none, alike, file_until, found_rows}
 use Rattle.hir_input.specs.Bodies.{item_without_bodies, items_without_bodies, without_bodies}
-use Rattle.hir_input.specs.Syntax.{ItemView, ItemViews, items_from, source_file}
-use Rattle.rust_cursor.specs.Tokens.{tokens_of}
-use Rattle.rust_cursor.specs.Beside.{Bodies}
-use Rattle.rust_cursor.proofs.Around.{tokens_sound}
-use Rattle.rust_ids.specs.Row.{Row}
-use Rattle.rust_ids.specs.Ids.{AreIds}
 use Rattle.rust_ids.proofs.Consequences.{determined}
-use Rattle.rust_metas.specs.Attributes.{inner_attributes}
-use Rattle.rust_items.specs.Ids.{with_ids}
-use Rattle.rust_items.specs.LineEnds.{place_in}
-use Rattle.rust_items.specs.Typed.{has_body}
-use Rattle.rust_items.specs.SourceFiles.{FileView, found_in, items_in, read_of, IsFile}
 use Rattle.rust_items.proofs.Bare.{from_list}
 use Rattle.rust_items.proofs.Bodiless.{with_bodiless}
-use Rattle.rust_items.proofs.UntilItems.{Rows, rows_of, RowsAlike, by_rows, ListAlike, FileUntil, of_none, alike, file_until, found_rows}
-use Rattle.rust_edits.specs.Typing.Laws.{with_body, IsTyped, TypingInside}
 use Rattle.rust_edits.proofs.Typing.Texts.{bodies, bodies_at, IsMoved, are_moved, tokens_beside, begin_plain}
 
 -- ---- what was found

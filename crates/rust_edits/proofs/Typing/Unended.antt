@@ -1,51 +1,40 @@
 -- Whether the last token is ended is the same in two texts that differ between two braces, and where it stands is moved.
 use Rattle.std.proofs.Common.{◌≡◌, ◌≤◌, ℕ, zero, suc, ◌+◌, ◌==◌, ◌||◌, ◌&&◌, true, false, Option, None, List, [], ◌∷◌, ◌++◌, length, take, refl, ap, sym, ◌∙◌, map, arith}
-use Rattle.std.specs.Prelude.{not}
-use Rattle.std.proofs.lemmas.Bool.Decides.{nat_tests}
-use Rattle.hir_input.specs.declared.edition.EditionYear.{EditionYear}
-use Rattle.rust_lexer.specs.Alone.{StandsAlone, is_fence, tokens_in_front, moved}
-use Rattle.rust_lexer.specs.Bytes.{is_wide_start}
-use Rattle.rust_lexer.specs.Cut.{first_cut}
-use Rattle.rust_lexer.specs.Piece.{Piece}
-use Rattle.rust_lexer.specs.Symbol.{symbol_of}
-use Rattle.rust_lexer.specs.Terminated.{is_terminated}
-use Rattle.rust_lexer.specs.Tokens.{has_mark, is_blank, is_bracket_next, is_shebang, piece, tokens_from, whole}
-use Rattle.rust_lexer.proofs.Apart.{apart}
-use Rattle.rust_lexer.proofs.Whole.{open_at, close_of, plain_is}
-use Rattle.rust_cursor.specs.Tokens.{end_of, place_if_open, last_unended, tokens_of}
-use Rattle.rust_cursor.proofs.Leads.{when}
-use Rattle.rust_cursor.proofs.Places.{IsAlike, neither, both, Moves, moves}
-use Rattle.rust_edits.specs.Typing.Laws.{with_body, OpensAt}
+use Rattle.rust_edits.proofs.Words.{not, EditionYear, Stop, opening, StandsAlone, is_fence, tokens_in_front, moved, is_wide_start, first_cut, Piece, symbol_of, is_terminated, has_mark, is_blank, is_bracket_next, is_shebang, piece, tokens_from, whole, end_of, place_if_open, last_unended, tokens_of, with_body, OpensAt}
+use Rattle.rust_edits.proofs.Lemmas.{nat_tests, apart, stop_at, open_at, close_of, plain_is, when, IsAlike, neither, both, Moves, moves}
 use Rattle.rust_edits.proofs.Typing.Texts.{IsMoved}
 
 -- ---- what may stand in front of a text
 
-mark_same : (q y y' : List ℕ) → has_mark (q ++ 123 ∷ y') ≡ has_mark (q ++ 123 ∷ y)
-mark_same (a ∷ []) y y' = when (a == 239) (λ e. rw e refl) (λ e. rw e refl)
-mark_same (a ∷ b ∷ []) y y' = when (a == 239 && b == 187) (λ e. rw e refl) (λ e. rw e refl)
-mark_same _ y y' = refl
+module _ (s : ℕ) (feed : (s == 10 || s == 13) ≡ false) (dash : (s == 45) ≡ false) where
+  pub fence_by : (x y y' : List ℕ) → is_fence (x ++ s ∷ y') ≡ is_fence (x ++ s ∷ y)
+  fence_by [] y y' = rw (feed, dash) refl
+  fence_by (b ∷ []) y y' =
+      when (b == 10 || b == 13) (λ e. rw e (fence_by [] y y')) (λ e. when (b == 45) (λ f. rw (e, f, dash) refl) (λ f. rw (e, f) refl))
+  fence_by (b ∷ c ∷ []) y y' =
+      when (b == 10 || b == 13) (λ e. rw e (fence_by (c ∷ []) y y'))
+      (λ e. when (b == 45) (λ f. when (c == 45) (λ g. rw (e, f, g, dash) refl) (λ g. rw (e, f, g) refl)) (λ f. rw (e, f) refl))
+  fence_by (b ∷ c ∷ d ∷ x) y y' =
+      when (b == 10 || b == 13) (λ e. rw e (fence_by (c ∷ d ∷ x) y y'))
+      (λ e. when (b == 45)
+      (λ f. when (c == 45) (λ g. when (d == 45) (λ i. rw (e, f, g, i) (grind (arith, nat_tests))) (λ i. rw (e, f, g, i) refl)) (λ g. rw (e, f, g) refl))
+      (λ f. rw (e, f) refl))
 
-bracket_same : (x l l' : List Piece) (at : ℕ) → is_bracket_next (x ++ open_at at ∷ l') ≡ is_bracket_next (x ++ open_at at ∷ l)
-bracket_same [] l l' at = refl
-bracket_same (t ∷ x) l l' at = when (is_blank t.kind) (λ e. rw e (bracket_same x l l' at)) (λ e. rw e refl)
+pub mark_by : (s : ℕ) → (s == 239) ≡ false → (s == 187) ≡ false → (x y y' : List ℕ) → has_mark (x ++ s ∷ y') ≡ has_mark (x ++ s ∷ y)
+mark_by s p q [] y y' = rw p refl
+mark_by s p q (a ∷ []) y y' = when (a == 239) (λ e. rw (e, q) refl) (λ e. rw e refl)
+mark_by s p q (a ∷ b ∷ []) y y' = refl
+mark_by s p q (a ∷ b ∷ c ∷ x) y y' = refl
 
-shebang_same : (x l l' : List Piece) (at : ℕ) → is_shebang (x ++ open_at at ∷ l') ≡ is_shebang (x ++ open_at at ∷ l)
-shebang_same (t ∷ u ∷ x) l l' at = ap (λ r. symbol_of t == 35 && (symbol_of u == 33 && not r)) (bracket_same x l l' at)
-shebang_same _ l l' at = refl
+bracket_on : (o : Stop) (at : ℕ) (xs l l' : List Piece) → is_bracket_next (xs ++ stop_at o at ∷ l') ≡ is_bracket_next (xs ++ stop_at o at ∷ l)
+bracket_on o at (t ∷ xs) l l' = when (is_blank t.kind) (λ e. rw e (bracket_on o at xs l l')) (λ e. rw e refl)
+bracket_on opening at _ l l' = refl
+bracket_on _ at _ l l' = refl
 
-fence_same : (q y y' : List ℕ) → is_fence (q ++ 123 ∷ y') ≡ is_fence (q ++ 123 ∷ y)
-fence_same [] y y' = refl
-fence_same (b ∷ []) y y' = when (b == 10 || b == 13) (λ e. rw e refl) (λ e. when (b == 45) (λ f. rw (e, f) refl) (λ f. rw (e, f) refl))
-fence_same (b ∷ c ∷ []) y y' =
-    when (b == 10 || b == 13)
-    (λ e. rw e (fence_same (c ∷ []) y y'))
-    (λ e. when (b == 45) (λ f. when (c == 45) (λ g. rw (e, f, g) refl) (λ g. rw (e, f, g) refl)) (λ f. rw (e, f) refl))
-fence_same (b ∷ c ∷ d ∷ q) y y' =
-    when (b == 10 || b == 13)
-    (λ e. rw e (fence_same (c ∷ d ∷ q) y y'))
-    (λ e. when (b == 45)
-    (λ f. when (c == 45) (λ g. when (d == 45) (λ i. rw (e, f, g, i) (grind (arith, nat_tests))) (λ i. rw (e, f, g, i) refl)) (λ g. rw (e, f, g) refl))
-    (λ f. rw (e, f) refl))
+pub shebang_on : (o : Stop) (at : ℕ) (xs l l' : List Piece) → is_shebang (xs ++ stop_at o at ∷ l') ≡ is_shebang (xs ++ stop_at o at ∷ l)
+shebang_on o at (t ∷ u ∷ xs) l l' = ap (λ r. symbol_of t == 35 && (symbol_of u == 33 && not r)) (bracket_on o at xs l l')
+shebang_on opening at _ l l' = refl
+shebang_on _ at _ l l' = refl
 
 -- ---- the last token
 
@@ -74,8 +63,8 @@ unended_is edition q m m' s o h h' =
     let behind = map (moved d) (tokens_from 0 0 (125 ∷ s)) in
     let old = apart q m m s o.full o.one h in
     let new = apart q m m' s o.full o.one h' in
-    let bare : is_shebang (tokens_from 0 0 (q ++ 123 ∷ y')) ≡ false = ap is_shebang new ∙ shebang_same first _ (within ++ behind) (length q) ∙ ap is_shebang (sym old) ∙ o.bare in
-    let all = plain_is (q ++ 123 ∷ y') (mark_same q y y' ∙ o.plain) bare (fence_same q y y' ∙ o.unfenced) ∙ new in
+    let bare : is_shebang (tokens_from 0 0 (q ++ 123 ∷ y')) ≡ false = ap is_shebang new ∙ shebang_on opening (length q) first _ (within ++ behind) ∙ ap is_shebang (sym old) ∙ o.bare in
+    let all = plain_is (q ++ 123 ∷ y') (mark_by 123 refl refl q y y' ∙ o.plain) bare (fence_by 123 refl refl q y y' ∙ o.unfenced) ∙ new in
     let ended = close_ended s in
     let none : place_if_open (moved d close) ≡ None = rw ended refl in
     ap (last_unended None) all ∙ last_append None first (open_at (length q) ∷ (within ++ behind)) ∙ last_append None within behind ∙ ap (λ l. last_unended l (map (moved d) (later s))) none

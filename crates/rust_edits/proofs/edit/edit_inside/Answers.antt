@@ -1,4 +1,4 @@
-use Rattle.std.proofs.Common.{rules, length, subst, ◌<◌, ◌^◌, ◌≡◌, ◌++◌, true, false, Option, Some}
+use Rattle.std.proofs.Common.{rules, length, subst, ◌<◌, ◌^◌, ◌≡◌, ◌++◌, true, Option, Some}
 use Rattle.std.specs.Prelude.{◌↔◌, IsSome}
 use Rattle.rust_items.specs.LineEnds.{with_feeds}
 use Rattle.rust_items.specs.Typed.{has_body_at}
@@ -39,54 +39,27 @@ returns c =
           subst (λ (o : Option Shift). IsSome o ↔ MayEdit items old range typed) c.in-Some-shift_of.is
           (all_told items old typed range body about p parts c.shift_of.result c.shift_of.ensures.told small small_typed bare c.utf8.typed alone alone_new);
       loose = λ ordered.
-          let about : Some body ≡ body_about range.start items = search (rules, c.body_about.ensures.told ordered) in
-          loose_told items old typed range body about p parts keeps (loose_kept old typed items body range p shift bare told parts c.utf8.typed alone alone_new moves keeps counted)
+          loose_told items old typed range body (search (rules, c.body_about.ensures.told ordered)) p parts keeps
+          (loose_kept old typed items body range p shift bare told parts c.utf8.typed alone alone_new moves keeps counted)
           (kept_loose old typed items body range p shift bare told parts c.utf8.typed alone alone_new moves keeps counted);
     }
 
 pub returns-in_default-2-clause-told : goal.returns-in_default-2-clause-told
 returns-in_default-2-clause-told c =
-    let old = c.args.old.now in
-    let typed = c.args.typed.now in
-    let items = c.args.items.now in
-    let range = c.args.range in
-    let body = c.in-Some.body in
-    let p = c.in-Some-parts_of.parts in
-    let parts : AreCut old body range p = search rules in
-    let off : is_alone (with_feeds (in_braces (p.front.now ++ (p.replaced.now ++ p.back.now)))) ≡ false = search rules in
     λ ordered.
-    let about : Some body ≡ body_about range.start items = search (rules, c.body_about.ensures.told ordered) in
-    none_told BodyEdit (MayEdit items old range typed) (not_stood items old typed range body about p parts off)
+    none_told BodyEdit (MayEdit c.args.items.now c.args.old.now c.args.range c.args.typed.now)
+    (not_stood c.args.items.now c.args.old.now c.args.typed.now c.args.range c.in-Some.body (search (rules, c.body_about.ensures.told ordered)) c.in-Some-parts_of.parts (search rules) (search rules))
 
 pub returns-in_default-3-clause-told : goal.returns-in_default-3-clause-told
 returns-in_default-3-clause-told c =
-    let old = c.args.old.now in
-    let typed = c.args.typed.now in
-    let items = c.args.items.now in
-    let range = c.args.range in
-    let body = c.in-Some.body in
-    let p = c.in-Some-parts_of.parts in
-    let parts : AreCut old body range p = search rules in
-    let off : is_alone (with_feeds (in_braces (p.front.now ++ (typed ++ p.back.now)))) ≡ false = search rules in
     λ ordered.
-    let about : Some body ≡ body_about range.start items = search (rules, c.body_about.ensures.told ordered) in
-    none_told BodyEdit (MayEdit items old range typed) (not_stands items old typed range body about p parts off)
+    none_told BodyEdit (MayEdit c.args.items.now c.args.old.now c.args.range c.args.typed.now)
+    (not_stands c.args.items.now c.args.old.now c.args.typed.now c.args.range c.in-Some.body (search (rules, c.body_about.ensures.told ordered)) c.in-Some-parts_of.parts (search rules) (search rules))
 
 pub returns-in_default-shift_of-clause-told : goal.returns-in_default-shift_of-clause-told
 returns-in_default-shift_of-clause-told c =
-    let old = c.args.old.now in
-    let typed = c.args.typed.now in
-    let items = c.args.items.now in
-    let range = c.args.range in
-    let body = c.in-Some.body in
-    let p = c.in-Some-parts_of.parts in
-    let bare : begins_bare old ≡ true = search rules in
-    let parts : AreCut old body range p = search rules in
-    let alone : is_alone (with_feeds (in_braces (p.front.now ++ (p.replaced.now ++ p.back.now)))) ≡ true = search rules in
-    let alone_new : is_alone (with_feeds (in_braces (p.front.now ++ (typed ++ p.back.now)))) ≡ true = search rules in
-    let small : length old < 2 ^ 63 = search rules in
-    let small_typed : length typed < 2 ^ 63 = search rules in
+    let may = MayEdit c.args.items.now c.args.old.now c.args.range c.args.typed.now in
     λ ordered.
-    let about : Some body ≡ body_about range.start items = search (rules, c.body_about.ensures.told ordered) in
-    let told = all_told items old typed range body about p parts c.shift_of.result c.shift_of.ensures.told small small_typed bare c.utf8.typed alone alone_new in
-    none_told BodyEdit (MayEdit items old range typed) (off c.shift_of.result (MayEdit items old range typed) told c.in_default-shift_of.is)
+    none_told BodyEdit may (off c.shift_of.result may
+    (all_told c.args.items.now c.args.old.now c.args.typed.now c.args.range c.in-Some.body (search (rules, c.body_about.ensures.told ordered)) c.in-Some-parts_of.parts (search rules)
+    c.shift_of.result c.shift_of.ensures.told (search rules) (search rules) (search rules) c.utf8.typed (search rules) (search rules)) c.in_default-shift_of.is)
