@@ -1,7 +1,7 @@
 -- What was found to stand alone in braces does.
-use Rattle.std.proofs.Common.{◌≡◌, ◌≤◌, ◌+◌, ◌-◌, ◌==◌, ℕ, zero, suc, true, false, Option, Some, None, List, [], ◌∷◌, ◌++◌, length, map, IsUtf8, refl, ap, sym, subst, ◌∙◌, arith}
+use Rattle.std.proofs.Common.{◌&&◌, Bool, ◌≡◌, ◌≤◌, ◌+◌, ◌-◌, ◌==◌, ℕ, zero, suc, true, false, Option, Some, None, List, [], ◌∷◌, ◌++◌, length, map, IsUtf8, refl, ap, sym, subst, ◌∙◌, arith}
 use Rattle.rust_edits.proofs.Words.{nat_le, slice_index, filter, TokenKind, overhang, tokens_in_front, moved, braces_from, StandsAlone, is_continuation, is_wide_start, first_cut, Piece, symbol_from, symbol_of, is_nil, is_significant, piece, tokens, tokens_from, whole, rest, with_feeds, first_plain, BeginsPlain, Loose, none_loose, loose_behind, loose_from, loose_in, in_braces, closes_last, begins_plain, is_alone, loose_inside}
-use Rattle.rust_edits.proofs.Lemmas.{and_parts, eqb-true, false≢true, and_from, nat_tests, plain_is, close_of, close_symbol, left_of, front_of, counted_apart, when}
+use Rattle.rust_edits.proofs.Lemmas.{and_right, and_parts, eqb-true, and_from, nat_tests, plain_is, close_of, close_symbol, left_of, front_of, counted_apart, when}
 use Rattle.rust_lexer.specs.declared.kind.TokenKind.TheVariants as kinds
 use Rattle.rust_lexer.proofs.Whole.{OpensAt}
 use Rattle.rust_edits.proofs.Typing.Full.{feeds_full, feeds_lead}
@@ -29,69 +29,41 @@ some_left (suc left) at [] h = absurd (omega arith)
 some_left zero at (b ∷ x) h = refl
 some_left (suc left) at (b ∷ x) h = some_left left (suc at) x (omega arith)
 
--- a text before a `}` that is the last token, and closes braces that are open so many deep: its braces match, and none of its tokens takes the `}`
-inside : (d left at from : ℕ) (x : List ℕ) → 1 ≤ d → closes_last d (tokens_from left at (x ++ 125 ∷ [])) ≡ true
-    → (overhang left x (125 ∷ []) ≡ 0) × (braces_from (d - 1) (tokens_in_front left from x (125 ∷ [])) ≡ Some 0)
+-- nothing is open
+abbrev is_shut : Option ℕ → Bool
+is_shut None = false
+is_shut (Some n) = n == 0
+
+shut_is : (o : Option ℕ) → is_shut o ≡ true → o ≡ Some 0
+shut_is None e = absurd cc
+shut_is (Some n) e = ap (λ (k : ℕ). Some k) (eqb-true n 0 e)
+
+-- A text before a `}`, in braces that are open so many deep: the last token, and no sooner one, closes them, exactly if its braces match and none of its tokens takes the `}`.
+closes_is : (d left at from : ℕ) (x : List ℕ) → 1 ≤ d
+    → closes_last d (tokens_from left at (x ++ 125 ∷ [])) ≡ (overhang left x (125 ∷ []) == 0 && is_shut (braces_from (d - 1) (tokens_in_front left from x (125 ∷ []))))
 unfolding first_cut is_wide_start
-inside d zero at from [] some e =
-    when (nat_le d 1) (λ z. let one : d - 1 ≡ 0 = grind (arith, nat_tests) in (refl, ap (λ (k : ℕ). Some k) one)) (λ z. absurd (let no : false ≡ true = rw z at e in cc))
-inside d (suc left) at from [] some e = absurd cc
-inside d (suc left) at from (b ∷ x) some e = inside d left (suc at) (suc from) x some e
-inside d zero at from (b ∷ x) some e =
+closes_is d zero at from [] some =
+    when (nat_le d 1)
+    (λ l. let one : (d - 1 == 0) ≡ true = grind (arith, nat_tests) in rw (l, one) refl)
+    (λ l. let more : (d - 1 == 0) ≡ false = grind (arith, nat_tests) in rw (l, more) refl)
+closes_is d (suc left) at from [] some = let over : (suc left == 0) ≡ false = grind (arith, nat_tests) in rw over refl
+closes_is d (suc left) at from (b ∷ x) some = closes_is d left (suc at) (suc from) x some
+closes_is d zero at from (b ∷ x) some =
     let z = x ++ 125 ∷ [] in
     let n = whole (first_cut b z) z in
     let t = piece (first_cut b z) at b z in
     let fs = tokens_in_front n (suc from) x (125 ∷ []) in
     when (symbol_of t == 123)
-    (λ o. let r = inside (d + 1) n (suc at) (suc from) x (omega arith) (rw o at e) in
-    let deeper : suc (d - 1) ≡ d + 1 - 1 = omega arith in
-    (r.0, rw o (ap (λ (k : ℕ). braces_from k fs) deeper ∙ r.1)))
+    (λ o. let deeper : d + 1 - 1 ≡ suc (d - 1) = omega arith in
+    rw o (closes_is (d + 1) n (suc at) (suc from) x (omega arith) ∙ ap (λ (k : ℕ). overhang n x (125 ∷ []) == 0 && is_shut (braces_from k fs)) deeper))
     (λ o. when (symbol_of t == 125)
     (λ c. when (nat_le d 1)
-    (λ l. let last : is_nil (tokens_from n (suc at) z) ≡ true = rw (o, c, l) at e in
-    absurd (false≢true (sym (some_left n (suc at) x (close_few b x (close_byte (first_cut b z).kind b c))) ∙ last)))
+    (λ l. let one : (d - 1 == 0) ≡ true = grind (arith, nat_tests) in
+    rw (o, c, l, one) (some_left n (suc at) x (close_few b x (close_byte (first_cut b z).kind b c)) ∙ sym (and_right (overhang n x (125 ∷ []) == 0) false refl)))
     (λ l. let more : 1 ≤ d - 1 = grind (arith, nat_tests) in
     let left_open : (d - 1 == 0) ≡ false = grind (arith, nat_tests) in
-    let r = inside (d - 1) n (suc at) (suc from) x more (rw (o, c, l) at e) in
-    (r.0, rw (o, c, left_open) r.1)))
-    (λ c. let r = inside d n (suc at) (suc from) x some (rw (o, c) at e) in (r.0, rw (o, c) r.1)))
-
--- and the other way round
-same_some : (m n : ℕ) → ◌≡◌ {A = Option ℕ} (Some m) (Some n) → m ≡ n
-same_some m n e = cc
-
-still_open : (d : ℕ) → (d - 1 == 0) ≡ false → 1 ≤ d - 1
-still_open d e = grind (arith, nat_tests)
-
-not_last : (d : ℕ) → (d - 1 == 0) ≡ false → nat_le d 1 ≡ false
-not_last d e = grind (arith, nat_tests)
-
-outside : (d left at from : ℕ) (x : List ℕ) → 1 ≤ d → overhang left x (125 ∷ []) ≡ 0 → braces_from (d - 1) (tokens_in_front left from x (125 ∷ [])) ≡ Some 0
-    → closes_last d (tokens_from left at (x ++ 125 ∷ [])) ≡ true
-unfolding first_cut is_wide_start
-outside d zero at from [] some o e =
-    let none = same_some (d - 1) 0 e in
-    let one : nat_le d 1 ≡ true = grind (arith, nat_tests) in
-    rw one refl
-outside d (suc left) at from [] some o e = absurd cc
-outside d (suc left) at from (b ∷ x) some o e = outside d left (suc at) (suc from) x some o e
-outside d zero at from (b ∷ x) some o e =
-    let z = x ++ 125 ∷ [] in
-    let n = whole (first_cut b z) z in
-    let t = piece (first_cut b z) at b z in
-    let fs = tokens_in_front n (suc from) x (125 ∷ []) in
-    when (symbol_of t == 123)
-    (λ i. let inner : braces_from (suc (d - 1)) fs ≡ Some 0 = rw i at e in
-    let deeper : d + 1 - 1 ≡ suc (d - 1) = omega arith in
-    rw i (outside (d + 1) n (suc at) (suc from) x (omega arith) o (ap (λ (k : ℕ). braces_from k fs) deeper ∙ inner)))
-    (λ i. when (symbol_of t == 125)
-    (λ j. when (d - 1 == 0)
-    (λ k. let no : ◌≡◌ {A = Option ℕ} None (Some 0) = rw (i, j, k) at e in absurd cc)
-    (λ k. let inner : braces_from (d - 1 - 1) fs ≡ Some 0 = rw (i, j, k) at e in
-    let more = still_open d k in
-    let l : nat_le d 1 ≡ false = not_last d k in
-    rw (i, j, l) (outside (d - 1) n (suc at) (suc from) x more o inner)))
-    (λ j. let inner : braces_from (d - 1) fs ≡ Some 0 = rw (i, j) at e in rw (i, j) (outside d n (suc at) (suc from) x some o inner)))
+    rw (o, c, l, left_open) (closes_is (d - 1) n (suc at) (suc from) x more)))
+    (λ c. rw (o, c) (closes_is d n (suc at) (suc from) x some)))
 
 brace_tokens : (z : List ℕ) → tokens (123 ∷ z) ≡ tokens_from 0 0 (123 ∷ z)
 unfolding first_cut is_wide_start
@@ -131,7 +103,9 @@ alone_is m u e = (alone, sym (plain_same x alone) ∙ parts.0)
     closed = ap (λ n. closes_last 1 (tokens_from n 1 z)) (sym (brace_whole x [] (feeds_lead m u))) ∙ sym (closes_behind z) ∙ ap (closes_last 0) (sym (brace_tokens z)) ∙ parts.1
 
     matched : (overhang 0 x (125 ∷ []) ≡ 0) × (braces_from 0 (tokens_in_front 0 0 x (125 ∷ [])) ≡ Some 0)
-    matched = inside 1 0 1 0 x (omega arith) closed
+    matched =
+        let both = and_parts (overhang 0 x (125 ∷ []) == 0) (is_shut (braces_from 0 (tokens_in_front 0 0 x (125 ∷ [])))) (sym (closes_is 1 0 1 0 x (omega arith)) ∙ closed) in
+        (eqb-true (overhang 0 x (125 ∷ [])) 0 both.0, shut_is (braces_from 0 (tokens_in_front 0 0 x (125 ∷ []))) both.1)
 
     alone : StandsAlone x
     alone = record { full = feeds_full m u; begins = feeds_lead m u; ends = matched.0; matched = matched.1 }
@@ -148,7 +122,8 @@ is_found m h =
     z = with_feeds m ++ 125 ∷ []
 
     closed : closes_last 0 (tokens (123 ∷ z)) ≡ true
-    closed = ap (closes_last 0) (brace_tokens z) ∙ closes_behind z ∙ ap (λ n. closes_last 1 (tokens_from n 1 z)) (brace_whole x [] h.0.begins) ∙ outside 1 0 1 0 x (omega arith) h.0.ends h.0.matched
+    closed = ap (closes_last 0) (brace_tokens z) ∙ closes_behind z ∙ ap (λ n. closes_last 1 (tokens_from n 1 z)) (brace_whole x [] h.0.begins) ∙ closes_is 1 0 1 0 x (omega arith)
+        ∙ and_from (overhang 0 x (125 ∷ []) == 0) (is_shut (braces_from 0 (tokens_in_front 0 0 x (125 ∷ [])))) (ap (λ n. n == 0) h.0.ends) (ap is_shut h.0.matched)
 
 -- ---- loose brackets
 

@@ -1,14 +1,10 @@
 pub mod Words
 pub mod Lemmas
 pub mod Closed
-pub mod Bare
-pub mod Moved
 pub mod Moves
 pub mod Steps
 pub mod Adding
 pub mod Order
-pub mod Kept
-pub mod Cuts
 pub mod Told
 pub mod Typing
 pub mod Ranges

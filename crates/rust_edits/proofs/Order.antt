@@ -3,9 +3,10 @@ use Rattle.std.proofs.Common.{◌≡◌, ◌≤◌, ◌<◌, ℕ, zero, suc, tru
 use Rattle.std.specs.List.Sorted.{IsPartitionPoint, IsPartitionedBy}
 use Rattle.std.proofs.lemmas.Option.{slice_get-get_or}
 use Rattle.rust_edits.proofs.Words.{nat_le, slice_get, option_and_then, ItemViews, ItemPlace, Telling, ArePlaces, placed, BeginFrom, ItemsAreInOrder, last_begun, body_about}
-use Rattle.rust_edits.proofs.Lemmas.{nat_tests, le-leb}
+use Rattle.rust_edits.proofs.Lemmas.{le-leb}
 use Rattle.rust_items.specs.Places.{nothing}
 use Rattle.rust_items.proofs.FilePlaces.{view_placed}
+use Rattle.std.proofs.lemmas.Bool.{leb-true}
 
 -- ---- what is read of a text
 
@@ -22,9 +23,6 @@ items_are_in_order edition text read is = rises (view_placed edition text read i
 
 -- ---- the last that begins up to a place
 
-by_le : (m n : ℕ) → nat_le m n ≡ true → m ≤ n
-by_le m n e = grind (arith, nat_tests)
-
 from_at : (low : ℕ) (ps : List ItemPlace) → BeginFrom low ps → (j : ℕ) (d : ItemPlace) → j < length ps → low ≤ (get_or ps j d).range.start
 from_at low [] h j d l = absurd (omega arith)
 from_at low (p ∷ ps) h zero d l = h.0
@@ -35,7 +33,7 @@ begun_first at low [] h i j d le l e = absurd (omega arith)
 begun_first at low (p ∷ ps) h zero zero d le l e = e
 begun_first at low (p ∷ ps) h zero (suc j) d le l e =
     let first = from_at p.range.start ps h.1 j d (omega arith) in
-    let begun = by_le (get_or ps j d).range.start at e in
+    let begun = leb-true (get_or ps j d).range.start at e in
     le-leb p.range.start at (omega (arith, first, begun))
 begun_first at low (p ∷ ps) h (suc i) zero d le l e = absurd (omega arith)
 begun_first at low (p ∷ ps) h (suc i) (suc j) d le l e = begun_first at p.range.start ps h.1 i j d (omega arith) (omega arith) e

@@ -4,7 +4,6 @@ pub mod NearFields
 pub mod NearLeaves
 pub mod NearItems
 pub mod NearTurns
-pub mod Parts
 pub mod Inner
 pub mod Alone
 pub mod Feeds
@@ -18,12 +17,9 @@ pub mod Behind
 pub mod Ranges
 pub mod Joins
 pub mod Typed
-pub mod Inside
 pub mod Modules
 pub mod Files
 pub mod Fronts
 pub mod Holds
 pub mod TopIds
-pub mod SameIds
 pub mod Examples
-pub mod ExampleModule

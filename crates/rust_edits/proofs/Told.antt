@@ -1,12 +1,122 @@
 -- Which edits are told.
-use Rattle.std.proofs.Common.{◌≡◌, ℕ, Bool, true, false, Option, Some, None, List, ◌++◌, length, IsUtf8, ap, sym, subst, ◌∙◌, ◌<◌, ◌^◌, ◌∷◌, arith, length-append}
+use Rattle.std.proofs.Common.{◌≡◌, ◌+◌, ◌-◌, ℕ, suc, List, ◌∷◌, ◌++◌, length, get_or, take, IsUtf8, refl, ap, sym, subst, ◌∙◌, arith, length-append, Bool, true, false, Option, Some, None, ◌<◌, ◌^◌}
+use Rattle.rust_edits.proofs.Words.{IsCharBoundary, TextRange, ArePartsAbout, AreCut, IsUncut, LacksByte, IsSome, with_feeds, ItemPlace, Loose, loose_in, body_about, begins_bare, MayStandInside, MayEdit, TellsLoose, in_braces, is_alone, EndsFit}
+use Rattle.rust_edits.proofs.Lemmas.{take_at, append_cancel_left, IsCharBoundary-from_take, IsCharBoundary-after_ascii, false≢true, IsUtf8-append}
+use Rattle.rust_edits.specs.declared.parts.Parts.{Parts}
 use Rattle.std.specs.Prelude.{◌↔◌}
 use Rattle.std.proofs.lemmas.Option.{same_Some}
-use Rattle.rust_edits.proofs.Words.{IsSome, with_feeds, ItemPlace, TextRange, Loose, loose_in, body_about, begins_bare, ArePartsAbout, MayStandInside, MayEdit, TellsLoose, in_braces, is_alone, AreCut, EndsFit}
-use Rattle.rust_edits.proofs.Lemmas.{false≢true, IsUtf8-append}
-use Rattle.rust_edits.specs.declared.parts.Parts.{Parts}
 use Rattle.rust_edits.proofs.Closed.{alone_is, is_found}
-use Rattle.rust_edits.proofs.Cuts.{SameParts, same_parts}
+
+-- ---- where a text is cut about a range in braces, and that it is cut there in one way only
+
+-- ---- lists fall apart in one way at a place
+
+pub front_alike : {A : Type 0} (xs ys zs ws : List A) → length xs ≡ length zs → xs ++ ys ≡ zs ++ ws → xs ≡ zs
+front_alike xs ys zs ws n e = sym (take_at xs ys (length zs) n) ∙ ap (take (length zs)) e ∙ take_at zs ws (length zs) refl
+
+pub back_alike : {A : Type 0} (xs ys zs ws : List A) → length xs ≡ length zs → xs ++ ys ≡ zs ++ ws → ys ≡ ws
+back_alike xs ys zs ws n e = append_cancel_left xs ys ws (e ∙ ap (λ l. l ++ ws) (sym (front_alike xs ys zs ws n e)))
+
+pub tail_alike : {A : Type 0} (x : A) (xs ys : List A) → x ∷ xs ≡ x ∷ ys → xs ≡ ys
+tail_alike x xs ys e = cc
+
+-- ---- where a text may be cut
+
+pub cut_here : (text x y : List ℕ) (n : ℕ) → IsUtf8 text → text ≡ x ++ y → length x ≡ n → IsUtf8 x → IsCharBoundary text n
+cut_here text x y n u e l v =
+    let long : length text ≡ length x + length y = ap length e ∙ length-append x y in
+    IsCharBoundary-from_take text n u (omega (arith, long, l)) (subst IsUtf8 (sym (ap (take n) e ∙ take_at x y n l)) v)
+
+-- ---- the parts
+
+module _ (text : List ℕ) (body range : TextRange) (q a b c s : List ℕ) (p : ArePartsAbout text body range q a b c s) where
+  -- what is left behind what is cut off
+  pub from_brace : (x y : List ℕ) → text ≡ x ++ y → length x ≡ body.start → y ≡ 123 ∷ (a ++ (b ++ (c ++ 125 ∷ s)))
+  from_brace x y e n = back_alike x y q (123 ∷ (a ++ (b ++ (c ++ 125 ∷ s)))) (n ∙ sym p.opens) (sym e ∙ p.whole)
+
+  pub from_front : (x y : List ℕ) → text ≡ x ++ 123 ∷ y → length x ≡ body.start → y ≡ a ++ (b ++ (c ++ 125 ∷ s))
+  from_front x y e n = tail_alike 123 y (a ++ (b ++ (c ++ 125 ∷ s))) (from_brace x (123 ∷ y) e n)
+
+  pub from_replaced : (x f y : List ℕ) → text ≡ x ++ 123 ∷ (f ++ y) → length x ≡ body.start → length f ≡ length a → y ≡ b ++ (c ++ 125 ∷ s)
+  from_replaced x f y e n l = back_alike f y a (b ++ (c ++ 125 ∷ s)) l (from_front x (f ++ y) e n)
+
+  pub from_back : (x f r y : List ℕ) → text ≡ x ++ 123 ∷ (f ++ (r ++ y)) → length x ≡ body.start → length f ≡ length a → length r ≡ length b → y ≡ c ++ 125 ∷ s
+  from_back x f r y e n l m = back_alike r y b (c ++ 125 ∷ s) m (from_replaced x f (r ++ y) e n l)
+
+  pub from_close : (x f r k y : List ℕ) → text ≡ x ++ 123 ∷ (f ++ (r ++ (k ++ y))) → length x ≡ body.start → length f ≡ length a → length r ≡ length b → length k ≡ length c → y ≡ 125 ∷ s
+  from_close x f r k y e n l m i = back_alike k y c (125 ∷ s) i (from_back x f r (k ++ y) e n l m)
+
+-- the parts of a text are what it was cut into
+pub record SameParts (p : Parts) (a b c : List ℕ) : Type 0 where
+  pub front : a ≡ p.front.now
+  pub replaced : b ≡ p.replaced.now
+  pub back : c ≡ p.back.now
+
+pub same_parts : (text : List ℕ) (body range : TextRange) (p : Parts) (q a b c s : List ℕ) → AreCut text body range p → ArePartsAbout text body range q a b c s → SameParts p a b c
+same_parts text body range p q a b c s k h =
+    let opens = h.opens in
+    let starts = h.starts in
+    let ends = h.ends in
+    let closes = h.closes in
+    let opens_too = k.opens in
+    let starts_too = k.starts in
+    let ends_too = k.ends in
+    let closes_too = k.closes in
+    let f = p.front.now in
+    let r = p.replaced.now in
+    let d = p.back.now in
+    let w = p.behind.now in
+    let one : length a ≡ length f = omega (arith, opens, starts, opens_too, starts_too) in
+    let two : length b ≡ length r = omega (arith, ends, ends_too) in
+    let three : length c ≡ length d = omega (arith, closes, closes_too) in
+    let front_is = sym (from_front text body range q a b c s h p.before.now (f ++ (r ++ (d ++ 125 ∷ w))) k.whole k.opens) in
+    let replaced_is = sym (from_replaced text body range q a b c s h p.before.now f (r ++ (d ++ 125 ∷ w)) k.whole k.opens (sym one)) in
+    let back_is = sym (from_back text body range q a b c s h p.before.now f r (d ++ 125 ∷ w) k.whole k.opens (sym one) (sym two)) in
+    record {
+      front = front_alike a (b ++ (c ++ 125 ∷ s)) f (r ++ (d ++ 125 ∷ w)) one front_is;
+      replaced = front_alike b (c ++ 125 ∷ s) r (d ++ 125 ∷ w) two replaced_is;
+      back = front_alike c (125 ∷ s) d (125 ∷ w) three back_is;
+    }
+
+-- ---- a text that is not cut so
+
+-- a text that cannot be cut behind its first byte
+pub uncut_byte : (text : List ℕ) (byte : ℕ) → IsUtf8 text → (IsCharBoundary text 1 → ⊥) → LacksByte text byte
+uncut_byte text byte u f low rest e =
+    let long : length text ≡ suc (length rest) = ap length e in
+    let first : get_or text 0 0 ≡ byte = ap (λ l. get_or l 0 0) e in
+    f (IsCharBoundary-after_ascii text 0 u (omega (arith, long)) (omega (arith, first, low)))
+
+module _ (text : List ℕ) (body range : TextRange) where
+  module _ (x : List ℕ) (opens : length x ≡ body.start) where
+    pub uncut_front : (y : List ℕ) (n : ℕ) → text ≡ x ++ 123 ∷ y → IsUtf8 y → n ≡ range.start - body.start - 1 → (IsCharBoundary y n → ⊥) → IsUncut text body range
+    uncut_front y n e u same f q a b c s p =
+        let first = p.opens in
+        let starts = p.starts in
+        f (cut_here y a (b ++ (c ++ 125 ∷ s)) n u (from_front text body range q a b c s p x y e opens) (omega (arith, first, starts, same)) p.front_utf8)
+
+    module _ (g : List ℕ) (starts : length g ≡ range.start - body.start - 1) where
+      front_long : (q a b c s : List ℕ) → ArePartsAbout text body range q a b c s → length g ≡ length a
+      front_long q a b c s p = let first = p.opens in let second = p.starts in omega (arith, first, second, starts)
+
+      pub uncut_replaced : (y : List ℕ) (n : ℕ) → text ≡ x ++ 123 ∷ (g ++ y) → IsUtf8 y → n ≡ range.end - range.start → (IsCharBoundary y n → ⊥) → IsUncut text body range
+      uncut_replaced y n e u same f q a b c s p =
+          let ends = p.ends in
+          f (cut_here y b (c ++ 125 ∷ s) n u (from_replaced text body range q a b c s p x g y e opens (front_long q a b c s p)) (omega (arith, ends, same)) p.replaced_utf8)
+
+      module _ (r : List ℕ) (ends : length r ≡ range.end - range.start) where
+        replaced_long : (q a b c s : List ℕ) → ArePartsAbout text body range q a b c s → length r ≡ length b
+        replaced_long q a b c s p = let last = p.ends in omega (arith, last, ends)
+
+        pub uncut_back : (y : List ℕ) (n : ℕ) → text ≡ x ++ 123 ∷ (g ++ (r ++ y)) → IsUtf8 y → n ≡ body.end - range.end - 1 → (IsCharBoundary y n → ⊥) → IsUncut text body range
+        uncut_back y n e u same f q a b c s p =
+            let closes = p.closes in
+            f (cut_here y c (125 ∷ s) n u (from_back text body range q a b c s p x g r y e opens (front_long q a b c s p) (replaced_long q a b c s p)) (omega (arith, closes, same)) p.back_utf8)
+
+        pub uncut_shut : (k y : List ℕ) → length k ≡ body.end - range.end - 1 → text ≡ x ++ 123 ∷ (g ++ (r ++ (k ++ y))) → LacksByte y 125 → IsUncut text body range
+        uncut_shut k y long e f q a b c s p =
+            let closes = p.closes in
+            f (omega arith) s (from_close text body range q a b c s p x g r k y e opens (front_long q a b c s p) (replaced_long q a b c s p) (omega (arith, closes, long)))
 
 pub none_told : (A P : Type 0) → (P → ⊥) → IsSome {T = A} None ↔ P
 none_told A P f = (λ e. absurd (false≢true e), λ p. absurd (f p))

@@ -4,16 +4,10 @@ pub mod ProblemsIn
 pub mod Typing
 pub mod Returns
 pub mod Moved
-pub mod Anew
-pub mod Problems
-pub mod Told
-pub mod Begins
 pub mod BodyStarts
-pub mod Opened
 pub mod Full
 pub mod Examples
 pub mod Ended
-pub mod EndedLeaves
 pub mod ProblemsAlike
 pub mod Unended
 pub mod Loose

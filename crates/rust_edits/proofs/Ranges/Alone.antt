@@ -1,12 +1,27 @@
 -- The text of an item, from the end of what stands before it on, read alone is exactly that item.
+use Rattle.rust_edits.proofs.Words.{IsBare, slice_index, filter, EditionYear, Stop, stop, EndsAlone, is_continuation, is_significant, tokens_from, Tokens, option_to_list, is_some, MetaView, ItemView, Inner, inner_attributes, is_behind, opening, tokens_in_front, moved, Piece, symbol_of, tokens, most, beyond, tokens_of, by_first, at, is_empty, Found, nothing_found, read_of, finding_from, finding, is_list_end, turn, items}
 use Rattle.std.proofs.Common.{◌≡◌, ◌+◌, ◌==◌, ◌||◌, ℕ, suc, true, false, Option, Some, None, List, [], ◌∷◌, ◌++◌, length, refl, sym, ap, ◌∙◌, subst, arith, map, append-nil}
-use Rattle.rust_edits.proofs.Words.{option_to_list, is_some, filter, EditionYear, MetaView, ItemView, Inner, inner_attributes, is_behind, Stop, opening, stop, tokens_in_front, moved, Piece, symbol_of, is_significant, tokens, tokens_from, most, beyond, Tokens, tokens_of, by_first, at, is_empty, Found, nothing_found, read_of, finding_from, finding, is_list_end, turn, items}
 use Rattle.rust_edits.proofs.Lemmas.{filter-append, ne_eqb, tokens_first, tokens_moved, own, stop_at, plain_is, filter_moved, tokens_sound, IsLaid, behind, at_behind, taken_behind, LeadsTo, here, further, when, bumped_leads, Ending, Near, near, more_left, is_last, are_ended, turn_found}
-use Rattle.rust_edits.proofs.Ranges.Parts.{ended, IsPart, tokens_behind}
 use Rattle.rust_edits.proofs.Ranges.Inner.{no_inner, turn_none}
 use Rattle.rust_edits.proofs.Ranges.NearItems.{FoundNear, FoundAlike, flat, is_sound, turn_whole}
 use Rattle.rust_edits.proofs.Ranges.NearLeaves.{Given, Ends, passes, before_end, at_end}
 use Rattle.rust_edits.proofs.Ranges.NearTurns.{turn_ends}
+
+-- ---- an item of a text, and the text that it is read from, alone
+
+-- a text that ends with such a byte
+abbrev pub ended : List ℕ → Stop → List ℕ
+ended w o = w ++ stop o ∷ []
+
+-- A part of a text that ends with a `;` or a brace that is a token, and what is behind it.
+pub record IsPart (w : List ℕ) (o : Stop) (y : List ℕ) : Type 0 where
+  pub ends : EndsAlone w o
+  pub behind : is_continuation (slice_index y 0) ≡ false
+  pub plain : IsBare (ended w o)
+
+-- the tokens that are left of a text from the end of q on
+abbrev pub tokens_behind : EditionYear → Option ℕ → List ℕ → List ℕ → Tokens
+tokens_behind edition unended q z = record { past = length q; left = filter is_significant (tokens_from 0 (length q) z); unended = unended; edition = edition }
 
 pub uneven : (left : List Piece) → false ≡ true → left ≡ []
 uneven left e = absurd cc

@@ -4,8 +4,7 @@ use Rattle.std.specs.Prelude.{if◌then◌else◌}
 use Rattle.rust_edits.proofs.Words.{IsBare, nat_le, slice_index, option_map, filter, EditionYear, Stop, opening, stop, behind_lead, EndsAlone, is_fence, is_full, overhang, tokens_in_front, moved, first_cut, is_continuation, Piece, symbol_of, is_terminated, has_mark, is_shebang, is_significant, tokens, tokens_from, whole, Tokens, end_of, tokens_of, place_if_open, last_unended, by_first, rest, bumped}
 use Rattle.rust_edits.proofs.Lemmas.{and_from, and_parts, filter-append, nat_tests, own, stop_at, tokens_moved, plain_is, filter_moved, LeadsTo, here, further}
 use Rattle.rust_lexer.proofs.Same.{by_stop}
-use Rattle.rust_edits.proofs.Ranges.Alone.{last_counts}
-use Rattle.rust_edits.proofs.Ranges.Parts.{ended}
+use Rattle.rust_edits.proofs.Ranges.Alone.{last_counts, ended}
 use Rattle.rust_edits.proofs.Typing.Unended.{fence_by, mark_by, shebang_on, last_append}
 
 -- ---- what may stand in front of a text

@@ -1,15 +1,15 @@
 -- Files that are read of texts one behind the other.
 use Rattle.std.proofs.Common.{◌≡◌, ◌≤◌, ◌+◌, ◌==◌, ℕ, zero, suc, Bool, true, false, List, [], ◌∷◌, ◌++◌, length, take, drop, refl, sym, ap, ◌∙◌, subst, arith, map, length-append}
-use Rattle.rust_edits.proofs.Words.{All, not, EditionYear, MetaView, ItemView, ItemViews, SyntaxView, items_from, items_of, Stop, opening, stop, Problem, SourceFile, Found, with_ids, is_return, with_feeds, place_in, moved_span, moved_problem, found_in, items_in, read_of, IsFile, file_view, Bytes, bytes_of, without_ids, HoldsItems, Follows, as_first, behind_items, IsBetween, each_item, file_items, file_attrs, PartTold, FileTells, ItemsStand, ItemsTold}
-use Rattle.rust_edits.proofs.Lemmas.{length-map, map-append, take_at, drop_at, when, place_span, spans_in, as_many, All-head, All-tail}
+use Rattle.rust_edits.proofs.Words.{All, not, EditionYear, MetaView, ItemView, ItemViews, SyntaxView, items_from, items_of, Stop, opening, stop, Problem, SourceFile, Found, with_ids, is_return, with_feeds, place_in, moved_span, moved_problem, found_in, items_in, read_of, IsFile, file_view, Bytes, bytes_of, without_ids, HoldsItems, Follows, as_first, behind_items, IsBetween, each_item, file_items, file_attrs, PartTold, FileTells, ItemsStand, ItemsTold, FileAstId, Row, ItemPlace, places, StandsBetween, file_ids, IdsStay}
+use Rattle.rust_edits.proofs.Lemmas.{length-map, map-append, take_at, drop_at, when, place_span, spans_in, as_many, All-head, All-tail, Span}
 use Rattle.rust_edits.proofs.Ranges.Feeds.{place_of, by_return, by_other, none_feed, place_is, place_add, place_taken}
 use Rattle.rust_edits.proofs.Ranges.Ranges.{SameUpTo, Moving, spans_move, all_fused, all_same, bytes, bytes_same}
 use Rattle.rust_edits.proofs.Typing.Moved.{uses_within}
-use Rattle.rust_edits.proofs.Typing.ProblemsIn as told
 use Rattle.rust_edits.proofs.Typing.ProblemsIn.{problems_in}
-use Rattle.rust_edits.proofs.Typing.Typing.{items_are}
+use Rattle.rust_edits.proofs.Typing.Typing.{items_are, same_ids}
 use Rattle.rust_edits.proofs.Ranges.Tops.{ids_again, none_held, places_spans}
 use Rattle.rust_edits.proofs.Ranges.Typed.{between}
+use Rattle.rust_edits.proofs.Typing.ProblemsIn as told
 
 -- ---- items without ids
 
@@ -243,3 +243,38 @@ items_told edition text file is bare ends sound some = by (read_of edition (with
     by : (l : List ItemView) → (read_of edition (with_feeds text)).0 ≡ l → HoldsItems edition (with_feeds text)
     by [] e = absurd (some (items_read edition (with_feeds text) (place_in text) file is ∙ ap (map without_ids) e))
     by (i ∷ l) e = record { bare = bare; ends = ends; first = i; more = l; items = e; sound = none_mapped (moved_problem (place_in text)) (found_in edition (with_feeds text)).problems (sym is.problems ∙ sound) }
+
+-- ---- where the items in their place are of the same kinds and names, each item keeps its id
+
+ids_placed : (ids : List FileAstId) (spans : List Span) → length ids ≡ length spans → map (λ (p : ItemPlace). p.id) (places ids spans) ≡ ids
+ids_placed [] spans e = refl
+ids_placed (id ∷ ids) [] e = absurd (omega arith)
+ids_placed (id ∷ ids) (s ∷ spans) e = ap (λ l. id ∷ l) (ids_placed ids spans (omega arith))
+
+ids_told : (edition : EditionYear) (x : List ℕ) (place : ℕ → ℕ) (file : SourceFile) (is : IsFile edition x place (file_view file)) → file_ids file ≡ is.ids
+ids_told edition x place file is =
+    ap (map (λ (p : ItemPlace). p.id)) is.places
+    ∙ ids_placed is.ids (map (moved_span place) (found_in edition x).spans) (as_many edition x place (file_view file) is ∙ sym (length-map (found_in edition x).spans (moved_span place)))
+
+-- the whole text without returns
+feeds_between : (edition : EditionYear) (q t s : List ℕ) → StandsBetween edition (with_feeds q) (with_feeds t) (with_feeds s) → with_feeds (q ++ (t ++ s)) ≡ with_feeds q ++ (with_feeds t ++ with_feeds s)
+feeds_between edition q t s m =
+    let outer = front_split edition q (t ++ s) (with_feeds t) m.follows in
+    let inner = items_split edition t s m.whole in
+    outer.feeds ∙ ap (λ l. with_feeds q ++ l) inner.feeds
+
+rows_between : (edition : EditionYear) (q t s : List ℕ) → StandsBetween edition q t s → (found_in edition (q ++ (t ++ s))).rows ≡ (found_in edition q).rows ++ ((found_in edition t).rows ++ (found_in edition s).rows)
+rows_between edition q t s m = ap (λ (f : Found). f.rows) (between edition q t s m).found
+
+pub ids_stay : IdsStay
+ids_stay edition q t t' s read again old new e is is' =
+    let x = with_feeds (q ++ (t ++ s)) in
+    let x' = with_feeds (q ++ (t' ++ s)) in
+    let rows : (found_in edition x).rows ≡ (found_in edition (with_feeds q)).rows ++ ((found_in edition (with_feeds t)).rows ++ (found_in edition (with_feeds s)).rows) =
+    ap (λ (z : List ℕ). (found_in edition z).rows) (feeds_between edition q t s old) ∙ rows_between edition (with_feeds q) (with_feeds t) (with_feeds s) old in
+    let rows' : (found_in edition x').rows ≡ (found_in edition (with_feeds q)).rows ++ ((found_in edition (with_feeds t')).rows ++ (found_in edition (with_feeds s)).rows) =
+    ap (λ (z : List ℕ). (found_in edition z).rows) (feeds_between edition q t' s new) ∙ rows_between edition (with_feeds q) (with_feeds t') (with_feeds s) new in
+    let same : (found_in edition x').rows ≡ (found_in edition x).rows =
+    rows' ∙ ap (λ (l : List Row). (found_in edition (with_feeds q)).rows ++ (l ++ (found_in edition (with_feeds s)).rows)) e ∙ sym rows in
+    ids_told edition x' (place_in (q ++ (t' ++ s))) again is' ∙ same_ids edition x x' (place_in (q ++ (t ++ s))) (place_in (q ++ (t' ++ s))) (file_view read) (file_view again) is is' same
+    ∙ sym (ids_told edition x (place_in (q ++ (t ++ s))) read is)

@@ -4,7 +4,7 @@ use Rattle.rust_edits.proofs.Words.{slice_index, ItemView, Stop, opening, stop, 
 use Rattle.rust_edits.proofs.Lemmas.{front_same}
 use Rattle.rust_edits.proofs.Ranges.Behind.{plain_on, full_both, full_stop, over_both}
 use Rattle.rust_edits.proofs.Ranges.Files.{none_mapped}
-use Rattle.rust_edits.proofs.Ranges.Parts.{ended}
+use Rattle.rust_edits.proofs.Ranges.Alone.{ended}
 use Rattle.rust_edits.proofs.Ranges.Typed.{items_join}
 
 -- ---- the last token of both

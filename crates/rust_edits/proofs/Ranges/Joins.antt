@@ -6,11 +6,10 @@ use Rattle.rust_items.specs.declared.log.ProblemKind.TheVariants as problem
 use Rattle.rust_cursor.proofs.Parting as parting
 use Rattle.rust_edits.proofs.Ranges.NearLeaves.{Given, given_on}
 use Rattle.rust_edits.proofs.Ranges.NearItems.{top_end, FoundNear, is_quiet}
-use Rattle.rust_edits.proofs.Ranges.Alone.{part_in, part_near, part_ended, start_near}
+use Rattle.rust_edits.proofs.Ranges.Alone.{part_in, part_near, part_ended, start_near, ended, IsPart, tokens_behind}
 use Rattle.rust_edits.proofs.Ranges.Behind.{plain_on, behind_moved, first_moved, unended_behind, past_whole, plain_tokens}
 use Rattle.rust_edits.proofs.Ranges.Inner.{no_inner}
 use Rattle.rust_edits.proofs.Ranges.Onward.{IsRead, read_on}
-use Rattle.rust_edits.proofs.Ranges.Parts.{ended, IsPart, tokens_behind}
 use Rattle.rust_edits.proofs.Ranges.Ranges.{last_is}
 use Rattle.rust_edits.proofs.Ranges.Seats.{edition_stays}
 use Rattle.rust_edits.proofs.Ranges.Tops.{found_keeps}

@@ -1,5 +1,5 @@
 -- What a module holds is what is read of the text behind its `{`.
-use Rattle.std.proofs.Common.{◌≡◌, ◌+◌, ◌||◌, ℕ, zero, suc, Bool, true, false, Option, Some, None, List, [], ◌∷◌, ◌++◌, length, drop, refl, sym, ap, ◌∙◌, subst, arith, append_assoc, append-nil, length-append}
+use Rattle.std.proofs.Common.{◌≡◌, ◌+◌, ◌||◌, ℕ, suc, Bool, true, false, Option, Some, None, List, [], ◌∷◌, ◌++◌, length, drop, refl, sym, ap, ◌∙◌, subst, arith, length-append}
 use Rattle.rust_edits.proofs.Words.{option_to_list, filter, EditionYear, MetaView, ItemView, module_from, opening, stop, Piece, is_significant, tokens_from, most, beyond, Tokens, tokens_of, end_of, symbol, at, eat, bumped, is_at_end, inner_attributes, FrontRead, front, NameRead, named, named_node, Found, nothing_found, BlockRead, is_list_end, finding, finding_from, items, block_of, and_parent, inside_unless, module_with, some_item, by_head, turn_with, inside, depth_of, turn, IsBare, text_attrs, found_on, read_at, OpensModule, ModuleReads}
 use Rattle.rust_edits.proofs.Lemmas.{drop_at, own, stop_at, tokens_sound, IsLaid, behind, tokens_laid, LeadsTo, through, when, bumped_leads, by_kept, inner_attributes_until, inner_attributes_leads, named_leads, turn_found, turn_with_found, inside_found, Ending, Near, near_parting, near_enters, near_levels, Kept}
 use Rattle.hir_input.specs.declared.ids.AstIdKind.TheVariants as kind
@@ -14,23 +14,11 @@ use Rattle.rust_edits.proofs.Ranges.Joins.{quiet_none, items_top, level_at, leve
 use Rattle.rust_edits.proofs.Ranges.Seats.{HasPlace, IsLeft, all_left, left_on, edition_stays}
 use Rattle.rust_edits.proofs.Ranges.Plain.{true_false}
 use Rattle.rust_edits.proofs.Ranges.Tops.{turn_keeps, turn_with_keeps}
-use Rattle.rust_edits.proofs.Ranges.Turning.{run, run_stop, beyond_none, turn_far, turn_told}
+use Rattle.rust_edits.proofs.Ranges.Turning.{run, run_stop, next_leads, beyond_none, turn_far, turn_told}
 use Rattle.rust_edits.proofs.Typing.ProblemsIn.{unended_kept}
+use Rattle.rust_items.proofs.Places.{list_from}
 
 -- ---- a text of one item
-
-record IsGrown (done r : List ItemView) : Type 0 where
-  new : List ItemView
-  list : r ≡ done ++ new
-
-grows : (is_top : Bool) (left k : ℕ) (done : List ItemView) (f : Found) (ts : Tokens) → IsGrown done (run is_top left k done f ts).0
-grows is_top left zero done f ts = record { new = []; list = sym (append-nil done) }
-grows is_top left (suc k) done f ts =
-    when (is_list_end is_top ts) (λ e. rw e (record { new = []; list = sym (append-nil done) }))
-    (λ e. rw e
-    (let i = option_to_list (turn (suc left) f ts).0 in
-    let rest = grows is_top left k (done ++ i) (turn (suc left) f ts).1.0 (beyond ts.past (turn (suc left) f ts).1.1) in
-    record { new = i ++ rest.new; list = rest.list ∙ append_assoc done i rest.new }))
 
 one_of : (left : ℕ) (f : Found) (ts : Tokens) → is_quiet (turn left f ts).1.0 ≡ true → length (option_to_list (turn left f ts).0) ≡ 1
 one_of left f ts q = by (turn left f ts).0 refl
@@ -48,14 +36,14 @@ module _ (is_top : Bool) (left : ℕ) where
       (λ e. absurd (true_false q' (quiet_before (list_keeps (is_list_end is_top) (turn (suc left)) (turn_keeps (suc left)) k (done ++ option_to_list r.0) r.1.0 (beyond ts.past r.1.1)) e)))
 
   -- behind the one item nothing more is read
-  no_second : (k : ℕ) (done : List ItemView) (f : Found) (ts : Tokens) → length done ≡ 1 → length (run is_top left (suc k) done f ts).0 ≡ 1 → is_quiet (run is_top left (suc k) done f ts).1.0 ≡ true → is_list_end is_top ts ≡ true
-  no_second k done f ts one all q =
+  no_second : (k n : ℕ) (done : List ItemView) (f : Found) (ts : Tokens) → IsLaid n ts → length done ≡ 1 → length (run is_top left (suc k) done f ts).0 ≡ 1 → is_quiet (run is_top left (suc k) done f ts).1.0 ≡ true → is_list_end is_top ts ≡ true
+  no_second k n done f ts laid one all q =
       when (is_list_end is_top ts) (λ e. e)
       (λ e. absurd
       (let r = turn (suc left) f ts in
       let more = one_of (suc left) f ts (first_quiet k done f ts e q) in
       let all' : length (run is_top left k (done ++ option_to_list r.0) r.1.0 (beyond ts.past r.1.1)).0 ≡ 1 = rw e at all in
-      let grown = grows is_top left k (done ++ option_to_list r.0) r.1.0 (beyond ts.past r.1.1) in
+      let grown = list_from n (is_list_end is_top) (turn (suc left)) (turn_found n (suc left)) k (done ++ option_to_list r.0) r.1.0 (beyond ts.past r.1.1) (behind n (next_leads is_top left n f ts laid) laid).laid in
       let sizes = ap length grown.list ∙ length-append (done ++ option_to_list r.0) grown.new in
       let two = length-append done (option_to_list r.0) in omega arith))
 
@@ -72,7 +60,7 @@ module _ (is_top : Bool) (left : ℕ) where
       let q' : is_quiet (run is_top left (suc k) done r.1.0 (beyond us.past r.1.1)).1.0 ≡ true = rw e at q in
       let all : length (run is_top left (suc k) done r.1.0 r.1.1).0 ≡ 1 = ap (λ t. length (run is_top left (suc k) done r.1.0 t).0) (sym next_is) ∙ ap length list' in
       let q'' : is_quiet (run is_top left (suc k) done r.1.0 r.1.1).1.0 ≡ true = ap (λ t. is_quiet (run is_top left (suc k) done r.1.0 t).1.0) (sym next_is) ∙ q' in
-      let last = no_second k done r.1.0 r.1.1 (one_of (suc left) f us quiet) all q'' in
+      let last = no_second k n done r.1.0 r.1.1 (behind n (turn_found n (suc left) f us laid).leads laid).laid (one_of (suc left) f us quiet) all q'' in
       rw e (ap (λ t. run is_top left (suc k) done r.1.0 t) next_is ∙ run_stop is_top left (suc k) done r.1.0 r.1.1 last))
 
 -- ---- behind the `{`

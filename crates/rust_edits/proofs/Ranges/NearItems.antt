@@ -7,6 +7,9 @@ use Rattle.rust_items.specs.declared.log.ProblemKind.TheVariants as problem
 use Rattle.rust_edits.proofs.Ranges.Tops.{Keeps, extern_turn_keeps}
 use Rattle.rust_edits.proofs.Ranges.NearFronts.{FrontNear, front_until, further_on}
 use Rattle.rust_edits.proofs.Ranges.NearLeaves.{some_on, LeafNear, Given, given_on, Ends, passes, before_end, at_end, SomeLeaf, no_leaf, one_leaf, leaf_ended, LeafEnds, leaf_ends, item_end_fewer, impl_end_fewer, macro_end_fewer, value_end_fewer, call_end_fewer}
+use Rattle.std.proofs.lemmas.Bool.{or_left, or_right}
+use Rattle.std.proofs.lemmas.List.Folds.{list_any-append}
+use Rattle.rust_items.proofs.Places.{list_from}
 
 -- ---- what is found
 
@@ -98,9 +101,14 @@ pub record FoundAlike {A : Type 0} (b : Ending) (before : Found) (p q : A × Fou
 abbrev pub is_quiet : Found → Bool
 is_quiet f = not (list_any (λ _. true) f.problems)
 
+pub any_front : (test : Problem → Bool) (ps qs : List Problem) → list_any test ps ≡ true → list_any test (ps ++ qs) ≡ true
+any_front test ps qs e = list_any-append test ps qs ∙ or_left (list_any test ps) (list_any test qs) e
+
+pub any_back : (test : Problem → Bool) (ps qs : List Problem) → list_any test qs ≡ true → list_any test (ps ++ qs) ≡ true
+any_back test ps qs e = list_any-append test ps qs ∙ or_right (list_any test ps) (list_any test qs) e
+
 any_last : (test : Problem → Bool) (ps qs : List Problem) (p : Problem) → test p ≡ true → list_any test (ps ++ p ∷ qs) ≡ true
-any_last test [] qs p e = rw e refl
-any_last test (q ∷ ps) qs p e = when (test q) (λ f. rw f refl) (λ f. rw f (any_last test ps qs p e))
+any_last test ps qs p e = any_back test ps (p ∷ qs) (or_left (test p) (list_any test qs) e)
 
 -- where a problem is told, one was
 pub told_problem : (k : ProblemKind) (at : ℕ) (f : Found) → is_quiet (and_problem k at f) ≡ false
@@ -164,11 +172,7 @@ list_keeps ends turn keeps (suc k) done f ts =
 
 module _ (b : Ending) (turn : Finder (Option ItemView)) (t : TurnLong b turn) (finds : (end : ℕ) → Finds end turn) (keeps : KeepsAll turn) where
   pub list_leads : (n k : ℕ) (done : List ItemView) (f : Found) (ts : Tokens) → IsLaid n ts → LeadsTo ts (finding_from (is_list_end false) turn k done f ts).1.1
-  list_leads n zero done f ts l = here
-  list_leads n (suc k) done f ts l =
-      let first = (finds n f ts l).leads in
-      let next = through first (beyond_leads ts.past (turn f ts).1.1) in
-      when (is_list_end false ts) (λ e. rw e here) (λ e. rw e (through next (list_leads n k _ _ _ (behind n next l).laid)))
+  list_leads n k done f ts l = (list_from n (is_list_end false) turn (finds n) k done f ts l).found.leads
 
   -- what is not whole stays so
   list_over : (m k past : ℕ) (done : List ItemView) (q : Option ItemView × (Found × Tokens)) → IsLaid m (beyond past q.1.1) → Over turn_whole (flat q)
@@ -282,11 +286,7 @@ unfinished false nameless start f e = any_last _ f.problems [] _ (eq-eqb start s
 -- what is sound is ended
 still : (o : Option ℕ) (test : Problem → Bool) (f : Found) → list_any test f.problems ≡ true → list_any test (and_problem_at problem.TooDeep o f).problems ≡ true
 still None test f e = e
-still (Some at) test f e = on f.problems e
-  where
-    on : (ps : List Problem) → list_any test ps ≡ true → list_any test (ps ++ record { kind = problem.TooDeep; at = at } ∷ []) ≡ true
-    on [] e = absurd cc
-    on (p ∷ ps) e = when (test p) (λ g. rw g refl) (λ g. rw g (on ps (rw g at e)))
+still (Some at) test f e = any_front test f.problems (record { kind = problem.TooDeep; at = at } ∷ []) e
 
 pub sound_leaf : (depth start end : ℕ) (l : LeafRead) (f : Found) → is_sound start (Some l.item, and_leaf depth start end l f) ≡ true → l.is_ended ≡ true
 sound_leaf depth start end l f e =

@@ -2,7 +2,7 @@
 use Rattle.std.proofs.Common.{◌≡◌, ◌+◌, ◌==◌, ◌&&◌, ℕ, suc, Bool, true, false, Option, List, [], ◌∷◌, ◌++◌, length, refl, sym, ap, ◌∙◌, arith, map}
 use Rattle.rust_edits.proofs.Words.{IsBare, not, slice_index, filter, EditionYear, Outer, Stop, stop, is_fence, moved, EndsAlone, is_continuation, is_wide_start, first_cut, Piece, symbol_of, has_mark, is_bracket_next, is_shebang, is_significant, piece, tokens_from, Tokens, by_first, symbol, bumped, is_attribute}
 use Rattle.rust_edits.proofs.Lemmas.{eqb-true, and_parts, tokens_first, tokens_moved, when}
-use Rattle.rust_edits.proofs.Ranges.Parts.{ended}
+use Rattle.rust_edits.proofs.Ranges.Alone.{ended}
 use Rattle.rust_edits.proofs.Ranges.Inner.{IsMute, symbol_mute}
 use Rattle.rust_edits.proofs.Typing.Loose.{passed_symbol}
 
@@ -15,13 +15,9 @@ dash_symbol : (s : ℕ) (z : List ℕ) → symbol_of (piece (first_cut 45 z) s 4
 unfolding first_cut is_wide_start
 dash_symbol s z = refl
 
-feed_blank : (s : ℕ) (z : List ℕ) → is_significant (piece (first_cut 10 z) s 10 z) ≡ false
+ends_blank : (s : ℕ) (z : List ℕ) → (is_significant (piece (first_cut 10 z) s 10 z) ≡ false) × (is_significant (piece (first_cut 13 z) s 13 z) ≡ false)
 unfolding first_cut
-feed_blank s z = refl
-
-return_blank : (s : ℕ) (z : List ℕ) → is_significant (piece (first_cut 13 z) s 13 z) ≡ false
-unfolding first_cut
-return_blank s z = refl
+ends_blank s z = (refl, refl)
 
 pub true_false : {t : Bool} → t ≡ true → t ≡ false → ⊥
 true_false e f = absurd (let no : true ≡ false = sym e ∙ f in cc)
@@ -45,9 +41,9 @@ module _ (past s : ℕ) (t : Piece) (l : List Piece) (u : Option ℕ) (y : Editi
   fence : (b : ℕ) (z v : List ℕ) → t ≡ piece (first_cut b z) s b z → is_fence (b ∷ v) ≡ false
   fence b z v e =
       when (b == 10)
-      (λ f. let is : b ≡ 10 = eqb-true b 10 f in absurd (true_false counts (ap is_significant (e ∙ ap (λ c. piece (first_cut c z) s c z) is) ∙ feed_blank s z)))
+      (λ f. let is : b ≡ 10 = eqb-true b 10 f in absurd (true_false counts (ap is_significant (e ∙ ap (λ c. piece (first_cut c z) s c z) is) ∙ (ends_blank s z).0)))
       (λ f. when (b == 13)
-      (λ g. let is : b ≡ 13 = eqb-true b 13 g in absurd (true_false counts (ap is_significant (e ∙ ap (λ c. piece (first_cut c z) s c z) is) ∙ return_blank s z)))
+      (λ g. let is : b ≡ 13 = eqb-true b 13 g in absurd (true_false counts (ap is_significant (e ∙ ap (λ c. piece (first_cut c z) s c z) is) ∙ (ends_blank s z).1)))
       (λ g. when (b == 45)
       (λ h. let is : b ≡ 45 = eqb-true b 45 h in absurd (no_dash z (e ∙ ap (λ c. piece (first_cut c z) s c z) is)))
       (λ h. rw (f, g, h) refl)))

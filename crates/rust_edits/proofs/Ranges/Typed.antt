@@ -1,15 +1,15 @@
 -- Texts of whole items one behind the other, and between others.
 use Rattle.std.proofs.Common.{Bool, ◌≡◌, true, ◌<◌, ◌≤◌, ◌+◌, ◌==◌, ℕ, suc, Option, None, List, [], ◌∷◌, ◌++◌, length, refl, sym, ap, ◌∙◌, subst, arith, append_assoc, append-nil, length-append}
-use Rattle.rust_edits.proofs.Words.{read_at, slice_index, option_map, EditionYear, ItemView, Inner, Stop, stop, is_continuation, tokens, most, goes_on, Tokens, tokens_of, last_unended, kind, symbol, bumped, inner_attributes, is_attribute, is_behind, is_doc, Found, nothing_found, and_problem_at, and_all, behind_attributes, found_in, read_of, EndsOwn, IsBare, HoldsItems, BeginsAnew, text_attrs, found_on, ItemsJoin, Follows, as_first, behind_items, IsBetween, StandsBetween, TypingItems, MetaView}
+use Rattle.rust_edits.proofs.Words.{slice_index, option_map, EditionYear, ItemView, Inner, Stop, stop, is_continuation, tokens, most, goes_on, Tokens, tokens_of, last_unended, kind, symbol, bumped, inner_attributes, is_attribute, is_behind, is_doc, Found, nothing_found, and_problem_at, and_all, behind_attributes, found_in, read_of, EndsOwn, IsBare, HoldsItems, BeginsAnew, text_attrs, found_on, ItemsJoin, Follows, as_first, behind_items, IsBetween, StandsBetween, TypingItems, MetaView, read_at, HoldsAt, FollowsAt, as_first_at, behind_items_at, IsBetweenAt, InsideBetween}
 use Rattle.rust_edits.proofs.Lemmas.{when, Twins, symbol_same, kind_same, after_symbol, inner_attributes_leads, near_twins, nothing, tokens_short}
 use Rattle.rust_lexer.proofs.Laws.{tokens_few}
-use Rattle.rust_items.specs.declared.log.ProblemKind.TheVariants as problem
 use Rattle.rust_edits.proofs.Ranges.Behind.{plain_on}
-use Rattle.rust_edits.proofs.Ranges.Joins.{Joined, first_near, found_quiet, found_still, unended_join, items_top, joined_whole, top_holds}
+use Rattle.rust_edits.proofs.Ranges.Joins.{Joined, first_near, found_quiet, found_still, unended_join, items_top, joined_whole, top_holds, inside_join}
 use Rattle.rust_edits.proofs.Ranges.Inner.{no_inner}
-use Rattle.rust_edits.proofs.Ranges.Parts.{ended}
+use Rattle.rust_edits.proofs.Ranges.Alone.{ended}
 use Rattle.rust_edits.proofs.Ranges.Turning.{run_none}
 use Rattle.rust_edits.proofs.Typing.ProblemsIn.{unended_kept}
+use Rattle.rust_items.specs.declared.log.ProblemKind.TheVariants as problem
 
 -- ---- two texts
 
@@ -130,3 +130,30 @@ between edition q t s m = between_by edition q t s m.whole m.behind m.short m.fo
 
 pub typing_items : TypingItems
 typing_items edition q t t' s old new = (between edition q t s old, between edition q t' s new)
+
+-- ---- whole items between braces, and what is behind them, are read one after the other
+
+-- ---- between others
+
+between_at : (is_top : Bool) (left : ℕ) (edition : EditionYear) (q t s : List ℕ) → HoldsAt is_top (suc left) edition t → BeginsAnew edition s → length (q ++ (t ++ s)) < most → FollowsAt is_top (suc left) edition q t
+    → IsBetweenAt is_top (suc left) edition q t s
+between_at is_top left edition _ _ s whole c short (as_first_at t) =
+    let j = inside_join is_top left edition t s whole c short in
+    let none = nothing_read is_top left edition in
+    let both = and_all (found_on (length t) (read_at is_top (suc left) edition s).1.0) (read_at is_top (suc left) edition t).1.0 in
+    record {
+      items = j.items ∙ ap (λ (r : List ItemView × (Found × Tokens)). r.0 ++ ((read_at is_top (suc left) edition t).0 ++ (read_at is_top (suc left) edition s).0)) (sym none);
+      found = j.found ∙ found_still both ∙ ap (λ (r : List ItemView × (Found × Tokens)). and_all (found_on 0 both) r.1.0) (sym none);
+    }
+between_at is_top left edition _ _ s whole c short (behind_items_at q t h begins) =
+    let sizes = length-append q (t ++ s) in
+    let less : length (t ++ s) < most = omega (arith, short) in
+    let j = inside_join is_top left edition t s whole c less in
+    let i = inside_join is_top left edition q (t ++ s) h (begins_on edition t s whole.bare whole.ends begins c less) short in
+    record {
+      items = i.items ∙ ap (λ l. (read_at is_top (suc left) edition q).0 ++ l) j.items;
+      found = i.found ∙ ap (λ (f : Found). and_all (found_on (length q) f) (read_at is_top (suc left) edition q).1.0) j.found;
+    }
+
+pub inside_between : InsideBetween
+inside_between is_top left edition q t s whole follows c short = between_at is_top left edition q t s whole c short follows

@@ -1,13 +1,38 @@
 -- The braces that an item ends with begin at a token of the text.
-use Rattle.std.proofs.Common.{◌≡◌, ℕ, true, false, Option, Some, None, List, [], ◌∷◌, ◌++◌, length, refl, ap, sym, subst, ◌∙◌}
-use Rattle.rust_edits.proofs.Words.{EditionYear, AstIdKind, Piece, Tokens, tokens_of, by_first, rest, at, is_empty, bumped, TextRange, inner_attributes, Head, LeafRead, leaf, nothing_found, begins_at, has_body, found_in, read_of}
-use Rattle.rust_edits.proofs.Lemmas.{eqb-true, LeadsTo, here, further, through, when, IsLaid, tokens_laid, inner_attributes_leads, IsBraced, braced, LeafAt, leaf_at, Span, Rows, found_rows}
-use Rattle.hir_input.specs.declared.ids.AstIdKind.TheVariants as kind
-use Rattle.rust_cursor.proofs.Laid as laid
-use Rattle.rust_leaves.specs.declared.head.Head.TheVariants as heads
-use Rattle.rust_items.specs.declared.log.ProblemKind.TheVariants as problem
-use Rattle.rust_edits.proofs.Typing.Begins.{Begins, first, later}
+use Rattle.std.proofs.Common.{◌≡◌, ◌≤◌, ℕ, zero, suc, ◌+◌, List, [], ◌∷◌, ◌++◌, length, arith, true, false, Option, Some, None, refl, ap, sym, subst, ◌∙◌}
+use Rattle.rust_edits.proofs.Words.{filter, first_cut, Piece, is_significant, tokens_from, whole, overhang, EditionYear, Tokens, tokens_of, by_first, rest, at, is_empty, bumped, TextRange, inner_attributes, LeafRead, leaf, nothing_found, begins_at, has_body, found_in, read_of, tokens, with_body}
+use Rattle.rust_edits.proofs.Lemmas.{eqb-true, LeadsTo, here, further, through, when, IsLaid, tokens_laid, inner_attributes_leads, IsBraced, braced, LeafAt, leaf_at, Span, Rows, found_rows, plain_is}
 use Rattle.rust_edits.proofs.Adding.{IfLeaf, any_place, Keeping, items_keeps}
+use Rattle.rust_edits.specs.Typing.Opened.{BodyOpens}
+use Rattle.rust_cursor.proofs.Laid as laid
+
+-- ---- a token begins at a place: then no token before it goes on behind that
+
+-- one of these tokens begins there
+pub data Begins (n : ℕ) : List Piece → Type 0 where
+  first : {t : Piece} {ts : List Piece} → t.at ≡ n → Begins n (t ∷ ts)
+  later : {t : Piece} {ts : List Piece} → Begins n ts → Begins n (t ∷ ts)
+
+behind_one : (n : ℕ) (t : Piece) (ts us : List Piece) → (Begins n ts → Begins n us) → Begins n (t ∷ ts) → Begins n (t ∷ us)
+behind_one n t ts us f (first e) = first e
+behind_one n t ts us f (later b) = later (f b)
+
+pub unfiltered : (n : ℕ) (ts : List Piece) → Begins n (filter is_significant ts) → Begins n ts
+unfiltered n [] b = b
+unfiltered n (t ∷ ts) b = when (is_significant t) (λ e. behind_one n t (filter is_significant ts) ts (unfiltered n ts) (rw e at b)) (λ e. later (unfiltered n ts (rw e at b)))
+
+-- none begins before what is left of one
+from_place : (n left at : ℕ) (z : List ℕ) → Begins n (tokens_from left at z) → at + left ≤ n
+from_place n zero at (b ∷ z) (first e) = omega (arith, e)
+from_place n zero at (b ∷ z) (later r) = let more = from_place n (whole (first_cut b z) z) (suc at) z r in omega arith
+from_place n (suc left) at (b ∷ z) r = let more = from_place n left (suc at) z r in omega arith
+from_place n _ at [] r = elim r [ ]
+
+pub begins_whole : (n left at : ℕ) (x w : List ℕ) → n ≡ at + length x → Begins n (tokens_from left at (x ++ w)) → overhang left x w ≡ 0
+begins_whole n left at [] w e b = let low = from_place n left at w b in omega arith
+begins_whole n zero at (a ∷ x) w e (first f) = absurd (omega (arith, e, f))
+begins_whole n zero at (a ∷ x) w e (later r) = begins_whole n (whole (first_cut a (x ++ w)) (x ++ w)) (suc at) x w (omega arith) r
+begins_whole n (suc left) at (a ∷ x) w e r = begins_whole n left (suc at) x w (omega arith) r
 
 -- ---- tokens that are left
 
@@ -83,3 +108,13 @@ body_starts edition x n e =
     let same : has_body n (found_in edition x).spans ≡ has_body n (read_of edition x).1.0.spans = ap (λ (r : Rows). has_body n r.1.0) (found_rows edition x) in
     start_of ts (length x) (tokens_laid edition x) n (read_of edition x).1.0.spans
     (items_keeps (length x) (starting ts (length x) (tokens_laid edition x)) true 128 nothing_found (inner_attributes ts).1 (inner_attributes_leads ts) tt) (sym same ∙ e)
+
+-- ---- the `{` of a body is a token
+
+pub body_opens : BodyOpens
+unfolding tokens_of
+body_opens edition q m s body mark fence bare =
+    let x = with_body q m s in
+    let begins : Begins (length q) (tokens x) = unfiltered (length q) (tokens x) (body_starts edition x (length q) body) in
+    let place : length q ≡ 0 + length q = omega arith in
+    begins_whole (length q) 0 0 q (123 ∷ (m ++ 125 ∷ s)) place (subst (λ (l : List Piece). Begins (length q) l) (plain_is x mark bare fence) begins)

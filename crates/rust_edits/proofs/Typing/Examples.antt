@@ -1,6 +1,6 @@
 -- Two small bodies, and a text with the one, by computing.
 use Rattle.std.proofs.Common.{◌≡◌, ◌<◌, ◌||◌, ℕ, zero, suc, true, false, Some, None, List, [], ◌∷◌, ◌++◌, length, refl, ap, sym, subst, ◌∙◌, arith}
-use Rattle.rust_edits.proofs.Words.{option_to_list, EditionYear, Inner, is_wide_start, is_wide_continue, first_cut, StandsAlone, Piece, tokens, Tokens, tokens_of, symbol, word, text, kind, at, is_empty, is_at_end, is_at_identifier, is_at_doc, is_glued, is_pair, bumped, leads_on, nest_behind, begins_item, begins_impl_or_const, begins_within, stops, ends, is_joined, has_blank, more, taking, taken, most, beyond, visibility, is_behind, is_doc, is_attribute, inner_attributes, Head, is_modifier, is_modifier_before, head, head_by, FrontRead, front, impl_end, implementation, leaf, nothing_found, leaf_turn, finding_from, finding, is_list_end, by_head, inside, turn, depth_of, begins_at, has_body, with_body, OpensAt, IsBody, BeginsPlain, IsTyped, none_loose, loose_in}
+use Rattle.rust_edits.proofs.Words.{option_to_list, EditionYear, Inner, is_wide_start, is_wide_continue, first_cut, StandsAlone, Piece, tokens, Tokens, tokens_of, symbol, word, text, kind, at, is_empty, is_at_end, is_at_identifier, is_at_doc, is_glued, is_pair, bumped, leads_on, nest_behind, begins_item, begins_impl_or_const, begins_within, stops, ends, is_joined, has_blank, more, taking, taken, most, beyond, is_behind, is_doc, is_attribute, inner_attributes, is_modifier, is_modifier_before, head, head_by, FrontRead, front, impl_end, implementation, leaf, nothing_found, leaf_turn, finding_from, finding, is_list_end, by_head, inside, turn, depth_of, begins_at, has_body, with_body, OpensAt, IsBody, BeginsPlain, IsTyped, none_loose, loose_in}
 use Rattle.rust_edits.proofs.Lemmas.{tokens_at, IsLaid, tokens_laid, through, when, beyond_leads, Span, adds_item, adds_problem_at, adds_use_trees, list_from, turn_found, Rows, found_rows}
 use Rattle.rust_lexer.specs.declared.kind.LiteralKind.TheVariants as literals
 use Rattle.rust_lexer.specs.declared.kind.TokenKind.TheVariants as kinds
@@ -18,21 +18,13 @@ one = 32 ∷ 49 ∷ 32 ∷ []
 two : List ℕ
 two = 32 ∷ 34 ∷ 125 ∷ 34 ∷ 32 ∷ 47 ∷ 47 ∷ 32 ∷ 120 ∷ 10 ∷ []
 
-one_alone : StandsAlone one
+fits_one : StandsAlone one × BeginsPlain one
 unfolding one first_cut is_wide_start is_wide_continue past_digits
-one_alone = record { full = refl; begins = refl; ends = refl; matched = refl }
+fits_one = (record { full = refl; begins = refl; ends = refl; matched = refl }, refl)
 
-two_alone : StandsAlone two
+fits_two : StandsAlone two × BeginsPlain two
 unfolding two first_cut is_wide_start is_wide_continue past_digits
-two_alone = record { full = refl; begins = refl; ends = refl; matched = refl }
-
-one_plain : BeginsPlain one
-unfolding one first_cut is_wide_start is_wide_continue past_digits
-one_plain = refl
-
-two_plain : BeginsPlain two
-unfolding two first_cut is_wide_start is_wide_continue past_digits
-two_plain = refl
+fits_two = (record { full = refl; begins = refl; ends = refl; matched = refl }, refl)
 
 -- `#!` alone is no attribute, and `#/**/! [` begins one
 hash_plain : BeginsPlain (35 ∷ 33 ∷ [])
@@ -48,13 +40,9 @@ unfolding one two first_cut is_wide_start is_wide_continue past_digits
 same_loose = refl
 
 -- `({)}`: brackets are counted across braces, and `])(`: the first two close nothing, and the last is open
-across : loose_in (40 ∷ 123 ∷ 41 ∷ 125 ∷ []) ≡ none_loose
+counted : (loose_in (40 ∷ 123 ∷ 41 ∷ 125 ∷ []) ≡ none_loose) × (loose_in (93 ∷ 41 ∷ 40 ∷ []) ≡ record { closing = 2; opening = 1 })
 unfolding first_cut is_wide_start
-across = refl
-
-counted : loose_in (93 ∷ 41 ∷ 40 ∷ []) ≡ record { closing = 2; opening = 1 }
-unfolding first_cut is_wide_start
-counted = refl
+counted = (refl, refl)
 
 -- ---- a text of which all is so that is asked
 
@@ -106,17 +94,13 @@ module _ (y : EditionYear) where
       ap (has_body 5) (adds_use_trees l.use_trees (adds_problem_at problem.TooDeep l.too_deep (adds_item nothing_found (depth_of 128) 0 to l.body l.kind l.name l.named l.is_ended))).spans
       ∙ ap (λ o. begins_at 5 o || false) braces_are
 
-  unended : is_at_end all ≡ false
-  unfolding all impl_word is_at_end
-  unended = refl
-
-  some_left : is_list_end true all ≡ false
-  unfolding all impl_word is_list_end is_empty
-  some_left = refl
+  some_left : (is_at_end all ≡ false) × (is_list_end true all ≡ false)
+  unfolding all impl_word is_at_end is_list_end is_empty
+  some_left = (refl, refl)
 
   turn_finds : has_body 5 (turn 128 nothing_found all).1.0.spans ≡ true
   unfolding turn
-  turn_finds = rw unended (subst (λ (r : FrontRead × Tokens). has_body 5 (by_head (inside 128) (depth_of 128) r.0.head r.0 nothing_found r.1).1.0.spans ≡ true) (sym front_is) impl_found)
+  turn_finds = rw some_left.0 (subst (λ (r : FrontRead × Tokens). has_body 5 (by_head (inside 128) (depth_of 128) r.0.head r.0 nothing_found r.1).1.0.spans ≡ true) (sym front_is) impl_found)
 
   list_finds : (n : ℕ) → 0 < n → has_body 5 (finding_from (is_list_end true) (turn 128) n [] nothing_found all).1.0.spans ≡ true
   list_finds zero h = absurd (omega arith)
@@ -127,7 +111,7 @@ module _ (y : EditionYear) where
       let next = beyond all.past (turn 128 nothing_found all).1.1 in
       let leads = through (turn_found end 128 nothing_found all whole).leads (beyond_leads all.past (turn 128 nothing_found all).1.1) in
       let rest = list_from end (is_list_end true) (turn 128) (turn_found end 128) n ([] ++ option_to_list (turn 128 nothing_found all).0) found next (laid.behind end leads whole).laid in
-      rw some_left (ap (has_body 5) rest.found.adds.spans ∙ has_first 5 found.spans _ turn_finds)
+      rw some_left.1 (ap (has_body 5) rest.found.adds.spans ∙ has_first 5 found.spans _ turn_finds)
 
   body_is : IsBody y header one []
   unfolding finding most header
@@ -141,4 +125,4 @@ module _ (y : EditionYear) where
   impl_opens = record { full = refl; one = refl; plain = refl; unfenced = refl; bare = refl }
 
   typed : IsTyped y header one two []
-  typed = record { opens = impl_opens; body = body_is; alone = one_alone; alone_new = two_alone; begins = one_plain; begins_new = two_plain }
+  typed = record { opens = impl_opens; body = body_is; alone = fits_one.0; alone_new = fits_two.0; begins = fits_one.1; begins_new = fits_two.1 }

@@ -3,6 +3,7 @@ use Rattle.rust_edits.proofs.Words.{nat_le, nat_lt, slice_index, behind_lead, is
 use Rattle.rust_edits.proofs.Lemmas.{and_parts, nat_tests, when}
 use lib.Utf8.{scalars, scalar, next, encode, encodes, scalar_cases}
 use Rattle.std.proofs.Common.{◌≡◌, ◌⊎◌, inl, inr, ◌+◌, ◌/◌, ◌<◌, ◌≤◌, ◌==◌, ℕ, true, false, List, [], ◌∷◌, ◌++◌, length, IsUtf8, refl, ap, sym, subst, ◌∙◌, arith}
+use Rattle.std.proofs.lemmas.Bool.{ltb-true, ltb-false}
 
 -- ---- one byte
 
@@ -66,22 +67,15 @@ full_four a b d e z l f g h k =
     subst (λ (y : List ℕ). is_full y ≡ true) (sym all)
     (full_cons a (b ∷ d ∷ e ∷ with_feeds z) (omega (arith, three)) (full_low b (d ∷ e ∷ with_feeds z) f.1 (full_low d (e ∷ with_feeds z) g.1 (full_low e (with_feeds z) h.1 k))))
 
--- the test of one and the fact
-low : (m n : ℕ) → nat_lt m n ≡ true → m < n
-low m n e = grind (arith, nat_tests)
-
-high : (m n : ℕ) → nat_lt m n ≡ false → n ≤ m
-high m n e = grind (arith, nat_tests)
-
 full_char : (c : ℕ) (z : List ℕ) → c < 1114112 → is_full (with_feeds z) ≡ true → is_full (with_feeds (encode c ++ z)) ≡ true
 unfolding encode
 full_char c z top k =
-    when (nat_lt c 128) (λ t. rw t (full_one c z (low c 128 t) k))
-    (λ t. let a = high c 128 t in
-    when (nat_lt c 2048) (λ u. let b = low c 2048 u in rw (t, u) (full_two (192 + c / 64) (next c) z (omega arith) (omega arith) (follows c) k))
-    (λ u. let b = high c 2048 u in
-    when (nat_lt c 65536) (λ v. let d = low c 65536 v in rw (t, u, v) (full_three (224 + c / 4096) (next (c / 64)) (next c) z (omega arith) (omega arith) (follows (c / 64)) (follows c) k))
-    (λ v. let d = high c 65536 v in rw (t, u, v) (full_four (240 + c / 262144) (next (c / 4096)) (next (c / 64)) (next c) z (omega arith) (follows (c / 4096)) (follows (c / 64)) (follows c) k))))
+    when (nat_lt c 128) (λ t. rw t (full_one c z (ltb-true c 128 t) k))
+    (λ t. let a = ltb-false c 128 t in
+    when (nat_lt c 2048) (λ u. let b = ltb-true c 2048 u in rw (t, u) (full_two (192 + c / 64) (next c) z (omega arith) (omega arith) (follows c) k))
+    (λ u. let b = ltb-false c 2048 u in
+    when (nat_lt c 65536) (λ v. let d = ltb-true c 65536 v in rw (t, u, v) (full_three (224 + c / 4096) (next (c / 64)) (next c) z (omega arith) (omega arith) (follows (c / 64)) (follows c) k))
+    (λ v. let d = ltb-false c 65536 v in rw (t, u, v) (full_four (240 + c / 262144) (next (c / 4096)) (next (c / 64)) (next c) z (omega arith) (follows (c / 4096)) (follows (c / 64)) (follows c) k))))
 
 -- ---- all
 
@@ -113,7 +107,7 @@ lead_high a z l = let other : (a == 13) ≡ false = grind (arith, nat_tests) in 
 lead_char : (c : ℕ) (z : List ℕ) → is_continuation (slice_index (with_feeds (encode c ++ z)) 0) ≡ false
 unfolding encode
 lead_char c z =
-    when (nat_lt c 128) (λ t. rw t (lead_one c z (low c 128 t)))
+    when (nat_lt c 128) (λ t. rw t (lead_one c z (ltb-true c 128 t)))
     (λ t. when (nat_lt c 2048) (λ u. rw (t, u) (lead_high (192 + c / 64) (next c ∷ z) (omega arith)))
     (λ u. when (nat_lt c 65536) (λ v. rw (t, u, v) (lead_high (224 + c / 4096) (next (c / 64) ∷ next c ∷ z) (omega arith)))
     (λ v. rw (t, u, v) (lead_high (240 + c / 262144) (next (c / 4096) ∷ next (c / 64) ∷ next c ∷ z) (omega arith)))))

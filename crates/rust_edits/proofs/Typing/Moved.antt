@@ -1,6 +1,6 @@
 -- Items and use trees stand where they stood, or are moved with the text.
-use Rattle.std.proofs.Common.{◌≡◌, ◌≤◌, ℕ, List, ◌∷◌, length, refl, ap, sym, subst, ◌∙◌, map, arith}
-use Rattle.rust_edits.proofs.Words.{found_in, All, EditionYear, ItemViews, ItemPlace, with_feeds, place_in, FileView, IsFile, with_body, IsTyped, shifted_by, AreMoved, PlacesMove}
+use Rattle.std.proofs.Common.{◌≡◌, ◌≤◌, ℕ, List, ◌∷◌, length, refl, ap, sym, subst, ◌∙◌, map, arith, ◌+◌, ◌++◌, length-append}
+use Rattle.rust_edits.proofs.Words.{found_in, All, EditionYear, ItemViews, ItemPlace, with_feeds, place_in, FileView, IsFile, with_body, IsTyped, shifted_by, AreMoved, PlacesMove, has_body, has_body_at, BodyIsTold, FileAstId, source_file, tokens_of, Row, AreIds, inner_attributes, with_ids, moved_span, moved_problem, places, items_in, IsReadAnew}
 use Rattle.rust_edits.proofs.Lemmas.{All-nil, All-append, All-head, All-tail, All-weaker, close_some, AreAlike, no_more, one_more, unmoved, moves}
 use Rattle.hir_input.specs.UseTreeView.{UseTreeView}
 use Rattle.rust_items.proofs.FilePlaces.{text_found}
@@ -9,6 +9,7 @@ use Rattle.rust_items.proofs.UsesFound.{IsIn, UsesIn, no_uses, leaf_uses, holder
 use Rattle.rust_edits.proofs.Typing.Texts.{IsMoved}
 use Rattle.rust_edits.proofs.Typing.Typing.{both_read, same_ids}
 use Rattle.rust_edits.proofs.Typing.Returns.{feeds_body, body_length, place_stays, place_moves}
+use Rattle.rust_items.proofs.Told.{file_told}
 
 -- ---- places
 
@@ -61,3 +62,37 @@ pub places_move : PlacesMove
 places_move edition q m m' s read again t f g =
     read_moved edition q m m' s read again t (subst (λ (z : List ℕ). IsFile edition z (place_in (with_body q m s)) read) (feeds_body q m s) f)
     (subst (λ (z : List ℕ). IsFile edition z (place_in (with_body q m' s)) again) (feeds_body q m' s) g)
+
+-- ---- which braces are a body is told by the places of what was read
+
+pub body_is_told : BodyIsTold
+body_is_told edition q m s old read e f =
+    let long : length (with_feeds old) ≡ length q + length (123 ∷ (m ++ 125 ∷ s)) = ap length e ∙ length-append q (123 ∷ (m ++ 125 ∷ s)) in
+    subst (λ (z : List ℕ). has_body_at (place_in old (length q)) read.places ≡ has_body (length q) (found_in edition z).spans) e (file_told edition old read f (length q) (omega arith))
+
+-- ---- something is read of the text in whose body something was typed
+
+-- what is read with these ids
+made : EditionYear → List ℕ → (ℕ → ℕ) → List FileAstId → FileView
+made edition x place ids =
+    record {
+      syntax = source_file (inner_attributes (tokens_of edition x)).0 (with_ids (items_in edition x) ids).0;
+      places = places ids (map (moved_span place) (found_in edition x).spans);
+      use_trees = map place (found_in edition x).use_trees;
+      problems = map (moved_problem place) (found_in edition x).problems;
+    }
+
+made_is : (edition : EditionYear) (x : List ℕ) (place : ℕ → ℕ) (ids : List FileAstId) → AreIds (found_in edition x).rows ids → IsFile edition x place (made edition x place ids)
+unfolding made
+made_is edition x place ids are = record { ids = ids; are_ids = are; syntax = refl; places = refl; use_trees = refl; problems = refl }
+
+-- the rows are the same, and so are the ids
+pub is_read_anew : IsReadAnew
+is_read_anew edition q m m' s read t f =
+    let x' = with_body (with_feeds q) (with_feeds m') (with_feeds s) in
+    let place = place_in (with_body q m' s) in
+    let r = both_read edition (with_feeds q) (with_feeds m) (with_feeds m') (with_feeds s) t in
+    let old = subst (λ (z : List ℕ). IsFile edition z (place_in (with_body q m s)) read) (feeds_body q m s) f in
+    let are : AreIds (found_in edition x').rows old.ids = subst (λ (l : List Row). AreIds l old.ids) (sym r.found.rows) old.are_ids in
+    let again = made edition x' place old.ids in
+    (again, subst (λ (z : List ℕ). IsFile edition z place again) (sym (feeds_body q m' s)) (made_is edition x' place old.ids are))

@@ -17,8 +17,7 @@ use Rattle.rust_leaves.proofs.Fronts.{behind_others_beside}
 use Rattle.rust_items.specs.declared.log.ProblemKind.TheVariants as problem
 use Rattle.rust_items.specs.Items.{one_more as one_deeper}
 use Rattle.rust_items.specs.Places.{nothing}
-use Rattle.rust_edits.proofs.Typing.Ended.{SameLoose}
-use Rattle.rust_edits.proofs.Typing.EndedLeaves.{SameFlaws, LeafTold, lost as leaf_lost, told as told_leaf, leaf_told}
+use Rattle.rust_edits.proofs.Typing.Ended.{SameLoose, SameFlaws, LeafTold, lost as leaf_lost, told as told_leaf, leaf_told}
 
 -- ---- whose braces they are
 

@@ -1,14 +1,14 @@
 -- Problems stand in the text.
-use Rattle.std.proofs.Common.{◌≡◌, ◌≤◌, ◌+◌, ◌&&◌, ℕ, true, Option, Some, None, List, [], ◌∷◌, ◌++◌, length, refl, ap, sym, subst, ◌∙◌, arith, length-append}
-use Rattle.rust_edits.proofs.Words.{is_some, Visibility, EditionYear, AstIdKind, MetaView, Piece, is_terminated, tokens, text_of, AreInPlace, behind_closed, behind_tree, behind_angles, beyond, tree_text, Tokens, end_of, last_unended, tokens_of, at, by_first, is_glued, bumped, use_tree, path, inner_attributes, Head, FrontRead, LeafRead, is_called, leaf_by, leaf, function, union_item, enumeration, trait_item, macro_def, type_alias, static_value, constant, structure, implementation, crate_item, use_declaration, macro_definition, invocation, Problem, ProblemKind, nothing_found, found_in, read_of}
-use Rattle.rust_edits.proofs.Lemmas.{AreLaid, IsLaid, behind, tokens_laid, LeadsTo, here, further, through, when, bumped_leads, behind_closed_leads, behind_tree_leads, behind_angles_leads, beyond_leads, taken_leads_on, on, gone, kept, Parting, Entering, IsAlike, neither, both, inner_attributes_leads, items_found}
-use Rattle.hir_input.specs.declared.ids.AstIdKind.TheVariants as kind
+use Rattle.std.proofs.Common.{◌≡◌, ◌≤◌, ◌+◌, ◌&&◌, ℕ, true, Option, Some, None, List, [], ◌∷◌, ◌++◌, length, refl, ap, sym, subst, ◌∙◌, arith, length-append, map}
+use Rattle.rust_edits.proofs.Words.{is_some, Visibility, EditionYear, MetaView, Piece, is_terminated, tokens, text_of, AreInPlace, behind_closed, behind_tree, behind_angles, beyond, tree_text, Tokens, end_of, last_unended, tokens_of, at, by_first, is_glued, bumped, use_tree, path, inner_attributes, Head, FrontRead, LeafRead, is_called, leaf_by, leaf, function, union_item, enumeration, trait_item, macro_def, type_alias, static_value, constant, structure, implementation, crate_item, use_declaration, macro_definition, invocation, Problem, nothing_found, found_in, read_of, All, with_feeds, place_in, moved_problem}
+use Rattle.rust_edits.proofs.Lemmas.{AreLaid, IsLaid, behind, tokens_laid, LeadsTo, here, further, through, when, bumped_leads, behind_closed_leads, behind_tree_leads, behind_angles_leads, beyond_leads, taken_leads_on, on, gone, kept, Parting, Entering, IsAlike, neither, both, inner_attributes_leads, items_found, All-nil, All-cons, place_le, place_rises_in, place_within}
 use Rattle.rust_lexer.proofs.Laws.{tokens_lossless, tokens_placed}
 use Rattle.rust_cursor.proofs.Parting.{UntilBy}
 use Rattle.rust_paths.proofs.AlikeTrees.{SameFound, use_tree_until}
+use Rattle.rust_edits.proofs.Adding.{IfPlace, IfLeaf, Keeping, maybe, items_keeps}
+use Rattle.rust_edits.specs.Typing.Problems.{ProblemsStand}
 use Rattle.rust_leaves.specs.declared.head.Head.TheVariants as heads
 use Rattle.rust_items.specs.declared.log.ProblemKind.TheVariants as problem
-use Rattle.rust_edits.proofs.Adding.{IfPlace, IfLeaf, Keeping, maybe, items_keeps}
 
 -- ---- where tokens stand
 
@@ -157,3 +157,20 @@ problems_in edition x =
     maybe (length x) (standing (length x)) nothing_found (read_of edition x).1.0 problem.Unterminated (read_of edition x).1.1.unended
     (subst (MaybeIn (length x)) (sym (unended_kept (read_leads edition x))) (unended_in edition x))
     (items_keeps (length x) (standing (length x)) true 128 nothing_found (inner_attributes (tokens_of edition x)).1 first.laid) tt
+
+-- ---- problems stand in the text
+
+all_stand : (place : ℕ → ℕ) (end top : ℕ) → ((n : ℕ) → n ≤ end → place n ≤ top) → (ps : List Problem) → AreIn end ps → All (λ (p : Problem). p.at ≤ top) (map (moved_problem place) ps)
+all_stand place end top f [] h = All-nil (λ (p : Problem). p.at ≤ top)
+all_stand place end top f (p ∷ ps) h = All-cons (λ (p : Problem). p.at ≤ top) (moved_problem place p) (map (moved_problem place) ps) (f p.at h.0) (all_stand place end top f ps h.1)
+
+place_top : (text : List ℕ) (n : ℕ) → n ≤ length (with_feeds text) → place_in text n ≤ length text
+place_top text n l =
+    let below = place_le (place_in text) (length (with_feeds text)) (place_rises_in text) n (length (with_feeds text)) l (omega arith) in
+    let end = place_within text in
+    omega (arith, below, end)
+
+pub problems_stand : ProblemsStand
+problems_stand edition text read f =
+    subst (All (λ (p : Problem). p.at ≤ length text)) (sym f.problems)
+    (all_stand (place_in text) (length (with_feeds text)) (length text) (place_top text) (found_in edition (with_feeds text)).problems (problems_in edition (with_feeds text)))

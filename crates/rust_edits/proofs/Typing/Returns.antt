@@ -2,9 +2,7 @@
 use Rattle.std.proofs.Common.{◌≡◌, ◌<◌, ◌≤◌, ◌+◌, ◌==◌, ℕ, suc, true, false, List, [], ◌∷◌, ◌++◌, length, refl, ap, ◌∙◌, arith, length-append}
 use Rattle.rust_edits.proofs.Words.{nat_le, nat_lt, slice_index, is_return, with_feeds, returns_from, place_in, with_body, shifted_by, close_at}
 use Rattle.rust_edits.proofs.Lemmas.{nat_tests, when, and_parts, le-leb, lt-ltb, returns_count, prefix_short, below_none, before}
-
-pub not_le : (m n : ℕ) → n < m → nat_le m n ≡ false
-not_le m n h = grind (arith, nat_tests)
+use Rattle.std.proofs.lemmas.Bool.{lt-leb}
 
 lt_by : (m n d : ℕ) → nat_lt (m + d) (n + d) ≡ nat_lt m n
 lt_by m n d = grind (arith, nat_tests)
@@ -103,7 +101,7 @@ pub place_moves : (q m m' s : List ℕ) (c : ℕ) → 0 < c → c ≤ suc (lengt
     → place_in (with_body q m' s) (c + close_at (with_feeds q) (with_feeds m')) ≡ shifted_by q m m' (place_in (with_body q m s) (c + close_at (with_feeds q) (with_feeds m)))
 place_moves q m m' s c some l =
     let k = close_at q m + (c + before c 1 s) in
-    let there : nat_le k (length q) ≡ false = not_le k (length q) (omega arith) in
+    let there : nat_le k (length q) ≡ false = lt-leb k (length q) (omega arith) in
     rw (place_high q m s c some l, place_high q m' s c some l, there) (omega arith)
 
 -- ---- where the braces stand

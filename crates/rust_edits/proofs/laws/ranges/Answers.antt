@@ -1,12 +1,10 @@
 use Rattle.rust_edits.proofs.Ranges.Ranges.{range_alone}
-use Rattle.rust_edits.proofs.Ranges.Typed.{items_join, typing_items}
-use Rattle.rust_edits.proofs.Ranges.Files.{file_tells, items_stand, items_told}
+use Rattle.rust_edits.proofs.Ranges.Typed.{items_join, typing_items, inside_between}
+use Rattle.rust_edits.proofs.Ranges.Files.{file_tells, items_stand, items_told, ids_stay}
 use Rattle.rust_edits.proofs.Ranges.Fronts.{front_holds}
 use Rattle.rust_edits.proofs.Ranges.Holds.{both_hold, rest_holds}
 use Rattle.rust_edits.proofs.Ranges.TopIds.{top_keys_stay, front_ids_stay}
-use Rattle.rust_edits.proofs.Ranges.SameIds.{ids_stay}
 use Rattle.rust_edits.proofs.Ranges.Joins.{inside_join, top_holds}
-use Rattle.rust_edits.proofs.Ranges.Inside.{inside_between}
 use Rattle.rust_edits.proofs.Ranges.Modules.{module_reads}
 use Rattle.rust_edits.proofs.laws.ranges.Goals as goal
 

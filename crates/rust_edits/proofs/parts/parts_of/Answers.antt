@@ -1,7 +1,7 @@
 use Rattle.std.proofs.Common.{rules}
 use Rattle.std.specs.Prelude.{IsCharBoundary}
 use Rattle.rust_edits.specs.Inner.{IsUncut}
-use Rattle.rust_edits.proofs.Cuts.{uncut_front, uncut_replaced, uncut_back, uncut_shut}
+use Rattle.rust_edits.proofs.Told.{uncut_front, uncut_replaced, uncut_back, uncut_shut}
 use Rattle.rust_edits.proofs.Steps.{if_none, off}
 use Rattle.rust_edits.proofs.parts.parts_of.Goals as goal
 
