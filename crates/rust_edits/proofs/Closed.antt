@@ -18,10 +18,7 @@ close_few : (b : ℕ) (x : List ℕ) → (b == 125) ≡ true → whole (first_cu
 close_few b x e = rw (eqb-true b 125 e) (close_whole x)
 
 close_byte : (k : TokenKind) (b : ℕ) → (symbol_from k b == 125) ≡ true → (b == 125) ≡ true
-close_byte kinds.OpenDelim b e = e
-close_byte kinds.CloseDelim b e = e
-close_byte kinds.Punct b e = e
-close_byte _ b e = absurd cc
+close_byte k b e = grind (arith, nat_tests)
 
 some_left : (left at : ℕ) (x : List ℕ) → left ≤ length x → is_nil (tokens_from left at (x ++ 125 ∷ [])) ≡ false
 some_left zero at [] h = refl
@@ -35,8 +32,7 @@ is_shut None = false
 is_shut (Some n) = n == 0
 
 shut_is : (o : Option ℕ) → is_shut o ≡ true → o ≡ Some 0
-shut_is None e = absurd cc
-shut_is (Some n) e = ap (λ (k : ℕ). Some k) (eqb-true n 0 e)
+shut_is o e = grind (arith, nat_tests)
 
 -- A text before a `}`, in braces that are open so many deep: the last token, and no sooner one, closes them, exactly if its braces match and none of its tokens takes the `}`.
 closes_is : (d left at from : ℕ) (x : List ℕ) → 1 ≤ d

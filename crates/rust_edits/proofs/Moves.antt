@@ -1,7 +1,7 @@
 -- An edit inside a body moves what is read.
 use Rattle.std.proofs.Common.{◌≡◌, ◌≤◌, ◌<◌, ◌+◌, ◌-◌, ◌^◌, ◌&&◌, ℕ, true, false, Option, List, [], ◌∷◌, length, refl, ap, sym, subst, ◌∙◌, map, arith, ◌==◌, ◌||◌, Bool, suc, ◌++◌, take, drop, IsUtf8, append_assoc, length-append}
-use Rattle.rust_edits.proofs.Words.{All, nat_le, nat_lt, option_map, list_all, EditionYear, FileAstId, TextRange, Problem, with_feeds, place_in, moved_problem, moved_range, moved_span, FileView, places, IsFile, with_body, IsTyped, close_at, has_place, has_range, has_some_range, has_item, has_problem, HasPlaces, not, slice_index, TokenKind, is_fence, is_wide_start, first_cut, symbol_from, has_mark, is_shebang, tokens_from, begins_bare, ItemPlace, IsFileView, has_body_at, IsBody, loose_in, shifted, shifted_by, moved_place, edited, shifted_place, Shifts, ReadsMoved, PlacesAreKept, in_braces, is_alone, loose_inside, same_loose, AreCut, IsShift}
-use Rattle.rust_edits.proofs.Lemmas.{All-head, All-tail, le-leb, lt-ltb, and_from, close_some, AreAlike, no_more, one_more, IsAlike, neither, both, unmoved, moves, SameRange, before, place_le, place_rises_in, place_within, SpanAlike, IsIn, IsMaybeIn, AreIn, spans_in, and_parts, eqb-true, not-true, when, take_at, drop_at, IsUtf8-append}
+use Rattle.rust_edits.proofs.Words.{All, nat_le, option_map, list_all, EditionYear, FileAstId, TextRange, Problem, with_feeds, place_in, moved_problem, moved_range, moved_span, FileView, places, IsFile, with_body, IsTyped, close_at, has_place, has_range, has_some_range, has_item, has_problem, HasPlaces, not, slice_index, TokenKind, is_fence, is_wide_start, first_cut, symbol_from, has_mark, is_shebang, tokens_from, begins_bare, ItemPlace, IsFileView, has_body_at, IsBody, loose_in, shifted, shifted_by, moved_place, edited, shifted_place, Shifts, ReadsMoved, PlacesAreKept, in_braces, is_alone, loose_inside, same_loose, AreCut, IsShift}
+use Rattle.rust_edits.proofs.Lemmas.{nat_tests, All-head, All-tail, le-leb, and_from, close_some, AreAlike, no_more, one_more, IsAlike, neither, both, unmoved, moves, SameRange, before, place_le, place_rises_in, place_within, SpanAlike, IsIn, IsMaybeIn, AreIn, spans_in, and_parts, eqb-true, not-true, when, take_at, drop_at, IsUtf8-append}
 use Rattle.rust_edits.proofs.Typing.Loose.{both_told, problems_move}
 use Rattle.rust_edits.proofs.Typing.Moved.{uses_within, is_read_anew, places_move, body_is_told}
 use Rattle.rust_edits.proofs.Typing.ProblemsAlike.{ProblemAlike}
@@ -10,7 +10,6 @@ use Rattle.rust_edits.proofs.Typing.Returns.{feeds_body, body_length, place_high
 use Rattle.rust_edits.proofs.Typing.Texts.{IsMoved}
 use Rattle.rust_edits.proofs.Typing.Typing.{both_read, typing_inside}
 use Rattle.rust_edits.specs.declared.shift.Shift.{Shift}
-use Rattle.std.proofs.lemmas.Bool.{lt-leb}
 use Rattle.rust_edits.proofs.Typing.Full.{feeds_full}
 use Rattle.rust_edits.proofs.Typing.BodyStarts.{body_opens}
 use Rattle.rust_edits.specs.declared.parts.Parts.{Parts}
@@ -25,11 +24,7 @@ has_low : (s : Shift) (at : ℕ) → at ≤ s.opening → has_place s at ≡ tru
 has_low s at h = let e : nat_le at s.opening ≡ true = le-leb at s.opening h in rw e refl
 
 has_high : (s : Shift) (at : ℕ) → s.opening < at → s.closing ≤ at → s.closing_new + (at - s.closing) < 2 ^ 64 → has_place s at ≡ true
-has_high s at a b c =
-    let e : nat_le at s.opening ≡ false = lt-leb at s.opening a in
-    let f : nat_le s.closing at ≡ true = le-leb s.closing at b in
-    let g : nat_lt (s.closing_new + (at - s.closing)) (2 ^ 64) ≡ true = lt-ltb (s.closing_new + (at - s.closing)) (2 ^ 64) c in
-    rw (e, f, g) refl
+has_high s at a b c = grind (arith, nat_tests)
 
 module _ (q m m' s : List ℕ) (shift : Shift) (opening : shift.opening ≡ length q) (closing : shift.closing ≡ close_at q m) (closing_new : shift.closing_new ≡ close_at q m') (short : length (with_body q m' s) < 2 ^ 64) where
   abbrev x : List ℕ
@@ -125,10 +120,7 @@ abbrev pub IsBare : List ℕ → Type 0
 IsBare z = (has_mark z ≡ false) × ((is_fence z ≡ false) × (is_shebang (tokens_from 0 0 z) ≡ false))
 
 other_symbol : (k : TokenKind) (b : ℕ) → (b == 35) ≡ false → (symbol_from k b == 35) ≡ false
-other_symbol kinds.OpenDelim b e = e
-other_symbol kinds.CloseDelim b e = e
-other_symbol kinds.Punct b e = e
-other_symbol _ b e = refl
+other_symbol k b e = grind (arith, nat_tests)
 
 -- an attribute
 bare_attribute : (z : List ℕ) → IsBare (35 ∷ 91 ∷ z) × IsBare (35 ∷ 33 ∷ 91 ∷ z)
@@ -153,8 +145,7 @@ hash_is (c ∷ z) e =
         (subst (λ (k : ℕ). IsBare (with_feeds (35 ∷ 33 ∷ k ∷ z))) (sym (eqb-true d 91 p.1)) (bare_attribute (with_feeds z)).1)
 
 off : (s t : Bool) → not (s || t) ≡ true → (s ≡ false) × (not t ≡ true)
-off true t e = absurd cc
-off false t e = (refl, e)
+off s t e = grind (arith, nat_tests)
 
 pub bare_is : (z : List ℕ) → begins_bare z ≡ true → IsBare (with_feeds z)
 bare_is [] e = (refl, (refl, refl))

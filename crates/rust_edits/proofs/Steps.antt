@@ -2,7 +2,7 @@
 use Rattle.std.proofs.Common.{◌≡◌, ◌<◌, ◌==◌, ℕ, zero, suc, true, Option, Some, None, List, [], ◌∷◌, length, get_or, IfSome, refl, ap, sym, ◌∙◌, arith, ◌≤◌, Bool, ◌++◌, take, drop, subst, map, append-nil}
 use Rattle.std.specs.Prelude.{◌↔◌}
 use Rattle.rust_edits.proofs.Words.{IfNone, IsSome, is_some, TextRange, ItemPlace, begins_at, has_body_at, list_all, Loose, or_kept, same_loose}
-use Rattle.rust_edits.proofs.Lemmas.{false≢true, nat_tests, when, drop_all, take_all, and_parts, eqb-true, eq-eqb, and_from}
+use Rattle.rust_edits.proofs.Lemmas.{false≢true, nat_tests, when, drop_all, take_all, and_parts, eq-eqb, and_from}
 
 -- the braces of one of these items are those of one of them
 held_at : (items : List ItemPlace) (i : ℕ) (item : ItemPlace) (r : TextRange) → item.body ≡ Some r → i < length items → item ≡ get_or items i item → has_body_at r.start items ≡ true
@@ -47,9 +47,7 @@ moved_all has move i done xs over e all =
     sym taken ∙ e ∙ all_moved has move xs all
 
 pub same_is : (l m : Loose) → same_loose l m ≡ true → m ≡ l
-same_is l m e =
-    let both = and_parts (l.closing == m.closing) (l.opening == m.opening) e in
-    ap (λ (n : ℕ). record { closing = n; opening = m.opening }) (sym (eqb-true l.closing m.closing both.0)) ∙ ap (λ (n : ℕ). record { closing = l.closing; opening = n }) (sym (eqb-true l.opening m.opening both.1))
+same_is l m e = grind (arith, nat_tests)
 
 pub same_of : (l m : Loose) → m ≡ l → same_loose l m ≡ true
 same_of l m e = subst (λ (k : Loose). same_loose l k ≡ true) (sym e) (and_from (l.closing == l.closing) (l.opening == l.opening) (eq-eqb l.closing l.closing refl) (eq-eqb l.opening l.opening refl))

@@ -1,7 +1,7 @@
 -- The text of an item, from the end of what stands before it on, read alone is exactly that item.
-use Rattle.rust_edits.proofs.Words.{IsBare, slice_index, filter, EditionYear, Stop, stop, EndsAlone, is_continuation, is_significant, tokens_from, Tokens, option_to_list, is_some, MetaView, ItemView, Inner, inner_attributes, is_behind, opening, tokens_in_front, moved, Piece, symbol_of, tokens, most, beyond, tokens_of, by_first, at, is_empty, Found, nothing_found, read_of, finding_from, finding, is_list_end, turn, items}
-use Rattle.std.proofs.Common.{◌≡◌, ◌+◌, ◌==◌, ◌||◌, ℕ, suc, true, false, Option, Some, None, List, [], ◌∷◌, ◌++◌, length, refl, sym, ap, ◌∙◌, subst, arith, map, append-nil}
-use Rattle.rust_edits.proofs.Lemmas.{filter-append, ne_eqb, tokens_first, tokens_moved, own, stop_at, plain_is, filter_moved, tokens_sound, IsLaid, behind, at_behind, taken_behind, LeadsTo, here, further, when, bumped_leads, Ending, Near, near, more_left, is_last, are_ended, turn_found}
+use Rattle.rust_edits.proofs.Words.{IsBare, slice_index, filter, EditionYear, Stop, stop, EndsAlone, is_continuation, is_significant, tokens_from, Tokens, option_to_list, is_some, MetaView, ItemView, Inner, inner_attributes, is_behind, tokens_in_front, moved, Piece, symbol_of, tokens, most, beyond, tokens_of, by_first, at, is_empty, Found, nothing_found, read_of, finding_from, finding, is_list_end, turn, items}
+use Rattle.std.proofs.Common.{◌≡◌, ◌+◌, ◌==◌, ◌||◌, ℕ, suc, true, false, Option, None, List, [], ◌∷◌, ◌++◌, length, refl, sym, ap, ◌∙◌, subst, arith, map, append-nil}
+use Rattle.rust_edits.proofs.Lemmas.{nat_tests, filter-append, ne_eqb, tokens_first, tokens_moved, own, stop_at, plain_is, filter_moved, tokens_sound, IsLaid, behind, at_behind, taken_behind, LeadsTo, here, further, when, bumped_leads, Ending, Near, near, more_left, is_last, are_ended, turn_found}
 use Rattle.rust_edits.proofs.Ranges.Inner.{no_inner, turn_none}
 use Rattle.rust_edits.proofs.Ranges.NearItems.{FoundNear, FoundAlike, flat, is_sound, turn_whole}
 use Rattle.rust_edits.proofs.Ranges.NearLeaves.{Given, Ends, passes, before_end, at_end}
@@ -95,12 +95,10 @@ ended_append (x ∷ y ∷ xs) t e = ended_append (y ∷ xs) t e
 ended_append _ t e = e
 
 pub last_counts : (o : Stop) (at : ℕ) → is_significant (stop_at o at) ≡ true
-last_counts opening at = refl
-last_counts _ at = refl
+last_counts o at = grind (arith, nat_tests)
 
 last_symbol : (o : Stop) (at : ℕ) → symbol_of (stop_at o at) ≡ stop o
-last_symbol opening at = refl
-last_symbol _ at = refl
+last_symbol o at = grind (arith, nat_tests)
 
 pub part_ended : (edition : EditionYear) (q w : List ℕ) (o : Stop) (y : List ℕ) → IsPart w o y → is_last (stop o) ≡ true → are_ended (tokens_of edition (ended w o)).left ≡ true
 unfolding tokens_of
@@ -120,20 +118,17 @@ pub start_near : (b : Ending) (f : Found) → FoundNear b f f nothing_found
 start_near b f = record { rows = sym (append-nil f.rows); spans = sym (append-nil f.spans); use_trees = sym (append-nil f.use_trees); problems = sym (append-nil f.problems) }
 
 some_first : (left : List Piece) → are_ended left ≡ true → by_first true (λ _. false) left ≡ false
-some_first [] e = absurd cc
-some_first (t ∷ left) e = refl
+some_first left e = grind (arith, nat_tests)
 
 ended_some : (us : Tokens) → are_ended us.left ≡ true → is_empty us ≡ false
 unfolding is_empty
 ended_some us e = some_first us.left e
 
 none_some : (i : Option ItemView) → i ≡ None → is_some i ≡ true → ⊥
-none_some None e f = absurd cc
-none_some (Some i) e f = absurd cc
+none_some i e f = grind (arith, nat_tests)
 
 sound_some : (start : ℕ) (i : Option ItemView) (f : Found) → is_sound start (i, f) ≡ true → is_some i ≡ true
-sound_some start None f e = absurd cc
-sound_some start (Some i) f e = refl
+sound_some start i f e = grind (arith, nat_tests)
 
 alone : {m : ℕ} (edition : EditionYear) (b : Ending) (text : List ℕ) (f : Found) (ts us : Tokens) → b.level ≡ false → us ≡ tokens_of edition text → is_empty us ≡ false → Near b ts us → IsLaid m us
     → Ends (FoundAlike b f) (is_sound (at ts)) turn_whole b (flat (turn 128 f ts)) (flat (turn 128 nothing_found us)) → is_sound (at ts) ((turn 128 f ts).0, (turn 128 f ts).1.0) ≡ true → length (turn 128 f ts).1.1.left ≡ length b.behind

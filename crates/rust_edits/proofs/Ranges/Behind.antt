@@ -1,7 +1,7 @@
 -- A text that ends with a `;` or a `}` of its own, and what stands behind it: what is in front stays, and the tokens behind are those of the other text, moved.
 use Rattle.std.proofs.Common.{◌≡◌, ◌≤◌, ◌+◌, ℕ, suc, Bool, true, false, Option, Some, None, List, [], ◌∷◌, ◌++◌, length, refl, sym, ap, ◌∙◌, arith, map, append_assoc, length-append, zero}
 use Rattle.std.specs.Prelude.{if◌then◌else◌}
-use Rattle.rust_edits.proofs.Words.{IsBare, nat_le, slice_index, option_map, filter, EditionYear, Stop, opening, stop, behind_lead, EndsAlone, is_fence, is_full, overhang, tokens_in_front, moved, first_cut, is_continuation, Piece, symbol_of, is_terminated, has_mark, is_shebang, is_significant, tokens, tokens_from, whole, Tokens, end_of, tokens_of, place_if_open, last_unended, by_first, rest, bumped}
+use Rattle.rust_edits.proofs.Words.{IsBare, nat_le, slice_index, option_map, filter, EditionYear, Stop, stop, behind_lead, EndsAlone, is_fence, is_full, overhang, tokens_in_front, moved, first_cut, is_continuation, Piece, symbol_of, is_terminated, has_mark, is_shebang, is_significant, tokens, tokens_from, whole, Tokens, end_of, tokens_of, place_if_open, last_unended, by_first, rest, bumped}
 use Rattle.rust_edits.proofs.Lemmas.{and_from, and_parts, filter-append, nat_tests, own, stop_at, tokens_moved, plain_is, filter_moved, LeadsTo, here, further}
 use Rattle.rust_lexer.proofs.Same.{by_stop}
 use Rattle.rust_edits.proofs.Ranges.Alone.{last_counts, ended}
@@ -81,8 +81,7 @@ last_moved d last (t ∷ ts) = ap (λ l. last_unended l (map (moved d) ts)) (pla
     place false at = refl
 
 pub last_stop : (o : Stop) (at : ℕ) (last : Option ℕ) (l : List Piece) → last_unended last (stop_at o at ∷ l) ≡ last_unended None l
-last_stop opening at last l = refl
-last_stop _ at last l = refl
+last_stop o at last l = grind (arith, nat_tests)
 
 -- where the last token of the longer text is not ended
 pub unended_behind : (edition : EditionYear) (w : List ℕ) (o : Stop) (y : List ℕ) → EndsAlone w o → is_continuation (slice_index y 0) ≡ false → IsBare (w ++ stop o ∷ y) → IsBare y
@@ -105,8 +104,7 @@ end_from past [] = past
 end_from past (t ∷ ts) = end_from (end_of t) ts
 
 end_rest : (past : ℕ) (left : List Piece) → end_from (by_first past end_of left) (rest left) ≡ end_from past left
-end_rest past [] = refl
-end_rest past (t ∷ left) = refl
+end_rest past left = grind (arith, nat_tests)
 
 end_on : {ts us : Tokens} → LeadsTo ts us → end_from us.past us.left ≡ end_from ts.past ts.left
 unfolding bumped

@@ -2,7 +2,7 @@
 use Rattle.std.proofs.Common.{◌≡◌, ◌<◌, ◌≤◌, ◌+◌, ◌-◌, ◌==◌, ◌&&◌, ℕ, zero, suc, true, false, List, [], ◌∷◌, length, take, drop, refl, sym, ap, ◌∙◌, subst, arith}
 use Rattle.std.specs.Prelude.{if◌then◌else◌}
 use Rattle.rust_edits.proofs.Words.{slice_range, is_return, with_feeds, place_in}
-use Rattle.rust_edits.proofs.Lemmas.{length-take, length-drop, before, below_none, before_return, before_other, place_held, when}
+use Rattle.rust_edits.proofs.Lemmas.{nat_tests, length-take, length-drop, before, below_none, before_return, before_other, place_held, when}
 
 -- in a text, the place of what stands there in the text without these
 abbrev pub place_of : List ℕ → ℕ → ℕ
@@ -44,14 +44,10 @@ pub none_feed : (b : ℕ) → (b == 13 && false) ≡ false
 none_feed b = when (b == 13) (λ e. rw e refl) (λ e. rw e refl)
 
 return_taken : (k b : ℕ) (z : List ℕ) → 0 < k → is_return b z ≡ true → is_return b (take k z) ≡ true
-return_taken zero b z l e = absurd (omega arith)
-return_taken (suc k) b [] l e = e
-return_taken (suc k) b (c ∷ z) l e = e
+return_taken k b z e f = grind (arith, nat_tests)
 
 other_taken : (k b : ℕ) (z : List ℕ) → is_return b z ≡ false → is_return b (take k z) ≡ false
-other_taken zero b z e = none_feed b
-other_taken (suc k) b [] e = e
-other_taken (suc k) b (c ∷ z) e = e
+other_taken k b z e = grind (arith, nat_tests)
 
 feeds_return : (b : ℕ) (z : List ℕ) → is_return b z ≡ true → with_feeds (b ∷ z) ≡ with_feeds z
 feeds_return b z e = rw e refl
@@ -80,8 +76,7 @@ feeds_take (suc m) (b ∷ z) =
     ∙ ap (λ l. b ∷ l) (feeds_take m z) ∙ ap (take (suc m)) (sym (feeds_other b z e)))
 
 place_none : (m : ℕ) → place_of [] m ≡ m
-place_none zero = refl
-place_none (suc m) = refl
+place_none m = grind (arith, nat_tests)
 
 more : (j k : ℕ) → suc (j + k) ≡ suc j + k
 more j k = omega arith

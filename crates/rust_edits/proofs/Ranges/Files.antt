@@ -1,7 +1,7 @@
 -- Files that are read of texts one behind the other.
 use Rattle.std.proofs.Common.{◌≡◌, ◌≤◌, ◌+◌, ◌==◌, ℕ, zero, suc, Bool, true, false, List, [], ◌∷◌, ◌++◌, length, take, drop, refl, sym, ap, ◌∙◌, subst, arith, map, length-append}
 use Rattle.rust_edits.proofs.Words.{All, not, EditionYear, MetaView, ItemView, ItemViews, SyntaxView, items_from, items_of, Stop, opening, stop, Problem, SourceFile, Found, with_ids, is_return, with_feeds, place_in, moved_span, moved_problem, found_in, items_in, read_of, IsFile, file_view, Bytes, bytes_of, without_ids, HoldsItems, Follows, as_first, behind_items, IsBetween, each_item, file_items, file_attrs, PartTold, FileTells, ItemsStand, ItemsTold, FileAstId, Row, ItemPlace, places, StandsBetween, file_ids, IdsStay}
-use Rattle.rust_edits.proofs.Lemmas.{length-map, map-append, take_at, drop_at, when, place_span, spans_in, as_many, All-head, All-tail, Span}
+use Rattle.rust_edits.proofs.Lemmas.{nat_tests, length-map, map-append, take_at, drop_at, when, place_span, spans_in, as_many, All-head, All-tail, Span}
 use Rattle.rust_edits.proofs.Ranges.Feeds.{place_of, by_return, by_other, none_feed, place_is, place_add, place_taken}
 use Rattle.rust_edits.proofs.Ranges.Ranges.{SameUpTo, Moving, spans_move, all_fused, all_same, bytes, bytes_same}
 use Rattle.rust_edits.proofs.Typing.Moved.{uses_within}
@@ -91,8 +91,7 @@ feeds_some b [] e = let last = none_feed b in absurd (let no = rw last at e in c
 feeds_some b (c ∷ z) e = when (is_return b (c ∷ z)) (λ f. feeds_some c z (rw f at e)) (λ f. absurd (let no = rw f at e in cc))
 
 shut_cons : (b : ℕ) (v : List ℕ) → (length v ≡ 0 → ⊥) → is_shut (b ∷ v) ≡ is_shut v
-shut_cons b [] some = absurd (some refl)
-shut_cons b (c ∷ v) some = refl
+shut_cons b v e = grind (arith, nat_tests)
 
 shut_feeds : (x : List ℕ) → is_shut (with_feeds x) ≡ is_shut x
 shut_feeds [] = refl

@@ -75,8 +75,7 @@ less_same : (m n : ℕ) → m < n → (m == n) ≡ false
 less_same m n l = grind (arith, nat_tests)
 
 is_found : (depth start : ℕ) (o : Option LeafRead) (f : Found) (ts : Tokens) → is_some (leaf_found depth start o f ts).0 ≡ true → is_some o ≡ true
-is_found depth start None f ts e = absurd cc
-is_found depth start (Some l) f ts e = refl
+is_found depth start o f ts e = grind (arith, nat_tests)
 
 module _ (past past' : ℕ) (t : Piece) (l : List Piece) (u : Option ℕ) (y : EditionYear) where
   abbrev a : Tokens

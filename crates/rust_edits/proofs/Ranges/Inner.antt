@@ -1,7 +1,7 @@
 -- No item begins at an inner attribute or at inner documentation.
-use Rattle.std.proofs.Common.{◌≡◌, ◌==◌, ◌&&◌, ℕ, Bool, true, false, Option, Some, None, List, [], ◌∷◌, codes, refl, sym, ap, ◌∙◌, subst}
-use Rattle.rust_edits.proofs.Words.{is_some, bytes_eq, Head, EditionYear, Outer, Inner, TokenKind, Piece, symbol_from, symbol_of, most, turns, turns_from, one, Tokens, by_first, word_by, symbol, word, kind, text, at, bumped, is_pair, is_at_end, is_path_keyword, name_text, has_name, is_raw, is_dollar_crate, is_segment, is_colons, is_path_colons, is_path_start, path, visibility, is_doc, is_style, is_attribute, is_behind, attribute, attributes, outer_attributes, inner_attributes, style_by, FrontRead, front, front_behind, is_modifier, is_modifier_before, behind_modifiers, behind_modifiers_from, head, invocation, leaf, Found, leaf_turn, turn}
-use Rattle.rust_edits.proofs.Lemmas.{eqb-true, and_parts, when, no_word_head, nothing_before}
+use Rattle.std.proofs.Common.{◌≡◌, ◌==◌, ◌&&◌, ℕ, Bool, true, false, Option, Some, None, List, [], codes, refl, ap, ◌∙◌, arith}
+use Rattle.rust_edits.proofs.Words.{is_some, bytes_eq, Head, EditionYear, Outer, Inner, TokenKind, Piece, symbol_of, most, turns, turns_from, one, Tokens, by_first, word_by, symbol, word, kind, text, at, bumped, is_pair, is_at_end, is_path_keyword, name_text, has_name, is_raw, is_dollar_crate, is_segment, is_colons, is_path_colons, is_path_start, path, visibility, is_doc, is_style, is_attribute, is_behind, attribute, attributes, outer_attributes, inner_attributes, style_by, FrontRead, front, front_behind, is_modifier, is_modifier_before, behind_modifiers, behind_modifiers_from, head, invocation, leaf, Found, leaf_turn, turn}
+use Rattle.rust_edits.proofs.Lemmas.{nat_tests, eqb-true, and_parts, when, no_word_head, nothing_before}
 use Rattle.rust_lexer.specs.declared.kind.DocStyle.{DocStyle}
 use Rattle.rust_lexer.specs.declared.kind.TokenKind.TheVariants as kinds
 use Rattle.rust_cursor.proofs.Turns.{turns_stop}
@@ -23,18 +23,9 @@ pub record IsQuiet (us : Tokens) : Type 0 where
   raw : is_raw (kind us) ≡ false
   name : has_name us ≡ false
 
-no_text : (y : EditionYear) (k : TokenKind) (z : List ℕ) → is_wordless k ≡ true → (word_by k z ≡ []) × ((is_raw (Some k) ≡ false) × (is_some (name_text y (Some k) z) ≡ false))
-no_text y kinds.OpenDelim z e = (refl, (refl, refl))
-no_text y kinds.CloseDelim z e = (refl, (refl, refl))
-no_text y kinds.Punct z e = (refl, (refl, refl))
-no_text y (kinds.LineComment s) z e = (refl, (refl, refl))
-no_text y (kinds.BlockComment s) z e = (refl, (refl, refl))
-no_text y _ z e = absurd cc
-
 quiet_first : (y : EditionYear) (left : List Piece) → by_first false (λ t. is_wordless t.kind) left ≡ true
     → (by_first [] (λ t. word_by t.kind t.text) left ≡ []) × ((is_raw (by_first None (λ t. Some t.kind) left) ≡ false) × (is_some (name_text y (by_first None (λ t. Some t.kind) left) (by_first [] (λ t. t.text) left)) ≡ false))
-quiet_first y [] e = absurd cc
-quiet_first y (t ∷ left) e = no_text y t.kind t.text e
+quiet_first y left e = grind (arith, nat_tests)
 
 quiet : (us : Tokens) → by_first false (λ t. is_wordless t.kind) us.left ≡ true → IsQuiet us
 unfolding word kind has_name text
@@ -42,36 +33,17 @@ quiet us e = let parts = quiet_first us.edition us.left e in record { word = par
 
 -- ---- what is seen there
 
-mark_kind : (k : TokenKind) (b c : ℕ) → (c == 0) ≡ false → (symbol_from k b == c) ≡ true → is_wordless k ≡ true
-mark_kind kinds.OpenDelim b c n e = refl
-mark_kind kinds.CloseDelim b c n e = refl
-mark_kind kinds.Punct b c n e = refl
-mark_kind (kinds.LineComment s) b c n e = refl
-mark_kind (kinds.BlockComment s) b c n e = refl
-mark_kind _ b c n e = absurd (let same : 0 ≡ c = eqb-true 0 c e in let no : (0 == 0) ≡ false = subst (λ (z : ℕ). (z == 0) ≡ false) (sym same) n in cc)
-
 symbol_first : (c : ℕ) (left : List Piece) → (c == 0) ≡ false → (by_first 0 symbol_of left == c) ≡ true → by_first false (λ t. is_wordless t.kind) left ≡ true
-symbol_first c [] n e = absurd (let same : 0 ≡ c = eqb-true 0 c e in let no : (0 == 0) ≡ false = subst (λ (z : ℕ). (z == 0) ≡ false) (sym same) n in cc)
-symbol_first c (t ∷ left) n e = mark_kind t.kind _ c n e
+symbol_first c left e f = grind (arith, nat_tests)
 
 mark_first : (left : List Piece) → (by_first 0 symbol_of left == 35) ≡ true → by_first false (λ t. is_wordless t.kind) left ≡ true
-mark_first [] e = absurd cc
-mark_first (t ∷ left) e = mark_kind t.kind _ 35 refl e
-
-doc_kind : (style : DocStyle) (k : TokenKind) → is_style style (style_by (Some k)) ≡ true → is_wordless k ≡ true
-doc_kind style (kinds.LineComment s) e = refl
-doc_kind style (kinds.BlockComment s) e = refl
-doc_kind Outer _ e = absurd cc
-doc_kind Inner _ e = absurd cc
+mark_first left e = grind (arith, nat_tests)
 
 doc_first : (style : DocStyle) (left : List Piece) → is_style style (style_by (by_first None (λ t. Some t.kind) left)) ≡ true → by_first false (λ t. is_wordless t.kind) left ≡ true
-doc_first Outer [] e = absurd cc
-doc_first Inner [] e = absurd cc
-doc_first style (t ∷ left) e = doc_kind style t.kind e
+doc_first style left e = grind (arith, nat_tests)
 
 one_style : (s : Option DocStyle) → is_style Inner s ≡ true → is_style Outer s ≡ false
-one_style (Some Inner) e = refl
-one_style _ e = absurd cc
+one_style s e = grind (arith, nat_tests)
 
 -- no outer attribute, no word, and none of these symbols
 pub record IsMute (us : Tokens) : Type 0 where
@@ -85,12 +57,7 @@ other c d e p q = ap (λ z. z == e) p ∙ q
 
 symbol_no_doc : (us : Tokens) (c : ℕ) → (symbol us == c) ≡ true → (c == 0) ≡ false → is_doc Outer us ≡ false
 unfolding is_doc symbol kind
-symbol_no_doc us c e n =
-    when (is_doc Outer us)
-    (λ f. let none = doc_symbol Outer us f in
-    let same : 0 ≡ c = eqb-true 0 c (ap (λ k. k == c) (sym none) ∙ e) in
-    absurd (let no : (0 == 0) ≡ false = subst (λ (z : ℕ). (z == 0) ≡ false) (sym same) n in cc))
-    (λ f. f)
+symbol_no_doc us c e n = grind (arith, nat_tests)
 
 doc_mute : (us : Tokens) → is_doc Inner us ≡ true → IsMute us
 unfolding is_behind is_attribute is_doc symbol kind
@@ -129,12 +96,7 @@ not_behind us e d = when (is_attribute Inner us) (λ f. f) (λ f. absurd (let no
 
 mark_no_doc : (us : Tokens) → is_attribute Inner us ≡ true → is_doc Outer us ≡ false
 unfolding is_attribute is_doc symbol kind
-mark_no_doc us e =
-    when (is_doc Outer us)
-    (λ f. let none = doc_symbol Outer us f in
-    let mark = (and_parts (symbol us == 35) (symbol (bumped us) == 33 && symbol (bumped (bumped us)) == 91) e).0 in
-    absurd (let no = rw none at mark in cc))
-    (λ f. f)
+mark_no_doc us e = grind (arith, nat_tests)
 
 mute : (us : Tokens) → is_behind Inner us ≡ false → IsMute us
 mute us e =

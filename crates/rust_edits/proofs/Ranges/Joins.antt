@@ -1,7 +1,7 @@
 -- Whole items and what is behind them are read one after the other.
 use Rattle.std.proofs.Common.{◌≡◌, Bool, ◌<◌, ◌+◌, ◌==◌, ◌||◌, ℕ, suc, true, false, Option, Some, None, List, [], ◌∷◌, ◌++◌, length, refl, sym, ap, ◌∙◌, subst, arith, map, append_assoc, append-nil, length-append}
 use Rattle.rust_edits.proofs.Words.{option_map, not, slice_index, filter, list_any, EditionYear, MetaView, ItemView, Row, Stop, stop, EndsAlone, moved, is_continuation, Piece, symbol_of, is_significant, tokens, most, Tokens, tokens_of, last_unended, by_first, symbol, TextRange, inner_attributes, Problem, Found, nothing_found, and_problem_at, and_all, finding, items, moved_range, moved_span, moved_problem, behind_attributes, found_in, read_of, ends_items, read_at, HoldsAt, InsideJoin, TopHolds, IsBare, found_on, BeginsAnew}
-use Rattle.rust_edits.proofs.Lemmas.{map-append, tokens_sound, behind, tokens_laid, LeadsTo, through, by_kept, inner_attributes_until, inner_attributes_leads, Span, items_found, Ending, Near, near, fewer, near_parting, near_enters, near_levels, is_still, tokens_short}
+use Rattle.rust_edits.proofs.Lemmas.{nat_tests, map-append, tokens_sound, behind, tokens_laid, LeadsTo, through, by_kept, inner_attributes_until, inner_attributes_leads, Span, items_found, Ending, Near, near, fewer, near_parting, near_enters, near_levels, is_still, tokens_short}
 use Rattle.rust_items.specs.declared.log.ProblemKind.TheVariants as problem
 use Rattle.rust_cursor.proofs.Parting as parting
 use Rattle.rust_edits.proofs.Ranges.NearLeaves.{Given, given_on}
@@ -38,8 +38,7 @@ range_still : (r : TextRange) → moved_range (λ n. n + 0) r ≡ r
 range_still r = let s : r.start + 0 ≡ r.start = omega arith in let e : r.end + 0 ≡ r.end = omega arith in rw (s, e) refl
 
 range_if_still : (o : Option TextRange) → option_map (moved_range (λ n. n + 0)) o ≡ o
-range_if_still None = refl
-range_if_still (Some r) = ap Some (range_still r)
+range_if_still o = grind (arith, nat_tests)
 
 span_still : (s : Span) → moved_span (λ n. n + 0) s ≡ s
 span_still s = rw (range_still s.range, range_if_still s.name, range_if_still s.body) refl

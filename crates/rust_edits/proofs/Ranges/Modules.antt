@@ -1,7 +1,7 @@
 -- What a module holds is what is read of the text behind its `{`.
 use Rattle.std.proofs.Common.{◌≡◌, ◌+◌, ◌||◌, ℕ, suc, Bool, true, false, Option, Some, None, List, [], ◌∷◌, ◌++◌, length, drop, refl, sym, ap, ◌∙◌, subst, arith, length-append}
 use Rattle.rust_edits.proofs.Words.{option_to_list, filter, EditionYear, MetaView, ItemView, module_from, opening, stop, Piece, is_significant, tokens_from, most, beyond, Tokens, tokens_of, end_of, symbol, at, eat, bumped, is_at_end, inner_attributes, FrontRead, front, NameRead, named, named_node, Found, nothing_found, BlockRead, is_list_end, finding, finding_from, items, block_of, and_parent, inside_unless, module_with, some_item, by_head, turn_with, inside, depth_of, turn, IsBare, text_attrs, found_on, read_at, OpensModule, ModuleReads}
-use Rattle.rust_edits.proofs.Lemmas.{drop_at, own, stop_at, tokens_sound, IsLaid, behind, tokens_laid, LeadsTo, through, when, bumped_leads, by_kept, inner_attributes_until, inner_attributes_leads, named_leads, turn_found, turn_with_found, inside_found, Ending, Near, near_parting, near_enters, near_levels, Kept}
+use Rattle.rust_edits.proofs.Lemmas.{nat_tests, drop_at, own, stop_at, tokens_sound, IsLaid, behind, tokens_laid, LeadsTo, through, when, bumped_leads, by_kept, inner_attributes_until, inner_attributes_leads, named_leads, turn_found, turn_with_found, inside_found, Ending, Near, near_parting, near_enters, near_levels, Kept}
 use Rattle.hir_input.specs.declared.ids.AstIdKind.TheVariants as kind
 use Rattle.rust_cursor.proofs.Parting as parting
 use Rattle.rust_edits.proofs.Ranges.NearLeaves.{Given, given_on}
@@ -199,8 +199,7 @@ module _ (left : ℕ) (edition : EditionYear) (h z : List ℕ) (o : OpensModule 
 -- ---- the law
 
 none_first : (o : Option ItemView) (i : ItemView) → o ≡ None → option_to_list o ≡ i ∷ [] → ⊥
-none_first None i e f = absurd cc
-none_first (Some j) i e f = absurd cc
+none_first o i e f = grind (arith, nat_tests)
 
 parent_same : (depth start end end' : ℕ) (n : NameRead) (t t' : Bool) (inner inner' : Found) → end ≡ end' → t ≡ t' → inner ≡ inner'
     → and_parent depth start end kind.Module n t inner nothing_found ≡ and_parent depth start end' kind.Module n t' inner' nothing_found

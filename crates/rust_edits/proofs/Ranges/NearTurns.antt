@@ -1,7 +1,7 @@
 -- An item that ends with the last token of a text is the same in a longer text.
 use Rattle.std.proofs.Common.{◌≡◌, ◌<◌, ◌+◌, ◌==◌, ◌||◌, ◌&&◌, ℕ, zero, suc, Bool, true, false, Option, Some, None, List, [], ◌++◌, length, refl, sym, ap, ◌∙◌, subst, arith}
 use Rattle.rust_edits.proofs.Words.{is_none, not, list_any, AstIdKind, MetaView, ItemView, extern_block_from, module_from, behind_tree, Tokens, symbol, at, eat, bumped, is_at_end, Head, FrontRead, front, named_node, node, leaf, NameRead, named, no_name, Found, Finder, nothing_found, and_problem, and_row, span_of, needs_name, and_item, leaf_turn, BlockRead, deep_block, unmatched, extern_inside, and_parent, extern_block, depth_of, inside_unless, module_with, some_item, by_head, turn_with, inside, turn, is_unfinished}
-use Rattle.rust_edits.proofs.Lemmas.{and_parts, IsLaid, behind, LeadsTo, through, when, eat_leads, Ending, Near, fewer, nothing, bumped_onward, at_same, past_same, near_twins, behind_tree_near, Step, at_last, next, step, untaken, eat_fewer, by_next, by_kept, symbol_same, end_same, named_leads, front_start, Finds, FindsIn, turn_with_found, inside_found, extern_inside_found, unless_found}
+use Rattle.rust_edits.proofs.Lemmas.{nat_tests, and_parts, IsLaid, behind, LeadsTo, through, when, eat_leads, Ending, Near, fewer, nothing, bumped_onward, at_same, past_same, near_twins, behind_tree_near, Step, at_last, next, step, untaken, eat_fewer, by_next, by_kept, symbol_same, end_same, named_leads, front_start, Finds, FindsIn, turn_with_found, inside_found, extern_inside_found, unless_found}
 use Rattle.hir_input.specs.declared.ids.AstIdKind.TheVariants as ast
 use Rattle.rust_leaves.specs.declared.head.Head.TheVariants as heads
 use Rattle.rust_items.specs.declared.log.ProblemKind.TheVariants as problem
@@ -22,8 +22,7 @@ sound_parent depth start end k n ended inner f i e =
     absurd (let no : not true ≡ true = subst (λ (t : Bool). not t ≡ true) found e in cc))
 
 not_told : (t : Bool) → not t ≡ false → t ≡ true
-not_told true e = refl
-not_told false e = absurd cc
+not_told t e = grind (arith, nat_tests)
 
 -- an item that is not ended, or in which something is told
 parent_told : (depth start end : ℕ) (k : AstIdKind) (n : NameRead) (ended : Bool) (inner f : Found) (i : ItemView) → (ended && is_quiet inner) ≡ false → is_quiet (and_parent depth start end k n ended inner f) ≡ false
@@ -98,8 +97,7 @@ abbrev pub InsideUnended : Finder BlockRead → Type 0
 InsideUnended inside = (f : Found) (ts : Tokens) → ts.left ≡ [] → (inside f ts).0.is_ended ≡ false
 
 unless_unended : (inside : Finder BlockRead) → InsideUnended inside → (t : Bool) (f : Found) (ts : Tokens) → t ≡ false → ts.left ≡ [] → (t || (inside_unless t inside f ts).0.is_ended) ≡ false
-unless_unended inside unended true f ts e none = absurd cc
-unless_unended inside unended false f ts e none = unended f ts none
+unless_unended inside e t f ts g h = grind (arith, nat_tests)
 
 module_unended : (inside : Finder BlockRead) → InsideUnended inside → (ts : Tokens) → ts.left ≡ [] → ((eat 59 ts).0 || (inside_unless (eat 59 ts).0 inside nothing_found (eat 59 ts).1).0.is_ended) ≡ false
 module_unended inside unended ts e = unless_unended inside unended (eat 59 ts).0 nothing_found (eat 59 ts).1 (untaken ts e (eat_fewer 59 ts (omega arith))) (nothing (eat_leads 59 ts) e)

@@ -1,7 +1,7 @@
 -- The text of the range of an item, read alone, is exactly that item.
 use Rattle.std.proofs.Common.{◌≡◌, ◌<◌, ◌≤◌, ◌+◌, ◌-◌, ◌==◌, ◌&&◌, ℕ, suc, true, false, Option, Some, None, List, [], ◌∷◌, ◌++◌, map, length, take, drop, refl, sym, ap, ◌∙◌, subst, arith, append_assoc, length-append}
-use Rattle.rust_edits.proofs.Words.{option_map, option_to_list, is_some, filter, EditionYear, MetaView, ItemView, ItemViews, no_items, item_and, items_from, source_file, syntax_view, Stop, opening, stop, EndsAlone, Piece, has_mark, is_significant, tokens_from, Tokens, tokens_of, at, TextRange, Problem, ItemPlace, SourceFile, Found, with_ids, item_with_ids, turn, with_feeds, place_in, moved_range, moved_span, moved_problem, file_view, found_in, items_in, IsFile, ends_items, is_unfinished, is_unfinished_at, range_text, Bytes, bytes_of, further_on, RangeAlone}
-use Rattle.rust_edits.proofs.Lemmas.{eqb-true, eq-eqb, or_parts, and_parts, length-map, append_cancel_left, length-take-le, length-drop, drop-drop, take-append-drop, behind, past_within, tokens_laid, LeadsTo, when, Span, place_span, turn_found, Ending, is_last, IsIn, IsMaybeIn, AreIn, spans_in, as_many}
+use Rattle.rust_edits.proofs.Words.{option_map, option_to_list, is_some, filter, EditionYear, MetaView, ItemView, ItemViews, no_items, item_and, items_from, source_file, syntax_view, Stop, stop, EndsAlone, Piece, has_mark, is_significant, tokens_from, Tokens, tokens_of, at, TextRange, Problem, ItemPlace, SourceFile, Found, with_ids, item_with_ids, turn, with_feeds, place_in, moved_range, moved_span, moved_problem, file_view, found_in, items_in, IsFile, ends_items, is_unfinished, is_unfinished_at, range_text, Bytes, bytes_of, further_on, RangeAlone}
+use Rattle.rust_edits.proofs.Lemmas.{nat_tests, eqb-true, eq-eqb, or_parts, and_parts, length-map, append_cancel_left, length-take-le, length-drop, drop-drop, take-append-drop, behind, past_within, tokens_laid, LeadsTo, when, Span, place_span, turn_found, Ending, is_last, IsIn, IsMaybeIn, AreIn, spans_in, as_many}
 use Rattle.rust_edits.proofs.Ranges.Alone.{ended, IsPart, tokens_behind, part_in, StandsAlone, IsOwn, item_alone}
 use Rattle.rust_edits.proofs.Ranges.Feeds.{part, part_feeds, part_place}
 use Rattle.rust_edits.proofs.Ranges.Fresh.{none_there, turn_anywhere}
@@ -14,8 +14,7 @@ use Rattle.rust_edits.proofs.Ranges.Tops.{turn_is, turn_strict, places_spans, wi
 -- ---- one turn of a text
 
 pub last_is : (o : Stop) → ends_items o ≡ true → is_last (stop o) ≡ true
-last_is opening e = absurd cc
-last_is _ e = refl
+last_is o e = grind (arith, nat_tests)
 
 -- an item that a turn finds in a text, and the text of its range
 record IsTaken (x : List ℕ) (edition : EditionYear) (f : Found) (ts : Tokens) (i : ItemView) (w : List ℕ) (o : Stop) : Type 0 where
@@ -29,10 +28,7 @@ record IsTaken (x : List ℕ) (edition : EditionYear) (f : Found) (ts : Tokens) 
 
 placed_at : (edition y : EditionYear) (u : Option ℕ) (q z : List ℕ) (s : ℕ) (left : List Piece) → length q ≡ s → y ≡ edition → left ≡ filter is_significant (tokens_from 0 s z)
     → tokens_behind edition u q z ≡ record { past = s; left = left; unended = u; edition = y }
-placed_at edition y u q z s left long year e =
-    ap (λ (n : ℕ). record { past = n; left = filter is_significant (tokens_from 0 n z); unended = u; edition = edition }) long
-    ∙ ap (λ (a : List Piece). record { past = s; left = a; unended = u; edition = edition }) (sym e)
-    ∙ ap (λ (d : EditionYear). record { past = s; left = left; unended = u; edition = d }) (sym year)
+placed_at edition y u q z s left long year e = grind (arith, nat_tests)
 
 module _ (x : List ℕ) (edition : EditionYear) (f : Found) (i : ItemView) (w : List ℕ) (o : Stop) where
   -- the tokens there, whatever is behind the end of the token before
@@ -134,8 +130,7 @@ pub record Moving (A : Type 0) : Type 1 where
   pub rest : (end : ℕ) (a : A) (l : List A) → within end (a ∷ l) → within end l
 
 pub range_fused : (f g : ℕ → ℕ) (o : Option TextRange) → option_map (moved_range f) (option_map (moved_range g) o) ≡ option_map (moved_range (λ n. f (g n))) o
-range_fused f g None = refl
-range_fused f g (Some r) = refl
+range_fused f g o = grind (arith, nat_tests)
 
 pub range_same : (f g : ℕ → ℕ) (end : ℕ) → SameUpTo end f g → (r : TextRange) → IsIn end r → moved_range f r ≡ moved_range g r
 range_same f g end e r h = rw (e r.start h.0, e r.end h.1) refl

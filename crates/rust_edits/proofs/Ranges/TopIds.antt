@@ -1,7 +1,7 @@
 -- The ids of items at the top, in files of which the first rows are the same.
 use Rattle.std.proofs.Common.{◌≡◌, ◌<◌, ◌≤◌, ◌+◌, ◌-◌, ◌^◌, ◌==◌, ◌&&◌, ◌||◌, ℕ, zero, suc, Bool, true, false, None, List, [], ◌∷◌, ◌++◌, length, refl, sym, ap, ◌∙◌, arith, length-append}
 use Rattle.rust_edits.proofs.Words.{min, nat_lt, AstIdKind, FileAstId, nth_row, id_at, depth_at, last_below, count_below, module_at, module_around, hash_of, kind_place, Key, key_of, same_key, comes_before, earlier_alike, Row, TopKeysStay, FrontIdsStay}
-use Rattle.rust_edits.proofs.Lemmas.{eqb-true, and_right, nat_tests, when}
+use Rattle.rust_edits.proofs.Lemmas.{eqb-true, nat_tests, when}
 
 -- ---- rows
 
@@ -52,17 +52,10 @@ count_same test test' zero same = refl
 count_same test test' (suc n) same = rw (same n (omega arith), count_same test test' n (λ j l. same j (omega arith))) refl
 
 not_before : (d e j i : ℕ) → e ≡ 0 → i ≤ j → (nat_lt d e || (d == e && nat_lt j i)) ≡ false
-not_before d e j i z l =
-    let a : nat_lt d e ≡ false = grind (arith, nat_tests) in
-    let b : nat_lt j i ≡ false = grind (arith, nat_tests) in
-    rw (a, b) (and_right (d == e) false refl)
+not_before d e j i z l = grind (arith, nat_tests)
 
 at_top_before : (d e j i : ℕ) → e ≡ 0 → (nat_lt d e || (d == e && nat_lt j i)) ≡ true → d ≡ 0
-at_top_before d e j i z h =
-    when (d == 0) (λ f. eqb-true d 0 f)
-    (λ f. let a : nat_lt d e ≡ false = grind (arith, nat_tests) in
-    let b : (d == e) ≡ false = ap (λ n. d == n) z ∙ f in
-    absurd (let no = rw (a, b) at h in cc))
+at_top_before d e j i z h = grind (arith, nat_tests)
 
 id_same : (a b : FileAstId) → b.kind ≡ a.kind → b.hash ≡ a.hash → b.number ≡ a.number → b ≡ a
 id_same a b k h n = made a.kind b.kind a.hash b.hash a.number b.number k h n

@@ -1,8 +1,8 @@
 -- What is left of an item is ended in both of two texts or in neither, where as many brackets are loose between the braces of each.
 use Rattle.std.proofs.Common.{◌≡◌, ◌≢◌, ◌<◌, ℕ, zero, suc, ◌+◌, ◌-◌, ◌==◌, ◌||◌, ◌&&◌, Bool, true, false, Option, Some, None, List, [], ◌∷◌, ◌++◌, length, refl, ap, ◌∙◌, sym, subst, arith, map, length-append, ◌⊎◌, inl, inr, codes}
 use Rattle.std.specs.Prelude.{if◌then◌else◌}
-use Rattle.rust_edits.proofs.Words.{nat_lt, EditionYear, Piece, symbol_of, moved, braces_from, Tokens, end_of, symbol, bumped, opens_other, closes_other, braces_behind, count_behind, closes_none, behind_braces, flat_behind, is_mark, nest_inside, nest_behind, ExcerptRead, stops, ends, opened_behind, taking, taken, Bodies, AreOpen, Beside, ahead, Loose, none_loose, loose_behind, loose_from, is_some, bytes_eq, Visibility, MetaView, word, is_at_open, eat, eat_word, tree_body, path, use_tree, Head, FrontRead, is_called, leaf_by, leaf, function, union_item, enumeration, trait_item, macro_def, type_alias, static_value, constant, structure, implementation, crate_item, use_read, use_declaration, macro_definition, invocation, LeafRead, named, crate_alias, crate_alias_if, renamed, impl_end, item_end, macro_end, value_end, call_end}
-use Rattle.rust_edits.proofs.Lemmas.{eqb-true, nat_tests, when, stops_empty, shorter, beside_twins, next_ahead, next_behind, tokens_at, symbol_at, some_at, bumped_at, inside_is, enters, and_parts, IsSound, eat_leads, IsAlike, neither, SamePlace, open_same, LeafAlike, named_local, named_or_local, FrontAlike, BeginPlain, LeafUntil, leaf_lost, leaf_same, leaf_until, LeafLost}
+use Rattle.rust_edits.proofs.Words.{nat_lt, EditionYear, Piece, symbol_of, moved, braces_from, Tokens, end_of, symbol, bumped, braces_behind, count_behind, closes_none, behind_braces, flat_behind, is_mark, nest_inside, nest_behind, ExcerptRead, stops, ends, opened_behind, taking, taken, Bodies, AreOpen, Beside, ahead, Loose, none_loose, loose_behind, loose_from, is_some, bytes_eq, Visibility, MetaView, word, is_at_open, eat, eat_word, tree_body, path, use_tree, Head, FrontRead, is_called, leaf_by, leaf, function, union_item, enumeration, trait_item, macro_def, type_alias, static_value, constant, structure, implementation, crate_item, use_read, use_declaration, macro_definition, invocation, LeafRead, named, crate_alias, crate_alias_if, renamed, impl_end, item_end, macro_end, value_end, call_end}
+use Rattle.rust_edits.proofs.Lemmas.{nat_tests, when, stops_empty, shorter, beside_twins, next_ahead, next_behind, tokens_at, symbol_at, some_at, bumped_at, inside_is, enters, and_parts, IsSound, eat_leads, IsAlike, neither, SamePlace, open_same, LeafAlike, named_local, named_or_local, FrontAlike, BeginPlain, LeafUntil, leaf_lost, leaf_same, leaf_until, LeafLost}
 use Rattle.rust_cursor.specs.declared.cursor.nest.Before.{Before}
 use Rattle.rust_cursor.specs.declared.cursor.nest.Nest.{Nest}
 use Rattle.rust_cursor.specs.Beside.{behind}
@@ -23,41 +23,11 @@ use Rattle.rust_leaves.specs.declared.head.Head.TheVariants as heads
 
 -- ---- what is counted in braces
 
-opens_closes : (c : ℕ) → opens_other c ≡ true → closes_other c ≡ false
-opens_closes c e = grind (arith, nat_tests)
-
-not_also : (t u : Bool) → (t || (u && false)) ≡ t
-not_also true u = refl
-not_also false true = refl
-not_also false false = refl
-
 inner_is : (i : ℕ) (l : Loose) (c : ℕ) → count_behind (i - l.closing + l.opening) c ≡ i - (loose_behind l c).closing + (loose_behind l c).opening
-inner_is i l c =
-    when (opens_other c) (λ e. rw e (omega arith))
-    (λ e. when (closes_other c)
-    (λ f. when (l.opening == 0)
-    (λ g. let none = eqb-true l.opening 0 g in rw (e, f, g) (omega (arith, none)))
-    (λ g. let some : l.opening ≢ 0 = grind (arith, nat_tests) in rw (e, f, g) (omega (arith, some))))
-    (λ f. rw (e, f) refl))
-
-one_lower : (t : Bool) (i k : ℕ) → ((t || nat_lt i k) || (i - k + 0 == 0 && true)) ≡ (t || nat_lt i (k + 1))
-one_lower true i k = refl
-one_lower false i k =
-    when (nat_lt i k)
-    (λ e. let f : nat_lt i (k + 1) ≡ true = grind (arith, nat_tests) in rw (e, f) refl)
-    (λ e. when (i == k)
-    (λ g. let f : nat_lt i (k + 1) ≡ true = grind (arith, nat_tests) in let z : (i - k + 0 == 0) ≡ true = grind (arith, nat_tests) in rw (e, f, z) refl)
-    (λ g. let f : nat_lt i (k + 1) ≡ false = grind (arith, nat_tests) in let z : (i - k + 0 == 0) ≡ false = grind (arith, nat_tests) in rw (e, f, z) refl))
+inner_is i l c = grind (arith, nat_tests)
 
 torn_is : (t : Bool) (i : ℕ) (l : Loose) (c : ℕ) → ((t || nat_lt i l.closing) || closes_none (i - l.closing + l.opening) c) ≡ (t || nat_lt i (loose_behind l c).closing)
-torn_is t i l c =
-    when (opens_other c)
-    (λ e. let f = opens_closes c e in rw (e, f) (not_also (t || nat_lt i l.closing) _))
-    (λ e. when (closes_other c)
-    (λ f. when (l.opening == 0)
-    (λ g. let none = eqb-true l.opening 0 g in rw (e, f, g, none) (one_lower t i l.closing))
-    (λ g. let some : (i - l.closing + l.opening == 0) ≡ false = grind (arith, nat_tests) in rw (e, f, g, some) (not_also (t || nat_lt i l.closing) true)))
-    (λ f. rw (e, f) (not_also (t || nat_lt i l.closing) _)))
+torn_is t i l c = grind (arith, nat_tests)
 
 -- in so many braces, behind these loose brackets
 abbrev inside : Nest → ℕ → Loose → Nest
@@ -70,12 +40,7 @@ off : (k : ℕ) → (suc k == 0) ≡ false
 off k = grind (arith, nat_tests)
 
 still_before : (w v : Before) (k j c : ℕ) → braces_behind (suc k) c ≡ suc j → (if suc k == 1 && c == 125 then v else w) ≡ w
-still_before w v k j c e =
-    when (c == 125)
-    (λ f. when (suc k == 1)
-    (λ g. let shut = eqb-true c 125 f in absurd (let no = rw shut at e in let one = eqb-true (suc k) 1 g in omega (arith, no, one)))
-    (λ g. rw (f, g) refl))
-    (λ f. when (suc k == 1) (λ g. rw (f, g) refl) (λ g. rw g refl))
+still_before w v k j c e = grind (arith, nat_tests)
 
 nest_step : (n : Nest) (k j : ℕ) (l : Loose) (ts : Tokens) → braces_behind (suc k) (symbol ts) ≡ suc j → nest_behind (inside n (suc k) l) ts ≡ inside n (suc j) (loose_behind l (symbol ts))
 unfolding made

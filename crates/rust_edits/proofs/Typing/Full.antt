@@ -2,7 +2,7 @@
 use Rattle.rust_edits.proofs.Words.{nat_le, nat_lt, slice_index, behind_lead, is_full, is_continuation, is_return, with_feeds}
 use Rattle.rust_edits.proofs.Lemmas.{and_parts, nat_tests, when}
 use lib.Utf8.{scalars, scalar, next, encode, encodes, scalar_cases}
-use Rattle.std.proofs.Common.{◌≡◌, ◌⊎◌, inl, inr, ◌+◌, ◌/◌, ◌<◌, ◌≤◌, ◌==◌, ℕ, true, false, List, [], ◌∷◌, ◌++◌, length, IsUtf8, refl, ap, sym, subst, ◌∙◌, arith}
+use Rattle.std.proofs.Common.{◌≡◌, ◌⊎◌, ◌+◌, ◌/◌, ◌<◌, ◌≤◌, ◌==◌, ℕ, true, false, List, [], ◌∷◌, ◌++◌, length, IsUtf8, refl, ap, sym, subst, ◌∙◌, arith}
 use Rattle.std.proofs.lemmas.Bool.{ltb-true, ltb-false}
 
 -- ---- one byte
@@ -14,24 +14,13 @@ lead_low : (b : ℕ) → b < 192 → behind_lead b ≡ 0
 lead_low b h = let t : nat_lt b 192 ≡ true = grind (arith, nat_tests) in rw t refl
 
 lead_two : (b : ℕ) → 192 ≤ b → b < 224 → behind_lead b ≡ 1
-lead_two b l h =
-    let f : nat_lt b 192 ≡ false = grind (arith, nat_tests) in
-    let t : nat_lt b 224 ≡ true = grind (arith, nat_tests) in
-    rw (f, t) refl
+lead_two b l h = grind (arith, nat_tests)
 
 lead_three : (b : ℕ) → 224 ≤ b → b < 240 → behind_lead b ≡ 2
-lead_three b l h =
-    let f : nat_lt b 192 ≡ false = grind (arith, nat_tests) in
-    let g : nat_lt b 224 ≡ false = grind (arith, nat_tests) in
-    let t : nat_lt b 240 ≡ true = grind (arith, nat_tests) in
-    rw (f, g, t) refl
+lead_three b l h = grind (arith, nat_tests)
 
 lead_four : (b : ℕ) → 240 ≤ b → behind_lead b ≡ 3
-lead_four b l =
-    let f : nat_lt b 192 ≡ false = grind (arith, nat_tests) in
-    let g : nat_lt b 224 ≡ false = grind (arith, nat_tests) in
-    let h : nat_lt b 240 ≡ false = grind (arith, nat_tests) in
-    rw (f, g, h) refl
+lead_four b l = grind (arith, nat_tests)
 
 full_low : (b : ℕ) (y : List ℕ) → b < 192 → is_full y ≡ true → is_full (b ∷ y) ≡ true
 full_low b y h k = let none = lead_low b h in full_cons b y (omega (arith, none)) k
@@ -80,8 +69,7 @@ full_char c z top k =
 -- ---- all
 
 below : (c : ℕ) → (c < 55296) ⊎ ((57344 ≤ c) × (c < 1114112)) → c < 1114112
-below c (inl h) = omega arith
-below c (inr h) = h.1
+below c e = grind (arith, nat_tests)
 
 full_of : (cs : List ℕ) → scalars cs ≡ true → is_full (with_feeds (encodes cs)) ≡ true
 full_of [] e = refl

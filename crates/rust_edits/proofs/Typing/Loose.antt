@@ -1,7 +1,7 @@
 -- Problems stand where they stood, or are moved with the text.
-use Rattle.std.proofs.Common.{◌≡◌, ℕ, suc, false, List, [], ◌∷◌, length, refl, ap, sym, subst, ◌∙◌, map}
+use Rattle.std.proofs.Common.{◌≡◌, ℕ, suc, false, List, [], ◌∷◌, length, refl, ap, sym, subst, ◌∙◌, map, arith}
 use Rattle.rust_edits.proofs.Words.{slice_index, filter, EditionYear, StandsAlone, tokens_in_front, moved, Piece, symbol_from, symbol_of, is_significant, is_significant_kind, TokenKind, Bodies, tokens_of, Problem, ProblemKind, and_problem_at, with_feeds, place_in, moved_problem, FileView, found_in, read_of, IsFile, has_body, with_body, IsTyped, Loose, none_loose, loose_behind, loose_from, loose_in, ProblemsMove, shifted_by}
-use Rattle.rust_edits.proofs.Lemmas.{body, inside_of, tokens_sound, when, AreAlike, no_more, one_more, IsAlike, Rows, found_rows}
+use Rattle.rust_edits.proofs.Lemmas.{nat_tests, body, inside_of, tokens_sound, when, AreAlike, no_more, one_more, IsAlike, Rows, found_rows}
 use Rattle.rust_lexer.specs.declared.kind.TokenKind.TheVariants as kinds
 use Rattle.rust_items.specs.declared.log.ProblemKind.TheVariants as problem
 use Rattle.rust_edits.proofs.Typing.Ended.{SameLoose}
@@ -15,10 +15,7 @@ use Rattle.rust_edits.proofs.Typing.Unended.{unended_alike}
 -- ---- what is loose between the braces
 
 pub passed_symbol : (k : TokenKind) (b : ℕ) → is_significant_kind k ≡ false → symbol_from k b ≡ 0
-passed_symbol kinds.OpenDelim b e = absurd cc
-passed_symbol kinds.CloseDelim b e = absurd cc
-passed_symbol kinds.Punct b e = absurd cc
-passed_symbol _ b e = refl
+passed_symbol k b e = grind (arith, nat_tests)
 
 loose_counted : (d : ℕ) (l : Loose) (ts : List Piece) → loose_from l (filter is_significant (map (moved d) ts)) ≡ loose_from l ts
 loose_counted d l [] = refl

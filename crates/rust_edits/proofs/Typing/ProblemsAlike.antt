@@ -1,7 +1,7 @@
 -- The problems of two texts that differ between the braces of one item are the same, where they stood or moved with the text.
 use Rattle.std.proofs.Common.{◌≡◌, ◌≤◌, ◌<◌, ◌+◌, ◌==◌, ◌||◌, ◌&&◌, ℕ, zero, suc, Bool, true, false, Option, Some, None, List, [], ◌∷◌, ◌++◌, map, refl, ap, sym, ◌∙◌, arith}
-use Rattle.rust_edits.proofs.Words.{is_none, is_some, option_to_list, AstIdKind, MetaView, ItemView, ItemViews, fn_kind, static_kind, type_alias_kind, plain_item, macro_call, Tokens, symbol, eat, is_at_end, bumped, most, beyond, Bodies, Beside, ahead, TextRange, inner_attributes, Head, FrontRead, front, NameRead, LeafRead, no_name, named, leaf, Problem, ProblemKind, ItemPlace, Found, Finder, nothing_found, and_problem, and_problem_at, BlockRead, span_of, needs_name, and_flaw, and_item, and_leaf, and_parent, leaf_found, leaf_turn, finding_from, finding, is_list_end, block_of, as_extern, extern_kept, extern_found, extern_turn, extern_inside, extern_block, unmatched, inside_unless, module_with, some_item, by_head, turn_with, inside, turn, depth_of, items, begins_at, has_body, Telling, IsBodyIn, ArePlaces, placed}
-use Rattle.rust_edits.proofs.Lemmas.{eqb-true, nat_tests, IsSound, sound_on, LeadsTo, further, through, when, eat_leads, beyond_leads, AreAlike, no_more, one_more, alike_join, IsAlike, neither, both, SamePlace, at_place, before_at, behind_at, inner_attributes_leads, LeafAlike, named_local, named_leads, behind_others_leads, front_takes, front_start, Span, adds_item, adds_problem_at, adds_use_trees, AreFound, Finds, FindsIn, list_from, list_found, place_span, inside_found, turn_found, turn_with_found, extern_turn_found, extern_inside_found, unless_found, FrontAlike, front_until, BeginPlain, LeafLost, leaf_gone}
+use Rattle.rust_edits.proofs.Words.{is_none, is_some, option_to_list, AstIdKind, MetaView, ItemView, ItemViews, Tokens, symbol, eat, is_at_end, bumped, most, beyond, Bodies, Beside, ahead, TextRange, inner_attributes, Head, FrontRead, front, NameRead, LeafRead, no_name, named, leaf, Problem, ProblemKind, ItemPlace, Found, Finder, nothing_found, and_problem, and_problem_at, BlockRead, span_of, needs_name, and_flaw, and_item, and_leaf, and_parent, leaf_found, leaf_turn, finding_from, finding, is_list_end, block_of, as_extern, extern_kept, extern_found, extern_turn, extern_inside, extern_block, unmatched, inside_unless, module_with, some_item, by_head, turn_with, inside, turn, depth_of, items, begins_at, has_body, Telling, IsBodyIn, ArePlaces, placed}
+use Rattle.rust_edits.proofs.Lemmas.{nat_tests, IsSound, sound_on, LeadsTo, further, through, when, eat_leads, beyond_leads, AreAlike, no_more, one_more, alike_join, IsAlike, neither, both, SamePlace, at_place, before_at, behind_at, inner_attributes_leads, LeafAlike, named_local, named_leads, behind_others_leads, front_takes, front_start, Span, adds_item, adds_problem_at, adds_use_trees, AreFound, Finds, FindsIn, list_from, list_found, place_span, inside_found, turn_found, turn_with_found, extern_turn_found, extern_inside_found, unless_found, FrontAlike, front_until, BeginPlain, LeafLost, leaf_gone}
 use Rattle.hir_input.specs.declared.ids.AstIdKind.TheVariants as kind
 use Rattle.hir_input.specs.Bodies.{item_without_bodies}
 use Rattle.rust_cursor.specs.Beside.{behind}
@@ -30,23 +30,16 @@ has_join at [] ys = refl
 has_join at (x ∷ xs) ys = when (begins_at at x.body) (λ e. rw e refl) (λ e. rw e (has_join at xs ys))
 
 pub or_none : (t : Bool) → (t || false) ≡ t
-or_none true = refl
-or_none false = refl
+or_none t = grind (arith, nat_tests)
 
 misses_more : (at : ℕ) (f g : Found) (more : List Span) → g.spans ≡ f.spans ++ more → has_body at more ≡ false → Misses at f g
 misses_more at f g more is none = ap (has_body at) is ∙ has_join at f.spans more ∙ ap (λ t. has_body at f.spans || t) none ∙ or_none (has_body at f.spans)
 
 body_behind : (at : ℕ) (range : TextRange) (body : Option TextRange) → IsBodyIn range body → at < range.start → begins_at at body ≡ false
-body_behind at range None h l = refl
-body_behind at range (Some r) h l = let begins : range.start ≤ r.start = h.0 in let high : at < r.start = omega arith in grind (arith, nat_tests)
+body_behind at range body e f = grind (arith, nat_tests)
 
 body_before : (at : ℕ) (range : TextRange) (body : Option TextRange) → IsBodyIn range body → range.end ≤ at → begins_at at body ≡ false
-body_before at range None h l = refl
-body_before at range (Some r) h l =
-    let two : r.start + 2 ≤ r.end = h.1 in
-    let ends : r.end ≡ range.end = h.2 in
-    let low : r.start < at = omega arith in
-    grind (arith, nat_tests)
+body_before at range body e f = grind (arith, nat_tests)
 
 all_behind : {N : Telling} {from to : ℕ} {is : ItemViews} {ps rest : List ItemPlace} (at : ℕ) → ArePlaces N from to is ps rest → at < from → has_body at (map place_span rest) ≡ false → has_body at (map place_span ps) ≡ false
 all_behind at nothing l h = h
@@ -81,8 +74,7 @@ parent_misses at depth start end k n is_ended g f m =
     ∙ misses_more at f own (span_of start end None n.range ∷ []) (adds_item f depth start end None k n.hashed n.range is_ended).spans refl
 
 elsewhere : (at : ℕ) (o : Option TextRange) → ((r : TextRange) → o ≡ Some r → r.start ≡ at → ⊥) → begins_at at o ≡ false
-elsewhere at None f = refl
-elsewhere at (Some r) f = when (r.start == at) (λ e. absurd (f r refl (eqb-true r.start at e))) (λ e. e)
+elsewhere at o e = grind (arith, nat_tests)
 
 -- ---- problems
 
@@ -108,8 +100,7 @@ module _ (b : Bodies) (f f' : Found) (e : ProblemsAlike b f f') where
   maybe_same k o o' (both {x = n} {y = m} i) = problem_same k n m i
 
 none_same : {A : Type 0} {alike : A → A → Type 0} (o o' : Option A) → IsAlike alike o o' → is_none o' ≡ is_none o
-none_same o o' neither = refl
-none_same o o' (both a) = refl
+none_same o o' e = grind (arith, nat_tests)
 
 module _ (b : Bodies) (depth start start' : ℕ) (i : SamePlace b start start') (f f' : Found) (e : ProblemsAlike b f f') where
   item_same : (end end' : ℕ) (body body' named named' : Option TextRange) (k k' : AstIdKind) (name name' : List ℕ) (is_ended is_ended' : Bool) → k' ≡ k → is_none named' ≡ is_none named → is_ended' ≡ is_ended
@@ -170,11 +161,7 @@ extern_found_lost b depth start f p x = by p.0 x.free
     by (Some l) k = (x.gone, kept l (as_extern l.item) (elsewhere b.opening.at l.body (λ r d s. k l r refl d s)))
 
 extern_some : (i : ItemView) → is_some (as_extern (item_without_bodies i)) ≡ is_some (as_extern i)
-extern_some (plain_item fn_kind n) = refl
-extern_some (plain_item static_kind n) = refl
-extern_some (plain_item type_alias_kind n) = refl
-extern_some (macro_call c) = refl
-extern_some _ = refl
+extern_some i = grind (arith, nat_tests)
 
 module _ (b : Bodies) (depth start start' : ℕ) (i : SamePlace b start start') (f f' : Found) (e : ProblemsAlike b f f') where
   leaf_found_told : (p q : Option LeafRead × Tokens) → LeafTold b p q → Told Any b f (leaf_found depth start p.0 f p.1) (leaf_found depth start' q.0 f' q.1)
