@@ -1,7 +1,7 @@
 -- An edit inside a body moves what is read.
 use Rattle.std.proofs.Common.{◌≡◌, ◌≤◌, ◌<◌, ◌+◌, ◌-◌, ◌^◌, ◌&&◌, ℕ, true, false, Option, List, [], ◌∷◌, length, refl, ap, sym, subst, ◌∙◌, map, arith, ◌==◌, ◌||◌, Bool, suc, ◌++◌, take, drop, IsUtf8, append_assoc, length-append}
 use Rattle.rust_edits.proofs.Words.{All, nat_le, option_map, list_all, EditionYear, FileAstId, TextRange, Problem, with_feeds, place_in, moved_problem, moved_range, moved_span, FileView, places, IsFile, with_body, IsTyped, close_at, has_place, has_range, has_some_range, has_item, has_problem, HasPlaces, not, slice_index, TokenKind, is_fence, is_wide_start, first_cut, symbol_from, has_mark, is_shebang, tokens_from, begins_bare, ItemPlace, IsFileView, has_body_at, IsBody, loose_in, shifted, shifted_by, moved_place, edited, shifted_place, Shifts, ReadsMoved, PlacesAreKept, in_braces, is_alone, loose_inside, same_loose, AreCut, IsShift}
-use Rattle.rust_edits.proofs.Lemmas.{nat_tests, All-head, All-tail, le-leb, and_from, close_some, AreAlike, no_more, one_more, IsAlike, neither, both, unmoved, moves, SameRange, before, place_le, place_rises_in, place_within, SpanAlike, IsIn, IsMaybeIn, AreIn, spans_in, and_parts, eqb-true, not-true, when, take_at, drop_at, IsUtf8-append}
+use Rattle.rust_edits.proofs.Lemmas.{common_steps, nat_tests, All-head, All-tail, le-leb, and_from, close_some, AreAlike, no_more, one_more, IsAlike, neither, both, unmoved, moves, SameRange, before, place_le, place_rises_in, place_within, SpanAlike, IsIn, IsMaybeIn, AreIn, spans_in, and_parts, eqb-true, not-true, when, take_at, drop_at, IsUtf8-append}
 use Rattle.rust_edits.proofs.Typing.Loose.{both_told, problems_move}
 use Rattle.rust_edits.proofs.Typing.Moved.{uses_within, is_read_anew, places_move, body_is_told}
 use Rattle.rust_edits.proofs.Typing.ProblemsAlike.{ProblemAlike}
@@ -16,7 +16,6 @@ use Rattle.rust_edits.specs.declared.parts.Parts.{Parts}
 use Rattle.rust_edits.proofs.Closed.{alone_is, loose_is}
 use Rattle.rust_edits.proofs.Steps.{same_is, same_of}
 use Rattle.rust_edits.proofs.Typing.ProblemsIn as within
-use Rattle.rust_lexer.specs.declared.kind.TokenKind.TheVariants as kinds
 
 -- ---- what was read of a text has places in the text with an edit in a body
 
@@ -213,22 +212,11 @@ module _ (old typed : List ℕ) (items : List ItemPlace) (body range : TextRange
 
   closing : shift.closing ≡ close_at q m
   unfolding q m
-  closing =
-      let opens = parts.opens in
-      let starts = parts.starts in
-      let ends = parts.ends in
-      let a = length-append p.front.now (p.replaced.now ++ p.back.now) in
-      let b = length-append p.replaced.now p.back.now in
-      moves.closing ∙ omega (arith, a, b, opens, starts, ends)
+  closing = grind (arith, common_steps)
 
   closing_new : shift.closing_new ≡ close_at q m'
   unfolding q m'
-  closing_new =
-      let opens = parts.opens in
-      let starts = parts.starts in
-      let c = length-append p.front.now (typed ++ p.back.now) in
-      let d = length-append typed p.back.now in
-      moves.closing_new ∙ omega (arith, c, d, opens, starts)
+  closing_new = grind (arith, common_steps)
 
   by_shift : shifted_place shift ≡ shifted_by q m m'
   by_shift = shift_is shift (length q) (close_at q m) (close_at q m') opening closing closing_new
@@ -291,14 +279,7 @@ module _ (old typed : List ℕ) (items : List ItemPlace) (body range : TextRange
 
   short : length old < 2 ^ 63 → length typed < 2 ^ 63 → length (with_body q m' s) < 2 ^ 64
   unfolding q m m' s
-  short small small_typed =
-      let was = ap length old_is ∙ body_length p.before.now (p.front.now ++ (p.replaced.now ++ p.back.now)) p.behind.now in
-      let is = body_length p.before.now (p.front.now ++ (typed ++ p.back.now)) p.behind.now in
-      let a = length-append p.front.now (p.replaced.now ++ p.back.now) in
-      let b = length-append p.replaced.now p.back.now in
-      let c = length-append p.front.now (typed ++ p.back.now) in
-      let d = length-append typed p.back.now in
-      omega (arith, was, is, a, b, c, d, small, small_typed)
+  short small small_typed = grind (arith, common_steps)
 
   pub edit_keeps : length old < 2 ^ 63 → length typed < 2 ^ 63 → PlacesAreKept items old range typed shift
   edit_keeps small small_typed edition read e f =

@@ -1,7 +1,7 @@
 -- Whole items and what is behind them are read one after the other.
 use Rattle.std.proofs.Common.{◌≡◌, Bool, ◌<◌, ◌+◌, ◌==◌, ◌||◌, ℕ, suc, true, false, Option, Some, None, List, [], ◌∷◌, ◌++◌, length, refl, sym, ap, ◌∙◌, subst, arith, map, append_assoc, append-nil, length-append}
 use Rattle.rust_edits.proofs.Words.{option_map, not, slice_index, filter, list_any, EditionYear, MetaView, ItemView, Row, Stop, stop, EndsAlone, moved, is_continuation, Piece, symbol_of, is_significant, tokens, most, Tokens, tokens_of, last_unended, by_first, symbol, TextRange, inner_attributes, Problem, Found, nothing_found, and_problem_at, and_all, finding, items, moved_range, moved_span, moved_problem, behind_attributes, found_in, read_of, ends_items, read_at, HoldsAt, InsideJoin, TopHolds, IsBare, found_on, BeginsAnew}
-use Rattle.rust_edits.proofs.Lemmas.{nat_tests, map-append, tokens_sound, behind, tokens_laid, LeadsTo, through, by_kept, inner_attributes_until, inner_attributes_leads, Span, items_found, Ending, Near, near, fewer, near_parting, near_enters, near_levels, is_still, tokens_short}
+use Rattle.rust_edits.proofs.Lemmas.{common_steps, nat_tests, tokens_sound, behind, tokens_laid, LeadsTo, through, by_kept, inner_attributes_until, inner_attributes_leads, Span, items_found, Ending, Near, near, fewer, near_parting, near_enters, near_levels, is_still, tokens_short}
 use Rattle.rust_items.specs.declared.log.ProblemKind.TheVariants as problem
 use Rattle.rust_cursor.proofs.Parting as parting
 use Rattle.rust_edits.proofs.Ranges.NearLeaves.{Given, given_on}
@@ -76,11 +76,7 @@ found_still f = sym (found_same f.rows f.rows _ f.spans _ f.use_trees _ f.proble
 
 -- with the problem that a token is not ended
 pub unended_join : (d : ℕ) (o : Option ℕ) (f g : Found) → and_problem_at problem.Unterminated (option_map (λ n. n + d) o) (and_all (found_on d g) f) ≡ and_all (found_on d (and_problem_at problem.Unterminated o g)) f
-unended_join d None f g = refl
-unended_join d (Some at) f g =
-    found_same _ _ _ _ _ _ _ _ refl refl refl
-    (append_assoc f.problems (map (moved_problem (λ n. n + d)) g.problems) (record { kind = problem.Unterminated; at = at + d } ∷ [])
-    ∙ ap (λ l. f.problems ++ l) (sym (map-append (moved_problem (λ n. n + d)) g.problems (record { kind = problem.Unterminated; at = at } ∷ []))))
+unended_join d o f g = grind (arith, common_steps)
 
 -- where no problem is told, none was found
 pub none_told : (edition : EditionYear) (text : List ℕ) → (found_in edition text).problems ≡ [] → is_quiet (read_of edition text).1.0 ≡ true
@@ -172,10 +168,7 @@ module _ (is_top : Bool) (left : ℕ) (edition : EditionYear) (w : List ℕ) (o 
   first_given = record { laid = tokens_laid edition text; short = tokens_sound edition x }
 
   sizes : length text ≡ length x + length y
-  sizes =
-      let both = length-append w (stop o ∷ y) in
-      let own = length-append w (stop o ∷ []) in
-      omega arith
+  sizes = grind (arith, common_steps)
 
   -- the tokens behind the first are those of the second
   behind_is : first.behind ≡ map (moved by) vs.left

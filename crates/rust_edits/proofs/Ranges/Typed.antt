@@ -1,7 +1,7 @@
 -- Texts of whole items one behind the other, and between others.
 use Rattle.std.proofs.Common.{Bool, ◌≡◌, true, ◌<◌, ◌≤◌, ◌+◌, ◌==◌, ℕ, suc, Option, None, List, [], ◌∷◌, ◌++◌, length, refl, sym, ap, ◌∙◌, subst, arith, append_assoc, append-nil, length-append}
 use Rattle.rust_edits.proofs.Words.{slice_index, option_map, EditionYear, ItemView, Inner, Stop, stop, is_continuation, tokens, most, goes_on, Tokens, tokens_of, last_unended, kind, symbol, bumped, inner_attributes, is_attribute, is_behind, is_doc, Found, nothing_found, and_problem_at, and_all, behind_attributes, found_in, read_of, EndsOwn, IsBare, HoldsItems, BeginsAnew, text_attrs, found_on, ItemsJoin, Follows, as_first, behind_items, IsBetween, StandsBetween, TypingItems, MetaView, read_at, HoldsAt, FollowsAt, as_first_at, behind_items_at, IsBetweenAt, InsideBetween}
-use Rattle.rust_edits.proofs.Lemmas.{when, Twins, symbol_same, kind_same, after_symbol, inner_attributes_leads, near_twins, nothing, tokens_short}
+use Rattle.rust_edits.proofs.Lemmas.{common_steps, when, Twins, symbol_same, kind_same, after_symbol, inner_attributes_leads, near_twins, nothing, tokens_short}
 use Rattle.rust_lexer.proofs.Laws.{tokens_few}
 use Rattle.rust_edits.proofs.Ranges.Behind.{plain_on}
 use Rattle.rust_edits.proofs.Ranges.Joins.{Joined, first_near, found_quiet, found_still, unended_join, items_top, joined_whole, top_holds, inside_join}
@@ -52,8 +52,7 @@ module _ (b : Twins) (ts us : Tokens) (h : b.are ts us) where
   still_same = rw (symbol_same b ts us h) refl
 
 first_byte : (w : List ℕ) (o : Stop) (y : List ℕ) → slice_index (w ++ stop o ∷ y) 0 ≡ slice_index (ended w o) 0
-first_byte [] o y = refl
-first_byte (b ∷ w) o y = refl
+first_byte w o y = grind (arith, common_steps)
 
 -- whole items that begin anew do so in front of others
 pub begins_on : (edition : EditionYear) (t s : List ℕ) → IsBare t → EndsOwn t → BeginsAnew edition t → BeginsAnew edition s → length (t ++ s) < most → BeginsAnew edition (t ++ s)
@@ -74,8 +73,7 @@ begins_on edition t s bare ends b c short =
 -- ---- an empty text
 
 pub no_length : {A : Type 0} (l : List A) → length l ≤ 0 → l ≡ []
-no_length [] e = refl
-no_length (a ∷ l) e = absurd (omega arith)
+no_length l e = grind (arith, common_steps)
 
 pub nothing_read : (is_top : Bool) (left : ℕ) (edition : EditionYear) → read_at is_top (suc left) edition [] ≡ ([], (nothing_found, (inner_attributes (tokens_of edition [])).1))
 nothing_read is_top left edition =

@@ -1,7 +1,7 @@
 -- Whether the last token is ended is the same in two texts that differ between two braces, and where it stands is moved.
 use Rattle.std.proofs.Common.{◌≡◌, ◌≤◌, ℕ, zero, suc, ◌+◌, ◌==◌, ◌||◌, ◌&&◌, true, false, Option, None, List, [], ◌∷◌, ◌++◌, length, take, refl, ap, sym, ◌∙◌, map, arith}
 use Rattle.rust_edits.proofs.Words.{not, EditionYear, Stop, opening, StandsAlone, is_fence, tokens_in_front, moved, is_wide_start, first_cut, Piece, symbol_of, is_terminated, has_mark, is_blank, is_bracket_next, is_shebang, piece, tokens_from, whole, end_of, place_if_open, last_unended, tokens_of, with_body, OpensAt}
-use Rattle.rust_edits.proofs.Lemmas.{nat_tests, apart, stop_at, open_at, close_of, plain_is, when, IsAlike, neither, both, Moves, moves}
+use Rattle.rust_edits.proofs.Lemmas.{common_steps, nat_tests, apart, stop_at, open_at, close_of, plain_is, when, IsAlike, neither, both, Moves, moves}
 use Rattle.rust_edits.proofs.Typing.Texts.{IsMoved}
 
 -- ---- what may stand in front of a text
@@ -21,10 +21,7 @@ module _ (s : ℕ) (feed : (s == 10 || s == 13) ≡ false) (dash : (s == 45) ≡
       (λ f. rw (e, f) refl))
 
 pub mark_by : (s : ℕ) → (s == 239) ≡ false → (s == 187) ≡ false → (x y y' : List ℕ) → has_mark (x ++ s ∷ y') ≡ has_mark (x ++ s ∷ y)
-mark_by s p q [] y y' = rw p refl
-mark_by s p q (a ∷ []) y y' = when (a == 239) (λ e. rw (e, q) refl) (λ e. rw e refl)
-mark_by s p q (a ∷ b ∷ []) y y' = refl
-mark_by s p q (a ∷ b ∷ c ∷ x) y y' = refl
+mark_by s e f x y y' = grind (arith, common_steps)
 
 bracket_on : (o : Stop) (at : ℕ) (xs l l' : List Piece) → is_bracket_next (xs ++ stop_at o at ∷ l') ≡ is_bracket_next (xs ++ stop_at o at ∷ l)
 bracket_on o at (t ∷ xs) l l' = when (is_blank t.kind) (λ e. rw e (bracket_on o at xs l l')) (λ e. rw e refl)
