@@ -1,7 +1,7 @@
 -- Which edits are told.
 use Rattle.std.proofs.Common.{◌≡◌, ◌+◌, ◌-◌, ℕ, suc, List, ◌∷◌, ◌++◌, length, get_or, take, IsUtf8, refl, ap, sym, subst, ◌∙◌, arith, length-append, Bool, true, false, Option, Some, None, ◌<◌, ◌^◌}
 use Rattle.rust_edits.proofs.Words.{IsCharBoundary, TextRange, ArePartsAbout, AreCut, IsUncut, LacksByte, IsSome, with_feeds, ItemPlace, Loose, loose_in, body_about, begins_bare, MayStandInside, MayEdit, TellsLoose, in_braces, is_alone, EndsFit}
-use Rattle.rust_edits.proofs.Lemmas.{take_at, append_cancel_left, IsCharBoundary-from_take, IsCharBoundary-after_ascii, false≢true, IsUtf8-append}
+use Rattle.rust_edits.proofs.Lemmas.{common_steps, take_at, append_cancel_left, IsCharBoundary-from_take, IsCharBoundary-after_ascii, false≢true, IsUtf8-append}
 use Rattle.rust_edits.specs.declared.parts.Parts.{Parts}
 use Rattle.std.specs.Prelude.{◌↔◌}
 use Rattle.std.proofs.lemmas.Option.{same_Some}
@@ -151,15 +151,7 @@ module _ (items : List ItemPlace) (old typed : List ℕ) (range : TextRange) whe
 
       -- the places of the `}` fit into memory
       fits : length old < 2 ^ 63 → length typed < 2 ^ 63 → EndsFit range (length typed) (length p.back.now)
-      fits small small_typed =
-          let starts = cut.starts in
-          let ends = cut.ends in
-          let all : length old ≡ length (p.before.now ++ 123 ∷ (p.front.now ++ (p.replaced.now ++ (p.back.now ++ 125 ∷ p.behind.now)))) = ap length cut.whole in
-          let one = length-append p.before.now (123 ∷ (p.front.now ++ (p.replaced.now ++ (p.back.now ++ 125 ∷ p.behind.now)))) in
-          let two = length-append p.front.now (p.replaced.now ++ (p.back.now ++ 125 ∷ p.behind.now)) in
-          let three = length-append p.replaced.now (p.back.now ++ 125 ∷ p.behind.now) in
-          let four = length-append p.back.now (125 ∷ p.behind.now) in
-          (omega (arith, starts, ends, all, one, two, three, four, small), omega (arith, starts, ends, all, one, two, three, four, small, small_typed))
+      fits small small_typed = grind (arith, common_steps)
 
       -- all that is asked holds
       pub all_told : {A : Type 0} (o : Option A) → IsSome o ↔ EndsFit range (length typed) (length p.back.now) → length old < 2 ^ 63 → length typed < 2 ^ 63 → begins_bare old ≡ true → IsUtf8 typed

@@ -1,7 +1,7 @@
 -- Items are the same in a text that ends with a `;` or a `}` and in a longer one, where they end there or before.
 use Rattle.std.proofs.Common.{◌≡◌, ◌≤◌, ◌<◌, ◌+◌, ◌==◌, ◌&&◌, ℕ, zero, suc, Bool, true, false, Option, Some, None, List, [], ◌∷◌, ◌++◌, length, refl, sym, ap, ◌∙◌, subst, arith, map, append_assoc, codes}
-use Rattle.rust_edits.proofs.Words.{option_map, option_to_list, is_some, is_none, not, list_any, AstIdKind, MetaView, ItemView, Row, most, beyond, Tokens, symbol, at, eat, eat_word, bumped, is_at_end, TextRange, path, use_tree, inner_attributes, Head, FrontRead, front, function, trait_item, enumeration, union_item, macro_def, type_alias, static_value, constant, structure, implementation, crate_item, use_declaration, macro_definition, is_called, invocation, leaf_by, leaf, LeafRead, named, named_or, renamed, Problem, ProblemKind, Found, Finder, nothing_found, and_problem, and_problem_at, and_row, and_all, span_of, and_flaw, and_item, and_leaf, leaf_found, leaf_turn, finding_from, finding, is_list_end, BlockRead, block_of, as_extern, extern_kept, extern_found, unmatched, extern_turn, extern_inside, inside, turn, moved_span, moved_problem, is_unfinished}
-use Rattle.rust_edits.proofs.Lemmas.{map-append, eq-eqb, not-true, and_right, IsLaid, behind, LeadsTo, here, further, through, when, bumped_leads, beyond_leads, eat_leads, eat_word_leads, Ending, Near, fewer, nothing, bumped_onward, at_same, past_same, near_twins, beyond_near, near_parting, near_enters, near_levels, Kept, AtEnd, is_still, Outcome, lost, stays, comes, untaken, eat_outcome, eat_fewer, Same, by_next, by_kept, symbol_same, empty_same, end_same, path_leads, use_tree_leads, inner_attributes_leads, inner_attributes_until, behind_others_onward, named_leads, named_or_leads, renamed_leads, behind_others_leads, front_takes, LeafAt, leaf_at, Finds, extern_turn_found}
+use Rattle.rust_edits.proofs.Words.{option_map, option_to_list, is_some, is_none, not, list_any, AstIdKind, MetaView, ItemView, Row, most, beyond, Tokens, symbol, at, eat, eat_word, bumped, is_at_end, TextRange, path, use_tree, inner_attributes, Head, FrontRead, front, function, trait_item, enumeration, union_item, macro_def, type_alias, static_value, constant, structure, implementation, crate_item, use_declaration, macro_definition, is_called, invocation, leaf_by, leaf, LeafRead, named, named_or, renamed, Problem, ProblemKind, Found, Finder, nothing_found, and_problem, and_problem_at, and_all, span_of, and_flaw, and_item, and_leaf, leaf_found, leaf_turn, finding_from, finding, is_list_end, BlockRead, block_of, as_extern, extern_kept, extern_found, unmatched, extern_turn, extern_inside, inside, turn, moved_span, moved_problem, is_unfinished}
+use Rattle.rust_edits.proofs.Lemmas.{common_steps, map-append, eq-eqb, not-true, and_right, IsLaid, behind, LeadsTo, here, further, through, when, bumped_leads, beyond_leads, eat_leads, eat_word_leads, Ending, Near, fewer, nothing, bumped_onward, at_same, past_same, near_twins, beyond_near, near_parting, near_enters, near_levels, Kept, AtEnd, is_still, Outcome, lost, stays, comes, untaken, eat_outcome, eat_fewer, Same, by_next, by_kept, symbol_same, empty_same, end_same, path_leads, use_tree_leads, inner_attributes_leads, inner_attributes_until, behind_others_onward, named_leads, named_or_leads, renamed_leads, behind_others_leads, front_takes, LeafAt, leaf_at, Finds, extern_turn_found}
 use Rattle.rust_leaves.specs.declared.head.Head.TheVariants as heads
 use Rattle.rust_items.specs.declared.log.ProblemKind.TheVariants as problem
 use Rattle.rust_edits.proofs.Ranges.Tops.{Keeps, extern_turn_keeps}
@@ -101,9 +101,6 @@ pub record FoundAlike {A : Type 0} (b : Ending) (before : Found) (p q : A × Fou
 abbrev pub is_quiet : Found → Bool
 is_quiet f = not (list_any (λ _. true) f.problems)
 
-pub any_front : (test : Problem → Bool) (ps qs : List Problem) → list_any test ps ≡ true → list_any test (ps ++ qs) ≡ true
-any_front test ps qs e = list_any-append test ps qs ∙ or_left (list_any test ps) (list_any test qs) e
-
 pub any_back : (test : Problem → Bool) (ps qs : List Problem) → list_any test qs ≡ true → list_any test (ps ++ qs) ≡ true
 any_back test ps qs e = list_any-append test ps qs ∙ or_right (list_any test ps) (list_any test qs) e
 
@@ -116,10 +113,7 @@ told_problem k at f = ap not (any_last (λ _. true) f.problems [] (record { kind
 
 -- what was told before stays told
 pub quiet_before : {f g : Found} → Keeps f g → is_quiet f ≡ false → is_quiet g ≡ false
-quiet_before {f} {g} k e =
-    when (is_quiet g)
-    (λ q. let none = k.all (λ _. true) (not-true (list_any (λ _. true) g.problems) q) in absurd (let no = rw none at e in cc))
-    (λ q. q)
+quiet_before {f} {g} k e = grind (arith, common_steps)
 
 -- where nothing is told, none of any kind is
 pub quiet_any : (test : Problem → Bool) (ps : List Problem) → list_any (λ _. true) ps ≡ false → list_any test ps ≡ false
@@ -284,26 +278,15 @@ unfinished true nameless start f e = absurd cc
 unfinished false nameless start f e = any_last _ f.problems [] _ (eq-eqb start start refl)
 
 -- what is sound is ended
-still : (o : Option ℕ) (test : Problem → Bool) (f : Found) → list_any test f.problems ≡ true → list_any test (and_problem_at problem.TooDeep o f).problems ≡ true
-still None test f e = e
-still (Some at) test f e = any_front test f.problems (record { kind = problem.TooDeep; at = at } ∷ []) e
-
 pub sound_leaf : (depth start end : ℕ) (l : LeafRead) (f : Found) → is_sound start (Some l.item, and_leaf depth start end l f) ≡ true → l.is_ended ≡ true
-sound_leaf depth start end l f e =
-    when l.is_ended (λ g. g)
-    (λ g. let found = still l.too_deep (λ p. is_unfinished p.kind && p.at == start) _ (unfinished l.is_ended _ start (and_row _ _ f) g) in
-    absurd (let no : not true ≡ true = subst (λ (t : Bool). not t ≡ true) found e in cc))
+sound_leaf depth start end l f e = grind (arith, common_steps)
 
 -- where nothing is told, an item is ended
 pub quiet_sound : (start : ℕ) (i : ItemView) (f : Found) → is_quiet f ≡ true → is_sound start (Some i, f) ≡ true
 quiet_sound start i f q = ap not (quiet_any (λ p. is_unfinished p.kind && p.at == start) f.problems (not-true (list_any (λ _. true) f.problems) q))
 
-pub not_quiet : {t : Bool} (f : Found) → (is_quiet f ≡ true → t ≡ true) → t ≡ false → is_quiet f ≡ false
-not_quiet f tells e = when (is_quiet f) (λ q. absurd (let no = sym (tells q) ∙ e in cc)) (λ q. q)
-
 pub found_told : (depth start : ℕ) (o : Option LeafRead) (f : Found) (ts : Tokens) → leaf_ended o ≡ false → is_quiet (leaf_found depth start o f ts).1.0 ≡ false
-found_told depth start None f ts e = told_problem problem.NoItem start f
-found_told depth start (Some l) f ts e = not_quiet (and_leaf depth start ts.past l f) (λ q. sound_leaf depth start ts.past l f (quiet_sound start l.item (and_leaf depth start ts.past l f) q)) e
+found_told depth start o f ts e = grind (arith, common_steps)
 
 none_passes : (b : Ending) (before f : Found) (depth start : ℕ) (ts : Tokens) (r : Option ItemView × (Found × Tokens)) → length ts.left ≤ length b.behind → b.level ≡ false → (is_still b ≡ true → is_quiet r.1.0 ≡ false)
     → TurnEnds b before start (leaf_found depth start None f ts) r

@@ -1,36 +1,25 @@
 -- An item that ends with the last token of a text is the same in a longer text.
 use Rattle.std.proofs.Common.{◌≡◌, ◌<◌, ◌+◌, ◌==◌, ◌||◌, ◌&&◌, ℕ, zero, suc, Bool, true, false, Option, Some, None, List, [], ◌++◌, length, refl, sym, ap, ◌∙◌, subst, arith}
-use Rattle.rust_edits.proofs.Words.{is_none, not, list_any, AstIdKind, MetaView, ItemView, extern_block_from, module_from, behind_tree, Tokens, symbol, at, eat, bumped, is_at_end, Head, FrontRead, front, named_node, node, leaf, NameRead, named, no_name, Found, Finder, nothing_found, and_problem, and_row, span_of, needs_name, and_item, leaf_turn, BlockRead, deep_block, unmatched, extern_inside, and_parent, extern_block, depth_of, inside_unless, module_with, some_item, by_head, turn_with, inside, turn, is_unfinished}
-use Rattle.rust_edits.proofs.Lemmas.{nat_tests, and_parts, IsLaid, behind, LeadsTo, through, when, eat_leads, Ending, Near, fewer, nothing, bumped_onward, at_same, past_same, near_twins, behind_tree_near, Step, at_last, next, step, untaken, eat_fewer, by_next, by_kept, symbol_same, end_same, named_leads, front_start, Finds, FindsIn, turn_with_found, inside_found, extern_inside_found, unless_found}
+use Rattle.rust_edits.proofs.Words.{AstIdKind, MetaView, ItemView, extern_block_from, module_from, behind_tree, Tokens, symbol, at, eat, bumped, is_at_end, Head, FrontRead, front, named_node, node, leaf, NameRead, named, no_name, Found, Finder, nothing_found, and_problem, and_item, leaf_turn, BlockRead, deep_block, unmatched, extern_inside, and_parent, extern_block, depth_of, inside_unless, module_with, some_item, by_head, turn_with, inside, turn}
+use Rattle.rust_edits.proofs.Lemmas.{common_steps, nat_tests, and_parts, IsLaid, behind, LeadsTo, through, when, eat_leads, Ending, Near, fewer, nothing, bumped_onward, at_same, past_same, near_twins, behind_tree_near, Step, at_last, next, step, untaken, eat_fewer, by_next, by_kept, symbol_same, end_same, named_leads, front_start, Finds, FindsIn, turn_with_found, inside_found, extern_inside_found, unless_found}
 use Rattle.hir_input.specs.declared.ids.AstIdKind.TheVariants as ast
 use Rattle.rust_leaves.specs.declared.head.Head.TheVariants as heads
 use Rattle.rust_items.specs.declared.log.ProblemKind.TheVariants as problem
 use Rattle.rust_items.specs.Items.{no_block, one_more}
 use Rattle.rust_edits.proofs.Ranges.NearFronts.{FrontNear, front_until}
 use Rattle.rust_edits.proofs.Ranges.NearLeaves.{NameNear, named_until, Given, given_on, Ends, passes, before_end, at_end}
-use Rattle.rust_edits.proofs.Ranges.NearItems.{any_front, any_back, FoundNear, problem_near, item_near, all_near, flat, FoundAlike, is_quiet, told_problem, quiet_sound, not_quiet, found_told, turn_whole, block_whole, ends_long, TurnLong, block_ends, leaf_leads, leaf_fewer, is_sound, unfinished, found_leads, leaf_turn_ends, leaf_turn_fewer, extern_inside_fewer, extern_unended, block_fewer, extern_inside_ends, front_leads}
+use Rattle.rust_edits.proofs.Ranges.NearItems.{FoundNear, problem_near, item_near, all_near, flat, FoundAlike, is_quiet, told_problem, found_told, turn_whole, block_whole, ends_long, TurnLong, block_ends, leaf_leads, leaf_fewer, is_sound, found_leads, leaf_turn_ends, leaf_turn_fewer, extern_inside_fewer, extern_unended, block_fewer, extern_inside_ends, front_leads}
 use Rattle.rust_edits.proofs.Ranges.Tops.{turn_with_keeps}
 
 -- ---- items that hold others
 
 -- what is sound is ended
 pub sound_parent : (depth start end : ℕ) (k : AstIdKind) (n : NameRead) (ended : Bool) (inner f : Found) (i : ItemView) → is_sound start (Some i, and_parent depth start end k n ended inner f) ≡ true → ended ≡ true
-sound_parent depth start end k n ended inner f i e =
-    when ended (λ g. g)
-    (λ g. let found = any_front (λ p. is_unfinished p.kind && p.at == start) (and_item depth start end None k n.hashed n.range ended f).problems inner.problems
-    (unfinished ended (is_none n.range && needs_name k) start (and_row (record { depth = depth; kind = k; name = n.hashed }) (span_of start end None n.range) f) g) in
-    absurd (let no : not true ≡ true = subst (λ (t : Bool). not t ≡ true) found e in cc))
-
-not_told : (t : Bool) → not t ≡ false → t ≡ true
-not_told t e = grind (arith, nat_tests)
+sound_parent depth start end k n ended inner f i e = grind (arith, common_steps)
 
 -- an item that is not ended, or in which something is told
 parent_told : (depth start end : ℕ) (k : AstIdKind) (n : NameRead) (ended : Bool) (inner f : Found) (i : ItemView) → (ended && is_quiet inner) ≡ false → is_quiet (and_parent depth start end k n ended inner f) ≡ false
-parent_told depth start end k n ended inner f i e =
-    let all = and_parent depth start end k n ended inner f in
-    when ended
-    (λ g. ap not (any_back (λ _. true) (and_item depth start end None k n.hashed n.range ended f).problems inner.problems (not_told (list_any (λ _. true) inner.problems) (rw g at e))))
-    (λ g. not_quiet all (λ q. sound_parent depth start end k n ended inner f i (quiet_sound start i all q)) g)
+parent_told depth start end k n ended inner f i e = grind (arith, common_steps)
 
 -- an item that holds what stands in its block
 abbrev parent_of : (BlockRead → ItemView) → ℕ → ℕ → AstIdKind → NameRead → Bool → Found → (BlockRead × Found) × Tokens → (ItemView × Found) × Tokens

@@ -1,8 +1,7 @@
 -- Turns at the top of a text, or between braces: each takes a token, and it does not matter how many more are allowed than there are tokens.
 use Rattle.std.proofs.Common.{◌≡◌, ◌<◌, ◌==◌, ℕ, zero, suc, Bool, true, false, Option, Some, None, List, [], ◌++◌, length, refl, sym, ◌∙◌, arith}
-use Rattle.rust_edits.proofs.Words.{option_to_list, ItemView, behind_tree, beyond, Tokens, symbol, at, is_empty, is_at_open, is_at_end, bumped, Head, FrontRead, front, leaf, LeafRead, Found, Finder, BlockRead, leaf_found, leaf_turn, finding_from, is_list_end, by_head, inside, depth_of, turn}
-use Rattle.rust_edits.proofs.Lemmas.{eq-eqb, or_parts, ne_eqb, IsLaid, behind, at_behind, LeadsTo, here, further, through, when, behind_closed_leads, behind_tree_leads, beyond_leads, shorter, turn_found, fewer}
-use Rattle.rust_leaves.specs.declared.head.Head.TheVariants as heads
+use Rattle.rust_edits.proofs.Words.{option_to_list, ItemView, behind_tree, beyond, Tokens, symbol, at, is_empty, is_at_open, is_at_end, bumped, Head, FrontRead, front, Found, Finder, BlockRead, leaf_turn, finding_from, is_list_end, by_head, inside, depth_of, turn}
+use Rattle.rust_edits.proofs.Lemmas.{common_steps, eq-eqb, or_parts, ne_eqb, IsLaid, behind, at_behind, LeadsTo, here, further, through, when, behind_closed_leads, behind_tree_leads, beyond_leads, shorter, turn_found, fewer}
 use Rattle.rust_items.specs.declared.log.ProblemKind.TheVariants as problem
 use Rattle.rust_edits.proofs.Ranges.NearItems.{is_quiet, told_problem}
 use Rattle.rust_edits.proofs.Ranges.Tops.{turn_strict}
@@ -86,15 +85,9 @@ module _ (is_top : Bool) (left end : ℕ) where
 
 -- ---- where no item is read, a problem is told
 
-none_told : (depth start : ℕ) (o : Option LeafRead) (f : Found) (ts : Tokens) → (leaf_found depth start o f ts).0 ≡ None → is_quiet (leaf_found depth start o f ts).1.0 ≡ false
-none_told depth start None f ts e = told_problem problem.NoItem start f
-none_told depth start (Some l) f ts e = absurd cc
-
 head_none : (inside : Finder BlockRead) (depth : ℕ) (w : Head) (h : FrontRead) (f : Found) (ts : Tokens) → (by_head inside depth w h f ts).0 ≡ None → is_quiet (by_head inside depth w h f ts).1.0 ≡ false
 unfolding leaf_turn
-head_none inside depth heads.Module h f ts e = absurd cc
-head_none inside depth heads.ExternBlock h f ts e = absurd cc
-head_none inside depth _ h f ts e = none_told depth h.start (leaf h ts).0 f (leaf h ts).1 e
+head_none inside depth w h f ts e = grind (arith, common_steps)
 
 pub turn_told : (left : ℕ) (f : Found) (ts : Tokens) → (turn left f ts).0 ≡ None → is_quiet (turn left f ts).1.0 ≡ false
 unfolding turn

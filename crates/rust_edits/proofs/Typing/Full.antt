@@ -1,8 +1,8 @@
 -- No character of a text of UTF-8 is cut off, with returns or without them.
 use Rattle.rust_edits.proofs.Words.{nat_le, nat_lt, slice_index, behind_lead, is_full, is_continuation, is_return, with_feeds}
-use Rattle.rust_edits.proofs.Lemmas.{and_parts, nat_tests, when}
+use Rattle.rust_edits.proofs.Lemmas.{common_steps, and_parts, nat_tests, when}
 use lib.Utf8.{scalars, scalar, next, encode, encodes, scalar_cases}
-use Rattle.std.proofs.Common.{◌≡◌, ◌⊎◌, ◌+◌, ◌/◌, ◌<◌, ◌≤◌, ◌==◌, ℕ, true, false, List, [], ◌∷◌, ◌++◌, length, IsUtf8, refl, ap, sym, subst, ◌∙◌, arith}
+use Rattle.std.proofs.Common.{◌≡◌, ◌⊎◌, ◌+◌, ◌/◌, ◌<◌, ◌≤◌, ◌==◌, ℕ, true, false, List, [], ◌∷◌, ◌++◌, length, IsUtf8, refl, subst, arith}
 use Rattle.std.proofs.lemmas.Bool.{ltb-true, ltb-false}
 
 -- ---- one byte
@@ -13,22 +13,10 @@ full_cons b y l k = let t : nat_le (behind_lead b) (length y) ≡ true = grind (
 lead_low : (b : ℕ) → b < 192 → behind_lead b ≡ 0
 lead_low b h = let t : nat_lt b 192 ≡ true = grind (arith, nat_tests) in rw t refl
 
-lead_two : (b : ℕ) → 192 ≤ b → b < 224 → behind_lead b ≡ 1
-lead_two b l h = grind (arith, nat_tests)
-
-lead_three : (b : ℕ) → 224 ≤ b → b < 240 → behind_lead b ≡ 2
-lead_three b l h = grind (arith, nat_tests)
-
-lead_four : (b : ℕ) → 240 ≤ b → behind_lead b ≡ 3
-lead_four b l = grind (arith, nat_tests)
-
 full_low : (b : ℕ) (y : List ℕ) → b < 192 → is_full y ≡ true → is_full (b ∷ y) ≡ true
 full_low b y h k = let none = lead_low b h in full_cons b y (omega (arith, none)) k
 
 -- a byte past ASCII is no return
-feeds_high : (b : ℕ) (z : List ℕ) → 128 ≤ b → with_feeds (b ∷ z) ≡ b ∷ with_feeds z
-feeds_high b z h = let other : (b == 13) ≡ false = grind (arith, nat_tests) in rw other refl
-
 -- ---- one character
 
 full_one : (c : ℕ) (z : List ℕ) → c < 128 → is_full (with_feeds z) ≡ true → is_full (with_feeds (c ∷ z)) ≡ true
@@ -38,23 +26,13 @@ follows : (x : ℕ) → (128 ≤ next x) × (next x < 192)
 follows x = (omega arith, omega arith)
 
 full_two : (a b : ℕ) (z : List ℕ) → 192 ≤ a → a < 224 → (128 ≤ b) × (b < 192) → is_full (with_feeds z) ≡ true → is_full (with_feeds (a ∷ b ∷ z)) ≡ true
-full_two a b z l h f k =
-    let all = feeds_high a (b ∷ z) (omega arith) ∙ ap (λ y. a ∷ y) (feeds_high b z f.0) in
-    let one = lead_two a l h in
-    subst (λ (y : List ℕ). is_full y ≡ true) (sym all) (full_cons a (b ∷ with_feeds z) (omega (arith, one)) (full_low b (with_feeds z) f.1 k))
+full_two a b z l h f k = grind (arith, common_steps)
 
 full_three : (a b d : ℕ) (z : List ℕ) → 224 ≤ a → a < 240 → (128 ≤ b) × (b < 192) → (128 ≤ d) × (d < 192) → is_full (with_feeds z) ≡ true → is_full (with_feeds (a ∷ b ∷ d ∷ z)) ≡ true
-full_three a b d z l h f g k =
-    let all = feeds_high a (b ∷ d ∷ z) (omega arith) ∙ ap (λ y. a ∷ y) (feeds_high b (d ∷ z) f.0 ∙ ap (λ y. b ∷ y) (feeds_high d z g.0)) in
-    let two = lead_three a l h in
-    subst (λ (y : List ℕ). is_full y ≡ true) (sym all) (full_cons a (b ∷ d ∷ with_feeds z) (omega (arith, two)) (full_low b (d ∷ with_feeds z) f.1 (full_low d (with_feeds z) g.1 k)))
+full_three a b d z l h f g k = grind (arith, common_steps)
 
 full_four : (a b d e : ℕ) (z : List ℕ) → 240 ≤ a → (128 ≤ b) × (b < 192) → (128 ≤ d) × (d < 192) → (128 ≤ e) × (e < 192) → is_full (with_feeds z) ≡ true → is_full (with_feeds (a ∷ b ∷ d ∷ e ∷ z)) ≡ true
-full_four a b d e z l f g h k =
-    let all = feeds_high a (b ∷ d ∷ e ∷ z) (omega arith) ∙ ap (λ y. a ∷ y) (feeds_high b (d ∷ e ∷ z) f.0 ∙ ap (λ y. b ∷ y) (feeds_high d (e ∷ z) g.0 ∙ ap (λ y. d ∷ y) (feeds_high e z h.0))) in
-    let three = lead_four a l in
-    subst (λ (y : List ℕ). is_full y ≡ true) (sym all)
-    (full_cons a (b ∷ d ∷ e ∷ with_feeds z) (omega (arith, three)) (full_low b (d ∷ e ∷ with_feeds z) f.1 (full_low d (e ∷ with_feeds z) g.1 (full_low e (with_feeds z) h.1 k))))
+full_four a b d e z l f g h k = grind (arith, common_steps)
 
 full_char : (c : ℕ) (z : List ℕ) → c < 1114112 → is_full (with_feeds z) ≡ true → is_full (with_feeds (encode c ++ z)) ≡ true
 unfolding encode
@@ -81,13 +59,8 @@ feeds_full z u = subst (λ (l : List ℕ). is_full (with_feeds l) ≡ true) u.1.
 -- ---- the first byte
 
 -- no byte in the middle of a character stands in front
-lead_feed : (z : List ℕ) → (slice_index z 0 == 10) ≡ true → is_continuation (slice_index (with_feeds z) 0) ≡ false
-lead_feed [] e = absurd cc
-lead_feed (b ∷ z) e = let other : (b == 13) ≡ false = grind (arith, nat_tests) in rw other (grind (arith, nat_tests))
-
 lead_one : (c : ℕ) (z : List ℕ) → c < 128 → is_continuation (slice_index (with_feeds (c ∷ z)) 0) ≡ false
-lead_one c z h =
-    when (is_return c z) (λ r. rw r (lead_feed z (and_parts (c == 13) (slice_index z 0 == 10) r).1)) (λ r. rw r (grind (arith, nat_tests)))
+lead_one c z h = grind (arith, common_steps)
 
 lead_high : (a : ℕ) (z : List ℕ) → 192 ≤ a → is_continuation (slice_index (with_feeds (a ∷ z)) 0) ≡ false
 lead_high a z l = let other : (a == 13) ≡ false = grind (arith, nat_tests) in rw other (grind (arith, nat_tests))

@@ -1,8 +1,7 @@
 -- The tokens of two texts that differ between two braces.
-use Rattle.std.proofs.Common.{◌≡◌, ◌≤◌, ◌<◌, ℕ, arith, true, false, suc, ◌+◌, Option, Some, List, [], ◌∷◌, ◌++◌, length, refl, ap, sym, subst, ◌∙◌, map}
-use Rattle.rust_edits.proofs.Words.{filter, EditionYear, Inner, TokenKind, StandsAlone, opening, tokens_in_front, moved, Piece, symbol_from, symbol_of, is_significant, Tokens, end_of, tokens_of, kind, symbol, bumped, turns, Bodies, AreBehind, Beside, ahead, is_style, is_doc, is_attribute, is_behind, inner_attributes, attributes, style_by, with_body, OpensAt, first_plain, BeginsPlain}
-use Rattle.rust_edits.proofs.Lemmas.{open_at, inside_of, body, body_matched, close_of, close_symbol, left_of, front_of, counted_apart, filter_moved, front_same, tokens_at, bumped_at, front_before, left_behind, Moves, SamePlace, BeginPlain}
-use Rattle.rust_lexer.specs.declared.kind.TokenKind.TheVariants as kinds
+use Rattle.std.proofs.Common.{◌≡◌, ◌≤◌, ◌<◌, ℕ, arith, true, false, suc, ◌+◌, Option, List, [], ◌∷◌, ◌++◌, length, refl, ap, sym, subst, ◌∙◌, map}
+use Rattle.rust_edits.proofs.Words.{filter, EditionYear, Inner, StandsAlone, opening, tokens_in_front, moved, Piece, symbol_of, is_significant, Tokens, end_of, tokens_of, kind, symbol, bumped, turns, Bodies, AreBehind, Beside, ahead, is_doc, is_attribute, is_behind, inner_attributes, attributes, with_body, OpensAt, first_plain, BeginsPlain}
+use Rattle.rust_edits.proofs.Lemmas.{common_steps, open_at, inside_of, body, body_matched, close_of, close_symbol, left_of, front_of, counted_apart, filter_moved, front_same, tokens_at, bumped_at, front_before, left_behind, Moves, SamePlace, BeginPlain}
 use Rattle.rust_lexer.proofs.Counted.{when}
 use Rattle.rust_lexer.proofs.Whole as wholes
 use Rattle.rust_cursor.proofs.Turns.{turns_stop}
@@ -91,23 +90,12 @@ no_attributes : (ts : Tokens) → is_behind Inner ts ≡ true → (inner_attribu
 unfolding inner_attributes attributes turns
 no_attributes ts e = ap (λ r. r.0) (turns_stop (is_behind Inner) _ _ [] ts e)
 
-plain_symbol : (k : TokenKind) (b : ℕ) → symbol_from k b ≡ 125 → is_style Inner (style_by (Some k)) ≡ false
-plain_symbol (kinds.LineComment style) b e = absurd cc
-plain_symbol (kinds.BlockComment style) b e = absurd cc
-plain_symbol _ b e = refl
-
 -- a `}` behind them makes no attribute of these, nor does it matter where they stand
 closed_plain : (l : List Piece) (c : Piece) (r : List Piece) → symbol_of c ≡ 125 → first_plain (l ++ c ∷ r) ≡ first_plain l
-closed_plain [] c r e = let style = plain_symbol c.kind _ e in rw (style, e) refl
-closed_plain (t ∷ []) c r e = rw e refl
-closed_plain (t ∷ u ∷ []) c r e = rw e refl
-closed_plain (t ∷ u ∷ v ∷ l) c r e = refl
+closed_plain l c r e = grind (arith, common_steps)
 
 moved_plain : (d : ℕ) (l : List Piece) → first_plain (map (moved d) l) ≡ first_plain l
-moved_plain d [] = refl
-moved_plain d (t ∷ []) = refl
-moved_plain d (t ∷ u ∷ []) = refl
-moved_plain d (t ∷ u ∷ v ∷ l) = refl
+moved_plain d l = grind (arith, common_steps)
 
 pub body_plain : (at : ℕ) (m : List ℕ) (c : Piece) (r : List Piece) → symbol_of c ≡ 125 → first_plain (body at m ++ c ∷ r) ≡ first_plain (filter is_significant (tokens_in_front 0 0 m (125 ∷ [])))
 unfolding body inside_of
