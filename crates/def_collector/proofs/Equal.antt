@@ -1,6 +1,5 @@
 -- `==` at listed imports decides whether they are one.
-use Rattle.std.proofs.Common.{rules, refl, ap}
-use Rattle.std.proofs.lemmas.Bool.Decides.{Decides-and, Decides-eqb, Decides-like}
+use Rattle.std.proofs.{Common.rules, Common.refl, Common.ap, lemmas.Bool.Decides.Decides-and, lemmas.Bool.Decides.Decides-eqb, lemmas.Bool.Decides.Decides-like}
 use Rattle.hir_input.specs.Equality.{DecidesEq}
 use Rattle.hir_input.proofs.PathEq.{path_decides}
 use Rattle.item_tree.specs.contracts.use_tree.ImportKindPartialEq.TheImpl as kinds

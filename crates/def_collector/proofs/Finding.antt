@@ -1,17 +1,12 @@
 -- The first declaration of a path of names, by the ids that a walk meets.
 use Rattle.std.proofs.Common.{◌≡◌, ◌≢◌, ℕ, ◌+◌, ◌<◌, true, false, List, [], ◌∷◌, ◌++◌, map, length, get_or, drop, Option, Some, None, refl, ap, sym, ◌∙◌, subst, inl, inr}
 use Rattle.std.specs.Prelude.{IfSome, option_map, if◌then◌else◌}
-use Rattle.std.specs.Option.{option_map_or, option_or}
-use Rattle.std.specs.List.{flat_map, AllByRecursion}
+use Rattle.std.specs.{Option.option_map_or, Option.option_or, List.flat_map, List.AllByRecursion}
 use Rattle.std.specs.Str.{bytes_eq}
-use Rattle.std.proofs.lemmas.Bool.{cases_Bool}
-use Rattle.std.proofs.lemmas.List.{map-append, at_drop_more}
-use Rattle.std.proofs.lemmas.List.Elements.{recursion_from_All}
-use Rattle.std.proofs.lemmas.Slice.Eq.{bytes_eq-Decides}
+use Rattle.std.proofs.lemmas.{Bool.cases_Bool, List.map-append, List.at_drop_more, List.Elements.recursion_from_All, Slice.Eq.bytes_eq-Decides}
 use Rattle.hir_input.specs.declared.ids.FileAstId.{FileAstId}
-use Rattle.item_tree.specs.Layout.{node_at}
-use Rattle.item_tree.specs.Node.{Leaf, plain, constant, struct_item, outline, use_item, extern_crate, impl_item, macro_call, macro_rules, Trunk, inline, extern_block, Node, leaf, parent, Forest, empty, more, Unfolding}
-use Rattle.item_tree.specs.Reach.{top_ids, child_ids}
+use Rattle.item_tree.specs.{Layout.node_at, Reach.top_ids, Reach.child_ids}
+use Rattle.item_tree.specs.Node.{Leaf, constant, extern_crate, Trunk, inline, extern_block, Node, leaf, parent, Forest, more, Unfolding}
 use Rattle.item_tree.specs.Shown.{Lent, lent_leaf, lent_parent, IsLent, IsLeaf, IsParent, IsContained, StandFor}
 use Rattle.item_tree.proofs.Walking.{of_id_is}
 use Rattle.def_collector.specs.Declarations.{Declared, declared_name, declared_imports, leaf_name, trunk_name, node_name, leaf_declares, node_declares, Declaration, declaration_of, path_below, with_id, node_declared, declared_in, declared_at}
@@ -63,11 +58,9 @@ module _ (u : Unfolding) (n : List ℕ) where
         ∙ sym (map-append (in_module n) (with_id i (declaration_of path m (node_declares m))) (declared_in u (path_below path t) (child_ids u i) f))
 
     all_in_module : (path : List (List ℕ)) (is : List ℕ) (f : Forest) → declared_in u (n ∷ path) is f ≡ map (in_module n) (declared_in u path is f)
-    all_in_module path [] empty = refl
-    all_in_module path (i ∷ is) empty = refl
-    all_in_module path [] (more m f) = refl
     all_in_module path (i ∷ is) (more m f) =
         (λ j. node_in_module path i m j ++ all_in_module path is f j) ∙ sym (map-append (in_module n) (node_declared u path i m) (declared_in u path is f))
+    all_in_module path _ _ = refl
 
 -- the names that follow the module's are those of the declarations in it
 is_below : (n : List ℕ) (rest path : List (List ℕ)) (d : Declared) → is_path_of (n ∷ rest) (n ∷ path) d ≡ is_path_of rest path d
@@ -103,15 +96,9 @@ by_name names None = refl
 by_name names (Some n) = refl
 
 named_leaf : {V : Type 0} (names : List (List ℕ)) (l : Leaf V) → option_map_or (is_path_of names []) (leaf_declares l) false ≡ is_named names (leaf_name l)
-named_leaf names (plain k n v) = refl
 named_leaf names (constant n v) = by_name names n
-named_leaf names (struct_item n v s c) = refl
-named_leaf names (outline n v) = refl
-named_leaf names (use_item v t) = refl
 named_leaf names (extern_crate n v a) = by_name names (leaf_name (extern_crate n v a))
-named_leaf names (impl_item of_trait) = refl
-named_leaf names (macro_call p e x) = refl
-named_leaf names (macro_rules n) = refl
+named_leaf names _ = refl
 
 named_node : (names : List (List ℕ)) (n : Node) → option_map_or (is_path_of names []) (node_declares n) false ≡ is_named names (node_name n)
 named_node names (leaf h l) = named_leaf names l

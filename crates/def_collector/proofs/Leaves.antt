@@ -1,25 +1,15 @@
 -- The nodes that imports are written as.
-use Rattle.std.proofs.Common.{◌≡◌, ℕ, Bool, true, false, List, [], ◌∷◌, ◌++◌, map, Option, Some, None, refl, ap, sym, ◌∙◌, subst, inl, inr, append_assoc}
+use Rattle.std.proofs.Common.{◌≡◌, ℕ, Bool, true, List, [], ◌∷◌, ◌++◌, map, Option, Some, None, refl, ap, sym, ◌∙◌, subst, inl, inr, append_assoc}
 use Rattle.std.specs.Prelude.{◌⊎◌, ◌<◌, IsSome, is_some, length, get_or, slice_get, All}
-use Rattle.std.specs.List.{flat_map, AllByRecursion}
-use Rattle.std.specs.Option.{option_and_then}
-use Rattle.std.proofs.lemmas.List.{map-append}
-use Rattle.std.proofs.lemmas.Option.{same_Some, slice_get_within, slice_get-get_or}
+use Rattle.std.specs.{List.flat_map, List.AllByRecursion, Option.option_and_then}
+use Rattle.std.proofs.lemmas.{List.map-append, Option.same_Some, Option.slice_get_within, Option.slice_get-get_or}
 use Rattle.std.proofs.lemmas.List.Elements.{All-cons, All-nil, All-append, recursion_from_All}
-use Rattle.hir_input.specs.Path.{Path}
-use Rattle.hir_input.specs.declared.ast.PathNode.{PathNode}
-use Rattle.hir_input.specs.declared.ast.PathNode.TheVariants.{Readable, Unreadable}
-use Rattle.hir_input.specs.declared.ast.Rename.{Rename}
-use Rattle.hir_input.specs.UseTreeView.{UseTreeView, bare_tree, use_tree_view, written_nodes}
-use Rattle.item_tree.specs.declared.use_tree.ImportAlias.{ImportAlias}
-use Rattle.item_tree.specs.declared.use_tree.ImportKind.{ImportKind}
+use Rattle.hir_input.specs.{Path.Path, declared.ast.PathNode.PathNode, declared.ast.PathNode.TheVariants.Readable}
+use Rattle.hir_input.specs.{declared.ast.Rename.Rename, UseTreeView.UseTreeView, UseTreeView.bare_tree, UseTreeView.use_tree_view, UseTreeView.written_nodes}
+use Rattle.item_tree.specs.{declared.use_tree.ImportAlias.ImportAlias, declared.use_tree.ImportKind.ImportKind, KeptUse.kept_bare, Tree.Tree}
 use Rattle.item_tree.specs.Imports.{Import, imports, import_of as imports_by}
-use Rattle.item_tree.specs.KeptUse.{kept_bare}
-use Rattle.item_tree.specs.Tree.{Tree}
 use Rattle.item_tree.specs.Leaves.{WrittenLeaf, leaf_imports, imports_of, AreWritten, leaves}
-use Rattle.def_collector.specs.declared.imports.Listed.{Listed}
-use Rattle.def_collector.specs.declared.written.WrittenImport.{WrittenImport}
-use Rattle.def_collector.specs.Listed.{listed_import}
+use Rattle.def_collector.specs.{declared.imports.Listed.Listed, declared.written.WrittenImport.WrittenImport, Listed.listed_import}
 use Rattle.def_collector.specs.Written.{leaf_written, written_imports, written_by}
 use Rattle.def_collector.specs.Inner.Imports.{import_node, IsAtLeaf, at_leaf, seen}
 
@@ -38,13 +28,10 @@ of_meaning i k a (Some p) = inr (record { index = i; path = p; kind = k; alias =
 
 of_node : (ps : List Path) (i : ℕ) (p : Option PathNode) (star : Bool) (r : Option Rename) → IsOne i (imports_of ps i (kept_bare p star r))
 unfolding IsOne
-of_node ps i (Some Unreadable) star r = inl refl
-of_node ps i None true (Some r) = inl refl
-of_node ps i None true None = of_meaning i _ _ _
-of_node ps i None false r = inl refl
 of_node ps i (Some (Readable p)) true (Some r) = inl refl
-of_node ps i (Some (Readable p)) true None = of_meaning i _ _ _
-of_node ps i (Some (Readable p)) false r = of_meaning i _ _ _
+of_node ps i (Some (Readable p)) _ _ = of_meaning i _ _ _
+of_node ps i None true None = of_meaning i _ _ _
+of_node ps i _ _ _ = inl refl
 
 -- ---- and its node is found by the index
 

@@ -1,14 +1,11 @@
 -- What a lent item declares is what its node declares.
 use Rattle.std.proofs.Common.{◌≡◌, ℕ, true, List, [], ◌∷◌, map, Option, Some, None, refl, ap, sym, ◌∙◌}
-use Rattle.std.specs.Prelude.{option_map, slice_get, is_some}
-use Rattle.std.specs.Option.{option_map_or}
+use Rattle.std.specs.{Prelude.option_map, Prelude.slice_get, Prelude.is_some, Option.option_map_or}
 use Rattle.hir_input.specs.declared.ids.FileAstId.{FileAstId}
-use Rattle.item_tree.specs.declared.items.ModKind.{ModKind}
-use Rattle.item_tree.specs.declared.items.ModKind.TheVariants.{Inline, Outline}
+use Rattle.item_tree.specs.{declared.items.ModKind.ModKind, declared.items.ModKind.TheVariants.Inline, declared.items.ModKind.TheVariants.Outline, Walk.of_id}
 use Rattle.item_tree.specs.Layout.{leaf_map, trunk_map, leaf_vis, trunk_vis, node_at, vis_at}
-use Rattle.item_tree.specs.Node.{Leaf, plain, constant, struct_item, outline, use_item, extern_crate, impl_item, macro_call, macro_rules, Trunk, inline, extern_block, Node, node_ast, Unfolding}
+use Rattle.item_tree.specs.Node.{Leaf, plain, Trunk, inline, extern_block, Node, node_ast, Unfolding}
 use Rattle.item_tree.specs.Shown.{Lent, lent_leaf, lent_parent, IsLent, lent_module, HasVisibility}
-use Rattle.item_tree.specs.Walk.{of_id}
 use Rattle.item_tree.proofs.Walking.{leaf_of_id, parent_of_id}
 use Rattle.def_collector.specs.Declarations.{Declared, declared_name, leaf_name, trunk_name, node_name, leaf_declares, node_declares, node_visibility, declaration_of, with_id}
 use Rattle.def_collector.specs.DeclarationView.{defined}
@@ -32,14 +29,7 @@ module_visibility a n v Outline = refl
 
 declares-leaf : {V W : Type 0} (f : V → W) (l : Leaf V) → leaf_declares (leaf_map f l) ≡ leaf_declares l
 declares-leaf f (plain k n v) = refl
-declares-leaf f (constant n v) = refl
-declares-leaf f (struct_item n v s c) = refl
-declares-leaf f (outline n v) = refl
-declares-leaf f (use_item v t) = refl
-declares-leaf f (extern_crate n v a) = refl
-declares-leaf f (impl_item of_trait) = refl
-declares-leaf f (macro_call p e x) = refl
-declares-leaf f (macro_rules n) = refl
+declares-leaf f _ = refl
 
 name-trunk : {V W : Type 0} (f : V → W) (t : Trunk V) → trunk_name (trunk_map f t) ≡ trunk_name t
 name-trunk f (inline n v) = refl
@@ -47,27 +37,13 @@ name-trunk f extern_block = refl
 
 name-leaf : {V W : Type 0} (f : V → W) (l : Leaf V) → leaf_name (leaf_map f l) ≡ leaf_name l
 name-leaf f (plain k n v) = refl
-name-leaf f (constant n v) = refl
-name-leaf f (struct_item n v s c) = refl
-name-leaf f (outline n v) = refl
-name-leaf f (use_item v t) = refl
-name-leaf f (extern_crate n v a) = refl
-name-leaf f (impl_item of_trait) = refl
-name-leaf f (macro_call p e x) = refl
-name-leaf f (macro_rules n) = refl
+name-leaf f _ = refl
 
 -- ---- its own visibility is the first of an item
 
 vis-leaf : {V W : Type 0} (f : V → W) (l : Leaf V) → slice_get (leaf_vis (leaf_map f l)) 0 ≡ option_map f (slice_get (leaf_vis l) 0)
 vis-leaf f (plain k n v) = refl
-vis-leaf f (constant n v) = refl
-vis-leaf f (struct_item n v s c) = refl
-vis-leaf f (outline n v) = refl
-vis-leaf f (use_item v t) = refl
-vis-leaf f (extern_crate n v a) = refl
-vis-leaf f (impl_item of_trait) = refl
-vis-leaf f (macro_call p e x) = refl
-vis-leaf f (macro_rules n) = refl
+vis-leaf f _ = refl
 
 vis-trunk : {V W : Type 0} (f : V → W) (t : Trunk V) → slice_get (trunk_vis (trunk_map f t)) 0 ≡ option_map f (slice_get (trunk_vis t) 0)
 vis-trunk f (inline n v) = refl

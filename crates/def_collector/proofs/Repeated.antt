@@ -1,17 +1,12 @@
 -- Which imports repeat an earlier one.
 use Rattle.std.proofs.Common.{◌≡◌, ℕ, ◌<◌, ◌+◌, List, [], ◌∷◌, ◌++◌, map, length, take, get_or, Option, Some, None, refl, sym, ap, ◌∙◌, below_more, arith}
-use Rattle.std.specs.Prelude.{slice_get, Contains, HoldsAt, IsSomeAnd, MatchOption}
-use Rattle.std.specs.List.{AllWithin}
-use Rattle.std.proofs.lemmas.List.{map-append, get_or-take, length-map, length-take-le}
+use Rattle.std.specs.{Prelude.slice_get, Prelude.Contains, Prelude.HoldsAt, Prelude.IsSomeAnd, Prelude.MatchOption, List.AllWithin}
+use Rattle.std.proofs.lemmas.List.{map-append, get_or-take, length-map, length-take-le, Quantifiers.all_pairs_push}
 use Rattle.std.proofs.lemmas.List.Elements.{All-push, All-weaker, Contains-append_left, Contains-push}
-use Rattle.std.proofs.lemmas.List.Quantifiers.{all_pairs_push}
 use Rattle.std.proofs.lemmas.Option.{slice_get-map, slice_get_within, slice_get-get_or}
 use Rattle.item_tree.specs.Imports.{Import}
-use Rattle.def_collector.specs.declared.imports.Listed.{Listed}
-use Rattle.def_collector.specs.declared.duplicate.Duplicate.{Duplicate}
-use Rattle.def_collector.specs.Duplicates.{Alike, AreAlikeAt, Repeats, AreDuplicates}
-use Rattle.def_collector.specs.Inner.Imports.{IsNew, AreFirst}
-use Rattle.def_collector.specs.Listed.{listed_import}
+use Rattle.def_collector.specs.{declared.imports.Listed.Listed, declared.duplicate.Duplicate.Duplicate, Inner.Imports.IsNew, Inner.Imports.AreFirst}
+use Rattle.def_collector.specs.{Duplicates.Alike, Duplicates.AreAlikeAt, Duplicates.Repeats, Duplicates.AreDuplicates, Listed.listed_import}
 
 -- ---- imports that are alike
 
@@ -31,10 +26,6 @@ module _ (ls : List Listed) (i j : ℕ) (x y : Listed) where
 
   alike_there : slice_get ls i ≡ Some x → slice_get ls j ≡ Some y → AreAlikeAt (map listed_import ls) i j → Alike (listed_import x) (listed_import y)
   alike_there e f h = rw (slice_get-map listed_import ls i, slice_get-map listed_import ls j, e, f) at h
-
--- both places of a duplicate are in the list
-pub repeats_within : (ls : List Listed) (i j : ℕ) → Repeats (map listed_import ls) i j → j < length ls
-repeats_within ls i j r = omega (arith, within (map listed_import ls) i j r.alike, length-map ls listed_import)
 
 -- ---- the first of them before a place
 

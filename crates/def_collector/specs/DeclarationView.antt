@@ -1,12 +1,8 @@
 -- What is collected, as plain data.
 use Rattle.std.specs.Prelude.{ℕ, Bool, false, List, map, Option, Some, is_some, option_copied}
 use Rattle.hir_input.specs.declared.ids.AstIdKind.{AstIdKind}
-use Rattle.def_collector.specs.Listed.{listed_import}
-use Rattle.item_tree.specs.declared.visibility.RawVisibility.{RawVisibility}
-use Rattle.item_tree.specs.Layout.{node_at}
-use Rattle.item_tree.specs.Node.{Node, node_kind, Unfolding}
-use Rattle.item_tree.specs.Walk.{of_id}
-use Rattle.def_collector.specs.declared.names.Declares.{Declares}
+use Rattle.def_collector.specs.{Listed.listed_import, declared.names.Declares.Declares}
+use Rattle.item_tree.specs.{declared.visibility.RawVisibility.RawVisibility, Layout.node_at, Node.Node, Node.node_kind, Node.Unfolding, Walk.of_id}
 use Rattle.def_collector.specs.declared.names.Declares.TheVariants.{Name, Imports}
 use Rattle.def_collector.specs.declared.collector.Declaration as code
 use Rattle.def_collector.specs.Declarations.{Declared, declared_name, declared_imports, node_declares, node_visibility, Declaration}

@@ -1,10 +1,7 @@
 -- What the items of a forest declare, and in which module.
 use Rattle.std.specs.Prelude.{ℕ, List, [], ◌∷◌, ◌++◌, map, Option, Some, None, option_map, slice_get}
-use Rattle.item_tree.specs.declared.use_tree.ImportAlias.{ImportAlias}
-use Rattle.item_tree.specs.declared.use_tree.ImportAlias.TheVariants.{Underscore, Alias}
-use Rattle.item_tree.specs.declared.visibility.RawVisibility.{RawVisibility}
-use Rattle.item_tree.specs.Imports.{Import, imports}
-use Rattle.item_tree.specs.Layout.{leaf_vis, trunk_vis}
+use Rattle.item_tree.specs.declared.use_tree.ImportAlias.{ImportAlias, TheVariants.Underscore, TheVariants.Alias}
+use Rattle.item_tree.specs.{declared.visibility.RawVisibility.RawVisibility, Imports.Import, Imports.imports, Layout.leaf_vis, Layout.trunk_vis}
 use Rattle.item_tree.specs.Node.{Leaf, plain, constant, struct_item, outline, use_item, extern_crate, macro_rules, Trunk, inline, extern_block, Node, leaf, parent, Forest, empty, more, Unfolding}
 use Rattle.item_tree.specs.Reach.{top_ids, child_ids}
 

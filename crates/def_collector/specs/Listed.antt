@@ -1,6 +1,5 @@
 -- A listed import as plain data.
-use Rattle.item_tree.specs.Calls.{import}
-use Rattle.item_tree.specs.Imports.{Import}
+use Rattle.item_tree.specs.{Calls.import, Imports.Import}
 use Rattle.def_collector.specs.declared.imports.Listed.{Listed}
 
 -- the import that is listed

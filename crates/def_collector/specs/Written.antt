@@ -1,11 +1,8 @@
 -- Imports with the use trees that they are written as.
-use Rattle.std.specs.Prelude.{List, map}
-use Rattle.std.specs.List.{flat_map}
+use Rattle.std.specs.{Prelude.List, Prelude.map, List.flat_map}
 use Rattle.hir_input.specs.UseTreeView.{UseTreeView, bare_tree, use_tree_view}
-use Rattle.item_tree.specs.Imports.{Import}
-use Rattle.item_tree.specs.Leaves.{WrittenLeaf, leaves, leaf_imports}
-use Rattle.def_collector.specs.declared.written.WrittenImport.{WrittenImport}
-use Rattle.def_collector.specs.Listed.{listed_import}
+use Rattle.item_tree.specs.{Imports.Import, Leaves.WrittenLeaf, Leaves.leaves, Leaves.leaf_imports}
+use Rattle.def_collector.specs.{declared.written.WrittenImport.WrittenImport, Listed.listed_import}
 
 -- what a written leaf imports, with the leaf
 abbrev pub leaf_written : WrittenLeaf → List (Import × UseTreeView)

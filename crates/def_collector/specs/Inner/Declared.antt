@@ -1,14 +1,9 @@
 -- For the crate's own functions: what is declared by the ids of items, and by items that are lent.
 use Rattle.std.specs.Prelude.{ℕ, Bool, false, List, [], ◌∷◌, map, Option, option_map, slice_get}
-use Rattle.std.specs.List.{flat_map}
-use Rattle.std.specs.Option.{option_map_or}
-use Rattle.item_tree.specs.Layout.{leaf_vis, trunk_vis}
-use Rattle.item_tree.specs.Node.{Unfolding}
-use Rattle.item_tree.specs.Shown.{Lent, lent_leaf, lent_parent}
-use Rattle.item_tree.specs.Walk.{of_id}
+use Rattle.std.specs.{List.flat_map, Option.option_map_or}
+use Rattle.item_tree.specs.{Layout.leaf_vis, Layout.trunk_vis, Node.Unfolding, Shown.Lent, Shown.lent_leaf, Shown.lent_parent, Walk.of_id}
 use Rattle.def_collector.specs.Declarations.{Declared, declared_name, leaf_name, trunk_name, leaf_declares, node_declares, Declaration, declaration_of, with_id, node_declared}
-use Rattle.def_collector.specs.DeclarationView.{DeclarationView, defined}
-use Rattle.def_collector.specs.Found.{same_names, first_named}
+use Rattle.def_collector.specs.{DeclarationView.DeclarationView, DeclarationView.defined, Found.same_names, Found.first_named}
 
 -- the declaration of the item of an id alone, and all from it on down
 abbrev pub own_from : Unfolding → List (List ℕ) → ℕ → List (ℕ × Declaration)

@@ -3,9 +3,7 @@ use Rattle.std.specs.Prelude.{ℕ, ◌<◌, List, map, Option, Some, slice_get, 
 use Rattle.std.specs.Option.{option_and_then}
 use Rattle.hir_input.specs.UseTreeView.{UseTreeView, use_tree_view, written_nodes}
 use Rattle.item_tree.specs.Imports.{Import}
-use Rattle.def_collector.specs.declared.duplicate.Duplicate.{Duplicate}
-use Rattle.def_collector.specs.declared.written.WrittenImport.{WrittenImport}
-use Rattle.def_collector.specs.Duplicates.{AreAlikeAt, Repeats}
+use Rattle.def_collector.specs.{declared.duplicate.Duplicate.Duplicate, declared.written.WrittenImport.WrittenImport, Duplicates.AreAlikeAt, Duplicates.Repeats}
 use Rattle.def_collector.specs.Listed.{listed_import}
 
 -- ---- imports with the nodes at their places

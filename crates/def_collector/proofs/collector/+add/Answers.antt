@@ -1,7 +1,5 @@
-use Rattle.std.proofs.Common.{map, sym, subst}
-use Rattle.std.proofs.lemmas.Result.{on_ok_weaker}
-use Rattle.item_tree.specs.Node.{inline, extern_block}
-use Rattle.item_tree.specs.Shown.{IsModule, IsParent}
+use Rattle.std.proofs.{Common.map, Common.sym, Common.subst, lemmas.Result.on_ok_weaker}
+use Rattle.item_tree.specs.{Node.inline, Node.extern_block, Shown.IsModule, Shown.IsParent}
 use Rattle.def_collector.specs.DeclarationView.{collected_declaration}
 use Rattle.def_collector.proofs.Below.{inline_adds, block_adds}
 use Rattle.def_collector.proofs.collector.+add.Goals as goal

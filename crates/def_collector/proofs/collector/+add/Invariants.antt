@@ -1,8 +1,7 @@
 use Rattle.std.proofs.Common.{◌≡◌, ◌+◌, ◌*◌, ◌++◌, map, take}
 use Rattle.std.specs.List.{sum_by, flat_map}
 use Rattle.item_tree.specs.Walk.{count_at}
-use Rattle.def_collector.specs.DeclarationView.{collected_declaration}
-use Rattle.def_collector.specs.Inner.Declared.{defined_from}
+use Rattle.def_collector.specs.{DeclarationView.collected_declaration, Inner.Declared.defined_from}
 use Rattle.def_collector.proofs.collector.+add.Given as goal
 
 abbrev pub decreases-add_all : goal.decreases-add_all

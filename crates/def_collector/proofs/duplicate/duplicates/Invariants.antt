@@ -1,6 +1,5 @@
 use Rattle.std.proofs.Common.{map}
-use Rattle.def_collector.specs.Inner.Imports.{AreFirst}
-use Rattle.def_collector.specs.Listed.{listed_import}
+use Rattle.def_collector.specs.{Inner.Imports.AreFirst, Listed.listed_import}
 use Rattle.def_collector.proofs.duplicate.duplicates.Given as goal
 
 abbrev pub invariant-loop-again : goal.invariant-loop-again

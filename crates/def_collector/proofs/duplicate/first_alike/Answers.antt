@@ -1,5 +1,4 @@
-use Rattle.std.proofs.Common.{rules, tests}
-use Rattle.std.proofs.lemmas.Iterator.{IsFirst-from_position, YieldsList-from_slice}
+use Rattle.std.proofs.{Common.rules, Common.tests, lemmas.Iterator.IsFirst-from_position, lemmas.Iterator.YieldsList-from_slice}
 use Rattle.def_collector.proofs.Repeated.{IsLike, IsOther, first_before}
 use Rattle.def_collector.proofs.duplicate.first_alike.Goals as goal
 

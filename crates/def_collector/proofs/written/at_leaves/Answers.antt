@@ -1,7 +1,6 @@
 use Rattle.std.proofs.Common.{◌≡◌, Some, sym, ◌∙◌}
 use Rattle.hir_input.specs.UseTreeView.{use_tree_view}
-use Rattle.def_collector.specs.Inner.Imports.{at_leaf, import_node}
-use Rattle.def_collector.specs.Listed.{listed_import}
+use Rattle.def_collector.specs.{Inner.Imports.at_leaf, Inner.Imports.import_node, Listed.listed_import}
 use Rattle.def_collector.proofs.Leaves.{node_there, one_found}
 use Rattle.def_collector.proofs.written.at_leaves.Goals as goal
 

@@ -1,8 +1,7 @@
 use Rattle.std.proofs.Common.{◌≡◌, ◌++◌, map}
 use Rattle.std.specs.List.{AllByRecursion}
 use Rattle.hir_input.specs.UseTreeView.{use_tree_view}
-use Rattle.def_collector.specs.Listed.{listed_import}
-use Rattle.def_collector.specs.Inner.Imports.{IsAtLeaf, at_leaf, seen}
+use Rattle.def_collector.specs.{Listed.listed_import, Inner.Imports.IsAtLeaf, Inner.Imports.at_leaf, Inner.Imports.seen}
 use Rattle.def_collector.proofs.written.at_leaves.Given as goal
 
 abbrev pub invariant-loop-import : goal.invariant-loop-import

@@ -1,7 +1,6 @@
 use Rattle.std.proofs.Common.{◌∙◌}
 use Rattle.hir_input.specs.UseTreeView.{use_tree_view}
-use Rattle.def_collector.specs.Inner.Imports.{import_node}
-use Rattle.def_collector.specs.Written.{written_imports}
+use Rattle.def_collector.specs.{Inner.Imports.import_node, Written.written_imports}
 use Rattle.def_collector.proofs.Leaves.{are_at, are_written, imported, unpaired, written_at}
 use Rattle.def_collector.proofs.written.written_imports.Goals as goal
 
