@@ -1,22 +1,15 @@
 -- A tree has no changes to one of the same items.
 use Rattle.std.proofs.Common.{◌≡◌, ℕ, ◌+◌, Bool, true, List, [], ◌∷◌, ◌++◌, map, Option, Some, None, refl, ap, sym, ◌∙◌}
 use Rattle.std.specs.Prelude.{nat_eq, ◌&&◌}
-use Rattle.std.specs.Cmp.Lexicographic.{pointwise}
-use Rattle.std.specs.List.{flat_map, zip}
-use Rattle.std.specs.Option.{option_eq}
-use Rattle.std.proofs.lemmas.Bool.Decides.{Decides-eqb}
-use Rattle.std.proofs.lemmas.List.{map-append}
-use Rattle.item_tree.specs.Node.{Node, leaf, parent, Forest, empty, more, Unfolding}
-use Rattle.item_tree.specs.Same.{same_itself}
+use Rattle.std.specs.{Cmp.Lexicographic.pointwise, List.flat_map, List.zip, Option.option_eq}
+use Rattle.std.proofs.lemmas.{Bool.Decides.Decides-eqb, List.map-append}
+use Rattle.item_tree.specs.{Node.Node, Node.leaf, Node.parent, Node.Forest, Node.empty, Node.more, Node.Unfolding, Same.same_itself}
 use Rattle.tree_walk.specs.Preorder.{preorder}
 use Rattle.tree_walk.specs.Rows.{Around, RowView, scope_below, is_enabled, is_file_enabled, row, node_rows, forest_rows}
-use Rattle.item_changes.specs.declared.matching.Match.{Match}
-use Rattle.item_changes.specs.declared.matching.Match.TheVariants.{Gone, Came, Stays}
+use Rattle.item_changes.specs.declared.matching.Match.{Match, TheVariants.Gone, TheVariants.Came, TheVariants.Stays}
 use Rattle.item_changes.specs.Changes.{Item, ItemKey, is_like, same_item_key, item_key, ChangeView, change_of, tree_items, changes}
-use Rattle.item_changes.specs.Matches.{match_map, matched}
-use Rattle.item_changes.specs.Own.{own, node_code}
-use Rattle.item_changes.proofs.Seen.{matched_itself, matched_seen}
-use Rattle.item_changes.proofs.Rests.{name_decides}
+use Rattle.item_changes.specs.{Matches.match_map, Matches.matched, Own.own, Own.node_code}
+use Rattle.item_changes.proofs.{Seen.matched_itself, Seen.matched_seen, Rests.name_decides}
 
 -- ---- an item is like itself
 

@@ -1,20 +1,12 @@
 -- What a tree keeps of an item by itself is its attributes, its visibility, its constructor and the rest.
 use Rattle.std.proofs.Common.{◌≡◌, ℕ, Bool, true, false, List, [], ◌∷◌, Option, Some, None, Bor, refl, ap, sym, ◌∙◌}
-use Rattle.std.specs.Prelude.{IsSome, option_copied, option_map}
-use Rattle.std.specs.Bool.{Decides}
-use Rattle.std.proofs.lemmas.Bool.{false≢true}
-use Rattle.std.proofs.lemmas.Bool.Decides.{Decides-like}
-use Rattle.std.specs.Option.{option_map_or}
-use Rattle.hir_input.specs.declared.attr.Attr.{Attr}
-use Rattle.hir_input.specs.declared.ids.AstIdKind.{AstIdKind}
+use Rattle.std.specs.{Prelude.IsSome, Prelude.option_copied, Prelude.option_map, Bool.Decides, Option.option_map_or}
+use Rattle.std.proofs.lemmas.Bool.{false≢true, Decides.Decides-like}
+use Rattle.hir_input.specs.{declared.attr.Attr.Attr, declared.ids.AstIdKind.AstIdKind, Cfg.CfgView, Syntax.PlainKind}
 use Rattle.hir_input.specs.declared.ids.AstIdKind.TheVariants as kind
-use Rattle.hir_input.specs.Cfg.{CfgView}
 use Rattle.hir_input.specs.Syntax as syntax
-use Rattle.hir_input.specs.Syntax.{PlainKind}
 use Rattle.item_tree_attrs.specs.Collected.{Collected}
-use Rattle.item_tree.specs.declared.visibility.RawVisibility.{RawVisibility}
-use Rattle.item_tree.specs.Column.{is_empty_of, some_unless, or_no_attrs}
-use Rattle.item_tree.specs.Layout.{or_public}
+use Rattle.item_tree.specs.{declared.visibility.RawVisibility.RawVisibility, Column.is_empty_of, Column.some_unless, Column.or_no_attrs, Layout.or_public}
 use Rattle.item_tree.specs.Node.{Ctor, no_ctor, Leaf, plain, constant, struct_item, outline, use_item, extern_crate, impl_item, macro_call, macro_rules, inline, extern_block, Head, Node, leaf, parent, empty, node_head}
 use Rattle.item_tree.specs.Shown.{lent_attrs}
 use Rattle.def_collector.specs.Declarations.{node_visibility}
@@ -65,45 +57,18 @@ attrs_of n = (node_head n).attrs
 
 back-own : (n : Node) → back (attrs_of n) (node_visibility n) (node_ctor n) (node_rest n) ≡ own n
 back-own (leaf h (plain syntax.fn_kind n v)) = refl
-back-own (leaf h (plain syntax.union_kind n v)) = refl
-back-own (leaf h (plain syntax.enum_kind n v)) = refl
-back-own (leaf h (plain syntax.static_kind n v)) = refl
-back-own (leaf h (plain syntax.trait_kind n v)) = refl
-back-own (leaf h (plain syntax.type_alias_kind n v)) = refl
-back-own (leaf h (plain syntax.macro_def_kind n v)) = refl
-back-own (leaf h (constant n v)) = refl
-back-own (leaf h (struct_item n v s c)) = refl
-back-own (leaf h (outline n v)) = refl
-back-own (leaf h (use_item v t)) = refl
-back-own (leaf h (extern_crate n v a)) = refl
-back-own (leaf h (impl_item b)) = refl
-back-own (leaf h (macro_call p e x)) = refl
-back-own (leaf h (macro_rules n)) = refl
 back-own (parent h (inline n v) f) = refl
-back-own (parent h extern_block f) = refl
+back-own _ = refl
 
 -- ---- the parts are those of what is kept by itself
 
-attrs-own : (n : Node) → attrs_of (own n) ≡ attrs_of n
-attrs-own (leaf h l) = refl
-attrs-own (parent h t f) = refl
-
-visibility-own : (n : Node) → node_visibility (own n) ≡ node_visibility n
-visibility-own (leaf h l) = refl
-visibility-own (parent h t f) = refl
-
-ctor-own : (n : Node) → node_ctor (own n) ≡ node_ctor n
-ctor-own (leaf h l) = refl
-ctor-own (parent h t f) = refl
-
-rest-own : (n : Node) → node_rest (own n) ≡ node_rest n
-rest-own (leaf h l) = refl
-rest-own (parent h t f) = refl
+parts-own : (n : Node) → (attrs_of (own n) ≡ attrs_of n) × (node_visibility (own n) ≡ node_visibility n) × (node_ctor (own n) ≡ node_ctor n) × (node_rest (own n) ≡ node_rest n)
+parts-own (leaf h l) = (refl, refl, refl, refl)
+parts-own (parent h t f) = (refl, refl, refl, refl)
 
 lent-back-of : (xs : List Attr) (cfg : Option CfgView) → or_no_attrs (some_unless (is_empty_of xs cfg) (record { attrs = xs; false_cfg = cfg })) ≡ record { attrs = xs; false_cfg = cfg }
 lent-back-of [] None = refl
-lent-back-of [] (Some cfg) = refl
-lent-back-of (x ∷ xs) cfg = refl
+lent-back-of _ _ = refl
 
 lent-back : (c : Collected) → or_no_attrs (lent_attrs c) ≡ c
 lent-back c = lent-back-of c.attrs c.false_cfg
@@ -138,25 +103,22 @@ module _ (d : Node) where
       let rest : node_rest m ≡ node_rest n = cc in
       sym (back-own m) ∙ (λ i. back (attrs i) (v i) (c i) (rest i)) ∙ back-own n
 
+  own_part : {X : Type 0} (part : Node → X) (none : X) → ((n : Node) → part (own n) ≡ part n) → (o p : Option Node) → IsSome o → IsSome p → own_in d o ≡ own_in d p → option_map_or part o none ≡ option_map_or part p none
+  own_part part none same None p s t e = absurd (cc)
+  own_part part none same (Some m) None s t e = absurd (cc)
+  own_part part none same (Some m) (Some n) s t e = sym (same m) ∙ ap part e ∙ same n
+
   pub own_attrs : (o p : Option Node) → IsSome o → IsSome p → own_in d o ≡ own_in d p → attrs_in o ≡ attrs_in p
-  own_attrs None p s t e = absurd (cc)
-  own_attrs (Some m) None s t e = absurd (cc)
-  own_attrs (Some m) (Some n) s t e = ap lent_attrs (sym (attrs-own m) ∙ ap attrs_of e ∙ attrs-own n)
+  own_attrs = own_part (λ n. lent_attrs (node_head n).attrs) None (λ n. ap lent_attrs (parts-own n).0)
 
   pub own_visibility : (o p : Option Node) → IsSome o → IsSome p → own_in d o ≡ own_in d p → visibility_in o ≡ visibility_in p
-  own_visibility None p s t e = absurd (cc)
-  own_visibility (Some m) None s t e = absurd (cc)
-  own_visibility (Some m) (Some n) s t e = sym (visibility-own m) ∙ ap node_visibility e ∙ visibility-own n
+  own_visibility = own_part node_visibility None (λ n. (parts-own n).1)
 
   pub own_ctor : (o p : Option Node) → IsSome o → IsSome p → own_in d o ≡ own_in d p → ctor_in o ≡ ctor_in p
-  own_ctor None p s t e = absurd (cc)
-  own_ctor (Some m) None s t e = absurd (cc)
-  own_ctor (Some m) (Some n) s t e = sym (ctor-own m) ∙ ap node_ctor e ∙ ctor-own n
+  own_ctor = own_part node_ctor None (λ n. (parts-own n).2)
 
   pub own_rest : (o p : Option Node) → IsSome o → IsSome p → own_in d o ≡ own_in d p → rest_in o ≡ rest_in p
-  own_rest None p s t e = absurd (cc)
-  own_rest (Some m) None s t e = absurd (cc)
-  own_rest (Some m) (Some n) s t e = ap Some (sym (rest-own m) ∙ ap node_rest e ∙ rest-own n)
+  own_rest = own_part (λ n. Some (node_rest n)) None (λ n. ap Some (parts-own n).3)
 
 -- ---- tests of the parts
 
@@ -179,6 +141,3 @@ some_tells f o p a b r e g d = rw (e, g) (Decides-like r (ap Some) (λ e. cc) d)
 
 pub lent_tells : {T : Type 0} (o p : Option (Bor T)) (a b : Bor T) (r : Bool) → o ≡ Some a → p ≡ Some b → Decides r (a.now ≡ b.now) → Decides r (option_copied o ≡ option_copied p)
 lent_tells o p a b r e g d = rw (e, g) (Decides-like r (ap Some) (λ e. cc) d)
-
-pub below_some : {X : Type 0} (x y : X) → Some x ≡ Some y → x ≡ y
-below_some x y e = cc

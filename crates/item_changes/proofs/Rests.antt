@@ -1,28 +1,18 @@
 -- `==` decides whether two items have the same rest.
 use Rattle.std.proofs.Common.{◌≡◌, ℕ, Bool, false, List, Option, Some, None, Bor, refl, ap, rules}
-use Rattle.std.specs.Prelude.{nat_eq, option_copied}
-use Rattle.std.specs.Bool.{Decides}
-use Rattle.std.specs.Cmp.{booleans_Decides}
+use Rattle.std.specs.{Prelude.nat_eq, Prelude.option_copied, Bool.Decides, Cmp.booleans_Decides, Option.option_eq}
 use Rattle.std.specs.Cmp.Lexicographic.{pointwise, pointwise_decides}
-use Rattle.std.specs.Option.{option_eq}
-use Rattle.std.proofs.lemmas.Bool.{false≢true}
-use Rattle.std.proofs.lemmas.Bool.Decides.{Decides-eqb, Decides-and, Decides-like}
-use Rattle.hir_input.specs.contracts.ids.AstIdKindPartialEq.TheImpl as tag_eqs
+use Rattle.std.proofs.lemmas.Bool.{false≢true, Decides.Decides-eqb, Decides.Decides-and, Decides.Decides-like}
 use Rattle.hir_input.specs.Equality.{DecidesEq, DecidesEqOf}
 use Rattle.item_tree.specs.contracts.items.FieldsShapePartialEq.TheImpl as shape_eqs
-use Rattle.item_tree.specs.Code.Tree.{alias_code, tree_code}
-use Rattle.item_tree.specs.Same.{same, same_decides}
-use Rattle.item_tree.specs.Tree.{tree_of}
-use Rattle.item_tree.proofs.Equal.{call_decides}
+use Rattle.item_tree.specs.{Code.Tree.alias_code, Code.Tree.tree_code, Same.same, Same.same_decides, Tree.tree_of}
+use Rattle.item_tree.proofs.Equal.{call_decides, tag_decides}
 use Rattle.item_changes.specs.declared.own.Rest.TheVariants.{Named, Struct, Mod, Use, ExternCrate, ExternBlock, Impl, MacroCall}
 use Rattle.item_changes.specs.contracts.own.RestPartialEq.TheImpl as rest_eqs
 use Rattle.item_changes.specs.Inner.{named, struct_rest, module_rest, use_rest, crate_rest, impl_rest, call_rest, own_rest_view}
 
 never : {P : Type 0} → (P → ⊥) → Decides false P
 never f = (λ h. absurd (false≢true h), λ p. absurd (f p))
-
-tag_decides : DecidesEq tag_eqs.ghosts.eq
-tag_decides x y = search rules
 
 shape_decides : DecidesEq shape_eqs.ghosts.eq
 shape_decides x y = search rules

@@ -1,21 +1,15 @@
 -- What of two lists is the same, where the lists are seen as others, and where they are one.
 use Rattle.std.proofs.Common.{◌≡◌, ℕ, zero, suc, ◌+◌, Bool, true, false, List, [], ◌∷◌, ◌++◌, length, map, Option, Some, None, Bor, cond, refl, ap, sym, ◌∙◌, append_assoc}
-use Rattle.std.specs.Prelude.{option_map, slice_get}
-use Rattle.std.specs.List.{count_by, filter, flat_map}
-use Rattle.std.proofs.lemmas.List.{map-append}
-use Rattle.std.proofs.lemmas.List.Elements.{filter-append}
-use Rattle.std.proofs.lemmas.List.Sums.{length-filter, sum_by-cons}
-use Rattle.item_changes.specs.declared.matching.Keyed.{Keyed}
-use Rattle.item_changes.specs.declared.matching.Match.{Match}
-use Rattle.item_changes.specs.declared.matching.Match.TheVariants.{Gone, Came, Stays}
+use Rattle.std.specs.{Prelude.option_map, Prelude.slice_get, List.count_by, List.filter, List.flat_map}
+use Rattle.std.proofs.lemmas.List.{map-append, Elements.filter-append, Sums.length-filter, Sums.sum_by-cons}
+use Rattle.item_changes.specs.declared.matching.{Keyed.Keyed, Match.Match, Match.TheVariants.Gone, Match.TheVariants.Stays}
 use Rattle.item_changes.specs.Matches.{partner, partners_behind, partners, gone_if, came_if, gone_of, match_of, matched, match_map, match_now, same_keys}
 
 -- ---- matches seen as others
 
 twice_one : {A B C : Type 0} (f : A → B) (g : B → C) (m : Match A) → match_map (λ a. g (f a)) m ≡ match_map g (match_map f m)
 twice_one f g (Gone x) = refl
-twice_one f g (Came x) = refl
-twice_one f g (Stays x y) = refl
+twice_one f g _ = refl
 
 map_twice : {A B C : Type 0} (f : A → B) (g : B → C) (ms : List (Match A)) → map (match_map (λ a. g (f a))) ms ≡ map (match_map g) (map (match_map f) ms)
 map_twice f g [] = refl
@@ -23,8 +17,7 @@ map_twice f g (m ∷ ms) = λ i. twice_one f g m i ∷ map_twice f g ms i
 
 same_one : {A : Type 0} (m : Match A) → match_map (λ a. a) m ≡ m
 same_one (Gone x) = refl
-same_one (Came x) = refl
-same_one (Stays x y) = refl
+same_one _ = refl
 
 map_same : {A : Type 0} (ms : List (Match A)) → map (match_map (λ a. a)) ms ≡ ms
 map_same [] = refl

@@ -1,23 +1,15 @@
 -- What is lent of an item has the rest and the constructor of its node.
 use Rattle.std.proofs.Common.{◌≡◌, ℕ, List, [], ◌∷◌, map, Option, Some, None, refl, ap, sym, ◌∙◌}
 use Rattle.std.specs.Prelude.{option_map}
-use Rattle.item_tree.specs.declared.visibility.RawVisibility.{RawVisibility}
+use Rattle.item_tree.specs.{declared.visibility.RawVisibility.RawVisibility, Shown.Lent, Shown.lent_leaf, Shown.lent_parent, Shown.IsLent}
 use Rattle.item_tree.specs.Layout.{ctor_map, leaf_map, trunk_map, or_public, vis_at}
-use Rattle.item_tree.specs.Node.{Ctor, no_ctor, ctor_with, ctor_with_min, Leaf, plain, constant, struct_item, outline, use_item, extern_crate, impl_item, macro_call, macro_rules, Trunk, inline, extern_block, Unfolding}
-use Rattle.item_tree.specs.Shown.{Lent, lent_leaf, lent_parent, IsLent}
+use Rattle.item_tree.specs.Node.{Ctor, no_ctor, ctor_with, ctor_with_min, Leaf, plain, Trunk, inline, extern_block, Unfolding}
 use Rattle.item_tree.proofs.Walking.{leaf_of_id, parent_of_id}
 use Rattle.item_changes.specs.Inner.{leaf_rest, trunk_rest, node_rest, lent_rest, leaf_ctor, node_ctor, lent_ctor, rest_at, ctor_at}
 
 rest-leaf : {V W : Type 0} (f : V → W) (l : Leaf V) → leaf_rest (leaf_map f l) ≡ leaf_rest l
 rest-leaf f (plain k n v) = refl
-rest-leaf f (constant n v) = refl
-rest-leaf f (struct_item n v s c) = refl
-rest-leaf f (outline n v) = refl
-rest-leaf f (use_item v t) = refl
-rest-leaf f (extern_crate n v a) = refl
-rest-leaf f (impl_item of_trait) = refl
-rest-leaf f (macro_call p e x) = refl
-rest-leaf f (macro_rules n) = refl
+rest-leaf f _ = refl
 
 rest-trunk : {V W : Type 0} (f : V → W) (t : Trunk V) → trunk_rest (trunk_map f t) ≡ trunk_rest t
 rest-trunk f (inline n v) = refl
@@ -25,14 +17,7 @@ rest-trunk f extern_block = refl
 
 ctor-leaf : {V W : Type 0} (f : V → W) (l : Leaf V) → leaf_ctor (leaf_map f l) ≡ option_map (ctor_map f) (leaf_ctor l)
 ctor-leaf f (plain k n v) = refl
-ctor-leaf f (constant n v) = refl
-ctor-leaf f (struct_item n v s c) = refl
-ctor-leaf f (outline n v) = refl
-ctor-leaf f (use_item v t) = refl
-ctor-leaf f (extern_crate n v a) = refl
-ctor-leaf f (impl_item of_trait) = refl
-ctor-leaf f (macro_call p e x) = refl
-ctor-leaf f (macro_rules n) = refl
+ctor-leaf f _ = refl
 
 module _ (u : Unfolding) where
   pub rest_lent : (i : ℕ) (x : Lent) → IsLent u i x → rest_at u i ≡ Some (lent_rest x)

@@ -6,8 +6,7 @@ use Rattle.hir_input.specs.declared.ids.FileAstId.{FileAstId}
 use Rattle.item_tree.specs.Node.{Node, leaf, parent, Forest, empty, more, node_ast, Unfolding}
 use Rattle.tree_walk.specs.Preorder.{node_preorder, preorder}
 use Rattle.tree_walk.specs.Rows.{Around, RowView, row, around_inside, node_rows, forest_rows, rows, top}
-use Rattle.item_changes.specs.Changes.{Item, tree_items}
-use Rattle.item_changes.specs.Own.{own}
+use Rattle.item_changes.specs.{Changes.Item, Changes.tree_items, Own.own}
 
 abbrev id_of : RowView → FileAstId
 id_of r = r.id

@@ -1,13 +1,9 @@
 -- Tables by keys, and what of two lists is the same.
 use Rattle.std.proofs.Common.{◌≡◌, ℕ, zero, suc, ◌+◌, ◌<◌, ◌≤◌, Bool, true, false, List, [], ◌∷◌, ◌++◌, length, take, get_or, map, Option, Some, None, Bor, cond, HashMap, BuildHasherDefault, FoldHasher, refl, ap, sym, ◌∙◌, arith, ⊎_elim, append_assoc, append-nil}
 use Rattle.std.specs.Prelude.{◌==◌, ◌&&◌, option_map, slice_get, unwrap_or}
-use Rattle.std.specs.Cmp.{IsEquivalence}
-use Rattle.std.specs.HashMap.{get, get_by}
+use Rattle.std.specs.{Cmp.IsEquivalence, HashMap.get, HashMap.get_by}
 use Rattle.std.specs.List.{count_by, filter}
-use Rattle.std.proofs.lemmas.Bool.{cases_Bool}
-use Rattle.std.proofs.lemmas.Bool.Decides.{nat_tests}
-use Rattle.std.proofs.lemmas.List.{map-append, take_more}
-use Rattle.std.proofs.lemmas.List.Elements.{filter-append}
+use Rattle.std.proofs.lemmas.{Bool.cases_Bool, Bool.Decides.nat_tests, List.map-append, List.take_more, List.Elements.filter-append}
 use Rattle.std.proofs.lemmas.List.Sums.{count_by-le-length, length-filter, sum_by-append}
 use Rattle.item_changes.specs.declared.matching.Keyed.{Keyed}
 use Rattle.item_changes.specs.Matches.{partner, partners_behind, partners, pair_now, key_count, CountsKey, same_keys, CountsAll, FindsAll}

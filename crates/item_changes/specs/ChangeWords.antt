@@ -1,7 +1,6 @@
 -- What became of something, in words.
 use Rattle.std.specs.Prelude.{ℕ, List, codes}
-use Rattle.item_changes.specs.declared.compare.ChangeKind.{ChangeKind}
-use Rattle.item_changes.specs.declared.compare.ChangeKind.TheVariants.{Removed, Added, Changed}
+use Rattle.item_changes.specs.declared.compare.ChangeKind.{ChangeKind, TheVariants.Removed, TheVariants.Added, TheVariants.Changed}
 
 -- the word of what became of something, with a blank behind it
 abbrev pub change_word : ChangeKind → List ℕ

@@ -1,18 +1,12 @@
 -- What of a tree became another.
 use Rattle.std.specs.Prelude.{ℕ, Bool, ◌==◌, ◌&&◌, nat_eq, if◌then◌else◌, List, [], ◌∷◌, map, Option}
-use Rattle.std.specs.Cmp.Lexicographic.{pointwise}
-use Rattle.std.specs.List.{flat_map, zip}
-use Rattle.std.specs.Option.{option_eq}
+use Rattle.std.specs.{Cmp.Lexicographic.pointwise, List.flat_map, List.zip, Option.option_eq}
 use Rattle.rust_ids.specs.Ids.{kind_place}
 use Rattle.item_tree.specs.Node.{Node, Unfolding}
-use Rattle.tree_walk.specs.Preorder.{preorder}
-use Rattle.tree_walk.specs.Rows.{RowView, rows}
-use Rattle.item_changes.specs.declared.compare.ChangeKind.{ChangeKind}
-use Rattle.item_changes.specs.declared.compare.ChangeKind.TheVariants.{Removed, Added, Changed}
-use Rattle.item_changes.specs.declared.matching.Match.{Match}
-use Rattle.item_changes.specs.declared.matching.Match.TheVariants.{Gone, Came, Stays}
-use Rattle.item_changes.specs.Matches.{matched}
-use Rattle.item_changes.specs.Own.{own, same_node}
+use Rattle.tree_walk.specs.{Preorder.preorder, Rows.RowView, Rows.rows}
+use Rattle.item_changes.specs.declared.compare.ChangeKind.{ChangeKind, TheVariants.Removed, TheVariants.Added, TheVariants.Changed}
+use Rattle.item_changes.specs.declared.matching.Match.{Match, TheVariants.Gone, TheVariants.Came, TheVariants.Stays}
+use Rattle.item_changes.specs.{Matches.matched, Own.own, Own.same_node}
 
 -- what items that are alike have in common: their kind, their depth, their name, and the names of the modules that they stand in; only modules and extern blocks have items in them, so the depth tells who stands in an extern block
 pub record ItemKey : Type 0 where

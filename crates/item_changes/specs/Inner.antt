@@ -1,33 +1,22 @@
 -- For the crate's own functions: items by their ids, and what an item has by its parts.
 use Rattle.std.specs.Prelude.{ℕ, Bool, true, false, List, [], ◌∷◌, map, Option, Some, None, option_copied}
 use Rattle.std.specs.Borrow.{Bor}
-use Rattle.hir_input.specs.declared.ids.AstIdKind.{AstIdKind}
+use Rattle.hir_input.specs.{declared.ids.AstIdKind.AstIdKind, declared.ids.SyntaxContext.SyntaxContext, declared.expand_to.ExpandTo.ExpandTo, Path.Path}
 use Rattle.hir_input.specs.declared.ids.AstIdKind.TheVariants as kind
-use Rattle.hir_input.specs.declared.ids.SyntaxContext.{SyntaxContext}
-use Rattle.hir_input.specs.declared.expand_to.ExpandTo.{ExpandTo}
-use Rattle.hir_input.specs.Path.{Path}
 use Rattle.hir_input.specs.Syntax.{ast_kind}
-use Rattle.item_tree.specs.declared.visibility.RawVisibility.{RawVisibility}
-use Rattle.item_tree.specs.declared.items.FieldsShape.{FieldsShape}
-use Rattle.item_tree.specs.declared.items.ModKind.{ModKind}
-use Rattle.item_tree.specs.declared.items.ModKind.TheVariants.{Inline, Outline}
-use Rattle.item_tree.specs.declared.use_tree.ImportAlias.{ImportAlias}
-use Rattle.item_tree.specs.Tree.{Tree, tree_of}
+use Rattle.item_tree.specs.{declared.visibility.RawVisibility.RawVisibility, declared.items.FieldsShape.FieldsShape, declared.items.ModKind.ModKind, Walk.of_id}
+use Rattle.item_tree.specs.declared.{items.ModKind.TheVariants.Inline, items.ModKind.TheVariants.Outline, use_tree.ImportAlias.ImportAlias}
+use Rattle.item_tree.specs.{Tree.Tree, Tree.tree_of, Node.Node, Node.leaf, Node.parent, Node.Leaf, Node.Trunk, Node.Ctor, Node.Unfolding}
 use Rattle.item_tree.specs.Node as node
-use Rattle.item_tree.specs.Node.{Node, leaf, parent, Leaf, Trunk, Ctor, Unfolding}
 use Rattle.item_tree.specs.Shown.{Lent, lent_leaf, lent_parent}
-use Rattle.item_tree.specs.Walk.{of_id}
 use Rattle.tree_walk.specs.Views.{row_view}
 use Rattle.item_changes.specs.declared.own.Rest as code_rest
 use Rattle.item_changes.specs.declared.own.Rest.TheVariants as code
 use Rattle.item_changes.specs.declared.items.Item as code_item
 use Rattle.item_changes.specs.declared.keys.Key as code_key
 use Rattle.tree_walk.specs.declared.rows.Row as code_row
-use Rattle.item_changes.specs.declared.compare.ChangeKind.{ChangeKind}
-use Rattle.item_changes.specs.declared.matching.Keyed.{Keyed}
-use Rattle.item_changes.specs.declared.matching.Match.{Match}
+use Rattle.item_changes.specs.{declared.compare.ChangeKind.ChangeKind, declared.matching.Keyed.Keyed, declared.matching.Match.Match, Matches.match_map}
 use Rattle.item_changes.specs.Changes.{ChangeView, Item, ItemKey}
-use Rattle.item_changes.specs.Matches.{match_map}
 
 -- ---- what an item has besides its attributes and visibilities
 

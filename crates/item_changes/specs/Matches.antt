@@ -1,13 +1,8 @@
 -- Which of two lists are the same.
 use Rattle.std.specs.Prelude.{◌≡◌, ℕ, ◌+◌, Bool, ◌&&◌, ◌==◌, if◌then◌else◌, List, [], ◌∷◌, ◌++◌, map, Option, Some, None, option_map, slice_get, unwrap_or}
-use Rattle.std.specs.Borrow.{Bor}
-use Rattle.std.specs.HashMap.{get, HashMap}
-use Rattle.std.specs.List.{count_by, filter, flat_map}
-use Rattle.std.specs.declared.hash.BuildHasherDefault.{BuildHasherDefault}
+use Rattle.std.specs.{Borrow.Bor, HashMap.get, HashMap.HashMap, List.count_by, List.filter, List.flat_map, declared.hash.BuildHasherDefault.BuildHasherDefault}
 use Rattle.std.specs.declared.hash.FoldHasher.{FoldHasher}
-use Rattle.item_changes.specs.declared.matching.Keyed.{Keyed}
-use Rattle.item_changes.specs.declared.matching.Match.{Match}
-use Rattle.item_changes.specs.declared.matching.Match.TheVariants.{Gone, Came, Stays}
+use Rattle.item_changes.specs.declared.matching.{Keyed.Keyed, Match.Match, Match.TheVariants.Gone, Match.TheVariants.Came, Match.TheVariants.Stays}
 
 -- of a list, the one that is the same as one that stands behind some: the n-th of those like it, if n of those are like it
 abbrev pub partner : {A : Type 0} → (A → A → Bool) → List A → List A → A → Option A

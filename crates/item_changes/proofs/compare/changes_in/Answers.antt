@@ -1,12 +1,9 @@
 use Rattle.std.proofs.Common.{◌≡◌, ap, map, subst, ◌∙◌}
-use Rattle.std.specs.List.{flat_map}
-use Rattle.std.specs.Prelude.{IfOk}
-use Rattle.item_changes.specs.Changes.{change_of, item_key, tree_items, same_item_key}
-use Rattle.item_changes.specs.Inner.{keyed_view, match_view}
+use Rattle.std.specs.{List.flat_map, Prelude.IfOk}
+use Rattle.item_changes.specs.{Changes.change_of, Changes.item_key, Changes.tree_items, Changes.same_item_key, Inner.keyed_view, Inner.match_view}
 use Rattle.item_changes.specs.Views.{change_view}
 use Rattle.item_changes.specs.contracts.keys.KeyPartialEq.TheImpl as keys
-use Rattle.item_changes.proofs.Alike.{keys_same}
-use Rattle.item_changes.proofs.Seen.{matched_as}
+use Rattle.item_changes.proofs.{Alike.keys_same, Seen.matched_as}
 use Rattle.item_changes.proofs.compare.changes_in.Goals as goal
 
 pub returns : goal.returns

@@ -1,8 +1,6 @@
 use Rattle.std.proofs.Common.{◌≡◌, map, take}
 use Rattle.std.specs.List.{flat_map}
-use Rattle.item_changes.specs.Changes.{change_of}
-use Rattle.item_changes.specs.Inner.{match_view}
-use Rattle.item_changes.specs.Views.{change_view}
+use Rattle.item_changes.specs.{Changes.change_of, Inner.match_view, Views.change_view}
 use Rattle.item_changes.proofs.compare.changes_of.Given as goal
 
 abbrev pub invariant-loop-one : goal.invariant-loop-one

@@ -1,12 +1,9 @@
 use Rattle.std.proofs.Common.{◌≡◌, map, ap, ◌∙◌, subst}
-use Rattle.std.specs.List.{zip}
-use Rattle.std.specs.Prelude.{IfOk}
+use Rattle.std.specs.{List.zip, Prelude.IfOk}
 use Rattle.item_tree.specs.Layout.{node_at}
 use Rattle.item_tree.proofs.Walking.{map_of_id}
 use Rattle.tree_walk.specs.Preorder.{preorder}
-use Rattle.item_changes.specs.Changes.{with_key}
-use Rattle.item_changes.specs.Inner.{keyed_view}
-use Rattle.item_changes.specs.Own.{no_node, own}
+use Rattle.item_changes.specs.{Changes.with_key, Inner.keyed_view, Own.no_node, Own.own}
 use Rattle.item_changes.proofs.items.items.Goals as goal
 
 pub returns : goal.returns

@@ -1,8 +1,7 @@
 use Rattle.std.proofs.Common.{rules, subst}
 use Rattle.item_tree.specs.Walk.{AreContained}
 use Rattle.tree_walk.specs.Views.{row_view}
-use Rattle.item_changes.specs.Inner.{keyed_view}
-use Rattle.item_changes.specs.Own.{own_at}
+use Rattle.item_changes.specs.{Inner.keyed_view, Own.own_at}
 use Rattle.item_changes.proofs.Behind.{first_and_rest, no_ids, no_rows, none_below, others_contained, step}
 use Rattle.item_changes.proofs.items.items_beside.Goals as goal
 use Rattle.item_changes.proofs.items.items_beside.Goals.{in_default, in_default-2}

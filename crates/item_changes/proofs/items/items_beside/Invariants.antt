@@ -2,9 +2,7 @@ use Rattle.std.proofs.Common.{◌≡◌, ◌++◌, length, map}
 use Rattle.std.specs.List.{zip}
 use Rattle.item_tree.specs.Walk.{AreContained}
 use Rattle.tree_walk.specs.Views.{row_view}
-use Rattle.item_changes.specs.Changes.{with_key}
-use Rattle.item_changes.specs.Inner.{keyed_view}
-use Rattle.item_changes.specs.Own.{own_at}
+use Rattle.item_changes.specs.{Changes.with_key, Inner.keyed_view, Own.own_at}
 use Rattle.item_changes.proofs.items.items_beside.Given as goal
 
 abbrev pub invariant-loop-left_rows : goal.invariant-loop-left_rows

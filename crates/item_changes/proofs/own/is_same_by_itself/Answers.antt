@@ -1,12 +1,10 @@
 use Rattle.std.proofs.Common.{Some, sym, ◌∙◌, ap}
+use Rattle.std.proofs.lemmas.{Bool.Decides.Decides-at, Option.same_Some}
 use Rattle.std.specs.Prelude.{option_map}
-use Rattle.std.proofs.lemmas.Bool.Decides.{Decides-at}
-use Rattle.item_tree.specs.Layout.{ctor_map, node_at, vis_at}
-use Rattle.item_tree.specs.Shown.{lent}
+use Rattle.item_tree.specs.{Layout.ctor_map, Layout.node_at, Layout.vis_at, Shown.lent}
 use Rattle.item_changes.specs.Own.{no_node, own_at}
-use Rattle.item_changes.proofs.Parts.{own_from, own_attrs, own_visibility, own_ctor, own_rest, part_differs, last_part, part_same, below_some}
-use Rattle.item_changes.proofs.Rests.{rest_decides}
-use Rattle.item_changes.proofs.Shown.{ctor_lent, rest_lent, same_ctor}
+use Rattle.item_changes.proofs.Parts.{own_from, own_attrs, own_visibility, own_ctor, own_rest, part_differs, last_part, part_same}
+use Rattle.item_changes.proofs.{Rests.rest_decides, Shown.ctor_lent, Shown.rest_lent, Shown.same_ctor}
 use Rattle.item_changes.proofs.own.is_same_by_itself.Goals as goal
 
 pub returns-then-not-is_same_attrs : goal.returns-then-not-is_same_attrs
@@ -46,5 +44,5 @@ returns c =
     let left = rest_lent u c.args.left (lent c.index-left.result) c.index-left.ensures in
     let right = rest_lent w c.args.right (lent c.index-right.result) c.index-right.ensures in
     last_part (own_at u c.args.left) (own_at w c.args.right) _ _ _ _ _ (Decides-at _ _ c.eq.ensures (rest_decides c.rest_of.result c.rest_of-2.result)) c.rest_of.ensures c.rest_of-2.ensures
-    (λ e. below_some _ _ (sym left ∙ own_rest no_node o p c.requires.left c.requires.right e ∙ right))
+    (λ e. same_Some _ _ (sym left ∙ own_rest no_node o p c.requires.left c.requires.right e ∙ right))
     (λ e. own_from no_node o p c.requires.left c.requires.right attrs visibility ctor (left ∙ ap Some e ∙ sym right))
