@@ -1,14 +1,11 @@
 -- `==` decides whether two values have collected the same.
-use Rattle.std.proofs.Common.{None, Some, ap}
+use Rattle.std.proofs.{Common.None, Common.Some, Common.ap, lemmas.Bool.Decides.Decides-and, lemmas.Bool.Decides.Decides-like}
 use Rattle.std.specs.Cmp.Lexicographic.{pointwise_decides}
-use Rattle.std.proofs.lemmas.Bool.Decides.{Decides-and, Decides-like}
 use Rattle.hir_input.specs.Equality.{DecidesEq, DecidesEqOf}
-use Rattle.hir_input.proofs.AttrEq.{attr_decides}
-use Rattle.hir_input.proofs.CfgEq.{cfg_decides}
-use Rattle.item_tree_attrs.specs.declared.collect.AttrsOrCfg.TheVariants.{Enabled, CfgDisabled}
+use Rattle.hir_input.proofs.{AttrEq.attr_decides, CfgEq.cfg_decides}
+use Rattle.item_tree_attrs.specs.{declared.collect.AttrsOrCfg.TheVariants.Enabled, declared.collect.AttrsOrCfg.TheVariants.CfgDisabled, Collected.collected}
 use Rattle.item_tree_attrs.specs.contracts.collect.AttrsOrCfgPartialEq.TheImpl as attrs
 use Rattle.item_tree_attrs.specs.contracts.collect.AttrsOwnedPartialEq.TheImpl as lists
-use Rattle.item_tree_attrs.specs.Collected.{collected}
 
 pub lists_decide : DecidesEq lists.ghosts.eq
 lists_decide = pointwise_decides attr_decides

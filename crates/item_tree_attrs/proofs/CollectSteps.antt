@@ -2,12 +2,8 @@
 use Rattle.std.proofs.Common.{◌≡◌, ℕ, ◌+◌, ◌<◌, false, List, [], ◌∷◌, ◌++◌, length, get_or, drop, map, Option, None, Some, option_map, Vec, Global, Bor, refl, sym, ap, ◌∙◌, append_assoc}
 use Rattle.std.specs.List.{flat_map}
 use Rattle.std.proofs.lemmas.List.{drop_more}
-use Rattle.hir_input.specs.declared.attr.Attr.{Attr}
-use Rattle.hir_input.specs.declared.attr.Meta.{Meta}
-use Rattle.hir_input.specs.declared.attr.Meta.TheVariants.{CfgAttr}
-use Rattle.hir_input.specs.declared.cfg.CfgExpr.{CfgExpr}
-use Rattle.hir_input.specs.Attr.{MetaView, metas_from, meta_view}
-use Rattle.hir_input.specs.Cfg.{AtomView, CfgView, cfg_view, truth}
+use Rattle.hir_input.specs.declared.{attr.Attr.Attr, attr.Meta.Meta, attr.Meta.TheVariants.CfgAttr, cfg.CfgExpr.CfgExpr}
+use Rattle.hir_input.specs.{Attr.MetaView, Attr.metas_from, Attr.meta_view, Cfg.AtomView, Cfg.CfgView, Cfg.cfg_view, Cfg.truth}
 use Rattle.hir_input.proofs.MetaLemmas.{meta_view-CfgAttr}
 use Rattle.item_tree_attrs.specs.Collected.{Collected, events, events_in, is_false, cut_events, collected_from, join}
 use Rattle.item_tree_attrs.specs.Inner.Collecting.{AddsCollected}

@@ -1,8 +1,7 @@
 -- Positions in the rest of a list, and lengths of selections.
 use Rattle.std.proofs.Common.{◌≡◌, ℕ, zero, suc, ◌+◌, ◌≤◌, Bool, not, Option, List, [], ◌∷◌, drop, length, length-drop, refl, ap, ◌∙◌, arith}
 use Rattle.std.specs.List.{enumerate_from, filter, filter_map}
-use Rattle.std.proofs.lemmas.List.FromFn.{length-enumerate_from}
-use Rattle.std.proofs.lemmas.List.Filters.{length-filter_both}
+use Rattle.std.proofs.lemmas.List.{FromFn.length-enumerate_from, Filters.length-filter_both}
 
 enumerate_from-behind : {A : Type 0} (n k : ℕ) (xs : List A) → enumerate_from (n + k) (drop k xs) ≡ drop k (enumerate_from n xs)
 enumerate_from-behind n zero xs = ap (λ m. enumerate_from m xs) (omega arith)

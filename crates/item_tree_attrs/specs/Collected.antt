@@ -1,23 +1,13 @@
 -- What a list of metas collects: attributes, up to the first false cfg.
 use Rattle.std.specs.Prelude.{◌≡◌, ℕ, ◌+◌, ◌-◌, ◌^◌, ◌<◌, List, [], ◌∷◌, ◌++◌, length, codes, Bool, true, false, Option, Some, None, option_map, if◌then◌else◌}
-use Rattle.std.specs.List.{flat_map, filter_map, take_while}
-use Rattle.std.specs.Option.{option_map_or}
-use Rattle.either.specs.declared.Either.{Either}
-use Rattle.either.specs.declared.Either.TheVariants.{Left, Right}
-use Rattle.either.specs.Either.{is_left, left, right}
-use Rattle.hir_input.specs.declared.ast.PathNode.{PathNode}
-use Rattle.hir_input.specs.declared.ast.PathNode.TheVariants.{Readable, Unreadable}
-use Rattle.hir_input.specs.declared.attr.Attr.{Attr}
-use Rattle.hir_input.specs.declared.attr.AttrInput.{AttrInput}
-use Rattle.hir_input.specs.declared.attr.AttrInput.TheVariants.{Literal, TokenTree}
-use Rattle.hir_input.specs.declared.ids.SyntaxContext.{SyntaxContext}
-use Rattle.hir_input.specs.declared.mod_path.PathKind.TheVariants.{Plain}
+use Rattle.std.specs.{List.flat_map, List.filter_map, List.take_while, Option.option_map_or}
+use Rattle.either.specs.{declared.Either.Either, declared.Either.TheVariants.Left, declared.Either.TheVariants.Right, Either.is_left, Either.left, Either.right}
+use Rattle.hir_input.specs.declared.{ast.PathNode.PathNode, ast.PathNode.TheVariants.Readable, ast.PathNode.TheVariants.Unreadable, attr.Attr.Attr}
+use Rattle.hir_input.specs.declared.attr.AttrInput.{AttrInput, TheVariants.Literal, TheVariants.TokenTree}
+use Rattle.hir_input.specs.{declared.ids.SyntaxContext.SyntaxContext, declared.mod_path.PathKind.TheVariants.Plain, Name.is_among, Path.Path, Path.ident_of}
 use Rattle.hir_input.specs.Attr.{MetaView, MetaViews, path_meta, key_value_meta, token_tree_meta, cfg_meta, cfg_attr_meta, unsafe_meta, no_metas, meta_and}
 use Rattle.hir_input.specs.Cfg.{AtomView, CfgView, cfg_view, truth}
-use Rattle.hir_input.specs.Name.{is_among}
-use Rattle.hir_input.specs.Path.{Path, ident_of}
-use Rattle.item_tree_attrs.specs.declared.collect.AttrsOrCfg.{AttrsOrCfg}
-use Rattle.item_tree_attrs.specs.declared.collect.AttrsOrCfg.TheVariants.{Enabled, CfgDisabled}
+use Rattle.item_tree_attrs.specs.declared.collect.AttrsOrCfg.{AttrsOrCfg, TheVariants.Enabled, TheVariants.CfgDisabled}
 
 -- attributes, and the false cfg that stands behind them, if any
 pub record Collected : Type 0 where

@@ -1,10 +1,7 @@
 -- Attributes that are lent, and the name of a path.
 use Rattle.std.specs.Prelude.{ℕ, List, [], Bool, false, Option, Some, None, nat_eq}
-use Rattle.std.specs.Option.{option_map_or}
-use Rattle.std.specs.Borrow.{Bor}
-use Rattle.std.specs.Cmp.Lexicographic.{pointwise}
-use Rattle.hir_input.specs.declared.attr.Attr.{Attr}
-use Rattle.hir_input.specs.Path.{ident_of}
+use Rattle.std.specs.{Option.option_map_or, Borrow.Bor, Cmp.Lexicographic.pointwise}
+use Rattle.hir_input.specs.{declared.attr.Attr.Attr, Path.ident_of}
 
 -- the path is one plain name, and it is the key
 abbrev pub has_key : List ℕ → Attr → Bool

@@ -2,9 +2,7 @@
 use Rattle.std.specs.Prelude.{ℕ, ◌+◌, List, Option, Some, None}
 use Rattle.std.specs.List.{filter}
 use Rattle.hir_input.specs.declared.attr.Attr.{Attr}
-use Rattle.item_tree_attrs.specs.Key.{has_key, referred_attrs}
-use Rattle.item_tree_attrs.specs.declared.query.Attrs.{Attrs}
-use Rattle.item_tree_attrs.specs.declared.query.AttrQuery.{AttrQuery}
+use Rattle.item_tree_attrs.specs.{Key.has_key, Key.referred_attrs, declared.query.Attrs.Attrs, declared.query.AttrQuery.AttrQuery}
 
 -- the attributes, in order
 abbrev pub listed_attrs : Attrs → List Attr

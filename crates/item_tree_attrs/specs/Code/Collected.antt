@@ -1,10 +1,7 @@
 -- A code of collected values.
-use Rattle.std.specs.Prelude.{List, Option, refl}
-use Rattle.std.specs.Coded.{Coded, code_by, coded×, coded_list, coded_option}
-use Rattle.hir_input.specs.declared.attr.Attr.{Attr}
+use Rattle.std.specs.{Prelude.List, Prelude.Option, Prelude.refl, Coded.Coded, Coded.code_by, Coded.coded×, Coded.coded_list, Coded.coded_option}
+use Rattle.hir_input.specs.{declared.attr.Attr.Attr, Code.Attr.cfg_code, Cfg.CfgView}
 use Rattle.hir_input.specs.contracts.attr.Attr as attr
-use Rattle.hir_input.specs.Code.Attr.{cfg_code}
-use Rattle.hir_input.specs.Cfg.{CfgView}
 use Rattle.item_tree_attrs.specs.Collected.{Collected}
 
 abbrev pub collected_code : Coded Collected

@@ -1,11 +1,8 @@
 -- What the steps of collecting say of what they found.
 use Rattle.std.specs.Prelude.{◌≡◌, List, [], ◌∷◌, ◌++◌, Option, None, Some, option_map}
 use Rattle.std.specs.Borrow.{Bor}
-use Rattle.either.specs.declared.Either.{Either}
-use Rattle.either.specs.declared.Either.TheVariants.{Left, Right}
-use Rattle.hir_input.specs.declared.attr.Attr.{Attr}
-use Rattle.hir_input.specs.declared.cfg.CfgExpr.{CfgExpr}
-use Rattle.hir_input.specs.Cfg.{cfg_view}
+use Rattle.either.specs.declared.Either.{Either, TheVariants.Left, TheVariants.Right}
+use Rattle.hir_input.specs.{declared.attr.Attr.Attr, declared.cfg.CfgExpr.CfgExpr, Cfg.cfg_view}
 use Rattle.item_tree_attrs.specs.Collected.{Collected, Event}
 
 -- what was found, as a list of events

@@ -1,9 +1,7 @@
 use Rattle.std.proofs.Common.{map, None, Some, sym, ap, ◌∙◌, subst}
-use Rattle.std.proofs.Common.{arith}
-use Rattle.std.proofs.lemmas.Grind.{common_steps}
+use Rattle.std.proofs.{Common.arith, lemmas.Grind.common_steps}
 use Rattle.hir_input.specs.Attr.{meta_view}
-use Rattle.item_tree_attrs.specs.Collected.{cut_events, events, collected_from}
-use Rattle.item_tree_attrs.specs.Inner.Collecting.{AddsCollected}
+use Rattle.item_tree_attrs.specs.{Collected.cut_events, Collected.events, Collected.collected_from, Inner.Collecting.AddsCollected}
 use Rattle.item_tree_attrs.proofs.CollectSteps.{cut-CfgAttr, collected_by, Adds-more}
 use Rattle.item_tree_attrs.proofs.collect.+collect.Goals as goal
 

@@ -1,5 +1,4 @@
-use Rattle.std.proofs.Common.{arith}
-use Rattle.std.proofs.lemmas.Grind.{common_steps}
+use Rattle.std.proofs.{Common.arith, lemmas.Grind.common_steps}
 use Rattle.item_tree_attrs.proofs.Cutting.{joins_lists}
 use Rattle.item_tree_attrs.proofs.collect.AttrsOrCfg.lower.Goals as goal
 

@@ -1,8 +1,7 @@
 use Rattle.std.proofs.Common.{◌≡◌}
 use Rattle.std.specs.List.{filter_map}
 use Rattle.hir_input.specs.Attr.{string_with_span_of}
-use Rattle.item_tree_attrs.specs.Collected.{first}
-use Rattle.item_tree_attrs.specs.Query.{asked}
+use Rattle.item_tree_attrs.specs.{Collected.first, Query.asked}
 use Rattle.item_tree_attrs.proofs.query.AttrQuery.string_value_with_span.Given as goal
 
 abbrev pub invariant-loop-attr : goal.invariant-loop-attr
