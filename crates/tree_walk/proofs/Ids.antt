@@ -1,14 +1,10 @@
 -- Rows by the ids of items.
-use Rattle.std.proofs.Common.{◌≡◌, ℕ, List, [], ◌∷◌, ◌++◌, map, Option, Some, None, refl, ap, sym, ◌∙◌, append_assoc}
-use Rattle.std.specs.List.{flat_map}
-use Rattle.std.specs.Option.{option_map_or}
-use Rattle.item_tree.specs.Layout.{node_at}
-use Rattle.item_tree.specs.Node.{Node, leaf, parent, Forest, empty, more, nodes, Unfolding}
-use Rattle.item_tree.specs.Shown.{StandFor}
+use Rattle.std.proofs.Common.{◌≡◌, ℕ, List, [], ◌∷◌, ◌++◌, Option, Some, None, refl, ap, sym, ◌∙◌, append_assoc}
+use Rattle.std.specs.{List.flat_map, Option.option_map_or}
+use Rattle.item_tree.specs.{Layout.node_at, Node.Node, Node.leaf, Node.parent, Node.Forest, Node.empty, Node.more, Node.nodes, Node.Unfolding, Shown.StandFor}
 use Rattle.item_tree.specs.Walk.{of_id, children, children_at}
 use Rattle.item_tree.proofs.Walking.{flat_map_of_id}
-use Rattle.tree_walk.specs.Rows.{Around, RowView, row, around_inside, node_rows, forest_rows, rows, top}
-use Rattle.tree_walk.specs.Inner.Rows.{rows_at}
+use Rattle.tree_walk.specs.{Rows.Around, Rows.RowView, Rows.row, Rows.around_inside, Rows.node_rows, Rows.forest_rows, Rows.rows, Rows.top, Inner.Rows.rows_at}
 
 forest_is : (a : Around) (f : Forest) → flat_map (node_rows a) (nodes f) ≡ forest_rows a f
 forest_is a empty = refl

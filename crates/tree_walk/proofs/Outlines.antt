@@ -1,19 +1,13 @@
 -- Outlines by the ids of items.
 use Rattle.std.proofs.Common.{◌≡◌, ℕ, List, [], ◌++◌, map, Option, Some, None, refl, ap, sym, ◌∙◌, append_assoc, append-nil}
-use Rattle.std.specs.Prelude.{option_map}
-use Rattle.std.specs.Option.{option_map_or}
-use Rattle.std.specs.List.{flat_map}
-use Rattle.serde_json.specs.Data.{null, item}
-use Rattle.serde_json.specs.View.{items_of}
+use Rattle.std.specs.{Prelude.option_map, Option.option_map_or, List.flat_map}
+use Rattle.serde_json.specs.{Data.null, Data.item, View.items_of}
 use Rattle.hir_input.specs.declared.ids.FileAstId.{FileAstId}
-use Rattle.item_tree.specs.Layout.{node_at}
-use Rattle.item_tree.specs.Node.{Node, leaf, parent, Forest, empty, more, nodes, node_ast, Unfolding}
-use Rattle.item_tree.specs.Shown.{StandFor}
-use Rattle.item_tree.specs.Walk.{of_id, children, children_at}
+use Rattle.item_tree.specs.{Layout.node_at, Node.Node, Node.leaf, Node.parent, Node.Forest, Node.empty, Node.more, Node.nodes, Node.node_ast, Node.Unfolding}
+use Rattle.item_tree.specs.{Shown.StandFor, Walk.of_id, Walk.children, Walk.children_at}
 use Rattle.item_tree.proofs.Walking.{flat_map_of_id, map_of_id}
 use Rattle.def_collector.specs.Declarations.{node_name}
-use Rattle.tree_walk.specs.Lines.{line, deeper, node_lines, forest_lines}
-use Rattle.tree_walk.specs.Objects.{object_form, node_object, forest_objects}
+use Rattle.tree_walk.specs.{Lines.line, Lines.deeper, Lines.node_lines, Lines.forest_lines, Objects.object_form, Objects.node_object, Objects.forest_objects}
 use Rattle.tree_walk.specs.Inner.Outlines.{outline_lines_at, object_at}
 
 forest_is : (indent : List ℕ) (f : Forest) → flat_map (node_lines indent) (nodes f) ≡ forest_lines indent f

@@ -1,23 +1,14 @@
 -- What a lent item is told by is what its node is told by.
 use Rattle.std.proofs.Common.{◌≡◌, ℕ, refl, ap, sym, ◌∙◌}
 use Rattle.std.specs.Prelude.{Some}
-use Rattle.item_tree.specs.Layout.{leaf_map, vis_at}
-use Rattle.item_tree.specs.Node.{Leaf, plain, constant, struct_item, outline, use_item, extern_crate, impl_item, macro_call, macro_rules, Unfolding}
-use Rattle.item_tree.specs.Shown.{Lent, lent_leaf, lent_parent, IsLent}
+use Rattle.item_tree.specs.{Layout.leaf_map, Layout.vis_at, Shown.Lent, Shown.lent_leaf, Shown.lent_parent, Shown.IsLent}
+use Rattle.item_tree.specs.Node.{Leaf, plain, Unfolding}
 use Rattle.item_tree.proofs.Walking.{leaf_of_id, parent_of_id}
-use Rattle.tree_walk.specs.Rows.{no_subject, leaf_subject, node_subject}
-use Rattle.tree_walk.specs.Inner.Rows.{lent_subject, subject_at}
+use Rattle.tree_walk.specs.{Rows.no_subject, Rows.leaf_subject, Rows.node_subject, Inner.Rows.lent_subject, Inner.Rows.subject_at}
 
 subject-leaf : {V W : Type 0} (f : V → W) (l : Leaf V) → leaf_subject (leaf_map f l) ≡ leaf_subject l
 subject-leaf f (plain k n v) = refl
-subject-leaf f (constant n v) = refl
-subject-leaf f (struct_item n v s c) = refl
-subject-leaf f (outline n v) = refl
-subject-leaf f (use_item v t) = refl
-subject-leaf f (extern_crate n v a) = refl
-subject-leaf f (impl_item of_trait) = refl
-subject-leaf f (macro_call p e x) = refl
-subject-leaf f (macro_rules n) = refl
+subject-leaf f _ = refl
 
 pub subjects_at : (u : Unfolding) (i : ℕ) (x : Lent) → IsLent u i x → subject_at u i ≡ lent_subject x
 subjects_at u i (lent_leaf a l) p = leaf_of_id u no_subject node_subject i a l p ∙ sym (subject-leaf Some p.item) ∙ ap leaf_subject (sym p.visible) ∙ subject-leaf (vis_at u.forest) l

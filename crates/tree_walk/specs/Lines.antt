@@ -1,7 +1,6 @@
 -- The lines of an outline.
 use Rattle.std.specs.Prelude.{ℕ, List, [], ◌++◌, codes, Option, Some, None}
-use Rattle.hir_input.specs.declared.ids.FileAstId.{FileAstId}
-use Rattle.hir_input.specs.Id.{shown_id}
+use Rattle.hir_input.specs.{declared.ids.FileAstId.FileAstId, Id.shown_id}
 use Rattle.item_tree.specs.Node.{Node, leaf, parent, Forest, empty, more, node_ast}
 use Rattle.def_collector.specs.Declarations.{node_name}
 

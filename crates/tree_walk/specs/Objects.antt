@@ -1,8 +1,7 @@
 -- The objects of an outline.
 use Rattle.std.specs.Prelude.{ℕ, List, codes, Option, Some, None}
 use Rattle.serde_json.specs.Data.{Data, null, string, array, object, Items, no_items, item, no_members, member}
-use Rattle.hir_input.specs.declared.ids.FileAstId.{FileAstId}
-use Rattle.hir_input.specs.Id.{shown_id, shown_kind}
+use Rattle.hir_input.specs.{declared.ids.FileAstId.FileAstId, Id.shown_id, Id.shown_kind}
 use Rattle.item_tree.specs.Node.{Node, leaf, parent, Forest, empty, more, node_ast}
 use Rattle.def_collector.specs.Declarations.{node_name}
 

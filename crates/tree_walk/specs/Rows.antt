@@ -1,13 +1,10 @@
 -- The items of a tree in the order in which they are written, each with what stands around it.
-use Rattle.std.specs.Prelude.{ℕ, ◌+◌, Bool, not, ◌&&◌, List, [], ◌∷◌, ◌++◌, Option, Some, None, is_some}
-use Rattle.hir_input.specs.declared.ids.AstIdKind.{AstIdKind}
+use Rattle.std.specs.Prelude.{ℕ, ◌+◌, Bool, not, ◌&&◌, List, [], ◌∷◌, ◌++◌, Option, Some, is_some}
+use Rattle.hir_input.specs.{declared.ids.AstIdKind.AstIdKind, declared.ids.FileAstId.FileAstId, Path.Path}
 use Rattle.hir_input.specs.declared.ids.AstIdKind.TheVariants as kind
-use Rattle.hir_input.specs.declared.ids.FileAstId.{FileAstId}
-use Rattle.hir_input.specs.Path.{Path}
-use Rattle.item_tree.specs.declared.visibility.RawVisibility.{RawVisibility}
+use Rattle.item_tree.specs.{declared.visibility.RawVisibility.RawVisibility, Tree.Tree}
 use Rattle.item_tree_attrs.specs.Collected.{Collected}
-use Rattle.item_tree.specs.Node.{Leaf, use_item, macro_call, Node, leaf, parent, Forest, empty, more, node_ast, node_head, node_kind, Unfolding}
-use Rattle.item_tree.specs.Tree.{Tree}
+use Rattle.item_tree.specs.Node.{Leaf, use_item, macro_call, Node, leaf, parent, Forest, empty, more, node_ast, node_head, Unfolding}
 use Rattle.def_collector.specs.Declarations.{node_name, node_visibility}
 
 -- what items stand in: how many items, the names of the modules among them from the top on down, and whether no cfg disables these, nor the file

@@ -1,10 +1,8 @@
 //! Outlines as lines of text.
 ghost use Rattle.std.specs.Prelude.{◌≡◌, ◌++◌, [], codes, string_bytes, IfOk, OnOk, option_copied};
 ghost use Rattle.std.specs.List.{flat_map};
-ghost use Rattle.item_tree.specs.Shown.{IsContained};
-ghost use Rattle.item_tree.specs.Walk.{AreContained};
-ghost use Rattle.tree_walk.specs.Lines.{line, forest_lines};
-ghost use Rattle.tree_walk.specs.Inner.Outlines.{outline_lines_at};
+ghost use Rattle.item_tree.specs.{Shown.IsContained, Walk.AreContained};
+ghost use Rattle.tree_walk.specs.{Lines.line, Lines.forest_lines, Inner.Outlines.outline_lines_at};
 
 use crate::children;
 use def_collector::name_at;

@@ -1,11 +1,8 @@
 //! Outlines as JSON.
 ghost use Rattle.std.specs.Prelude.{◌≡◌, map, IfOk, option_copied};
-ghost use Rattle.serde_json.specs.Data.{array};
-ghost use Rattle.serde_json.specs.View.{view, items_view};
-ghost use Rattle.item_tree.specs.Shown.{IsContained};
-ghost use Rattle.item_tree.specs.Walk.{AreContained};
-ghost use Rattle.tree_walk.specs.Objects.{name_form, object_form, forest_objects};
-ghost use Rattle.tree_walk.specs.Inner.Outlines.{object_at};
+ghost use Rattle.serde_json.specs.{Data.array, View.view, View.items_view};
+ghost use Rattle.item_tree.specs.{Shown.IsContained, Walk.AreContained};
+ghost use Rattle.tree_walk.specs.{Objects.name_form, Objects.object_form, Objects.forest_objects, Inner.Outlines.object_at};
 
 use crate::children;
 use def_collector::name_at;

@@ -1,7 +1,6 @@
 use Rattle.std.proofs.Common.{◌≡◌, ◌+◌, ◌*◌, ◌++◌, take}
 use Rattle.std.specs.List.{sum_by, flat_map}
-use Rattle.item_tree.specs.Reach.{ids_from}
-use Rattle.item_tree.specs.Walk.{count_at}
+use Rattle.item_tree.specs.{Reach.ids_from, Walk.count_at}
 use Rattle.tree_walk.proofs.+add.Given as goal
 
 abbrev pub decreases-add_all : goal.decreases-add_all

@@ -1,10 +1,8 @@
 -- Words that private contracts alone cite: outlines by the ids of items.
 use Rattle.std.specs.Prelude.{ℕ, List, []}
 use Rattle.serde_json.specs.Data.{Data, null}
-use Rattle.item_tree.specs.Node.{Unfolding}
-use Rattle.item_tree.specs.Walk.{of_id}
-use Rattle.tree_walk.specs.Lines.{node_lines}
-use Rattle.tree_walk.specs.Objects.{node_object}
+use Rattle.item_tree.specs.{Node.Unfolding, Walk.of_id}
+use Rattle.tree_walk.specs.{Lines.node_lines, Objects.node_object}
 
 -- the lines of the item of an id, and of all that stand in it
 abbrev pub outline_lines_at : Unfolding → List ℕ → ℕ → List ℕ

@@ -1,8 +1,6 @@
 -- For the crate's own functions: rows by the ids of items, and what is lent of these.
 use Rattle.std.specs.Prelude.{ℕ, Bool, false, List, [], map}
-use Rattle.item_tree.specs.Node.{Unfolding}
-use Rattle.item_tree.specs.Shown.{Lent, lent_leaf, lent_parent}
-use Rattle.item_tree.specs.Walk.{of_id}
+use Rattle.item_tree.specs.{Node.Unfolding, Shown.Lent, Shown.lent_leaf, Shown.lent_parent, Walk.of_id}
 use Rattle.tree_walk.specs.declared.rows.Around as code_around
 use Rattle.tree_walk.specs.Rows.{Around, RowView, Subject, no_subject, leaf_subject, node_subject, node_rows, is_enabled}
 

@@ -1,6 +1,5 @@
 use Rattle.std.proofs.Common.{ap, ◌∙◌}
-use Rattle.serde_json.specs.Data.{array}
-use Rattle.serde_json.specs.View.{items_of}
+use Rattle.serde_json.specs.{Data.array, View.items_of}
 use Rattle.serde_json.proofs.Views.{view-Array}
 use Rattle.tree_walk.proofs.Outlines.{ids_objects}
 use Rattle.tree_walk.proofs.objects.outline_json.Goals as goal

@@ -1,8 +1,6 @@
 use Rattle.std.proofs.Common.{map, ap, ◌∙◌, ◌∷◌, []}
-use Rattle.std.proofs.lemmas.List.{map-append}
-use Rattle.std.proofs.lemmas.Result.{on_ok_weaker}
-use Rattle.tree_walk.specs.Inner.Rows.{around_view}
-use Rattle.tree_walk.specs.Views.{row_view}
+use Rattle.std.proofs.lemmas.{List.map-append, Result.on_ok_weaker}
+use Rattle.tree_walk.specs.{Inner.Rows.around_view, Views.row_view}
 use Rattle.tree_walk.proofs.Ids.{row_adds}
 use Rattle.tree_walk.proofs.rows.+push.Goals as goal
 
