@@ -1,8 +1,8 @@
 -- What is found in a value nests less deep, and a form that looks inside reads itself.
-use Rattle.std.proofs.Common.{◌≡◌, ℕ, zero, suc, ◌+◌, ◌<◌, ◌≤◌, max, List, Option, Some, None, option_map, option_and_then, unwrap_or, Ordering, Less, Equal, Greater, false, bytes_eq, refl, sym, ap, ◌∙◌, arith, rules}
+use Rattle.std.proofs.Common.{◌≡◌, ℕ, zero, suc, ◌+◌, ◌<◌, ◌≤◌, max, List, Option, Some, None, option_map, option_and_then, unwrap_or, Ordering, Equal, false, bytes_eq, refl, sym, ap, ◌∙◌, arith, rules}
 use Rattle.std.specs.Ordering.{nat_cmp, match_ordering}
 use Rattle.std.specs.Cmp.Lexicographic.{slice_cmp}
-use Rattle.serde_json.specs.Data.{Data, null, boolean, number, string, array, object, Items, no_items, item, Members, no_members, member, depth, items_depth, members_depth}
+use Rattle.serde_json.specs.Data.{Data, null, array, object, Items, no_items, item, Members, no_members, member, depth, items_depth, members_depth}
 use Rattle.serde_json.specs.Find.{get, get_member}
 use Rattle.hir_input_json.specs.Reading.{Reading, right, wrong, reading_map, under, ◌>>=◌}
 use Rattle.hir_input_json.specs.Forms.{field, unless_null, array_items, items_at, list_of, list_at, each, each_from, maybe, optional, required, by_form}
@@ -14,9 +14,8 @@ use Rattle.hir_input_json.specs.Nested.{nested, nested_at}
 -- ---- depths
 
 depth_here : (o : Ordering) (d e : Data) (n : ℕ) (found : Option Data) → (found ≡ Some e → depth e ≤ n) → match_ordering o found (Some d) found ≡ Some e → depth e ≤ max (depth d) n
-depth_here Less d e n found within h = search (rules, within h)
 depth_here Equal d e n found within h = let same : depth d ≡ depth e = ap (λ o. unwrap_or (option_map depth o) 0) h in omega (arith, same)
-depth_here Greater d e n found within h = search (rules, within h)
+depth_here o d e n found within h = search (rules, within h)
 
 depth-get_member : (name : List ℕ) (ms : Members) (e : Data) → get_member name ms ≡ Some e → depth e ≤ members_depth ms
 depth-get_member name no_members e h = search rules
@@ -24,19 +23,11 @@ depth-get_member name (member key d ms) e h = depth_here (slice_cmp nat_cmp name
 
 pub depth_get : (name : List ℕ) (d e : Data) → get name d ≡ Some e → depth e < depth d
 depth_get name (object ms) e h = omega (arith, depth-get_member name ms e h)
-depth_get name null e h = search rules
-depth_get name (boolean b) e h = search rules
-depth_get name (number n) e h = search rules
-depth_get name (string s) e h = search rules
-depth_get name (array ds) e h = search rules
+depth_get name d e h = search rules
 
 unless_null-is : (d e : Data) → unless_null d ≡ Some e → d ≡ e
 unless_null-is null e h = search rules
-unless_null-is (boolean b) e h = ap (λ o. unwrap_or o e) h
-unless_null-is (number n) e h = ap (λ o. unwrap_or o e) h
-unless_null-is (string s) e h = ap (λ o. unwrap_or o e) h
-unless_null-is (array ds) e h = ap (λ o. unwrap_or o e) h
-unless_null-is (object ms) e h = ap (λ o. unwrap_or o e) h
+unless_null-is d e h = ap (λ o. unwrap_or o e) h
 
 found_unless_null : (name : List ℕ) (d e : Data) (found : Option Data) → get name d ≡ found → option_and_then unless_null found ≡ Some e → get name d ≡ Some e
 found_unless_null name d e None is h = search rules
@@ -77,11 +68,7 @@ each_same f g n (item d ds) same = rw (same d (omega arith), each_same f g (n + 
 
 list_of_same : {A : Type 0} → (f g : Data → Reading A) (d : Data) → AgreeBelow f g (depth d) → list_of f d ≡ list_of g d
 list_of_same f g (array ds) same = each_same f g 0 ds same
-list_of_same f g null same = refl
-list_of_same f g (boolean b) same = refl
-list_of_same f g (number n) same = refl
-list_of_same f g (string s) same = refl
-list_of_same f g (object ms) same = refl
+list_of_same f g d same = refl
 
 -- a list in a field of d
 pub list_in : {A : Type 0} → (f g : Data → Reading A) (key : List ℕ) (d : Data) → AgreeBelow f g (depth d) → (e : Data) → field key d ≡ Some e → list_of f e ≡ list_of g e
@@ -94,13 +81,8 @@ listed form key found = do
   under key (each form ds)
 
 listed_same : {A : Type 0} → (f g : Data → Reading A) (key : List ℕ) (found : Option Data) (n : ℕ) → AgreeBelow f g n → ((e : Data) → found ≡ Some e → depth e < n) → listed f key found ≡ listed g key found
-listed_same f g key None n same less = refl
 listed_same f g key (Some (array ds)) n same less = ap (under key) (each_same f g 0 ds (λ i k. let l = less (array ds) refl in same i (omega (arith, k, l))))
-listed_same f g key (Some null) n same less = refl
-listed_same f g key (Some (boolean b)) n same less = refl
-listed_same f g key (Some (number m)) n same less = refl
-listed_same f g key (Some (string s)) n same less = refl
-listed_same f g key (Some (object ms)) n same less = refl
+listed_same f g key found n same less = refl
 
 -- the same where no list is an empty one
 pub list_at_same : {A : Type 0} → (f g : Data → Reading A) (key : List ℕ) (d : Data) → AgreeBelow f g (depth d) → list_at f key d ≡ list_at g key d
@@ -127,11 +109,7 @@ depth_of (Some e) = suc (depth e)
 
 pub depth_array : (d : Data) (ds : Items) → array_items d ≡ right ds → depth d ≡ suc (items_depth ds)
 depth_array (array es) ds h = ap (λ r. suc (items_depth (right_or no_items r))) h
-depth_array null ds h = absurd cc
-depth_array (boolean b) ds h = absurd cc
-depth_array (number n) ds h = absurd cc
-depth_array (string s) ds h = absurd cc
-depth_array (object ms) ds h = absurd cc
+depth_array d ds h = absurd cc
 
 found_within : (found : Option Data) (n : ℕ) → ((e : Data) → found ≡ Some e → depth e < n) → depth_of found ≤ n
 found_within None n less = omega arith

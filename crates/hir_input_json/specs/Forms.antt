@@ -1,6 +1,6 @@
 -- The readings that forms are made of.
 use Rattle.std.specs.Prelude.{ℕ, ◌+◌, ◌^◌, List, [], ◌∷◌, bytes_eq, nat_lt, decimal, Bool, true, false, ◌==◌, if◌then◌else◌, Option, Some, None, option_and_then}
-use Rattle.serde_json.specs.Data.{Data, null, boolean, number, string, array, object, Items, no_items, item, Members}
+use Rattle.serde_json.specs.Data.{Data, null, Items, no_items, item, Members}
 use Rattle.serde_json.specs.Find.{get, as_number, as_u64, as_bool, as_str, as_array, as_object}
 use Rattle.hir_input.specs.Name.{name_in}
 use Rattle.hir_input_json.specs.Reading.{Reading, right, wrong, reading_map, here, pointer_behind, under, ◌>>=◌}
@@ -8,11 +8,7 @@ use Rattle.hir_input_json.specs.Reading.{Reading, right, wrong, reading_map, her
 -- a null counts as absent
 abbrev pub unless_null : Data → Option Data
 unless_null null = None
-unless_null (boolean b) = Some (boolean b)
-unless_null (number n) = Some (number n)
-unless_null (string s) = Some (string s)
-unless_null (array ds) = Some (array ds)
-unless_null (object ms) = Some (object ms)
+unless_null d = Some d
 
 -- the member at this key
 unfoldable pub field : List ℕ → Data → Option Data

@@ -5,7 +5,7 @@ use Rattle.std.specs.BTreeMap.{BTreeMap}
 use Rattle.std.specs.Ordering.{nat_cmp, match_ordering}
 use Rattle.std.specs.Cmp.Lexicographic.{slice_cmp}
 use Rattle.serde_json.specs.declared.value.Value.{Value}
-use Rattle.serde_json.specs.Data.{Data, null, boolean, number, string, array, object, Members, no_members, member}
+use Rattle.serde_json.specs.Data.{Data, null, object, Members, no_members, member}
 use Rattle.serde_json.specs.View.{members_view}
 
 -- the object of these members
@@ -19,9 +19,5 @@ with_null key (member l e ms) = match_ordering (slice_cmp nat_cmp key l) (member
 
 -- the object after its member at this key was taken out, which leaves a null
 unfoldable pub without : List ℕ → Data → Data
-without key null = null
-without key (boolean b) = boolean b
-without key (number n) = number n
-without key (string s) = string s
-without key (array ds) = array ds
 without key (object ms) = object (with_null key ms)
+without key d = d

@@ -9,7 +9,7 @@ ghost use Rattle.hir_input_json.specs.Reads.{Reads};
 
 use crate::fault::{Fault, ReadIn};
 use crate::literal::required_text_at;
-use crate::member::{list_at, members_of, required_at};
+use crate::member::{each_of, list_at, members_of, required_at};
 use crate::name::name_of;
 use hir_input::CfgAtom;
 use serde_json::{Map, Value};
@@ -43,13 +43,7 @@ pub(crate) fn atom_of(alloc: Global, value: Value) -> Result<CfgAtom, Fault>
 fn atoms_of(alloc: Global, items: Vec<Value>) -> Result<Vec<CfgAtom>, Fault>
     ensures { Reads (λ v. map atom_view v.items) result (each atom_form (items_view items.items)) }
 {
-    let mut atoms = Vec::with_capacity(alloc, items.len())?;
-    for item in items {
-        let place = atoms.len();
-        let read = atom_of(alloc, item).in_item(alloc, place)?;
-        atoms.push(read)?;
-    }
-    Ok(atoms)
+    each_of!(alloc, items, atom_of)
 }
 
 /// Takes a list of atoms out, none where it is absent: the options that are set in a crate.

@@ -10,7 +10,7 @@ ghost use Rattle.hir_input_json.specs.Reads.{Reads};
 
 use crate::atom::{atom_of, keyed_atom_of};
 use crate::fault::{Fault, ReadIn};
-use crate::member::{array_of, members_of, removed, taken};
+use crate::member::{array_of, each_of, members_of, removed, taken};
 use hir_input::CfgExpr;
 use serde_json::{Map, Value};
 use std::alloc::Global;
@@ -78,13 +78,7 @@ fn cfgs_in(alloc: Global, list: Value) -> Result<Vec<CfgExpr>, Fault>
 fn cfgs_of(alloc: Global, items: Vec<Value>) -> Result<Vec<CfgExpr>, Fault>
     ensures { Reads (λ v. map cfg_view v.items) result (each cfg_form (items_view items.items)) }
 {
-    let mut members = Vec::with_capacity(alloc, items.len())?;
-    for item in items {
-        let place = members.len();
-        let read = cfg_of(alloc, item).in_item(alloc, place)?;
-        members.push(read)?;
-    }
-    Ok(members)
+    each_of!(alloc, items, cfg_of)
 }
 
 // The condition of a meta, taken out, which cannot be read where it is absent.

@@ -18,7 +18,7 @@ use crate::item::extern_block::extern_block_of;
 use crate::item::fields::struct_kind_at;
 use crate::item::macros::{macro_call_of, macro_rules_of};
 use crate::item::node::{named_at, node_at, with_name, with_node};
-use crate::member::{array_of, flag_at, members_of, taken, word_at};
+use crate::member::{array_of, each_of, flag_at, members_of, taken, word_at};
 use crate::use_tree::{rename_at, use_tree_at};
 use crate::visibility::visibility_at;
 use hir_input::ast::{
@@ -155,11 +155,5 @@ fn items_in(alloc: Global, list: Option<Value>) -> Result<Option<Vec<Item>>, Fau
 pub(crate) fn items_of(alloc: Global, values: Vec<Value>) -> Result<Vec<Item>, Fault>
     ensures { Reads (λ v. map item_view v.items) result (each item_form (items_view values.items)) }
 {
-    let mut items = Vec::with_capacity(alloc, values.len())?;
-    for item in values {
-        let place = items.len();
-        let read = item_of(alloc, item).in_item(alloc, place)?;
-        items.push(read)?;
-    }
-    Ok(items)
+    each_of!(alloc, values, item_of)
 }

@@ -31,10 +31,7 @@ fn string_at(alloc: Global, members: &mut Map<String, Value>) -> Result<Option<S
     ensures left { OnOk result (held members.new ≡ without (codes "string") (held members.old)) }
 {
     match taken(members, "string") {
-        Some(found) => {
-            let text = text_of(alloc, found).in_member(alloc, "string")?;
-            Ok(Some(text))
-        }
+        Some(found) => Ok(Some(text_of(alloc, found).in_member(alloc, "string")?)),
         None => Ok(None),
     }
 }
@@ -95,10 +92,7 @@ pub(crate) fn literal_at(
         (maybe_at (codes "value") (literal_form ctxt) (held members.old)) }
 {
     match taken(members, "value") {
-        Some(found) => {
-            let literal = literal_of(alloc, found, ctxt);
-            Ok(Some(literal.in_member(alloc, "value")?))
-        }
+        Some(found) => Ok(Some(literal_of(alloc, found, ctxt).in_member(alloc, "value")?)),
         None => Ok(None),
     }
 }

@@ -34,6 +34,21 @@ pub(crate) fn array_of(alloc: Global, value: Value) -> Result<Vec<Value>, Fault>
     }
 }
 
+// Each of the values by the function that reads one; a fault is told of the array.
+macro_rules! each_of {
+    ($alloc:expr, $values:expr, $read:ident) => {{
+        let mut done = Vec::with_capacity($alloc, $values.len())?;
+        for item in $values {
+            let place = done.len();
+            let read = $read($alloc, item).in_item($alloc, place)?;
+            done.push(read)?;
+        }
+        Ok(done)
+    }};
+}
+
+pub(crate) use each_of;
+
 // The text of a string.
 pub(crate) fn text_of(alloc: Global, value: Value) -> Result<String, Fault>
     ensures { Reads string_bytes result (text_form (view value)) }

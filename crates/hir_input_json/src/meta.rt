@@ -11,7 +11,7 @@ use crate::cfg::condition_at;
 use crate::context::context_at;
 use crate::fault::{Fault, ReadIn};
 use crate::literal::{literal_at, required_text_at};
-use crate::member::{list_at, members_of, taken, word_at};
+use crate::member::{each_of, list_at, members_of, taken, word_at};
 use crate::path::path_at;
 use hir_input::{Meta, TokenTree};
 use serde_json::{Map, Value};
@@ -108,13 +108,7 @@ fn unsafe_of(alloc: Global, members: &mut Map<String, Value>) -> Result<Meta, Fa
 fn metas_of(alloc: Global, items: Vec<Value>) -> Result<Vec<Meta>, Fault>
     ensures { Reads (λ v. map meta_view v.items) result (each meta_form (items_view items.items)) }
 {
-    let mut metas = Vec::with_capacity(alloc, items.len())?;
-    for item in items {
-        let place = metas.len();
-        let read = meta_of(alloc, item).in_item(alloc, place)?;
-        metas.push(read)?;
-    }
-    Ok(metas)
+    each_of!(alloc, items, meta_of)
 }
 
 /// Takes the metas of an owner out, none where they are absent.

@@ -41,10 +41,7 @@ pub(crate) fn name_at(
     ensures left { OnOk result (held members.new ≡ without key.now (held members.old)) }
 {
     match taken(members, key) {
-        Some(found) => {
-            let name = name_of(alloc, found).in_member(alloc, key)?;
-            Ok(Some(name))
-        }
+        Some(found) => Ok(Some(name_of(alloc, found).in_member(alloc, key)?)),
         None => Ok(None),
     }
 }

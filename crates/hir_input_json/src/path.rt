@@ -96,10 +96,7 @@ pub(crate) fn path_at(
     ensures left { OnOk result (held members.new ≡ without (codes "path") (held members.old)) }
 {
     match taken(members, "path") {
-        Some(found) => {
-            let path = path_of(alloc, found).in_member(alloc, "path")?;
-            Ok(Some(path))
-        }
+        Some(found) => Ok(Some(path_of(alloc, found).in_member(alloc, "path")?)),
         None => Ok(None),
     }
 }

@@ -10,7 +10,7 @@ ghost use Rattle.hir_input_json.specs.Reads.{Reads};
 use crate::fault::{Fault, ReadIn};
 use crate::item::item_of;
 use crate::item::macros::macro_call_of;
-use crate::member::{field, list_at, members_of, required_at, taken};
+use crate::member::{each_of, field, list_at, members_of, required_at, taken};
 use hir_input::ast::{MacroCall, Stmt, Tail};
 use serde_json::{Map, Value};
 use std::alloc::Global;
@@ -66,13 +66,7 @@ fn stmt_in(alloc: Global, members: &mut Map<String, Value>) -> Result<Stmt, Faul
 fn stmts_of(alloc: Global, values: Vec<Value>) -> Result<Vec<Stmt>, Fault>
     ensures { Reads (λ v. stmts_view v.items) result (each stmt_form (items_view values.items)) }
 {
-    let mut stmts = Vec::with_capacity(alloc, values.len())?;
-    for stmt in values {
-        let place = stmts.len();
-        let read = stmt_of(alloc, stmt).in_item(alloc, place)?;
-        stmts.push(read)?;
-    }
-    Ok(stmts)
+    each_of!(alloc, values, stmt_of)
 }
 
 // Takes the statements out, none where they are absent.

@@ -8,7 +8,7 @@ ghost use Rattle.hir_input_json.specs.Reads.{Reads};
 ghost use Rattle.hir_input_json.specs.UseTrees.{rename_form as rename_form, use_tree_form as use_tree_form, use_tree_with};
 
 use crate::fault::{Fault, ReadIn};
-use crate::member::{array_of, flag_at, members_of, taken, text_of};
+use crate::member::{array_of, each_of, flag_at, members_of, taken, text_of};
 use crate::name::name_from;
 use crate::path::path_at;
 use hir_input::ast::{Rename, UseTree};
@@ -21,10 +21,9 @@ fn rename_of(alloc: Global, value: Value) -> Result<Rename, Fault>
     let text = text_of(alloc, value)?;
     match text.as_str() {
         "_" => Ok(Rename { name: None }),
-        _ => {
-            let name = name_from(alloc, text)?;
-            Ok(Rename { name: Some(name) })
-        }
+        _ => Ok(Rename {
+            name: Some(name_from(alloc, text)?),
+        }),
     }
 }
 
@@ -38,10 +37,7 @@ pub(crate) fn rename_at(
     ensures left { OnOk result (held members.new ≡ without (codes "rename") (held members.old)) }
 {
     match taken(members, "rename") {
-        Some(found) => {
-            let rename = rename_of(alloc, found).in_member(alloc, "rename")?;
-            Ok(Some(rename))
-        }
+        Some(found) => Ok(Some(rename_of(alloc, found).in_member(alloc, "rename")?)),
         None => Ok(None),
     }
 }
@@ -91,13 +87,7 @@ fn use_trees_of(alloc: Global, items: Vec<Value>) -> Result<Vec<UseTree>, Fault>
     ensures { Reads (λ v. map use_tree_view v.items) result
         (each use_tree_form (items_view items.items)) }
 {
-    let mut trees = Vec::with_capacity(alloc, items.len())?;
-    for item in items {
-        let place = trees.len();
-        let read = use_tree_of(alloc, item).in_item(alloc, place)?;
-        trees.push(read)?;
-    }
-    Ok(trees)
+    each_of!(alloc, items, use_tree_of)
 }
 
 // The use tree of a use, taken out.
@@ -109,10 +99,7 @@ pub(crate) fn use_tree_at(
         (maybe_at (codes "tree") use_tree_form (held members.old)) }
 {
     match taken(members, "tree") {
-        Some(found) => {
-            let tree = use_tree_of(alloc, found).in_member(alloc, "tree")?;
-            Ok(Some(tree))
-        }
+        Some(found) => Ok(Some(use_tree_of(alloc, found).in_member(alloc, "tree")?)),
         None => Ok(None),
     }
 }

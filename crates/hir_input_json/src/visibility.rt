@@ -48,10 +48,7 @@ pub(crate) fn visibility_at(
     ensures left { OnOk result (held members.new ≡ without (codes "vis") (held members.old)) }
 {
     match taken(members, "vis") {
-        Some(found) => {
-            let visibility = visibility_of(alloc, found).in_member(alloc, "vis")?;
-            Ok(Some(visibility))
-        }
+        Some(found) => Ok(Some(visibility_of(alloc, found).in_member(alloc, "vis")?)),
         None => Ok(None),
     }
 }

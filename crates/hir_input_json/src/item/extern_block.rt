@@ -10,7 +10,7 @@ ghost use Rattle.hir_input_json.specs.Reads.{Reads};
 use crate::fault::{Fault, ReadIn};
 use crate::item::macros::macro_call_of;
 use crate::item::node::{named_at, node_at, with_name, with_node};
-use crate::member::{array_of, members_of, taken, word_at};
+use crate::member::{array_of, each_of, members_of, taken, word_at};
 use hir_input::ast::{ExternBlock, ExternItem, Fn, Item, Static, TypeAlias};
 use serde_json::{Map, Value};
 use std::alloc::Global;
@@ -23,7 +23,7 @@ fn extern_item_of(alloc: Global, value: Value) -> Result<ExternItem, Fault>
     extern_item_in(alloc, &mut members)
 }
 
-#[tactic(auto, unfolding(crate::specs::Items::extern_item))]
+#[tactic(auto, unfolding(crate::specs::Items::extern_item), using(hir_input::proofs::SyntaxViews::item_views))]
 fn extern_item_in(alloc: Global, members: &mut Map<String, Value>) -> Result<ExternItem, Fault>
     ensures { Reads extern_item_view result (extern_item_form (held members.old)) }
 {
@@ -40,13 +40,7 @@ fn extern_items_of(alloc: Global, values: Vec<Value>) -> Result<Vec<ExternItem>,
     ensures { Reads (λ v. map extern_item_view v.items) result
         (each extern_item_form (items_view values.items)) }
 {
-    let mut items = Vec::with_capacity(alloc, values.len())?;
-    for item in values {
-        let place = items.len();
-        let read = extern_item_of(alloc, item).in_item(alloc, place)?;
-        items.push(read)?;
-    }
-    Ok(items)
+    each_of!(alloc, values, extern_item_of)
 }
 
 fn extern_items_in(alloc: Global, list: Option<Value>) -> Result<Option<Vec<ExternItem>>, Fault>

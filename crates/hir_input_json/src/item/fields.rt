@@ -8,7 +8,7 @@ ghost use Rattle.hir_input_json.specs.Items.{fields_form as fields_form, tuple_f
 ghost use Rattle.hir_input_json.specs.Reads.{Reads};
 
 use crate::fault::{Fault, ReadIn};
-use crate::member::{array_of, required_at};
+use crate::member::{array_of, each_of, required_at};
 use crate::visibility::visibility_of;
 use hir_input::ast::{StructKind, TupleField};
 use serde_json::{Map, Value};
@@ -29,13 +29,7 @@ fn tuple_fields_of(alloc: Global, items: Vec<Value>) -> Result<Vec<TupleField>, 
     ensures { Reads (λ v. map (λ f. f.visibility) v.items) result
         (each tuple_field (items_view items.items)) }
 {
-    let mut fields = Vec::with_capacity(alloc, items.len())?;
-    for item in items {
-        let place = fields.len();
-        let read = tuple_field_of(alloc, item).in_item(alloc, place)?;
-        fields.push(read)?;
-    }
-    Ok(fields)
+    each_of!(alloc, items, tuple_field_of)
 }
 
 fn struct_kind_of(alloc: Global, value: Value) -> Result<StructKind, Fault>

@@ -1,20 +1,10 @@
 -- the loop as far as it has come
-use Rattle.std.proofs.Common.{arith, decimal}
-use Rattle.std.proofs.lemmas.Grind.{common_steps}
+use Rattle.std.proofs.Common.{decimal}
 use Rattle.hir_input.specs.Cfg.{atom_view}
 use Rattle.hir_input_json.specs.Cfgs.{atom}
-use Rattle.hir_input_json.proofs.Lists.{joined_nil, read_next}
+use Rattle.hir_input_json.proofs.Lists.{read_next}
 use Rattle.hir_input_json.proofs.atom.atoms_of.Goals as goal
-
-pub loop-item-init : goal.loop-item-init
-loop-item-init c = grind (arith, joined_nil)
 
 pub loop-item-preserved : goal.loop-item-preserved
 loop-item-preserved c =
     read_next atom_view atom _ _ _ _ _ _ _ (decimal c.len-place.result) _ c.loop-item.invariant c.in-Some.ensures.steps.0 c.atom_of.ensures c.in_ok-read.ensures c.in_ok-push.ensures.items
-
-pub returns-in_err-read : goal.returns-in_err-read
-returns-in_err-read c = grind arith
-
-pub returns : goal.returns
-returns c = grind (arith, common_steps)

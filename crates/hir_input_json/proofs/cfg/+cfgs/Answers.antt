@@ -3,13 +3,9 @@ use Rattle.std.proofs.Common.{arith, codes, decimal, refl, sym}
 use Rattle.serde_json.specs.View.{view}
 use Rattle.hir_input_json.specs.Held.{held}
 use Rattle.hir_input_json.proofs.Inside.{depth_field, depth_get, field_before}
-use Rattle.hir_input_json.proofs.Held.{field_without}
-use Rattle.hir_input_json.proofs.Attrs.{cfg_reads_itself}
-use Rattle.hir_input.proofs.CfgLemmas.{cfg_views}
-use Rattle.std.proofs.lemmas.Grind.{common_steps}
 use Rattle.hir_input.specs.Cfg.{cfg_view}
 use Rattle.hir_input_json.specs.Cfgs.{cfg}
-use Rattle.hir_input_json.proofs.Lists.{read_next, read_rest}
+use Rattle.hir_input_json.proofs.Lists.{read_inside}
 use Rattle.hir_input_json.proofs.cfg.+cfgs.Goals as goal
 
 pub cfg_by-cfgs_in-requires : goal.cfg_by-cfgs_in-requires
@@ -37,47 +33,6 @@ cfg_by-cfg_of-requires t c =
     let less = depth_get (codes "not") (held c.args.members.now) (view c.in-Some-inner.inner) (sym c.in-Some-inner.ensures.taken) in
     (omega (arith, less), tt)
 
-pub cfg_of-returns : goal.cfg_of-returns
-cfg_of-returns t c = grind (arith, cfg_reads_itself)
-
-pub cfg_in-returns-in_err-members : goal.cfg_in-returns-in_err-members
-cfg_in-returns-in_err-members t c = grind (arith, cfg_views)
-
-pub cfg_in-returns-then-is_string : goal.cfg_in-returns-then-is_string
-cfg_in-returns-then-is_string t c = grind (arith, cfg_views)
-
-pub cfg_in-returns-in_err-atom_of : goal.cfg_in-returns-in_err-atom_of
-cfg_in-returns-in_err-atom_of t c = grind (arith, cfg_views)
-
-pub cfg_by-returns-in_err-keyed_atom_of : goal.cfg_by-returns-in_err-keyed_atom_of
-cfg_by-returns-in_err-keyed_atom_of t c = grind (arith, field_without, cfg_views)
-
-pub cfg_by-returns-in-Some : goal.cfg_by-returns-in-Some
-cfg_by-returns-in-Some t c = grind (arith, field_without, cfg_views)
-
-pub cfg_by-returns-in-Some-taken : goal.cfg_by-returns-in-Some-taken
-cfg_by-returns-in-Some-taken t c = grind (arith, field_without, cfg_views)
-
-pub cfg_by-returns-in-Some-taken-2 : goal.cfg_by-returns-in-Some-taken-2
-cfg_by-returns-in-Some-taken-2 t c = grind (arith, field_without, cfg_views)
-
-pub cfg_by-returns-in_err-inner-in-Some-inner : goal.cfg_by-returns-in_err-inner-in-Some-inner
-cfg_by-returns-in_err-inner-in-Some-inner t c = grind (arith, field_without, cfg_views)
-
-pub cfg_by-returns-in_ok-new-in-Some-inner : goal.cfg_by-returns-in_ok-new-in-Some-inner
-cfg_by-returns-in_ok-new-in-Some-inner t c = grind (arith, field_without, cfg_views)
-
-pub cfg_by-returns-in-None : goal.cfg_by-returns-in-None
-cfg_by-returns-in-None t c = grind (arith, field_without, cfg_views)
-
 pub cfgs_of-loop-item-preserved : goal.cfgs_of-loop-item-preserved
-cfgs_of-loop-item-preserved t c = (
-  read_next cfg_view cfg _ _ _ _ _ _ _ (decimal c.len-place.result) _ c.loop-item.invariant.0 c.in-Some.ensures.steps.0 c.cfg_of.ensures c.in_ok-read.ensures c.in_ok-push.ensures.items,
-  read_rest _ _ _ _ c.in-Some.ensures.steps.0 c.loop-item.invariant.1,
-)
-
-pub cfgs_of-returns-in_err-read : goal.cfgs_of-returns-in_err-read
-cfgs_of-returns-in_err-read t c = grind arith
-
-pub cfgs_of-returns : goal.cfgs_of-returns
-cfgs_of-returns t c = grind (arith, common_steps)
+cfgs_of-loop-item-preserved t c =
+    read_inside cfg_view cfg c.args.items.items _ _ _ _ _ _ (decimal c.len-place.result) _ c.loop-item.invariant c.in-Some.ensures.steps.0 c.cfg_of.ensures c.in_ok-read.ensures c.in_ok-push.ensures.items

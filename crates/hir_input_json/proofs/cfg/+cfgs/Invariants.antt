@@ -1,12 +1,11 @@
 -- the reading is what was read, and then the reading of what is left
-use Rattle.std.proofs.Common.{◌≡◌, ◌≤◌, map, ◌+◌, ◌*◌, length}
+use Rattle.std.proofs.Common.{◌+◌, ◌*◌}
 use Rattle.serde_json.specs.Data.{depth, items_depth}
 use Rattle.serde_json.specs.View.{view, items_view}
 use Rattle.hir_input.specs.Cfg.{cfg_view}
 use Rattle.hir_input_json.specs.Cfgs.{cfg}
-use Rattle.hir_input_json.specs.Forms.{each, each_from}
 use Rattle.hir_input_json.specs.Held.{held}
-use Rattle.hir_input_json.proofs.Lists.{joined}
+use Rattle.hir_input_json.proofs.Lists.{HasReadInside}
 use Rattle.hir_input_json.proofs.cfg.+cfgs.Given as goal
 
 abbrev pub decreases-cfg_of : goal.decreases-cfg_of
@@ -25,6 +24,4 @@ abbrev pub decreases-cfgs_of : goal.decreases-cfgs_of
 decreases-cfgs_of l = 3 * items_depth (items_view l.items.items) + 3
 
 abbrev pub invariant-cfgs_of-loop-item : goal.invariant-cfgs_of-loop-item
-invariant-cfgs_of-loop-item l =
-    (each cfg (items_view l.fn.items.items) ≡ joined (map cfg_view l.members.items) (each_from (length l.members.items) cfg (items_view l.item-iterator.rest.items)))
-    × (items_depth (items_view l.item-iterator.rest.items) ≤ items_depth (items_view l.fn.items.items))
+invariant-cfgs_of-loop-item l = HasReadInside cfg_view cfg l.fn.items.items l.done.items l.item-iterator.rest.items

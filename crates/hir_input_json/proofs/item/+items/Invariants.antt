@@ -1,13 +1,12 @@
 -- the reading is what was read, and then the reading of what is left
-use Rattle.std.proofs.Common.{◌≡◌, ◌≤◌, map, ◌+◌, ◌*◌, option_map, length}
+use Rattle.std.proofs.Common.{◌+◌, ◌*◌, option_map}
 use Rattle.serde_json.specs.Data.{depth, items_depth}
 use Rattle.serde_json.specs.View.{view, items_view}
 use Rattle.hir_input.specs.Syntax.{item_view}
 use Rattle.hir_input_json.specs.Items.{item}
-use Rattle.hir_input_json.specs.Forms.{each, each_from}
 use Rattle.hir_input_json.specs.Held.{held}
 use Rattle.hir_input_json.proofs.Inside.{depth_of}
-use Rattle.hir_input_json.proofs.Lists.{joined}
+use Rattle.hir_input_json.proofs.Lists.{HasReadInside}
 use Rattle.hir_input_json.proofs.item.+items.Given as goal
 
 abbrev pub decreases-item_of : goal.decreases-item_of
@@ -26,6 +25,4 @@ abbrev pub decreases-items_of : goal.decreases-items_of
 decreases-items_of l = 4 * items_depth (items_view l.values.items) + 4
 
 abbrev pub invariant-items_of-loop-item : goal.invariant-items_of-loop-item
-invariant-items_of-loop-item l =
-    (each item (items_view l.fn.values.items) ≡ joined (map item_view l.items.items) (each_from (length l.items.items) item (items_view l.item-iterator.rest.items)))
-    × (items_depth (items_view l.item-iterator.rest.items) ≤ items_depth (items_view l.fn.values.items))
+invariant-items_of-loop-item l = HasReadInside item_view item l.fn.values.items l.done.items l.item-iterator.rest.items

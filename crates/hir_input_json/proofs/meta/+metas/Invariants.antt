@@ -1,12 +1,11 @@
 -- the reading is what was read, and then the reading of what is left
-use Rattle.std.proofs.Common.{◌≡◌, ◌≤◌, map, ◌+◌, ◌*◌, length}
+use Rattle.std.proofs.Common.{◌+◌, ◌*◌}
 use Rattle.serde_json.specs.Data.{depth, items_depth}
 use Rattle.serde_json.specs.View.{view, items_view}
 use Rattle.hir_input.specs.Attr.{meta_view}
 use Rattle.hir_input_json.specs.Metas.{meta_form}
-use Rattle.hir_input_json.specs.Forms.{each, each_from}
 use Rattle.hir_input_json.specs.Held.{held}
-use Rattle.hir_input_json.proofs.Lists.{joined}
+use Rattle.hir_input_json.proofs.Lists.{HasReadInside}
 use Rattle.hir_input_json.proofs.meta.+metas.Given as goal
 
 abbrev pub decreases-meta_of : goal.decreases-meta_of
@@ -25,6 +24,4 @@ abbrev pub decreases-metas_of : goal.decreases-metas_of
 decreases-metas_of l = 4 * items_depth (items_view l.items.items) + 4
 
 abbrev pub invariant-metas_of-loop-item : goal.invariant-metas_of-loop-item
-invariant-metas_of-loop-item l =
-    (each meta_form (items_view l.fn.items.items) ≡ joined (map meta_view l.metas.items) (each_from (length l.metas.items) meta_form (items_view l.item-iterator.rest.items)))
-    × (items_depth (items_view l.item-iterator.rest.items) ≤ items_depth (items_view l.fn.items.items))
+invariant-metas_of-loop-item l = HasReadInside meta_view meta_form l.fn.items.items l.done.items l.item-iterator.rest.items

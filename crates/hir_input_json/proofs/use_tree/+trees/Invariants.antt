@@ -1,13 +1,12 @@
 -- the reading is what was read, and then the reading of what is left
-use Rattle.std.proofs.Common.{◌≡◌, ◌≤◌, map, ◌+◌, ◌*◌, option_map, length}
+use Rattle.std.proofs.Common.{◌+◌, ◌*◌, option_map}
 use Rattle.serde_json.specs.Data.{depth, items_depth}
 use Rattle.serde_json.specs.View.{view, items_view}
 use Rattle.hir_input.specs.UseTreeView.{use_tree_view}
 use Rattle.hir_input_json.specs.UseTrees.{use_tree_form}
-use Rattle.hir_input_json.specs.Forms.{each, each_from}
 use Rattle.hir_input_json.specs.Held.{held}
 use Rattle.hir_input_json.proofs.Inside.{depth_of}
-use Rattle.hir_input_json.proofs.Lists.{joined}
+use Rattle.hir_input_json.proofs.Lists.{HasReadInside}
 use Rattle.hir_input_json.proofs.use_tree.+trees.Given as goal
 
 abbrev pub decreases-use_tree_of : goal.decreases-use_tree_of
@@ -23,6 +22,4 @@ abbrev pub decreases-use_trees_of : goal.decreases-use_trees_of
 decreases-use_trees_of l = 3 * items_depth (items_view l.items.items) + 3
 
 abbrev pub invariant-use_trees_of-loop-item : goal.invariant-use_trees_of-loop-item
-invariant-use_trees_of-loop-item l =
-    (each use_tree_form (items_view l.fn.items.items) ≡ joined (map use_tree_view l.trees.items) (each_from (length l.trees.items) use_tree_form (items_view l.item-iterator.rest.items)))
-    × (items_depth (items_view l.item-iterator.rest.items) ≤ items_depth (items_view l.fn.items.items))
+invariant-use_trees_of-loop-item l = HasReadInside use_tree_view use_tree_form l.fn.items.items l.done.items l.item-iterator.rest.items
