@@ -1,5 +1,5 @@
 -- An atom and a condition that are written are read again.
-use Rattle.std.proofs.Common.{◌≡◌, ℕ, ◌+◌, List, [], ◌∷◌, false, IfSome, Option, Some, None, refl, ap, subst, ◌∙◌}
+use Rattle.std.proofs.Common.{◌≡◌, ℕ, List, [], ◌∷◌, false, IfSome, Option, Some, None, refl, ap, subst, ◌∙◌}
 use Rattle.serde_json.specs.Data.{Data}
 use Rattle.serde_json.specs.Written.{has_float}
 use Rattle.hir_input.specs.Cfg.{AtomView, CfgView, CfgViews, invalid, all_of, any_of, not_of, no_cfgs, cfg_and, cfgs_from}
@@ -11,7 +11,7 @@ use Rattle.hir_input_json.proofs.Attrs.{cfg_reads_itself}
 use Rattle.hir_input_writer.specs.Cfgs.{atom_by, atom_data, cfg_data, cfgs_data}
 use Rattle.hir_input_writer.specs.Parts.{name_data}
 use Rattle.hir_input_writer.specs.Held.{Holds, HoldEach}
-use Rattle.hir_input_writer.proofs.Held.{bind, mapped, named_law, name_law}
+use Rattle.hir_input_writer.proofs.Held.{mapped, named_law, name_law, next_law}
 
 -- what a condition's data may be: a null too
 pub record CfgHolds (c : CfgView) (d : Data) : Type 0 where
@@ -66,6 +66,4 @@ mutual
   cfgs_law : (cs : CfgViews) → IfSome (cfgs_data cs) (HoldEach cfg (listed cs))
   cfgs_law no_cfgs = record { reads = λ n. refl; exact = refl }
   cfgs_law (cfg_and c cs) =
-      bind (cfg_data c) _ (CfgHolds c) (HoldEach cfg (c ∷ listed cs)) (cfg_law c) (λ d h.
-      bind (cfgs_data cs) _ (HoldEach cfg (listed cs)) (HoldEach cfg (c ∷ listed cs)) (cfgs_law cs) (λ ds hs.
-      record { reads = λ n. rw (h.reads, hs.reads (n + 1)) refl; exact = rw (h.exact, hs.exact) refl }))
+      next_law cfg c (listed cs) (cfg_data c) (cfgs_data cs) (CfgHolds c) (cfg_law c) (λ d h. h.reads) (λ d h. h.exact) (cfgs_law cs)

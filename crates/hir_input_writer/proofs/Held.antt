@@ -1,7 +1,8 @@
 -- What is written of a part, and how parts are put together.
-use Rattle.std.proofs.Common.{◌≡◌, ℕ, ◌+◌, List, [], ◌∷◌, Bool, true, false, nat_lt, IfSome, Option, Some, None, if◌then◌else◌, option_map, option_and_then, refl}
-use Rattle.serde_json.specs.Data.{Data, number, unsigned, string}
-use Rattle.hir_input_json.specs.Reading.{Reading}
+use Rattle.std.proofs.Common.{◌≡◌, ℕ, ◌+◌, List, [], ◌∷◌, map, Bool, true, false, nat_lt, IfSome, Option, Some, None, if◌then◌else◌, option_map, option_and_then, refl}
+use Rattle.serde_json.specs.Data.{Data, number, unsigned, string, Items, item}
+use Rattle.serde_json.specs.Written.{has_float}
+use Rattle.hir_input_json.specs.Reading.{Reading, right}
 use Rattle.hir_input.specs.Name.{is_name, name_in}
 use Rattle.hir_input_json.specs.Forms.{below, identifier_form, text_form, whole_form}
 use Rattle.hir_input_writer.specs.Held.{Holds, MayHold, HoldEach}
@@ -25,12 +26,25 @@ pub maybe_law : {A : Type 0} (make : A → Option Data) (form : Data → Reading
 maybe_law make form law None = record { reads = refl; exact = refl }
 maybe_law make form law (Some a) = weaker (make a) (Holds form a) (MayHold form (Some a)) (law a) (λ d h. record { reads = rw (h.there, h.reads) refl; exact = h.exact })
 
+-- one item before others
+pub next_law : {A : Type 0} (form : Data → Reading A) (a : A) (as' : List A) (m : Option Data) (o : Option Items) (P : Data → Type 0) → IfSome m P → ((d : Data) → P d → form d ≡ right a) → ((d : Data) → P d → has_float d ≡ false) → IfSome o (HoldEach form as')
+    → IfSome (option_and_then (λ d. option_and_then (λ ds. Some (item d ds)) o) m) (HoldEach form (a ∷ as'))
+next_law form a as' None o P h reads exact hs = tt
+next_law form a as' (Some d) None P h reads exact hs = tt
+next_law form a as' (Some d) (Some ds) P h reads exact hs = record { reads = λ n. rw (reads d h, hs.reads (n + 1)) refl; exact = rw (exact d h, hs.exact) refl }
+
+pub held_next : {A : Type 0} (form : Data → Reading A) (a : A) (as' : List A) (m : Option Data) (o : Option Items) → IfSome m (Holds form a) → IfSome o (HoldEach form as')
+    → IfSome (option_and_then (λ d. option_and_then (λ ds. Some (item d ds)) o) m) (HoldEach form (a ∷ as'))
+held_next form a as' m o h hs = next_law form a as' m o (Holds form a) h (λ d k. k.reads) (λ d k. k.exact) hs
+
 pub each_law : {A : Type 0} (make : A → Option Data) (form : Data → Reading A) → ((a : A) → IfSome (make a) (Holds form a)) → (as' : List A) → IfSome (each_data make as') (HoldEach form as')
 each_law make form law [] = record { reads = λ n. refl; exact = refl }
-each_law make form law (a ∷ as') =
-    bind (make a) _ (Holds form a) (HoldEach form (a ∷ as')) (law a) (λ d h.
-    bind (each_data make as') _ (HoldEach form as') (HoldEach form (a ∷ as')) (each_law make form law as') (λ ds hs.
-    record { reads = λ n. rw (h.reads, hs.reads (n + 1)) refl; exact = rw (h.exact, hs.exact) refl }))
+each_law make form law (a ∷ as') = held_next form a as' (make a) (each_data make as') (law a) (each_law make form law as')
+
+-- the same where each is read as what it is seen as
+pub each_seen : {A B : Type 0} (make : A → Option Data) (form : Data → Reading B) (seen : A → B) → ((a : A) → IfSome (make a) (Holds form (seen a))) → (as' : List A) → IfSome (each_data make as') (HoldEach form (map seen as'))
+each_seen make form seen law [] = record { reads = λ n. refl; exact = refl }
+each_seen make form seen law (a ∷ as') = held_next form (seen a) (map seen as') (make a) (each_data make as') (law a) (each_seen make form seen law as')
 
 -- ---- numbers and texts
 

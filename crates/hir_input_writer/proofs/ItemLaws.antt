@@ -1,16 +1,16 @@
 -- An item that is written is read again.
-use Rattle.std.proofs.Common.{◌≡◌, ◌+◌, List, [], ◌∷◌, Bool, false, IfSome, Option, Some, None, codes, refl, ap, subst, ◌∙◌}
+use Rattle.std.proofs.Common.{◌≡◌, List, [], ◌∷◌, Bool, false, IfSome, Option, Some, None, codes, refl, ap, subst, ◌∙◌}
 use Rattle.serde_json.specs.Data.{Data, null, array, object}
 use Rattle.serde_json.specs.Written.{has_float}
-use Rattle.hir_input.specs.Syntax.{NodeView, NamedView, CallView, PlainKind, fn_kind, union_kind, enum_kind, static_kind, trait_kind, type_alias_kind, macro_def_kind, ItemView, ItemViews, plain_item, const_item, struct_item, bare_module, listed_module, use_item, extern_crate, bare_extern_block, listed_extern_block, impl_item, macro_call, macro_rules, asm_item, no_items, item_and, extern_block_from, items_from, module_from}
+use Rattle.hir_input.specs.Syntax.{NodeView, NamedView, CallView, PlainKind, fn_kind, static_kind, type_alias_kind, ItemView, ItemViews, plain_item, const_item, struct_item, bare_module, listed_module, use_item, extern_crate, bare_extern_block, listed_extern_block, impl_item, macro_call, macro_rules, asm_item, no_items, item_and, extern_block_from, items_from, module_from}
 use Rattle.hir_input_json.specs.Reading.{Reading, right, reading_map, ◌>>=◌}
 use Rattle.hir_input_json.specs.Forms.{field, flag, list_of, maybe, maybe_at, optional_at, unless_null}
 use Rattle.hir_input_json.specs.Items.{item, extern_item, named_item}
 use Rattle.hir_input_json.proofs.Items.{item_reads_itself}
 use Rattle.hir_input_writer.specs.Held.{Holds, HoldEach}
-use Rattle.hir_input_writer.specs.Items.{call_data, extern_block_data, extern_block_object, extern_item_data, extern_items_data, item_data, items_data, module_data, module_object, named_data, node_data}
+use Rattle.hir_input_writer.specs.Items.{call_data, extern_block_data, extern_block_object, extern_item_data, extern_items_data, item_data, items_data, kind_word, module_data, module_object, named_data, node_data}
 use Rattle.hir_input_writer.specs.Kept.{call_kept, item_kept, items_kept, named_kept, node_kept}
-use Rattle.hir_input_writer.proofs.Held.{bind, mapped, weaker}
+use Rattle.hir_input_writer.proofs.Held.{bind, held_next, mapped, weaker}
 use Rattle.hir_input_writer.proofs.KindLaws.{CallHolds, asm_law, call_law, extern_crate_law, impl_law, macro_rules_law, plain_law, struct_law, use_law}
 use Rattle.hir_input_writer.proofs.NodeLaws.{NamedHolds, NodeHolds, named_law, named_reads, node_law, node_reads}
 
@@ -25,12 +25,7 @@ from_listed (item_and i is) = ap (item_and i) (from_listed is)
 plain_item_law : (kind : PlainKind) (bodies : Bool) (n : NamedView) → IfSome (item_data bodies (plain_item kind n)) (Holds item (plain_item kind (named_kept bodies n)))
 unfolding named_item
 plain_item_law fn_kind = plain_law item (codes "fn") (plain_item fn_kind) (λ ms e. item_reads_itself (object ms) ∙ rw e refl)
-plain_item_law union_kind = plain_law item (codes "union") (plain_item union_kind) (λ ms e. item_reads_itself (object ms) ∙ rw e refl)
-plain_item_law enum_kind = plain_law item (codes "enum") (plain_item enum_kind) (λ ms e. item_reads_itself (object ms) ∙ rw e refl)
-plain_item_law static_kind = plain_law item (codes "static") (plain_item static_kind) (λ ms e. item_reads_itself (object ms) ∙ rw e refl)
-plain_item_law trait_kind = plain_law item (codes "trait") (plain_item trait_kind) (λ ms e. item_reads_itself (object ms) ∙ rw e refl)
-plain_item_law type_alias_kind = plain_law item (codes "type_alias") (plain_item type_alias_kind) (λ ms e. item_reads_itself (object ms) ∙ rw e refl)
-plain_item_law macro_def_kind = plain_law item (codes "macro_def") (plain_item macro_def_kind) (λ ms e. item_reads_itself (object ms) ∙ rw e refl)
+plain_item_law kind = plain_law item (kind_word kind) (plain_item kind) (λ ms e. item_reads_itself (object ms) ∙ rw e refl)
 
 const_law : (bodies : Bool) (n : NamedView) → IfSome (item_data bodies (const_item n)) (Holds item (const_item (named_kept bodies n)))
 unfolding named_item
@@ -51,28 +46,12 @@ extern_item_law bodies (plain_item type_alias_kind n) = plain_law extern_item (c
 extern_item_law bodies (macro_call c) =
     weaker (call_data bodies c) (CallHolds bodies c) (Holds extern_item (macro_call (call_kept bodies c))) (call_law bodies c)
     (λ d h. record { there = h.there; reads = rw (h.object, h.is) (ap (reading_map macro_call) h.reads); exact = h.exact })
-extern_item_law bodies (plain_item union_kind n) = tt
-extern_item_law bodies (plain_item enum_kind n) = tt
-extern_item_law bodies (plain_item trait_kind n) = tt
-extern_item_law bodies (plain_item macro_def_kind n) = tt
-extern_item_law bodies (const_item n) = tt
-extern_item_law bodies (struct_item n kind) = tt
-extern_item_law bodies (bare_module n semicolon) = tt
-extern_item_law bodies (listed_module n semicolon is) = tt
-extern_item_law bodies (use_item u) = tt
-extern_item_law bodies (extern_crate n rename) = tt
-extern_item_law bodies (bare_extern_block n) = tt
-extern_item_law bodies (listed_extern_block n is) = tt
-extern_item_law bodies (impl_item n of_trait) = tt
-extern_item_law bodies (macro_rules n name) = tt
-extern_item_law bodies (asm_item n) = tt
+extern_item_law bodies i = tt
 
 extern_items_law : (bodies : Bool) (is : ItemViews) → IfSome (extern_items_data bodies is) (HoldEach extern_item (listed (items_kept bodies is)))
 extern_items_law bodies no_items = record { reads = λ n. refl; exact = refl }
 extern_items_law bodies (item_and i is) =
-    bind (extern_item_data bodies i) _ (Holds extern_item (item_kept bodies i)) (HoldEach extern_item (item_kept bodies i ∷ listed (items_kept bodies is))) (extern_item_law bodies i) (λ d h.
-    bind (extern_items_data bodies is) _ (HoldEach extern_item (listed (items_kept bodies is))) (HoldEach extern_item (item_kept bodies i ∷ listed (items_kept bodies is))) (extern_items_law bodies is) (λ ds hs.
-    record { reads = λ n. rw (h.reads, hs.reads (n + 1)) refl; exact = rw (h.exact, hs.exact) refl }))
+    held_next extern_item (item_kept bodies i) (listed (items_kept bodies is)) (extern_item_data bodies i) (extern_items_data bodies is) (extern_item_law bodies i) (extern_items_law bodies is)
 
 -- an extern block, over what was read of the keys of every item
 abbrev extern_block_by : Data → Reading NodeView → Reading ItemView
@@ -146,6 +125,4 @@ mutual
   pub items_law : (bodies : Bool) (is : ItemViews) → IfSome (items_data bodies is) (HoldEach item (listed (items_kept bodies is)))
   items_law bodies no_items = record { reads = λ n. refl; exact = refl }
   items_law bodies (item_and i is) =
-      bind (item_data bodies i) _ (Holds item (item_kept bodies i)) (HoldEach item (item_kept bodies i ∷ listed (items_kept bodies is))) (item_law bodies i) (λ d h.
-      bind (items_data bodies is) _ (HoldEach item (listed (items_kept bodies is))) (HoldEach item (item_kept bodies i ∷ listed (items_kept bodies is))) (items_law bodies is) (λ ds hs.
-      record { reads = λ n. rw (h.reads, hs.reads (n + 1)) refl; exact = rw (h.exact, hs.exact) refl }))
+      held_next item (item_kept bodies i) (listed (items_kept bodies is)) (item_data bodies i) (items_data bodies is) (item_law bodies i) (items_law bodies is)

@@ -1,5 +1,5 @@
 -- An item that has no items in it is read again.
-use Rattle.std.proofs.Common.{◌≡◌, ℕ, ◌+◌, List, [], ◌∷◌, Bool, false, IfSome, Option, Some, codes, refl, ap, ◌∙◌}
+use Rattle.std.proofs.Common.{◌≡◌, ℕ, List, [], ◌∷◌, Bool, false, IfSome, Option, Some, codes, refl, ap, ◌∙◌}
 use Rattle.serde_json.specs.Data.{Data, string, array, object, Members}
 use Rattle.serde_json.specs.Find.{as_object}
 use Rattle.serde_json.specs.Written.{has_float}
@@ -8,11 +8,11 @@ use Rattle.hir_input.specs.declared.ast.Visibility.{Visibility}
 use Rattle.hir_input.specs.declared.expand_to.ExpandTo.{ExpandTo}
 use Rattle.hir_input.specs.declared.expand_to.ExpandTo.TheVariants as expand_to
 use Rattle.hir_input.specs.Id.{shown_expand_to}
-use Rattle.hir_input.specs.Syntax.{NodeView, NamedView, UseView, CallView, FieldsView, record_fields, tuple_fields, no_fields, ItemView, struct_item, use_item, extern_crate, impl_item, macro_rules, asm_item}
+use Rattle.hir_input.specs.Syntax.{NodeView, NamedView, UseView, CallView, FieldsView, tuple_fields, ItemView, struct_item, use_item, extern_crate, impl_item, macro_rules, asm_item}
 use Rattle.hir_input_json.specs.Reading.{Reading, right, reading_map, ◌>>=◌}
 use Rattle.hir_input_json.specs.Forms.{field, flag, maybe_at, identifier_form, optional_at, required_at, unless_null}
 use Rattle.hir_input_json.specs.Items as forms
-use Rattle.hir_input_json.specs.Items.{named_form, node_form, fields_form, tuple_field, expand_word, expand_to_at, call_form}
+use Rattle.hir_input_json.specs.Items.{named_form, fields_form, tuple_field, expand_word, expand_to_at, call_form}
 use Rattle.hir_input_json.specs.Literals.{context, context_at}
 use Rattle.hir_input_json.specs.Paths.{path_node_form, path_at, vis_form}
 use Rattle.hir_input_json.specs.UseTrees.{rename_form, use_tree_form}
@@ -24,7 +24,7 @@ use Rattle.hir_input_writer.specs.Literals.{context_data}
 use Rattle.hir_input_writer.specs.Parts.{each_data, maybe_data, name_data}
 use Rattle.hir_input_writer.specs.Paths.{path_data, visibility_data}
 use Rattle.hir_input_writer.specs.UseTrees.{rename_data, use_tree_data}
-use Rattle.hir_input_writer.proofs.Held.{bind, mapped, maybe_law, name_law}
+use Rattle.hir_input_writer.proofs.Held.{bind, mapped, maybe_law, name_law, next_law}
 use Rattle.hir_input_writer.proofs.LiteralLaws.{context_law}
 use Rattle.hir_input_writer.proofs.NodeLaws.{NamedHolds, NodeHolds, named_law, named_reads, node_law, node_reads}
 use Rattle.hir_input_writer.proofs.PathLaws.{path_law, visibility_law}
@@ -88,16 +88,13 @@ plain_law form word make by bodies n =
 field_each : (fs : List (Option Visibility)) → IfSome (each_data (maybe_data visibility_data) fs) (HoldEach tuple_field fs)
 field_each [] = record { reads = λ n. refl; exact = refl }
 field_each (f ∷ fs) =
-    bind (maybe_data visibility_data f) _ (MayHold vis_form f) (HoldEach tuple_field (f ∷ fs)) (maybe_law visibility_data vis_form visibility_law f) (λ d h.
-    bind (each_data (maybe_data visibility_data) fs) _ (HoldEach tuple_field fs) (HoldEach tuple_field (f ∷ fs)) (field_each fs) (λ ds hs.
-    record { reads = λ n. rw (h.reads, hs.reads (n + 1)) refl; exact = rw (h.exact, hs.exact) refl }))
+    next_law tuple_field f fs (maybe_data visibility_data f) (each_data (maybe_data visibility_data) fs) (MayHold vis_form f) (maybe_law visibility_data vis_form visibility_law f) (λ d h. h.reads) (λ d h. h.exact) (field_each fs)
 
 fields_law : (f : FieldsView) → IfSome (fields_data f) (Holds fields_form f)
-fields_law record_fields = record { there = refl; reads = refl; exact = refl }
 fields_law (tuple_fields fs) =
     mapped (each_data (maybe_data visibility_data) fs) array (HoldEach tuple_field fs) (Holds fields_form (tuple_fields fs)) (field_each fs)
     (λ ds h. record { there = refl; reads = ap (reading_map tuple_fields) (h.reads 0); exact = h.exact })
-fields_law no_fields = record { there = refl; reads = refl; exact = refl }
+fields_law f = record { there = refl; reads = refl; exact = refl }
 
 pub struct_law : (bodies : Bool) (n : NamedView) (f : FieldsView) → IfSome (struct_data bodies n f) (Holds forms.item (struct_item (named_kept bodies n) f))
 unfolding field
@@ -151,10 +148,7 @@ impl_law bodies n of_trait =
 
 expand_law : (e : ExpandTo) → expand_word (shown_expand_to e) ≡ right e
 expand_law expand_to.Statements = refl
-expand_law expand_to.Items = refl
-expand_law expand_to.Pattern = refl
-expand_law expand_to.Ty = refl
-expand_law expand_to.Expr = refl
+expand_law e = refl
 
 -- a call by its own form, and the word of its kind
 pub record CallHolds (bodies : Bool) (c : CallView) (d : Data) : Type 0 where

@@ -39,6 +39,16 @@ one_more all one made o xs i x vs v within so_far is =
     so_far ∙ ap (λ ys. joined (map view vs) (all ys)) (drop_more xs i x within) ∙ ap (joined (map view vs)) (made (get_or xs i x) (drop (i + 1) xs))
     ∙ ap (λ d. joined (map view vs) (led d (all (drop (i + 1) xs)))) is ∙ joined_push vs v (all (drop (i + 1) xs))
 
+-- in a loop over a list: what is to be written is what was made, and behind it what is left
+abbrev pub HasMade : {T : Type 0} → (xs : List T) → (List T → Option Items) → (done : List Value) → (i : ℕ) → Type 0
+HasMade xs all done i = all xs ≡ joined (map view done) (all (drop i xs))
+
+-- one more is done and pushed
+pub more_made : {T : Type 0} (all : List T → Option Items) (one : T → Option Data) → MadeBy all one → (xs : List T) (i : ℕ) (x : T) (vs new : List Value) (v : Value)
+    → i < length xs → HasMade xs all vs i → one (get_or xs i x) ≡ Some (view v) → new ≡ vs ++ v ∷ [] → HasMade xs all new (i + 1)
+more_made all one made xs i x vs new v within so_far is pushed =
+    one_more all one made (all xs) xs i x vs v within so_far is ∙ ap (λ ws. joined (map view ws) (all (drop (i + 1) xs))) (sym pushed)
+
 -- nothing is left
 pub none_left : {T : Type 0} (all : List T → Option Items) → all [] ≡ Some no_items → (o : Option Items) (xs : List T) (i : ℕ) (vs : List Value)
     → length xs ≤ i → o ≡ joined (map view vs) (all (drop i xs)) → o ≡ Some (items_view vs)

@@ -17,28 +17,15 @@ use Rattle.hir_input_writer.proofs.Held.{bind, below_law, text_law, whole_law}
 
 pub context_law : (c : SyntaxContext) → IfSome (context_data c) (Holds context c)
 context_law (Root E2015) = record { there = refl; reads = refl; exact = refl }
-context_law (Root E2018) = record { there = refl; reads = refl; exact = refl }
-context_law (Root E2021) = record { there = refl; reads = refl; exact = refl }
-context_law (Root E2024) = record { there = refl; reads = refl; exact = refl }
+context_law (Root year) = record { there = refl; reads = refl; exact = refl }
 context_law (Expanded n) = below_law (2 ^ 32) n (λ m. number (unsigned m)) (Holds context (Expanded n)) (λ e. record { there = refl; reads = rw e refl; exact = refl })
 
 same_year : (a b : EditionYear) → (year_number a == year_number b) ≡ true → a ≡ b
 same_year E2015 E2015 h = refl
-same_year E2015 E2018 h = absurd cc
-same_year E2015 E2021 h = absurd cc
-same_year E2015 E2024 h = absurd cc
-same_year E2018 E2015 h = absurd cc
 same_year E2018 E2018 h = refl
-same_year E2018 E2021 h = absurd cc
-same_year E2018 E2024 h = absurd cc
-same_year E2021 E2015 h = absurd cc
-same_year E2021 E2018 h = absurd cc
 same_year E2021 E2021 h = refl
-same_year E2021 E2024 h = absurd cc
-same_year E2024 E2015 h = absurd cc
-same_year E2024 E2018 h = absurd cc
-same_year E2024 E2021 h = absurd cc
 same_year E2024 E2024 h = refl
+same_year a b h = absurd cc
 
 same_number : (n m : ℕ) → (n == m) ≡ true → n ≡ m
 same_number n m h = grind (arith, nat_tests)
@@ -46,8 +33,7 @@ same_number n m h = grind (arith, nat_tests)
 same_context : (a b : SyntaxContext) → is_same_context a b ≡ true → a ≡ b
 same_context (Root a) (Root b) h = ap Root (same_year a b h)
 same_context (Expanded n) (Expanded m) h = ap Expanded (same_number n m h)
-same_context (Root a) (Expanded m) h = absurd cc
-same_context (Expanded n) (Root b) h = absurd cc
+same_context a b h = absurd cc
 
 span_law : (ctxt : SyntaxContext) (s : Span) → ctxt ≡ s.ctxt → IfSome (span_data s) (Holds (span ctxt) s)
 span_law ctxt s is =

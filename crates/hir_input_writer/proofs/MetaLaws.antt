@@ -1,5 +1,5 @@
 -- A meta that is written is read again.
-use Rattle.std.proofs.Common.{◌≡◌, ℕ, ◌+◌, List, [], ◌∷◌, IfSome, Option, refl, ap, ◌∙◌}
+use Rattle.std.proofs.Common.{◌≡◌, ℕ, List, [], ◌∷◌, IfSome, Option, refl, ap, ◌∙◌}
 use Rattle.hir_input.specs.declared.ast.PathNode.{PathNode}
 use Rattle.hir_input.specs.declared.ids.SyntaxContext.{SyntaxContext}
 use Rattle.hir_input.specs.Literal.{LiteralView}
@@ -16,7 +16,7 @@ use Rattle.hir_input_writer.specs.Metas.{key_value_data, meta_data, metas_data, 
 use Rattle.hir_input_writer.specs.Parts.{maybe_data}
 use Rattle.hir_input_writer.specs.Paths.{path_data}
 use Rattle.hir_input_writer.specs.Held.{Holds, MayHold, HoldEach}
-use Rattle.hir_input_writer.proofs.Held.{bind, mapped, maybe_law}
+use Rattle.hir_input_writer.proofs.Held.{bind, held_next, mapped, maybe_law}
 use Rattle.hir_input_writer.proofs.CfgLaws.{CfgHolds, cfg_law}
 use Rattle.hir_input_writer.proofs.LiteralLaws.{context_law, literal_law}
 use Rattle.hir_input_writer.proofs.PathLaws.{path_law}
@@ -76,6 +76,4 @@ mutual
   pub metas_law : (ms : MetaViews) → IfSome (metas_data ms) (HoldEach meta_form (listed ms))
   metas_law no_metas = record { reads = λ n. refl; exact = refl }
   metas_law (meta_and m ms) =
-      bind (meta_data m) _ (Holds meta_form m) (HoldEach meta_form (m ∷ listed ms)) (meta_law m) (λ d h.
-      bind (metas_data ms) _ (HoldEach meta_form (listed ms)) (HoldEach meta_form (m ∷ listed ms)) (metas_law ms) (λ ds hs.
-      record { reads = λ n. rw (h.reads, hs.reads (n + 1)) refl; exact = rw (h.exact, hs.exact) refl }))
+      held_next meta_form m (listed ms) (meta_data m) (metas_data ms) (meta_law m) (metas_law ms)

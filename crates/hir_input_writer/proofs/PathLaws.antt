@@ -2,11 +2,11 @@
 use Rattle.std.proofs.Common.{◌≡◌, ◌^◌, ℕ, List, [], ◌∷◌, IfSome, codes, decimal, refl}
 use Rattle.serde_json.specs.Data.{Data, string, array, Items, no_items, item}
 use Rattle.hir_input.specs.declared.mod_path.PathKind.{PathKind}
-use Rattle.hir_input.specs.declared.mod_path.PathKind.TheVariants.{Plain, Super, Crate, Abs, DollarCrate}
+use Rattle.hir_input.specs.declared.mod_path.PathKind.TheVariants.{Plain, Super, DollarCrate}
 use Rattle.hir_input.specs.declared.ast.PathNode.{PathNode}
 use Rattle.hir_input.specs.declared.ast.PathNode.TheVariants.{Readable, Unreadable}
 use Rattle.hir_input.specs.declared.ast.Visibility.{Visibility}
-use Rattle.hir_input.specs.declared.ast.Visibility.TheVariants.{Pub, PubCrate, PubSuper, PubSelf, InPath}
+use Rattle.hir_input.specs.declared.ast.Visibility.TheVariants.{InPath}
 use Rattle.hir_input_json.specs.Reading.{Reading, right, wrong, under, ◌>>=◌}
 use Rattle.hir_input_json.specs.Forms.{each_from, field, identifier_form, whole_form}
 use Rattle.hir_input_json.specs.Paths.{path_node_form, vis_form}
@@ -40,11 +40,10 @@ kind_law Plain names (item d ds) h = plain_law names d ds h
 kind_law (Super n) names ds h =
     mapped (whole_data (2 ^ 32) n) _ (Holds (whole_form (2 ^ 32)) n) (Holds path_node_form (node_of (Super n) names)) (whole_law (2 ^ 32) n)
     (λ d k. record { there = refl; reads = rw (k.reads, h.reads 2) refl; exact = rw (k.exact, h.exact) refl })
-kind_law Crate names ds h = record { there = refl; reads = rw (h.reads 1) refl; exact = h.exact }
-kind_law Abs names ds h = record { there = refl; reads = rw (h.reads 1) refl; exact = h.exact }
 kind_law (DollarCrate c) names ds h =
     mapped (whole_data (2 ^ 32) c.0) _ (Holds (whole_form (2 ^ 32)) c.0) (Holds path_node_form (node_of (DollarCrate c) names)) (whole_law (2 ^ 32) c.0)
     (λ d k. record { there = refl; reads = rw (k.reads, h.reads 2) refl; exact = rw (k.exact, h.exact) refl })
+kind_law kind names ds h = record { there = refl; reads = rw (h.reads 1) refl; exact = h.exact }
 
 pub path_law : (p : PathNode) → IfSome (path_data p) (Holds path_node_form p)
 path_law (Readable p) =
@@ -53,9 +52,6 @@ path_law Unreadable = record { there = refl; reads = refl; exact = refl }
 
 pub visibility_law : (v : Visibility) → IfSome (visibility_data v) (Holds vis_form v)
 unfolding field
-visibility_law Pub = record { there = refl; reads = refl; exact = refl }
-visibility_law PubCrate = record { there = refl; reads = refl; exact = refl }
-visibility_law PubSuper = record { there = refl; reads = refl; exact = refl }
-visibility_law PubSelf = record { there = refl; reads = refl; exact = refl }
 visibility_law (InPath p) =
     mapped (path_data p) _ (Holds path_node_form p) (Holds vis_form (InPath p)) (path_law p) (λ d h. record { there = refl; reads = rw (h.there, h.reads) refl; exact = rw h.exact refl })
+visibility_law v = record { there = refl; reads = refl; exact = refl }

@@ -1,8 +1,8 @@
 -- A syntax that is written is read again.
-use Rattle.std.proofs.Common.{◌≡◌, ◌+◌, List, [], ◌∷◌, map, Bool, true, false, IfSome, Some, codes, refl, ap, subst}
+use Rattle.std.proofs.Common.{◌≡◌, List, [], ◌∷◌, map, Bool, true, false, IfSome, Some, codes, refl, ap, subst}
 use Rattle.serde_json.specs.Data.{Data}
 use Rattle.hir_input.specs.Bodies.{item_without_bodies, items_without_bodies, stmt_without_bodies, tail_without_body}
-use Rattle.hir_input.specs.Syntax.{ItemView, ItemViews, plain_item, const_item, struct_item, bare_module, listed_module, use_item, extern_crate, bare_extern_block, listed_extern_block, impl_item, macro_call, macro_rules, asm_item, no_items, item_and, StmtView, item_stmt, call_stmt, other_stmt, TailView, no_tail, call_tail, other_tail, SyntaxView, source_file, macro_items, macro_stmts, block_expr, error}
+use Rattle.hir_input.specs.Syntax.{ItemView, ItemViews, listed_module, listed_extern_block, no_items, item_and, StmtView, item_stmt, call_stmt, other_stmt, TailView, no_tail, call_tail, other_tail, SyntaxView, source_file, macro_items, macro_stmts, block_expr, error}
 use Rattle.hir_input_json.specs.Reading.{right, reading_map, under}
 use Rattle.hir_input_json.specs.Forms.{field, optional, unless_null}
 use Rattle.hir_input_json.specs.Items.{item}
@@ -14,7 +14,7 @@ use Rattle.hir_input_writer.specs.Laws.{IsReadAs, kept_bodies}
 use Rattle.hir_input_writer.specs.Parts.{each_data}
 use Rattle.hir_input_writer.specs.Syntaxes.{stmt_data, syntax_data, tail_data}
 use Rattle.serde_json.specs.Written.{has_float}
-use Rattle.hir_input_writer.proofs.Held.{bind, mapped}
+use Rattle.hir_input_writer.proofs.Held.{bind, each_seen, mapped}
 use Rattle.hir_input_writer.proofs.ItemLaws.{from_listed, item_law, items_law, listed}
 use Rattle.hir_input_writer.proofs.KindLaws.{CallHolds, call_law}
 use Rattle.hir_input_writer.proofs.NodeLaws.{AttrsHold, attrs_law}
@@ -28,13 +28,6 @@ stmt_law bodies (call_stmt c) =
     mapped (call_data bodies c) _ (CallHolds bodies c) (Holds stmt (call_stmt (call_kept bodies c))) (call_law bodies c)
     (λ d h. record { there = refl; reads = rw (h.there, h.object, h.is) (ap (λ r. under (codes "call") (reading_map call_stmt r)) h.reads); exact = rw h.exact refl })
 stmt_law bodies other_stmt = record { there = refl; reads = refl; exact = refl }
-
-stmts_law : (bodies : Bool) (ss : List StmtView) → IfSome (each_data (stmt_data bodies) ss) (HoldEach stmt (map (stmt_kept bodies) ss))
-stmts_law bodies [] = record { reads = λ n. refl; exact = refl }
-stmts_law bodies (s ∷ ss) =
-    bind (stmt_data bodies s) _ (Holds stmt (stmt_kept bodies s)) (HoldEach stmt (map (stmt_kept bodies) (s ∷ ss))) (stmt_law bodies s) (λ d h.
-    bind (each_data (stmt_data bodies) ss) _ (HoldEach stmt (map (stmt_kept bodies) ss)) (HoldEach stmt (map (stmt_kept bodies) (s ∷ ss))) (stmts_law bodies ss) (λ ds hs.
-    record { reads = λ n. rw (h.reads, hs.reads (n + 1)) refl; exact = rw (h.exact, hs.exact) refl }))
 
 record TailHolds (t : TailView) (d : Data) : Type 0 where
   pub reads : optional no_tail tail (unless_null d) ≡ right t
@@ -65,7 +58,7 @@ syntax_law bodies (macro_items is) =
     mapped (items_data bodies is) _ (HoldEach item (listed (items_kept bodies is))) (IsReadAs (macro_items (items_kept bodies is))) (items_law bodies is)
     (λ ds hs. record { reads = rw (hs.reads 0) (ap (λ us. right (macro_items us)) (from_listed (items_kept bodies is))); no_float = rw hs.exact refl })
 syntax_law bodies (macro_stmts ss t) =
-    bind (each_data (stmt_data bodies) ss) _ (HoldEach stmt (map (stmt_kept bodies) ss)) (IsReadAs (syntax_kept bodies (macro_stmts ss t))) (stmts_law bodies ss) (λ ds hs.
+    bind (each_data (stmt_data bodies) ss) _ (HoldEach stmt (map (stmt_kept bodies) ss)) (IsReadAs (syntax_kept bodies (macro_stmts ss t))) (each_seen (stmt_data bodies) stmt (stmt_kept bodies) (stmt_law bodies) ss) (λ ds hs.
     bind (tail_data bodies t) _ (TailHolds (tail_kept bodies t)) (IsReadAs (syntax_kept bodies (macro_stmts ss t))) (tail_law bodies t) (λ d h.
     record { reads = rw (hs.reads 0, h.reads) refl; no_float = rw (hs.exact, h.exact) refl }))
 syntax_law bodies (block_expr attrs stmts t) = tt
@@ -75,19 +68,9 @@ syntax_law bodies error = record { reads = refl; no_float = refl }
 
 mutual
   item_all : (i : ItemView) → item_kept true i ≡ i
-  item_all (plain_item kind n) = refl
-  item_all (const_item n) = refl
-  item_all (struct_item n kind) = refl
-  item_all (bare_module n semicolon) = refl
   item_all (listed_module n semicolon is) = ap (listed_module n semicolon) (items_all is)
-  item_all (use_item u) = refl
-  item_all (extern_crate n rename) = refl
-  item_all (bare_extern_block n) = refl
   item_all (listed_extern_block n is) = ap (listed_extern_block n) (items_all is)
-  item_all (impl_item n of_trait) = refl
-  item_all (macro_call c) = refl
-  item_all (macro_rules n name) = refl
-  item_all (asm_item n) = refl
+  item_all i = refl
 
   items_all : (is : ItemViews) → items_kept true is ≡ is
   items_all no_items = refl
@@ -96,29 +79,17 @@ mutual
 stmts_all : (ss : List StmtView) → map (stmt_kept true) ss ≡ ss
 stmts_all [] = refl
 stmts_all (item_stmt i ∷ ss) = rw (item_all i, stmts_all ss) refl
-stmts_all (call_stmt c ∷ ss) = ap (λ rest. call_stmt c ∷ rest) (stmts_all ss)
-stmts_all (other_stmt ∷ ss) = ap (λ rest. other_stmt ∷ rest) (stmts_all ss)
+stmts_all (s ∷ ss) = ap (λ rest. s ∷ rest) (stmts_all ss)
 
 tail_all : (t : TailView) → tail_kept true t ≡ t
 tail_all no_tail = refl
-tail_all (call_tail c) = refl
-tail_all other_tail = refl
+tail_all t = refl
 
 mutual
   item_bare : (i : ItemView) → item_kept false i ≡ item_without_bodies i
-  item_bare (plain_item kind n) = refl
-  item_bare (const_item n) = refl
-  item_bare (struct_item n kind) = refl
-  item_bare (bare_module n semicolon) = refl
   item_bare (listed_module n semicolon is) = ap (listed_module (named_kept false n) semicolon) (items_bare is)
-  item_bare (use_item u) = refl
-  item_bare (extern_crate n rename) = refl
-  item_bare (bare_extern_block n) = refl
   item_bare (listed_extern_block n is) = ap (listed_extern_block (node_kept false n)) (items_bare is)
-  item_bare (impl_item n of_trait) = refl
-  item_bare (macro_call c) = refl
-  item_bare (macro_rules n name) = refl
-  item_bare (asm_item n) = refl
+  item_bare i = refl
 
   items_bare : (is : ItemViews) → items_kept false is ≡ items_without_bodies is
   items_bare no_items = refl
@@ -127,13 +98,11 @@ mutual
 stmts_bare : (ss : List StmtView) → map (stmt_kept false) ss ≡ map stmt_without_bodies ss
 stmts_bare [] = refl
 stmts_bare (item_stmt i ∷ ss) = rw (item_bare i, stmts_bare ss) refl
-stmts_bare (call_stmt c ∷ ss) = ap (λ rest. call_stmt (call_kept false c) ∷ rest) (stmts_bare ss)
-stmts_bare (other_stmt ∷ ss) = ap (λ rest. other_stmt ∷ rest) (stmts_bare ss)
+stmts_bare (s ∷ ss) = ap (λ rest. stmt_kept false s ∷ rest) (stmts_bare ss)
 
 tail_bare : (t : TailView) → tail_kept false t ≡ tail_without_body t
 tail_bare no_tail = refl
-tail_bare (call_tail c) = refl
-tail_bare other_tail = refl
+tail_bare t = refl
 
 is_kept : (bodies : Bool) (s : SyntaxView) → syntax_kept bodies s ≡ kept_bodies bodies s
 is_kept true (source_file attrs is) = ap (source_file attrs) (items_all is)

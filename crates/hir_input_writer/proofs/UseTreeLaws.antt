@@ -1,5 +1,5 @@
 -- A rename and a use tree that are written are read again.
-use Rattle.std.proofs.Common.{◌≡◌, ℕ, ◌+◌, List, [], ◌∷◌, Bool, true, false, bytes_eq, IfSome, Option, Some, None, if◌then◌else◌, codes, refl, ap, subst, ◌∙◌}
+use Rattle.std.proofs.Common.{◌≡◌, ℕ, List, [], ◌∷◌, Bool, true, false, bytes_eq, IfSome, Option, Some, None, if◌then◌else◌, codes, refl, ap, subst, ◌∙◌}
 use Rattle.serde_json.specs.Data.{Data, null, array}
 use Rattle.serde_json.specs.Written.{has_float}
 use Rattle.hir_input.specs.declared.ast.Rename.{Rename}
@@ -13,7 +13,7 @@ use Rattle.hir_input_writer.specs.Held.{Holds, MayHold, HoldEach}
 use Rattle.hir_input_writer.specs.Parts.{maybe_data, name_data}
 use Rattle.hir_input_writer.specs.Paths.{path_data}
 use Rattle.hir_input_writer.specs.UseTrees.{rename_data, renamed_data, use_node_data, use_tree_data, use_trees_data}
-use Rattle.hir_input_writer.proofs.Held.{bind, maybe_law, named_law}
+use Rattle.hir_input_writer.proofs.Held.{bind, held_next, maybe_law, named_law}
 use Rattle.hir_input_writer.proofs.PathLaws.{path_law}
 
 other_by : (b : Bool) (n : List ℕ) (Q : Data → Type 0) (o : Option Data) → (b ≡ false → IfSome o Q) → IfSome (if b then None else o) Q
@@ -56,6 +56,4 @@ mutual
   pub use_trees_law : (ts : UseTreeViews) → IfSome (use_trees_data ts) (HoldEach use_tree_form (listed ts))
   use_trees_law no_trees = record { reads = λ n. refl; exact = refl }
   use_trees_law (tree_and t ts) =
-      bind (use_tree_data t) _ (Holds use_tree_form t) (HoldEach use_tree_form (t ∷ listed ts)) (use_tree_law t) (λ d h.
-      bind (use_trees_data ts) _ (HoldEach use_tree_form (listed ts)) (HoldEach use_tree_form (t ∷ listed ts)) (use_trees_law ts) (λ ds hs.
-      record { reads = λ n. rw (h.reads, hs.reads (n + 1)) refl; exact = rw (h.exact, hs.exact) refl }))
+      held_next use_tree_form t (listed ts) (use_tree_data t) (use_trees_data ts) (use_tree_law t) (use_trees_law ts)

@@ -1,18 +1,15 @@
 -- one more, and the last
-use Rattle.std.proofs.Common.{List, rules, refl, ap, ◌∙◌, ◌+◌, sym, map, drop}
-use Rattle.serde_json.specs.View.{view}
-use Rattle.hir_input_writer.specs.Lists.{joined}
+use Rattle.std.proofs.Common.{List, rules, refl, map}
 use Rattle.hir_input.specs.declared.ast.ExternItem.{ExternItem}
 use Rattle.hir_input.specs.Syntax.{extern_item_view, items_from}
 use Rattle.hir_input_writer.specs.Items.{extern_item_data, extern_items_data}
-use Rattle.hir_input_writer.proofs.Lists.{one_more, none_left}
+use Rattle.hir_input_writer.proofs.Lists.{more_made, none_left}
 use Rattle.hir_input_writer.proofs.extern_block.extern_item_values.Goals as goal
 
 pub loop-item-preserved : goal.loop-item-preserved
 loop-item-preserved c =
-    one_more (λ (xs : List ExternItem). extern_items_data c.args.bodies (items_from (map extern_item_view xs))) (λ (x : ExternItem). extern_item_data c.args.bodies (extern_item_view x)) (λ x xs. refl) _ c.args.extern_items.now c.loop-item.item-index c.item-item.result c.loop-item.values.items c.in_ok-extern_item_value.field-0
-    (search rules) c.loop-item.invariant (search rules)
-    ∙ ap (λ vs. joined (map view vs) (extern_items_data c.args.bodies (items_from (map extern_item_view (drop (c.loop-item.item-index + 1) c.args.extern_items.now))))) (sym c.in_ok-push.ensures.items)
+    more_made (λ (xs : List ExternItem). extern_items_data c.args.bodies (items_from (map extern_item_view xs))) (λ (x : ExternItem). extern_item_data c.args.bodies (extern_item_view x)) (λ x xs. refl) c.args.extern_items.now c.loop-item.item-index c.item-item.result c.loop-item.values.items _ c.in_ok-extern_item_value.field-0
+    (search rules) c.loop-item.invariant (search rules) c.in_ok-push.ensures.items
 
 pub returns : goal.returns
 returns c = none_left (λ (xs : List ExternItem). extern_items_data c.args.bodies (items_from (map extern_item_view xs))) refl _ c.args.extern_items.now c.loop-item.item-index c.loop-item.values.items (search rules) c.loop-item.invariant

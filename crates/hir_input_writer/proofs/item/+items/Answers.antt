@@ -1,21 +1,19 @@
 -- one more, and the last
-use Rattle.std.proofs.Common.{List, rules, refl, ap, ◌∙◌, ◌+◌, sym, map, drop, subst}
+use Rattle.std.proofs.Common.{List, rules, refl, subst}
 use Rattle.serde_json.specs.View.{view}
-use Rattle.hir_input_writer.specs.Lists.{joined}
 use Rattle.hir_input.specs.declared.ast.Item.{Item}
 use Rattle.hir_input.specs.Syntax.{item_view, items_view, named_from}
 use Rattle.hir_input_writer.specs.Items.{item_data, items_data, module_data}
 use Rattle.hir_input_writer.specs.Writes.{Writes}
 use Rattle.hir_input_writer.proofs.Items.{module_view-bare}
 use Rattle.hir_input_writer.proofs.Nulls.{view-Null}
-use Rattle.hir_input_writer.proofs.Lists.{one_more, none_left}
+use Rattle.hir_input_writer.proofs.Lists.{more_made, none_left}
 use Rattle.hir_input_writer.proofs.item.+items.Goals as goal
 
 pub item_values-loop-item-preserved : goal.item_values-loop-item-preserved
 item_values-loop-item-preserved t c =
-    one_more (λ (xs : List Item). items_data c.args.bodies (items_view xs)) (λ (x : Item). item_data c.args.bodies (item_view x)) (λ x xs. refl) _ c.args.items.now c.loop-item.item-index c.item-item.result c.loop-item.values.items c.in_ok-item_value.field-0
-    (search rules) c.loop-item.invariant (search rules)
-    ∙ ap (λ vs. joined (map view vs) (items_data c.args.bodies (items_view (drop (c.loop-item.item-index + 1) c.args.items.now)))) (sym c.in_ok-push.ensures.items)
+    more_made (λ (xs : List Item). items_data c.args.bodies (items_view xs)) (λ (x : Item). item_data c.args.bodies (item_view x)) (λ x xs. refl) c.args.items.now c.loop-item.item-index c.item-item.result c.loop-item.values.items _ c.in_ok-item_value.field-0
+    (search rules) c.loop-item.invariant (search rules) c.in_ok-push.ensures.items
 
 pub item_values-returns : goal.item_values-returns
 item_values-returns t c = none_left (λ (xs : List Item). items_data c.args.bodies (items_view xs)) refl _ c.args.items.now c.loop-item.item-index c.loop-item.values.items (search rules) c.loop-item.invariant

@@ -1,7 +1,6 @@
 -- one more, and the last
-use Rattle.std.proofs.Common.{List, rules, refl, ap, ◌∙◌, ◌+◌, sym, map, drop, subst}
+use Rattle.std.proofs.Common.{List, rules, refl, map, subst}
 use Rattle.serde_json.specs.View.{view}
-use Rattle.hir_input_writer.specs.Lists.{joined}
 use Rattle.hir_input.specs.declared.ast.UseTree.{UseTree}
 use Rattle.hir_input.proofs.UseTreeViews.{use_tree_view-bare}
 use Rattle.hir_input.specs.UseTreeView.{UseNode, trees_from, use_tree_view}
@@ -9,14 +8,13 @@ use Rattle.hir_input_writer.specs.UseTrees.{use_node_data, use_tree_data, use_tr
 use Rattle.hir_input_writer.specs.Writes.{Writes}
 use Rattle.hir_input_writer.proofs.Nulls.{view-Null}
 use Rattle.hir_input.specs.declared.ast.UseTree.TheViews.{out-UseTree}
-use Rattle.hir_input_writer.proofs.Lists.{one_more, none_left}
+use Rattle.hir_input_writer.proofs.Lists.{more_made, none_left}
 use Rattle.hir_input_writer.proofs.use_tree.+trees.Goals as goal
 
 pub use_tree_values-loop-tree-preserved : goal.use_tree_values-loop-tree-preserved
 use_tree_values-loop-tree-preserved t c =
-    one_more (λ (ts : List UseTree). use_trees_data (trees_from (map use_tree_view ts))) (λ (x : UseTree). use_tree_data (use_tree_view x)) (λ x xs. refl) _ c.args.trees.now c.loop-tree.tree-index c.tree-item.result c.loop-tree.values.items c.in_ok-use_tree_value.field-0
-    (search rules) c.loop-tree.invariant (search rules)
-    ∙ ap (λ vs. joined (map view vs) (use_trees_data (trees_from (map use_tree_view (drop (c.loop-tree.tree-index + 1) c.args.trees.now))))) (sym c.in_ok-push.ensures.items)
+    more_made (λ (ts : List UseTree). use_trees_data (trees_from (map use_tree_view ts))) (λ (x : UseTree). use_tree_data (use_tree_view x)) (λ x xs. refl) c.args.trees.now c.loop-tree.tree-index c.tree-item.result c.loop-tree.values.items _ c.in_ok-use_tree_value.field-0
+    (search rules) c.loop-tree.invariant (search rules) c.in_ok-push.ensures.items
 
 pub use_tree_values-returns : goal.use_tree_values-returns
 use_tree_values-returns t c = none_left (λ (ts : List UseTree). use_trees_data (trees_from (map use_tree_view ts))) refl _ c.args.trees.now c.loop-tree.tree-index c.loop-tree.values.items (search rules) c.loop-tree.invariant

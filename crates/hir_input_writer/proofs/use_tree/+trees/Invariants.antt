@@ -1,11 +1,9 @@
 -- what is to be written is what was made, and behind it what is left
-use Rattle.std.proofs.Common.{◌≡◌, map, drop}
-use Rattle.serde_json.specs.View.{view}
+use Rattle.std.proofs.Common.{map}
 use Rattle.hir_input.specs.UseTreeView.{trees_from, use_tree_view}
-use Rattle.hir_input_writer.specs.Lists.{joined}
+use Rattle.hir_input_writer.proofs.Lists.{HasMade}
 use Rattle.hir_input_writer.specs.UseTrees.{use_trees_data}
 use Rattle.hir_input_writer.proofs.use_tree.+trees.Given as goal
 
 abbrev pub invariant-use_tree_values-loop-tree : goal.invariant-use_tree_values-loop-tree
-invariant-use_tree_values-loop-tree l =
-    use_trees_data (trees_from (map use_tree_view l.trees)) ≡ joined (map view l.values.items) (use_trees_data (trees_from (map use_tree_view (drop l.tree-index l.trees))))
+invariant-use_tree_values-loop-tree l = HasMade l.trees (λ ts. use_trees_data (trees_from (map use_tree_view ts))) l.values.items l.tree-index
