@@ -1,8 +1,6 @@
 -- At the first bytes that are told, the trees that are kept are read.
-use Rattle.std.proofs.Common.{◌≡◌, ◌==◌, ◌||◌, ℕ, zero, suc, Bool, true, false, Option, Some, None, List, [], ◌∷◌, ◌++◌, refl, sym, ap, ◌∙◌, subst, append-nil, append_assoc}
-use Rattle.std.specs.Prelude.{is_none, option_to_list}
+use Rattle.std.proofs.Common.{◌≡◌, ◌==◌, ◌||◌, ℕ, zero, suc, Bool, true, false, Option, Some, None, List, [], ◌∷◌, ◌++◌, refl, sym, ap, ◌∙◌, subst, append-nil, append_assoc, is_none, option_to_list, option_and_then}
 use Rattle.std.specs.List.{AllZip}
-use Rattle.std.specs.Option.{option_and_then}
 use Rattle.hir_input.specs.declared.ast.PathNode.{PathNode}
 use Rattle.hir_input.specs.declared.ast.PathNode.TheVariants.{Readable, Unreadable}
 use Rattle.hir_input.specs.declared.ast.Rename.{Rename}
@@ -12,9 +10,8 @@ use Rattle.item_tree.specs.Tree.{Tree, branches_from, branch_nodes}
 use Rattle.rust_cursor.specs.Tokens.{Tokens}
 use Rattle.rust_cursor.specs.Reader.{Reader}
 use Rattle.rust_cursor.specs.Words.{symbol, at, bumped, is_at_end, eat_colons}
-use Rattle.rust_cursor.specs.Brackets.{behind_closed}
 use Rattle.rust_cursor.specs.Elements.{most, beyond, turns_from, turns, elements, one}
-use Rattle.rust_cursor.proofs.Leads.{LeadsTo, here, further, through, when, bumped_leads, eat_pair_leads, behind_closed_leads, behind_tree_leads, beyond_leads}
+use Rattle.rust_cursor.proofs.Leads.{LeadsTo, here, through, when, bumped_leads, eat_pair_leads, behind_closed_leads, behind_tree_leads, beyond_leads}
 use Rattle.rust_paths.specs.Paths.{use_path}
 use Rattle.rust_paths.specs.UseTrees.{FoundInUse, begun_trees, begun_list, values, all_starts, bare_tree, tree_with_list, star_or_list, tree_behind, tree_with, tree_at, element_with, list, tree_comma_from, tree_behind_comma, rename, use_tree}
 use Rattle.rust_paths.proofs.Leads.{use_path_leads, rename_leads}
@@ -26,14 +23,12 @@ use Rattle.source_listing.specs.Told.{nodes_of, kept_nodes, IsReadAt, AreToldFor
 both_zip : {A B : Type 0} (R : A → B → Type 0) (xs us : List A) (ys ws : List B) → AllZip R xs ys → AllZip R us ws → AllZip R (xs ++ us) (ys ++ ws)
 both_zip R [] us [] ws p q = q
 both_zip R (x ∷ xs) us (y ∷ ys) ws p q = (p.0, both_zip R xs us ys ws p.1 q)
-both_zip R [] us (y ∷ ys) ws p q = absurd p
-both_zip R (x ∷ xs) us [] ws p q = absurd p
+both_zip R _ us _ ws p q = absurd p
 
 zip_is : {A B : Type 0} (R S : A → B → Type 0) → ((x : A) (y : B) → R x y → S x y) → (xs : List A) (ys : List B) → AllZip R xs ys → AllZip S xs ys
 zip_is R S f [] [] p = tt
 zip_is R S f (x ∷ xs) (y ∷ ys) p = (f x y p.0, zip_is R S f xs ys p.1)
-zip_is R S f [] (y ∷ ys) p = absurd p
-zip_is R S f (x ∷ xs) [] p = absurd p
+zip_is R S f _ _ p = absurd p
 
 -- ---- the trees that are kept
 

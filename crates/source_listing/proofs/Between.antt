@@ -1,13 +1,8 @@
 -- Lines of changes, one after another.
-use Rattle.std.proofs.Common.{◌≡◌, ℕ, List, [], ◌∷◌, ◌++◌, ap, ◌∙◌, sym, append-nil}
-use Rattle.std.proofs.lemmas.Grind.{flat_map-append}
-use Rattle.hir_input.specs.declared.edition.Edition.{Edition}
+use Rattle.source_listing.proofs.Common.{◌≡◌, ℕ, List, [], ◌∷◌, ◌++◌, ap, ◌∙◌, sym, append-nil, flat_map-append, Edition, ItemPlace, Printer, Source}
 use Rattle.item_changes.specs.Changes.{ChangeView}
-use Rattle.rust_items.specs.declared.source_file.ItemPlace.{ItemPlace}
-use Rattle.source_listing.specs.declared.lines.Printer.{Printer}
 use Rattle.source_listing.specs.Changed.{Side, line_between, change_lines}
 use Rattle.source_listing.specs.Inner.{IsPrinterOf, places_of, reserved_of, side_of_printer}
-use Rattle.source_listing.specs.Lines.{Source}
 use Rattle.source_listing.proofs.Printers.{file_is}
 
 abbrev made : Source → List ItemPlace → Side

@@ -1,19 +1,13 @@
 -- The first imports that are alike, by what they have in common.
-use Rattle.std.proofs.Common.{◌≡◌, ℕ, ◌+◌, ◌<◌, length, map, take, subst, ◌==◌, ◌&&◌, Bool, true, false, List, [], ◌∷◌, ◌++◌, Option, Some, None, Bor, refl, ap, sym, ◌∙◌, ⊎_elim}
-use Rattle.std.specs.Prelude.{if◌then◌else◌, nat_eq, option_map, slice_index_or}
-use Rattle.std.specs.Bool.{Decides}
+use Rattle.source_listing.proofs.Common.{◌≡◌, ℕ, ◌+◌, ◌<◌, length, map, take, subst, ◌==◌, ◌&&◌, Bool, true, false, List, [], ◌∷◌, ◌++◌, Option, Some, None, Bor, refl, ap, sym, ◌∙◌, ⊎_elim, if◌then◌else◌, nat_eq, option_map, slice_index_or, Decides, find, map-append, take_more, FileAstId}
 use Rattle.std.specs.Cmp.Lexicographic.{pointwise, pointwise_decides}
 use Rattle.std.specs.HashMap.{get, get_by}
-use Rattle.std.specs.List.{find}
 use Rattle.std.specs.Option.{option_eq, option_or}
 use Rattle.std.proofs.Common.{cond}
 use Rattle.std.proofs.lemmas.Bool.{cases_Bool, false≢true}
 use Rattle.std.proofs.lemmas.Bool.Decides.{Decides-eqb, Decides-and, Decides-like, same_from_decides}
-use Rattle.std.proofs.lemmas.List.{map-append, take_more}
 use Rattle.std.proofs.lemmas.List.Folds.{find-append}
 use Rattle.hir_input.specs.Equality.{DecidesEq, DecidesEqOf}
-use Rattle.hir_input.specs.declared.ids.FileAstId.{FileAstId}
-use Rattle.rust_ids.specs.Ids.{kind_place}
 use Rattle.source_listing.specs.declared.repeated.Key as code_key
 use Rattle.source_listing.specs.declared.repeated.Named as code_named
 use Rattle.source_listing.specs.Repeated.{Named, is_alike, first_alike}
@@ -40,8 +34,7 @@ fields_decide a b =
 some_decide : {T : Type 0} (test : T → T → Bool) → DecidesEq test → (o p : Option T) → Decides (option_eq test o p) (o ≡ p)
 some_decide test d None None = (λ h. refl, λ e. refl)
 some_decide test d (Some a) (Some b) = Decides-like _ (ap Some) (λ e. cc) (d a b)
-some_decide test d None (Some b) = never (λ e. cc)
-some_decide test d (Some a) None = never (λ e. cc)
+some_decide test d _ _ = never (λ e. cc)
 
 keys_decide : DecidesEqOf named_key_view same_named_key
 keys_decide a b =
@@ -51,8 +44,7 @@ keys_decide a b =
 around_decides : (a : Option (ℕ × ℕ × ℕ)) (b : Option FileAstId) → Decides (is_around a b) (a ≡ option_map id_key b)
 around_decides None None = (λ h. refl, λ e. refl)
 around_decides (Some a) (Some id) = Decides-like _ (ap Some) (λ e. cc) (triple_decides a (id_key id))
-around_decides None (Some id) = never (λ e. cc)
-around_decides (Some a) None = never (λ e. cc)
+around_decides _ _ = never (λ e. cc)
 
 key_decides : (k : NamedKey) (x : Named) → Decides (has_named_key k x) (k ≡ key x)
 key_decides k x =
@@ -110,9 +102,8 @@ finds_more old new xs k x e put finds q =
 
 alike_around : (x y : Option FileAstId) (a b : List ℕ) → is_alike (record { around = x; spot = None; text = a }) (record { around = y; spot = None; text = b }) ≡ has_named_key (key (record { around = x; spot = None; text = a })) (record { around = y; spot = None; text = b })
 alike_around None None a b = refl
-alike_around None (Some y) a b = refl
-alike_around (Some x) None a b = refl
 alike_around (Some x) (Some y) a b = refl
+alike_around _ _ a b = refl
 
 alike_is : (x y : Named) → is_alike x y ≡ has_named_key (key x) y
 alike_is x y = alike_around x.around y.around x.text y.text

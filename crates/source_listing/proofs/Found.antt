@@ -1,16 +1,11 @@
 -- Places by their ids.
-use Rattle.std.proofs.Common.{◌≡◌, ◌≢◌, ℕ, suc, ◌<◌, ◌+◌, ◌-◌, ◌==◌, true, false, if◌then◌else◌, List, [], ◌∷◌, ◌++◌, length, length-append, take, take-append-drop, refl, ap, sym, ◌∙◌, subst, Some, arith, append_assoc, ⊎_elim}
-use Rattle.std.specs.Prelude.{slice_index_or}
+use Rattle.source_listing.proofs.Common.{◌≡◌, ◌≢◌, ℕ, suc, ◌<◌, ◌+◌, ◌-◌, ◌==◌, true, false, if◌then◌else◌, List, [], ◌∷◌, ◌++◌, length, length-append, take, take-append-drop, refl, ap, sym, ◌∙◌, subst, Some, arith, append_assoc, ⊎_elim, slice_index_or, nat_tests, FileAstId, ItemPlace, IsEndOf}
 use Rattle.std.proofs.Math.Seq.{drop-append_seam}
 use Rattle.std.proofs.lemmas.Bool.{cases_Bool}
-use Rattle.std.proofs.lemmas.Bool.Decides.{nat_tests}
 use Rattle.hir_input.specs.declared.ids.AstIdKind.{AstIdKind}
 use Rattle.hir_input.specs.declared.ids.AstIdKind.TheVariants as kind
-use Rattle.hir_input.specs.declared.ids.FileAstId.{FileAstId}
 use Rattle.rust_ids.specs.Ids.{kind_place}
-use Rattle.rust_items.specs.declared.source_file.ItemPlace.{ItemPlace}
 use Rattle.source_listing.specs.Places.{AreDistinct, is_id, place_of}
-use Rattle.source_listing.specs.Ends.{IsEndOf}
 
 to_end : {A : Type 0} (front left all : List A) → front ++ left ≡ all → IsEndOf left all
 to_end front left all e =
@@ -41,21 +36,7 @@ kind_of n =
 
 kind_back : (k : AstIdKind) → kind_of (kind_place k) ≡ k
 kind_back kind.Const = refl
-kind_back kind.Enum = refl
-kind_back kind.ExternBlock = refl
-kind_back kind.ExternCrate = refl
-kind_back kind.Fn = refl
-kind_back kind.Impl = refl
-kind_back kind.MacroDef = refl
-kind_back kind.MacroCall = refl
-kind_back kind.MacroRules = refl
-kind_back kind.Module = refl
-kind_back kind.Static = refl
-kind_back kind.Struct = refl
-kind_back kind.Trait = refl
-kind_back kind.TypeAlias = refl
-kind_back kind.Union = refl
-kind_back kind.Use = refl
+kind_back _ = refl
 
 abbrev made : AstIdKind → ℕ → ℕ → FileAstId
 made kind hash number = record { kind = kind; hash = hash; number = number }

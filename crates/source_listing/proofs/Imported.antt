@@ -1,19 +1,9 @@
 -- Imports.
-use Rattle.std.proofs.Common.{◌≡◌, ℕ, ◌<◌, ◌+◌, List, [], ◌∷◌, ◌++◌, length, map, take, ap, sym, ◌∙◌, subst, append-nil, Option}
-use Rattle.std.specs.Prelude.{All, slice_index_or}
+use Rattle.source_listing.proofs.Common.{◌≡◌, ℕ, ◌<◌, ◌+◌, List, [], ◌∷◌, ◌++◌, length, map, take, ap, sym, ◌∙◌, subst, append-nil, Option, All, slice_index_or, flat_map, flat_map-append, flat_map-map, Import, Forest, Source, Spot, IsSameTreeFinder, IsTreeFinderOf, places_in, finder_text, FilePlaces, placed}
 use Rattle.std.proofs.lemmas.List.{get_or-map, length-map, take_more}
-use Rattle.std.proofs.lemmas.Grind.{flat_map-append}
-use Rattle.std.specs.List.{flat_map}
-use Rattle.std.proofs.lemmas.List.Folds.{flat_map-map}
-use Rattle.item_tree.specs.Imports.{Import}
-use Rattle.item_tree.specs.Node.{Forest}
 use Rattle.def_collector.specs.Declarations.{declarations}
 use Rattle.def_collector.specs.DeclarationView.{DeclarationView, view_of}
-use Rattle.source_listing.specs.Lines.{Source}
-use Rattle.source_listing.specs.declared.finder.Spot.{Spot}
 use Rattle.source_listing.specs.Imports.{placed_import_line, import_lines, of_seen, of_uses, seen_lines}
-use Rattle.source_listing.specs.Inner.{IsSameTreeFinder, IsTreeFinderOf, places_in, finder_text}
-use Rattle.source_listing.specs.Uses.{FilePlaces, placed}
 use Rattle.source_listing.specs.declared.uses.TreeFinder.{TreeFinder}
 
 -- what is told of what is collected is what is told of what is declared

@@ -1,24 +1,8 @@
 -- Objects by the ids of items.
-use Rattle.std.proofs.Common.{◌≡◌, ℕ, ◌+◌, Bool, true, false, List, [], ◌∷◌, ◌++◌, Option, Some, None, refl, ap, sym, ◌∙◌}
-use Rattle.std.specs.List.{flat_map}
-use Rattle.std.specs.Option.{option_map_or}
+use Rattle.source_listing.proofs.Common.{◌≡◌, ℕ, ◌+◌, Bool, true, false, List, [], ◌∷◌, ◌++◌, Option, Some, None, refl, ap, sym, ◌∙◌, flat_map, option_map, option_map_or, items_of, Node, leaf, parent, Forest, empty, more, nodes, Unfolding, StandFor, is_file_enabled, children, children_at, ItemPlace, MemberReading, header_of, members_of, Choice, Source, is_chosen, place_of, spot_at, ItemView, item_in, item_entry, member_objects, entry_object, whole_object, own_objects, node_objects, listed_objects, tree_objects, Spot, Edition, Printer}
 use Rattle.serde_json.specs.Data.{Data}
-use Rattle.serde_json.specs.View.{items_of}
-use Rattle.std.specs.Prelude.{option_map}
 use Rattle.item_tree.specs.Layout.{node_at}
-use Rattle.item_tree.specs.Node.{Node, leaf, parent, Forest, empty, more, nodes, Unfolding}
-use Rattle.item_tree.specs.Shown.{StandFor}
-use Rattle.tree_walk.specs.Rows.{is_file_enabled}
-use Rattle.item_tree.specs.Walk.{children, children_at}
 use Rattle.item_tree.proofs.Walking.{flat_map_of_id}
-use Rattle.rust_items.specs.declared.source_file.ItemPlace.{ItemPlace}
-use Rattle.source_rows.specs.Listed.{MemberReading, header_of, members_of}
-use Rattle.source_listing.specs.Lines.{Choice, Source, is_chosen}
-use Rattle.source_listing.specs.Places.{place_of, spot_at}
-use Rattle.source_listing.specs.Objects.{ItemView, item_in, item_entry, member_objects, entry_object, whole_object, own_objects, node_objects, listed_objects, tree_objects}
-use Rattle.source_listing.specs.declared.finder.Spot.{Spot}
-use Rattle.hir_input.specs.declared.edition.Edition.{Edition}
-use Rattle.source_listing.specs.declared.lines.Printer.{Printer}
 use Rattle.source_listing.specs.Inner.{IsPrinterOf, file_of, item_at, objects_at, places_of, reserved_of}
 use Rattle.source_listing.proofs.Printers.{file_is}
 

@@ -1,28 +1,15 @@
 -- What is listed holds no float.
-use Rattle.std.proofs.Common.{◌≡◌, ℕ, ◌+◌, Bool, true, false, ◌||◌, if◌then◌else◌, List, [], ◌∷◌, ◌++◌, Option, Some, None, option_map, refl}
-use Rattle.std.specs.Prelude.{filter, map}
-use Rattle.std.specs.List.{flat_map}
+use Rattle.source_listing.proofs.Common.{◌≡◌, ℕ, ◌+◌, Bool, true, false, ◌||◌, if◌then◌else◌, List, [], ◌∷◌, ◌++◌, Option, Some, None, option_map, refl, filter, map, flat_map, items_of, view_of, Import, Node, leaf, parent, Forest, empty, more, node_ast, Unfolding, ItemPlace, Listed, MemberReading, header_of, members_of, Spot, FilePlaces, Choice, Source, is_chosen, place_of, spot_at}
 use Rattle.serde_json.specs.Data.{Data, Items, no_items}
-use Rattle.serde_json.specs.View.{items_of}
 use Rattle.serde_json.specs.Written.{has_float, items_have_float}
 use Rattle.def_collector.specs.Declarations.{Declared, declared_name, declared_imports, declarations}
-use Rattle.def_collector.specs.DeclarationView.{view_of}
-use Rattle.item_tree.specs.declared.use_tree.ImportAlias.{ImportAlias}
 use Rattle.item_tree.specs.declared.visibility.RawVisibility.{RawVisibility}
-use Rattle.item_tree.specs.declared.visibility.RawVisibility.TheVariants.{Module, PubSelf, PubCrate, Public}
-use Rattle.item_tree.specs.declared.visibility.VisibilityExplicitness.TheVariants.{Explicit, Implicit}
-use Rattle.item_tree.specs.Imports.{Import}
-use Rattle.item_tree.specs.Node.{Node, leaf, parent, Forest, empty, more, node_ast, Unfolding}
-use Rattle.tree_walk.specs.Rows.{Subject, no_subject, used, called, is_file_enabled}
+use Rattle.item_tree.specs.declared.visibility.RawVisibility.TheVariants.{PubSelf}
+use Rattle.item_tree.specs.declared.visibility.VisibilityExplicitness.TheVariants.{Implicit}
+use Rattle.tree_walk.specs.Rows.{Subject, no_subject, is_file_enabled}
 use Rattle.rust_items.specs.declared.log.Problem.{Problem}
-use Rattle.rust_items.specs.declared.source_file.ItemPlace.{ItemPlace}
-use Rattle.source_rows.specs.Listed.{Listed, MemberReading, header_of, members_of}
-use Rattle.source_listing.specs.declared.finder.Spot.{Spot}
 use Rattle.source_listing.specs.ImportObjects.{alias_form, import_form, import_object, seen_objects, import_objects}
-use Rattle.source_listing.specs.Uses.{FilePlaces}
 use Rattle.source_listing.specs.Imports.{of_declared, spots_of_any}
-use Rattle.source_listing.specs.Lines.{Choice, Source, is_chosen}
-use Rattle.source_listing.specs.Places.{place_of, spot_at}
 use Rattle.source_listing.specs.Objects.{Entry, ItemView, item_in, name_form, header_form, subject_form, visibility_form, line_form, column_form, range_form, entry_object, item_entry, member_entry, member_spot, member_object, member_objects, file_form, whole_object, own_objects, node_objects, listed_objects, tree_objects, problem_objects}
 
 -- ---- lists
@@ -58,9 +45,10 @@ flat_none each (x ∷ xs) h = both_none (each x) (flat_map each xs) (h x) (flat_
 
 -- ---- members
 
-name_none : (o : Option (List ℕ)) → has_float (name_form o) ≡ false
-name_none None = refl
-name_none (Some name) = refl
+-- of what there may be
+some_none : {A : Type 0} (form : Option A → Data) (o : Option A) → has_float (form None) ≡ false → ((a : A) → has_float (form (Some a)) ≡ false) → has_float (form o) ≡ false
+some_none form None e f = e
+some_none form (Some a) e f = f a
 
 header_none : (header : List ℕ) → has_float (header_form header) ≡ false
 header_none [] = refl
@@ -68,38 +56,17 @@ header_none (b ∷ bs) = refl
 
 subject_none : (reserved : List (List ℕ)) (header : List ℕ) (x : Subject) → has_float (subject_form reserved header x) ≡ false
 subject_none reserved header no_subject = header_none header
-subject_none reserved header (used tree) = refl
-subject_none reserved header (called path) = refl
+subject_none reserved header _ = refl
 
 visibility_none : (reserved : List (List ℕ)) (o : Option RawVisibility) → has_float (visibility_form reserved o) ≡ false
-visibility_none reserved None = refl
-visibility_none reserved (Some Public) = refl
-visibility_none reserved (Some PubCrate) = refl
-visibility_none reserved (Some (PubSelf Explicit)) = refl
 visibility_none reserved (Some (PubSelf Implicit)) = refl
-visibility_none reserved (Some (Module path e)) = refl
-
-line_none : (o : Option Spot) → has_float (line_form o) ≡ false
-line_none None = refl
-line_none (Some spot) = refl
-
-column_none : (o : Option Spot) → has_float (column_form o) ≡ false
-column_none None = refl
-column_none (Some spot) = refl
-
-range_none : (o : Option Spot) → has_float (range_form o) ≡ false
-range_none None = refl
-range_none (Some spot) = refl
-
-alias_none : (reserved : List (List ℕ)) (o : Option ImportAlias) → has_float (alias_form reserved o) ≡ false
-alias_none reserved None = refl
-alias_none reserved (Some alias) = refl
+visibility_none reserved _ = refl
 
 -- ---- outlines
 
 object_none : (is_active : Bool) (spot : Option Spot) (e : Entry) (ds : Items) → has_float e.id ≡ false → has_float e.name ≡ false → has_float e.path ≡ false → has_float e.visibility ≡ false → items_have_float ds ≡ false
     → has_float (entry_object is_active spot e ds) ≡ false
-object_none is_active spot e ds i n p v h = rw (h, column_none spot, i, line_none spot, n, p, range_none spot, v) refl
+object_none is_active spot e ds i n p v h = rw (h, some_none column_form spot refl (λ a. refl), i, some_none line_form spot refl (λ a. refl), n, p, some_none range_form spot refl (λ a. refl), v) refl
 
 member_none : (text : List ℕ) (reserved : List (List ℕ)) (m : Listed) → has_float (member_object text reserved m) ≡ false
 member_none text reserved m =
@@ -110,7 +77,7 @@ module _ (s : Source) (x : MemberReading) (reserved : List (List ℕ)) (places :
   at_none level i place ds e =
       let members = member_objects s.text reserved c level (members_of x place i.is_active) in
       let none : items_have_float (items_of members) ≡ false = map_none (member_object s.text reserved) (filter (λ m. is_chosen c (level + 1) m.is_active) (members_of x place i.is_active)) (member_none s.text reserved) in
-      object_none i.is_active (option_map (spot_at s.text) place) (item_entry reserved (header_of x i.id.kind place) i) (items_of (members ++ ds)) refl (name_none i.name) (subject_none reserved (header_of x i.id.kind place) i.subject) (visibility_none reserved i.visibility)
+      object_none i.is_active (option_map (spot_at s.text) place) (item_entry reserved (header_of x i.id.kind place) i) (items_of (members ++ ds)) refl (some_none name_form i.name refl (λ a. refl)) (subject_none reserved (header_of x i.id.kind place) i.subject) (visibility_none reserved i.visibility)
       (both_none members ds none e)
 
   own_none : (level : ℕ) (i : ItemView) (ds : List Data) → items_have_float (items_of ds) ≡ false → items_have_float (items_of (own_objects s x reserved places c level i ds)) ≡ false
@@ -145,7 +112,7 @@ no_float_in_problems text (p ∷ ps) = no_float_in_problems text ps
 
 module _ (reserved : List (List ℕ)) where
   import_none : (spot : Option Spot) (x : Import) → has_float (import_form reserved spot x) ≡ false
-  import_none spot x = rw (alias_none reserved x.alias, column_none spot, line_none spot) refl
+  import_none spot x = rw (some_none (alias_form reserved) x.alias refl (λ a. refl), some_none column_form spot refl (λ a. refl), some_none line_form spot refl (λ a. refl)) refl
 
   each_none : (spots : ℕ → Option Spot) (x : Import) → items_have_float (items_of (import_object reserved spots x)) ≡ false
   each_none spots x = or_none (has_float (import_form reserved (spots x.index) x)) false (import_none (spots x.index) x) refl

@@ -1,15 +1,5 @@
 -- Lines of outlines that are pushed one after another.
-use Rattle.std.proofs.Common.{◌≡◌, ℕ, ◌+◌, List, [], ◌∷◌, ◌++◌, ap, ◌∙◌}
-use Rattle.std.specs.Prelude.{filter, map}
-use Rattle.std.specs.List.{flat_map}
-use Rattle.std.proofs.lemmas.Grind.{flat_map-append}
-use Rattle.std.proofs.lemmas.List.{map-append}
-use Rattle.std.proofs.lemmas.List.Elements.{filter-append}
-use Rattle.tree_walk.specs.Rows.{RowView}
-use Rattle.rust_items.specs.declared.source_file.ItemPlace.{ItemPlace}
-use Rattle.source_rows.specs.Listed.{Listed, MemberReading}
-use Rattle.source_listing.specs.Lines.{Source, Choice, is_chosen, is_listed}
-use Rattle.source_listing.specs.Objects.{member_object, member_objects}
+use Rattle.source_listing.proofs.Common.{◌≡◌, ℕ, ◌+◌, List, [], ◌∷◌, ◌++◌, ap, ◌∙◌, filter, map, flat_map, flat_map-append, map-append, filter-append, RowView, ItemPlace, Listed, MemberReading, Source, Choice, is_chosen, is_listed, member_object, member_objects}
 use Rattle.source_listing.specs.Outlines.{Look, member_line, member_lines, outline_text, whole_lines}
 
 -- the lines of one more item

@@ -1,11 +1,5 @@
 -- What printers say of a file.
-use Rattle.std.proofs.Common.{◌≡◌, ℕ, List, ap, ◌∙◌}
-use Rattle.std.specs.Borrow.{Bor}
-use Rattle.hir_input.specs.declared.edition.Edition.{Edition}
-use Rattle.rust_items.specs.declared.source_file.ItemPlace.{ItemPlace}
-use Rattle.source_listing.specs.declared.lines.Printer.{Printer}
-use Rattle.source_listing.specs.Lines.{Source}
-use Rattle.source_listing.specs.Inner.{IsPrinterOf, IsSameFile, file_of, places_of, reserved_of}
+use Rattle.source_listing.proofs.Common.{◌≡◌, ℕ, List, ap, ◌∙◌, Bor, Edition, ItemPlace, Printer, Source, IsPrinterOf, IsSameFile, file_of, places_of, reserved_of}
 
 abbrev made : List ℕ → List ℕ → Source
 made path text = record { path = path; text = text }

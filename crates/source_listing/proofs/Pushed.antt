@@ -1,14 +1,5 @@
 -- Texts that are pushed one after another.
-use Rattle.std.proofs.Common.{◌≡◌, ℕ, List, [], ◌∷◌, ◌++◌, map, ap, codes, ◌∙◌, append_assoc, Option}
-use Rattle.std.specs.Prelude.{filter}
-use Rattle.std.specs.List.{flat_map}
-use Rattle.std.proofs.lemmas.Grind.{flat_map-append}
-use Rattle.std.proofs.lemmas.List.Elements.{filter-append}
-use Rattle.tree_walk.specs.Rows.{RowView}
-use Rattle.rust_items.specs.declared.source_file.ItemPlace.{ItemPlace}
-use Rattle.source_listing.specs.Lines.{Source}
-use Rattle.std.proofs.lemmas.List.Folds.{flat_map-map}
-use Rattle.source_rows.specs.Listed.{Listed, MemberReading}
+use Rattle.source_listing.proofs.Common.{◌≡◌, ℕ, List, [], ◌∷◌, ◌++◌, map, ap, codes, ◌∙◌, append_assoc, Option, filter, flat_map, flat_map-append, filter-append, RowView, ItemPlace, Source, flat_map-map, Listed, MemberReading}
 use Rattle.source_listing.specs.Tags.{scope_field}
 use Rattle.source_listing.specs.Search.{Query, bare_segment, is_member_found, whole_found, found_lines, found_member, found_members}
 

@@ -1,18 +1,11 @@
 -- Imports by the ids of items, and the lines of one more.
-use Rattle.std.proofs.Common.{◌≡◌, ℕ, ◌+◌, ◌<◌, length, take, List, [], ◌∷◌, ◌++◌, map, Option, Some, None, refl, ap, sym, ◌∙◌, append_assoc, append-nil}
-use Rattle.std.specs.Prelude.{option_map, slice_index_or}
-use Rattle.std.proofs.lemmas.List.{map-append, take_more}
-use Rattle.std.specs.List.{flat_map}
-use Rattle.std.specs.Option.{option_map_or}
-use Rattle.hir_input.specs.declared.ids.FileAstId.{FileAstId}
+use Rattle.source_listing.proofs.Common.{◌≡◌, ℕ, ◌+◌, ◌<◌, length, take, List, [], ◌∷◌, ◌++◌, map, Option, Some, None, refl, ap, sym, ◌∙◌, append_assoc, append-nil, option_map, slice_index_or, flat_map, map-append, take_more, option_map_or, FileAstId, children, children_at, place_of}
 use Rattle.item_tree.specs.Layout.{leaf_map, node_at, vis_at}
-use Rattle.item_tree.specs.Node.{Leaf, plain, constant, struct_item, outline, use_item, extern_crate, impl_item, macro_call, macro_rules, Node, leaf, parent, Forest, empty, more, nodes, node_ast, Unfolding}
+use Rattle.item_tree.specs.Node.{Leaf, plain, use_item, Node, leaf, parent, Forest, empty, more, nodes, node_ast, Unfolding}
 use Rattle.item_tree.specs.Shown.{Lent, lent_leaf, lent_parent, IsLent, StandFor}
-use Rattle.item_tree.specs.Walk.{children, children_at}
 use Rattle.item_tree.proofs.Walking.{flat_map_of_id, leaf_of_id, parent_of_id}
 use Rattle.item_tree.specs.Imports.{Import, imports}
 use Rattle.item_tree.specs.Tree.{Tree}
-use Rattle.source_listing.specs.Places.{place_of}
 use Rattle.source_listing.specs.Uses.{FilePlaces, Trees, use_trees_at, tree_spots, import_spot}
 use Rattle.source_listing.specs.Repeated.{Named, named_import, leaf_named, node_named, forest_named, first_alike, line_if_any, repeat_lines}
 use Rattle.source_listing.specs.Inner.{own_named, lent_named, own_named_at, named_at}
@@ -20,14 +13,7 @@ use Rattle.source_listing.specs.Inner.{own_named, lent_named, own_named_at, name
 module _ (text : List ℕ) (places : FilePlaces) (reserved : List (List ℕ)) (around : Option FileAstId) where
   named-leaf : {V W : Type 0} (f : V → W) (at : FileAstId) (l : Leaf V) → leaf_named text places reserved around at (leaf_map f l) ≡ leaf_named text places reserved around at l
   named-leaf f at (plain k n v) = refl
-  named-leaf f at (constant n v) = refl
-  named-leaf f at (struct_item n v s c) = refl
-  named-leaf f at (outline n v) = refl
-  named-leaf f at (use_item v t) = refl
-  named-leaf f at (extern_crate n v a) = refl
-  named-leaf f at (impl_item of_trait) = refl
-  named-leaf f at (macro_call p e x) = refl
-  named-leaf f at (macro_rules n) = refl
+  named-leaf f at _ = refl
 
   same_ast : (o : Option Node) (n : Node) (at : FileAstId) → o ≡ Some n → option_map node_ast o ≡ Some at → node_ast n ≡ at
   same_ast o n at e f = let g : Some (node_ast n) ≡ Some at = sym (ap (option_map node_ast) e) ∙ f in cc

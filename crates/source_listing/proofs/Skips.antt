@@ -1,7 +1,5 @@
 -- From a place on.
-use Rattle.std.proofs.Common.{◌≡◌, ◌≤◌, ◌<◌, ℕ, zero, true, false, List, [], ◌∷◌, refl, sym, ap, ◌∙◌, arith}
-use Rattle.std.specs.Prelude.{nat_lt}
-use Rattle.std.proofs.lemmas.Bool.Decides.{nat_tests}
+use Rattle.source_listing.proofs.Common.{◌≡◌, ◌≤◌, ◌<◌, ℕ, true, false, List, [], ◌∷◌, refl, ◌∙◌, arith, nat_lt, nat_tests}
 use Rattle.rust_cursor.proofs.Leads.{when}
 use Rattle.source_listing.specs.Uses.{from_place}
 

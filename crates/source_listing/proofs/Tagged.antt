@@ -1,14 +1,5 @@
 -- Tags that are pushed one after another.
-use Rattle.std.proofs.Common.{◌≡◌, ℕ, ◌+◌, ◌<◌, List, [], ◌∷◌, ◌++◌, Option, length, take, get_or, map, ap, sym, ◌∙◌, append_assoc}
-use Rattle.std.specs.Prelude.{filter}
-use Rattle.std.specs.List.{flat_map}
-use Rattle.std.proofs.lemmas.Grind.{flat_map-append}
-use Rattle.std.proofs.lemmas.List.{take_more, map-append}
-use Rattle.std.proofs.lemmas.List.Elements.{filter-append}
-use Rattle.tree_walk.specs.Rows.{RowView}
-use Rattle.rust_items.specs.declared.source_file.ItemPlace.{ItemPlace}
-use Rattle.source_rows.specs.Listed.{Listed, MemberReading}
-use Rattle.source_listing.specs.Lines.{Choice, is_chosen, is_listed}
+use Rattle.source_listing.proofs.Common.{◌≡◌, ℕ, ◌+◌, ◌<◌, List, [], ◌∷◌, ◌++◌, Option, length, take, get_or, map, ap, sym, ◌∙◌, append_assoc, filter, flat_map, flat_map-append, take_more, map-append, filter-append, RowView, ItemPlace, Listed, MemberReading, Choice, is_chosen, is_listed}
 use Rattle.source_listing.specs.Tags.{if_any, member_tag, member_tags, tags_under, whole_tags}
 
 -- the tags of one more item

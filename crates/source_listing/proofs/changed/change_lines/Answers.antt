@@ -1,8 +1,6 @@
-use Rattle.std.proofs.Common.{◌∙◌, ◌++◌, ◌∷◌, [], ap, map, rules, string_bytes, sym, take}
+use Rattle.source_listing.proofs.Common.{◌∙◌, ◌++◌, ◌∷◌, [], ap, map, rules, string_bytes, sym, take, change_view, side_view, source_view}
 use Rattle.std.proofs.lemmas.List.{map_more}
-use Rattle.item_changes.specs.Views.{change_view}
 use Rattle.source_listing.specs.Changed.{change_lines}
-use Rattle.source_listing.specs.Views.{side_view, source_view}
 use Rattle.source_listing.proofs.Between.{one_more_line}
 use Rattle.source_listing.proofs.changed.change_lines.Goals as goal
 

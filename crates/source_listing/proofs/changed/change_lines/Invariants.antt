@@ -1,8 +1,5 @@
-use Rattle.std.proofs.Common.{◌≡◌, map, take, string_bytes}
-use Rattle.item_changes.specs.Views.{change_view}
+use Rattle.source_listing.proofs.Common.{◌≡◌, map, take, string_bytes, change_view, IsPrinterOf, side_view, source_view}
 use Rattle.source_listing.specs.Changed as spec
-use Rattle.source_listing.specs.Inner.{IsPrinterOf}
-use Rattle.source_listing.specs.Views.{side_view, source_view}
 use Rattle.source_listing.proofs.changed.change_lines.Given as goal
 
 abbrev pub invariant-loop-change : goal.invariant-loop-change

@@ -1,11 +1,5 @@
-use Rattle.std.proofs.Common.{rules, ap, map, ◌++◌, ◌∙◌}
-use Rattle.std.specs.List.{flat_map}
-use Rattle.std.proofs.lemmas.List.{take_all}
-use Rattle.serde_json.specs.View.{view}
-use Rattle.def_collector.specs.DeclarationView.{declaration_id, declaration_view}
-use Rattle.item_tree.specs.Shown.{IsContained}
+use Rattle.source_listing.proofs.Common.{rules, ap, map, ◌++◌, ◌∙◌, flat_map, take_all, view, declaration_id, declaration_view, IsContained, placed}
 use Rattle.source_listing.specs.ImportObjects.{import_object, seen_objects}
-use Rattle.source_listing.specs.Uses.{placed}
 use Rattle.source_listing.proofs.Imported.{contained_at, finder_same, one_more_seen, seen_by_finder, seen_of_all}
 use Rattle.source_listing.proofs.import_objects.import_items.Goals as goal
 

@@ -1,10 +1,5 @@
-use Rattle.std.proofs.Common.{◌≡◌, map, take}
-use Rattle.std.specs.List.{flat_map}
-use Rattle.serde_json.specs.View.{view}
-use Rattle.def_collector.specs.DeclarationView.{declaration_view}
+use Rattle.source_listing.proofs.Common.{◌≡◌, map, take, flat_map, view, declaration_view, IsTreeFinderOf, placed}
 use Rattle.source_listing.specs.ImportObjects as spec
-use Rattle.source_listing.specs.Inner.{IsTreeFinderOf}
-use Rattle.source_listing.specs.Uses.{placed}
 use Rattle.source_listing.proofs.import_objects.import_items.Given as goal
 
 abbrev pub invariant-loop-declaration : goal.invariant-loop-declaration

@@ -1,11 +1,5 @@
-use Rattle.std.proofs.Common.{rules, ap, map, string_bytes, ◌++◌, ◌∙◌}
-use Rattle.std.specs.List.{flat_map}
-use Rattle.std.proofs.lemmas.List.{take_all}
-use Rattle.def_collector.specs.DeclarationView.{declaration_id, declaration_view}
-use Rattle.item_tree.specs.Shown.{IsContained}
+use Rattle.source_listing.proofs.Common.{rules, ap, map, string_bytes, ◌++◌, ◌∙◌, flat_map, take_all, declaration_id, declaration_view, IsContained, placed, source_view}
 use Rattle.source_listing.specs.Imports.{placed_import_line, seen_lines}
-use Rattle.source_listing.specs.Uses.{placed}
-use Rattle.source_listing.specs.Views.{source_view}
 use Rattle.source_listing.proofs.Imported.{contained_at, finder_same, lines_of_all, one_more_seen, seen_by_finder}
 use Rattle.source_listing.proofs.imports.import_lines.Goals as goal
 

@@ -1,10 +1,5 @@
-use Rattle.std.proofs.Common.{◌≡◌, take, string_bytes}
-use Rattle.std.specs.List.{flat_map}
-use Rattle.def_collector.specs.DeclarationView.{declaration_view}
+use Rattle.source_listing.proofs.Common.{◌≡◌, take, string_bytes, flat_map, declaration_view, IsTreeFinderOf, placed, source_view}
 use Rattle.source_listing.specs.Imports as spec
-use Rattle.source_listing.specs.Inner.{IsTreeFinderOf}
-use Rattle.source_listing.specs.Uses.{placed}
-use Rattle.source_listing.specs.Views.{source_view}
 use Rattle.source_listing.proofs.imports.import_lines.Given as goal
 
 abbrev pub invariant-loop-declaration : goal.invariant-loop-declaration

@@ -1,9 +1,5 @@
-use Rattle.std.proofs.Common.{◌≡◌, ◌++◌, map, option_map, take, string_bytes}
-use Rattle.std.specs.List.{flat_map}
-use Rattle.def_collector.specs.Listed.{listed_import}
+use Rattle.source_listing.proofs.Common.{◌≡◌, ◌++◌, map, option_map, take, string_bytes, flat_map, listed_import, IsSameTreeFinder, finder_text, placed_trees_view, tree_spots}
 use Rattle.source_listing.specs.Imports as spec
-use Rattle.source_listing.specs.Inner.{IsSameTreeFinder, finder_text, placed_trees_view}
-use Rattle.source_listing.specs.Uses.{tree_spots}
 use Rattle.source_listing.proofs.imports.push_imports.Given as goal
 
 abbrev pub invariant-loop-import : goal.invariant-loop-import

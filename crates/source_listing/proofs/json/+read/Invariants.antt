@@ -1,10 +1,4 @@
-use Rattle.std.proofs.Common.{◌≡◌, ◌+◌, ◌++◌, ◌*◌, map, take}
-use Rattle.std.specs.List.{sum_by, flat_map}
-use Rattle.serde_json.specs.View.{view}
-use Rattle.item_tree.specs.Walk.{count_at}
-use Rattle.source_rows.specs.ListedViews.{reading_view}
-use Rattle.source_listing.specs.Inner.{IsSameFile, file_of, objects_at, places_of, reserved_of}
-use Rattle.source_listing.specs.Views.{choice_view}
+use Rattle.source_listing.proofs.Common.{◌≡◌, ◌+◌, ◌++◌, ◌*◌, map, take, sum_by, flat_map, view, count_at, reading_view, IsSameFile, file_of, objects_at, places_of, reserved_of, choice_view}
 use Rattle.source_listing.proofs.json.+read.Given as goal
 
 abbrev pub decreases-push_objects : goal.decreases-push_objects

@@ -1,9 +1,4 @@
-use Rattle.std.proofs.Common.{◌≡◌, map, take}
-use Rattle.serde_json.specs.View.{view}
-use Rattle.source_rows.specs.ListedViews.{listed_view}
-use Rattle.source_listing.specs.Inner.{IsSameFile, file_of, reserved_of}
-use Rattle.source_listing.specs.Objects.{member_objects}
-use Rattle.source_listing.specs.Views.{choice_view}
+use Rattle.source_listing.proofs.Common.{◌≡◌, map, take, view, listed_view, IsSameFile, file_of, reserved_of, member_objects, choice_view}
 use Rattle.source_listing.proofs.json.member_values.Given as goal
 
 abbrev pub invariant-loop-member : goal.invariant-loop-member

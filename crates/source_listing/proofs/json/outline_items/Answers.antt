@@ -1,8 +1,4 @@
-use Rattle.std.proofs.Common.{ap, map}
-use Rattle.std.specs.Prelude.{option_copied}
-use Rattle.serde_json.specs.View.{view}
-use Rattle.source_listing.specs.Outlines.{reading}
-use Rattle.source_listing.specs.Views.{choice_view, source_view}
+use Rattle.source_listing.proofs.Common.{ap, map, option_copied, view, reading, choice_view, source_view}
 use Rattle.source_listing.proofs.Nested.{objects_are}
 use Rattle.source_listing.proofs.json.outline_items.Goals as goal
 

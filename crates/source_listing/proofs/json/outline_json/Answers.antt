@@ -1,10 +1,5 @@
-use Rattle.std.proofs.Common.{◌≡◌, ◌++◌, codes, ap, subst, ◌∙◌, string_bytes, IfOk}
-use Rattle.std.specs.Prelude.{option_copied}
-use Rattle.serde_json.specs.View.{items_of}
+use Rattle.source_listing.proofs.Common.{◌≡◌, ◌++◌, codes, ap, subst, ◌∙◌, string_bytes, IfOk, option_copied, items_of, file_form, reading, choice_view, source_view}
 use Rattle.serde_json.specs.Written.{compact_text, has_float}
-use Rattle.source_listing.specs.Objects.{file_form}
-use Rattle.source_listing.specs.Outlines.{reading}
-use Rattle.source_listing.specs.Views.{choice_view, source_view}
 use Rattle.source_listing.proofs.NoFloats.{file_none}
 use Rattle.source_listing.proofs.json.outline_json.Goals as goal
 

@@ -1,5 +1,4 @@
-use Rattle.std.proofs.Common.{◌≡◌, ◌++◌, ◌∷◌, [], map, take, string_bytes}
-use Rattle.std.specs.List.{flat_map}
+use Rattle.std.proofs.Common.{◌≡◌, ◌++◌, ◌∷◌, [], map, take, string_bytes, flat_map}
 use Rattle.source_listing.proofs.pages.joined.Given as goal
 
 abbrev pub invariant-loop-line : goal.invariant-loop-line

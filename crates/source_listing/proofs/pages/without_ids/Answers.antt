@@ -1,7 +1,4 @@
-use Rattle.std.proofs.Common.{◌≡◌, map, ap, subst, ◌∙◌, string_bytes, lit<, IfOk}
-use Rattle.std.specs.Prelude.{filter, not}
-use Rattle.std.proofs.lemmas.Iterator.Splits.{YieldsList-from_str_split}
-use Rattle.std.proofs.lemmas.Iterator.Consumers.{YieldsList-end}
+use Rattle.source_listing.proofs.Common.{◌≡◌, map, ap, subst, ◌∙◌, string_bytes, lit<, IfOk, filter, not, YieldsList-from_str_split, YieldsList-end}
 use Rattle.source_listing.specs.Pages.{is_id_line, joined_lines}
 use Rattle.source_listing.proofs.pages.without_ids.Goals as goal
 

@@ -1,5 +1,4 @@
-use Rattle.std.proofs.Common.{◌≡◌, map}
-use Rattle.std.specs.Prelude.{filter, not}
+use Rattle.std.proofs.Common.{◌≡◌, map, filter, not}
 use Rattle.source_listing.specs.Pages as spec
 use Rattle.source_listing.proofs.pages.without_ids.Given as goal
 

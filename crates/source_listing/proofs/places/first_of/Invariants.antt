@@ -1,6 +1,4 @@
-use Rattle.std.proofs.Common.{◌≡◌, length}
-use Rattle.source_listing.specs.Places.{place_of}
-use Rattle.source_listing.specs.Ends.{IsEndOf}
+use Rattle.source_listing.proofs.Common.{◌≡◌, length, place_of, IsEndOf}
 use Rattle.source_listing.proofs.places.first_of.Given as goal
 
 abbrev pub invariant-loop-left : goal.invariant-loop-left

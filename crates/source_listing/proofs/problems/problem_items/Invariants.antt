@@ -1,6 +1,4 @@
-use Rattle.std.proofs.Common.{◌≡◌, map, take}
-use Rattle.serde_json.specs.View.{view}
-use Rattle.source_listing.specs.Objects.{problem_objects}
+use Rattle.source_listing.proofs.Common.{◌≡◌, map, take, view, problem_objects}
 use Rattle.source_listing.proofs.problems.problem_items.Given as goal
 
 abbrev pub invariant-loop-problem : goal.invariant-loop-problem

@@ -1,7 +1,5 @@
-use Rattle.std.proofs.Common.{◌≡◌, take, string_bytes}
-use Rattle.std.specs.List.{flat_map}
+use Rattle.source_listing.proofs.Common.{◌≡◌, take, string_bytes, flat_map, source_view}
 use Rattle.source_listing.specs.Lines as spec
-use Rattle.source_listing.specs.Views.{source_view}
 use Rattle.source_listing.proofs.problems.problem_lines.Given as goal
 
 abbrev pub invariant-loop-problem : goal.invariant-loop-problem

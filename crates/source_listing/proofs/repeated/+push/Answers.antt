@@ -1,6 +1,4 @@
-use Rattle.std.proofs.Common.{map}
-use Rattle.std.proofs.lemmas.Result.{on_ok_weaker}
-use Rattle.source_listing.specs.Inner.{listed_named_view, places_in, finder_text}
+use Rattle.source_listing.proofs.Common.{map, on_ok_weaker, listed_named_view, places_in, finder_text}
 use Rattle.source_listing.proofs.Imported.{places_kept}
 use Rattle.source_listing.proofs.Repeats.{named_adds}
 use Rattle.source_listing.proofs.repeated.+push.Goals as goal

@@ -1,7 +1,4 @@
-use Rattle.std.proofs.Common.{◌≡◌, ◌+◌, ◌*◌, ◌++◌, map, take}
-use Rattle.std.specs.List.{sum_by, flat_map}
-use Rattle.item_tree.specs.Walk.{count_at}
-use Rattle.source_listing.specs.Inner.{IsSameTreeFinder, named_at, listed_named_view, places_in, finder_text}
+use Rattle.source_listing.proofs.Common.{◌≡◌, ◌+◌, ◌*◌, ◌++◌, map, take, sum_by, flat_map, count_at, IsSameTreeFinder, named_at, listed_named_view, places_in, finder_text}
 use Rattle.source_listing.proofs.repeated.+push.Given as goal
 
 abbrev pub decreases-push_all : goal.decreases-push_all

@@ -1,5 +1,4 @@
-use Rattle.std.proofs.Common.{◌≡◌, [], map, take, string_bytes}
-use Rattle.source_listing.specs.Inner.{FindsFirsts, listed_named_view}
+use Rattle.source_listing.proofs.Common.{◌≡◌, [], map, take, string_bytes, FindsFirsts, listed_named_view}
 use Rattle.source_listing.specs.Repeated as spec
 use Rattle.source_listing.proofs.repeated.lines_of.Given as goal
 

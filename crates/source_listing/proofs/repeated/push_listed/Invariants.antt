@@ -1,8 +1,5 @@
-use Rattle.std.proofs.Common.{◌≡◌, ◌++◌, map, option_map, take}
-use Rattle.def_collector.specs.Listed.{listed_import}
-use Rattle.source_listing.specs.Inner.{IsSameTreeFinder, listed_named_view, finder_text, placed_trees_view}
+use Rattle.source_listing.proofs.Common.{◌≡◌, ◌++◌, map, option_map, take, listed_import, IsSameTreeFinder, listed_named_view, finder_text, placed_trees_view, tree_spots}
 use Rattle.source_listing.specs.Repeated as spec
-use Rattle.source_listing.specs.Uses.{tree_spots}
 use Rattle.source_listing.proofs.repeated.push_listed.Given as goal
 
 abbrev pub invariant-loop-import : goal.invariant-loop-import

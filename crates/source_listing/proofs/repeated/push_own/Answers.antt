@@ -1,7 +1,4 @@
-use Rattle.std.proofs.Common.{ap, map, option_map, ◌∙◌}
-use Rattle.std.proofs.lemmas.Result.{on_ok_weaker}
-use Rattle.def_collector.specs.Listed.{listed_import}
-use Rattle.source_listing.specs.Inner.{listed_named_view, places_in, finder_text, placed_trees_view}
+use Rattle.source_listing.proofs.Common.{ap, map, option_map, ◌∙◌, on_ok_weaker, listed_import, listed_named_view, places_in, finder_text, placed_trees_view}
 use Rattle.source_listing.proofs.Repeats.{own_use}
 use Rattle.source_listing.proofs.repeated.push_own.Goals as goal
 

@@ -1,10 +1,5 @@
-use Rattle.std.proofs.Common.{◌≡◌, map, take, string_bytes}
-use Rattle.std.specs.Prelude.{option_copied}
-use Rattle.tree_walk.specs.Views.{row_view}
-use Rattle.source_listing.specs.Outlines.{reading}
+use Rattle.source_listing.proofs.Common.{◌≡◌, map, take, string_bytes, option_copied, row_view, reading, IsPrinterOf, query_view, source_view}
 use Rattle.source_listing.specs.Search as spec
-use Rattle.source_listing.specs.Inner.{IsPrinterOf}
-use Rattle.source_listing.specs.Views.{query_view, source_view}
 use Rattle.source_listing.proofs.search.found_lines.Given as goal
 
 abbrev pub invariant-loop-row : goal.invariant-loop-row

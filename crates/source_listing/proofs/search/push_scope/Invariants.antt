@@ -1,5 +1,4 @@
-use Rattle.std.proofs.Common.{◌≡◌, ◌++◌, take, string_bytes}
-use Rattle.std.specs.List.{flat_map}
+use Rattle.std.proofs.Common.{◌≡◌, ◌++◌, take, string_bytes, flat_map}
 use Rattle.source_listing.specs.Search as spec
 use Rattle.source_listing.proofs.search.push_scope.Given as goal
 

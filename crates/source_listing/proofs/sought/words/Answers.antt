@@ -1,6 +1,4 @@
-use Rattle.std.proofs.Common.{◌∙◌, lit<}
-use Rattle.std.proofs.lemmas.Iterator.Splits.{YieldsList-from_str_split}
-use Rattle.std.proofs.lemmas.Iterator.Consumers.{YieldsList-end}
+use Rattle.source_listing.proofs.Common.{◌∙◌, lit<, YieldsList-from_str_split, YieldsList-end}
 use Rattle.source_listing.proofs.sought.words.Goals as goal
 
 pub returns : goal.returns

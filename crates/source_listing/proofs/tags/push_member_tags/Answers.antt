@@ -1,8 +1,4 @@
-use Rattle.std.proofs.Common.{map, rules, string_bytes}
-use Rattle.std.specs.Prelude.{option_copied}
-use Rattle.tree_walk.specs.Views.{row_view}
-use Rattle.source_rows.specs.ListedViews.{listed_view}
-use Rattle.source_listing.specs.Views.{choice_view}
+use Rattle.source_listing.proofs.Common.{map, rules, string_bytes, option_copied, row_view, listed_view, choice_view}
 use Rattle.source_listing.proofs.Begins.{begin_later}
 use Rattle.source_listing.proofs.Tagged.{member_pushed}
 use Rattle.source_listing.proofs.tags.push_member_tags.Goals as goal

@@ -1,11 +1,6 @@
-use Rattle.std.proofs.Common.{◌≡◌, ◌++◌, map, take, string_bytes}
-use Rattle.std.specs.Prelude.{option_copied}
-use Rattle.tree_walk.specs.Views.{row_view}
-use Rattle.source_rows.specs.ListedViews.{listed_view}
-use Rattle.source_listing.specs.Ends.{IsBeginOf}
+use Rattle.source_listing.proofs.Common.{◌≡◌, ◌++◌, map, take, string_bytes, option_copied, row_view, listed_view, IsBeginOf, choice_view}
 use Rattle.source_listing.specs.Inner.{IsSameFinder}
 use Rattle.source_listing.specs.Tags.{member_tags}
-use Rattle.source_listing.specs.Views.{choice_view}
 use Rattle.source_listing.proofs.tags.push_member_tags.Given as goal
 
 abbrev pub invariant-loop-member : goal.invariant-loop-member

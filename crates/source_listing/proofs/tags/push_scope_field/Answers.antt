@@ -1,5 +1,4 @@
-use Rattle.std.proofs.Common.{rules, string_bytes}
-use Rattle.std.proofs.lemmas.Result.{on_ok_weaker}
+use Rattle.source_listing.proofs.Common.{rules, string_bytes, on_ok_weaker}
 use Rattle.source_listing.proofs.Pushed.{scope_pushed}
 use Rattle.source_listing.proofs.tags.push_scope_field.Goals as goal
 

@@ -1,10 +1,6 @@
-use Rattle.std.proofs.Common.{◌≡◌, ◌++◌, map, take, string_bytes}
-use Rattle.tree_walk.specs.Views.{row_view}
-use Rattle.source_rows.specs.ListedViews.{reading_view}
-use Rattle.source_listing.specs.Ends.{IsBeginOf}
+use Rattle.source_listing.proofs.Common.{◌≡◌, ◌++◌, map, take, string_bytes, row_view, reading_view, IsBeginOf, choice_view}
 use Rattle.source_listing.specs.Tags as spec
 use Rattle.source_listing.specs.Inner.{IsFinderOf}
-use Rattle.source_listing.specs.Views.{choice_view}
 use Rattle.source_listing.proofs.tags.push_tags.Given as goal
 
 abbrev pub invariant-loop-row : goal.invariant-loop-row

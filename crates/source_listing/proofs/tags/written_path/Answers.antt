@@ -1,8 +1,5 @@
-use Rattle.std.proofs.Common.{sym, ap, ◌∙◌, map-id}
+use Rattle.source_listing.proofs.Common.{sym, ap, ◌∙◌, map-id, flat_map, YieldsList-end, path_char}
 use Rattle.std.proofs.lemmas.Iterator.{YieldsList-from_chars}
-use Rattle.std.proofs.lemmas.Iterator.Consumers.{YieldsList-end}
-use Rattle.std.specs.List.{flat_map}
-use Rattle.source_listing.specs.Tags.{path_char}
 use Rattle.source_listing.proofs.tags.written_path.Goals as goal
 
 pub returns : goal.returns

@@ -1,6 +1,4 @@
-use Rattle.std.proofs.Common.{◌≡◌, string_bytes}
-use Rattle.std.specs.List.{flat_map}
-use Rattle.source_listing.specs.Tags.{path_char}
+use Rattle.source_listing.proofs.Common.{◌≡◌, string_bytes, flat_map, path_char}
 use Rattle.source_listing.proofs.tags.written_path.Given as goal
 
 abbrev pub invariant-loop-c : goal.invariant-loop-c

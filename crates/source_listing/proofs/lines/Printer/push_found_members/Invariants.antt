@@ -1,10 +1,5 @@
-use Rattle.std.proofs.Common.{◌≡◌, ◌++◌, map, take, string_bytes}
-use Rattle.std.specs.Prelude.{option_copied}
-use Rattle.tree_walk.specs.Views.{row_view}
-use Rattle.source_rows.specs.ListedViews.{listed_view}
+use Rattle.source_listing.proofs.Common.{◌≡◌, ◌++◌, map, take, string_bytes, option_copied, row_view, listed_view, IsSameFile, file_of, reserved_of, query_view}
 use Rattle.source_listing.specs.Search.{found_members}
-use Rattle.source_listing.specs.Inner.{IsSameFile, file_of, reserved_of}
-use Rattle.source_listing.specs.Views.{query_view}
 use Rattle.source_listing.proofs.lines.Printer.push_found_members.Given as goal
 
 abbrev pub invariant-loop-member : goal.invariant-loop-member

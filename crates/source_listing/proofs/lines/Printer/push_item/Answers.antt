@@ -1,9 +1,6 @@
-use Rattle.std.proofs.Common.{◌++◌, ◌∙◌, ap, rules, string_bytes}
-use Rattle.std.proofs.lemmas.Result.{on_ok_weaker}
-use Rattle.std.specs.Prelude.{option_copied}
+use Rattle.source_listing.proofs.Common.{◌++◌, ◌∙◌, ap, rules, string_bytes, option_copied, on_ok_weaker, file_of, reserved_of}
 use Rattle.tree_walk.specs.Views.{subject_view}
 use Rattle.source_listing.specs.Colors.{bold, colored, cyan, faint}
-use Rattle.source_listing.specs.Inner.{file_of, reserved_of}
 use Rattle.source_listing.specs.Lines as spec
 use Rattle.source_listing.specs.Outlines.{title}
 use Rattle.source_listing.proofs.Pushed.{line_pushed}

@@ -1,8 +1,4 @@
-use Rattle.std.proofs.Common.{◌≡◌, ◌++◌, map, take, string_bytes}
-use Rattle.source_rows.specs.ListedViews.{listed_view}
-use Rattle.source_listing.specs.Outlines.{member_lines}
-use Rattle.source_listing.specs.Inner.{IsSameFile, file_of, reserved_of}
-use Rattle.source_listing.specs.Views.{look_view}
+use Rattle.source_listing.proofs.Common.{◌≡◌, ◌++◌, map, take, string_bytes, listed_view, member_lines, IsSameFile, file_of, reserved_of, look_view}
 use Rattle.source_listing.proofs.lines.Printer.push_members.Given as goal
 
 abbrev pub invariant-loop-member : goal.invariant-loop-member
