@@ -1,17 +1,12 @@
 -- The entries of one name stand side by side.
-use Rattle.std.proofs.Common.{◌≡◌, ℕ, zero, suc, ◌+◌, Bool, true, false, List, [], ◌∷◌, take, drop, filter, refl, sym, ap, subst, ◌∙◌, arith, ltb, slice_index_or}
+use Rattle.decl_index.proofs.Common.{◌≡◌, ℕ, zero, suc, ◌+◌, Bool, true, false, List, [], ◌∷◌, take, drop, filter, refl, sym, ap, subst, ◌∙◌, arith, ltb, slice_index_or, Ordering, Less, Equal, Greater, place_cmp, Entry, name_cmp, entry_cmp}
 use Rattle.std.specs.Cmp.Lexicographic.{nat_list_cmp_total, texts_ties}
 use Rattle.std.specs.List.Sorted.{IsNonDecreasingBy, IsPartitionedBy, IsPartitionPoint, IsStrictlySortedBy}
 use Rattle.std.specs.Ordering.{is_eq, is_le, is_lt, nat_cmp, ordering_index, ordering_reverse, ordering_then}
-use Rattle.std.specs.declared.cmp.Ordering.{Ordering}
-use Rattle.std.specs.declared.cmp.Ordering.TheVariants.{Less, Equal, Greater}
 use Rattle.std.proofs.lemmas.List.Elements.{filter_agree}
 use Rattle.std.proofs.lemmas.List.Sorted.{IsNonDecreasingBy-drop, IsPartitionedBy-ltb, searchable_from_sorted}
 use Rattle.std.proofs.lemmas.Map.Keys.{Less-from_sorted}
 use Rattle.item_tree.specs.IdOrder.{id_cmp}
-use Rattle.item_tree_db.specs.PlaceOrder.{place_cmp}
-use Rattle.decl_index.specs.declared.entry.Entry.{Entry}
-use Rattle.decl_index.specs.EntryOrder.{name_cmp, entry_cmp}
 use Rattle.decl_index.specs.Lookup.{entry_has_name}
 
 -- ---- elements in the order of a test
@@ -26,19 +21,16 @@ module _ {A : Type 0} (o : A → Ordering) where
   rest p x xs m h = (λ i d a b. h.0 (suc i) d (omega arith) (omega arith), λ i d a b. h.1 (suc i) d (omega arith) (omega arith))
 
   below : (p : Ordering) → is_lt p ≡ true → is_eq p ≡ false
-  below Less h = refl
   below Equal h = cc
-  below Greater h = refl
+  below _ h = refl
 
   above : (p : Ordering) → is_le p ≡ false → is_eq p ≡ false
-  above Less h = refl
   above Equal h = cc
-  above Greater h = refl
+  above _ h = refl
 
   equal : (p : Ordering) → is_lt p ≡ false → is_le p ≡ true → is_eq p ≡ true
-  equal Less h k = cc
   equal Equal h k = refl
-  equal Greater h k = cc
+  equal _ h k = cc
 
   front : (xs : List A) (m : ℕ) → IsUpTo is_lt xs 0 → IsUpTo is_le xs m → take m xs ≡ filter (λ x. is_eq (o x)) xs
   front [] zero p q = refl
@@ -60,18 +52,15 @@ module _ {A : Type 0} (o : A → Ordering) where
 
 is_before : (p : Ordering) → ltb (ordering_index p) 1 ≡ is_lt p
 is_before Less = refl
-is_before Equal = refl
-is_before Greater = refl
+is_before _ = refl
 
 is_not_behind : (p : Ordering) → ltb (ordering_index p) 2 ≡ is_le p
 is_not_behind Less = refl
-is_not_behind Equal = refl
-is_not_behind Greater = refl
+is_not_behind _ = refl
 
 names_first : (p q r s : Ordering) → ordering_then (ordering_then (ordering_then p q) r) s ≡ Less → is_lt (ordering_reverse p) ≡ false
-names_first Less q r s h = refl
-names_first Equal q r s h = refl
 names_first Greater q r s h = cc
+names_first _ q r s h = refl
 
 names_rise : (a b : Entry) → entry_cmp a b ≡ Less → is_lt (name_cmp b.name a.name) ≡ false
 names_rise a b h = ap is_lt (nat_list_cmp_total.antisymm b.name a.name) ∙ names_first (name_cmp a.name b.name) (place_cmp a.place b.place) (nat_cmp a.krate.0 b.krate.0) (id_cmp a.id b.id) h

@@ -1,16 +1,10 @@
 -- Entries that are equal by their order are one.
-use Rattle.std.proofs.Common.{◌≡◌, true, ap, sym, ◌∙◌, arith, nat_eq}
-use Rattle.std.specs.Bool.{Decides}
+use Rattle.decl_index.proofs.Common.{◌≡◌, true, ap, sym, ◌∙◌, arith, nat_eq, Decides, eq_by_cmp, is_eq, nat_cmp, ordering_then, nat_tests, place_cmp, Entry, name_cmp, entry_cmp, entry_cmp_total}
 use Rattle.std.specs.Cmp.{tied_itself}
-use Rattle.std.specs.Ordering.{eq_by_cmp, is_eq, nat_cmp, ordering_then}
-use Rattle.std.proofs.lemmas.Bool.Decides.{nat_tests}
 use Rattle.std.proofs.lemmas.Map.Lookups.{CmpEqualImpliesEq, exact_bytes, exact_pairs, exact_unsigned}
 use Rattle.std.proofs.lemmas.Map.Views.{tells_apart}
 use Rattle.item_tree.specs.IdOrder.{id_cmp, id_cmp_ties}
-use Rattle.item_tree_db.specs.PlaceOrder.{place_cmp}
 use Rattle.item_tree_db.proofs.Places.{equal_of}
-use Rattle.decl_index.specs.declared.entry.Entry.{Entry}
-use Rattle.decl_index.specs.EntryOrder.{name_cmp, entry_cmp, entry_cmp_total}
 
 exact_places : CmpEqualImpliesEq place_cmp
 exact_places p q h = equal_of p q (ap is_eq h)

@@ -1,30 +1,16 @@
 -- What a refresh leaves is the index of the table.
-use Rattle.std.proofs.Common.{◌≡◌, ◌≢◌, ◌⊎◌, inl, inr, ℕ, ◌<◌, ◌≤◌, true, false, cond, not, nat_lt, List, ◌++◌, length, filter, Option, Some, None, refl, sym, ap, subst, ◌∙◌, arith, All, Contains, slice_index_or}
-use Rattle.std.specs.Option.{unwrap_or}
+use Rattle.decl_index.proofs.Common.{◌≡◌, ◌≢◌, ◌⊎◌, inl, inr, ℕ, ◌<◌, ◌≤◌, true, false, cond, not, nat_lt, List, ◌++◌, length, filter, Option, Some, None, refl, sym, ap, subst, ◌∙◌, arith, All, Contains, slice_index_or, unwrap_or, Less, Equal, nat_tests, none-some, Crate, Unfolding, of_id, Place, State, IsKnown, change_number, node_name, Entry, entry_cmp, entry_cmp_total, IsDeclared, IsListing, IsBehind, IsBehindAt, entries_at, entries_of, is_current, AreChangedEntries}
 use Rattle.std.specs.Cmp.{IsTotalOrder, tied_itself, nat_cmp_total, on_total, then_total}
 use Rattle.std.specs.List.Sorted.{IsPermutation, IsSorted, IsStrictlySortedBy}
-use Rattle.std.specs.declared.cmp.Ordering.TheVariants.{Less, Equal}
 use Rattle.std.proofs.lemmas.Bool.{cases_lt}
-use Rattle.std.proofs.lemmas.Bool.Decides.{nat_tests}
 use Rattle.std.proofs.lemmas.List.Elements.{All-append, All-contains_itself, All-weaker, Contains-append_left, Contains-append_right}
 use Rattle.std.proofs.lemmas.List.Kept.{IsStrictlySortedBy-filter}
 use Rattle.std.proofs.lemmas.List.Sorted.{All-permutation, Contains-permutation}
 use Rattle.std.proofs.lemmas.Map.Keys.{IsDistinct-from_sorted}
 use Rattle.std.proofs.lemmas.Map.Made.{AllPairs-from_IsDistinct}
-use Rattle.std.proofs.lemmas.Option.{none-some}
-use Rattle.hir_input.specs.declared.ids.Crate.{Crate}
-use Rattle.item_tree.specs.Node.{Unfolding}
-use Rattle.item_tree.specs.Walk.{of_id}
 use Rattle.item_tree.proofs.Walking.{of_id_nothing}
-use Rattle.item_tree_db.specs.declared.place.Place.{Place}
 use Rattle.item_tree_db.specs.PlaceOrder.{place_cmp_total}
-use Rattle.item_tree_db.specs.State.{State, IsKnown, change_number}
 use Rattle.item_tree_db.specs.Since.{Change, change_cmp, IsGrounded, IsSince, IsLate}
-use Rattle.def_collector.specs.Declarations.{node_name}
-use Rattle.decl_index.specs.declared.entry.Entry.{Entry}
-use Rattle.decl_index.specs.EntryOrder.{entry_cmp, entry_cmp_total}
-use Rattle.decl_index.specs.Entries.{IsDeclared, IsListing, IsBehind, IsBehindAt, entries_at, entries_of}
-use Rattle.decl_index.specs.Inner.{is_current, AreChangedEntries}
 use Rattle.decl_index.proofs.Lists.{Once, filter_all, filter_contains, flat_map_all, flat_map_contains, once_append, once_flat_map, strict}
 use Rattle.decl_index.proofs.Order.{same_entries}
 use Rattle.decl_index.proofs.Trees.{tree_of, all_in_tree, all_declared, each_once, declared_there}

@@ -1,17 +1,9 @@
 -- The entries of a tree are those that the table declares there, each once.
-use Rattle.std.proofs.Common.{◌≡◌, ℕ, zero, true, List, [], ◌∷◌, Option, Some, None, refl, sym, subst, ◌∙◌, arith, Contains, All}
-use Rattle.std.specs.Prelude.{is_some}
+use Rattle.decl_index.proofs.Common.{◌≡◌, ℕ, zero, true, List, [], ◌∷◌, Option, Some, None, refl, sym, subst, ◌∙◌, arith, Contains, All, is_some, All-nil, All-cons, All-weaker, none-some, Crate, Place, State, IsKnown, unfolding_at, node_name, Entry}
 use Rattle.std.specs.Option.{option_map_or}
-use Rattle.std.proofs.lemmas.List.Elements.{All-nil, All-cons, All-weaker}
-use Rattle.std.proofs.lemmas.Option.{none-some}
-use Rattle.hir_input.specs.declared.ids.Crate.{Crate}
 use Rattle.item_tree.specs.Node.{Node, Unfolding}
 use Rattle.item_tree.specs.Reach.{all_ids}
 use Rattle.item_tree.proofs.Walking.{each_walked_once}
-use Rattle.item_tree_db.specs.declared.place.Place.{Place}
-use Rattle.item_tree_db.specs.State.{State, IsKnown, unfolding_at}
-use Rattle.def_collector.specs.Declarations.{node_name}
-use Rattle.decl_index.specs.declared.entry.Entry.{Entry}
 use Rattle.decl_index.specs.Entries.{IsDeclared, entry_name, entry_of, entries_by, entries_at}
 use Rattle.decl_index.proofs.Lists.{Once, flat_map_all, flat_map_contains, once_flat_map}
 

@@ -1,6 +1,5 @@
 -- Which names a table declares, and where.
-use Rattle.std.specs.Prelude.{◌≡◌, ◌↔◌, ℕ, ◌≤◌, List, [], ◌∷◌, Option, Some, None, All, length}
-use Rattle.std.specs.List.{Contains, flat_map}
+use Rattle.std.specs.Prelude.{◌≡◌, ◌↔◌, ℕ, ◌≤◌, List, [], ◌∷◌, Option, Some, None, All, length, Contains, flat_map}
 use Rattle.std.specs.List.Sorted.{IsStrictlySortedBy}
 use Rattle.std.specs.Option.{option_map_or, unwrap_or}
 use Rattle.hir_input.specs.declared.ids.Crate.{Crate}

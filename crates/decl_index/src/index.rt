@@ -1,11 +1,9 @@
 //! The index.
-ghost use Rattle.std.specs.Prelude.{◌≡◌, ◌++◌, All, List, None, Some, [], filter, IfOk, OnOk, OnErr};
-ghost use Rattle.std.specs.List.{flat_map};
+ghost use Rattle.std.specs.Prelude.{◌≡◌, ◌++◌, All, List, None, Some, [], filter, IfOk, OnOk, OnErr, flat_map, unwrap_or};
 ghost use Rattle.std.specs.List.Sorted.{IsPermutation, IsSorted, IsStrictlySortedBy};
-ghost use Rattle.std.specs.Option.{unwrap_or};
 ghost use Rattle.item_tree.specs.Shown.{IsContained};
 ghost use Rattle.item_tree.specs.Walk.{AreContained};
-ghost use Rattle.item_tree_db.specs.Since.{HoldLate};
+ghost use Rattle.item_tree_db.specs.Since.{IsGrounded, IsSince};
 ghost use Rattle.item_tree_db.specs.State.{IsKnown};
 ghost use Rattle.decl_index.specs.EntryOrder.{entry_cmp};
 ghost use Rattle.decl_index.specs.Entries.{entries_at, entries_by, entries_of, HasChanged, IsBehind, IsBehindAt, IsIndexOf};
@@ -100,7 +98,7 @@ impl DeclIndex {
         ensures err { OnErr result (self.new ≡ self.old) }
     {
         let since = self.number.unwrap_or(0);
-        let fresh = read_since(alloc, sources, since)?;
+        let fresh = read_late(alloc, sources, since, sources.changed_since(since))?;
         self.renew(sources, since, fresh)
     }
 
@@ -127,7 +125,8 @@ impl DeclIndex {
             self.number = Some(sources.number());
             return Ok(0);
         }
-        let fresh = read_among(alloc, sources, since, places)?;
+        let changes = sources.changed_among(since, places);
+        let fresh = read_late(alloc, sources, since, changes)?;
         self.renew(sources, since, fresh)
     }
 
@@ -165,24 +164,18 @@ fn named<'a>(entries: &'a [Entry], name: &Name) -> &'a [Entry]
     &rest[..rest.partition_point(|entry| entry.name.text() <= name.text())]
 }
 
-// The entries of all trees that changed since a number.
-fn read_since(alloc: Global, sources: &Sources, since: u64) -> Result<Vec<Entry>, AllocError>
-    ensures { IfOk result (λ fresh. AreChangedEntries sources.now since fresh.items) }
-{
-    read_changed(alloc, sources, sources.changed_since(since))
-}
-
-// The same, where they are of these places.
-fn read_among(
+// The entries of all trees that changed since a number, which these changes tell.
+fn read_late(
     alloc: Global,
     sources: &Sources,
     since: u64,
-    places: &BTreeSet<Place>,
+    changes: ChangedSince<'_>,
 ) -> Result<Vec<Entry>, AllocError>
-    requires { HoldLate sources.now since places.now.keys }
+    requires since { IsSince sources.now since changes }
+    requires grounded { IsGrounded sources.now }
     ensures { IfOk result (λ fresh. AreChangedEntries sources.now since fresh.items) }
 {
-    read_changed(alloc, sources, sources.changed_among(since, places))
+    read_changed(alloc, sources, changes)
 }
 
 // The entries of trees that changed.

@@ -1,9 +1,7 @@
-use Rattle.std.proofs.Common.{rules, ◌-◌, List, length, take, drop, sym, ap, subst, ◌∙◌}
+use Rattle.decl_index.proofs.Common.{rules, ◌-◌, List, length, take, drop, sym, ap, subst, ◌∙◌, is_le, is_lt, Entry}
 use Rattle.std.specs.List.Sorted.{IsPartitionedBy}
-use Rattle.std.specs.Ordering.{is_le, is_lt}
 use Rattle.std.proofs.lemmas.List.{take_rest}
 use Rattle.std.proofs.lemmas.List.Sorted.{IsPartitionPoint-from_clause}
-use Rattle.decl_index.specs.declared.entry.Entry.{Entry}
 use Rattle.decl_index.proofs.Looked.{IsUpTo, test, befores, not_behind, looked_up}
 use Rattle.decl_index.proofs.index.named.Goals as goal
 

@@ -1,9 +1,4 @@
-use Rattle.std.proofs.Common.{◌++◌, All, List, sym, ap, subst, ◌∙◌, append_assoc}
-use Rattle.std.proofs.lemmas.List.Elements.{All-head, All-tail}
-use Rattle.item_tree_db.specs.Since.{Change}
-use Rattle.item_tree_db.specs.State.{IsKnown}
-use Rattle.decl_index.specs.declared.entry.Entry.{Entry}
-use Rattle.decl_index.specs.Entries.{entries_at, entries_of}
+use Rattle.decl_index.proofs.Common.{◌++◌, All, List, sym, ap, subst, ◌∙◌, append_assoc, All-head, All-tail, Change, IsKnown, Entry, entries_at, entries_of}
 use Rattle.decl_index.proofs.index.read_changed.Goals as goal
 
 pub read_tree-requires : goal.read_tree-requires

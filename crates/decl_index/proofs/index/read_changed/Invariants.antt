@@ -1,7 +1,5 @@
 -- what is read and the entries of what is left are the entries of all
-use Rattle.std.proofs.Common.{◌≡◌, ◌++◌, All}
-use Rattle.item_tree_db.specs.State.{IsKnown}
-use Rattle.decl_index.specs.Entries.{entries_of}
+use Rattle.decl_index.proofs.Common.{◌≡◌, ◌++◌, All, IsKnown, entries_of}
 use Rattle.decl_index.proofs.index.read_changed.Given as goal
 
 abbrev pub invariant-loop-place : goal.invariant-loop-place

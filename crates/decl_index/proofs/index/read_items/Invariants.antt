@@ -1,6 +1,4 @@
-use Rattle.std.proofs.Common.{◌≡◌, ◌++◌, take}
-use Rattle.std.specs.List.{flat_map}
-use Rattle.decl_index.specs.Entries.{entries_by}
+use Rattle.decl_index.proofs.Common.{◌≡◌, ◌++◌, take, flat_map, entries_by}
 use Rattle.decl_index.proofs.index.read_items.Given as goal
 
 abbrev pub invariant-loop-id : goal.invariant-loop-id

@@ -1,8 +1,5 @@
-use Rattle.std.proofs.Common.{rules, ◌≡◌, ◌++◌, List, filter, ap, subst, ◌∙◌}
-use Rattle.std.specs.List.Sorted.{IsPermutation}
+use Rattle.decl_index.proofs.Common.{rules, ◌≡◌, ◌++◌, List, filter, ap, subst, ◌∙◌, IsPermutation, Entry, is_current}
 use Rattle.std.proofs.lemmas.Fn.{filter_same}
-use Rattle.decl_index.specs.declared.entry.Entry.{Entry}
-use Rattle.decl_index.specs.Inner.{is_current}
 use Rattle.decl_index.proofs.index.replace.Goals as goal
 
 pub returns-clause-moved : goal.returns-clause-moved

@@ -1,6 +1,5 @@
-use Rattle.std.proofs.Common.{sym, subst}
+use Rattle.decl_index.proofs.Common.{sym, subst, entry_cmp}
 use Rattle.std.specs.List.Sorted.{IsStrictlySortedBy}
-use Rattle.decl_index.specs.EntryOrder.{entry_cmp}
 use Rattle.decl_index.proofs.index.DeclIndex.new.Goals as goal
 
 pub invariant_of-result : goal.invariant_of-result

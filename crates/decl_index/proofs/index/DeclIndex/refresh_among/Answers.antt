@@ -1,7 +1,6 @@
-use Rattle.std.proofs.Common.{rules, ◌≡◌, ℕ, [], List, Some, refl, ap, subst, sym, arith, Contains}
-use Rattle.std.specs.Option.{unwrap_or}
-use Rattle.item_tree_db.specs.Since.{Change, IsLate}
-use Rattle.decl_index.specs.Entries.{IndexView, IsBehindAt, IsListing}
+use Rattle.decl_index.proofs.Common.{rules, ◌≡◌, ℕ, [], List, Some, refl, ap, subst, sym, arith, Contains, unwrap_or, IndexView, IsBehindAt, IsListing}
+use Rattle.item_tree_db.specs.Since.{Change, HoldLate, IsLate}
+use Rattle.item_tree_db.proofs.Changes.{since_among}
 use Rattle.decl_index.proofs.Laws.{behind_at_index}
 use Rattle.decl_index.proofs.Refreshed.{unmoved}
 use Rattle.decl_index.proofs.index.DeclIndex.refresh_among.Goals as goal
@@ -26,3 +25,10 @@ returns-then-is_none-clause-at c =
     let s = c.args.sources.now in
     let entries = c.self.inside.entries.items in
     λ named. subst (λ (n : ℕ). IsBehindAt (Some n, entries) named s) (sym c.number.ensures) (behind_at_index s (Some s.number, entries) named c.changed_among.ensures.grounded (record { number = refl; listing = same_listing c }))
+
+pub read_late-requires-clause-since : goal.read_late-requires-clause-since
+read_late-requires-clause-since c =
+    let s = c.args.sources.now in
+    let keys = c.args.places.now.keys in
+    let behind = subst (λ (index : IndexView). IsBehindAt index keys s) (sym c.self.view_is) c.requires in
+    since_among s c.unwrap_or-since.result keys c.changed_among-changes.result (subst (λ (n : ℕ). HoldLate s n keys) (sym c.unwrap_or-since.ensures) behind.late) c.changed_among-changes.ensures.among

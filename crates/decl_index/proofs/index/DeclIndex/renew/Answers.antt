@@ -1,5 +1,4 @@
-use Rattle.std.proofs.Common.{◌≡◌, ℕ, Some, refl, ap, subst, sym}
-use Rattle.std.specs.Option.{unwrap_or}
+use Rattle.std.proofs.Common.{◌≡◌, ℕ, Some, refl, ap, subst, sym, unwrap_or}
 use Rattle.decl_index.specs.Entries.{AreAsOf, IndexView, IsBehind, IsBehindAt, IsListing}
 use Rattle.decl_index.proofs.Laws.{behind_at_index, behind_index}
 use Rattle.decl_index.proofs.Refreshed.{refreshed}
