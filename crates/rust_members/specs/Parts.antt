@@ -1,5 +1,5 @@
 -- One member: of a trait or an impl, a variant, or a field.
-use Rattle.std.specs.Prelude.{ℕ, zero, suc, Bool, true, false, not, ◌==◌, ◌&&◌, ◌||◌, if◌then◌else◌, Option, Some, None, List, codes, bytes_eq}
+use Rattle.std.specs.Prelude.{ℕ, zero, suc, Bool, true, false, not, ◌==◌, ◌&&◌, ◌||◌, if◌then◌else◌, Option, Some, None, List, codes, option_map, bytes_eq}
 use Rattle.hir_input.specs.declared.ast.Visibility.{Visibility}
 use Rattle.hir_input.specs.Attr.{MetaView}
 use Rattle.hir_input.specs.Syntax.{CallView, ItemView, NamedView, plain_item, fn_kind, type_alias_kind, const_item, macro_call}
@@ -13,6 +13,9 @@ use Rattle.rust_cursor.specs.Angles.{behind_angles}
 use Rattle.rust_paths.specs.declared.names.TextRange.{TextRange}
 use Rattle.rust_paths.specs.Visibilities.{visibility}
 use Rattle.rust_metas.specs.Attributes.{outer_attributes}
+use Rattle.rust_metas.specs.Docs.{kept_by, kept_metas}
+use Rattle.rust_leaves.specs.declared.wanted.Wanted.{Wanted}
+use Rattle.rust_leaves.specs.Clipped.{leaf_behind}
 use Rattle.rust_leaves.specs.Fronts.{FrontRead, front}
 use Rattle.rust_leaves.specs.Heads.{behind_others}
 use Rattle.rust_leaves.specs.Leaves.{LeafRead, named}
@@ -50,6 +53,13 @@ abbrev pub body_of : MemberKind → Option TextRange → Option TextRange
 body_of member.Function body = body
 body_of _ body = None
 
+-- the same with its documentation if that is kept
+abbrev pub told_keeping : Bool → MemberTold → MemberTold
+told_keeping docs t = record { kind = t.kind; attrs = kept_metas docs t.attrs; visibility = t.visibility }
+
+abbrev pub told_with : Bool → ItemView → Option MemberTold
+told_with docs i = option_map (told_keeping docs) (told_of i)
+
 -- a member from a place on up to another
 abbrev pub member_kept : ℕ → ℕ → LeafRead → Option MemberTold → Option MemberRead
 member_kept start end l None = None
@@ -63,16 +73,20 @@ member_kept start end l (Some t) = Some (record {
 })
 
 -- another item that stands there is none
-abbrev pub leaf_member : ℕ → Option LeafRead → Reader (Option MemberRead)
-leaf_member start None ts = (None, behind_others ts)
-leaf_member start (Some l) ts = (member_kept start ts.past l (told_of l.item), ts)
+abbrev pub leaf_member : (ItemView → Option MemberTold) → ℕ → Option LeafRead → Reader (Option MemberRead)
+leaf_member told start None ts = (None, behind_others ts)
+leaf_member told start (Some l) ts = (member_kept start ts.past l (told l.item), ts)
 
-abbrev pub member_behind_front : FrontRead → Reader (Option MemberRead)
-member_behind_front h ts = leaf_member h.start (leaf h ts).0 (leaf h ts).1
+abbrev pub member_behind_front : Bool → FrontRead → Reader (Option MemberRead)
+member_behind_front docs h ts = leaf_member (told_with docs) h.start (leaf h ts).0 (leaf h ts).1
 
 -- AssociatedItem, or none: then tokens are passed over
-unfoldable pub associated : Reader (Option MemberRead)
-associated ts = if is_at_end ts then (None, bumped ts) else member_behind_front (front ts).0 (front ts).1
+unfoldable pub associated : Bool → Reader (Option MemberRead)
+associated docs ts = if is_at_end ts then (None, bumped ts) else member_behind_front docs (front ts).0 (front ts).1
+
+-- the same without body texts, by what is wanted of what stands before it and of the item
+abbrev pub member_wanted : Wanted → FrontRead → Reader (Option MemberRead)
+member_wanted w h ts = leaf_member told_of h.start (leaf_behind w h ts).0 (leaf_behind w h ts).1
 
 -- ---- values
 
@@ -185,10 +199,10 @@ part_of kind start attrs v (Some name) end = Some (record {
 })
 
 -- EnumVariant or StructField: up to the comma, which is taken too
-unfoldable pub part_member : MemberKind → Reader (Option MemberRead)
-part_member kind = do
+unfoldable pub part_member : Bool → MemberKind → Reader (Option MemberRead)
+part_member docs kind = do
   start ← look at
-  attrs ← outer_attributes
+  attrs ← kept_by docs outer_attributes
   v ← visibility
   n ← named
   _ ← pass (behind_part kind)

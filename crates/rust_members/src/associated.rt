@@ -11,7 +11,7 @@ use crate::member::{Member, MemberKind};
 use hir_input::Meta;
 use hir_input::ast::{Item, MacroCall, NamedNode, Visibility};
 use rust_cursor::Cursor;
-use rust_leaves::{Front, Leaf, Wanted, pass_others, take_front, take_leaf};
+use rust_leaves::{Front, Leaf, Wanted, pass_others, take_leaf, wanted_front};
 use rust_paths::TextRange;
 use std::alloc::{AllocError, Global};
 
@@ -91,16 +91,13 @@ fn kept(leaf: Leaf<'_>, start: usize, end: usize) -> Option<Member>
 fn behind_front(
     alloc: Global,
     cursor: &mut Cursor<'_>,
+    wanted: Wanted,
     front: Front,
 ) -> Result<Option<Member>, AllocError>
     ensures { Gives (option_map member_view)
-        (spec.member_behind_front (front_view front) cursor.old) result cursor.new }
+        (spec.member_wanted wanted (front_view front) cursor.old) result cursor.new }
 {
     let start = front.start;
-    let wanted = Wanted {
-        bodies: false,
-        docs: true,
-    };
     match take_leaf(alloc, cursor, wanted, front)? {
         Some(leaf) => {
             let end = cursor.past();
@@ -118,13 +115,18 @@ fn behind_front(
 pub(crate) fn associated(
     alloc: Global,
     cursor: &mut Cursor<'_>,
+    keeps_docs: bool,
 ) -> Result<Option<Member>, AllocError>
-    ensures { Gives (option_map member_view) (spec.associated cursor.old) result cursor.new }
+    ensures { Gives (option_map member_view) (spec.associated keeps_docs cursor.old) result cursor.new }
 {
     if cursor.is_at_end() {
         cursor.bump();
         return Ok(None);
     }
-    let front = take_front(alloc, cursor)?;
-    behind_front(alloc, cursor, front)
+    let wanted = Wanted {
+        bodies: false,
+        docs: keeps_docs,
+    };
+    let front = wanted_front(alloc, cursor, wanted)?;
+    behind_front(alloc, cursor, wanted, front)
 }

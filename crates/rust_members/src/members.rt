@@ -13,7 +13,7 @@ use crate::member::{Member, MemberKind};
 use crate::part::part;
 use hir_input::{AstIdKind, EditionYear};
 use rust_cursor::Cursor;
-use rust_metas::inner_attributes;
+use rust_metas::kept_inner_attributes;
 use rust_paths::TextRange;
 use std::alloc::{AllocError, Global};
 
@@ -30,13 +30,15 @@ fn turn(
     alloc: Global,
     cursor: &mut Cursor<'_>,
     kind: AstIdKind,
+    keeps_docs: bool,
 ) -> Result<Option<Member>, AllocError>
-    ensures { Gives (option_map member_view) (spec.member_turn kind cursor.old) result cursor.new }
+    ensures { Gives (option_map member_view) (spec.member_turn keeps_docs kind cursor.old) result
+        cursor.new }
 {
     match kind {
-        AstIdKind::Enum => part(alloc, cursor, MemberKind::Variant),
-        AstIdKind::Struct | AstIdKind::Union => part(alloc, cursor, MemberKind::Field),
-        _ => associated(alloc, cursor),
+        AstIdKind::Enum => part(alloc, cursor, MemberKind::Variant, keeps_docs),
+        AstIdKind::Struct | AstIdKind::Union => part(alloc, cursor, MemberKind::Field, keeps_docs),
+        _ => associated(alloc, cursor, keeps_docs),
     }
 }
 
@@ -54,8 +56,14 @@ fn push_some(members: &mut Vec<Member>, member: Option<Member>) -> Result<(), Al
 }
 
 #[tactic(auto, unfolding(rust_cursor::specs::Elements::turns), using(rust_cursor::proofs::Turns::turns_stop))]
-fn list(alloc: Global, cursor: &mut Cursor<'_>, kind: AstIdKind) -> Result<Vec<Member>, AllocError>
-    ensures { Gives (λ v. map member_view v.items) (spec.member_list kind cursor.old) result cursor.new }
+fn list(
+    alloc: Global,
+    cursor: &mut Cursor<'_>,
+    kind: AstIdKind,
+    keeps_docs: bool,
+) -> Result<Vec<Member>, AllocError>
+    ensures { Gives (λ v. map member_view v.items) (spec.member_list keeps_docs kind cursor.old)
+        result cursor.new }
 {
     let mut members = Vec::new(alloc);
     let most = Cursor::most_turns();
@@ -64,7 +72,7 @@ fn list(alloc: Global, cursor: &mut Cursor<'_>, kind: AstIdKind) -> Result<Vec<M
             break;
         }
         let past = cursor.past();
-        let member = turn(alloc, cursor, kind)?;
+        let member = turn(alloc, cursor, kind, keeps_docs)?;
         push_some(&mut members, member)?;
         cursor.pass_beyond(past);
     }
@@ -78,16 +86,18 @@ fn members_in(
     kind: AstIdKind,
     text: &str,
     edition: EditionYear,
+    keeps_docs: bool,
 ) -> Result<Vec<Member>, AllocError>
-    ensures { IfOk result (λ v. map member_view v.items ≡ spec.members_in edition kind text.now) }
+    ensures { IfOk result
+        (λ v. map member_view v.items ≡ spec.members_in keeps_docs edition kind text.now) }
 {
     let mut cursor = Cursor::new(text, edition);
     if cursor.symbol() != b'{' {
         return Ok(Vec::new(alloc));
     }
     cursor.bump();
-    let _attrs = inner_attributes(alloc, &mut cursor)?;
-    list(alloc, &mut cursor, kind)
+    let _attrs = kept_inner_attributes(alloc, &mut cursor, false)?;
+    list(alloc, &mut cursor, kind, keeps_docs)
 }
 
 fn moved_range(range: TextRange, by: usize) -> TextRange
@@ -138,7 +148,8 @@ fn all_moved(alloc: Global, members: Vec<Member>, by: usize) -> Result<Vec<Membe
 /// Reads the members in the braces of an item of this kind, which are this range of a text of an edition.
 ///
 /// It answers for every text: what is no member is passed over, and in a range that is none of the text is none. An item of
-/// another kind than a trait, an impl, an enum, a struct or a union is read as a trait is.
+/// another kind than a trait, an impl, an enum, a struct or a union is read as a trait is. Documentation is among the attributes
+/// only if it is kept.
 ///
 /// # Errors
 ///
@@ -149,14 +160,15 @@ pub fn read_members(
     text: &str,
     body: TextRange,
     edition: EditionYear,
+    keeps_docs: bool,
 ) -> Result<Vec<Member>, AllocError>
     ensures read { IfOk result
-        (λ v. map member_view v.items ≡ spec.members edition kind text.now body) }
+        (λ v. map member_view v.items ≡ spec.members keeps_docs edition kind text.now body) }
     ensures placed { IfOk result (λ v. ArePlaced body.start body.end (map member_view v.items)) }
 {
     match cut_out(text, body) {
         Some(braces) => {
-            let members = members_in(alloc, kind, braces, edition)?;
+            let members = members_in(alloc, kind, braces, edition, keeps_docs)?;
             all_moved(alloc, members, body.start)
         }
         None => Ok(Vec::new(alloc)),

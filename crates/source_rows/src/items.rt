@@ -105,7 +105,8 @@ fn has_members(kind: AstIdKind) -> bool
     kind_texts(kind).scope.is_some()
 }
 
-/// The members of an item of a text, which has these braces: none, where items of its kind have none.
+/// The members of an item of a text, which has these braces: none, where items of its kind have none. Documentation is not
+/// among their attributes.
 ///
 /// # Errors
 ///
@@ -124,7 +125,7 @@ pub fn members_in(
         return Ok(Vec::new(alloc));
     }
     match body {
-        Some(body) => read_members(alloc, kind, text, body, edition),
+        Some(body) => read_members(alloc, kind, text, body, edition, false),
         None => Ok(Vec::new(alloc)),
     }
 }
