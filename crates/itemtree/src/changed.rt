@@ -100,6 +100,10 @@ impl Comparison<'_> {
         let (Some(old), Some(new)) = (self.read(old_path), self.read(new_path)) else {
             return Ok(());
         };
+        // (Others see the same of equal texts, and no text is too long to be seen.)
+        if !self.is_of_trees && old == new {
+            return Ok(());
+        }
         let olds = Source {
             path: old_path,
             text: &old,

@@ -1,9 +1,10 @@
 //! The tags file.
 use crate::commands::Failure;
 use crate::files::STDIN;
-use crate::output::{unwritten, write_out};
+use crate::output::{STDOUT, unwritten};
+use std::alloc::Global;
 use std::fs::{File, Permissions};
-use std::io::Write;
+use std::io::{BufWriter, Write};
 use std::{fs, io};
 
 const HEAD: &str = "!_TAG_FILE_FORMAT\t2\t/extended format; --format=1 will not append ;\" to lines/
@@ -27,19 +28,29 @@ fn create_beside(rt: &HostRuntime, path: &str) -> io::Result<(String, File)> {
     Err(io::Error::from(io::ErrorKind::AlreadyExists))
 }
 
-/// Writes the text to the file beside and gives that the name of the other.
+/// Writes the head and the lines behind it.
+fn write_lines(alloc: Global, out: impl Write + Drop, lines: &[String]) -> io::Result<()> {
+    let mut out = BufWriter::new(alloc, out)?;
+    out.write_all(HEAD.as_bytes())?;
+    for line in lines {
+        out.write_all(line.as_bytes())?;
+    }
+    out.flush()
+}
+
+/// Writes the lines to the file beside and gives that the name of the other.
 fn fill(
     rt: &HostRuntime,
     beside: &str,
-    mut file: File,
+    file: File,
     permissions: Option<Permissions>,
     path: &str,
-    text: &str,
+    lines: &[String],
 ) -> io::Result<()> {
-    file.write_all(text.as_bytes())?;
     if let Some(permissions) = permissions {
         file.set_permissions(permissions)?;
     }
+    write_lines(rt.alloc(), file, lines)?;
     fs::rename(rt, beside, path)
 }
 
@@ -48,32 +59,32 @@ fn replace(
     rt: &HostRuntime,
     path: &str,
     permissions: Option<Permissions>,
-    text: &str,
+    lines: &[String],
 ) -> io::Result<()> {
     let (beside, file) = create_beside(rt, path)?;
-    let replaced = fill(rt, &beside, file, permissions, path, text);
+    let replaced = fill(rt, &beside, file, permissions, path, lines);
     if replaced.is_err() {
         let _ = fs::remove_file(rt, beside.as_str());
     }
     replaced
 }
 
-/// Writes a file as a whole or not at all; behind a link, the file that it leads to. Devices and pipes take the text as it comes.
-fn write_whole(rt: &HostRuntime, path: &str, text: &str) -> io::Result<()> {
+/// Writes a file as a whole or not at all; behind a link, the file that it leads to. Devices and pipes take the lines as they come.
+fn write_whole(rt: &HostRuntime, path: &str, lines: &[String]) -> io::Result<()> {
     match fs::metadata(rt, path) {
         Ok(old) => {
             if !old.is_file() {
-                return fs::write(rt, path, text);
+                return write_lines(rt.alloc(), File::create(rt, path)?, lines);
             }
             let path = fs::canonicalize(rt, path)?;
-            replace(rt, path.as_str(), Some(old.permissions()), text)
+            replace(rt, path.as_str(), Some(old.permissions()), lines)
         }
         Err(_) => {
             // (a link that leads to no file yet)
             if fs::symlink_metadata(rt, path).is_ok() {
-                return fs::write(rt, path, text);
+                return write_lines(rt.alloc(), File::create(rt, path)?, lines);
             }
-            replace(rt, path, None, text)
+            replace(rt, path, None, lines)
         }
     }
 }
@@ -85,15 +96,13 @@ pub(crate) fn write_tags(
     mut lines: Vec<String>,
 ) -> Result<(), Failure> {
     lines.sort()?;
-    let mut text = String::from_str(rt.alloc(), HEAD)?;
-    for line in &lines {
-        text.push_str(line)?;
-    }
-    if path == STDIN {
-        return write_out(rt, &text);
-    }
-    match write_whole(rt, path, &text) {
+    let (name, written) = if path == STDIN {
+        (STDOUT, write_lines(rt.alloc(), rt.stdout(), &lines))
+    } else {
+        (path, write_whole(rt, path, &lines))
+    };
+    match written {
         Ok(()) => Ok(()),
-        Err(error) => Err(unwritten(rt.alloc(), path, error)),
+        Err(error) => Err(unwritten(rt.alloc(), name, error)),
     }
 }

@@ -4,15 +4,15 @@ use Rattle.std.specs.Prelude.{◌↔◌, IsTrue}
 use Rattle.hir_input.specs.declared.edition.EditionYear.{EditionYear}
 use Rattle.rust_items.specs.declared.source_file.ItemPlace.{ItemPlace}
 use Rattle.rust_items.specs.declared.source_file.SourceFile.{SourceFile}
-use Rattle.rust_items.specs.SourceFiles.{IsSourceFile}
+use Rattle.rust_items.specs.SourceFiles.{FileView, IsClippedFile, file_view}
 use Rattle.source_rows.specs.Parts.{Part, item_parts}
 use Rattle.source_rows.specs.Sources.{Source}
 use Rattle.source_changes.specs.declared.Compared.{Compared}
 use Rattle.source_changes.specs.Changes.{AreParts, seen_texts, compared_lines, IsCompared}
 
--- the parts of a text with these items
-pub are_parts : (edition : EditionYear) (text : List ℕ) (file : SourceFile) (items : List ItemPlace) (ps : List Part) → IsSourceFile edition text file → items ≡ file.places.items → ps ≡ item_parts edition text items → AreParts edition text ps
-are_parts edition text file items ps is same e = (file, is, e ∙ ap (item_parts edition text) same)
+-- the parts of a text with these items: what is wanted of it changes no place
+pub are_parts : {w : _} (edition : EditionYear) (text : List ℕ) (file : SourceFile) (items : List ItemPlace) (ps : List Part) → IsClippedFile w edition text (file_view file) → items ≡ file.places.items → ps ≡ item_parts edition text items → AreParts edition text ps
+are_parts edition text file items ps is same e = (is.read, is.is_read, e ∙ ap (item_parts edition text) (same ∙ ap (λ (f : FileView). f.places) is.clipped))
 
 pub compared : (edition : EditionYear) (d : Bool) (old new : Source) (c : Compared) (olds news olds_a news_a olds_b news_b : List Part) → AreParts edition old.text olds → AreParts edition new.text news → olds_a ≡ olds → news_a ≡ news → olds_b ≡ olds → news_b ≡ news
     → (IsTrue c.is_same ↔ (seen_texts d old.text olds_a ≡ seen_texts d new.text news_a)) → string_bytes c.text ≡ compared_lines c.is_same d old new olds_b news_b → IsCompared edition d old new c

@@ -2,8 +2,7 @@
 use Rattle.std.specs.Prelude.{◌≡◌, ◌↔◌, ℕ, Bool, IsTrue, if◌then◌else◌, List, [], ◌++◌, codes, string_bytes}
 use Rattle.std.specs.List.{flat_map}
 use Rattle.hir_input.specs.declared.edition.EditionYear.{EditionYear}
-use Rattle.rust_items.specs.declared.source_file.SourceFile.{SourceFile}
-use Rattle.rust_items.specs.SourceFiles.{IsSourceFile}
+use Rattle.rust_items.specs.SourceFiles.{FileView, IsFileView}
 use Rattle.item_changes.specs.ChangeWords.{change_word, side_of}
 use Rattle.source_rows.specs.Changes.{RowChange, row_changes}
 use Rattle.source_rows.specs.Skeletons.{skeleton}
@@ -16,7 +15,7 @@ use Rattle.source_changes.specs.declared.Compared.{Compared}
 
 -- the items of a text of an edition, as its reader gives them, and their members
 abbrev pub AreParts : EditionYear → List ℕ → List Part → Type 0
-AreParts edition text ps = (file : SourceFile) × IsSourceFile edition text file × (ps ≡ item_parts edition text file.places.items)
+AreParts edition text ps = (file : FileView) × IsFileView edition text file × (ps ≡ item_parts edition text file.places)
 
 -- every token but those between the braces of functions, comments, and documentation unless it is asked for
 abbrev pub seen_texts : Bool → List ℕ → List Part → List (List ℕ)

@@ -10,7 +10,7 @@ ghost use Rattle.source_changes.specs.Views.{lined_view};
 use hir_input::EditionYear;
 use item_changes::{ChangeKind, change_word};
 use line_index::LineIndex;
-use rust_items::read_source_file;
+use rust_items::{Wanted, read_wanted};
 pub use source_rows::Source;
 use source_rows::{Change, Part, bodies, changes, parts, push_place, rows, same_texts, skeleton};
 use std::alloc::{AllocError, Global};
@@ -28,7 +28,11 @@ pub struct Compared {
 fn parts_of(alloc: Global, text: &str, edition: EditionYear) -> Result<Vec<Part>, AllocError>
     ensures { IfOk result (λ v. spec.AreParts edition text.now (map part_view v.items)) }
 {
-    let file = read_source_file(alloc, text, edition)?;
+    let wanted = Wanted {
+        bodies: false,
+        docs: false,
+    };
+    let file = read_wanted(alloc, text, wanted, edition)?;
     let parts = parts(alloc, text, edition, &file.places)?;
     Ok(parts)
 }
