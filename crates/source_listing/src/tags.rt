@@ -122,6 +122,12 @@ fn written_path(alloc: Global, path: &str) -> Result<String, AllocError>
     Ok(text)
 }
 
+/// The room for what a tag has beside its name, its path and its scope.
+const LINE_ROOM: usize = 24;
+
+/// The room for a name of a scope.
+const SCOPE_ROOM: usize = 16;
+
 /// The text of a tag, with the path as it is written.
 fn tag_text(
     alloc: Global,
@@ -136,8 +142,14 @@ fn tag_text(
         (map (λ n. n.now) scope.now) in
         IfOk result (λ text. string_bytes text ≡ tag) }
 {
-    let mut tag = String::new(alloc);
     let name = name.text();
+    let around = scope.len().saturating_mul(SCOPE_ROOM);
+    let room = name
+        .len()
+        .saturating_add(path.len())
+        .saturating_add(around)
+        .saturating_add(LINE_ROOM);
+    let mut tag = String::with_capacity(alloc, room)?;
     write!(tag, "{name}\t{path}\t{line};\"\t{letter}")?;
     push_scope_field(word, scope, &mut tag)?;
     tag.push_str("\n")?;
