@@ -7,7 +7,7 @@ ghost use Rattle.source_rows.specs.Headers as spec;
 use crate::labels::text_at;
 use hir_input::EditionYear;
 use rust_cursor::Cursor;
-use rust_leaves::take_front;
+use rust_leaves::{Wanted, wanted_front};
 use rust_members::TextRange;
 use std::alloc::{AllocError, Global};
 
@@ -108,7 +108,7 @@ fn spaced(alloc: Global, is_cut: bool, cursor: &mut Cursor<'_>) -> Result<String
     Ok(out)
 }
 
-#[tactic(auto, unfolding(crate::specs::Headers::header_in))]
+#[tactic(auto, unfolding(crate::specs::Headers::header_in, rust_leaves::specs::Clipped::with_value))]
 fn header_in(
     alloc: Global,
     is_cut: bool,
@@ -118,7 +118,11 @@ fn header_in(
     ensures { IfOk result (λ out. string_bytes out ≡ spec.header_in is_cut edition item.now) }
 {
     let mut cursor = Cursor::new(item, edition);
-    let _front = take_front(alloc, &mut cursor)?;
+    let wanted = Wanted {
+        bodies: false,
+        docs: false,
+    };
+    let _front = wanted_front(alloc, &mut cursor, wanted)?;
     cursor.pass_angles();
     spaced(alloc, is_cut, &mut cursor)
 }
