@@ -5,7 +5,7 @@ ghost use Rattle.source_rows.specs.Types as spec;
 
 use hir_input::{EditionYear, Name};
 use rust_cursor::Cursor;
-use rust_leaves::take_front;
+use rust_leaves::{Wanted, wanted_front};
 use rust_paths::name;
 use std::alloc::{AllocError, Global};
 
@@ -112,7 +112,7 @@ fn path_name(read: TypeRead) -> Option<Name>
 }
 
 /// The name of the type of an impl, which this is the text of.
-#[tactic(auto, unfolding(crate::specs::Types::type_name))]
+#[tactic(auto, unfolding(crate::specs::Types::type_name, rust_leaves::specs::Clipped::with_value))]
 pub(crate) fn type_name(
     alloc: Global,
     item: &str,
@@ -121,7 +121,11 @@ pub(crate) fn type_name(
     ensures { IfOk result (λ name. name ≡ spec.type_name edition item.now) }
 {
     let mut cursor = Cursor::new(item, edition);
-    let _front = take_front(alloc, &mut cursor)?;
+    let wanted = Wanted {
+        bodies: false,
+        docs: false,
+    };
+    let _front = wanted_front(alloc, &mut cursor, wanted)?;
     cursor.pass_angles();
     let read = type_read(alloc, &mut cursor)?;
     Ok(path_name(read))
