@@ -1,20 +1,14 @@
 -- What stands on an index: it is the one of its table, and stays behind a table under edits.
-use Rattle.decl_index.proofs.Common.{◌≡◌, ℕ, ◌<◌, ◌≤◌, true, false, cond, IfSome, List, length, All, [], ◌∷◌, Option, Some, None, Result, Ok, Err, OnOk, OnErr, refl, sym, ap, subst, ◌∙◌, arith, Contains, option_map, unwrap_or, All-cons, All-contains, All-nil, All-weaker, Unfolding, of_id, Place, IsGrounded, node_name, Entry, entry_cmp, entry_cmp_total}
+use Rattle.decl_index.proofs.Common.{◌≡◌, ℕ, ◌<◌, ◌≤◌, true, false, cond, IfSome, List, length, All, [], ◌∷◌, Option, Some, None, Result, Ok, Err, OnOk, OnErr, refl, sym, ap, subst, ◌∙◌, arith, Contains, option_map, unwrap_or, All-cons, All-contains, All-nil, All-weaker, Unfolding, of_id, Place, IsGrounded, node_name, Entry, entry_cmp, entry_cmp_total, btree_set_from_contains, btree_set_contains_iff, same_place, same_is, State, IsKnown, new_table, present, unfolding_at, change_number, IsDeclared, IsListing, IndexView, IsIndexOf, IsBehind, IsBehindAt}
 use Rattle.std.specs.BTreeSet.{BTreeSet, contains}
 use Rattle.hir_input.specs.Bodies.{without_bodies}
 use Rattle.std.proofs.lemmas.Bool.Decides.{same_from_decides}
-use Rattle.std.proofs.lemmas.Map.Lookups.{btree_set_from_contains}
-use Rattle.std.proofs.lemmas.Map.Views.{btree_set_contains_iff}
 use Rattle.item_tree.specs.CrateView.{CrateView}
-use Rattle.item_tree_db.specs.PlaceOrder.{same_place}
-use Rattle.item_tree_db.proofs.Places.{same_is}
-use Rattle.item_tree_db.specs.State.{State, IsKnown, new_table, present, unfolding_at, change_number}
 use Rattle.item_tree_db.specs.declared.edit.EditRefused.{EditRefused}
 use Rattle.item_tree_db.specs.Again.{IsSetAgain}
 use Rattle.item_tree_db.specs.Edits.{EditView, NamesPlaceOf, set}
 use Rattle.item_tree_db.specs.History.{ChangesBodiesOnly, IsAfter, IsFooting}
 use Rattle.item_tree_db.proofs.Histories.{late_after}
-use Rattle.decl_index.specs.Entries.{IsDeclared, IsListing, IndexView, IsIndexOf, IsBehind, IsBehindAt}
 use Rattle.decl_index.proofs.Order.{exact_entries}
 
 -- the index of a table is behind it

@@ -1,12 +1,6 @@
 -- Lists made of lists, and lists in which nothing stands twice.
-use Rattle.decl_index.proofs.Common.{◌≡◌, ◌≢◌, inl, inr, zero, suc, ◌+◌, Bool, true, false, not, List, [], ◌∷◌, ◌++◌, filter, All, Contains, AllPairs, slice_index_or, refl, sym, ap, ◌∙◌, arith, Decides, flat_map, Ordering, Less, Equal, Greater, eq_by_cmp, is_eq, is_lt, ordering_reverse}
-use Rattle.std.specs.Cmp.{IsTotalOrder, eq_by_cmp_equiv}
-use Rattle.std.specs.List.Sorted.{IsPermutation, IsSorted, IsStrictlySortedBy}
-use Rattle.std.proofs.lemmas.List.Elements.{All-nil, All-cons, All-head, All-tail, All-append, All-weaker, All-contains, All-filter, Contains-append_left, Contains-append_right, Contains-append_cases, filter_passes}
-use Rattle.std.proofs.lemmas.List.Kept.{AllPairs-cons}
-use Rattle.std.proofs.lemmas.List.Sorted.{Contains-permutation, IsPermutation-filter_both}
-use Rattle.std.proofs.lemmas.Map.Keys.{IsDistinct-IsPermutation, sorted_from_all_adjacent}
-use Rattle.std.proofs.lemmas.Map.Made.{IsDistinct-from_AllPairs, AllPairs-from_IsDistinct}
+use Rattle.decl_index.proofs.Common.{◌≡◌, ◌≢◌, inl, inr, zero, suc, ◌+◌, Bool, true, false, not, List, [], ◌∷◌, ◌++◌, filter, All, Contains, AllPairs, slice_index_or, refl, sym, ap, ◌∙◌, arith, Decides, flat_map, Ordering, Less, Equal, Greater, eq_by_cmp, is_eq, is_lt, ordering_reverse, IsTotalOrder, eq_by_cmp_equiv, IsSorted, IsStrictlySortedBy, All-nil, All-cons, All-head, All-tail, All-append, All-weaker, All-contains, All-filter, Contains-append_left, Contains-append_right, Contains-append_cases, filter_passes, AllPairs-cons, Contains-permutation, IsPermutation-filter_both, IsDistinct-IsPermutation, sorted_from_all_adjacent, IsDistinct-from_AllPairs, AllPairs-from_IsDistinct}
+use Rattle.std.specs.List.Sorted.{IsPermutation}
 
 module _ {X : Type 0} (R : X → X → Type 0) (x : X) (xs : List X) (h : AllPairs R (x ∷ xs)) where
   pairs_head : All (R x) xs

@@ -1,12 +1,7 @@
 -- The entries of one name stand side by side.
-use Rattle.decl_index.proofs.Common.{◌≡◌, ℕ, zero, suc, ◌+◌, Bool, true, false, List, [], ◌∷◌, take, drop, filter, refl, sym, ap, subst, ◌∙◌, arith, ltb, slice_index_or, Ordering, Less, Equal, Greater, place_cmp, Entry, name_cmp, entry_cmp}
+use Rattle.decl_index.proofs.Common.{◌≡◌, ℕ, zero, suc, ◌+◌, Bool, true, false, List, [], ◌∷◌, take, drop, filter, refl, sym, ap, subst, ◌∙◌, arith, ltb, slice_index_or, Ordering, Less, Equal, Greater, place_cmp, Entry, name_cmp, entry_cmp, IsNonDecreasingBy, IsPartitionedBy, IsPartitionPoint, IsStrictlySortedBy, is_eq, nat_cmp, ordering_index, ordering_reverse, ordering_then, filter_agree, IsNonDecreasingBy-drop, IsPartitionedBy-ltb, searchable_from_sorted, Less-from_sorted, id_cmp}
 use Rattle.std.specs.Cmp.Lexicographic.{nat_list_cmp_total, texts_ties}
-use Rattle.std.specs.List.Sorted.{IsNonDecreasingBy, IsPartitionedBy, IsPartitionPoint, IsStrictlySortedBy}
-use Rattle.std.specs.Ordering.{is_eq, is_le, is_lt, nat_cmp, ordering_index, ordering_reverse, ordering_then}
-use Rattle.std.proofs.lemmas.List.Elements.{filter_agree}
-use Rattle.std.proofs.lemmas.List.Sorted.{IsNonDecreasingBy-drop, IsPartitionedBy-ltb, searchable_from_sorted}
-use Rattle.std.proofs.lemmas.Map.Keys.{Less-from_sorted}
-use Rattle.item_tree.specs.IdOrder.{id_cmp}
+use Rattle.std.specs.Ordering.{is_le, is_lt}
 use Rattle.decl_index.specs.Lookup.{entry_has_name}
 
 -- ---- elements in the order of a test

@@ -1,10 +1,5 @@
 -- Entries that are equal by their order are one.
-use Rattle.decl_index.proofs.Common.{◌≡◌, true, ap, sym, ◌∙◌, arith, nat_eq, Decides, eq_by_cmp, is_eq, nat_cmp, ordering_then, nat_tests, place_cmp, Entry, name_cmp, entry_cmp, entry_cmp_total}
-use Rattle.std.specs.Cmp.{tied_itself}
-use Rattle.std.proofs.lemmas.Map.Lookups.{CmpEqualImpliesEq, exact_bytes, exact_pairs, exact_unsigned}
-use Rattle.std.proofs.lemmas.Map.Views.{tells_apart}
-use Rattle.item_tree.specs.IdOrder.{id_cmp, id_cmp_ties}
-use Rattle.item_tree_db.proofs.Places.{equal_of}
+use Rattle.decl_index.proofs.Common.{◌≡◌, true, ap, sym, ◌∙◌, arith, nat_eq, Decides, eq_by_cmp, is_eq, nat_cmp, ordering_then, nat_tests, place_cmp, Entry, name_cmp, entry_cmp, entry_cmp_total, tied_itself, CmpEqualImpliesEq, exact_bytes, exact_pairs, exact_unsigned, tells_apart, id_cmp, id_cmp_ties, equal_of}
 
 exact_places : CmpEqualImpliesEq place_cmp
 exact_places p q h = equal_of p q (ap is_eq h)

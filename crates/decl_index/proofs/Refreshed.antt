@@ -1,16 +1,7 @@
 -- What a refresh leaves is the index of the table.
-use Rattle.decl_index.proofs.Common.{◌≡◌, ◌≢◌, ◌⊎◌, inl, inr, ℕ, ◌<◌, ◌≤◌, true, false, cond, not, nat_lt, List, ◌++◌, length, filter, Option, Some, None, refl, sym, ap, subst, ◌∙◌, arith, All, Contains, slice_index_or, unwrap_or, Less, Equal, nat_tests, none-some, Crate, Unfolding, of_id, Place, State, IsKnown, change_number, node_name, Entry, entry_cmp, entry_cmp_total, IsDeclared, IsListing, IsBehind, IsBehindAt, entries_at, entries_of, is_current, AreChangedEntries}
-use Rattle.std.specs.Cmp.{IsTotalOrder, tied_itself, nat_cmp_total, on_total, then_total}
-use Rattle.std.specs.List.Sorted.{IsPermutation, IsSorted, IsStrictlySortedBy}
+use Rattle.decl_index.proofs.Common.{◌≡◌, ◌≢◌, ◌⊎◌, inl, inr, ℕ, ◌<◌, ◌≤◌, true, false, cond, not, nat_lt, List, ◌++◌, length, filter, Option, Some, None, refl, sym, ap, subst, ◌∙◌, arith, All, Contains, slice_index_or, unwrap_or, Less, Equal, nat_tests, none-some, Crate, Unfolding, of_id, Place, State, IsKnown, change_number, node_name, Entry, entry_cmp, entry_cmp_total, IsDeclared, IsListing, IsBehind, IsBehindAt, entries_at, entries_of, is_current, AreChangedEntries, IsTotalOrder, tied_itself, nat_cmp_total, on_total, then_total, IsSorted, IsStrictlySortedBy, All-append, All-contains_itself, All-weaker, Contains-append_left, Contains-append_right, IsStrictlySortedBy-filter, All-permutation, Contains-permutation, IsDistinct-from_sorted, AllPairs-from_IsDistinct, of_id_nothing, place_cmp_total, Change, change_cmp, IsGrounded, IsSince, IsLate}
+use Rattle.std.specs.List.Sorted.{IsPermutation}
 use Rattle.std.proofs.lemmas.Bool.{cases_lt}
-use Rattle.std.proofs.lemmas.List.Elements.{All-append, All-contains_itself, All-weaker, Contains-append_left, Contains-append_right}
-use Rattle.std.proofs.lemmas.List.Kept.{IsStrictlySortedBy-filter}
-use Rattle.std.proofs.lemmas.List.Sorted.{All-permutation, Contains-permutation}
-use Rattle.std.proofs.lemmas.Map.Keys.{IsDistinct-from_sorted}
-use Rattle.std.proofs.lemmas.Map.Made.{AllPairs-from_IsDistinct}
-use Rattle.item_tree.proofs.Walking.{of_id_nothing}
-use Rattle.item_tree_db.specs.PlaceOrder.{place_cmp_total}
-use Rattle.item_tree_db.specs.Since.{Change, change_cmp, IsGrounded, IsSince, IsLate}
 use Rattle.decl_index.proofs.Lists.{Once, filter_all, filter_contains, flat_map_all, flat_map_contains, once_append, once_flat_map, strict}
 use Rattle.decl_index.proofs.Order.{same_entries}
 use Rattle.decl_index.proofs.Trees.{tree_of, all_in_tree, all_declared, each_once, declared_there}

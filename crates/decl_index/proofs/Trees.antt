@@ -1,10 +1,7 @@
 -- The entries of a tree are those that the table declares there, each once.
-use Rattle.decl_index.proofs.Common.{◌≡◌, ℕ, zero, true, List, [], ◌∷◌, Option, Some, None, refl, sym, subst, ◌∙◌, arith, Contains, All, is_some, All-nil, All-cons, All-weaker, none-some, Crate, Place, State, IsKnown, unfolding_at, node_name, Entry}
+use Rattle.decl_index.proofs.Common.{◌≡◌, ℕ, zero, true, List, [], ◌∷◌, Option, Some, None, refl, sym, subst, ◌∙◌, arith, Contains, All, is_some, All-nil, All-cons, All-weaker, none-some, Crate, Place, State, IsKnown, unfolding_at, node_name, Entry, Node, Unfolding, each_walked_once, IsDeclared, entry_name, entry_of, entries_by, entries_at}
 use Rattle.std.specs.Option.{option_map_or}
-use Rattle.item_tree.specs.Node.{Node, Unfolding}
 use Rattle.item_tree.specs.Reach.{all_ids}
-use Rattle.item_tree.proofs.Walking.{each_walked_once}
-use Rattle.decl_index.specs.Entries.{IsDeclared, entry_name, entry_of, entries_by, entries_at}
 use Rattle.decl_index.proofs.Lists.{Once, flat_map_all, flat_map_contains, once_flat_map}
 
 -- the tree of an entry

@@ -4,9 +4,8 @@ use Rattle.std.specs.{Prelude.is_some, List.flat_map, List.AllPairs}
 use Rattle.std.proofs.lemmas.List.{map-append, Elements.All-contains_itself, Elements.All-filter, Elements.filter-append, Kept.AllPairs-filter}
 use Rattle.std.proofs.lemmas.Simd.{map-map}
 use Rattle.hir_input.specs.declared.ids.FileAstId.{FileAstId}
-use Rattle.item_tree.specs.{declared.visibility.RawVisibility.RawVisibility, Layout.node_at, Layout.trunk_map, Layout.vis_at, Walk.AreContained}
+use Rattle.item_tree.specs.{declared.visibility.RawVisibility.RawVisibility, Layout.node_at, Layout.trunk_map, Layout.vis_at, Walk.AreContained, Reach.top_ids, Reach.child_ids, Reach.ids_from, Reach.all_ids, Shown.IsContained, Shown.IsLeaf, Shown.IsParent, Shown.StandFor}
 use Rattle.item_tree.specs.Node.{Leaf, Trunk, inline, extern_block, Node, leaf, parent, Forest, empty, more, nodes, Unfolding}
-use Rattle.item_tree.specs.{Reach.top_ids, Reach.child_ids, Reach.ids_from, Reach.all_ids, Shown.IsContained, Shown.IsLeaf, Shown.IsParent, Shown.StandFor}
 use Rattle.item_tree.proofs.Walking.{of_id_is, leaf_of_id, parent_of_id, each_walked_once, children_of, no_ids, tops_stand}
 use Rattle.def_collector.specs.declared.collector.Declaration as code
 use Rattle.def_collector.specs.Declarations.{Declared, node_declares, Declaration, declaration_of, path_below, node_declarations, declarations_in, declarations, with_id, node_declared, declared_in, declared_at}

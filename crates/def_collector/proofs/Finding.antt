@@ -1,8 +1,6 @@
 -- The first declaration of a path of names, by the ids that a walk meets.
-use Rattle.std.proofs.Common.{◌≡◌, ◌≢◌, ℕ, ◌+◌, ◌<◌, true, false, List, [], ◌∷◌, ◌++◌, map, length, get_or, drop, Option, Some, None, refl, ap, sym, ◌∙◌, subst, inl, inr}
-use Rattle.std.specs.Prelude.{IfSome, option_map, if◌then◌else◌}
+use Rattle.std.proofs.Common.{◌≡◌, ◌≢◌, ℕ, ◌+◌, ◌<◌, true, false, List, [], ◌∷◌, ◌++◌, map, length, get_or, drop, Option, Some, None, refl, ap, sym, ◌∙◌, subst, inl, inr, IfSome, option_map, if◌then◌else◌, bytes_eq}
 use Rattle.std.specs.{Option.option_map_or, Option.option_or, List.flat_map, List.AllByRecursion}
-use Rattle.std.specs.Str.{bytes_eq}
 use Rattle.std.proofs.lemmas.{Bool.cases_Bool, List.map-append, List.at_drop_more, List.Elements.recursion_from_All, Slice.Eq.bytes_eq-Decides}
 use Rattle.hir_input.specs.declared.ids.FileAstId.{FileAstId}
 use Rattle.item_tree.specs.{Layout.node_at, Reach.top_ids, Reach.child_ids}

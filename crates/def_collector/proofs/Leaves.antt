@@ -1,11 +1,9 @@
 -- The nodes that imports are written as.
-use Rattle.std.proofs.Common.{◌≡◌, ℕ, Bool, true, List, [], ◌∷◌, ◌++◌, map, Option, Some, None, refl, ap, sym, ◌∙◌, subst, inl, inr, append_assoc}
-use Rattle.std.specs.Prelude.{◌⊎◌, ◌<◌, IsSome, is_some, length, get_or, slice_get, All}
+use Rattle.std.proofs.Common.{◌≡◌, ℕ, Bool, true, List, [], ◌∷◌, ◌++◌, map, Option, Some, None, refl, ap, sym, ◌∙◌, subst, inl, inr, append_assoc, ◌⊎◌, ◌<◌, IsSome, is_some, length, get_or, slice_get, All}
 use Rattle.std.specs.{List.flat_map, List.AllByRecursion, Option.option_and_then}
 use Rattle.std.proofs.lemmas.{List.map-append, Option.same_Some, Option.slice_get_within, Option.slice_get-get_or}
 use Rattle.std.proofs.lemmas.List.Elements.{All-cons, All-nil, All-append, recursion_from_All}
-use Rattle.hir_input.specs.{Path.Path, declared.ast.PathNode.PathNode, declared.ast.PathNode.TheVariants.Readable}
-use Rattle.hir_input.specs.{declared.ast.Rename.Rename, UseTreeView.UseTreeView, UseTreeView.bare_tree, UseTreeView.use_tree_view, UseTreeView.written_nodes}
+use Rattle.hir_input.specs.{Path.Path, declared.ast.PathNode.PathNode, declared.ast.PathNode.TheVariants.Readable, declared.ast.Rename.Rename, UseTreeView.UseTreeView, UseTreeView.bare_tree, UseTreeView.use_tree_view, UseTreeView.written_nodes}
 use Rattle.item_tree.specs.{declared.use_tree.ImportAlias.ImportAlias, declared.use_tree.ImportKind.ImportKind, KeptUse.kept_bare, Tree.Tree}
 use Rattle.item_tree.specs.Imports.{Import, imports, import_of as imports_by}
 use Rattle.item_tree.specs.Leaves.{WrittenLeaf, leaf_imports, imports_of, AreWritten, leaves}

@@ -5,8 +5,7 @@ use Rattle.std.proofs.lemmas.List.{map-append, get_or-take, length-map, length-t
 use Rattle.std.proofs.lemmas.List.Elements.{All-push, All-weaker, Contains-append_left, Contains-push}
 use Rattle.std.proofs.lemmas.Option.{slice_get-map, slice_get_within, slice_get-get_or}
 use Rattle.item_tree.specs.Imports.{Import}
-use Rattle.def_collector.specs.{declared.imports.Listed.Listed, declared.duplicate.Duplicate.Duplicate, Inner.Imports.IsNew, Inner.Imports.AreFirst}
-use Rattle.def_collector.specs.{Duplicates.Alike, Duplicates.AreAlikeAt, Duplicates.Repeats, Duplicates.AreDuplicates, Listed.listed_import}
+use Rattle.def_collector.specs.{declared.imports.Listed.Listed, declared.duplicate.Duplicate.Duplicate, Inner.Imports.IsNew, Inner.Imports.AreFirst, Duplicates.Alike, Duplicates.AreAlikeAt, Duplicates.Repeats, Duplicates.AreDuplicates, Listed.listed_import}
 
 -- ---- imports that are alike
 

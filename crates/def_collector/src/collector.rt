@@ -1,6 +1,5 @@
 //! What the items of a tree declare, in order.
-ghost use Rattle.std.specs.Prelude.{◌≡◌, ◌≢◌, ◌++◌, ◌∷◌, [], filter, map, IfOk, OnOk};
-ghost use Rattle.std.specs.List.{flat_map, AllPairs};
+ghost use Rattle.std.specs.Prelude.{◌≡◌, ◌≢◌, ◌++◌, ◌∷◌, [], filter, map, IfOk, OnOk, flat_map, AllPairs};
 ghost use Rattle.item_tree.specs.Reach.{all_ids};
 ghost use Rattle.item_tree.specs.Shown.{IsContained, IsShown};
 ghost use Rattle.item_tree.specs.Walk.{AreContained};

@@ -1,8 +1,6 @@
 -- `==` at attributes, and at what they and metas are made of, decides whether the two are one.
 use Rattle.std.proofs.Common.{Bool, None, Some, refl, ap, rules}
-use Rattle.std.specs.Option.{option_eq}
-use Rattle.std.specs.Cmp.Lexicographic.{pointwise_decides}
-use Rattle.std.proofs.lemmas.Bool.Decides.{Decides-and, Decides-like}
+use Rattle.hir_input.proofs.Common.{option_eq, pointwise_decides, Decides-and, Decides-like, DecidesEq, DecidesEqOf}
 use lib.Pointwise.{bytes_decides}
 use Rattle.hir_input.specs.declared.ast.PathNode.TheVariants.{Readable, Unreadable}
 use Rattle.hir_input.specs.declared.attr.AttrInput.TheVariants.{Literal, TokenTree}
@@ -15,7 +13,6 @@ use Rattle.hir_input.specs.contracts.attr.LiteralPartialEq.TheImpl as literals
 use Rattle.hir_input.specs.contracts.attr.AttrInputPartialEq.TheImpl as inputs
 use Rattle.hir_input.specs.contracts.attr.AttrPartialEq.TheImpl as attrs
 use Rattle.hir_input.specs.Edition.{edition_view}
-use Rattle.hir_input.specs.Equality.{DecidesEq, DecidesEqOf}
 use Rattle.hir_input.proofs.PathEq.{path_decides}
 
 pub option_decides : {T : Type 0} (E : T → T → Bool) → DecidesEq E → DecidesEq (option_eq E)

@@ -1,22 +1,16 @@
 -- `==` at conditions decides whether their plain data are one.
-use Rattle.std.proofs.Common.{◌≡◌, Bool, true, false, ◌||◌, List, [], ◌∷◌, map, refl, sym, ap, ◌∙◌, subst, rules}
-use Rattle.std.specs.Bool.{Decides}
-use Rattle.std.specs.List.{AllZip, list_any}
+use Rattle.std.proofs.Common.{◌≡◌, Bool, true, false, ◌||◌, List, [], ◌∷◌, map, refl, sym, ap, ◌∙◌, subst, rules, Decides}
+use Rattle.hir_input.proofs.Common.{AllZip, list_any, pointwise, pointwise_decides, Decides-at, Decides-and, Decides-like, DecidesEq, DecidesEqOf, CfgExpr, roll-CfgExpr, out-CfgExpr, out-roll-CfgExpr, roll-out-CfgExpr, ind-CfgExpr, map-CfgExpr, fold-roll-CfgExpr, atom_view, is_atom, is_set, CfgView, cfg_and, atom, all_of, any_of, not_of, cfgs_from, cfg_step, cfg_view}
 use Rattle.std.specs.Cmp.Derive.Mapped.{pointwise-map}
-use Rattle.std.specs.Cmp.Lexicographic.{pointwise, pointwise_decides}
 pub use Rattle.std.proofs.lemmas.Bool.Decides.{Decides-like as same_fact}
-use Rattle.std.proofs.lemmas.Bool.Decides.{Decides-at, Decides-and, Decides-like}
 use lib.Pointwise.{bytes_decides}
-use Rattle.hir_input.specs.Equality.{DecidesEq, DecidesEqOf}
 use Rattle.hir_input.specs.declared.cfg.CfgAtom.{CfgAtom}
 use Rattle.hir_input.specs.declared.cfg.CfgAtom.TheVariants.{Flag, KeyValue}
-use Rattle.hir_input.specs.declared.cfg.CfgExpr.{CfgExpr, roll-CfgExpr, out-CfgExpr, out-roll-CfgExpr, roll-out-CfgExpr, ind-CfgExpr, map-CfgExpr, fold-roll-CfgExpr}
 use Rattle.hir_input.specs.declared.cfg.CfgExpr.TheOpen.{CfgExpr-F}
 use Rattle.hir_input.specs.contracts.cfg.CfgAtomPartialEq.TheImpl as atoms
 use Rattle.hir_input.specs.contracts.cfg.CfgExprPartialEq.TheImpl as cfgs
 use Rattle.hir_input.specs.contracts.cfg.CfgExprPartialEq.TheImpl.Laws as cfg_laws
 use Rattle.hir_input.proofs.AttrEq.{option_decides}
-use Rattle.hir_input.specs.Cfg.{atom_view, is_atom, is_set, CfgView, cfg_and, atom, all_of, any_of, not_of, cfgs_from, cfg_step, cfg_view}
 
 pub atom_view_decides : DecidesEq is_atom
 atom_view_decides a b =

@@ -1,8 +1,6 @@
 -- The equations of a condition's plain data, of its text and of its truth.
 use Rattle.std.proofs.Common.{◌≡◌, ℕ, ◌<◌, List, [], ◌∷◌, ◌++◌, map, codes, Vec, Global, ap, refl, length, arith}
-use Rattle.std.proofs.lemmas.Grind.{common_steps, flat_map-append}
-use Rattle.hir_input.specs.Cfg.{AtomView, all_of, any_of, cfgs_from, cfg_view, by_commas, shown_cfg, shown_cfgs, truth, truths}
-use Rattle.hir_input.specs.declared.cfg.CfgExpr.{CfgExpr, the_lemmas}
+use Rattle.hir_input.proofs.Common.{common_steps, flat_map-append, AtomView, all_of, any_of, cfgs_from, cfg_view, by_commas, shown_cfg, shown_cfgs, truth, truths, CfgExpr, the_lemmas}
 use Rattle.hir_input.specs.declared.cfg.CfgExpr.TheVariants.{All, Any}
 
 -- ---- plain data

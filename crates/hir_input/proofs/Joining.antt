@@ -1,9 +1,6 @@
 -- What the words of one path and then those of another mean.
 use Rattle.std.proofs.Common.{◌≡◌, ℕ, zero, suc, ◌+◌, ◌<◌, List, [], ◌∷◌, ◌++◌, map, length, replicate, Option, Some, None, IfSome, option_map, refl, ap, ◌∙◌, arith}
-use Rattle.hir_input.specs.declared.mod_path.PathKind.{PathKind}
-use Rattle.hir_input.specs.declared.mod_path.PathKind.TheVariants.{Plain, Super, Crate, Abs, DollarCrate}
-use Rattle.hir_input.specs.Path.{HasWords}
-use Rattle.hir_input.specs.Words.{PathWord, self_word, super_word, crate_word, absolute_word, dollar_crate_word, name_word, words, read_names, path_of, read_supers, read_words}
+use Rattle.hir_input.proofs.Common.{PathKind, Plain, Super, Crate, Abs, DollarCrate, HasWords, PathWord, self_word, super_word, crate_word, absolute_word, dollar_crate_word, name_word, words, read_names, path_of, read_supers, read_words}
 use Rattle.hir_input.proofs.Reading.{before_names, behind, read-behind, read_names-all, read_supers-supers}
 
 read_supers-all : (k : ℕ) (ns : List (List ℕ)) → read_supers k (map name_word ns) ≡ Some (record { kind = Super k; names = ns })

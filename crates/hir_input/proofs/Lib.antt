@@ -11,3 +11,4 @@ pub mod Reading
 pub mod SyntaxViews
 pub mod UseTreeNodes
 pub mod UseTreeViews
+pub mod Common

@@ -1,17 +1,11 @@
 -- `==` at metas decides whether their plain data are one.
-use Rattle.std.proofs.Common.{◌≡◌, Bool, false, List, [], ◌∷◌, map, refl, sym, ap, ◌∙◌, subst}
-use Rattle.std.specs.Bool.{Decides}
-use Rattle.std.specs.Option.{option_eq}
-use Rattle.std.specs.Cmp.Lexicographic.{pointwise}
-use Rattle.std.proofs.lemmas.Bool.Decides.{Decides-at, Decides-and, Decides-like}
+use Rattle.std.proofs.Common.{◌≡◌, Bool, false, List, [], ◌∷◌, map, refl, sym, ap, ◌∙◌, subst, Decides}
+use Rattle.hir_input.proofs.Common.{option_eq, pointwise, Decides-at, Decides-and, Decides-like, Meta, roll-Meta, out-Meta, out-roll-Meta, roll-out-Meta, ind-Meta, map-Meta, fold-roll-Meta, DecidesEq, DecidesEqOf, MetaView, path_meta, key_value_meta, token_tree_meta, cfg_meta, cfg_attr_meta, unsafe_meta, meta_and, metas_from, meta_step, meta_view}
 use lib.Pointwise.{bytes_decides}
-use Rattle.hir_input.specs.declared.attr.Meta.{Meta, roll-Meta, out-Meta, out-roll-Meta, roll-out-Meta, ind-Meta, map-Meta, fold-roll-Meta}
 use Rattle.hir_input.specs.declared.attr.Meta.TheOpen.{Meta-F}
 use Rattle.hir_input.specs.contracts.ast.PathNodePartialEq.TheImpl as nodes
 use Rattle.hir_input.specs.contracts.attr.MetaPartialEq.TheImpl as metas
 use Rattle.hir_input.specs.contracts.attr.MetaPartialEq.TheImpl.Laws as meta_laws
-use Rattle.hir_input.specs.Equality.{DecidesEq, DecidesEqOf}
-use Rattle.hir_input.specs.Attr.{MetaView, path_meta, key_value_meta, token_tree_meta, cfg_meta, cfg_attr_meta, unsafe_meta, meta_and, metas_from, meta_step, meta_view}
 use Rattle.hir_input.proofs.AttrEq.{option_decides, context_decides, edition_decides, literal_decides, input_decides, attr_decides, path_node_decides}
 use Rattle.hir_input.proofs.CfgEq.{atom_decides, cfg_decides, options_decide}
 use Rattle.hir_input.proofs.PathEq.{path_decides}

@@ -1,10 +1,6 @@
 -- Whether a text is a name.
 use Rattle.std.proofs.Common.{◌≡◌, ◌≢◌, ◌==◌, ℕ, List, [], ◌∷◌, Bool, true, false, All, Option, Some, None, if◌then◌else◌, refl, sym, ap, arith}
-use Rattle.std.specs.Option.{SomeIff}
-use Rattle.std.specs.List.{list_any}
-use Rattle.std.proofs.lemmas.Bool.Decides.{nat_tests}
-use Rattle.std.proofs.lemmas.List.Folds.{list_any_at, list_any_none}
-use Rattle.hir_input.specs.Name.{IsName, is_name, name_in}
+use Rattle.hir_input.proofs.Common.{SomeIff, list_any, nat_tests, list_any_at, list_any_none, IsName, is_name, name_in}
 
 not_found : (b : Bool) → (if b then false else true) ≡ true → b ≡ false
 not_found true h = sym h

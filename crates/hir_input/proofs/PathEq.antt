@@ -1,10 +1,7 @@
 -- `==` at kinds and at paths decides whether they are one.
 use Rattle.std.proofs.Common.{◌≡◌, ◌↔◌, IsTrue, Bool, true, ◌&&◌, nat_eq, sym, ap, ◌∙◌, rules}
-use Rattle.std.specs.Cmp.Lexicographic.{pointwise, pointwise_decides}
-use Rattle.std.proofs.lemmas.Bool.Decides.{Decides-at, Decides-and, Decides-like}
+use Rattle.hir_input.proofs.Common.{pointwise, pointwise_decides, Decides-at, Decides-and, Decides-like, DecidesEq, Path}
 use lib.Pointwise.{bytes_decides}
-use Rattle.hir_input.specs.Equality.{DecidesEq}
-use Rattle.hir_input.specs.Path.{Path}
 use Rattle.hir_input.specs.contracts.mod_path.PathKindPartialEq.TheImpl as kinds
 use Rattle.hir_input.specs.contracts.mod_path.ModPathPartialEq.TheImpl as paths
 

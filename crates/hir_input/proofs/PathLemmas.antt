@@ -1,13 +1,6 @@
 -- How the text of a path falls into that of its kind and those of its names.
-use Rattle.std.proofs.Common.{◌≡◌, ◌≢◌, ℕ, false, eqb, List, [], ◌∷◌, ◌++◌, map, codes, refl, sym, ap, ◌∙◌, arith, append_assoc, replicate, suc, zero}
-use Rattle.std.specs.List.{flat_map}
-use Rattle.std.proofs.lemmas.Bool.Decides.{nat_tests}
-use Rattle.std.proofs.lemmas.Grind.{flat_map-append}
-use Rattle.std.proofs.lemmas.List.Folds.{flat_map-map}
-use Rattle.hir_input.specs.declared.mod_path.PathKind.{PathKind}
-use Rattle.hir_input.specs.declared.mod_path.PathKind.TheVariants.{Plain, Super, Crate, Abs, DollarCrate}
-use Rattle.hir_input.specs.Name.{shown_name}
-use Rattle.hir_input.specs.Path.{Path, by_colons, first_words, shown_more, shown_path}
+use Rattle.std.proofs.Common.{◌≡◌, ◌≢◌, ℕ, false, eqb, List, [], ◌∷◌, ◌++◌, map, codes, refl, sym, ap, ◌∙◌, arith, append_assoc, replicate, suc, zero, flat_map}
+use Rattle.hir_input.proofs.Common.{nat_tests, flat_map-append, flat_map-map, PathKind, Plain, Super, Crate, Abs, DollarCrate, shown_name, Path, by_colons, first_words, shown_more, shown_path}
 
 -- words behind at least one other
 pub by_colons-append : (w : List ℕ) (ws vs : List (List ℕ)) → by_colons ((w ∷ ws) ++ vs) ≡ by_colons (w ∷ ws) ++ flat_map (λ v. codes "::" ++ v) vs

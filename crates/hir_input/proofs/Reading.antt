@@ -1,10 +1,7 @@
 -- What words mean: those of a path mean it, and words behind others mean what they mean behind the path of those.
 use Rattle.std.proofs.Common.{◌≡◌, ℕ, zero, suc, ◌+◌, List, [], ◌∷◌, ◌++◌, map, replicate, Option, Some, None, option_map, refl, sym, ap, ◌∙◌, append_assoc, append-nil, arith}
 use Rattle.std.proofs.lemmas.Iterator.Adapters.{option_map_id}
-use Rattle.hir_input.specs.declared.mod_path.PathKind.{PathKind}
-use Rattle.hir_input.specs.declared.mod_path.PathKind.TheVariants.{Plain, Super, Crate, Abs, DollarCrate}
-use Rattle.hir_input.specs.Path.{Path, HasWords}
-use Rattle.hir_input.specs.Words.{PathWord, self_word, super_word, crate_word, absolute_word, dollar_crate_word, name_word, kind_words, words, read_names, path_of, read_supers, read_words}
+use Rattle.hir_input.proofs.Common.{PathKind, Plain, Super, Crate, Abs, DollarCrate, Path, HasWords, PathWord, self_word, super_word, crate_word, absolute_word, dollar_crate_word, name_word, kind_words, words, read_names, path_of, read_supers, read_words}
 
 -- names in front of others
 abbrev pub before_names : List (List ℕ) → Option (List (List ℕ)) → Option (List (List ℕ))

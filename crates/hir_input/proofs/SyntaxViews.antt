@@ -6,7 +6,7 @@ use Rattle.hir_input.specs.declared.ast.Item as Item
 use Rattle.hir_input.specs.declared.ast.Item.{Item, the_lemmas}
 use Rattle.hir_input.specs.declared.ast.Item.TheViews.{roll-Module}
 use Rattle.hir_input.specs.declared.ast.Item.TheFolds.{fold_out-Module}
-use Rattle.hir_input.specs.declared.attr.Meta.{Meta}
+use Rattle.hir_input.proofs.Common.{Meta}
 use Rattle.hir_input.specs.Syntax.{module_from, named_from, item_view, module_view}
 
 -- a module that is made

@@ -1,14 +1,9 @@
 -- Where the nodes of a use tree stand.
-use Rattle.std.proofs.Common.{◌≡◌, ℕ, ◌+◌, ◌<◌, List, [], ◌∷◌, ◌++◌, length, take, get_or, slice_get, Some, None, Vec, Global, refl, sym, ap, ◌∙◌, arith, length-append, append-nil}
-use Rattle.std.specs.List.{flat_map}
-use Rattle.std.proofs.lemmas.Grind.{flat_map-append}
+use Rattle.std.proofs.Common.{◌≡◌, ℕ, ◌+◌, ◌<◌, List, [], ◌∷◌, ◌++◌, length, take, get_or, slice_get, Some, None, Vec, Global, refl, sym, ap, ◌∙◌, arith, length-append, append-nil, flat_map}
+use Rattle.hir_input.proofs.Common.{flat_map-append, length-flat_map-take, UseTree, out-UseTree, use_tree_view, use_trees_view, written_nodes, all_written_nodes}
 use Rattle.std.proofs.lemmas.List.{take_more}
 use Rattle.std.proofs.lemmas.List.Concat.{get_or-flat_map}
-use Rattle.std.proofs.lemmas.List.Folds.{length-flat_map-take}
 use Rattle.std.proofs.lemmas.Option.{slice_get_within, get_or_from_slice_get, slice_get-get_or}
-use Rattle.hir_input.specs.declared.ast.UseTree.{UseTree}
-use Rattle.hir_input.specs.declared.ast.UseTree.TheViews.{out-UseTree}
-use Rattle.hir_input.specs.UseTreeView.{use_tree_view, use_trees_view, written_nodes, all_written_nodes}
 use Rattle.hir_input.proofs.UseTreeViews.{use_tree_view-bare, use_tree_view-listed}
 
 -- ---- the pieces of a list

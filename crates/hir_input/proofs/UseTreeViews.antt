@@ -1,8 +1,7 @@
 -- What a use tree is seen as.
 use Rattle.std.proofs.Common.{◌≡◌, Some, None, option_map, map, Vec, Global, refl, ◌∙◌, rules}
-use Rattle.hir_input.specs.declared.ast.UseTree.{UseTree, the_lemmas}
-use Rattle.hir_input.specs.declared.ast.UseTree.TheViews.{out-UseTree}
-use Rattle.hir_input.specs.UseTreeView.{bare_tree, listed_tree, tree_from, use_tree_view, use_trees_view}
+use Rattle.hir_input.proofs.Common.{UseTree, out-UseTree, bare_tree, listed_tree, tree_from, use_tree_view, use_trees_view}
+use Rattle.hir_input.specs.declared.ast.UseTree.{the_lemmas}
 
 -- a use tree by its own fields
 pub use_tree_view-fields : (t : UseTree)

@@ -1,6 +1,5 @@
 -- What is promised of `==`, of hashes and of copies.
-use Rattle.std.specs.Prelude.{◌≡◌, Bool, true}
-use Rattle.std.specs.Bool.{Decides}
+use Rattle.std.specs.Prelude.{◌≡◌, Bool, true, Decides}
 use Rattle.std.specs.Hash.{HashWrites}
 
 -- the test is true exactly where the two values are one

@@ -1,6 +1,5 @@
 //! The nodes of a use tree.
-ghost use Rattle.std.specs.Prelude.{◌≡◌, ◌+◌, length, MatchOption, Some, option_map, slice_get};
-ghost use Rattle.std.specs.List.{flat_map};
+ghost use Rattle.std.specs.Prelude.{◌≡◌, ◌+◌, length, MatchOption, Some, option_map, slice_get, flat_map};
 ghost use Rattle.hir_input.specs.UseTreeView.{use_tree_view, written_nodes};
 
 use crate::ast::UseTree;

@@ -2,12 +2,9 @@
 use Rattle.std.proofs.Common.{◌≡◌, List, ℕ, codes, [], Some, refl, ap}
 use Rattle.serde_json.specs.Data.{Data, depth}
 use Rattle.serde_json.specs.Find.{get, as_null, as_str}
-use Rattle.hir_input.specs.Cfg.{CfgView, CfgViews, invalid, all_of, any_of, not_of, cfgs_from}
+use Rattle.hir_input_json.proofs.Common.{CfgView, CfgViews, invalid, all_of, any_of, not_of, cfgs_from, Reading, right, wrong, reading_map, under, atom, cfg_by, cfg_with, keyed_by, listed_with, field, by_form, object_members, meta_form_with}
 use Rattle.hir_input.specs.Cfg as condition
-use Rattle.hir_input_json.specs.Reading.{Reading, right, wrong, reading_map, under, ◌>>=◌}
-use Rattle.hir_input_json.specs.Cfgs.{atom, cfg_by, cfg_with, keyed_by, listed_with}
-use Rattle.hir_input_json.specs.Forms.{field, by_form, object_members}
-use Rattle.hir_input_json.specs.Metas.{meta_form_with}
+use Rattle.hir_input_json.specs.Reading.{◌>>=◌}
 use Rattle.hir_input_json.proofs.Laws.{AgreeBelow, LooksInside, ReadsItself}
 use Rattle.hir_input_json.proofs.Inside.{required_same, by_first_same, list_in, list_at_same, depth_field, depth_get, reads_itself}
 

@@ -2,16 +2,13 @@
 use Rattle.std.proofs.Common.{◌≡◌, ℕ, List, [], ◌∷◌, Option, Some, None, String, Global, Ordering, Equal, string_bytes, nat_cmp, is_eq, cond, false, bytes_eq, refl, sym, ap, ◌∙◌}
 use Rattle.std.proofs.lemmas.Map.Text.{is_eq-slice_cmp}
 use Rattle.std.proofs.lemmas.Slice.Eq.{bytes_eq-Decides}
-use Rattle.std.specs.Cmp.Lexicographic.{slice_cmp}
+use Rattle.hir_input_json.proofs.Common.{slice_cmp, match_ordering, field, with_null, without}
 use Rattle.std.specs.Map.{set_value}
-use Rattle.std.specs.Ordering.{match_ordering}
 use Rattle.std.specs.BTreeMap.{is_at}
 use Rattle.serde_json.specs.Data.{Data, null, object, Members, no_members, member}
 use Rattle.serde_json.specs.Find.{get, get_member}
 use Rattle.serde_json.specs.View.{view, members_view}
 use Rattle.serde_json.specs.declared.value.Value.{Value}
-use Rattle.hir_input_json.specs.Forms.{field}
-use Rattle.hir_input_json.specs.Held.{with_null, without}
 
 set_or : (o : Ordering) (e : String Global × Value) (w : Value) (es rest : List (String Global × Value)) (ms : Members) → view w ≡ null → members_view rest ≡ ms
     → members_view (cond (is_eq o) ((e.0, w) ∷ es) (e ∷ rest)) ≡ match_ordering o (member (string_bytes e.0) (view e.1) ms) (member (string_bytes e.0) null (members_view es)) (member (string_bytes e.0) (view e.1) ms)

@@ -1,15 +1,11 @@
 -- What is found in a value nests less deep, and a form that looks inside reads itself.
 use Rattle.std.proofs.Common.{◌≡◌, ℕ, zero, suc, ◌+◌, ◌<◌, ◌≤◌, max, List, Option, Some, None, option_map, option_and_then, unwrap_or, Ordering, Equal, false, bytes_eq, refl, sym, ap, ◌∙◌, arith, rules}
-use Rattle.std.specs.Ordering.{nat_cmp, match_ordering}
-use Rattle.std.specs.Cmp.Lexicographic.{slice_cmp}
+use Rattle.hir_input_json.proofs.Common.{nat_cmp, match_ordering, slice_cmp, Reading, right, wrong, reading_map, under, field, unless_null, array_items, items_at, list_of, list_at, each, each_from, maybe, optional, required, by_form, without, nested, nested_at}
 use Rattle.serde_json.specs.Data.{Data, null, array, object, Items, no_items, item, Members, no_members, member, depth, items_depth, members_depth}
 use Rattle.serde_json.specs.Find.{get, get_member}
-use Rattle.hir_input_json.specs.Reading.{Reading, right, wrong, reading_map, under, ◌>>=◌}
-use Rattle.hir_input_json.specs.Forms.{field, unless_null, array_items, items_at, list_of, list_at, each, each_from, maybe, optional, required, by_form}
-use Rattle.hir_input_json.specs.Held.{without}
+use Rattle.hir_input_json.specs.Reading.{◌>>=◌}
 use Rattle.hir_input_json.proofs.Held.{field_without}
 use Rattle.hir_input_json.proofs.Laws.{AgreeBelow, LooksInside, ReadsItself}
-use Rattle.hir_input_json.specs.Nested.{nested, nested_at}
 
 -- ---- depths
 

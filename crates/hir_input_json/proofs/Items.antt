@@ -1,7 +1,6 @@
 -- An item's form reads itself.
 use Rattle.std.proofs.Common.{codes, refl}
-use Rattle.hir_input_json.specs.Forms.{field, list_of}
-use Rattle.hir_input_json.specs.Items.{item_with}
+use Rattle.hir_input_json.proofs.Common.{field, list_of, item_with}
 use Rattle.hir_input_json.proofs.Laws.{LooksInside, ReadsItself}
 use Rattle.hir_input_json.proofs.Inside.{maybe_same, list_in, reads_itself}
 

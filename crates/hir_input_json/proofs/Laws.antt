@@ -1,8 +1,7 @@
 -- What holds of every form that holds forms of its own kind.
 use Rattle.std.specs.Prelude.{◌≡◌, ◌<◌, ℕ}
 use Rattle.serde_json.specs.Data.{Data, depth}
-use Rattle.hir_input_json.specs.Reading.{Reading}
-use Rattle.hir_input_json.specs.Nested.{nested}
+use Rattle.hir_input_json.proofs.Common.{Reading, nested}
 
 -- two readings that agree on all that nests less deep than this
 abbrev pub AgreeBelow : {A : Type 0} → (Data → Reading A) → (Data → Reading A) → ℕ → Type 0

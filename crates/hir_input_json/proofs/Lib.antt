@@ -7,3 +7,4 @@ pub mod Lists
 pub mod Pointers
 pub mod Spans
 pub mod UseTrees
+pub mod Common

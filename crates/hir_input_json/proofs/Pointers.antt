@@ -2,10 +2,9 @@
 use Rattle.std.proofs.Common.{◌≡◌, ◌≢◌, ◌==◌, ℕ, suc, ◌+◌, ◌%◌, ◌^◌, ◌<◌, false, List, [], ◌∷◌, ◌++◌, codes, length, get_or, decimal, encode_utf8, encode_utf8_all, chars, IsUtf8, flat_map, refl, sym, ap, ◌∙◌, arith}
 use Rattle.std.proofs.lemmas.Bool.Decides.{nat_tests}
 use Rattle.std.proofs.lemmas.Fmt.{decimal_by_steps}
-use Rattle.std.proofs.lemmas.List.{append-nil}
+use Rattle.hir_input_json.proofs.Common.{append-nil, pointer_byte, pointer_step}
 use Rattle.std.proofs.lemmas.List.Concat.{flat_map-append}
 use Rattle.std.proofs.lemmas.Str.{encode_ascii, encodes-chars, inside_one}
-use Rattle.hir_input_json.specs.Reading.{pointer_byte, pointer_step}
 
 byte_stays : (b : ℕ) → b ≢ 126 → b ≢ 47 → pointer_byte b ≡ b ∷ []
 byte_stays b tilde slash =

@@ -3,8 +3,7 @@ use Rattle.std.proofs.Common.{◌≡◌, ◌<◌, List, [], ◌∷◌, length, r
 use Rattle.serde_json.specs.View.{items_view}
 use Rattle.serde_json.specs.declared.value.Value.{Value}
 use Rattle.hir_input.specs.declared.ids.SyntaxContext.{SyntaxContext}
-use Rattle.hir_input_json.specs.Reading.{wrong}
-use Rattle.hir_input_json.specs.Literals.{span_in}
+use Rattle.hir_input_json.proofs.Common.{wrong, span_in}
 
 pub span_of_fewer : (ctxt : SyntaxContext) (vs : List Value) → length vs < 2 → span_in ctxt (items_view vs) ≡ wrong []
 span_of_fewer ctxt [] h = refl

@@ -4,9 +4,7 @@ use Rattle.hir_input.specs.declared.ast.PathNode.{PathNode}
 use Rattle.hir_input.specs.declared.ast.Rename.{Rename}
 use Rattle.hir_input.specs.declared.ast.UseTree.{UseTree, the_lemmas}
 use Rattle.hir_input.specs.declared.ast.UseTree.TheViews.{roll-UseTree}
-use Rattle.hir_input.specs.UseTreeView.{use_tree_view, tree_from}
-use Rattle.hir_input_json.specs.Forms.{field, list_of}
-use Rattle.hir_input_json.specs.UseTrees.{use_tree_with}
+use Rattle.hir_input_json.proofs.Common.{use_tree_view, tree_from, field, list_of, use_tree_with}
 use Rattle.hir_input_json.proofs.Laws.{LooksInside, ReadsItself}
 use Rattle.hir_input_json.proofs.Inside.{maybe_same, list_in, reads_itself}
 

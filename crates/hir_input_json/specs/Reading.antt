@@ -1,6 +1,5 @@
 -- What a form reads of a value.
-use Rattle.std.specs.Prelude.{ℕ, ◌==◌, List, [], ◌∷◌, ◌++◌, codes, if◌then◌else◌, Option, Some, None}
-use Rattle.std.specs.List.{flat_map}
+use Rattle.std.specs.Prelude.{ℕ, ◌==◌, List, [], ◌∷◌, ◌++◌, codes, if◌then◌else◌, Option, Some, None, flat_map}
 
 -- what a value is read as, or where in it the first value stands that is not of its form: a JSON Pointer (RFC 6901)
 pub data Reading (A : Type 0) : Type 0 where

@@ -2,15 +2,9 @@
 use Rattle.std.proofs.Common.{◌≡◌, ℕ, List, [], ◌∷◌, false, IfSome, Option, Some, None, refl, ap, subst, ◌∙◌}
 use Rattle.serde_json.specs.Data.{Data}
 use Rattle.serde_json.specs.Written.{has_float}
-use Rattle.hir_input.specs.Cfg.{AtomView, CfgView, CfgViews, invalid, all_of, any_of, not_of, no_cfgs, cfg_and, cfgs_from}
+use Rattle.hir_input_writer.proofs.Common.{AtomView, CfgView, CfgViews, invalid, all_of, any_of, not_of, no_cfgs, cfg_and, cfgs_from, right, field, identifier_form, cfg_reads_itself, atom_by, atom_data, cfg_data, cfgs_data, name_data, Holds, HoldEach}
 use Rattle.hir_input.specs.Cfg as condition
-use Rattle.hir_input_json.specs.Reading.{right}
-use Rattle.hir_input_json.specs.Forms.{field, identifier_form}
 use Rattle.hir_input_json.specs.Cfgs.{atom, cfg}
-use Rattle.hir_input_json.proofs.Attrs.{cfg_reads_itself}
-use Rattle.hir_input_writer.specs.Cfgs.{atom_by, atom_data, cfg_data, cfgs_data}
-use Rattle.hir_input_writer.specs.Parts.{name_data}
-use Rattle.hir_input_writer.specs.Held.{Holds, HoldEach}
 use Rattle.hir_input_writer.proofs.Held.{mapped, named_law, name_law, next_law}
 
 -- what a condition's data may be: a null too

@@ -2,11 +2,7 @@
 use Rattle.std.proofs.Common.{◌≡◌, ℕ, ◌+◌, List, [], ◌∷◌, map, Bool, true, false, nat_lt, IfSome, Option, Some, None, if◌then◌else◌, option_map, option_and_then, refl}
 use Rattle.serde_json.specs.Data.{Data, number, unsigned, string, Items, item}
 use Rattle.serde_json.specs.Written.{has_float}
-use Rattle.hir_input_json.specs.Reading.{Reading, right}
-use Rattle.hir_input.specs.Name.{is_name, name_in}
-use Rattle.hir_input_json.specs.Forms.{below, identifier_form, text_form, whole_form}
-use Rattle.hir_input_writer.specs.Held.{Holds, MayHold, HoldEach}
-use Rattle.hir_input_writer.specs.Parts.{each_data, maybe_data, name_data, text_or_null, whole_data}
+use Rattle.hir_input_writer.proofs.Common.{Reading, right, is_name, name_in, below, identifier_form, text_form, whole_form, Holds, MayHold, HoldEach, each_data, maybe_data, name_data, text_or_null, whole_data}
 
 -- ---- steps
 

@@ -1,11 +1,9 @@
 -- The data of an extern block and of a module by their parts.
 use Rattle.std.proofs.Common.{◌≡◌, Bool, List, Option, Some, None, option_map, option_and_then, Vec, Global, refl, ◌∙◌}
 use Rattle.serde_json.specs.Data.{Items, array}
-use Rattle.hir_input.specs.declared.ast.Item.{Item}
+use Rattle.hir_input_writer.proofs.Common.{Item, NodeView, ItemView, bare_module, listed_module, extern_block_from, items_from, items_view, module_view, named_from, extern_block_data, extern_items_data, item_data, listed_data}
 use Rattle.hir_input.specs.declared.ast.Module as ast_module
-use Rattle.hir_input.specs.Syntax.{NodeView, ItemView, bare_module, listed_module, extern_block_from, items_from, items_view, module_view, named_from}
 use Rattle.hir_input.proofs.SyntaxViews.{module_view-fields}
-use Rattle.hir_input_writer.specs.Items.{extern_block_data, extern_items_data, item_data, listed_data}
 
 block_by : (bodies : Bool) (n : NodeView) (ds : Option Items) → option_and_then (λ es. extern_block_data bodies n (array es)) ds ≡ option_and_then (extern_block_data bodies n) (option_map array ds)
 block_by bodies n None = refl

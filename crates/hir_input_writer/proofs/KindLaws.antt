@@ -3,27 +3,12 @@ use Rattle.std.proofs.Common.{◌≡◌, ℕ, List, [], ◌∷◌, Bool, false, 
 use Rattle.serde_json.specs.Data.{Data, string, array, object, Members}
 use Rattle.serde_json.specs.Find.{as_object}
 use Rattle.serde_json.specs.Written.{has_float}
-use Rattle.hir_input.specs.declared.ast.Rename.{Rename}
-use Rattle.hir_input.specs.declared.ast.Visibility.{Visibility}
+use Rattle.hir_input_writer.proofs.Common.{Rename, Visibility, NodeView, NamedView, UseView, CallView, FieldsView, tuple_fields, ItemView, struct_item, use_item, extern_crate, impl_item, macro_rules, asm_item, Reading, right, reading_map, field, flag, maybe_at, identifier_form, optional_at, required_at, unless_null, named_form, fields_form, tuple_field, expand_word, expand_to_at, call_form, context, context_at, path_node_form, path_at, vis_form, rename_form, use_tree_form, item_reads_itself, Holds, MayHold, HoldEach, asm_data, asm_object, call_data, call_object, extern_crate_data, extern_crate_object, fields_data, impl_data, impl_object, macro_rules_data, macro_rules_object, named_data, node_data, plain_data, plain_object, struct_data, struct_object, use_data, use_object, call_kept, named_kept, node_kept, use_kept, context_data, each_data, maybe_data, name_data, path_data, visibility_data, rename_data, use_tree_data}
 use Rattle.hir_input.specs.declared.expand_to.ExpandTo.{ExpandTo}
 use Rattle.hir_input.specs.declared.expand_to.ExpandTo.TheVariants as expand_to
 use Rattle.hir_input.specs.Id.{shown_expand_to}
-use Rattle.hir_input.specs.Syntax.{NodeView, NamedView, UseView, CallView, FieldsView, tuple_fields, ItemView, struct_item, use_item, extern_crate, impl_item, macro_rules, asm_item}
-use Rattle.hir_input_json.specs.Reading.{Reading, right, reading_map, ◌>>=◌}
-use Rattle.hir_input_json.specs.Forms.{field, flag, maybe_at, identifier_form, optional_at, required_at, unless_null}
+use Rattle.hir_input_json.specs.Reading.{◌>>=◌}
 use Rattle.hir_input_json.specs.Items as forms
-use Rattle.hir_input_json.specs.Items.{named_form, fields_form, tuple_field, expand_word, expand_to_at, call_form}
-use Rattle.hir_input_json.specs.Literals.{context, context_at}
-use Rattle.hir_input_json.specs.Paths.{path_node_form, path_at, vis_form}
-use Rattle.hir_input_json.specs.UseTrees.{rename_form, use_tree_form}
-use Rattle.hir_input_json.proofs.Items.{item_reads_itself}
-use Rattle.hir_input_writer.specs.Held.{Holds, MayHold, HoldEach}
-use Rattle.hir_input_writer.specs.Items.{asm_data, asm_object, call_data, call_object, extern_crate_data, extern_crate_object, fields_data, impl_data, impl_object, macro_rules_data, macro_rules_object, named_data, node_data, plain_data, plain_object, struct_data, struct_object, use_data, use_object}
-use Rattle.hir_input_writer.specs.Kept.{call_kept, named_kept, node_kept, use_kept}
-use Rattle.hir_input_writer.specs.Literals.{context_data}
-use Rattle.hir_input_writer.specs.Parts.{each_data, maybe_data, name_data}
-use Rattle.hir_input_writer.specs.Paths.{path_data, visibility_data}
-use Rattle.hir_input_writer.specs.UseTrees.{rename_data, use_tree_data}
 use Rattle.hir_input_writer.proofs.Held.{bind, mapped, maybe_law, name_law, next_law}
 use Rattle.hir_input_writer.proofs.LiteralLaws.{context_law}
 use Rattle.hir_input_writer.proofs.NodeLaws.{NamedHolds, NodeHolds, named_law, named_reads, node_law, node_reads}

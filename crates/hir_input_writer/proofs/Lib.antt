@@ -14,3 +14,4 @@ pub mod NodeLaws
 pub mod KindLaws
 pub mod ItemLaws
 pub mod SyntaxLaws
+pub mod Common

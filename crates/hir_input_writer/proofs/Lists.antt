@@ -4,7 +4,7 @@ use Rattle.std.proofs.lemmas.List.{drop_more, drop_all}
 use Rattle.serde_json.specs.Data.{Data, Items, no_items, item}
 use Rattle.serde_json.specs.View.{view, items_view}
 use Rattle.serde_json.specs.declared.value.Value.{Value}
-use Rattle.hir_input_writer.specs.Lists.{after, joined}
+use Rattle.hir_input_writer.proofs.Common.{after, joined}
 
 -- all is done
 pub after_all : (vs : List Value) → after (map view vs) no_items ≡ items_view vs

@@ -4,15 +4,9 @@ use Rattle.std.proofs.lemmas.Bool.Decides.{nat_tests}
 use Rattle.serde_json.specs.Data.{Data, number, unsigned}
 use Rattle.hir_input.specs.declared.edition.EditionYear.{EditionYear}
 use Rattle.hir_input.specs.declared.edition.EditionYear.TheVariants.{E2015, E2018, E2021, E2024}
-use Rattle.hir_input.specs.declared.ids.SyntaxContext.{SyntaxContext}
+use Rattle.hir_input_writer.proofs.Common.{SyntaxContext, LiteralView, field, whole_form, context, literal, span, context_data, is_same_context, literal_data, span_data, year_number, whole_data, Holds}
 use Rattle.hir_input.specs.declared.ids.SyntaxContext.TheVariants.{Root, Expanded}
 use Rattle.hir_input.specs.declared.span.Span.{Span}
-use Rattle.hir_input.specs.Literal.{LiteralView}
-use Rattle.hir_input_json.specs.Forms.{field, whole_form}
-use Rattle.hir_input_json.specs.Literals.{context, literal, span}
-use Rattle.hir_input_writer.specs.Literals.{context_data, is_same_context, literal_data, span_data, year_number}
-use Rattle.hir_input_writer.specs.Parts.{whole_data}
-use Rattle.hir_input_writer.specs.Held.{Holds}
 use Rattle.hir_input_writer.proofs.Held.{bind, below_law, text_law, whole_law}
 
 pub context_law : (c : SyntaxContext) → IfSome (context_data c) (Holds context c)

@@ -1,21 +1,6 @@
 -- A meta that is written is read again.
 use Rattle.std.proofs.Common.{◌≡◌, ℕ, List, [], ◌∷◌, IfSome, Option, refl, ap, ◌∙◌}
-use Rattle.hir_input.specs.declared.ast.PathNode.{PathNode}
-use Rattle.hir_input.specs.declared.ids.SyntaxContext.{SyntaxContext}
-use Rattle.hir_input.specs.Literal.{LiteralView}
-use Rattle.hir_input.specs.Attr.{MetaView, MetaViews, path_meta, key_value_meta, token_tree_meta, cfg_meta, cfg_attr_meta, unsafe_meta, no_metas, meta_and, metas_from}
-use Rattle.hir_input_json.specs.Reading.{right}
-use Rattle.hir_input_json.specs.Forms.{field}
-use Rattle.hir_input_json.specs.Literals.{context, literal}
-use Rattle.hir_input_json.specs.Metas.{meta_form}
-use Rattle.hir_input_json.specs.Paths.{path_node_form}
-use Rattle.hir_input_json.proofs.Attrs.{meta_reads_itself}
-use Rattle.hir_input_writer.specs.Cfgs.{cfg_data}
-use Rattle.hir_input_writer.specs.Literals.{context_data, literal_data}
-use Rattle.hir_input_writer.specs.Metas.{key_value_data, meta_data, metas_data, path_meta_data, tokens_data}
-use Rattle.hir_input_writer.specs.Parts.{maybe_data}
-use Rattle.hir_input_writer.specs.Paths.{path_data}
-use Rattle.hir_input_writer.specs.Held.{Holds, MayHold, HoldEach}
+use Rattle.hir_input_writer.proofs.Common.{PathNode, SyntaxContext, LiteralView, MetaView, MetaViews, path_meta, key_value_meta, token_tree_meta, cfg_meta, cfg_attr_meta, unsafe_meta, no_metas, meta_and, metas_from, right, field, context, literal, meta_form, path_node_form, meta_reads_itself, cfg_data, context_data, literal_data, key_value_data, meta_data, metas_data, path_meta_data, tokens_data, maybe_data, path_data, Holds, MayHold, HoldEach}
 use Rattle.hir_input_writer.proofs.Held.{bind, held_next, mapped, maybe_law}
 use Rattle.hir_input_writer.proofs.CfgLaws.{CfgHolds, cfg_law}
 use Rattle.hir_input_writer.proofs.LiteralLaws.{context_law, literal_law}

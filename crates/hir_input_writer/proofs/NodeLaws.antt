@@ -2,19 +2,8 @@
 use Rattle.std.proofs.Common.{◌≡◌, ◌^◌, ℕ, List, [], Bool, true, false, IfSome, codes, refl, ap, ◌∙◌}
 use Rattle.serde_json.specs.Data.{Data, array, no_items}
 use Rattle.serde_json.specs.Written.{has_float}
-use Rattle.hir_input.specs.Attr.{MetaView, metas_from}
-use Rattle.hir_input.specs.Syntax.{NodeView, NamedView}
-use Rattle.hir_input_json.specs.Reading.{Reading, right, under, ◌>>=◌}
-use Rattle.hir_input_json.specs.Forms.{each, field, array_items, maybe_at, identifier_form, optional, text_form, unless_null, whole_form}
-use Rattle.hir_input_json.specs.Items.{named_form, node_form}
-use Rattle.hir_input_json.specs.Metas.{meta_form}
-use Rattle.hir_input_json.specs.Paths.{vis_form}
-use Rattle.hir_input_writer.specs.Held.{Holds, MayHold, HoldEach}
-use Rattle.hir_input_writer.specs.Items.{NodeData, NamedData, attrs_data, body_data, named_data, node_data}
-use Rattle.hir_input_writer.specs.Kept.{body_kept, node_kept, named_kept}
-use Rattle.hir_input_writer.specs.Metas.{metas_data}
-use Rattle.hir_input_writer.specs.Parts.{maybe_data, name_data, whole_data}
-use Rattle.hir_input_writer.specs.Paths.{visibility_data}
+use Rattle.hir_input_writer.proofs.Common.{MetaView, metas_from, NodeView, NamedView, Reading, right, under, each, field, array_items, maybe_at, identifier_form, optional, text_form, unless_null, whole_form, named_form, node_form, meta_form, vis_form, Holds, MayHold, HoldEach, NodeData, NamedData, attrs_data, body_data, named_data, node_data, body_kept, node_kept, named_kept, metas_data, maybe_data, name_data, whole_data, visibility_data}
+use Rattle.hir_input_json.specs.Reading.{◌>>=◌}
 use Rattle.hir_input_writer.proofs.Held.{bind, mapped, maybe_law, name_law, whole_law}
 use Rattle.hir_input_writer.proofs.MetaLaws.{listed, listed_from, metas_law}
 use Rattle.hir_input_writer.proofs.PathLaws.{visibility_law}

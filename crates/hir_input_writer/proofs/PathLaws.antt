@@ -2,17 +2,10 @@
 use Rattle.std.proofs.Common.{◌≡◌, ◌^◌, ℕ, List, [], ◌∷◌, IfSome, codes, decimal, refl}
 use Rattle.serde_json.specs.Data.{Data, string, array, Items, no_items, item}
 use Rattle.hir_input.specs.declared.mod_path.PathKind.{PathKind}
-use Rattle.hir_input.specs.declared.mod_path.PathKind.TheVariants.{Plain, Super, DollarCrate}
-use Rattle.hir_input.specs.declared.ast.PathNode.{PathNode}
+use Rattle.hir_input_writer.proofs.Common.{Plain, Super, DollarCrate, PathNode, Visibility, Reading, right, wrong, under, each_from, field, identifier_form, whole_form, path_node_form, vis_form, each_data, name_data, whole_data, kind_data, path_data, visibility_data, Holds, HoldEach}
 use Rattle.hir_input.specs.declared.ast.PathNode.TheVariants.{Readable, Unreadable}
-use Rattle.hir_input.specs.declared.ast.Visibility.{Visibility}
 use Rattle.hir_input.specs.declared.ast.Visibility.TheVariants.{InPath}
-use Rattle.hir_input_json.specs.Reading.{Reading, right, wrong, under, ◌>>=◌}
-use Rattle.hir_input_json.specs.Forms.{each_from, field, identifier_form, whole_form}
-use Rattle.hir_input_json.specs.Paths.{path_node_form, vis_form}
-use Rattle.hir_input_writer.specs.Parts.{each_data, name_data, whole_data}
-use Rattle.hir_input_writer.specs.Paths.{kind_data, path_data, visibility_data}
-use Rattle.hir_input_writer.specs.Held.{Holds, HoldEach}
+use Rattle.hir_input_json.specs.Reading.{◌>>=◌}
 use Rattle.hir_input_writer.proofs.Held.{bind, mapped, each_law, name_law, whole_law}
 
 -- one before others

@@ -1,10 +1,8 @@
 -- The data of a path of a kind.
 use Rattle.std.proofs.Common.{◌≡◌, ◌<◌, ℕ, List, [], ◌∷◌, length, Option, Some, None, option_and_then, codes, refl, arith}
 use Rattle.serde_json.specs.Data.{Data, Items, item}
-use Rattle.hir_input.specs.declared.mod_path.PathKind.TheVariants.{Plain}
-use Rattle.hir_input_writer.specs.Paths.{word_and_names, kind_data}
+use Rattle.hir_input_writer.proofs.Common.{Plain, word_and_names, kind_data, each_data, name_data}
 use Rattle.hir_input_writer.proofs.Lists.{lists}
-use Rattle.hir_input_writer.specs.Parts.{each_data, name_data}
 
 plain_by : (n : Option Data) (ns : Option Items)
     → option_and_then (kind_data Plain) (option_and_then (λ d. option_and_then (λ ds. Some (item d ds)) ns) n)

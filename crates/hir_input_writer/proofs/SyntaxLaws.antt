@@ -2,17 +2,9 @@
 use Rattle.std.proofs.Common.{◌≡◌, List, [], ◌∷◌, map, Bool, true, false, IfSome, Some, codes, refl, ap, subst}
 use Rattle.serde_json.specs.Data.{Data}
 use Rattle.hir_input.specs.Bodies.{item_without_bodies, items_without_bodies, stmt_without_bodies, tail_without_body}
-use Rattle.hir_input.specs.Syntax.{ItemView, ItemViews, listed_module, listed_extern_block, no_items, item_and, StmtView, item_stmt, call_stmt, other_stmt, TailView, no_tail, call_tail, other_tail, SyntaxView, source_file, macro_items, macro_stmts, block_expr, error}
-use Rattle.hir_input_json.specs.Reading.{right, reading_map, under}
-use Rattle.hir_input_json.specs.Forms.{field, optional, unless_null}
-use Rattle.hir_input_json.specs.Items.{item}
+use Rattle.hir_input_writer.proofs.Common.{ItemView, ItemViews, listed_module, listed_extern_block, no_items, item_and, StmtView, item_stmt, call_stmt, other_stmt, TailView, no_tail, call_tail, other_tail, SyntaxView, source_file, macro_items, macro_stmts, block_expr, error, right, reading_map, under, field, optional, unless_null, item, Holds, HoldEach, attrs_data, call_data, item_data, items_data, call_kept, item_kept, items_kept, named_kept, node_kept, stmt_kept, tail_kept, each_data, stmt_data, syntax_data, tail_data}
 use Rattle.hir_input_json.specs.Syntaxes.{stmt, tail}
-use Rattle.hir_input_writer.specs.Held.{Holds, HoldEach}
-use Rattle.hir_input_writer.specs.Items.{attrs_data, call_data, item_data, items_data}
-use Rattle.hir_input_writer.specs.Kept.{call_kept, item_kept, items_kept, named_kept, node_kept, stmt_kept, tail_kept}
 use Rattle.hir_input_writer.specs.Laws.{IsReadAs, kept_bodies}
-use Rattle.hir_input_writer.specs.Parts.{each_data}
-use Rattle.hir_input_writer.specs.Syntaxes.{stmt_data, syntax_data, tail_data}
 use Rattle.serde_json.specs.Written.{has_float}
 use Rattle.hir_input_writer.proofs.Held.{bind, each_seen, mapped}
 use Rattle.hir_input_writer.proofs.ItemLaws.{from_listed, item_law, items_law, listed}

@@ -2,17 +2,8 @@
 use Rattle.std.proofs.Common.{◌≡◌, ℕ, List, [], ◌∷◌, Bool, true, false, bytes_eq, IfSome, Option, Some, None, if◌then◌else◌, codes, refl, ap, subst, ◌∙◌}
 use Rattle.serde_json.specs.Data.{Data, null, array}
 use Rattle.serde_json.specs.Written.{has_float}
-use Rattle.hir_input.specs.declared.ast.Rename.{Rename}
-use Rattle.hir_input.specs.UseTreeView.{UseNode, UseTreeView, UseTreeViews, bare_tree, listed_tree, no_trees, tree_and, tree_from, trees_from}
-use Rattle.hir_input_json.specs.Reading.{right, reading_map}
-use Rattle.hir_input_json.specs.Forms.{field, list_of, maybe, unless_null}
-use Rattle.hir_input_json.specs.Paths.{path_node_form}
-use Rattle.hir_input_json.specs.UseTrees.{rename_form, use_tree_form}
+use Rattle.hir_input_writer.proofs.Common.{Rename, UseNode, UseTreeView, UseTreeViews, bare_tree, listed_tree, no_trees, tree_and, tree_from, trees_from, right, reading_map, field, list_of, maybe, unless_null, path_node_form, rename_form, use_tree_form, Holds, MayHold, HoldEach, maybe_data, name_data, path_data, rename_data, renamed_data, use_node_data, use_tree_data, use_trees_data}
 use Rattle.hir_input_json.proofs.UseTrees.{use_tree_reads_itself}
-use Rattle.hir_input_writer.specs.Held.{Holds, MayHold, HoldEach}
-use Rattle.hir_input_writer.specs.Parts.{maybe_data, name_data}
-use Rattle.hir_input_writer.specs.Paths.{path_data}
-use Rattle.hir_input_writer.specs.UseTrees.{rename_data, renamed_data, use_node_data, use_tree_data, use_trees_data}
 use Rattle.hir_input_writer.proofs.Held.{bind, held_next, maybe_law, named_law}
 use Rattle.hir_input_writer.proofs.PathLaws.{path_law}
 

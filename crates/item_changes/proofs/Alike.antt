@@ -1,6 +1,5 @@
 -- Keys in code are equal where what they are is.
-use Rattle.std.proofs.Common.{◌≡◌, ℕ, List, [], ◌∷◌, map, Option, Some, None, Bor, refl}
-use Rattle.std.specs.Prelude.{◌==◌, ◌&&◌, nat_eq, option_copied}
+use Rattle.std.proofs.Common.{◌≡◌, ℕ, List, [], ◌∷◌, map, Option, Some, None, Bor, refl, ◌==◌, ◌&&◌, nat_eq, option_copied}
 use Rattle.std.specs.{Cmp.Lexicographic.pointwise, Option.option_eq}
 use Rattle.item_changes.specs.declared.items.Item as code_item
 use Rattle.item_changes.specs.declared.keys.Key as code_key

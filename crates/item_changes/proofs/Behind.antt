@@ -1,6 +1,5 @@
 -- Items one after another.
-use Rattle.std.proofs.Common.{◌≡◌, ℕ, suc, ◌-◌, ◌≤◌, ◌<◌, List, [], ◌∷◌, ◌++◌, length, take, drop, get_or, map, refl, ap, sym, ◌∙◌, append_assoc, append-nil, arith}
-use Rattle.std.specs.List.{zip}
+use Rattle.std.proofs.Common.{◌≡◌, ℕ, suc, ◌-◌, ◌≤◌, ◌<◌, List, [], ◌∷◌, ◌++◌, length, take, drop, get_or, map, refl, ap, sym, ◌∙◌, append_assoc, append-nil, arith, zip}
 use Rattle.std.proofs.lemmas.List.{map-append, take_all}
 use Rattle.item_tree.specs.{Node.Node, Node.Unfolding, Walk.AreContained}
 use Rattle.tree_walk.specs.Rows.{RowView}

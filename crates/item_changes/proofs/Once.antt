@@ -1,6 +1,5 @@
 -- A tree has no changes to one of the same items.
-use Rattle.std.proofs.Common.{◌≡◌, ℕ, ◌+◌, Bool, true, List, [], ◌∷◌, ◌++◌, map, Option, Some, None, refl, ap, sym, ◌∙◌}
-use Rattle.std.specs.Prelude.{nat_eq, ◌&&◌}
+use Rattle.std.proofs.Common.{◌≡◌, ℕ, ◌+◌, Bool, true, List, [], ◌∷◌, ◌++◌, map, Option, Some, None, refl, ap, sym, ◌∙◌, nat_eq, ◌&&◌}
 use Rattle.std.specs.{Cmp.Lexicographic.pointwise, List.flat_map, List.zip, Option.option_eq}
 use Rattle.std.proofs.lemmas.{Bool.Decides.Decides-eqb, List.map-append}
 use Rattle.item_tree.specs.{Node.Node, Node.leaf, Node.parent, Node.Forest, Node.empty, Node.more, Node.Unfolding, Same.same_itself}

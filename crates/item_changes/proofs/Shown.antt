@@ -1,6 +1,5 @@
 -- What is lent of an item has the rest and the constructor of its node.
-use Rattle.std.proofs.Common.{◌≡◌, ℕ, List, [], ◌∷◌, map, Option, Some, None, refl, ap, sym, ◌∙◌}
-use Rattle.std.specs.Prelude.{option_map}
+use Rattle.std.proofs.Common.{◌≡◌, ℕ, List, [], ◌∷◌, map, Option, Some, None, refl, ap, sym, ◌∙◌, option_map}
 use Rattle.item_tree.specs.{declared.visibility.RawVisibility.RawVisibility, Shown.Lent, Shown.lent_leaf, Shown.lent_parent, Shown.IsLent}
 use Rattle.item_tree.specs.Layout.{ctor_map, leaf_map, trunk_map, or_public, vis_at}
 use Rattle.item_tree.specs.Node.{Ctor, no_ctor, ctor_with, ctor_with_min, Leaf, plain, Trunk, inline, extern_block, Unfolding}

@@ -1,8 +1,7 @@
 -- Tables by keys, and what of two lists is the same.
-use Rattle.std.proofs.Common.{◌≡◌, ℕ, zero, suc, ◌+◌, ◌<◌, ◌≤◌, Bool, true, false, List, [], ◌∷◌, ◌++◌, length, take, get_or, map, Option, Some, None, Bor, cond, HashMap, BuildHasherDefault, FoldHasher, refl, ap, sym, ◌∙◌, arith, ⊎_elim, append_assoc, append-nil}
-use Rattle.std.specs.Prelude.{◌==◌, ◌&&◌, option_map, slice_get, unwrap_or}
+use Rattle.std.proofs.Common.{◌≡◌, ℕ, zero, suc, ◌+◌, ◌<◌, ◌≤◌, Bool, true, false, List, [], ◌∷◌, ◌++◌, length, take, get_or, map, Option, Some, None, Bor, cond, HashMap, BuildHasherDefault, FoldHasher, refl, ap, sym, ◌∙◌, arith, ⊎_elim, append_assoc, append-nil, ◌==◌, ◌&&◌, option_map, slice_get, count_by, filter}
+use Rattle.std.specs.Prelude.{unwrap_or}
 use Rattle.std.specs.{Cmp.IsEquivalence, HashMap.get, HashMap.get_by}
-use Rattle.std.specs.List.{count_by, filter}
 use Rattle.std.proofs.lemmas.{Bool.cases_Bool, Bool.Decides.nat_tests, List.map-append, List.take_more, List.Elements.filter-append}
 use Rattle.std.proofs.lemmas.List.Sums.{count_by-le-length, length-filter, sum_by-append}
 use Rattle.item_changes.specs.declared.matching.Keyed.{Keyed}

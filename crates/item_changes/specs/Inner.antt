@@ -4,9 +4,8 @@ use Rattle.std.specs.Borrow.{Bor}
 use Rattle.hir_input.specs.{declared.ids.AstIdKind.AstIdKind, declared.ids.SyntaxContext.SyntaxContext, declared.expand_to.ExpandTo.ExpandTo, Path.Path}
 use Rattle.hir_input.specs.declared.ids.AstIdKind.TheVariants as kind
 use Rattle.hir_input.specs.Syntax.{ast_kind}
-use Rattle.item_tree.specs.{declared.visibility.RawVisibility.RawVisibility, declared.items.FieldsShape.FieldsShape, declared.items.ModKind.ModKind, Walk.of_id}
+use Rattle.item_tree.specs.{declared.visibility.RawVisibility.RawVisibility, declared.items.FieldsShape.FieldsShape, declared.items.ModKind.ModKind, Walk.of_id, Tree.Tree, Tree.tree_of, Node.Node, Node.leaf, Node.parent, Node.Leaf, Node.Trunk, Node.Ctor, Node.Unfolding}
 use Rattle.item_tree.specs.declared.{items.ModKind.TheVariants.Inline, items.ModKind.TheVariants.Outline, use_tree.ImportAlias.ImportAlias}
-use Rattle.item_tree.specs.{Tree.Tree, Tree.tree_of, Node.Node, Node.leaf, Node.parent, Node.Leaf, Node.Trunk, Node.Ctor, Node.Unfolding}
 use Rattle.item_tree.specs.Node as node
 use Rattle.item_tree.specs.Shown.{Lent, lent_leaf, lent_parent}
 use Rattle.tree_walk.specs.Views.{row_view}

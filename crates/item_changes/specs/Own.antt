@@ -1,9 +1,8 @@
 -- What a tree keeps of an item by itself.
 use Rattle.std.specs.Prelude.{ℕ, Bool, false}
 use Rattle.std.specs.Coded.{Coded}
-use Rattle.item_tree.specs.{Code.Node.node_to, Code.Node.node_inj, Node.Head, Node.Node, Node.leaf, Node.parent, Node.impl_item, Node.empty, Node.Unfolding}
+use Rattle.item_tree.specs.{Code.Node.node_to, Code.Node.node_inj, Node.Head, Node.Node, Node.leaf, Node.parent, Node.impl_item, Node.empty, Node.Unfolding, Same.same, Walk.of_id}
 use Rattle.item_tree_attrs.specs.Collected.{nothing_collected as no_attrs}
-use Rattle.item_tree.specs.{Same.same, Walk.of_id}
 
 -- what every node has but its id
 abbrev pub without_id : Head → Head

@@ -1,6 +1,5 @@
 //! Changes of items.
-ghost use Rattle.std.specs.Prelude.{◌≡◌, ◌++◌, [], map, IfOk, OnOk};
-ghost use Rattle.std.specs.List.{flat_map};
+ghost use Rattle.std.specs.Prelude.{◌≡◌, ◌++◌, [], map, IfOk, OnOk, flat_map};
 ghost use Rattle.tree_walk.specs.Rows as all_rows;
 ghost use Rattle.tree_walk.specs.Views.{row_view};
 ghost use Rattle.item_changes.specs.Changes as spec;

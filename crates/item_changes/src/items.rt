@@ -1,6 +1,5 @@
 //! The items of a tree, with what tells which item of another tree is the same.
-ghost use Rattle.std.specs.Prelude.{◌≡◌, map, IfOk};
-ghost use Rattle.std.specs.List.{zip};
+ghost use Rattle.std.specs.Prelude.{◌≡◌, map, IfOk, zip};
 ghost use Rattle.item_tree.specs.Walk.{AreContained};
 ghost use Rattle.tree_walk.specs.Rows as all_rows;
 ghost use Rattle.tree_walk.specs.Views.{row_view};

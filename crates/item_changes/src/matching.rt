@@ -1,6 +1,5 @@
 //! Which things of two lists are the same: the n-th of their key in one list, and the n-th of it in the other.
-ghost use Rattle.std.specs.Prelude.{◌≡◌, ◌<◌, ◌-◌, ◌^◌, ◌++◌, map, IfOk, OnOk};
-ghost use Rattle.std.specs.List.{flat_map};
+ghost use Rattle.std.specs.Prelude.{◌≡◌, ◌<◌, ◌-◌, ◌^◌, ◌++◌, map, IfOk, OnOk, flat_map};
 ghost use Rattle.item_changes.specs.Matches as spec;
 ghost use Rattle.item_changes.specs.Matches.{CountsKey, FindsAll, key_count, match_now, pair_now, same_keys};
 

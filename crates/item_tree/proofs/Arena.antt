@@ -1,21 +1,6 @@
 -- The arena of visibilities: what stands in it has one id, which stays as more is met.
-use Rattle.std.proofs.Common.{◌≡◌, ◌<◌, ◌≤◌, ◌+◌, ◌-◌, ℕ, zero, suc, true, false, cond, eqb, List, [], ◌∷◌, ◌++◌, length, map, get_or, Option, None, Some, refl, ap, sym, ◌∙◌, arith, append_assoc, append-nil, length-append, inl, inr}
-use Rattle.std.proofs.lemmas.Bool.{cases_Bool, cases_lt, cond_both, eqb-true, ne_eqb, lt-ltb, le-ltb, false≢true}
-use Rattle.std.proofs.lemmas.List.{map-id}
-use Rattle.std.proofs.lemmas.List.Folds.{prefix_len-append, position_or_len_push, list_any_at}
-use Rattle.std.proofs.lemmas.List.Sums.{prefix_len-le-length, passes_at_first}
-use Rattle.std.proofs.lemmas.Option.{slice_get-get_or, slice_get_within, same_Some}
-use Rattle.std.specs.Prelude.{slice_get, not}
-use Rattle.std.specs.List.{list_any}
-use Rattle.hir_input.specs.Path.{Path}
-use Rattle.item_tree.specs.declared.visibility.VisibilityExplicitness.{VisibilityExplicitness}
-use Rattle.item_tree.specs.declared.visibility.VisibilityExplicitness.TheVariants.{Explicit}
-use Rattle.item_tree.specs.declared.visibility.RawVisibility.{RawVisibility}
-use Rattle.item_tree.specs.declared.visibility.RawVisibility.TheVariants.{Module, PubSelf}
-use Rattle.item_tree.specs.Node.{ctor_with_min, Leaf, struct_item, Trunk, inline, Forest}
-use Rattle.item_tree.specs.Layout.{fixed, first_fixed, arena_place, vis_id, or_public, vis_value, value_at, leaf_map, trunk_map, leaf_vis, trunk_vis, forest_vis, arena_of}
-use Rattle.item_tree.specs.Inner.Meeting.{meet, meet_all}
-use Rattle.item_tree.specs.Visibility.{same_visibility, firsts_behind, distinct}
+use Rattle.std.proofs.Common.{◌≡◌, ◌<◌, ◌≤◌, ◌+◌, ◌-◌, ℕ, zero, suc, true, false, cond, eqb, List, [], ◌∷◌, ◌++◌, length, map, get_or, Option, None, Some, refl, ap, sym, ◌∙◌, arith, append_assoc, append-nil, length-append, inl, inr, slice_get, not}
+use Rattle.item_tree.proofs.Common.{cases_Bool, cases_lt, cond_both, eqb-true, ne_eqb, lt-ltb, le-ltb, false≢true, map-id, prefix_len-append, position_or_len_push, list_any_at, prefix_len-le-length, passes_at_first, slice_get-get_or, slice_get_within, same_Some, list_any, Path, VisibilityExplicitness, Explicit, RawVisibility, Module, PubSelf, ctor_with_min, Leaf, struct_item, Trunk, inline, Forest, fixed, first_fixed, arena_place, vis_id, or_public, vis_value, value_at, leaf_map, trunk_map, leaf_vis, trunk_vis, forest_vis, arena_of, meet, meet_all, same_visibility, firsts_behind, distinct}
 use Rattle.item_tree.proofs.Pieces.{get-left, get-at-seam}
 use Rattle.item_tree.proofs.VisibilityEq.{same-sound, same-itself}
 

@@ -1,14 +1,8 @@
 -- What is kept does not depend on body texts.
-use Rattle.std.proofs.Common.{◌≡◌, ℕ, Bool, List, [], ◌∷◌, map, refl, ap, ◌∙◌}
-use Rattle.std.specs.Prelude.{Some, option_map}
-use Rattle.hir_input.specs.Syntax.{ItemView, ItemViews, listed_module, listed_extern_block, macro_call, no_items, item_and, StmtView, item_stmt, call_stmt, other_stmt, TailView, call_tail, stmt_items, SyntaxView, source_file, macro_items, macro_stmts, block_expr, error}
+use Rattle.std.proofs.Common.{◌≡◌, ℕ, Bool, List, [], ◌∷◌, map, refl, ap, ◌∙◌, Some, option_map}
+use Rattle.item_tree.proofs.Common.{ItemView, ItemViews, listed_module, listed_extern_block, no_items, item_and, StmtView, item_stmt, call_stmt, other_stmt, TailView, call_tail, stmt_items, SyntaxView, source_file, macro_items, macro_stmts, block_expr, error, nothing_collected, AtomView, CrateView, read_visibility, head_of, module_node, kept, kept_all, kept_top, kept_syntax, parent, extern_block, add}
+use Rattle.hir_input.specs.Syntax.{macro_call}
 use Rattle.hir_input.specs.Bodies.{item_without_bodies, items_without_bodies, call_without_body, stmt_without_bodies, tail_without_body, without_bodies}
-use Rattle.item_tree_attrs.specs.Collected.{nothing_collected}
-use Rattle.hir_input.specs.Cfg.{AtomView}
-use Rattle.item_tree.specs.CrateView.{CrateView}
-use Rattle.item_tree.specs.Visibility.{read_visibility}
-use Rattle.item_tree.specs.Kept.{head_of, module_node, kept, kept_all, kept_top, kept_syntax}
-use Rattle.item_tree.specs.Node.{parent, extern_block, add}
 
 module _ (options : List AtomView) (skipped : List (List ℕ)) where
   mutual

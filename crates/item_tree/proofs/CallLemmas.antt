@@ -1,8 +1,6 @@
 -- Calls at the items of a list, one part after another.
 use Rattle.std.proofs.Common.{List, [], ◌∷◌, ◌++◌, sym, ap, ◌∙◌, subst, append_assoc, Result, Ok, Err, OnErr}
-use Rattle.std.specs.List.{FoldsTo}
-use Rattle.item_tree.specs.Calls.{MayCallAt, CalledAtAll, CalledAtSome}
-use Rattle.item_tree.specs.Inner.Expanding.{CallsLeft}
+use Rattle.item_tree.proofs.Common.{FoldsTo, MayCallAt, CalledAtAll, CalledAtSome, CallsLeft}
 
 FoldsTo-append : {F A : Type 0} (step : F → A → F → Type 0) (f : F) (xs ys : List A) (g h : F) → FoldsTo step f xs g → FoldsTo step g ys h → FoldsTo step f (xs ++ ys) h
 FoldsTo-append step f [] ys g h a b = subst (λ k. FoldsTo step k ys h) (sym a) b

@@ -1,16 +1,9 @@
 -- What a caller of `Use::expand` proves of its closure, and learns of the calls.
-use Rattle.std.proofs.Common.{◌≡◌, ℕ, ◌+◌, ◌<◌, ◌≤◌, List, [], ◌∷◌, ◌++◌, length, Option, Some, None, refl, sym, ap, ◌∙◌, append-nil, length-append, arith}
-use Rattle.std.specs.List.{flat_map}
+use Rattle.std.proofs.Common.{◌≡◌, ℕ, ◌+◌, ◌<◌, ◌≤◌, List, [], ◌∷◌, ◌++◌, length, Option, Some, None, refl, sym, ap, ◌∙◌, append-nil, length-append, arith, flat_map}
 use Rattle.std.proofs.lemmas.Fn.{chained_keeps}
-use Rattle.std.proofs.lemmas.List.{flat_map_more, map-id}
-use Rattle.std.proofs.lemmas.List.Concat.{flat_map_single}
-use Rattle.hir_input.specs.Path.{Path}
-use Rattle.item_tree.specs.declared.use_tree.ImportAlias.{ImportAlias}
+use Rattle.item_tree.proofs.Common.{flat_map_more, map-id, flat_map_single, Path, ImportAlias, MayCallAt, CalledAtAll, is_self, import_of, read_below, read_star, kind_below, imports_from, all_imports_from, imports, Tree, Branches, single, glob, prefixed, no_branches, branch_and, tree_nodes, branch_nodes, tree_count}
 use Rattle.item_tree.specs.declared.use_tree.ImportKind.{ImportKind}
 use Rattle.item_tree.specs.declared.use_tree.ImportKind.TheVariants.{Glob}
-use Rattle.item_tree.specs.Calls.{MayCallAt, CalledAtAll}
-use Rattle.item_tree.specs.Imports.{is_self, import_of, read_below, read_star, kind_below, imports_from, all_imports_from, imports}
-use Rattle.item_tree.specs.Tree.{Tree, Branches, single, glob, prefixed, no_branches, branch_and, tree_nodes, branch_nodes, tree_count}
 
 -- a closure that may be called in any state
 pub may_call_always : {F A : Type 0} (pre : F → A → Type 0) (step : F → A → F → Type 0) (f : F) (xs : List A) → ((g : F) (x : A) → pre g x) → MayCallAt pre step f xs

@@ -1,14 +1,8 @@
 -- The tables of a forest give the forest back.
-use Rattle.std.proofs.Common.{◌≡◌, ℕ, ◌+◌, ◌*◌, ◌/◌, ◌%◌, ◌<◌, ◌≤◌, eq-eqb, List, [], ◌∷◌, ◌++◌, length, map, Some, refl, ap, sym, ◌∙◌, subst, arith, append_assoc, append-nil, length-append}
-use Rattle.std.specs.Prelude.{slice_get}
-use Rattle.hir_input.specs.declared.ids.AstIdKind.{AstIdKind}
+use Rattle.std.proofs.Common.{◌≡◌, ℕ, ◌+◌, ◌*◌, ◌/◌, ◌%◌, ◌<◌, ◌≤◌, eq-eqb, List, [], ◌∷◌, ◌++◌, length, map, Some, refl, ap, sym, ◌∙◌, subst, arith, append_assoc, append-nil, length-append, slice_get}
+use Rattle.item_tree.proofs.Common.{AstIdKind, RawVisibility, Collected, Node, Forest, leaf, parent, empty, more, node_kind, Unfolding, first_fixed, vis_id, trunk_map, trunk_vis, node_vis, forest_vis, LayoutRow, parent_row, row_key, row_attrs, row_item, arena_of, node_walk, walk, node_id, ids, node_rows, rows_of, kind_bit, layout, nth_node, gather, row_node, build, zip_rows, tables_from, unfold_tables, has_no_attributes, unless, column_of, attrs_stored}
 use Rattle.hir_input.specs.declared.ids.AstIdKind.TheVariants as kind
-use Rattle.item_tree.specs.declared.visibility.RawVisibility.{RawVisibility}
-use Rattle.item_tree_attrs.specs.Collected.{Collected}
 use Rattle.item_tree.proofs.Arena.{KnowsAll, KnowsAll-parts, Knows-arena, leaf-back, trunk-back}
-use Rattle.item_tree.specs.Node.{Node, Forest, leaf, parent, empty, more, node_kind, Unfolding}
-use Rattle.item_tree.specs.Layout.{first_fixed, vis_id, trunk_map, trunk_vis, node_vis, forest_vis, LayoutRow, parent_row, row_key, row_attrs, row_item, arena_of, node_walk, walk, node_id, ids, node_rows, rows_of, kind_bit, layout, nth_node, gather, row_node, build, zip_rows, tables_from, unfold_tables}
-use Rattle.item_tree.specs.Column.{has_no_attributes, unless, column_of, attrs_stored}
 use Rattle.item_tree.proofs.Column.{value-back, values-back}
 use Rattle.item_tree.proofs.Pieces.{HasFrom, HasFrom-left, HasFrom-right, HasFrom-append, HasFrom-all}
 

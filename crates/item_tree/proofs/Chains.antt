@@ -1,16 +1,8 @@
 -- A chain of prefixes, and the path that it means.
-use Rattle.std.proofs.Common.{◌≡◌, ℕ, zero, suc, ◌+◌, Bool, true, false, List, [], ◌∷◌, ◌++◌, Option, Some, None, refl, sym, ap, ◌∙◌, append_assoc, append-nil, arith}
-use Rattle.std.specs.List.{flat_map}
-use Rattle.std.specs.Option.{option_and_then, option_map, option_map_or}
-use Rattle.std.proofs.lemmas.Grind.{flat_map-append}
-use Rattle.hir_input.specs.declared.mod_path.PathKind.{PathKind}
-use Rattle.hir_input.specs.declared.mod_path.PathKind.TheVariants.{Plain, Super, Crate, Abs, DollarCrate}
-use Rattle.hir_input.specs.Path.{Path, HasWords}
-use Rattle.hir_input.specs.Words.{PathWord, words, read_words}
+use Rattle.std.proofs.Common.{◌≡◌, ℕ, zero, suc, ◌+◌, Bool, true, false, List, [], ◌∷◌, ◌++◌, Option, Some, None, refl, sym, ap, ◌∙◌, append_assoc, append-nil, arith, flat_map}
+use Rattle.item_tree.proofs.Common.{option_and_then, option_map, option_map_or, flat_map-append, PathKind, Plain, Super, Crate, Abs, DollarCrate, Path, HasWords, PathWord, words, read_words, Tree, Branches, single, glob, prefixed, no_branches, branch_and, tree_count, Import, is_self, read_chain, read_below, read_star, kind_below, import_of, imports_from, all_imports_from}
 use Rattle.hir_input.proofs.Reading.{read-append, then_words, read-words}
 use Rattle.item_tree.specs.declared.use_tree.ImportKind.TheVariants.{Glob}
-use Rattle.item_tree.specs.Tree.{Tree, Branches, single, glob, prefixed, no_branches, branch_and, tree_count}
-use Rattle.item_tree.specs.Imports.{Import, is_self, read_chain, read_below, read_star, kind_below, import_of, imports_from, all_imports_from}
 
 abbrev pub IsFilled : {A : Type 0} → List A → Type 0
 IsFilled [] = ⊥

@@ -1,12 +1,8 @@
 -- What stands in the column of attributes at the places.
 use Rattle.std.proofs.Common.{◌≡◌, ℕ, ◌+◌, eqb, Bool, true, false, List, [], ◌∷◌, ◌++◌, length, map, suc, Option, Some, None, refl, ap, sym, ◌∙◌, arith, add-zero, append_assoc, length-append, inl, inr}
-use Rattle.std.proofs.lemmas.Bool.{cases_Bool, eqb-true}
-use Rattle.std.proofs.lemmas.List.{map-id}
+use Rattle.item_tree.proofs.Common.{cases_Bool, eqb-true, map-id, CfgView, is_empty_of, has_no_attributes, unless, some_unless, column_of, places_from, plain_place, stored_at, or_no_attrs, attrs_stored, lent_attrs}
 use Rattle.hir_input.specs.declared.attr.Attr.{Attr}
-use Rattle.hir_input.specs.Cfg.{CfgView}
 use Rattle.item_tree_attrs.specs.Collected.{Collected, nothing_collected as no_attrs}
-use Rattle.item_tree.specs.Column.{is_empty_of, has_no_attributes, unless, some_unless, column_of, places_from, plain_place, stored_at, or_no_attrs, attrs_stored}
-use Rattle.item_tree.specs.Shown.{lent_attrs}
 use Rattle.item_tree.proofs.Pieces.{get-at-seam}
 
 empty-is_of : (xs : List Attr) (o : Option CfgView) → is_empty_of xs o ≡ true → ◌≡◌ {A = Collected} (record { attrs = xs; false_cfg = o }) no_attrs

@@ -1,15 +1,7 @@
 -- The constructors of structs.
 use Rattle.std.proofs.Common.{◌≡◌, ℕ, ◌≤◌, List, [], ◌∷◌, ◌++◌, length, map, refl, ap, sym, ◌∙◌, subst, arith, append_assoc}
-use Rattle.item_tree_attrs.specs.Collected.{attr_limit}
-use Rattle.item_tree.specs.declared.fault.LowerError.{LowerError}
+use Rattle.item_tree.proofs.Common.{attr_limit, LowerError, Rows, ctor_from, Ctor, Head, struct_item, leaf, empty, more, meet, meet_all, vis_id, ctor_map, ctor_vis, leaf_row, Lowers, sizes_with, Meets, MeetsAll, MeetsUpTo, HasId, sizes_meeting, Pushes, IsPassed}
 use Rattle.item_tree.specs.declared.items.FieldsShape.{FieldsShape}
-use Rattle.item_tree.specs.declared.rows.Rows.{Rows}
-use Rattle.item_tree.specs.Constructor.{ctor_from}
-use Rattle.item_tree.specs.Node.{Ctor, Head, struct_item, leaf, empty, more}
-use Rattle.item_tree.specs.Inner.Meeting.{meet, meet_all}
-use Rattle.item_tree.specs.Layout.{vis_id, ctor_map, ctor_vis, leaf_row}
-use Rattle.item_tree.specs.Inner.Growth.{Lowers, sizes_with, Meets, MeetsAll, MeetsUpTo, HasId, sizes_meeting, Pushes}
-use Rattle.item_tree.specs.Size.{IsPassed}
 use Rattle.item_tree.proofs.Arena.{V, Extends, length-Extends, Extends-meet_all, Knows, Knows-meet, Knows-id, meet-twice}
 use Rattle.item_tree.proofs.Lowering.{kept-adds, Adds-join, Lowers-leaf, passes-visibilities}
 

@@ -1,18 +1,9 @@
 -- How many rows have a kind, and how many rows there are.
-use Rattle.std.proofs.Common.{◌≡◌, ℕ, ◌+◌, Bool, cond, zero-add, List, [], ◌∷◌, ◌++◌, length, map, refl, ap, sym, ◌∙◌, arith, length-append}
-use Rattle.std.specs.Prelude.{count_by}
-use Rattle.std.proofs.lemmas.List.{map-append}
-use Rattle.std.proofs.lemmas.List.Sums.{sum_by-append}
-use Rattle.hir_input.specs.declared.ids.AstIdKind.{AstIdKind}
-use Rattle.item_tree.specs.declared.visibility.RawVisibility.{RawVisibility}
-use Rattle.item_tree.specs.Node.{Node, Forest, leaf, parent, empty, more, leaf_kind, trunk_kind, node_count, count, Unfolding}
-use Rattle.item_tree.specs.Layout.{vis_id, leaf_map, trunk_map, LayoutRow, parent_row, row_tag, arena_of, node_walk, walk, node_rows, rows_of, ids, layout}
+use Rattle.std.proofs.Common.{◌≡◌, ℕ, ◌+◌, Bool, cond, zero-add, List, [], ◌∷◌, ◌++◌, length, map, refl, ap, sym, ◌∙◌, arith, length-append, count_by}
+use Rattle.item_tree.proofs.Common.{map-append, sum_by-append, AstIdKind, RawVisibility, Node, Forest, leaf, parent, empty, more, leaf_kind, trunk_kind, node_count, count, Unfolding, vis_id, leaf_map, trunk_map, LayoutRow, parent_row, row_tag, arena_of, node_walk, walk, node_rows, rows_of, ids, layout, has_tag, same_decides, same_from_decides}
 use Rattle.item_tree.specs.Stats.{kind_is, one_if, node_count_of, count_of}
-use Rattle.item_tree.specs.Stored.{has_tag}
-use Rattle.item_tree.specs.Same.{same_decides}
 use Rattle.item_tree.proofs.Equal.{tag_decides}
 use Rattle.hir_input.specs.contracts.ids.AstIdKind as kinds
-use Rattle.std.proofs.lemmas.Bool.Decides.{same_from_decides}
 use Rattle.item_tree.proofs.Lookup.{leaf_kind-map, trunk_kind-map}
 
 mutual

@@ -1,19 +1,12 @@
 -- `==` at items, at columns and at trees decides whether their values are one.
-use Rattle.std.proofs.Common.{◌≡◌, ℕ, Bool, false, List, [], ◌∷◌, map, refl, ap, sym, ◌∙◌, rules, Option, None, Some}
-use Rattle.std.specs.Prelude.{◌==◌, ◌&&◌, length, ◌≤◌}
-use Rattle.std.specs.Bool.{Decides}
+use Rattle.std.proofs.Common.{◌≡◌, ℕ, Bool, false, List, [], ◌∷◌, map, refl, ap, sym, ◌∙◌, rules, Option, None, Some, ◌==◌, ◌&&◌, length, ◌≤◌, Decides}
 use Rattle.std.specs.Cmp.{booleans_Decides}
 use Rattle.std.specs.Cmp.Lexicographic.{pointwise, pointwise_decides}
-use Rattle.std.proofs.lemmas.Bool.{false≢true}
-use Rattle.std.proofs.lemmas.Bool.Decides.{Decides-eqb, Decides-and, Decides-like}
+use Rattle.item_tree.proofs.Common.{false≢true, Decides-eqb, Decides-and, Decides-like, PlainKind, option_decides, context_decides, path_decides, collected, Inline, Outline, Rows, ctor_with, ctor_with_min, plain, constant, struct_item, use_item, extern_crate, impl_item, macro_call, macro_rules, extern_block, Unfolding, first_fixed, arena_of, leaf_row, parent_row, row_kind, layout, same, same_decides, ctor_ids, plain_place, module_row, item_row, key_in, tables_of, use_item_code}
 use Rattle.hir_input.specs.contracts.ids.AstIdKindPartialEq.TheImpl as tag_eqs
 use Rattle.hir_input.specs.contracts.expand_to.ExpandToPartialEq.TheImpl as expand_eqs
 use Rattle.hir_input.specs.Equality.{DecidesEq, DecidesEqOf}
-use Rattle.hir_input.specs.Syntax.{PlainKind}
-use Rattle.hir_input.proofs.AttrEq.{option_decides, context_decides}
-use Rattle.hir_input.proofs.PathEq.{path_decides}
 use Rattle.item_tree_attrs.specs.contracts.collect.AttrsOrCfgPartialEq.TheImpl as attrs_eqs
-use Rattle.item_tree_attrs.specs.Collected.{collected}
 use Rattle.item_tree_attrs.proofs.AttrsEq.{attrs_decide}
 use Rattle.item_tree.specs.contracts.items.FieldsShapePartialEq.TheImpl as shape_eqs
 use Rattle.item_tree.specs.declared.items.StructValueNsCtor.TheVariants.{NoValueNsCtor, ValueNsCtorWithVis, ValueNsCtorWithMinVis}
@@ -21,21 +14,12 @@ use Rattle.item_tree.specs.contracts.items.StructValueNsCtorPartialEq.TheImpl as
 use Rattle.item_tree.specs.contracts.items.ExternCratePartialEq.TheImpl as crate_eqs
 use Rattle.item_tree.specs.contracts.items.MacroCallPartialEq.TheImpl as call_eqs
 use Rattle.item_tree.specs.contracts.items.ModPartialEq.TheImpl as mod_eqs
-use Rattle.item_tree.specs.declared.items.ModKind.TheVariants.{Inline, Outline}
 use Rattle.item_tree.specs.contracts.items.ModKindPartialEq.TheImpl as kind_eqs
 use Rattle.item_tree.specs.contracts.items.StructPartialEq.TheImpl as struct_eqs
 use Rattle.item_tree.specs.declared.items.ModItem.TheVariants as item
 use Rattle.item_tree.specs.contracts.items.ModItemPartialEq.TheImpl as item_eqs
 use Rattle.item_tree.specs.contracts.rows.AstKeyPartialEq.TheImpl as key_eqs
-use Rattle.item_tree.specs.declared.rows.Rows.{Rows}
 use Rattle.item_tree.specs.Items.{inline_ids, mod_value, struct_value}
-use Rattle.item_tree.specs.Node.{ctor_with, ctor_with_min, plain, constant, struct_item, use_item, extern_crate, impl_item, macro_call, macro_rules, extern_block, Unfolding}
-use Rattle.item_tree.specs.Layout.{first_fixed, arena_of, leaf_row, parent_row, row_kind, layout}
-use Rattle.item_tree.specs.Same.{same, same_decides}
-use Rattle.item_tree.specs.Shown.{ctor_ids}
-use Rattle.item_tree.specs.Column.{plain_place}
-use Rattle.item_tree.specs.Stored.{module_row, item_row, key_in, tables_of}
-use Rattle.item_tree.specs.Code.Tree.{use_item_code}
 use Rattle.item_tree.specs.UseItem.{UseItem}
 use Rattle.item_tree.proofs.Canon.{layout-injective}
 use Rattle.item_tree.proofs.Column.{plain_place-injective}

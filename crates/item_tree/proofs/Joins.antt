@@ -1,12 +1,7 @@
 -- What the words of one path and then those of another mean, by the kind that the code finds.
 use Rattle.std.proofs.Common.{◌≡◌, ℕ, zero, suc, List, [], ◌∷◌, ◌++◌, Option, Some, None, IfSome, option_map, sym, ap, ◌∙◌, subst, arith}
-use Rattle.std.specs.Option.{SomeIff}
-use Rattle.hir_input.specs.declared.mod_path.PathKind.{PathKind}
-use Rattle.hir_input.specs.declared.mod_path.PathKind.TheVariants.{Plain, Super, Crate, Abs, DollarCrate}
-use Rattle.hir_input.specs.Path.{Path, HasWords}
-use Rattle.hir_input.specs.Words.{words, read_words}
+use Rattle.item_tree.proofs.Common.{SomeIff, PathKind, Plain, Super, Crate, Abs, DollarCrate, Path, HasWords, words, read_words, joined_kind}
 use Rattle.hir_input.proofs.Joining.{read-join_plain, read-join_super, read-join_none, read-path}
-use Rattle.item_tree.specs.Inner.Expanding.{joined_kind}
 
 read_joined : (k : PathKind) (ns : List (List ℕ)) (l : PathKind) (ms : List (List ℕ)) → HasWords k ns → read_words (words (record { kind = k; names = ns }) ++ words (record { kind = l; names = ms })) ≡ option_map (λ j. record { kind = j; names = ns ++ ms }) (joined_kind k ns l)
 read_joined k ns Plain ms h = read-join_plain k ns ms h

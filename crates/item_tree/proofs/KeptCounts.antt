@@ -1,7 +1,6 @@
 -- How many nodes are kept.
 use Rattle.std.proofs.Common.{◌≡◌, ◌<◌, ◌≤◌, ℕ, zero, suc, List, [], ◌∷◌, length, get_or, length-append, arith, ap}
-use Rattle.item_tree.specs.declared.use_tree.UseTree.{UseTree}
-use Rattle.item_tree.specs.Tree.{tree_of, trees_of, tree_nodes, branch_nodes, tree_count}
+use Rattle.item_tree.proofs.Common.{UseTree, tree_of, trees_of, tree_nodes, branch_nodes, tree_count}
 
 -- a tree of a list has at most the nodes of all of them
 pub count_in : (t : UseTree) (ts : List UseTree) (i : ℕ) → i < length ts → t ≡ get_or ts i t → tree_count (tree_of t) ≤ length (branch_nodes (trees_of ts))

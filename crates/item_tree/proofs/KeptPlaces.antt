@@ -1,17 +1,10 @@
 -- At the places of the kept nodes stand the written nodes that they are kept from.
-use Rattle.std.proofs.Common.{◌≡◌, ◌≤◌, ℕ, suc, ◌+◌, Bool, true, false, List, [], ◌∷◌, ◌++◌, length, map, Option, Some, None, refl, sym, ap, ◌∙◌, arith, length-append}
-use Rattle.std.specs.Option.{option_to_list, option_map_or}
-use Rattle.std.specs.Prelude.{slice_get, option_map, option_and_then}
-use Rattle.std.proofs.lemmas.List.{map-append}
-use Rattle.hir_input.specs.Path.{Path}
+use Rattle.std.proofs.Common.{◌≡◌, ◌≤◌, ℕ, suc, ◌+◌, Bool, true, false, List, [], ◌∷◌, ◌++◌, length, map, Option, Some, None, refl, sym, ap, ◌∙◌, arith, length-append, slice_get, option_map, option_and_then}
+use Rattle.item_tree.proofs.Common.{option_to_list, option_map_or, map-append, Path, UseTreeView, UseTreeViews, bare_tree, listed_tree, no_trees, tree_and, written_nodes, all_written_nodes, written_count, Tree, prefixed, branches_from, tree_nodes, branch_nodes, tree_count, kept_count, kept_bare, kept_prefix, with_kept, kept_tree, kept_trees, if_kept, kept_places, all_kept_places, ArePlacesOf}
 use Rattle.hir_input.specs.declared.ast.PathNode.{PathNode}
 use Rattle.hir_input.specs.declared.ast.PathNode.TheVariants.{Readable, Unreadable}
 use Rattle.hir_input.specs.declared.ast.Rename.{Rename}
-use Rattle.hir_input.specs.UseTreeView.{UseTreeView, UseTreeViews, bare_tree, listed_tree, no_trees, tree_and, written_nodes, all_written_nodes, written_count}
-use Rattle.item_tree.specs.Tree.{Tree, prefixed, branches_from, tree_nodes, branch_nodes, tree_count}
 use Rattle.item_tree.proofs.Pieces.{HasFrom, HasFrom-left, HasFrom-right, HasFrom-all}
-use Rattle.item_tree.specs.Leaves.{kept_count}
-use Rattle.item_tree.specs.KeptUse.{kept_bare, kept_prefix, with_kept, kept_tree, kept_trees, if_kept, kept_places, all_kept_places, ArePlacesOf}
 
 abbrev kept_nodes : Option Tree → List Tree
 kept_nodes None = []

@@ -1,16 +1,7 @@
 -- The imports of a kept use tree are those of the leaves that are written.
-use Rattle.std.proofs.Common.{◌≡◌, ℕ, ◌+◌, List, [], ◌∷◌, ◌++◌, Option, Some, None, refl, sym, ap, ◌∙◌, subst, add-zero, append-nil}
-use Rattle.std.specs.Prelude.{slice_get, option_map, All}
-use Rattle.std.specs.List.{flat_map}
-use Rattle.std.specs.Option.{option_map_or}
+use Rattle.std.proofs.Common.{◌≡◌, ℕ, ◌+◌, List, [], ◌∷◌, ◌++◌, Option, Some, None, refl, sym, ap, ◌∙◌, subst, add-zero, append-nil, slice_get, option_map, All, flat_map}
+use Rattle.item_tree.proofs.Common.{option_map_or, All-nil, All-cons, All-append, All-weaker, Path, UseNode, UseTreeView, UseTreeViews, bare_tree, listed_tree, no_trees, tree_and, written_nodes, all_written_nodes, written_count, Tree, prefixed, branches_from, tree_count, kept_prefix, kept_tree, kept_trees, with_kept, if_kept, kept_places, all_kept_places, all_imports_from, imports, WrittenLeaf, imports_of, leaf_imports, with_prefix, kept_count, leaves_from, all_leaves_from, leaves, AreWritten}
 use Rattle.std.proofs.lemmas.List.Concat.{flat_map-append}
-use Rattle.std.proofs.lemmas.List.Elements.{All-nil, All-cons, All-append, All-weaker}
-use Rattle.hir_input.specs.Path.{Path}
-use Rattle.hir_input.specs.UseTreeView.{UseNode, UseTreeView, UseTreeViews, bare_tree, listed_tree, no_trees, tree_and, written_nodes, all_written_nodes, written_count}
-use Rattle.item_tree.specs.Tree.{Tree, prefixed, branches_from, tree_count}
-use Rattle.item_tree.specs.KeptUse.{kept_prefix, kept_tree, kept_trees, with_kept, if_kept, kept_places, all_kept_places}
-use Rattle.item_tree.specs.Imports.{all_imports_from, imports}
-use Rattle.item_tree.specs.Leaves.{WrittenLeaf, imports_of, leaf_imports, with_prefix, kept_count, leaves_from, all_leaves_from, leaves, AreWritten}
 use Rattle.item_tree.proofs.KeptPlaces.{length-kept_places}
 use Rattle.item_tree.proofs.Pieces.{HasFrom, HasFrom-left, HasFrom-right, HasFrom-all}
 

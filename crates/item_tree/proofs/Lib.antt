@@ -26,3 +26,4 @@ pub mod Constructors
 pub mod Seen
 pub mod BodyTexts
 pub mod Paging
+pub mod Common

@@ -1,20 +1,8 @@
 -- What the stored tables of a tree say of what they unfold to.
-use Rattle.std.proofs.Common.{◌≡◌, ℕ, ◌/◌, ◌%◌, ◌<◌, ◌≤◌, List, [], ◌++◌, length, map, get_or, Some, None, Vec, Global, refl, ap, sym, ◌∙◌, subst, arith, append-nil}
-use Rattle.std.specs.Option.{option_map_or}
-use Rattle.std.specs.Prelude.{slice_get, is_some, option_map, vec_len}
-use Rattle.std.proofs.lemmas.List.{length-map, map-id}
-use Rattle.std.proofs.lemmas.Option.{same_Some, slice_get-map, slice_get_read, slice_get_within}
-use Rattle.hir_input.specs.declared.ids.AstIdKind.{AstIdKind}
+use Rattle.std.proofs.Common.{◌≡◌, ℕ, ◌/◌, ◌%◌, ◌<◌, ◌≤◌, List, [], ◌++◌, length, map, get_or, Some, None, Vec, Global, refl, ap, sym, ◌∙◌, subst, arith, append-nil, slice_get, is_some, option_map, vec_len}
+use Rattle.item_tree.proofs.Common.{option_map_or, length-map, map-id, same_Some, slice_get-map, slice_get_read, slice_get_within, AstIdKind, Rows, Leaf, plain, Trunk, inline, leaf_kind, trunk_kind, Node, Forest, leaf, parent, nodes, node_head, node_kind, node_ast, Unfolding, vis_id, leaf_map, trunk_map, trunk_vis, forest_vis, LayoutRow, row_tag, head_key, row_key, row_attrs, row_item, arena_of, walk, ids, node_id, rows_of, kind_bit, layout, node_at, vis_at, unfold_tables, has_no_attributes, unless, some_unless, column_of, plain_place, stored_at, top_ids, IsContained, Lent, lent_leaf, lent_parent, IsLent, lent_attrs, attrs_at, Fits, item_row, lent_ast, lent_row, key_in, column_in, tables_of, AreSound}
 use Rattle.item_tree.specs.declared.items.ModItem.{ModItem}
 use Rattle.item_tree.specs.declared.rows.AstKey.{AstKey}
-use Rattle.item_tree.specs.declared.rows.Rows.{Rows}
-use Rattle.item_tree.specs.Node.{Leaf, plain, Trunk, inline, leaf_kind, trunk_kind, Node, Forest, leaf, parent, nodes, node_head, node_kind, node_ast, Unfolding}
-use Rattle.item_tree.specs.Layout.{vis_id, leaf_map, trunk_map, trunk_vis, forest_vis, LayoutRow, row_tag, head_key, row_key, row_attrs, row_item, arena_of, walk, ids, node_id, rows_of, kind_bit, layout, node_at, vis_at, unfold_tables}
-use Rattle.item_tree.specs.Column.{has_no_attributes, unless, some_unless, column_of, plain_place, stored_at}
-use Rattle.item_tree.specs.Reach.{top_ids}
-use Rattle.item_tree.specs.Shown.{IsContained, Lent, lent_leaf, lent_parent, IsLent, lent_attrs, attrs_at}
-use Rattle.item_tree.specs.Size.{Fits}
-use Rattle.item_tree.specs.Stored.{item_row, lent_ast, lent_row, key_in, column_in, tables_of, AreSound}
 use Rattle.item_tree.proofs.Arena.{KnowsAll-parts, leaf-said, trunk-said}
 use Rattle.item_tree.proofs.Canon.{kind_bit-small, length-rows_of}
 use Rattle.item_tree.proofs.Column.{lent-back, lent-each, places-length}

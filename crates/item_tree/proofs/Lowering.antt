@@ -1,30 +1,11 @@
 -- What lowering adds to the rows, piece by piece.
-use Rattle.std.proofs.Common.{◌≡◌, ℕ, ◌+◌, ◌*◌, ◌<◌, ◌≤◌, Bool, true, false, List, [], ◌∷◌, ◌++◌, length, map, get_or, take, drop, Option, Some, None, option_map, refl, ap, sym, ◌∙◌, subst, arith, add-zero, append_assoc, append-nil, length-append, inl, inr, Vec, Global}
-use Rattle.std.proofs.lemmas.Bool.{cases_Bool}
-use Rattle.std.proofs.lemmas.List.{map-append, length-map, take_more, take-append-drop}
+use Rattle.std.proofs.Common.{◌≡◌, ℕ, ◌+◌, ◌*◌, ◌<◌, ◌≤◌, Bool, true, false, List, [], ◌∷◌, ◌++◌, length, map, get_or, take, drop, Option, Some, None, option_map, refl, ap, sym, ◌∙◌, subst, arith, add-zero, append_assoc, append-nil, length-append, inl, inr, Vec, Global, max}
+use Rattle.item_tree.proofs.Common.{cases_Bool, map-append, length-map, take_more, take-append-drop, NodeView, NamedView, ItemView, SyntaxView, node_from, named_from, module_from, extern_block_from, items_from, item_view, module_view, extern_item_view, extern_block_view, module_view-fields, Collected, collected, attr_limit, LowerError, Ctx, Rows, Leaf, Trunk, trunk_kind, leaf_kind, Head, Node, Forest, leaf, parent, empty, more, add, outline, inline, extern_block, count, Unfolding, meet, meet_all, read_visibility, head_of, module_node, vis_id, leaf_map, trunk_map, leaf_vis, trunk_vis, node_vis, forest_vis, arena_of, node_walk, walk, node_id, ids, LayoutRow, leaf_row, parent_row, row_tag, row_key, row_attrs, row_item, kind_bit, node_rows, rows_of, layout, unfold_tables, has_no_attributes, unless, some_unless, column_of, places_from, plain_place, super_limit, use_tree_limit, most_attrs, leaf_supers, forest_supers, item_written, items_written, Sizes, IsPassed, only_visibilities, most_written, sizes_of, Fits, IsTooLarge, item_row, key_in, keys_in, row_items, column_places, column_in, tables_of, AreSound, items_below, attrs_in, kept_of, all_kept_in, row_count, Adds, Lowers, sizes_with, Meets, sizes_meeting, sizes_pushing, Puts, Pushes}
 use Rattle.hir_input.specs.declared.ast.ExternBlock as ast_block
 use Rattle.hir_input.specs.declared.ast.ExternItem.{ExternItem}
 use Rattle.hir_input.specs.declared.ast.ExternItem.TheVariants as external
 use Rattle.hir_input.specs.declared.ast.Module as ast_module
-use Rattle.hir_input.specs.Syntax.{NodeView, NamedView, ItemView, SyntaxView, node_from, named_from, module_from, extern_block_from, items_from, item_view, module_view, extern_item_view, extern_block_view}
-use Rattle.hir_input.proofs.SyntaxViews.{module_view-fields}
-use Rattle.std.specs.Prelude.{max}
-use Rattle.item_tree_attrs.specs.Collected.{Collected, collected, attr_limit}
-use Rattle.item_tree.specs.declared.fault.LowerError.{LowerError}
 use Rattle.item_tree.specs.declared.fault.LowerError.TheVariants.{TooManyItems, TooManyVisibilities, TooManyUseTrees, TooManyAttributes, TooManySupers, OutOfMemory}
-use Rattle.item_tree.specs.declared.lower.Ctx.{Ctx}
-use Rattle.item_tree.specs.declared.rows.Rows.{Rows}
-use Rattle.item_tree.specs.Node.{Leaf, Trunk, trunk_kind, leaf_kind, Head, Node, Forest, leaf, parent, empty, more, add, outline, inline, extern_block, count, Unfolding}
-use Rattle.item_tree.specs.Inner.Meeting.{meet, meet_all}
-use Rattle.item_tree.specs.Visibility.{read_visibility}
-use Rattle.item_tree.specs.Kept.{head_of, module_node}
-use Rattle.item_tree.specs.Layout.{vis_id, leaf_map, trunk_map, leaf_vis, trunk_vis, node_vis, forest_vis, arena_of, node_walk, walk, node_id, ids, LayoutRow, leaf_row, parent_row, row_tag, row_key, row_attrs, row_item, kind_bit, node_rows, rows_of, layout, unfold_tables}
-use Rattle.item_tree.specs.Column.{has_no_attributes, unless, some_unless, column_of, places_from, plain_place}
-use Rattle.item_tree.specs.Imports.{super_limit}
-use Rattle.item_tree.specs.KeptUse.{use_tree_limit}
-use Rattle.item_tree.specs.Size.{most_attrs, leaf_supers, forest_supers, item_written, items_written, Sizes, IsPassed, only_visibilities, most_written, sizes_of, Fits, IsTooLarge}
-use Rattle.item_tree.specs.Stored.{item_row, key_in, keys_in, row_items, column_places, column_in, tables_of, AreSound}
-use Rattle.item_tree.specs.Inner.Growth.{items_below, attrs_in, kept_of, all_kept_in, row_count, Adds, Lowers, sizes_with, Meets, sizes_meeting, sizes_pushing, Puts, Pushes}
 use Rattle.item_tree.proofs.Arena.{V, Extends, length-Extends, Extends-meet_all, meet_all-append, arena_met, KnowsAll, KnowsAll-parts, KnowsAll-meet_all, leaf-stable, trunk-stable}
 use Rattle.item_tree.proofs.Column.{column-append, places-append}
 use Rattle.item_tree.proofs.Canon.{length-rows_of, unfold-layout}

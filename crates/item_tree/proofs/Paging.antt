@@ -1,23 +1,8 @@
 -- The lines of a page by ids are those of the nodes.
-use Rattle.std.proofs.Common.{◌≡◌, ℕ, Bool, true, Option, None, suc, zero, ◌+◌, ◌<◌, ◌≤◌, List, [], ◌∷◌, ◌++◌, length, map, take, get_or, codes, Some, refl, ap, sym, ◌∙◌, false, string_bytes, replicate, ◌*◌, append_assoc, arith, inl, inr}
-use Rattle.std.specs.Prelude.{◌==◌, ◌⊎◌, not, is_some, option_map, String, Result, OnOk}
-use Rattle.std.specs.Option.{option_map_or}
+use Rattle.std.proofs.Common.{◌≡◌, ℕ, Bool, true, Option, None, suc, zero, ◌+◌, ◌<◌, ◌≤◌, List, [], ◌∷◌, ◌++◌, length, map, take, get_or, codes, Some, refl, ap, sym, ◌∙◌, false, string_bytes, replicate, ◌*◌, append_assoc, arith, inl, inr, ◌==◌, ◌⊎◌, not, is_some, option_map, String, Result, OnOk}
+use Rattle.item_tree.proofs.Common.{option_map_or, cases_Bool, ne_eqb, common_steps, flat_map-append, on_ok_weaker, take_more, map-append, append-nil, FileAstId, Collected, RawVisibility, has_no_attributes, unless, some_unless, Trunk, inline, extern_block, Node, Forest, empty, more, nodes, node_head, Unfolding, trunk_map, vis_at, node_at, IsParent, StandFor, lent_attrs, attrs_at, Line, text, blank, line_text, item_opening, top_opening, with_blanks, id_text, attrs_lines, trunk_header, own_lines, parts, page_parts, page_lines, Gains, Starts, gap, item_lines, lent_lines, node_lines, own_lines_at, lines_at, list_lines}
 use Rattle.std.specs.declared.alloc.Global.{Global}
-use Rattle.std.proofs.lemmas.Bool.{cases_Bool, ne_eqb}
-use Rattle.std.proofs.lemmas.Grind.{common_steps, flat_map-append}
-use Rattle.std.proofs.lemmas.Result.{on_ok_weaker}
-use Rattle.std.proofs.lemmas.List.{take_more, map-append, append-nil}
-use Rattle.hir_input.specs.declared.ids.FileAstId.{FileAstId}
-use Rattle.item_tree_attrs.specs.Collected.{Collected}
-use Rattle.item_tree.specs.declared.visibility.RawVisibility.{RawVisibility}
-use Rattle.item_tree.specs.Column.{has_no_attributes, unless, some_unless}
 use Rattle.item_tree.proofs.Column.{empty-is}
-use Rattle.item_tree.specs.Node.{Trunk, inline, extern_block, Node, Forest, empty, more, nodes, node_head, Unfolding}
-use Rattle.item_tree.specs.Layout.{trunk_map, vis_at, node_at}
-use Rattle.item_tree.specs.Shown.{IsParent, StandFor, lent_attrs, attrs_at}
-use Rattle.item_tree.specs.Line.{Line, text, blank, line_text}
-use Rattle.item_tree.specs.Page.{item_opening, top_opening, with_blanks, id_text, attrs_lines, trunk_header, own_lines, parts, page_parts, page_lines}
-use Rattle.item_tree.specs.Inner.PageByIds.{Gains, Starts, gap, item_lines, lent_lines, node_lines, own_lines_at, lines_at, list_lines}
 use Rattle.item_tree.proofs.Walking.{map_of_id, parent_of_id}
 
 -- ---- one more part behind others

@@ -1,17 +1,7 @@
 -- A walk from the top meets each id of a tree once, and where the row of an id stands.
-use Rattle.std.proofs.Common.{◌≡◌, ℕ, zero, suc, false, ◌+◌, ◌*◌, ◌/◌, ◌%◌, ◌<◌, ◌≤◌, eqb, inl, inr, List, [], ◌∷◌, ◌++◌, length, map, Some, refl, ap, sym, ◌∙◌, subst, arith, length-append}
-use Rattle.std.specs.Prelude.{◌≢◌, ◌⊎◌, slice_get, is_some, IsSome, All}
-use Rattle.std.specs.List.{flat_map, AllPairs, Contains}
-use Rattle.std.specs.Option.{option_map_or}
-use Rattle.std.proofs.lemmas.Bool.{eqb-true, cases_Bool, cases_lt}
-use Rattle.std.proofs.lemmas.List.Elements.{All-nil, All-cons, All-head, All-tail, All-append, All-weaker, All-contains, Contains-append_left, Contains-append_right}
+use Rattle.std.proofs.Common.{◌≡◌, ℕ, zero, suc, false, ◌+◌, ◌*◌, ◌/◌, ◌%◌, ◌<◌, ◌≤◌, eqb, inl, inr, List, [], ◌∷◌, ◌++◌, length, map, Some, refl, ap, sym, ◌∙◌, subst, arith, length-append, ◌≢◌, ◌⊎◌, slice_get, is_some, IsSome, All, flat_map, AllPairs, Contains}
+use Rattle.item_tree.proofs.Common.{option_map_or, eqb-true, cases_Bool, cases_lt, All-nil, All-cons, All-head, All-tail, All-append, All-weaker, All-contains, Contains-append_left, Contains-append_right, RawVisibility, Trunk, Head, Node, Forest, leaf, parent, empty, more, nodes, node_kind, Unfolding, vis_id, leaf_map, trunk_map, trunk_vis, node_vis, forest_vis, arena_of, LayoutRow, leaf_row, parent_row, node_rows, rows_of, kind_bit, node_row, node_id, ids, node_walk, walk, at_row, nth_node, node_at, inner_ids, node_ids, forest_ids, met_before, top_ids, child_ids, ids_from, all_ids, IsContained, StandFor, children, children_at, IsWalkedOnce}
 use Rattle.std.proofs.lemmas.List.Kept.{AllPairs-cons}
-use Rattle.item_tree.specs.declared.visibility.RawVisibility.{RawVisibility}
-use Rattle.item_tree.specs.Node.{Trunk, Head, Node, Forest, leaf, parent, empty, more, nodes, node_kind, Unfolding}
-use Rattle.item_tree.specs.Layout.{vis_id, leaf_map, trunk_map, trunk_vis, node_vis, forest_vis, arena_of, LayoutRow, leaf_row, parent_row, node_rows, rows_of, kind_bit, node_row, node_id, ids, node_walk, walk, at_row, nth_node, node_at}
-use Rattle.item_tree.specs.Reach.{inner_ids, node_ids, forest_ids, met_before, top_ids, child_ids, ids_from, all_ids}
-use Rattle.item_tree.specs.Shown.{IsContained, StandFor}
-use Rattle.item_tree.specs.Walk.{children, children_at, IsWalkedOnce}
 use Rattle.item_tree.proofs.Arena.{KnowsAll, KnowsAll-parts, Knows-arena}
 use Rattle.item_tree.proofs.Canon.{kind_bit-small, at-id, at-node_id, has_walk, length-node_rows, length-rows_of}
 use Rattle.item_tree.proofs.Pieces.{HasFrom, HasFrom-left, HasFrom-right, HasFrom-all}

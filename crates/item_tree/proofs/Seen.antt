@@ -1,15 +1,8 @@
 -- A constructor is seen exactly from where the struct and each of its fields are.
 use Rattle.std.proofs.Common.{◌≡◌, Bool, true, false, List, [], ◌∷◌, ◌++◌, Option, Some, None, refl, ap, sym, ◌∙◌, inl, inr}
-use Rattle.std.proofs.lemmas.Bool.{cases_Bool, cond_both, false≢true, and_from, and_parts}
-use Rattle.std.specs.List.{list_any, list_all, find}
-use Rattle.std.proofs.lemmas.Bool.Decides.{same_from_decides}
-use Rattle.hir_input.specs.Syntax.{NamedView, FieldsView, record_fields, tuple_fields, no_fields, ItemView, ItemViews, SyntaxView, items_of, struct_item, listed_module, no_items, item_and}
-use Rattle.item_tree.specs.declared.visibility.RawVisibility.TheVariants.{Module, PubSelf, PubCrate, Public}
-use Rattle.item_tree.specs.declared.visibility.VisibilityExplicitness.{VisibilityExplicitness}
-use Rattle.hir_input.specs.Path.{Path}
-use Rattle.item_tree.specs.Constructor.{is_private, is_pub_crate, crate_or_public, or_one, deciding_by, deciding}
+use Rattle.item_tree.proofs.Common.{cases_Bool, cond_both, false≢true, and_from, and_parts, list_any, list_all, find, same_from_decides, NamedView, FieldsView, record_fields, tuple_fields, no_fields, ItemView, ItemViews, SyntaxView, items_of, listed_module, no_items, item_and, Module, PubSelf, PubCrate, Public, VisibilityExplicitness, Path, is_private, is_pub_crate, crate_or_public, or_one, deciding_by, deciding, same_visibility, firsts_behind, distinct}
+use Rattle.hir_input.specs.Syntax.{struct_item}
 use Rattle.item_tree.specs.Sees.{Where, inside, in_crate, outside, Place, seen_from, sees_all, written_vis, CtorIsSeen, CtorIsSeenIn, CtorsAreSeenIn, CtorsAreSeen}
-use Rattle.item_tree.specs.Visibility.{same_visibility, firsts_behind, distinct}
 use Rattle.item_tree.proofs.Arena.{V}
 use Rattle.item_tree.proofs.Constructors.{ctor_vis_from}
 use Rattle.item_tree.proofs.VisibilityEq.{same-sound}

@@ -4,16 +4,7 @@ use Rattle.hir_input.specs.declared.ast.Stmt.{Stmt}
 use Rattle.hir_input.specs.declared.ast.Stmt.TheVariants as stmt
 use Rattle.hir_input.specs.declared.ast.Tail.{Tail}
 use Rattle.hir_input.specs.declared.ast.Tail.TheVariants as tail
-use Rattle.hir_input.specs.Syntax.{items_from, item_view, stmt_items, stmts_view, tail_view}
-use Rattle.item_tree.specs.declared.lower.Ctx.{Ctx}
-use Rattle.item_tree.specs.declared.rows.Rows.{Rows}
-use Rattle.item_tree.specs.declared.fault.LowerError.{LowerError}
-use Rattle.item_tree.specs.Node.{Forest, empty, add}
-use Rattle.item_tree.specs.Inner.Meeting.{meet_all}
-use Rattle.item_tree.specs.Layout.{forest_vis}
-use Rattle.item_tree.specs.Size.{item_written, items_written, IsPassed}
-use Rattle.item_tree.specs.Inner.Growth.{kept_of, all_kept_in, Lowers, sizes_with}
-use Rattle.item_tree.specs.Inner.Statements.{stmt_item, tail_item}
+use Rattle.item_tree.proofs.Common.{items_from, item_view, stmt_items, stmts_view, tail_view, Ctx, Rows, LowerError, Forest, empty, add, meet_all, forest_vis, item_written, items_written, IsPassed, kept_of, all_kept_in, Lowers, sizes_with, stmt_item, tail_item}
 use Rattle.item_tree.proofs.Arena.{length-Extends, Extends-meet_all}
 use Rattle.item_tree.proofs.Lowering.{join, add-join, count-join, most_attrs-join, forest_supers-join, met-join, passes, Lowers-count, Lowers-join}
 

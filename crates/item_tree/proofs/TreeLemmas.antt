@@ -1,14 +1,8 @@
 -- What a use tree is seen as, case by case.
-use Rattle.std.proofs.lemmas.List.{drop_more}
+use Rattle.item_tree.proofs.Common.{drop_more, Path, ImportAlias, UseTree, UseTreeKind, Prefixed, Single, Glob, branch_count, Tree, Branches, branch_and, single, glob, prefixed, tree_nodes, branch_nodes, tree_count, tree_of, tree_of_kind, trees_of, kind_step, tree_step}
 use Rattle.std.proofs.Common.{◌<◌, length, drop, get_or, ◌≡◌, ℕ, ◌+◌, List, ◌∷◌, Option, Vec, Global, sym, ap, ◌∙◌, length-append}
-use Rattle.hir_input.specs.Path.{Path}
-use Rattle.item_tree.specs.declared.use_tree.ImportAlias.{ImportAlias}
-use Rattle.item_tree.specs.declared.use_tree.UseTree.{UseTree}
-use Rattle.item_tree.specs.declared.use_tree.UseTreeKind.{UseTreeKind, Prefixed, Single, Glob}
 use Rattle.item_tree.specs.declared.use_tree.UseTreeKind.TheVariants.{rolls-Prefixed, rolls-Single, rolls-Glob}
 use Rattle.item_tree.specs.declared.use_tree.UseTreeKind.TheFolds.{fold-roll-UseTreeKind, fold_out-UseTree}
-use Rattle.item_tree.specs.Inner.Expanding.{branch_count}
-use Rattle.item_tree.specs.Tree.{Tree, Branches, branch_and, single, glob, prefixed, tree_nodes, branch_nodes, tree_count, tree_of, tree_of_kind, trees_of, kind_step, tree_step}
 
 pub tree_of-prefixed : (before : Option Path) (list : Vec UseTree Global) → tree_of_kind (Prefixed before list) ≡ prefixed before (trees_of list.items)
 tree_of-prefixed before list = ap tree_of_kind (sym (rolls-Prefixed before list)) ∙ fold-roll-UseTreeKind Tree Tree kind_step tree_step _

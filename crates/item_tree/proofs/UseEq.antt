@@ -1,20 +1,8 @@
 -- `==` at aliases, use trees and uses decides whether they are one.
-use Rattle.std.proofs.Common.{◌≡◌, ℕ, ◌<◌, Bool, true, false, List, [], ◌∷◌, map, length, get_or, Option, Vec, Global, refl, sym, ap, ◌∙◌}
-use Rattle.std.specs.Bool.{Decides}
-use Rattle.std.specs.Option.{option_eq}
-use Rattle.std.proofs.lemmas.Bool.Decides.{same_from_decides, Decides-like}
-use Rattle.std.proofs.lemmas.List.{get_or-map, length-map}
+use Rattle.std.proofs.Common.{◌≡◌, ℕ, ◌<◌, Bool, true, false, List, [], ◌∷◌, map, length, get_or, Option, Vec, Global, refl, sym, ap, ◌∙◌, Decides}
+use Rattle.item_tree.proofs.Common.{option_eq, same_from_decides, Decides-like, get_or-map, length-map, Path, option_decides, path_decides, ImportAlias, UseTree, UseTreeKind, Prefixed, Single, Glob, same, same_decides, Tree, single, glob, prefixed, branches_from, tree_of, tree_of_kind, trees_of, alias_code}
 use base.Stored.{Coded}
-use Rattle.hir_input.specs.Path.{Path}
 use Rattle.hir_input.specs.contracts.mod_path.ModPathPartialEq.TheImpl as paths
-use Rattle.hir_input.proofs.AttrEq.{option_decides}
-use Rattle.hir_input.proofs.PathEq.{path_decides}
-use Rattle.item_tree.specs.declared.use_tree.ImportAlias.{ImportAlias}
-use Rattle.item_tree.specs.declared.use_tree.UseTree.{UseTree}
-use Rattle.item_tree.specs.declared.use_tree.UseTreeKind.{UseTreeKind, Prefixed, Single, Glob}
-use Rattle.item_tree.specs.Same.{same, same_decides}
-use Rattle.item_tree.specs.Tree.{Tree, single, glob, prefixed, branches_from, tree_of, tree_of_kind, trees_of}
-use Rattle.item_tree.specs.Code.Tree.{alias_code}
 use Rattle.item_tree.proofs.TreeLemmas.{tree_of-single, tree_of-glob, tree_of-prefixed}
 
 -- what decides whether two values are one is the test by their codes

@@ -1,14 +1,7 @@
 -- The texts of use trees, case by case.
 use Rattle.std.proofs.Common.{◌≡◌, ◌<◌, ◌+◌, ℕ, List, [], ◌∷◌, ◌++◌, length, map, take, get_or, codes, Option, Vec, Global, ap, sym, ◌∙◌, refl, append_assoc, append-nil, arith}
-use Rattle.std.proofs.lemmas.List.{take_more, map-append, length-map, length-take}
-use Rattle.hir_input.specs.Cfg.{by_commas}
-use Rattle.hir_input.specs.Path.{Path, shown_path}
+use Rattle.item_tree.proofs.Common.{take_more, map-append, length-map, length-take, by_commas, Path, shown_path, ImportAlias, UseTree, UseTreeKind, Prefixed, Single, Glob, tree_of, tree_of_kind, trees_of, shown_rename, shown_prefix, shown_tree, shown_trees}
 use Rattle.hir_input.proofs.CfgLemmas.{by_commas-push}
-use Rattle.item_tree.specs.declared.use_tree.ImportAlias.{ImportAlias}
-use Rattle.item_tree.specs.declared.use_tree.UseTree.{UseTree}
-use Rattle.item_tree.specs.declared.use_tree.UseTreeKind.{UseTreeKind, Prefixed, Single, Glob}
-use Rattle.item_tree.specs.Tree.{tree_of, tree_of_kind, trees_of}
-use Rattle.item_tree.specs.UseText.{shown_rename, shown_prefix, shown_tree, shown_trees}
 use Rattle.item_tree.proofs.TreeLemmas.{tree_of-single, tree_of-glob, tree_of-prefixed, tree_of-kind}
 
 shown_trees-of : (r : List (List ℕ)) (ts : List UseTree) → shown_trees r (trees_of ts) ≡ map (λ t. shown_tree r (tree_of t)) ts

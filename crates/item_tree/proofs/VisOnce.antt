@@ -1,9 +1,6 @@
 -- A visibility has one id, so an id lends one item.
 use Rattle.std.proofs.Common.{◌≡◌, ℕ, Some, refl, ap, sym, ◌∙◌, subst}
-use Rattle.item_tree.specs.declared.visibility.RawVisibility.{RawVisibility}
-use Rattle.item_tree.specs.Node.{leaf_kind, trunk_kind, leaf, parent, file_id, Unfolding}
-use Rattle.item_tree.specs.Layout.{vis_id, leaf_map, trunk_map, arena_of, vis_at}
-use Rattle.item_tree.specs.Shown.{Lent, lent_leaf, lent_parent, IsLent, LendAlike}
+use Rattle.item_tree.proofs.Common.{RawVisibility, leaf_kind, trunk_kind, leaf, parent, file_id, Unfolding, vis_id, leaf_map, trunk_map, arena_of, vis_at, Lent, lent_leaf, lent_parent, IsLent, LendAlike}
 use Rattle.item_tree.proofs.Arena.{vis_id-at, leaf-ids, trunk-ids}
 
 vis-number : (u : Unfolding) (i : ℕ) (v : RawVisibility) → vis_at u.forest i ≡ Some v → vis_id (arena_of u.forest) v ≡ i

@@ -1,20 +1,11 @@
 -- `==` at visibilities decides whether they are one, as the test of the definitions does.
-use Rattle.std.proofs.Common.{◌≡◌, Bool, true, List, refl, ap, subst, arith}
-use Rattle.std.specs.Bool.{Decides}
-use Rattle.std.specs.List.{list_any, position_or_len}
-use Rattle.std.proofs.lemmas.Bool.Decides.{nat_tests}
+use Rattle.std.proofs.Common.{◌≡◌, Bool, true, List, refl, ap, subst, arith, Decides}
+use Rattle.item_tree.proofs.Common.{list_any, position_or_len, nat_tests, path_decides, VisibilityExplicitness, Explicit, Implicit, RawVisibility, Module, PubSelf, PubCrate, Public, equal_of_same, same_itself, same_visibility}
 use Rattle.hir_input.specs.contracts.mod_path.ModPathPartialEq.TheImpl as paths
-use Rattle.hir_input.proofs.PathEq.{path_decides}
-use Rattle.item_tree.specs.declared.visibility.VisibilityExplicitness.{VisibilityExplicitness}
-use Rattle.item_tree.specs.declared.visibility.VisibilityExplicitness.TheVariants.{Explicit, Implicit}
-use Rattle.item_tree.specs.declared.visibility.RawVisibility.{RawVisibility}
-use Rattle.item_tree.specs.declared.visibility.RawVisibility.TheVariants.{Module, PubSelf, PubCrate, Public}
 use Rattle.item_tree.specs.contracts.visibility.RawVisibilityEq.TheImpl.Laws as laws
 use Rattle.item_tree.specs.contracts.visibility.VisibilityExplicitnessPartialEq.TheImpl as explicitness
 use Rattle.item_tree.specs.contracts.visibility.RawVisibility as raw
 use Rattle.item_tree.specs.contracts.visibility.RawVisibilityPartialEq.TheImpl as raw_eqs
-use Rattle.item_tree.specs.Same.{equal_of_same, same_itself}
-use Rattle.item_tree.specs.Visibility.{same_visibility}
 use Rattle.item_tree.proofs.UseEq.{tells}
 
 same_explicitness : (x y : VisibilityExplicitness) → explicitness.ghosts.eq x y ≡ true → x ≡ y

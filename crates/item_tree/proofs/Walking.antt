@@ -1,17 +1,6 @@
 -- For whoever walks a tree by its ids, in this crate or in another.
-use Rattle.std.proofs.Common.{◌≡◌, ℕ, zero, suc, ◌+◌, ◌<◌, List, [], ◌∷◌, length, map, sum, get_or, Option, Some, None, refl, ap, sym, subst, ◌∙◌, arith}
-use Rattle.std.specs.Prelude.{is_some, IsSome}
-use Rattle.std.specs.Option.{option_map_or}
-use Rattle.std.specs.List.{sum_by, flat_map}
-use Rattle.std.proofs.lemmas.List.Sums.{sum-map, sum_by-cons}
-use Rattle.std.proofs.lemmas.List.Folds.{flat_map-map}
-use Rattle.hir_input.specs.declared.ids.FileAstId.{FileAstId}
-use Rattle.item_tree.specs.declared.visibility.RawVisibility.{RawVisibility}
-use Rattle.item_tree.specs.Node.{Leaf, Trunk, Node, leaf, parent, Forest, empty, more, nodes, node_count, count, Unfolding, nothing}
-use Rattle.item_tree.specs.Layout.{node_at, vis_at}
-use Rattle.item_tree.specs.Reach.{inner_ids, met_before, top_ids, child_ids}
-use Rattle.item_tree.specs.Shown.{IsContained, HasVisibility, StandFor, IsLeaf, IsParent}
-use Rattle.item_tree.specs.Walk.{of_id, AreContained, children, count_at, IsWalkedOnce}
+use Rattle.std.proofs.Common.{◌≡◌, ℕ, zero, suc, ◌+◌, ◌<◌, List, [], ◌∷◌, length, map, sum, get_or, Option, Some, None, refl, ap, sym, subst, ◌∙◌, arith, is_some, IsSome, sum_by, flat_map}
+use Rattle.item_tree.proofs.Common.{option_map_or, sum-map, sum_by-cons, flat_map-map, FileAstId, RawVisibility, Leaf, Trunk, Node, leaf, parent, Forest, empty, more, nodes, node_count, count, Unfolding, nothing, node_at, vis_at, inner_ids, met_before, top_ids, child_ids, IsContained, HasVisibility, StandFor, IsLeaf, IsParent, of_id, AreContained, children, count_at, IsWalkedOnce}
 use Rattle.item_tree.proofs.Reached.{walked_once, top_ids-is, top-stands}
 use Rattle.item_tree.proofs.VisOnce.{vis_once}
 

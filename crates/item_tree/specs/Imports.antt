@@ -1,6 +1,5 @@
 -- The imports of a use tree.
-use Rattle.std.specs.Prelude.{ℕ, zero, ◌+◌, ◌-◌, ◌^◌, max, Bool, true, false, List, [], ◌∷◌, ◌++◌, Option, Some, None}
-use Rattle.std.specs.List.{flat_map}
+use Rattle.std.specs.Prelude.{ℕ, zero, ◌+◌, ◌-◌, ◌^◌, max, Bool, true, false, List, [], ◌∷◌, ◌++◌, Option, Some, None, flat_map}
 use Rattle.hir_input.specs.declared.mod_path.PathKind.{PathKind}
 use Rattle.hir_input.specs.declared.mod_path.PathKind.TheVariants as path
 use Rattle.hir_input.specs.Path.{Path}

@@ -1,6 +1,5 @@
 -- Where the leaves of imports are written.
-use Rattle.std.specs.Prelude.{◌≡◌, ℕ, ◌+◌, List, [], ◌∷◌, ◌++◌, slice_get, All, Option, Some, None}
-use Rattle.std.specs.List.{flat_map}
+use Rattle.std.specs.Prelude.{◌≡◌, ℕ, ◌+◌, List, [], ◌∷◌, ◌++◌, slice_get, All, Option, Some, None, flat_map}
 use Rattle.std.specs.Option.{option_map_or}
 use Rattle.hir_input.specs.Path.{Path}
 use Rattle.hir_input.specs.UseTreeView.{UseNode, UseTreeView, bare_tree, listed_tree, UseTreeViews, no_trees, tree_and, written_nodes, written_count}

@@ -1,6 +1,5 @@
 -- Walks of a tree by its ids.
-use Rattle.std.specs.Prelude.{◌≡◌, ◌≢◌, ◌↔◌, ℕ, List, ◌∷◌, All}
-use Rattle.std.specs.List.{flat_map, AllPairs, Contains}
+use Rattle.std.specs.Prelude.{◌≡◌, ◌≢◌, ◌↔◌, ℕ, List, ◌∷◌, All, flat_map, AllPairs, Contains}
 use Rattle.std.specs.Option.{option_map_or}
 use Rattle.item_tree.specs.Node.{Node, leaf, parent, Forest, empty, node_count, Unfolding}
 use Rattle.item_tree.specs.Layout.{node_at}

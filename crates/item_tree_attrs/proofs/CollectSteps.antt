@@ -1,6 +1,5 @@
 -- The steps of collecting.
-use Rattle.std.proofs.Common.{◌≡◌, ℕ, ◌+◌, ◌<◌, false, List, [], ◌∷◌, ◌++◌, length, get_or, drop, map, Option, None, Some, option_map, Vec, Global, Bor, refl, sym, ap, ◌∙◌, append_assoc}
-use Rattle.std.specs.List.{flat_map}
+use Rattle.std.proofs.Common.{◌≡◌, ℕ, ◌+◌, ◌<◌, false, List, [], ◌∷◌, ◌++◌, length, get_or, drop, map, Option, None, Some, option_map, Vec, Global, Bor, refl, sym, ap, ◌∙◌, append_assoc, flat_map}
 use Rattle.std.proofs.lemmas.List.{drop_more}
 use Rattle.hir_input.specs.declared.{attr.Attr.Attr, attr.Meta.Meta, attr.Meta.TheVariants.CfgAttr, cfg.CfgExpr.CfgExpr}
 use Rattle.hir_input.specs.{Attr.MetaView, Attr.metas_from, Attr.meta_view, Cfg.AtomView, Cfg.CfgView, Cfg.cfg_view, Cfg.truth}

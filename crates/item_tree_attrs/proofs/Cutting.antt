@@ -1,6 +1,5 @@
 -- A list of events is cut where the two parts of it are, joined; and so are lists of metas.
-use Rattle.std.proofs.Common.{◌≡◌, ℕ, List, [], ◌∷◌, ◌++◌, Option, None, Some, refl, sym, ap, ◌∙◌}
-use Rattle.std.specs.List.{flat_map, filter_map}
+use Rattle.std.proofs.Common.{◌≡◌, ℕ, List, [], ◌∷◌, ◌++◌, Option, None, Some, refl, sym, ap, ◌∙◌, flat_map, filter_map}
 use Rattle.std.proofs.lemmas.{Grind.flat_map-append, List.Sums.take_while-cons}
 use Rattle.either.specs.{declared.Either.TheVariants.Left, declared.Either.TheVariants.Right, Either.is_left, Either.left, Either.right}
 use Rattle.hir_input.specs.{declared.attr.Attr.Attr, Cfg.AtomView, Cfg.CfgView}

@@ -1,6 +1,5 @@
 -- What is asked of attributes.
-use Rattle.std.specs.Prelude.{ℕ, ◌+◌, List, Option, Some, None}
-use Rattle.std.specs.List.{filter}
+use Rattle.std.specs.Prelude.{ℕ, ◌+◌, List, Option, Some, None, filter}
 use Rattle.hir_input.specs.declared.attr.Attr.{Attr}
 use Rattle.item_tree_attrs.specs.{Key.has_key, Key.referred_attrs, declared.query.Attrs.Attrs, declared.query.AttrQuery.AttrQuery}
 

@@ -1,18 +1,9 @@
 -- Body texts move nothing.
 use Rattle.std.proofs.Common.{◌≡◌, ℕ, suc, List, [], ◌∷◌, take, Some, None, Option, slice_get, IfSome, All, refl, sym, ap, ◌∙◌, arith, inl, inr}
-use Rattle.std.specs.Option.{option_or, option_map, unwrap_or}
-use Rattle.std.proofs.lemmas.List.Elements.{All-take}
-use Rattle.std.proofs.lemmas.Option.{same_Some, none-some}
-use Rattle.hir_input.specs.Cfg.{AtomView}
-use Rattle.hir_input.specs.Syntax.{SyntaxView}
+use Rattle.item_tree_db.proofs.Common.{option_or, option_map, unwrap_or, All-take, same_Some, none-some, AtomView, SyntaxView, CrateView, Place, State, is_root_of, present, unfolding_of, unfolding_at, change_number, EditView, last_some, sets, gives, under_options, crate_after, present_after, unfolding_after, IsAfter, ChangesBodiesOnly, IgnoresBodies}
 use Rattle.hir_input.specs.Bodies.{without_bodies}
-use Rattle.item_tree.specs.CrateView.{CrateView}
 use Rattle.item_tree.specs.Kept.{kept_syntax}
 use Rattle.item_tree.proofs.BodyTexts.{kept_without_bodies}
-use Rattle.item_tree_db.specs.declared.place.Place.{Place}
-use Rattle.item_tree_db.specs.State.{State, is_root_of, present, unfolding_of, unfolding_at, change_number}
-use Rattle.item_tree_db.specs.Edits.{EditView}
-use Rattle.item_tree_db.specs.History.{last_some, sets, gives, under_options, crate_after, present_after, unfolding_after, IsAfter, ChangesBodiesOnly, IgnoresBodies}
 use Rattle.item_tree_db.proofs.Histories.{change_number_is}
 
 -- two syntaxes that differ in body texts alone unfold alike

@@ -1,29 +1,8 @@
 -- What a walk over a shelf gives is what changed.
 use Rattle.std.proofs.Common.{◌≡◌, inl, inr, ℕ, zero, suc, ◌+◌, ◌<◌, ◌≤◌, max, Bool, true, false, cond, nat_lt, List, [], ◌∷◌, ◌++◌, length, map, filter, Some, None, Option, IfSome, slice_get, refl, sym, ap, subst, ◌∙◌, arith, All, AllPairs, Contains}
-use Rattle.std.specs.Option.{option_and_then, option_map, unwrap_or}
-use Rattle.std.specs.Ordering.{nat_cmp, ordering_then}
-use Rattle.std.specs.declared.cmp.Ordering.{Ordering}
-use Rattle.std.specs.declared.cmp.Ordering.TheVariants.{Less}
-use Rattle.std.specs.List.{AllByRecursion, flat_map}
-use Rattle.std.specs.BTreeMap.{is_at}
-use Rattle.std.specs.List.Sorted.{IsStrictlySortedBy}
-use Rattle.std.specs.Map.{keys_of}
-use Rattle.std.proofs.lemmas.Bool.Decides.{nat_tests}
+use Rattle.item_tree_db.proofs.Common.{option_and_then, option_map, unwrap_or, nat_cmp, ordering_then, Ordering, Less, AllByRecursion, flat_map, is_at, IsStrictlySortedBy, keys_of, nat_tests, length-map, All-nil, All-cons, All-head, All-tail, All-append, All-weaker, All-filter, All-contains, All-contains_itself, Contains-append_left, Contains-append_right, Contains-append_cases, filter_passes, sorted_head, sorted_tail, IsDistinct-from_sorted, lookup-from_Contains, IfSome_then, same_Some, none-some, slice_get_within, Place, Row, place_cmp, place_cmp_total, Change, change_cmp, IsLate, IsSince, IsSinceAmong, HoldLate, Shelved, Places, placed_at, IsInOrder, Held, State, crate_limit, change_number, Table, held_of, state_of, IsSound, HasFewRows, HasNumber, IsLateWalk, Walk, all_changes, changes_from, late, over, over_all, rows_in}
 use Rattle.std.proofs.lemmas.Cmp.{eq_by_cmp_equiv}
-use Rattle.std.proofs.lemmas.List.{length-map}
-use Rattle.std.proofs.lemmas.List.Elements.{All-nil, All-cons, All-head, All-tail, All-append, All-weaker, All-filter, All-contains, All-contains_itself, Contains-append_left, Contains-append_right, Contains-append_cases, filter_passes}
 use Rattle.std.proofs.lemmas.List.Kept.{AllPairs-cons, AllPairs-filter}
-use Rattle.std.proofs.lemmas.Map.Keys.{sorted_head, sorted_tail, IsDistinct-from_sorted}
-use Rattle.std.proofs.lemmas.Map.Views.{lookup-from_Contains}
-use Rattle.std.proofs.lemmas.Option.{IfSome_then, same_Some, none-some, slice_get_within}
-use Rattle.item_tree_db.specs.declared.place.Place.{Place}
-use Rattle.item_tree_db.specs.declared.rows.Row.{Row}
-use Rattle.item_tree_db.specs.PlaceOrder.{place_cmp, place_cmp_total}
-use Rattle.item_tree_db.specs.Since.{Change, change_cmp, IsLate, IsSince, IsSinceAmong, HoldLate}
-use Rattle.item_tree_db.specs.Inner.Shelf.{Shelved, Places, placed_at, IsInOrder}
-use Rattle.item_tree_db.specs.State.{Held, State, crate_limit, change_number}
-use Rattle.item_tree_db.specs.Inner.Table.{Table, held_of, state_of, IsSound}
-use Rattle.item_tree_db.specs.Inner.Walk.{HasFewRows, HasNumber, IsLateWalk, Walk, all_changes, changes_from, late, over, over_all, rows_in}
 use Rattle.item_tree_db.proofs.Places.{IsBelow, equal_of, equal_cmp}
 use Rattle.item_tree_db.proofs.Steps.{found}
 

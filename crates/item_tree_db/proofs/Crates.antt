@@ -1,19 +1,6 @@
 -- The crates of a table, what is lowered for each, and other options.
-use Rattle.std.proofs.Common.{◌≡◌, ℕ, zero, suc, ◌+◌, ◌<◌, List, [], ◌∷◌, ◌++◌, length, map, drop, set, get_or, Some, slice_get, refl, sym, ap, subst, ◌∙◌, arith, append_assoc}
-use Rattle.std.specs.Option.{option_map}
-use Rattle.std.proofs.lemmas.List.{drop_more, length-map}
-use Rattle.std.proofs.lemmas.Option.{same_Some, slice_get-map, slice_get_read}
-use Rattle.hir_input.specs.Cfg.{AtomView}
-use Rattle.hir_input.specs.Syntax.{SyntaxView}
-use Rattle.item_tree.specs.declared.crate_data.CrateData.{CrateData}
-use Rattle.item_tree.specs.CrateView.{CrateView, crate_view}
-use Rattle.item_tree_db.specs.declared.place.Place.{Place}
-use Rattle.item_tree_db.specs.declared.rows.Row.{Row}
-use Rattle.item_tree_db.specs.Refusal.{TreeFits}
-use Rattle.item_tree_db.specs.Inner.Sizes.{CratesFit}
-use Rattle.item_tree_db.specs.Inner.Settled.{brought, fresh_row}
-use Rattle.item_tree_db.specs.Inner.Shelf.{change_at}
-use Rattle.item_tree_db.specs.State.{given}
+use Rattle.std.proofs.Common.{◌≡◌, ℕ, zero, suc, ◌+◌, ◌<◌, List, [], ◌∷◌, ◌++◌, length, map, drop, set, get_or, Some, slice_get, refl, sym, ap, subst, ◌∙◌, arith, append_assoc, option_map}
+use Rattle.item_tree_db.proofs.Common.{drop_more, length-map, same_Some, slice_get-map, slice_get_read, AtomView, SyntaxView, CrateData, CrateView, crate_view, Place, Row, TreeFits, CratesFit, brought, fresh_row, change_at, given}
 
 -- ---- one crate after another
 

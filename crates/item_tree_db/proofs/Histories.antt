@@ -1,23 +1,8 @@
 -- Histories: the change number without a test, one more edit, and what an index rests on.
 use Rattle.std.proofs.Common.{◌≡◌, ◌≢◌, ◌⊎◌, inl, inr, ℕ, zero, suc, ◌+◌, ◌<◌, ◌≤◌, Bool, true, false, not, List, [], ◌∷◌, ◌++◌, length, take, cond, Some, None, Option, IfSome, slice_get, refl, sym, ap, subst, ◌∙◌, arith, true≢false, All, Contains}
-use Rattle.std.specs.Option.{option_or, option_map, unwrap_or}
+use Rattle.item_tree_db.proofs.Common.{option_or, option_map, unwrap_or, All-head, All-tail, none-some, same_Some, take_all, take-append-le, length-append, AtomView, SyntaxView, CrateView, unfolding_code, same, equal_of_same, same_of_equal, Place, State, present, unfolding_of, unfolding_at, change_number, same_place, HoldLate, EditView, set, remove, set_cfg, NamesPlaceOf, TreeFits, FitsAfter, FirstFit, sets, gives, under_options, crate_after, last_some, last_number_below, present_after, unfolding_after, moves, changed_after, IsChangeNumber, IsAfter, IsFooting}
 use Rattle.std.proofs.lemmas.Bool.{not-false, not-true, cases_lt}
-use Rattle.std.proofs.lemmas.List.Elements.{All-head, All-tail}
-use Rattle.std.proofs.lemmas.Option.{none-some, same_Some}
-use Rattle.std.proofs.lemmas.List.{take_all, take-append-le, length-append}
-use Rattle.hir_input.specs.Cfg.{AtomView}
-use Rattle.hir_input.specs.Syntax.{SyntaxView}
-use Rattle.item_tree.specs.CrateView.{CrateView}
-use Rattle.item_tree.specs.Code.Node.{unfolding_code}
-use Rattle.item_tree.specs.Same.{same, equal_of_same, same_of_equal}
-use Rattle.item_tree_db.specs.declared.place.Place.{Place}
-use Rattle.item_tree_db.specs.State.{State, present, unfolding_of, unfolding_at, change_number}
-use Rattle.item_tree_db.specs.PlaceOrder.{same_place}
-use Rattle.item_tree_db.specs.Since.{HoldLate}
-use Rattle.item_tree_db.specs.Edits.{EditView, set, remove, set_cfg, NamesPlaceOf}
 use Rattle.item_tree_db.proofs.Places.{same_is}
-use Rattle.item_tree_db.specs.Refusal.{TreeFits, FitsAfter, FirstFit}
-use Rattle.item_tree_db.specs.History.{sets, gives, under_options, crate_after, last_some, last_number_below, present_after, unfolding_after, moves, changed_after, IsChangeNumber, IsAfter, IsFooting}
 
 -- ---- the last edit that moved it, without the tests
 

@@ -7,3 +7,4 @@ pub mod Runs
 pub mod Changes
 pub mod Noted
 pub mod BodyTexts
+pub mod Common

@@ -1,25 +1,9 @@
 -- Which places stand under which numbers.
-use Rattle.std.proofs.Common.{◌≡◌, ◌≢◌, ◌⊎◌, inl, inr, ℕ, zero, suc, ◌+◌, ◌<◌, ◌≤◌, max, Bool, true, false, cond, ◌||◌, List, [], ◌∷◌, ◌++◌, length, map, drop, get_or, Some, None, Option, IfSome, slice_get, refl, sym, ap, subst, ◌∙◌, arith, true≢false, Contains}
-use Rattle.std.specs.Prelude.{IsTrue}
-use Rattle.std.specs.BTreeMap.{is_at}
+use Rattle.std.proofs.Common.{◌≡◌, ◌≢◌, ◌⊎◌, inl, inr, ℕ, zero, suc, ◌+◌, ◌<◌, ◌≤◌, max, Bool, true, false, cond, ◌||◌, List, [], ◌∷◌, ◌++◌, length, map, drop, get_or, Some, None, Option, IfSome, slice_get, refl, sym, ap, subst, ◌∙◌, arith, true≢false, Contains, IsTrue}
+use Rattle.item_tree_db.proofs.Common.{is_at, IsTotalOrder, nat_cmp_total, on_total, then_total, AllByRecursion, list_any, IsStrictlySortedBy, is_eq, is_lt, nat_cmp, ordering_then, Ordering, Less, Equal, Greater, nat_tests, btree_set_IsUpperBound-last, btree_set_contains_iff, IfSome_then, same_Some, none-some, Place, Row, place_cmp, place_cmp_total, AreNoted, HoldsNoted, IsNoted, newest, noted_cmp, Shelved, Places, placed_at, HasNumber}
 use Rattle.std.specs.BTreeSet.{BTreeSet, Updates, contains}
-use Rattle.std.specs.Cmp.{IsTotalOrder, nat_cmp_total, on_total, then_total}
-use Rattle.std.specs.List.{AllByRecursion, list_any}
-use Rattle.std.specs.List.Sorted.{IsStrictlySortedBy}
-use Rattle.std.specs.Ordering.{is_eq, is_lt, nat_cmp, ordering_then}
-use Rattle.std.specs.declared.cmp.Ordering.{Ordering}
-use Rattle.std.specs.declared.cmp.Ordering.TheVariants.{Less, Equal, Greater}
-use Rattle.std.proofs.lemmas.Bool.Decides.{nat_tests}
 use Rattle.std.proofs.lemmas.Map.Lookups.{CmpEqualImpliesEq}
-use Rattle.std.proofs.lemmas.Map.Views.{btree_set_IsUpperBound-last, btree_set_contains_iff}
-use Rattle.std.proofs.lemmas.Option.{IfSome_then, same_Some, none-some}
-use Rattle.item_tree_db.specs.declared.place.Place.{Place}
 use Rattle.item_tree_db.specs.declared.recent.Recent.{Recent}
-use Rattle.item_tree_db.specs.declared.rows.Row.{Row}
-use Rattle.item_tree_db.specs.PlaceOrder.{place_cmp, place_cmp_total}
-use Rattle.item_tree_db.specs.Inner.Recent.{AreNoted, HoldsNoted, IsNoted, newest, noted_cmp}
-use Rattle.item_tree_db.specs.Inner.Shelf.{Shelved, Places, placed_at}
-use Rattle.item_tree_db.specs.Inner.Walk.{HasNumber}
 use Rattle.item_tree_db.proofs.Crates.{drop_at}
 use Rattle.item_tree_db.proofs.Places.{equal_of, itself}
 

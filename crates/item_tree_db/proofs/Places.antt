@@ -1,12 +1,6 @@
 -- The order of places.
 use Rattle.std.proofs.Common.{◌≡◌, ◌≢◌, true, false, refl, sym, ap, ◌∙◌, arith, true≢false}
-use Rattle.std.specs.Cmp.{tied_itself}
-use Rattle.std.specs.Ordering.{eq_by_cmp, is_eq}
-use Rattle.std.specs.declared.cmp.Ordering.TheVariants.{Less, Equal}
-use Rattle.std.proofs.lemmas.Bool.Decides.{nat_tests}
-use Rattle.item_tree_db.specs.declared.place.Place.{Place}
-use Rattle.item_tree_db.specs.declared.place.Place.TheVariants.{File, Block}
-use Rattle.item_tree_db.specs.PlaceOrder.{place_cmp, place_cmp_total, same_place}
+use Rattle.item_tree_db.proofs.Common.{tied_itself, eq_by_cmp, is_eq, Less, Equal, nat_tests, Place, File, Block, place_cmp, place_cmp_total, same_place}
 
 abbrev pub IsBelow : Place → Place → Type 0
 IsBelow p q = place_cmp p q ≡ Less

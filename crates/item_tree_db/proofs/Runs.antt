@@ -1,13 +1,6 @@
 -- Lists of edits, made one after another.
 use Rattle.std.proofs.Common.{◌≡◌, ℕ, ◌+◌, ◌-◌, ◌<◌, List, [], ◌∷◌, ◌++◌, length, map, take, drop, get_or, slice_get, Some, refl, sym, ap, subst, ◌∙◌, arith}
-use Rattle.std.specs.List.{AllByRecursion}
-use Rattle.std.proofs.lemmas.List.{length-map, length-drop, get_or-drop, get_or-map, drop-drop, take-map, take_all, map_more}
-use Rattle.std.proofs.lemmas.List.Elements.{All-from_recursion}
-use Rattle.std.proofs.lemmas.Option.{slice_get_read}
-use Rattle.item_tree_db.specs.State.{State}
-use Rattle.item_tree_db.specs.Edits.{EditView, set, remove, set_cfg}
-use Rattle.item_tree_db.specs.History.{IsAfter}
-use Rattle.item_tree_db.specs.Refusal.{NamesKnown}
+use Rattle.item_tree_db.proofs.Common.{AllByRecursion, length-map, length-drop, get_or-drop, get_or-map, drop-drop, take-map, take_all, map_more, All-from_recursion, slice_get_read, State, EditView, set, remove, set_cfg, IsAfter, NamesKnown}
 
 -- x stands at n, with ys behind it
 pub record Popped {A B : Type 0} (f : A → B) (n : ℕ) (xs : List A) (x : A) (ys : List A) : Type 0 where

@@ -1,24 +1,6 @@
 -- What a shelf has at each place.
 use Rattle.std.proofs.Common.{◌≡◌, ◌≢◌, ℕ, zero, suc, ◌+◌, ◌<◌, ◌≤◌, Bool, true, false, cond, List, [], ◌∷◌, length, map, set, get_or, Some, None, Option, IfSome, slice_get, refl, sym, ap, subst, ◌∙◌, arith, true≢false}
-use Rattle.std.specs.List.{AllByRecursion}
-use Rattle.std.specs.Option.{option_map, unwrap_or}
-use Rattle.std.specs.Map.{keys_of}
-use Rattle.std.specs.BTreeMap.{is_at}
-use Rattle.std.specs.Ordering.{is_eq}
-use Rattle.std.specs.declared.cmp.Ordering.{Ordering}
-use Rattle.std.proofs.lemmas.List.{length-map, get_or-map}
-use Rattle.std.proofs.lemmas.Map.Keys.{sorted_head, sorted_tail}
-use Rattle.std.proofs.lemmas.Option.{slice_get-map, unwrap_or-slice_get}
-use Rattle.item_tree.specs.CrateView.{CrateView}
-use Rattle.item_tree_db.specs.declared.place.Place.{Place}
-use Rattle.item_tree_db.specs.declared.rows.Row.{Row}
-use Rattle.item_tree_db.specs.PlaceOrder.{place_cmp}
-use Rattle.item_tree_db.specs.Refusal.{TreeFits}
-use Rattle.item_tree_db.specs.Inner.Settled.{settled, settled_row, cleared, empty_row}
-use Rattle.item_tree_db.specs.Inner.Shelf.{Shelved, Places, placed_at, syntax_in, row_in, HasPut, set_to, change_at, recast, recast_each, IsInOrder}
-use Rattle.item_tree_db.specs.Inner.Sizes.{PlacesFit}
-use Rattle.item_tree_db.specs.Inner.Walk.{HasFew, HasFewRows, Walk, over, over_all, rows_in}
-use Rattle.item_tree_db.specs.State.{crate_limit}
+use Rattle.item_tree_db.proofs.Common.{AllByRecursion, option_map, unwrap_or, keys_of, is_at, is_eq, Ordering, length-map, get_or-map, sorted_head, sorted_tail, slice_get-map, unwrap_or-slice_get, CrateView, Place, Row, place_cmp, TreeFits, settled, settled_row, cleared, empty_row, Shelved, Places, placed_at, syntax_in, row_in, HasPut, set_to, change_at, recast, recast_each, IsInOrder, PlacesFit, HasFew, HasFewRows, Walk, over, over_all, rows_in, crate_limit}
 use Rattle.item_tree_db.proofs.Places.{IsBelow, equal_of, itself}
 
 -- ---- lists in order

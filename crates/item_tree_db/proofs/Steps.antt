@@ -1,36 +1,11 @@
 -- One edit, by place and crate.
 use Rattle.std.proofs.Common.{◌≡◌, ◌≢◌, inl, inr, ℕ, zero, ◌+◌, ◌<◌, ◌≤◌, Bool, true, false, not, List, [], ◌∷◌, length, map, cond, Some, None, Option, IfSome, slice_get, refl, sym, ap, subst, ◌∙◌, arith, nat_eq, get_or}
-use Rattle.std.specs.Option.{option_and_then, option_map, unwrap_or}
-use Rattle.std.specs.BTreeMap.{is_at}
-use Rattle.std.proofs.lemmas.Bool.Decides.{nat_tests}
-use Rattle.std.proofs.lemmas.List.{length-map}
-use Rattle.std.proofs.lemmas.Option.{slice_get-map}
-use Rattle.hir_input.specs.Cfg.{AtomView}
-use Rattle.hir_input.specs.Syntax.{SyntaxView}
+use Rattle.item_tree_db.proofs.Common.{option_and_then, option_map, unwrap_or, is_at, nat_tests, length-map, slice_get-map, AtomView, SyntaxView, CrateData, CrateView, crate_view, unfolding_code, same, same_itself, equal_of_same, SetCfg, Place, Row, Source, place_cmp, same_place, Held, State, find, given, present, unfolding_of, unfolding_at, change_number, EditView, edit_view, set, remove, set_cfg, sets, gives, under_options, present_after, unfolding_after, changed_after, IsAfter, IsFooting, TreeFits, TreePasses, FitsAfter, UnlessMemory, IsRefusal, settled_row, empty_row, fresh_row, brought, Shelved, Places, placed_at, syntax_in, row_in, HasPut, set_to, removed, change_at, recast, recast_each, fresh_of, IsInOrder, CratesFit, PlacesFit, PlacesPass, IsGrounded, source_place, source_syntax, edit_of, Table, table_from, held_of, state_of, syntax_at, row_at, lowered_at, next_number, next_table, IsSound, IsLed, IsStep, IsRowOf}
 use Rattle.hir_input.specs.declared.ids.Crate.{Crate}
-use Rattle.item_tree.specs.declared.crate_data.CrateData.{CrateData}
 use Rattle.item_tree.specs.declared.fault.EditFault.TheVariants.{Lower}
 use Rattle.item_tree.specs.declared.fault.LowerError.{LowerError}
-use Rattle.item_tree.specs.CrateView.{CrateView, crate_view}
 use Rattle.item_tree.specs.Node.{Unfolding, nothing}
-use Rattle.item_tree.specs.Code.Node.{unfolding_code}
-use Rattle.item_tree.specs.Same.{same, same_itself, equal_of_same}
-use Rattle.item_tree_db.specs.declared.edit.Edit.TheVariants.{SetCfg}
-use Rattle.item_tree_db.specs.declared.place.Place.{Place}
-use Rattle.item_tree_db.specs.declared.rows.Row.{Row}
-use Rattle.item_tree_db.specs.declared.source.Source.{Source}
 use Rattle.item_tree_db.specs.declared.source.Source.TheVariants.{File, Block}
-use Rattle.item_tree_db.specs.PlaceOrder.{place_cmp, same_place}
-use Rattle.item_tree_db.specs.State.{Held, State, find, given, present, unfolding_of, unfolding_at, change_number}
-use Rattle.item_tree_db.specs.Edits.{EditView, edit_view, set, remove, set_cfg}
-use Rattle.item_tree_db.specs.History.{sets, gives, under_options, present_after, unfolding_after, changed_after, IsAfter, IsFooting}
-use Rattle.item_tree_db.specs.Refusal.{TreeFits, TreePasses, FitsAfter, UnlessMemory, IsRefusal}
-use Rattle.item_tree_db.specs.Inner.Settled.{settled_row, empty_row, fresh_row, brought}
-use Rattle.item_tree_db.specs.Inner.Shelf.{Shelved, Places, placed_at, syntax_in, row_in, HasPut, set_to, removed, change_at, recast, recast_each, fresh_of, IsInOrder}
-use Rattle.item_tree_db.specs.Inner.Sizes.{CratesFit, PlacesFit, PlacesPass}
-use Rattle.item_tree_db.specs.Since.{IsGrounded}
-use Rattle.item_tree_db.specs.Inner.Source.{source_place, source_syntax, edit_of}
-use Rattle.item_tree_db.specs.Inner.Table.{Table, table_from, held_of, state_of, syntax_at, row_at, lowered_at, next_number, next_table, IsSound, IsLed, IsStep, IsRowOf}
 use Rattle.item_tree_db.proofs.Places.{same_is, other_of, same_here}
 use Rattle.item_tree_db.proofs.Histories.{footing}
 use Rattle.item_tree_db.proofs.Crates.{fresh_get}

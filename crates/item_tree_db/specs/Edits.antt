@@ -1,6 +1,5 @@
 -- Edits as plain data.
-use Rattle.std.specs.Prelude.{ℕ, List, map, take}
-use Rattle.std.specs.List.{Contains}
+use Rattle.std.specs.Prelude.{ℕ, List, map, take, Contains}
 use Rattle.hir_input.specs.Cfg.{AtomView}
 use Rattle.hir_input.specs.Syntax.{SyntaxView, syntax_view, block_view}
 use Rattle.item_tree_db.specs.declared.edit.Edit.{Edit}

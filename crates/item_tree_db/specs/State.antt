@@ -1,6 +1,5 @@
 -- What callers see of a table: no trees, since the present syntaxes fix them.
-use Rattle.std.specs.Prelude.{ℕ, ◌<◌, ◌==◌, Bool, false, List, [], length, take, Option, None, Some, slice_get}
-use Rattle.std.specs.Option.{option_and_then, option_map, unwrap_or}
+use Rattle.std.specs.Prelude.{ℕ, ◌<◌, ◌==◌, Bool, false, List, [], length, take, Option, None, Some, slice_get, option_and_then, option_map, unwrap_or}
 use Rattle.std.specs.FinMap as map
 use Rattle.hir_input.specs.Cfg.{AtomView}
 use Rattle.hir_input.specs.declared.ids.Crate.{Crate}

@@ -1,6 +1,5 @@
 -- The lines of imports by the ids of items.
-use Rattle.std.proofs.Common.{◌≡◌, ℕ, Bool, true, false, Some, List, [], ◌++◌, refl, sym, ap, ◌∙◌}
-use Rattle.std.specs.List.{flat_map}
+use Rattle.std.proofs.Common.{◌≡◌, ℕ, Bool, true, false, Some, List, [], ◌++◌, refl, sym, ap, ◌∙◌, flat_map}
 use Rattle.hir_input.specs.declared.ids.AstIdKind.TheVariants as kind
 use Rattle.hir_input.specs.declared.ids.FileAstId.{FileAstId}
 use Rattle.item_tree.specs.declared.visibility.RawVisibility.{RawVisibility}
@@ -10,8 +9,7 @@ use Rattle.item_tree.specs.Node.{Leaf, plain, constant, struct_item, outline, us
 use Rattle.item_tree.specs.Shown.{StandFor, IsLeaf, IsParent}
 use Rattle.item_tree.proofs.Lookup.{leaf_kind-map}
 use Rattle.item_tree.proofs.Walking.{flat_map_of_id, leaf_of_id, parent_of_id}
-use Rattle.item_tree_request.specs.ImportLines.{use_lines, leaf_lines, node_lines, import_lines}
-use Rattle.item_tree_request.specs.Inner.ImportsByIds.{import_lines_at}
+use Rattle.item_tree_request.proofs.Common.{use_lines, leaf_lines, node_lines, import_lines, import_lines_at}
 
 abbrev pub is_use : {V : Type 0} → Leaf V → Bool
 is_use (use_item v t) = true

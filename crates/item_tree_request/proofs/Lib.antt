@@ -2,3 +2,4 @@ pub mod ImportLists
 pub mod Made
 pub mod Outputs
 pub mod Served
+pub mod Common

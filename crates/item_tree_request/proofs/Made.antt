@@ -1,17 +1,11 @@
 -- What the outcome of all edits says of the sizes of each.
 use Rattle.std.proofs.Common.{◌≡◌, ◌≢◌, ℕ, ◌+◌, ◌<◌, ◌≤◌, eq-or-lt_of_le, inl, inr, List, [], Some, length, take, map, option_map, slice_get, ap, ◌∙◌, subst, arith}
-use Rattle.std.proofs.lemmas.List.{length-take-le}
+use Rattle.item_tree_request.proofs.Common.{length-take-le, State, present, EditView, set, remove, set_cfg, IsAfter, under_options, crate_after, present_after, last_number, FirstFit, TreePasses, PassesAfter, IsCause, IsMade, IsUnmade, refusal_of, NonePasses, PassesAt}
 use Rattle.std.proofs.lemmas.Option.{slice_get-map, slice_get_within}
 use Rattle.item_tree.specs.declared.fault.EditFault.{EditFault}
 use Rattle.item_tree.specs.declared.fault.EditFault.TheVariants.{TooManyEdits, Lower}
 use Rattle.item_tree.specs.declared.fault.LowerError.{LowerError}
 use Rattle.item_tree.specs.declared.fault.LowerError.TheVariants.{TooManyItems, TooManyVisibilities, TooManyUseTrees, TooManyAttributes, TooManySupers, OutOfMemory}
-use Rattle.item_tree_db.specs.State.{State, present}
-use Rattle.item_tree_db.specs.Edits.{EditView, set, remove, set_cfg}
-use Rattle.item_tree_db.specs.History.{IsAfter, under_options, crate_after, present_after}
-use Rattle.item_tree_db.specs.Refusal.{last_number, FirstFit, TreePasses, PassesAfter, IsCause}
-use Rattle.item_tree_request.specs.Inner.Made.{IsMade, IsUnmade, refusal_of}
-use Rattle.item_tree_request.specs.Outputs.{NonePasses, PassesAt}
 
 pub is_made : (s u : State) (edits : List EditView) → IsAfter s edits u → u.number ≤ last_number → FirstFit s edits (length edits) → IsMade s edits u
 is_made s u edits after small fit = record { after = after; none_passes = record { numbers = omega (arith, small, after.number); trees = fit } }

@@ -1,27 +1,18 @@
 -- The texts of shows over a table: what fixes them, and one after another.
 use Rattle.std.proofs.Common.{◌≡◌, ℕ, ◌+◌, ◌<◌, List, [], ◌∷◌, ◌++◌, All, length, map, take, get_or, suc, sym, subst, ap, ◌∙◌, append-nil, arith}
-use Rattle.std.specs.List.{AllByRecursion, AllZip, concat}
-use Rattle.std.proofs.lemmas.List.{length-take, length-map, take_more}
+use Rattle.item_tree_request.proofs.Common.{AllByRecursion, AllZip, concat, length-take, length-map, take_more, crate_view, State, crate_limit, new_table, unfolding_at, change_number, EditView, edit_view, NamesKnown, IsAfter, import_lines, table_change_line, heading, page_text, imports_text, printed_as, AreChanges, IsPrinted, Knows, AreFixed, IsAdded, AreJoined, NamesCrate, EditNamesCrate}
 use Rattle.std.proofs.lemmas.List.Folds.{concat-append}
 use Rattle.item_tree.specs.declared.crate_data.CrateData.{CrateData}
-use Rattle.item_tree.specs.CrateView.{crate_view}
 use Rattle.item_tree.specs.Page.{page}
-use Rattle.item_tree_db.specs.State.{State, crate_limit, new_table, unfolding_at, change_number}
 use Rattle.item_tree_db.specs.declared.place.Place.{Place}
 use Rattle.item_tree_db.specs.declared.edit.Edit.{Edit}
 use Rattle.item_tree_db.specs.declared.edit.Edit.TheVariants.{SetFile, RemoveFile, SetBlock, RemoveBlock, SetCfg}
-use Rattle.item_tree_db.specs.Edits.{EditView, edit_view}
-use Rattle.item_tree_db.specs.Refusal.{NamesKnown}
-use Rattle.item_tree_db.specs.History.{IsAfter}
 use Rattle.item_tree_db.specs.Since.{Change, IsLate, IsSince}
 use Rattle.item_tree_request.specs.declared.request.show.Show.{Show}
 use Rattle.item_tree_request.specs.declared.request.show.Show.TheVariants.{OfTree, Changed}
 use Rattle.item_tree_request.specs.declared.request.show.TreeShow.{TreeShow}
 use Rattle.item_tree_request.specs.declared.request.show.ShowKind.{ShowKind}
 use Rattle.item_tree_request.specs.declared.request.show.ShowKind.TheVariants.{Page, Tree, Imports}
-use Rattle.item_tree_request.specs.ImportLines.{import_lines}
-use Rattle.item_tree_request.specs.Outputs.{table_change_line, heading, page_text, imports_text, printed_as, AreChanges, IsPrinted, Knows, AreFixed, IsAdded, AreJoined}
-use Rattle.item_tree_request.specs.Named.{NamesCrate, EditNamesCrate}
 
 -- ---- two tables that the same edits lead to
 

@@ -2,10 +2,8 @@
 use Rattle.std.proofs.Common.{List, ℕ, Result, Ok, Err, MatchResult, String, Global, string_bytes}
 use Rattle.item_tree_request.specs.declared.error.RunError.{RunError}
 use Rattle.item_tree_request.specs.declared.error.RunError.TheVariants.{NotJson, NotRequest, Refused, OutOfMemory, Read, Write}
-use Rattle.item_tree_request.specs.Inner.Made.{IsRequestServed, IsUnmade}
-use Rattle.item_tree_request.specs.Outputs.{ShowText, first_table}
+use Rattle.item_tree_request.proofs.Common.{IsRequestServed, IsUnmade, ShowText, first_table, IsOutputOf, IsRefusedFor}
 use Rattle.item_tree_request.specs.Requests.{Request, IsRequest}
-use Rattle.item_tree_request.specs.Runs.{IsOutputOf, IsRefusedFor}
 
 refused_for : (bytes : List ℕ) (q : Request) (e : RunError) → IsRequest bytes q → IsUnmade (first_table q) q.edits e → IsRefusedFor bytes e
 refused_for bytes q (Refused place cause) request unmade = record { asked = q; is_request = request; none_before = unmade.0; passes = unmade.1 }

@@ -1,6 +1,5 @@
 //! The texts of shows: pages and imports, and the lines of what changed.
-ghost use Rattle.std.specs.Prelude.{◌≡◌, ◌++◌, OnOk, string_bytes};
-ghost use Rattle.std.specs.List.{flat_map};
+ghost use Rattle.std.specs.Prelude.{◌≡◌, ◌++◌, OnOk, string_bytes, flat_map};
 ghost use Rattle.item_tree_db.specs.State.{IsKnown};
 ghost use Rattle.item_tree_request.specs.Outputs.{AreChanges, IsAdded, table_change_line, page_text, imports_text, printed, IsPrinted};
 

@@ -1,27 +1,19 @@
 -- What is kept of what is read of a text, and how much of it there is, depends neither on body texts nor on documentation that is skipped.
-use Rattle.std.proofs.Common.{◌≡◌, ◌≤◌, ◌^◌, ℕ, Bool, true, false, if◌then◌else◌, not, max, List, [], ◌∷◌, ◌++◌, Option, Some, None, length, codes, inr, refl, ap, ◌∙◌, subst, sym}
-use Rattle.std.specs.Prelude.{option_map}
-use Rattle.std.specs.List.{flat_map}
+use Rattle.std.proofs.Common.{◌≡◌, ◌≤◌, ◌^◌, ℕ, Bool, true, false, if◌then◌else◌, not, max, List, [], ◌∷◌, ◌++◌, Option, Some, None, length, codes, inr, refl, ap, ◌∙◌, subst, sym, option_map, flat_map, bytes_eq}
 use Rattle.std.specs.Option.{option_and_then, option_map_or}
-use Rattle.std.specs.Str.{bytes_eq}
 use Rattle.std.proofs.lemmas.Slice.Eq.{bytes_eq-Decides}
 use Rattle.hir_input.specs.declared.ast.PathNode.{PathNode}
 use Rattle.hir_input.specs.declared.ast.PathNode.TheVariants.{Readable, Unreadable}
-use Rattle.hir_input.specs.declared.edition.EditionYear.{EditionYear}
+use Rattle.itemtree_commands.proofs.Common.{EditionYear, NodeView, NamedView, ItemView, ItemViews, plain_item, const_item, struct_item, bare_module, listed_module, use_item, extern_crate, bare_extern_block, listed_extern_block, impl_item, macro_call, macro_rules, asm_item, no_items, item_and, SyntaxView, source_file, syntax_view, CrateData, crate_view, shape_of, readable, module_node, head_of, kept, kept_all, IsTooLargeIn, kept_in, Lower, SourceTree, IsTreeRefused, IsTreeOf, wanted_under}
 use Rattle.hir_input.specs.Attr.{MetaView, path_meta, key_value_meta, token_tree_meta, cfg_meta, cfg_attr_meta, unsafe_meta}
 use Rattle.hir_input.specs.Cfg.{AtomView}
 use Rattle.hir_input.specs.Name.{is_among}
 use Rattle.hir_input.specs.Path.{ident_of}
-use Rattle.hir_input.specs.Syntax.{NodeView, NamedView, ItemView, ItemViews, plain_item, const_item, struct_item, bare_module, listed_module, use_item, extern_crate, bare_extern_block, listed_extern_block, impl_item, macro_call, macro_rules, asm_item, no_items, item_and, SyntaxView, source_file, syntax_view}
 use Rattle.item_tree_attrs.specs.Collected.{Collected, is_skipped, events, cut_events, collected_from}
-use Rattle.item_tree.specs.declared.crate_data.CrateData.{CrateData}
 use Rattle.item_tree.specs.declared.fault.LowerError.{LowerError}
 use Rattle.item_tree.specs.declared.visibility.RawVisibility.{RawVisibility}
 use Rattle.item_tree.specs.Constructor.{ctor_of}
-use Rattle.item_tree.specs.CrateView.{crate_view}
-use Rattle.item_tree.specs.Kept.{shape_of, readable, module_node, head_of, kept, kept_all}
 use Rattle.item_tree.specs.KeptUse.{alias_of, kept_tree}
-use Rattle.item_tree.specs.Lowered.{IsTooLargeIn, kept_in}
 use Rattle.item_tree.specs.Node.{Leaf, Head, Forest, leaf, parent, add, empty, extern_block}
 use Rattle.item_tree.specs.Node as node
 use Rattle.item_tree.specs.Size.{IsPassed, Sizes, if_some, item_written, items_written, most_written, sizes_of}
@@ -31,9 +23,6 @@ use Rattle.rust_leaves.specs.declared.wanted.Wanted.{Wanted}
 use Rattle.rust_leaves.specs.Clipped.{clipped_node, clipped_item, clipped_list}
 use Rattle.rust_items.specs.declared.source_file.SourceFile.{SourceFile}
 use Rattle.rust_items.specs.SourceFiles.{FileView, file_view, clipped_syntax, IsClippedFile}
-use Rattle.itemtree_commands.specs.declared.trees.SourceError.TheVariants.{Lower}
-use Rattle.itemtree_commands.specs.declared.trees.SourceTree.{SourceTree}
-use Rattle.itemtree_commands.specs.Trees.{IsTreeRefused, IsTreeOf, wanted_under}
 
 -- ---- attributes
 

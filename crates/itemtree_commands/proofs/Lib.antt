@@ -1,3 +1,4 @@
 pub mod Typed
 pub mod Refused
 pub mod BareTrees
+pub mod Common

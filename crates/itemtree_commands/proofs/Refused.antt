@@ -1,10 +1,7 @@
 -- Refusals.
 use Rattle.std.proofs.Common.{◌≤◌, ◌^◌, ℕ, List, length, inl, refl}
-use Rattle.hir_input.specs.declared.edition.EditionYear.{EditionYear}
-use Rattle.item_tree.specs.declared.crate_data.CrateData.{CrateData}
+use Rattle.itemtree_commands.proofs.Common.{EditionYear, CrateData, Lower, IsTreeRefused, IsTextUnread}
 use Rattle.item_tree.specs.declared.fault.LowerError.TheVariants.{OutOfMemory}
-use Rattle.itemtree_commands.specs.declared.trees.SourceError.TheVariants.{Lower}
-use Rattle.itemtree_commands.specs.Trees.{IsTreeRefused, IsTextUnread}
 
 -- memory runs out
 pub no_memory : (krate : CrateData) (skipped : List (List ℕ)) (edition : EditionYear) (text : List ℕ) → length text ≤ 2 ^ 32 → IsTreeRefused krate skipped edition text (Lower OutOfMemory)

@@ -1,17 +1,9 @@
 -- Where texts write items that have the same outline, their trees are equal.
-use Rattle.std.proofs.Common.{◌≡◌, ℕ, Bool, List, IsTrue, ap, ◌∙◌, sym}
-use Rattle.std.specs.Prelude.{◌↔◌, false}
-use Rattle.hir_input.specs.declared.edition.EditionYear.{EditionYear}
-use Rattle.hir_input.specs.Syntax.{SyntaxView}
+use Rattle.std.proofs.Common.{◌≡◌, ℕ, Bool, List, IsTrue, ap, ◌∙◌, sym, ◌↔◌, false}
+use Rattle.itemtree_commands.proofs.Common.{EditionYear, SyntaxView, crate_view, kept_syntax, kept_in, CrateData, SourceTree, IsTreeOf}
 use Rattle.hir_input.specs.Bodies.{without_bodies}
-use Rattle.item_tree.specs.CrateView.{crate_view}
-use Rattle.item_tree.specs.Kept.{kept_syntax}
-use Rattle.item_tree.specs.Lowered.{kept_in}
-use Rattle.item_tree.specs.declared.crate_data.CrateData.{CrateData}
 use Rattle.item_tree.proofs.BodyTexts.{kept_without_bodies}
 use Rattle.rust_written.proofs.Outlines.{typing_inside}
-use Rattle.itemtree_commands.specs.declared.trees.SourceTree.{SourceTree}
-use Rattle.itemtree_commands.specs.Trees.{IsTreeOf}
 use Rattle.rust_edits.proofs.Typing.Typing as bodies
 use Rattle.itemtree_commands.specs.Typing.{IsSameWhereTyped, IsSameInBody}
 

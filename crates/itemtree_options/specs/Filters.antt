@@ -1,7 +1,6 @@
 -- What of folders is taken.
-use Rattle.std.specs.Prelude.{ℕ, Bool, ◌-◌, ◌&&◌, ◌||◌, not, nat_eq, if◌then◌else◌, List, [], length, take, drop, codes}
+use Rattle.std.specs.Prelude.{ℕ, Bool, ◌-◌, ◌&&◌, ◌||◌, not, nat_eq, if◌then◌else◌, List, [], length, take, drop, codes, bytes_eq, chars}
 use Rattle.std.specs.List.{starts_with, ends_with, list_any}
-use Rattle.std.specs.Str.{bytes_eq, chars}
 use Rattle.itemtree_options.specs.Globs.{matches}
 
 -- what of folders is taken: hidden entries too, or not, and not what these globs stand for

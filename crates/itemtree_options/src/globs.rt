@@ -1,7 +1,6 @@
 //! Globs, which stand for paths.
 
-ghost use Rattle.std.specs.Prelude.{◌≡◌, ◌≢◌, ◌+◌, ◌&&◌, ◌||◌, ◌∷◌, [], length, IfOk};
-ghost use Rattle.std.specs.Str.{chars};
+ghost use Rattle.std.specs.Prelude.{◌≡◌, ◌≢◌, ◌+◌, ◌&&◌, ◌||◌, ◌∷◌, [], length, IfOk, chars};
 ghost use Rattle.itemtree_options.specs.Globs as spec;
 ghost use Rattle.itemtree_options.specs.Inner as inner;
 

@@ -1,10 +1,8 @@
 -- Positions from place to place.
-use Rattle.std.proofs.Common.{◌≡◌, ◌≢◌, ℕ, Bool, true, false, cond, ⊎_elim, ◌+◌, ◌-◌, ◌≤◌, ◌==◌, List, [], ◌∷◌, ◌++◌, sym, take, drop, length, length-take, length-take-le, length-drop, min, refl, ap, ◌∙◌, arith, rules}
+use Rattle.std.proofs.Common.{◌≡◌, ◌≢◌, ℕ, Bool, true, false, cond, ⊎_elim, ◌+◌, ◌-◌, ◌≤◌, ◌==◌, List, [], ◌∷◌, ◌++◌, sym, take, drop, length, length-take, length-take-le, length-drop, min, refl, ap, ◌∙◌, arith, rules, count_by, if◌then◌else◌, slice_index_or}
 use Rattle.std.proofs.lemmas.List.{take_min, take_all, take_more, take_rest}
 use Rattle.std.proofs.lemmas.List.Sums.{count_by-le-length, sum_by-take-drop}
 use Rattle.std.proofs.Math.Seq.{take-add}
-use Rattle.std.specs.List.{count_by}
-use Rattle.std.specs.Prelude.{if◌then◌else◌, slice_index_or}
 use Rattle.std.proofs.lemmas.Bool.{cases_Bool, ne_eqb}
 use Rattle.std.proofs.lemmas.List.Recursion.{is_count_by}
 use Rattle.line_index.specs.declared.Position.{Position}

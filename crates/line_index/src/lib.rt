@@ -3,8 +3,7 @@
 
 mod laws;
 
-ghost use Rattle.std.specs.Prelude.{◌≡◌, ◌≤◌, ◌<◌, ◌+◌, ◌^◌, ◌==◌, drop, length, List, ℕ};
-ghost use Rattle.std.specs.List.{count_by};
+ghost use Rattle.std.specs.Prelude.{◌≡◌, ◌≤◌, ◌<◌, ◌+◌, ◌^◌, ◌==◌, drop, length, List, ℕ, count_by};
 ghost use Rattle.line_index.specs.Positions as spec;
 
 use std::marker::Model;

@@ -2,3 +2,4 @@ pub mod Begun
 pub mod Lines
 pub mod Parts
 pub mod Served
+pub mod Common

@@ -1,13 +1,8 @@
 -- Histories of a service, one after another.
 use Rattle.std.proofs.Common.{◌≡◌, ◌⊎◌, inr, ◌<◌, ℕ, List, [], ◌∷◌, ◌++◌, Option, OnSome, Result, Ok, Err, length, refl, sym, ap, subst, ◌∙◌, append_assoc}
-use Rattle.std.proofs.KnownBytes.{Consumes-trans, Appends-trans}
-use Rattle.std.specs.Io.KnownBytes.{Consumes, Appends, IsAtEnd}
+use Rattle.line_stream.proofs.Common.{Consumes-trans, Appends-trans, Consumes, Appends, IsAtEnd, Line, lines, IsWhole, HasNoFeed, Told, line_told, IsToldOf, IsServed, IsUnwritten, IsBroken, HasServed, HasAnswered, TakesBeginning}
 use Rattle.line_stream.specs.declared.error.StreamError.{StreamError}
-use Rattle.line_stream.specs.declared.line.Line.{Line}
-use Rattle.line_stream.specs.Lines.{lines, IsWhole, HasNoFeed, Told, line_told, IsToldOf}
 use Rattle.line_stream.specs.Answers.{Answering}
-use Rattle.line_stream.specs.Served.{IsServed, IsUnwritten, IsBroken, HasServed}
-use Rattle.line_stream.specs.Inner.{HasAnswered, TakesBeginning}
 use Rattle.line_stream.proofs.Lines.{lines_fed, lines_last, whole_more}
 use Rattle.line_stream.proofs.Parts.{at_end}
 

@@ -1,7 +1,7 @@
 -- Data that does not nest past a depth nests at most so deep.
 use Rattle.std.proofs.Common.{◌≡◌, ◌<◌, ◌≤◌, ℕ, zero, suc, max, Bool, true, false, ◌||◌, refl, arith}
 use Rattle.serde_json.specs.Data.{Data, null, boolean, number, string, array, object, Items, no_items, item, Members, no_members, member, depth, items_depth, members_depth}
-use Rattle.request_writer.specs.Inner.{nests_past, items_nest_past, members_nest_past}
+use Rattle.request_writer.proofs.Common.{nests_past, items_nest_past, members_nest_past}
 
 first_false : (a b : Bool) → (a || b) ≡ false → a ≡ false
 first_false false b h = refl

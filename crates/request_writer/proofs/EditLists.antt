@@ -1,14 +1,10 @@
 -- The edits of files, made one by one.
 use Rattle.std.proofs.Common.{◌≡◌, ◌<◌, ◌≤◌, ◌+◌, ℕ, List, [], ◌∷◌, ◌++◌, map, drop, length, get_or, Bool, Option, Some, ap, ◌∙◌}
-use Rattle.std.proofs.lemmas.List.{drop_more, drop_all}
+use Rattle.request_writer.proofs.Common.{drop_more, drop_all, syntax_view, joined, after_all, joined_push, led, edit_data, edits_data}
 use Rattle.serde_json.specs.Data.{Items}
 use Rattle.serde_json.specs.View.{view, items_view}
 use Rattle.serde_json.specs.declared.value.Value.{Value}
 use Rattle.hir_input.specs.declared.ast.Syntax.{Syntax}
-use Rattle.hir_input.specs.Syntax.{syntax_view}
-use Rattle.hir_input_writer.specs.Lists.{joined}
-use Rattle.hir_input_writer.proofs.Lists.{after_all, joined_push, led}
-use Rattle.request_writer.specs.Written.{edit_data, edits_data}
 
 -- one more is done
 pub edit_more : (bodies : Bool) (o : Option Items) (files : List Syntax) (i : ℕ) (x : Syntax) (vs : List Value) (v : Value)

@@ -3,3 +3,4 @@ pub mod Requests
 pub mod EditLists
 pub mod Texts
 pub mod More
+pub mod Common

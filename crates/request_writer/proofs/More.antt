@@ -1,9 +1,6 @@
 -- One more text is read.
 use Rattle.std.proofs.Common.{◌≡◌, ◌<◌, ◌+◌, ℕ, List, [], ◌∷◌, ◌++◌, length, map, take, get_or, ap, ◌∙◌, sym, subst}
-use Rattle.std.proofs.lemmas.List.{map_more}
-use Rattle.hir_input.specs.declared.edition.EditionYear.{EditionYear}
-use Rattle.hir_input.specs.Syntax.{SyntaxView}
-use Rattle.request_writer.specs.RustTexts.{IsReadOf, AreRead}
+use Rattle.request_writer.proofs.Common.{map_more, EditionYear, SyntaxView, IsReadOf, AreRead}
 
 one_more : (edition : EditionYear) (texts : List (List ℕ)) (ss : List SyntaxView) (text : List ℕ) (s : SyntaxView) → AreRead edition texts ss → IsReadOf edition text s → AreRead edition (texts ++ text ∷ []) (ss ++ s ∷ [])
 one_more edition [] [] text s h r = (r, tt)

@@ -3,20 +3,15 @@ use Rattle.std.proofs.Common.{◌≡◌, ◌+◌, ◌^◌, ℕ, List, [], ◌∷
 use Rattle.std.proofs.lemmas.Bool.Decides.{nat_tests}
 use Rattle.serde_json.specs.Data.{Data, null, boolean, number, unsigned, string, array, object, Items}
 use Rattle.serde_json.specs.Written.{has_float, items_have_float}
-use Rattle.hir_input.specs.declared.edition.EditionYear.{EditionYear}
+use Rattle.request_writer.proofs.Common.{EditionYear, AtomView, SyntaxView, right, wrong, atom_data, each_data, name_data, whole_data, Show, request, request_parts, block_object, crate_object, edit_data, edition_data, edition_object, edits_data, file_object, show_word, place_show, request_data, request_object, show_data}
 use Rattle.hir_input.specs.declared.edition.EditionYear.TheVariants.{E2015, E2018, E2021, E2024}
-use Rattle.hir_input.specs.Cfg.{AtomView}
-use Rattle.hir_input.specs.Syntax.{SyntaxView}
-use Rattle.hir_input_json.specs.Reading.{right, wrong}
 use Rattle.hir_input_json.specs.Cfgs.{atom}
 use Rattle.hir_input_json.specs.Editions.{EditionView, edition, year}
 use Rattle.hir_input_json.specs.Forms.{below, each, field, identifier_form, unless_null, whole_form}
 use Rattle.hir_input_json.specs.Syntaxes.{syntax}
-use Rattle.hir_input_writer.specs.Cfgs.{atom_data}
 use Rattle.hir_input_writer.specs.Held.{Holds, HoldEach}
 use Rattle.hir_input_writer.specs.Laws.{IsReadAs, kept_bodies}
 use Rattle.hir_input_writer.specs.Literals.{year_number}
-use Rattle.hir_input_writer.specs.Parts.{each_data, name_data, whole_data}
 use Rattle.hir_input_writer.specs.Syntaxes.{syntax_data}
 use Rattle.hir_input_writer.proofs.CfgLaws.{atom_law}
 use Rattle.hir_input_writer.proofs.Held.{bind, each_law, mapped, name_law, whole_law}
@@ -25,15 +20,12 @@ use Rattle.item_tree.specs.CrateView.{CrateView}
 use Rattle.item_tree_db.specs.declared.place.Place.{Place}
 use Rattle.item_tree_db.specs.declared.place.Place.TheVariants.{File, Block}
 use Rattle.item_tree_db.specs.Edits.{set}
-use Rattle.item_tree_request.specs.declared.request.show.Show.{Show}
 use Rattle.item_tree_request.specs.declared.request.show.Show.TheVariants.{OfTree, Changed}
 use Rattle.item_tree_request.specs.declared.request.show.ShowKind.{ShowKind}
 use Rattle.item_tree_request.specs.declared.request.show.ShowKind.TheVariants.{Page, Tree, Imports}
 use Rattle.item_tree_request.specs.Edits.{crate_data, edit}
-use Rattle.item_tree_request.specs.Requests.{request, request_parts}
 use Rattle.item_tree_request.specs.Shows.{show}
 use Rattle.request_writer.specs.Meant.{files_set, meant}
-use Rattle.request_writer.specs.Written.{block_object, crate_object, edit_data, edition_data, edition_object, edits_data, file_object, show_word, place_show, request_data, request_object, show_data}
 
 -- ---- editions
 

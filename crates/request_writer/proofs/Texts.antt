@@ -2,11 +2,9 @@
 use Rattle.std.proofs.Common.{◌≡◌, ◌≤◌, ◌<◌, ℕ, List, Bool, true, false, IsUtf8, Option, Some, Result, Ok, Err, IfErr, IfOk, String, Global, string_bytes, MatchResult, ◌∙◌, sym}
 use Rattle.serde_json.specs.Data.{Data, depth}
 use Rattle.serde_json.specs.Read.{max_depth, read}
-use Rattle.hir_input_json.specs.Reading.{right}
-use Rattle.item_tree_request.specs.Requests.{IsJsonText, IsRequest, Request, request}
+use Rattle.request_writer.proofs.Common.{right, IsJsonText, IsRequest, Request, request, nests_past}
 use Rattle.request_writer.specs.declared.request.RequestFault.{RequestFault}
 use Rattle.request_writer.specs.declared.request.RequestFault.TheVariants.{NoForm, TooDeep, OutOfMemory}
-use Rattle.request_writer.specs.Inner.{nests_past}
 use Rattle.request_writer.specs.Unwritten.{IsNoText, IsDataUnwritten}
 use Rattle.request_writer.proofs.Depths.{past, within}
 

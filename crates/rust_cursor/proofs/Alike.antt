@@ -1,6 +1,5 @@
 -- Readers of two texts that may go into the braces: until one does, what they read is alike, and what is left stands beside.
-use Rattle.rust_cursor.specs.Tokens.{Tokens}
-use Rattle.rust_cursor.specs.Beside.{Bodies, Beside}
+use Rattle.rust_cursor.proofs.Common.{Tokens, Bodies, Beside}
 use Rattle.rust_cursor.proofs.Until.{Gone}
 
 -- what is read is alike, and what is left stands beside

@@ -1,31 +1,11 @@
 -- The `}` of the braces around: what reads in braces and stays in them leaves it where it is.
-use Rattle.std.proofs.Common.{◌≡◌, ◌≢◌, ◌≤◌, ◌<◌, ℕ, zero, suc, ◌==◌, ◌||◌, ◌&&◌, Bool, true, false, Option, None, List, [], ◌∷◌, length, refl, ap, ◌∙◌, sym, subst, arith}
-use Rattle.std.specs.Prelude.{if◌then◌else◌, not}
-use Rattle.std.specs.Str.{bytes_eq}
-use Rattle.std.proofs.lemmas.Bool.{eqb-true, or_parts}
-use Rattle.std.proofs.lemmas.Bool.Decides.{nat_tests}
-use Rattle.hir_input.specs.declared.edition.EditionYear.{EditionYear}
-use Rattle.rust_lexer.specs.declared.kind.TokenKind.{TokenKind}
+use Rattle.std.proofs.Common.{◌≡◌, ◌≢◌, ◌≤◌, ◌<◌, ℕ, zero, suc, ◌==◌, ◌||◌, ◌&&◌, Bool, true, false, Option, None, List, [], ◌∷◌, length, refl, ap, ◌∙◌, sym, subst, arith, if◌then◌else◌, not, bytes_eq, filter}
+use Rattle.rust_cursor.proofs.Common.{eqb-true, or_parts, nat_tests, EditionYear, TokenKind, Piece, symbol_of, Nest, Reach, All-head, All-tail, is_significant, tokens, Tokens, tokens_of, Reader, opens, closes, is_open, is_close, word_by, by_first, rest, symbol, word, is_empty, is_at_open, is_at_end, bumped, is_glued, is_pair, eat_pair, opens_other, closes_other, braces_behind, others_behind, is_flat, is_mark, nest_behind, behind_closing, is_closing, closing, to_closing, behind_closed, behind_tree, beyond, turns_from, turns, elements, stops, ends, opened_behind, more, taking, taken, tree_text, closes_around, is_reached, is_closed, reaching, reached, behind_angles}
 use Rattle.rust_lexer.specs.declared.kind.TokenKind.TheVariants as kinds
-use Rattle.rust_lexer.specs.Piece.{Piece}
-use Rattle.rust_lexer.specs.Symbol.{symbol_of}
 use Rattle.rust_cursor.specs.declared.cursor.nest.Before.TheVariants as befores
-use Rattle.rust_cursor.specs.declared.cursor.nest.Nest.{Nest}
-use Rattle.rust_cursor.specs.declared.cursor.generics.Reach.{Reach}
 use Rattle.rust_cursor.specs.declared.cursor.generics.Reach.TheVariants as reaches
 use Rattle.rust_cursor.specs.declared.cursor.texts.Extent.TheVariants as extents
-use Rattle.std.specs.List.{filter}
-use Rattle.std.proofs.lemmas.List.Elements.{All-head, All-tail}
-use Rattle.rust_lexer.specs.Tokens.{is_significant, tokens}
 use Rattle.rust_lexer.proofs.Braces.{is_open_kind, is_close_kind, IsBracket, AreBrackets, tokens_brackets}
-use Rattle.rust_cursor.specs.Tokens.{Tokens, tokens_of}
-use Rattle.rust_cursor.specs.Reader.{Reader}
-use Rattle.rust_cursor.specs.Words.{opens, closes, is_open, is_close, word_by, by_first, rest, symbol, word, is_empty, is_at_open, is_at_end, bumped, is_glued, is_pair, eat_pair}
-use Rattle.rust_cursor.specs.Nests.{opens_other, closes_other, braces_behind, others_behind, is_flat, is_mark, nest_behind}
-use Rattle.rust_cursor.specs.Brackets.{behind_closing, is_closing, closing, to_closing, behind_closed, behind_tree}
-use Rattle.rust_cursor.specs.Elements.{beyond, turns_from, turns, elements}
-use Rattle.rust_cursor.specs.Extents.{stops, ends, opened_behind, more, taking, taken, tree_text}
-use Rattle.rust_cursor.specs.Angles.{closes_around, is_reached, is_closed, reaching, reached, behind_angles}
 use Rattle.rust_cursor.proofs.Leads.{behind_closing_leads, bumped_leads, end_some, closing_leads, LeadsTo, here, further, through, Forwards, when, from_last, symbol_some, beyond_leads, stops_empty, reached_empty, closing_empty}
 use Rattle.rust_cursor.proofs.Steps.{closing_stop, closing_more}
 use Rattle.rust_cursor.proofs.Scans.{taking_stop, taking_end, taking_more}

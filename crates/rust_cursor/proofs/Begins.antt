@@ -1,16 +1,7 @@
 -- Where no item begins.
-use Rattle.std.proofs.Common.{◌≡◌, ◌≢◌, ◌==◌, ◌&&◌, ◌||◌, ℕ, Bool, true, false, List, refl, sym, ap, ◌∙◌, arith}
-use Rattle.std.specs.Prelude.{if◌then◌else◌, codes}
-use Rattle.std.specs.Str.{bytes_eq}
-use Rattle.std.proofs.lemmas.Bool.{false_from_ne_true}
-use Rattle.std.proofs.lemmas.Bool.Decides.{nat_tests}
-use Rattle.std.proofs.lemmas.Slice.Eq.{bytes_eq-Decides}
-use Rattle.rust_cursor.specs.declared.cursor.nest.Before.{Before}
+use Rattle.std.proofs.Common.{◌≡◌, ◌≢◌, ◌==◌, ◌&&◌, ◌||◌, ℕ, Bool, true, false, List, refl, sym, ap, ◌∙◌, arith, if◌then◌else◌, codes, bytes_eq}
+use Rattle.rust_cursor.proofs.Common.{false_from_ne_true, nat_tests, bytes_eq-Decides, Before, Nest, Tokens, symbol, word, begins, begins_behind, begins_impl_or_const, begins_item, begins_within, leads_item}
 use Rattle.rust_cursor.specs.declared.cursor.nest.Before.TheVariants as befores
-use Rattle.rust_cursor.specs.declared.cursor.nest.Nest.{Nest}
-use Rattle.rust_cursor.specs.Tokens.{Tokens}
-use Rattle.rust_cursor.specs.Words.{symbol, word}
-use Rattle.rust_cursor.specs.Extents.{begins, begins_behind, begins_impl_or_const, begins_item, begins_within, leads_item}
 
 no_mark : (c : ℕ) → c ≢ 35 → (c == 35) ≡ false
 no_mark c h = grind (arith, nat_tests)

@@ -1,14 +1,6 @@
 -- Braces are opaque: a walk over tokens stands behind them as it stood before them, whatever matches in them.
 use Rattle.std.proofs.Common.{◌≡◌, ◌≢◌, ℕ, suc, ◌-◌, ◌==◌, true, false, Option, Some, List, [], ◌∷◌, ◌++◌, refl, ap, ◌∙◌, sym, subst, arith}
-use Rattle.std.proofs.lemmas.Bool.Decides.{nat_tests}
-use Rattle.hir_input.specs.declared.edition.EditionYear.{EditionYear}
-use Rattle.rust_lexer.specs.Piece.{Piece}
-use Rattle.rust_lexer.specs.Symbol.{symbol_of}
-use Rattle.rust_lexer.specs.Alone.{braces_from}
-use Rattle.rust_cursor.specs.declared.cursor.nest.Nest.{Nest}
-use Rattle.rust_cursor.specs.Tokens.{Tokens, end_of}
-use Rattle.rust_cursor.specs.Words.{symbol, is_empty, bumped}
-use Rattle.rust_cursor.specs.Nests.{braces_behind, nest_inside, nest_outside, nest_behind}
+use Rattle.rust_cursor.proofs.Common.{nat_tests, EditionYear, Piece, symbol_of, braces_from, Nest, Tokens, end_of, symbol, is_empty, bumped, braces_behind, nest_inside, nest_outside, nest_behind}
 use Rattle.rust_cursor.proofs.Leads.{when}
 
 -- these tokens, behind a place

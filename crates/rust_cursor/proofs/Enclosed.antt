@@ -1,16 +1,8 @@
 -- What is left of an item stands behind the `}` of the braces that it ends with.
-use Rattle.std.proofs.Common.{◌≡◌, ℕ, suc, ◌+◌, ◌-◌, ◌==◌, Bool, true, false, Option, Some, None, List, [], ap, ◌∙◌, sym, subst, arith}
-use Rattle.std.specs.Prelude.{if◌then◌else◌}
-use Rattle.std.proofs.lemmas.Bool.{eqb-true}
-use Rattle.std.proofs.lemmas.Bool.Decides.{nat_tests}
-use Rattle.rust_cursor.specs.declared.cursor.nest.Before.{Before}
+use Rattle.std.proofs.Common.{◌≡◌, ℕ, suc, ◌+◌, ◌-◌, ◌==◌, Bool, true, false, Option, Some, None, List, [], ap, ◌∙◌, sym, subst, arith, if◌then◌else◌}
+use Rattle.rust_cursor.proofs.Common.{eqb-true, nat_tests, Before, Nest, Tokens, symbol, is_empty, bumped, braces_behind, is_mark, nest_behind, ExcerptRead, stops, ends, opened_behind, block_at, taking, taken, item_rest, impl_rest}
 use Rattle.rust_cursor.specs.declared.cursor.nest.Before.TheVariants as befores
-use Rattle.rust_cursor.specs.declared.cursor.nest.Nest.{Nest}
 use Rattle.rust_cursor.specs.declared.cursor.texts.Extent.TheVariants as extents
-use Rattle.rust_cursor.specs.Tokens.{Tokens}
-use Rattle.rust_cursor.specs.Words.{symbol, is_empty, bumped}
-use Rattle.rust_cursor.specs.Nests.{braces_behind, is_mark, nest_behind}
-use Rattle.rust_cursor.specs.Extents.{ExcerptRead, stops, ends, opened_behind, block_at, taking, taken, item_rest, impl_rest}
 use Rattle.rust_cursor.proofs.Leads.{LeadsTo, here, further, when, from_last, HasBlock, no_block, block, taken_block, stops_empty}
 use Rattle.rust_cursor.proofs.Steps.{closing_stop}
 use Rattle.rust_cursor.proofs.Scans.{taking_stop, taking_end, taking_more}

@@ -1,13 +1,7 @@
 -- How many tokens there are at most.
-use Rattle.std.proofs.Common.{◌≡◌, ◌<◌, ◌≤◌, ◌+◌, ℕ, List, [], ◌∷◌, ◌++◌, length, All, ap, arith, length-append}
-use Rattle.std.specs.List.{filter}
-use Rattle.std.proofs.lemmas.List.Elements.{All-head, All-tail}
+use Rattle.std.proofs.Common.{◌≡◌, ◌<◌, ◌≤◌, ◌+◌, ℕ, List, [], ◌∷◌, ◌++◌, length, All, ap, arith, length-append, filter}
+use Rattle.rust_cursor.proofs.Common.{All-head, All-tail, EditionYear, Piece, tokens, is_significant, text_of, tokens_lossless, tokens_not_empty, tokens_of}
 use Rattle.std.proofs.lemmas.List.Sums.{length-filter, count_by-le-length}
-use Rattle.hir_input.specs.declared.edition.EditionYear.{EditionYear}
-use Rattle.rust_lexer.specs.Piece.{Piece}
-use Rattle.rust_lexer.specs.Tokens.{tokens, is_significant, text_of}
-use Rattle.rust_lexer.proofs.Laws.{tokens_lossless, tokens_not_empty}
-use Rattle.rust_cursor.specs.Tokens.{tokens_of}
 
 few_of : (ts : List Piece) → All (λ t. 0 < length t.text) ts → length ts ≤ length (text_of ts)
 few_of [] h = omega arith

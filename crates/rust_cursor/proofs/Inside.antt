@@ -1,13 +1,6 @@
 -- Steps in braces.
-use Rattle.std.proofs.Common.{◌≡◌, ◌+◌, ◌-◌, ◌==◌, ◌&&◌, ℕ, Bool, true, false, not, Option, refl, ap, ◌∙◌, arith}
-use Rattle.std.specs.Prelude.{if◌then◌else◌}
-use Rattle.std.proofs.lemmas.Bool.Decides.{nat_tests}
-use Rattle.rust_cursor.specs.declared.cursor.nest.Nest.{Nest}
-use Rattle.rust_cursor.specs.declared.cursor.texts.Extent.{Extent}
-use Rattle.rust_cursor.specs.Tokens.{Tokens}
-use Rattle.rust_cursor.specs.Words.{symbol, is_empty}
-use Rattle.rust_cursor.specs.Nests.{is_mark, nest_inside, nest_behind}
-use Rattle.rust_cursor.specs.Extents.{stops, ends, opened_behind}
+use Rattle.std.proofs.Common.{◌≡◌, ◌+◌, ◌-◌, ◌==◌, ◌&&◌, ℕ, Bool, true, false, not, Option, refl, ap, ◌∙◌, arith, if◌then◌else◌}
+use Rattle.rust_cursor.proofs.Common.{nat_tests, Nest, Extent, Tokens, symbol, is_empty, is_mark, nest_inside, nest_behind, stops, ends, opened_behind}
 
 pub record AreFalse (a b c : Bool) : Type 0 where
   pub first : a ≡ false

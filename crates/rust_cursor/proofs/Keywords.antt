@@ -1,11 +1,8 @@
 -- What a test tells of words that are among those that pass it.
-use Rattle.std.proofs.Common.{◌≡◌, ℕ, Bool, false, List, [], ◌∷◌, refl, sym, ap, ◌∙◌}
-use Rattle.std.specs.Prelude.{codes}
+use Rattle.std.proofs.Common.{◌≡◌, ℕ, Bool, false, List, [], ◌∷◌, refl, sym, ap, ◌∙◌, codes, bytes_eq}
 use Rattle.std.specs.List.{filter, list_any}
-use Rattle.std.specs.Str.{bytes_eq}
 use Rattle.std.proofs.lemmas.Map.Views.{any-filter_same}
-use Rattle.std.proofs.lemmas.Slice.Eq.{bytes_eq-Decides}
-use Rattle.rust_cursor.specs.Nests.{leads_on, may_lead_on}
+use Rattle.rust_cursor.proofs.Common.{bytes_eq-Decides, leads_on, may_lead_on}
 
 -- a word that does not pass a test is none of those that do
 pub none_passed : (test : List ℕ → Bool) (w : List ℕ) (ks : List (List ℕ)) → test w ≡ false → list_any (bytes_eq w) (filter test ks) ≡ false

@@ -1,13 +1,6 @@
 -- Where tokens stand.
-use Rattle.std.proofs.Common.{◌≡◌, ◌<◌, ◌≤◌, ◌+◌, ℕ, true, false, List, [], ◌∷◌, ◌++◌, length, ap, arith, length-append}
-use Rattle.std.specs.List.{filter}
-use Rattle.std.proofs.lemmas.List.Elements.{All-head, All-tail}
-use Rattle.hir_input.specs.declared.edition.EditionYear.{EditionYear}
-use Rattle.rust_lexer.specs.Piece.{Piece}
-use Rattle.rust_lexer.specs.Tokens.{tokens, is_significant, text_of, AreInPlace}
-use Rattle.rust_lexer.proofs.Laws.{AreSome, tokens_lossless, tokens_placed, tokens_not_empty}
-use Rattle.rust_cursor.specs.Tokens.{Tokens, tokens_of, end_of}
-use Rattle.rust_cursor.specs.Words.{by_first, rest, at, is_empty, bumped}
+use Rattle.std.proofs.Common.{◌≡◌, ◌<◌, ◌≤◌, ◌+◌, ℕ, true, false, List, [], ◌∷◌, ◌++◌, length, ap, arith, length-append, filter}
+use Rattle.rust_cursor.proofs.Common.{All-head, All-tail, EditionYear, Piece, tokens, is_significant, text_of, AreInPlace, AreSome, tokens_lossless, tokens_placed, tokens_not_empty, Tokens, tokens_of, end_of, by_first, rest, at, is_empty, bumped}
 use Rattle.rust_cursor.proofs.Leads.{LeadsTo, here, further, when, Takes, takes}
 
 -- none is empty, each begins behind the one before it, and the first behind a place; the last ends before another

@@ -1,22 +1,7 @@
 -- What is left behind tokens that are taken from the front.
-use Rattle.std.proofs.Common.{◌≡◌, ◌<◌, ◌==◌, ◌&&◌, ℕ, zero, suc, Bool, true, false, Option, Some, None, List, [], ◌∷◌, length, ⊎_elim, refl, arith}
-use Rattle.std.proofs.lemmas.Bool.{cases_Bool, eqb-true}
-use Rattle.std.specs.Prelude.{if◌then◌else◌}
-use Rattle.rust_lexer.specs.Piece.{Piece}
-use Rattle.rust_lexer.specs.Symbol.{symbol_of}
-use Rattle.rust_cursor.specs.declared.cursor.nest.Before.{Before}
-use Rattle.rust_cursor.specs.declared.cursor.nest.Nest.{Nest}
-use Rattle.rust_cursor.specs.declared.cursor.generics.Reach.{Reach}
+use Rattle.std.proofs.Common.{◌≡◌, ◌<◌, ◌==◌, ◌&&◌, ℕ, zero, suc, Bool, true, false, Option, Some, None, List, [], ◌∷◌, length, ⊎_elim, refl, arith, if◌then◌else◌}
+use Rattle.rust_cursor.proofs.Common.{cases_Bool, eqb-true, Piece, symbol_of, Before, Nest, Reach, Extent, Tokens, Reader, is_close, word_by, by_first, symbol, word, is_empty, is_at_open, is_at_end, bumped, taken_if, eat, eat_word, is_pair, eat_pair, begun, flat, is_mark, nest_behind, is_closing, closing, to_closing, behind_closing, behind_closed, behind_tree, beyond, turns_from, turns, stops, ends, opened_behind, block_at, taking, taken, is_reached, is_closed, reaching, reached, behind_angles}
 use Rattle.rust_cursor.specs.declared.cursor.generics.Reach.TheVariants as reaches
-use Rattle.rust_cursor.specs.declared.cursor.texts.Extent.{Extent}
-use Rattle.rust_cursor.specs.Tokens.{Tokens}
-use Rattle.rust_cursor.specs.Reader.{Reader}
-use Rattle.rust_cursor.specs.Words.{is_close, word_by, by_first, symbol, word, is_empty, is_at_open, is_at_end, bumped, taken_if, eat, eat_word, is_pair, eat_pair}
-use Rattle.rust_cursor.specs.Nests.{begun, flat, is_mark, nest_behind}
-use Rattle.rust_cursor.specs.Brackets.{is_closing, closing, to_closing, behind_closing, behind_closed, behind_tree}
-use Rattle.rust_cursor.specs.Elements.{beyond, turns_from, turns}
-use Rattle.rust_cursor.specs.Extents.{stops, ends, opened_behind, block_at, taking, taken}
-use Rattle.rust_cursor.specs.Angles.{is_reached, is_closed, reaching, reached, behind_angles}
 use Rattle.rust_cursor.proofs.Nesting.{shorter}
 use Rattle.rust_cursor.proofs.Steps.{closing_stop, closing_more}
 use Rattle.rust_cursor.proofs.Scans.{taking_stop, taking_end, taking_more}

@@ -1,13 +1,6 @@
 -- Places from which spans are counted: they stand before the braces or behind them, as what is left does.
-use Rattle.std.proofs.Common.{◌≡◌, ◌≤◌, ◌<◌, ℕ, ◌+◌, ◌-◌, ◌==◌, false, Option, List, [], ◌∷◌, ◌++◌, length, refl, ap, subst, arith, map}
-use Rattle.std.specs.Prelude.{nat_lt}
-use Rattle.std.proofs.lemmas.Bool.Decides.{nat_tests}
-use Rattle.rust_lexer.specs.Piece.{Piece}
-use Rattle.rust_lexer.specs.Symbol.{symbol_of}
-use Rattle.rust_lexer.specs.Alone.{moved}
-use Rattle.rust_cursor.specs.Tokens.{Tokens, end_of}
-use Rattle.rust_cursor.specs.Words.{symbol, at, bumped}
-use Rattle.rust_cursor.specs.Beside.{Bodies, AreBefore, AreOpen, Beside, ahead, behind}
+use Rattle.std.proofs.Common.{◌≡◌, ◌≤◌, ◌<◌, ℕ, ◌+◌, ◌-◌, ◌==◌, false, Option, List, [], ◌∷◌, ◌++◌, length, refl, ap, subst, arith, map, nat_lt}
+use Rattle.rust_cursor.proofs.Common.{nat_tests, Piece, symbol_of, moved, Tokens, end_of, symbol, at, bumped, Bodies, AreBefore, AreOpen, Beside, ahead, behind}
 use Rattle.rust_cursor.proofs.Leads.{LeadsTo, here, further, when, bumped_leads}
 use Rattle.rust_cursor.proofs.Braced.{tokens_at, bumped_at}
 use Rattle.rust_cursor.proofs.Parting.{Onward, into, on}

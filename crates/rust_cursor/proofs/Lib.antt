@@ -34,3 +34,4 @@ pub mod NearUntil
 pub mod NearTexts
 pub mod Enclosed
 pub mod Keywords
+pub mod Common

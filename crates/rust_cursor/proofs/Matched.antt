@@ -1,15 +1,6 @@
 -- Where brackets match, what is left behind a tree is left behind the matching bracket.
-use Rattle.std.proofs.Common.{◌≡◌, ◌==◌, ◌&&◌, ◌+◌, ℕ, Bool, true, false, not, Option, Some, None, List, [], ◌∷◌, ◌++◌, refl, sym, ap, ◌∙◌, arith, if◌then◌else◌}
-use Rattle.std.specs.Prelude.{IfSome}
-use Rattle.std.proofs.lemmas.Bool.{eqb-true}
-use Rattle.std.proofs.lemmas.Bool.Decides.{nat_tests}
-use Rattle.rust_lexer.specs.Piece.{Piece}
-use Rattle.rust_lexer.specs.Symbol.{symbol_of}
-use Rattle.rust_cursor.specs.declared.cursor.nest.Nest.{Nest}
-use Rattle.rust_cursor.specs.Tokens.{Tokens}
-use Rattle.rust_cursor.specs.Words.{by_first, rest, symbol, is_empty, is_at_open, bumped}
-use Rattle.rust_cursor.specs.Nests.{flat, opens_other, closes_other, others_behind, nest_behind}
-use Rattle.rust_cursor.specs.Brackets.{is_closing, closing, to_closing, behind_closing, behind_closed, behind_tree}
+use Rattle.std.proofs.Common.{◌≡◌, ◌==◌, ◌&&◌, ◌+◌, ℕ, Bool, true, false, not, Option, Some, None, List, [], ◌∷◌, ◌++◌, refl, sym, ap, ◌∙◌, arith, if◌then◌else◌, IfSome}
+use Rattle.rust_cursor.proofs.Common.{eqb-true, nat_tests, Piece, symbol_of, Nest, Tokens, by_first, rest, symbol, is_empty, is_at_open, bumped, flat, opens_other, closes_other, others_behind, nest_behind, is_closing, closing, to_closing, behind_closing, behind_closed, behind_tree}
 use Rattle.rust_cursor.specs.Matched.{closer, is_closer, opened, behind_matching, behind_match}
 use Rattle.rust_cursor.proofs.Leads.{when}
 use Rattle.rust_cursor.proofs.Steps.{closing_stop, closing_more}

@@ -1,12 +1,6 @@
 -- Tokens of a text that ends with a `;` or a `}`, and the same tokens in a text that goes on behind it; or of any text, and the same tokens at the end of a longer one.
 use Rattle.std.proofs.Common.{◌≡◌, ◌≤◌, ◌<◌, ℕ, ◌+◌, ◌==◌, ◌||◌, Bool, true, false, Option, List, [], ◌∷◌, ◌++◌, length, refl, ap, ◌∙◌, sym, subst, arith, map, length-append}
-use Rattle.std.proofs.lemmas.Bool.Decides.{nat_tests}
-use Rattle.hir_input.specs.declared.edition.EditionYear.{EditionYear}
-use Rattle.rust_lexer.specs.Alone.{moved}
-use Rattle.rust_lexer.specs.Piece.{Piece}
-use Rattle.rust_lexer.specs.Symbol.{symbol_of}
-use Rattle.rust_cursor.specs.Tokens.{Tokens, end_of}
-use Rattle.rust_cursor.specs.Words.{by_first, rest, symbol, at, bumped, is_glued}
+use Rattle.rust_cursor.proofs.Common.{nat_tests, EditionYear, moved, Piece, symbol_of, Tokens, end_of, by_first, rest, symbol, at, bumped, is_glued}
 use Rattle.rust_cursor.proofs.Leads.{LeadsTo, here, further, when}
 use Rattle.rust_cursor.proofs.Parting.{Onward, into, on}
 use Rattle.rust_cursor.proofs.Twins.{Twins, is_edge}

@@ -1,14 +1,7 @@
 -- Walks over the tokens of a text that ends with a `;` or a `}`, and over those of a longer one: they come to the same place, or the one over the longer text passes the end.
 use Rattle.std.proofs.Common.{ℕ, ◌==◌, ap, ◌∙◌, sym}
-use Rattle.rust_cursor.specs.declared.cursor.generics.Reach.{Reach}
+use Rattle.rust_cursor.proofs.Common.{Reach, Nest, is_reached, is_closed, reaching, reached, behind_angles, is_closing, closing, to_closing, behind_closing, behind_closed, behind_tree, beyond, flat, begun, nest_behind, Tokens, symbol, bumped}
 use Rattle.rust_cursor.specs.declared.cursor.generics.Reach.TheVariants as reaches
-use Rattle.rust_cursor.specs.declared.cursor.nest.Nest.{Nest}
-use Rattle.rust_cursor.specs.Angles.{is_reached, is_closed, reaching, reached, behind_angles}
-use Rattle.rust_cursor.specs.Brackets.{is_closing, closing, to_closing, behind_closing, behind_closed, behind_tree}
-use Rattle.rust_cursor.specs.Elements.{beyond}
-use Rattle.rust_cursor.specs.Nests.{flat, begun, nest_behind}
-use Rattle.rust_cursor.specs.Tokens.{Tokens}
-use Rattle.rust_cursor.specs.Words.{symbol, bumped}
 use Rattle.rust_cursor.proofs.Leads.{LeadsTo, when, closing_leads, reaching_leads, behind_closing_leads, behind_closed_leads, from_last, closing_empty, reached_empty}
 use Rattle.rust_cursor.proofs.Reaches.{reaching_stop, reaching_end, reaching_more}
 use Rattle.rust_cursor.proofs.Steps.{closing_stop, closing_more}

@@ -1,16 +1,6 @@
 -- The text of what is left of an item is the same in a text that ends with it, and in a longer one where it ends there too.
-use Rattle.std.proofs.Common.{◌≡◌, ◌<◌, ℕ, ◌+◌, ◌-◌, ◌==◌, ◌||◌, ◌&&◌, Bool, true, false, Option, Some, None, List, [], ◌∷◌, ◌++◌, length, refl, ap, ◌∙◌, sym, arith, map}
-use Rattle.std.specs.Prelude.{not, if◌then◌else◌}
-use Rattle.std.proofs.lemmas.Bool.{not-true}
-use Rattle.hir_input.specs.declared.edition.EditionYear.{EditionYear}
-use Rattle.rust_lexer.specs.Alone.{moved}
-use Rattle.rust_lexer.specs.Piece.{Piece}
-use Rattle.rust_cursor.specs.declared.cursor.nest.Before.{Before}
-use Rattle.rust_cursor.specs.declared.cursor.nest.Nest.{Nest}
-use Rattle.rust_cursor.specs.Extents.{ExcerptRead, stops, ends, goes_on, opened_behind, block_at, more, taking, taken, tree_text}
-use Rattle.rust_cursor.specs.Nests.{is_flat, is_mark, nest_behind}
-use Rattle.rust_cursor.specs.Tokens.{Tokens}
-use Rattle.rust_cursor.specs.Words.{symbol, at, is_empty, bumped}
+use Rattle.std.proofs.Common.{◌≡◌, ◌<◌, ℕ, ◌+◌, ◌-◌, ◌==◌, ◌||◌, ◌&&◌, Bool, true, false, Option, Some, None, List, [], ◌∷◌, ◌++◌, length, refl, ap, ◌∙◌, sym, arith, map, not, if◌then◌else◌}
+use Rattle.rust_cursor.proofs.Common.{not-true, EditionYear, moved, Piece, Before, Nest, ExcerptRead, stops, ends, goes_on, opened_behind, block_at, more, taking, taken, tree_text, is_flat, is_mark, nest_behind, Tokens, symbol, at, is_empty, bumped}
 use Rattle.rust_cursor.proofs.Leads.{when, from_last, stops_empty, taking_leads}
 use Rattle.rust_cursor.proofs.Nesting.{shorter}
 use Rattle.rust_cursor.proofs.Scans.{taking_stop, taking_end, taking_more, taking_some}

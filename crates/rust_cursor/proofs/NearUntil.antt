@@ -1,13 +1,6 @@
 -- Readers of a text that ends with a `;` or a `}`, and of a longer one: they read alike, until the one of the longer text passes the end.
-use Rattle.std.proofs.Common.{◌≡◌, ◌<◌, ◌+◌, ℕ, ◌==◌, ◌||◌, Bool, true, false, [], ◌∷◌, ◌++◌, Option, length, refl, ap, arith, map}
-use Rattle.std.specs.Prelude.{not}
-use Rattle.hir_input.specs.declared.edition.EditionYear.{EditionYear}
-use Rattle.rust_lexer.specs.Alone.{moved}
-use Rattle.rust_lexer.specs.Piece.{Piece}
-use Rattle.rust_lexer.specs.Symbol.{symbol_of}
-use Rattle.rust_cursor.specs.Reader.{Reader}
-use Rattle.rust_cursor.specs.Tokens.{Tokens}
-use Rattle.rust_cursor.specs.Words.{by_first, symbol, bumped, eat}
+use Rattle.std.proofs.Common.{◌≡◌, ◌<◌, ◌+◌, ℕ, ◌==◌, ◌||◌, Bool, true, false, [], ◌∷◌, ◌++◌, Option, length, refl, ap, arith, map, not}
+use Rattle.rust_cursor.proofs.Common.{EditionYear, moved, Piece, symbol_of, Reader, Tokens, by_first, symbol, bumped, eat}
 use Rattle.rust_cursor.proofs.Leads.{Forwards, when, symbol_some}
 use Rattle.rust_cursor.proofs.Near.{Ending, Near, near, still_near, next_near, level_ended, Gone, gone_on, near_twins}
 use Rattle.rust_cursor.proofs.Nesting.{shorter}

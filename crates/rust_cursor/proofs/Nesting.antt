@@ -1,12 +1,6 @@
 -- Steps of nests.
-use Rattle.std.proofs.Common.{◌≡◌, ◌≤◌, ◌+◌, ◌-◌, ◌==◌, ℕ, Bool, true, false, List, [], ◌∷◌, length, ⊎_elim, refl, ap, arith}
-use Rattle.std.specs.Prelude.{if◌then◌else◌}
-use Rattle.std.proofs.lemmas.Bool.{cases_Bool}
-use Rattle.rust_lexer.specs.Piece.{Piece}
-use Rattle.rust_cursor.specs.declared.cursor.nest.Nest.{Nest}
-use Rattle.rust_cursor.specs.Tokens.{Tokens}
-use Rattle.rust_cursor.specs.Words.{by_first, rest, symbol, is_empty, bumped}
-use Rattle.rust_cursor.specs.Nests.{opens_other, closes_other, is_arrow, nest_behind}
+use Rattle.std.proofs.Common.{◌≡◌, ◌≤◌, ◌+◌, ◌-◌, ◌==◌, ℕ, Bool, true, false, List, [], ◌∷◌, length, ⊎_elim, refl, ap, arith, if◌then◌else◌}
+use Rattle.rust_cursor.proofs.Common.{cases_Bool, Piece, Nest, Tokens, by_first, rest, symbol, is_empty, bumped, opens_other, closes_other, is_arrow, nest_behind}
 
 shorter_from : (left : List Piece) → by_first true (λ _. false) left ≡ false → length (rest left) + 1 ≡ length left
 shorter_from [] e = absurd cc

@@ -1,14 +1,7 @@
 -- Readers of two texts that look alike: they read alike, until one goes past where the texts part.
-use Rattle.std.proofs.Common.{◌≡◌, ℕ, zero, suc, ◌-◌, Bool, true, false, List, [], ◌∷◌, ◌++◌, refl, ap, ◌∙◌, sym, subst}
-use Rattle.std.specs.Prelude.{if◌then◌else◌}
-use Rattle.std.specs.Str.{bytes_eq}
-use Rattle.rust_cursor.specs.Angles.{behind_angles}
-use Rattle.rust_cursor.specs.Brackets.{behind_closed, behind_tree}
-use Rattle.rust_cursor.specs.Elements.{beyond, turns_from, turns, elements, one}
-use Rattle.rust_cursor.specs.Extents.{tree_text}
-use Rattle.rust_cursor.specs.Reader.{Reader, ◌>>=◌}
-use Rattle.rust_cursor.specs.Tokens.{Tokens}
-use Rattle.rust_cursor.specs.Words.{symbol, at, bumped, taken_if, eat, eat_word, is_pair, eat_pair, is_at_end}
+use Rattle.std.proofs.Common.{◌≡◌, ℕ, zero, suc, ◌-◌, Bool, true, false, List, [], ◌∷◌, ◌++◌, refl, ap, ◌∙◌, sym, subst, if◌then◌else◌, bytes_eq}
+use Rattle.rust_cursor.proofs.Common.{behind_angles, behind_closed, behind_tree, beyond, turns_from, turns, elements, one, tree_text, Reader, Tokens, symbol, at, bumped, taken_if, eat, eat_word, is_pair, eat_pair, is_at_end}
+use Rattle.rust_cursor.specs.Reader.{◌>>=◌}
 use Rattle.rust_cursor.proofs.Leads.{LeadsTo, through, Forwards, when, bumped_leads, behind_closed_leads, behind_tree_leads, behind_angles_leads, beyond_leads, turns_from_leads, taken_leads_on}
 use Rattle.rust_cursor.proofs.Twins.{Twins, is_edge, symbol_test, word_test, end_same, after_word, after_symbol, pair_same, after_pair}
 

@@ -1,26 +1,8 @@
 -- What passes over tokens comes to tokens beside: up to brackets, behind angle brackets, and to the end of an item.
-use Rattle.std.proofs.Common.{◌≡◌, ◌≢◌, ℕ, suc, ◌+◌, ◌-◌, ◌==◌, ◌&&◌, Bool, true, false, Option, Some, None, List, [], ◌∷◌, ◌++◌, refl, ap, ◌∙◌, sym, arith, map}
-use Rattle.std.specs.Prelude.{not}
-use Rattle.std.proofs.lemmas.Bool.Decides.{nat_tests}
-use Rattle.std.proofs.lemmas.Bool.{eqb-true}
-use Rattle.hir_input.specs.declared.edition.EditionYear.{EditionYear}
-use Rattle.rust_lexer.specs.Piece.{Piece}
-use Rattle.rust_lexer.specs.Symbol.{symbol_of}
-use Rattle.rust_lexer.specs.Alone.{moved, braces_from}
-use Rattle.rust_cursor.specs.declared.cursor.nest.Before.{Before}
-use Rattle.rust_cursor.specs.declared.cursor.nest.Nest.{Nest}
-use Rattle.rust_cursor.specs.declared.cursor.generics.Reach.{Reach}
+use Rattle.std.proofs.Common.{◌≡◌, ◌≢◌, ℕ, suc, ◌+◌, ◌-◌, ◌==◌, ◌&&◌, Bool, true, false, Option, Some, None, List, [], ◌∷◌, ◌++◌, refl, ap, ◌∙◌, sym, arith, map, not}
+use Rattle.rust_cursor.proofs.Common.{nat_tests, eqb-true, EditionYear, Piece, symbol_of, moved, braces_from, Before, Nest, Reach, Extent, Tokens, end_of, is_open, symbol, is_empty, is_at_open, bumped, braces_behind, begun, flat, flat_behind, is_mark, is_whole, nest_behind, ExcerptRead, excerpt, stops, ends, opened_behind, block_at, taking, taken, more, is_reached, is_closed, reaching, reached, behind_angles, behind_field, behind_header, is_trait_impl, is_closing, closing, to_closing, behind_closing, behind_closed, behind_tree, beyond, Bodies, AreOpen, Beside, ahead, behind}
 use Rattle.rust_cursor.specs.declared.cursor.generics.Reach.TheVariants as reaches
-use Rattle.rust_cursor.specs.declared.cursor.texts.Extent.{Extent}
 use Rattle.rust_cursor.specs.declared.cursor.texts.Extent.TheVariants as extents
-use Rattle.rust_cursor.specs.Tokens.{Tokens, end_of}
-use Rattle.rust_cursor.specs.Words.{is_open, symbol, is_empty, is_at_open, bumped}
-use Rattle.rust_cursor.specs.Nests.{braces_behind, begun, flat, flat_behind, is_mark, is_whole, nest_behind}
-use Rattle.rust_cursor.specs.Extents.{ExcerptRead, excerpt, stops, ends, opened_behind, block_at, taking, taken, more}
-use Rattle.rust_cursor.specs.Angles.{is_reached, is_closed, reaching, reached, behind_angles, behind_field, behind_header, is_trait_impl}
-use Rattle.rust_cursor.specs.Brackets.{is_closing, closing, to_closing, behind_closing, behind_closed, behind_tree}
-use Rattle.rust_cursor.specs.Elements.{beyond}
-use Rattle.rust_cursor.specs.Beside.{Bodies, AreOpen, Beside, ahead, behind}
 use Rattle.rust_cursor.proofs.Leads.{when, from_last, symbol_some, stops_empty, reached_empty, closing_empty, still_same}
 use Rattle.rust_cursor.proofs.Steps.{closing_stop, closing_more}
 use Rattle.rust_cursor.proofs.Scans.{taking_stop, taking_end, taking_more}

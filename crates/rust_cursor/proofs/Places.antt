@@ -1,9 +1,7 @@
 -- Places that are told of tokens beside: they are equal, or moved as what stands behind the braces.
 use Rattle.std.proofs.Common.{◌≡◌, ◌≤◌, ℕ, ◌+◌, Option, Some, None, List, [], ◌∷◌, ◌++◌, refl, arith}
 use Rattle.std.specs.Option.{option_or}
-use Rattle.rust_cursor.specs.Tokens.{Tokens, end_of}
-use Rattle.rust_cursor.specs.Words.{at}
-use Rattle.rust_cursor.specs.Beside.{Bodies, Beside, ahead, behind}
+use Rattle.rust_cursor.proofs.Common.{Tokens, end_of, at, Bodies, Beside, ahead, behind}
 use Rattle.rust_cursor.proofs.Views.{before_at, behind_at}
 
 -- the members of two lists are alike, one by one

@@ -1,13 +1,6 @@
 -- Steps of what passes over angle brackets.
 use Rattle.std.proofs.Common.{◌≡◌, ℕ, true, false, Option, List, [], ◌∷◌, refl, sym, ap, ◌∙◌}
-use Rattle.hir_input.specs.declared.edition.EditionYear.{EditionYear}
-use Rattle.rust_lexer.specs.Piece.{Piece}
-use Rattle.rust_cursor.specs.declared.cursor.nest.Nest.{Nest}
-use Rattle.rust_cursor.specs.declared.cursor.generics.Reach.{Reach}
-use Rattle.rust_cursor.specs.Tokens.{Tokens}
-use Rattle.rust_cursor.specs.Words.{is_empty, bumped}
-use Rattle.rust_cursor.specs.Nests.{nest_behind}
-use Rattle.rust_cursor.specs.Angles.{is_reached, is_closed, reaching, reaching_from}
+use Rattle.rust_cursor.proofs.Common.{EditionYear, Piece, Nest, Reach, Tokens, is_empty, bumped, nest_behind, is_reached, is_closed, reaching, reaching_from}
 use Rattle.rust_cursor.proofs.Nesting.{not_first}
 
 stop_from : (r : Reach) (nest : Nest) (ts : Tokens) (left : List Piece) → is_reached r nest ts ≡ true → reaching_from r nest ts left ≡ ts

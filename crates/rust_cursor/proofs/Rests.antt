@@ -1,14 +1,7 @@
 -- What is left of an item, taken token by token.
-use Rattle.std.proofs.Common.{◌≡◌, ℕ, ◌==◌, ◌||◌, ◌&&◌, Bool, true, false, Option, None, List, [], ◌∷◌, ◌++◌, length, refl, ap, ◌∙◌, ⊎_elim}
-use Rattle.std.specs.Prelude.{if◌then◌else◌, not}
-use Rattle.std.proofs.lemmas.Bool.{cases_Bool}
-use Rattle.rust_cursor.specs.declared.cursor.nest.Nest.{Nest}
-use Rattle.rust_cursor.specs.declared.cursor.texts.Extent.{Extent}
+use Rattle.std.proofs.Common.{◌≡◌, ℕ, ◌==◌, ◌||◌, ◌&&◌, Bool, true, false, Option, None, List, [], ◌∷◌, ◌++◌, length, refl, ap, ◌∙◌, ⊎_elim, if◌then◌else◌, not}
+use Rattle.rust_cursor.proofs.Common.{cases_Bool, Nest, Extent, Tokens, symbol, text, is_empty, is_at_doc, bumped, begun, flat, is_flat, is_mark, is_whole, nest_behind, ExcerptRead, excerpt, begins, stops, ends, goes_on, opened_behind, block_at, has_blank, more, taking, taken, impl_rest, item_rest, value_rest}
 use Rattle.rust_cursor.specs.declared.cursor.texts.Extent.TheVariants as extents
-use Rattle.rust_cursor.specs.Tokens.{Tokens}
-use Rattle.rust_cursor.specs.Words.{symbol, text, is_empty, is_at_doc, bumped}
-use Rattle.rust_cursor.specs.Nests.{begun, flat, is_flat, is_mark, is_whole, nest_behind}
-use Rattle.rust_cursor.specs.Extents.{ExcerptRead, excerpt, begins, stops, ends, goes_on, opened_behind, block_at, has_blank, more, taking, taken, impl_rest, item_rest, value_rest}
 use Rattle.rust_cursor.proofs.Scans.{taking_more, taking_end}
 
 -- what is left of an item that ends with a semicolon, or of one that may end with a block

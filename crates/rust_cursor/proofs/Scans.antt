@@ -1,13 +1,6 @@
 -- Steps of what takes texts.
 use Rattle.std.proofs.Common.{◌≡◌, ℕ, true, false, Bool, Option, None, List, [], ◌∷◌, refl, sym, ap, ◌∙◌}
-use Rattle.hir_input.specs.declared.edition.EditionYear.{EditionYear}
-use Rattle.rust_lexer.specs.Piece.{Piece}
-use Rattle.rust_cursor.specs.declared.cursor.nest.Nest.{Nest}
-use Rattle.rust_cursor.specs.declared.cursor.texts.Extent.{Extent}
-use Rattle.rust_cursor.specs.Tokens.{Tokens}
-use Rattle.rust_cursor.specs.Words.{symbol, is_empty, bumped}
-use Rattle.rust_cursor.specs.Nests.{is_mark, is_whole, nest_behind}
-use Rattle.rust_cursor.specs.Extents.{ExcerptRead, excerpt, stops, ends, opened_behind, block_at, more, taking, taking_from}
+use Rattle.rust_cursor.proofs.Common.{EditionYear, Piece, Nest, Extent, Tokens, symbol, is_empty, bumped, is_mark, is_whole, nest_behind, ExcerptRead, excerpt, stops, ends, opened_behind, block_at, more, taking, taking_from}
 use Rattle.rust_cursor.proofs.Nesting.{not_first}
 
 stop_from : (e : Extent) (done : List ℕ) (last : ℕ) (opened : Option Tokens) (nest : Nest) (ts : Tokens) (left : List Piece) → stops e nest ts ≡ true

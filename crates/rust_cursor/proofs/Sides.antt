@@ -1,8 +1,5 @@
 -- Readers of tokens beside read alike: those that stay before the braces or pass over them, and those that may go into them, until one does.
-use Rattle.rust_cursor.specs.Beside.{Bodies, Beside}
-use Rattle.rust_cursor.specs.Reader.{Reader}
-use Rattle.rust_cursor.specs.Tokens.{Tokens}
-use Rattle.rust_cursor.specs.Words.{symbol}
+use Rattle.rust_cursor.proofs.Common.{Bodies, Beside, Reader, Tokens, symbol}
 use Rattle.rust_cursor.proofs.Alike as stands
 use Rattle.rust_cursor.proofs.Level.{Level, level_beside, level_here, level_next, level_on, start_level, end_level}
 use Rattle.rust_cursor.proofs.Local as local

@@ -1,12 +1,6 @@
 -- Steps up to a bracket that closes.
 use Rattle.std.proofs.Common.{◌≡◌, ℕ, true, false, Option, List, [], ◌∷◌, refl}
-use Rattle.hir_input.specs.declared.edition.EditionYear.{EditionYear}
-use Rattle.rust_lexer.specs.Piece.{Piece}
-use Rattle.rust_cursor.specs.declared.cursor.nest.Nest.{Nest}
-use Rattle.rust_cursor.specs.Tokens.{Tokens}
-use Rattle.rust_cursor.specs.Words.{is_empty, bumped}
-use Rattle.rust_cursor.specs.Nests.{nest_behind}
-use Rattle.rust_cursor.specs.Brackets.{is_closing, closing, closing_from}
+use Rattle.rust_cursor.proofs.Common.{EditionYear, Piece, Nest, Tokens, is_empty, bumped, nest_behind, is_closing, closing, closing_from}
 use Rattle.rust_cursor.proofs.Nesting.{not_first}
 
 stop_from : (bracket : ℕ) (nest : Nest) (ts : Tokens) (left : List Piece) → is_closing bracket nest ts ≡ true → closing_from bracket nest ts left ≡ ts

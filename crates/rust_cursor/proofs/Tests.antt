@@ -1,20 +1,9 @@
 -- What is asked of tokens that look alike: where an item begins, where a walk goes on, and where it ends.
-use Rattle.std.proofs.Common.{◌≡◌, ◌≢◌, ℕ, ◌==◌, Bool, true, false, List, refl, ap, ◌∙◌, sym, arith, codes}
-use Rattle.std.specs.Str.{bytes_eq}
-use Rattle.std.proofs.lemmas.Bool.Decides.{nat_tests}
-use Rattle.rust_cursor.specs.declared.cursor.generics.Reach.{Reach}
+use Rattle.std.proofs.Common.{◌≡◌, ◌≢◌, ℕ, ◌==◌, Bool, true, false, List, refl, ap, ◌∙◌, sym, arith, codes, bytes_eq}
+use Rattle.rust_cursor.proofs.Common.{nat_tests, Reach, Before, Nest, Extent, begins_binder, is_lone_for, is_header_end, is_barred, is_reached, is_closing, begins, begins_item, follows_const, begins_impl_or_const, begins_behind, begins_within, stops, ends, goes_on, more, has_blank, is_joined, leads_item, nest_behind, Tokens, symbol, word, bumped}
 use Rattle.rust_cursor.specs.declared.cursor.generics.Reach.TheVariants as reaches
-use Rattle.rust_cursor.specs.declared.cursor.nest.Before.{Before}
 use Rattle.rust_cursor.specs.declared.cursor.nest.Before.TheVariants as befores
-use Rattle.rust_cursor.specs.declared.cursor.nest.Nest.{Nest}
-use Rattle.rust_cursor.specs.declared.cursor.texts.Extent.{Extent}
 use Rattle.rust_cursor.specs.declared.cursor.texts.Extent.TheVariants as extents
-use Rattle.rust_cursor.specs.Angles.{begins_binder, is_lone_for, is_header_end, is_barred, is_reached}
-use Rattle.rust_cursor.specs.Brackets.{is_closing}
-use Rattle.rust_cursor.specs.Extents.{begins, begins_item, follows_const, begins_impl_or_const, begins_behind, begins_within, stops, ends, goes_on, more, has_blank, is_joined, leads_item}
-use Rattle.rust_cursor.specs.Nests.{nest_behind}
-use Rattle.rust_cursor.specs.Tokens.{Tokens}
-use Rattle.rust_cursor.specs.Words.{symbol, word, bumped}
 use Rattle.rust_cursor.proofs.Begins.{no_item, none_leads}
 use Rattle.rust_cursor.proofs.Leads.{when}
 use Rattle.rust_cursor.proofs.Twins.{Twins, is_edge, symbol_same, word_same, kind_same, text_same, empty_same, end_same, identifier_same, doc_same, edge_word, edge_identifier, edge_test, after_word, after_symbol, pair_same}

@@ -1,13 +1,7 @@
 -- The text of a token or a tree is the same of tokens beside, until it goes into the braces.
 use Rattle.std.proofs.Common.{◌≡◌, ◌<◌, ℕ, zero, suc, true, false, Option, None, List, [], length, refl, ap, ◌∙◌, arith}
-use Rattle.rust_cursor.specs.declared.cursor.nest.Nest.{Nest}
-use Rattle.rust_cursor.specs.declared.cursor.texts.Extent.{Extent}
+use Rattle.rust_cursor.proofs.Common.{Nest, Extent, Tokens, symbol, bumped, is_mark, nest_behind, ExcerptRead, stops, ends, more, taking, taken, tree_text, Bodies, Beside}
 use Rattle.rust_cursor.specs.declared.cursor.texts.Extent.TheVariants as extents
-use Rattle.rust_cursor.specs.Tokens.{Tokens}
-use Rattle.rust_cursor.specs.Words.{symbol, bumped}
-use Rattle.rust_cursor.specs.Nests.{is_mark, nest_behind}
-use Rattle.rust_cursor.specs.Extents.{ExcerptRead, stops, ends, more, taking, taken, tree_text}
-use Rattle.rust_cursor.specs.Beside.{Bodies, Beside}
 use Rattle.rust_cursor.proofs.Leads.{LeadsTo, here, when, taking_leads}
 use Rattle.rust_cursor.proofs.Scans.{taking_stop, taking_end, taking_more, taking_some}
 use Rattle.rust_cursor.proofs.Nesting.{shorter}

@@ -1,9 +1,6 @@
 -- Turns of a reader.
-use Rattle.std.proofs.Common.{◌≡◌, sym, ap, ◌∙◌, ◌-◌, ◌<◌, ◌+◌, ◌++◌, ◌∷◌, [], ℕ, zero, suc, Bool, true, false, Option, List, refl, arith}
-use Rattle.std.specs.Prelude.{option_to_list}
-use Rattle.rust_cursor.specs.Tokens.{Tokens}
-use Rattle.rust_cursor.specs.Reader.{Reader}
-use Rattle.rust_cursor.specs.Elements.{turns_from, beyond, one, perhaps}
+use Rattle.std.proofs.Common.{◌≡◌, sym, ap, ◌∙◌, ◌-◌, ◌<◌, ◌+◌, ◌++◌, ◌∷◌, [], ℕ, zero, suc, Bool, true, false, Option, List, refl, arith, option_to_list}
+use Rattle.rust_cursor.proofs.Common.{Tokens, Reader, turns_from, beyond, one, perhaps}
 
 -- one more turn
 pub turns_more : {A : Type 0} (ends : Tokens → Bool) (reader : Reader (List A)) (bound at past : ℕ) (done done' : List A) (read : List A) (ts mid after : Tokens) (all : List A × Tokens) → at < bound → ends ts ≡ false

@@ -1,27 +1,14 @@
 -- What is taken where its text is not kept: how far does not depend on the text, and braces are passed over, also by a short path.
-use Rattle.std.proofs.Common.{◌≡◌, ℕ, Bool, true, false, Option, None, List, [], ◌∷◌, refl, sym, ap, ◌∙◌, ◌≤◌, ◌==◌, ◌&&◌, not, Some, length, subst, arith, ◌||◌}
-use Rattle.std.specs.Prelude.{if◌then◌else◌, slice_index}
-use Rattle.rust_lexer.specs.Piece.{Piece}
-use Rattle.rust_cursor.specs.declared.cursor.nest.Nest.{Nest}
-use Rattle.rust_cursor.specs.declared.cursor.texts.Extent.{Extent}
-use Rattle.rust_cursor.specs.Tokens.{Tokens, end_of, left_of, last_unended, place_if_open}
-use Rattle.rust_cursor.specs.Words.{symbol, bumped, by_first, is_empty}
-use Rattle.rust_cursor.specs.Nests.{is_mark, is_whole, nest_behind, inside_behind, nest_inside, is_flat}
-use Rattle.rust_cursor.specs.Extents.{ExcerptRead, excerpt, stops, ends, opened_behind, block_at, more, kept_text, clipped, taking, taking_from, LeadsOn, taking_on, ends_flat}
+use Rattle.std.proofs.Common.{◌≡◌, ℕ, Bool, true, false, Option, None, List, [], ◌∷◌, refl, sym, ap, ◌∙◌, ◌≤◌, ◌==◌, ◌&&◌, not, Some, length, subst, arith, ◌||◌, if◌then◌else◌, slice_index, filter}
+use Rattle.rust_cursor.proofs.Common.{Piece, Nest, Extent, Tokens, end_of, left_of, last_unended, place_if_open, symbol, bumped, by_first, is_empty, is_mark, is_whole, nest_behind, inside_behind, nest_inside, is_flat, ExcerptRead, excerpt, stops, ends, opened_behind, block_at, more, kept_text, clipped, taking, taking_from, LeadsOn, taking_on, ends_flat, EditionYear, symbol_of, symbol_from, is_significant, is_significant_kind, eqb-true, TokenKind}
 use Rattle.rust_cursor.proofs.Leads.{when}
 use Rattle.rust_cursor.proofs.Scans.{taking_stop, taking_turn, taking_last, taking_end, taking_more}
-use Rattle.std.specs.List.{filter}
-use Rattle.hir_input.specs.declared.edition.EditionYear.{EditionYear}
 use Rattle.hir_input.specs.declared.edition.EditionYear.TheVariants as year
-use Rattle.rust_lexer.specs.Symbol.{symbol_of, symbol_from}
-use Rattle.rust_lexer.specs.Tokens.{is_significant, is_significant_kind}
 use Rattle.rust_cursor.specs.declared.cursor.texts.Extent.TheVariants as extents
 use Rattle.rust_cursor.proofs.Braced.{tokens_at, inside_is, some_at}
 use Rattle.rust_cursor.proofs.Inside.{IsInside, inside, left_by, none_of}
 use Rattle.rust_cursor.proofs.Nesting.{IsFewer, fewer, shorter}
-use Rattle.std.proofs.lemmas.Bool.{eqb-true}
 use Rattle.rust_lexer.specs.declared.depth.Depth.{Depth}
-use Rattle.rust_lexer.specs.declared.kind.TokenKind.{TokenKind}
 use Rattle.rust_lexer.specs.declared.kind.TokenKind.TheVariants as kinds
 use Rattle.rust_lexer.specs.Depths.{depth_behind, to_outer}
 

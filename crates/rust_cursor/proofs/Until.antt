@@ -1,11 +1,6 @@
 -- Readers that may go into the braces: they see tokens beside alike until one does.
 use Rattle.std.proofs.Common.{◌≡◌, ◌≤◌, ℕ, suc, ◌+◌, length, false, Option, List, [], ◌∷◌, ◌++◌, subst, arith, map}
-use Rattle.rust_lexer.specs.Piece.{Piece}
-use Rattle.rust_lexer.specs.Alone.{moved}
-use Rattle.rust_cursor.specs.Tokens.{Tokens, end_of}
-use Rattle.rust_cursor.specs.Reader.{Reader}
-use Rattle.rust_cursor.specs.Words.{by_first, rest, bumped}
-use Rattle.rust_cursor.specs.Beside.{Bodies, AreBehind, AreOpen, Beside, ahead, behind}
+use Rattle.rust_cursor.proofs.Common.{Piece, moved, Tokens, end_of, Reader, by_first, rest, bumped, Bodies, AreBehind, AreOpen, Beside, ahead, behind}
 use Rattle.rust_cursor.proofs.Leads.{LeadsTo, here, further}
 use Rattle.rust_cursor.proofs.Views.{next_ahead, next_behind, next_none}
 use Rattle.rust_cursor.proofs.Braced.{tokens_at}

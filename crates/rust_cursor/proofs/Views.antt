@@ -1,16 +1,8 @@
 -- What is seen of tokens beside.
-use Rattle.std.proofs.Common.{◌≡◌, ◌≤◌, ◌<◌, ℕ, ◌+◌, ◌==◌, true, false, Option, List, [], ◌∷◌, ◌++◌, length, refl, ◌∙◌, sym, subst, arith, map}
-use Rattle.std.specs.Prelude.{nat_lt}
-use Rattle.std.proofs.lemmas.Bool.Decides.{nat_tests}
-use Rattle.rust_lexer.specs.declared.kind.TokenKind.{TokenKind}
+use Rattle.std.proofs.Common.{◌≡◌, ◌≤◌, ◌<◌, ℕ, ◌+◌, ◌==◌, true, false, Option, List, [], ◌∷◌, ◌++◌, length, refl, ◌∙◌, sym, subst, arith, map, nat_lt}
+use Rattle.rust_cursor.proofs.Common.{nat_tests, TokenKind, Piece, symbol_of, moved, Tokens, end_of, is_open, is_close, word_by, by_first, symbol, word, text, at, is_empty, is_at_open, is_at_end, bumped, is_glued, Bodies, AreBefore, AreBehind, AreOpen, Beside, ahead, behind}
 use Rattle.rust_lexer.specs.declared.kind.TokenKind.TheVariants as kinds
-use Rattle.rust_lexer.specs.Piece.{Piece}
-use Rattle.rust_lexer.specs.Symbol.{symbol_of}
-use Rattle.rust_lexer.specs.Alone.{moved}
-use Rattle.rust_cursor.specs.Tokens.{Tokens, end_of}
-use Rattle.rust_cursor.specs.Words.{is_open, is_close, word_by, by_first, symbol, word, text, at, is_empty, is_at_open, is_at_end, bumped, is_glued}
 use Rattle.rust_cursor.proofs.Leads.{when}
-use Rattle.rust_cursor.specs.Beside.{Bodies, AreBefore, AreBehind, AreOpen, Beside, ahead, behind}
 use Rattle.rust_cursor.proofs.Twins.{Twins, is_edge}
 
 -- a view of a token that asks not where it stands

@@ -1,17 +1,6 @@
 -- Walks over tokens beside: what passes over tokens and whole braces comes to tokens beside.
-use Rattle.std.proofs.Common.{◌≡◌, ◌≢◌, ◌≤◌, ◌<◌, ℕ, zero, suc, ◌+◌, ◌-◌, ◌==◌, Bool, true, false, Option, Some, List, [], ◌∷◌, ◌++◌, length, refl, ap, ◌∙◌, sym, subst, arith, map, length-append}
-use Rattle.std.specs.Prelude.{if◌then◌else◌}
-use Rattle.std.proofs.lemmas.Bool.Decides.{nat_tests}
-use Rattle.hir_input.specs.declared.edition.EditionYear.{EditionYear}
-use Rattle.rust_lexer.specs.Piece.{Piece}
-use Rattle.rust_lexer.specs.Symbol.{symbol_of}
-use Rattle.rust_lexer.specs.Alone.{moved, braces_from}
-use Rattle.rust_cursor.specs.declared.cursor.nest.Before.{Before}
-use Rattle.rust_cursor.specs.declared.cursor.nest.Nest.{Nest}
-use Rattle.rust_cursor.specs.Tokens.{Tokens, end_of}
-use Rattle.rust_cursor.specs.Words.{symbol, is_empty, bumped}
-use Rattle.rust_cursor.specs.Nests.{behind_braces, nest_inside, nest_behind}
-use Rattle.rust_cursor.specs.Beside.{Bodies, AreOpen, Beside, ahead, behind}
+use Rattle.std.proofs.Common.{◌≡◌, ◌≢◌, ◌≤◌, ◌<◌, ℕ, zero, suc, ◌+◌, ◌-◌, ◌==◌, Bool, true, false, Option, Some, List, [], ◌∷◌, ◌++◌, length, refl, ap, ◌∙◌, sym, subst, arith, map, length-append, if◌then◌else◌}
+use Rattle.rust_cursor.proofs.Common.{nat_tests, EditionYear, Piece, symbol_of, moved, braces_from, Before, Nest, Tokens, end_of, symbol, is_empty, bumped, behind_braces, nest_inside, nest_behind, Bodies, AreOpen, Beside, ahead, behind}
 use Rattle.rust_cursor.proofs.Leads.{when}
 use Rattle.rust_cursor.proofs.Nesting.{shorter}
 use Rattle.rust_cursor.proofs.Views.{beside_twins, symbol_same, next_ahead, next_behind}

@@ -1,11 +1,7 @@
 -- White space counts for nothing.
-use Rattle.std.proofs.Common.{◌≡◌, ℕ, Option, None, List, ◌∷◌, refl, sym, ap, ◌∙◌}
-use Rattle.std.specs.List.{filter}
-use Rattle.rust_lexer.specs.declared.kind.TokenKind.{TokenKind}
+use Rattle.std.proofs.Common.{◌≡◌, ℕ, Option, None, List, ◌∷◌, refl, sym, ap, ◌∙◌, filter}
+use Rattle.rust_cursor.proofs.Common.{TokenKind, Piece, is_significant, last_unended}
 use Rattle.rust_lexer.specs.declared.kind.TokenKind.TheVariants as kinds
-use Rattle.rust_lexer.specs.Piece.{Piece}
-use Rattle.rust_lexer.specs.Tokens.{is_significant}
-use Rattle.rust_cursor.specs.Tokens.{last_unended}
 
 found_by : (k : TokenKind) (text : List ℕ) (at : ℕ) (ts : List Piece) → k ≡ kinds.Whitespace → (let t : Piece = record { kind = k; text = text; at = at } in
     filter is_significant (t ∷ ts) ≡ filter is_significant ts)

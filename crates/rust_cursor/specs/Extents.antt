@@ -1,6 +1,5 @@
 -- The texts of what is taken: what stands in brackets, and what is left of an item.
-use Rattle.std.specs.Prelude.{◌≡◌, ◌≤◌, ◌+◌, ℕ, ◌==◌, Bool, true, false, not, ◌&&◌, ◌||◌, if◌then◌else◌, Option, Some, None, List, [], ◌∷◌, ◌++◌, length, slice_index, string_bytes, codes}
-use Rattle.std.specs.Str.{bytes_eq}
+use Rattle.std.specs.Prelude.{◌≡◌, ◌≤◌, ◌+◌, ℕ, ◌==◌, Bool, true, false, not, ◌&&◌, ◌||◌, if◌then◌else◌, Option, Some, None, List, [], ◌∷◌, ◌++◌, length, slice_index, string_bytes, codes, bytes_eq}
 use Rattle.hir_input.specs.declared.edition.EditionYear.{EditionYear}
 use Rattle.rust_lexer.specs.Piece.{Piece}
 use Rattle.rust_cursor.specs.declared.cursor.nest.Before.{Before}

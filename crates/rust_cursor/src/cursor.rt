@@ -1,7 +1,6 @@
 //! A cursor over the tokens of a text.
 
-ghost use Rattle.std.specs.Prelude.{◌≡◌, ◌∷◌, ◌≤◌, ◌<◌, ◌^◌, IfSome, MatchOption, length};
-ghost use Rattle.std.specs.List.{filter};
+ghost use Rattle.std.specs.Prelude.{◌≡◌, ◌∷◌, ◌≤◌, ◌<◌, ◌^◌, IfSome, MatchOption, length, filter};
 ghost use Rattle.rust_lexer.specs.Tokens.{is_significant};
 ghost use Rattle.rust_cursor.specs.Tokens.{last_unended, left_of, place_if_open, tokens_of};
 ghost use Rattle.rust_cursor.specs.Words as spec;

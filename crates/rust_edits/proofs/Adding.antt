@@ -1,7 +1,6 @@
 -- What stays so of what was found, whatever is read: items one after another, and those in items.
 use Rattle.std.proofs.Common.{◌==◌, ◌&&◌, ◌||◌, ◌++◌, ℕ, zero, suc, Bool, true, false, Option, Some, None, List, [], sym, subst}
-use Rattle.rust_edits.proofs.Words.{is_none, option_to_list, AstIdKind, MetaView, ItemView, Row, most, beyond, Tokens, symbol, at, eat, is_at_end, bumped, TextRange, inner_attributes, Head, FrontRead, front, leaf, LeafRead, NameRead, named, no_name, ProblemKind, Found, Finder, nothing_found, and_problem, and_problem_at, and_row, and_use_trees, and_all, BlockRead, span_of, needs_name, and_flaw, and_item, and_leaf, and_parent, leaf_found, leaf_turn, finding_from, finding, is_list_end, items, block_of, as_extern, extern_kept, extern_found, extern_turn, extern_inside, extern_block, inside_unless, module_with, by_head, turn_with, inside, depth_of, turn}
-use Rattle.rust_edits.proofs.Lemmas.{LeadsTo, further, through, when, beyond_leads, eat_leads, inner_attributes_leads, front_start, front_takes, named_leads, Span, Finds, extern_turn_found, turn_with_found, inside_found, turn_found}
+use Rattle.rust_edits.proofs.Common.{is_none, option_to_list, AstIdKind, MetaView, ItemView, Row, most, beyond, Tokens, symbol, at, eat, is_at_end, bumped, TextRange, inner_attributes, Head, FrontRead, front, leaf, LeafRead, NameRead, named, no_name, ProblemKind, Found, Finder, nothing_found, and_problem, and_problem_at, and_row, and_use_trees, and_all, BlockRead, span_of, needs_name, and_flaw, and_item, and_leaf, and_parent, leaf_found, leaf_turn, finding_from, finding, is_list_end, items, block_of, as_extern, extern_kept, extern_found, extern_turn, extern_inside, extern_block, inside_unless, module_with, by_head, turn_with, inside, depth_of, turn, LeadsTo, further, through, when, beyond_leads, eat_leads, inner_attributes_leads, front_start, front_takes, named_leads, Span, Finds, extern_turn_found, turn_with_found, inside_found, turn_found}
 use Rattle.hir_input.specs.declared.ids.AstIdKind.TheVariants as kind
 use Rattle.rust_leaves.specs.declared.head.Head.TheVariants as heads
 use Rattle.rust_items.specs.declared.log.ProblemKind.TheVariants as problem

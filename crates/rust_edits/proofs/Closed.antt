@@ -1,7 +1,6 @@
 -- What was found to stand alone in braces does.
 use Rattle.std.proofs.Common.{◌&&◌, Bool, ◌≡◌, ◌≤◌, ◌+◌, ◌-◌, ◌==◌, ℕ, zero, suc, true, false, Option, Some, None, List, [], ◌∷◌, ◌++◌, length, map, IsUtf8, refl, ap, sym, subst, ◌∙◌, arith}
-use Rattle.rust_edits.proofs.Words.{nat_le, slice_index, filter, TokenKind, overhang, tokens_in_front, moved, braces_from, StandsAlone, is_continuation, is_wide_start, first_cut, Piece, symbol_from, symbol_of, is_nil, is_significant, piece, tokens, tokens_from, whole, rest, with_feeds, first_plain, BeginsPlain, Loose, none_loose, loose_behind, loose_from, loose_in, in_braces, closes_last, begins_plain, is_alone, loose_inside}
-use Rattle.rust_edits.proofs.Lemmas.{and_right, and_parts, eqb-true, and_from, nat_tests, plain_is, close_of, close_symbol, left_of, front_of, counted_apart, when}
+use Rattle.rust_edits.proofs.Common.{nat_le, slice_index, filter, TokenKind, overhang, tokens_in_front, moved, braces_from, StandsAlone, is_continuation, is_wide_start, first_cut, Piece, symbol_from, symbol_of, is_nil, is_significant, piece, tokens, tokens_from, whole, rest, with_feeds, first_plain, BeginsPlain, Loose, none_loose, loose_behind, loose_from, loose_in, in_braces, closes_last, begins_plain, is_alone, loose_inside, and_right, and_parts, eqb-true, and_from, nat_tests, plain_is, close_of, close_symbol, left_of, front_of, counted_apart, when}
 use Rattle.rust_lexer.proofs.Whole.{OpensAt}
 use Rattle.rust_edits.proofs.Typing.Full.{feeds_full, feeds_lead}
 use Rattle.rust_edits.proofs.Typing.Returns.{feeds_body}

@@ -1,5 +1,3 @@
-pub mod Words
-pub mod Lemmas
 pub mod Closed
 pub mod Moves
 pub mod Steps
@@ -8,3 +6,4 @@ pub mod Order
 pub mod Told
 pub mod Typing
 pub mod Ranges
+pub mod Common

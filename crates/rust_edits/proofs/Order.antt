@@ -1,12 +1,8 @@
 -- Items are in the order in which they begin, and the last that begins up to a place is found by halving.
 use Rattle.std.proofs.Common.{◌≡◌, ◌≤◌, ◌<◌, ℕ, zero, suc, true, false, Option, Some, None, List, [], ◌∷◌, length, get_or, refl, ap, sym, ◌∙◌, arith}
 use Rattle.std.specs.List.Sorted.{IsPartitionPoint, IsPartitionedBy}
-use Rattle.std.proofs.lemmas.Option.{slice_get-get_or}
-use Rattle.rust_edits.proofs.Words.{nat_le, slice_get, option_and_then, ItemViews, ItemPlace, Telling, ArePlaces, placed, BeginFrom, ItemsAreInOrder, last_begun, body_about}
-use Rattle.rust_edits.proofs.Lemmas.{le-leb}
+use Rattle.rust_edits.proofs.Common.{slice_get-get_or, nat_le, slice_get, option_and_then, ItemViews, ItemPlace, Telling, ArePlaces, placed, BeginFrom, ItemsAreInOrder, last_begun, body_about, le-leb, view_placed, leb-true}
 use Rattle.rust_items.specs.Places.{nothing}
-use Rattle.rust_items.proofs.FilePlaces.{view_placed}
-use Rattle.std.proofs.lemmas.Bool.{leb-true}
 
 -- ---- what is read of a text
 

@@ -1,8 +1,6 @@
 -- Steps of the functions.
-use Rattle.std.proofs.Common.{◌≡◌, ◌<◌, ◌==◌, ℕ, zero, suc, true, Option, Some, None, List, [], ◌∷◌, length, get_or, IfSome, refl, ap, sym, ◌∙◌, arith, ◌≤◌, Bool, ◌++◌, take, drop, subst, map, append-nil}
-use Rattle.std.specs.Prelude.{◌↔◌}
-use Rattle.rust_edits.proofs.Words.{IfNone, IsSome, is_some, TextRange, ItemPlace, begins_at, has_body_at, list_all, Loose, or_kept, same_loose}
-use Rattle.rust_edits.proofs.Lemmas.{false≢true, nat_tests, when, drop_all, take_all, and_parts, eq-eqb, and_from}
+use Rattle.std.proofs.Common.{◌≡◌, ◌<◌, ◌==◌, ℕ, zero, suc, true, Option, Some, None, List, [], ◌∷◌, length, get_or, IfSome, refl, ap, sym, ◌∙◌, arith, ◌≤◌, Bool, ◌++◌, take, drop, subst, map, append-nil, ◌↔◌}
+use Rattle.rust_edits.proofs.Common.{IfNone, IsSome, is_some, TextRange, ItemPlace, begins_at, has_body_at, list_all, Loose, or_kept, same_loose, false≢true, nat_tests, when, drop_all, take_all, and_parts, eq-eqb, and_from}
 
 -- the braces of one of these items are those of one of them
 held_at : (items : List ItemPlace) (i : ℕ) (item : ItemPlace) (r : TextRange) → item.body ≡ Some r → i < length items → item ≡ get_or items i item → has_body_at r.start items ≡ true

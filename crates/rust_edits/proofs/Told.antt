@@ -1,10 +1,6 @@
 -- Which edits are told.
-use Rattle.std.proofs.Common.{◌≡◌, ◌+◌, ◌-◌, ℕ, suc, List, ◌∷◌, ◌++◌, length, get_or, take, IsUtf8, refl, ap, sym, subst, ◌∙◌, arith, length-append, Bool, true, false, Option, Some, None, ◌<◌, ◌^◌}
-use Rattle.rust_edits.proofs.Words.{IsCharBoundary, TextRange, ArePartsAbout, AreCut, IsUncut, LacksByte, IsSome, with_feeds, ItemPlace, Loose, loose_in, body_about, begins_bare, MayStandInside, MayEdit, TellsLoose, in_braces, is_alone, EndsFit}
-use Rattle.rust_edits.proofs.Lemmas.{common_steps, take_at, append_cancel_left, IsCharBoundary-from_take, IsCharBoundary-after_ascii, false≢true, IsUtf8-append}
-use Rattle.rust_edits.specs.declared.parts.Parts.{Parts}
-use Rattle.std.specs.Prelude.{◌↔◌}
-use Rattle.std.proofs.lemmas.Option.{same_Some}
+use Rattle.std.proofs.Common.{◌≡◌, ◌+◌, ◌-◌, ℕ, suc, List, ◌∷◌, ◌++◌, length, get_or, take, IsUtf8, refl, ap, sym, subst, ◌∙◌, arith, length-append, Bool, true, false, Option, Some, None, ◌<◌, ◌^◌, ◌↔◌}
+use Rattle.rust_edits.proofs.Common.{IsCharBoundary, TextRange, ArePartsAbout, AreCut, IsUncut, LacksByte, IsSome, with_feeds, ItemPlace, Loose, loose_in, body_about, begins_bare, MayStandInside, MayEdit, TellsLoose, in_braces, is_alone, EndsFit, common_steps, take_at, append_cancel_left, IsCharBoundary-from_take, IsCharBoundary-after_ascii, false≢true, IsUtf8-append, Parts, same_Some}
 use Rattle.rust_edits.proofs.Closed.{alone_is, is_found}
 
 -- ---- where a text is cut about a range in braces, and that it is cut there in one way only

@@ -1,7 +1,6 @@
 -- Counts and last places below a bound.
 use Rattle.std.proofs.Common.{◌≡◌, ◌≢◌, ℕ, zero, suc, ◌+◌, ◌<◌, ◌≤◌, Bool, true, false, cond, ◌∙◌, ap, sym, refl, arith, Option, Some, None, IfSome, ⊎_elim}
-use Rattle.std.proofs.lemmas.Bool.{cases_eq, cases_Bool}
-use Rattle.rust_ids.specs.Ids.{count_below, last_below}
+use Rattle.rust_ids.proofs.Common.{cases_eq, cases_Bool, count_below, last_below}
 
 -- two tests that agree on all places but one
 one_of : Bool → ℕ

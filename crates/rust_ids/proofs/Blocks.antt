@@ -1,7 +1,7 @@
 -- A text's blocks of sixteen bytes.
 use Rattle.std.proofs.Common.{◌≡◌, ℕ, suc, ◌-◌, ◌<◌, ◌≤◌, ◌/◌, List, length, drop, arith, ap, ◌∙◌, length-drop}
 use Rattle.rust_ids.specs.declared.hash.Pair.{Pair}
-use Rattle.rust_ids.specs.Hash.{absorb, absorb_all, absorbed}
+use Rattle.rust_ids.proofs.Common.{absorb, absorb_all, absorbed}
 
 -- one block fewer is left behind sixteen bytes
 count-more : (n : ℕ) → 16 < n → (n - 1) / 16 ≡ suc ((n - 16 - 1) / 16)

@@ -1,10 +1,6 @@
 -- What follows from what ids are.
 use Rattle.std.proofs.Common.{◌≡◌, ℕ, zero, suc, ◌^◌, ◌<◌, ◌≤◌, true, false, ◌∙◌, ap, sym, refl, arith, ⊎_elim, List, length, min}
-use Rattle.std.proofs.lemmas.Bool.{cases_eq, cases_Bool, and_left, and_from, and_parts}
-use Rattle.std.proofs.lemmas.List.{same_lists, get_or_default}
-use Rattle.hir_input.specs.declared.ids.FileAstId.{FileAstId}
-use Rattle.rust_ids.specs.Row.{Row}
-use Rattle.rust_ids.specs.Ids.{nth_row, id_at, depth_at, count_below, key_of, kind_place, same_key, comes_before, earlier_alike, hash_of, AreIds, AreDistinctIds, AreDetermined}
+use Rattle.rust_ids.proofs.Common.{cases_eq, cases_Bool, and_left, and_from, and_parts, same_lists, get_or_default, FileAstId, Row, nth_row, id_at, depth_at, count_below, key_of, kind_place, same_key, comes_before, earlier_alike, hash_of, AreIds, AreDistinctIds, AreDetermined}
 use Rattle.rust_ids.proofs.Below.{count_below_lt, count_below_bound}
 use Rattle.rust_ids.proofs.Order.{not_before_itself, before_onward, before_or_after, depth_if_before, module_around_same, number_of_same}
 

@@ -3,3 +3,4 @@ pub mod Blocks
 pub mod Consequences
 pub mod Order
 pub mod Steps
+pub mod Common

@@ -1,10 +1,6 @@
 -- The order in which items are counted, and what an id is made from.
 use Rattle.std.proofs.Common.{◌≡◌, ◌≢◌, ℕ, suc, ◌<◌, ◌≤◌, Bool, true, false, ◌&&◌, ◌||◌, ◌∙◌, ap, sym, refl, arith, Option, Some, None, IfSome, List, length, min, eqb, ltb}
-use Rattle.std.proofs.lemmas.Bool.Decides.{nat_tests}
-use Rattle.std.proofs.lemmas.Bool.{eqb-true}
-use Rattle.hir_input.specs.declared.ids.FileAstId.{FileAstId}
-use Rattle.rust_ids.specs.Row.{Row}
-use Rattle.rust_ids.specs.Ids.{nth_row, id_at, depth_at, around, module_at, module_around, hash_of, key_of, same_key, comes_before, earlier_alike, IsId}
+use Rattle.rust_ids.proofs.Common.{nat_tests, eqb-true, FileAstId, Row, nth_row, id_at, depth_at, around, module_at, module_around, hash_of, key_of, same_key, comes_before, earlier_alike, IsId}
 use Rattle.rust_ids.proofs.Below.{last_below_is, count_below_same}
 
 -- the order on depths and places alone

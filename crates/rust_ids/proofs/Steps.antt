@@ -2,14 +2,8 @@
 use Rattle.std.proofs.Common.{◌≡◌, ◌≢◌, ℕ, suc, ◌+◌, ◌-◌, ◌<◌, ◌≤◌, Bool, true, false, cond, ◌&&◌, [], ◌∙◌, ap, sym, refl, arith, Option, Some, None, ⊎_elim, List, length, min, eqb, ltb, leb, set, get_or, get_or-set_other, get_or-set_same, length-set, MatchOption, subst}
 use Rattle.std.specs.Option.{unwrap_or}
 use Rattle.std.specs.Map.{lookup}
-use Rattle.std.proofs.lemmas.Bool.Decides.{nat_tests}
-use Rattle.std.proofs.lemmas.List.{get_or_default}
-use Rattle.std.proofs.lemmas.Bool.{cases_eq, cases_Bool, le-leb, both_ways, and_left, and_right, and_from}
+use Rattle.rust_ids.proofs.Common.{nat_tests, get_or_default, cases_eq, cases_Bool, le-leb, both_ways, and_left, and_right, and_from, FileAstId, Row, nth_row, id_at, depth_at, count_below, last_below, module_at, module_around, hash_of, Key, kind_place, key_of, same_key, comes_before, earlier_alike, IsId, AreIds, Counts, count_of, CountsOne, is_numbered_before, IsNumbered, IsNextDepth}
 use Rattle.hir_input.specs.declared.ids.AstIdKind.{AstIdKind}
-use Rattle.hir_input.specs.declared.ids.FileAstId.{FileAstId}
-use Rattle.rust_ids.specs.Row.{Row}
-use Rattle.rust_ids.specs.Ids.{nth_row, id_at, depth_at, count_below, last_below, module_at, module_around, hash_of, Key, kind_place, key_of, same_key, comes_before, earlier_alike, IsId, AreIds}
-use Rattle.rust_ids.specs.Inner.Numbering.{Counts, count_of, CountsOne, is_numbered_before, IsNumbered, IsNextDepth}
 use Rattle.rust_ids.proofs.Below.{count_below_same, count_below_one, count_below_bound, count_below_none}
 use Rattle.rust_ids.proofs.Order.{not_before_itself, before_one_way, module_around_same, IsId-same, and_same}
 

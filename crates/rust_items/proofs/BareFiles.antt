@@ -1,7 +1,6 @@
 -- What is read of a text with what is wanted of it: its places are as before.
 use Rattle.std.proofs.Common.{◌≡◌, ◌≢◌, ◌≤◌, ℕ, List, [], map, length, refl, sym, ap, subst, ◌∙◌, AllPairs, IfOk, Result, Ok, Err}
-use Rattle.std.specs.declared.alloc.AllocError.{AllocError}
-use Rattle.rust_items.proofs.Common.{EditionYear, FileAstId, MetaView, without_bodies, ItemView, ItemViews, plain_item, SyntaxView, source_file, items_from, items_of, syntax_view, tokens_of, inner_attributes, AreIds, kept_metas, Wanted, clipped_item, clipped_list, ItemPlace, Telling, id_of, name_of, IsWritten, items_held, IsPlace, ArePlaces, nothing, placed, clipped_items, with_ids, with_feeds, returns_from, place_by, place_in, moved_span, moved_problem, FileView, file_view, places, read_of, found_in, items_in, clipped_syntax, clipped_file, IsClipped, IsClippedFile, IsBareFile, IsFileView, IsSourceFile, reading_file}
+use Rattle.rust_items.proofs.Common.{AllocError, EditionYear, FileAstId, MetaView, without_bodies, ItemView, ItemViews, plain_item, SyntaxView, source_file, items_from, items_of, syntax_view, tokens_of, inner_attributes, AreIds, kept_metas, Wanted, clipped_item, clipped_list, ItemPlace, Telling, id_of, name_of, IsWritten, items_held, IsPlace, ArePlaces, nothing, placed, clipped_items, with_ids, with_feeds, returns_from, place_by, place_in, moved_span, moved_problem, FileView, file_view, places, read_of, found_in, items_in, clipped_syntax, clipped_file, IsClipped, IsClippedFile, IsBareFile, IsFileView, IsSourceFile, reading_file}
 use Rattle.rust_items.specs.declared.log.Problem.{Problem}
 use Rattle.rust_items.specs.declared.source_file.Reading.{Reading}
 use Rattle.rust_items.specs.declared.source_file.SourceFile.{SourceFile}

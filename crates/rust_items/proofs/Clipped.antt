@@ -1,9 +1,7 @@
 -- What is read with what is wanted, step by step.
 use Rattle.std.proofs.Common.{◌≡◌, ◌≢◌, ◌<◌, ◌-◌, ◌==◌, ◌||◌, ℕ, zero, suc, Bool, true, false, Option, Some, None, List, [], ◌++◌, map, refl, sym, ap, ◌∙◌, if◌then◌else◌, option_map, option_to_list, IfOk, Result, Ok, Err}
-use Rattle.std.specs.declared.alloc.AllocError.{AllocError}
-use Rattle.std.proofs.lemmas.List.{map-append}
+use Rattle.rust_items.proofs.Common.{AllocError, map-append, Visibility, MetaView, ItemView, bare_module, listed_module, bare_extern_block, listed_extern_block, items_from, module_from, extern_block_from, Tokens, symbol, at, eat, is_at_end, bumped, behind_tree, most, beyond, kept_text, inner_attributes, kept_metas, kept_by, Head, Wanted, with_value, clipped_front, clipped_item, clipped_list, clipped_leaf, clipped_leaf_if, wanted_item, wanted_leaf, wanted_leaf_if, unattributed, leaf_behind, FrontRead, front, named_node, node, leaf, LeafRead, no_name, named, clipped_item_if, clipped_items, clipped_block, clipped_turn, wanted_item_if, wanted_behind, Found, Finder, Finds, nothing_found, and_problem, BlockRead, finding_from, finding, is_list_end, empty_block, deep_block, block_of, leaf_found, leaf_turn, as_extern, and_rest, extern_kept, extern_found, extern_by, extern_turn, extern_inside, extern_block, one_more, unmatched, and_parent, depth_of, inside_unless, some_item, by_head, inside, behind_front, turn, module_item}
 use Rattle.hir_input.specs.declared.ids.AstIdKind.TheVariants as kind
-use Rattle.rust_items.proofs.Common.{Visibility, MetaView, ItemView, bare_module, listed_module, bare_extern_block, listed_extern_block, items_from, module_from, extern_block_from, Tokens, symbol, at, eat, is_at_end, bumped, behind_tree, most, beyond, kept_text, inner_attributes, kept_metas, kept_by, Head, Wanted, with_value, clipped_front, clipped_item, clipped_list, clipped_leaf, clipped_leaf_if, wanted_item, wanted_leaf, wanted_leaf_if, unattributed, leaf_behind, FrontRead, front, named_node, node, leaf, LeafRead, no_name, named, clipped_item_if, clipped_items, clipped_block, clipped_turn, wanted_item_if, wanted_behind, Found, Finder, Finds, nothing_found, and_problem, BlockRead, finding_from, finding, is_list_end, empty_block, deep_block, block_of, leaf_found, leaf_turn, as_extern, and_rest, extern_kept, extern_found, extern_by, extern_turn, extern_inside, extern_block, one_more, unmatched, and_parent, depth_of, inside_unless, some_item, by_head, inside, behind_front, turn, module_item}
 use Rattle.rust_metas.proofs.Kept.{kept_append, kept_none}
 use Rattle.rust_leaves.specs.declared.head.Head.TheVariants as heads
 use Rattle.rust_leaves.proofs.Clipped.{with_if, text_none, leaf_front}

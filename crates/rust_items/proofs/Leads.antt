@@ -1,13 +1,10 @@
 -- What is left behind items that hold none is left of the tokens before them, and what they are.
 use Rattle.std.proofs.Common.{◌≡◌, ◌==◌, ◌&&◌, ℕ, zero, suc, Bool, true, false, Option, Some, None, List, [], codes, refl, ap, ◌∙◌, arith, is_some, bytes_eq}
-use Rattle.std.specs.List.{AllZip}
+use Rattle.rust_items.proofs.Common.{AllZip, and_parts, AstIdKind, FileAstId, Visibility, MetaView, PlainKind, union_kind, enum_kind, trait_kind, no_items, Tokens, symbol, word, kind, text, at, eat, eat_word, is_empty, is_at_open, bumped, is_at_end, ExcerptRead, tree_body, LeadsTo, here, further, through, Forwards, when, bumped_leads, eat_leads, eat_word_leads, behind_tree_leads, taken_leads_on, Takes, takes, takes_leads, takes_behind, takes_before, symbol_some, word_none, HasBlock, no_block, block, taken_block, TextRange, Placed, placed_name, path, use_tree, placed_name_leads, placed_next, path_leads, visibility_leads, use_tree_leads, outer_attributes_leads, Head, LeafRead, range_to, name_read, named, named_or, crate_alias, crate_alias_if, renamed, impl_end, item_end, macro_end, value_end, semicolon_end, call_end, function, block_item, union_item, enumeration, trait_item, macro_def, type_alias, static_value, constant, structure, implementation, told_at, crate_item, use_declaration, macro_definition, is_called, invocation, leaf_by, leaf, FrontRead, front_behind, front, id_of, name_of, items_held, trees_in, written_trees, behind_abi, is_modifier, behind_modifier, behind_modifiers_from, behind_modifiers, head_by, behind_head, head, behind_others}
 use Rattle.std.specs.Option.{option_or}
-use Rattle.std.proofs.lemmas.Bool.{and_parts}
-use Rattle.rust_items.proofs.Common.{AstIdKind, FileAstId, Visibility, MetaView, PlainKind, union_kind, enum_kind, trait_kind, no_items, Tokens, symbol, word, kind, text, at, eat, eat_word, is_empty, is_at_open, bumped, is_at_end, ExcerptRead, tree_body, LeadsTo, here, further, through, Forwards, when, bumped_leads, eat_leads, eat_word_leads, behind_tree_leads, taken_leads_on, Takes, takes, takes_leads, takes_behind, takes_before, symbol_some, word_none, HasBlock, no_block, block, taken_block, TextRange, Placed, placed_name, path, use_tree, placed_name_leads, placed_next, path_leads, visibility_leads, use_tree_leads, outer_attributes_leads, Head, LeafRead, range_to, name_read, named, named_or, crate_alias, crate_alias_if, renamed, impl_end, item_end, macro_end, value_end, semicolon_end, call_end, function, block_item, union_item, enumeration, trait_item, macro_def, type_alias, static_value, constant, structure, implementation, told_at, crate_item, use_declaration, macro_definition, is_called, invocation, leaf_by, leaf, FrontRead, front_behind, front, id_of, name_of, items_held, trees_in, written_trees}
 use Rattle.hir_input.specs.declared.ids.AstIdKind.TheVariants as ast
 use Rattle.rust_leaves.specs.declared.head.Head.TheVariants as heads
 use Rattle.rust_cursor.specs.Nests.{is_literal_kind}
-use Rattle.rust_leaves.specs.Heads.{behind_abi, is_modifier, behind_modifier, behind_modifiers_from, behind_modifiers, head_by, behind_head, head, behind_others}
 use Rattle.rust_leaves.proofs.AlikeFronts.{others_leads}
 use Rattle.rust_items.proofs.Names.{IsToken, untold, told_behind, named_told, named_or_told}
 use Rattle.rust_items.proofs.TreesRead.{word_some, zip_is, IsRead, read_around, use_tree_told}

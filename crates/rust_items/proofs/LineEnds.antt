@@ -1,13 +1,8 @@
 -- Texts with line feeds alone.
 use Rattle.std.proofs.Common.{◌≡◌, ◌≢◌, ◌<◌, ◌≤◌, ◌+◌, ◌-◌, ◌==◌, ◌++◌, ℕ, zero, suc, Bool, true, false, List, [], ◌∷◌, map, length, get_or, take, drop, if◌then◌else◌, Option, Some, None, refl, sym, ap, ◌∙◌, arith, append_assoc, append-nil, length-append, lit<, ⊎_elim, nat_le, nat_lt, option_map, slice_range}
-use Rattle.std.specs.List.{prefix_len, list_any}
-use Rattle.std.specs.List.Sorted.{IsPartitionPoint}
+use Rattle.rust_items.proofs.Common.{prefix_len, list_any, IsPartitionPoint, split_parts, ne_eqb, cases_Bool, and_parts, eqb-true, nat_tests, ItemViews, TextRange, ItemPlace, is_return, with_feeds, returns_from, place_by, place_in, moved_range, Telling, name_of, IsBodyIn, IsNameIn, IsPlace, ArePlaces, nothing, placed}
 use Rattle.std.specs.Str.Pattern.{FindsChar}
-use Rattle.std.proofs.lemmas.Str.Pattern.{split_parts}
 use Rattle.std.proofs.Math.Nat.{eq-or-lt_of_le}
-use Rattle.std.proofs.lemmas.Bool.{ne_eqb, cases_Bool, and_parts, eqb-true}
-use Rattle.std.proofs.lemmas.Bool.Decides.{nat_tests}
-use Rattle.rust_items.proofs.Common.{ItemViews, TextRange, ItemPlace, is_return, with_feeds, returns_from, place_by, place_in, moved_range, Telling, name_of, IsBodyIn, IsNameIn, IsPlace, ArePlaces, nothing, placed}
 
 -- ---- where no return stands
 

@@ -1,10 +1,9 @@
 -- The name of an item is written at the name's place.
 use Rattle.std.proofs.Common.{◌≡◌, ◌⊎◌, inl, inr, ◌==◌, ◌+◌, ℕ, Bool, true, false, Option, Some, None, List, [], ◌∷◌, ◌++◌, length, refl, sym, subst, ap, ◌∙◌, append_assoc, length-append, if◌then◌else◌, option_map, slice_range, bytes_eq, eqb-true}
-use Rattle.std.specs.List.{list_any, filter}
+use Rattle.rust_items.proofs.Common.{list_any, filter, Piece, EditionYear, Tokens, tokens_of, end_of, word_by, by_first, rest, word, kind, text, at, is_empty, bumped, LeadsTo, here, further, through, when, TextRange, Placed, placed_if, placed_name, taken_with, name, next_name, name_text, plain_name, raw_name, behind_hash, unless_path_keyword, as_name, is_keyword, is_path_keyword, is_underscore, placed_next, name_read, named, named_or, with_feeds, place_in, moved_range, IsWritten}
 use Rattle.std.proofs.lemmas.Slice.Eq.{bytes_eq-Decides}
 use Rattle.rust_lexer.specs.declared.kind.TokenKind.{TokenKind}
 use Rattle.rust_lexer.specs.declared.kind.TokenKind.TheVariants as kinds
-use Rattle.rust_items.proofs.Common.{Piece, EditionYear, Tokens, tokens_of, end_of, word_by, by_first, rest, word, kind, text, at, is_empty, bumped, LeadsTo, here, further, through, when, TextRange, Placed, placed_if, placed_name, taken_with, name, next_name, name_text, plain_name, raw_name, behind_hash, unless_path_keyword, as_name, is_keyword, is_path_keyword, is_underscore, placed_next, name_read, named, named_or, with_feeds, place_in, moved_range, IsWritten}
 use Rattle.rust_lexer.specs.Tokens.{tokens, is_significant, text_of, AreInPlace}
 use Rattle.rust_lexer.proofs.Laws.{tokens_lossless, tokens_placed}
 use Rattle.hir_input.specs.Name.{is_name}

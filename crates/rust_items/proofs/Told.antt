@@ -1,7 +1,6 @@
 -- Which braces are a body is told by the places of what was read.
 use Rattle.std.proofs.Common.{◌≡◌, ◌<◌, ◌≤◌, ◌==◌, ◌||◌, ℕ, Option, Some, None, List, [], ◌∷◌, length, refl, ap, ◌∙◌, map, arith, nat_lt, option_map}
-use Rattle.std.proofs.lemmas.Bool.Decides.{nat_tests}
-use Rattle.rust_items.proofs.Common.{EditionYear, FileAstId, when, TextRange, ItemSpan, with_feeds, place_in, moved_range, moved_span, FileView, places, found_in, IsFileView, begins_at, has_body, has_body_at}
+use Rattle.rust_items.proofs.Common.{nat_tests, EditionYear, FileAstId, when, TextRange, ItemSpan, with_feeds, place_in, moved_range, moved_span, FileView, places, found_in, IsFileView, begins_at, has_body, has_body_at}
 use Rattle.rust_items.proofs.LineEnds.{place_rises_in}
 use Rattle.rust_items.proofs.Within.{IsMaybeIn, AreIn, spans_in, as_many}
 

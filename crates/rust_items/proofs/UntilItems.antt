@@ -1,7 +1,6 @@
 -- The items of two texts that differ between the braces of one item are the same but for body texts.
 use Rattle.std.proofs.Common.{◌≡◌, ◌≤◌, ◌<◌, ◌+◌, ◌==◌, ◌||◌, ℕ, zero, suc, Bool, true, false, Option, Some, None, List, [], ◌∷◌, ◌++◌, map, refl, ap, sym, subst, ◌∙◌, arith, append_assoc, append-nil, option_map, option_to_list, eqb-true}
-use Rattle.rust_items.proofs.Common.{Visibility, EditionYear, AstIdKind, MetaView, item_without_bodies, ItemView, ItemViews, module_from, extern_block_from, Tokens, symbol, at, eat, is_at_end, bumped, most, beyond, Bodies, Beside, ahead, behind, LeadsTo, further, through, when, eat_leads, beyond_leads, IsSound, sound_on, before_at, behind_at, symbol_same, empty_same, end_same, beyond_beside, behind_tree_beside, eat_local, Gone, gone_on, by_kept, by_next, bumped_onward, by_stayed, AreAlike, no_more, alike_join, SamePlace, at_place, past_place, Row, TextRange, inner_attributes, inner_attributes_leads, inner_attributes_until, Head, FrontRead, front, NameRead, LeafRead, no_name, named, node, named_node, leaf, behind_others_beside, SameRange, RangeAlike, LeafAlike, named_local, ItemSpan, ProblemKind, ItemPlace, Found, Finder, nothing_found, and_problem_if, and_problem_at, BlockRead, span_of, and_flaw, and_item, and_leaf, and_parent, leaf_found, leaf_turn, finding_from, finding, is_list_end, block_of, as_extern, extern_kept, extern_found, extern_turn, extern_inside, extern_block, one_more, unmatched, inside_unless, module_with, some_item, by_head, turn_with, inside, turn, depth_of, items, begins_at, has_body, found_in, read_of, Telling, IsBodyIn, ArePlaces, nothing, placed}
-use Rattle.std.proofs.lemmas.List.{map-append}
+use Rattle.rust_items.proofs.Common.{Visibility, EditionYear, AstIdKind, MetaView, item_without_bodies, ItemView, ItemViews, module_from, extern_block_from, Tokens, symbol, at, eat, is_at_end, bumped, most, beyond, Bodies, Beside, ahead, behind, LeadsTo, further, through, when, eat_leads, beyond_leads, IsSound, sound_on, before_at, behind_at, symbol_same, empty_same, end_same, beyond_beside, behind_tree_beside, eat_local, Gone, gone_on, by_kept, by_next, bumped_onward, by_stayed, AreAlike, no_more, alike_join, SamePlace, at_place, past_place, Row, TextRange, inner_attributes, inner_attributes_leads, inner_attributes_until, Head, FrontRead, front, NameRead, LeafRead, no_name, named, node, named_node, leaf, behind_others_beside, SameRange, RangeAlike, LeafAlike, named_local, ItemSpan, ProblemKind, ItemPlace, Found, Finder, nothing_found, and_problem_if, and_problem_at, BlockRead, span_of, and_flaw, and_item, and_leaf, and_parent, leaf_found, leaf_turn, finding_from, finding, is_list_end, block_of, as_extern, extern_kept, extern_found, extern_turn, extern_inside, extern_block, one_more, unmatched, inside_unless, module_with, some_item, by_head, turn_with, inside, turn, depth_of, items, begins_at, has_body, found_in, read_of, Telling, IsBodyIn, ArePlaces, nothing, placed, map-append}
 use Rattle.hir_input.specs.declared.ids.AstIdKind.TheVariants as kind
 use Rattle.rust_cursor.proofs.Laid as laid
 use Rattle.rust_cursor.proofs.Places as places

@@ -1,9 +1,6 @@
 -- The use trees of items, with the ranges of the items' places.
 use Rattle.std.proofs.Common.{◌≡◌, ◌<◌, ◌≤◌, ℕ, List, [], ◌∷◌, ◌++◌, map, refl, sym, ap, ◌∙◌, subst, append_assoc, arith, All}
-use Rattle.std.specs.List.{AllZip}
-use Rattle.std.proofs.lemmas.List.{map-append}
-use Rattle.std.proofs.lemmas.List.Elements.{All-nil, All-append, All-map, All-weaker}
-use Rattle.rust_items.proofs.Common.{ItemView, ItemViews, listed_module, listed_extern_block, no_items, item_and, items_from, UseTreeView, TextRange, ItemPlace, items_held, trees_in, trees_within, preorder_of, preorder, AreTreesOf}
+use Rattle.rust_items.proofs.Common.{AllZip, map-append, All-nil, All-append, All-map, All-weaker, ItemView, ItemViews, listed_module, listed_extern_block, no_items, item_and, items_from, UseTreeView, TextRange, ItemPlace, items_held, trees_in, trees_within, preorder_of, preorder, AreTreesOf}
 use Rattle.rust_items.proofs.LineEnds.{moved_place, place_le}
 use Rattle.rust_items.proofs.TreesRead.{both_zip, zip_is}
 

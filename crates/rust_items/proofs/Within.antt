@@ -1,7 +1,6 @@
 -- What is told of items stands in the text.
 use Rattle.std.proofs.Common.{◌≡◌, ◌<◌, ◌≤◌, ◌+◌, ℕ, Option, Some, None, List, [], ◌∷◌, length, ap, sym, subst, ◌∙◌, map, arith}
-use Rattle.std.proofs.lemmas.List.{length-map}
-use Rattle.rust_items.proofs.Common.{EditionYear, ItemViews, TextRange, ItemSpan, ItemPlace, Telling, IsBodyIn, IsNameIn, ArePlaces, nothing, placed, FileView, found_in, IsFile}
+use Rattle.rust_items.proofs.Common.{length-map, EditionYear, ItemViews, TextRange, ItemSpan, ItemPlace, Telling, IsBodyIn, IsNameIn, ArePlaces, nothing, placed, FileView, found_in, IsFile}
 use Rattle.rust_items.proofs.FilePlaces.{text_found}
 use Rattle.rust_items.proofs.Places.{row_kind, place_kind, place_span}
 

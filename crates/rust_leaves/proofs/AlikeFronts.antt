@@ -1,21 +1,12 @@
 -- What stands before an item's own parts is the same of tokens that look alike, until one goes past where the texts part.
-use Rattle.std.proofs.Common.{◌≡◌, ◌==◌, ℕ, zero, suc, Bool, true, false, List, [], refl, sym, ap, subst, ◌∙◌, codes}
-use Rattle.std.specs.Prelude.{if◌then◌else◌}
-use Rattle.std.specs.Str.{bytes_eq}
-use Rattle.std.proofs.lemmas.Bool.{and_parts}
-use Rattle.rust_cursor.specs.Brackets.{behind_tree}
-use Rattle.rust_cursor.specs.Tokens.{Tokens}
-use Rattle.rust_cursor.specs.Words.{symbol, word, kind, is_at_identifier, is_pair, bumped}
-use Rattle.rust_cursor.proofs.Leads.{LeadsTo, here, through, when, behind_tree_leads}
+use Rattle.std.proofs.Common.{◌≡◌, ◌==◌, ℕ, zero, suc, Bool, true, false, List, [], refl, sym, ap, subst, ◌∙◌, codes, if◌then◌else◌, bytes_eq}
+use Rattle.rust_leaves.proofs.Common.{and_parts, behind_tree, Tokens, symbol, word, kind, is_at_identifier, is_pair, bumped, LeadsTo, here, through, when, behind_tree_leads, has_name, Head, behind_abi, is_auto_trait, is_modifier_before, is_modifier, behind_modifier, behind_modifiers_from, behind_modifiers, extern_head, macro_rules_head, union_head, head_by, behind_head, head, is_union, begins_path, behind_segments_from, behind_segments, is_called_here, may_begin, is_behind_others, behind_others_from, behind_others}
 use Rattle.rust_cursor.proofs.Parting.{Onward, on, kept, Parting, Until, UpTo, onward_leads, cond_onward}
 use Rattle.rust_cursor.proofs.Twins.{is_edge, symbol_same, word_same, kind_same, identifier_same, end_same, doc_same, pair_same, edge_word, edge_identifier, edge_test, after_word, after_symbol, after_pair}
-use Rattle.rust_paths.specs.Names.{has_name}
 use Rattle.rust_paths.proofs.Alike.{has_name_same}
 use Rattle.rust_metas.proofs.Around.{kind_symbol}
-use Rattle.rust_leaves.specs.declared.head.Head.{Head}
 use Rattle.rust_leaves.specs.declared.head.Head.TheVariants as heads
 use Rattle.rust_cursor.specs.Nests.{is_literal_kind}
-use Rattle.rust_leaves.specs.Heads.{behind_abi, is_auto_trait, is_modifier_before, is_modifier, behind_modifier, behind_modifiers_from, behind_modifiers, extern_head, macro_rules_head, union_head, head_by, behind_head, head, is_union, begins_path, behind_segments_from, behind_segments, is_called_here, may_begin, is_behind_others, behind_others_from, behind_others}
 
 -- a literal is no edge
 literal_no_edge : (ts : Tokens) → is_literal_kind (kind ts) ≡ true → is_edge (symbol ts) ≡ false

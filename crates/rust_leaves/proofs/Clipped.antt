@@ -1,27 +1,16 @@
 -- What is read with what is wanted of it, step by step.
-use Rattle.std.proofs.Common.{◌≡◌, ◌==◌, ◌&&◌, ℕ, Bool, true, false, Option, Some, None, List, [], ◌++◌, refl, sym, ap, ◌∙◌, append-nil}
-use Rattle.std.specs.Prelude.{if◌then◌else◌, is_some, codes}
+use Rattle.std.proofs.Common.{◌≡◌, ◌==◌, ◌&&◌, ℕ, Bool, true, false, Option, Some, None, List, [], ◌++◌, refl, sym, ap, ◌∙◌, append-nil, if◌then◌else◌, is_some, codes}
 use Rattle.hir_input.specs.declared.ids.AstIdKind.TheVariants as kind
 use Rattle.hir_input.specs.declared.ast.PathNode.{PathNode}
-use Rattle.hir_input.specs.declared.ast.Visibility.{Visibility}
-use Rattle.hir_input.specs.Attr.{MetaView}
-use Rattle.hir_input.specs.Syntax.{fn_kind, const_item, struct_item, impl_item, macro_rules}
-use Rattle.rust_cursor.specs.Tokens.{Tokens}
-use Rattle.rust_cursor.specs.Reader.{Reader}
-use Rattle.rust_cursor.specs.Words.{symbol, at, eat_word, bumped, is_at_open}
-use Rattle.rust_cursor.specs.Extents.{clipped, kept_text, item_rest, impl_rest, macro_rest, value_rest, tree_body}
+use Rattle.rust_leaves.proofs.Common.{Visibility, MetaView, fn_kind, const_item, struct_item, impl_item, macro_rules, Tokens, Reader, symbol, at, eat_word, bumped, is_at_open, clipped, kept_text, item_rest, impl_rest, macro_rest, value_rest, tree_body, Head, RestRead, LeafRead, no_name, named, named_or, rest_read, bare_end, semicolon_end, item_end, impl_end, macro_end, value_end, call_end, block_attributes, struct_fields, has_trait, node, named_node, leaf_read, plain_read, plain_kind, plain_end, plain_leaf, function, union_item, enumeration, trait_item, macro_def, type_alias, static_value, constant, structure, implementation, macro_definition, crate_item, use_declaration, is_called, called, call_behind, some_read, invocation, leaf_by, leaf, bare, last_text}
 use Rattle.rust_paths.specs.Paths.{path}
 use Rattle.rust_metas.specs.Attributes.{outer_attributes}
 use Rattle.rust_metas.specs.Docs.{kept_metas}
 use Rattle.rust_metas.proofs.Kept.{kept_append, kept_none}
-use Rattle.rust_leaves.specs.declared.head.Head.{Head}
 use Rattle.rust_leaves.specs.declared.head.Head.TheVariants as head
 use Rattle.rust_leaves.specs.declared.wanted.Wanted.{Wanted}
 use Rattle.rust_leaves.specs.Clipped.{with_value, clipped_rest, clipped_front, clipped_leaf, clipped_leaf_if, wanted_item, wanted_leaf, wanted_leaf_if, leaf_behind}
 use Rattle.rust_leaves.specs.Fronts.{FrontRead, front_behind, front}
-use Rattle.rust_leaves.specs.Leaves.{RestRead, LeafRead, no_name, named, named_or, rest_read, bare_end, semicolon_end, item_end, impl_end, macro_end, value_end, call_end, block_attributes, struct_fields, has_trait}
-use Rattle.rust_leaves.specs.Kinds.{node, named_node, leaf_read, plain_read, plain_kind, plain_end, plain_leaf, function, union_item, enumeration, trait_item, macro_def, type_alias, static_value, constant, structure, implementation, macro_definition, crate_item, use_declaration, is_called, called, call_behind, some_read, invocation, leaf_by, leaf}
-use Rattle.rust_leaves.specs.Texts.{bare, last_text}
 
 -- one of two readings
 pub with_if : {A B C : Type 0} (change : A → B) (b : Bool) (x y : A × C) → with_value change (if b then x else y) ≡ (if b then with_value change x else with_value change y)

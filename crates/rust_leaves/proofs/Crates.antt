@@ -1,24 +1,7 @@
 -- Extern crates, and what a macro is called by, of tokens beside are the same.
-use Rattle.std.proofs.Common.{arith, ◌≡◌, ◌==◌, ℕ, zero, suc, Bool, true, false, Option, Some, None, List, [], refl, ap, ◌∙◌, codes}
-use Rattle.std.specs.Str.{bytes_eq}
-use Rattle.std.proofs.lemmas.Bool.Decides.{nat_tests}
-use Rattle.hir_input.specs.declared.ast.Visibility.{Visibility}
-use Rattle.hir_input.specs.Attr.{MetaView}
-use Rattle.hir_input.specs.Bodies.{item_without_bodies}
-use Rattle.hir_input.specs.Syntax.{extern_crate}
-use Rattle.rust_cursor.specs.Tokens.{Tokens}
-use Rattle.rust_cursor.specs.Words.{symbol, word, text, is_at_open, bumped, eat_word}
-use Rattle.rust_cursor.specs.Beside.{Bodies, Beside}
-use Rattle.rust_cursor.proofs.Leads.{LeadsTo, here, further, when}
-use Rattle.rust_cursor.proofs.Views.{symbol_same, text_same, open_same, taken_same}
-use Rattle.rust_cursor.proofs.Local.{word_test, after_word, after_symbol, eat_local, eat_word_local, both_true}
+use Rattle.std.proofs.Common.{arith, ◌≡◌, ◌==◌, ℕ, zero, suc, Bool, true, false, Option, Some, None, List, [], refl, ap, ◌∙◌, codes, bytes_eq}
+use Rattle.rust_leaves.proofs.Common.{nat_tests, Visibility, MetaView, item_without_bodies, extern_crate, Tokens, symbol, word, text, is_at_open, bumped, eat_word, Bodies, Beside, LeadsTo, here, further, when, symbol_same, text_same, open_same, taken_same, word_test, after_word, after_symbol, eat_local, eat_word_local, both_true, KeptBy, no_more, IsAlike, neither, both, alike_or, TextRange, NameRead, named_or, crate_alias, crate_alias_if, renamed, rename_of, named_node, told_at, crate_item, is_called, last_text_from, last_text}
 use Rattle.rust_cursor.proofs.Until.{Gone, gone_on, Onward, into, on, bumped_onward}
-use Rattle.rust_cursor.proofs.Alike.{KeptBy}
-use Rattle.rust_cursor.proofs.Places.{no_more, IsAlike, neither, both, alike_or}
-use Rattle.rust_paths.specs.declared.names.TextRange.{TextRange}
-use Rattle.rust_leaves.specs.Leaves.{NameRead, named_or, crate_alias, crate_alias_if, renamed, rename_of}
-use Rattle.rust_leaves.specs.Kinds.{named_node, told_at, crate_item, is_called}
-use Rattle.rust_leaves.specs.Texts.{last_text_from, last_text}
 use Rattle.rust_leaves.proofs.Beside.{LocalBy, RangeAlike, next_alike, NameAlike, named_local, named_or_local, LeafAlike}
 
 -- ---- extern crates

@@ -1,15 +1,9 @@
 -- The fields of a struct: what is left behind one, and none are read behind the end of the header.
-use Rattle.std.proofs.Common.{◌≡◌, ◌≤◌, ◌==◌, ◌||◌, ℕ, Bool, true, false, Option, None, refl, arith}
-use Rattle.std.specs.Prelude.{if◌then◌else◌, not}
-use Rattle.std.proofs.lemmas.Bool.Decides.{nat_tests}
-use Rattle.hir_input.specs.declared.ast.Visibility.{Visibility}
-use Rattle.rust_cursor.specs.Tokens.{Tokens}
-use Rattle.rust_cursor.specs.Words.{symbol, is_at_end, eat}
+use Rattle.std.proofs.Common.{◌≡◌, ◌≤◌, ◌==◌, ◌||◌, ℕ, Bool, true, false, Option, None, refl, arith, if◌then◌else◌, not}
+use Rattle.rust_leaves.proofs.Common.{nat_tests, Visibility, Tokens, symbol, is_at_end, eat, LeadsTo, through, Forwards, when, reached_leads, eat_leads, is_before, header_field, are_over, symbol_within}
 use Rattle.rust_cursor.specs.Angles.{behind_field}
-use Rattle.rust_cursor.proofs.Leads.{LeadsTo, through, Forwards, when, reached_leads, eat_leads}
 use Rattle.rust_paths.proofs.Leads.{visibility_leads}
 use Rattle.rust_metas.proofs.Leads.{outer_attributes_leads}
-use Rattle.rust_leaves.specs.Leaves.{is_before, header_field, are_over, symbol_within}
 
 -- behind its visibility
 pub type_leads : (ts : Tokens) → LeadsTo ts (eat 44 (behind_field ts)).1

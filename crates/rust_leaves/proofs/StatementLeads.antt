@@ -1,14 +1,7 @@
 -- What is left behind a statement is left of the tokens before it.
 use Rattle.std.proofs.Common.{◌==◌, ◌&&◌, ◌||◌, ℕ, zero, suc, Bool}
-use Rattle.rust_cursor.specs.Tokens.{Tokens}
-use Rattle.rust_cursor.specs.Reader.{Reader}
-use Rattle.rust_cursor.specs.Words.{symbol, word, kind, is_at_end, is_pair}
-use Rattle.rust_cursor.specs.Extents.{begins_item}
-use Rattle.rust_cursor.proofs.Leads.{LeadsTo, here, further, through, Forwards, when, bumped_leads, behind_tree_leads}
-use Rattle.rust_leaves.specs.declared.statements.Scan.{Scan}
-use Rattle.rust_leaves.specs.declared.statements.Step.{Step}
+use Rattle.rust_leaves.proofs.Common.{Tokens, Reader, symbol, word, kind, is_at_end, is_pair, begins_item, LeadsTo, here, further, through, Forwards, when, bumped_leads, behind_tree_leads, Scan, Step, is_block_word, is_label_kind, behind_label, behind_block_word, block_start, is_block_at, is_let, part_step, statement_step, by_step, statement_from, statement}
 use Rattle.rust_leaves.specs.declared.statements.Step.TheVariants as steps
-use Rattle.rust_leaves.specs.Statements.{is_block_word, is_label_kind, behind_label, behind_block_word, block_start, is_block_at, is_let, part_step, statement_step, by_step, statement_from, statement}
 
 label_leads : (ts : Tokens) → LeadsTo ts (behind_label ts)
 unfolding behind_label

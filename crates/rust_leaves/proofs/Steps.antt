@@ -1,14 +1,6 @@
 -- Steps of what is read in turns.
 use Rattle.std.proofs.Common.{◌≡◌, ◌≢◌, ◌==◌, ◌<◌, ◌+◌, ◌-◌, ℕ, zero, suc, true, false, List, refl, ap, arith}
-use Rattle.std.proofs.lemmas.Bool.{ne_eqb}
-use Rattle.rust_cursor.specs.Tokens.{Tokens}
-use Rattle.rust_cursor.specs.Words.{text, bumped}
-use Rattle.rust_cursor.specs.Brackets.{behind_tree}
-use Rattle.rust_leaves.specs.Heads.{is_modifier, behind_modifier, behind_modifiers_from, begins_path, behind_segments_from, is_behind_others, behind_others_from}
-use Rattle.rust_leaves.specs.declared.statements.Scan.{Scan}
-use Rattle.rust_leaves.specs.declared.statements.Step.{Step}
-use Rattle.rust_leaves.specs.Statements.{statement_step, by_step, statement_from}
-use Rattle.rust_leaves.specs.Texts.{last_text_from}
+use Rattle.rust_leaves.proofs.Common.{ne_eqb, Tokens, text, bumped, behind_tree, is_modifier, behind_modifier, behind_modifiers_from, begins_path, behind_segments_from, is_behind_others, behind_others_from, Scan, Step, statement_step, by_step, statement_from, last_text_from}
 
 -- ---- modifiers
 

@@ -1,13 +1,7 @@
 -- A token ends where a character does.
 use Rattle.std.proofs.Common.{◌≡◌, ℕ, suc, ◌+◌, ◌<◌, ◌≤◌, false, List, [], ◌∷◌, length, get_or, take, drop, Some, ap, ◌∙◌, add-one, arith, refl, subst, sym}
-use Rattle.std.proofs.lemmas.Bool.{cond_both}
-use Rattle.std.proofs.lemmas.List.{get_or-drop}
-use Rattle.std.proofs.lemmas.Bool.Decides.{nat_tests}
+use Rattle.rust_lexer.proofs.Common.{cond_both, get_or-drop, nat_tests, Cut, is_continuation, run, split_of, whole}
 use Rattle.rust_lexer.specs.declared.bytes.Class.TheVariants as class
-use Rattle.rust_lexer.specs.declared.cut.Cut.{Cut}
-use Rattle.rust_lexer.specs.Bytes.{is_continuation, run}
-use Rattle.rust_lexer.specs.Inner.{split_of}
-use Rattle.rust_lexer.specs.Tokens.{whole}
 
 -- a byte does not continue a character
 abbrev pub IsLead : ℕ → Type 0

@@ -1,21 +1,8 @@
 -- Brackets of each kind are tokens that open or close, and no others are.
-use Rattle.std.proofs.Common.{◌||◌, ◌&&◌, Bool, ◌≡◌, ℕ, ◌==◌, true, false, Option, Some, None, List, drop, refl, sym, subst, All}
-use Rattle.std.proofs.lemmas.Bool.{eqb-true}
-use Rattle.std.proofs.lemmas.List.Elements.{All-cons, All-nil}
+use Rattle.std.proofs.Common.{◌||◌, ◌&&◌, Bool, ◌≡◌, ℕ, ◌==◌, true, false, Option, Some, None, List, drop, refl, sym, subst, All, not, slice_index}
+use Rattle.rust_lexer.proofs.Common.{eqb-true, All-cons, All-nil, Cut, TokenKind, run, is_start, is_white, is_word, is_word_start, cut, first_cut, quoted, plain, raw_or, raw_identifier, prefixed_raw, b_word, c_word, cut_word, slash, is_raw_lifetime, lifetime, apostrophe, is_punctuation, symbol_kind, is_one_char, raw_string, is_ascii_digit, LiteralKind, Extent, Piece, symbol_from, symbol_of, piece, tokens}
 use Rattle.rust_lexer.specs.declared.bytes.Class.TheVariants as class
-use Rattle.rust_lexer.specs.declared.cut.Cut.{Cut}
-use Rattle.rust_lexer.specs.declared.kind.TokenKind.{TokenKind}
 use Rattle.rust_lexer.specs.declared.kind.TokenKind.TheVariants as kind
-use Rattle.rust_lexer.specs.Bytes.{run, is_start, is_white, is_word, is_word_start}
-use Rattle.rust_lexer.specs.Cut.{cut, first_cut, quoted, plain, raw_or, raw_identifier, prefixed_raw, b_word, c_word, cut_word, slash, is_raw_lifetime, lifetime, apostrophe, is_punctuation, symbol_kind}
-use Rattle.rust_lexer.specs.Quoted.{is_one_char, raw_string}
-use Rattle.std.specs.Char.{is_ascii_digit}
-use Rattle.std.specs.Prelude.{not, slice_index}
-use Rattle.rust_lexer.specs.declared.kind.LiteralKind.{LiteralKind}
-use Rattle.rust_lexer.specs.declared.quoted.Extent.{Extent}
-use Rattle.rust_lexer.specs.Piece.{Piece}
-use Rattle.rust_lexer.specs.Symbol.{symbol_from, symbol_of}
-use Rattle.rust_lexer.specs.Tokens.{piece, tokens}
 use Rattle.rust_lexer.proofs.Each.{is_front, each_token}
 
 abbrev pub is_open_kind : TokenKind → Bool

@@ -1,22 +1,9 @@
 -- Which tokens of a text count, and which are not ended, step by step.
-use Rattle.std.proofs.Common.{◌≡◌, ℕ, zero, suc, ◌+◌, ◌==◌, ◌||◌, ◌&&◌, Bool, true, false, List, [], ◌∷◌, ◌++◌, length, take, drop, refl, ap, ◌∙◌, sym, subst, ⊎_elim, arith, None, append_assoc, length-append, ◌-◌}
-use Rattle.std.specs.Prelude.{nat_le, not, slice_index, if◌then◌else◌}
-use Rattle.std.specs.List.{filter, list_any}
-use Rattle.std.proofs.lemmas.List.{take_at, drop_at}
-use Rattle.std.proofs.lemmas.Bool.{cases_Bool}
-use Rattle.std.proofs.lemmas.Bool.Decides.{nat_tests}
+use Rattle.std.proofs.Common.{◌≡◌, ℕ, zero, suc, ◌+◌, ◌==◌, ◌||◌, ◌&&◌, Bool, true, false, List, [], ◌∷◌, ◌++◌, length, take, drop, refl, ap, ◌∙◌, sym, subst, ⊎_elim, arith, None, append_assoc, length-append, ◌-◌, nat_le, not, slice_index, if◌then◌else◌}
+use Rattle.rust_lexer.proofs.Common.{filter, list_any, take_at, drop_at, cases_Bool, nat_tests, Cut, TokenKind, Extent, is_in_class, is_continuation, is_white, is_wide_start, run, block, block_style, line_style, closed, unclosed, cut, first_cut, Piece, piece, is_significant, is_significant_kind, tokens_from, whole}
 use Rattle.rust_lexer.specs.declared.bytes.Class.TheVariants as class
-use Rattle.rust_lexer.specs.declared.cut.Cut.{Cut}
-use Rattle.rust_lexer.specs.declared.kind.TokenKind.{TokenKind}
 use Rattle.rust_lexer.specs.declared.kind.TokenKind.TheVariants as kind
-use Rattle.rust_lexer.specs.declared.quoted.Extent.{Extent}
-use Rattle.rust_lexer.specs.Bytes.{is_in_class, is_continuation, is_white, is_wide_start, run}
-use Rattle.rust_lexer.specs.Comment.{block, block_style, line_style}
-use Rattle.rust_lexer.specs.Quoted.{closed, unclosed}
-use Rattle.rust_lexer.specs.Cut.{cut, first_cut}
-use Rattle.rust_lexer.specs.Piece.{Piece}
 use Rattle.rust_lexer.specs.Terminated.{is_terminated}
-use Rattle.rust_lexer.specs.Tokens.{piece, is_significant, is_significant_kind, tokens_from, whole}
 
 pub when : {P : Type 0} (t : Bool) → (t ≡ true → P) → (t ≡ false → P) → P
 when t on off = ⊎_elim on off (cases_Bool t)

@@ -1,20 +1,8 @@
 -- A loop over bytes leads to the same `}` as one over tokens: a bracket that begins a token is that token.
 use Rattle.std.proofs.Common.{◌≡◌, ◌<◌, ◌≤◌, ℕ, suc, ◌+◌, ◌-◌, ◌==◌, ◌||◌, ◌&&◌, Bool, true, false, Some, List, ◌∷◌, length, get_or, take, drop, drop-cons, drop-drop, length-take-le, refl, sym, ap, ◌∙◌, inl, inr, ◌⊎◌, subst, arith}
-use Rattle.std.proofs.lemmas.Bool.{eqb-true}
-use Rattle.std.proofs.lemmas.Bool.Decides.{nat_tests}
-use Rattle.std.proofs.lemmas.List.{take_rest}
+use Rattle.rust_lexer.proofs.Common.{eqb-true, nat_tests, take_rest, Cut, Depth, TokenKind, run, first_cut, symbol_kind, depth_behind, to_outer, is_blank_byte, is_close_byte, is_letter, is_mark_byte, is_open_byte, Piece, symbol_from, symbol_of, piece, tokens_from, whole}
 use Rattle.rust_lexer.specs.declared.bytes.Class.TheVariants as class
-use Rattle.rust_lexer.specs.declared.cut.Cut.{Cut}
-use Rattle.rust_lexer.specs.declared.depth.Depth.{Depth}
-use Rattle.rust_lexer.specs.declared.kind.TokenKind.{TokenKind}
 use Rattle.rust_lexer.specs.declared.kind.TokenKind.TheVariants as kind
-use Rattle.rust_lexer.specs.Bytes.{run}
-use Rattle.rust_lexer.specs.Cut.{first_cut, symbol_kind}
-use Rattle.rust_lexer.specs.Depths.{depth_behind, to_outer}
-use Rattle.rust_lexer.specs.Inner.{is_blank_byte, is_close_byte, is_letter, is_mark_byte, is_open_byte}
-use Rattle.rust_lexer.specs.Piece.{Piece}
-use Rattle.rust_lexer.specs.Symbol.{symbol_from, symbol_of}
-use Rattle.rust_lexer.specs.Tokens.{piece, tokens_from, whole}
 use Rattle.rust_lexer.proofs.Counted.{when}
 use Rattle.rust_lexer.proofs.Frequent.{blank_first, letter_first, mark_first}
 use Rattle.rust_lexer.proofs.Steps.{tokens_from_drop}

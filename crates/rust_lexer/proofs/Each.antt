@@ -1,14 +1,8 @@
 -- What holds of all tokens of a text: what holds of none, and goes on from each token's back to its front.
 use Rattle.std.proofs.Common.{◌≡◌, ℕ, zero, suc, ◌+◌, ◌-◌, Bool, true, false, Option, Some, None, List, [], ◌∷◌, length, take, drop, refl}
-use Rattle.std.proofs.lemmas.Bool.{cond_both}
+use Rattle.rust_lexer.proofs.Common.{cond_both, TokenKind, run, cut, first_cut, frontmatter, Piece, has_mark, is_shebang, lines_from, mark_from, matter_by, matter_from, piece, shebang_from, tokens, tokens_from, whole}
 use Rattle.rust_lexer.specs.declared.bytes.Class.TheVariants as class
-use Rattle.rust_lexer.specs.declared.kind.TokenKind.{TokenKind}
 use Rattle.rust_lexer.specs.declared.kind.TokenKind.TheVariants as kind
-use Rattle.rust_lexer.specs.Bytes.{run}
-use Rattle.rust_lexer.specs.Cut.{cut, first_cut}
-use Rattle.rust_lexer.specs.Frontmatter.{frontmatter}
-use Rattle.rust_lexer.specs.Piece.{Piece}
-use Rattle.rust_lexer.specs.Tokens.{has_mark, is_shebang, lines_from, mark_from, matter_by, matter_from, piece, shebang_from, tokens, tokens_from, whole}
 
 -- what may stand in front of a text alone
 abbrev pub is_front : TokenKind → Bool

@@ -1,11 +1,7 @@
 -- No token is left where no byte is.
 use Rattle.std.proofs.Common.{◌≡◌, ℕ, ◌==◌, false, Option, Some, None, List, [], ◌∷◌, length, refl, arith}
-use Rattle.std.proofs.lemmas.Bool.{cond_both}
-use Rattle.std.proofs.lemmas.Bool.Decides.{nat_tests}
-use Rattle.rust_lexer.specs.declared.lexer.Front.{Front}
+use Rattle.rust_lexer.proofs.Common.{cond_both, nat_tests, Front, frontmatter, has_mark, is_nil, is_shebang, lines_from, mark_from, matter_by, matter_from, pieces, shebang_from, tokens_from}
 use Rattle.rust_lexer.specs.declared.lexer.Front.TheVariants as front
-use Rattle.rust_lexer.specs.Frontmatter.{frontmatter}
-use Rattle.rust_lexer.specs.Tokens.{has_mark, is_nil, is_shebang, lines_from, mark_from, matter_by, matter_from, pieces, shebang_from, tokens_from}
 
 some_length : (b : ℕ) (z : List ℕ) → false ≡ (length (b ∷ z) == 0)
 some_length b z = grind (arith, nat_tests)

@@ -1,13 +1,8 @@
 -- The most frequent tokens, by their first byte alone.
-use Rattle.std.proofs.Common.{◌≡◌, ℕ, ◌==◌, ◌||◌, true, false, List, refl, arith}
-use Rattle.std.specs.Prelude.{nat_le}
-use Rattle.std.specs.Char.{is_ascii_alphabetic, is_ascii_digit}
-use Rattle.std.proofs.lemmas.Bool.Decides.{nat_tests}
+use Rattle.std.proofs.Common.{◌≡◌, ℕ, ◌==◌, ◌||◌, true, false, List, refl, arith, nat_le}
+use Rattle.rust_lexer.proofs.Common.{is_ascii_alphabetic, is_ascii_digit, nat_tests, is_white, is_wide_start, run, cut, first_cut, plain, symbol_kind, is_blank_byte, is_letter, is_mark_byte}
 use Rattle.rust_lexer.specs.declared.bytes.Class.TheVariants as class
 use Rattle.rust_lexer.specs.declared.kind.TokenKind.TheVariants as kind
-use Rattle.rust_lexer.specs.Bytes.{is_white, is_wide_start, run}
-use Rattle.rust_lexer.specs.Cut.{cut, first_cut, plain, symbol_kind}
-use Rattle.rust_lexer.specs.Inner.{is_blank_byte, is_letter, is_mark_byte}
 
 pub mark_first : (b : ℕ) (z : List ℕ) → is_mark_byte b ≡ true → first_cut b z ≡ cut (symbol_kind b) 0
 unfolding first_cut is_wide_start

@@ -1,17 +1,9 @@
 -- What holds of the tokens of every text.
 use Rattle.std.proofs.Common.{◌≡◌, ℕ, zero, suc, ◌+◌, ◌-◌, ◌<◌, Option, Some, None, List, [], ◌∷◌, ◌++◌, take, drop, refl, ap, ◌∙◌, arith, length, All, take-append-drop, subst, ◌≤◌, length-drop}
-use Rattle.std.proofs.lemmas.Bool.{cond_both}
-use Rattle.std.proofs.lemmas.List.Elements.{All-cons, All-nil}
+use Rattle.rust_lexer.proofs.Common.{cond_both, All-cons, All-nil, Cut, Front, run, cut, first_cut, frontmatter, Piece, AreInPlace, has_mark, is_shebang, lines_from, mark_from, matter_by, matter_from, piece, pieces, shebang_from, text_of, tokens_from, whole, tokens}
 use Rattle.rust_lexer.specs.declared.bytes.Class.TheVariants as class
-use Rattle.rust_lexer.specs.declared.cut.Cut.{Cut}
 use Rattle.rust_lexer.specs.declared.kind.TokenKind.TheVariants as kind
-use Rattle.rust_lexer.specs.declared.lexer.Front.{Front}
 use Rattle.rust_lexer.specs.declared.lexer.Front.TheVariants as front
-use Rattle.rust_lexer.specs.Bytes.{run}
-use Rattle.rust_lexer.specs.Cut.{cut, first_cut}
-use Rattle.rust_lexer.specs.Frontmatter.{frontmatter}
-use Rattle.rust_lexer.specs.Piece.{Piece}
-use Rattle.rust_lexer.specs.Tokens.{AreInPlace, has_mark, is_shebang, lines_from, mark_from, matter_by, matter_from, piece, pieces, shebang_from, text_of, tokens_from, whole, tokens}
 
 -- ---- one behind the other they are the text
 

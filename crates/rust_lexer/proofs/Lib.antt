@@ -18,3 +18,4 @@ pub mod Each
 pub mod Braces
 pub mod Depths
 pub mod Plain
+pub mod Common

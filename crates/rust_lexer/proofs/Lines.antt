@@ -1,10 +1,9 @@
 -- A search for the end of a line gives how many bytes stand before it.
-use Rattle.std.proofs.Common.{◌≡◌, ◌≤◌, ◌<◌, ℕ, zero, suc, ◌==◌, true, List, [], ◌∷◌, Option, None, Some, length, refl, ap, sym, ◌∙◌, arith}
-use Rattle.std.specs.Prelude.{slice_index}
+use Rattle.std.proofs.Common.{◌≡◌, ◌≤◌, ◌<◌, ℕ, zero, suc, ◌==◌, true, List, [], ◌∷◌, Option, None, Some, length, refl, ap, sym, ◌∙◌, arith, slice_index}
 use Rattle.std.specs.Option.{unwrap_or}
 use Rattle.memchr.specs.Find.{IsFirstByte, is_byte}
 use Rattle.rust_lexer.specs.declared.bytes.Class.TheVariants as class
-use Rattle.rust_lexer.specs.Bytes.{run}
+use Rattle.rust_lexer.proofs.Common.{run}
 use Rattle.rust_lexer.proofs.Counted.{when}
 
 goes_on : (b : ℕ) (z : List ℕ) → ((b == 10) ≡ true → ⊥) → run class.Line (b ∷ z) ≡ suc (run class.Line z)

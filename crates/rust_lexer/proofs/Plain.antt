@@ -1,17 +1,7 @@
 -- Plain bytes from a token's beginning on are whole tokens, and count for nothing.
-use Rattle.std.proofs.Common.{◌≡◌, ℕ, zero, suc, ◌+◌, ◌==◌, Bool, true, false, List, [], ◌∷◌, drop, drop-drop, refl, sym, ap, ◌∙◌, arith}
-use Rattle.std.specs.Prelude.{slice_index}
-use Rattle.std.specs.Char.{is_ascii_digit}
-use Rattle.std.proofs.lemmas.Bool.Decides.{nat_tests}
-use Rattle.rust_lexer.specs.declared.bytes.Class.{Class}
+use Rattle.std.proofs.Common.{◌≡◌, ℕ, zero, suc, ◌+◌, ◌==◌, Bool, true, false, List, [], ◌∷◌, drop, drop-drop, refl, sym, ap, ◌∙◌, arith, slice_index}
+use Rattle.rust_lexer.proofs.Common.{is_ascii_digit, nat_tests, Class, Depth, LiteralKind, is_in_class, is_white, is_wide_continue, run, first_cut, plain, prefixed_raw, cut_word, to_outer, is_blank_byte, is_clean, is_letter_before, is_mark_byte, is_name_letter, is_plain_byte, plain_run, tokens_from, whole}
 use Rattle.rust_lexer.specs.declared.bytes.Class.TheVariants as class
-use Rattle.rust_lexer.specs.declared.depth.Depth.{Depth}
-use Rattle.rust_lexer.specs.declared.kind.LiteralKind.{LiteralKind}
-use Rattle.rust_lexer.specs.Bytes.{is_in_class, is_white, is_wide_continue, run}
-use Rattle.rust_lexer.specs.Cut.{first_cut, plain, prefixed_raw, cut_word}
-use Rattle.rust_lexer.specs.Depths.{to_outer}
-use Rattle.rust_lexer.specs.Inner.{is_blank_byte, is_clean, is_letter_before, is_mark_byte, is_name_letter, is_plain_byte, plain_run}
-use Rattle.rust_lexer.specs.Tokens.{tokens_from, whole}
 use Rattle.rust_lexer.proofs.Counted.{when}
 use Rattle.rust_lexer.proofs.Depths.{is_bracket, mark_len, quiet_turn, white_len}
 use Rattle.rust_lexer.proofs.Standing.{goes_on, no_raw, plain_r}

@@ -1,12 +1,8 @@
 -- What is seen before a `{`, a `}` or a `;` is the same whatever stands behind it.
-use Rattle.std.proofs.Common.{◌≡◌, ◌≤◌, ℕ, zero, suc, ◌==◌, ◌||◌, ◌&&◌, Bool, true, false, List, [], ◌∷◌, ◌++◌, length, drop, refl, ap, arith}
-use Rattle.std.specs.Prelude.{nat_le, nat_lt, slice_index, if◌then◌else◌}
-use Rattle.std.proofs.lemmas.Bool.Decides.{nat_tests}
-use Rattle.rust_lexer.specs.declared.bytes.Class.{Class}
+use Rattle.std.proofs.Common.{◌≡◌, ◌≤◌, ℕ, zero, suc, ◌==◌, ◌||◌, ◌&&◌, Bool, true, false, List, [], ◌∷◌, ◌++◌, length, drop, refl, ap, arith, nat_le, nat_lt, slice_index, if◌then◌else◌}
+use Rattle.rust_lexer.proofs.Common.{nat_tests, Class, is_white, is_wide_white, is_wide_start, is_wide_continue, is_start, is_in_class, run, code, is_word_start, is_word, Stop, opening, closing, semicolon, stop, behind_lead, is_full}
 use Rattle.rust_lexer.specs.declared.bytes.Class.TheVariants as class
-use Rattle.rust_lexer.specs.Bytes.{is_white, is_wide_white, is_wide_start, is_wide_continue, is_start, is_in_class, run, code, is_word_start, is_word}
 use Rattle.rust_lexer.proofs.Counted.{when}
-use Rattle.rust_lexer.specs.Alone.{Stop, opening, closing, semicolon, stop, behind_lead, is_full}
 
 -- these bytes, such a byte and those behind it
 abbrev pub upto : Stop → List ℕ → List ℕ → List ℕ

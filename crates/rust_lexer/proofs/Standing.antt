@@ -1,15 +1,8 @@
 -- Which texts are cut off as one token, whatever stands behind them.
-use Rattle.std.proofs.Common.{◌≡◌, ℕ, suc, ◌==◌, ◌||◌, ◌&&◌, Bool, true, false, List, [], ◌∷◌, ◌++◌, length, refl, ap, ◌∙◌, arith, None}
-use Rattle.std.specs.Prelude.{nat_le, nat_lt, slice_index, not}
-use Rattle.std.specs.List.{list_all}
-use Rattle.std.specs.Char.{is_ascii_alphabetic, is_ascii_alphanumeric, is_ascii_digit}
-use Rattle.std.proofs.lemmas.Bool.Decides.{nat_tests}
+use Rattle.std.proofs.Common.{◌≡◌, ℕ, suc, ◌==◌, ◌||◌, ◌&&◌, Bool, true, false, List, [], ◌∷◌, ◌++◌, length, refl, ap, ◌∙◌, arith, None, nat_le, nat_lt, slice_index, not}
+use Rattle.rust_lexer.proofs.Common.{list_all, is_ascii_alphabetic, is_ascii_alphanumeric, is_ascii_digit, nat_tests, LiteralKind, is_white, is_wide_start, is_wide_continue, is_continuation, run, raw_string, cut, first_cut, plain, prefixed_raw, r_word, cut_word, symbol_kind}
 use Rattle.rust_lexer.specs.declared.bytes.Class.TheVariants as class
-use Rattle.rust_lexer.specs.declared.kind.LiteralKind.{LiteralKind}
 use Rattle.rust_lexer.specs.declared.kind.TokenKind.TheVariants as kind
-use Rattle.rust_lexer.specs.Bytes.{is_white, is_wide_start, is_wide_continue, is_continuation, run}
-use Rattle.rust_lexer.specs.Quoted.{raw_string}
-use Rattle.rust_lexer.specs.Cut.{cut, first_cut, plain, prefixed_raw, r_word, cut_word, symbol_kind}
 use Rattle.rust_lexer.proofs.Counted.{when}
 
 -- a byte that may begin an identifier of ASCII, and one that may stand in it

@@ -1,15 +1,8 @@
 -- The tokens of a text, step by step.
-use Rattle.std.proofs.Common.{◌≡◌, ℕ, zero, suc, ◌+◌, ◌≤◌, List, [], ◌∷◌, take, drop, get_or, refl, ap, ◌∙◌, arith, length, Some, subst}
-use Rattle.std.proofs.lemmas.List.{take_rest}
-use Rattle.std.specs.Prelude.{◌-◌}
+use Rattle.std.proofs.Common.{◌≡◌, ℕ, zero, suc, ◌+◌, ◌≤◌, List, [], ◌∷◌, take, drop, get_or, refl, ap, ◌∙◌, arith, length, Some, subst, ◌-◌}
+use Rattle.rust_lexer.proofs.Common.{take_rest, Cut, run, cut, first_cut, split_of, Piece, lines_from, mark_from, matter_by, matter_from, piece, shebang_from, tokens_from, whole}
 use Rattle.rust_lexer.specs.declared.bytes.Class.TheVariants as class
-use Rattle.rust_lexer.specs.declared.cut.Cut.{Cut}
 use Rattle.rust_lexer.specs.declared.kind.TokenKind.TheVariants as kind
-use Rattle.rust_lexer.specs.Bytes.{run}
-use Rattle.rust_lexer.specs.Cut.{cut, first_cut}
-use Rattle.rust_lexer.specs.Inner.{split_of}
-use Rattle.rust_lexer.specs.Piece.{Piece}
-use Rattle.rust_lexer.specs.Tokens.{lines_from, mark_from, matter_by, matter_from, piece, shebang_from, tokens_from, whole}
 
 -- what is left of one token is left out
 pub tokens_from_drop : (n at : ℕ) (z : List ℕ) → tokens_from n at z ≡ tokens_from 0 (at + length (take n z)) (drop n z)

@@ -1,19 +1,8 @@
 -- The tokens of a whole text with braces in it.
-use Rattle.std.proofs.Common.{◌≡◌, ℕ, suc, ◌+◌, ◌-◌, ◌==◌, ◌||◌, ◌&&◌, true, false, Some, None, List, [], ◌∷◌, ◌++◌, length, refl, ap, ◌∙◌, sym, arith, map}
-use Rattle.std.specs.Prelude.{slice_index, not, nat_le, nat_lt}
-use Rattle.std.specs.List.{filter}
-use Rattle.std.proofs.lemmas.List.Elements.{filter-append}
-use Rattle.std.proofs.lemmas.Bool.Decides.{nat_tests}
+use Rattle.std.proofs.Common.{◌≡◌, ℕ, suc, ◌+◌, ◌-◌, ◌==◌, ◌||◌, ◌&&◌, true, false, Some, None, List, [], ◌∷◌, ◌++◌, length, refl, ap, ◌∙◌, sym, arith, map, slice_index, not, nat_le, nat_lt, filter}
+use Rattle.rust_lexer.proofs.Common.{filter-append, nat_tests, TokenKind, is_wide_start, run, first_cut, frontmatter, Piece, symbol_from, symbol_of, has_mark, is_blank, is_bracket_next, is_shebang, is_significant, is_significant_kind, piece, tokens, tokens_from, whole, opening, is_fence, is_full, overhang, tokens_in_front, moved, braces_from, StandsAlone}
 use Rattle.rust_lexer.specs.declared.bytes.Class.TheVariants as class
-use Rattle.rust_lexer.specs.declared.kind.TokenKind.{TokenKind}
 use Rattle.rust_lexer.specs.declared.kind.TokenKind.TheVariants as kind
-use Rattle.rust_lexer.specs.Bytes.{is_wide_start, run}
-use Rattle.rust_lexer.specs.Cut.{first_cut}
-use Rattle.rust_lexer.specs.Frontmatter.{frontmatter}
-use Rattle.rust_lexer.specs.Piece.{Piece}
-use Rattle.rust_lexer.specs.Symbol.{symbol_from, symbol_of}
-use Rattle.rust_lexer.specs.Tokens.{has_mark, is_blank, is_bracket_next, is_shebang, is_significant, is_significant_kind, piece, tokens, tokens_from, whole}
-use Rattle.rust_lexer.specs.Alone.{opening, is_fence, is_full, overhang, tokens_in_front, moved, braces_from, StandsAlone}
 use Rattle.rust_lexer.proofs.Counted.{when}
 use Rattle.rust_lexer.proofs.Same.{upto, full_behind, run_same}
 use Rattle.rust_lexer.proofs.Apart.{apart}

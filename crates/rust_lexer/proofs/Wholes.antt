@@ -1,13 +1,8 @@
 -- The most frequent tokens end where a character does.
 use Rattle.std.proofs.Common.{◌≡◌, ◌<◌, ◌≤◌, ℕ, suc, true, false, List, [], ◌∷◌, ◌+◌, ◌-◌, length, take, drop, IsUtf8, refl, sym, ap, ◌∙◌, arith}
-use Rattle.std.proofs.lemmas.List.{take_rest}
-use Rattle.std.proofs.lemmas.Bool.{cond_both}
-use Rattle.std.proofs.lemmas.Bool.Decides.{nat_tests}
+use Rattle.rust_lexer.proofs.Common.{take_rest, cond_both, nat_tests, Class, is_continuation, is_in_class, run, is_mark_byte}
 use Rattle.std.proofs.lemmas.Str.{lead_after_ascii}
-use Rattle.rust_lexer.specs.declared.bytes.Class.{Class}
 use Rattle.rust_lexer.specs.declared.bytes.Class.TheVariants as class
-use Rattle.rust_lexer.specs.Bytes.{is_continuation, is_in_class, run}
-use Rattle.rust_lexer.specs.Inner.{is_mark_byte}
 
 no_run : (b : ℕ) (z : List ℕ) → is_continuation b ≡ false → run class.Continuation (b ∷ z) ≡ 0
 no_run b z e = rw e refl

@@ -1,7 +1,6 @@
 //! The token at the front of a text, by its first byte and the bytes behind that.
 
-ghost use Rattle.std.specs.Prelude.{◌≡◌, ◌≤◌, ◌∷◌, drop, length, IfSome, IsTrue};
-ghost use Rattle.std.specs.Str.{IsUtf8};
+ghost use Rattle.std.specs.Prelude.{◌≡◌, ◌≤◌, ◌∷◌, drop, length, IfSome, IsTrue, IsUtf8};
 ghost use Rattle.rust_lexer.specs.declared.bytes.Class.TheVariants as class;
 ghost use Rattle.rust_lexer.specs.Bytes as bytes;
 ghost use Rattle.rust_lexer.specs.Cut as spec;

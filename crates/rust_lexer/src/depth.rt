@@ -1,7 +1,6 @@
 //! Passes over what stands in braces.
 
-ghost use Rattle.std.specs.Prelude.{ℕ, ◌≡◌, ◌==◌, ◌&&◌, ◌≤◌, ◌<◌, ◌+◌, ◌^◌, IfSome, IsTrue, Some, drop, length};
-ghost use Rattle.std.specs.Str.{IsUtf8};
+ghost use Rattle.std.specs.Prelude.{ℕ, ◌≡◌, ◌==◌, ◌&&◌, ◌≤◌, ◌<◌, ◌+◌, ◌^◌, IfSome, IsTrue, Some, drop, length, IsUtf8};
 ghost use Rattle.rust_lexer.specs.Depths as spec;
 ghost use Rattle.rust_lexer.specs.Tokens.{tokens_from};
 ghost use Rattle.rust_lexer.specs.declared.depth.Depth.{Depth};

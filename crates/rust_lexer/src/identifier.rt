@@ -1,8 +1,7 @@
 //! Which words are identifiers.
 
-ghost use Rattle.std.specs.Prelude.{◌≡◌, slice_get};
+ghost use Rattle.std.specs.Prelude.{◌≡◌, slice_get, chars};
 ghost use Rattle.std.specs.List.{list_all};
-ghost use Rattle.std.specs.Str.{chars};
 ghost use Rattle.unicode_ident.specs.Ident as unicode;
 ghost use Rattle.rust_lexer.specs.Identifier as spec;
 

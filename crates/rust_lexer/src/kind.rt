@@ -1,6 +1,5 @@
 //! The kinds of tokens.
-ghost use Rattle.std.specs.Prelude.{◌≡◌};
-ghost use Rattle.std.specs.Bool.{Decides};
+ghost use Rattle.std.specs.Prelude.{◌≡◌, Decides};
 
 /// The style of a documentation comment. rustc's `DocStyle`.
 #[derive(Clone, Copy, Debug, PartialEq, Eq)]

@@ -1,7 +1,6 @@
 //! The tokens of a text.
 
-ghost use Rattle.std.specs.Prelude.{◌≡◌, ◌<◌, ◌≤◌, ◌+◌, ◌^◌, All, IsTrue, IfOk, Some, IfSome, IfNone, MatchOption, [], ◌∷◌, drop, length};
-ghost use Rattle.std.specs.Str.{IsUtf8};
+ghost use Rattle.std.specs.Prelude.{◌≡◌, ◌<◌, ◌≤◌, ◌+◌, ◌^◌, All, IsTrue, IfOk, Some, IfSome, IfNone, MatchOption, [], ◌∷◌, drop, length, IsUtf8};
 ghost use Rattle.rust_lexer.specs.Tokens.{AreInPlace, text_of};
 ghost use Rattle.rust_lexer.specs.Tokens as spec;
 ghost use Rattle.rust_lexer.specs.declared.kind.TokenKind.TheVariants as kinds;

@@ -1,15 +1,9 @@
 -- What a member is stands neither in documentation that is not kept nor in body texts.
 use Rattle.std.proofs.Common.{◌≡◌, ℕ, false, Option, Some, None, refl, sym, ap, ◌∙◌}
-use Rattle.hir_input.specs.Syntax.{ItemView, plain_item, fn_kind}
-use Rattle.rust_cursor.specs.Tokens.{Tokens}
-use Rattle.rust_cursor.specs.Words.{is_at_end}
+use Rattle.rust_members.proofs.Common.{ItemView, plain_item, fn_kind, Tokens, is_at_end, with_value, clipped_front, clipped_item, clipped_leaf, clipped_leaf_if, FrontRead, front, LeafRead, MemberTold, told_of, told_with, member_kept, leaf_member, member_behind_front, associated, member_wanted}
 use Rattle.rust_leaves.specs.declared.wanted.Wanted.{Wanted}
-use Rattle.rust_leaves.specs.Clipped.{with_value, clipped_front, clipped_item, clipped_leaf, clipped_leaf_if}
-use Rattle.rust_leaves.specs.Fronts.{FrontRead, front}
 use Rattle.rust_leaves.specs.Kinds.{leaf}
-use Rattle.rust_leaves.specs.Leaves.{LeafRead}
 use Rattle.rust_leaves.proofs.Clipped.{leaf_front}
-use Rattle.rust_members.specs.Parts.{MemberTold, told_of, told_with, member_kept, leaf_member, member_behind_front, associated, member_wanted}
 
 told_wanted : (w : Wanted) (i : ItemView) → told_of (clipped_item w i) ≡ told_with w.docs i
 told_wanted w (plain_item fn_kind n) = refl

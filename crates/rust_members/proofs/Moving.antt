@@ -3,13 +3,7 @@ use Rattle.std.proofs.Common.{◌≡◌, ◌<◌, ◌≤◌, ◌+◌, ◌-◌, �
 use Rattle.std.proofs.lemmas.Bool.{and_parts, cases_Bool, leb-true}
 use Rattle.std.proofs.lemmas.Bool.Decides.{nat_tests, same_from_decides}
 use Rattle.std.proofs.lemmas.List.{length-drop, length-take-le, map-append}
-use Rattle.rust_paths.specs.declared.names.TextRange.{TextRange}
-use Rattle.rust_items.specs.Places.{IsNameIn}
-use Rattle.rust_members.specs.declared.member.Member.{Member}
-use Rattle.rust_members.specs.Lists.{is_boundary, is_cut, cut_out}
-use Rattle.rust_members.specs.Members.{MemberRead, moved_member, range_moved_by}
-use Rattle.rust_members.specs.Places.{ArePlaced, FitsMoved}
-use Rattle.rust_members.specs.Views.{member_view}
+use Rattle.rust_members.proofs.Common.{TextRange, IsNameIn, Member, is_boundary, is_cut, cut_out, MemberRead, moved_member, range_moved_by, ArePlaced, FitsMoved, member_view}
 
 -- what stands in a range that fits fits
 pub name_fits : (by : ℕ) (range : TextRange) (name : Option TextRange) → IsNameIn range name → by + range.end < 2 ^ 64 → FitsMoved by name

@@ -7,32 +7,17 @@ use Rattle.hir_input.specs.declared.ids.AstIdKind.{AstIdKind}
 use Rattle.hir_input.specs.declared.ids.AstIdKind.TheVariants as kind
 use Rattle.hir_input.specs.declared.ast.Visibility.{Visibility}
 use Rattle.hir_input.specs.Attr.{MetaView}
-use Rattle.hir_input.specs.Syntax.{ItemView}
+use Rattle.rust_members.proofs.Common.{ItemView, Tokens, tokens_of, Reader, symbol, at, is_at_end, bumped, most, beyond, turns_from, turns, perhaps, TextRange, front, LeafRead, named, IsNameIn, Member, Stand, MemberRead, moved_member, MemberTold, told_with, body_of, member_kept, leaf_member, associated, opens_generics, is_pair_here, behind_operand, is_part_end, behind_operands, behind_value, is_type_end, behind_type_part, behind_type_parts, behind_type, behind_part, part_of, part_member, member_turn, is_list_over, members_from, members_in, cut_out, ArePlaced, member_view}
 use Rattle.rust_metas.specs.Docs.{kept_metas}
-use Rattle.rust_cursor.specs.Tokens.{Tokens, tokens_of}
-use Rattle.rust_cursor.specs.Reader.{Reader}
-use Rattle.rust_cursor.specs.Words.{symbol, at, is_at_end, bumped}
-use Rattle.rust_cursor.specs.Elements.{most, beyond, turns_from, turns, perhaps}
 use Rattle.rust_cursor.proofs.Leads.{LeadsTo, here, further, through, when, bumped_leads, eat_leads, behind_tree_leads, behind_angles_leads, beyond_leads, takes, takes_leads}
 use Rattle.rust_cursor.proofs.Laid.{IsLaid, behind, past_within, at_behind, taken_behind, takes_strict, tokens_laid}
-use Rattle.rust_paths.specs.declared.names.TextRange.{TextRange}
 use Rattle.rust_paths.specs.Visibilities.{visibility}
 use Rattle.rust_paths.proofs.Leads.{visibility_leads}
 use Rattle.rust_metas.specs.Attributes.{outer_attributes, inner_attributes}
 use Rattle.rust_metas.proofs.Leads.{outer_attributes_leads, inner_attributes_leads}
-use Rattle.rust_leaves.specs.Fronts.{front}
-use Rattle.rust_leaves.specs.Leaves.{LeafRead, named}
-use Rattle.rust_items.specs.Places.{IsNameIn}
 use Rattle.rust_items.proofs.Leads.{IsBraced, braced, IsNamed, by_token, LeafFound, IsTaken, front_takes, front_start, leaf_found, named_leads, named_named, behind_others_leads}
 use Rattle.rust_members.specs.declared.member.MemberKind.{MemberKind}
 use Rattle.rust_members.specs.declared.member.MemberKind.TheVariants as member
-use Rattle.rust_members.specs.declared.member.Member.{Member}
-use Rattle.rust_members.specs.declared.part.Stand.{Stand}
-use Rattle.rust_members.specs.Members.{MemberRead, moved_member}
-use Rattle.rust_members.specs.Parts.{MemberTold, told_with, body_of, member_kept, leaf_member, associated, opens_generics, is_pair_here, behind_operand, is_part_end, behind_operands, behind_value, is_type_end, behind_type_part, behind_type_parts, behind_type, behind_part, part_of, part_member}
-use Rattle.rust_members.specs.Lists.{member_turn, is_list_over, members_from, members_in, cut_out}
-use Rattle.rust_members.specs.Places.{ArePlaced}
-use Rattle.rust_members.specs.Views.{member_view}
 use Rattle.rust_members.proofs.Moving.{placed_widened, members_fit, members_moved}
 
 -- ---- lists of members

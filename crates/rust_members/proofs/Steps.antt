@@ -1,8 +1,6 @@
 -- Steps of what is passed over in turns.
 use Rattle.std.proofs.Common.{◌≡◌, ◌<◌, ◌+◌, ◌-◌, ℕ, zero, suc, true, false, refl, arith}
-use Rattle.rust_cursor.specs.Tokens.{Tokens}
-use Rattle.rust_members.specs.declared.part.Stand.{Stand}
-use Rattle.rust_members.specs.Parts.{is_part_end, stand_behind, behind_operand, behind_operands, is_type_end, behind_type_part, behind_type_parts}
+use Rattle.rust_members.proofs.Common.{Tokens, Stand, is_part_end, stand_behind, behind_operand, behind_operands, is_type_end, behind_type_part, behind_type_parts}
 
 pub operands_stop : (n : ℕ) (stand : Stand) (ts : Tokens) → is_part_end stand ts ≡ true → behind_operands n stand ts ≡ ts
 operands_stop zero stand ts e = refl

@@ -1,19 +1,8 @@
 -- Conditions of tokens that look alike are the same, until one goes past where the texts part.
-use Rattle.std.proofs.Common.{◌≡◌, ◌==◌, ℕ, zero, suc, true, false, Option, Some, None, List, refl, ap}
-use Rattle.std.specs.Prelude.{if◌then◌else◌}
-use Rattle.hir_input.specs.Cfg.{CfgView, invalid}
-use Rattle.rust_cursor.specs.Brackets.{behind_closed, behind_tree}
-use Rattle.rust_cursor.specs.Reader.{Reader, ◌>>=◌}
-use Rattle.rust_cursor.specs.Tokens.{Tokens}
-use Rattle.rust_cursor.specs.Words.{symbol, bumped}
-use Rattle.rust_cursor.proofs.Leads.{through, Forwards, behind_closed_leads}
-use Rattle.rust_cursor.proofs.Parting.{Onward, on, gone, kept, Parting, Until, UpTo, by_next, onward_leads, cond_onward, cond_until, map_until, pass_until, bind_until, elements_until, Entering}
-use Rattle.rust_cursor.proofs.Twins.{is_edge, symbol_same, kind_same, text_same, open_same, end_same, symbol_test, after_symbol}
+use Rattle.std.proofs.Common.{◌≡◌, ◌==◌, ℕ, zero, suc, true, false, Option, Some, None, List, refl, ap, if◌then◌else◌}
+use Rattle.rust_metas.proofs.Common.{CfgView, invalid, behind_closed, behind_tree, Reader, Tokens, symbol, bumped, through, Forwards, behind_closed_leads, Onward, on, gone, kept, Parting, Until, UpTo, by_next, onward_leads, cond_onward, cond_until, map_until, pass_until, bind_until, elements_until, Entering, is_edge, symbol_same, kind_same, text_same, open_same, end_same, symbol_test, after_symbol, name_until, comma_from, behind_comma, is_option_word, option_name, composed, pair, named_condition, if_named, ended_condition, condition_with, conditions, condition, is_literal_kind, is_ended}
+use Rattle.rust_cursor.specs.Reader.{◌>>=◌}
 use Rattle.rust_paths.specs.Names.{as_name}
-use Rattle.rust_paths.proofs.Alike.{name_until}
-use Rattle.rust_metas.specs.Conditions.{comma_from, behind_comma, is_option_word, option_name, composed, pair, named_condition, if_named, ended_condition, condition_with, conditions, condition}
-use Rattle.rust_cursor.specs.Nests.{is_literal_kind}
-use Rattle.rust_metas.specs.Literals.{is_ended}
 use Rattle.rust_metas.proofs.Around.{option_symbol}
 use Rattle.rust_metas.proofs.Leads.{comma_from_leads, if_named_leads, ended_leads, condition_with_leads, conditions_leads}
 

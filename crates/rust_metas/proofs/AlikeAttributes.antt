@@ -1,16 +1,7 @@
 -- Attributes of tokens that look alike are the same, until one goes past where the texts part.
 use Rattle.std.proofs.Common.{◌≡◌, ◌==◌, ℕ, zero, suc, true, false, refl, ap}
-use Rattle.rust_lexer.specs.declared.kind.DocStyle.{DocStyle}
-use Rattle.rust_lexer.specs.declared.kind.DocStyle.TheVariants.{Outer, Inner}
-use Rattle.rust_cursor.specs.Tokens.{Tokens}
-use Rattle.rust_cursor.specs.Words.{symbol, at, bumped}
-use Rattle.rust_cursor.proofs.Leads.{through, when, bumped_leads}
-use Rattle.rust_cursor.proofs.Parting.{Onward, on, gone, kept, Parting, Until, UpTo, by_next, onward_leads, cond_onward, cond_until, pass_until, turns_until, Entering, Counted, Levels, levelled, level_enters, level_counted, until_level}
+use Rattle.rust_metas.proofs.Common.{DocStyle, Outer, Inner, Tokens, symbol, at, bumped, through, when, bumped_leads, Onward, on, gone, kept, Parting, Until, UpTo, by_next, onward_leads, cond_onward, cond_until, pass_until, turns_until, Entering, Counted, Levels, levelled, level_enters, level_counted, until_level, is_edge, symbol_same, kind_same, text_same, after_symbol, deepest, is_doc, is_attribute, is_behind, behind_bracket, bracketed, past_mark, one_attribute, behind_docs_from, behind_docs, behind_attribute, attribute, attributes, outer_attributes, inner_attributes, documentation, doc}
 use Rattle.rust_cursor.proofs.Tests.{begins_item_same}
-use Rattle.rust_cursor.proofs.Twins.{is_edge, symbol_same, kind_same, text_same, after_symbol}
-use Rattle.rust_metas.specs.Attributes.{deepest, is_doc, is_attribute, is_behind, behind_bracket, bracketed, past_mark, one_attribute, behind_docs_from, behind_docs, behind_attribute, attribute, attributes, outer_attributes, inner_attributes}
-use Rattle.rust_metas.specs.Literals.{documentation}
-use Rattle.rust_metas.specs.Metas.{doc}
 use Rattle.rust_metas.proofs.AlikeMetas.{meta_until}
 use Rattle.rust_metas.proofs.Around.{doc_symbol}
 use Rattle.rust_metas.proofs.Leads.{meta_leads, behind_bracket_leads, bracketed_leads, behind_attribute_leads, attribute_leads}

@@ -1,22 +1,7 @@
 -- Metas of tokens that look alike are the same, until one goes past where the texts part. Their spans count from anchors that are as far from both.
-use Rattle.std.proofs.Common.{◌≡◌, ◌&&◌, ◌==◌, ℕ, zero, suc, true, false, Option, Some, List, [], refl, ap, codes}
-use Rattle.std.specs.Str.{bytes_eq}
-use Rattle.std.proofs.lemmas.Bool.{and_parts}
-use Rattle.hir_input.specs.declared.ast.PathNode.{PathNode}
-use Rattle.hir_input.specs.Attr.{MetaView, key_value_meta, token_tree_meta, cfg_meta, cfg_attr_meta, unsafe_meta, metas_from}
-use Rattle.hir_input.specs.Cfg.{CfgView}
-use Rattle.rust_cursor.specs.Elements.{elements, one}
-use Rattle.rust_cursor.specs.Reader.{Reader, ◌>>=◌, pure}
-use Rattle.rust_cursor.specs.Tokens.{Tokens}
-use Rattle.rust_cursor.specs.Words.{symbol, word, bumped, is_at_open}
-use Rattle.rust_cursor.proofs.Leads.{through, Forwards, when}
-use Rattle.rust_cursor.proofs.Parting.{kept, Parting, Until, UpTo, cond_until, map_until, pass_until, bind_until, elements_until, Entering, Counted}
-use Rattle.rust_cursor.proofs.Twins.{is_edge, word_same, kind_same, text_same, open_same, edge_word, edge_test, symbol_test, after_word, after_symbol}
-use Rattle.rust_paths.specs.Paths.{path}
-use Rattle.rust_paths.proofs.Alike.{path_until}
-use Rattle.rust_metas.specs.Conditions.{behind_comma, condition}
-use Rattle.rust_metas.specs.Literals.{is_truth, is_literal, is_ended, root, next_literal, value}
-use Rattle.rust_metas.specs.Metas.{assigned, input, plain_meta, is_call, member, meta_with, meta}
+use Rattle.std.proofs.Common.{◌≡◌, ◌&&◌, ◌==◌, ℕ, zero, suc, true, false, Option, Some, List, [], refl, ap, codes, bytes_eq}
+use Rattle.rust_metas.proofs.Common.{and_parts, PathNode, MetaView, key_value_meta, token_tree_meta, cfg_meta, cfg_attr_meta, unsafe_meta, metas_from, CfgView, elements, one, Reader, pure, Tokens, symbol, word, bumped, is_at_open, through, Forwards, when, kept, Parting, Until, UpTo, cond_until, map_until, pass_until, bind_until, elements_until, Entering, Counted, is_edge, word_same, kind_same, text_same, open_same, edge_word, edge_test, symbol_test, after_word, after_symbol, path, path_until, behind_comma, condition, is_truth, is_literal, is_ended, root, next_literal, value, assigned, input, plain_meta, is_call, member, meta_with, meta}
+use Rattle.rust_cursor.specs.Reader.{◌>>=◌}
 use Rattle.rust_metas.proofs.Alike.{behind_comma_onward, ended_same, inside, inside_until, condition_until}
 use Rattle.rust_metas.proofs.Around.{literal_symbol}
 use Rattle.rust_metas.proofs.Leads.{behind_comma_leads, condition_leads, input_leads, member_leads, members_leads, meta_leads}

@@ -1,36 +1,15 @@
 -- Attributes stay in the brackets that they stand in.
-use Rattle.std.proofs.Common.{◌≡◌, ◌==◌, ◌||◌, ◌&&◌, ℕ, zero, suc, Bool, true, false, Option, Some, None, List, [], ◌∷◌, refl, sym, ◌∙◌, subst, codes}
-use Rattle.std.specs.Prelude.{if◌then◌else◌, not, slice_index}
-use Rattle.std.specs.Str.{bytes_eq}
-use Rattle.std.proofs.lemmas.Bool.{eqb-true}
-use Rattle.hir_input.specs.declared.ast.PathNode.{PathNode}
-use Rattle.hir_input.specs.Attr.{MetaView}
-use Rattle.hir_input.specs.Cfg.{CfgView}
-use Rattle.rust_lexer.specs.declared.kind.DocStyle.{DocStyle}
-use Rattle.rust_lexer.specs.declared.kind.DocStyle.TheVariants.{Outer, Inner}
+use Rattle.std.proofs.Common.{◌≡◌, ◌==◌, ◌||◌, ◌&&◌, ℕ, zero, suc, Bool, true, false, Option, Some, None, List, [], ◌∷◌, refl, sym, ◌∙◌, subst, codes, if◌then◌else◌, not, slice_index, bytes_eq}
+use Rattle.rust_metas.proofs.Common.{eqb-true, PathNode, MetaView, CfgView, DocStyle, Outer, Inner, Tokens, Reader, by_first, symbol, word, kind, text, at, is_empty, bumped, is_at_open, is_at_end, behind_closed, behind_tree, elements, one, begins_item, LeadsTo, here, further, through, Forwards, when, bumped_leads, behind_tree_leads, path, path_leads, is_literal_kind, is_truth, is_literal, is_ended, style_by, value, documentation, comma_from, behind_comma, is_word_kind, is_option_word, option_name, pair, named_condition, if_named, ended_condition, condition_with, conditions, condition, input, plain_meta, is_call, member, meta_with, meta, doc, behind_docs_from, behind_docs, behind_attribute, deepest, is_style, is_doc, is_attribute, is_behind, bracketed, past_mark, one_attribute, attribute, attributes, inner_attributes}
 use Rattle.rust_lexer.specs.declared.kind.TokenKind.{TokenKind}
 use Rattle.rust_lexer.specs.declared.kind.TokenKind.TheVariants as kinds
 use Rattle.rust_lexer.specs.Piece.{Piece}
 use Rattle.rust_lexer.specs.Symbol.{symbol_of}
-use Rattle.rust_cursor.specs.Tokens.{Tokens}
-use Rattle.rust_cursor.specs.Reader.{Reader}
-use Rattle.rust_cursor.specs.Words.{by_first, symbol, word, kind, text, at, is_empty, bumped, is_at_open, is_at_end}
-use Rattle.rust_cursor.specs.Brackets.{behind_closed, behind_tree}
-use Rattle.rust_cursor.specs.Elements.{elements, one}
-use Rattle.rust_cursor.specs.Extents.{begins_item}
-use Rattle.rust_cursor.proofs.Leads.{LeadsTo, here, further, through, Forwards, when, bumped_leads, behind_tree_leads}
 use Rattle.rust_cursor.proofs.Local.{both_true}
 use Rattle.rust_cursor.proofs.Around.{around, Within, same_within, is_plain, IsSound, sound_on, Remains, NoCloser, OpensAt, round, opens_at, opens_no_closer, not_end, plain_of, plain_upto, plain_around, other_around, word_symbol, entered_within, inside_within, tree_within, turns_within, elements_within, tree_text_within, to_around}
 use Rattle.rust_cursor.proofs.Enclosed.{AreEnclosed}
 use Rattle.rust_cursor.proofs.Near.{nothing}
-use Rattle.rust_paths.specs.Paths.{path}
-use Rattle.rust_paths.proofs.Leads.{path_leads}
 use Rattle.rust_paths.proofs.Around.{name_around, path_within}
-use Rattle.rust_cursor.specs.Nests.{is_literal_kind}
-use Rattle.rust_metas.specs.Literals.{is_truth, is_literal, is_ended, style_by, value, documentation}
-use Rattle.rust_metas.specs.Conditions.{comma_from, behind_comma, is_word_kind, is_option_word, option_name, pair, named_condition, if_named, ended_condition, condition_with, conditions, condition}
-use Rattle.rust_metas.specs.Metas.{input, plain_meta, is_call, member, meta_with, meta, doc}
-use Rattle.rust_metas.specs.Attributes.{behind_docs_from, behind_docs, behind_attribute, deepest, is_style, is_doc, is_attribute, is_behind, bracketed, past_mark, one_attribute, attribute, attributes, inner_attributes}
 use Rattle.rust_metas.proofs.Leads.{option_name_leads, if_named_leads, condition_with_leads, conditions_leads, condition_leads, member_leads, members_leads, meta_leads, attribute_leads}
 
 -- ---- literals

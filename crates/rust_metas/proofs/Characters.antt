@@ -4,7 +4,7 @@ use Rattle.std.proofs.Common.{◌≡◌, ◌+◌, ◌<◌, ◌≤◌, ◌^◌, �
 use Rattle.std.proofs.Math.Nat.{pow-le-pow_right}
 use Rattle.std.specs.Char.{IsScalar}
 use Rattle.rust_metas.specs.declared.escape.Escape.{Escape}
-use Rattle.rust_metas.specs.Escapes.{scalar_of, stands_for}
+use Rattle.rust_metas.proofs.Common.{scalar_of, stands_for}
 
 pub scalar_is : (value len : ℕ) → IsScalar value → scalar_of (Some (value, len)) ≡ Some (stands_for value (len + 2))
 scalar_is value len e = rw e refl

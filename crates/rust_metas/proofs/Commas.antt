@@ -1,10 +1,6 @@
 -- Steps up to a comma.
 use Rattle.std.proofs.Common.{◌≡◌, ◌≢◌, ◌==◌, ◌-◌, ◌<◌, ◌+◌, ℕ, zero, suc, true, false, refl, arith}
-use Rattle.std.proofs.lemmas.Bool.{ne_eqb}
-use Rattle.rust_cursor.specs.Tokens.{Tokens}
-use Rattle.rust_cursor.specs.Words.{symbol, bumped, is_at_end}
-use Rattle.rust_cursor.specs.Brackets.{behind_tree}
-use Rattle.rust_metas.specs.Conditions.{comma_from}
+use Rattle.rust_metas.proofs.Common.{ne_eqb, Tokens, symbol, bumped, is_at_end, behind_tree, comma_from}
 
 -- nothing is left to pass over
 pub comma_end : (n : ℕ) (ts : Tokens) → is_at_end ts ≡ true → comma_from n ts ≡ ts

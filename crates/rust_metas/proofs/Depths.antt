@@ -1,11 +1,6 @@
 -- What stands in one another, down to a depth.
 use Rattle.std.proofs.Common.{◌≡◌, ◌-◌, ◌<◌, ℕ, zero, suc, None, refl, arith}
-use Rattle.rust_cursor.specs.Tokens.{Tokens}
-use Rattle.rust_cursor.specs.Elements.{elements, one}
-use Rattle.hir_input.specs.Attr.{path_meta}
-use Rattle.rust_metas.specs.Conditions.{conditions, condition, some}
-use Rattle.rust_metas.specs.Literals.{root}
-use Rattle.rust_metas.specs.Metas.{meta, meta_with}
+use Rattle.rust_metas.proofs.Common.{Tokens, elements, one, path_meta, conditions, condition, some, root, meta, meta_with}
 
 pub conditions_deep : (depth : ℕ) (ts : Tokens) → depth ≡ 0 → conditions depth ts ≡ (None, ts)
 unfolding conditions

@@ -1,9 +1,6 @@
 -- Inner documentation behind an outer attribute.
 use Rattle.std.proofs.Common.{◌≡◌, ◌<◌, ◌+◌, ◌-◌, ℕ, zero, suc, true, false, refl, arith}
-use Rattle.rust_lexer.specs.declared.kind.DocStyle.TheVariants.{Inner}
-use Rattle.rust_cursor.specs.Tokens.{Tokens}
-use Rattle.rust_cursor.specs.Words.{bumped}
-use Rattle.rust_metas.specs.Attributes.{is_doc, behind_docs_from}
+use Rattle.rust_metas.proofs.Common.{Inner, Tokens, bumped, is_doc, behind_docs_from}
 
 pub docs_stop : (n : ℕ) (ts : Tokens) → is_doc Inner ts ≡ false → behind_docs_from n ts ≡ ts
 docs_stop zero ts e = refl

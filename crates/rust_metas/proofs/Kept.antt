@@ -1,17 +1,7 @@
 -- Metas with documentation or without, step by step.
-use Rattle.std.proofs.Common.{◌≡◌, ◌-◌, ℕ, zero, suc, Bool, true, false, List, [], ◌∷◌, ◌++◌, refl, sym, ap, ◌∙◌, arith}
-use Rattle.std.specs.Prelude.{if◌then◌else◌}
+use Rattle.std.proofs.Common.{◌≡◌, ◌-◌, ℕ, zero, suc, Bool, true, false, List, [], ◌∷◌, ◌++◌, refl, sym, ap, ◌∙◌, arith, if◌then◌else◌}
 use Rattle.std.proofs.lemmas.List.Elements.{filter-append}
-use Rattle.hir_input.specs.Attr.{MetaView}
-use Rattle.rust_lexer.specs.declared.kind.DocStyle.{DocStyle}
-use Rattle.rust_cursor.specs.Tokens.{Tokens}
-use Rattle.rust_cursor.specs.Reader.{Reader}
-use Rattle.rust_cursor.specs.Words.{bumped}
-use Rattle.rust_cursor.specs.Elements.{most, beyond, turns_from, turns, one}
-use Rattle.rust_metas.specs.Attributes.{is_doc, is_behind, one_attribute, behind_attribute, attribute, attributes}
-use Rattle.rust_metas.specs.Docs.{is_doc_meta, kept_metas, kept_by}
-use Rattle.rust_metas.specs.Literals.{documentation}
-use Rattle.rust_metas.specs.Metas.{doc}
+use Rattle.rust_metas.proofs.Common.{MetaView, DocStyle, Tokens, Reader, bumped, most, beyond, turns_from, turns, one, is_doc, is_behind, one_attribute, behind_attribute, attribute, attributes, is_doc_meta, kept_metas, kept_by, documentation, doc}
 
 pub kept_append : (keeps : Bool) (ms ns : List MetaView) → kept_metas keeps (ms ++ ns) ≡ kept_metas keeps ms ++ kept_metas keeps ns
 unfolding kept_metas

@@ -1,22 +1,6 @@
 -- What is left behind attributes is left of the tokens before them.
 use Rattle.std.proofs.Common.{◌==◌, ◌&&◌, ℕ, zero, suc, Option, Some, None, List, codes}
-use Rattle.hir_input.specs.declared.ast.PathNode.{PathNode}
-use Rattle.hir_input.specs.Attr.{MetaView}
-use Rattle.hir_input.specs.Cfg.{CfgView}
-use Rattle.rust_lexer.specs.declared.kind.DocStyle.{DocStyle}
-use Rattle.rust_lexer.specs.declared.kind.DocStyle.TheVariants.{Outer, Inner}
-use Rattle.rust_cursor.specs.Tokens.{Tokens}
-use Rattle.rust_cursor.specs.Reader.{Reader}
-use Rattle.rust_cursor.specs.Words.{symbol, word, kind, bumped, is_at_end, is_at_open}
-use Rattle.rust_cursor.specs.Elements.{elements, one}
-use Rattle.rust_cursor.specs.Extents.{begins_item}
-use Rattle.rust_cursor.proofs.Leads.{LeadsTo, here, further, through, Forwards, when, bumped_leads, behind_closed_leads, behind_tree_leads, turns_leads, taken_leads_on}
-use Rattle.rust_paths.proofs.Leads.{name_leads, path_leads}
-use Rattle.rust_cursor.specs.Nests.{is_literal_kind}
-use Rattle.rust_metas.specs.Literals.{is_literal, is_ended, value, documentation}
-use Rattle.rust_metas.specs.Conditions.{comma_from, behind_comma, is_option_word, option_name, pair, named_condition, if_named, ended_condition, condition_with, conditions, condition}
-use Rattle.rust_metas.specs.Metas.{input, plain_meta, is_call, unsafe_with, cfg_meta_with, member, cfg_attr_with, meta_with, meta, doc}
-use Rattle.rust_metas.specs.Attributes.{is_doc, is_behind, behind_bracket, bracketed, past_mark, one_attribute, behind_docs_from, behind_docs, behind_attribute, attribute, attributes, outer_attributes, inner_attributes}
+use Rattle.rust_metas.proofs.Common.{PathNode, MetaView, CfgView, DocStyle, Outer, Inner, Tokens, Reader, symbol, word, kind, bumped, is_at_end, is_at_open, elements, one, begins_item, LeadsTo, here, further, through, Forwards, when, bumped_leads, behind_closed_leads, behind_tree_leads, turns_leads, taken_leads_on, name_leads, path_leads, is_literal_kind, is_literal, is_ended, value, documentation, comma_from, behind_comma, is_option_word, option_name, pair, named_condition, if_named, ended_condition, condition_with, conditions, condition, input, plain_meta, is_call, unsafe_with, cfg_meta_with, member, cfg_attr_with, meta_with, meta, doc, is_doc, is_behind, behind_bracket, bracketed, past_mark, one_attribute, behind_docs_from, behind_docs, behind_attribute, attribute, attributes, outer_attributes, inner_attributes}
 
 -- ---- literals
 

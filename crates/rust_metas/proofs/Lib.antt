@@ -11,3 +11,4 @@ pub mod Alike
 pub mod AlikeMetas
 pub mod AlikeAttributes
 pub mod UntilAttributes
+pub mod Common

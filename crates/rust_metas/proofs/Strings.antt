@@ -1,9 +1,6 @@
 -- The steps of what strings stand for.
-use Rattle.std.proofs.Common.{◌≡◌, ◌==◌, ◌≤◌, ◌++◌, ◌∷◌, [], ℕ, zero, suc, false, Option, Some, None, unwrap_or, List, length, drop, get_or, refl, sym, ap, ◌∙◌, arith}
-use Rattle.std.proofs.lemmas.List.{append_assoc}
-use Rattle.std.proofs.lemmas.Bool.{ne_eqb}
-use Rattle.std.specs.Option.{option_and_then}
-use Rattle.rust_metas.specs.Strings.{prepend, escaped_character, unescaped, pushed, beside, ended_string}
+use Rattle.std.proofs.Common.{◌≡◌, ◌==◌, ◌≤◌, ◌++◌, ◌∷◌, [], ℕ, zero, suc, false, Option, Some, None, unwrap_or, List, length, drop, get_or, refl, sym, ap, ◌∙◌, arith, option_and_then}
+use Rattle.rust_metas.proofs.Common.{append_assoc, ne_eqb, prepend, escaped_character, unescaped, pushed, beside, ended_string}
 
 prepend-prepend : (xs ys : List ℕ) (rest : Option (List ℕ)) → prepend xs (prepend ys rest) ≡ prepend (xs ++ ys) rest
 prepend-prepend xs ys None = refl

@@ -1,8 +1,7 @@
 -- Bytes as texts.
 use Rattle.std.proofs.Common.{◌≡◌, Bool, true, false, ℕ, Some, None, if◌then◌else◌, List, IsUtf8, refl, ap, subst}
-use Rattle.std.proofs.lemmas.Str.{IsUtf8-from_is_utf8, is_utf8-from_IsUtf8}
+use Rattle.rust_metas.proofs.Common.{IsUtf8-from_is_utf8, is_utf8-from_IsUtf8, as_text}
 use Rattle.std.specs.Str.{is_utf8}
-use Rattle.rust_metas.specs.Strings.{as_text}
 
 pub is_text : (bytes found : List ℕ) → IsUtf8 found → found ≡ bytes → Some found ≡ as_text bytes
 unfolding as_text

@@ -2,7 +2,7 @@
 use Rattle.rust_cursor.specs.Beside.{Bodies}
 use Rattle.rust_cursor.proofs.Sides.{into_braces, braces_enter, braces_levels, is_until}
 use Rattle.rust_cursor.proofs.Until.{UpTo}
-use Rattle.rust_metas.specs.Attributes.{outer_attributes, inner_attributes}
+use Rattle.rust_metas.proofs.Common.{outer_attributes, inner_attributes}
 use Rattle.rust_metas.proofs.AlikeAttributes as alike
 
 pub outer_attributes_until : (b : Bodies) → UpTo b outer_attributes

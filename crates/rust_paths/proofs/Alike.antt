@@ -1,22 +1,7 @@
 -- Names, paths and visibilities of tokens that look alike are the same, until one goes past where the texts part.
-use Rattle.std.proofs.Common.{◌≡◌, ◌==◌, ℕ, zero, suc, Bool, true, false, Option, Some, None, List, ◌∷◌, refl, ap, ◌∙◌, codes}
-use Rattle.std.specs.Prelude.{option_map, is_some, not}
-use Rattle.std.specs.Str.{bytes_eq}
-use Rattle.std.proofs.lemmas.Bool.{and_parts}
-use Rattle.hir_input.specs.declared.ast.PathNode.{PathNode}
-use Rattle.hir_input.specs.declared.ast.Visibility.{Visibility}
-use Rattle.hir_input.specs.Words.{name_word}
-use Rattle.rust_cursor.specs.Brackets.{behind_closed}
-use Rattle.rust_cursor.specs.Reader.{Reader, ◌>>=◌, pure}
-use Rattle.rust_cursor.specs.Tokens.{Tokens}
-use Rattle.rust_cursor.specs.Words.{symbol, word, kind, text, bumped, eat_colons}
-use Rattle.rust_cursor.proofs.Leads.{Forwards, through, when, behind_closed_leads}
-use Rattle.rust_cursor.proofs.Parting.{Parting, Until, UpTo, kept, cond_until, with_rest, map_until, pass_until, then_until, bind_until, eat_pair_until}
-use Rattle.rust_cursor.proofs.Twins.{is_edge, symbol_same, word_same, kind_same, text_same, edge_word, edge_test, word_test, symbol_test, after_word, after_symbol, pair_same, after_pair}
-use Rattle.rust_paths.specs.Meaning.{path_node}
-use Rattle.rust_paths.specs.Names.{name_text, has_name, as_name, next_name, taken_with, name}
-use Rattle.rust_paths.specs.Paths.{is_raw, is_dollar_crate, is_segment, named_word, other_segment, segment, is_colons, is_joint, is_path_colons, and_path_word, more_from, more_segments, front_of_path, written_path, is_path_start, path_in, path, use_path}
-use Rattle.rust_paths.specs.Visibilities.{in_path, path_scope, plain_scope, scope_of, scope, is_in, scoped, visibility}
+use Rattle.std.proofs.Common.{◌≡◌, ◌==◌, ℕ, zero, suc, Bool, true, false, Option, Some, None, List, ◌∷◌, refl, ap, ◌∙◌, codes, option_map, is_some, not, bytes_eq}
+use Rattle.rust_paths.proofs.Common.{and_parts, PathNode, Visibility, name_word, behind_closed, Reader, pure, Tokens, symbol, word, kind, text, bumped, eat_colons, Forwards, through, when, behind_closed_leads, Parting, Until, UpTo, kept, cond_until, with_rest, map_until, pass_until, then_until, bind_until, eat_pair_until, is_edge, symbol_same, word_same, kind_same, text_same, edge_word, edge_test, word_test, symbol_test, after_word, after_symbol, pair_same, after_pair, path_node, name_text, has_name, as_name, next_name, taken_with, name, is_raw, is_dollar_crate, is_segment, named_word, other_segment, segment, is_colons, is_joint, is_path_colons, and_path_word, more_from, more_segments, front_of_path, written_path, is_path_start, path_in, path, use_path, in_path, path_scope, plain_scope, scope_of, scope, is_in, scoped, visibility}
+use Rattle.rust_cursor.specs.Reader.{◌>>=◌}
 use Rattle.rust_paths.proofs.Around.{name_symbol, raw_symbol}
 use Rattle.rust_paths.proofs.Leads.{segment_leads, more_from_leads, more_segments_leads}
 

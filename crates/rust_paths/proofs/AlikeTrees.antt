@@ -1,21 +1,6 @@
 -- Use trees of tokens that look alike are the same, until one goes past where the texts part; where they begin is told alike.
-use Rattle.std.proofs.Common.{◌≡◌, ◌||◌, ℕ, zero, suc, Bool, true, false, Option, Some, None, List, [], ◌++◌, refl, ap, ◌∙◌, codes}
-use Rattle.std.specs.Prelude.{is_none, option_to_list}
-use Rattle.hir_input.specs.declared.ast.PathNode.{PathNode}
-use Rattle.hir_input.specs.declared.ast.PathNode.TheVariants.{Readable, Unreadable}
-use Rattle.hir_input.specs.UseTreeView.{UseTreeView}
-use Rattle.rust_cursor.specs.Brackets.{behind_closed, behind_tree}
-use Rattle.rust_cursor.specs.Elements.{one}
-use Rattle.rust_cursor.specs.Reader.{Reader}
-use Rattle.rust_cursor.specs.Tokens.{Tokens}
-use Rattle.rust_cursor.specs.Words.{at, bumped, is_at_end, eat_word, eat_colons}
-use Rattle.rust_cursor.proofs.Leads.{through, Forwards, when, eat_word_leads, eat_pair_leads, behind_closed_leads, turns_leads}
-use Rattle.rust_cursor.proofs.Parting.{Onward, on, UntilBy, gone, kept, Parting, UpTo, by_next, onward_leads, cond_onward, by_kept, cond_until, map_until, bind_until, eat_word_until, eat_pair_until, turns_by, Entering}
-use Rattle.rust_cursor.proofs.Places.{AreAlike, no_more, one_more, alike_join, IsAlike, neither, both, alike_or}
-use Rattle.rust_cursor.proofs.Twins.{end_same, symbol_test, after_symbol}
-use Rattle.rust_paths.specs.Names.{name}
-use Rattle.rust_paths.specs.Paths.{use_path}
-use Rattle.rust_paths.specs.UseTrees.{FoundInUse, alias, alias_if, rename, begun_trees, with_bare, tree_with_list, begun_list, with_list, star_or_list, renamed_tree, tree_behind, tree_with, tree_comma_from, tree_behind_comma, element_with, values, all_starts, first_too_deep, all_found, trees, some_list, no_list, list, tree_at, use_tree}
+use Rattle.std.proofs.Common.{◌≡◌, ◌||◌, ℕ, zero, suc, Bool, true, false, Option, Some, None, List, [], ◌++◌, refl, ap, ◌∙◌, codes, is_none, option_to_list}
+use Rattle.rust_paths.proofs.Common.{PathNode, Readable, Unreadable, UseTreeView, behind_closed, behind_tree, one, Reader, Tokens, at, bumped, is_at_end, eat_word, eat_colons, through, Forwards, when, eat_word_leads, eat_pair_leads, behind_closed_leads, turns_leads, Onward, on, UntilBy, gone, kept, Parting, UpTo, by_next, onward_leads, cond_onward, by_kept, cond_until, map_until, bind_until, eat_word_until, eat_pair_until, turns_by, Entering, AreAlike, no_more, one_more, alike_join, IsAlike, neither, both, alike_or, end_same, symbol_test, after_symbol, name, use_path, FoundInUse, alias, alias_if, rename, begun_trees, with_bare, tree_with_list, begun_list, with_list, star_or_list, renamed_tree, tree_behind, tree_with, tree_comma_from, tree_behind_comma, element_with, values, all_starts, first_too_deep, all_found, trees, some_list, no_list, list, tree_at, use_tree}
 use Rattle.rust_paths.proofs.Alike.{name_until, use_path_until}
 use Rattle.rust_paths.proofs.Leads.{alias_if_leads, comma_from_leads, behind_comma_leads, tree_behind_leads, element_leads, list_leads}
 

@@ -1,19 +1,11 @@
 -- Paths and visibilities stay in the brackets that they stand in.
-use Rattle.std.proofs.Common.{◌≡◌, ◌==◌, ℕ, zero, suc, true, false, Option, Some, None, List, [], ◌∷◌, refl, ◌∙◌, codes}
-use Rattle.std.specs.Str.{bytes_eq}
-use Rattle.hir_input.specs.declared.edition.EditionYear.{EditionYear}
+use Rattle.std.proofs.Common.{◌≡◌, ◌==◌, ℕ, zero, suc, true, false, Option, Some, None, List, [], ◌∷◌, refl, ◌∙◌, codes, bytes_eq}
+use Rattle.rust_paths.proofs.Common.{EditionYear, Piece, Tokens, by_first, symbol, word, kind, text, bumped, eat_colons, here, further, through, when, bumped_leads, eat_pair_leads, both_true, name_text, as_name, next_name, taken_with, name, is_raw, is_dollar_crate, named_word, other_segment, segment, is_colons, is_path_colons, more_from, more_segments, written_path, is_path_start, path}
 use Rattle.rust_lexer.specs.declared.kind.TokenKind.{TokenKind}
 use Rattle.rust_lexer.specs.declared.kind.TokenKind.TheVariants as kinds
-use Rattle.rust_lexer.specs.Piece.{Piece}
 use Rattle.rust_lexer.specs.Symbol.{symbol_of}
-use Rattle.rust_cursor.specs.Tokens.{Tokens}
-use Rattle.rust_cursor.specs.Words.{by_first, symbol, word, kind, text, bumped, eat_colons}
-use Rattle.rust_cursor.proofs.Leads.{here, further, through, when, bumped_leads, eat_pair_leads}
-use Rattle.rust_cursor.proofs.Local.{both_true}
 use Rattle.rust_cursor.proofs.Around.{around, same_within, sound_on, Remains, plain_around, other_around, word_symbol, pair_around, eat_pair_around, behind_angles_within}
 use Rattle.rust_paths.proofs.Leads.{segment_leads}
-use Rattle.rust_paths.specs.Names.{name_text, as_name, next_name, taken_with, name}
-use Rattle.rust_paths.specs.Paths.{is_raw, is_dollar_crate, named_word, other_segment, segment, is_colons, is_path_colons, more_from, more_segments, written_path, is_path_start, path}
 
 name_first : (y : EditionYear) (n : List ℕ) (left : List Piece) → as_name (name_text y (by_first None (λ t. Some t.kind) left) (by_first [] (λ t. t.text) left)) ≡ Some n → by_first 0 symbol_of left ≡ 0
 name_first y n [] e = refl

@@ -1,20 +1,6 @@
 -- What is left behind names, paths, visibilities and use trees is left of the tokens before them.
-use Rattle.std.proofs.Common.{◌≡◌, ◌==◌, ◌||◌, ℕ, zero, suc, Bool, true, false, Option, Some, None, List, [], ◌∷◌, refl, sym, ap, codes}
-use Rattle.std.specs.Prelude.{is_none}
-use Rattle.std.specs.Str.{bytes_eq}
-use Rattle.hir_input.specs.declared.ast.PathNode.{PathNode}
-use Rattle.hir_input.specs.declared.ast.Visibility.{Visibility}
-use Rattle.hir_input.specs.UseTreeView.{UseTreeView}
-use Rattle.rust_lexer.specs.Piece.{Piece}
-use Rattle.rust_cursor.specs.Tokens.{Tokens}
-use Rattle.rust_cursor.specs.Reader.{Reader}
-use Rattle.rust_cursor.specs.Words.{symbol, word, kind, at, by_first, is_empty, bumped, is_at_end}
-use Rattle.rust_cursor.specs.Elements.{one}
-use Rattle.rust_cursor.proofs.Leads.{LeadsTo, here, further, through, Forwards, when, bumped_leads, eat_word_leads, eat_pair_leads, behind_closed_leads, behind_tree_leads, behind_angles_leads, turns_leads}
-use Rattle.rust_paths.specs.Names.{Placed, placed_if, taken_with, next_name, name, placed_name}
-use Rattle.rust_paths.specs.Paths.{is_raw, is_dollar_crate, named_word, other_segment, segment, is_path_colons, more_from, more_segments, written_path, is_path_start, path_in, path, use_path}
-use Rattle.rust_paths.specs.Visibilities.{path_scope, plain_scope, scope, is_in, scoped, visibility}
-use Rattle.rust_paths.specs.UseTrees.{FoundInUse, alias, alias_if, rename, star_or_list, renamed_tree, tree_behind, tree_with, tree_comma_from, tree_behind_comma, element_with, list, tree_at, use_tree}
+use Rattle.std.proofs.Common.{◌≡◌, ◌==◌, ◌||◌, ℕ, zero, suc, Bool, true, false, Option, Some, None, List, [], ◌∷◌, refl, sym, ap, codes, is_none, bytes_eq}
+use Rattle.rust_paths.proofs.Common.{PathNode, Visibility, UseTreeView, Piece, Tokens, Reader, symbol, word, kind, at, by_first, is_empty, bumped, is_at_end, one, LeadsTo, here, further, through, Forwards, when, bumped_leads, eat_word_leads, eat_pair_leads, behind_closed_leads, behind_tree_leads, behind_angles_leads, turns_leads, Placed, placed_if, taken_with, next_name, name, placed_name, is_raw, is_dollar_crate, named_word, other_segment, segment, is_path_colons, more_from, more_segments, written_path, is_path_start, path_in, path, use_path, path_scope, plain_scope, scope, is_in, scoped, visibility, FoundInUse, alias, alias_if, rename, star_or_list, renamed_tree, tree_behind, tree_with, tree_comma_from, tree_behind_comma, element_with, list, tree_at, use_tree}
 
 -- ---- names
 

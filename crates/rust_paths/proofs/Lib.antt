@@ -8,3 +8,4 @@ pub mod Alike
 pub mod Beside
 pub mod AlikeTrees
 pub mod UntilTrees
+pub mod Common

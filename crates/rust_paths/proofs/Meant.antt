@@ -1,19 +1,10 @@
 -- A path that has one word more.
-use Rattle.std.proofs.Common.{◌≡◌, ◌+◌, ℕ, suc, Bool, true, false, List, [], ◌∷◌, ◌++◌, Option, Some, None, option_map, if◌then◌else◌, not, refl, sym, ap, ◌∙◌, append_assoc, append-nil, arith}
-use Rattle.std.specs.Prelude.{nat_lt}
-use Rattle.std.specs.Option.{SomeIff}
-use Rattle.std.proofs.lemmas.Bool.Decides.{nat_tests}
+use Rattle.std.proofs.Common.{◌≡◌, ◌+◌, ℕ, suc, Bool, true, false, List, [], ◌∷◌, ◌++◌, Option, Some, None, option_map, if◌then◌else◌, not, refl, sym, ap, ◌∙◌, append_assoc, append-nil, arith, nat_lt}
+use Rattle.rust_paths.proofs.Common.{SomeIff, nat_tests, PathNode, Readable, Unreadable, Path, HasWords, PathWord, self_word, super_word, crate_word, absolute_word, dollar_crate_word, name_word, words, read_names, path_of, read_supers, read_words, fits, node_of, read_all, all_words, path_node, path_start, word_behind, then_word, meant_path, meaning, front_of_path}
 use Rattle.std.proofs.lemmas.Iterator.Adapters.{option_map_id}
 use Rattle.hir_input.specs.declared.mod_path.PathKind.{PathKind}
 use Rattle.hir_input.specs.declared.mod_path.PathKind.TheVariants.{Plain, Super}
-use Rattle.hir_input.specs.declared.ast.PathNode.{PathNode}
-use Rattle.hir_input.specs.declared.ast.PathNode.TheVariants.{Readable, Unreadable}
-use Rattle.hir_input.specs.Path.{Path, HasWords}
-use Rattle.hir_input.specs.Words.{PathWord, self_word, super_word, crate_word, absolute_word, dollar_crate_word, name_word, words, read_names, path_of, read_supers, read_words}
 use Rattle.hir_input.proofs.Reading.{before_names, behind, read-behind, read-words}
-use Rattle.rust_paths.specs.Meaning.{fits, node_of, read_all, all_words, path_node}
-use Rattle.rust_paths.specs.Inner.{path_start, word_behind, then_word, meant_path, meaning}
-use Rattle.rust_paths.specs.Paths.{front_of_path}
 
 abbrev at_path : PathKind → List (List ℕ) → Path
 at_path k ns = record { kind = k; names = ns }

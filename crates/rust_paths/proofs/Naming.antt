@@ -1,11 +1,8 @@
 -- Raw names, and names of all editions.
-use Rattle.std.proofs.Common.{◌≡◌, ◌≢◌, ◌==◌, ℕ, List, [], ◌∷◌, Bool, true, false, Bor, MatchOption, Option, Some, None, option_map, if◌then◌else◌, refl, sym, arith}
+use Rattle.std.proofs.Common.{◌≡◌, ◌≢◌, ◌==◌, ℕ, List, [], ◌∷◌, Bool, true, false, Bor, MatchOption, Option, Some, None, option_map, if◌then◌else◌, refl, sym, arith, bytes_eq}
 use Rattle.std.specs.List.{list_any}
-use Rattle.std.specs.Str.{bytes_eq}
-use Rattle.std.proofs.lemmas.Bool.Decides.{nat_tests}
-use Rattle.hir_input.specs.declared.edition.EditionYear.{EditionYear}
+use Rattle.rust_paths.proofs.Common.{nat_tests, EditionYear, keywords, keywords_since_2018, keywords_since_2024, is_since_2018, is_since_2024, may_be_keyword, is_keyword, is_path_keyword, is_underscore, plain_name, behind_hash}
 use Rattle.hir_input.specs.declared.edition.EditionYear.TheVariants as year
-use Rattle.rust_paths.specs.Names.{keywords, keywords_since_2018, keywords_since_2024, is_since_2018, is_since_2024, may_be_keyword, is_keyword, is_path_keyword, is_underscore, plain_name, behind_hash}
 use Rattle.rust_cursor.proofs.Keywords.{none_passed}
 
 -- a text without `r` in front

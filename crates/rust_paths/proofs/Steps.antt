@@ -1,13 +1,6 @@
 -- Steps over the segments of a path.
 use Rattle.std.proofs.Common.{◌≡◌, ◌<◌, ◌+◌, ◌-◌, ℕ, zero, suc, Bool, true, false, List, [], ◌∷◌, Option, Some, refl, sym, ap, ◌∙◌, arith}
-use Rattle.hir_input.specs.declared.ast.PathNode.{PathNode}
-use Rattle.hir_input.specs.Path.{Path}
-use Rattle.hir_input.specs.Words.{PathWord}
-use Rattle.rust_cursor.specs.Tokens.{Tokens}
-use Rattle.rust_cursor.specs.Words.{bumped}
-use Rattle.rust_paths.specs.Meaning.{path_node}
-use Rattle.rust_paths.specs.Inner.{path_start, then_word, meaning, with_word, with_words}
-use Rattle.rust_paths.specs.Paths.{front_of_path, is_path_colons, segment, more_from}
+use Rattle.rust_paths.proofs.Common.{PathNode, Path, PathWord, Tokens, bumped, path_node, path_start, then_word, meaning, with_word, with_words, front_of_path, is_path_colons, segment, more_from}
 use Rattle.rust_paths.proofs.Meant.{meaning-step, meaning-start}
 
 -- no segment more

@@ -1,20 +1,10 @@
 -- Steps over use trees.
-use Rattle.std.proofs.Common.{◌≡◌, ◌≢◌, ◌==◌, ◌<◌, ◌+◌, ◌-◌, ℕ, zero, suc, Bool, true, false, List, [], ◌∷◌, ◌++◌, map, Option, Some, None, option_map, refl, sym, ap, ◌∙◌, rules, arith, append_assoc, append-nil, Vec, Global}
-use Rattle.std.specs.Prelude.{option_to_list}
-use Rattle.std.specs.Option.{option_or}
-use Rattle.std.proofs.lemmas.Bool.{ne_eqb}
-use Rattle.hir_input.specs.declared.ast.PathNode.{PathNode}
+use Rattle.std.proofs.Common.{◌≡◌, ◌≢◌, ◌==◌, ◌<◌, ◌+◌, ◌-◌, ℕ, zero, suc, Bool, true, false, List, [], ◌∷◌, ◌++◌, map, Option, Some, None, option_map, refl, sym, ap, ◌∙◌, rules, arith, append_assoc, append-nil, Vec, Global, option_to_list}
+use Rattle.rust_paths.proofs.Common.{option_or, ne_eqb, PathNode, UseTreeView, use_tree_view, tree_from, Tokens, Reader, symbol, at, bumped, is_at_end, behind_closed, behind_tree, beyond, turns_from, one, FoundInUse, tree_comma_from, list, element, trees, some_list, no_list, values, all_starts, first_too_deep}
 use Rattle.hir_input.specs.declared.ast.Rename.{Rename}
 use Rattle.hir_input.specs.declared.ast.UseTree.{UseTree, the_lemmas}
 use Rattle.hir_input.specs.declared.ast.UseTree.TheViews.{roll-UseTree}
-use Rattle.hir_input.specs.UseTreeView.{UseTreeView, use_tree_view, tree_from}
-use Rattle.rust_cursor.specs.Tokens.{Tokens}
-use Rattle.rust_cursor.specs.Reader.{Reader}
-use Rattle.rust_cursor.specs.Words.{symbol, at, bumped, is_at_end}
-use Rattle.rust_cursor.specs.Brackets.{behind_closed, behind_tree}
-use Rattle.rust_cursor.specs.Elements.{beyond, turns_from, one}
 use Rattle.rust_cursor.proofs.Turns.{turns_stop}
-use Rattle.rust_paths.specs.UseTrees.{FoundInUse, tree_comma_from, list, element, trees, some_list, no_list, values, all_starts, first_too_deep}
 
 pub use_tree_view_made : (path : Option PathNode) (star : Bool) (rename : Option Rename) (list : Option (Vec UseTree Global))
     → use_tree_view (roll-UseTree (record { path = path; star = star; rename = rename; list = list }))

@@ -1,6 +1,5 @@
 -- Paths of use trees, visibilities, attributes and macro calls.
-use Rattle.std.specs.Prelude.{ℕ, Bool, true, false, not, ◌==◌, ◌&&◌, ◌||◌, if◌then◌else◌, zero, suc, Option, Some, None, option_map, List, [], ◌∷◌, codes}
-use Rattle.std.specs.Str.{bytes_eq}
+use Rattle.std.specs.Prelude.{ℕ, Bool, true, false, not, ◌==◌, ◌&&◌, ◌||◌, if◌then◌else◌, zero, suc, Option, Some, None, option_map, List, [], ◌∷◌, codes, bytes_eq}
 use Rattle.hir_input.specs.declared.ast.PathNode.{PathNode}
 use Rattle.hir_input.specs.Words.{PathWord, self_word, super_word, crate_word, absolute_word, name_word}
 use Rattle.rust_lexer.specs.declared.kind.TokenKind.{TokenKind}

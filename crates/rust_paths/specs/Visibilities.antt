@@ -1,6 +1,5 @@
 -- Visibilities.
-use Rattle.std.specs.Prelude.{Bool, zero, suc, length, ◌==◌, if◌then◌else◌, Option, Some, None, List, ℕ, codes}
-use Rattle.std.specs.Str.{bytes_eq}
+use Rattle.std.specs.Prelude.{Bool, zero, suc, length, ◌==◌, if◌then◌else◌, Option, Some, None, List, ℕ, codes, bytes_eq}
 use Rattle.hir_input.specs.declared.ast.PathNode.{PathNode}
 use Rattle.hir_input.specs.declared.ast.PathNode.TheVariants.{Readable, Unreadable}
 use Rattle.hir_input.specs.declared.mod_path.PathKind.{PathKind}

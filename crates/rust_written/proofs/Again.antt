@@ -1,9 +1,6 @@
 -- What is written as words is cut into them again.
 use Rattle.std.proofs.Common.{◌≡◌, ◌<◌, ℕ, ◌+◌, ◌==◌, ◌||◌, Bool, true, false, Option, Some, None, List, [], ◌∷◌, ◌++◌, length, refl, ap, ◌∙◌, sym, subst, arith, slice_index, not, if◌then◌else◌, filter}
-use Rattle.std.proofs.lemmas.Bool.Decides.{nat_tests}
-use Rattle.rust_written.proofs.Common.{TokenKind, is_continuation, Piece, is_closed_token, is_terminated, place_if_open, last_unended, when, is_kept, counted, counted_is, counted_nil, token_step, white_step, line_step, comment_step, Blank, white, line, comment, is_white_byte, IsBlank, AreBlank, blank_before, gap_before, Link, joined, apart, free, Word, IsBoundary, IsCutOff, Stands, FitsLink, Spells, BeginsAt, AreTokens, is_plain_letter, ends_word, is_plain_mark, WordsStand, MarksStand, IsPlain, TokensAgain}
-use Rattle.rust_lexer.specs.Cut.{symbol_kind, is_punctuation}
-use Rattle.rust_lexer.specs.Tokens.{is_significant, is_significant_kind, tokens, tokens_from}
+use Rattle.rust_written.proofs.Common.{nat_tests, TokenKind, is_continuation, Piece, is_closed_token, is_terminated, place_if_open, last_unended, when, is_kept, counted, counted_is, counted_nil, token_step, white_step, line_step, comment_step, Blank, white, line, comment, is_white_byte, IsBlank, AreBlank, blank_before, gap_before, Link, joined, apart, free, Word, IsBoundary, IsCutOff, Stands, FitsLink, Spells, BeginsAt, AreTokens, is_plain_letter, ends_word, is_plain_mark, WordsStand, MarksStand, IsPlain, TokensAgain, symbol_kind, is_punctuation, is_significant, is_significant_kind, tokens, tokens_from}
 use Rattle.rust_lexer.proofs.Standing.{word_cut, mark_cut}
 
 -- ---- gaps

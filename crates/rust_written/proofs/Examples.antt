@@ -1,8 +1,7 @@
 -- Items of each kind, of which the laws speak: what the laws ask can be met.
 use Rattle.std.proofs.Common.{◌≡◌, ℕ, true, false, Some, None, List, [], ◌∷◌, codes, refl, arith}
-use Rattle.rust_written.proofs.Common.{most, begins_item, begins_within, leads_on, plain_name, is_keyword, is_path_keyword, WritesItems, spelled_text, word_spelled, mark, joined_mark, Tree, single, group, Trees, no_trees, tree_and, round, curly, GoesOn, GoesOnType, self_segment, crate_segment, as_name, as_nothing, UseTrees, path_tree, star_tree, list_tree, no_uses, use_and, IsPlainName, Scope, Front, unwritten, everywhere, in_crate, functions, enums, constants, Item, Items, blocked, valued, structure, unit_shape, tuple_shape, implemented, file_module, module_of, used, no_more, also, IsNamed, IsItem, AreItems}
+use Rattle.rust_written.proofs.Common.{most, begins_item, begins_within, leads_on, plain_name, is_keyword, is_path_keyword, WritesItems, spelled_text, word_spelled, mark, joined_mark, Tree, single, group, Trees, no_trees, tree_and, round, curly, GoesOn, GoesOnType, self_segment, crate_segment, as_name, as_nothing, UseTrees, path_tree, star_tree, list_tree, no_uses, use_and, IsPlainName, Scope, Front, unwritten, everywhere, in_crate, functions, enums, constants, Item, Items, blocked, valued, structure, unit_shape, tuple_shape, implemented, file_module, module_of, used, no_more, also, IsNamed, IsItem, AreItems, follows_unsafe}
 use Rattle.rust_cursor.specs.Words as cursor
-use Rattle.rust_leaves.specs.Heads.{follows_unsafe}
 use Rattle.rust_leaves.specs.Texts.{bare}
 use Rattle.rust_written.specs.UseTrees.{named}
 use Rattle.rust_written.proofs.Spelled.{writable}

@@ -1,7 +1,6 @@
 -- What stands in no bracket.
 use Rattle.std.proofs.Common.{◌≡◌, ℕ, ◌+◌, ◌-◌, ◌==◌, ◌&&◌, Bool, true, false, [], codes, refl, ap, ◌∙◌, ◌∷◌, if◌then◌else◌, bytes_eq}
-use Rattle.std.proofs.lemmas.Bool.{or_parts}
-use Rattle.rust_written.proofs.Common.{Before, Tokens, symbol, word, is_glued, bumped, nest_behind, Word, mark, Bracket, round, open_of, single, IsTree, is_free}
+use Rattle.rust_written.proofs.Common.{or_parts, Before, Tokens, symbol, word, is_glued, bumped, nest_behind, Word, mark, Bracket, round, open_of, single, IsTree, is_free}
 use Rattle.rust_cursor.specs.declared.cursor.nest.Before.TheVariants as befores
 use Rattle.rust_cursor.specs.Nests as nests
 use Rattle.rust_cursor.specs.Extents as extents

@@ -1,14 +1,10 @@
 -- What stands in front of an item, and its name.
 use Rattle.std.proofs.Common.{◌≡◌, ◌≤◌, ℕ, zero, suc, ◌+◌, length, ◌==◌, ◌||◌, ◌&&◌, Bool, true, false, Some, None, List, [], ◌∷◌, ◌++◌, codes, refl, ap, ◌∙◌, sym, subst, arith, append_assoc, if◌then◌else◌, map, bytes_eq}
-use Rattle.std.proofs.lemmas.Slice.Eq.{bytes_eq-Decides}
-use Rattle.rust_written.proofs.Common.{when, TokenKind, Outer, Inner, Tokens, at, word, bumped, documents, turns, one, most, turns_stop, is_item_word, begins_item, name_in, plain_name, is_keyword, is_path_keyword, has_name, placed_name, name, next_name, visibility, scoped, is_in, scope, scope_of, is_style, is_doc, is_attribute, is_behind, attribute, attributes, outer_attributes, inner_attributes, Head, NameRead, named, Word, shorter, Front, front_words, front_visibility, modifies, first_modifier, AreModifiers, Scope, unwritten, everywhere, scope_words, scope_view, BlockKind, functions, unions, enums, traits, block_word, ValueKind, statics, aliases, constants, value_word, IsNamed}
-use Rattle.std.proofs.lemmas.Bool.{and_right}
+use Rattle.rust_written.proofs.Common.{bytes_eq-Decides, when, TokenKind, Outer, Inner, Tokens, at, word, bumped, documents, turns, one, most, turns_stop, is_item_word, begins_item, name_in, plain_name, is_keyword, is_path_keyword, has_name, placed_name, name, next_name, visibility, scoped, is_in, scope, scope_of, is_style, is_doc, is_attribute, is_behind, attribute, attributes, outer_attributes, inner_attributes, Head, NameRead, named, Word, shorter, Front, front_words, front_visibility, modifies, first_modifier, AreModifiers, Scope, unwritten, everywhere, scope_words, scope_view, BlockKind, functions, unions, enums, traits, block_word, ValueKind, statics, aliases, constants, value_word, IsNamed, and_right, may_follow_const, follows_async, follows_unsafe, follows_safe, follows_default, follows_extern, behind_abi, behind_modifier, behind_modifiers_from, is_modifier, is_modifier_before, behind_modifiers, head, head_by, union_head, FrontRead, front, front_behind}
 use Rattle.rust_lexer.specs.declared.kind.DocStyle.{DocStyle}
 use Rattle.rust_lexer.specs.declared.kind.TokenKind.TheVariants as kinds
 use Rattle.rust_metas.specs.Literals.{style_by}
 use Rattle.rust_leaves.specs.declared.head.Head.TheVariants as heads
-use Rattle.rust_leaves.specs.Heads.{may_follow_const, follows_async, follows_unsafe, follows_safe, follows_default, follows_extern, behind_abi, behind_modifier, behind_modifiers_from, is_modifier, is_modifier_before, behind_modifiers, head, head_by, union_head}
-use Rattle.rust_leaves.specs.Fronts.{FrontRead, front, front_behind}
 use Rattle.rust_leaves.proofs.Steps.{modifiers_stop}
 use Rattle.rust_written.specs.Trees as trees
 use Rattle.rust_written.proofs.Begins.{Shows, Begins, behind, behind_append, begins_left, begins_right}

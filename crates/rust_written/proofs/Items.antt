@@ -1,10 +1,9 @@
 -- Lists of items, and modules.
 use Rattle.std.proofs.Common.{◌≡◌, ◌<◌, ◌≤◌, ℕ, zero, suc, ◌+◌, ◌==◌, ◌||◌, Bool, true, false, Option, Some, None, List, [], ◌∷◌, ◌++◌, codes, length, refl, ap, ◌∙◌, sym, subst, arith, append_assoc, append-nil, ◌&&◌, is_none, bytes_eq}
-use Rattle.rust_written.proofs.Common.{AstIdKind, ItemView, module_from, ast_kind, TextRange, Tokens, symbol, at, bumped, is_at_end, eat, goes_on, most, beyond, shorter, inner_attributes, Head, NameRead, LeafRead, named, named_node, leaf, Found, Finder, nothing_found, and_row, span_of, needs_name, and_flaw, and_leaf, and_item, leaf_turn, finding_from, finding, is_list_end, BlockRead, no_block, and_parent, block_of, depth_of, inside_unless, by_head, inside, turn, Word, Trees, mark, open_mark, close_mark, trees_words, ImplHeader, header_trees, Front, front_words, front_visibility, impl_front, AreModifiers, BlockKind, functions, block_word, block_kind, ValueKind, statics, value_word, value_id, Item, Items, blocked, valued, structure, Shape, struct_words, implemented, file_module, module_of, used, no_more, also, braced, ended, item_words, words, item_view, views, written_row, item_rows, rows, IsNamed, IsItem, AreItems, UseTree, use_words}
+use Rattle.rust_written.proofs.Common.{AstIdKind, ItemView, module_from, ast_kind, TextRange, Tokens, symbol, at, bumped, is_at_end, eat, goes_on, most, beyond, shorter, inner_attributes, Head, NameRead, LeafRead, named, named_node, leaf, Found, Finder, nothing_found, and_row, span_of, needs_name, and_flaw, and_leaf, and_item, leaf_turn, finding_from, finding, is_list_end, BlockRead, no_block, and_parent, block_of, depth_of, inside_unless, by_head, inside, turn, Word, Trees, mark, open_mark, close_mark, trees_words, ImplHeader, header_trees, Front, front_words, front_visibility, impl_front, AreModifiers, BlockKind, functions, block_word, block_kind, ValueKind, statics, value_word, value_id, Item, Items, blocked, valued, structure, Shape, struct_words, implemented, file_module, module_of, used, no_more, also, braced, ended, item_words, words, item_view, views, written_row, item_rows, rows, IsNamed, IsItem, AreItems, UseTree, use_words, FrontRead, front}
 use Rattle.hir_input.specs.declared.ids.AstIdKind.TheVariants as kind
 use Rattle.rust_ids.specs.Row.{Row}
 use Rattle.rust_leaves.specs.declared.head.Head.TheVariants as heads
-use Rattle.rust_leaves.specs.Fronts.{FrontRead, front}
 use Rattle.rust_items.proofs.Steps.{finding_stop}
 use Rattle.rust_written.specs.Trees as trees
 use Rattle.rust_written.proofs.Begins.{Shows, Begins, behind, behind_append, begins_left, begins_right, some_behind, eaten}

@@ -1,12 +1,10 @@
 -- Items that hold no items.
 use Rattle.std.proofs.Common.{◌≤◌, length, ◌≡◌, ℕ, ◌==◌, Bool, true, false, Option, Some, None, List, [], ◌∷◌, ◌++◌, codes, refl, ap, ◌∙◌, sym, arith, ◌&&◌, is_none, is_some, bytes_eq}
-use Rattle.std.proofs.lemmas.Bool.{or_parts}
-use Rattle.rust_written.proofs.Common.{AstIdKind, Visibility, ItemView, PlainKind, fn_kind, static_kind, type_alias_kind, ast_kind, plain_item, const_item, struct_item, impl_item, FieldsView, use_item, plain_name, is_keyword, is_path_keyword, TextRange, Tokens, Reader, bumped, documents, eat_word, eat, ExcerptRead, excerpt, goes_on, item_rest, Head, NameRead, RestRead, rest_read, no_name, named, has_trait, impl_end, item_end, value_end, block_attributes, struct_fields, named_node, plain_read, leaf_read, function, block_item, union_item, enumeration, trait_item, type_alias, static_value, constant, implementation, leaf, node, use_read, use_declaration, UseTreeView, most, needs_name, UseTree, use_words, use_view, IsUse, Word, Trees, mark, curly, open_of, close_of, first_of, trees_words, AreTrees, GoesOn, spaced, ImplHeader, header_trees, IsImplHeader, Front, impl_front, front_visibility, BlockKind, functions, block_kind, ValueKind, statics, aliases, constants, value_item, value_id, braced, ended, Shape, record_shape, struct_trees, struct_words, shape_view, IsStruct, named_by, IsNamed, IsPlainBlock, IsOfKind, IsValue, item_rest_taking, impl_rest_taking, value_rest_taking}
+use Rattle.rust_written.proofs.Common.{or_parts, AstIdKind, Visibility, ItemView, PlainKind, fn_kind, static_kind, type_alias_kind, ast_kind, plain_item, const_item, struct_item, impl_item, FieldsView, use_item, plain_name, is_keyword, is_path_keyword, TextRange, Tokens, Reader, bumped, documents, eat_word, eat, ExcerptRead, excerpt, goes_on, item_rest, Head, NameRead, RestRead, rest_read, no_name, named, has_trait, impl_end, item_end, value_end, block_attributes, struct_fields, named_node, plain_read, leaf_read, function, block_item, union_item, enumeration, trait_item, type_alias, static_value, constant, implementation, leaf, node, use_read, use_declaration, UseTreeView, most, needs_name, UseTree, use_words, use_view, IsUse, Word, Trees, mark, curly, open_of, close_of, first_of, trees_words, AreTrees, GoesOn, spaced, ImplHeader, header_trees, IsImplHeader, Front, impl_front, front_visibility, BlockKind, functions, block_kind, ValueKind, statics, aliases, constants, value_item, value_id, braced, ended, Shape, record_shape, struct_trees, struct_words, shape_view, IsStruct, named_by, IsNamed, IsPlainBlock, IsOfKind, IsValue, item_rest_taking, impl_rest_taking, value_rest_taking, use_tree}
 use Rattle.hir_input.specs.declared.ids.AstIdKind.TheVariants as kind
 use Rattle.rust_cursor.specs.declared.cursor.nest.Before.TheVariants as befores
 use Rattle.rust_leaves.specs.declared.head.Head.TheVariants as heads
 use Rattle.rust_leaves.specs.Kinds.{structure}
-use Rattle.rust_paths.specs.UseTrees.{use_tree}
 use Rattle.rust_paths.specs.UseTrees as use_spec
 use Rattle.rust_written.proofs.Uses.{IsUseEnd, found_at, use_reads, no_keyword, other_word}
 use Rattle.rust_written.specs.Trees as trees

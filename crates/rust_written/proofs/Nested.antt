@@ -1,8 +1,6 @@
 -- In which brackets what stands behind words is.
 use Rattle.std.proofs.Common.{◌≡◌, ◌≤◌, ℕ, ◌+◌, ◌-◌, ◌==◌, ◌&&◌, Bool, true, false, refl, ap, ◌∙◌, arith, if◌then◌else◌, not}
-use Rattle.std.proofs.lemmas.Bool.Decides.{nat_tests}
-use Rattle.std.proofs.lemmas.Bool.{or_parts, eq-eqb}
-use Rattle.rust_written.proofs.Common.{Before, Nest, Tokens, symbol, lets_any, behind_free, nest_behind, Word, Bracket, round, curly, open_of, close_of, single, is_bracket, IsTree}
+use Rattle.rust_written.proofs.Common.{nat_tests, or_parts, eq-eqb, Before, Nest, Tokens, symbol, lets_any, behind_free, nest_behind, Word, Bracket, round, curly, open_of, close_of, single, is_bracket, IsTree}
 use Rattle.rust_cursor.specs.declared.cursor.nest.Before.TheVariants as befores
 use Rattle.rust_cursor.specs.Nests as nests
 use Rattle.rust_written.proofs.Begins.{Shows}

@@ -1,7 +1,6 @@
 -- What is said of words is so of the tokens that they are.
 use Rattle.std.proofs.Common.{◌≡◌, ℕ, ◌==◌, ◌&&◌, Bool, true, false, List, ◌∷◌, ◌++◌, refl, arith, [], if◌then◌else◌}
-use Rattle.std.proofs.lemmas.Bool.Decides.{nat_tests}
-use Rattle.rust_written.proofs.Common.{Before, Tokens, at, is_glued, bumped, symbol, word, kind, is_at_identifier, is_at_end, is_at_doc, Link, free, Word, BeginsAt, single, Trees, tree_and, trees_words, first_of, linked_at, is_free}
+use Rattle.rust_written.proofs.Common.{nat_tests, Before, Tokens, at, is_glued, bumped, symbol, word, kind, is_at_identifier, is_at_end, is_at_doc, Link, free, Word, BeginsAt, single, Trees, tree_and, trees_words, first_of, linked_at, is_free}
 use Rattle.rust_cursor.specs.declared.cursor.nest.Before.TheVariants as befores
 use Rattle.rust_cursor.specs.Nests as nests
 use Rattle.rust_cursor.specs.Extents as extents

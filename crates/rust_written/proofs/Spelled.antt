@@ -1,12 +1,8 @@
 -- Words are spelled by a text.
 use Rattle.std.proofs.Common.{◌≡◌, ◌≢◌, ◌<◌, ◌≤◌, ℕ, zero, suc, ◌&&◌, Bool, true, false, List, [], ◌∷◌, ◌++◌, length, get_or, refl, sym, ap, ◌∙◌, subst, arith, not, slice_index, map}
 use Rattle.std.specs.List.{list_all}
-use Rattle.std.proofs.lemmas.Bool.{and_parts, not-true}
-use Rattle.std.proofs.lemmas.Bool.Decides.{nat_tests}
-use Rattle.rust_written.proofs.Common.{TokenKind, is_continuation, most, white, IsPlain, is_plain_letter, is_plain_word_byte, ends_word, is_plain_mark, IsAsciiWord, Link, joined, Word, Stands, Spells, Scope, unwritten, scope_words, Item, Items, no_more, also, words, item_words, lead, spell, spelled_text, is_ascii_word, is_opening, is_closing_symbol, is_mark_before, stands_by, are_standing, Writable}
+use Rattle.rust_written.proofs.Common.{and_parts, not-true, nat_tests, TokenKind, is_continuation, most, white, IsPlain, is_plain_letter, is_plain_word_byte, ends_word, is_plain_mark, IsAsciiWord, Link, joined, Word, Stands, Spells, Scope, unwritten, scope_words, Item, Items, no_more, also, words, item_words, lead, spell, spelled_text, is_ascii_word, is_opening, is_closing_symbol, is_mark_before, stands_by, are_standing, Writable, symbol_kind, is_punctuation, first_cut, with_feeds}
 use Rattle.rust_lexer.specs.declared.kind.TokenKind.TheVariants as kinds
-use Rattle.rust_lexer.specs.Cut.{symbol_kind, is_punctuation, first_cut}
-use Rattle.rust_items.specs.LineEnds.{with_feeds}
 use Rattle.rust_items.proofs.LineEnds.{feeds_behind}
 use Rattle.rust_written.specs.Trees as trees
 use Rattle.rust_written.proofs.Again.{words_stand, marks_stand}

@@ -1,8 +1,6 @@
 -- Structs: their generics, and their fields.
 use Rattle.std.proofs.Common.{◌≡◌, ◌≤◌, ◌<◌, ℕ, zero, suc, ◌+◌, ◌==◌, ◌||◌, Bool, true, false, Option, Some, None, List, [], ◌∷◌, ◌++◌, codes, length, refl, ap, ◌∙◌, sym, subst, arith, append_assoc, append-nil, map, not, if◌then◌else◌}
-use Rattle.std.proofs.lemmas.Bool.Decides.{nat_tests}
-use Rattle.std.proofs.lemmas.Bool.{or_parts}
-use Rattle.rust_written.proofs.Common.{Visibility, no_fields, record_fields, tuple_fields, Tokens, symbol, is_at_end, bumped, documents, eat, most, turns, turns_from, one, beyond, behind_angles, behind_field, shorter, turns_stop, visibility, scoped, is_in, scope, scope_of, outer_attributes, is_before, header_field, are_over, fields, fields_at, Word, mark, round, curly, open_of, close_of, single, group, Trees, no_trees, tree_and, tree_words, trees_words, AreTrees, first_of, trees_append, where_part, generics, Scope, unwritten, everywhere, scope_words, scope_view, Field, Shape, unit_shape, tuple_shape, record_shape, scope_trees, fields_trees, shape_trees, struct_trees, shape_end, field_visibility, shape_view, BeginsType, IsField, AreFields, IsShape, IsStruct}
+use Rattle.rust_written.proofs.Common.{nat_tests, or_parts, Visibility, no_fields, record_fields, tuple_fields, Tokens, symbol, is_at_end, bumped, documents, eat, most, turns, turns_from, one, beyond, behind_angles, behind_field, shorter, turns_stop, visibility, scoped, is_in, scope, scope_of, outer_attributes, is_before, header_field, are_over, fields, fields_at, Word, mark, round, curly, open_of, close_of, single, group, Trees, no_trees, tree_and, tree_words, trees_words, AreTrees, first_of, trees_append, where_part, generics, Scope, unwritten, everywhere, scope_words, scope_view, Field, Shape, unit_shape, tuple_shape, record_shape, scope_trees, fields_trees, shape_trees, struct_trees, shape_end, field_visibility, shape_view, BeginsType, IsField, AreFields, IsShape, IsStruct}
 use Rattle.rust_cursor.proofs.Leads.{when}
 use Rattle.rust_written.specs.Trees as trees
 use Rattle.rust_written.proofs.Begins.{Shows, Begins, behind, behind_append, begins_left, begins_right, past_behind, some_behind, eaten}

@@ -1,10 +1,8 @@
 -- A text that spells items is read as these.
 use Rattle.std.proofs.Common.{◌≡◌, ◌<◌, ◌≤◌, ℕ, Bool, true, false, Option, Some, None, List, [], ◌∷◌, ◌++◌, codes, length, refl, ap, ◌∙◌, subst, arith, map, filter}
-use Rattle.rust_written.proofs.Common.{items_from, source_file, Piece, TokenKind, is_closed_token, Inner, Tokens, last_unended, tokens_of, symbol, kind, is_empty, bumped, most, goes_on, inner_attributes, is_behind, is_doc, is_attribute, AreIds, Found, nothing_found, and_problem_at, with_ids, finding, finding_from, is_list_end, turn, Word, Spells, IsCutOff, AreTokens, Trees, mark, open_mark, close_mark, curly, open_of, close_of, trees_words, header_trees, Front, front_words, impl_front, block_word, value_word, Shape, record_shape, struct_trees, struct_words, Item, Items, blocked, valued, structure, implemented, file_module, module_of, used, no_more, also, braced, ended, item_words, words, views, rows, use_words, WritesItems, ReadAgain}
+use Rattle.rust_written.proofs.Common.{items_from, source_file, Piece, TokenKind, is_closed_token, Inner, Tokens, last_unended, tokens_of, symbol, kind, is_empty, bumped, most, goes_on, inner_attributes, is_behind, is_doc, is_attribute, AreIds, Found, nothing_found, and_problem_at, with_ids, finding, finding_from, is_list_end, turn, Word, Spells, IsCutOff, AreTokens, Trees, mark, open_mark, close_mark, curly, open_of, close_of, trees_words, header_trees, Front, front_words, impl_front, block_word, value_word, Shape, record_shape, struct_trees, struct_words, Item, Items, blocked, valued, structure, implemented, file_module, module_of, used, no_more, also, braced, ended, item_words, words, views, rows, use_words, WritesItems, ReadAgain, is_significant, tokens, with_feeds, place_in, moved_problem}
 use Rattle.hir_input.specs.declared.edition.EditionYear.{EditionYear}
-use Rattle.rust_lexer.specs.Tokens.{is_significant, tokens}
 use Rattle.rust_items.specs.declared.log.ProblemKind.TheVariants as problem
-use Rattle.rust_items.specs.LineEnds.{with_feeds, place_in, moved_problem}
 use Rattle.rust_items.specs.SourceFiles.{read_of, found_in, items_in}
 use Rattle.rust_written.specs.Trees as trees
 use Rattle.rust_written.proofs.Again.{tokens_again, ends_closed, last_ended}

@@ -1,16 +1,13 @@
 -- Use trees are read again.
 use Rattle.std.proofs.Common.{◌≡◌, ◌<◌, ◌≤◌, ℕ, zero, suc, ◌+◌, ◌==◌, ◌||◌, Bool, true, false, Option, Some, None, option_map, List, [], ◌∷◌, ◌++◌, codes, map, length, refl, ap, ◌∙◌, sym, subst, arith, append_assoc, append-nil, length-append, if◌then◌else◌, bytes_eq, eq-eqb}
-use Rattle.std.proofs.lemmas.Bool.Decides.{nat_tests}
-use Rattle.std.proofs.lemmas.Slice.Eq.{bytes_eq-Decides}
+use Rattle.rust_written.proofs.Common.{nat_tests, bytes_eq-Decides, UseTreeView, tree_from, when, Tokens, Reader, symbol, word, kind, at, is_at_end, bumped, closes, eat_word, is_pair, is_glued, eat_pair, flat, most, turns, turns_from, one, beyond, shorter, turns_stop, name_in, plain_name, is_keyword, is_path_keyword, has_name, name, next_name, Word, Segment, WrittenPath, segment_word, segment_meaning, colons, more_words, path_front_words, path_words, path_view, Alias, no_alias, as_name, as_nothing, alias_words, alias_view, UseTree, UseTrees, path_tree, star_tree, list_tree, no_uses, use_and, prefix_words, use_words, list_words, comma_words, use_view, use_views, IsPlainName, IsSegment, AreSegments, IsPath, IsPrefix, IsAlias, IsUse, AreUses, FoundInUse, begun_trees, with_bare, tree_with_list, begun_list, with_list, some_list, all_found, star_or_list, tree_behind, rename, alias, tree_with, tree_comma_from, tree_behind_comma, element_with, values, all_starts, first_too_deep, list, use_tree, tree_at}
 use Rattle.hir_input.specs.declared.ast.PathNode.{PathNode}
 use Rattle.hir_input.specs.declared.ast.Rename.{Rename}
-use Rattle.rust_written.proofs.Common.{UseTreeView, tree_from, when, Tokens, Reader, symbol, word, kind, at, is_at_end, bumped, closes, eat_word, is_pair, is_glued, eat_pair, flat, most, turns, turns_from, one, beyond, shorter, turns_stop, name_in, plain_name, is_keyword, is_path_keyword, has_name, name, next_name, Word, Segment, WrittenPath, segment_word, segment_meaning, colons, more_words, path_front_words, path_words, path_view, Alias, no_alias, as_name, as_nothing, alias_words, alias_view, UseTree, UseTrees, path_tree, star_tree, list_tree, no_uses, use_and, prefix_words, use_words, list_words, comma_words, use_view, use_views, IsPlainName, IsSegment, AreSegments, IsPath, IsPrefix, IsAlias, IsUse, AreUses}
 use Rattle.rust_cursor.specs.Brackets.{is_closing, to_closing, behind_closed}
 use Rattle.rust_cursor.proofs.Steps.{closing_stop}
 use Rattle.hir_input.specs.declared.edition.EditionYear.TheVariants as year
 use Rattle.rust_paths.specs.Meaning.{path_node}
 use Rattle.rust_paths.specs.Paths.{is_raw, is_dollar_crate, is_segment, other_segment, segment, is_colons, is_joint, is_path_colons, more_from, more_segments, front_of_path, is_path_start, use_path}
-use Rattle.rust_paths.specs.UseTrees.{FoundInUse, begun_trees, with_bare, tree_with_list, begun_list, with_list, some_list, all_found, star_or_list, tree_behind, rename, alias, tree_with, tree_comma_from, tree_behind_comma, element_with, values, all_starts, first_too_deep, list, use_tree, tree_at}
 use Rattle.rust_paths.proofs.Steps.{more_stop}
 use Rattle.rust_paths.proofs.Trees.{comma_end}
 use Rattle.rust_written.specs.Trees as trees

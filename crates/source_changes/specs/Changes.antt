@@ -1,6 +1,5 @@
 -- What others can see of a file became another, and the lines that tell it.
-use Rattle.std.specs.Prelude.{◌≡◌, ◌↔◌, ℕ, Bool, IsTrue, if◌then◌else◌, List, [], ◌++◌, codes, string_bytes}
-use Rattle.std.specs.List.{flat_map}
+use Rattle.std.specs.Prelude.{◌≡◌, ◌↔◌, ℕ, Bool, IsTrue, if◌then◌else◌, List, [], ◌++◌, codes, string_bytes, flat_map}
 use Rattle.hir_input.specs.declared.edition.EditionYear.{EditionYear}
 use Rattle.rust_items.specs.SourceFiles.{FileView, IsFileView}
 use Rattle.item_changes.specs.ChangeWords.{change_word, side_of}

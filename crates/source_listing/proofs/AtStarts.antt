@@ -6,12 +6,11 @@ use Rattle.hir_input.specs.declared.ast.PathNode.TheVariants.{Readable, Unreadab
 use Rattle.hir_input.specs.declared.ast.Rename.{Rename}
 use Rattle.hir_input.specs.UseTreeView.{UseTreeView, trees_from}
 use Rattle.item_tree.specs.KeptUse.{kept_tree, kept_trees, with_kept}
-use Rattle.item_tree.specs.Tree.{Tree, branches_from, branch_nodes}
+use Rattle.source_listing.proofs.Common.{Tree, branches_from, branch_nodes, LeadsTo, here, through, when, bumped_leads, eat_pair_leads, behind_closed_leads, behind_tree_leads, beyond_leads}
 use Rattle.rust_cursor.specs.Tokens.{Tokens}
 use Rattle.rust_cursor.specs.Reader.{Reader}
 use Rattle.rust_cursor.specs.Words.{symbol, at, bumped, is_at_end, eat_colons}
 use Rattle.rust_cursor.specs.Elements.{most, beyond, turns_from, turns, elements, one}
-use Rattle.rust_cursor.proofs.Leads.{LeadsTo, here, through, when, bumped_leads, eat_pair_leads, behind_closed_leads, behind_tree_leads, beyond_leads}
 use Rattle.rust_paths.specs.Paths.{use_path}
 use Rattle.rust_paths.specs.UseTrees.{FoundInUse, begun_trees, begun_list, values, all_starts, bare_tree, tree_with_list, star_or_list, tree_behind, tree_with, tree_at, element_with, list, tree_comma_from, tree_behind_comma, rename, use_tree}
 use Rattle.rust_paths.proofs.Leads.{use_path_leads, rename_leads}

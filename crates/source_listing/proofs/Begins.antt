@@ -1,6 +1,5 @@
 -- What lists begin with.
-use Rattle.source_listing.proofs.Common.{◌≡◌, ◌≤◌, List, [], ◌∷◌, ◌++◌, length, length-take, take, take_all, take-take, ap, sym, ◌∙◌, arith, IsBeginOf}
-use Rattle.std.proofs.Math.Seq.{take-append_seam}
+use Rattle.source_listing.proofs.Common.{◌≡◌, ◌≤◌, List, [], ◌∷◌, ◌++◌, length, length-take, take, take_all, take-take, ap, sym, ◌∙◌, arith, IsBeginOf, take-append_seam}
 
 pub begin_itself : {A : Type 0} (xs : List A) → IsBeginOf xs xs
 begin_itself xs = take_all (length xs) xs (omega arith)

@@ -1,8 +1,6 @@
 -- Lines of changes, one after another.
-use Rattle.source_listing.proofs.Common.{◌≡◌, ℕ, List, [], ◌∷◌, ◌++◌, ap, ◌∙◌, sym, append-nil, flat_map-append, Edition, ItemPlace, Printer, Source}
+use Rattle.source_listing.proofs.Common.{◌≡◌, ℕ, List, [], ◌∷◌, ◌++◌, ap, ◌∙◌, sym, append-nil, flat_map-append, Edition, ItemPlace, Printer, Source, Side, line_between, change_lines, IsPrinterOf, places_of, reserved_of, side_of_printer}
 use Rattle.item_changes.specs.Changes.{ChangeView}
-use Rattle.source_listing.specs.Changed.{Side, line_between, change_lines}
-use Rattle.source_listing.specs.Inner.{IsPrinterOf, places_of, reserved_of, side_of_printer}
 use Rattle.source_listing.proofs.Printers.{file_is}
 
 abbrev made : Source → List ItemPlace → Side

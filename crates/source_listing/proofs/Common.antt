@@ -1,37 +1,52 @@
 -- The names that most proofs here cite, passed on from one place. Declares nothing.
-pub use Rattle.std.proofs.Common.{◌≡◌, ◌==◌, ◌||◌, ℕ, suc, Bool, true, false, Option, Some, None, List, [], ◌∷◌, ◌++◌, refl, sym, ap, ◌∙◌, subst, append-nil, append_assoc, ◌≤◌, length, length-take, take, take_all, take-take, arith, ◌+◌, ◌<◌, map, ◌&&◌, Bor, ⊎_elim, if◌then◌else◌, nat_eq, option_map, slice_index_or, Decides, find, ◌≢◌, ◌-◌, length-append, take-append-drop, All, flat_map, filter, codes, nat_lt, get_or, rules, string_bytes, ◌*◌, sum_by, option_copied, IfOk, lit<, not, map-id}
-pub use Rattle.def_collector.specs.DeclarationView.{declaration_id, declaration_view, view_of}
+pub use Rattle.def_collector.specs.DeclarationView.{DeclarationView, declaration_id, declaration_view, view_of}
+pub use Rattle.def_collector.specs.Declarations.{Declared, declarations, declared_imports, declared_name}
 pub use Rattle.def_collector.specs.Listed.{listed_import}
 pub use Rattle.hir_input.specs.declared.edition.Edition.{Edition}
 pub use Rattle.hir_input.specs.declared.ids.FileAstId.{FileAstId}
 pub use Rattle.item_changes.specs.Views.{change_view}
-pub use Rattle.item_tree.specs.Imports.{Import}
-pub use Rattle.item_tree.specs.Node.{Forest, Node, Unfolding, empty, leaf, more, node_ast, nodes, parent}
-pub use Rattle.item_tree.specs.Shown.{IsContained, StandFor}
+pub use Rattle.item_tree.proofs.Walking.{flat_map_of_id, leaf_of_id, parent_of_id}
+pub use Rattle.item_tree.specs.Imports.{Import, imports}
+pub use Rattle.item_tree.specs.Layout.{leaf_map}
+unfoldable pub use Rattle.item_tree.specs.Layout.{node_at, vis_at}
+pub use Rattle.item_tree.specs.Node.{Forest, Leaf, Node, Unfolding, empty, leaf, more, node_ast, nodes, parent, plain, use_item}
+pub use Rattle.item_tree.specs.Shown.{IsContained, IsLent, Lent, StandFor, lent_leaf, lent_parent}
+pub use Rattle.item_tree.specs.Tree.{Tree, branch_nodes, branches_from}
 pub use Rattle.item_tree.specs.Walk.{children, children_at, count_at}
+pub use Rattle.rust_cursor.proofs.Leads.{LeadsTo, behind_closed_leads, behind_tree_leads, beyond_leads, bumped_leads, eat_pair_leads, here, through, when}
 pub use Rattle.rust_items.specs.declared.source_file.ItemPlace.{ItemPlace}
 pub use Rattle.serde_json.specs.View.{items_of, view}
+pub use Rattle.source_listing.specs.Changed.{Side, change_lines, line_between}
 pub use Rattle.source_listing.specs.Ends.{IsBeginOf, IsEndOf}
-pub use Rattle.source_listing.specs.Inner.{FindsFirsts, IsPrinterOf, IsSameFile, IsSameTreeFinder, IsTreeFinderOf, file_of, finder_text, listed_named_view, named_at, objects_at, placed_trees_view, places_in, places_of, reserved_of}
+pub use Rattle.source_listing.specs.ImportObjects.{alias_form, import_form, import_object, import_objects, seen_objects}
+pub use Rattle.source_listing.specs.Imports.{import_lines, of_declared, of_seen, of_uses, placed_import_line, seen_lines, spots_of_any}
+pub use Rattle.source_listing.specs.Inner.{FindsFirsts, Firsts, IsFinderOf, IsPrinterOf, IsSameFile, IsSameFinder, IsSameTreeFinder, IsTreeFinderOf, NamedKey, PutsFirst, file_of, finder_text, first_in, has_named_key, id_key, is_around, item_at, key, lent_named, listed_named_view, named_at, named_key_view, objects_at, own_named, own_named_at, placed_trees_view, places_in, places_of, reserved_of, same_named_key, shown_item_view, side_of_printer}
 pub use Rattle.source_listing.specs.Lines.{Choice, Source, is_chosen, is_listed}
-pub use Rattle.source_listing.specs.Objects.{ItemView, entry_object, file_form, item_entry, item_in, listed_objects, member_object, member_objects, node_objects, own_objects, problem_objects, tree_objects, whole_object}
-pub use Rattle.source_listing.specs.Outlines.{member_lines, reading}
-pub use Rattle.source_listing.specs.Places.{place_of, spot_at}
-pub use Rattle.source_listing.specs.Tags.{path_char}
-pub use Rattle.source_listing.specs.Uses.{FilePlaces, placed, tree_spots}
+pub use Rattle.source_listing.specs.Objects.{Entry, ItemView, column_form, entry_object, file_form, header_form, item_entry, item_in, line_form, listed_objects, member_entry, member_object, member_objects, member_spot, name_form, node_objects, own_objects, problem_objects, range_form, subject_form, tree_objects, visibility_form, whole_object}
+pub use Rattle.source_listing.specs.Outlines.{Look, member_line, member_lines, outline_text, reading, title, whole_lines}
+pub use Rattle.source_listing.specs.Places.{AreDistinct, is_id, place_of, spot_at}
+pub use Rattle.source_listing.specs.Repeated.{Named, first_alike, forest_named, is_alike, leaf_named, line_if_any, named_import, node_named, repeat_lines}
+pub use Rattle.source_listing.specs.Search.{Query, bare_segment, found_lines, found_member, is_member_found, whole_found}
+unfoldable pub use Rattle.source_listing.specs.Search.{found_members}
+pub use Rattle.source_listing.specs.Tags.{if_any, member_tag, path_char, scope_field, tags_under, whole_tags}
+unfoldable pub use Rattle.source_listing.specs.Tags.{member_tags}
+pub use Rattle.source_listing.specs.Uses.{FilePlaces, Trees, from_place, import_spot, placed, tree_spots, use_trees_at}
 pub use Rattle.source_listing.specs.Views.{choice_view, look_view, query_view, side_view, source_view}
 pub use Rattle.source_listing.specs.declared.finder.Spot.{Spot}
 pub use Rattle.source_listing.specs.declared.lines.Printer.{Printer}
 pub use Rattle.source_rows.specs.Listed.{Listed, MemberReading, header_of, members_of}
 pub use Rattle.source_rows.specs.ListedViews.{listed_view, reading_view}
+pub use Rattle.std.proofs.Common.{All, Bool, Bor, Decides, IfOk, List, None, Option, Some, [], ap, append-nil, append_assoc, arith, codes, false, filter, find, flat_map, get_or, if◌then◌else◌, length, length-append, length-take, lit<, map, map-id, nat_eq, nat_lt, not, option_copied, option_map, refl, rules, slice_index_or, string_bytes, subst, suc, sum_by, sym, take, take-append-drop, take-take, take_all, true, ℕ, ⊎_elim, ◌&&◌, ◌*◌, ◌++◌, ◌+◌, ◌-◌, ◌<◌, ◌==◌, ◌||◌, ◌∙◌, ◌∷◌, ◌≡◌, ◌≢◌, ◌≤◌}
+pub use Rattle.std.proofs.Math.Seq.{drop-append_seam, take-append_seam}
+pub use Rattle.std.proofs.lemmas.Bool.{cases_Bool, false≢true}
 pub use Rattle.std.proofs.lemmas.Bool.Decides.{nat_tests}
 pub use Rattle.std.proofs.lemmas.Grind.{flat_map-append}
 pub use Rattle.std.proofs.lemmas.Iterator.Consumers.{YieldsList-end}
 pub use Rattle.std.proofs.lemmas.Iterator.Splits.{YieldsList-from_str_split}
-pub use Rattle.std.proofs.lemmas.List.{map-append, take_more}
+pub use Rattle.std.proofs.lemmas.List.{get_or-map, length-map, map-append, map_more, take_more}
 pub use Rattle.std.proofs.lemmas.List.Elements.{filter-append}
 pub use Rattle.std.proofs.lemmas.List.Folds.{flat_map-map}
 pub use Rattle.std.proofs.lemmas.Result.{on_ok_weaker}
 pub use Rattle.std.specs.Option.{option_map_or}
-pub use Rattle.tree_walk.specs.Rows.{RowView, is_file_enabled}
+pub use Rattle.tree_walk.specs.Rows.{RowView, Subject, is_file_enabled, no_subject}
 pub use Rattle.tree_walk.specs.Views.{row_view}

@@ -1,17 +1,14 @@
 -- The first imports that are alike, by what they have in common.
-use Rattle.source_listing.proofs.Common.{◌≡◌, ℕ, ◌+◌, ◌<◌, length, map, take, subst, ◌==◌, ◌&&◌, Bool, true, false, List, [], ◌∷◌, ◌++◌, Option, Some, None, Bor, refl, ap, sym, ◌∙◌, ⊎_elim, if◌then◌else◌, nat_eq, option_map, slice_index_or, Decides, find, map-append, take_more, FileAstId}
+use Rattle.source_listing.proofs.Common.{◌≡◌, ℕ, ◌+◌, ◌<◌, length, map, take, subst, ◌==◌, ◌&&◌, Bool, true, false, List, [], ◌∷◌, ◌++◌, Option, Some, None, Bor, refl, ap, sym, ◌∙◌, ⊎_elim, if◌then◌else◌, nat_eq, option_map, slice_index_or, Decides, find, map-append, take_more, FileAstId, cases_Bool, false≢true, Named, is_alike, first_alike, NamedKey, named_key_view, id_key, key, is_around, has_named_key, same_named_key, Firsts, first_in, PutsFirst, FindsFirsts, listed_named_view}
 use Rattle.std.specs.Cmp.Lexicographic.{pointwise, pointwise_decides}
 use Rattle.std.specs.HashMap.{get, get_by}
 use Rattle.std.specs.Option.{option_eq, option_or}
 use Rattle.std.proofs.Common.{cond}
-use Rattle.std.proofs.lemmas.Bool.{cases_Bool, false≢true}
 use Rattle.std.proofs.lemmas.Bool.Decides.{Decides-eqb, Decides-and, Decides-like, same_from_decides}
 use Rattle.std.proofs.lemmas.List.Folds.{find-append}
 use Rattle.hir_input.specs.Equality.{DecidesEq, DecidesEqOf}
 use Rattle.source_listing.specs.declared.repeated.Key as code_key
 use Rattle.source_listing.specs.declared.repeated.Named as code_named
-use Rattle.source_listing.specs.Repeated.{Named, is_alike, first_alike}
-use Rattle.source_listing.specs.Inner.{NamedKey, named_key_view, id_key, key, is_around, has_named_key, same_named_key, Firsts, first_in, PutsFirst, FindsFirsts, listed_named_view}
 
 never : {P : Type 0} → (P → ⊥) → Decides false P
 never f = (λ h. absurd (false≢true h), λ p. absurd (f p))

@@ -1,11 +1,8 @@
 -- Places by their ids.
-use Rattle.source_listing.proofs.Common.{◌≡◌, ◌≢◌, ℕ, suc, ◌<◌, ◌+◌, ◌-◌, ◌==◌, true, false, if◌then◌else◌, List, [], ◌∷◌, ◌++◌, length, length-append, take, take-append-drop, refl, ap, sym, ◌∙◌, subst, Some, arith, append_assoc, ⊎_elim, slice_index_or, nat_tests, FileAstId, ItemPlace, IsEndOf}
-use Rattle.std.proofs.Math.Seq.{drop-append_seam}
-use Rattle.std.proofs.lemmas.Bool.{cases_Bool}
+use Rattle.source_listing.proofs.Common.{◌≡◌, ◌≢◌, ℕ, suc, ◌<◌, ◌+◌, ◌-◌, ◌==◌, true, false, if◌then◌else◌, List, [], ◌∷◌, ◌++◌, length, length-append, take, take-append-drop, refl, ap, sym, ◌∙◌, subst, Some, arith, append_assoc, ⊎_elim, slice_index_or, nat_tests, FileAstId, ItemPlace, IsEndOf, drop-append_seam, cases_Bool, AreDistinct, is_id, place_of}
 use Rattle.hir_input.specs.declared.ids.AstIdKind.{AstIdKind}
 use Rattle.hir_input.specs.declared.ids.AstIdKind.TheVariants as kind
 use Rattle.rust_ids.specs.Ids.{kind_place}
-use Rattle.source_listing.specs.Places.{AreDistinct, is_id, place_of}
 
 to_end : {A : Type 0} (front left all : List A) → front ++ left ≡ all → IsEndOf left all
 to_end front left all e =

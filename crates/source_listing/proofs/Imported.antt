@@ -1,9 +1,5 @@
 -- Imports.
-use Rattle.source_listing.proofs.Common.{◌≡◌, ℕ, ◌<◌, ◌+◌, List, [], ◌∷◌, ◌++◌, length, map, take, ap, sym, ◌∙◌, subst, append-nil, Option, All, slice_index_or, flat_map, flat_map-append, flat_map-map, Import, Forest, Source, Spot, IsSameTreeFinder, IsTreeFinderOf, places_in, finder_text, FilePlaces, placed}
-use Rattle.std.proofs.lemmas.List.{get_or-map, length-map, take_more}
-use Rattle.def_collector.specs.Declarations.{declarations}
-use Rattle.def_collector.specs.DeclarationView.{DeclarationView, view_of}
-use Rattle.source_listing.specs.Imports.{placed_import_line, import_lines, of_seen, of_uses, seen_lines}
+use Rattle.source_listing.proofs.Common.{◌≡◌, ℕ, ◌<◌, ◌+◌, List, [], ◌∷◌, ◌++◌, length, map, take, ap, sym, ◌∙◌, subst, append-nil, Option, All, slice_index_or, flat_map, flat_map-append, flat_map-map, Import, Forest, Source, Spot, IsSameTreeFinder, IsTreeFinderOf, places_in, finder_text, FilePlaces, placed, get_or-map, length-map, take_more, declarations, DeclarationView, view_of, placed_import_line, import_lines, of_seen, of_uses, seen_lines}
 use Rattle.source_listing.specs.declared.uses.TreeFinder.{TreeFinder}
 
 -- what is told of what is collected is what is told of what is declared

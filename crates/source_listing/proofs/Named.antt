@@ -2,7 +2,7 @@
 use Rattle.std.proofs.Common.{◌≡◌, ℕ, ◌≤◌, ◌-◌, List, [], ◌∷◌, ◌++◌, length, map, take, take_all, drop, Bor, MatchOption, Option, Some, None, option_map, true, false, append_assoc, arith, refl, sym, ap, ◌∙◌, slice_index_or}
 use Rattle.std.specs.Str.Pattern.{FindsTextPrefix, StripsPrefix}
 use Rattle.std.proofs.lemmas.Str.Pattern.{starts_text}
-use Rattle.source_listing.specs.Search.{bare_segment}
+use Rattle.source_listing.proofs.Common.{bare_segment}
 use Rattle.source_listing.specs.Sought.{joined_names, name_before, text_behind}
 
 -- the clause of `strip_prefix` at a text

@@ -1,6 +1,5 @@
 -- Lines of outlines that are pushed one after another.
-use Rattle.source_listing.proofs.Common.{◌≡◌, ℕ, ◌+◌, List, [], ◌∷◌, ◌++◌, ap, ◌∙◌, filter, map, flat_map, flat_map-append, map-append, filter-append, RowView, ItemPlace, Listed, MemberReading, Source, Choice, is_chosen, is_listed, member_object, member_objects}
-use Rattle.source_listing.specs.Outlines.{Look, member_line, member_lines, outline_text, whole_lines}
+use Rattle.source_listing.proofs.Common.{◌≡◌, ℕ, ◌+◌, List, [], ◌∷◌, ◌++◌, ap, ◌∙◌, filter, map, flat_map, flat_map-append, map-append, filter-append, RowView, ItemPlace, Listed, MemberReading, Source, Choice, is_chosen, is_listed, member_object, member_objects, Look, member_line, member_lines, outline_text, whole_lines}
 
 -- the lines of one more item
 pub one_more : (s : Source) (x : MemberReading) (reserved : List (List ℕ)) (places : List ItemPlace) (k : Look) (rs : List RowView) (r : RowView)

@@ -1,7 +1,5 @@
 -- Texts that are pushed one after another.
-use Rattle.source_listing.proofs.Common.{◌≡◌, ℕ, List, [], ◌∷◌, ◌++◌, map, ap, codes, ◌∙◌, append_assoc, Option, filter, flat_map, flat_map-append, filter-append, RowView, ItemPlace, Source, flat_map-map, Listed, MemberReading}
-use Rattle.source_listing.specs.Tags.{scope_field}
-use Rattle.source_listing.specs.Search.{Query, bare_segment, is_member_found, whole_found, found_lines, found_member, found_members}
+use Rattle.source_listing.proofs.Common.{◌≡◌, ℕ, List, [], ◌∷◌, ◌++◌, map, ap, codes, ◌∙◌, append_assoc, Option, filter, flat_map, flat_map-append, filter-append, RowView, ItemPlace, Source, flat_map-map, Listed, MemberReading, scope_field, Query, bare_segment, is_member_found, whole_found, found_lines, found_member, found_members}
 
 -- a line, pushed part by part, of which the first has a place and blanks
 pub line_pushed : (o p i v w n e o1 o2 o3 o4 o5 : List ℕ) → o1 ≡ o ++ p ++ i → o2 ≡ o1 ++ v → o3 ≡ o2 ++ w → o4 ≡ o3 ++ n → o5 ≡ o4 ++ e

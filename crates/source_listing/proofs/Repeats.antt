@@ -1,14 +1,5 @@
 -- Imports by the ids of items, and the lines of one more.
-use Rattle.source_listing.proofs.Common.{◌≡◌, ℕ, ◌+◌, ◌<◌, length, take, List, [], ◌∷◌, ◌++◌, map, Option, Some, None, refl, ap, sym, ◌∙◌, append_assoc, append-nil, option_map, slice_index_or, flat_map, map-append, take_more, option_map_or, FileAstId, children, children_at, place_of}
-use Rattle.item_tree.specs.Layout.{leaf_map, node_at, vis_at}
-use Rattle.item_tree.specs.Node.{Leaf, plain, use_item, Node, leaf, parent, Forest, empty, more, nodes, node_ast, Unfolding}
-use Rattle.item_tree.specs.Shown.{Lent, lent_leaf, lent_parent, IsLent, StandFor}
-use Rattle.item_tree.proofs.Walking.{flat_map_of_id, leaf_of_id, parent_of_id}
-use Rattle.item_tree.specs.Imports.{Import, imports}
-use Rattle.item_tree.specs.Tree.{Tree}
-use Rattle.source_listing.specs.Uses.{FilePlaces, Trees, use_trees_at, tree_spots, import_spot}
-use Rattle.source_listing.specs.Repeated.{Named, named_import, leaf_named, node_named, forest_named, first_alike, line_if_any, repeat_lines}
-use Rattle.source_listing.specs.Inner.{own_named, lent_named, own_named_at, named_at}
+use Rattle.source_listing.proofs.Common.{◌≡◌, ℕ, ◌+◌, ◌<◌, length, take, List, [], ◌∷◌, ◌++◌, map, Option, Some, None, refl, ap, sym, ◌∙◌, append_assoc, append-nil, option_map, slice_index_or, flat_map, map-append, take_more, option_map_or, FileAstId, children, children_at, place_of, leaf_map, node_at, vis_at, Leaf, plain, use_item, Node, leaf, parent, Forest, empty, more, nodes, node_ast, Unfolding, Lent, lent_leaf, lent_parent, IsLent, StandFor, flat_map_of_id, leaf_of_id, parent_of_id, Import, imports, Tree, FilePlaces, Trees, use_trees_at, tree_spots, import_spot, Named, named_import, leaf_named, node_named, forest_named, first_alike, line_if_any, repeat_lines, own_named, lent_named, own_named_at, named_at}
 
 module _ (text : List ℕ) (places : FilePlaces) (reserved : List (List ℕ)) (around : Option FileAstId) where
   named-leaf : {V W : Type 0} (f : V → W) (at : FileAstId) (l : Leaf V) → leaf_named text places reserved around at (leaf_map f l) ≡ leaf_named text places reserved around at l

@@ -1,6 +1,5 @@
 -- Tags that are pushed one after another.
-use Rattle.source_listing.proofs.Common.{◌≡◌, ℕ, ◌+◌, ◌<◌, List, [], ◌∷◌, ◌++◌, Option, length, take, get_or, map, ap, sym, ◌∙◌, append_assoc, filter, flat_map, flat_map-append, take_more, map-append, filter-append, RowView, ItemPlace, Listed, MemberReading, Choice, is_chosen, is_listed}
-use Rattle.source_listing.specs.Tags.{if_any, member_tag, member_tags, tags_under, whole_tags}
+use Rattle.source_listing.proofs.Common.{◌≡◌, ℕ, ◌+◌, ◌<◌, List, [], ◌∷◌, ◌++◌, Option, length, take, get_or, map, ap, sym, ◌∙◌, append_assoc, filter, flat_map, flat_map-append, take_more, map-append, filter-append, RowView, ItemPlace, Listed, MemberReading, Choice, is_chosen, is_listed, if_any, member_tag, member_tags, tags_under, whole_tags}
 
 -- the tags of one more item
 pub one_more : (path text : List ℕ) (x : MemberReading) (places : List ItemPlace) (c : Choice) (rs : List RowView) (r : RowView)

@@ -1,6 +1,5 @@
 -- The lines of what became of items, between two files.
-use Rattle.std.specs.Prelude.{ℕ, List, ◌++◌, codes}
-use Rattle.std.specs.List.{flat_map}
+use Rattle.std.specs.Prelude.{ℕ, List, ◌++◌, codes, flat_map}
 use Rattle.rust_items.specs.declared.source_file.ItemPlace.{ItemPlace}
 use Rattle.item_changes.specs.Changes.{ChangeView}
 use Rattle.item_changes.specs.ChangeWords.{change_word, side_of}

@@ -1,6 +1,5 @@
 -- Lines of imports.
-use Rattle.std.specs.Prelude.{ℕ, List, [], ◌++◌, codes, Option, Some, None, option_map}
-use Rattle.std.specs.List.{flat_map}
+use Rattle.std.specs.Prelude.{ℕ, List, [], ◌++◌, codes, Option, Some, None, option_map, flat_map}
 use Rattle.hir_input.specs.declared.ids.FileAstId.{FileAstId}
 use Rattle.hir_input.specs.Path.{Path, shown_path}
 use Rattle.item_tree.specs.declared.use_tree.ImportAlias.{ImportAlias}

@@ -1,6 +1,5 @@
 -- Where an item stands, by its id.
-use Rattle.std.specs.Prelude.{◌≢◌, ℕ, Bool, ◌==◌, ◌&&◌, if◌then◌else◌, List, [], ◌∷◌, ◌++◌, codes, Option, Some, None}
-use Rattle.std.specs.List.{AllPairs}
+use Rattle.std.specs.Prelude.{◌≢◌, ℕ, Bool, ◌==◌, ◌&&◌, if◌then◌else◌, List, [], ◌∷◌, ◌++◌, codes, Option, Some, None, AllPairs}
 use Rattle.hir_input.specs.declared.ids.FileAstId.{FileAstId}
 use Rattle.line_index.specs.Positions.{position_of}
 use Rattle.source_rows.specs.Sources.{place_text}

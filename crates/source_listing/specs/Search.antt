@@ -1,8 +1,7 @@
 -- Where a path of names is declared.
-use Rattle.std.specs.Prelude.{ℕ, Bool, not, ◌&&◌, ◌||◌, if◌then◌else◌, List, [], ◌++◌, codes, filter, nat_eq, Option, Some, None, is_some, option_map}
+use Rattle.std.specs.Prelude.{ℕ, Bool, not, ◌&&◌, ◌||◌, if◌then◌else◌, List, [], ◌++◌, codes, filter, nat_eq, Option, Some, None, is_some, option_map, bytes_eq}
 use Rattle.std.specs.List.{flat_map, ends_with}
 use Rattle.std.specs.Option.{option_or}
-use Rattle.std.specs.Str.{bytes_eq}
 use Rattle.tree_walk.specs.Rows.{RowView}
 use Rattle.source_rows.specs.Listed.{Listed, MemberReading, members_of, type_name_of}
 use Rattle.rust_items.specs.declared.source_file.ItemPlace.{ItemPlace}

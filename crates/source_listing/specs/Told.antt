@@ -1,7 +1,6 @@
 -- Where use trees are told to begin, and what is read there.
-use Rattle.std.specs.Prelude.{◌≡◌, ℕ, List, [], Option, Some, None}
+use Rattle.std.specs.Prelude.{◌≡◌, ℕ, List, [], Option, Some, None, option_and_then}
 use Rattle.std.specs.List.{AllZip}
-use Rattle.std.specs.Option.{option_and_then}
 use Rattle.hir_input.specs.UseTreeView.{UseTreeView}
 use Rattle.item_tree.specs.KeptUse.{kept_tree}
 use Rattle.item_tree.specs.Tree.{Tree, tree_nodes}

@@ -1,6 +1,5 @@
 //! Imports as lines of text.
-ghost use Rattle.std.specs.Prelude.{◌≡◌, ◌++◌, ◌∷◌, [], Some, IfOk, OnOk, map, option_map, string_bytes};
-ghost use Rattle.std.specs.List.{flat_map};
+ghost use Rattle.std.specs.Prelude.{◌≡◌, ◌++◌, ◌∷◌, [], Some, IfOk, OnOk, map, option_map, string_bytes, flat_map};
 ghost use Rattle.def_collector.specs.DeclarationView.{declaration_view};
 ghost use Rattle.def_collector.specs.Listed.{listed_import};
 ghost use Rattle.item_tree.specs.Shown.{IsContained};

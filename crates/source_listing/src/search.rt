@@ -1,6 +1,5 @@
 //! Where a path of names is declared.
-ghost use Rattle.std.specs.Prelude.{◌≡◌, ◌++◌, ◌∷◌, [], IfOk, OnOk, map, option_copied, string_bytes};
-ghost use Rattle.std.specs.List.{flat_map};
+ghost use Rattle.std.specs.Prelude.{◌≡◌, ◌++◌, ◌∷◌, [], IfOk, OnOk, map, option_copied, string_bytes, flat_map};
 ghost use Rattle.std.specs.Option.{option_or};
 ghost use Rattle.tree_walk.specs.Views.{row_view};
 ghost use Rattle.tree_walk.specs.Rows as rows;

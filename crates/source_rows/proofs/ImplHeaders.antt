@@ -1,8 +1,7 @@
 -- Headers that are read step by step.
 use Rattle.std.proofs.Common.{◌≡◌, ◌<◌, ◌+◌, ◌-◌, ℕ, zero, suc, true, false, refl, ap, sym, ◌∙◌, arith}
-use Rattle.rust_cursor.specs.Tokens.{Tokens}
+use Rattle.source_rows.proofs.Common.{Tokens, is_type_over, type_step, type_from}
 use Rattle.source_rows.specs.declared.types.TypeRead.{TypeRead}
-use Rattle.source_rows.specs.Types.{is_type_over, type_step, type_from}
 
 pub type_stop : (n : ℕ) (r : TypeRead) (ts : Tokens) → is_type_over ts ≡ true → type_from n r ts ≡ r
 type_stop zero r ts e = refl

@@ -1,21 +1,13 @@
 -- Steps of what is done in turns.
-use Rattle.std.proofs.Common.{◌≡◌, ◌<◌, ◌≤◌, ◌+◌, ℕ, suc, true, false, List, [], ◌∷◌, ◌++◌, length, map, drop, get_or, refl, ap, sym, ◌∙◌, arith, append_assoc, append-nil}
-use Rattle.std.specs.Prelude.{Option, Bool, nat_le}
+use Rattle.std.proofs.Common.{◌≡◌, ◌<◌, ◌≤◌, ◌+◌, ℕ, suc, true, false, List, [], ◌∷◌, ◌++◌, length, map, drop, get_or, refl, ap, sym, ◌∙◌, arith, append_assoc, append-nil, Option, Bool, nat_le}
 use Rattle.std.proofs.Math.Seq.{drop-cons}
-use Rattle.std.proofs.lemmas.Bool.Decides.{nat_tests}
+use Rattle.source_rows.proofs.Common.{nat_tests, Tokens, not_first, gap_text, is_over, reach_behind, spaced_tokens, spaced_from, Outer, Part, still_open, parts_of, around_behind, item_parts_from, outside, holes_begun, part_view}
 use Rattle.hir_input.specs.declared.edition.EditionYear.{EditionYear}
 use Rattle.rust_lexer.specs.Piece.{Piece}
-use Rattle.rust_cursor.specs.Tokens.{Tokens}
 use Rattle.rust_cursor.specs.Words.{symbol, text, is_empty, bumped}
-use Rattle.rust_cursor.proofs.Nesting.{not_first}
 use Rattle.source_rows.specs.declared.kept.Hole.{Hole}
 use Rattle.source_rows.specs.declared.items.Part as code_part
 use Rattle.rust_items.specs.declared.source_file.ItemPlace.{ItemPlace}
-use Rattle.source_rows.specs.Headers.{gap_text, is_over, reach_behind, spaced_tokens, spaced_from}
-use Rattle.source_rows.specs.Labels.{Outer}
-use Rattle.source_rows.specs.Parts.{Part, still_open, parts_of, around_behind, item_parts_from}
-use Rattle.source_rows.specs.Rows.{outside, holes_begun}
-use Rattle.source_rows.specs.Views.{part_view}
 
 -- ---- headers
 

@@ -1,10 +1,7 @@
 -- Lists of texts.
-use Rattle.std.proofs.Common.{◌≡◌, ℕ, Bool, List, [], ◌∷◌, map, Bor, refl, ◌∙◌}
-use Rattle.std.specs.Prelude.{◌↔◌, IsTrue, nat_eq}
-use Rattle.std.specs.Bool.{Decides}
+use Rattle.std.proofs.Common.{◌≡◌, ℕ, Bool, List, [], ◌∷◌, map, Bor, refl, ◌∙◌, ◌↔◌, IsTrue, nat_eq, Decides}
 use Rattle.std.specs.Cmp.Lexicographic.{pointwise, pointwise_decides}
-use Rattle.std.proofs.lemmas.Bool.Decides.{Decides-and, Decides-eqb, Decides-like, same_from_decides}
-use Rattle.source_rows.specs.Changes.{same_text, same_texts}
+use Rattle.source_rows.proofs.Common.{Decides-and, Decides-eqb, Decides-like, same_from_decides, same_text, same_texts}
 
 texts_decide : (a b : List ℕ) → Decides (same_text a b) (a ≡ b)
 texts_decide = pointwise_decides Decides-eqb

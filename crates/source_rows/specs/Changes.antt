@@ -1,7 +1,6 @@
 -- What of some rows became another.
-use Rattle.std.specs.Prelude.{ℕ, Bool, nat_eq, if◌then◌else◌, List, [], ◌∷◌}
+use Rattle.std.specs.Prelude.{ℕ, Bool, nat_eq, if◌then◌else◌, List, [], ◌∷◌, flat_map}
 use Rattle.std.specs.Cmp.Lexicographic.{pointwise}
-use Rattle.std.specs.List.{flat_map}
 use Rattle.item_changes.specs.declared.compare.ChangeKind.{ChangeKind}
 use Rattle.item_changes.specs.declared.compare.ChangeKind.TheVariants.{Removed, Added, Changed}
 use Rattle.item_changes.specs.declared.matching.Match.{Match}

@@ -1,6 +1,5 @@
 -- The words of kinds, and paths.
-use Rattle.std.specs.Prelude.{List, ℕ, Bool, [], ◌∷◌, ◌++◌, codes, Option, Some, None, is_some, unwrap_or}
-use Rattle.std.specs.List.{flat_map}
+use Rattle.std.specs.Prelude.{List, ℕ, Bool, [], ◌∷◌, ◌++◌, codes, Option, Some, None, is_some, unwrap_or, flat_map}
 use Rattle.hir_input.specs.declared.ids.AstIdKind.{AstIdKind}
 use Rattle.hir_input.specs.declared.ids.AstIdKind.TheVariants as kind
 use Rattle.rust_paths.specs.declared.names.TextRange.{TextRange}

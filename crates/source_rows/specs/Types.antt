@@ -1,6 +1,5 @@
 -- The types that impls are of.
-use Rattle.std.specs.Prelude.{ℕ, zero, suc, Bool, true, false, ◌==◌, ◌||◌, if◌then◌else◌, List, Option, Some, None, codes}
-use Rattle.std.specs.Str.{bytes_eq}
+use Rattle.std.specs.Prelude.{ℕ, zero, suc, Bool, true, false, ◌==◌, ◌||◌, if◌then◌else◌, List, Option, Some, None, codes, bytes_eq}
 use Rattle.hir_input.specs.declared.edition.EditionYear.{EditionYear}
 use Rattle.rust_cursor.specs.Tokens.{Tokens, tokens_of}
 use Rattle.rust_cursor.specs.Words.{symbol, word, is_empty, bumped}

@@ -1,7 +1,6 @@
 //! What of some rows became another.
 
-ghost use Rattle.std.specs.Prelude.{◌≡◌, ◌++◌, map, IfOk, OnOk};
-ghost use Rattle.std.specs.List.{flat_map};
+ghost use Rattle.std.specs.Prelude.{◌≡◌, ◌++◌, map, IfOk, OnOk, flat_map};
 ghost use Rattle.source_rows.specs.Changes as spec;
 ghost use Rattle.source_rows.specs.Inner.{found_row_change, row_match};
 ghost use Rattle.source_rows.specs.ChangeViews.{row_change_view, text_row_view};

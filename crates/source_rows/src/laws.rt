@@ -1,8 +1,7 @@
 //! What holds of the types here. Each derive is held to it by a clause; the functions do nothing.
 
 ghost use Rattle.hir_input.specs.Equality.{IsCopied};
-ghost use Rattle.std.specs.Prelude.{◌≡◌};
-ghost use Rattle.std.specs.Bool.{Decides};
+ghost use Rattle.std.specs.Prelude.{◌≡◌, Decides};
 
 use crate::compare::Change;
 use crate::kept::Hole;

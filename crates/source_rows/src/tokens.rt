@@ -1,7 +1,6 @@
 //! The parts of a text as rows, each with its own tokens.
 
-ghost use Rattle.std.specs.Prelude.{◌≡◌, ◌++◌, IfOk, OnOk, map};
-ghost use Rattle.std.specs.List.{flat_map};
+ghost use Rattle.std.specs.Prelude.{◌≡◌, ◌++◌, IfOk, OnOk, map, flat_map};
 ghost use Rattle.source_rows.specs.ChangeViews.{text_row_view};
 ghost use Rattle.source_rows.specs.Rows as spec;
 ghost use Rattle.source_rows.specs.Views.{part_view};

@@ -1,45 +1,17 @@
 -- Edits inside bodies.
-use Rattle.std.proofs.Common.{◌≡◌, ◌≢◌, ℕ, zero, suc, ◌+◌, ◌<◌, ◌≤◌, ◌==◌, Bool, true, false, if◌then◌else◌, List, [], ◌∷◌, Option, Some, None, IfSome, IfNone, OnSome, is_some, Result, Ok, Err, All, slice_get, length, map, take, drop, refl, sym, ap, subst, ◌∙◌, append_assoc, arith}
-use Rattle.std.specs.Prelude.{IsCharBoundary, nat_le, string_bytes}
-use Rattle.std.specs.List.{list_all}
+use Rattle.std.proofs.Common.{◌≡◌, ◌≢◌, ℕ, zero, suc, ◌+◌, ◌<◌, ◌≤◌, ◌==◌, Bool, true, false, if◌then◌else◌, List, [], ◌∷◌, Option, Some, None, IfSome, IfNone, OnSome, is_some, Result, Ok, Err, All, slice_get, length, map, take, drop, refl, sym, ap, subst, ◌∙◌, append_assoc, arith, IsCharBoundary, nat_le, string_bytes}
+use Rattle.source_session.proofs.Common.{list_all, and_parts, nat_tests, get_or-map, length-map, EditionYear, Place, File, IsSetAgain, EditView, set, IsFooting, FitsAfter, last_number, State, present, ItemPlace, FileView, IsBareFile, IsFileView, bare_file, HasPlaces, IsReadMoved, edited, has_item, has_place, has_problem, shifted_item, shifted_place, shifted_problem, is_cut, TextRange, AreDistinct, IndexView, ChangeFault, SourceText, LineEdit, set_text, change_text, CrateFiles, AreSetTo, AreTogether, IsPlaced, IsSetTo, LeavesPlaced, session_of, CanReplace, HasRoom, IsInside, IsMadeAlone, IsMadeOrNot, IsRetyped, IsRetypedIf, MakesAlone, IsEdited, TextChange, IsKeptWith, IsReading, Texts, bytes_kept, change_fault, changed_text, spliced, text_after, text_in, unless_fault, Touched}
 use Rattle.std.specs.String.{string_capacity, string_len}
 use Rattle.std.specs.String.Boundary.{IsSplitPoint}
 use Rattle.std.specs.declared.alloc.AllocError.{AllocError}
 use Rattle.std.specs.declared.alloc.Global.{Global}
 use Rattle.std.specs.declared.string.String.{String}
-use Rattle.std.proofs.lemmas.Bool.{and_parts}
-use Rattle.std.proofs.lemmas.Bool.Decides.{nat_tests}
-use Rattle.std.proofs.lemmas.List.{get_or-map, length-map}
-use Rattle.hir_input.specs.declared.edition.EditionYear.{EditionYear}
-use Rattle.item_tree_db.specs.declared.place.Place.{Place}
-use Rattle.item_tree_db.specs.declared.place.Place.TheVariants.{File}
-use Rattle.item_tree_db.specs.Again.{IsSetAgain}
-use Rattle.item_tree_db.specs.Edits.{EditView, set}
-use Rattle.item_tree_db.specs.History.{IsFooting}
-use Rattle.item_tree_db.specs.Refusal.{FitsAfter, last_number}
-use Rattle.item_tree_db.specs.State.{State, present}
-use Rattle.rust_items.specs.declared.source_file.ItemPlace.{ItemPlace}
-use Rattle.rust_items.specs.SourceFiles.{FileView, IsBareFile, IsFileView, bare_file}
 use Rattle.rust_edits.specs.declared.shift.Shift.{Shift}
-use Rattle.rust_edits.specs.Edits.{HasPlaces, IsReadMoved, edited, has_item, has_place, has_problem, shifted_item, shifted_place, shifted_problem}
-use Rattle.rust_members.specs.Lists.{is_cut}
-use Rattle.rust_paths.specs.declared.names.TextRange.{TextRange}
-use Rattle.source_listing.specs.Places.{AreDistinct}
-use Rattle.decl_index.specs.Entries.{IndexView}
 use Rattle.source_session.specs.declared.inside.Inside.{Inside}
-use Rattle.source_session.specs.declared.splice.ChangeFault.{ChangeFault}
-use Rattle.source_session.specs.declared.texts.SourceText.{SourceText}
-use Rattle.source_session.specs.Edits.{LineEdit, set_text, change_text}
-use Rattle.source_session.specs.Files.{CrateFiles}
-use Rattle.source_session.specs.Inner.{AreSetTo, AreTogether, IsPlaced, IsSetTo, LeavesPlaced, session_of}
-use Rattle.source_session.specs.Inside.{CanReplace, HasRoom, IsInside, IsMadeAlone, IsMadeOrNot, IsRetyped, IsRetypedIf, MakesAlone}
-use Rattle.source_session.specs.Sessions.{IsEdited}
-use Rattle.source_session.specs.Texts.{TextChange, IsKeptWith, IsReading, Texts, bytes_kept, change_fault, changed_text, spliced, text_after, text_in, unless_fault}
 use Rattle.source_session.proofs.Kept.{text_step}
 use Rattle.source_session.proofs.Made.{together_after}
 use Rattle.source_session.proofs.Read.{left_first}
 use Rattle.source_session.proofs.Touching.{behind_by_again}
-use Rattle.source_session.specs.Touched.{Touched}
 use Rattle.source_session.proofs.Spliced.{begins, ends}
 
 -- ---- a text in place

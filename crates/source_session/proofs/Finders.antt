@@ -1,37 +1,12 @@
 -- Items found by their ids.
-use Rattle.std.proofs.Common.{◌≡◌, ◌≢◌, ℕ, suc, zero, ◌<◌, ◌≤◌, ◌-◌, ◌==◌, List, [], ◌∷◌, Bor, length, drop, map, Option, Some, None, IsSome, refl, sym, ap, ◌∙◌, subst, arith, ⊎_elim}
-use Rattle.std.specs.Prelude.{slice_index_or}
-use Rattle.std.specs.List.{AllPairs, flat_map}
-use Rattle.std.specs.Option.{option_map_or}
-use Rattle.std.proofs.lemmas.Bool.{cases_Bool}
-use Rattle.std.proofs.lemmas.Bool.Decides.{nat_tests}
-use Rattle.std.proofs.lemmas.List.{length-drop}
-use Rattle.hir_input.specs.declared.ids.Crate.{Crate}
-use Rattle.hir_input.specs.declared.ids.FileAstId.{FileAstId}
+use Rattle.std.proofs.Common.{◌≡◌, ◌≢◌, ℕ, suc, zero, ◌<◌, ◌≤◌, ◌-◌, ◌==◌, List, [], ◌∷◌, Bor, length, drop, map, Option, Some, None, IsSome, refl, sym, ap, ◌∙◌, subst, arith, ⊎_elim, slice_index_or, AllPairs, flat_map}
+use Rattle.source_session.proofs.Common.{option_map_or, cases_Bool, nat_tests, length-drop, Crate, FileAstId, Unfolding, Place, File, Block, State, unfolding_at, node_name, declaration_id, Entry, IsDeclared, ItemPlace, AreDistinct, place_of, bare_segment, SourceText, HaveDistinctIds, declared_scope, found_with, head_place, head_scope, found_value, IsPlaced, found_scope, text_bytes, text_places, Texts, text_of_place, text_in}
 use Rattle.item_tree.specs.Layout.{node_at}
-use Rattle.item_tree.specs.Node.{Unfolding}
 use Rattle.item_tree.specs.Shown.{IsContained}
-use Rattle.item_tree_db.specs.declared.place.Place.{Place}
-use Rattle.item_tree_db.specs.declared.place.Place.TheVariants.{File, Block}
-use Rattle.item_tree_db.specs.State.{State, unfolding_at}
-use Rattle.def_collector.specs.Declarations.{node_name}
-use Rattle.def_collector.specs.DeclarationView.{declaration_id}
 use Rattle.def_collector.specs.declared.collector.Declaration as code
-use Rattle.decl_index.specs.declared.entry.Entry.{Entry}
-use Rattle.decl_index.specs.Entries.{IsDeclared}
-use Rattle.rust_items.specs.declared.source_file.ItemPlace.{ItemPlace}
 use Rattle.source_listing.specs.Ends.{IsEndOf}
-use Rattle.source_listing.specs.Places.{AreDistinct, place_of}
-use Rattle.source_listing.specs.Search.{bare_segment}
 use Rattle.source_listing.proofs.Found.{found_later}
 use Rattle.source_listing.proofs.Pushed.{segments_of}
-use Rattle.source_session.specs.declared.texts.SourceText.{SourceText}
-use Rattle.source_session.specs.Finders.{HaveDistinctIds, declared_scope, found_with, head_place, head_scope}
-use Rattle.source_session.specs.Found.{found_value}
-use Rattle.source_session.specs.Inner.{IsPlaced}
-use Rattle.source_session.specs.Sought.{found_scope}
-use Rattle.source_session.specs.SourceTexts.{text_bytes, text_places}
-use Rattle.source_session.specs.Texts.{Texts, text_of_place, text_in}
 
 -- ---- what is around items
 

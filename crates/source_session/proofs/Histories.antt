@@ -1,27 +1,13 @@
 -- Edits of two goes, and whole conversations.
-use Rattle.std.proofs.Common.{◌≡◌, ◌⊎◌, ℕ, inl, inr, List, [], ◌∷◌, ◌++◌, Bool, true, false, Option, Some, None, Ok, Err, codes, length, map, take, refl, sym, ap, subst, ◌∙◌, append_assoc, arith}
-use Rattle.std.proofs.lemmas.List.{take_all}
-use Rattle.std.specs.List.{flat_map}
-use Rattle.std.specs.Option.{unwrap_or}
+use Rattle.std.proofs.Common.{◌≡◌, ◌⊎◌, ℕ, inl, inr, List, [], ◌∷◌, ◌++◌, Bool, true, false, Option, Some, None, Ok, Err, codes, length, map, take, refl, sym, ap, subst, ◌∙◌, append_assoc, arith, flat_map}
+use Rattle.source_session.proofs.Common.{take_all, unwrap_or, EditionYear, EditionView, Reading, right, wrong, pointer_behind, EditView, last_some, after_join, after_none, last_append, or_else, LineError, NotJson, NotRequest, NotChanged, Refused, TooLong, OutOfMemory, Settings, Asked, first_line, later_line, Open, Outcome, Reply, Replies, IsCarriedOut, IsOutcome, IsRefusedAs, IsReplyUnless, IsReplyOf, IsReply, asked_of, of_session, of_opened, id_value, reply_number, reply_text, out_of_memory, Session, new_session, AreMade, IsUnedited, TextChange, FileTexts, text_in, text_after, left_text, AreMeant}
 use Rattle.serde_json.specs.Data.{Data, Members}
 use Rattle.serde_json.specs.Find.{as_object}
 use Rattle.serde_json.specs.Written.{has_float}
-use Rattle.hir_input.specs.declared.edition.EditionYear.{EditionYear}
-use Rattle.hir_input_json.specs.Editions.{EditionView}
-use Rattle.hir_input_json.specs.Reading.{Reading, right, wrong, pointer_behind}
-use Rattle.item_tree_db.specs.Edits.{EditView}
-use Rattle.item_tree_db.specs.History.{last_some}
-use Rattle.item_tree_db.proofs.Histories.{after_join, after_none, last_append, or_else}
 use Rattle.item_tree_request.specs.Requests.{IsJsonText}
 use Rattle.line_stream.specs.Lines.{Told, whole, too_long, no_memory, IsToldOf}
 use Rattle.line_stream.specs.Served.{IsServed}
-use Rattle.source_session.specs.declared.error.LineError.{LineError}
-use Rattle.source_session.specs.declared.error.LineError.TheVariants.{NotJson, NotRequest, NotChanged, Refused, TooLong, OutOfMemory}
 use Rattle.source_session.specs.Histories.{Says, Exchange, answer_of, AsksNext, AsksFirst, StandAll, StandFirst, Stand, StandOf, OpensNone, IsLedByAnswers}
-use Rattle.source_session.specs.Lines.{Settings, Asked, first_line, later_line}
-use Rattle.source_session.specs.Replies.{Open, Outcome, Reply, Replies, IsCarriedOut, IsOutcome, IsRefusedAs, IsReplyUnless, IsReplyOf, IsReply, asked_of, of_session, of_opened, id_value, reply_number, reply_text, out_of_memory}
-use Rattle.source_session.specs.Sessions.{Session, new_session, AreMade, IsUnedited}
-use Rattle.source_session.specs.Texts.{TextChange, FileTexts, text_in, text_after, left_text, AreMeant}
 use Rattle.source_session.proofs.Made.{same_length}
 use Rattle.source_session.proofs.Meant.{meant_over}
 

@@ -1,15 +1,6 @@
 -- The texts of files, one change after another.
 use Rattle.std.proofs.Common.{◌≡◌, ℕ, suc, ◌+◌, ◌<◌, ◌==◌, true, false, if◌then◌else◌, List, [], ◌∷◌, ◌++◌, Option, Some, None, IfSome, All, length, take, get_or, refl, sym, ap, subst, ◌∙◌, arith}
-use Rattle.std.proofs.lemmas.List.{take_more}
-use Rattle.std.proofs.lemmas.List.Elements.{All-push}
-use Rattle.std.specs.Option.{unwrap_or}
-use Rattle.item_tree_db.specs.History.{last_some}
-use Rattle.item_tree_db.proofs.Histories.{last_append, or_else}
-use Rattle.source_session.specs.declared.texts.SourceText.{SourceText}
-use Rattle.item_tree_db.specs.declared.place.Place.{Place}
-use Rattle.item_tree_db.specs.declared.place.Place.TheVariants.{File, Block}
-use Rattle.source_session.specs.Inner.{HasSlot, HasSlotFor, IsPlaced}
-use Rattle.source_session.specs.Texts.{Texts, FileTexts, TextChange, text_of_place, text_in, left_text, text_after}
+use Rattle.source_session.proofs.Common.{take_more, All-push, unwrap_or, last_some, last_append, or_else, SourceText, Place, File, Block, HasSlot, HasSlotFor, IsPlaced, Texts, FileTexts, TextChange, text_of_place, text_in, left_text, text_after}
 
 -- ---- places
 

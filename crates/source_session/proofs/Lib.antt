@@ -13,3 +13,4 @@ pub mod Made
 pub mod Alone
 pub mod Named
 pub mod Histories
+pub mod Common

@@ -1,36 +1,16 @@
 -- What the edits of a line make of a session.
 use Rattle.std.proofs.Common.{◌≡◌, ℕ, ◌≤◌, ◌==◌, suc, true, false, if◌then◌else◌, inl, inr, List, [], ◌∷◌, Option, Some, None, IfSome, All, Result, Ok, Err, OnOk, IfOk, IfErr, MatchResult, slice_get, length, map, take, refl, sym, ap, subst, ◌∙◌, arith}
-use Rattle.std.proofs.lemmas.List.{length-map, take_all}
-use Rattle.std.proofs.lemmas.List.Elements.{All-take}
-use Rattle.std.specs.Option.{option_or, unwrap_or}
-use Rattle.hir_input.specs.declared.edition.EditionYear.{EditionYear}
-use Rattle.hir_input_json.specs.Editions.{EditionView}
+use Rattle.source_session.proofs.Common.{length-map, take_all, All-take, option_or, unwrap_or, EditionYear, EditionView, Edit, EditView, edit_view, edits_before, last_number, FirstFit, IsRefusal, IsAfter, IsFooting, last_some, State, after_none, IndexView, LineEdit, CrateFiles, LineError, NotJson, NotRequest, NotChanged, Refused, TooLong, IsPlaced, LeavesPlaced, AreTogether, TellsFault, session_of, line_refusal, made_count, outcome_of, Session, AreMade, IsEdited, IsStopped, IsUnedited, AreTouched, IsBehindBy, Touched, Texts, FileTexts, TextChange, text_in, text_after, left_text, AreMeant, FailsAt}
 use Rattle.item_tree.specs.declared.fault.EditFault.{EditFault}
 use Rattle.item_tree.specs.declared.fault.EditFault.TheVariants.{TooManyEdits, Lower}
 use Rattle.item_tree.specs.declared.fault.LowerError.TheVariants.{TooManyItems, TooManyVisibilities, TooManyUseTrees, TooManyAttributes, TooManySupers, OutOfMemory}
 use Rattle.item_tree_db.specs.declared.edit.AllRefused.{AllRefused}
-use Rattle.item_tree_db.specs.declared.edit.Edit.{Edit}
-use Rattle.item_tree_db.specs.Edits.{EditView, edit_view, edits_before}
-use Rattle.item_tree_db.specs.Refusal.{last_number, FirstFit, IsRefusal}
-use Rattle.item_tree_db.specs.History.{IsAfter, IsFooting, last_some}
-use Rattle.item_tree_db.specs.State.{State}
-use Rattle.item_tree_db.proofs.Histories.{after_none}
 use Rattle.item_tree_request.specs.Inner.Made.{IsUnmade, refusal_of}
 use Rattle.item_tree_request.proofs.Made.{is_made, is_unmade, found_in_map}
-use Rattle.decl_index.specs.Entries.{IndexView}
-use Rattle.source_session.specs.Edits.{LineEdit}
-use Rattle.source_session.specs.Files.{CrateFiles}
-use Rattle.source_session.specs.declared.error.LineError.{LineError}
-use Rattle.source_session.specs.declared.error.LineError.TheVariants.{NotJson, NotRequest, NotChanged, Refused, TooLong}
 use Rattle.source_session.specs.declared.error.LineError.TheVariants as why
-use Rattle.source_session.specs.Inner.{IsPlaced, LeavesPlaced, AreTogether, TellsFault, session_of}
-use Rattle.source_session.specs.Refusals.{line_refusal, made_count, outcome_of}
-use Rattle.source_session.specs.Sessions.{Session, AreMade, IsEdited, IsStopped, IsUnedited}
 use Rattle.source_session.proofs.Kept.{text_over}
 use Rattle.source_session.proofs.Read.{AreLeft, left_first, set_after}
 use Rattle.source_session.proofs.Touching.{behind_by_after, touched_first}
-use Rattle.source_session.specs.Touched.{AreTouched, IsBehindBy, Touched}
-use Rattle.source_session.specs.Texts.{Texts, FileTexts, TextChange, text_in, text_after, left_text, AreMeant, FailsAt}
 
 -- ---- the places of texts
 

@@ -1,16 +1,6 @@
 -- What edits of a line mean, one more at a time.
 use Rattle.std.proofs.Common.{◌≡◌, ℕ, suc, List, [], ◌∷◌, ◌++◌, Ok, Err, length, refl, sym, ap, subst, ◌∙◌}
-use Rattle.std.specs.Option.{unwrap_or}
-use Rattle.hir_input.specs.declared.edition.EditionYear.{EditionYear}
-use Rattle.item_tree_db.specs.Edits.{EditView}
-use Rattle.item_tree_db.specs.History.{last_some}
-use Rattle.item_tree_db.proofs.Histories.{or_else}
-use Rattle.source_session.specs.declared.error.LineError.{LineError}
-use Rattle.source_session.specs.declared.error.LineError.TheVariants.{NotJson, NotRequest, NotChanged, Refused, TooLong, OutOfMemory}
-use Rattle.source_session.specs.declared.splice.ChangeFault.{ChangeFault}
-use Rattle.source_session.specs.Edits.{LineEdit, of_table, set_text, change_text}
-use Rattle.source_session.specs.Inner.{IsFailing, TellsFault}
-use Rattle.source_session.specs.Texts.{TextChange, FileTexts, left_text, text_after, bytes_kept, changed_text, Means, AreMeant, Fails, FailsAt}
+use Rattle.source_session.proofs.Common.{unwrap_or, EditionYear, EditView, last_some, or_else, LineError, NotJson, NotRequest, NotChanged, Refused, TooLong, OutOfMemory, ChangeFault, LineEdit, of_table, set_text, change_text, IsFailing, TellsFault, TextChange, FileTexts, left_text, text_after, bytes_kept, changed_text, Means, AreMeant, Fails, FailsAt}
 
 -- ---- over texts that are the same
 

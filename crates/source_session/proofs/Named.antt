@@ -1,37 +1,17 @@
 -- Crates that lines name, and values without floats.
 use Rattle.std.proofs.Common.{◌≡◌, ℕ, ◌+◌, ◌<◌, suc, true, false, ◌||◌, List, [], ◌∷◌, ◌++◌, Option, Some, None, All, length, map, filter, take, get_or, refl, sym, ap, subst, ◌∙◌, arith}
-use Rattle.std.proofs.lemmas.List.{take_more}
-use Rattle.std.specs.List.{AllByRecursion, AllZip}
+use Rattle.source_session.proofs.Common.{take_more, AllByRecursion, AllZip, Crate, FileAstId, Edit, Place, File, Block, edit_view, NamesKnown, State, change_number, Knows, Entry, ItemPlace, Table, Outline, TreeItems, ImportPlaces, Changes, Problems, Find, ast_of, found_form, found_value, id_form, in_file, place_by_id, AreUnfloating, Knowing, Session, all_items, change_form, change_with, item_objects, items_member, pathless, shown_tree, IsShowValue, is_sought, text_bytes, text_places, places_of_text, text_problems, Texts, text_of_place, text_in}
 use Rattle.serde_json.specs.Data.{Data}
 use Rattle.serde_json.specs.Written.{has_float}
-use Rattle.hir_input.specs.declared.ids.Crate.{Crate}
 use Rattle.hir_input.specs.declared.ids.HirFileId.{HirFileId}
-use Rattle.hir_input.specs.declared.ids.FileAstId.{FileAstId}
-use Rattle.item_tree_db.specs.declared.edit.Edit.{Edit}
 use Rattle.item_tree_db.specs.declared.edit.Edit.TheVariants.{SetFile, RemoveFile, SetBlock, RemoveBlock, SetCfg}
-use Rattle.item_tree_db.specs.declared.place.Place.{Place}
-use Rattle.item_tree_db.specs.declared.place.Place.TheVariants.{File, Block}
-use Rattle.item_tree_db.specs.Edits.{edit_view}
-use Rattle.item_tree_db.specs.Refusal.{NamesKnown}
 use Rattle.item_tree_db.specs.Since.{Change}
-use Rattle.item_tree_db.specs.State.{State, change_number}
 use Rattle.item_tree_request.specs.declared.request.show.Show.{Show}
 use Rattle.item_tree_request.specs.declared.request.show.Show.TheVariants.{OfTree, Changed}
 use Rattle.item_tree_request.specs.Named as request
-use Rattle.item_tree_request.specs.Outputs.{Knows}
-use Rattle.decl_index.specs.declared.entry.Entry.{Entry}
-use Rattle.rust_items.specs.declared.source_file.ItemPlace.{ItemPlace}
 use Rattle.source_listing.specs.Outlines.{reading}
 use Rattle.source_listing.proofs.NoFloats.{no_float_in_outline, no_float_in_imports, no_float_in_problems}
 use Rattle.source_session.specs.declared.show.LineShow.{LineShow}
-use Rattle.source_session.specs.declared.show.LineShow.TheVariants.{Table, Outline, TreeItems, ImportPlaces, Changes, Problems, Find}
-use Rattle.source_session.specs.Found.{ast_of, found_form, found_value, id_form, in_file, place_by_id}
-use Rattle.source_session.specs.Inner.{AreUnfloating, Knowing}
-use Rattle.source_session.specs.Sessions.{Session}
-use Rattle.source_session.specs.Shown.{all_items, change_form, change_with, item_objects, items_member, pathless, shown_tree, IsShowValue}
-use Rattle.source_session.specs.Sought.{is_sought}
-use Rattle.source_session.specs.SourceTexts.{text_bytes, text_places, places_of_text, text_problems}
-use Rattle.source_session.specs.Texts.{Texts, text_of_place, text_in}
 
 -- ---- crates
 

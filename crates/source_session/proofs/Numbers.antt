@@ -3,17 +3,10 @@ use Rattle.std.proofs.Common.{◌≡◌, ℕ, ◌<◌, ◌≤◌, false, List, N
 use Rattle.std.specs.Cmp.{nat_cmp_total}
 use Rattle.std.specs.FinSet as set
 use Rattle.std.specs.FinSet.{contains-from_list_nat, same_set}
-use Rattle.std.specs.List.{list_any}
-use Rattle.std.specs.List.Sorted.{IsBinarySearchResult, IsNonDecreasing, IsPermutation}
-use Rattle.std.proofs.lemmas.Bool.Decides.{nat_tests}
-use Rattle.std.proofs.lemmas.List.Elements.{All-from_get_or}
+use Rattle.source_session.proofs.Common.{list_any, IsBinarySearchResult, IsNonDecreasing, IsPermutation, nat_tests, All-from_get_or, list_any-IsPermutation, searched, field, right, crate_files}
 use Rattle.std.proofs.lemmas.List.Folds.{list_any_at, list_any_none}
-use Rattle.std.proofs.lemmas.List.Sorted.{list_any-IsPermutation, searched}
 use Rattle.serde_json.specs.Data.{Data, null, boolean, number, string, array, object}
 use Rattle.serde_json.specs.Find.{as_object}
-use Rattle.hir_input_json.specs.Forms.{field}
-use Rattle.hir_input_json.specs.Reading.{right}
-use Rattle.source_session.specs.Files.{crate_files}
 
 -- numbers in another order are the same set
 pub same_numbers : (xs ys : List ℕ) → IsPermutation xs ys → set.from_list {R = nat_cmp} ys ≡ set.from_list xs

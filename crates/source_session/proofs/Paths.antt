@@ -1,20 +1,8 @@
 -- Paths that are looked for.
-use Rattle.std.proofs.Common.{◌≡◌, ℕ, ◌+◌, ◌-◌, ◌&&◌, Bool, true, false, if◌then◌else◌, List, [], ◌∷◌, ◌++◌, length, drop, map, filter, refl, sym, ap, append_assoc, ◌∙◌, arith}
-use Rattle.std.specs.Prelude.{nat_eq}
-use Rattle.std.specs.Cmp.Lexicographic.{pointwise, pointwise_decides}
-use Rattle.std.specs.List.{ends_with, flat_map}
-use Rattle.std.proofs.lemmas.Bool.{and_parts}
-use Rattle.std.proofs.lemmas.Bool.Decides.{Decides-eqb}
-use Rattle.std.proofs.lemmas.List.{length-append, length-drop}
-use Rattle.std.proofs.Math.Seq.{drop-append-add}
-use Rattle.item_tree.specs.Node.{Unfolding}
-use Rattle.def_collector.specs.Declarations.{Declaration, declared_at}
-use Rattle.def_collector.specs.DeclarationView.{DeclarationView, collected_declaration, defined}
+use Rattle.std.proofs.Common.{◌≡◌, ℕ, ◌+◌, ◌-◌, ◌&&◌, Bool, true, false, if◌then◌else◌, List, [], ◌∷◌, ◌++◌, length, drop, map, filter, refl, sym, ap, append_assoc, ◌∙◌, arith, nat_eq}
+use Rattle.source_session.proofs.Common.{pointwise, pointwise_decides, ends_with, flat_map, and_parts, Decides-eqb, length-append, length-drop, drop-append-add, Unfolding, Declaration, declared_at, DeclarationView, collected_declaration, defined, bare_segment, declared_scope, own_scope, scope_at, path_within, is_at}
 use Rattle.def_collector.specs.declared.collector.Declaration as code
-use Rattle.source_listing.specs.Search.{bare_segment}
 use Rattle.source_listing.specs.Sought.{Sought}
-use Rattle.source_session.specs.Finders.{declared_scope}
-use Rattle.source_session.specs.Sought.{own_scope, scope_at, path_within, is_at}
 
 -- ---- how paths end
 

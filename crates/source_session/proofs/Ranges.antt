@@ -2,8 +2,7 @@
 use Rattle.std.proofs.Common.{◌≡◌, ◌<◌, List, [], ◌∷◌, length, refl, arith}
 use Rattle.serde_json.specs.View.{items_view}
 use Rattle.serde_json.specs.declared.value.Value.{Value}
-use Rattle.hir_input_json.specs.Reading.{wrong}
-use Rattle.source_session.specs.Edits.{range_in}
+use Rattle.source_session.proofs.Common.{wrong, range_in}
 
 pub range_of_fewer : (vs : List Value) → length vs < 2 → range_in (items_view vs) ≡ wrong []
 range_of_fewer [] h = refl

@@ -1,17 +1,7 @@
 -- What edits leave of the syntax and of the text of a file: both are of one reading.
 use Rattle.std.proofs.Common.{◌≡◌, ℕ, zero, suc, ◌==◌, Bool, true, false, if◌then◌else◌, List, [], ◌∷◌, Option, Some, None, IfSome, take, refl, sym, subst}
-use Rattle.std.specs.Option.{option_or, unwrap_or}
-use Rattle.hir_input.specs.declared.edition.EditionYear.{EditionYear}
+use Rattle.source_session.proofs.Common.{option_or, unwrap_or, EditionYear, File, Block, EditView, set, remove, set_cfg, IsAfter, last_some, sets, State, present, IsBareFile, SourceText, LineEdit, of_table, set_text, change_text, AreSetTo, IsSetTo, AreMeant, TextChange, FileTexts, IsReading, Means, Texts, forgets, left_text, text_after, text_in}
 use Rattle.hir_input.specs.Syntax.{SyntaxView}
-use Rattle.item_tree_db.specs.declared.place.Place.TheVariants.{File, Block}
-use Rattle.item_tree_db.specs.Edits.{EditView, set, remove, set_cfg}
-use Rattle.item_tree_db.specs.History.{IsAfter, last_some, sets}
-use Rattle.item_tree_db.specs.State.{State, present}
-use Rattle.rust_items.specs.SourceFiles.{IsBareFile}
-use Rattle.source_session.specs.declared.texts.SourceText.{SourceText}
-use Rattle.source_session.specs.Edits.{LineEdit, of_table, set_text, change_text}
-use Rattle.source_session.specs.Inner.{AreSetTo, IsSetTo}
-use Rattle.source_session.specs.Texts.{AreMeant, TextChange, FileTexts, IsReading, Means, Texts, forgets, left_text, text_after, text_in}
 
 -- what is left of the syntax of a file, and of its text, if anything is
 abbrev pub AreOfOne : EditionYear → Option (Option SyntaxView) → Option (Option SourceText) → Type 0

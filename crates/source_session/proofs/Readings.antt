@@ -1,24 +1,13 @@
 -- Lines without what is read of them elsewhere.
 use Rattle.std.proofs.Common.{◌≡◌, ℕ, true, false, ◌||◌, if◌then◌else◌, bytes_eq, List, Option, Some, None, Ordering, Less, Equal, Greater, nat_cmp, is_eq, length, codes, is_none, refl, ap, sym, subst, ◌∙◌}
 use Rattle.std.proofs.lemmas.Map.Text.{is_eq-slice_cmp}
-use Rattle.std.proofs.lemmas.Slice.Eq.{bytes_eq-Decides}
-use Rattle.std.specs.Cmp.Lexicographic.{slice_cmp}
-use Rattle.std.specs.Ordering.{match_ordering}
-use Rattle.std.specs.Option.{option_map, unwrap_or}
+use Rattle.source_session.proofs.Common.{bytes_eq-Decides, slice_cmp, match_ordering, option_map, unwrap_or, right, wrong, Tells, pointer_in, field, unless_null, with_null, without, field_without, is_known, unknown_key, only_known, Settings, settings, Asked, line_asked, first_line, later_line, Open, asked_of, of_opened, of_session}
 use Rattle.serde_json.specs.declared.value.Value.{Value}
 use Rattle.serde_json.specs.Data.{Data, null, boolean, number, string, array, object, Members, no_members, member}
 use Rattle.serde_json.specs.View.{view}
 use Rattle.hir_input_json.specs.declared.fault.Fault.{Fault}
-use Rattle.hir_input_json.specs.Reading.{right, wrong}
-use Rattle.hir_input_json.specs.Reads.{Tells, pointer_in}
-use Rattle.hir_input_json.specs.Forms.{field, unless_null}
-use Rattle.hir_input_json.specs.Held.{with_null, without}
-use Rattle.hir_input_json.proofs.Held.{field_without}
 use Rattle.source_session.specs.declared.keys.LineObject.{LineObject}
 use Rattle.source_session.specs.declared.keys.LineObject.TheVariants.{Whole}
-use Rattle.source_session.specs.Keys.{is_known, unknown_key, only_known}
-use Rattle.source_session.specs.Lines.{Settings, settings, Asked, line_asked, first_line, later_line}
-use Rattle.source_session.specs.Replies.{Open, asked_of, of_opened, of_session}
 
 -- ---- lines
 

@@ -1,16 +1,8 @@
 -- A text with what stands in a range of it replaced.
-use Rattle.std.proofs.Common.{◌≡◌, ℕ, ◌≤◌, ◌+◌, ◌-◌, ◌^◌, ◌&&◌, ◌++◌, Bool, true, false, if◌then◌else◌, List, Option, Some, None, Ok, length, take, drop, refl, sym, ap, subst, ◌∙◌, append_assoc, arith}
-use Rattle.std.specs.Prelude.{IsCharBoundary, is_some, nat_le, nat_lt, option_map}
-use Rattle.std.proofs.lemmas.Bool.{and_parts}
-use Rattle.std.proofs.lemmas.Bool.Decides.{nat_tests}
-use Rattle.std.proofs.lemmas.List.{length-append, length-drop, length-take-le}
-use Rattle.std.proofs.Math.Seq.{drop-drop}
-use Rattle.rust_members.specs.Lists.{is_boundary, is_cut}
+use Rattle.std.proofs.Common.{◌≡◌, ℕ, ◌≤◌, ◌+◌, ◌-◌, ◌^◌, ◌&&◌, ◌++◌, Bool, true, false, if◌then◌else◌, List, Option, Some, None, Ok, length, take, drop, refl, sym, ap, subst, ◌∙◌, append_assoc, arith, IsCharBoundary, is_some, nat_le, nat_lt, option_map}
+use Rattle.source_session.proofs.Common.{and_parts, nat_tests, length-append, length-drop, length-take-le, drop-drop, is_boundary, is_cut, TextRange, IsShort, spliced, is_outside, is_long, change_fault, unless_fault, changed_text}
 use Rattle.rust_members.proofs.Moving.{boundary_is}
-use Rattle.rust_paths.specs.declared.names.TextRange.{TextRange}
 use Rattle.source_session.specs.declared.splice.ChangeFault.TheVariants.{OutsideText, CutsCharacter, TooLong}
-use Rattle.source_session.specs.Edits.{IsShort}
-use Rattle.source_session.specs.Texts.{spliced, is_outside, is_long, change_fault, unless_fault, changed_text}
 
 -- ---- where a range is cut out
 

@@ -1,22 +1,13 @@
 -- The places that edits touch.
-use Rattle.std.proofs.Common.{◌≡◌, ℕ, Bool, true, false, cond, List, [], ◌∷◌, ◌++◌, Some, None, Contains, take, refl, ap, ◌∙◌, arith}
-use Rattle.std.specs.Prelude.{IsTrue}
+use Rattle.std.proofs.Common.{◌≡◌, ℕ, Bool, true, false, cond, List, [], ◌∷◌, ◌++◌, Some, None, Contains, take, refl, ap, ◌∙◌, arith, IsTrue}
 use Rattle.std.specs.BTreeSet.{BTreeSet, Updates, contains}
 use Rattle.std.specs.BTreeMap.{is_at}
-use Rattle.std.specs.Ordering.{is_eq}
-use Rattle.std.proofs.lemmas.List.Elements.{All-cons, All-nil, All-push, All-take, All-weaker}
+use Rattle.source_session.proofs.Common.{is_eq, All-cons, All-nil, All-push, All-take, All-weaker, Place, IsSetAgain, EditView, NamesPlaceOf, set, remove, set_cfg, IsAfter, IsFooting, State, IndexView, AreTouched, IsBehindBy, Touched}
 use Rattle.std.proofs.lemmas.Map.Lookups.{CmpEqualImpliesEq}
 use Rattle.std.proofs.lemmas.Map.Views.{btree_set_contains_iff}
-use Rattle.item_tree_db.specs.declared.place.Place.{Place}
-use Rattle.item_tree_db.specs.Again.{IsSetAgain}
-use Rattle.item_tree_db.specs.Edits.{EditView, NamesPlaceOf, set, remove, set_cfg}
-use Rattle.item_tree_db.specs.History.{IsAfter, IsFooting}
 use Rattle.item_tree_db.specs.PlaceOrder.{place_cmp, place_cmp_total}
-use Rattle.item_tree_db.specs.State.{State}
 use Rattle.item_tree_db.proofs.Places.{equal_of}
-use Rattle.decl_index.specs.Entries.{IndexView}
 use Rattle.decl_index.proofs.Laws.{behind_after, behind_at_after, behind_at_again}
-use Rattle.source_session.specs.Touched.{AreTouched, IsBehindBy, Touched}
 
 -- ---- one more place
 

@@ -1,8 +1,7 @@
 -- What was expected where a value of a line is of wrong form.
-use Rattle.std.specs.Prelude.{ℕ, ◌==◌, ◌-◌, Bool, false, not, ◌&&◌, nat_le, if◌then◌else◌, List, [], ◌∷◌, length, codes, Option, Some, None}
+use Rattle.std.specs.Prelude.{ℕ, ◌==◌, ◌-◌, Bool, false, not, ◌&&◌, nat_le, if◌then◌else◌, List, [], ◌∷◌, length, codes, Option, Some, None, bytes_eq}
 use Rattle.std.specs.List.{list_any}
 use Rattle.std.specs.Option.{option_map_or}
-use Rattle.std.specs.Str.{bytes_eq}
 use Rattle.source_session.specs.declared.keys.LineObject.{LineObject}
 use Rattle.source_session.specs.declared.keys.LineObject.TheVariants.{Whole, OfEdits, OfShows}
 use Rattle.source_session.specs.Keys.{is_known}

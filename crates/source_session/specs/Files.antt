@@ -1,8 +1,7 @@
 -- The files that crates have.
-use Rattle.std.specs.Prelude.{ℕ, ◌^◌, Bool, true, List, codes, Option, Some, None, slice_get}
+use Rattle.std.specs.Prelude.{ℕ, ◌^◌, Bool, true, List, codes, Option, Some, None, slice_get, unwrap_or}
 use Rattle.std.specs.Coded.{Coded, coded_ℕ, coded_list, coded_option}
 use Rattle.std.specs.FinSet as set
-use Rattle.std.specs.Option.{unwrap_or}
 use Rattle.std.specs.Ordering.{nat_cmp}
 use Rattle.serde_json.specs.Data.{Data}
 use Rattle.hir_input.specs.declared.ids.Crate.{Crate}

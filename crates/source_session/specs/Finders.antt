@@ -1,7 +1,5 @@
 -- What private contracts alone cite of finding items by their ids.
-use Rattle.std.specs.Prelude.{◌≡◌, ◌≢◌, ℕ, List, [], ◌∷◌, map, Option, Some, None, IfSome, option_map}
-use Rattle.std.specs.List.{AllPairs}
-use Rattle.std.specs.Option.{option_and_then}
+use Rattle.std.specs.Prelude.{◌≡◌, ◌≢◌, ℕ, List, [], ◌∷◌, map, Option, Some, None, IfSome, option_map, AllPairs, option_and_then}
 use Rattle.serde_json.specs.Data.{Data}
 use Rattle.hir_input.specs.declared.ids.Crate.{Crate}
 use Rattle.hir_input.specs.declared.ids.FileAstId.{FileAstId}

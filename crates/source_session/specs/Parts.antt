@@ -1,6 +1,5 @@
 -- Parts of texts.
-use Rattle.std.specs.Prelude.{ℕ, ◌-◌, ◌==◌, List, [], length, slice_get}
-use Rattle.std.specs.Option.{unwrap_or}
+use Rattle.std.specs.Prelude.{ℕ, ◌-◌, ◌==◌, List, [], length, slice_get, unwrap_or}
 use Rattle.std.specs.List.{slice_split}
 
 -- what stands between the bytes of a text that are this one

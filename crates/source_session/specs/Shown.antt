@@ -1,6 +1,5 @@
 -- What is shown of a session.
-use Rattle.std.specs.Prelude.{◌≡◌, ℕ, false, List, [], codes, filter, map, None}
-use Rattle.std.specs.List.{flat_map}
+use Rattle.std.specs.Prelude.{◌≡◌, ℕ, false, List, [], codes, filter, map, None, flat_map}
 use Rattle.serde_json.specs.Data.{Data, string, array, object, Members, no_members, member}
 use Rattle.serde_json.specs.View.{items_of}
 use Rattle.hir_input.specs.declared.ids.Crate.{Crate}

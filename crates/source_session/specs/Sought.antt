@@ -1,7 +1,5 @@
 -- Paths of names that are looked for.
-use Rattle.std.specs.Prelude.{ℕ, Bool, false, ◌==◌, ◌&&◌, if◌then◌else◌, List, [], ◌∷◌, ◌++◌, codes, map, Option, Some, None}
-use Rattle.std.specs.List.{flat_map}
-use Rattle.std.specs.Option.{unwrap_or}
+use Rattle.std.specs.Prelude.{ℕ, Bool, false, ◌==◌, ◌&&◌, if◌then◌else◌, List, [], ◌∷◌, ◌++◌, codes, map, Option, Some, None, flat_map, unwrap_or}
 use Rattle.serde_json.specs.Data.{Data}
 use Rattle.hir_input_json.specs.Reading.{Reading, right, here, ◌>>=◌}
 use Rattle.hir_input.specs.Name.{name_in}

@@ -1,7 +1,6 @@
 -- The places that edits touched since the index of names was refreshed; private contracts alone cite them.
-use Rattle.std.specs.Prelude.{List, Option, Some, None, All, option_map}
+use Rattle.std.specs.Prelude.{List, Option, Some, None, All, option_map, Contains}
 use Rattle.std.specs.BTreeSet.{BTreeSet}
-use Rattle.std.specs.List.{Contains}
 use Rattle.item_tree_db.specs.declared.place.Place.{Place}
 use Rattle.item_tree_db.specs.Edits.{EditView, NamesPlaceOf}
 use Rattle.item_tree_db.specs.State.{State}

@@ -1,8 +1,7 @@
 //! What is around the items of a tree, and where they stand in its text, by their ids.
 //!
 //! Both go on from the item that was found last, so that items in the order of the text cost one pass over it in all.
-ghost use Rattle.std.specs.Prelude.{◌≡◌, ◌≢◌, ◌++◌, IfOk, OnOk, map, option_copied, string_bytes};
-ghost use Rattle.std.specs.List.{AllPairs, flat_map};
+ghost use Rattle.std.specs.Prelude.{◌≡◌, ◌≢◌, ◌++◌, IfOk, OnOk, map, option_copied, string_bytes, AllPairs, flat_map};
 ghost use Rattle.def_collector.specs.DeclarationView.{declaration_id};
 ghost use Rattle.line_index.specs.Positions.{position_of};
 ghost use Rattle.source_listing.specs.Places.{AreDistinct, is_id, place_of, stands_at};

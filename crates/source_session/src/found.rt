@@ -1,6 +1,5 @@
 //! The objects of what is found.
-ghost use Rattle.std.specs.Prelude.{ℕ, List, None, ◌≡◌, ◌++◌, true, All, IfOk, IfSome, OnOk, map, string_bytes};
-ghost use Rattle.std.specs.List.{flat_map};
+ghost use Rattle.std.specs.Prelude.{ℕ, List, None, ◌≡◌, ◌++◌, true, All, IfOk, IfSome, OnOk, map, string_bytes, flat_map};
 ghost use Rattle.serde_json.specs.Data.{string};
 ghost use Rattle.serde_json.specs.View.{view};
 ghost use Rattle.hir_input.specs.Id.{shown_id};

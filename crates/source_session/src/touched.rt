@@ -1,6 +1,5 @@
 //! The places that edits touched since the index of names was refreshed.
-ghost use Rattle.std.specs.Prelude.{List, ◌∷◌, [], Some, IfSome, OnErr, OnOk, map};
-ghost use Rattle.std.specs.List.{Contains};
+ghost use Rattle.std.specs.Prelude.{List, ◌∷◌, [], Some, IfSome, OnErr, OnOk, map, Contains};
 ghost use Rattle.item_tree_db.specs.declared.place.Place.{Place as PlaceView};
 ghost use Rattle.item_tree_db.specs.Edits.{NamesPlaceOf, edit_view};
 ghost use Rattle.decl_index.specs.Entries.{IsBehindAt, IsIndexOf};

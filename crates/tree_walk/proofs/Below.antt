@@ -3,8 +3,7 @@ use Rattle.std.proofs.Common.{◌≡◌, ℕ, List, [], ◌∷◌, Some, map, re
 use Rattle.std.proofs.lemmas.List.{map-append}
 use Rattle.std.specs.{Prelude.is_some, List.flat_map}
 use Rattle.hir_input.specs.declared.ids.{AstIdKind.TheVariants.Fn, FileAstId.FileAstId}
-use Rattle.item_tree.specs.{Node.Node, Node.leaf, Node.parent, Node.Forest, Node.empty, Node.more, Node.nodes, Node.node_ast, Node.Unfolding, Layout.node_at}
-use Rattle.item_tree.specs.{Reach.child_ids, Reach.ids_from, Shown.StandFor, Walk.of_id}
+use Rattle.item_tree.specs.{Node.Node, Node.leaf, Node.parent, Node.Forest, Node.empty, Node.more, Node.nodes, Node.node_ast, Node.Unfolding, Layout.node_at, Reach.child_ids, Reach.ids_from, Shown.StandFor, Walk.of_id}
 use Rattle.item_tree.proofs.Walking.{map_of_id, each_walked_once, children_of, no_ids}
 use Rattle.tree_walk.specs.Preorder.{node_preorder, preorder}
 

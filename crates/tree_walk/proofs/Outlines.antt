@@ -3,8 +3,7 @@ use Rattle.std.proofs.Common.{◌≡◌, ℕ, List, [], ◌++◌, map, Option, S
 use Rattle.std.specs.{Prelude.option_map, Option.option_map_or, List.flat_map}
 use Rattle.serde_json.specs.{Data.null, Data.item, View.items_of}
 use Rattle.hir_input.specs.declared.ids.FileAstId.{FileAstId}
-use Rattle.item_tree.specs.{Layout.node_at, Node.Node, Node.leaf, Node.parent, Node.Forest, Node.empty, Node.more, Node.nodes, Node.node_ast, Node.Unfolding}
-use Rattle.item_tree.specs.{Shown.StandFor, Walk.of_id, Walk.children, Walk.children_at}
+use Rattle.item_tree.specs.{Layout.node_at, Node.Node, Node.leaf, Node.parent, Node.Forest, Node.empty, Node.more, Node.nodes, Node.node_ast, Node.Unfolding, Shown.StandFor, Walk.of_id, Walk.children, Walk.children_at}
 use Rattle.item_tree.proofs.Walking.{flat_map_of_id, map_of_id}
 use Rattle.def_collector.specs.Declarations.{node_name}
 use Rattle.tree_walk.specs.{Lines.line, Lines.deeper, Lines.node_lines, Lines.forest_lines, Objects.object_form, Objects.node_object, Objects.forest_objects}

@@ -1,6 +1,5 @@
 -- What a lent item is told by is what its node is told by.
-use Rattle.std.proofs.Common.{◌≡◌, ℕ, refl, ap, sym, ◌∙◌}
-use Rattle.std.specs.Prelude.{Some}
+use Rattle.std.proofs.Common.{◌≡◌, ℕ, refl, ap, sym, ◌∙◌, Some}
 use Rattle.item_tree.specs.{Layout.leaf_map, Layout.vis_at, Shown.Lent, Shown.lent_leaf, Shown.lent_parent, Shown.IsLent}
 use Rattle.item_tree.specs.Node.{Leaf, plain, Unfolding}
 use Rattle.item_tree.proofs.Walking.{leaf_of_id, parent_of_id}

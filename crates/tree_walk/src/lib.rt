@@ -8,12 +8,9 @@ mod objects;
 mod rows;
 mod subject;
 
-ghost use Rattle.std.specs.Prelude.{◌≡◌, ◌≢◌, ℕ, false, ◌↔◌, ◌+◌, ◌<◌, ◌^◌, ◌++◌, ◌⊎◌, IsTrue, IsSome, IfOk, IfErr, IfSome, OnOk, Some, map};
-ghost use Rattle.std.specs.List.{sum_by, flat_map, AllPairs, Contains};
+ghost use Rattle.std.specs.Prelude.{◌≡◌, ◌≢◌, ℕ, false, ◌↔◌, ◌+◌, ◌<◌, ◌^◌, ◌++◌, ◌⊎◌, IsTrue, IsSome, IfOk, IfErr, IfSome, OnOk, Some, map, sum_by, flat_map, AllPairs, Contains};
 ghost use Rattle.hir_input.specs.Syntax.{syntax_view};
-ghost use Rattle.item_tree.specs.{CrateView.crate_view, Kept.kept_syntax, Layout.node_at, Layout.vis_at, Node.node_ast, Node.count};
-ghost use Rattle.item_tree.specs.{Reach.all_ids, Reach.child_ids, Reach.ids_from, Shown.HasVisibility, Shown.IsContained, Shown.StandFor, Shown.lent};
-ghost use Rattle.item_tree.specs.{Size.FitsWith, Size.IsTooLarge, Walk.AreContained, Walk.children_at, Walk.IsWalkedOnce, Walk.count_at};
+ghost use Rattle.item_tree.specs.{CrateView.crate_view, Kept.kept_syntax, Layout.node_at, Layout.vis_at, Node.node_ast, Node.count, Reach.all_ids, Reach.child_ids, Reach.ids_from, Shown.HasVisibility, Shown.IsContained, Shown.StandFor, Shown.lent, Size.FitsWith, Size.IsTooLarge, Walk.AreContained, Walk.children_at, Walk.IsWalkedOnce, Walk.count_at};
 ghost use Rattle.tree_walk.specs.Preorder.{preorder};
 
 use hir_input::ast::Syntax;

@@ -1,6 +1,5 @@
 //! Outlines as lines of text.
-ghost use Rattle.std.specs.Prelude.{◌≡◌, ◌++◌, [], codes, string_bytes, IfOk, OnOk, option_copied};
-ghost use Rattle.std.specs.List.{flat_map};
+ghost use Rattle.std.specs.Prelude.{◌≡◌, ◌++◌, [], codes, string_bytes, IfOk, OnOk, option_copied, flat_map};
 ghost use Rattle.item_tree.specs.{Shown.IsContained, Walk.AreContained};
 ghost use Rattle.tree_walk.specs.{Lines.line, Lines.forest_lines, Inner.Outlines.outline_lines_at};
 

@@ -1,6 +1,5 @@
 //! Rows.
-ghost use Rattle.std.specs.Prelude.{◌≡◌, ◌+◌, ◌<◌, ◌^◌, ◌++◌, ◌∷◌, [], map, IfOk, OnOk, option_copied};
-ghost use Rattle.std.specs.List.{flat_map, sum_by};
+ghost use Rattle.std.specs.Prelude.{◌≡◌, ◌+◌, ◌<◌, ◌^◌, ◌++◌, ◌∷◌, [], map, IfOk, OnOk, option_copied, flat_map, sum_by};
 ghost use Rattle.item_tree.specs.{Shown.IsContained, Walk.AreContained, Walk.count_at, Walk.of_id};
 ghost use Rattle.tree_walk.specs.Rows as spec;
 ghost use Rattle.tree_walk.specs.{Inner.Rows.around_view, Inner.Rows.enabled_at, Inner.Rows.rows_at, Views.row_view};

@@ -1,6 +1,5 @@
 -- For the crate's own functions.
-use Rattle.std.specs.Prelude.{ℕ, ◌<◌, List, map, Option, Some, slice_get, IsSome, All, AllPairs, Contains}
-use Rattle.std.specs.Option.{option_and_then}
+use Rattle.std.specs.Prelude.{ℕ, ◌<◌, List, map, Option, Some, slice_get, IsSome, All, AllPairs, Contains, option_and_then}
 use Rattle.hir_input.specs.UseTreeView.{UseTreeView, use_tree_view, written_nodes}
 use Rattle.item_tree.specs.Imports.{Import}
 use Rattle.def_collector.specs.{declared.duplicate.Duplicate.Duplicate, declared.written.WrittenImport.WrittenImport, Duplicates.AreAlikeAt, Duplicates.Repeats}

@@ -1,6 +1,5 @@
 //! Attribute lines of a page.
-ghost use Rattle.std.specs.Prelude.{◌≡◌, ◌++◌, IfOk, OnOk, option_map, string_bytes};
-ghost use Rattle.std.specs.List.{flat_map};
+ghost use Rattle.std.specs.Prelude.{◌≡◌, ◌++◌, IfOk, OnOk, option_map, string_bytes, flat_map};
 ghost use Rattle.hir_input.specs.Cfg.{cfg_view};
 ghost use Rattle.item_tree_attrs.specs.Collected.{collected};
 ghost use Rattle.item_tree_attrs.specs.Query.{listed_attrs};

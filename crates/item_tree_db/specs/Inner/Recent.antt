@@ -1,7 +1,6 @@
 -- Which places changed lately.
-use Rattle.std.specs.Prelude.{◌⊎◌, ℕ, ◌<◌, ◌≤◌, max, List, [], ◌∷◌, IfSome, IsTrue}
+use Rattle.std.specs.Prelude.{◌⊎◌, ℕ, ◌<◌, ◌≤◌, max, List, [], ◌∷◌, IfSome, IsTrue, Contains}
 use Rattle.std.specs.BTreeSet.{contains}
-use Rattle.std.specs.List.{Contains}
 use Rattle.std.specs.Ordering.{nat_cmp, ordering_then}
 use Rattle.std.specs.declared.cmp.Ordering.{Ordering}
 use Rattle.item_tree_db.specs.declared.place.Place.{Place}

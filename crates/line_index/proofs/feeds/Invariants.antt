@@ -1,5 +1,4 @@
-use Rattle.std.proofs.Common.{◌≡◌, ◌≤◌, ◌==◌, ◌+◌, length}
-use Rattle.std.specs.List.{count_by}
+use Rattle.std.proofs.Common.{◌≡◌, ◌≤◌, ◌==◌, ◌+◌, length, count_by}
 use Rattle.line_index.proofs.feeds.Given as goal
 
 abbrev pub invariant-loop-left : goal.invariant-loop-left

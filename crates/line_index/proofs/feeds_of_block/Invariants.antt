@@ -1,5 +1,4 @@
-use Rattle.std.proofs.Common.{◌≡◌, ◌≤◌, ◌==◌, take}
-use Rattle.std.specs.List.{count_by}
+use Rattle.std.proofs.Common.{◌≡◌, ◌≤◌, ◌==◌, take, count_by}
 use Rattle.line_index.proofs.feeds_of_block.Given as goal
 
 abbrev pub invariant-loop-byte : goal.invariant-loop-byte

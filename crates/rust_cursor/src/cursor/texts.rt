@@ -1,7 +1,6 @@
 //! The texts of what is taken.
 
-ghost use Rattle.std.specs.Prelude.{ℕ, ◌≡◌, ◌≤◌, ◌<◌, ◌+◌, ◌^◌, ◌++◌, ◌==◌, ◌&&◌, not, false, if◌then◌else◌, OnOk, Option, length, string_bytes};
-ghost use Rattle.std.specs.List.{filter};
+ghost use Rattle.std.specs.Prelude.{ℕ, ◌≡◌, ◌≤◌, ◌<◌, ◌+◌, ◌^◌, ◌++◌, ◌==◌, ◌&&◌, not, false, if◌then◌else◌, OnOk, Option, length, string_bytes, filter};
 ghost use Rattle.rust_lexer.specs.Tokens.{is_significant};
 ghost use Rattle.rust_cursor.specs.Extents as spec;
 ghost use Rattle.rust_cursor.specs.Reader.{Gives};

@@ -1,7 +1,6 @@
 -- The text of an item, from the end of what stands before it on, read alone is exactly that item.
-use Rattle.rust_edits.proofs.Words.{IsBare, slice_index, filter, EditionYear, Stop, stop, EndsAlone, is_continuation, is_significant, tokens_from, Tokens, option_to_list, is_some, MetaView, ItemView, Inner, inner_attributes, is_behind, tokens_in_front, moved, Piece, symbol_of, tokens, most, beyond, tokens_of, by_first, at, is_empty, Found, nothing_found, read_of, finding_from, finding, is_list_end, turn, items}
+use Rattle.rust_edits.proofs.Common.{IsBare, slice_index, filter, EditionYear, Stop, stop, EndsAlone, is_continuation, is_significant, tokens_from, Tokens, option_to_list, is_some, MetaView, ItemView, Inner, inner_attributes, is_behind, tokens_in_front, moved, Piece, symbol_of, tokens, most, beyond, tokens_of, by_first, at, is_empty, Found, nothing_found, read_of, finding_from, finding, is_list_end, turn, items, nat_tests, filter-append, ne_eqb, tokens_first, tokens_moved, own, stop_at, plain_is, filter_moved, tokens_sound, IsLaid, behind, at_behind, taken_behind, LeadsTo, here, further, when, bumped_leads, Ending, Near, near, more_left, is_last, are_ended, turn_found}
 use Rattle.std.proofs.Common.{◌≡◌, ◌+◌, ◌==◌, ◌||◌, ℕ, suc, true, false, Option, None, List, [], ◌∷◌, ◌++◌, length, refl, sym, ap, ◌∙◌, subst, arith, map, append-nil}
-use Rattle.rust_edits.proofs.Lemmas.{nat_tests, filter-append, ne_eqb, tokens_first, tokens_moved, own, stop_at, plain_is, filter_moved, tokens_sound, IsLaid, behind, at_behind, taken_behind, LeadsTo, here, further, when, bumped_leads, Ending, Near, near, more_left, is_last, are_ended, turn_found}
 use Rattle.rust_edits.proofs.Ranges.Inner.{no_inner, turn_none}
 use Rattle.rust_edits.proofs.Ranges.NearItems.{FoundNear, FoundAlike, flat, is_sound, turn_whole}
 use Rattle.rust_edits.proofs.Ranges.NearLeaves.{Given, Ends, passes, before_end, at_end}

@@ -1,8 +1,6 @@
 -- A text that ends with a `;` or a `}` of its own, and what stands behind it: what is in front stays, and the tokens behind are those of the other text, moved.
-use Rattle.std.proofs.Common.{◌≡◌, ◌≤◌, ◌+◌, ℕ, suc, Bool, true, false, Option, Some, None, List, [], ◌∷◌, ◌++◌, length, refl, sym, ap, ◌∙◌, arith, map, append_assoc, length-append, zero}
-use Rattle.std.specs.Prelude.{if◌then◌else◌}
-use Rattle.rust_edits.proofs.Words.{IsBare, nat_le, slice_index, option_map, filter, EditionYear, Stop, stop, behind_lead, EndsAlone, is_fence, is_full, overhang, tokens_in_front, moved, first_cut, is_continuation, Piece, symbol_of, is_terminated, has_mark, is_shebang, is_significant, tokens, tokens_from, whole, Tokens, end_of, tokens_of, place_if_open, last_unended, by_first, rest, bumped}
-use Rattle.rust_edits.proofs.Lemmas.{and_from, and_parts, filter-append, nat_tests, own, stop_at, tokens_moved, plain_is, filter_moved, LeadsTo, here, further}
+use Rattle.std.proofs.Common.{◌≡◌, ◌≤◌, ◌+◌, ℕ, suc, Bool, true, false, Option, Some, None, List, [], ◌∷◌, ◌++◌, length, refl, sym, ap, ◌∙◌, arith, map, append_assoc, length-append, zero, if◌then◌else◌}
+use Rattle.rust_edits.proofs.Common.{IsBare, nat_le, slice_index, option_map, filter, EditionYear, Stop, stop, behind_lead, EndsAlone, is_fence, is_full, overhang, tokens_in_front, moved, first_cut, is_continuation, Piece, symbol_of, is_terminated, has_mark, is_shebang, is_significant, tokens, tokens_from, whole, Tokens, end_of, tokens_of, place_if_open, last_unended, by_first, rest, bumped, and_from, and_parts, filter-append, nat_tests, own, stop_at, tokens_moved, plain_is, filter_moved, LeadsTo, here, further}
 use Rattle.rust_lexer.proofs.Same.{by_stop}
 use Rattle.rust_edits.proofs.Ranges.Alone.{last_counts, ended}
 use Rattle.rust_edits.proofs.Typing.Unended.{fence_by, mark_by, shebang_on, last_append}

@@ -1,8 +1,6 @@
 -- A part of a text, without the carriage returns before line feeds.
-use Rattle.std.proofs.Common.{◌≡◌, ◌<◌, ◌≤◌, ◌+◌, ◌-◌, ◌==◌, ◌&&◌, ℕ, zero, suc, true, false, List, [], ◌∷◌, length, take, drop, refl, sym, ap, ◌∙◌, subst, arith}
-use Rattle.std.specs.Prelude.{if◌then◌else◌}
-use Rattle.rust_edits.proofs.Words.{slice_range, is_return, with_feeds, place_in}
-use Rattle.rust_edits.proofs.Lemmas.{nat_tests, length-take, length-drop, before, below_none, before_return, before_other, place_held, when}
+use Rattle.std.proofs.Common.{◌≡◌, ◌<◌, ◌≤◌, ◌+◌, ◌-◌, ◌==◌, ◌&&◌, ℕ, zero, suc, true, false, List, [], ◌∷◌, length, take, drop, refl, sym, ap, ◌∙◌, subst, arith, if◌then◌else◌}
+use Rattle.rust_edits.proofs.Common.{slice_range, is_return, with_feeds, place_in, nat_tests, length-take, length-drop, before, below_none, before_return, before_other, place_held, when}
 
 -- in a text, the place of what stands there in the text without these
 abbrev pub place_of : List ℕ → ℕ → ℕ

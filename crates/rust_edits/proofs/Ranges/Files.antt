@@ -1,7 +1,6 @@
 -- Files that are read of texts one behind the other.
 use Rattle.std.proofs.Common.{◌≡◌, ◌≤◌, ◌+◌, ◌==◌, ℕ, zero, suc, Bool, true, false, List, [], ◌∷◌, ◌++◌, length, take, drop, refl, sym, ap, ◌∙◌, subst, arith, map, length-append}
-use Rattle.rust_edits.proofs.Words.{All, not, EditionYear, MetaView, ItemView, ItemViews, SyntaxView, items_from, items_of, Stop, opening, stop, Problem, SourceFile, Found, with_ids, is_return, with_feeds, place_in, moved_span, moved_problem, found_in, items_in, read_of, IsFile, file_view, Bytes, bytes_of, without_ids, HoldsItems, Follows, as_first, behind_items, IsBetween, each_item, file_items, file_attrs, PartTold, FileTells, ItemsStand, ItemsTold, FileAstId, Row, ItemPlace, places, StandsBetween, file_ids, IdsStay}
-use Rattle.rust_edits.proofs.Lemmas.{nat_tests, length-map, map-append, take_at, drop_at, when, place_span, spans_in, as_many, All-head, All-tail, Span}
+use Rattle.rust_edits.proofs.Common.{All, not, EditionYear, MetaView, ItemView, ItemViews, SyntaxView, items_from, items_of, Stop, opening, stop, Problem, SourceFile, Found, with_ids, is_return, with_feeds, place_in, moved_span, moved_problem, found_in, items_in, read_of, IsFile, file_view, Bytes, bytes_of, without_ids, HoldsItems, Follows, as_first, behind_items, IsBetween, each_item, file_items, file_attrs, PartTold, FileTells, ItemsStand, ItemsTold, FileAstId, Row, ItemPlace, places, StandsBetween, file_ids, IdsStay, nat_tests, length-map, map-append, take_at, drop_at, when, place_span, spans_in, as_many, All-head, All-tail, Span}
 use Rattle.rust_edits.proofs.Ranges.Feeds.{place_of, by_return, by_other, none_feed, place_is, place_add, place_taken}
 use Rattle.rust_edits.proofs.Ranges.Ranges.{SameUpTo, Moving, spans_move, all_fused, all_same, bytes, bytes_same}
 use Rattle.rust_edits.proofs.Typing.Moved.{uses_within}

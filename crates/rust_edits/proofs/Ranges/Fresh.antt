@@ -1,8 +1,6 @@
 -- What is read from a token on does not tell where the token before it ends.
-use Rattle.std.proofs.Common.{◌≡◌, ◌<◌, ◌≤◌, ◌==◌, ◌&&◌, ℕ, suc, Bool, true, false, Option, Some, None, List, [], ◌∷◌, length, refl, sym, ap, ◌∙◌, subst, arith, codes}
-use Rattle.std.specs.Prelude.{if◌then◌else◌}
-use Rattle.rust_edits.proofs.Words.{is_some, option_map, bytes_eq, Visibility, EditionYear, MetaView, Outer, Piece, is_reached, is_closed, reaching, reached, behind_angles, most, beyond, turns_from, turns, one, begins_item, begins_impl_or_const, begins_within, begun, nest_behind, leads_on, Reader, Tokens, end_of, symbol, word, kind, text, at, is_empty, is_at_end, is_at_identifier, is_at_doc, bumped, is_glued, is_pair, eat_pair, eat_colons, as_name, next_name, name_text, has_name, taken_with, name, is_raw, is_dollar_crate, is_segment, named_word, other_segment, segment, is_colons, is_path_colons, more_from, more_segments, written_path, is_path_start, path, visibility, is_doc, is_attribute, is_behind, one_attribute, attribute, attributes, outer_attributes, documentation, Head, FrontRead, front_behind, front, behind_abi, is_modifier, behind_modifier, behind_modifiers_from, behind_modifiers, behind_head, head_by, head, is_called, some_read, call_behind, invocation, leaf, LeafRead, Found, Finder, BlockRead, unmatched, leaf_found, leaf_turn, by_head, turn_with, inside, depth_of, turn}
-use Rattle.rust_edits.proofs.Lemmas.{nat_tests, eq-eqb, IsLaid, behind, LeadsTo, here, Forwards, through, when, bumped_leads, reaching_leads, turns_from_leads, segment_leads, more_from_leads, more_segments_leads, scoped_leads, visibility_leads, bracketed_leads, behind_attribute_leads, attribute_leads, behind_abi_leads, modifiers_leads, behind_modifiers_leads, head_takes}
+use Rattle.std.proofs.Common.{◌≡◌, ◌<◌, ◌≤◌, ◌==◌, ◌&&◌, ℕ, suc, Bool, true, false, Option, Some, None, List, [], ◌∷◌, length, refl, sym, ap, ◌∙◌, subst, arith, codes, if◌then◌else◌}
+use Rattle.rust_edits.proofs.Common.{is_some, option_map, bytes_eq, Visibility, EditionYear, MetaView, Outer, Piece, is_reached, is_closed, reaching, reached, behind_angles, most, beyond, turns_from, turns, one, begins_item, begins_impl_or_const, begins_within, begun, nest_behind, leads_on, Reader, Tokens, end_of, symbol, word, kind, text, at, is_empty, is_at_end, is_at_identifier, is_at_doc, bumped, is_glued, is_pair, eat_pair, eat_colons, as_name, next_name, name_text, has_name, taken_with, name, is_raw, is_dollar_crate, is_segment, named_word, other_segment, segment, is_colons, is_path_colons, more_from, more_segments, written_path, is_path_start, path, visibility, is_doc, is_attribute, is_behind, one_attribute, attribute, attributes, outer_attributes, documentation, Head, FrontRead, front_behind, front, behind_abi, is_modifier, behind_modifier, behind_modifiers_from, behind_modifiers, behind_head, head_by, head, is_called, some_read, call_behind, invocation, leaf, LeafRead, Found, Finder, BlockRead, unmatched, leaf_found, leaf_turn, by_head, turn_with, inside, depth_of, turn, nat_tests, eq-eqb, IsLaid, behind, LeadsTo, here, Forwards, through, when, bumped_leads, reaching_leads, turns_from_leads, segment_leads, more_from_leads, more_segments_leads, scoped_leads, visibility_leads, bracketed_leads, behind_attribute_leads, attribute_leads, behind_abi_leads, modifiers_leads, behind_modifiers_leads, head_takes, bare, last_text_from, last_text}
 use Rattle.hir_input.specs.declared.ast.PathNode.{PathNode}
 use Rattle.hir_input.specs.Words.{PathWord, name_word}
 use Rattle.rust_cursor.specs.declared.cursor.generics.Reach.TheVariants as reaches
@@ -10,7 +8,6 @@ use Rattle.rust_paths.specs.Meaning.{path_node}
 use Rattle.rust_paths.specs.Paths as paths
 use Rattle.rust_metas.specs.Metas.{doc}
 use Rattle.rust_leaves.specs.declared.head.Head.TheVariants as heads
-use Rattle.rust_leaves.specs.Texts.{bare, last_text_from, last_text}
 
 -- What is read from the first tokens and from the second: the same, behind their first token, or the same and nothing was taken.
 data Alike {X : Type 0} (Still : X → Type 0) (a a' b : Tokens) : X × Tokens → X × Tokens → Type 0 where

@@ -1,7 +1,6 @@
 -- Where a text of which no problem is told is cut behind an item, what is in front of the cut holds whole items.
 use Rattle.std.proofs.Common.{◌≡◌, ◌<◌, ◌≤◌, ◌+◌, ◌-◌, ◌==◌, ◌&&◌, ℕ, zero, suc, Bool, true, false, Option, Some, None, List, [], ◌∷◌, ◌++◌, length, take, drop, refl, sym, ap, ◌∙◌, subst, arith, map, append_assoc, length-append}
-use Rattle.rust_edits.proofs.Words.{option_to_list, nat_le, slice_index, filter, list_any, EditionYear, ItemView, Stop, stop, EndsAlone, tokens_in_front, is_full, overhang, is_continuation, is_significant, tokens, tokens_from, Piece, most, beyond, Tokens, tokens_of, last_unended, at, inner_attributes, TextRange, Problem, Found, nothing_found, and_problem_at, is_list_end, turn, with_feeds, place_in, moved_span, moved_problem, behind_attributes, found_in, read_of, ends_items, EndsOwn, is_unfinished, is_unfinished_at, range_text, IsBare, HoldsItems, is_told_up_to, FrontHolds}
-use Rattle.rust_edits.proofs.Lemmas.{eqb-true, and_parts, or_parts, le-leb, ne_eqb, nat_tests, append_cancel_left, length-take-le, length-drop, drop-drop, take-append-drop, take_at, front_same, own, stop_at, tokens_sound, IsLaid, behind, at_behind, past_within, tokens_laid, through, when, beyond_leads, by_next, by_kept, empty_same, inner_attributes_until, inner_attributes_leads, place_le, place_rises_in, place_span, items_found, turn_found, Ending, Near, fewer, nothing, more_left, near_twins, beyond_near, near_parting, near_enters, near_levels, tokens_short}
+use Rattle.rust_edits.proofs.Common.{option_to_list, nat_le, slice_index, filter, list_any, EditionYear, ItemView, Stop, stop, EndsAlone, tokens_in_front, is_full, overhang, is_continuation, is_significant, tokens, tokens_from, Piece, most, beyond, Tokens, tokens_of, last_unended, at, inner_attributes, TextRange, Problem, Found, nothing_found, and_problem_at, is_list_end, turn, with_feeds, place_in, moved_span, moved_problem, behind_attributes, found_in, read_of, ends_items, EndsOwn, is_unfinished, is_unfinished_at, range_text, IsBare, HoldsItems, is_told_up_to, FrontHolds, eqb-true, and_parts, or_parts, le-leb, ne_eqb, nat_tests, append_cancel_left, length-take-le, length-drop, drop-drop, take-append-drop, take_at, front_same, own, stop_at, tokens_sound, IsLaid, behind, at_behind, past_within, tokens_laid, through, when, beyond_leads, by_next, by_kept, empty_same, inner_attributes_until, inner_attributes_leads, place_le, place_rises_in, place_span, items_found, turn_found, Ending, Near, fewer, nothing, more_left, near_twins, beyond_near, near_parting, near_enters, near_levels, tokens_short, leb-true}
 use Rattle.rust_items.specs.declared.log.ProblemKind.TheVariants as problem
 use Rattle.rust_edits.proofs.Typing.BodyStarts.{Begins, unfiltered, begins_whole, begins_leads}
 use Rattle.rust_edits.proofs.Typing.ProblemsIn.{AreIn, problems_in, unended_kept}
@@ -17,7 +16,6 @@ use Rattle.rust_edits.proofs.Ranges.Ranges.{range_of, sound_at}
 use Rattle.rust_edits.proofs.Ranges.Seats.{all_left, left_on}
 use Rattle.rust_edits.proofs.Ranges.Tops.{Chain, at_start, then_turn, turn_is, turn_strict, same_first, found_keeps, file_turned}
 use Rattle.rust_edits.proofs.Ranges.Turning.{run, top_is, run_none, next_leads, next_fewer, beyond_none}
-use Rattle.std.proofs.lemmas.Bool.{leb-true}
 
 -- a turn finds an item that ends where the short text does, and this was found so far
 data HasCut (b : Ending) : Found → Tokens → Found → Type 0 where

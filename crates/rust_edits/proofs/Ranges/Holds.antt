@@ -1,7 +1,6 @@
 -- Two texts of whole items, one behind the other, are one; and so is what one has more than another.
 use Rattle.std.proofs.Common.{◌≡◌, ◌+◌, ℕ, false, List, [], ◌∷◌, ◌++◌, length, refl, sym, ap, ◌∙◌, subst, arith, map, append_assoc, length-append}
-use Rattle.rust_edits.proofs.Words.{slice_index, ItemView, Stop, opening, stop, EndsAlone, is_full, overhang, is_continuation, is_wide_start, first_cut, Found, moved_problem, found_in, read_of, EndsOwn, IsBare, HoldsItems, BothHold, RestHolds}
-use Rattle.rust_edits.proofs.Lemmas.{front_same}
+use Rattle.rust_edits.proofs.Common.{slice_index, ItemView, Stop, opening, stop, EndsAlone, is_full, overhang, is_continuation, is_wide_start, first_cut, Found, moved_problem, found_in, read_of, EndsOwn, IsBare, HoldsItems, BothHold, RestHolds, front_same}
 use Rattle.rust_edits.proofs.Ranges.Behind.{plain_on, full_both, full_stop, over_both}
 use Rattle.rust_edits.proofs.Ranges.Files.{none_mapped}
 use Rattle.rust_edits.proofs.Ranges.Alone.{ended}

@@ -1,13 +1,10 @@
 -- No item begins at an inner attribute or at inner documentation.
 use Rattle.std.proofs.Common.{◌≡◌, ◌==◌, ◌&&◌, ℕ, Bool, true, false, Option, Some, None, List, [], codes, refl, ap, ◌∙◌, arith}
-use Rattle.rust_edits.proofs.Words.{is_some, bytes_eq, Head, EditionYear, Outer, Inner, TokenKind, Piece, symbol_of, most, turns, turns_from, one, Tokens, by_first, word_by, symbol, word, kind, text, at, bumped, is_pair, is_at_end, is_path_keyword, name_text, has_name, is_raw, is_dollar_crate, is_segment, is_colons, is_path_colons, is_path_start, path, visibility, is_doc, is_style, is_attribute, is_behind, attribute, attributes, outer_attributes, inner_attributes, style_by, FrontRead, front, front_behind, is_modifier, is_modifier_before, behind_modifiers, behind_modifiers_from, head, invocation, leaf, Found, leaf_turn, turn}
-use Rattle.rust_edits.proofs.Lemmas.{nat_tests, eqb-true, and_parts, when, no_word_head, nothing_before}
+use Rattle.rust_edits.proofs.Common.{is_some, bytes_eq, Head, EditionYear, Outer, Inner, TokenKind, Piece, symbol_of, most, turns, turns_from, one, Tokens, by_first, word_by, symbol, word, kind, text, at, bumped, is_pair, is_at_end, is_path_keyword, name_text, has_name, is_raw, is_dollar_crate, is_segment, is_colons, is_path_colons, is_path_start, path, visibility, is_doc, is_style, is_attribute, is_behind, attribute, attributes, outer_attributes, inner_attributes, style_by, FrontRead, front, front_behind, is_modifier, is_modifier_before, behind_modifiers, behind_modifiers_from, head, invocation, leaf, Found, leaf_turn, turn, nat_tests, eqb-true, and_parts, when, no_word_head, nothing_before, turns_stop, doc_symbol}
 use Rattle.rust_lexer.specs.declared.kind.DocStyle.{DocStyle}
 use Rattle.rust_lexer.specs.declared.kind.TokenKind.TheVariants as kinds
-use Rattle.rust_cursor.proofs.Turns.{turns_stop}
 use Rattle.rust_leaves.specs.declared.head.Head.TheVariants as heads
 use Rattle.rust_leaves.proofs.Steps.{modifiers_stop}
-use Rattle.rust_metas.proofs.Around.{doc_symbol}
 
 -- brackets, punctuation and documentation
 abbrev is_wordless : TokenKind → Bool

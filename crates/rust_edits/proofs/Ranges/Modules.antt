@@ -1,7 +1,6 @@
 -- What a module holds is what is read of the text behind its `{`.
 use Rattle.std.proofs.Common.{◌≡◌, ◌+◌, ◌||◌, ℕ, suc, Bool, true, false, Option, Some, None, List, [], ◌∷◌, ◌++◌, length, drop, refl, sym, ap, ◌∙◌, subst, arith, length-append}
-use Rattle.rust_edits.proofs.Words.{option_to_list, filter, EditionYear, MetaView, ItemView, module_from, opening, stop, Piece, is_significant, tokens_from, most, beyond, Tokens, tokens_of, end_of, symbol, at, eat, bumped, is_at_end, inner_attributes, FrontRead, front, NameRead, named, named_node, Found, nothing_found, BlockRead, is_list_end, finding, finding_from, items, block_of, and_parent, inside_unless, module_with, some_item, by_head, turn_with, inside, depth_of, turn, IsBare, text_attrs, found_on, read_at, OpensModule, ModuleReads}
-use Rattle.rust_edits.proofs.Lemmas.{nat_tests, drop_at, own, stop_at, tokens_sound, IsLaid, behind, tokens_laid, LeadsTo, through, when, bumped_leads, by_kept, inner_attributes_until, inner_attributes_leads, named_leads, turn_found, turn_with_found, inside_found, Ending, Near, near_parting, near_enters, near_levels, Kept}
+use Rattle.rust_edits.proofs.Common.{option_to_list, filter, EditionYear, MetaView, ItemView, module_from, opening, stop, Piece, is_significant, tokens_from, most, beyond, Tokens, tokens_of, end_of, symbol, at, eat, bumped, is_at_end, inner_attributes, FrontRead, front, NameRead, named, named_node, Found, nothing_found, BlockRead, is_list_end, finding, finding_from, items, block_of, and_parent, inside_unless, module_with, some_item, by_head, turn_with, inside, depth_of, turn, IsBare, text_attrs, found_on, read_at, OpensModule, ModuleReads, nat_tests, drop_at, own, stop_at, tokens_sound, IsLaid, behind, tokens_laid, LeadsTo, through, when, bumped_leads, by_kept, inner_attributes_until, inner_attributes_leads, named_leads, turn_found, turn_with_found, inside_found, Ending, Near, near_parting, near_enters, near_levels, Kept, list_from}
 use Rattle.hir_input.specs.declared.ids.AstIdKind.TheVariants as kind
 use Rattle.rust_cursor.proofs.Parting as parting
 use Rattle.rust_edits.proofs.Ranges.NearLeaves.{Given, given_on}
@@ -16,7 +15,6 @@ use Rattle.rust_edits.proofs.Ranges.Plain.{true_false}
 use Rattle.rust_edits.proofs.Ranges.Tops.{turn_keeps, turn_with_keeps}
 use Rattle.rust_edits.proofs.Ranges.Turning.{run, run_stop, next_leads, beyond_none, turn_far, turn_told}
 use Rattle.rust_edits.proofs.Typing.ProblemsIn.{unended_kept}
-use Rattle.rust_items.proofs.Places.{list_from}
 
 -- ---- a text of one item
 

@@ -1,8 +1,6 @@
 -- The fields of a struct are the same in a text that ends with a `;` or a `}` and in a longer one, where the struct ends there or before.
-use Rattle.std.specs.Prelude.{if◌then◌else◌}
-use Rattle.std.proofs.Common.{◌≡◌, ◌≤◌, ◌+◌, ◌==◌, ◌||◌, ℕ, zero, suc, Bool, true, false, Option, Some, None, List, [], ◌∷◌, ◌++◌, length, refl, ap, sym, ◌∙◌, arith}
-use Rattle.rust_edits.proofs.Words.{not, nat_lt, Visibility, tuple_fields, Tokens, end_of, by_first, rest, symbol, is_empty, is_at_end, bumped, eat, behind_angles, behind_field, most, beyond, turns_from, turns, one, visibility, outer_attributes, is_before, header_field, are_over, fields, symbol_within, fields_at, struct_fields, Piece}
-use Rattle.rust_edits.proofs.Lemmas.{nat_tests, shorter, IsLaid, behind, LeadsTo, here, further, through, when, bumped_leads, eat_leads, behind_angles_leads, beyond_leads, Ending, Near, Gone, fewer, enough_left, past_same, near_twins, behind_angles_near, reached_near, beyond_near, near_parting, near_enters, near_levels, BlockNear, no_block, block, Onward, into, on, onward_leads, by_kept, eat_until, symbol_same, end_same, after_symbol, visibility_until, visibility_leads, outer_attributes_until, outer_attributes_leads}
+use Rattle.std.proofs.Common.{if◌then◌else◌, ◌≡◌, ◌≤◌, ◌+◌, ◌==◌, ◌||◌, ℕ, zero, suc, Bool, true, false, Option, Some, None, List, [], ◌∷◌, ◌++◌, length, refl, ap, sym, ◌∙◌, arith}
+use Rattle.rust_edits.proofs.Common.{not, nat_lt, Visibility, tuple_fields, Tokens, end_of, by_first, rest, symbol, is_empty, is_at_end, bumped, eat, behind_angles, behind_field, most, beyond, turns_from, turns, one, visibility, outer_attributes, is_before, header_field, are_over, fields, symbol_within, fields_at, struct_fields, Piece, nat_tests, shorter, IsLaid, behind, LeadsTo, here, further, through, when, bumped_leads, eat_leads, behind_angles_leads, beyond_leads, Ending, Near, Gone, fewer, enough_left, past_same, near_twins, behind_angles_near, reached_near, beyond_near, near_parting, near_enters, near_levels, BlockNear, no_block, block, Onward, into, on, onward_leads, by_kept, eat_until, symbol_same, end_same, after_symbol, visibility_until, visibility_leads, outer_attributes_until, outer_attributes_leads}
 use Rattle.rust_cursor.specs.declared.cursor.generics.Reach.TheVariants as reaches
 use Rattle.rust_leaves.proofs.Fields.{type_leads, field_leads, not_before, over_ends, none_seen, symbol_is}
 

@@ -1,8 +1,7 @@
 -- What stands in front of an item, and a name, is the same in a text that ends with a `;` or a `}` and in a longer one, until these pass the end.
 use Rattle.rust_cursor.specs.Reader.{◌>>=◌}
 use Rattle.std.proofs.Common.{◌≡◌, ◌+◌, ℕ, Option, List, refl, Some, None, ◌∷◌, ap, ◌∙◌, map}
-use Rattle.rust_edits.proofs.Words.{option_map, Visibility, MetaView, Reader, pure, pass, Tokens, at, bumped, FrontRead, front_behind, front, behind_modifiers, head, next_name, taken_with, name, Placed, placed_if, placed_name}
-use Rattle.rust_edits.proofs.Lemmas.{Forwards, through, Ending, Near, at_same, past_same, near_parting, near_enters, near_levels, UntilBy, gone, kept, by_kept, then_until, AreAlike, no_more, one_more, IsAlike, neither, both, visibility_until, next_name_same, after_name, visibility_leads, outer_attributes_until, modifiers_alike, head_until, behind_modifiers_leads, head_takes}
+use Rattle.rust_edits.proofs.Common.{option_map, Visibility, MetaView, Reader, pure, pass, Tokens, at, bumped, FrontRead, front_behind, front, behind_modifiers, head, next_name, taken_with, name, Placed, placed_if, placed_name, Forwards, through, Ending, Near, at_same, past_same, near_parting, near_enters, near_levels, UntilBy, gone, kept, by_kept, then_until, AreAlike, no_more, one_more, IsAlike, neither, both, visibility_until, next_name_same, after_name, visibility_leads, outer_attributes_until, modifiers_alike, head_until, behind_modifiers_leads, head_takes}
 
 -- the same, so much further on
 pub record FrontNear (b : Ending) (f g : FrontRead) : Type 0 where

@@ -1,7 +1,6 @@
 -- The text of an item begins with no shebang line and no frontmatter: no item begins so.
 use Rattle.std.proofs.Common.{◌≡◌, ◌+◌, ◌==◌, ◌&&◌, ℕ, suc, Bool, true, false, Option, List, [], ◌∷◌, ◌++◌, length, refl, sym, ap, ◌∙◌, arith, map}
-use Rattle.rust_edits.proofs.Words.{IsBare, not, slice_index, filter, EditionYear, Outer, Stop, stop, is_fence, moved, EndsAlone, is_continuation, is_wide_start, first_cut, Piece, symbol_of, has_mark, is_bracket_next, is_shebang, is_significant, piece, tokens_from, Tokens, by_first, symbol, bumped, is_attribute}
-use Rattle.rust_edits.proofs.Lemmas.{eqb-true, and_parts, tokens_first, tokens_moved, when}
+use Rattle.rust_edits.proofs.Common.{IsBare, not, slice_index, filter, EditionYear, Outer, Stop, stop, is_fence, moved, EndsAlone, is_continuation, is_wide_start, first_cut, Piece, symbol_of, has_mark, is_bracket_next, is_shebang, is_significant, piece, tokens_from, Tokens, by_first, symbol, bumped, is_attribute, eqb-true, and_parts, tokens_first, tokens_moved, when}
 use Rattle.rust_edits.proofs.Ranges.Alone.{ended}
 use Rattle.rust_edits.proofs.Ranges.Inner.{IsMute, symbol_mute}
 use Rattle.rust_edits.proofs.Typing.Loose.{passed_symbol}

@@ -1,7 +1,6 @@
 -- The text of the range of an item, read alone, is exactly that item.
 use Rattle.std.proofs.Common.{◌≡◌, ◌<◌, ◌≤◌, ◌+◌, ◌-◌, ◌==◌, ◌&&◌, ℕ, suc, true, false, Option, Some, None, List, [], ◌∷◌, ◌++◌, map, length, take, drop, refl, sym, ap, ◌∙◌, subst, arith, append_assoc, length-append}
-use Rattle.rust_edits.proofs.Words.{option_map, option_to_list, is_some, filter, EditionYear, MetaView, ItemView, ItemViews, no_items, item_and, items_from, source_file, syntax_view, Stop, stop, EndsAlone, Piece, has_mark, is_significant, tokens_from, Tokens, tokens_of, at, TextRange, Problem, ItemPlace, SourceFile, Found, with_ids, item_with_ids, turn, with_feeds, place_in, moved_range, moved_span, moved_problem, file_view, found_in, items_in, IsFile, ends_items, is_unfinished, is_unfinished_at, range_text, Bytes, bytes_of, further_on, RangeAlone}
-use Rattle.rust_edits.proofs.Lemmas.{nat_tests, eqb-true, eq-eqb, or_parts, and_parts, length-map, append_cancel_left, length-take-le, length-drop, drop-drop, take-append-drop, behind, past_within, tokens_laid, LeadsTo, when, Span, place_span, turn_found, Ending, is_last, IsIn, IsMaybeIn, AreIn, spans_in, as_many}
+use Rattle.rust_edits.proofs.Common.{option_map, option_to_list, is_some, filter, EditionYear, MetaView, ItemView, ItemViews, no_items, item_and, items_from, source_file, syntax_view, Stop, stop, EndsAlone, Piece, has_mark, is_significant, tokens_from, Tokens, tokens_of, at, TextRange, Problem, ItemPlace, SourceFile, Found, with_ids, item_with_ids, turn, with_feeds, place_in, moved_range, moved_span, moved_problem, file_view, found_in, items_in, IsFile, ends_items, is_unfinished, is_unfinished_at, range_text, Bytes, bytes_of, further_on, RangeAlone, nat_tests, eqb-true, eq-eqb, or_parts, and_parts, length-map, append_cancel_left, length-take-le, length-drop, drop-drop, take-append-drop, behind, past_within, tokens_laid, LeadsTo, when, Span, place_span, turn_found, Ending, is_last, IsIn, IsMaybeIn, AreIn, spans_in, as_many}
 use Rattle.rust_edits.proofs.Ranges.Alone.{ended, IsPart, tokens_behind, part_in, StandsAlone, IsOwn, item_alone}
 use Rattle.rust_edits.proofs.Ranges.Feeds.{part, part_feeds, part_place}
 use Rattle.rust_edits.proofs.Ranges.Fresh.{none_there, turn_anywhere}

@@ -1,7 +1,6 @@
 -- Tokens that are left of a text are those of what is left of the text.
 use Rattle.std.proofs.Common.{◌≡◌, ◌<◌, ◌+◌, ◌-◌, ℕ, zero, suc, true, false, Option, Some, None, List, [], ◌∷◌, length, take, drop, refl, sym, ap, ◌∙◌, arith}
-use Rattle.rust_edits.proofs.Words.{slice_index, filter, EditionYear, is_continuation, cut, first_cut, Piece, has_mark, is_shebang, is_significant, lines_from, mark_from, matter_by, matter_from, piece, shebang_from, tokens, tokens_from, whole, Tokens, tokens_of, end_of, bumped}
-use Rattle.rust_edits.proofs.Lemmas.{cond_both, drop-drop, LeadsTo, here, further, when}
+use Rattle.rust_edits.proofs.Common.{slice_index, filter, EditionYear, is_continuation, cut, first_cut, Piece, has_mark, is_shebang, is_significant, lines_from, mark_from, matter_by, matter_from, piece, shebang_from, tokens, tokens_from, whole, Tokens, tokens_of, end_of, bumped, cond_both, drop-drop, LeadsTo, here, further, when}
 use Rattle.rust_lexer.specs.declared.kind.TokenKind.TheVariants as kind
 use Rattle.rust_lexer.specs.Frontmatter.{frontmatter}
 

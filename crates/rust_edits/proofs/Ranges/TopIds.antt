@@ -1,7 +1,6 @@
 -- The ids of items at the top, in files of which the first rows are the same.
 use Rattle.std.proofs.Common.{◌≡◌, ◌<◌, ◌≤◌, ◌+◌, ◌-◌, ◌^◌, ◌==◌, ◌&&◌, ◌||◌, ℕ, zero, suc, Bool, true, false, None, List, [], ◌∷◌, ◌++◌, length, refl, sym, ap, ◌∙◌, arith, length-append}
-use Rattle.rust_edits.proofs.Words.{min, nat_lt, AstIdKind, FileAstId, nth_row, id_at, depth_at, last_below, count_below, module_at, module_around, hash_of, kind_place, Key, key_of, same_key, comes_before, earlier_alike, Row, TopKeysStay, FrontIdsStay}
-use Rattle.rust_edits.proofs.Lemmas.{eqb-true, nat_tests, when}
+use Rattle.rust_edits.proofs.Common.{min, nat_lt, AstIdKind, FileAstId, nth_row, id_at, depth_at, last_below, count_below, module_at, module_around, hash_of, kind_place, Key, key_of, same_key, comes_before, earlier_alike, Row, TopKeysStay, FrontIdsStay, eqb-true, nat_tests, when}
 
 -- ---- rows
 

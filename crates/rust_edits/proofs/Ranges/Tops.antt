@@ -1,7 +1,6 @@
 -- The items at the top of a text: each is what a turn finds.
 use Rattle.std.proofs.Common.{◌≡◌, ◌<◌, ◌≤◌, ◌+◌, ℕ, zero, suc, Bool, true, false, Option, Some, None, List, [], ◌∷◌, ◌++◌, map, length, take, drop, refl, sym, ap, ◌∙◌, subst, arith, append_assoc, append-nil, length-append, get_or}
-use Rattle.rust_edits.proofs.Words.{option_to_list, list_any, EditionYear, FileAstId, AstIdKind, ItemView, ItemViews, listed_module, listed_extern_block, no_items, item_and, items_from, items_of, SyntaxView, syntax_view, most, beyond, Tokens, tokens_of, at, is_at_end, TextRange, Head, FrontRead, front, leaf, LeafRead, NameRead, named, no_name, Problem, ItemPlace, SourceFile, Found, Finder, nothing_found, first_numbers, numbered_named, numbered_node, held_with_ids, with_ids, item_with_ids, BlockRead, span_of, and_parent, leaf_found, leaf_turn, finding_from, finding, is_list_end, items, extern_turn, extern_block, by_head, turn_with, inside, depth_of, turn, moved_span, Telling, items_held, ArePlaces, placed, places, behind_attributes, file_view, found_in, read_of, IsFile, item_count, items_count, at_top, without_ids, IsAtTop}
-use Rattle.rust_edits.proofs.Lemmas.{common_steps, nat_tests, length-map, map-append, append_cancel_left, take_at, drop_at, drop-drop, length-drop, IsLaid, behind, tokens_laid, LeadsTo, through, when, beyond_leads, inner_attributes_leads, front_start, Span, place_span, adds_use_trees, adds_problem_at, adds_item, AreFound, turn_found, Rows, found_rows, as_many}
+use Rattle.rust_edits.proofs.Common.{option_to_list, list_any, EditionYear, FileAstId, AstIdKind, ItemView, ItemViews, listed_module, listed_extern_block, no_items, item_and, items_from, items_of, SyntaxView, syntax_view, most, beyond, Tokens, tokens_of, at, is_at_end, TextRange, Head, FrontRead, front, leaf, LeafRead, NameRead, named, no_name, Problem, ItemPlace, SourceFile, Found, Finder, nothing_found, first_numbers, numbered_named, numbered_node, held_with_ids, with_ids, item_with_ids, BlockRead, span_of, and_parent, leaf_found, leaf_turn, finding_from, finding, is_list_end, items, extern_turn, extern_block, by_head, turn_with, inside, depth_of, turn, moved_span, Telling, items_held, ArePlaces, placed, places, behind_attributes, file_view, found_in, read_of, IsFile, item_count, items_count, at_top, without_ids, IsAtTop, common_steps, nat_tests, length-map, map-append, append_cancel_left, take_at, drop_at, drop-drop, length-drop, IsLaid, behind, tokens_laid, LeadsTo, through, when, beyond_leads, inner_attributes_leads, front_start, Span, place_span, adds_use_trees, adds_problem_at, adds_item, AreFound, turn_found, Rows, found_rows, as_many, or_parts, list_any-append}
 use Rattle.hir_input.specs.declared.ids.AstIdKind.TheVariants as kind
 use Rattle.rust_leaves.specs.declared.head.Head.TheVariants as heads
 use Rattle.rust_items.specs.declared.log.ProblemKind.TheVariants as problem
@@ -9,8 +8,6 @@ use Rattle.rust_items.specs.Places.{nothing}
 use Rattle.rust_edits.proofs.Typing.Typing.{items_are}
 use Rattle.rust_edits.proofs.Adding.{IfLeaf, any_place, Keeping, maybe, next_keeps}
 use Rattle.rust_edits.proofs.Adding as adding
-use Rattle.std.proofs.lemmas.Bool.{or_parts}
-use Rattle.std.proofs.lemmas.List.Folds.{list_any-append}
 
 -- ---- how many there are
 

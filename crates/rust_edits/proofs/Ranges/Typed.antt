@@ -1,8 +1,6 @@
 -- Texts of whole items one behind the other, and between others.
 use Rattle.std.proofs.Common.{Bool, ◌≡◌, true, ◌<◌, ◌≤◌, ◌+◌, ◌==◌, ℕ, suc, Option, None, List, [], ◌∷◌, ◌++◌, length, refl, sym, ap, ◌∙◌, subst, arith, append_assoc, append-nil, length-append}
-use Rattle.rust_edits.proofs.Words.{slice_index, option_map, EditionYear, ItemView, Inner, Stop, stop, is_continuation, tokens, most, goes_on, Tokens, tokens_of, last_unended, kind, symbol, bumped, inner_attributes, is_attribute, is_behind, is_doc, Found, nothing_found, and_problem_at, and_all, behind_attributes, found_in, read_of, EndsOwn, IsBare, HoldsItems, BeginsAnew, text_attrs, found_on, ItemsJoin, Follows, as_first, behind_items, IsBetween, StandsBetween, TypingItems, MetaView, read_at, HoldsAt, FollowsAt, as_first_at, behind_items_at, IsBetweenAt, InsideBetween}
-use Rattle.rust_edits.proofs.Lemmas.{common_steps, when, Twins, symbol_same, kind_same, after_symbol, inner_attributes_leads, near_twins, nothing, tokens_short}
-use Rattle.rust_lexer.proofs.Laws.{tokens_few}
+use Rattle.rust_edits.proofs.Common.{slice_index, option_map, EditionYear, ItemView, Inner, Stop, stop, is_continuation, tokens, most, goes_on, Tokens, tokens_of, last_unended, kind, symbol, bumped, inner_attributes, is_attribute, is_behind, is_doc, Found, nothing_found, and_problem_at, and_all, behind_attributes, found_in, read_of, EndsOwn, IsBare, HoldsItems, BeginsAnew, text_attrs, found_on, ItemsJoin, Follows, as_first, behind_items, IsBetween, StandsBetween, TypingItems, MetaView, read_at, HoldsAt, FollowsAt, as_first_at, behind_items_at, IsBetweenAt, InsideBetween, common_steps, when, Twins, symbol_same, kind_same, after_symbol, inner_attributes_leads, near_twins, nothing, tokens_short, tokens_few}
 use Rattle.rust_edits.proofs.Ranges.Behind.{plain_on}
 use Rattle.rust_edits.proofs.Ranges.Joins.{Joined, first_near, found_quiet, found_still, unended_join, items_top, joined_whole, top_holds, inside_join}
 use Rattle.rust_edits.proofs.Ranges.Inner.{no_inner}

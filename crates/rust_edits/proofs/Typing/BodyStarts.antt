@@ -1,7 +1,6 @@
 -- The braces that an item ends with begin at a token of the text.
 use Rattle.std.proofs.Common.{◌≡◌, ◌≤◌, ℕ, zero, suc, ◌+◌, List, [], ◌∷◌, ◌++◌, length, arith, true, false, Option, Some, None, refl, ap, sym, subst, ◌∙◌}
-use Rattle.rust_edits.proofs.Words.{filter, first_cut, Piece, is_significant, tokens_from, whole, overhang, EditionYear, Tokens, tokens_of, by_first, rest, at, is_empty, bumped, TextRange, inner_attributes, LeafRead, leaf, nothing_found, begins_at, has_body, found_in, read_of, tokens, with_body}
-use Rattle.rust_edits.proofs.Lemmas.{eqb-true, LeadsTo, here, further, through, when, IsLaid, tokens_laid, inner_attributes_leads, IsBraced, braced, LeafAt, leaf_at, Span, Rows, found_rows, plain_is}
+use Rattle.rust_edits.proofs.Common.{filter, first_cut, Piece, is_significant, tokens_from, whole, overhang, EditionYear, Tokens, tokens_of, by_first, rest, at, is_empty, bumped, TextRange, inner_attributes, LeafRead, leaf, nothing_found, begins_at, has_body, found_in, read_of, tokens, with_body, eqb-true, LeadsTo, here, further, through, when, IsLaid, tokens_laid, inner_attributes_leads, IsBraced, braced, LeafAt, leaf_at, Span, Rows, found_rows, plain_is}
 use Rattle.rust_edits.proofs.Adding.{IfLeaf, any_place, Keeping, items_keeps}
 use Rattle.rust_edits.specs.Typing.Opened.{BodyOpens}
 use Rattle.rust_cursor.proofs.Laid as laid

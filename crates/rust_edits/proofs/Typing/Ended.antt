@@ -1,8 +1,6 @@
 -- What is left of an item is ended in both of two texts or in neither, where as many brackets are loose between the braces of each.
-use Rattle.std.proofs.Common.{◌≡◌, ◌≢◌, ◌<◌, ℕ, zero, suc, ◌+◌, ◌-◌, ◌==◌, ◌||◌, ◌&&◌, Bool, true, false, Option, Some, None, List, [], ◌∷◌, ◌++◌, length, refl, ap, ◌∙◌, sym, subst, arith, map, length-append, ◌⊎◌, inl, inr, codes}
-use Rattle.std.specs.Prelude.{if◌then◌else◌}
-use Rattle.rust_edits.proofs.Words.{nat_lt, EditionYear, Piece, symbol_of, moved, braces_from, Tokens, end_of, symbol, bumped, braces_behind, count_behind, closes_none, behind_braces, flat_behind, is_mark, nest_inside, nest_behind, ExcerptRead, stops, ends, opened_behind, taking, taken, Bodies, AreOpen, Beside, ahead, Loose, none_loose, loose_behind, loose_from, is_some, bytes_eq, Visibility, MetaView, word, is_at_open, eat, eat_word, tree_body, path, use_tree, Head, FrontRead, is_called, leaf_by, leaf, function, union_item, enumeration, trait_item, macro_def, type_alias, static_value, constant, structure, implementation, crate_item, use_read, use_declaration, macro_definition, invocation, LeafRead, named, crate_alias, crate_alias_if, renamed, impl_end, item_end, macro_end, value_end, call_end}
-use Rattle.rust_edits.proofs.Lemmas.{nat_tests, when, stops_empty, shorter, beside_twins, next_ahead, next_behind, tokens_at, symbol_at, some_at, bumped_at, inside_is, enters, and_parts, IsSound, eat_leads, IsAlike, neither, SamePlace, open_same, LeafAlike, named_local, named_or_local, FrontAlike, BeginPlain, LeafUntil, leaf_lost, leaf_same, leaf_until, LeafLost}
+use Rattle.std.proofs.Common.{◌≡◌, ◌≢◌, ◌<◌, ℕ, zero, suc, ◌+◌, ◌-◌, ◌==◌, ◌||◌, ◌&&◌, Bool, true, false, Option, Some, None, List, [], ◌∷◌, ◌++◌, length, refl, ap, ◌∙◌, sym, subst, arith, map, length-append, ◌⊎◌, inl, inr, codes, if◌then◌else◌}
+use Rattle.rust_edits.proofs.Common.{nat_lt, EditionYear, Piece, symbol_of, moved, braces_from, Tokens, end_of, symbol, bumped, braces_behind, count_behind, closes_none, behind_braces, flat_behind, is_mark, nest_inside, nest_behind, ExcerptRead, stops, ends, opened_behind, taking, taken, Bodies, AreOpen, Beside, ahead, Loose, none_loose, loose_behind, loose_from, is_some, bytes_eq, Visibility, MetaView, word, is_at_open, eat, eat_word, tree_body, path, use_tree, Head, FrontRead, is_called, leaf_by, leaf, function, union_item, enumeration, trait_item, macro_def, type_alias, static_value, constant, structure, implementation, crate_item, use_read, use_declaration, macro_definition, invocation, LeafRead, named, crate_alias, crate_alias_if, renamed, impl_end, item_end, macro_end, value_end, call_end, nat_tests, when, stops_empty, shorter, beside_twins, next_ahead, next_behind, tokens_at, symbol_at, some_at, bumped_at, inside_is, enters, and_parts, IsSound, eat_leads, IsAlike, neither, SamePlace, open_same, LeafAlike, named_local, named_or_local, FrontAlike, BeginPlain, LeafUntil, leaf_lost, leaf_same, leaf_until, LeafLost, by_stayed, word_test, after_word, eat_local, eat_word_local, taken_both, gone_on}
 use Rattle.rust_cursor.specs.declared.cursor.nest.Before.{Before}
 use Rattle.rust_cursor.specs.declared.cursor.nest.Nest.{Nest}
 use Rattle.rust_cursor.specs.Beside.{behind}
@@ -11,10 +9,6 @@ use Rattle.rust_cursor.proofs.Views.{symbol_same}
 use Rattle.rust_cursor.proofs.Tests.{nest_same, stops_same, ends_same}
 use Rattle.rust_cursor.proofs.Inside.{stops_deep, not_last}
 use Rattle.rust_cursor.proofs.Walk.{nothing, matched_in}
-use Rattle.rust_cursor.proofs.Alike.{by_stayed}
-use Rattle.rust_cursor.proofs.Local.{word_test, after_word, eat_local, eat_word_local}
-use Rattle.rust_cursor.proofs.Passing.{taken_both}
-use Rattle.rust_cursor.proofs.Until.{gone_on}
 use Rattle.rust_paths.proofs.Beside.{path_local}
 use Rattle.rust_paths.proofs.UntilTrees.{use_tree_until}
 use Rattle.rust_leaves.proofs.Crates.{is_called_same, called_next}

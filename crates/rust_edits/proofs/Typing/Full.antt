@@ -1,9 +1,7 @@
 -- No character of a text of UTF-8 is cut off, with returns or without them.
-use Rattle.rust_edits.proofs.Words.{nat_le, nat_lt, slice_index, behind_lead, is_full, is_continuation, is_return, with_feeds}
-use Rattle.rust_edits.proofs.Lemmas.{common_steps, and_parts, nat_tests, when}
+use Rattle.rust_edits.proofs.Common.{nat_le, nat_lt, slice_index, behind_lead, is_full, is_continuation, is_return, with_feeds, common_steps, and_parts, nat_tests, when, ltb-true, ltb-false}
 use lib.Utf8.{scalars, scalar, next, encode, encodes, scalar_cases}
 use Rattle.std.proofs.Common.{◌≡◌, ◌⊎◌, ◌+◌, ◌/◌, ◌<◌, ◌≤◌, ◌==◌, ℕ, true, false, List, [], ◌∷◌, ◌++◌, length, IsUtf8, refl, subst, arith}
-use Rattle.std.proofs.lemmas.Bool.{ltb-true, ltb-false}
 
 -- ---- one byte
 

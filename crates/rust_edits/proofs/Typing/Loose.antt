@@ -1,7 +1,6 @@
 -- Problems stand where they stood, or are moved with the text.
 use Rattle.std.proofs.Common.{◌≡◌, ℕ, suc, false, List, [], ◌∷◌, length, refl, ap, sym, subst, ◌∙◌, map, arith}
-use Rattle.rust_edits.proofs.Words.{slice_index, filter, EditionYear, StandsAlone, tokens_in_front, moved, Piece, symbol_from, symbol_of, is_significant, is_significant_kind, TokenKind, Bodies, tokens_of, Problem, ProblemKind, and_problem_at, with_feeds, place_in, moved_problem, FileView, found_in, read_of, IsFile, has_body, with_body, IsTyped, Loose, none_loose, loose_behind, loose_from, loose_in, ProblemsMove, shifted_by}
-use Rattle.rust_edits.proofs.Lemmas.{nat_tests, body, inside_of, tokens_sound, when, AreAlike, no_more, one_more, IsAlike, Rows, found_rows}
+use Rattle.rust_edits.proofs.Common.{slice_index, filter, EditionYear, StandsAlone, tokens_in_front, moved, Piece, symbol_from, symbol_of, is_significant, is_significant_kind, TokenKind, Bodies, tokens_of, Problem, ProblemKind, and_problem_at, with_feeds, place_in, moved_problem, FileView, found_in, read_of, IsFile, has_body, with_body, IsTyped, Loose, none_loose, loose_behind, loose_from, loose_in, ProblemsMove, shifted_by, nat_tests, body, inside_of, tokens_sound, when, AreAlike, no_more, one_more, IsAlike, Rows, found_rows}
 use Rattle.rust_items.specs.declared.log.ProblemKind.TheVariants as problem
 use Rattle.rust_edits.proofs.Typing.Ended.{SameLoose}
 use Rattle.rust_edits.proofs.Typing.Moved.{place_is}

@@ -1,9 +1,7 @@
 -- Items and use trees stand where they stood, or are moved with the text.
 use Rattle.std.proofs.Common.{◌≡◌, ◌≤◌, ℕ, List, ◌∷◌, length, refl, ap, sym, subst, ◌∙◌, map, arith, ◌+◌, ◌++◌, length-append}
-use Rattle.rust_edits.proofs.Words.{found_in, All, EditionYear, ItemViews, ItemPlace, with_feeds, place_in, FileView, IsFile, with_body, IsTyped, shifted_by, AreMoved, PlacesMove, has_body, has_body_at, BodyIsTold, FileAstId, source_file, tokens_of, Row, AreIds, inner_attributes, with_ids, moved_span, moved_problem, places, items_in, IsReadAnew}
-use Rattle.rust_edits.proofs.Lemmas.{All-nil, All-append, All-head, All-tail, All-weaker, close_some, AreAlike, no_more, one_more, unmoved, moves}
+use Rattle.rust_edits.proofs.Common.{found_in, All, EditionYear, ItemViews, ItemPlace, with_feeds, place_in, FileView, IsFile, with_body, IsTyped, shifted_by, AreMoved, PlacesMove, has_body, has_body_at, BodyIsTold, FileAstId, source_file, tokens_of, Row, AreIds, inner_attributes, with_ids, moved_span, moved_problem, places, items_in, IsReadAnew, All-nil, All-append, All-head, All-tail, All-weaker, close_some, AreAlike, no_more, one_more, unmoved, moves, text_found}
 use Rattle.hir_input.specs.UseTreeView.{UseTreeView}
-use Rattle.rust_items.proofs.FilePlaces.{text_found}
 use Rattle.rust_items.proofs.Moving.{files_moved}
 use Rattle.rust_items.proofs.UsesFound.{IsIn, UsesIn, no_uses, leaf_uses, holder_uses}
 use Rattle.rust_edits.proofs.Typing.Texts.{IsMoved}

@@ -1,10 +1,7 @@
 -- Problems stand in the text.
 use Rattle.std.proofs.Common.{◌≡◌, ◌≤◌, ◌+◌, ◌&&◌, ℕ, true, Option, Some, None, List, [], ◌∷◌, ◌++◌, length, refl, ap, sym, subst, ◌∙◌, arith, length-append, map}
-use Rattle.rust_edits.proofs.Words.{is_some, Visibility, EditionYear, MetaView, Piece, is_terminated, tokens, text_of, AreInPlace, behind_closed, behind_tree, behind_angles, beyond, tree_text, Tokens, end_of, last_unended, tokens_of, at, by_first, is_glued, bumped, use_tree, path, inner_attributes, Head, FrontRead, LeafRead, is_called, leaf_by, leaf, function, union_item, enumeration, trait_item, macro_def, type_alias, static_value, constant, structure, implementation, crate_item, use_declaration, macro_definition, invocation, Problem, nothing_found, found_in, read_of, All, with_feeds, place_in, moved_problem}
-use Rattle.rust_edits.proofs.Lemmas.{AreLaid, IsLaid, behind, tokens_laid, LeadsTo, here, further, through, when, bumped_leads, behind_closed_leads, behind_tree_leads, behind_angles_leads, beyond_leads, taken_leads_on, on, gone, kept, Parting, Entering, IsAlike, neither, both, inner_attributes_leads, items_found, All-nil, All-cons, place_le, place_rises_in, place_within}
-use Rattle.rust_lexer.proofs.Laws.{tokens_lossless, tokens_placed}
+use Rattle.rust_edits.proofs.Common.{is_some, Visibility, EditionYear, MetaView, Piece, is_terminated, tokens, text_of, AreInPlace, behind_closed, behind_tree, behind_angles, beyond, tree_text, Tokens, end_of, last_unended, tokens_of, at, by_first, is_glued, bumped, use_tree, path, inner_attributes, Head, FrontRead, LeafRead, is_called, leaf_by, leaf, function, union_item, enumeration, trait_item, macro_def, type_alias, static_value, constant, structure, implementation, crate_item, use_declaration, macro_definition, invocation, Problem, nothing_found, found_in, read_of, All, with_feeds, place_in, moved_problem, AreLaid, IsLaid, behind, tokens_laid, LeadsTo, here, further, through, when, bumped_leads, behind_closed_leads, behind_tree_leads, behind_angles_leads, beyond_leads, taken_leads_on, on, gone, kept, Parting, Entering, IsAlike, neither, both, inner_attributes_leads, items_found, All-nil, All-cons, place_le, place_rises_in, place_within, tokens_lossless, tokens_placed, SameFound, use_tree_until}
 use Rattle.rust_cursor.proofs.Parting.{UntilBy}
-use Rattle.rust_paths.proofs.AlikeTrees.{SameFound, use_tree_until}
 use Rattle.rust_edits.proofs.Adding.{IfPlace, IfLeaf, Keeping, maybe, items_keeps}
 use Rattle.rust_edits.specs.Typing.Problems.{ProblemsStand}
 use Rattle.rust_leaves.specs.declared.head.Head.TheVariants as heads

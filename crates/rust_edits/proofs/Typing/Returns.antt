@@ -1,8 +1,6 @@
 -- Returns of a text with braces in it, and the places that they move.
 use Rattle.std.proofs.Common.{◌≡◌, ◌<◌, ◌≤◌, ◌+◌, ◌==◌, ℕ, suc, true, false, List, [], ◌∷◌, ◌++◌, length, refl, ap, ◌∙◌, arith, length-append}
-use Rattle.rust_edits.proofs.Words.{nat_le, nat_lt, slice_index, is_return, with_feeds, returns_from, place_in, with_body, shifted_by, close_at}
-use Rattle.rust_edits.proofs.Lemmas.{nat_tests, when, and_parts, le-leb, lt-ltb, returns_count, prefix_short, below_none, before}
-use Rattle.std.proofs.lemmas.Bool.{lt-leb}
+use Rattle.rust_edits.proofs.Common.{nat_le, nat_lt, slice_index, is_return, with_feeds, returns_from, place_in, with_body, shifted_by, close_at, nat_tests, when, and_parts, le-leb, lt-ltb, returns_count, prefix_short, below_none, before, lt-leb}
 
 lt_by : (m n d : ℕ) → nat_lt (m + d) (n + d) ≡ nat_lt m n
 lt_by m n d = grind (arith, nat_tests)

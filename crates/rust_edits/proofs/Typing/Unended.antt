@@ -1,7 +1,6 @@
 -- Whether the last token is ended is the same in two texts that differ between two braces, and where it stands is moved.
 use Rattle.std.proofs.Common.{◌≡◌, ◌≤◌, ℕ, zero, suc, ◌+◌, ◌==◌, ◌||◌, ◌&&◌, true, false, Option, None, List, [], ◌∷◌, ◌++◌, length, take, refl, ap, sym, ◌∙◌, map, arith}
-use Rattle.rust_edits.proofs.Words.{not, EditionYear, Stop, opening, StandsAlone, is_fence, tokens_in_front, moved, is_wide_start, first_cut, Piece, symbol_of, is_terminated, has_mark, is_blank, is_bracket_next, is_shebang, piece, tokens_from, whole, end_of, place_if_open, last_unended, tokens_of, with_body, OpensAt}
-use Rattle.rust_edits.proofs.Lemmas.{common_steps, nat_tests, apart, stop_at, open_at, close_of, plain_is, when, IsAlike, neither, both, Moves, moves}
+use Rattle.rust_edits.proofs.Common.{not, EditionYear, Stop, opening, StandsAlone, is_fence, tokens_in_front, moved, is_wide_start, first_cut, Piece, symbol_of, is_terminated, has_mark, is_blank, is_bracket_next, is_shebang, piece, tokens_from, whole, end_of, place_if_open, last_unended, tokens_of, with_body, OpensAt, common_steps, nat_tests, apart, stop_at, open_at, close_of, plain_is, when, IsAlike, neither, both, Moves, moves}
 use Rattle.rust_edits.proofs.Typing.Texts.{IsMoved}
 
 -- ---- what may stand in front of a text

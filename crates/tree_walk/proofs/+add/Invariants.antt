@@ -1,5 +1,4 @@
-use Rattle.std.proofs.Common.{◌≡◌, ◌+◌, ◌*◌, ◌++◌, take}
-use Rattle.std.specs.List.{sum_by, flat_map}
+use Rattle.std.proofs.Common.{◌≡◌, ◌+◌, ◌*◌, ◌++◌, take, sum_by, flat_map}
 use Rattle.item_tree.specs.{Reach.ids_from, Walk.count_at}
 use Rattle.tree_walk.proofs.+add.Given as goal
 

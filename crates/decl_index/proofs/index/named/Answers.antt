@@ -1,7 +1,5 @@
-use Rattle.decl_index.proofs.Common.{rules, ◌-◌, List, length, take, drop, sym, ap, subst, ◌∙◌, is_le, is_lt, Entry}
-use Rattle.std.specs.List.Sorted.{IsPartitionedBy}
+use Rattle.decl_index.proofs.Common.{rules, ◌-◌, List, length, take, drop, sym, ap, subst, ◌∙◌, is_le, is_lt, Entry, IsPartitionedBy, IsPartitionPoint-from_clause}
 use Rattle.std.proofs.lemmas.List.{take_rest}
-use Rattle.std.proofs.lemmas.List.Sorted.{IsPartitionPoint-from_clause}
 use Rattle.decl_index.proofs.Looked.{IsUpTo, test, befores, not_behind, looked_up}
 use Rattle.decl_index.proofs.index.named.Goals as goal
 

@@ -1,5 +1,4 @@
-use Rattle.std.proofs.Common.{◌≡◌, ◌+◌, ◌*◌, ◌++◌, map, take}
-use Rattle.std.specs.List.{sum_by, flat_map}
+use Rattle.std.proofs.Common.{◌≡◌, ◌+◌, ◌*◌, ◌++◌, map, take, sum_by, flat_map}
 use Rattle.item_tree.specs.Walk.{count_at}
 use Rattle.def_collector.specs.{DeclarationView.collected_declaration, Inner.Declared.defined_from}
 use Rattle.def_collector.proofs.collector.+add.Given as goal

@@ -1,6 +1,5 @@
-use Rattle.std.proofs.Common.{◌≡◌, map, refl, ap, sym, ◌∙◌, Some}
+use Rattle.std.proofs.Common.{◌≡◌, map, refl, ap, sym, ◌∙◌, Some, option_map}
 use Rattle.std.proofs.lemmas.List.{map-append}
-use Rattle.std.specs.Prelude.{option_map}
 use Rattle.item_tree.specs.Shown.{lent}
 use Rattle.def_collector.specs.{DeclarationView.declared_by, Inner.Declared.lent_declares}
 use Rattle.def_collector.proofs.Lents.{own_one}

@@ -1,5 +1,4 @@
-use Rattle.std.proofs.Common.{◌≡◌, ◌≢◌, ◌++◌, map, ap, sym, ◌∙◌, subst, AllPairs, []}
-use Rattle.std.specs.List.{flat_map}
+use Rattle.std.proofs.Common.{◌≡◌, ◌≢◌, ◌++◌, map, ap, sym, ◌∙◌, subst, AllPairs, [], flat_map}
 use Rattle.item_tree.specs.Walk.{AreContained}
 use Rattle.def_collector.specs.{Declarations.declared_at, DeclarationView.collected_declaration, DeclarationView.defined, Inner.Declared.defined_from}
 use Rattle.def_collector.proofs.Below.{top_defined, views_alone, ids_alone, declaring_once, declaring_contained}

@@ -1,5 +1,4 @@
-use Rattle.std.proofs.Common.{◌≡◌, ◌+◌, ◌*◌, drop}
-use Rattle.std.specs.List.{sum_by}
+use Rattle.std.proofs.Common.{◌≡◌, ◌+◌, ◌*◌, drop, sum_by}
 use Rattle.item_tree.specs.Walk.{count_at}
 use Rattle.def_collector.specs.Inner.Declared.{found_among}
 use Rattle.def_collector.proofs.search.+find.Given as goal

@@ -1,5 +1,5 @@
 use Rattle.std.proofs.Common.{◌≡◌, map, take}
-use Rattle.hir_input.specs.Attr.{meta_view}
+use Rattle.hir_input.proofs.Common.{meta_view}
 use Rattle.hir_input.proofs.attr.+clone_meta.Given as goal
 
 abbrev pub invariant-clone_metas-loop-i : goal.invariant-clone_metas-loop-i

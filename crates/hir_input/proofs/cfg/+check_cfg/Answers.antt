@@ -1,7 +1,5 @@
-use Rattle.std.proofs.Common.{map, ap, ◌∙◌}
-use Rattle.hir_input.specs.Cfg.{cfg_view, truth, truths, all_answer, any_answer}
-use Rattle.std.proofs.Common.{arith}
-use Rattle.std.proofs.lemmas.Grind.{common_steps}
+use Rattle.std.proofs.Common.{map, ap, ◌∙◌, arith}
+use Rattle.hir_input.proofs.Common.{cfg_view, truth, truths, all_answer, any_answer, common_steps}
 use Rattle.hir_input.proofs.CfgLemmas.{cfg_view-All, cfg_view-Any, cfg_truths, truths-from}
 use Rattle.hir_input.proofs.cfg.+check_cfg.Goals as goal
 

@@ -1,5 +1,5 @@
 use Rattle.std.proofs.Common.{◌≡◌, map, drop}
-use Rattle.hir_input.specs.Cfg.{cfg_view, truth, all_answer, any_answer}
+use Rattle.hir_input.proofs.Common.{cfg_view, truth, all_answer, any_answer}
 use Rattle.hir_input.proofs.cfg.+check_cfg.Given as goal
 
 abbrev pub invariant-check_all-loop-member : goal.invariant-check_all-loop-member

@@ -1,6 +1,6 @@
 -- each copy by the equations of plain data
 use Rattle.std.proofs.Common.{arith}
-use Rattle.std.proofs.lemmas.Grind.{common_steps}
+use Rattle.hir_input.proofs.Common.{common_steps}
 use Rattle.hir_input.proofs.CfgLemmas.{cfg_views}
 use Rattle.hir_input.proofs.cfg.+clone_cfg.Goals as goal
 

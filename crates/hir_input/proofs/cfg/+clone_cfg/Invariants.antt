@@ -1,5 +1,5 @@
 use Rattle.std.proofs.Common.{◌≡◌, map, take}
-use Rattle.hir_input.specs.Cfg.{cfg_view}
+use Rattle.hir_input.proofs.Common.{cfg_view}
 use Rattle.hir_input.proofs.cfg.+clone_cfg.Given as goal
 
 abbrev pub invariant-clone_members-loop-i : goal.invariant-clone_members-loop-i

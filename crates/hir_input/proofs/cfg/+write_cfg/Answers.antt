@@ -1,7 +1,6 @@
 -- each return by the text of its kind
 use Rattle.std.proofs.Common.{arith}
-use Rattle.std.proofs.lemmas.Grind.{common_steps}
-use Rattle.hir_input.specs.Cfg.{shown_cfg, shown_cfgs}
+use Rattle.hir_input.proofs.Common.{common_steps, shown_cfg, shown_cfgs}
 use Rattle.hir_input.proofs.CfgLemmas.{cfg_texts}
 use Rattle.hir_input.proofs.cfg.+write_cfg.Goals as goal
 

@@ -1,6 +1,5 @@
 use Rattle.std.proofs.Common.{map, take}
-use Rattle.std.specs.Fmt.{HasWritten, IsPlainFormatter}
-use Rattle.hir_input.specs.Cfg.{by_commas, cfg_view, shown_cfg}
+use Rattle.hir_input.proofs.Common.{HasWritten, IsPlainFormatter, by_commas, cfg_view, shown_cfg}
 use Rattle.hir_input.proofs.cfg.+write_cfg.Given as goal
 
 abbrev pub invariant-write_members-loop-i : goal.invariant-write_members-loop-i

@@ -1,6 +1,5 @@
-use Rattle.std.proofs.Common.{◌≡◌, ◌+◌, length, take}
-use Rattle.std.specs.List.{flat_map}
-use Rattle.hir_input.specs.UseTreeView.{use_tree_view, written_nodes}
+use Rattle.std.proofs.Common.{◌≡◌, ◌+◌, length, take, flat_map}
+use Rattle.hir_input.proofs.Common.{use_tree_view, written_nodes}
 use Rattle.hir_input.proofs.use_trees.+find.Given as goal
 
 abbrev pub invariant-find_in-loop-tree : goal.invariant-find_in-loop-tree

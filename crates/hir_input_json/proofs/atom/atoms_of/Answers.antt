@@ -1,7 +1,6 @@
 -- the loop as far as it has come
 use Rattle.std.proofs.Common.{decimal}
-use Rattle.hir_input.specs.Cfg.{atom_view}
-use Rattle.hir_input_json.specs.Cfgs.{atom}
+use Rattle.hir_input_json.proofs.Common.{atom_view, atom}
 use Rattle.hir_input_json.proofs.Lists.{read_next}
 use Rattle.hir_input_json.proofs.atom.atoms_of.Goals as goal
 

@@ -1,6 +1,5 @@
 -- the reading is what was read, and then the reading of what is left
-use Rattle.hir_input.specs.Cfg.{atom_view}
-use Rattle.hir_input_json.specs.Cfgs.{atom}
+use Rattle.hir_input_json.proofs.Common.{atom_view, atom}
 use Rattle.hir_input_json.proofs.Lists.{HasRead}
 use Rattle.hir_input_json.proofs.atom.atoms_of.Given as goal
 

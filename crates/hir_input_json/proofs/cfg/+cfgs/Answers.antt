@@ -1,10 +1,8 @@
 -- what is taken out nests less deep
 use Rattle.std.proofs.Common.{arith, codes, decimal, refl, sym}
 use Rattle.serde_json.specs.View.{view}
-use Rattle.hir_input_json.specs.Held.{held}
+use Rattle.hir_input_json.proofs.Common.{held, cfg_view, cfg}
 use Rattle.hir_input_json.proofs.Inside.{depth_field, depth_get, field_before}
-use Rattle.hir_input.specs.Cfg.{cfg_view}
-use Rattle.hir_input_json.specs.Cfgs.{cfg}
 use Rattle.hir_input_json.proofs.Lists.{read_inside}
 use Rattle.hir_input_json.proofs.cfg.+cfgs.Goals as goal
 

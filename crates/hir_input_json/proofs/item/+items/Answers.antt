@@ -1,7 +1,6 @@
 -- the loop as far as it has come
 use Rattle.std.proofs.Common.{decimal}
-use Rattle.hir_input.specs.Syntax.{item_view}
-use Rattle.hir_input_json.specs.Items.{item}
+use Rattle.hir_input_json.proofs.Common.{item_view, item}
 use Rattle.hir_input_json.proofs.Lists.{read_inside}
 use Rattle.hir_input_json.proofs.item.+items.Goals as goal
 

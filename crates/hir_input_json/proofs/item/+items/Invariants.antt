@@ -2,9 +2,7 @@
 use Rattle.std.proofs.Common.{◌+◌, ◌*◌, option_map}
 use Rattle.serde_json.specs.Data.{depth, items_depth}
 use Rattle.serde_json.specs.View.{view, items_view}
-use Rattle.hir_input.specs.Syntax.{item_view}
-use Rattle.hir_input_json.specs.Items.{item}
-use Rattle.hir_input_json.specs.Held.{held}
+use Rattle.hir_input_json.proofs.Common.{item_view, item, held}
 use Rattle.hir_input_json.proofs.Inside.{depth_of}
 use Rattle.hir_input_json.proofs.Lists.{HasReadInside}
 use Rattle.hir_input_json.proofs.item.+items.Given as goal

@@ -1,9 +1,8 @@
 -- a list of fewer or of more than two
 use Rattle.std.proofs.Common.{◌≡◌, ◌<◌, [], length, rules, sym, ap, ◌∙◌}
 use Rattle.serde_json.specs.View.{view, items_view}
-use Rattle.hir_input_json.specs.Literals.{span_in}
-use Rattle.hir_input_json.specs.Forms.{array_items}
-use Rattle.hir_input_json.specs.Reading.{right, wrong, ◌>>=◌}
+use Rattle.hir_input_json.proofs.Common.{span_in, array_items, right, wrong}
+use Rattle.hir_input_json.specs.Reading.{◌>>=◌}
 use Rattle.hir_input_json.proofs.Spans.{span_of_fewer, span_of_more}
 use Rattle.hir_input_json.proofs.literal.span_of.Goals as goal
 use Rattle.hir_input_json.proofs.literal.span_of.Goals.{in_default-as_slice-via-then-as_slice-lt2, in_default-as_slice-via-else-as_slice-lt2+else-this-lt3}

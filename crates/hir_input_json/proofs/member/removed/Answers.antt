@@ -3,7 +3,7 @@ use Rattle.std.proofs.Common.{Some, option_map, ap, sym, ◌∙◌}
 use Rattle.serde_json.specs.Data.{object}
 use Rattle.serde_json.specs.View.{view, members_view}
 use Rattle.serde_json.proofs.Views.{view-lookup}
-use Rattle.hir_input_json.specs.Held.{held, without}
+use Rattle.hir_input_json.proofs.Common.{held, without}
 use Rattle.hir_input_json.proofs.Held.{members_set, drop_absent}
 use Rattle.hir_input_json.proofs.member.removed.Goals as goal
 

@@ -1,10 +1,8 @@
 -- what is taken out nests less deep
 use Rattle.std.proofs.Common.{arith, codes, decimal, sym}
 use Rattle.serde_json.specs.View.{view}
-use Rattle.hir_input_json.specs.Held.{held}
+use Rattle.hir_input_json.proofs.Common.{held, meta_view, meta_form}
 use Rattle.hir_input_json.proofs.Inside.{depth_field}
-use Rattle.hir_input.specs.Attr.{meta_view}
-use Rattle.hir_input_json.specs.Metas.{meta_form}
 use Rattle.hir_input_json.proofs.Lists.{read_inside}
 use Rattle.hir_input_json.proofs.meta.+metas.Goals as goal
 

@@ -2,9 +2,7 @@
 use Rattle.std.proofs.Common.{◌+◌, ◌*◌}
 use Rattle.serde_json.specs.Data.{depth, items_depth}
 use Rattle.serde_json.specs.View.{view, items_view}
-use Rattle.hir_input.specs.Attr.{meta_view}
-use Rattle.hir_input_json.specs.Metas.{meta_form}
-use Rattle.hir_input_json.specs.Held.{held}
+use Rattle.hir_input_json.proofs.Common.{meta_view, meta_form, held}
 use Rattle.hir_input_json.proofs.Lists.{HasReadInside}
 use Rattle.hir_input_json.proofs.meta.+metas.Given as goal
 

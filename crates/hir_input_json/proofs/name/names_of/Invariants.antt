@@ -1,7 +1,7 @@
 -- the reading is what was read, and then the reading of what is left
 use Rattle.std.proofs.Common.{◌≡◌, ◌+◌, length}
 use Rattle.serde_json.specs.View.{items_view}
-use Rattle.hir_input_json.specs.Forms.{each_from, identifier_form}
+use Rattle.hir_input_json.proofs.Common.{each_from, identifier_form}
 use Rattle.hir_input_json.proofs.Lists.{joined}
 use Rattle.hir_input_json.proofs.name.names_of.Given as goal
 

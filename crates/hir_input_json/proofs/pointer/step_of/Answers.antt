@@ -2,7 +2,7 @@
 use Rattle.std.proofs.Common.{encode_utf8, flat_map, sym, ap, ◌∙◌, map-id}
 use Rattle.std.proofs.lemmas.Iterator.{YieldsList-from_chars}
 use Rattle.std.proofs.lemmas.Iterator.Consumers.{YieldsList-end}
-use Rattle.hir_input_json.specs.Reading.{pointer_step}
+use Rattle.hir_input_json.proofs.Common.{pointer_step}
 use Rattle.hir_input_json.proofs.Pointers.{key_by_chars}
 use Rattle.hir_input_json.proofs.pointer.step_of.Goals as goal
 

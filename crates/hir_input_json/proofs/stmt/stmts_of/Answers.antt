@@ -1,7 +1,6 @@
 -- the loop as far as it has come
 use Rattle.std.proofs.Common.{decimal}
-use Rattle.hir_input.specs.Syntax.{stmt_view}
-use Rattle.hir_input_json.specs.Syntaxes.{stmt}
+use Rattle.hir_input_json.proofs.Common.{stmt_view, stmt}
 use Rattle.hir_input_json.proofs.Lists.{read_next}
 use Rattle.hir_input_json.proofs.stmt.stmts_of.Goals as goal
 

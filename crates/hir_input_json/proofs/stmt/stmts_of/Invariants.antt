@@ -1,6 +1,5 @@
 -- the reading is what was read, and then the reading of what is left
-use Rattle.hir_input.specs.Syntax.{stmt_view}
-use Rattle.hir_input_json.specs.Syntaxes.{stmt}
+use Rattle.hir_input_json.proofs.Common.{stmt_view, stmt}
 use Rattle.hir_input_json.proofs.Lists.{HasRead}
 use Rattle.hir_input_json.proofs.stmt.stmts_of.Given as goal
 

@@ -1,7 +1,6 @@
 -- the loop as far as it has come
 use Rattle.std.proofs.Common.{decimal}
-use Rattle.hir_input.specs.UseTreeView.{use_tree_view}
-use Rattle.hir_input_json.specs.UseTrees.{use_tree_form}
+use Rattle.hir_input_json.proofs.Common.{use_tree_view, use_tree_form}
 use Rattle.hir_input_json.proofs.Lists.{read_inside}
 use Rattle.hir_input_json.proofs.use_tree.+trees.Goals as goal
 

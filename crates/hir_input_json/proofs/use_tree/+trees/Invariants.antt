@@ -2,9 +2,7 @@
 use Rattle.std.proofs.Common.{◌+◌, ◌*◌, option_map}
 use Rattle.serde_json.specs.Data.{depth, items_depth}
 use Rattle.serde_json.specs.View.{view, items_view}
-use Rattle.hir_input.specs.UseTreeView.{use_tree_view}
-use Rattle.hir_input_json.specs.UseTrees.{use_tree_form}
-use Rattle.hir_input_json.specs.Held.{held}
+use Rattle.hir_input_json.proofs.Common.{use_tree_view, use_tree_form, held}
 use Rattle.hir_input_json.proofs.Inside.{depth_of}
 use Rattle.hir_input_json.proofs.Lists.{HasReadInside}
 use Rattle.hir_input_json.proofs.use_tree.+trees.Given as goal

@@ -1,8 +1,7 @@
 -- one more, and the last
 use Rattle.std.proofs.Common.{List, rules, refl, map}
 use Rattle.hir_input.specs.declared.cfg.CfgExpr.{CfgExpr}
-use Rattle.hir_input.specs.Cfg.{cfg_view, cfgs_from}
-use Rattle.hir_input_writer.specs.Cfgs.{cfg_data, cfgs_data}
+use Rattle.hir_input_writer.proofs.Common.{cfg_view, cfgs_from, cfg_data, cfgs_data}
 use Rattle.hir_input_writer.proofs.Lists.{more_made, none_left}
 use Rattle.hir_input_writer.proofs.cfg.+cfgs.Goals as goal
 

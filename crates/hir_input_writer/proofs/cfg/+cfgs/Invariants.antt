@@ -1,7 +1,6 @@
 -- what is to be written is what was made, and behind it what is left
 use Rattle.std.proofs.Common.{map}
-use Rattle.hir_input.specs.Cfg.{cfg_view, cfgs_from}
-use Rattle.hir_input_writer.specs.Cfgs.{cfgs_data}
+use Rattle.hir_input_writer.proofs.Common.{cfg_view, cfgs_from, cfgs_data}
 use Rattle.hir_input_writer.proofs.Lists.{HasMade}
 use Rattle.hir_input_writer.proofs.cfg.+cfgs.Given as goal
 

@@ -1,6 +1,6 @@
 -- what is written is read again
 use Rattle.serde_json.specs.View.{view}
-use Rattle.hir_input.specs.Cfg.{atom_view}
+use Rattle.hir_input_writer.proofs.Common.{atom_view}
 use Rattle.hir_input_writer.proofs.CfgLaws.{atom_again}
 use Rattle.hir_input_writer.proofs.cfg.atom_value.Goals as goal
 

@@ -1,8 +1,7 @@
 -- one more, and the last
 use Rattle.std.proofs.Common.{List, rules, refl, map}
 use Rattle.hir_input.specs.declared.ast.ExternItem.{ExternItem}
-use Rattle.hir_input.specs.Syntax.{extern_item_view, items_from}
-use Rattle.hir_input_writer.specs.Items.{extern_item_data, extern_items_data}
+use Rattle.hir_input_writer.proofs.Common.{extern_item_view, items_from, extern_item_data, extern_items_data}
 use Rattle.hir_input_writer.proofs.Lists.{more_made, none_left}
 use Rattle.hir_input_writer.proofs.extern_block.extern_item_values.Goals as goal
 

@@ -1,7 +1,6 @@
 -- what is to be written is what was made, and behind it what is left
 use Rattle.std.proofs.Common.{map}
-use Rattle.hir_input.specs.Syntax.{extern_item_view, items_from}
-use Rattle.hir_input_writer.specs.Items.{extern_items_data}
+use Rattle.hir_input_writer.proofs.Common.{extern_item_view, items_from, extern_items_data}
 use Rattle.hir_input_writer.proofs.Lists.{HasMade}
 use Rattle.hir_input_writer.proofs.extern_block.extern_item_values.Given as goal
 

@@ -1,10 +1,7 @@
 -- one more, and the last
 use Rattle.std.proofs.Common.{List, rules, refl, subst}
 use Rattle.serde_json.specs.View.{view}
-use Rattle.hir_input.specs.declared.ast.Item.{Item}
-use Rattle.hir_input.specs.Syntax.{item_view, items_view, named_from}
-use Rattle.hir_input_writer.specs.Items.{item_data, items_data, module_data}
-use Rattle.hir_input_writer.specs.Writes.{Writes}
+use Rattle.hir_input_writer.proofs.Common.{Item, item_view, items_view, named_from, item_data, items_data, module_data, Writes}
 use Rattle.hir_input_writer.proofs.Items.{module_view-bare}
 use Rattle.hir_input_writer.proofs.Nulls.{view-Null}
 use Rattle.hir_input_writer.proofs.Lists.{more_made, none_left}

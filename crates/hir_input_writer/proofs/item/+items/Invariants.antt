@@ -1,6 +1,5 @@
 -- what is to be written is what was made, and behind it what is left
-use Rattle.hir_input.specs.Syntax.{items_view}
-use Rattle.hir_input_writer.specs.Items.{items_data}
+use Rattle.hir_input_writer.proofs.Common.{items_view, items_data}
 use Rattle.hir_input_writer.proofs.Lists.{HasMade}
 use Rattle.hir_input_writer.proofs.item.+items.Given as goal
 

@@ -1,8 +1,7 @@
 -- one more, and the last
 use Rattle.std.proofs.Common.{List, rules, refl, map}
 use Rattle.hir_input.specs.declared.ast.TupleField.{TupleField}
-use Rattle.hir_input_writer.specs.Parts.{each_data, maybe_data}
-use Rattle.hir_input_writer.specs.Paths.{visibility_data}
+use Rattle.hir_input_writer.proofs.Common.{each_data, maybe_data, visibility_data}
 use Rattle.hir_input_writer.proofs.Lists.{more_made, none_left}
 use Rattle.hir_input_writer.proofs.kinds.field_values.Goals as goal
 

@@ -1,8 +1,7 @@
 -- what is to be written is what was made, and behind it what is left
 use Rattle.std.proofs.Common.{map}
 use Rattle.hir_input_writer.proofs.Lists.{HasMade}
-use Rattle.hir_input_writer.specs.Parts.{each_data, maybe_data}
-use Rattle.hir_input_writer.specs.Paths.{visibility_data}
+use Rattle.hir_input_writer.proofs.Common.{each_data, maybe_data, visibility_data}
 use Rattle.hir_input_writer.proofs.kinds.field_values.Given as goal
 
 abbrev pub invariant-loop-field : goal.invariant-loop-field

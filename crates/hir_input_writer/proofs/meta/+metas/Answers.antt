@@ -1,8 +1,7 @@
 -- one more, and the last
 use Rattle.std.proofs.Common.{List, rules, refl, map}
 use Rattle.hir_input.specs.declared.attr.Meta.{Meta}
-use Rattle.hir_input.specs.Attr.{meta_view, metas_from}
-use Rattle.hir_input_writer.specs.Metas.{meta_data, metas_data}
+use Rattle.hir_input_writer.proofs.Common.{meta_view, metas_from, meta_data, metas_data}
 use Rattle.hir_input_writer.proofs.Lists.{more_made, none_left}
 use Rattle.hir_input_writer.proofs.meta.+metas.Goals as goal
 

@@ -1,8 +1,7 @@
 -- what is to be written is what was made, and behind it what is left
 use Rattle.std.proofs.Common.{map}
-use Rattle.hir_input.specs.Attr.{meta_view, metas_from}
+use Rattle.hir_input_writer.proofs.Common.{meta_view, metas_from, metas_data}
 use Rattle.hir_input_writer.proofs.Lists.{HasMade}
-use Rattle.hir_input_writer.specs.Metas.{metas_data}
 use Rattle.hir_input_writer.proofs.meta.+metas.Given as goal
 
 abbrev pub invariant-meta_values-loop-meta : goal.invariant-meta_values-loop-meta

@@ -1,8 +1,7 @@
 -- one more name, and the last
 use Rattle.std.proofs.Common.{rules, refl, ap, ◌∙◌, ◌+◌, sym, map, drop}
 use Rattle.serde_json.specs.View.{view}
-use Rattle.hir_input_writer.specs.Lists.{joined}
-use Rattle.hir_input_writer.specs.Parts.{each_data, name_data}
+use Rattle.hir_input_writer.proofs.Common.{joined, each_data, name_data}
 use Rattle.hir_input_writer.proofs.Lists.{one_more, none_left}
 use Rattle.hir_input_writer.proofs.path.names_behind.Goals as goal
 

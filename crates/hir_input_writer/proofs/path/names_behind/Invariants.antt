@@ -1,8 +1,7 @@
 -- what is to be written is what was made, and behind it what is left
 use Rattle.std.proofs.Common.{◌≡◌, map, drop}
 use Rattle.serde_json.specs.View.{view}
-use Rattle.hir_input_writer.specs.Lists.{joined}
-use Rattle.hir_input_writer.specs.Parts.{each_data, name_data}
+use Rattle.hir_input_writer.proofs.Common.{joined, each_data, name_data}
 use Rattle.hir_input_writer.proofs.path.names_behind.Given as goal
 
 abbrev pub invariant-loop-name : goal.invariant-loop-name

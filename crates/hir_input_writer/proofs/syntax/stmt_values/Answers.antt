@@ -1,9 +1,7 @@
 -- one more, and the last
 use Rattle.std.proofs.Common.{List, rules, refl, map}
 use Rattle.hir_input.specs.declared.ast.Stmt.{Stmt}
-use Rattle.hir_input.specs.Syntax.{stmt_view}
-use Rattle.hir_input_writer.specs.Parts.{each_data}
-use Rattle.hir_input_writer.specs.Syntaxes.{stmt_data}
+use Rattle.hir_input_writer.proofs.Common.{stmt_view, each_data, stmt_data}
 use Rattle.hir_input_writer.proofs.Lists.{more_made, none_left}
 use Rattle.hir_input_writer.proofs.syntax.stmt_values.Goals as goal
 

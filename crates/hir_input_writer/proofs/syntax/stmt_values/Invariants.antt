@@ -1,8 +1,6 @@
 -- what is to be written is what was made, and behind it what is left
 use Rattle.std.proofs.Common.{map}
-use Rattle.hir_input.specs.Syntax.{stmt_view}
-use Rattle.hir_input_writer.specs.Parts.{each_data}
-use Rattle.hir_input_writer.specs.Syntaxes.{stmt_data}
+use Rattle.hir_input_writer.proofs.Common.{stmt_view, each_data, stmt_data}
 use Rattle.hir_input_writer.proofs.Lists.{HasMade}
 use Rattle.hir_input_writer.proofs.syntax.stmt_values.Given as goal
 

@@ -1,6 +1,6 @@
 -- what is written is read again
 use Rattle.serde_json.specs.View.{view}
-use Rattle.hir_input.specs.Syntax.{syntax_view}
+use Rattle.hir_input_writer.proofs.Common.{syntax_view}
 use Rattle.hir_input_writer.proofs.SyntaxLaws.{read_again}
 use Rattle.hir_input_writer.proofs.syntax.syntax_value.Goals as goal
 

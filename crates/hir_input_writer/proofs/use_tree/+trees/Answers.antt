@@ -2,10 +2,7 @@
 use Rattle.std.proofs.Common.{List, rules, refl, map, subst}
 use Rattle.serde_json.specs.View.{view}
 use Rattle.hir_input.specs.declared.ast.UseTree.{UseTree}
-use Rattle.hir_input.proofs.UseTreeViews.{use_tree_view-bare}
-use Rattle.hir_input.specs.UseTreeView.{UseNode, trees_from, use_tree_view}
-use Rattle.hir_input_writer.specs.UseTrees.{use_node_data, use_tree_data, use_trees_data}
-use Rattle.hir_input_writer.specs.Writes.{Writes}
+use Rattle.hir_input_writer.proofs.Common.{use_tree_view-bare, UseNode, trees_from, use_tree_view, use_node_data, use_tree_data, use_trees_data, Writes}
 use Rattle.hir_input_writer.proofs.Nulls.{view-Null}
 use Rattle.hir_input.specs.declared.ast.UseTree.TheViews.{out-UseTree}
 use Rattle.hir_input_writer.proofs.Lists.{more_made, none_left}

@@ -1,8 +1,7 @@
 -- what is to be written is what was made, and behind it what is left
 use Rattle.std.proofs.Common.{map}
-use Rattle.hir_input.specs.UseTreeView.{trees_from, use_tree_view}
+use Rattle.hir_input_writer.proofs.Common.{trees_from, use_tree_view, use_trees_data}
 use Rattle.hir_input_writer.proofs.Lists.{HasMade}
-use Rattle.hir_input_writer.specs.UseTrees.{use_trees_data}
 use Rattle.hir_input_writer.proofs.use_tree.+trees.Given as goal
 
 abbrev pub invariant-use_tree_values-loop-tree : goal.invariant-use_tree_values-loop-tree

@@ -1,5 +1,4 @@
-use Rattle.std.proofs.Common.{◌≡◌, map, take}
-use Rattle.std.specs.List.{flat_map}
+use Rattle.std.proofs.Common.{◌≡◌, map, take, flat_map}
 use Rattle.item_changes.specs.{Changes.change_of, Inner.match_view, Views.change_view}
 use Rattle.item_changes.proofs.compare.changes_of.Given as goal
 

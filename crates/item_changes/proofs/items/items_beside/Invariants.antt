@@ -1,5 +1,4 @@
-use Rattle.std.proofs.Common.{◌≡◌, ◌++◌, length, map}
-use Rattle.std.specs.List.{zip}
+use Rattle.std.proofs.Common.{◌≡◌, ◌++◌, length, map, zip}
 use Rattle.item_tree.specs.Walk.{AreContained}
 use Rattle.tree_walk.specs.Views.{row_view}
 use Rattle.item_changes.specs.{Changes.with_key, Inner.keyed_view, Own.own_at}

@@ -1,5 +1,4 @@
-use Rattle.std.proofs.Common.{◌≡◌, ◌++◌, map, take}
-use Rattle.std.specs.List.{flat_map}
+use Rattle.std.proofs.Common.{◌≡◌, ◌++◌, map, take, flat_map}
 use Rattle.item_changes.specs.Matches.{gone_of, match_now, pair_now}
 use Rattle.item_changes.proofs.matching.push_all_gone.Given as goal
 

@@ -1,6 +1,5 @@
-use Rattle.std.proofs.Common.{Some, sym, ◌∙◌, ap}
+use Rattle.std.proofs.Common.{Some, sym, ◌∙◌, ap, option_map}
 use Rattle.std.proofs.lemmas.{Bool.Decides.Decides-at, Option.same_Some}
-use Rattle.std.specs.Prelude.{option_map}
 use Rattle.item_tree.specs.{Layout.ctor_map, Layout.node_at, Layout.vis_at, Shown.lent}
 use Rattle.item_changes.specs.Own.{no_node, own_at}
 use Rattle.item_changes.proofs.Parts.{own_from, own_attrs, own_visibility, own_ctor, own_rest, part_differs, last_part, part_same}

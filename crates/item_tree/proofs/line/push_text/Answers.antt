@@ -1,7 +1,7 @@
 use Rattle.std.proofs.Common.{◌++◌, ap, ◌∙◌, map, string_bytes, lit<}
 use Rattle.std.proofs.lemmas.Iterator.Splits.{YieldsList-from_str_split}
 use Rattle.std.proofs.lemmas.Iterator.Consumers.{YieldsList-end}
-use Rattle.item_tree.specs.Line.{text, lines_text}
+use Rattle.item_tree.proofs.Common.{text, lines_text}
 use Rattle.item_tree.proofs.line.push_text.Goals as goal
 
 pub returns : goal.returns

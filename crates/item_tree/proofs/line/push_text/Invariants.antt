@@ -1,5 +1,5 @@
 use Rattle.std.proofs.Common.{◌≡◌, ◌++◌, map, string_bytes}
-use Rattle.item_tree.specs.Line.{text, lines_text}
+use Rattle.item_tree.proofs.Common.{text, lines_text}
 use Rattle.item_tree.proofs.line.push_text.Given as goal
 
 abbrev pub invariant-loop-part : goal.invariant-loop-part

@@ -1,14 +1,7 @@
 use Rattle.std.proofs.Common.{◌≤◌, length, [], ◌∷◌, ◌++◌, subst, ap, sym, ◌∙◌, append-nil, arith}
-use Rattle.std.proofs.lemmas.Result.{err_from_is_err_and}
-use Rattle.hir_input.specs.Syntax.{item_view}
-use Rattle.item_tree_attrs.specs.Collected.{attr_limit}
-use Rattle.item_tree.specs.Visibility.{read_visibility}
-use Rattle.item_tree.specs.Inner.Growth.{attrs_in, Meets, sizes_meeting, sizes_pushing, to_list}
-use Rattle.item_tree.specs.Size.{IsPassed}
+use Rattle.item_tree.proofs.Common.{err_from_is_err_and, item_view, attr_limit, read_visibility, attrs_in, Meets, sizes_meeting, sizes_pushing, to_list, IsPassed, common_steps, item_views}
 use Rattle.item_tree.proofs.Lowering.{unmet-module, Lowers-step, passed-step, Lowers-inline, full-inline}
 use Rattle.item_tree.proofs.lower.+lower.Goals as goal
-use Rattle.std.proofs.lemmas.Grind.{common_steps}
-use Rattle.hir_input.proofs.SyntaxViews.{item_views}
 use Rattle.item_tree.proofs.lower.+lower.Goals.{lower_items-in-Some+in_ok-push, lower_items-in_default}
 
 pub lower_items-returns-in_err-id : goal.lower_items-returns-in_err-id

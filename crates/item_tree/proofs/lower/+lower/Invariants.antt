@@ -1,7 +1,5 @@
 use Rattle.std.proofs.Common.{take}
-use Rattle.hir_input.specs.Syntax.{items_view}
-use Rattle.item_tree.specs.Size.{items_written}
-use Rattle.item_tree.specs.Inner.Growth.{all_kept_in, Lowers}
+use Rattle.item_tree.proofs.Common.{items_view, items_written, all_kept_in, Lowers}
 use Rattle.item_tree.proofs.lower.+lower.Given as goal
 
 abbrev pub invariant-lower_items-loop-item : goal.invariant-lower_items-loop-item

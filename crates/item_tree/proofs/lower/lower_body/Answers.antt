@@ -1,9 +1,5 @@
 use Rattle.std.proofs.Common.{◌∙◌, refl, rules}
-use Rattle.std.proofs.lemmas.Result.{err_from_is_err_and}
-use Rattle.hir_input.specs.Syntax.{macro_items}
-use Rattle.item_tree_attrs.specs.Collected.{collected}
-use Rattle.item_tree.specs.Inner.Growth.{all_kept_in}
-use Rattle.item_tree.specs.Inner.Statements.{body_items}
+use Rattle.item_tree.proofs.Common.{err_from_is_err_and, macro_items, collected, all_kept_in, body_items}
 use Rattle.item_tree.proofs.Lowering.{tables, passed-from_nothing}
 use Rattle.item_tree.proofs.lower.lower_body.Goals as goal
 

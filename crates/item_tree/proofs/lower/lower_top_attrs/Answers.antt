@@ -1,6 +1,5 @@
 use Rattle.std.proofs.Common.{arith}
-use Rattle.std.proofs.lemmas.Grind.{common_steps}
-use Rattle.std.proofs.lemmas.Grind.{elements}
+use Rattle.item_tree.proofs.Common.{common_steps, elements}
 use Rattle.item_tree.proofs.lower.lower_top_attrs.Goals as goal
 
 pub returns-in-CfgDisabled-clause-fits : goal.returns-in-CfgDisabled-clause-fits

@@ -1,5 +1,5 @@
 use Rattle.std.proofs.Common.{arith}
-use Rattle.std.proofs.lemmas.Grind.{common_steps}
+use Rattle.item_tree.proofs.Common.{common_steps}
 use Rattle.item_tree.proofs.lower.push_row.Goals as goal
 
 pub returns-clause-pushed : goal.returns-clause-pushed

@@ -1,12 +1,5 @@
 use Rattle.std.proofs.Common.{◌≡◌, inr, map, drop, ◌+◌, ◌∙◌, sym, ap, subst, List, Option, Some, ◌++◌}
-use Rattle.std.proofs.lemmas.Result.{err_from_is_err_and}
-use Rattle.item_tree.specs.declared.crate_data.CrateData.{CrateData}
-use Rattle.item_tree.specs.CrateView.{CrateView, crate_view}
-use Rattle.item_tree_db.specs.declared.place.Place.{Place}
-use Rattle.item_tree_db.specs.declared.rows.Row.{Row}
-use Rattle.item_tree_db.specs.Refusal.{TreeFits, TreePasses}
-use Rattle.item_tree_db.specs.Inner.Settled.{brought, fresh_row}
-use Rattle.item_tree_db.specs.Inner.Source.{source_place, source_syntax}
+use Rattle.item_tree_db.proofs.Common.{err_from_is_err_and, CrateData, CrateView, crate_view, Place, Row, TreeFits, TreePasses, brought, fresh_row, source_place, source_syntax}
 use Rattle.item_tree_db.proofs.Crates.{crate_at, one_more, fits_next}
 use Rattle.item_tree_db.proofs.rows.lower_all.Goals as goal
 

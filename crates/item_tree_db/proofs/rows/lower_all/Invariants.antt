@@ -1,10 +1,5 @@
 use Rattle.std.proofs.Common.{◌≡◌, ◌++◌, map, drop}
-use Rattle.item_tree.specs.declared.crate_data.CrateData.{CrateData}
-use Rattle.item_tree.specs.CrateView.{crate_view}
-use Rattle.item_tree_db.specs.declared.rows.Row.{Row}
-use Rattle.item_tree_db.specs.Inner.Sizes.{CratesFit}
-use Rattle.item_tree_db.specs.Inner.Settled.{brought}
-use Rattle.item_tree_db.specs.Inner.Source.{source_place, source_syntax}
+use Rattle.item_tree_db.proofs.Common.{CrateData, crate_view, Row, CratesFit, brought, source_place, source_syntax}
 use Rattle.item_tree_db.proofs.rows.lower_all.Given as goal
 
 abbrev pub invariant-loop-krate : goal.invariant-loop-krate

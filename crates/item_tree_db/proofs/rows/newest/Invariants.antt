@@ -1,5 +1,5 @@
 use Rattle.std.proofs.Common.{◌≡◌, max, drop}
-use Rattle.item_tree_db.specs.Inner.Recent.{newest}
+use Rattle.item_tree_db.proofs.Common.{newest}
 use Rattle.item_tree_db.proofs.rows.newest.Given as goal
 
 abbrev pub invariant-loop-row : goal.invariant-loop-row

@@ -1,5 +1,5 @@
 use Rattle.std.proofs.Common.{◌≡◌, ◌++◌, take, drop, length}
-use Rattle.item_tree_db.specs.Inner.Settled.{settled}
+use Rattle.item_tree_db.proofs.Common.{settled}
 use Rattle.item_tree_db.proofs.rows.settle.Given as goal
 
 abbrev pub invariant-loop-i : goal.invariant-loop-i

@@ -1,6 +1,5 @@
 use Rattle.std.proofs.Common.{◌≡◌, ◌++◌, map, take, drop}
-use Rattle.item_tree_db.specs.Inner.Settled.{settled_row, empty_row}
-use Rattle.item_tree_db.specs.declared.rows.Row.{Row}
+use Rattle.item_tree_db.proofs.Common.{settled_row, empty_row, Row}
 use Rattle.item_tree_db.proofs.rows.settle_first.Given as goal
 
 abbrev pub invariant-loop-row : goal.invariant-loop-row

@@ -1,6 +1,5 @@
-use Rattle.std.proofs.Common.{Some, sym, ap, ◌∙◌}
-use Rattle.std.specs.Option.{option_map}
-use Rattle.item_tree.specs.CrateView.{CrateView}
+use Rattle.std.proofs.Common.{Some, sym, ap, ◌∙◌, option_map}
+use Rattle.item_tree_db.proofs.Common.{CrateView}
 use Rattle.item_tree_db.proofs.Crates.{crates_given, crate_at}
 use Rattle.item_tree_db.proofs.sources.swap_options.Goals as goal
 

@@ -1,5 +1,5 @@
 use Rattle.std.proofs.Common.{All, string_bytes, sym, subst}
-use Rattle.item_tree_request.specs.Outputs.{AreJoined, Knows}
+use Rattle.item_tree_request.proofs.Common.{AreJoined, Knows}
 use Rattle.item_tree_request.proofs.Outputs.{shows_known}
 use Rattle.item_tree_request.proofs.answer.serve.Goals as goal
 

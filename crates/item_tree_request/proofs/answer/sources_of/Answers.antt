@@ -1,9 +1,5 @@
 use Rattle.std.proofs.Common.{◌≤◌, length, map, rules, arith, subst, sym}
-use Rattle.std.specs.List.{AllByRecursion}
-use Rattle.std.proofs.lemmas.List.{length-map}
-use Rattle.item_tree_db.specs.Edits.{edit_view}
-use Rattle.item_tree_db.specs.Refusal.{last_number, NamesKnown, FirstFit}
-use Rattle.item_tree_request.specs.Inner.Made.{IsMade, IsUnmade, refusal_of}
+use Rattle.item_tree_request.proofs.Common.{AllByRecursion, length-map, edit_view, last_number, NamesKnown, FirstFit, IsMade, IsUnmade, refusal_of}
 use Rattle.item_tree_request.proofs.Made.{is_made, is_unmade, found_in_map}
 use Rattle.item_tree_request.proofs.Outputs.{edits_known}
 use Rattle.item_tree_request.proofs.answer.sources_of.Goals as goal

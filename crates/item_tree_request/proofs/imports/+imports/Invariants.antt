@@ -1,7 +1,6 @@
-use Rattle.std.proofs.Common.{◌≡◌, ◌+◌, ◌*◌, ◌++◌, take, string_bytes}
-use Rattle.std.specs.List.{sum_by, flat_map}
+use Rattle.std.proofs.Common.{◌≡◌, ◌+◌, ◌*◌, ◌++◌, take, string_bytes, sum_by, flat_map}
 use Rattle.item_tree.specs.Walk.{count_at}
-use Rattle.item_tree_request.specs.Inner.ImportsByIds.{import_lines_at}
+use Rattle.item_tree_request.proofs.Common.{import_lines_at}
 use Rattle.item_tree_request.proofs.imports.+imports.Given as goal
 
 abbrev pub decreases-push_all : goal.decreases-push_all

@@ -1,6 +1,6 @@
 use Rattle.std.proofs.Common.{◌≡◌, false, rules, string_bytes}
 use Rattle.item_tree.proofs.Calling.{may_call_always, calls_add, calls_leave}
-use Rattle.item_tree_request.specs.ImportLines.{import_line, use_lines}
+use Rattle.item_tree_request.proofs.Common.{import_line, use_lines}
 use Rattle.item_tree_request.proofs.imports.lines_of_use.Goals as goal
 
 pub expand-requires : goal.expand-requires

@@ -1,6 +1,5 @@
 use Rattle.std.proofs.Common.{sym, subst, string_bytes}
-use Rattle.std.proofs.lemmas.Result.{err_from_is_err_and}
-use Rattle.item_tree_request.specs.Runs.{IsOutputOf}
+use Rattle.item_tree_request.proofs.Common.{err_from_is_err_and, IsOutputOf}
 use Rattle.item_tree_request.proofs.runner.run_with.Goals as goal
 
 pub returns-in_err-write_whole-clause-run : goal.returns-in_err-write_whole-clause-run

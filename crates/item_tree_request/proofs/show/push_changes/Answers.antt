@@ -1,6 +1,5 @@
 use Rattle.std.proofs.Common.{refl, flat_map}
-use Rattle.std.proofs.lemmas.Result.{on_ok_weaker}
-use Rattle.item_tree_request.specs.Outputs.{table_change_line}
+use Rattle.item_tree_request.proofs.Common.{on_ok_weaker, table_change_line}
 use Rattle.item_tree_request.proofs.show.push_changes.Goals as goal
 
 pub returns : goal.returns

@@ -1,7 +1,6 @@
 -- what is written and the lines of what is left are the lines of all
-use Rattle.std.proofs.Common.{◌≡◌, ◌++◌, string_bytes}
-use Rattle.std.specs.List.{flat_map}
-use Rattle.item_tree_request.specs.Outputs.{table_change_line}
+use Rattle.std.proofs.Common.{◌≡◌, ◌++◌, string_bytes, flat_map}
+use Rattle.item_tree_request.proofs.Common.{table_change_line}
 use Rattle.item_tree_request.proofs.show.push_lines.Given as goal
 
 abbrev pub invariant-loop-place : goal.invariant-loop-place

@@ -1,6 +1,5 @@
 use Rattle.std.proofs.Common.{[], rules, string_bytes, subst}
-use Rattle.std.proofs.lemmas.List.{take_all}
-use Rattle.item_tree_request.specs.Outputs.{AreJoined}
+use Rattle.item_tree_request.proofs.Common.{take_all, AreJoined}
 use Rattle.item_tree_request.proofs.Outputs.{joined-more}
 use Rattle.item_tree_request.proofs.show_writer.output_of.Goals as goal
 

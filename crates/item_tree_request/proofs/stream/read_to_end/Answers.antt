@@ -1,7 +1,5 @@
-use Rattle.std.proofs.KnownBytes.{Consumes-trans}
-use Rattle.std.proofs.Common.{◌≡◌, ◌<◌, ℕ, List, ◌++◌, arith, rules, ap, ◌∙◌, subst, append-nil, length, take}
-use Rattle.std.specs.Prelude.{Option}
-use Rattle.std.specs.Io.KnownBytes.{Consumes}
+use Rattle.item_tree_request.proofs.Common.{Consumes-trans, Consumes}
+use Rattle.std.proofs.Common.{◌≡◌, ◌<◌, ℕ, List, ◌++◌, arith, rules, ap, ◌∙◌, subst, append-nil, length, take, Option}
 use Rattle.item_tree_request.proofs.stream.read_to_end.Goals as goal
 
 -- a read of no byte

@@ -1,6 +1,6 @@
 -- the bytes are what was read so far
 use Rattle.std.proofs.Common.{◌≡◌, ◌≤◌, ◌*◌, length}
-use Rattle.std.specs.Io.KnownBytes.{Consumes}
+use Rattle.item_tree_request.proofs.Common.{Consumes}
 use Rattle.item_tree_request.specs.declared.stream.TheConstants.{ROOM}
 use Rattle.item_tree_request.proofs.stream.read_to_end.Given as goal
 

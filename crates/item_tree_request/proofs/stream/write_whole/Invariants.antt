@@ -1,6 +1,6 @@
 -- the writer took what is gone from `rest`
 use Rattle.std.proofs.Common.{◌≡◌, ℕ, List, ◌++◌, length}
-use Rattle.std.specs.Io.KnownBytes.{Appends}
+use Rattle.item_tree_request.proofs.Common.{Appends}
 use Rattle.item_tree_request.proofs.stream.write_whole.Given as goal
 
 abbrev pub invariant-loop-rest : goal.invariant-loop-rest

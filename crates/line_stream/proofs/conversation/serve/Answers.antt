@@ -1,8 +1,5 @@
 use Rattle.std.proofs.Common.{inl, [], ◌∷◌, ◌++◌, sym, subst, append-nil}
-use Rattle.std.proofs.lemmas.List.Elements.{All-nil}
-use Rattle.std.proofs.lemmas.Result.{err_from_is_err_and}
-use Rattle.std.specs.Io.KnownBytes.{Consumes}
-use Rattle.line_stream.specs.Inner.{IsNext}
+use Rattle.line_stream.proofs.Common.{All-nil, err_from_is_err_and, Consumes, IsNext}
 use Rattle.line_stream.proofs.Lines.{lines_fed, whole_none, whole_more}
 use Rattle.line_stream.proofs.Served.{line_more, line_cut, line_last}
 use Rattle.line_stream.proofs.conversation.serve.Goals as goal

@@ -1,6 +1,5 @@
 use Rattle.std.proofs.Common.{[], ◌∷◌, ◌++◌, refl, sym, append-nil}
-use Rattle.std.proofs.lemmas.Result.{err_from_is_err_and}
-use Rattle.std.proofs.KnownBytes.{Appends-trans, Appends-kept}
+use Rattle.line_stream.proofs.Common.{err_from_is_err_and, Appends-trans, Appends-kept}
 use Rattle.line_stream.proofs.Begun.{begun_of_more, begun_after}
 use Rattle.line_stream.proofs.write.write_line.Goals as goal
 

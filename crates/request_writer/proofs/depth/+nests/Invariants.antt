@@ -1,7 +1,7 @@
 -- the answer is that of what is left
 use Rattle.std.proofs.Common.{◌≡◌, drop}
 use Rattle.serde_json.specs.View.{items_view, members_view}
-use Rattle.request_writer.specs.Inner.{items_nest_past, members_nest_past}
+use Rattle.request_writer.proofs.Common.{items_nest_past, members_nest_past}
 use Rattle.request_writer.proofs.depth.+nests.Given as goal
 
 abbrev pub invariant-items_nest_past-loop-item : goal.invariant-items_nest_past-loop-item

@@ -2,11 +2,7 @@
 use Rattle.std.proofs.Common.{List, rules, refl, ap, ◌∙◌, ◌+◌, sym, map, drop}
 use Rattle.serde_json.specs.View.{view}
 use Rattle.hir_input.specs.declared.cfg.CfgAtom.{CfgAtom}
-use Rattle.hir_input.specs.Cfg.{atom_view}
-use Rattle.hir_input_writer.specs.Cfgs.{atom_data}
-use Rattle.hir_input_writer.specs.Parts.{each_data}
-use Rattle.hir_input_writer.specs.Lists.{joined}
-use Rattle.hir_input_writer.proofs.Lists.{one_more, none_left}
+use Rattle.request_writer.proofs.Common.{atom_view, atom_data, each_data, joined, one_more, none_left}
 use Rattle.request_writer.proofs.parts.atom_values.Goals as goal
 
 pub loop-atom-preserved : goal.loop-atom-preserved

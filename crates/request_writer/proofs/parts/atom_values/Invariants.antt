@@ -1,10 +1,7 @@
 -- what is to be written is what was made, and behind it what is left
 use Rattle.std.proofs.Common.{◌≡◌, map, drop}
 use Rattle.serde_json.specs.View.{view}
-use Rattle.hir_input.specs.Cfg.{atom_view}
-use Rattle.hir_input_writer.specs.Cfgs.{atom_data}
-use Rattle.hir_input_writer.specs.Parts.{each_data}
-use Rattle.hir_input_writer.specs.Lists.{joined}
+use Rattle.request_writer.proofs.Common.{atom_view, atom_data, each_data, joined}
 use Rattle.request_writer.proofs.parts.atom_values.Given as goal
 
 abbrev pub invariant-loop-atom : goal.invariant-loop-atom

@@ -1,9 +1,7 @@
 -- one more, and the last
 use Rattle.std.proofs.Common.{rules, ap, ◌∙◌, ◌+◌, sym, map, drop}
 use Rattle.serde_json.specs.View.{view}
-use Rattle.hir_input.specs.Syntax.{syntax_view}
-use Rattle.hir_input_writer.specs.Lists.{joined}
-use Rattle.request_writer.specs.Written.{edits_data}
+use Rattle.request_writer.proofs.Common.{syntax_view, joined, edits_data}
 use Rattle.request_writer.proofs.EditLists.{edit_more, edits_done}
 use Rattle.request_writer.proofs.parts.edit_values.Goals as goal
 

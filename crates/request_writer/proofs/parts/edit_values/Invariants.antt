@@ -1,9 +1,7 @@
 -- what is to be written is what was made, and behind it what is left
 use Rattle.std.proofs.Common.{◌≡◌, map, drop}
 use Rattle.serde_json.specs.View.{view}
-use Rattle.hir_input.specs.Syntax.{syntax_view}
-use Rattle.hir_input_writer.specs.Lists.{joined}
-use Rattle.request_writer.specs.Written.{edits_data}
+use Rattle.request_writer.proofs.Common.{syntax_view, joined, edits_data}
 use Rattle.request_writer.proofs.parts.edit_values.Given as goal
 
 abbrev pub invariant-loop-i : goal.invariant-loop-i

@@ -1,9 +1,7 @@
 -- one more, and the last
 use Rattle.std.proofs.Common.{ℕ, List, rules, refl, ap, ◌∙◌, ◌+◌, sym, map, drop}
 use Rattle.serde_json.specs.View.{view}
-use Rattle.hir_input_writer.specs.Parts.{each_data, name_data}
-use Rattle.hir_input_writer.specs.Lists.{joined}
-use Rattle.hir_input_writer.proofs.Lists.{one_more, none_left}
+use Rattle.request_writer.proofs.Common.{each_data, name_data, joined, one_more, none_left}
 use Rattle.request_writer.proofs.parts.name_values.Goals as goal
 
 pub loop-name-preserved : goal.loop-name-preserved

@@ -1,11 +1,7 @@
 -- one more, and the last
 use Rattle.std.proofs.Common.{List, rules, refl, ap, ◌∙◌, ◌+◌, sym, map, drop}
 use Rattle.serde_json.specs.View.{view}
-use Rattle.hir_input_writer.specs.Parts.{each_data}
-use Rattle.item_tree_request.specs.declared.request.show.Show.{Show}
-use Rattle.request_writer.specs.Written.{show_data}
-use Rattle.hir_input_writer.specs.Lists.{joined}
-use Rattle.hir_input_writer.proofs.Lists.{one_more, none_left}
+use Rattle.request_writer.proofs.Common.{each_data, Show, show_data, joined, one_more, none_left}
 use Rattle.request_writer.proofs.parts.show_values.Goals as goal
 
 pub loop-show-preserved : goal.loop-show-preserved

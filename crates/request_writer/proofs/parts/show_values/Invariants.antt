@@ -1,9 +1,7 @@
 -- what is to be written is what was made, and behind it what is left
 use Rattle.std.proofs.Common.{◌≡◌, map, drop}
 use Rattle.serde_json.specs.View.{view}
-use Rattle.hir_input_writer.specs.Parts.{each_data}
-use Rattle.request_writer.specs.Written.{show_data}
-use Rattle.hir_input_writer.specs.Lists.{joined}
+use Rattle.request_writer.proofs.Common.{each_data, show_data, joined}
 use Rattle.request_writer.proofs.parts.show_values.Given as goal
 
 abbrev pub invariant-loop-show : goal.invariant-loop-show

@@ -1,8 +1,7 @@
 -- what is written is read again
 use Rattle.std.proofs.Common.{map}
 use Rattle.serde_json.specs.View.{view}
-use Rattle.hir_input.specs.Cfg.{atom_view}
-use Rattle.hir_input.specs.Syntax.{syntax_view}
+use Rattle.request_writer.proofs.Common.{atom_view, syntax_view}
 use Rattle.hir_input.specs.Edition.{edition_view}
 use Rattle.request_writer.proofs.Requests.{request_again}
 use Rattle.request_writer.proofs.request.request_value.Goals as goal

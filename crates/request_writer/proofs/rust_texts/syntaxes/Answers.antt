@@ -1,7 +1,5 @@
 use Rattle.std.proofs.Common.{◌∙◌, ◌∷◌, [], ap, map, refl, rules, string_bytes, subst, sym}
-use Rattle.std.proofs.lemmas.List.{map-append}
-use Rattle.hir_input.specs.Syntax.{syntax_view}
-use Rattle.request_writer.specs.RustTexts.{AreRead}
+use Rattle.request_writer.proofs.Common.{map-append, syntax_view, AreRead}
 use Rattle.request_writer.proofs.More.{one_more_turn}
 use Rattle.request_writer.proofs.rust_texts.syntaxes.Goals as goal
 

@@ -1,6 +1,5 @@
 use Rattle.std.proofs.Common.{map, take, string_bytes}
-use Rattle.hir_input.specs.Syntax.{syntax_view}
-use Rattle.request_writer.specs.RustTexts.{AreRead}
+use Rattle.request_writer.proofs.Common.{syntax_view, AreRead}
 use Rattle.request_writer.proofs.rust_texts.syntaxes.Given as goal
 
 abbrev pub invariant-loop-text : goal.invariant-loop-text

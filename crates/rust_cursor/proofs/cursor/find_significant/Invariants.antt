@@ -1,7 +1,5 @@
-use Rattle.std.proofs.Common.{◌≡◌}
-use Rattle.std.specs.List.{filter}
-use Rattle.rust_lexer.specs.Tokens.{is_significant}
-use Rattle.rust_cursor.specs.Tokens.{last_unended}
+use Rattle.std.proofs.Common.{◌≡◌, filter}
+use Rattle.rust_cursor.proofs.Common.{is_significant, last_unended}
 use Rattle.rust_cursor.proofs.cursor.find_significant.Given as goal
 
 abbrev pub invariant-tokens : goal.invariant-tokens

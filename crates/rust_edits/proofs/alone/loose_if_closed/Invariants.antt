@@ -1,7 +1,5 @@
 use Rattle.std.proofs.Common.{◌≡◌, ◌≤◌, ◌+◌, length}
-use Rattle.rust_lexer.specs.Tokens.{tokens}
-use Rattle.rust_edits.specs.Typing.Loose.{loose_from}
-use Rattle.rust_edits.specs.Inner.{brackets_view, closes_last, loose_inside}
+use Rattle.rust_edits.proofs.Common.{tokens, loose_from, brackets_view, closes_last, loose_inside}
 use Rattle.rust_edits.proofs.alone.loose_if_closed.Given as goal
 
 abbrev pub invariant-tokens : goal.invariant-tokens

@@ -1,7 +1,6 @@
-use Rattle.std.proofs.Common.{rules, ◌≡◌, ◌<◌, ◌∙◌, suc, None, length, get_or, arith}
-use Rattle.std.specs.Prelude.{nat_le}
+use Rattle.std.proofs.Common.{rules, ◌≡◌, ◌<◌, ◌∙◌, suc, None, length, get_or, arith, nat_le}
 use Rattle.std.proofs.lemmas.List.Sorted.{IsPartitionPoint-from_clause}
-use Rattle.rust_items.specs.declared.source_file.ItemPlace.{ItemPlace}
+use Rattle.rust_edits.proofs.Common.{ItemPlace}
 use Rattle.rust_edits.proofs.Order.{begun_first, none_about, none_of, some_about}
 use Rattle.rust_edits.proofs.Steps.{body_held}
 use Rattle.rust_edits.proofs.edit.body_about.Goals as goal

@@ -1,11 +1,6 @@
-use Rattle.std.proofs.Common.{rules, length, subst, ◌<◌, ◌^◌, ◌≡◌, ◌++◌, true, Option, Some}
-use Rattle.std.specs.Prelude.{◌↔◌, IsSome}
-use Rattle.rust_items.specs.LineEnds.{with_feeds}
-use Rattle.rust_items.specs.Typed.{has_body_at}
-use Rattle.rust_edits.specs.declared.shift.Shift.{Shift}
+use Rattle.std.proofs.Common.{rules, length, subst, ◌<◌, ◌^◌, ◌≡◌, ◌++◌, true, Option, Some, ◌↔◌, IsSome}
+use Rattle.rust_edits.proofs.Common.{with_feeds, has_body_at, Shift, begins_bare, body_about, MayEdit, in_braces, is_alone, loose_inside, same_loose, AreCut, IsShift}
 use Rattle.rust_edits.specs.declared.edit.BodyEdit.{BodyEdit}
-use Rattle.rust_edits.specs.Edits.{begins_bare, body_about, MayEdit}
-use Rattle.rust_edits.specs.Inner.{in_braces, is_alone, loose_inside, same_loose, AreCut, IsShift}
 use Rattle.rust_edits.proofs.Moves.{edit_shifts, edit_reads, edit_keeps, loose_kept, kept_loose}
 use Rattle.rust_edits.proofs.Steps.{off}
 use Rattle.rust_edits.proofs.Told.{none_told, not_stood, not_stands, all_told, loose_told}

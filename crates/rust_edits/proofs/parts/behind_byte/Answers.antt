@@ -1,5 +1,4 @@
-use Rattle.std.specs.Prelude.{IsCharBoundary}
-use Rattle.rust_edits.specs.Inner.{LacksByte}
+use Rattle.rust_edits.proofs.Common.{IsCharBoundary, LacksByte}
 use Rattle.rust_edits.proofs.Told.{uncut_byte}
 use Rattle.rust_edits.proofs.Steps.{if_none, off}
 use Rattle.rust_edits.proofs.parts.behind_byte.Goals as goal

@@ -1,5 +1,5 @@
 use Rattle.std.proofs.Common.{◌≡◌, length}
-use Rattle.rust_ids.specs.Hash.{absorbed, hash_start}
+use Rattle.rust_ids.proofs.Common.{absorbed, hash_start}
 use Rattle.rust_ids.proofs.hash.absorbed.Given as goal
 
 abbrev pub invariant-loop-rest : goal.invariant-loop-rest

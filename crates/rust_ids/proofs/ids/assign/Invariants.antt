@@ -1,6 +1,5 @@
 use Rattle.std.proofs.Common.{MatchOption}
-use Rattle.rust_ids.specs.Ids.{AreIds}
-use Rattle.rust_ids.specs.Inner.Numbering.{IsNumbered, is_numbered_before}
+use Rattle.rust_ids.proofs.Common.{AreIds, IsNumbered, is_numbered_before}
 use Rattle.rust_ids.proofs.Steps.{left_behind}
 use Rattle.rust_ids.proofs.ids.assign.Given as goal
 

@@ -1,4 +1,4 @@
-use Rattle.rust_ids.specs.Inner.Numbering.{IsNextBefore}
+use Rattle.rust_ids.proofs.Common.{IsNextBefore}
 use Rattle.rust_ids.proofs.numbering.next_depth.Given as goal
 
 abbrev pub invariant-loop-node : goal.invariant-loop-node

@@ -1,6 +1,5 @@
 use Rattle.std.proofs.Common.{◌≡◌, suc, eqb}
-use Rattle.rust_ids.specs.Ids.{last_below, depth_at}
-use Rattle.rust_ids.specs.Inner.Numbering.{IsNumbered, is_numbered_before}
+use Rattle.rust_ids.proofs.Common.{last_below, depth_at, IsNumbered, is_numbered_before}
 use Rattle.rust_ids.proofs.numbering.number_level.Given as goal
 
 abbrev pub invariant-loop-at : goal.invariant-loop-at

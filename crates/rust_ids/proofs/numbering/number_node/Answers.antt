@@ -1,5 +1,5 @@
 use Rattle.std.proofs.Common.{◌≤◌, length, arith, sym, ◌∙◌, ap}
-use Rattle.rust_ids.specs.Ids.{module_at}
+use Rattle.rust_ids.proofs.Common.{module_at}
 use Rattle.rust_ids.proofs.Steps.{numbered_past, numbered_here, counted_le}
 use Rattle.rust_ids.proofs.numbering.number_node.Goals as goal
 

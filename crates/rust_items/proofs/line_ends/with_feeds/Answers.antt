@@ -1,7 +1,5 @@
 use Rattle.std.proofs.Common.{◌≡◌, rules, sym, subst, ap, ◌∙◌, arith, length, List, ℕ, Some, lit<, string_bytes}
-use Rattle.std.specs.List.Sorted.{IsNonDecreasing}
-use Rattle.std.proofs.lemmas.Str.Pattern.{split_parts}
-use Rattle.rust_items.specs.LineEnds.{with_feeds, returns_from}
+use Rattle.rust_items.proofs.Common.{IsNonDecreasing, split_parts, with_feeds, returns_from}
 use Rattle.rust_items.proofs.LineEnds.{feeds_turn, returns_turn, no_return, ended, returns_rise, returns_count}
 use Rattle.rust_items.proofs.line_ends.with_feeds.Goals as goal
 

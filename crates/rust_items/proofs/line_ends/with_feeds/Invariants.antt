@@ -1,7 +1,7 @@
 use denote.Shadow.{shadow}
 use denote.Text.{Utf8}
 use Rattle.std.proofs.Common.{◌≡◌, ◌++◌, length, string_bytes}
-use Rattle.rust_items.specs.LineEnds.{with_feeds, returns_from}
+use Rattle.rust_items.proofs.Common.{with_feeds, returns_from}
 use Rattle.rust_items.proofs.line_ends.with_feeds.Given as goal
 
 abbrev pub invariant-returns : goal.invariant-returns

@@ -1,5 +1,5 @@
 use Rattle.std.proofs.Common.{rules, ◌≡◌, length}
-use Rattle.rust_items.specs.LineEnds.{with_feeds, returns_from}
+use Rattle.rust_items.proofs.Common.{with_feeds, returns_from}
 use Rattle.rust_items.proofs.BareFiles.{same_reading}
 use Rattle.rust_items.proofs.source_file.read_text.Goals as goal
 

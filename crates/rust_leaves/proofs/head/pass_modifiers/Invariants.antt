@@ -1,5 +1,5 @@
 use Rattle.std.proofs.Common.{◌≡◌, ◌-◌}
-use Rattle.rust_leaves.specs.Heads.{behind_modifiers_from, behind_modifiers}
+use Rattle.rust_leaves.proofs.Common.{behind_modifiers_from, behind_modifiers}
 use Rattle.rust_leaves.proofs.head.pass_modifiers.Given as goal
 
 abbrev pub invariant-loop-turn : goal.invariant-loop-turn

@@ -1,5 +1,5 @@
 use Rattle.std.proofs.Common.{◌≡◌, ◌-◌}
-use Rattle.rust_leaves.specs.Heads.{behind_others_from, behind_more_others}
+use Rattle.rust_leaves.proofs.Common.{behind_others_from, behind_more_others}
 use Rattle.rust_leaves.proofs.head.pass_more_others.Given as goal
 
 abbrev pub invariant-loop-turn : goal.invariant-loop-turn

@@ -1,5 +1,5 @@
 use Rattle.std.proofs.Common.{◌≡◌, ◌-◌}
-use Rattle.rust_leaves.specs.Heads.{behind_segments_from, behind_segments}
+use Rattle.rust_leaves.proofs.Common.{behind_segments_from, behind_segments}
 use Rattle.rust_leaves.proofs.head.pass_segments.Given as goal
 
 abbrev pub invariant-loop-turn : goal.invariant-loop-turn

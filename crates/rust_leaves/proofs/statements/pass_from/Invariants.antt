@@ -1,5 +1,5 @@
 use Rattle.std.proofs.Common.{◌≡◌, ◌-◌}
-use Rattle.rust_leaves.specs.Statements.{statement_from, statement_up_to}
+use Rattle.rust_leaves.proofs.Common.{statement_from, statement_up_to}
 use Rattle.rust_leaves.proofs.statements.pass_from.Given as goal
 
 abbrev pub invariant-loop-turn : goal.invariant-loop-turn

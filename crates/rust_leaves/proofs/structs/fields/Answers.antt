@@ -2,8 +2,7 @@ use Rattle.std.proofs.Common.{map, sym, ap, ◌∙◌, is_ok}
 use Rattle.std.proofs.ResultArms.{chosen}
 use Rattle.std.proofs.lemmas.List.{map-append}
 use Rattle.rust_cursor.proofs.Turns.{turns_one}
-use Rattle.rust_leaves.specs.Leaves.{header_field, are_over, fields}
-use Rattle.rust_leaves.specs.Views.{field_view}
+use Rattle.rust_leaves.proofs.Common.{header_field, are_over, fields, field_view}
 use Rattle.rust_leaves.proofs.structs.fields.Goals as goal
 
 pub loop-turn-preserved : goal.loop-turn-preserved

@@ -1,7 +1,6 @@
 use Rattle.std.proofs.Common.{◌≡◌, map, ◌-◌}
 use Rattle.rust_cursor.specs.Elements.{turns_from, one}
-use Rattle.rust_leaves.specs.Leaves.{header_field, are_over, fields}
-use Rattle.rust_leaves.specs.Views.{field_view}
+use Rattle.rust_leaves.proofs.Common.{header_field, are_over, fields, field_view}
 use Rattle.rust_leaves.proofs.structs.fields.Given as goal
 
 abbrev pub invariant-loop-turn : goal.invariant-loop-turn

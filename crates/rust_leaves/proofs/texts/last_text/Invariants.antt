@@ -1,7 +1,7 @@
 use Rattle.std.proofs.Common.{◌≡◌, ◌-◌}
 use denote.Shadow.{shadow}
 use denote.Text.{Utf8}
-use Rattle.rust_leaves.specs.Texts.{last_text_from, last_text}
+use Rattle.rust_leaves.proofs.Common.{last_text_from, last_text}
 use Rattle.rust_leaves.proofs.texts.last_text.Given as goal
 
 abbrev pub invariant-loop-turn : goal.invariant-loop-turn

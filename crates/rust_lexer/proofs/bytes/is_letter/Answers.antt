@@ -1,6 +1,5 @@
 use Rattle.std.proofs.Common.{refl, arith}
-use Rattle.rust_lexer.specs.declared.bytes.TheConstants.{CLASSES}
-use Rattle.rust_lexer.specs.Inner.{is_letter}
+use Rattle.rust_lexer.proofs.Common.{CLASSES, is_letter}
 use Rattle.rust_lexer.proofs.Table.{agree_below, from_table}
 use Rattle.rust_lexer.proofs.bytes.is_letter.Goals as goal
 

@@ -1,6 +1,5 @@
 use Rattle.std.proofs.Common.{refl, arith}
-use Rattle.rust_lexer.specs.declared.bytes.TheConstants.{PLAIN}
-use Rattle.rust_lexer.specs.Inner.{is_plain_byte}
+use Rattle.rust_lexer.proofs.Common.{PLAIN, is_plain_byte}
 use Rattle.rust_lexer.proofs.Table.{agree_below, from_table}
 use Rattle.rust_lexer.proofs.bytes.is_plain.Goals as goal
 

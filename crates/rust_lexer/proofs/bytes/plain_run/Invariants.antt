@@ -1,5 +1,5 @@
 use Rattle.std.proofs.Common.{◌≡◌, ◌+◌, length}
-use Rattle.rust_lexer.specs.Inner.{plain_run}
+use Rattle.rust_lexer.proofs.Common.{plain_run}
 use Rattle.rust_lexer.proofs.bytes.plain_run.Given as goal
 
 abbrev pub invariant-loop-z : goal.invariant-loop-z

@@ -1,5 +1,5 @@
 use Rattle.std.proofs.Common.{◌≡◌, ◌+◌, length}
-use Rattle.rust_lexer.specs.Bytes.{run}
+use Rattle.rust_lexer.proofs.Common.{run}
 use Rattle.rust_lexer.proofs.bytes.run.Given as goal
 
 abbrev pub invariant-loop-z : goal.invariant-loop-z

@@ -1,5 +1,5 @@
 use Rattle.std.proofs.Common.{◌≡◌, ◌≤◌, ◌+◌, length, false}
-use Rattle.rust_lexer.specs.Comment.{block}
+use Rattle.rust_lexer.proofs.Common.{block}
 use Rattle.rust_lexer.proofs.comment.block.Given as goal
 
 abbrev pub invariant-bytes : goal.invariant-bytes

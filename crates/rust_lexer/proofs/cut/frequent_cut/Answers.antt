@@ -1,6 +1,6 @@
 use Rattle.std.proofs.Common.{sym, ap, ◌∙◌}
 use Rattle.rust_lexer.specs.declared.kind.TokenKind.TheVariants as kind
-use Rattle.rust_lexer.specs.Cut.{cut}
+use Rattle.rust_lexer.proofs.Common.{cut}
 use Rattle.rust_lexer.proofs.Frequent.{mark_first, blank_first, letter_first}
 use Rattle.rust_lexer.proofs.Wholes.{mark_whole, white_whole, word_whole}
 use Rattle.rust_lexer.proofs.cut.frequent_cut.Goals as goal

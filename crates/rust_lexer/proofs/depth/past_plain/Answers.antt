@@ -1,5 +1,5 @@
 use Rattle.std.proofs.Common.{◌∙◌, sym}
-use Rattle.std.proofs.lemmas.List.{take_rest}
+use Rattle.rust_lexer.proofs.Common.{take_rest}
 use Rattle.rust_lexer.proofs.Plain.{plain_behind}
 use Rattle.rust_lexer.proofs.depth.past_plain.Goals as goal
 

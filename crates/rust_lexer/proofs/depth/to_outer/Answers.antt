@@ -1,6 +1,5 @@
 use Rattle.std.proofs.Common.{◌+◌, ◌∙◌, ap, drop, sym, refl, arith}
-use Rattle.rust_lexer.specs.Depths.{to_outer}
-use Rattle.rust_lexer.specs.Tokens.{tokens_from}
+use Rattle.rust_lexer.proofs.Common.{to_outer, tokens_from}
 use Rattle.rust_lexer.proofs.Depths.{outer_here, outer_turn, outer_whole}
 use Rattle.rust_lexer.proofs.depth.to_outer.Goals as goal
 

@@ -1,6 +1,5 @@
 use Rattle.std.proofs.Common.{◌≡◌, ◌≤◌, ◌+◌, ◌-◌, length, drop}
-use Rattle.rust_lexer.specs.Depths.{to_outer}
-use Rattle.rust_lexer.specs.Tokens.{tokens_from}
+use Rattle.rust_lexer.proofs.Common.{to_outer, tokens_from}
 use Rattle.rust_lexer.proofs.depth.to_outer.Given as goal
 
 abbrev pub invariant-tokens : goal.invariant-tokens

@@ -1,5 +1,5 @@
 use Rattle.std.proofs.Common.{◌≡◌, ◌≤◌, ◌+◌, length}
-use Rattle.rust_lexer.specs.Frontmatter.{closing_dashes}
+use Rattle.rust_lexer.proofs.Common.{closing_dashes}
 use Rattle.rust_lexer.proofs.frontmatter.closing.Given as goal
 
 abbrev pub invariant-loop-z : goal.invariant-loop-z

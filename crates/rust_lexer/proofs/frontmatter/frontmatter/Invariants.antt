@@ -1,5 +1,5 @@
 use Rattle.std.proofs.Common.{◌≡◌, ◌+◌, length}
-use Rattle.rust_lexer.specs.Frontmatter.{frontmatter}
+use Rattle.rust_lexer.proofs.Common.{frontmatter}
 use Rattle.rust_lexer.proofs.frontmatter.frontmatter.Given as goal
 
 abbrev pub invariant-loop-z : goal.invariant-loop-z

@@ -1,6 +1,6 @@
 use Rattle.std.proofs.Common.{◌≡◌, ◌-◌, ◌∙◌, sym, ap, drop, get_or, length, take}
 use Rattle.rust_lexer.specs.declared.kind.TokenKind.TheVariants as kind
-use Rattle.rust_lexer.specs.Cut.{cut, first_cut}
+use Rattle.rust_lexer.proofs.Common.{cut, first_cut}
 use Rattle.rust_lexer.proofs.Frequent.{blank_first}
 use Rattle.rust_lexer.proofs.Steps.{first_next}
 use Rattle.rust_lexer.proofs.Wholes.{white_whole, whole_behind}

@@ -1,5 +1,5 @@
 use Rattle.std.proofs.Common.{◌≡◌, ◌+◌, length, IsUtf8}
-use Rattle.rust_lexer.specs.Tokens.{is_bracket_next, tokens_from}
+use Rattle.rust_lexer.proofs.Common.{is_bracket_next, tokens_from}
 use Rattle.rust_lexer.proofs.lexer.is_bracket_next.Given as goal
 
 abbrev pub invariant-loop-token : goal.invariant-loop-token

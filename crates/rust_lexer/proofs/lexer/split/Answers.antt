@@ -1,8 +1,6 @@
 use Rattle.std.proofs.Common.{◌≡◌, ◌+◌, ℕ, Some, arith, ◌∙◌, sym, ap, drop}
-use Rattle.std.proofs.lemmas.List.{take_rest}
+use Rattle.rust_lexer.proofs.Common.{take_rest, run, Piece}
 use Rattle.rust_lexer.specs.declared.bytes.Class.TheVariants as class
-use Rattle.rust_lexer.specs.Bytes.{run}
-use Rattle.rust_lexer.specs.Piece.{Piece}
 use Rattle.rust_lexer.proofs.Boundaries.{run_leads_behind, split_is}
 use Rattle.rust_lexer.proofs.lexer.split.Goals as goal
 

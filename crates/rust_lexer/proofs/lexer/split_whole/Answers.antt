@@ -1,5 +1,5 @@
 use Rattle.std.proofs.Common.{◌+◌, Some, arith, ◌∙◌, sym, ap}
-use Rattle.rust_lexer.specs.Piece.{Piece}
+use Rattle.rust_lexer.proofs.Common.{Piece}
 use Rattle.rust_lexer.proofs.Boundaries.{split_is, whole_leads}
 use Rattle.rust_lexer.proofs.lexer.split_whole.Goals as goal
 

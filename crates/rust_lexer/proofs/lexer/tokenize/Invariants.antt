@@ -1,5 +1,5 @@
 use Rattle.std.proofs.Common.{◌≡◌, ◌++◌, length}
-use Rattle.rust_lexer.specs.Tokens.{tokens}
+use Rattle.rust_lexer.proofs.Common.{tokens}
 use Rattle.rust_lexer.proofs.lexer.tokenize.Given as goal
 
 abbrev pub invariant-loop-token : goal.invariant-loop-token

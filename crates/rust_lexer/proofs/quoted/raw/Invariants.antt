@@ -1,5 +1,5 @@
 use Rattle.std.proofs.Common.{◌≡◌, ◌+◌, length}
-use Rattle.rust_lexer.specs.Quoted.{raw}
+use Rattle.rust_lexer.proofs.Common.{raw}
 use Rattle.rust_lexer.proofs.quoted.raw.Given as goal
 
 abbrev pub invariant-loop-z : goal.invariant-loop-z

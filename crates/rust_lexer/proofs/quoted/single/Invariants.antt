@@ -1,5 +1,5 @@
 use Rattle.std.proofs.Common.{◌≡◌, ◌+◌, length, false}
-use Rattle.rust_lexer.specs.Quoted.{single}
+use Rattle.rust_lexer.proofs.Common.{single}
 use Rattle.rust_lexer.proofs.quoted.single.Given as goal
 
 abbrev pub invariant-loop-z : goal.invariant-loop-z

@@ -1,5 +1,5 @@
 use Rattle.std.proofs.Common.{◌≡◌, ◌+◌, length, false}
-use Rattle.rust_lexer.specs.Quoted.{string}
+use Rattle.rust_lexer.proofs.Common.{string}
 use Rattle.rust_lexer.proofs.quoted.string.Given as goal
 
 abbrev pub invariant-loop-z : goal.invariant-loop-z

@@ -1,9 +1,5 @@
 use Rattle.std.proofs.Common.{false, Option, option_map, subst, sym, ◌∙◌}
-use Rattle.rust_cursor.specs.Reader.{Gives}
-use Rattle.rust_cursor.specs.Tokens.{Tokens}
-use Rattle.rust_leaves.specs.Views.{front_view}
-use Rattle.rust_members.specs.Members.{MemberRead}
-use Rattle.rust_members.specs.Views.{member_view}
+use Rattle.rust_members.proofs.Common.{Gives, Tokens, front_view, MemberRead, member_view}
 use Rattle.rust_members.proofs.Bare.{associated_kept}
 use Rattle.rust_members.proofs.associated.associated.Goals as goal
 

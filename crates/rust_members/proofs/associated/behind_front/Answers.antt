@@ -1,7 +1,5 @@
 use Rattle.std.proofs.Common.{rules, ◌≡◌, Some, None, sym, ap, ◌∙◌}
-use Rattle.rust_leaves.specs.Clipped.{leaf_behind}
-use Rattle.rust_leaves.specs.Views.{front_view, leaf_view}
-use Rattle.rust_members.specs.Parts.{member_kept, leaf_member, told_of}
+use Rattle.rust_members.proofs.Common.{leaf_behind, front_view, leaf_view, member_kept, leaf_member, told_of}
 use Rattle.rust_members.proofs.associated.behind_front.Goals as goal
 
 pub returns-in-Some : goal.returns-in-Some

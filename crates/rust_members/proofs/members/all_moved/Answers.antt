@@ -1,8 +1,5 @@
 use Rattle.std.proofs.Common.{rules, ◌≡◌, ◌∷◌, ◌-◌, map, ap, subst, sym, ◌++◌, ◌∙◌, List}
-use Rattle.rust_members.specs.Members.{moved_member}
-use Rattle.rust_members.specs.Places.{ArePlaced}
-use Rattle.rust_members.specs.Views.{member_view}
-use Rattle.rust_members.specs.declared.member.Member.{Member}
+use Rattle.rust_members.proofs.Common.{moved_member, ArePlaced, member_view, Member}
 use Rattle.rust_members.proofs.Moving.{all_more, placed_rest}
 use Rattle.rust_members.proofs.members.all_moved.Goals as goal
 

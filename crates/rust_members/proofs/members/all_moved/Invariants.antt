@@ -1,7 +1,5 @@
 use Rattle.std.proofs.Common.{◌≡◌, ◌++◌, ◌-◌, map}
-use Rattle.rust_members.specs.Members.{moved_member}
-use Rattle.rust_members.specs.Places.{ArePlaced}
-use Rattle.rust_members.specs.Views.{member_view}
+use Rattle.rust_members.proofs.Common.{moved_member, ArePlaced, member_view}
 use Rattle.rust_members.proofs.members.all_moved.Given as goal
 
 abbrev pub invariant-loop-member : goal.invariant-loop-member

@@ -1,7 +1,6 @@
 use Rattle.std.proofs.Common.{map, sym, ◌∙◌, option_map}
 use Rattle.rust_cursor.proofs.Turns.{turns_perhaps}
-use Rattle.rust_members.specs.Lists.{member_turn, is_list_over, member_list}
-use Rattle.rust_members.specs.Views.{member_view}
+use Rattle.rust_members.proofs.Common.{member_turn, is_list_over, member_list, member_view}
 use Rattle.rust_members.proofs.members.list.Goals as goal
 
 pub loop-turn-preserved : goal.loop-turn-preserved

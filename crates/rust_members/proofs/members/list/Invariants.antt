@@ -1,7 +1,5 @@
 use Rattle.std.proofs.Common.{◌≡◌, map, ◌-◌}
-use Rattle.rust_cursor.specs.Elements.{turns_from, perhaps}
-use Rattle.rust_members.specs.Lists.{member_turn, is_list_over, member_list}
-use Rattle.rust_members.specs.Views.{member_view}
+use Rattle.rust_members.proofs.Common.{turns_from, perhaps, member_turn, is_list_over, member_list, member_view}
 use Rattle.rust_members.proofs.members.list.Given as goal
 
 abbrev pub invariant-loop-turn : goal.invariant-loop-turn

@@ -1,5 +1,5 @@
 use Rattle.std.proofs.Common.{rules, map}
-use Rattle.rust_members.specs.Views.{member_view}
+use Rattle.rust_members.proofs.Common.{member_view}
 use Rattle.rust_members.proofs.Placing.{part_fits, part_moved}
 use Rattle.rust_members.proofs.members.read_members.Goals as goal
 

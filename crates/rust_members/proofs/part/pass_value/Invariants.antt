@@ -1,5 +1,5 @@
 use Rattle.std.proofs.Common.{◌≡◌, ◌-◌}
-use Rattle.rust_members.specs.Parts.{behind_operands, behind_value}
+use Rattle.rust_members.proofs.Common.{behind_operands, behind_value}
 use Rattle.rust_members.proofs.part.pass_value.Given as goal
 
 abbrev pub invariant-loop-turn : goal.invariant-loop-turn

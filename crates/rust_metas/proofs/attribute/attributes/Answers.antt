@@ -1,10 +1,5 @@
-use Rattle.std.proofs.Common.{map, sym, ap, ◌∙◌}
-use Rattle.std.specs.Prelude.{option_map, option_to_list}
-use Rattle.hir_input.specs.Attr.{meta_view}
-use Rattle.rust_cursor.specs.Elements.{one}
-use Rattle.rust_cursor.proofs.Turns.{turns_more}
-use Rattle.rust_metas.specs.Attributes.{is_behind, attribute, attributes}
-use Rattle.rust_metas.specs.Docs.{kept_by}
+use Rattle.std.proofs.Common.{map, sym, ap, ◌∙◌, option_map, option_to_list}
+use Rattle.rust_metas.proofs.Common.{meta_view, one, turns_more, is_behind, attribute, attributes, kept_by}
 use Rattle.rust_metas.proofs.Kept.{attributes_kept}
 use Rattle.rust_metas.proofs.attribute.attributes.Goals as goal
 

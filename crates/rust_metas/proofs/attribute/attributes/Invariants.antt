@@ -1,8 +1,5 @@
 use Rattle.std.proofs.Common.{◌≡◌, map, ◌-◌}
-use Rattle.hir_input.specs.Attr.{meta_view}
-use Rattle.rust_cursor.specs.Elements.{one, turns_from}
-use Rattle.rust_metas.specs.Attributes.{is_behind, attribute, attributes}
-use Rattle.rust_metas.specs.Docs.{kept_by}
+use Rattle.rust_metas.proofs.Common.{meta_view, one, turns_from, is_behind, attribute, attributes, kept_by}
 use Rattle.rust_metas.proofs.attribute.attributes.Given as goal
 
 abbrev pub invariant-loop-turn : goal.invariant-loop-turn

@@ -1,5 +1,5 @@
 use Rattle.std.proofs.Common.{◌≡◌, ◌-◌}
-use Rattle.rust_metas.specs.Attributes.{behind_docs_from, behind_docs}
+use Rattle.rust_metas.proofs.Common.{behind_docs_from, behind_docs}
 use Rattle.rust_metas.proofs.attribute.pass_docs.Given as goal
 
 abbrev pub invariant-loop-turn : goal.invariant-loop-turn

@@ -1,11 +1,5 @@
 use Rattle.std.proofs.Common.{map, sym, ap, ◌∙◌, is_ok}
-use Rattle.std.proofs.ResultArms.{chosen}
-use Rattle.std.proofs.lemmas.List.{map-append}
-use Rattle.hir_input.specs.Cfg.{cfg_view}
-use Rattle.rust_cursor.specs.Words.{is_at_end}
-use Rattle.rust_cursor.specs.Elements.{elements, one}
-use Rattle.rust_cursor.proofs.Turns.{turns_one}
-use Rattle.rust_metas.specs.Conditions.{condition}
+use Rattle.rust_metas.proofs.Common.{chosen, map-append, cfg_view, is_at_end, elements, one, turns_one, condition}
 use Rattle.rust_metas.proofs.condition.+conditions.Goals as goal
 
 pub condition_list-loop-turn-preserved : goal.condition_list-loop-turn-preserved

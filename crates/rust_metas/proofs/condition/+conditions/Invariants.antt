@@ -1,8 +1,5 @@
 use Rattle.std.proofs.Common.{◌≡◌, map, ◌+◌, ◌-◌, ◌*◌}
-use Rattle.hir_input.specs.Cfg.{cfg_view}
-use Rattle.rust_cursor.specs.Words.{is_at_end}
-use Rattle.rust_cursor.specs.Elements.{elements, one, turns_from}
-use Rattle.rust_metas.specs.Conditions.{condition}
+use Rattle.rust_metas.proofs.Common.{cfg_view, is_at_end, elements, one, turns_from, condition}
 use Rattle.rust_metas.proofs.condition.+conditions.Given as goal
 
 abbrev pub decreases-conditions : goal.decreases-conditions

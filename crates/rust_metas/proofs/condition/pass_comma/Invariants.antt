@@ -1,5 +1,5 @@
 use Rattle.std.proofs.Common.{◌≡◌, ◌-◌}
-use Rattle.rust_metas.specs.Conditions.{comma_from, behind_comma}
+use Rattle.rust_metas.proofs.Common.{comma_from, behind_comma}
 use Rattle.rust_metas.proofs.condition.pass_comma.Given as goal
 
 abbrev pub invariant-loop-turn : goal.invariant-loop-turn

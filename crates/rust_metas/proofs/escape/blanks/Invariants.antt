@@ -1,5 +1,5 @@
 use Rattle.std.proofs.Common.{◌≡◌, ◌+◌, length}
-use Rattle.rust_metas.specs.Escapes.{blanks}
+use Rattle.rust_metas.proofs.Common.{blanks}
 use Rattle.rust_metas.proofs.escape.blanks.Given as goal
 
 abbrev pub invariant-bytes : goal.invariant-bytes

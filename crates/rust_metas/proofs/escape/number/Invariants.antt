@@ -1,5 +1,5 @@
 use Rattle.std.proofs.Common.{◌≡◌, ◌≤◌, ◌<◌, ◌+◌, ◌^◌, length, option_map}
-use Rattle.rust_metas.specs.Escapes.{number_from}
+use Rattle.rust_metas.proofs.Common.{number_from}
 use Rattle.rust_metas.proofs.escape.number.Given as goal
 
 abbrev pub invariant-digits : goal.invariant-digits

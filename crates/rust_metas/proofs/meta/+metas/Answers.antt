@@ -1,11 +1,5 @@
 use Rattle.std.proofs.Common.{map, sym, ap, ◌∙◌, is_ok}
-use Rattle.std.proofs.ResultArms.{chosen}
-use Rattle.std.proofs.lemmas.List.{map-append}
-use Rattle.hir_input.specs.Attr.{meta_view}
-use Rattle.rust_cursor.specs.Words.{is_at_end}
-use Rattle.rust_cursor.specs.Elements.{elements, one}
-use Rattle.rust_cursor.proofs.Turns.{turns_one}
-use Rattle.rust_metas.specs.Metas.{member, meta, member_at}
+use Rattle.rust_metas.proofs.Common.{chosen, map-append, meta_view, is_at_end, elements, one, turns_one, member, meta, member_at}
 use Rattle.rust_metas.proofs.meta.+metas.Goals as goal
 
 pub metas-loop-turn-preserved : goal.metas-loop-turn-preserved

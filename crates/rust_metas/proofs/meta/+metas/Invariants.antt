@@ -1,8 +1,5 @@
 use Rattle.std.proofs.Common.{◌≡◌, map, ◌+◌, ◌-◌, ◌*◌}
-use Rattle.hir_input.specs.Attr.{meta_view}
-use Rattle.rust_cursor.specs.Words.{is_at_end}
-use Rattle.rust_cursor.specs.Elements.{elements, one, turns_from}
-use Rattle.rust_metas.specs.Metas.{member, meta}
+use Rattle.rust_metas.proofs.Common.{meta_view, is_at_end, elements, one, turns_from, member, meta}
 use Rattle.rust_metas.proofs.meta.+metas.Given as goal
 
 abbrev pub decreases-meta : goal.decreases-meta

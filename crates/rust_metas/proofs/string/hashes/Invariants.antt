@@ -1,5 +1,5 @@
 use Rattle.std.proofs.Common.{◌≡◌, ◌+◌, length}
-use Rattle.rust_metas.specs.Strings.{hashes}
+use Rattle.rust_metas.proofs.Common.{hashes}
 use Rattle.rust_metas.proofs.string.hashes.Given as goal
 
 abbrev pub invariant-bytes : goal.invariant-bytes

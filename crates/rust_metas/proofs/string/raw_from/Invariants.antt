@@ -1,5 +1,5 @@
 use Rattle.std.proofs.Common.{◌≡◌, length}
-use Rattle.rust_metas.specs.Strings.{prepend, raw_from}
+use Rattle.rust_metas.proofs.Common.{prepend, raw_from}
 use Rattle.rust_metas.proofs.string.raw_from.Given as goal
 
 abbrev pub invariant-bytes : goal.invariant-bytes

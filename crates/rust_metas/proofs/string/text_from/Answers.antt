@@ -1,5 +1,5 @@
 use Rattle.std.proofs.Common.{ap, string_bytes}
-use Rattle.std.proofs.lemmas.Str.{IsUtf8-string_bytes}
+use Rattle.rust_metas.proofs.Common.{IsUtf8-string_bytes}
 use Rattle.rust_metas.proofs.Texts.{is_text, no_text}
 use Rattle.rust_metas.proofs.string.text_from.Goals as goal
 

@@ -1,5 +1,5 @@
 use Rattle.std.proofs.Common.{◌≡◌, length}
-use Rattle.rust_metas.specs.Strings.{prepend, unescaped}
+use Rattle.rust_metas.proofs.Common.{prepend, unescaped}
 use Rattle.rust_metas.proofs.string.unescaped.Given as goal
 
 abbrev pub invariant-bytes : goal.invariant-bytes

@@ -1,6 +1,5 @@
-use Rattle.std.proofs.Common.{◌≡◌, ◌++◌, drop, codes}
-use Rattle.std.specs.List.{flat_map}
-use Rattle.rust_metas.specs.Strings.{written_byte}
+use Rattle.std.proofs.Common.{◌≡◌, ◌++◌, drop, codes, flat_map}
+use Rattle.rust_metas.proofs.Common.{written_byte}
 use Rattle.rust_metas.proofs.string.written.Given as goal
 
 abbrev pub invariant-loop-b : goal.invariant-loop-b

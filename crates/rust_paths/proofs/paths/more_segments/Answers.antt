@@ -1,6 +1,5 @@
 use Rattle.std.proofs.Common.{sym, ◌∙◌}
-use Rattle.rust_paths.specs.Inner.{with_words}
-use Rattle.rust_paths.specs.Paths.{more_segments}
+use Rattle.rust_paths.proofs.Common.{with_words, more_segments}
 use Rattle.rust_paths.proofs.Steps.{more_step}
 use Rattle.rust_paths.proofs.paths.more_segments.Goals as goal
 

@@ -1,6 +1,5 @@
 use Rattle.std.proofs.Common.{◌≡◌, ◌-◌}
-use Rattle.rust_paths.specs.Inner.{with_words}
-use Rattle.rust_paths.specs.Paths.{more_from, more_segments}
+use Rattle.rust_paths.proofs.Common.{with_words, more_from, more_segments}
 use Rattle.rust_paths.proofs.paths.more_segments.Given as goal
 
 abbrev pub invariant-loop-turn : goal.invariant-loop-turn

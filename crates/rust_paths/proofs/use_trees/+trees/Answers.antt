@@ -1,7 +1,5 @@
 use Rattle.std.proofs.Common.{map, sym, ap, ◌∙◌, ◌-◌, arith}
-use Rattle.hir_input.specs.UseTreeView.{use_tree_view}
-use Rattle.rust_cursor.specs.Elements.{beyond}
-use Rattle.rust_paths.specs.UseTrees.{element, trees}
+use Rattle.rust_paths.proofs.Common.{use_tree_view, beyond, element, trees}
 use Rattle.rust_paths.specs.Views.{found_view}
 use Rattle.rust_paths.proofs.Trees.{found_more, found_end, found_over}
 use Rattle.rust_paths.proofs.use_trees.+trees.Goals.{trees-else-loop-turn-test, trees-then-loop-turn-test+then-is_at_end}

@@ -1,8 +1,5 @@
 use Rattle.std.proofs.Common.{◌≡◌, map, ◌+◌, ◌-◌, ◌*◌, []}
-use Rattle.hir_input.specs.UseTreeView.{use_tree_view}
-use Rattle.rust_cursor.specs.Words.{is_at_end}
-use Rattle.rust_cursor.specs.Elements.{turns_from, one}
-use Rattle.rust_paths.specs.UseTrees.{element, trees}
+use Rattle.rust_paths.proofs.Common.{use_tree_view, is_at_end, turns_from, one, element, trees}
 use Rattle.rust_paths.proofs.Trees.{with_found}
 use Rattle.rust_paths.proofs.use_trees.+trees.Given as goal
 

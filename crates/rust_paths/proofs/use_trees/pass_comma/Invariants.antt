@@ -1,5 +1,5 @@
 use Rattle.std.proofs.Common.{◌≡◌, ◌-◌}
-use Rattle.rust_paths.specs.UseTrees.{tree_comma_from, tree_behind_comma}
+use Rattle.rust_paths.proofs.Common.{tree_comma_from, tree_behind_comma}
 use Rattle.rust_paths.proofs.use_trees.pass_comma.Given as goal
 
 abbrev pub invariant-loop-turn : goal.invariant-loop-turn

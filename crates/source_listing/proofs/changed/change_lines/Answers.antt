@@ -1,6 +1,4 @@
-use Rattle.source_listing.proofs.Common.{◌∙◌, ◌++◌, ◌∷◌, [], ap, map, rules, string_bytes, sym, take, change_view, side_view, source_view}
-use Rattle.std.proofs.lemmas.List.{map_more}
-use Rattle.source_listing.specs.Changed.{change_lines}
+use Rattle.source_listing.proofs.Common.{◌∙◌, ◌++◌, ◌∷◌, [], ap, map, rules, string_bytes, sym, take, change_view, side_view, source_view, map_more, change_lines}
 use Rattle.source_listing.proofs.Between.{one_more_line}
 use Rattle.source_listing.proofs.changed.change_lines.Goals as goal
 

@@ -1,5 +1,4 @@
-use Rattle.source_listing.proofs.Common.{rules, ap, map, ◌++◌, ◌∙◌, flat_map, take_all, view, declaration_id, declaration_view, IsContained, placed}
-use Rattle.source_listing.specs.ImportObjects.{import_object, seen_objects}
+use Rattle.source_listing.proofs.Common.{rules, ap, map, ◌++◌, ◌∙◌, flat_map, take_all, view, declaration_id, declaration_view, IsContained, placed, import_object, seen_objects}
 use Rattle.source_listing.proofs.Imported.{contained_at, finder_same, one_more_seen, seen_by_finder, seen_of_all}
 use Rattle.source_listing.proofs.import_objects.import_items.Goals as goal
 

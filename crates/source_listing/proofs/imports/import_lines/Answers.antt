@@ -1,5 +1,4 @@
-use Rattle.source_listing.proofs.Common.{rules, ap, map, string_bytes, ◌++◌, ◌∙◌, flat_map, take_all, declaration_id, declaration_view, IsContained, placed, source_view}
-use Rattle.source_listing.specs.Imports.{placed_import_line, seen_lines}
+use Rattle.source_listing.proofs.Common.{rules, ap, map, string_bytes, ◌++◌, ◌∙◌, flat_map, take_all, declaration_id, declaration_view, IsContained, placed, source_view, placed_import_line, seen_lines}
 use Rattle.source_listing.proofs.Imported.{contained_at, finder_same, lines_of_all, one_more_seen, seen_by_finder}
 use Rattle.source_listing.proofs.imports.import_lines.Goals as goal
 

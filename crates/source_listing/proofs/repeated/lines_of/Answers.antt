@@ -1,5 +1,4 @@
-use Rattle.source_listing.proofs.Common.{rules, ap, map, take, string_bytes, ◌++◌, ◌∙◌, listed_named_view}
-use Rattle.source_listing.specs.Repeated.{line_if_any}
+use Rattle.source_listing.proofs.Common.{rules, ap, map, take, string_bytes, ◌++◌, ◌∙◌, listed_named_view, line_if_any}
 use Rattle.source_listing.proofs.Firsts.{finds_next, first_is}
 use Rattle.source_listing.proofs.Repeats.{line_of_more}
 use Rattle.source_listing.proofs.repeated.lines_of.Goals as goal

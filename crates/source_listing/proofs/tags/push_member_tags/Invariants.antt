@@ -1,6 +1,4 @@
-use Rattle.source_listing.proofs.Common.{◌≡◌, ◌++◌, map, take, string_bytes, option_copied, row_view, listed_view, IsBeginOf, choice_view}
-use Rattle.source_listing.specs.Inner.{IsSameFinder}
-use Rattle.source_listing.specs.Tags.{member_tags}
+use Rattle.source_listing.proofs.Common.{◌≡◌, ◌++◌, map, take, string_bytes, option_copied, row_view, listed_view, IsBeginOf, choice_view, IsSameFinder, member_tags}
 use Rattle.source_listing.proofs.tags.push_member_tags.Given as goal
 
 abbrev pub invariant-loop-member : goal.invariant-loop-member

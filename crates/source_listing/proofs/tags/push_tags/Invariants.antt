@@ -1,6 +1,5 @@
-use Rattle.source_listing.proofs.Common.{◌≡◌, ◌++◌, map, take, string_bytes, row_view, reading_view, IsBeginOf, choice_view}
+use Rattle.source_listing.proofs.Common.{◌≡◌, ◌++◌, map, take, string_bytes, row_view, reading_view, IsBeginOf, choice_view, IsFinderOf}
 use Rattle.source_listing.specs.Tags as spec
-use Rattle.source_listing.specs.Inner.{IsFinderOf}
 use Rattle.source_listing.proofs.tags.push_tags.Given as goal
 
 abbrev pub invariant-loop-row : goal.invariant-loop-row

@@ -1,10 +1,6 @@
-use Rattle.std.proofs.Common.{◌≡◌, ap, map, refl, subst, ◌∙◌}
-use Rattle.std.specs.List.{flat_map}
-use Rattle.std.specs.Prelude.{IfOk}
+use Rattle.std.proofs.Common.{◌≡◌, ap, map, refl, subst, ◌∙◌, flat_map, IfOk}
 use Rattle.item_changes.proofs.Seen.{matched_as}
-use Rattle.source_rows.specs.Changes.{row_change_of, same_text}
-use Rattle.source_rows.specs.ChangeViews.{row_change_view, text_row_view}
-use Rattle.source_rows.specs.Inner.{labelled_view, row_match}
+use Rattle.source_rows.proofs.Common.{row_change_of, same_text, row_change_view, text_row_view, labelled_view, row_match}
 use Rattle.source_rows.proofs.compare.changes.Goals as goal
 
 pub returns : goal.returns

@@ -1,8 +1,5 @@
-use Rattle.std.proofs.Common.{◌≡◌, map, take}
-use Rattle.std.specs.List.{flat_map}
-use Rattle.source_rows.specs.Changes.{row_change_of}
-use Rattle.source_rows.specs.ChangeViews.{row_change_view}
-use Rattle.source_rows.specs.Inner.{row_match}
+use Rattle.std.proofs.Common.{◌≡◌, map, take, flat_map}
+use Rattle.source_rows.proofs.Common.{row_change_of, row_change_view, row_match}
 use Rattle.source_rows.proofs.compare.changes_of.Given as goal
 
 abbrev pub invariant-loop-one : goal.invariant-loop-one

@@ -1,6 +1,5 @@
 use Rattle.std.proofs.Common.{◌<◌, length, sym, subst, ◌∙◌, arith}
-use Rattle.rust_cursor.specs.Tokens.{Tokens}
-use Rattle.rust_cursor.proofs.Nesting.{shorter}
+use Rattle.source_rows.proofs.Common.{Tokens, shorter}
 use Rattle.source_rows.proofs.Steps.{end_some}
 use Rattle.source_rows.proofs.headers.spaced.Goals as goal
 

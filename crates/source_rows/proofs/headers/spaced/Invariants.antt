@@ -1,5 +1,5 @@
 use Rattle.std.proofs.Common.{◌≡◌, [], length, string_bytes}
-use Rattle.source_rows.specs.Headers.{spaced_tokens}
+use Rattle.source_rows.proofs.Common.{spaced_tokens}
 use Rattle.source_rows.proofs.headers.spaced.Given as goal
 
 abbrev pub invariant-tokens : goal.invariant-tokens

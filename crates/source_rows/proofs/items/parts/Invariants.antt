@@ -1,6 +1,5 @@
 use Rattle.std.proofs.Common.{◌≡◌, ◌++◌, map, drop}
-use Rattle.source_rows.specs.Parts.{item_parts, item_parts_from}
-use Rattle.source_rows.specs.Views.{outer_view, part_view}
+use Rattle.source_rows.proofs.Common.{item_parts, item_parts_from, outer_view, part_view}
 use Rattle.source_rows.proofs.items.parts.Given as goal
 
 abbrev pub invariant-loop-item : goal.invariant-loop-item

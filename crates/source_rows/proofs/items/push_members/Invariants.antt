@@ -1,7 +1,5 @@
 use Rattle.std.proofs.Common.{◌≡◌, ◌++◌, map, take}
-use Rattle.rust_members.specs.Views.{member_view}
-use Rattle.source_rows.specs.Parts.{member_part}
-use Rattle.source_rows.specs.Views.{part_view}
+use Rattle.source_rows.proofs.Common.{member_view, member_part, part_view}
 use Rattle.source_rows.proofs.items.push_members.Given as goal
 
 abbrev pub invariant-loop-member : goal.invariant-loop-member

@@ -1,6 +1,5 @@
 use Rattle.std.proofs.Common.{◌≡◌, ◌++◌, map, take, string_bytes}
-use Rattle.source_rows.specs.Labels.{modules_path}
-use Rattle.source_rows.specs.Views.{outer_view}
+use Rattle.source_rows.proofs.Common.{modules_path, outer_view}
 use Rattle.source_rows.proofs.items.push_path.Given as goal
 
 abbrev pub invariant-loop-module : goal.invariant-loop-module

@@ -1,6 +1,5 @@
 use Rattle.std.proofs.Common.{◌≡◌, map, take}
-use Rattle.source_rows.specs.Parts.{still_open}
-use Rattle.source_rows.specs.Views.{outer_view}
+use Rattle.source_rows.proofs.Common.{still_open, outer_view}
 use Rattle.source_rows.proofs.items.still_open.Given as goal
 
 abbrev pub invariant-loop-module : goal.invariant-loop-module

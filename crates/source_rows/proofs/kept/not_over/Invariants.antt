@@ -1,5 +1,5 @@
 use Rattle.std.proofs.Common.{◌≡◌, length}
-use Rattle.source_rows.specs.Skeletons.{not_over}
+use Rattle.source_rows.proofs.Common.{not_over}
 use Rattle.source_rows.proofs.kept.not_over.Given as goal
 
 abbrev pub invariant-loop-left : goal.invariant-loop-left

@@ -1,5 +1,5 @@
 use Rattle.std.proofs.Common.{◌≡◌, ◌++◌, map}
-use Rattle.source_rows.specs.Skeletons.{kept, skeleton}
+use Rattle.source_rows.proofs.Common.{kept, skeleton}
 use Rattle.source_rows.proofs.kept.skeleton.Given as goal
 
 abbrev pub invariant-tokens : goal.invariant-tokens

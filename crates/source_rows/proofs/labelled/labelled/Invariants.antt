@@ -1,6 +1,5 @@
 use Rattle.std.proofs.Common.{◌≡◌, map, take}
-use Rattle.source_rows.specs.ChangeViews.{text_row_view}
-use Rattle.source_rows.specs.Inner.{labelled_view, with_label}
+use Rattle.source_rows.proofs.Common.{text_row_view, labelled_view, with_label}
 use Rattle.source_rows.proofs.labelled.labelled.Given as goal
 
 abbrev pub invariant-loop-row : goal.invariant-loop-row

@@ -1,6 +1,5 @@
-use Rattle.std.proofs.Common.{◌++◌, ap, ◌∙◌}
-use Rattle.std.specs.Prelude.{option_to_list}
-use Rattle.rust_members.specs.Views.{member_view}
+use Rattle.std.proofs.Common.{◌++◌, ap, ◌∙◌, option_to_list}
+use Rattle.source_rows.proofs.Common.{member_view}
 use Rattle.source_rows.specs.Listed as spec
 use Rattle.source_rows.proofs.ListedSteps.{one_more}
 use Rattle.source_rows.proofs.listed.listed_members.Goals as goal

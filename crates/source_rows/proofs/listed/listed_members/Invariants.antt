@@ -1,6 +1,5 @@
-use Rattle.std.proofs.Common.{◌≡◌, map, take}
-use Rattle.std.specs.List.{filter_map}
-use Rattle.rust_members.specs.Views.{member_view}
+use Rattle.std.proofs.Common.{◌≡◌, map, take, filter_map}
+use Rattle.source_rows.proofs.Common.{member_view}
 use Rattle.source_rows.specs.Listed as spec
 use Rattle.source_rows.specs.ListedViews.{listed_view}
 use Rattle.source_rows.proofs.listed.listed_members.Given as goal

@@ -1,6 +1,5 @@
 use Rattle.std.proofs.Common.{◌≡◌, map, take}
-use Rattle.source_rows.specs.Rows.{bodies}
-use Rattle.source_rows.specs.Views.{part_view}
+use Rattle.source_rows.proofs.Common.{bodies, part_view}
 use Rattle.source_rows.proofs.tokens.bodies.Given as goal
 
 abbrev pub invariant-loop-part : goal.invariant-loop-part

@@ -1,5 +1,5 @@
 use Rattle.std.proofs.Common.{◌≡◌, map, take}
-use Rattle.source_rows.specs.Rows.{moved_back}
+use Rattle.source_rows.proofs.Common.{moved_back}
 use Rattle.source_rows.proofs.tokens.moved_back.Given as goal
 
 abbrev pub invariant-loop-hole : goal.invariant-loop-hole

@@ -1,6 +1,5 @@
 use Rattle.std.proofs.Common.{◌≡◌, ◌++◌, map, drop}
-use Rattle.source_rows.specs.Rows.{holes_begun}
-use Rattle.source_rows.specs.Views.{part_view}
+use Rattle.source_rows.proofs.Common.{holes_begun, part_view}
 use Rattle.source_rows.proofs.tokens.push_begun.Given as goal
 
 abbrev pub invariant-loop-part : goal.invariant-loop-part

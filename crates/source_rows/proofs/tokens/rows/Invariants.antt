@@ -1,7 +1,5 @@
 use Rattle.std.proofs.Common.{◌≡◌, ◌++◌, map, length}
-use Rattle.source_rows.specs.ChangeViews.{text_row_view}
-use Rattle.source_rows.specs.Rows.{part_rows}
-use Rattle.source_rows.specs.Views.{part_view}
+use Rattle.source_rows.proofs.Common.{text_row_view, part_rows, part_view}
 use Rattle.source_rows.proofs.tokens.rows.Given as goal
 
 abbrev pub invariant-loop-left : goal.invariant-loop-left

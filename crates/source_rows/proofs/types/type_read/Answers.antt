@@ -1,5 +1,5 @@
 use Rattle.std.proofs.Common.{sym, ◌∙◌}
-use Rattle.source_rows.specs.Types.{type_read}
+use Rattle.source_rows.proofs.Common.{type_read}
 use Rattle.source_rows.proofs.ImplHeaders.{type_turn}
 use Rattle.source_rows.proofs.types.type_read.Goals as goal
 

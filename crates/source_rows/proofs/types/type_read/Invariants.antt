@@ -1,5 +1,5 @@
 use Rattle.std.proofs.Common.{◌≡◌, ◌-◌}
-use Rattle.source_rows.specs.Types.{type_from, type_read}
+use Rattle.source_rows.proofs.Common.{type_from, type_read}
 use Rattle.source_rows.proofs.types.type_read.Given as goal
 
 abbrev pub invariant-loop-turn : goal.invariant-loop-turn

@@ -1,5 +1,5 @@
 use Rattle.std.proofs.Common.{◌≡◌, take-append-drop, sym, ◌∙◌}
-use Rattle.std.proofs.lemmas.Slice.Eq.{bytes_eq-Decides}
+use Rattle.source_session.proofs.Common.{bytes_eq-Decides}
 use Rattle.source_session.proofs.difference.before.Goals as goal
 
 pub returns-then-eq : goal.returns-then-eq

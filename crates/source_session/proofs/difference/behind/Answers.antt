@@ -1,5 +1,5 @@
 use Rattle.std.proofs.Common.{◌≡◌, length, take-append-drop, sym, ◌∙◌}
-use Rattle.std.proofs.lemmas.Slice.Eq.{bytes_eq-Decides}
+use Rattle.source_session.proofs.Common.{bytes_eq-Decides}
 use Rattle.source_session.proofs.difference.behind.Goals as goal
 
 pub returns-then-eq : goal.returns-then-eq

@@ -1,9 +1,8 @@
 -- a list of fewer or of more than two
 use Rattle.std.proofs.Common.{◌≡◌, ◌<◌, [], length, rules, sym, ap, ◌∙◌}
 use Rattle.serde_json.specs.View.{view, items_view}
-use Rattle.hir_input_json.specs.Forms.{array_items}
-use Rattle.hir_input_json.specs.Reading.{right, wrong, ◌>>=◌}
-use Rattle.source_session.specs.Edits.{range_in}
+use Rattle.source_session.proofs.Common.{array_items, right, wrong, range_in}
+use Rattle.hir_input_json.specs.Reading.{◌>>=◌}
 use Rattle.source_session.proofs.Ranges.{range_of_fewer, range_of_more}
 use Rattle.source_session.proofs.edit.range_of.Goals as goal
 use Rattle.source_session.proofs.edit.range_of.Goals.{in_default-as_slice-via-then-as_slice-lt2, in_default-as_slice-via-else-as_slice-lt2+else-this-lt3}

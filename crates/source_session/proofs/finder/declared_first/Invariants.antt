@@ -1,7 +1,6 @@
 -- what is left tells what all tell
 use Rattle.std.proofs.Common.{◌≡◌, length, map}
-use Rattle.source_session.specs.Finders.{declared_scope}
-use Rattle.source_session.specs.Sought.{found_scope}
+use Rattle.source_session.proofs.Common.{declared_scope, found_scope}
 use Rattle.source_session.proofs.finder.declared_first.Given as goal
 
 abbrev pub invariant-loop-left : goal.invariant-loop-left

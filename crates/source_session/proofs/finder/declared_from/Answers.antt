@@ -1,7 +1,6 @@
 -- what was found behind a place
 use Rattle.std.proofs.Common.{◌<◌, ◌-◌, drop, length, take, arith}
-use Rattle.std.proofs.lemmas.Bool.Decides.{nat_tests}
-use Rattle.std.proofs.lemmas.List.{length-drop, take_all}
+use Rattle.source_session.proofs.Common.{nat_tests, length-drop, take_all}
 use Rattle.source_session.proofs.Finders.{scope_later}
 use Rattle.source_session.proofs.finder.declared_from.Goals as goal
 

@@ -1,6 +1,6 @@
 -- what is left tells what all tell
 use Rattle.std.proofs.Common.{◌≡◌, length}
-use Rattle.source_listing.specs.Places.{place_of}
+use Rattle.source_session.proofs.Common.{place_of}
 use Rattle.source_session.proofs.finder.place_first.Given as goal
 
 abbrev pub invariant-loop-left : goal.invariant-loop-left

@@ -1,8 +1,7 @@
 -- what was found behind a place
 use Rattle.std.proofs.Common.{◌<◌, ◌≤◌, ◌-◌, drop, length, take, sym, subst, arith}
 use Rattle.std.proofs.Math.Nat.{min-le_right}
-use Rattle.std.proofs.lemmas.Bool.Decides.{nat_tests}
-use Rattle.std.proofs.lemmas.List.{length-drop, take_all}
+use Rattle.source_session.proofs.Common.{nat_tests, length-drop, take_all}
 use Rattle.source_session.proofs.Finders.{place_later}
 use Rattle.source_session.proofs.finder.place_from.Goals as goal
 

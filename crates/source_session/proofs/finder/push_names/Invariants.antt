@@ -1,7 +1,6 @@
 -- the segments of the names so far are added
-use Rattle.std.proofs.Common.{◌≡◌, ◌++◌, take, string_bytes}
-use Rattle.std.specs.List.{flat_map}
-use Rattle.source_listing.specs.Search.{bare_segment}
+use Rattle.std.proofs.Common.{◌≡◌, ◌++◌, take, string_bytes, flat_map}
+use Rattle.source_session.proofs.Common.{bare_segment}
 use Rattle.source_session.proofs.finder.push_names.Given as goal
 
 abbrev pub invariant-loop-name : goal.invariant-loop-name

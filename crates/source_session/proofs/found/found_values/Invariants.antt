@@ -1,9 +1,7 @@
 -- the values so far are those of the entries so far, and what finds items finds those of a tree of the table
-use Rattle.std.proofs.Common.{◌≡◌, IfSome, map, take}
-use Rattle.std.specs.List.{flat_map}
+use Rattle.std.proofs.Common.{◌≡◌, IfSome, map, take, flat_map}
 use Rattle.serde_json.specs.View.{view}
-use Rattle.source_session.specs.Finders.{IsFinder}
-use Rattle.source_session.specs.Inner.{found_one}
+use Rattle.source_session.proofs.Common.{IsFinder, found_one}
 use Rattle.source_session.proofs.found.found_values.Given as goal
 
 abbrev pub invariant-loop-entry : goal.invariant-loop-entry

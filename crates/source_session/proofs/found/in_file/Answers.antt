@@ -4,7 +4,7 @@ use Rattle.serde_json.specs.Data.{string}
 use Rattle.serde_json.specs.View.{view}
 use Rattle.hir_input.specs.Id.{shown_id}
 use Rattle.line_index.specs.Positions.{position_of}
-use Rattle.source_listing.specs.Places.{place_of, stands_at}
+use Rattle.source_session.proofs.Common.{place_of, stands_at}
 use Rattle.source_session.specs.Found as spec
 use Rattle.source_session.proofs.found.in_file.Goals as goal
 

@@ -1,7 +1,5 @@
 use Rattle.std.proofs.Common.{◌≡◌, ◌≤◌, Some, IfSome, option_copied, rules, sym, ap, subst, ◌∙◌}
-use Rattle.item_tree_db.specs.Refusal.{last_number}
-use Rattle.source_session.specs.Inside.{IsInside}
-use Rattle.source_session.specs.Texts.{text_in}
+use Rattle.source_session.proofs.Common.{last_number, IsInside, text_in}
 use Rattle.source_session.proofs.Alone.{change_alone}
 use Rattle.source_session.proofs.inside.change_inside.Goals as goal
 

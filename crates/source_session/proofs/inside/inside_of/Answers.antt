@@ -1,6 +1,5 @@
 use Rattle.std.proofs.Common.{◌≡◌, None, IfSome, rules, string_bytes, sym, ap, subst, ◌∙◌}
-use Rattle.rust_edits.specs.Edits.{PlacesAreKept, ReadsMoved}
-use Rattle.source_session.specs.Texts.{change_fault}
+use Rattle.source_session.proofs.Common.{PlacesAreKept, ReadsMoved, change_fault}
 use Rattle.source_session.proofs.inside.inside_of.Goals as goal
 
 pub returns : goal.returns

@@ -1,9 +1,6 @@
 use Rattle.std.proofs.Common.{◌≡◌, ◌≤◌, [], ◌∷◌, Some, Ok, IfSome, option_copied, rules, string_bytes, sym, ap, subst, ◌∙◌}
-use Rattle.std.proofs.lemmas.Slice.Eq.{bytes_eq-Decides}
-use Rattle.item_tree_db.specs.Refusal.{last_number}
+use Rattle.source_session.proofs.Common.{bytes_eq-Decides, last_number, MakesAlone, spliced, text_in}
 use Rattle.source_session.specs.Edits as line
-use Rattle.source_session.specs.Inside.{MakesAlone}
-use Rattle.source_session.specs.Texts.{spliced, text_in}
 use Rattle.source_session.proofs.Alone.{set_by_change, set_by_itself}
 use Rattle.source_session.proofs.inside.set_inside.Goals as goal
 

@@ -1,7 +1,7 @@
 -- the answer is that of what is left
 use Rattle.std.proofs.Common.{◌≡◌}
 use Rattle.serde_json.specs.View.{members_view}
-use Rattle.source_session.specs.Keys.{unknown_key}
+use Rattle.source_session.proofs.Common.{unknown_key}
 use Rattle.source_session.proofs.keys.unknown_key.Given as goal
 
 abbrev pub invariant-loop-key : goal.invariant-loop-key

@@ -1,7 +1,5 @@
 use Rattle.std.proofs.Common.{All, decimal, rules, sym, subst}
-use Rattle.std.proofs.lemmas.List.Elements.{All-push}
-use Rattle.hir_input_json.proofs.Lists.{read_next}
-use Rattle.source_session.specs.Edits.{line_edit_view, line_edit, IsUsable}
+use Rattle.source_session.proofs.Common.{All-push, read_next, line_edit_view, line_edit, IsUsable}
 use Rattle.source_session.proofs.line.edits_of.Goals as goal
 
 pub loop-item-preserved : goal.loop-item-preserved

@@ -1,9 +1,7 @@
 -- the reading is what was read, and then the reading of what is left
 use Rattle.std.proofs.Common.{◌≡◌, All, length, map}
 use Rattle.serde_json.specs.View.{items_view}
-use Rattle.hir_input_json.specs.Forms.{each, each_from}
-use Rattle.hir_input_json.proofs.Lists.{joined}
-use Rattle.source_session.specs.Edits.{line_edit_view, line_edit, IsUsable}
+use Rattle.source_session.proofs.Common.{each, each_from, joined, line_edit_view, line_edit, IsUsable}
 use Rattle.source_session.proofs.line.edits_of.Given as goal
 
 abbrev pub invariant-loop-item : goal.invariant-loop-item

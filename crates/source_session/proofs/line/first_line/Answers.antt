@@ -1,11 +1,5 @@
 use Rattle.std.proofs.Common.{◌≡◌, Err, length, rules, sym, ◌∙◌, subst}
-use Rattle.std.proofs.lemmas.List.{length-map}
-use Rattle.item_tree.specs.CrateView.{crate_view}
-use Rattle.hir_input_json.specs.Held.{held}
-use Rattle.hir_input_json.specs.Reading.{right}
-use Rattle.hir_input_json.specs.Reads.{Reads, Tells}
-use Rattle.source_session.specs.LineViews.{asked_view, first_view, settings_view}
-use Rattle.source_session.specs.Lines.{line_asked, first_line}
+use Rattle.source_session.proofs.Common.{length-map, crate_view, held, right, Reads, Tells, asked_view, first_view, settings_view, line_asked, first_line}
 use Rattle.source_session.proofs.Readings.{first_read, first_tells}
 use Rattle.source_session.proofs.line.first_line.Goals as goal
 

@@ -1,10 +1,6 @@
 -- where the keys that were taken out before are others
 use Rattle.std.proofs.Common.{◌≡◌, Err, rules, sym, subst, arith}
-use Rattle.hir_input_json.specs.Held.{held}
-use Rattle.hir_input_json.specs.Reads.{Reads}
-use Rattle.hir_input_json.proofs.Held.{field_without}
-use Rattle.source_session.specs.Lines.{settings}
-use Rattle.source_session.specs.LineViews.{settings_view}
+use Rattle.source_session.proofs.Common.{held, Reads, field_without, settings, settings_view}
 use Rattle.source_session.proofs.line.settings_in.Goals as goal
 
 pub returns-in_err-start-clause-reads : goal.returns-in_err-start-clause-reads

@@ -1,7 +1,5 @@
 -- the names so far are the words so far that are names
-use Rattle.std.proofs.Common.{◌≡◌, take}
-use Rattle.std.specs.Prelude.{option_to_list}
-use Rattle.std.specs.List.{flat_map}
+use Rattle.std.proofs.Common.{◌≡◌, take, option_to_list, flat_map}
 use Rattle.hir_input.specs.Name.{name_in}
 use Rattle.source_session.proofs.line.usual_skipped.Given as goal
 

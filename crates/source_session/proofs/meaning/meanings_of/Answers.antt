@@ -1,11 +1,6 @@
 use Rattle.std.proofs.Common.{◌≡◌, ◌++◌, ◌∷◌, [], All, Err, IfErr, length, map, rules, sym, ap, ◌∙◌, subst, arith}
-use Rattle.std.proofs.lemmas.List.{append_assoc, length-append, map-append}
-use Rattle.std.proofs.lemmas.List.Elements.{All-push}
+use Rattle.source_session.proofs.Common.{append_assoc, length-append, map-append, All-push, EditNamesCrate, line_edit_view, LeavesPlaced, IsFailing, TellsFault, AreMeant, FailsAt, Means, text_after, text_in}
 use Rattle.item_tree_db.specs.Edits as table
-use Rattle.item_tree_request.specs.Named.{EditNamesCrate}
-use Rattle.source_session.specs.Edits.{line_edit_view}
-use Rattle.source_session.specs.Inner.{LeavesPlaced, IsFailing, TellsFault}
-use Rattle.source_session.specs.Texts.{AreMeant, FailsAt, Means, text_after, text_in}
 use Rattle.source_session.proofs.Meant.{meant_push, tells_behind}
 use Rattle.source_session.proofs.meaning.meanings_of.Goals as goal
 

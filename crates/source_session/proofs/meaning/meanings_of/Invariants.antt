@@ -1,11 +1,8 @@
 -- what was made is what the edits so far mean
 use Rattle.std.proofs.Common.{◌≡◌, List, ◌++◌, All, length, map}
 use Rattle.item_tree_db.specs.Edits as table
-use Rattle.item_tree_request.specs.Named.{EditNamesCrate}
+use Rattle.source_session.proofs.Common.{EditNamesCrate, line_edit_view, LeavesPlaced, text_in, AreMeant}
 use Rattle.source_session.specs.declared.edit.LineEdit.{LineEdit}
-use Rattle.source_session.specs.Edits.{line_edit_view}
-use Rattle.source_session.specs.Inner.{LeavesPlaced}
-use Rattle.source_session.specs.Texts.{text_in, AreMeant}
 use Rattle.source_session.proofs.meaning.meanings_of.Given as goal
 
 abbrev pub invariant-loop-edit : goal.invariant-loop-edit

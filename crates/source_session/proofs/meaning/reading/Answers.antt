@@ -1,5 +1,5 @@
 use Rattle.std.proofs.Common.{refl, subst}
-use Rattle.rust_items.specs.SourceFiles.{IsBareFile, file_view}
+use Rattle.source_session.proofs.Common.{IsBareFile, file_view}
 use Rattle.source_session.proofs.meaning.reading.Goals as goal
 
 pub returns-clause-means : goal.returns-clause-means

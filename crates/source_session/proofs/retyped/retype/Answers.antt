@@ -1,8 +1,5 @@
-use Rattle.std.proofs.Common.{◌≡◌, Some, refl, sym, ap, subst, ◌∙◌}
-use Rattle.std.specs.Prelude.{IsSome}
-use Rattle.std.specs.Option.{option_and_then, option_copied_mut}
-use Rattle.source_session.specs.Inside.{IsRetypedIf}
-use Rattle.source_session.specs.Texts.{slot_in, text_in}
+use Rattle.std.proofs.Common.{◌≡◌, Some, refl, sym, ap, subst, ◌∙◌, IsSome}
+use Rattle.source_session.proofs.Common.{option_and_then, option_copied_mut, IsRetypedIf, slot_in, text_in}
 use Rattle.source_session.proofs.retyped.retype.Goals as goal
 
 pub returns-in-Some-clause-here : goal.returns-in-Some-clause-here

@@ -1,13 +1,6 @@
 use Rattle.std.proofs.Common.{◌≡◌, ◌≤◌, Err, IfOk, MatchResult, length, map, refl, rules, sym, ap, ◌∙◌, subst}
-use Rattle.hir_input_json.specs.Editions.{EditionView}
+use Rattle.source_session.proofs.Common.{EditionView, last_number, OutOfMemory, line_edit_view, session_of, made_count, IsEdited, IsUnedited, AreTouched, touched_keys}
 use Rattle.item_tree_db.specs.Edits.{edit_view as table_view}
-use Rattle.item_tree_db.specs.Refusal.{last_number}
-use Rattle.source_session.specs.declared.error.LineError.TheVariants.{OutOfMemory}
-use Rattle.source_session.specs.Edits.{line_edit_view}
-use Rattle.source_session.specs.Inner.{session_of}
-use Rattle.source_session.specs.Refusals.{made_count}
-use Rattle.source_session.specs.Sessions.{IsEdited, IsUnedited}
-use Rattle.source_session.specs.Touched.{AreTouched, touched_keys}
 use Rattle.source_session.proofs.Made.{files_made, files_together, outcome_by, stopped_none, unmeant}
 use Rattle.source_session.proofs.Named.{edits_known}
 use Rattle.source_session.proofs.session.edit_files.Goals as goal

@@ -1,11 +1,5 @@
 use Rattle.std.proofs.Common.{◌≡◌, Err, MatchResult, map, refl, rules, sym, ap, subst}
-use Rattle.source_session.specs.declared.error.LineError.TheVariants.{OutOfMemory}
-use Rattle.source_session.specs.Edits.{line_edit_view}
-use Rattle.source_session.specs.Inner.{AreTogether, Knowing, session_of}
-use Rattle.source_session.specs.Inside.{MakesAlone}
-use Rattle.source_session.specs.Sessions.{IsEdited, IsUnedited}
-use Rattle.source_session.specs.Texts.{text_in}
-use Rattle.source_session.specs.Touched.{touched_keys}
+use Rattle.source_session.proofs.Common.{OutOfMemory, line_edit_view, AreTogether, Knowing, session_of, MakesAlone, IsEdited, IsUnedited, text_in, touched_keys}
 use Rattle.source_session.proofs.Alone.{edited_alone, made_by, none_by, none_if, together_alone}
 use Rattle.source_session.proofs.Made.{stopped_none}
 use Rattle.source_session.proofs.session.edit_texts.Goals as goal

@@ -1,9 +1,8 @@
-use Rattle.std.proofs.Common.{◌≡◌, ◌++◌, rules, ap, ◌∙◌, string_bytes}
-use Rattle.std.specs.List.{flat_map}
+use Rattle.std.proofs.Common.{◌≡◌, ◌++◌, rules, ap, ◌∙◌, string_bytes, flat_map}
 use Rattle.serde_json.specs.Data.{string}
 use Rattle.serde_json.specs.View.{view}
 use Rattle.serde_json.specs.declared.value.Value.{String, the_lemmas}
-use Rattle.item_tree_request.specs.Outputs.{table_change_line}
+use Rattle.source_session.proofs.Common.{table_change_line}
 use Rattle.source_session.proofs.shown.changes_text.Goals as goal
 
 pub returns : goal.returns

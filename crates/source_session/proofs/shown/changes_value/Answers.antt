@@ -2,7 +2,7 @@ use Rattle.std.proofs.Common.{◌≡◌, map, rules, ap, ◌∙◌}
 use Rattle.serde_json.specs.Data.{array}
 use Rattle.serde_json.specs.View.{items_of, view}
 use Rattle.serde_json.specs.declared.value.Value.{Array, the_lemmas}
-use Rattle.source_session.specs.Shown.{change_form}
+use Rattle.source_session.proofs.Common.{change_form}
 use Rattle.source_session.proofs.shown.changes_value.Goals as goal
 
 pub returns : goal.returns

@@ -1,6 +1,6 @@
 -- the changes so far and those of what is left are those of all
 use Rattle.std.proofs.Common.{◌≡◌, ◌++◌, filter}
-use Rattle.source_session.specs.Files.{is_change_in}
+use Rattle.source_session.proofs.Common.{is_change_in}
 use Rattle.source_session.proofs.shown.kept_changes.Given as goal
 
 abbrev pub invariant-loop-place : goal.invariant-loop-place

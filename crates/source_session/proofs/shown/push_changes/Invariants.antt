@@ -1,7 +1,6 @@
 -- the lines of the changes so far are added
-use Rattle.std.proofs.Common.{◌≡◌, ◌++◌, take, string_bytes}
-use Rattle.std.specs.List.{flat_map}
-use Rattle.item_tree_request.specs.Outputs.{table_change_line}
+use Rattle.std.proofs.Common.{◌≡◌, ◌++◌, take, string_bytes, flat_map}
+use Rattle.source_session.proofs.Common.{table_change_line}
 use Rattle.source_session.proofs.shown.push_changes.Given as goal
 
 abbrev pub invariant-loop-place : goal.invariant-loop-place

@@ -1,6 +1,5 @@
 use Rattle.std.proofs.Common.{All, ◌∙◌, subst}
-use Rattle.std.proofs.lemmas.List.{take_all}
-use Rattle.source_session.specs.Inner.{HasSlotFor}
+use Rattle.source_session.proofs.Common.{take_all, HasSlotFor}
 use Rattle.source_session.proofs.Kept.{room_more}
 use Rattle.source_session.proofs.texts.make_room.Goals as goal
 

@@ -1,7 +1,6 @@
 -- the texts are as they were, and there is room for those of the changes so far
 use Rattle.std.proofs.Common.{◌≡◌, ℕ, All, take}
-use Rattle.source_session.specs.Inner.{HasSlotFor}
-use Rattle.source_session.specs.Texts.{text_in}
+use Rattle.source_session.proofs.Common.{HasSlotFor, text_in}
 use Rattle.source_session.proofs.texts.make_room.Given as goal
 
 abbrev pub invariant-loop-change : goal.invariant-loop-change

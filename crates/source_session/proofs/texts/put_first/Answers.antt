@@ -1,6 +1,5 @@
 use Rattle.std.proofs.Common.{◌≡◌, ◌∷◌, None, All, rules, sym, ap, subst, ◌∙◌, arith}
-use Rattle.source_session.specs.Inner.{HasSlotFor}
-use Rattle.source_session.specs.Texts.{text_in, text_after}
+use Rattle.source_session.proofs.Common.{HasSlotFor, text_in, text_after}
 use Rattle.source_session.proofs.Kept.{all_rest, slots_for_stay}
 use Rattle.source_session.proofs.texts.put_first.Goals as goal
 

@@ -1,7 +1,6 @@
 -- the changes that are left lead where all lead, and there is room for them
 use Rattle.std.proofs.Common.{◌≡◌, ℕ, All, take}
-use Rattle.source_session.specs.Inner.{HasSlotFor}
-use Rattle.source_session.specs.Texts.{text_in, text_after}
+use Rattle.source_session.proofs.Common.{HasSlotFor, text_in, text_after}
 use Rattle.source_session.proofs.texts.put_first.Given as goal
 
 abbrev pub invariant-loop-change : goal.invariant-loop-change

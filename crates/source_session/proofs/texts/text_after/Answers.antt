@@ -1,5 +1,5 @@
 use Rattle.std.proofs.Common.{◌≡◌, None, option_copied, rules, sym, ◌∙◌}
-use Rattle.source_session.specs.Texts.{left_text, text_in}
+use Rattle.source_session.proofs.Common.{left_text, text_in}
 use Rattle.source_session.proofs.Kept.{skips_last, takes_last}
 use Rattle.source_session.proofs.texts.text_after.Goals as goal
 

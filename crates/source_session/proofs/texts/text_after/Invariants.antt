@@ -1,6 +1,6 @@
 -- the changes that are left lead where all lead
 use Rattle.std.proofs.Common.{◌≡◌, length}
-use Rattle.source_session.specs.Texts.{text_in, text_after}
+use Rattle.source_session.proofs.Common.{text_in, text_after}
 use Rattle.source_session.proofs.texts.text_after.Given as goal
 
 abbrev pub invariant-loop-last : goal.invariant-loop-last

@@ -1,7 +1,5 @@
 use Rattle.std.proofs.Common.{◌≡◌, ◌+◌, [], ◌∷◌, ◌++◌, Some, map, take, sym, ap, subst, ◌∙◌, rules}
-use Rattle.std.proofs.lemmas.List.{map-append, take_more}
-use Rattle.item_tree_db.specs.Edits.{edit_view}
-use Rattle.source_session.specs.Touched.{AreTouched, touched_keys}
+use Rattle.source_session.proofs.Common.{map-append, take_more, edit_view, AreTouched, touched_keys}
 use Rattle.source_session.proofs.Touching.{touched_more}
 use Rattle.source_session.proofs.touched.touch_all.Goals as goal
 

@@ -1,7 +1,6 @@
 -- the places are the old ones and those that the edits so far touch
 use Rattle.std.proofs.Common.{map, take}
-use Rattle.item_tree_db.specs.Edits.{edit_view}
-use Rattle.source_session.specs.Touched.{AreTouched, touched_keys}
+use Rattle.source_session.proofs.Common.{edit_view, AreTouched, touched_keys}
 use Rattle.source_session.proofs.touched.touch_all.Given as goal
 
 abbrev pub invariant-loop-edit : goal.invariant-loop-edit

@@ -1,4 +1,4 @@
-use Rattle.item_tree_db.specs.Edits.{edit_view}
+use Rattle.source_session.proofs.Common.{edit_view}
 use Rattle.source_session.proofs.Touching.{touched_one}
 use Rattle.source_session.proofs.touched.with_touched.Goals as goal
 

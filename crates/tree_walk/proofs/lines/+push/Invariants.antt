@@ -1,5 +1,4 @@
-use Rattle.std.proofs.Common.{◌≡◌, ◌+◌, ◌*◌, ◌++◌, take, string_bytes}
-use Rattle.std.specs.List.{sum_by, flat_map}
+use Rattle.std.proofs.Common.{◌≡◌, ◌+◌, ◌*◌, ◌++◌, take, string_bytes, sum_by, flat_map}
 use Rattle.item_tree.specs.Walk.{count_at}
 use Rattle.tree_walk.specs.Inner.Outlines.{outline_lines_at}
 use Rattle.tree_walk.proofs.lines.+push.Given as goal

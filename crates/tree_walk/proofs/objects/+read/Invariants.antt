@@ -1,5 +1,4 @@
-use Rattle.std.proofs.Common.{◌≡◌, ◌+◌, ◌*◌, map, take}
-use Rattle.std.specs.List.{sum_by}
+use Rattle.std.proofs.Common.{◌≡◌, ◌+◌, ◌*◌, map, take, sum_by}
 use Rattle.serde_json.specs.View.{view}
 use Rattle.item_tree.specs.Walk.{count_at}
 use Rattle.tree_walk.specs.Inner.Outlines.{object_at}

@@ -1,5 +1,4 @@
-use Rattle.std.proofs.Common.{◌≡◌, ◌+◌, ◌*◌, ◌++◌, map, take}
-use Rattle.std.specs.List.{sum_by, flat_map}
+use Rattle.std.proofs.Common.{◌≡◌, ◌+◌, ◌*◌, ◌++◌, map, take, sum_by, flat_map}
 use Rattle.item_tree.specs.Walk.{count_at}
 use Rattle.tree_walk.specs.{Inner.Rows.around_view, Inner.Rows.rows_at, Views.row_view}
 use Rattle.tree_walk.proofs.rows.+push.Given as goal

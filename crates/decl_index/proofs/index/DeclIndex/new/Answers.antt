@@ -1,5 +1,4 @@
-use Rattle.decl_index.proofs.Common.{sym, subst, entry_cmp}
-use Rattle.std.specs.List.Sorted.{IsStrictlySortedBy}
+use Rattle.decl_index.proofs.Common.{sym, subst, entry_cmp, IsStrictlySortedBy}
 use Rattle.decl_index.proofs.index.DeclIndex.new.Goals as goal
 
 pub invariant_of-result : goal.invariant_of-result

@@ -1,5 +1,4 @@
-use Rattle.decl_index.proofs.Common.{rules, ◌≡◌, ℕ, [], List, Some, refl, ap, subst, sym, arith, Contains, unwrap_or, IndexView, IsBehindAt, IsListing}
-use Rattle.item_tree_db.specs.Since.{Change, HoldLate, IsLate}
+use Rattle.decl_index.proofs.Common.{rules, ◌≡◌, ℕ, [], List, Some, refl, ap, subst, sym, arith, Contains, unwrap_or, IndexView, IsBehindAt, IsListing, Change, HoldLate, IsLate}
 use Rattle.item_tree_db.proofs.Changes.{since_among}
 use Rattle.decl_index.proofs.Laws.{behind_at_index}
 use Rattle.decl_index.proofs.Refreshed.{unmoved}

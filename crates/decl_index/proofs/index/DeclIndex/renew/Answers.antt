@@ -1,5 +1,5 @@
 use Rattle.std.proofs.Common.{◌≡◌, ℕ, Some, refl, ap, subst, sym, unwrap_or}
-use Rattle.decl_index.specs.Entries.{AreAsOf, IndexView, IsBehind, IsBehindAt, IsListing}
+use Rattle.decl_index.proofs.Common.{AreAsOf, IndexView, IsBehind, IsBehindAt, IsListing}
 use Rattle.decl_index.proofs.Laws.{behind_at_index, behind_index}
 use Rattle.decl_index.proofs.Refreshed.{refreshed}
 use Rattle.decl_index.proofs.index.DeclIndex.renew.Goals as goal

@@ -1,5 +1,5 @@
 use Rattle.std.proofs.Common.{ap, map, ◌∙◌}
-use Rattle.hir_input.specs.Cfg.{atom_view, is_set}
+use Rattle.hir_input.proofs.Common.{atom_view, is_set}
 use Rattle.hir_input.proofs.CfgEq.{set_is}
 use Rattle.hir_input.proofs.cfg.CfgOptions.contains.Goals as goal
 

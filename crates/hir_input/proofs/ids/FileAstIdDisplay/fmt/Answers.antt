@@ -1,5 +1,5 @@
 use Rattle.std.proofs.Common.{arith}
-use Rattle.std.proofs.lemmas.Grind.{common_steps}
+use Rattle.hir_input.proofs.Common.{common_steps}
 use Rattle.hir_input.proofs.ids.FileAstIdDisplay.fmt.Goals as goal
 
 pub returns : goal.returns

@@ -1,7 +1,6 @@
 -- the loop as far as it has come
 use Rattle.std.proofs.Common.{decimal}
-use Rattle.hir_input.specs.Syntax.{extern_item_view}
-use Rattle.hir_input_json.specs.Items.{extern_item}
+use Rattle.hir_input_json.proofs.Common.{extern_item_view, extern_item}
 use Rattle.hir_input_json.proofs.Lists.{read_next}
 use Rattle.hir_input_json.proofs.item.extern_block.extern_items_of.Goals as goal
 

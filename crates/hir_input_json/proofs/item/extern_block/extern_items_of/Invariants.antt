@@ -1,6 +1,5 @@
 -- the reading is what was read, and then the reading of what is left
-use Rattle.hir_input.specs.Syntax.{extern_item_view}
-use Rattle.hir_input_json.specs.Items.{extern_item}
+use Rattle.hir_input_json.proofs.Common.{extern_item_view, extern_item}
 use Rattle.hir_input_json.proofs.Lists.{HasRead}
 use Rattle.hir_input_json.proofs.item.extern_block.extern_items_of.Given as goal
 

@@ -1,6 +1,6 @@
 -- the loop as far as it has come
 use Rattle.std.proofs.Common.{decimal}
-use Rattle.hir_input_json.specs.Items.{tuple_field}
+use Rattle.hir_input_json.proofs.Common.{tuple_field}
 use Rattle.hir_input_json.proofs.Lists.{read_next}
 use Rattle.hir_input_json.proofs.item.fields.tuple_fields_of.Goals as goal
 

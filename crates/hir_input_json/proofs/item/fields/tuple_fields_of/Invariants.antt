@@ -1,5 +1,5 @@
 -- the reading is what was read, and then the reading of what is left
-use Rattle.hir_input_json.specs.Items.{tuple_field}
+use Rattle.hir_input_json.proofs.Common.{tuple_field}
 use Rattle.hir_input_json.proofs.Lists.{HasRead}
 use Rattle.hir_input_json.proofs.item.fields.tuple_fields_of.Given as goal
 

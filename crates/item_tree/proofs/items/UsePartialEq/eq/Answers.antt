@@ -1,5 +1,5 @@
 use Rattle.std.proofs.Common.{rules}
-use Rattle.item_tree.specs.Code.Tree.{use_item_code}
+use Rattle.item_tree.proofs.Common.{use_item_code}
 use Rattle.item_tree.proofs.UseEq.{tells}
 use Rattle.item_tree.proofs.items.UsePartialEq.eq.Goals as goal
 

@@ -1,8 +1,6 @@
-use Rattle.std.proofs.lemmas.Result.{err_from_is_err_and}
+use Rattle.item_tree.proofs.Common.{err_from_is_err_and, meet_all, common_steps}
 use Rattle.std.proofs.Common.{sym, ◌∙◌, ap, arith}
-use Rattle.item_tree.specs.Inner.Meeting.{meet_all}
 use Rattle.item_tree.proofs.Constructors.{unmet-first, MeetsUpTo-step}
-use Rattle.std.proofs.lemmas.Grind.{common_steps}
 use Rattle.item_tree.proofs.lower.constructor.alloc_visibilities.Goals as goal
 
 pub returns-in_err-alloc_visibility-clause-fault : goal.returns-in_err-alloc_visibility-clause-fault

@@ -1,4 +1,4 @@
-use Rattle.item_tree.specs.Inner.Growth.{MeetsUpTo}
+use Rattle.item_tree.proofs.Common.{MeetsUpTo}
 use Rattle.item_tree.proofs.lower.constructor.alloc_visibilities.Given as goal
 
 abbrev pub invariant-loop-visibility : goal.invariant-loop-visibility

@@ -1,12 +1,5 @@
 use Rattle.std.proofs.Common.{◌≤◌, [], ◌∷◌, length, subst}
-use Rattle.std.proofs.lemmas.Result.{err_from_is_err_and}
-use Rattle.hir_input.specs.Syntax.{fields_view}
-use Rattle.item_tree_attrs.specs.Collected.{attr_limit}
-use Rattle.item_tree.specs.Constructor.{ctor_of}
-use Rattle.item_tree.specs.Kept.{shape_of}
-use Rattle.item_tree.specs.Visibility.{read_visibility}
-use Rattle.item_tree.specs.Inner.Growth.{attrs_in, Meets, sizes_meeting}
-use Rattle.item_tree.specs.Size.{IsPassed}
+use Rattle.item_tree.proofs.Common.{err_from_is_err_and, fields_view, attr_limit, ctor_of, shape_of, read_visibility, attrs_in, Meets, sizes_meeting, IsPassed}
 use Rattle.item_tree.proofs.Constructors.{Lowers-struct, own-unmet}
 use Rattle.item_tree.proofs.lower.constructor.lower_struct.Goals as goal
 

@@ -1,5 +1,5 @@
 use Rattle.std.proofs.Common.{arith}
-use Rattle.std.proofs.lemmas.Grind.{common_steps}
+use Rattle.item_tree.proofs.Common.{common_steps}
 use Rattle.item_tree.proofs.lower.constructor.read_visibilities.Goals as goal
 
 pub loop-field-init : goal.loop-field-init

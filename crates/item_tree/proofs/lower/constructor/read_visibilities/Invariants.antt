@@ -1,5 +1,5 @@
 use Rattle.std.proofs.Common.{◌≡◌, ◌∷◌, ◌++◌, drop, map, option_copied}
-use Rattle.item_tree.specs.Visibility.{read_visibility}
+use Rattle.item_tree.proofs.Common.{read_visibility}
 use Rattle.item_tree.proofs.lower.constructor.read_visibilities.Given as goal
 
 abbrev pub invariant-loop-field : goal.invariant-loop-field

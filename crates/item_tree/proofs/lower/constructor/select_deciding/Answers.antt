@@ -1,5 +1,5 @@
 use Rattle.std.proofs.Common.{arith}
-use Rattle.std.proofs.lemmas.Grind.{common_steps}
+use Rattle.item_tree.proofs.Common.{common_steps}
 use Rattle.item_tree.proofs.Arena.{meet_distinct}
 use Rattle.item_tree.proofs.VisibilityEq.{any_raw}
 use Rattle.item_tree.proofs.lower.constructor.select_deciding.Goals as goal

@@ -1,8 +1,5 @@
 use Rattle.std.proofs.Common.{◌≡◌, ◌||◌}
-use Rattle.std.specs.List.{find, list_any}
-use Rattle.item_tree.specs.Constructor.{is_private, is_pub_crate}
-use Rattle.item_tree.specs.Inner.Meeting.{meet_all}
-use Rattle.item_tree.specs.Visibility.{distinct}
+use Rattle.item_tree.proofs.Common.{find, list_any, is_private, is_pub_crate, meet_all, distinct}
 use Rattle.item_tree.proofs.lower.constructor.select_deciding.Given as goal
 
 abbrev pub invariant-loop-visibility : goal.invariant-loop-visibility

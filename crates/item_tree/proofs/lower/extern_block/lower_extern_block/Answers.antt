@@ -1,9 +1,5 @@
 use Rattle.std.proofs.Common.{◌≤◌, length, subst, refl}
-use Rattle.std.proofs.lemmas.Result.{err_from_is_err_and}
-use Rattle.item_tree_attrs.specs.Collected.{attr_limit}
-use Rattle.item_tree.specs.Inner.Growth.{attrs_in, sizes_pushing}
-use Rattle.item_tree.specs.Size.{IsPassed}
-use Rattle.item_tree.specs.Node.{extern_block}
+use Rattle.item_tree.proofs.Common.{err_from_is_err_and, attr_limit, attrs_in, sizes_pushing, IsPassed, extern_block}
 use Rattle.item_tree.proofs.Lowering.{block_head, Adds-nothing, Lowers-parent, full-parent, below-block, kept-block, written-block}
 use Rattle.item_tree.proofs.lower.extern_block.lower_extern_block.Goals as goal
 

@@ -1,7 +1,5 @@
 use Rattle.std.proofs.Common.{◌++◌, ap, sym, ◌∙◌, append-nil}
-use Rattle.std.proofs.lemmas.Result.{err_from_is_err_and}
-use Rattle.hir_input.specs.Syntax.{extern_item_view}
-use Rattle.item_tree.specs.Inner.Growth.{to_list}
+use Rattle.item_tree.proofs.Common.{err_from_is_err_and, extern_item_view, to_list}
 use Rattle.item_tree.proofs.Lowering.{Lowers-step, passed-step}
 use Rattle.item_tree.proofs.lower.extern_block.lower_extern_items.Goals as goal
 use Rattle.item_tree.proofs.lower.extern_block.lower_extern_items.Goals.{in-Some+in_ok-push, in_default}

@@ -1,7 +1,5 @@
 use Rattle.std.proofs.Common.{take, map}
-use Rattle.hir_input.specs.Syntax.{items_from, extern_item_view}
-use Rattle.item_tree.specs.Size.{items_written}
-use Rattle.item_tree.specs.Inner.Growth.{all_kept_in, Lowers}
+use Rattle.item_tree.proofs.Common.{items_from, extern_item_view, items_written, all_kept_in, Lowers}
 use Rattle.item_tree.proofs.lower.extern_block.lower_extern_items.Given as goal
 
 abbrev pub invariant-loop-item : goal.invariant-loop-item

@@ -1,7 +1,5 @@
 use Rattle.std.proofs.Common.{◌++◌, ap, sym, ◌∙◌, append-nil}
-use Rattle.std.proofs.lemmas.Result.{err_from_is_err_and}
-use Rattle.item_tree.specs.Inner.Statements.{stmt_item}
-use Rattle.item_tree.specs.Inner.Growth.{to_list}
+use Rattle.item_tree.proofs.Common.{err_from_is_err_and, stmt_item, to_list}
 use Rattle.item_tree.proofs.Lowering.{Lowers-step, passed-step}
 use Rattle.item_tree.proofs.lower.stmts.lower_each.Goals as goal
 use Rattle.item_tree.proofs.lower.stmts.lower_each.Goals.{in-Some+in_ok-push, in_default}

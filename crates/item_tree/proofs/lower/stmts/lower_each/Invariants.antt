@@ -1,8 +1,5 @@
 use Rattle.std.proofs.Common.{take, map}
-use Rattle.hir_input.specs.Syntax.{items_from}
-use Rattle.item_tree.specs.Size.{items_written}
-use Rattle.item_tree.specs.Inner.Growth.{all_kept_in, Lowers}
-use Rattle.item_tree.specs.Inner.Statements.{stmt_item}
+use Rattle.item_tree.proofs.Common.{items_from, items_written, all_kept_in, Lowers, stmt_item}
 use Rattle.item_tree.proofs.lower.stmts.lower_each.Given as goal
 
 abbrev pub invariant-loop-stmt : goal.invariant-loop-stmt

@@ -1,6 +1,5 @@
 use Rattle.std.proofs.Common.{◌++◌, ap, sym, ◌∙◌, append-nil}
-use Rattle.std.proofs.lemmas.Result.{err_from_is_err_and}
-use Rattle.item_tree.specs.Inner.Growth.{to_list}
+use Rattle.item_tree.proofs.Common.{err_from_is_err_and, to_list}
 use Rattle.item_tree.proofs.Statements.{Lowers-stmts, passed-stmts, passed-tail}
 use Rattle.item_tree.proofs.lower.stmts.lower_stmts.Goals as goal
 use Rattle.item_tree.proofs.lower.stmts.lower_stmts.Goals.{in-Some+in_ok-push, in_default}

@@ -1,5 +1,5 @@
 use Rattle.std.proofs.Common.{◌≡◌, ◌+◌, drop, length}
-use Rattle.hir_input.specs.UseTreeView.{use_trees_view, all_written_nodes}
+use Rattle.item_tree.proofs.Common.{use_trees_view, all_written_nodes}
 use Rattle.item_tree.proofs.lower.use_tree.+count.Given as goal
 
 abbrev pub invariant-count_all_written-loop-node : goal.invariant-count_all_written-loop-node

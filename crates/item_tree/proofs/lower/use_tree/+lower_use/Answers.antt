@@ -1,7 +1,6 @@
-use Rattle.std.proofs.Common.{arith}
-use Rattle.std.proofs.lemmas.Grind.{common_steps}
+use Rattle.std.proofs.Common.{arith, append_assoc}
+use Rattle.item_tree.proofs.Common.{common_steps}
 use Rattle.item_tree.proofs.WrittenNodes.{view_listed}
-use Rattle.std.proofs.Common.{append_assoc}
 use Rattle.item_tree.proofs.lower.use_tree.+lower_use.Goals as goal
 
 pub lower_list-loop-node-init : goal.lower_list-loop-node-init

@@ -1,7 +1,5 @@
 use Rattle.std.proofs.Common.{◌≡◌, ◌+◌, ◌++◌, drop, map, length}
-use Rattle.hir_input.specs.UseTreeView.{use_trees_view, all_written_nodes}
-use Rattle.item_tree.specs.KeptUse.{kept_trees, all_kept_places}
-use Rattle.item_tree.specs.Tree.{tree_of}
+use Rattle.item_tree.proofs.Common.{use_trees_view, all_written_nodes, kept_trees, all_kept_places, tree_of}
 use Rattle.item_tree.proofs.lower.use_tree.+lower_use.Given as goal
 
 abbrev pub invariant-lower_list-loop-node : goal.invariant-lower_list-loop-node

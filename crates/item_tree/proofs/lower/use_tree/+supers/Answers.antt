@@ -1,5 +1,5 @@
 use Rattle.std.proofs.Common.{arith}
-use Rattle.std.proofs.lemmas.Grind.{common_steps}
+use Rattle.item_tree.proofs.Common.{common_steps}
 use Rattle.item_tree.proofs.lower.use_tree.+supers.Goals as goal
 
 pub all_have_room_for_supers-loop-tree-init : goal.all_have_room_for_supers-loop-tree-init

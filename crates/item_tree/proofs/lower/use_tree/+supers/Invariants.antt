@@ -1,6 +1,5 @@
 use Rattle.std.proofs.Common.{◌≤◌, ◌↔◌, ◌+◌, ◌*◌, drop, length}
-use Rattle.item_tree.specs.Tree.{tree_of, trees_of, tree_count, branch_nodes}
-use Rattle.item_tree.specs.Imports.{all_most_supers, super_limit}
+use Rattle.item_tree.proofs.Common.{tree_of, trees_of, tree_count, branch_nodes, all_most_supers, super_limit}
 use Rattle.item_tree.proofs.lower.use_tree.+supers.Given as goal
 
 abbrev pub decreases-has_room_for_supers : goal.decreases-has_room_for_supers

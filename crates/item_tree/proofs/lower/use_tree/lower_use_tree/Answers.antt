@@ -1,7 +1,5 @@
 use Rattle.std.proofs.Common.{◌≤◌, ◌++◌, option_map, ap, sym, ◌∙◌, arith, rules}
-use Rattle.hir_input.specs.UseTreeView.{use_tree_view, written_count}
-use Rattle.item_tree.specs.Tree.{tree_of}
-use Rattle.item_tree.specs.KeptUse.{kept_places, use_tree_limit}
+use Rattle.item_tree.proofs.Common.{use_tree_view, written_count, tree_of, kept_places, use_tree_limit}
 use Rattle.item_tree.proofs.KeptPlaces.{places_stand, kept_no_more}
 use Rattle.item_tree.proofs.LeavesFound.{leaves_written}
 use Rattle.item_tree.proofs.lower.use_tree.lower_use_tree.Goals as goal

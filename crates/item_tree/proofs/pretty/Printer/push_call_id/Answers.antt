@@ -1,6 +1,5 @@
 use Rattle.std.proofs.Common.{append_assoc}
-use Rattle.std.proofs.lemmas.Result.{on_ok_weaker}
-use Rattle.item_tree.specs.Page.{id_text, call_id_text}
+use Rattle.item_tree.proofs.Common.{on_ok_weaker, id_text, call_id_text}
 use Rattle.item_tree.proofs.Paging.{gains_line}
 use Rattle.item_tree.proofs.pretty.Printer.push_call_id.Goals as goal
 

@@ -1,5 +1,5 @@
 use Rattle.std.proofs.Common.{append_assoc}
-use Rattle.item_tree.specs.Page.{constant_header}
+use Rattle.item_tree.proofs.Common.{constant_header}
 use Rattle.item_tree.proofs.Paging.{gains_item}
 use Rattle.item_tree.proofs.pretty.Printer.push_const.Goals as goal
 

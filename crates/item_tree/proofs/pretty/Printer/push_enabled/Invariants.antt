@@ -1,8 +1,5 @@
-use Rattle.std.proofs.Common.{take}
-use Rattle.std.specs.List.{flat_map}
-use Rattle.item_tree.specs.Line.{lines_of_text}
-use Rattle.item_tree.specs.Page.{attr_text}
-use Rattle.item_tree.specs.Inner.PageByIds.{Gains}
+use Rattle.std.proofs.Common.{take, flat_map}
+use Rattle.item_tree.proofs.Common.{lines_of_text, attr_text, Gains}
 use Rattle.item_tree.proofs.pretty.Printer.push_enabled.Given as goal
 
 abbrev pub invariant-loop-attr : goal.invariant-loop-attr

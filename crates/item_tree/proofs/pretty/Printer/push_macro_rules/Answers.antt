@@ -1,5 +1,5 @@
 use Rattle.std.proofs.Common.{append_assoc}
-use Rattle.item_tree.specs.Page.{macro_rules_header}
+use Rattle.item_tree.proofs.Common.{macro_rules_header}
 use Rattle.item_tree.proofs.Paging.{gains_item}
 use Rattle.item_tree.proofs.pretty.Printer.push_macro_rules.Goals as goal
 

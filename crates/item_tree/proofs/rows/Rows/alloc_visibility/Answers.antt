@@ -1,5 +1,5 @@
 use Rattle.std.proofs.Common.{◌<◌, cond, [], ◌∷◌, ◌++◌, length, arith, refl, ap, ◌∙◌, subst}
-use Rattle.item_tree.specs.Size.{visibility_limit}
+use Rattle.item_tree.proofs.Common.{visibility_limit}
 use Rattle.item_tree.proofs.Arena.{inserted-met, inserted-id, inserted-fits}
 use Rattle.item_tree.proofs.VisibilityEq.{any_raw, place_raw}
 use Rattle.item_tree.proofs.rows.Rows.alloc_visibility.Goals as goal

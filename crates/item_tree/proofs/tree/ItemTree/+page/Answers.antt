@@ -1,15 +1,8 @@
 use Rattle.std.proofs.Common.{ℕ, List, ◌∙◌, ap, refl, sym, subst, inl, inr, string_bytes, arith}
-use Rattle.std.proofs.lemmas.Result.{on_ok_weaker}
-use Rattle.hir_input.specs.declared.ids.FileAstId.{FileAstId}
+use Rattle.item_tree.proofs.Common.{on_ok_weaker, FileAstId, Inline, Outline, inline, extern_block, Unfolding, item_opening, Gains, lent_lines, HasVisibility, IsModule, IsParent, common_steps}
 use Rattle.item_tree.specs.declared.items.ModKind.{ModKind}
-use Rattle.item_tree.specs.declared.items.ModKind.TheVariants.{Inline, Outline}
-use Rattle.item_tree.specs.Node.{inline, extern_block, Unfolding}
-use Rattle.item_tree.specs.Page.{item_opening}
-use Rattle.item_tree.specs.Inner.PageByIds.{Gains, lent_lines}
-use Rattle.item_tree.specs.Shown.{HasVisibility, IsModule, IsParent}
 use Rattle.item_tree.proofs.Paging.{gains_more, item_gains, parent_gains}
 use Rattle.item_tree.proofs.tree.ItemTree.+page.Goals as goal
-use Rattle.std.proofs.lemmas.Grind.{common_steps}
 use Rattle.item_tree.proofs.tree.ItemTree.+page.Goals.{push_items-then-place-gt0+in_ok-push_blank, push_items-else-place-gt0}
 
 pub push_item-returns : goal.push_item-returns

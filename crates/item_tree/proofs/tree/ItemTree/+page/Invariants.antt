@@ -1,7 +1,5 @@
-use Rattle.std.proofs.Common.{◌+◌, ◌*◌, take}
-use Rattle.std.specs.List.{sum_by}
-use Rattle.item_tree.specs.Inner.PageByIds.{Gains, list_lines}
-use Rattle.item_tree.specs.Walk.{count_at}
+use Rattle.std.proofs.Common.{◌+◌, ◌*◌, take, sum_by}
+use Rattle.item_tree.proofs.Common.{Gains, list_lines, count_at}
 use Rattle.item_tree.proofs.tree.ItemTree.+page.Given as goal
 
 abbrev pub decreases-push_item : goal.decreases-push_item

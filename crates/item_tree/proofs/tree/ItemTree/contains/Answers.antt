@@ -1,5 +1,5 @@
 use Rattle.std.proofs.Common.{◌<◌, ◌≤◌, ◌/◌, ◌≡◌, get_or, length}
-use Rattle.std.proofs.lemmas.Bool.{false≢true}
+use Rattle.item_tree.proofs.Common.{false≢true}
 use Rattle.item_tree.proofs.Lookup.{contains-there, contains-past}
 use Rattle.item_tree.proofs.tree.ItemTree.contains.Goals as goal
 

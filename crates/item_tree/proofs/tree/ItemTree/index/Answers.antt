@@ -1,5 +1,5 @@
 use Rattle.std.proofs.Common.{Some, sym, ap, ◌∙◌}
-use Rattle.item_tree.specs.Shown.{lent}
+use Rattle.item_tree.proofs.Common.{lent}
 use Rattle.item_tree.proofs.Lookup.{in-items, shown}
 use Rattle.item_tree.proofs.tree.ItemTree.index.Goals as goal
 

@@ -1,10 +1,5 @@
-use Rattle.std.proofs.Common.{◌≡◌, ◌++◌, ◌∙◌, ap, sym, subst, length}
-use Rattle.std.specs.Prelude.{◌==◌, not, is_some}
-use Rattle.item_tree_attrs.specs.Collected.{collected}
-use Rattle.item_tree.specs.Line.{lines_text}
-use Rattle.item_tree.specs.Page.{top_opening}
-use Rattle.item_tree.specs.Inner.PageByIds.{Gains, gap, lent_lines, list_lines}
-use Rattle.item_tree.specs.Shown.{lent_attrs}
+use Rattle.std.proofs.Common.{◌≡◌, ◌++◌, ◌∙◌, ap, sym, subst, length, ◌==◌, not, is_some}
+use Rattle.item_tree.proofs.Common.{collected, lines_text, top_opening, Gains, gap, lent_lines, list_lines, lent_attrs}
 use Rattle.item_tree.proofs.Paging.{page_of_ids, gains_three, is_some-map}
 use Rattle.item_tree.proofs.tree.ItemTree.pretty_print.Goals as goal
 

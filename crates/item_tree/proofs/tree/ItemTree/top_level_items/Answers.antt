@@ -1,5 +1,5 @@
 use Rattle.std.proofs.Common.{map, ap, ◌∙◌}
-use Rattle.item_tree.specs.Layout.{node_at}
+use Rattle.item_tree.proofs.Common.{node_at}
 use Rattle.item_tree.proofs.Lookup.{fits, tops-are, tops-stand}
 use Rattle.item_tree.proofs.Reached.{walked_once}
 use Rattle.item_tree.proofs.tree.ItemTree.top_level_items.Goals as goal

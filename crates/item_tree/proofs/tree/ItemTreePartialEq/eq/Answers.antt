@@ -1,4 +1,4 @@
-use Rattle.std.proofs.lemmas.Bool.Decides.{Decides-at}
+use Rattle.item_tree.proofs.Common.{Decides-at}
 use Rattle.item_tree.specs.Code.Node.{unfolding_code}
 use Rattle.item_tree.proofs.Equal.{tables_decide}
 use Rattle.item_tree.proofs.Lookup.{canon, fits}

@@ -1,5 +1,5 @@
 use Rattle.std.proofs.Common.{arith}
-use Rattle.std.proofs.lemmas.Grind.{common_steps}
+use Rattle.item_tree.proofs.Common.{common_steps}
 use Rattle.item_tree.proofs.TreeLemmas.{tree_forms}
 use Rattle.item_tree.proofs.use_tree.copy.+clone_tree.Goals as goal
 

@@ -1,5 +1,5 @@
 use Rattle.std.proofs.Common.{◌≡◌, map, take}
-use Rattle.item_tree.specs.Tree.{tree_of}
+use Rattle.item_tree.proofs.Common.{tree_of}
 use Rattle.item_tree.proofs.use_tree.copy.+clone_tree.Given as goal
 
 abbrev pub invariant-clone_trees-loop-tree : goal.invariant-clone_trees-loop-tree

@@ -1,5 +1,4 @@
-use Rattle.std.proofs.lemmas.Bool.Decides.{Decides-at}
-use Rattle.hir_input.proofs.PathEq.{path_decides}
+use Rattle.item_tree.proofs.Common.{Decides-at, path_decides}
 use Rattle.std.proofs.Common.{length, arith}
 use Rattle.std.proofs.lemmas.Slice.Zip.{zip_turn}
 use Rattle.item_tree.proofs.UseEq.{paths_decide, aliases_decide, first_fails, second_tells, singles_tell, globs_tell, lists_tell, lengths_differ, one_differs}

@@ -1,5 +1,5 @@
 use Rattle.std.proofs.Common.{◌≡◌, map, take, length}
-use Rattle.item_tree.specs.Tree.{tree_of}
+use Rattle.item_tree.proofs.Common.{tree_of}
 use Rattle.item_tree.proofs.use_tree.equal.+same_tree.Given as goal
 
 abbrev pub invariant-same_trees-loop-tree : goal.invariant-same_trees-loop-tree

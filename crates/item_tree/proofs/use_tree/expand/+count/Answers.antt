@@ -1,5 +1,5 @@
 use Rattle.std.proofs.Common.{◌≡◌, arith, refl}
-use Rattle.item_tree.specs.Tree.{tree_of, trees_of, prefixed}
+use Rattle.item_tree.proofs.Common.{tree_of, trees_of, prefixed}
 use Rattle.item_tree.proofs.TreeLemmas.{found_prefixed}
 use Rattle.item_tree.proofs.use_tree.expand.+count.Goals as goal
 

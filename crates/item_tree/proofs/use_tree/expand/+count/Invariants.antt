@@ -1,6 +1,5 @@
 use Rattle.std.proofs.Common.{◌≡◌, ◌+◌, ◌*◌, drop}
-use Rattle.item_tree.specs.Inner.Expanding.{branch_count}
-use Rattle.item_tree.specs.Tree.{tree_count, tree_of, trees_of}
+use Rattle.item_tree.proofs.Common.{branch_count, tree_count, tree_of, trees_of}
 use Rattle.item_tree.proofs.use_tree.expand.+count.Given as goal
 
 abbrev pub decreases-count_all : goal.decreases-count_all

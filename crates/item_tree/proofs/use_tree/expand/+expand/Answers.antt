@@ -1,6 +1,5 @@
 use Rattle.std.proofs.Common.{rules, arith, ◌≡◌, ◌+◌, Some, None, sym, refl, add-zero}
-use Rattle.item_tree.specs.Tree.{tree_of, trees_of, prefixed}
-use Rattle.item_tree.specs.Inner.Expanding.{chain_of, supers_before}
+use Rattle.item_tree.proofs.Common.{tree_of, trees_of, prefixed, chain_of, supers_before}
 use Rattle.item_tree.proofs.CallLemmas.{MayCallAt-front, MayCallAt-rest, CallsLeft-more, CallsLeft-some, OnErr-any}
 use Rattle.item_tree.proofs.Chains.{imports_below, no_imports_below}
 use Rattle.item_tree.proofs.TreeLemmas.{found_prefixed, trees_of-more, branch_count-more}

@@ -1,8 +1,5 @@
 use Rattle.std.proofs.Common.{◌≡◌, ◌+◌, ◌*◌, ◌≤◌, drop}
-use Rattle.item_tree.specs.Calls.{MayCallAt, at_import, by_import}
-use Rattle.item_tree.specs.Inner.Expanding.{CallsLeft, chain_of, supers_before, branch_count}
-use Rattle.item_tree.specs.Imports.{all_imports_from, all_most_supers, super_limit}
-use Rattle.item_tree.specs.Tree.{tree_count, tree_of, trees_of}
+use Rattle.item_tree.proofs.Common.{MayCallAt, at_import, by_import, CallsLeft, chain_of, supers_before, branch_count, all_imports_from, all_most_supers, super_limit, tree_count, tree_of, trees_of}
 use Rattle.item_tree.proofs.use_tree.expand.+expand.Given as goal
 
 abbrev pub decreases-expand_all : goal.decreases-expand_all

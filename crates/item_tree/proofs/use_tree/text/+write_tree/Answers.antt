@@ -1,7 +1,6 @@
 use Rattle.std.proofs.Common.{refl, arith, subst}
-use Rattle.std.proofs.lemmas.Grind.{put_two, put_four, common_steps, put_three}
+use Rattle.item_tree.proofs.Common.{put_two, put_four, common_steps, put_three, HasWritten}
 use Rattle.item_tree.proofs.UseTexts.{shown_tree-single, shown_tree-glob, shown_tree-found, first_shown, next_shown, tree_texts}
-use Rattle.std.specs.Fmt.{HasWritten}
 use Rattle.item_tree.proofs.use_tree.text.+write_tree.Goals as goal
 
 pub write_kind-returns-in-Single : goal.write_kind-returns-in-Single

@@ -1,8 +1,5 @@
 use Rattle.std.proofs.Common.{map, take}
-use Rattle.std.specs.Fmt.{HasWritten, IsPlainFormatter}
-use Rattle.hir_input.specs.Cfg.{by_commas}
-use Rattle.item_tree.specs.Tree.{tree_of}
-use Rattle.item_tree.specs.UseText.{shown_tree}
+use Rattle.item_tree.proofs.Common.{HasWritten, IsPlainFormatter, by_commas, tree_of, shown_tree}
 use Rattle.item_tree.proofs.use_tree.text.+write_tree.Given as goal
 
 abbrev pub invariant-write_list-loop-i : goal.invariant-write_list-loop-i

@@ -1,5 +1,4 @@
-use Rattle.std.proofs.Common.{◌≡◌}
-use Rattle.std.specs.List.{filter_map}
+use Rattle.std.proofs.Common.{◌≡◌, filter_map}
 use Rattle.hir_input.specs.Attr.{string_with_span_of}
 use Rattle.item_tree_attrs.specs.{Collected.first, Query.asked}
 use Rattle.item_tree_attrs.proofs.query.AttrQuery.string_value_with_span.Given as goal

@@ -1,5 +1,4 @@
-use Rattle.std.proofs.Common.{◌≡◌, length}
-use Rattle.std.specs.List.{filter}
+use Rattle.std.proofs.Common.{◌≡◌, length, filter}
 use Rattle.item_tree_attrs.specs.Key.{has_key}
 use Rattle.item_tree_attrs.proofs.query.KeyedAttrsIterator.next.Given as goal
 

@@ -1,5 +1,4 @@
-use Rattle.std.proofs.Common.{◌≡◌, length}
-use Rattle.std.specs.List.{filter_map}
+use Rattle.std.proofs.Common.{◌≡◌, length, filter_map}
 use Rattle.hir_input.specs.Attr.{token_tree_of}
 use Rattle.item_tree_attrs.proofs.query.TtValuesIterator.next.Given as goal
 

@@ -1,6 +1,5 @@
 use Rattle.std.proofs.Common.{subst}
-use Rattle.std.specs.List.Sorted.{IsStrictlySortedBy}
-use Rattle.item_tree_db.specs.Inner.Recent.{noted_cmp}
+use Rattle.item_tree_db.proofs.Common.{IsStrictlySortedBy, noted_cmp}
 use Rattle.item_tree_db.proofs.Noted.{front_sorted, met_late, met_more}
 use Rattle.item_tree_db.proofs.recent.Recent.above.Goals as goal
 

@@ -1,5 +1,4 @@
-use Rattle.std.specs.List.Sorted.{IsStrictlySortedBy}
-use Rattle.item_tree_db.specs.Inner.Recent.{noted_cmp}
+use Rattle.item_tree_db.proofs.Common.{IsStrictlySortedBy, noted_cmp}
 use Rattle.item_tree_db.proofs.Noted.{AreMet}
 use Rattle.item_tree_db.proofs.recent.Recent.above.Given as goal
 

@@ -1,7 +1,5 @@
 use Rattle.std.proofs.Common.{ℕ, ◌<◌, ◌≤◌, sym, ap, subst, ◌∙◌}
-use Rattle.item_tree_db.specs.declared.rows.Row.{Row}
-use Rattle.item_tree_db.specs.Inner.Settled.{settled_row}
-use Rattle.item_tree_db.specs.Inner.Shelf.{recast}
+use Rattle.item_tree_db.proofs.Common.{Row, settled_row, recast}
 use Rattle.item_tree_db.proofs.Shelves.{written_at, unwritten_at}
 use Rattle.item_tree_db.proofs.shelf.Entry.recast.Goals as goal
 

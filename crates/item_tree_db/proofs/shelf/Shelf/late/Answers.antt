@@ -1,7 +1,5 @@
 use Rattle.std.proofs.Common.{ap, sym, subst, ◌∙◌}
-use Rattle.item_tree_db.specs.Inner.Recent.{AreNoted}
-use Rattle.item_tree_db.specs.Inner.Shelf.{IsInOrder, Places}
-use Rattle.item_tree_db.specs.Inner.Walk.{HasFew, IsLateWalk, Walk, all_changes, late, over, over_all}
+use Rattle.item_tree_db.proofs.Common.{AreNoted, IsInOrder, Places, HasFew, IsLateWalk, Walk, all_changes, late, over, over_all}
 use Rattle.item_tree_db.proofs.Changes.{walks_over_all}
 use Rattle.item_tree_db.proofs.Noted.{holds_late}
 use Rattle.item_tree_db.proofs.Shelves.{few_over, few_over_all}

@@ -1,5 +1,5 @@
 use Rattle.std.proofs.Common.{sym, subst}
-use Rattle.item_tree_db.specs.Inner.Walk.{HasFew}
+use Rattle.item_tree_db.proofs.Common.{HasFew}
 use Rattle.item_tree_db.proofs.Shelves.{few_over}
 use Rattle.item_tree_db.proofs.shelf.Shelf.late_among.Goals as goal
 

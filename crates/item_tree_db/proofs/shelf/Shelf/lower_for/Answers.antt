@@ -1,18 +1,7 @@
-use Rattle.std.proofs.Common.{◌≡◌, ◌++◌, ◌∷◌, [], inr, List, Option, Some, sym, ap, subst, ◌∙◌, append_assoc}
-use Rattle.std.specs.List.{AllByRecursion}
+use Rattle.std.proofs.Common.{◌≡◌, ◌++◌, ◌∷◌, [], inr, List, Option, Some, sym, ap, subst, ◌∙◌, append_assoc, option_map}
+use Rattle.item_tree_db.proofs.Common.{AllByRecursion, err_from_is_err_and, CrateView, crate_view, Place, Row, Source, place_cmp_total, TreeFits, TreePasses, fresh_row, Shelved, Places, placed_at, syntax_in, fresh_of, source_syntax}
 use Rattle.std.specs.Map.Iter.{deref_pair}
-use Rattle.std.specs.Option.{option_map}
 use Rattle.std.proofs.lemmas.Map.Iter.{btree_map_turn}
-use Rattle.std.proofs.lemmas.Result.{err_from_is_err_and}
-use Rattle.item_tree.specs.CrateView.{CrateView, crate_view}
-use Rattle.item_tree_db.specs.declared.place.Place.{Place}
-use Rattle.item_tree_db.specs.declared.rows.Row.{Row}
-use Rattle.item_tree_db.specs.declared.source.Source.{Source}
-use Rattle.item_tree_db.specs.PlaceOrder.{place_cmp_total}
-use Rattle.item_tree_db.specs.Refusal.{TreeFits, TreePasses}
-use Rattle.item_tree_db.specs.Inner.Settled.{fresh_row}
-use Rattle.item_tree_db.specs.Inner.Shelf.{Shelved, Places, placed_at, syntax_in, fresh_of}
-use Rattle.item_tree_db.specs.Inner.Source.{source_syntax}
 use Rattle.item_tree_db.proofs.Shelves.{SlotFits, fresh_each, fits_at}
 use Rattle.item_tree_db.proofs.shelf.Shelf.lower_for.Goals as goal
 

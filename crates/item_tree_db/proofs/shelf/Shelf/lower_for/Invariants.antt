@@ -1,8 +1,5 @@
 use Rattle.std.proofs.Common.{◌≡◌, ◌++◌, Some}
-use Rattle.std.specs.List.{AllByRecursion}
-use Rattle.item_tree.specs.CrateView.{crate_view}
-use Rattle.item_tree_db.specs.Inner.Shelf.{fresh_of}
-use Rattle.item_tree_db.specs.Inner.Sizes.{PlacesFit}
+use Rattle.item_tree_db.proofs.Common.{AllByRecursion, crate_view, fresh_of, PlacesFit}
 use Rattle.item_tree_db.proofs.Shelves.{SlotFits, fresh_each}
 use Rattle.item_tree_db.proofs.shelf.Shelf.lower_for.Given as goal
 

@@ -1,5 +1,5 @@
 use Rattle.std.proofs.Common.{sym, ap, ◌∙◌}
-use Rattle.item_tree_db.specs.Inner.Shelf.{recast_each, placed_at}
+use Rattle.item_tree_db.proofs.Common.{recast_each, placed_at}
 use Rattle.item_tree_db.proofs.Shelves.{recast_step}
 use Rattle.item_tree_db.proofs.shelf.Shelf.recast.Goals as goal
 

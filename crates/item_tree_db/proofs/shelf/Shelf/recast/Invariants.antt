@@ -1,6 +1,5 @@
 use Rattle.std.proofs.Common.{◌≡◌}
-use Rattle.item_tree_db.specs.declared.place.Place.{Place}
-use Rattle.item_tree_db.specs.Inner.Shelf.{placed_at, recast_each}
+use Rattle.item_tree_db.proofs.Common.{Place, placed_at, recast_each}
 use Rattle.item_tree_db.proofs.shelf.Shelf.recast.Given as goal
 
 abbrev pub invariant-loop-place : goal.invariant-loop-place

@@ -1,6 +1,5 @@
-use Rattle.std.proofs.Common.{refl, subst}
-use Rattle.std.specs.Prelude.{IsSome}
-use Rattle.item_tree_db.specs.Inner.Recent.{IsNoted}
+use Rattle.std.proofs.Common.{refl, subst, IsSome}
+use Rattle.item_tree_db.proofs.Common.{IsNoted}
 use Rattle.item_tree_db.proofs.Noted.{noted_put}
 use Rattle.item_tree_db.proofs.shelf.Shelf.remove.Goals as goal
 

@@ -1,9 +1,5 @@
-use Rattle.std.proofs.Common.{refl, subst, sym}
-use Rattle.std.specs.BTreeMap.{BTreeMap}
-use Rattle.std.specs.Prelude.{IsSome}
-use Rattle.item_tree_db.specs.declared.place.Place.{Place}
-use Rattle.item_tree_db.specs.Inner.Recent.{AreNoted, IsNoted}
-use Rattle.item_tree_db.specs.Inner.Shelf.{Shelved}
+use Rattle.std.proofs.Common.{refl, subst, sym, IsSome}
+use Rattle.item_tree_db.proofs.Common.{BTreeMap, Place, AreNoted, IsNoted, Shelved}
 use Rattle.item_tree_db.proofs.Noted.{noted_put}
 use Rattle.item_tree_db.proofs.shelf.Shelf.set.Goals as goal
 

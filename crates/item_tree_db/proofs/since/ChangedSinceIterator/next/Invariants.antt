@@ -1,6 +1,5 @@
 use Rattle.std.proofs.Common.{◌≡◌, length, ◌+◌, ◌-◌, ◌≤◌}
-use Rattle.item_tree_db.specs.State.{crate_limit}
-use Rattle.item_tree_db.specs.Inner.Walk.{HasFew, left, walk_of}
+use Rattle.item_tree_db.proofs.Common.{crate_limit, HasFew, left, walk_of}
 use Rattle.item_tree_db.proofs.Shelves.{steps}
 use Rattle.item_tree_db.proofs.since.ChangedSinceIterator.next.Given as goal
 

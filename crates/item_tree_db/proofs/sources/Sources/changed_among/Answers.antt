@@ -1,10 +1,5 @@
 use Rattle.std.proofs.Common.{ℕ, ◌≤◌, List, max, subst, ap, sym, ◌∙◌}
-use Rattle.std.proofs.lemmas.List.{length-map}
-use Rattle.item_tree.specs.CrateView.{crate_view}
-use Rattle.item_tree_db.specs.Since.{Change, IsGrounded, IsSinceAmong}
-use Rattle.item_tree_db.specs.State.{State, crate_limit}
-use Rattle.item_tree_db.specs.Inner.Table.{table_from}
-use Rattle.item_tree_db.specs.Inner.Walk.{all_changes, late, over}
+use Rattle.item_tree_db.proofs.Common.{length-map, crate_view, Change, IsGrounded, IsSinceAmong, State, crate_limit, table_from, all_changes, late, over}
 use Rattle.item_tree_db.proofs.Changes.{among_is, few_rows}
 use Rattle.item_tree_db.proofs.Steps.{grounded}
 use Rattle.item_tree_db.proofs.sources.Sources.changed_among.Goals as goal

@@ -1,10 +1,5 @@
 use Rattle.std.proofs.Common.{ℕ, ◌≤◌, subst, sym}
-use Rattle.std.proofs.lemmas.List.{length-map}
-use Rattle.item_tree.specs.CrateView.{crate_view}
-use Rattle.item_tree_db.specs.Since.{IsGrounded, IsSince}
-use Rattle.item_tree_db.specs.State.{State, crate_limit}
-use Rattle.item_tree_db.specs.Inner.Table.{table_from}
-use Rattle.item_tree_db.specs.Inner.Walk.{IsLateWalk}
+use Rattle.item_tree_db.proofs.Common.{length-map, crate_view, IsGrounded, IsSince, State, crate_limit, table_from, IsLateWalk}
 use Rattle.item_tree_db.proofs.Changes.{since_is, few_rows}
 use Rattle.item_tree_db.proofs.Steps.{grounded}
 use Rattle.item_tree_db.proofs.sources.Sources.changed_since.Goals as goal

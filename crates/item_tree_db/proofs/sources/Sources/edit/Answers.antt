@@ -1,8 +1,5 @@
 use Rattle.std.proofs.Common.{[], ◌∷◌, sym, subst}
-use Rattle.item_tree_db.specs.Edits.{edit_view}
-use Rattle.item_tree_db.specs.History.{IsFooting}
-use Rattle.item_tree_db.specs.State.{State}
-use Rattle.item_tree_db.specs.Inner.Table.{table_from}
+use Rattle.item_tree_db.proofs.Common.{edit_view, IsFooting, State, table_from}
 use Rattle.item_tree_db.proofs.BodyTexts.{ignores_bodies}
 use Rattle.item_tree_db.proofs.Histories.{after_none}
 use Rattle.item_tree_db.proofs.Steps.{footing_of}

@@ -1,13 +1,6 @@
-use Rattle.std.proofs.Common.{◌≡◌, [], arith, ◌<◌, ℕ, List, length, drop, take, map, sym, ◌∙◌, ap, subst, slice_get, Some, rules}
-use Rattle.std.specs.Option.{option_map}
-use Rattle.std.proofs.lemmas.List.{nil_from_length}
-use Rattle.std.proofs.lemmas.Option.{slice_get-map}
+use Rattle.std.proofs.Common.{◌≡◌, [], arith, ◌<◌, ℕ, List, length, drop, take, map, sym, ◌∙◌, ap, subst, slice_get, Some, rules, option_map}
+use Rattle.item_tree_db.proofs.Common.{nil_from_length, slice_get-map, EditView, edit_view, IsAfter, FirstFit, NamesKnown, State, table_from}
 use Rattle.item_tree_db.specs.declared.edit.Edit.{Edit}
-use Rattle.item_tree_db.specs.Edits.{EditView, edit_view}
-use Rattle.item_tree_db.specs.History.{IsAfter}
-use Rattle.item_tree_db.specs.Refusal.{FirstFit, NamesKnown}
-use Rattle.item_tree_db.specs.State.{State}
-use Rattle.item_tree_db.specs.Inner.Table.{table_from}
 use Rattle.item_tree_db.proofs.BodyTexts.{ignores_bodies}
 use Rattle.item_tree_db.proofs.Histories.{after_none, after_more, fits_more, footing}
 use Rattle.item_tree_db.proofs.Runs.{popped, take_whole, holds_at, known_still}

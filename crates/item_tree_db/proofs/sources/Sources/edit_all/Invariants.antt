@@ -1,7 +1,5 @@
 use Rattle.std.proofs.Common.{◌≡◌, take, drop, map}
-use Rattle.item_tree_db.specs.Edits.{edit_view}
-use Rattle.item_tree_db.specs.History.{IsAfter}
-use Rattle.item_tree_db.specs.Refusal.{FirstFit}
+use Rattle.item_tree_db.proofs.Common.{edit_view, IsAfter, FirstFit}
 use Rattle.item_tree_db.proofs.sources.Sources.edit_all.Given as goal
 
 abbrev pub invariant-loop-place : goal.invariant-loop-place

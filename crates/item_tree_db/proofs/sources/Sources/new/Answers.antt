@@ -1,8 +1,5 @@
 use Rattle.std.proofs.Common.{map, sym, ap, ◌∙◌}
-use Rattle.std.proofs.lemmas.List.{take-map}
-use Rattle.item_tree.specs.CrateView.{crate_view}
-use Rattle.item_tree_db.specs.State.{crate_limit}
-use Rattle.item_tree_db.specs.Inner.Table.{state_of}
+use Rattle.item_tree_db.proofs.Common.{take-map, crate_view, crate_limit, state_of}
 use Rattle.item_tree_db.proofs.sources.Sources.new.Goals as goal
 
 pub returns : goal.returns

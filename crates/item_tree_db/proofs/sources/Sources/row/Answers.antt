@@ -1,4 +1,4 @@
-use Rattle.item_tree_db.specs.Inner.Table.{table_from}
+use Rattle.item_tree_db.proofs.Common.{table_from}
 use Rattle.item_tree_db.proofs.Steps.{row_seen}
 use Rattle.item_tree_db.proofs.sources.Sources.row.Goals as goal
 

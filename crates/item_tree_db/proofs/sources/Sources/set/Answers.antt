@@ -1,9 +1,5 @@
 use Rattle.std.proofs.Common.{ℕ, ◌+◌, List, map, subst, ◌∙◌}
-use Rattle.item_tree.specs.declared.crate_data.CrateData.{CrateData}
-use Rattle.item_tree.specs.CrateView.{crate_view}
-use Rattle.item_tree_db.specs.Inner.Settled.{brought}
-use Rattle.item_tree_db.specs.Inner.Sizes.{CratesFit}
-use Rattle.item_tree_db.specs.Inner.Source.{source_place, source_syntax}
+use Rattle.item_tree_db.proofs.Common.{CrateData, crate_view, brought, CratesFit, source_place, source_syntax}
 use Rattle.item_tree_db.proofs.Steps.{set_made}
 use Rattle.item_tree_db.proofs.sources.Sources.set.Goals as goal
 

@@ -1,10 +1,6 @@
 use Rattle.std.proofs.Common.{ℕ, [], ◌∷◌, sym, subst, refl}
-use Rattle.hir_input.specs.Syntax.{syntax_view}
-use Rattle.item_tree_db.specs.declared.place.Place.TheVariants.{File}
+use Rattle.item_tree_db.proofs.Common.{syntax_view, File, set, IsFooting, state_of, table_from}
 use Rattle.item_tree_db.specs.Again.{IsSetAgain}
-use Rattle.item_tree_db.specs.Edits.{set}
-use Rattle.item_tree_db.specs.History.{IsFooting}
-use Rattle.item_tree_db.specs.Inner.Table.{state_of, table_from}
 use Rattle.item_tree_db.proofs.BodyTexts.{ignores_bodies}
 use Rattle.item_tree_db.proofs.Histories.{after_none}
 use Rattle.item_tree_db.proofs.Steps.{again_fits, again_made, footing_of}

@@ -1,14 +1,6 @@
-use Rattle.std.proofs.Common.{◌≡◌, ℕ, ◌+◌, ◌<◌, ◌≤◌, List, length, map, Some, slice_get, sym, ap, subst, ◌∙◌}
-use Rattle.std.specs.Option.{option_map}
-use Rattle.hir_input.specs.Cfg.{AtomView}
-use Rattle.item_tree.specs.CrateView.{CrateView, crate_view}
-use Rattle.item_tree_db.specs.declared.edit.Edit.TheVariants.{SetCfg}
+use Rattle.std.proofs.Common.{◌≡◌, ℕ, ◌+◌, ◌<◌, ◌≤◌, List, length, map, Some, slice_get, sym, ap, subst, ◌∙◌, option_map}
+use Rattle.item_tree_db.proofs.Common.{AtomView, CrateView, crate_view, SetCfg, UnlessMemory, change_at, fresh_of, PlacesFit, PlacesPass, State, crate_limit, given, state_of, IsSound}
 use Rattle.item_tree_db.specs.declared.edit.EditRefused.{EditRefused}
-use Rattle.item_tree_db.specs.Refusal.{UnlessMemory}
-use Rattle.item_tree_db.specs.Inner.Shelf.{change_at, fresh_of}
-use Rattle.item_tree_db.specs.Inner.Sizes.{PlacesFit, PlacesPass}
-use Rattle.item_tree_db.specs.State.{State, crate_limit, given}
-use Rattle.item_tree_db.specs.Inner.Table.{state_of, IsSound}
 use Rattle.item_tree_db.proofs.Crates.{given_here, given_back, given_options}
 use Rattle.item_tree_db.proofs.Steps.{cfg_made, cfg_fits, cfg_refused}
 use Rattle.item_tree_db.proofs.Shelves.{fresh_each}

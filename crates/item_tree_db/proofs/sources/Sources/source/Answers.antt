@@ -1,9 +1,5 @@
-use Rattle.std.proofs.Common.{◌≡◌, Option, IfSome, sym, ap, subst, ◌∙◌}
-use Rattle.std.specs.Option.{option_map}
-use Rattle.item_tree_db.specs.declared.source.Source.{Source}
-use Rattle.item_tree_db.specs.Inner.Source.{source_place, source_syntax}
-use Rattle.item_tree_db.specs.State.{State, present}
-use Rattle.item_tree_db.specs.Inner.Table.{table_from}
+use Rattle.std.proofs.Common.{◌≡◌, Option, IfSome, sym, ap, subst, ◌∙◌, option_map}
+use Rattle.item_tree_db.proofs.Common.{Source, source_place, source_syntax, State, present, table_from}
 use Rattle.item_tree_db.proofs.Steps.{present_is}
 use Rattle.item_tree_db.proofs.sources.Sources.source.Goals as goal
 

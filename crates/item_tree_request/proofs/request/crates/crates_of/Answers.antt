@@ -1,9 +1,7 @@
 -- the loop as far as it has come
 use Rattle.std.proofs.Common.{arith, decimal}
 use Rattle.std.proofs.lemmas.Grind.{common_steps}
-use Rattle.item_tree.specs.CrateView.{crate_view}
-use Rattle.hir_input_json.proofs.Lists.{joined_nil, read_next}
-use Rattle.item_tree_request.specs.Edits.{crate_data}
+use Rattle.item_tree_request.proofs.Common.{crate_view, joined_nil, read_next, crate_data}
 use Rattle.item_tree_request.proofs.request.crates.crates_of.Goals as goal
 
 pub loop-item-init : goal.loop-item-init

@@ -1,7 +1,6 @@
 -- as many crates as data as there are
 use Rattle.std.proofs.Common.{rules}
-use Rattle.std.proofs.lemmas.List.{length-map}
-use Rattle.item_tree.specs.CrateView.{crate_view}
+use Rattle.item_tree_request.proofs.Common.{length-map, crate_view}
 use Rattle.item_tree_request.proofs.request.edit.edits_at.Goals as goal
 
 pub returns-clause-reads : goal.returns-clause-reads

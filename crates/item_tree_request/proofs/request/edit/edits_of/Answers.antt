@@ -1,12 +1,6 @@
 use Rattle.std.proofs.Common.{◌≡◌, ◌∷◌, All, length, map, rules, sym, ap, ◌∙◌, subst}
-use Rattle.std.proofs.lemmas.List.Elements.{All-push}
+use Rattle.item_tree_request.proofs.Common.{All-push, edit_view, right, each_from, joined, joined_next, edit, EditNamesCrate}
 use Rattle.serde_json.specs.View.{items_view, view}
-use Rattle.item_tree_db.specs.Edits.{edit_view}
-use Rattle.hir_input_json.specs.Reading.{right}
-use Rattle.hir_input_json.specs.Forms.{each_from}
-use Rattle.hir_input_json.proofs.Lists.{joined, joined_next}
-use Rattle.item_tree_request.specs.Edits.{edit}
-use Rattle.item_tree_request.specs.Named.{EditNamesCrate}
 use Rattle.item_tree_request.proofs.request.edit.edits_of.Goals as goal
 
 pub loop-item-preserved : goal.loop-item-preserved

@@ -1,11 +1,7 @@
 -- the reading is what was read, and then the reading of what is left; each edit names no crate but one of those
 use Rattle.std.proofs.Common.{◌≡◌, All, map, length}
 use Rattle.serde_json.specs.View.{items_view}
-use Rattle.item_tree_db.specs.Edits.{edit_view}
-use Rattle.hir_input_json.specs.Forms.{each, each_from}
-use Rattle.item_tree_request.specs.Edits.{edit}
-use Rattle.item_tree_request.specs.Named.{EditNamesCrate}
-use Rattle.hir_input_json.proofs.Lists.{joined}
+use Rattle.item_tree_request.proofs.Common.{edit_view, each, each_from, edit, EditNamesCrate, joined}
 use Rattle.item_tree_request.proofs.request.edit.edits_of.Given as goal
 
 abbrev pub invariant-loop-item : goal.invariant-loop-item

@@ -1,17 +1,11 @@
 -- the loop as far as it has come
 use Rattle.std.proofs.Common.{ℕ, ◌≡◌, ◌∷◌, ◌++◌, [], List, Result, Ok, All, map, length, decimal, rules, sym, ap, ◌∙◌, subst}
-use Rattle.std.proofs.lemmas.List.{map-id}
-use Rattle.std.proofs.lemmas.List.Elements.{All-push}
+use Rattle.item_tree_request.proofs.Common.{map-id, All-push, Reading, each_from, joined, read_next, show, NamesCrate}
 use Rattle.serde_json.specs.Data.{Data}
 use Rattle.serde_json.specs.View.{items_view, view}
 use Rattle.serde_json.specs.declared.value.Value.{Value}
-use Rattle.hir_input_json.specs.Reading.{Reading}
 use Rattle.hir_input_json.specs.Reads.{IsReadIn, Reads}
-use Rattle.hir_input_json.specs.Forms.{each_from}
 use Rattle.hir_input_json.specs.declared.fault.Fault.{Fault}
-use Rattle.hir_input_json.proofs.Lists.{joined, read_next}
-use Rattle.item_tree_request.specs.Shows.{show}
-use Rattle.item_tree_request.specs.Named.{NamesCrate}
 use Rattle.item_tree_request.proofs.request.show.shows_of.Goals as goal
 
 -- of values that are seen as themselves

@@ -1,10 +1,7 @@
 -- the reading is what was read, and then the reading of what is left; each show names a crate
 use Rattle.std.proofs.Common.{◌≡◌, All, length}
 use Rattle.serde_json.specs.View.{items_view}
-use Rattle.hir_input_json.specs.Forms.{each, each_from}
-use Rattle.item_tree_request.specs.Shows.{show}
-use Rattle.item_tree_request.specs.Named.{NamesCrate}
-use Rattle.hir_input_json.proofs.Lists.{joined}
+use Rattle.item_tree_request.proofs.Common.{each, each_from, show, NamesCrate, joined}
 use Rattle.item_tree_request.proofs.request.show.shows_of.Given as goal
 
 abbrev pub invariant-loop-item : goal.invariant-loop-item

@@ -1,6 +1,5 @@
 use Rattle.std.proofs.Common.{refl}
-use Rattle.std.proofs.lemmas.Result.{on_ok_weaker}
-use Rattle.item_tree_request.specs.Outputs.{printed}
+use Rattle.item_tree_request.proofs.Common.{on_ok_weaker, printed}
 use Rattle.item_tree_request.proofs.show.PagesShowWriter.push_show.Goals as goal
 
 pub returns-in-OfTree : goal.returns-in-OfTree

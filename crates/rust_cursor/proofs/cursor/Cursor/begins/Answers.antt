@@ -1,5 +1,5 @@
 use Rattle.std.proofs.Common.{sym, ap, ◌∙◌}
-use Rattle.rust_cursor.specs.Extents.{leads_item}
+use Rattle.rust_cursor.proofs.Common.{leads_item}
 use Rattle.rust_cursor.proofs.Begins.{none_leads}
 use Rattle.rust_cursor.proofs.cursor.Cursor.begins.Goals as goal
 

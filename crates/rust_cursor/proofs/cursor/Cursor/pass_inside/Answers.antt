@@ -1,7 +1,5 @@
-use Rattle.std.proofs.Common.{ap, sym, ◌∙◌, arith}
-use Rattle.std.specs.List.{filter}
-use Rattle.rust_lexer.specs.Tokens.{is_significant}
-use Rattle.rust_cursor.specs.Tokens.{left_of}
+use Rattle.std.proofs.Common.{ap, sym, ◌∙◌, arith, filter}
+use Rattle.rust_cursor.proofs.Common.{is_significant, left_of}
 use Rattle.rust_cursor.proofs.Unkept.{leads_first, leads_through, some_left}
 use Rattle.rust_cursor.proofs.cursor.Cursor.pass_inside.Goals as goal
 

@@ -1,5 +1,5 @@
 use Rattle.std.proofs.Common.{sym, ◌∙◌, arith}
-use Rattle.rust_cursor.specs.Angles.{reached}
+use Rattle.rust_cursor.proofs.Common.{reached}
 use Rattle.rust_cursor.proofs.Nesting.{shorter, fewer}
 use Rattle.rust_cursor.proofs.Reaches.{reaching_some, reaching_turn}
 use Rattle.rust_cursor.proofs.cursor.Cursor.pass_reach.Goals as goal

@@ -1,5 +1,5 @@
 use Rattle.std.proofs.Common.{◌≡◌, ◌<◌, ◌+◌, ◌^◌, length}
-use Rattle.rust_cursor.specs.Angles.{reaching, reached}
+use Rattle.rust_cursor.proofs.Common.{reaching, reached}
 use Rattle.rust_cursor.proofs.cursor.Cursor.pass_reach.Given as goal
 
 abbrev pub invariant-tokens : goal.invariant-tokens

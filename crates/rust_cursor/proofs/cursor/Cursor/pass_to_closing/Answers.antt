@@ -1,6 +1,5 @@
 use Rattle.std.proofs.Common.{refl, sym, ◌∙◌, arith}
-use Rattle.rust_cursor.specs.Brackets.{to_closing}
-use Rattle.rust_cursor.specs.Nests.{nest_behind}
+use Rattle.rust_cursor.proofs.Common.{to_closing, nest_behind}
 use Rattle.rust_cursor.proofs.Nesting.{shorter, fewer}
 use Rattle.rust_cursor.proofs.Steps.{closing_some}
 use Rattle.rust_cursor.proofs.Around.{closing_counted}

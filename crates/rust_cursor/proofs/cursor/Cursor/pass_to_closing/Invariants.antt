@@ -1,5 +1,5 @@
 use Rattle.std.proofs.Common.{◌≡◌, ◌<◌, ◌+◌, ◌^◌, length}
-use Rattle.rust_cursor.specs.Brackets.{closing, to_closing}
+use Rattle.rust_cursor.proofs.Common.{closing, to_closing}
 use Rattle.rust_cursor.proofs.cursor.Cursor.pass_to_closing.Given as goal
 
 abbrev pub invariant-tokens : goal.invariant-tokens

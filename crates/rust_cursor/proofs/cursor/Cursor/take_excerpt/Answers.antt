@@ -1,6 +1,5 @@
-use Rattle.std.proofs.Common.{sym, ◌∙◌, arith}
-use Rattle.std.specs.Prelude.{string_bytes}
-use Rattle.rust_cursor.specs.Extents.{more, taken}
+use Rattle.std.proofs.Common.{sym, ◌∙◌, arith, string_bytes}
+use Rattle.rust_cursor.proofs.Common.{more, taken}
 use Rattle.rust_cursor.proofs.Nesting.{shorter, fewer}
 use Rattle.rust_cursor.proofs.Scans.{taking_some}
 use Rattle.rust_cursor.proofs.Unkept.{clipped_turn, clipped_last, text_kept}

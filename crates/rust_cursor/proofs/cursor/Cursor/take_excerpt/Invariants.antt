@@ -1,6 +1,5 @@
-use Rattle.std.proofs.Common.{◌≡◌, ◌<◌, ◌+◌, ◌^◌, length}
-use Rattle.std.specs.Prelude.{string_bytes}
-use Rattle.rust_cursor.specs.Extents.{kept_text, clipped, taking, taken}
+use Rattle.std.proofs.Common.{◌≡◌, ◌<◌, ◌+◌, ◌^◌, length, string_bytes}
+use Rattle.rust_cursor.proofs.Common.{kept_text, clipped, taking, taken}
 use Rattle.rust_cursor.proofs.cursor.Cursor.take_excerpt.Given as goal
 
 abbrev pub invariant-tokens : goal.invariant-tokens

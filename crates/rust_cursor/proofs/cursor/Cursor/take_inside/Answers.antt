@@ -1,7 +1,5 @@
-use Rattle.std.proofs.Common.{◌∙◌, ap, arith, refl, sym}
-use Rattle.std.specs.Prelude.{string_bytes}
-use Rattle.rust_cursor.specs.Extents.{more, taking}
-use Rattle.rust_cursor.specs.Nests.{is_mark, nest_inside}
+use Rattle.std.proofs.Common.{◌∙◌, ap, arith, refl, sym, string_bytes}
+use Rattle.rust_cursor.proofs.Common.{more, taking, is_mark, nest_inside}
 use Rattle.rust_cursor.proofs.Inside.{inside}
 use Rattle.rust_cursor.proofs.Nesting.{shorter, fewer}
 use Rattle.rust_cursor.proofs.Unkept.{clipped_turn, text_kept, unkept}

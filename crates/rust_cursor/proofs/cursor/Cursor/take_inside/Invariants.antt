@@ -1,7 +1,5 @@
-use Rattle.std.proofs.Common.{◌≡◌, ◌≤◌, ◌+◌, Option, length}
-use Rattle.std.specs.Prelude.{string_bytes}
-use Rattle.rust_cursor.specs.Tokens.{Tokens}
-use Rattle.rust_cursor.specs.Extents.{kept_text, clipped, taking}
+use Rattle.std.proofs.Common.{◌≡◌, ◌≤◌, ◌+◌, Option, length, string_bytes}
+use Rattle.rust_cursor.proofs.Common.{Tokens, kept_text, clipped, taking}
 use Rattle.rust_cursor.proofs.cursor.Cursor.take_inside.Given as goal
 
 abbrev pub invariant-tokens : goal.invariant-tokens

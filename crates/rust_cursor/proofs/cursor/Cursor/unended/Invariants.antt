@@ -1,5 +1,5 @@
 use Rattle.std.proofs.Common.{◌≡◌}
-use Rattle.rust_cursor.specs.Tokens.{last_unended}
+use Rattle.rust_cursor.proofs.Common.{last_unended}
 use Rattle.rust_cursor.proofs.cursor.Cursor.unended.Given as goal
 
 abbrev pub invariant-tokens : goal.invariant-tokens

@@ -1,8 +1,5 @@
-use Rattle.std.proofs.Common.{◌≡◌, ◌==◌, ◌&&◌, true, false, sym, ap, ◌∙◌, subst}
-use Rattle.std.specs.List.{filter}
-use Rattle.rust_lexer.specs.Tokens.{is_significant}
-use Rattle.rust_cursor.specs.Tokens.{last_unended}
-use Rattle.rust_cursor.specs.declared.cursor.nest.Nest.{Nest}
+use Rattle.std.proofs.Common.{◌≡◌, ◌==◌, ◌&&◌, true, false, sym, ap, ◌∙◌, subst, filter}
+use Rattle.rust_cursor.proofs.Common.{is_significant, last_unended, Nest}
 use Rattle.rust_cursor.proofs.Unkept.{leads_behind, open_still}
 use Rattle.rust_cursor.proofs.cursor.texts.pass_braced.Goals as goal
 

@@ -1,8 +1,5 @@
-use Rattle.std.proofs.Common.{◌≡◌, ◌==◌, false, length}
-use Rattle.std.specs.List.{filter}
-use Rattle.rust_lexer.specs.Tokens.{is_significant}
-use Rattle.rust_cursor.specs.Tokens.{last_unended}
-use Rattle.rust_cursor.specs.Extents.{LeadsOn}
+use Rattle.std.proofs.Common.{◌≡◌, ◌==◌, false, length, filter}
+use Rattle.rust_cursor.proofs.Common.{is_significant, last_unended, LeadsOn}
 use Rattle.rust_cursor.proofs.cursor.texts.pass_braced.Given as goal
 
 abbrev pub invariant-tokens : goal.invariant-tokens

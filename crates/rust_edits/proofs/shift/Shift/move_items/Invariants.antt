@@ -1,6 +1,5 @@
 use Rattle.std.proofs.Common.{◌≡◌, ◌++◌, map, take, drop}
-use Rattle.rust_edits.specs.Edits.{has_item, shifted_item}
-use Rattle.rust_edits.specs.Inner.{or_kept}
+use Rattle.rust_edits.proofs.Common.{has_item, shifted_item, or_kept}
 use Rattle.rust_edits.proofs.shift.Shift.move_items.Given as goal
 
 abbrev pub invariant-loop-item : goal.invariant-loop-item

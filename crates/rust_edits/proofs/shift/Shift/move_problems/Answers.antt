@@ -1,5 +1,5 @@
 use Rattle.std.proofs.Common.{rules}
-use Rattle.rust_edits.specs.Edits.{has_problem, shifted_problem}
+use Rattle.rust_edits.proofs.Common.{has_problem, shifted_problem}
 use Rattle.rust_edits.proofs.Steps.{moved_all}
 use Rattle.rust_edits.proofs.shift.Shift.move_problems.Goals as goal
 

@@ -1,6 +1,5 @@
 use Rattle.std.proofs.Common.{◌≡◌, ◌++◌, map, take, drop}
-use Rattle.rust_edits.specs.Edits.{has_problem, shifted_problem}
-use Rattle.rust_edits.specs.Inner.{or_kept}
+use Rattle.rust_edits.proofs.Common.{has_problem, shifted_problem, or_kept}
 use Rattle.rust_edits.proofs.shift.Shift.move_problems.Given as goal
 
 abbrev pub invariant-loop-problem : goal.invariant-loop-problem

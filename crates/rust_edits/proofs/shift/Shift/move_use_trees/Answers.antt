@@ -1,5 +1,5 @@
 use Rattle.std.proofs.Common.{rules}
-use Rattle.rust_edits.specs.Edits.{has_place, shifted_place}
+use Rattle.rust_edits.proofs.Common.{has_place, shifted_place}
 use Rattle.rust_edits.proofs.Steps.{moved_all}
 use Rattle.rust_edits.proofs.shift.Shift.move_use_trees.Goals as goal
 

@@ -1,6 +1,5 @@
 use Rattle.std.proofs.Common.{◌≡◌, ◌++◌, map, take, drop}
-use Rattle.rust_edits.specs.Edits.{has_place, shifted_place}
-use Rattle.rust_edits.specs.Inner.{or_kept}
+use Rattle.rust_edits.proofs.Common.{has_place, shifted_place, or_kept}
 use Rattle.rust_edits.proofs.shift.Shift.move_use_trees.Given as goal
 
 abbrev pub invariant-loop-start : goal.invariant-loop-start

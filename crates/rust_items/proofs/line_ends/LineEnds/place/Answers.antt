@@ -1,5 +1,5 @@
 use Rattle.std.proofs.Common.{rules, sym, subst, List, ℕ, nat_lt}
-use Rattle.std.specs.List.Sorted.{IsNonDecreasing}
+use Rattle.rust_items.proofs.Common.{IsNonDecreasing}
 use Rattle.std.proofs.lemmas.List.Sorted.{IsPartitionedBy-ltb, IsPartitionPoint-from_clause}
 use Rattle.rust_items.proofs.LineEnds.{point_place}
 use Rattle.rust_items.proofs.line_ends.LineEnds.place.Goals as goal

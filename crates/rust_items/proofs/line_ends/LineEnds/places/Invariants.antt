@@ -1,5 +1,5 @@
 use Rattle.std.proofs.Common.{◌≡◌, map, take}
-use Rattle.rust_items.specs.LineEnds.{place_by}
+use Rattle.rust_items.proofs.Common.{place_by}
 use Rattle.rust_items.proofs.line_ends.LineEnds.places.Given as goal
 
 abbrev pub invariant-loop-at : goal.invariant-loop-at

@@ -1,5 +1,5 @@
 use Rattle.std.proofs.Common.{◌≡◌, map, take}
-use Rattle.rust_items.specs.LineEnds.{place_by, moved_problem}
+use Rattle.rust_items.proofs.Common.{place_by, moved_problem}
 use Rattle.rust_items.proofs.line_ends.LineEnds.problems.Given as goal
 
 abbrev pub invariant-loop-problem : goal.invariant-loop-problem

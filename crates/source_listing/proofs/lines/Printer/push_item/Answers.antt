@@ -1,8 +1,7 @@
-use Rattle.source_listing.proofs.Common.{◌++◌, ◌∙◌, ap, rules, string_bytes, option_copied, on_ok_weaker, file_of, reserved_of}
+use Rattle.source_listing.proofs.Common.{◌++◌, ◌∙◌, ap, rules, string_bytes, option_copied, on_ok_weaker, file_of, reserved_of, title}
 use Rattle.tree_walk.specs.Views.{subject_view}
 use Rattle.source_listing.specs.Colors.{bold, colored, cyan, faint}
 use Rattle.source_listing.specs.Lines as spec
-use Rattle.source_listing.specs.Outlines.{title}
 use Rattle.source_listing.proofs.Pushed.{line_pushed}
 use Rattle.source_listing.proofs.lines.Printer.push_item.Goals as goal
 

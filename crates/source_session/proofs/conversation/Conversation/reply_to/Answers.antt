@@ -1,12 +1,9 @@
 use Rattle.std.proofs.Common.{◌≡◌, ◌⊎◌, false, rules, sym, ap, ◌∙◌, subst}
-use Rattle.std.specs.Option.{unwrap_or}
+use Rattle.source_session.proofs.Common.{unwrap_or, held, outcome_view, reply_view, IsOutcome, IsReplyUnless, IsWanting, asked_of, id_value}
 use Rattle.serde_json.specs.declared.value.Value.{Null, the_lemmas}
 use Rattle.serde_json.specs.Data.{null}
 use Rattle.serde_json.specs.View.{view}
 use Rattle.serde_json.specs.Written.{has_float}
-use Rattle.hir_input_json.specs.Held.{held}
-use Rattle.source_session.specs.Inner.{outcome_view, reply_view}
-use Rattle.source_session.specs.Replies.{IsOutcome, IsReplyUnless, IsWanting, asked_of, id_value}
 use Rattle.source_session.proofs.Readings.{asked_no_id, view_or_null}
 use Rattle.source_session.proofs.conversation.Conversation.reply_to.Goals as goal
 

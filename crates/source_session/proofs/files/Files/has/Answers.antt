@@ -1,6 +1,6 @@
 use Rattle.std.proofs.Common.{subst, nat_cmp, ap, ◌∙◌}
 use Rattle.std.specs.FinSet as set
-use Rattle.std.specs.List.Sorted.{IsBinarySearchResult}
+use Rattle.source_session.proofs.Common.{IsBinarySearchResult}
 use Rattle.source_session.proofs.Numbers.{search_tells}
 use Rattle.source_session.proofs.files.Files.has.Goals as goal
 

@@ -1,4 +1,4 @@
-use Rattle.std.proofs.lemmas.List.Sorted.{IsNonDecreasingBy-from_sort}
+use Rattle.source_session.proofs.Common.{IsNonDecreasingBy-from_sort}
 use Rattle.source_session.proofs.Numbers.{same_numbers}
 use Rattle.source_session.proofs.files.Files.new.Goals as goal
 

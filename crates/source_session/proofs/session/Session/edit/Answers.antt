@@ -1,7 +1,5 @@
 use Rattle.std.proofs.Common.{MatchResult, map, subst}
-use Rattle.source_session.specs.Edits.{line_edit_view}
-use Rattle.source_session.specs.Inner.{session_of}
-use Rattle.source_session.specs.Sessions.{IsEdited, IsUnedited}
+use Rattle.source_session.proofs.Common.{line_edit_view, session_of, IsEdited, IsUnedited}
 use Rattle.source_session.proofs.session.Session.edit.Goals as goal
 
 pub returns : goal.returns

@@ -1,15 +1,9 @@
-use Rattle.std.proofs.Common.{◌≡◌, ◌&&◌, All, filter, map, rules, sym, ap, subst, ◌∙◌}
-use Rattle.std.specs.List.{flat_map}
-use Rattle.std.proofs.lemmas.List.Elements.{All-filter}
+use Rattle.std.proofs.Common.{◌≡◌, ◌&&◌, All, filter, map, rules, sym, ap, subst, ◌∙◌, flat_map}
+use Rattle.source_session.proofs.Common.{All-filter, IsDeclared, is_in_crate, IsFound, found_form, found_one, is_at, entry_path}
 use Rattle.serde_json.specs.Data.{array}
 use Rattle.serde_json.specs.View.{items_of, view}
 use Rattle.serde_json.specs.declared.value.Value.{Array, the_lemmas}
-use Rattle.decl_index.specs.Entries.{IsDeclared}
 use Rattle.decl_index.specs.Lookup.{entry_has_name}
-use Rattle.source_session.specs.Files.{is_in_crate}
-use Rattle.source_session.specs.Found.{IsFound, found_form}
-use Rattle.source_session.specs.Inner.{found_one}
-use Rattle.source_session.specs.Sought.{is_at, entry_path}
 use Rattle.source_session.proofs.Finders.{all_placed}
 use Rattle.source_session.proofs.Paths.{found_all}
 use Rattle.source_session.proofs.session.Session.find.Goals as goal

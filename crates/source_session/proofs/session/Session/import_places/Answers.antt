@@ -1,5 +1,5 @@
 use Rattle.std.proofs.Common.{sym, subst}
-use Rattle.source_session.specs.Shows.{IsCrateOf}
+use Rattle.source_session.proofs.Common.{IsCrateOf}
 use Rattle.source_session.proofs.session.Session.import_places.Goals as goal
 
 pub tree-tree-requires : goal.tree-tree-requires

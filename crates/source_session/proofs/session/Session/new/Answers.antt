@@ -1,10 +1,5 @@
 use Rattle.std.proofs.Common.{◌≡◌, length, map, refl, rules, sym, subst, arith}
-use Rattle.std.proofs.lemmas.List.{length-map, length-take}
-use Rattle.item_tree.specs.CrateView.{crate_view}
-use Rattle.item_tree_db.specs.State.{crate_limit}
-use Rattle.decl_index.specs.Entries.{IsBehind}
-use Rattle.source_session.specs.Inner.{AreSetTo, IsPlaced, Knowing}
-use Rattle.source_session.specs.Texts.{Texts, text_in}
+use Rattle.source_session.proofs.Common.{length-map, length-take, crate_view, crate_limit, IsBehind, AreSetTo, IsPlaced, Knowing, Texts, text_in}
 use Rattle.source_session.proofs.session.Session.new.Goals as goal
 
 pub invariant_of-result : goal.invariant_of-result

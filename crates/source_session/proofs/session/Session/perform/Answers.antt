@@ -1,13 +1,6 @@
 use Rattle.std.proofs.Common.{◌≡◌, Err, map, rules, sym, subst}
-use Rattle.std.specs.List.{AllZip}
+use Rattle.source_session.proofs.Common.{AllZip, OutOfMemory, line_edit_view, outcome_view, asked_view, IsCarriedOut, IsEdited, IsShowValue}
 use Rattle.serde_json.specs.View.{view}
-use Rattle.source_session.specs.declared.error.LineError.TheVariants.{OutOfMemory}
-use Rattle.source_session.specs.Edits.{line_edit_view}
-use Rattle.source_session.specs.Inner.{outcome_view}
-use Rattle.source_session.specs.LineViews.{asked_view}
-use Rattle.source_session.specs.Replies.{IsCarriedOut}
-use Rattle.source_session.specs.Sessions.{IsEdited}
-use Rattle.source_session.specs.Shown.{IsShowValue}
 use Rattle.source_session.proofs.Made.{stopped_all}
 use Rattle.source_session.proofs.Named.{no_float_in_shown}
 use Rattle.source_session.proofs.session.Session.perform.Goals as goal

@@ -1,8 +1,6 @@
 use Rattle.std.proofs.Common.{◌≡◌, IfOk, sym, subst, rules}
 use Rattle.serde_json.specs.View.{view}
-use Rattle.source_session.specs.declared.show.LineShow.TheVariants.{Table, Outline, TreeItems, ImportPlaces}
-use Rattle.source_session.specs.Shown.{IsShowValue}
-use Rattle.source_session.specs.Shows.{ShowNamesCrate}
+use Rattle.source_session.proofs.Common.{Table, Outline, TreeItems, ImportPlaces, IsShowValue, ShowNamesCrate}
 use Rattle.source_session.proofs.Named.{show_known}
 use Rattle.source_session.proofs.session.Session.show.Goals as goal
 

@@ -1,8 +1,6 @@
 use Rattle.std.proofs.Common.{◌+◌, ◌∷◌, [], map, sym, ap, ◌∙◌, subst, take, get_or}
-use Rattle.std.proofs.lemmas.List.{map-append}
-use Rattle.std.specs.List.{AllZip}
+use Rattle.source_session.proofs.Common.{map-append, AllZip, IsShowValue}
 use Rattle.serde_json.specs.View.{view}
-use Rattle.source_session.specs.Shown.{IsShowValue}
 use Rattle.source_session.proofs.Named.{zip_more}
 use Rattle.source_session.proofs.session.Session.show_all.Goals as goal
 

@@ -1,8 +1,7 @@
 -- the values so far are those of the shows so far, and the session is as it was
 use Rattle.std.proofs.Common.{◌≡◌, map, take}
-use Rattle.std.specs.List.{AllZip}
+use Rattle.source_session.proofs.Common.{AllZip, IsShowValue}
 use Rattle.serde_json.specs.View.{view}
-use Rattle.source_session.specs.Shown.{IsShowValue}
 use Rattle.source_session.proofs.session.Session.show_all.Given as goal
 
 abbrev pub invariant-loop-show : goal.invariant-loop-show

@@ -1,5 +1,5 @@
 use Rattle.std.proofs.Common.{sym, subst}
-use Rattle.source_session.specs.Shows.{IsCrateOf}
+use Rattle.source_session.proofs.Common.{IsCrateOf}
 use Rattle.source_session.proofs.session.Session.tree_items.Goals as goal
 
 pub changed-change-requires : goal.changed-change-requires

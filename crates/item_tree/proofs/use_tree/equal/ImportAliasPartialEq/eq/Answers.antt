@@ -1,5 +1,5 @@
 use Rattle.std.proofs.Common.{rules}
-use Rattle.item_tree.specs.Code.Tree.{alias_code}
+use Rattle.item_tree.proofs.Common.{alias_code}
 use Rattle.item_tree.proofs.UseEq.{tells}
 use Rattle.item_tree.proofs.use_tree.equal.ImportAliasPartialEq.eq.Goals as goal
 

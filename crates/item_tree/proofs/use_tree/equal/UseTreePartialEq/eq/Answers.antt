@@ -1,4 +1,4 @@
-use Rattle.item_tree.specs.Code.Tree.{tree_code}
+use Rattle.item_tree.proofs.Common.{tree_code}
 use Rattle.item_tree.proofs.UseEq.{tells}
 use Rattle.item_tree.proofs.use_tree.equal.UseTreePartialEq.eq.Goals as goal
 
