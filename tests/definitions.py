@@ -16,8 +16,9 @@ import textwrap
 PAGE = pathlib.Path("docs/DEFINITIONS.md")
 MARK = "<!-- What follows is written by tests/definitions.py. -->\n"
 DEFINED = re.compile(r"^ *(?:(?:abbrev|unfoldable) pub|pub(?: data| record)?) +([^\s:(){}=]+)")
-# `ghost use Rattle.CRATE.specs.MODULE.{a, b as c};`, or the same without the braces and with a name for the module.
-USED = re.compile(r"ghost use Rattle\.(\w+)\.specs\.([\w.]+?)(?:\.\{([^}]*)\}|(?: as (\w+))?);")
+# `ghost use Rattle.CRATE.specs.MODULE.{a, b as c};`, `ghost use Rattle.CRATE.specs.{MODULE.a, MODULE.b};`, or the same without the braces
+# and with a name for the module.
+USED = re.compile(r"ghost use Rattle\.(\w+)\.specs(?:\.([\w.]+?))?(?:\.\{([^}]*)\}|(?: as (\w+))?);")
 # Modules for private contracts, and for the codes of views.
 CLOSED = re.compile(r"(Inner|Code)\b")
 WORD = re.compile(r"[^\s(){}\[\],;@]+")
@@ -47,8 +48,9 @@ def names_of(text):
     for crate, module, names, alias in USED.findall(text):
         if names:
             for name in names.split(","):
-                word, *other = name.split(" as ")
-                definitions[(other or [word])[0].strip()] = (crate, module, word.strip())
+                path, *other = name.split(" as ")
+                head, _, word = f"{module}.{path.strip()}".strip(".").rpartition(".")
+                definitions[(other or [word])[0].strip()] = (crate, head, word)
         elif alias:
             modules[alias] = (crate, module)
         else:
