@@ -58,8 +58,8 @@ struct Run<'a> {
     is_colored: bool,
     /// What is to be found, if anything is.
     sought: Option<SoughtPath>,
-    /// The lines of a tags file.
-    tags: Vec<String>,
+    /// The lines of a tags file, in one text: a piece of memory for each takes half as much again.
+    tags: String,
     status: u8,
     /// Whether any file was done.
     has_done: bool,
@@ -84,14 +84,11 @@ impl Run<'_> {
 
     fn push_tags(&mut self, source: Source<'_>) -> Result<String, SourceError> {
         let (alloc, has_members) = (self.rt.alloc(), self.asked.has_members);
-        let before = self.tags.len();
-        match push_tags(alloc, source, self.options, has_members, &mut self.tags) {
-            Ok(()) => Ok(String::new(alloc)),
-            Err(error) => {
-                self.tags.truncate(before);
-                Err(error)
-            }
-        }
+        let mut tags = Vec::new(alloc);
+        push_tags(alloc, source, self.options, has_members, &mut tags)?;
+        // (all of a file's at once: where memory runs out, there are none)
+        self.tags.push_str(&tags.concat(alloc)?)?;
+        Ok(String::new(alloc))
     }
 
     fn outline(
@@ -204,7 +201,7 @@ fn sought_of(alloc: Global, command: Command<'_>) -> Result<Option<SoughtPath>, 
 fn finish_tags(
     rt: &HostRuntime,
     path: &str,
-    lines: Vec<String>,
+    lines: &str,
     status: u8,
     has_done: bool,
 ) -> Result<u8, Failure> {
@@ -232,7 +229,7 @@ fn finish(run: Run<'_>) -> Result<u8, Failure> {
         ..
     } = run;
     match asked.command {
-        Command::Tags { output } => finish_tags(rt, output, tags, status, has_done),
+        Command::Tags { output } => finish_tags(rt, output, &tags, status, has_done),
         Command::Find { .. } if !has_written => Ok(status.max(NOT_SO)),
         _ => Ok(status),
     }
@@ -259,7 +256,7 @@ fn run_files(rt: &HostRuntime, options: &Options, asked: &Asked<'_>) -> Result<u
         options,
         is_colored: is_colored(rt, asked.command),
         sought: sought_of(rt.alloc(), asked.command)?,
-        tags: Vec::new(rt.alloc()),
+        tags: String::new(rt.alloc()),
         status: 0,
         has_done: false,
         has_written: false,

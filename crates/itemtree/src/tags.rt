@@ -29,11 +29,12 @@ fn create_beside(rt: &HostRuntime, path: &str) -> io::Result<(String, File)> {
 }
 
 /// Writes the head and the lines behind it.
-fn write_lines(alloc: Global, out: impl Write + Drop, lines: &[String]) -> io::Result<()> {
+fn write_lines(alloc: Global, out: impl Write + Drop, lines: &[&str]) -> io::Result<()> {
     let mut out = BufWriter::new(alloc, out)?;
     out.write_all(HEAD.as_bytes())?;
     for line in lines {
         out.write_all(line.as_bytes())?;
+        out.write_all(b"\n")?;
     }
     out.flush()
 }
@@ -45,7 +46,7 @@ fn fill(
     file: File,
     permissions: Option<Permissions>,
     path: &str,
-    lines: &[String],
+    lines: &[&str],
 ) -> io::Result<()> {
     if let Some(permissions) = permissions {
         file.set_permissions(permissions)?;
@@ -59,7 +60,7 @@ fn replace(
     rt: &HostRuntime,
     path: &str,
     permissions: Option<Permissions>,
-    lines: &[String],
+    lines: &[&str],
 ) -> io::Result<()> {
     let (beside, file) = create_beside(rt, path)?;
     let replaced = fill(rt, &beside, file, permissions, path, lines);
@@ -70,7 +71,7 @@ fn replace(
 }
 
 /// Writes a file as a whole or not at all; behind a link, the file that it leads to. Devices and pipes take the lines as they come.
-fn write_whole(rt: &HostRuntime, path: &str, lines: &[String]) -> io::Result<()> {
+fn write_whole(rt: &HostRuntime, path: &str, lines: &[&str]) -> io::Result<()> {
     match fs::metadata(rt, path) {
         Ok(old) => {
             if !old.is_file() {
@@ -89,12 +90,9 @@ fn write_whole(rt: &HostRuntime, path: &str, lines: &[String]) -> io::Result<()>
     }
 }
 
-/// Sorts the lines and writes them behind the head, to a file or to standard output.
-pub(crate) fn write_tags(
-    rt: &HostRuntime,
-    path: &str,
-    mut lines: Vec<String>,
-) -> Result<(), Failure> {
+/// Sorts the lines of a text and writes them behind the head, to a file or to standard output.
+pub(crate) fn write_tags(rt: &HostRuntime, path: &str, text: &str) -> Result<(), Failure> {
+    let mut lines: Vec<&str> = text.lines().collect(rt.alloc())?;
     lines.sort()?;
     let (name, written) = if path == STDIN {
         (STDOUT, write_lines(rt.alloc(), rt.stdout(), &lines))
