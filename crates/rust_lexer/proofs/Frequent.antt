@@ -1,6 +1,6 @@
 -- The most frequent tokens, by their first byte alone.
 use Rattle.std.proofs.Common.{◌≡◌, ℕ, ◌==◌, ◌||◌, true, false, List, refl, arith, nat_le}
-use Rattle.rust_lexer.proofs.Common.{is_ascii_alphabetic, is_ascii_digit, nat_tests, is_white, is_wide_start, run, cut, first_cut, plain, symbol_kind, is_blank_byte, is_letter, is_mark_byte}
+use Rattle.rust_lexer.proofs.Common.{is_ascii_alphabetic, is_ascii_digit, nat_tests, is_white, is_wide_start, run, cut, first_cut, plain, slash, symbol_kind, is_blank_byte, is_letter, is_mark_byte}
 use Rattle.rust_lexer.specs.declared.bytes.Class.TheVariants as class
 use Rattle.rust_lexer.specs.declared.kind.TokenKind.TheVariants as kind
 
@@ -32,3 +32,7 @@ letter_first b z e =
     let byte : (b == 98) ≡ false = grind (arith, nat_tests) in
     let c : (b == 99) ≡ false = grind (arith, nat_tests) in
     rw (white, digit, letter, r, byte, c) refl
+
+pub slash_first : (b : ℕ) (z : List ℕ) → b ≡ 47 → first_cut b z ≡ slash z
+unfolding first_cut is_wide_start
+slash_first b z e = rw e refl

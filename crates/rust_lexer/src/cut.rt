@@ -234,7 +234,10 @@ pub(crate) fn any_cut(first: u8, z: &[u8]) -> Cut
     ensures value { result ≡ spec.first_cut first z.now }
     ensures within { result.len ≤ length z.now }
 {
-    if is_white(first, z) {
+    // (Most of what is cut here is a comment.)
+    if first == b'/' {
+        slash(z)
+    } else if is_white(first, z) {
         Cut {
             kind: TokenKind::Whitespace,
             len: run(Class::White, z),
@@ -244,8 +247,6 @@ pub(crate) fn any_cut(first: u8, z: &[u8]) -> Cut
         suffixed(number.kind, number.len, z)
     } else if is_start(first, z) {
         word(first, z)
-    } else if first == b'/' {
-        slash(z)
     } else if first == b'"' {
         quoted(LiteralKind::Str, string(0, z), z)
     } else if first == b'\'' {
@@ -290,14 +291,14 @@ pub(crate) fn token_len(first: u8, z: &[u8]) -> usize
     ensures value { result ≡ whole (spec.first_cut first z.now) z.now }
     ensures within { result ≤ length z.now }
 {
+    if is_mark(first) {
+        return run(Class::Continuation, z);
+    }
     if is_blank(first) {
         return run(Class::White, z);
     }
     if is_letter(first) {
         return run(Class::Word, z);
-    }
-    if is_mark(first) {
-        return run(Class::Continuation, z);
     }
     let len = any_cut(first, z).len;
     len + run(Class::Continuation, &z[len..])
