@@ -13,7 +13,7 @@ unfoldable pub use Rattle.rust_lexer.specs.Number.{past_digits}
 pub use Rattle.rust_lexer.specs.Piece.{Piece}
 pub use Rattle.rust_lexer.specs.Quoted.{character, closed, ends_single, is_one_char, raw, raw_string, single, string, unclosed}
 pub use Rattle.rust_lexer.specs.Symbol.{symbol_from, symbol_of}
-pub use Rattle.rust_lexer.specs.Tokens.{AreInPlace, has_mark, is_blank, is_bracket_next, is_nil, is_shebang, is_significant, is_significant_kind, lines_from, mark_from, matter_by, matter_from, piece, pieces, shebang_from, text_of, tokens_from, whole}
+pub use Rattle.rust_lexer.specs.Tokens.{IsPastWhite, AreInPlace, has_mark, is_blank, is_bracket_next, is_nil, is_shebang, is_significant, is_significant_kind, lines_from, mark_from, matter_by, matter_from, piece, pieces, shebang_from, text_of, tokens_from, whole}
 unfoldable pub use Rattle.rust_lexer.specs.Tokens.{tokens}
 pub use Rattle.rust_lexer.specs.declared.bytes.Class.{Class}
 pub use Rattle.rust_lexer.specs.declared.bytes.TheConstants.{CLASSES, PLAIN}

@@ -1,8 +1,9 @@
 -- The most frequent tokens, by their first byte alone.
 use Rattle.std.proofs.Common.{◌≡◌, ℕ, ◌==◌, ◌||◌, true, false, List, refl, arith, nat_le}
-use Rattle.rust_lexer.proofs.Common.{is_ascii_alphabetic, is_ascii_digit, nat_tests, is_white, is_wide_start, run, cut, first_cut, plain, slash, symbol_kind, is_blank_byte, is_letter, is_mark_byte}
+use Rattle.rust_lexer.proofs.Common.{is_ascii_alphabetic, is_ascii_digit, nat_tests, is_white, is_wide_start, run, cut, first_cut, plain, slash, symbol_kind, is_blank_byte, is_letter, is_mark_byte, is_punctuation, is_significant_kind}
 use Rattle.rust_lexer.specs.declared.bytes.Class.TheVariants as class
 use Rattle.rust_lexer.specs.declared.kind.TokenKind.TheVariants as kind
+use Rattle.rust_lexer.proofs.Counted.{when}
 
 pub mark_first : (b : ℕ) (z : List ℕ) → is_mark_byte b ≡ true → first_cut b z ≡ cut (symbol_kind b) 0
 unfolding first_cut is_wide_start
@@ -36,3 +37,10 @@ letter_first b z e =
 pub slash_first : (b : ℕ) (z : List ℕ) → b ≡ 47 → first_cut b z ≡ slash z
 unfolding first_cut is_wide_start
 slash_first b z e = rw e refl
+
+-- a symbol counts
+pub symbol_counts : (b : ℕ) → is_significant_kind (symbol_kind b) ≡ true
+symbol_counts b =
+    when (b == 40 || b == 91 || b == 123) (λ e. rw e refl)
+    (λ e. when (b == 41 || b == 93 || b == 125) (λ f. rw (e, f) refl)
+    (λ f. when (is_punctuation b) (λ g. rw (e, f, g) refl) (λ g. rw (e, f, g) refl)))

@@ -4,7 +4,7 @@ ghost use Rattle.std.specs.Prelude.{◌≡◌, ◌≤◌, ◌∷◌, drop, lengt
 ghost use Rattle.rust_lexer.specs.declared.bytes.Class.TheVariants as class;
 ghost use Rattle.rust_lexer.specs.Bytes as bytes;
 ghost use Rattle.rust_lexer.specs.Cut as spec;
-ghost use Rattle.rust_lexer.specs.Tokens.{whole};
+ghost use Rattle.rust_lexer.specs.Tokens.{is_significant_kind, whole};
 
 use crate::bytes::{
     Class, byte, is_blank, is_close, is_letter, is_mark, is_open, is_start, is_white, is_word,
@@ -259,13 +259,14 @@ pub(crate) fn any_cut(first: u8, z: &[u8]) -> Cut
     }
 }
 
-/// The same of the most frequent tokens, by their first bytes. No byte behind them continues a character.
+/// The same of a mark, or of a word of ASCII letters that begins no literal. No byte behind them continues a character.
 #[inline(always)]
-pub(crate) fn frequent_cut(first: u8, z: &[u8]) -> Option<Cut>
+pub(crate) fn mark_or_word(first: u8, z: &[u8]) -> Option<Cut>
     requires { IsUtf8 (first ∷ z.now) }
     ensures value { IfSome result (λ c. c ≡ spec.first_cut first z.now) }
     ensures within { IfSome result (λ c. c.len ≤ length z.now) }
     ensures whole { IfSome result (λ c. bytes.run class.Continuation (drop c.len z.now) ≡ 0) }
+    ensures significant { IfSome result (λ c. IsTrue (is_significant_kind c.kind)) }
 {
     if is_mark(first) {
         return Some(Cut {
@@ -273,16 +274,27 @@ pub(crate) fn frequent_cut(first: u8, z: &[u8]) -> Option<Cut>
             len: 0,
         });
     }
+    if is_letter(first) {
+        return Some(plain(z));
+    }
+    None
+}
+
+/// The same of the most frequent tokens, by their first bytes.
+#[inline(always)]
+pub(crate) fn frequent_cut(first: u8, z: &[u8]) -> Option<Cut>
+    requires { IsUtf8 (first ∷ z.now) }
+    ensures value { IfSome result (λ c. c ≡ spec.first_cut first z.now) }
+    ensures within { IfSome result (λ c. c.len ≤ length z.now) }
+    ensures whole { IfSome result (λ c. bytes.run class.Continuation (drop c.len z.now) ≡ 0) }
+{
     if is_blank(first) {
         return Some(Cut {
             kind: TokenKind::Whitespace,
             len: run(Class::White, z),
         });
     }
-    if is_letter(first) {
-        return Some(plain(z));
-    }
-    None
+    mark_or_word(first, z)
 }
 
 /// How many bytes belong to the token that begins with this byte, before these: of these alone.

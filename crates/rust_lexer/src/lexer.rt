@@ -1,6 +1,6 @@
 //! The tokens of a text.
 
-ghost use Rattle.std.specs.Prelude.{◌≡◌, ◌<◌, ◌≤◌, ◌+◌, ◌^◌, All, IsTrue, IfOk, Some, IfSome, IfNone, MatchOption, [], ◌∷◌, drop, length, IsUtf8};
+ghost use Rattle.std.specs.Prelude.{◌≡◌, ◌<◌, false, ◌≤◌, ◌+◌, ◌^◌, All, IsTrue, IfOk, Some, IfSome, IfNone, MatchOption, [], ◌∷◌, drop, length, IsUtf8};
 ghost use Rattle.rust_lexer.specs.Tokens.{AreInPlace, text_of};
 ghost use Rattle.rust_lexer.specs.Tokens as spec;
 ghost use Rattle.rust_lexer.specs.declared.kind.TokenKind.TheVariants as kinds;
@@ -10,7 +10,7 @@ ghost use Rattle.rust_lexer.specs.Depths as depths;
 ghost use Rattle.rust_lexer.specs.declared.bytes.Class.TheVariants as class;
 
 use crate::bytes::{Class, byte, is_blank, run};
-use crate::cut::{Cut, any_cut, frequent_cut};
+use crate::cut::{Cut, any_cut, frequent_cut, mark_or_word};
 use crate::depth::{Depth, to_outer};
 use crate::frontmatter::frontmatter;
 use crate::kind::TokenKind;
@@ -110,6 +110,24 @@ impl<'a> Lexer<'a> {
         };
         let (token, rest) = first_white(self.at, self.rest)?;
         self.at += token.text().len();
+        self.rest = rest;
+        Some(token)
+    }
+
+    /// A short path for a mark or a word of ASCII letters that begins no literal, with white space in front or without: what it takes is
+    /// that, and more tokens are left. Where it takes nothing, the lexer stays as it was and any token may come next, and so it is at the
+    /// front of a text.
+    #[inline(always)]
+    pub fn next_frequent(&mut self) -> Option<Token<'a>>
+        ensures { MatchOption result (self.new ≡ self.old)
+            (λ t. IsTrue (spec.is_significant t) × (spec.is_nil self.new ≡ false) × spec.IsPastWhite self.old (t ∷ self.new)) }
+    {
+        let Front::Token = self.front else {
+            return None;
+        };
+        let (at, rest) = past_white(self.at, self.rest);
+        let (token, rest) = frequent(at, rest)?;
+        self.at = at + token.text().len();
         self.rest = rest;
         Some(token)
     }
@@ -224,6 +242,46 @@ fn first_white(at: usize, text: &str) -> Option<(Token<'_>, &str)>
             Some(split_whole(cut, at, text))
         }
         _ => None,
+    }
+}
+
+/// A place in a text, or behind the white space that stands there, and the text from there on.
+#[inline(always)]
+fn past_white(at: usize, text: &str) -> (usize, &str)
+    requires { at + length text.now < 2 ^ 64 }
+    ensures passed { spec.IsPastWhite (spec.tokens_from 0 at text.now)
+        (spec.tokens_from 0 result.0 result.1.now) }
+    ensures utf8 { IsUtf8 result.1.now }
+    ensures fits { result.0 + length result.1.now < 2 ^ 64 }
+{
+    match first_white(at, text) {
+        Some((white, rest)) => (at + white.text().len(), rest),
+        None => (at, text),
+    }
+}
+
+/// The mark or the word in front of a text, and the text behind it, if that is not empty.
+#[inline(always)]
+fn frequent(at: usize, text: &str) -> Option<(Token<'_>, &str)>
+    requires { at + length text.now < 2 ^ 64 }
+    ensures value { IfSome result
+        (λ p. spec.tokens_from 0 at text.now ≡ p.0
+        ∷ spec.tokens_from 0 (at + length p.0.text) p.1.now) }
+    ensures significant { IfSome result (λ p. IsTrue (spec.is_significant p.0)) }
+    ensures more { IfSome result (λ p. 0 < length p.1.now) }
+    ensures utf8 { IfSome result (λ p. IsUtf8 p.1.now) }
+    ensures takes { IfSome result (λ p. length p.0.text + length p.1.now ≡ length text.now) }
+{
+    match text.as_bytes() {
+        [b, behind @ ..] => {
+            let cut = mark_or_word(*b, behind)?;
+            let (token, rest) = split_whole(cut, at, text);
+            if rest.is_empty() {
+                return None;
+            }
+            Some((token, rest))
+        }
+        [] => None,
     }
 }
 
