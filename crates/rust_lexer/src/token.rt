@@ -1,7 +1,7 @@
 //! A token of a text.
 
-ghost use Rattle.std.specs.Prelude.{◌≡◌, ◌+◌, ◌<◌, ◌^◌, length, drop};
-ghost use Rattle.rust_lexer.specs.Symbol.{symbol_of};
+ghost use Rattle.std.specs.Prelude.{◌≡◌, ◌+◌, ◌<◌, ◌^◌, length, drop, slice_index};
+ghost use Rattle.rust_lexer.specs.Symbol.{symbol_from, symbol_of};
 ghost use Rattle.rust_lexer.specs.Terminated as spec;
 ghost use Rattle.rust_lexer.specs.Tokens.{is_blank, is_significant};
 
@@ -17,11 +17,14 @@ pub struct Token<'a> {
     kind: TokenKind,
     text: &'a str,
     at: usize,
+    /// Its byte, if it is a bracket or punctuation, or 0: more is asked for that than for all else.
+    symbol: u8,
 }
 
 impl<'a> Model for Token<'a> {
-    ghost use Rattle.std.specs.Prelude.{◌+◌, ◌<◌, ◌^◌, length};
+    ghost use Rattle.std.specs.Prelude.{◌≡◌, ◌+◌, ◌<◌, ◌^◌, length, slice_index};
     ghost use Rattle.rust_lexer.specs.Piece.{Piece, coded_piece};
+    ghost use Rattle.rust_lexer.specs.Symbol.{symbol_from};
 
     ghost Value = { Piece };
 
@@ -29,7 +32,8 @@ impl<'a> Model for Token<'a> {
 
     ghost view = { λ t. record { kind = t.kind; text = t.text.now; at = t.at } };
 
-    ghost invariant = { λ t. t.at + length t.text.now < 2 ^ 64 };
+    ghost invariant = { λ t. (t.at + length t.text.now < 2 ^ 64)
+        × (t.symbol ≡ symbol_from t.kind (slice_index t.text.now 0)) };
 }
 
 impl Clone for Token<'_> {
@@ -44,12 +48,33 @@ impl Clone for Token<'_> {
     }
 }
 
+/// The first byte of a text of this kind, if that is a bracket or punctuation, or 0.
+#[inline(always)]
+fn symbol_of(kind: TokenKind, text: &str) -> u8
+    ensures { result ≡ symbol_from kind (slice_index text.now 0) }
+{
+    match kind {
+        TokenKind::OpenDelim | TokenKind::CloseDelim | TokenKind::Punct => match text.as_bytes() {
+            [first, ..] => *first,
+            [] => 0,
+        },
+        _ => 0,
+    }
+}
+
 impl<'a> Token<'a> {
+    #[inline(always)]
     pub(crate) fn new(kind: TokenKind, text: &'a str, at: usize) -> Self
         requires { at + length text.now < 2 ^ 64 }
         ensures { result ≡ record { kind = kind; text = text.now; at = at } }
     {
-        Token { kind, text, at }
+        let symbol = symbol_of(kind, text);
+        Token {
+            kind,
+            text,
+            at,
+            symbol,
+        }
     }
 
     /// The same token. (`Copy` is not to be had for a type that is seen by a model and borrows.)
@@ -60,6 +85,7 @@ impl<'a> Token<'a> {
             kind: self.kind,
             text: self.text,
             at: self.at,
+            symbol: self.symbol,
         }
     }
 
@@ -93,16 +119,7 @@ impl<'a> Token<'a> {
     pub fn symbol(&self) -> u8
         ensures { result ≡ symbol_of self.now }
     {
-        match self.kind {
-            TokenKind::OpenDelim | TokenKind::CloseDelim | TokenKind::Punct => match self
-                .text
-                .as_bytes()
-            {
-                [first, ..] => *first,
-                [] => 0,
-            },
-            _ => 0,
-        }
+        self.symbol
     }
 
     /// Whether it is neither white space nor a comment, but for one that documents something, nor a byte order mark, a
