@@ -37,8 +37,9 @@ impl<'t> Cursor<'t> {
         is_lifetime(inside.kind()) || inside.symbol() == b'>'
     }
 
-    fn closes_around(&self, nest: Nest) -> bool
-        ensures { result ≡ spec.closes_around nest self.now }
+    #[inline(always)]
+    fn closes_around(&self, nest: &Nest) -> bool
+        ensures { result ≡ spec.closes_around nest.now self.now }
     {
         if self.symbol() == b'}' {
             return true;
@@ -46,8 +47,9 @@ impl<'t> Cursor<'t> {
         nest.others == 0 && self.is_at_end()
     }
 
-    fn is_barred(&self, reach: Reach, nest: Nest) -> bool
-        ensures { result ≡ spec.is_barred reach nest self.now }
+    #[inline(always)]
+    fn is_barred(&self, reach: Reach, nest: &Nest) -> bool
+        ensures { result ≡ spec.is_barred reach nest.now self.now }
     {
         match reach {
             Reach::Angles => self.is_barred_angles(nest),
@@ -56,8 +58,9 @@ impl<'t> Cursor<'t> {
         }
     }
 
-    fn is_barred_angles(&self, nest: Nest) -> bool
-        ensures { result ≡ spec.is_barred reaches.Angles nest self.now }
+    #[inline(always)]
+    fn is_barred_angles(&self, nest: &Nest) -> bool
+        ensures { result ≡ spec.is_barred reaches.Angles nest.now self.now }
     {
         if self.closes_around(nest) || self.begins(nest) {
             return true;
@@ -65,8 +68,9 @@ impl<'t> Cursor<'t> {
         nest.others == 0 && self.symbol() == b';'
     }
 
-    fn is_barred_field(&self, nest: Nest) -> bool
-        ensures { result ≡ spec.is_barred reaches.Field nest self.now }
+    #[inline(always)]
+    fn is_barred_field(&self, nest: &Nest) -> bool
+        ensures { result ≡ spec.is_barred reaches.Field nest.now self.now }
     {
         if self.closes_around(nest) {
             return true;
@@ -74,8 +78,9 @@ impl<'t> Cursor<'t> {
         nest.others == 0 && nest.angles == 0 && self.symbol() == b','
     }
 
-    fn is_barred_header(&self, nest: Nest) -> bool
-        ensures { result ≡ spec.is_barred reaches.Header nest self.now }
+    #[inline(always)]
+    fn is_barred_header(&self, nest: &Nest) -> bool
+        ensures { result ≡ spec.is_barred reaches.Header nest.now self.now }
     {
         if self.symbol() == b'}' || self.begins(nest) {
             return true;
@@ -83,14 +88,16 @@ impl<'t> Cursor<'t> {
         nest.others == 0 && self.is_header_end(nest)
     }
 
-    fn is_block(&self, nest: Nest) -> bool
-        ensures { result ≡ spec.is_block nest self.now }
+    #[inline(always)]
+    fn is_block(&self, nest: &Nest) -> bool
+        ensures { result ≡ spec.is_block nest.now self.now }
     {
         self.symbol() == b'{' && !is_mark(nest.before)
     }
 
-    fn is_header_end(&self, nest: Nest) -> bool
-        ensures { result ≡ spec.is_header_end nest self.now }
+    #[inline(always)]
+    fn is_header_end(&self, nest: &Nest) -> bool
+        ensures { result ≡ spec.is_header_end nest.now self.now }
     {
         if self.symbol() == b';' {
             return true;
@@ -102,8 +109,8 @@ impl<'t> Cursor<'t> {
     }
 
     #[tactic(auto, unfolding(crate::specs::Angles::is_reached))]
-    fn is_reached(&self, reach: Reach, nest: Nest) -> bool
-        ensures { result ≡ spec.is_reached reach nest self.now }
+    fn is_reached(&self, reach: Reach, nest: &Nest) -> bool
+        ensures { result ≡ spec.is_reached reach nest.now self.now }
     {
         if self.is_empty() {
             return true;
@@ -121,10 +128,10 @@ impl<'t> Cursor<'t> {
         // That brackets can be counted is known of a cursor that was looked into.
         let _ = &self.next;
         let mut nest = Nest::begun();
-        'tokens: while !self.is_reached(reach, nest) {
+        'tokens: while !self.is_reached(reach, &nest) {
             self.nest_behind(&mut nest);
             self.bump();
-            if is_closed(reach, nest) {
+            if is_closed(reach, &nest) {
                 return;
             }
         }
@@ -167,8 +174,8 @@ fn is_lifetime(kind: Option<TokenKind>) -> bool
 }
 
 #[tactic(auto, unfolding(crate::specs::Angles::is_closed))]
-fn is_closed(reach: Reach, nest: Nest) -> bool
-    ensures { result ≡ spec.is_closed reach nest }
+fn is_closed(reach: Reach, nest: &Nest) -> bool
+    ensures { result ≡ spec.is_closed reach nest.now }
 {
     match reach {
         Reach::Angles => nest.is_flat() && nest.angles == 0,

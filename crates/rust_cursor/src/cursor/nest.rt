@@ -168,26 +168,22 @@ impl<'t> Cursor<'t> {
         behind_free(nest.before)
     }
 
-    fn nest_outside(&self, nest: Nest) -> Nest
-        requires others { nest.others + 1 < 2 ^ 64 }
-        requires angles { nest.angles + 1 < 2 ^ 64 }
-        ensures { result ≡ spec.nest_outside nest self.now }
+    #[inline(always)]
+    fn nest_outside(&self, nest: &mut Nest)
+        requires others { nest.old.others + 1 < 2 ^ 64 }
+        requires angles { nest.old.angles + 1 < 2 ^ 64 }
+        ensures { nest.new ≡ spec.nest_outside nest.old self.now }
     {
         let symbol = self.symbol();
-        let angles = if nest.others == 0 {
-            self.angles_behind(nest)
-        } else {
-            nest.angles
-        };
-        Nest {
-            braces: braces_behind(0, symbol),
-            others: others_behind(nest.others, symbol),
-            free: free_behind(nest, symbol),
-            angles,
-            inner: nest.inner,
-            is_torn: nest.is_torn || closes_none(nest.others, symbol),
-            before: self.before_outside(nest),
+        let before = self.before_outside(*nest);
+        if nest.others == 0 {
+            nest.angles = self.angles_behind(*nest);
         }
+        nest.is_torn = nest.is_torn || closes_none(nest.others, symbol);
+        nest.free = free_behind(*nest, symbol);
+        nest.others = others_behind(nest.others, symbol);
+        nest.braces = braces_behind(0, symbol);
+        nest.before = before;
     }
 
     /// Counts the brackets that what stands behind the next token is in, and nothing else of it.
@@ -234,7 +230,7 @@ impl<'t> Cursor<'t> {
         }
         match self.symbol() {
             b'(' | b'[' | b'{' | b')' | b']' | b'}' | b'<' | b'>' => {
-                *nest = self.nest_outside(*nest);
+                self.nest_outside(nest);
             }
             _ => nest.before = self.before_outside(*nest),
         }

@@ -107,21 +107,31 @@ impl<'t> Cursor<'t> {
     }
 
     /// Whether an item begins, in no brace.
-    pub(crate) fn begins(&self, nest: Nest) -> bool
-        ensures { result ≡ spec.begins nest self.now }
+    #[inline(always)]
+    pub(crate) fn begins(&self, nest: &Nest) -> bool
+        ensures { result ≡ spec.begins nest.now self.now }
     {
         // Most words begin none, and are told by their length and their first byte.
         if !leads_item(self.word()) && self.symbol() != b'#' {
             return false;
         }
+        self.begins_with(nest)
+    }
+
+    /// The same where a word may tell it.
+    #[inline(never)]
+    fn begins_with(&self, nest: &Nest) -> bool
+        ensures { result ≡ spec.begins nest.now self.now }
+    {
         if nest.others == 0 {
             return self.begins_item() || self.begins_behind(nest.before);
         }
         nest.free == 0 && self.begins_within()
     }
 
-    fn stops_outside(&self, extent: Extent, nest: Nest) -> bool
-        ensures { result ≡ spec.stops_outside extent nest self.now }
+    #[inline(always)]
+    fn stops_outside(&self, extent: Extent, nest: &Nest) -> bool
+        ensures { result ≡ spec.stops_outside extent nest.now self.now }
     {
         match extent {
             Extent::Tree | Extent::Group => nest.others != 0 && self.symbol() == b'}',
@@ -131,9 +141,10 @@ impl<'t> Cursor<'t> {
         }
     }
 
+    #[inline(always)]
     #[tactic(auto, unfolding(crate::specs::Extents::stops))]
-    fn stops(&self, extent: Extent, nest: Nest) -> bool
-        ensures { result ≡ spec.stops extent nest self.now }
+    fn stops(&self, extent: Extent, nest: &Nest) -> bool
+        ensures { result ≡ spec.stops extent nest.now self.now }
     {
         if self.is_empty() {
             return true;
@@ -346,7 +357,7 @@ impl<'t> Cursor<'t> {
         let mut last = 0;
         let mut opened = None;
         let mut nest = Nest::flat_behind(before);
-        'tokens: while !self.stops(extent, nest) {
+        'tokens: while !self.stops(extent, &nest) {
             self.note_opened(nest, &mut opened);
             let is_call = is_mark(nest.before);
             self.nest_behind(&mut nest);

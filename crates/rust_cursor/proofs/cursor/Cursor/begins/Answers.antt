@@ -5,5 +5,5 @@ use Rattle.rust_cursor.proofs.cursor.Cursor.begins.Goals as goal
 
 pub returns-then-symbol-ne35 : goal.returns-then-symbol-ne35
 returns-then-symbol-ne35 c =
-    none_leads c.args.nest c.args.self.now (ap leads_item (sym c.word.ensures) ∙ sym c.leads_item.ensures ∙ c.if-not-leads_item.true)
+    none_leads c.args.nest.now c.args.self.now (ap leads_item (sym c.word.ensures) ∙ sym c.leads_item.ensures ∙ c.if-not-leads_item.true)
     (λ e. c.if-symbol-ne35.true (c.symbol.ensures ∙ e))
