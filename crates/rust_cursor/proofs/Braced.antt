@@ -1,5 +1,5 @@
 -- Braces are opaque: a walk over tokens stands behind them as it stood before them, whatever matches in them.
-use Rattle.std.proofs.Common.{◌≡◌, ◌≢◌, ℕ, suc, ◌-◌, ◌==◌, true, false, Option, Some, List, [], ◌∷◌, ◌++◌, refl, ap, ◌∙◌, sym, subst, arith}
+use Rattle.std.proofs.Common.{◌≡◌, ◌≢◌, ℕ, suc, ◌+◌, ◌-◌, ◌==◌, true, false, Option, Some, List, [], ◌∷◌, ◌++◌, refl, ap, ◌∙◌, sym, subst, arith}
 use Rattle.rust_cursor.proofs.Common.{nat_tests, EditionYear, Piece, symbol_of, braces_from, Nest, Tokens, end_of, symbol, is_empty, bumped, braces_behind, nest_inside, nest_outside, nest_behind}
 use Rattle.rust_cursor.proofs.Leads.{when}
 
@@ -64,6 +64,37 @@ enters n ts s =
     outside_angles : symbol ts ≡ 123 → (nest_outside n ts).angles ≡ n.angles
     outside_angles s = when (n.others == 0) (λ e. rw (e, s) refl) (λ e. rw e refl)
 
+-- behind a token of tokens whose braces match
+pub record BraceStep (t : Piece) (ms : List Piece) (k i : ℕ) : Type 0 where
+  pub depth : ℕ
+  pub behind : braces_behind k (symbol_of t) ≡ depth
+  pub inside : braces_behind (suc k) (symbol_of t) ≡ suc depth
+  pub some_open : k ≡ 0 → (symbol_of t == 125) ≡ false
+  pub deeper : (d : ℕ) → braces_from (k + d) (t ∷ ms) ≡ braces_from (depth + d) ms
+  pub rest : braces_from depth ms ≡ Some i
+
+pub brace_step : (t : Piece) (ms : List Piece) (k i : ℕ) → braces_from k (t ∷ ms) ≡ Some i → BraceStep t ms k i
+brace_step t ms k i e =
+    when (symbol_of t == 123)
+    (λ o. let f = rw o at e in
+    let other : (symbol_of t == 125) ≡ false = grind (arith, nat_tests) in
+    record { depth = suc k; behind = rw o (omega arith); inside = rw o (omega arith); some_open = λ _. other; deeper = λ d. rw o (ap (λ j. braces_from j ms) (omega arith)); rest = f })
+    (λ o. let f = rw o at e in
+    when (symbol_of t == 125)
+    (λ p. let g = rw p at f in
+    when (k == 0) (λ q. absurd (let no = rw q at g in cc))
+    (λ q. let h = rw q at g in
+    let some : k ≢ 0 = grind (arith, nat_tests) in
+    record {
+      depth = k - 1;
+      behind = rw (o, p) refl;
+      inside = rw (o, p) (omega arith);
+      some_open = λ z. absurd (some z);
+      deeper = λ d. let more : (k + d == 0) ≡ false = grind (arith, nat_tests) in rw (o, p, more) (ap (λ j. braces_from j ms) (omega arith));
+      rest = h;
+    }))
+    (λ p. let g = rw p at f in record { depth = k; behind = rw (o, p) refl; inside = rw (o, p) refl; some_open = λ _. p; deeper = λ d. rw (o, p) refl; rest = g }))
+
 -- ---- walks
 
 -- a walk goes on where it stands in braces, before the next token and behind it
@@ -112,18 +143,5 @@ module _ {S Z V : Type 0} (walk : S → Nest → Tokens → Z) (step : S → Nes
       let same : k ≡ i = cc in
       record { state = s; nest = n; past = past; stays = refl; deeper = record { braces = e ∙ ap suc same; others = refl; free = refl; angles = refl; before = refl }; same = refl }
   through (t ∷ ms) left y past k i u s n e f =
-      when (symbol_of t == 123)
-      (λ o. let g = rw o at f in
-      let c : braces_behind n.braces (symbol_of t) ≡ suc (suc k) = rw o (omega arith) in
-      goes_on t ms left y past k (suc k) i u s n e c (λ s' n' e'. through ms left y (end_of t) (suc k) i u s' n' e' g))
-      (λ o. let g = rw o at f in
-      when (symbol_of t == 125)
-      (λ p. let h = rw p at g in
-      when (k == 0) (λ q. absurd (let no = rw q at h in cc))
-      (λ q. let r = rw q at h in
-      let some : k ≢ 0 = grind (arith, nat_tests) in
-      let c : braces_behind n.braces (symbol_of t) ≡ suc (k - 1) = rw (o, p) (omega arith) in
-      goes_on t ms left y past k (k - 1) i u s n e c (λ s' n' e'. through ms left y (end_of t) (k - 1) i u s' n' e' r)))
-      (λ p. let h = rw p at g in
-      let c : braces_behind n.braces (symbol_of t) ≡ suc k = rw (o, p) e in
-      goes_on t ms left y past k k i u s n e c (λ s' n' e'. through ms left y (end_of t) k i u s' n' e' h)))
+      let brace = brace_step t ms k i f in
+      goes_on t ms left y past k brace.depth i u s n e (ap (λ j. braces_behind j (symbol_of t)) e ∙ brace.inside) (λ s' n' e'. through ms left y (end_of t) brace.depth i u s' n' e' brace.rest)

@@ -1,17 +1,18 @@
 -- The names that most proofs here cite, passed on from one place. Declares nothing.
 pub use Rattle.hir_input.specs.declared.edition.EditionYear.{EditionYear}
-pub use Rattle.rust_cursor.specs.Angles.{begins_binder, behind_field, behind_header, closes_around, is_barred, is_header_end, is_lone_for, reaching_from}
+pub use Rattle.rust_cursor.specs.Angles.{begins_binder, behind_field, behind_header, closes_around, is_barred, is_header_end, is_lone_for}
 unfoldable pub use Rattle.rust_cursor.specs.Angles.{behind_angles, is_closed, is_reached, is_trait_impl, reached, reaching}
 pub use Rattle.rust_cursor.specs.Beside.{AreBefore, AreBehind, AreOpen, Beside, Bodies, ahead, behind}
-pub use Rattle.rust_cursor.specs.Brackets.{behind_closing, closing_from}
+pub use Rattle.rust_cursor.specs.Brackets.{behind_closing}
 unfoldable pub use Rattle.rust_cursor.specs.Brackets.{behind_closed, behind_tree, closing, is_closing, to_closing}
 pub use Rattle.rust_cursor.specs.Elements.{elements, one, perhaps, turns_from}
 unfoldable pub use Rattle.rust_cursor.specs.Elements.{beyond, turns}
-pub use Rattle.rust_cursor.specs.Extents.{ExcerptRead, LeadsOn, begins, begins_behind, block_at, clipped, ends_flat, excerpt, follows_const, goes_on, impl_rest, item_rest, kept_text, leads_item, opened_behind, taking_from, taking_on, tree_text, value_rest}
+pub use Rattle.rust_cursor.specs.Extents.{ExcerptRead, LeadsOn, begins, begins_behind, block_at, clipped, ends_flat, excerpt, follows_const, goes_on, impl_rest, item_rest, kept_text, opened_behind, taking_from, taking_on, tree_text, value_rest}
 unfoldable pub use Rattle.rust_cursor.specs.Extents.{begins_impl_or_const, begins_item, begins_within, ends, has_blank, is_joined, more, stops, taken, taking}
-pub use Rattle.rust_cursor.specs.Nests.{begun, behind_braces, braces_behind, closes_other, flat, flat_behind, inside_behind, is_arrow, is_flat, is_mark, is_whole, may_lead_on, nest_inside, nest_outside, opens_other, others_behind}
+pub use Rattle.rust_cursor.specs.Inner.{leads_item, may_lead_on}
+pub use Rattle.rust_cursor.specs.Nests.{begun, behind_braces, braces_behind, closes_other, flat, flat_behind, inside_behind, is_arrow, is_flat, is_mark, is_whole, nest_inside, nest_outside, opens_other, others_behind, passing_from}
 unfoldable pub use Rattle.rust_cursor.specs.Nests.{leads_on, nest_behind}
-pub use Rattle.rust_cursor.specs.Reader.{Reader}
+pub use Rattle.rust_cursor.specs.Reader.{Reader, only_if}
 pub use Rattle.rust_cursor.specs.Tokens.{Tokens, end_of, last_unended, left_of, place_if_open}
 unfoldable pub use Rattle.rust_cursor.specs.Tokens.{tokens_of}
 pub use Rattle.rust_cursor.specs.Words.{by_first, closes, documents, identifies, is_close, is_open, opens, rest, taken_if, word_by}

@@ -15,6 +15,6 @@ leading =
     codes "mod" ∷ codes "move" ∷ codes "mut" ∷ codes "pub" ∷ codes "ref" ∷ codes "return" ∷ codes "static" ∷ codes "struct" ∷
     codes "trait" ∷ codes "type" ∷ codes "unsafe" ∷ codes "use" ∷ codes "where" ∷ codes "while" ∷ codes "yield" ∷ []
 
-pub leads_none : (w : List ℕ) → may_lead_on w ≡ false → leads_on w ≡ false
+pub leads_none : (w : List ℕ) → may_lead_on w ≡ false → false ≡ leads_on w
 unfolding leads_on
-leads_none w e = none_passed may_lead_on w leading e
+leads_none w e = sym (none_passed may_lead_on w leading e)

@@ -1,11 +1,10 @@
 -- What is left behind tokens that are taken from the front.
 use Rattle.std.proofs.Common.{◌≡◌, ◌<◌, ◌==◌, ◌&&◌, ℕ, zero, suc, Bool, true, false, Option, Some, None, List, [], ◌∷◌, length, ⊎_elim, refl, arith, if◌then◌else◌}
-use Rattle.rust_cursor.proofs.Common.{cases_Bool, eqb-true, Piece, symbol_of, Before, Nest, Reach, Extent, Tokens, Reader, is_close, word_by, by_first, symbol, word, is_empty, is_at_open, is_at_end, bumped, taken_if, eat, eat_word, is_pair, eat_pair, begun, flat, is_mark, nest_behind, is_closing, closing, to_closing, behind_closing, behind_closed, behind_tree, beyond, turns_from, turns, stops, ends, opened_behind, block_at, taking, taken, is_reached, is_closed, reaching, reached, behind_angles}
+use Rattle.rust_cursor.proofs.Common.{cases_Bool, eqb-true, Piece, symbol_of, Before, Nest, Reach, Extent, Tokens, Reader, only_if, is_close, word_by, by_first, symbol, word, is_empty, is_at_open, is_at_end, bumped, taken_if, eat, eat_word, is_pair, eat_pair, begun, flat, is_mark, nest_behind, is_closing, closing, to_closing, behind_closing, behind_closed, behind_tree, beyond, turns_from, turns, stops, ends, opened_behind, block_at, taking, taken, is_reached, is_closed, reaching, reached, behind_angles}
 use Rattle.rust_cursor.specs.declared.cursor.generics.Reach.TheVariants as reaches
 use Rattle.rust_cursor.proofs.Nesting.{shorter}
-use Rattle.rust_cursor.proofs.Steps.{closing_stop, closing_more}
+use Rattle.rust_cursor.proofs.Steps.{passing, passing_stop, passing_end, passing_more}
 use Rattle.rust_cursor.proofs.Scans.{taking_stop, taking_end, taking_more}
-use Rattle.rust_cursor.proofs.Reaches.{reaching_stop, reaching_end, reaching_more}
 
 -- the second are those that are left of the first when some were taken
 pub data LeadsTo : Tokens → Tokens → Type 0 where
@@ -45,6 +44,10 @@ pub eat_pair_leads : (a b : ℕ) → Forwards (eat_pair a b)
 unfolding eat_pair
 eat_pair_leads a b ts = when (is_pair a b ts) (λ e. rw e (further (bumped_leads _))) (λ e. rw e here)
 
+pub only_if_leads : {A : Type 0} (reader : Reader A) → Forwards reader → (test : Bool) → Forwards (only_if reader test)
+only_if_leads reader r true ts = r ts
+only_if_leads reader r false ts = here
+
 -- ---- all tokens, from the last to the first
 
 module _ (P : Tokens → Type 0) (none : (ts : Tokens) → is_empty ts ≡ true → P ts) (some : (ts : Tokens) → is_empty ts ≡ false → P (bumped ts) → P ts) where
@@ -59,18 +62,25 @@ module _ (P : Tokens → Type 0) (none : (ts : Tokens) → is_empty ts ≡ true 
 
 -- ---- brackets
 
-closing_next : (bracket : ℕ) (ts : Tokens) → ((nest : Nest) → LeadsTo (bumped ts) (closing bracket nest (bumped ts))) → (nest : Nest) → LeadsTo ts (closing bracket nest ts)
-closing_next bracket ts inner nest =
-    when (is_closing bracket nest ts) (λ s. rw (closing_stop bracket nest ts s) here) (λ s. rw (closing_more bracket nest ts s) (further (inner _)))
+module _ (is_stop : Nest → Tokens → Bool) (is_last : Nest → Bool) where
+  passing_next : (ts : Tokens) → is_empty ts ≡ false → ((nest : Nest) → LeadsTo (bumped ts) (passing is_stop is_last nest (bumped ts))) → (nest : Nest) → LeadsTo ts (passing is_stop is_last nest ts)
+  passing_next ts some inner nest =
+      when (is_stop nest ts) (λ s. rw (passing_stop is_stop is_last nest ts s) here)
+      (λ s. when (is_last (nest_behind nest ts)) (λ f. rw (passing_end is_stop is_last nest ts some s f) (bumped_leads ts))
+      (λ f. rw (passing_more is_stop is_last nest ts some s f) (further (inner _))))
+
+  pub passing_leads : ((nest : Nest) (ts : Tokens) → is_empty ts ≡ true → is_stop nest ts ≡ true) → (nest : Nest) (ts : Tokens) → LeadsTo ts (passing is_stop is_last nest ts)
+  passing_leads none nest ts =
+      from_last (λ ts. (nest : Nest) → LeadsTo ts (passing is_stop is_last nest ts)) (λ ts n nest. rw (passing_stop is_stop is_last nest ts (none nest ts n)) here)
+      (λ ts n inner. passing_next ts n inner) ts nest
 
 pub closing_empty : (bracket : ℕ) (nest : Nest) (ts : Tokens) → is_empty ts ≡ true → is_closing bracket nest ts ≡ true
 unfolding is_closing
 closing_empty bracket nest ts n = rw n refl
 
 pub closing_leads : (bracket : ℕ) (nest : Nest) (ts : Tokens) → LeadsTo ts (closing bracket nest ts)
-closing_leads bracket nest ts =
-    from_last (λ ts. (nest : Nest) → LeadsTo ts (closing bracket nest ts)) (λ ts n nest. rw (closing_stop bracket nest ts (closing_empty bracket nest ts n)) here)
-    (λ ts n inner. closing_next bracket ts inner) ts nest
+unfolding closing passing
+closing_leads bracket nest ts = passing_leads (is_closing bracket) (λ _. false) (closing_empty bracket) nest ts
 
 pub to_closing_leads : (bracket : ℕ) (ts : Tokens) → LeadsTo ts (to_closing bracket ts)
 unfolding to_closing
@@ -127,20 +137,13 @@ taken_leads_on before e ts = taking_leads e _ _ _ _ ts
 
 -- ---- angle brackets
 
-reaching_next : (r : Reach) (ts : Tokens) → ((nest : Nest) → LeadsTo (bumped ts) (reaching r nest (bumped ts))) → (nest : Nest) → LeadsTo ts (reaching r nest ts)
-reaching_next r ts inner nest =
-    when (is_reached r nest ts) (λ s. rw (reaching_stop r nest ts s) here)
-    (λ s. when (is_closed r (nest_behind nest ts)) (λ f. rw (reaching_end r nest ts s f) (bumped_leads ts))
-    (λ f. rw (reaching_more r nest ts s f) (further (inner _))))
-
 pub reached_empty : (r : Reach) (nest : Nest) (ts : Tokens) → is_empty ts ≡ true → is_reached r nest ts ≡ true
 unfolding is_reached
 reached_empty r nest ts n = rw n refl
 
 pub reaching_leads : (r : Reach) (nest : Nest) (ts : Tokens) → LeadsTo ts (reaching r nest ts)
-reaching_leads r nest ts =
-    from_last (λ ts. (nest : Nest) → LeadsTo ts (reaching r nest ts)) (λ ts n nest. rw (reaching_stop r nest ts (reached_empty r nest ts n)) here)
-    (λ ts n inner. reaching_next r ts inner) ts nest
+unfolding reaching passing
+reaching_leads r nest ts = passing_leads (is_reached r) (is_closed r) (reached_empty r) nest ts
 
 pub reached_leads : (r : Reach) (ts : Tokens) → LeadsTo ts (reached r ts)
 unfolding reached

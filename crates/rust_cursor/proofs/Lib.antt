@@ -34,4 +34,5 @@ pub mod NearUntil
 pub mod NearTexts
 pub mod Enclosed
 pub mod Keywords
+pub mod Pushed
 pub mod Common

@@ -1,10 +1,9 @@
 -- Walks over the tokens of a text that ends with a `;` or a `}`, and over those of a longer one: they come to the same place, or the one over the longer text passes the end.
-use Rattle.std.proofs.Common.{ℕ, ◌==◌, ap, ◌∙◌, sym}
-use Rattle.rust_cursor.proofs.Common.{Reach, Nest, is_reached, is_closed, reaching, reached, behind_angles, is_closing, closing, to_closing, behind_closing, behind_closed, behind_tree, beyond, flat, begun, nest_behind, Tokens, symbol, bumped}
+use Rattle.std.proofs.Common.{◌≡◌, ℕ, ◌==◌, Bool, true, false, ap, ◌∙◌, sym}
+use Rattle.rust_cursor.proofs.Common.{Reach, Nest, is_reached, is_closed, reaching, reached, behind_angles, is_closing, closing, to_closing, behind_closing, behind_closed, behind_tree, beyond, flat, begun, nest_behind, Tokens, symbol, is_empty, bumped}
 use Rattle.rust_cursor.specs.declared.cursor.generics.Reach.TheVariants as reaches
-use Rattle.rust_cursor.proofs.Leads.{LeadsTo, when, closing_leads, reaching_leads, behind_closing_leads, behind_closed_leads, from_last, closing_empty, reached_empty}
-use Rattle.rust_cursor.proofs.Reaches.{reaching_stop, reaching_end, reaching_more}
-use Rattle.rust_cursor.proofs.Steps.{closing_stop, closing_more}
+use Rattle.rust_cursor.proofs.Leads.{LeadsTo, when, passing_leads, behind_closing_leads, behind_closed_leads, from_last, closing_empty, reached_empty}
+use Rattle.rust_cursor.proofs.Steps.{passing, passing_stop, passing_end, passing_more, some_left}
 use Rattle.rust_cursor.proofs.Near.{Ending, Near, Gone, gone_on, bumped_onward, taken_same, near_twins}
 use Rattle.rust_cursor.proofs.Parting.{Onward, into, on, by_next, cond_onward, Parting}
 use Rattle.rust_cursor.proofs.Tests.{nest_same, closing_same, reached_same}
@@ -13,19 +12,33 @@ use Rattle.rust_cursor.proofs.Twins.{symbol_same, symbol_test, open_same}
 near_leads : {b : Ending} {ts us vs ws : Tokens} → Onward (Near b) (Gone b) ts us → LeadsTo ts vs → LeadsTo us ws → (Near b ts us → Onward (Near b) (Gone b) vs ws) → Onward (Near b) (Gone b) vs ws
 near_leads o p q same = by_next o (λ g. into (gone_on g p q)) same
 
+-- ---- what stops at the same tokens
+
+module _ (b : Ending) (is_stop : Nest → Tokens → Bool) (is_last : Nest → Bool) (none : (n : Nest) (ts : Tokens) → is_empty ts ≡ true → is_stop n ts ≡ true)
+    (same : (n : Nest) (ts us : Tokens) → Near b ts us → is_stop n us ≡ is_stop n ts) where
+  passing_near : (us ts : Tokens) (n : Nest) → Near b ts us → Onward (Near b) (Gone b) (passing is_stop is_last n ts) (passing is_stop is_last n us)
+  passing_near us ts n h =
+      from_last (λ us. (ts : Tokens) (n : Nest) → Near b ts us → Onward (Near b) (Gone b) (passing is_stop is_last n ts) (passing is_stop is_last n us))
+      (λ us empty ts n h. let s = none n us empty in
+      rw (passing_stop is_stop is_last n us s, passing_stop is_stop is_last n ts (sym (same n ts us h) ∙ s)) (on h))
+      (λ us some more ts n h.
+      when (is_stop n ts)
+      (λ s. rw (passing_stop is_stop is_last n ts s, passing_stop is_stop is_last n us (same n ts us h ∙ s)) (on h))
+      (λ s. let left = some_left is_stop none n ts s in
+      let s' = same n ts us h ∙ s in
+      let nest = nest_same (near_twins b) n ts us h in
+      let behind = nest_behind n ts in
+      when (is_last behind)
+      (λ f. rw (passing_end is_stop is_last n ts left s f, passing_end is_stop is_last n us some s' (ap is_last nest ∙ f)) (bumped_onward b ts us h))
+      (λ f. rw (passing_more is_stop is_last n ts left s f, passing_more is_stop is_last n us some s' (ap is_last nest ∙ f), nest)
+      (near_leads (bumped_onward b ts us h) (passing_leads is_stop is_last none behind (bumped ts)) (passing_leads is_stop is_last none behind (bumped us)) (λ k. more (bumped ts) behind k)))))
+      us ts n h
+
 -- ---- brackets
 
 closing_near : (b : Ending) (bracket : ℕ) (us ts : Tokens) (n : Nest) → Near b ts us → Onward (Near b) (Gone b) (closing bracket n ts) (closing bracket n us)
-closing_near b bracket us ts n h =
-    from_last (λ us. (ts : Tokens) (n : Nest) → Near b ts us → Onward (Near b) (Gone b) (closing bracket n ts) (closing bracket n us))
-    (λ us none ts n h. let s = closing_empty bracket n us none in
-    rw (closing_stop bracket n us s, closing_stop bracket n ts (sym (closing_same (near_twins b) bracket n ts us h) ∙ s)) (on h))
-    (λ us some more ts n h.
-    when (is_closing bracket n ts)
-    (λ s. rw (closing_stop bracket n ts s, closing_stop bracket n us (closing_same (near_twins b) bracket n ts us h ∙ s)) (on h))
-    (λ s. rw (closing_more bracket n ts s, closing_more bracket n us (closing_same (near_twins b) bracket n ts us h ∙ s), nest_same (near_twins b) n ts us h)
-    (near_leads (bumped_onward b ts us h) (closing_leads bracket (nest_behind n ts) (bumped ts)) (closing_leads bracket (nest_behind n ts) (bumped us)) (λ k. more (bumped ts) (nest_behind n ts) k))))
-    us ts n h
+unfolding closing passing
+closing_near b bracket us ts n h = passing_near b (is_closing bracket) (λ _. false) (closing_empty bracket) (closing_same (near_twins b) bracket) us ts n h
 
 behind_closing_near : (b : Ending) (bracket : ℕ) (ts us : Tokens) → Near b ts us → Onward (Near b) (Gone b) (behind_closing bracket ts) (behind_closing bracket us)
 behind_closing_near b bracket ts us h =
@@ -49,26 +62,9 @@ beyond_near b ts us ts' us' h k = cond_onward (taken_same b ts us ts' us' h k) (
 
 -- ---- angle brackets
 
-reaching_near : (b : Ending) (r : Reach) (us ts : Tokens) (n : Nest) → Near b ts us → Onward (Near b) (Gone b) (reaching r n ts) (reaching r n us)
-reaching_near b r us ts n h =
-    from_last (λ us. (ts : Tokens) (n : Nest) → Near b ts us → Onward (Near b) (Gone b) (reaching r n ts) (reaching r n us))
-    (λ us none ts n h. let s = reached_empty r n us none in
-    rw (reaching_stop r n us s, reaching_stop r n ts (sym (reached_same (near_twins b) r n ts us h) ∙ s)) (on h))
-    (λ us some more ts n h.
-    when (is_reached r n ts)
-    (λ s. rw (reaching_stop r n ts s, reaching_stop r n us (reached_same (near_twins b) r n ts us h ∙ s)) (on h))
-    (λ s. let s' = reached_same (near_twins b) r n ts us h ∙ s in
-    let same = nest_same (near_twins b) n ts us h in
-    let behind = nest_behind n ts in
-    when (is_closed r behind)
-    (λ f. rw (reaching_end r n ts s f, reaching_end r n us s' (ap (is_closed r) same ∙ f)) (bumped_onward b ts us h))
-    (λ f. rw (reaching_more r n ts s f, reaching_more r n us s' (ap (is_closed r) same ∙ f), same)
-    (near_leads (bumped_onward b ts us h) (reaching_leads r behind (bumped ts)) (reaching_leads r behind (bumped us)) (λ k. more (bumped ts) behind k)))))
-    us ts n h
-
 pub reached_near : (b : Ending) (r : Reach) (ts us : Tokens) → Near b ts us → Onward (Near b) (Gone b) (reached r ts) (reached r us)
-unfolding reached
-reached_near b r ts us h = reaching_near b r us ts begun h
+unfolding reached reaching passing
+reached_near b r ts us h = passing_near b (is_reached r) (is_closed r) (reached_empty r) (reached_same (near_twins b) r) us ts begun h
 
 pub behind_angles_near : (b : Ending) (ts us : Tokens) → Near b ts us → Onward (Near b) (Gone b) (behind_angles ts) (behind_angles us)
 unfolding behind_angles

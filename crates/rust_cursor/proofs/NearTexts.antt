@@ -1,6 +1,6 @@
 -- The text of what is left of an item is the same in a text that ends with it, and in a longer one where it ends there too.
 use Rattle.std.proofs.Common.{◌≡◌, ◌<◌, ℕ, ◌+◌, ◌-◌, ◌==◌, ◌||◌, ◌&&◌, Bool, true, false, Option, Some, None, List, [], ◌∷◌, ◌++◌, length, refl, ap, ◌∙◌, sym, arith, map, not, if◌then◌else◌}
-use Rattle.rust_cursor.proofs.Common.{not-true, EditionYear, moved, Piece, Before, Nest, ExcerptRead, stops, ends, goes_on, opened_behind, block_at, more, taking, taken, tree_text, is_flat, is_mark, nest_behind, Tokens, symbol, at, is_empty, bumped}
+use Rattle.rust_cursor.proofs.Common.{not-true, EditionYear, moved, Piece, Before, Nest, Extent, ExcerptRead, stops, ends, goes_on, opened_behind, block_at, more, taking, taken, tree_text, is_flat, is_mark, nest_behind, Tokens, symbol, at, is_empty, bumped}
 use Rattle.rust_cursor.proofs.Leads.{when, from_last, stops_empty, taking_leads}
 use Rattle.rust_cursor.proofs.Nesting.{shorter}
 use Rattle.rust_cursor.proofs.Scans.{taking_stop, taking_end, taking_more, taking_some}
@@ -118,31 +118,40 @@ past_end b e done last o n ts q same none uneven never =
 abbrev Outcomes : Ending → (List ℕ → ℕ → Option Tokens → Nest → Tokens → ExcerptRead × Tokens) → Tokens → Type 0
 Outcomes b taking us = (ts : Tokens) (done : List ℕ) (last : ℕ) (o o' : Option Tokens) (n : Nest) → Near b ts us → BlockNear b o o' → Outcome (SameText b) (λ r. r.is_ended) b (taking done last o n ts) (taking done last o' n us)
 
+-- what is the same of both before a token is taken
+record TurnNear (b : Ending) (e : Extent) (o o' : Option Tokens) (n : Nest) (ts us : Tokens) : Type 0 where
+  goes : stops e n us ≡ false
+  nest : nest_behind n us ≡ nest_behind n ts
+  opened : BlockNear b (opened_behind o n ts) (opened_behind o' n us)
+
+turn_near : (b : Ending) (e : Extent) (o o' : Option Tokens) (n : Nest) (ts us : Tokens) → BlockNear b o o' → Near b ts us → stops e n ts ≡ false → TurnNear b e o o' n ts us
+turn_near b e o o' n ts us k h s = record {
+  goes = stops_same (near_twins b) e n ts us h ∙ s;
+  nest = nest_same (near_twins b) n ts us h;
+  opened = opened_near b o o' n ts us k h;
+}
+
 text_next : (b : Ending) (e : _) → EndsSo b (ends e) → (us : Tokens) → Outcomes b (taking e) (bumped us) → (ts : Tokens) (done : List ℕ) (last : ℕ) (o o' : Option Tokens) (n : Nest) → Near b ts us → BlockNear b o o'
     → stops e n ts ≡ false → Step b ts us → Outcome (SameText b) (λ r. r.is_ended) b (taking e done last o n ts) (taking e done last o' n us)
 text_next b e so us rest ts done last o o' n h k s (next l) =
-    let s' = stops_same (near_twins b) e n ts us h ∙ s in
+    let turn = turn_near b e o o' n ts us k h s in
     let call = is_mark n.before in
     let behind = nest_behind n ts in
-    let same = nest_same (near_twins b) n ts us h in
-    let opened = opened_near b o o' n ts us k h in
-    let ends' : ends e call (nest_behind n us) us ≡ ends e call behind ts = ap (λ (m : Nest). ends e call m us) same ∙ ends_same (near_twins b) e call behind ts us (symbol_same (near_twins b) ts us h) l in
+    let ends' : ends e call (nest_behind n us) us ≡ ends e call behind ts = ap (λ (m : Nest). ends e call m us) turn.nest ∙ ends_same (near_twins b) e call behind ts us (symbol_same (near_twins b) ts us h) l in
     when (ends e call behind ts)
-    (λ f. rw (taking_end e done last o n ts s f, taking_end e done last o' n us s' (ends' ∙ f), same, more_same (near_twins b) e last done ts us h)
-    (stays (record { value = record { text = refl; ended = refl; braces = block_near b _ _ ts us opened h }; rest = l })))
-    (λ f. rw (taking_more e done last o n ts s f, taking_more e done last o' n us s' (ends' ∙ f), same, more_same (near_twins b) e last done ts us h, symbol_same (near_twins b) ts us h)
-    (rest (bumped ts) (more e last done ts) (symbol ts) _ _ behind l (rw (symbol_same (near_twins b) ts us h) at opened)))
+    (λ f. rw (taking_end e done last o n ts s f, taking_end e done last o' n us turn.goes (ends' ∙ f), turn.nest, more_same (near_twins b) e last done ts us h)
+    (stays (record { value = record { text = refl; ended = refl; braces = block_near b _ _ ts us turn.opened h }; rest = l })))
+    (λ f. rw (taking_more e done last o n ts s f, taking_more e done last o' n us turn.goes (ends' ∙ f), turn.nest, more_same (near_twins b) e last done ts us h, symbol_same (near_twins b) ts us h)
+    (rest (bumped ts) (more e last done ts) (symbol ts) _ _ behind l (rw (symbol_same (near_twins b) ts us h) at turn.opened)))
 text_next b e so us rest ts done last o o' n h k s (at_last a) =
-    let s' = stops_same (near_twins b) e n ts us h ∙ s in
+    let turn = turn_near b e o o' n ts us k h s in
     let call = is_mark n.before in
     let behind = nest_behind n ts in
-    let same = nest_same (near_twins b) n ts us h in
-    let opened = opened_near b o o' n ts us k h in
     when (ends e call behind ts)
-    (λ f. let f' : ends e call (nest_behind n us) us ≡ true = ap (λ (m : Nest). ends e call m us) same ∙ so.last call behind ts us h a f in
-    rw (taking_end e done last o n ts s f, taking_end e done last o' n us s' f', same, more_same (near_twins b) e last done ts us h)
-    (comes (record { text = refl; ended = refl; braces = block_near b _ _ ts us opened h }) a))
-    (λ f. rw (taking_more e done last o n ts s f) (past_end b e (more e last done ts) (symbol ts) (opened_behind o n ts) behind (bumped ts) _ a.behind (taken_last e done last o' n us s' a.none) a.uneven (never_last b e so done last o' n ts us h a s' f)))
+    (λ f. let f' : ends e call (nest_behind n us) us ≡ true = ap (λ (m : Nest). ends e call m us) turn.nest ∙ so.last call behind ts us h a f in
+    rw (taking_end e done last o n ts s f, taking_end e done last o' n us turn.goes f', turn.nest, more_same (near_twins b) e last done ts us h)
+    (comes (record { text = refl; ended = refl; braces = block_near b _ _ ts us turn.opened h }) a))
+    (λ f. rw (taking_more e done last o n ts s f) (past_end b e (more e last done ts) (symbol ts) (opened_behind o n ts) behind (bumped ts) _ a.behind (taken_last e done last o' n us turn.goes a.none) a.uneven (never_last b e so done last o' n ts us h a turn.goes f)))
 
 text_near : (b : Ending) (e : _) → EndsSo b (ends e) → (us : Tokens) → Outcomes b (taking e) us
 text_near b e so us =

@@ -1,5 +1,5 @@
 -- Steps of nests.
-use Rattle.std.proofs.Common.{◌≡◌, ◌≤◌, ◌+◌, ◌-◌, ◌==◌, ℕ, Bool, true, false, List, [], ◌∷◌, length, ⊎_elim, refl, ap, arith, if◌then◌else◌}
+use Rattle.std.proofs.Common.{◌≡◌, ◌≤◌, ◌<◌, ◌+◌, ◌^◌, ◌-◌, ◌==◌, ℕ, Bool, true, false, List, [], ◌∷◌, length, ⊎_elim, refl, ap, arith, if◌then◌else◌}
 use Rattle.rust_cursor.proofs.Common.{cases_Bool, Piece, Nest, Tokens, by_first, rest, symbol, is_empty, bumped, opens_other, closes_other, is_arrow, nest_behind}
 
 shorter_from : (left : List Piece) → by_first true (λ _. false) left ≡ false → length (rest left) + 1 ≡ length left
@@ -25,36 +25,29 @@ angles_step : (counts opens closes arrow : Bool) (n : ℕ) → (if counts then (
 angles_step true false true true n = omega arith
 angles_step _ _ _ _ n = omega arith
 
-braces_le : (nest : Nest) (ts : Tokens) → (nest_behind nest ts).braces ≤ nest.braces + 1
-unfolding nest_behind
-braces_le nest ts =
-    ⊎_elim
-    (λ e. let step = braces_step (symbol ts == 123) (symbol ts == 125) 0 in rw e (omega arith))
-    (λ e. rw e (braces_step (symbol ts == 123) (symbol ts == 125) nest.braces))
-    (cases_Bool (nest.braces == 0))
+record IsOneMore (nest behind : Nest) : Type 0 where
+  braces : behind.braces ≤ nest.braces + 1
+  others : behind.others ≤ nest.others + 1
+  angles : behind.angles ≤ nest.angles + 1
+  inner : behind.inner ≤ nest.inner + 1
 
-others_le : (nest : Nest) (ts : Tokens) → (nest_behind nest ts).others ≤ nest.others + 1
+one_more : (nest : Nest) (ts : Tokens) → IsOneMore nest (nest_behind nest ts)
 unfolding nest_behind
-others_le nest ts =
+one_more nest ts =
     ⊎_elim
-    (λ e. rw e (others_step (opens_other (symbol ts)) (closes_other (symbol ts)) (symbol ts == 125) nest.others))
-    (λ e. rw e (omega arith))
-    (cases_Bool (nest.braces == 0))
-
-angles_le : (nest : Nest) (ts : Tokens) → (nest_behind nest ts).angles ≤ nest.angles + 1
-unfolding nest_behind
-angles_le nest ts =
-    ⊎_elim
-    (λ e. rw e (angles_step (nest.others == 0) (symbol ts == 60) (symbol ts == 62) (is_arrow nest.before ts) nest.angles))
-    (λ e. rw e (omega arith))
-    (cases_Bool (nest.braces == 0))
-
-inner_le : (nest : Nest) (ts : Tokens) → (nest_behind nest ts).inner ≤ nest.inner + 1
-unfolding nest_behind
-inner_le nest ts =
-    ⊎_elim
-    (λ e. rw e (omega arith))
-    (λ e. rw e (braces_step (opens_other (symbol ts)) (closes_other (symbol ts)) nest.inner))
+    (λ e. let first = braces_step (symbol ts == 123) (symbol ts == 125) 0 in
+    rw e (record {
+      braces = omega arith;
+      others = others_step (opens_other (symbol ts)) (closes_other (symbol ts)) (symbol ts == 125) nest.others;
+      angles = angles_step (nest.others == 0) (symbol ts == 60) (symbol ts == 62) (is_arrow nest.before ts) nest.angles;
+      inner = omega arith;
+    }))
+    (λ e. rw e (record {
+      braces = braces_step (symbol ts == 123) (symbol ts == 125) nest.braces;
+      others = omega arith;
+      angles = omega arith;
+      inner = braces_step (opens_other (symbol ts)) (closes_other (symbol ts)) nest.inner;
+    }))
     (cases_Bool (nest.braces == 0))
 
 -- what is left is less, and with the brackets no more
@@ -73,11 +66,50 @@ fewer nest behind ts after some b n =
     let others : behind.others ≡ (nest_behind nest ts).others = ap (λ k. k.others) b in
     let angles : behind.angles ≡ (nest_behind nest ts).angles = ap (λ k. k.angles) b in
     let inner : behind.inner ≡ (nest_behind nest ts).inner = ap (λ k. k.inner) b in
-    let most = inner_le nest ts in
-    let deep = braces_le nest ts in
-    let high = others_le nest ts in
-    let wide = angles_le nest ts in
-    record { left = omega arith; braces = omega arith; others = omega arith; angles = omega arith; inner = omega arith }
+    let one = one_more nest ts in
+    record {
+      left = omega arith;
+      braces = omega (arith, one.braces);
+      others = omega (arith, one.others);
+      angles = omega (arith, one.angles);
+      inner = omega (arith, one.inner);
+    }
+
+-- brackets that can be counted up to the end of what is left
+abbrev pub AreCounted : Nest → Tokens → Type 0
+AreCounted nest ts = record {
+  braces : nest.braces + length ts.left < 2 ^ 64;
+  others : nest.others + length ts.left < 2 ^ 64;
+  angles : nest.angles + length ts.left < 2 ^ 64;
+  inner : nest.inner + length ts.left < 2 ^ 64;
+}
+
+-- one more of each kind can be counted
+abbrev HasRoom : Nest → Type 0
+HasRoom nest = record {
+  braces : nest.braces + 1 < 2 ^ 64;
+  others : nest.others + 1 < 2 ^ 64;
+  angles : nest.angles + 1 < 2 ^ 64;
+  inner : nest.inner + 1 < 2 ^ 64;
+}
+
+pub room : (nest : Nest) (ts : Tokens) → is_empty ts ≡ false → AreCounted nest ts → HasRoom nest
+room nest ts some counted =
+    let less = shorter ts some in
+    record {
+      braces = omega (arith, less, counted.braces);
+      others = omega (arith, less, counted.others);
+      angles = omega (arith, less, counted.angles);
+      inner = omega (arith, less, counted.inner);
+    }
+
+pub counted_on : {nest behind : Nest} {ts after : Tokens} → IsFewer nest behind ts after → AreCounted nest ts → AreCounted behind after
+counted_on less counted = record {
+  braces = omega (arith, less.braces, counted.braces);
+  others = omega (arith, less.others, counted.others);
+  angles = omega (arith, less.angles, counted.angles);
+  inner = omega (arith, less.inner, counted.inner);
+}
 
 pub not_first : (b rest : Bool) → (if b then true else rest) ≡ false → b ≡ false
 not_first true rest e = e

@@ -4,12 +4,11 @@ use Rattle.rust_cursor.proofs.Common.{nat_tests, eqb-true, EditionYear, Piece, s
 use Rattle.rust_cursor.specs.declared.cursor.generics.Reach.TheVariants as reaches
 use Rattle.rust_cursor.specs.declared.cursor.texts.Extent.TheVariants as extents
 use Rattle.rust_cursor.proofs.Leads.{when, from_last, symbol_some, stops_empty, reached_empty, closing_empty, still_same}
-use Rattle.rust_cursor.proofs.Steps.{closing_stop, closing_more}
+use Rattle.rust_cursor.proofs.Steps.{passing, passing_stop, passing_end, passing_more, some_left, closing_stop, closing_more}
 use Rattle.rust_cursor.proofs.Scans.{taking_stop, taking_end, taking_more}
-use Rattle.rust_cursor.proofs.Reaches.{reaching_stop, reaching_end, reaching_more}
 use Rattle.rust_cursor.proofs.Views.{beside_twins, symbol_same, word_same, open_same, not_brace, next_ahead, next_behind, next_none, taken_same, before_same}
 use Rattle.rust_cursor.proofs.Tests.{stops_same, ends_same, closing_same, reached_same}
-use Rattle.rust_cursor.proofs.Braced.{tokens_at, symbol_at, some_at, bumped_at, Stays}
+use Rattle.rust_cursor.proofs.Braced.{tokens_at, symbol_at, some_at, bumped_at, brace_step, Stays}
 use Rattle.rust_cursor.proofs.Walk.{Walk, inner_by, walk_beside}
 use Rattle.rust_cursor.proofs.Inside.{stops_deep}
 
@@ -97,6 +96,54 @@ taken_both b before e ts us h =
     walk_beside (taking_at e) (taking_step e) (stops e) (taking_ends e) (taking_stopped e) (taking_ended e) seen_of BothBeside TakenBeside (taking_walk e) b ts us
     ([], (0, None)) ([], (0, None)) (flat_behind before) 0 false neither h
 
+-- ---- what stops at the same tokens
+
+abbrev passing_rest : (Nest → Tokens → Bool) → (Nest → Bool) → Unit {0} → Nest → Tokens → Tokens
+passing_rest is_stop is_last s n ts = passing is_stop is_last n ts
+
+abbrev same_state : Unit {0} → Nest → Tokens → Unit {0}
+same_state s n ts = tt
+
+abbrev nothing_seen : Unit {0} → Unit {0}
+nothing_seen s = s
+
+abbrev no_state : Bodies → Unit {0} → Unit {0} → Type 0
+no_state b s s' = Unit {0}
+
+abbrev no_more : Unit {0} → Nest → Tokens → Tokens
+no_more s n ts = ts
+
+abbrev one_more : Unit {0} → Nest → Tokens → Tokens
+one_more s n ts = bumped ts
+
+abbrev last_at : (Nest → Bool) → Before → Nest → Tokens → Bool
+last_at is_last w n ts = is_last n
+
+module _ (is_stop : Nest → Tokens → Bool) (is_last : Nest → Bool) (none : (n : Nest) (ts : Tokens) → is_empty ts ≡ true → is_stop n ts ≡ true)
+    (deep_stops : (n : Nest) (ts : Tokens) → is_empty ts ≡ false → (n.braces == 0) ≡ false → is_stop n ts ≡ false) (deep_last : (n : Nest) → (n.braces == 0) ≡ false → is_last n ≡ false)
+    (stops_inner : (n : Nest) (i : ℕ) (t : Bool) (ts : Tokens) → is_stop (inner_by n i t) ts ≡ is_stop n ts) (last_inner : (n : Nest) (i : ℕ) (t : Bool) → is_last (inner_by n i t) ≡ is_last n)
+    (stops_beside : (b : Bodies) (n : Nest) (ts us : Tokens) → Beside b ts us → is_stop n us ≡ is_stop n ts) where
+  passing_walk : Walk (passing_rest is_stop is_last) same_state is_stop (last_at is_last) no_more one_more nothing_seen no_state Beside
+  passing_walk = record {
+    stop = λ s n ts p. passing_stop is_stop is_last n ts p;
+    end = λ s n ts p q. passing_end is_stop is_last n ts (some_left is_stop none n ts p) p q;
+    more = λ s n ts p q. passing_more is_stop is_last n ts (some_left is_stop none n ts p) p q;
+    none = none;
+    deep_stops = deep_stops;
+    deep_ends = λ w n ts d. deep_last n d;
+    stops_inner = stops_inner;
+    ends_inner = λ w n i t ts. last_inner n i t;
+    stops_beside = stops_beside;
+    ends_beside = λ b w n ts us s h. refl;
+    seen_stays = λ s n ts d. refl;
+    seen_beside = λ b s s' n i t ts us a h. tt;
+    stopped_beside = λ b s s' n n' ts us a h. h;
+    ended_beside = λ b s s' n n' ts us a c h. h;
+  }
+
+  passing_beside : (b : Bodies) (n : Nest) (ts us : Tokens) → Beside b ts us → Beside b (passing is_stop is_last n ts) (passing is_stop is_last (inner_by n 0 false) us)
+  passing_beside b n ts us h = walk_beside (passing_rest is_stop is_last) same_state is_stop (last_at is_last) no_more one_more nothing_seen no_state Beside passing_walk b ts us tt tt n 0 false tt h
+
 -- ---- angle brackets
 
 pub reached_deep : (r : Reach) (n : Nest) (ts : Tokens) → is_empty ts ≡ false → (n.braces == 0) ≡ false → is_reached r n ts ≡ false
@@ -118,48 +165,10 @@ unfolding is_closed
 closed_inner reaches.Angles n i t = refl
 closed_inner _ n i t = refl
 
-abbrev reaching_rest : Reach → Unit {0} → Nest → Tokens → Tokens
-reaching_rest r s n ts = reaching r n ts
-
-abbrev same_state : Unit {0} → Nest → Tokens → Unit {0}
-same_state s n ts = tt
-
-abbrev nothing_seen : Unit {0} → Unit {0}
-nothing_seen s = s
-
-abbrev no_state : Bodies → Unit {0} → Unit {0} → Type 0
-no_state b s s' = Unit {0}
-
-abbrev no_more : Unit {0} → Nest → Tokens → Tokens
-no_more s n ts = ts
-
-abbrev one_more : Unit {0} → Nest → Tokens → Tokens
-one_more s n ts = bumped ts
-
-abbrev closes_at : Reach → Before → Nest → Tokens → Bool
-closes_at r w n ts = is_closed r n
-
-reaching_walk : (r : Reach) → Walk (reaching_rest r) same_state (is_reached r) (closes_at r) no_more one_more nothing_seen no_state Beside
-reaching_walk r = record {
-  stop = λ s n ts p. reaching_stop r n ts p;
-  end = λ s n ts p q. reaching_end r n ts p q;
-  more = λ s n ts p q. reaching_more r n ts p q;
-  none = reached_empty r;
-  deep_stops = reached_deep r;
-  deep_ends = λ w n ts d. closed_deep r n d;
-  stops_inner = reached_inner r;
-  ends_inner = λ w n i t ts. closed_inner r n i t;
-  stops_beside = λ b n ts us h. reached_same (beside_twins b) r n ts us h;
-  ends_beside = λ b w n ts us s h. refl;
-  seen_stays = λ s n ts d. refl;
-  seen_beside = λ b s s' n i t ts us a h. tt;
-  stopped_beside = λ b s s' n n' ts us a h. h;
-  ended_beside = λ b s s' n n' ts us a c h. h;
-}
-
 pub reached_beside : (b : Bodies) (r : Reach) (ts us : Tokens) → Beside b ts us → Beside b (reached r ts) (reached r us)
-unfolding reached
-reached_beside b r ts us h = walk_beside (reaching_rest r) same_state (is_reached r) (closes_at r) no_more one_more nothing_seen no_state Beside (reaching_walk r) b ts us tt tt begun 0 false tt h
+unfolding reached reaching passing
+reached_beside b r ts us h =
+    passing_beside (is_reached r) (is_closed r) (reached_empty r) (reached_deep r) (closed_deep r) (reached_inner r) (closed_inner r) (λ b. reached_same (beside_twins b) r) b begun ts us h
 
 pub behind_angles_beside : (b : Bodies) (ts us : Tokens) → Beside b ts us → Beside b (behind_angles ts) (behind_angles us)
 unfolding behind_angles
@@ -185,33 +194,10 @@ closing_inner : (bracket : ℕ) (n : Nest) (i : ℕ) (t : Bool) (ts : Tokens) �
 unfolding is_closing
 closing_inner bracket n i t ts = refl
 
-abbrev closing_rest : ℕ → Unit {0} → Nest → Tokens → Tokens
-closing_rest bracket s n ts = closing bracket n ts
-
-abbrev never : Before → Nest → Tokens → Bool
-never w n ts = false
-
-closing_walk : (bracket : ℕ) → Walk (closing_rest bracket) same_state (is_closing bracket) never no_more one_more nothing_seen no_state Beside
-closing_walk bracket = record {
-  stop = λ s n ts p. closing_stop bracket n ts p;
-  end = λ s n ts p q. absurd cc;
-  more = λ s n ts p q. closing_more bracket n ts p;
-  none = closing_empty bracket;
-  deep_stops = closing_deep bracket;
-  deep_ends = λ w n ts d. refl;
-  stops_inner = closing_inner bracket;
-  ends_inner = λ w n i t ts. refl;
-  stops_beside = λ b n ts us h. closing_same (beside_twins b) bracket n ts us h;
-  ends_beside = λ b w n ts us s h. refl;
-  seen_stays = λ s n ts d. refl;
-  seen_beside = λ b s s' n i t ts us a h. tt;
-  stopped_beside = λ b s s' n n' ts us a h. h;
-  ended_beside = λ b s s' n n' ts us a c h. h;
-}
-
 pub to_closing_beside : (b : Bodies) (bracket : ℕ) (ts us : Tokens) → Beside b ts us → Beside b (to_closing bracket ts) (to_closing bracket us)
-unfolding to_closing
-to_closing_beside b bracket ts us h = walk_beside (closing_rest bracket) same_state (is_closing bracket) never no_more one_more nothing_seen no_state Beside (closing_walk bracket) b ts us tt tt flat 0 false tt h
+unfolding to_closing closing passing
+to_closing_beside b bracket ts us h =
+    passing_beside (is_closing bracket) (λ _. false) (closing_empty bracket) (closing_deep bracket) (λ n d. refl) (closing_inner bracket) (λ n i t. refl) (λ b. closing_same (beside_twins b) bracket) b flat ts us h
 
 both_no : (p q : Bool) → (not p && (q && false)) ≡ true → ⊥
 both_no false true e = cc
@@ -275,23 +261,11 @@ out c [] left y past k u n is e f =
 out c (t ∷ ms) left y past k u n is e f =
     let ts = tokens_at y past (t ∷ (ms ++ c ∷ left)) u in
     let seen = symbol_at y past t (ms ++ c ∷ left) u in
-    let on : (j : ℕ) → braces_behind n.braces (symbol_of t) ≡ j → (n.braces ≡ 0 → (symbol_of t == 125) ≡ false) → braces_from j ms ≡ Some 0 → Out n ts y (c ∷ left) u =
-    λ j g q m.
-    let more = closing_more 123 n ts (shuts_not n ts (some_at y past t (ms ++ c ∷ left) u) (λ z. rw seen (q z))) in
-    let rest = out c ms left y (end_of t) j u (nest_behind n ts) is (braces_of n ts ∙ ap (braces_behind n.braces) seen ∙ g) m in
-    record { past = rest.past; is = more ∙ ap (closing 123 (nest_behind n ts)) (bumped_at y past t (ms ++ c ∷ left) u) ∙ rest.is } in
-    when (symbol_of t == 123)
-    (λ o. let g = rw o at f in
-    let other : (symbol_of t == 125) ≡ false = grind (arith, nat_tests) in
-    on (suc k) (rw o (omega arith)) (λ _. other) g)
-    (λ o. let g = rw o at f in
-    when (symbol_of t == 125)
-    (λ p. let h = rw p at g in
-    when (k == 0) (λ q. absurd (let no_depth = rw q at h in cc))
-    (λ q. let r = rw q at h in
-    let some : k ≢ 0 = grind (arith, nat_tests) in
-    on (k - 1) (rw (o, p) (omega arith)) (λ z. absurd (some (sym e ∙ z))) r))
-    (λ p. let h = rw p at g in on k (rw (o, p) e) (λ _. p) h))
+    let brace = brace_step t ms k 0 f in
+    let more = closing_more 123 n ts (shuts_not n ts (some_at y past t (ms ++ c ∷ left) u) (λ z. rw seen (brace.some_open (sym e ∙ z)))) in
+    let is_behind = braces_of n ts ∙ ap (braces_behind n.braces) seen ∙ ap (λ j. braces_behind j (symbol_of t)) e ∙ brace.behind in
+    let rest = out c ms left y (end_of t) brace.depth u (nest_behind n ts) is is_behind brace.rest in
+    record { past = rest.past; is = more ∙ ap (closing 123 (nest_behind n ts)) (bumped_at y past t (ms ++ c ∷ left) u) ∙ rest.is }
 
 block_tree : (b : Bodies) (past : ℕ) (r : List Piece) (u u' : Option ℕ) → AreOpen b r → (let ts = tokens_at b.edition past (b.opening ∷ (b.old ++ moved b.by b.closing ∷ map (moved b.by) r)) u in
     let us = tokens_at b.edition past (b.opening ∷ (b.new ++ moved b.by_new b.closing ∷ map (moved b.by_new) r)) u' in

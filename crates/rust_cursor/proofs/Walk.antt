@@ -5,7 +5,7 @@ use Rattle.rust_cursor.proofs.Leads.{when}
 use Rattle.rust_cursor.proofs.Nesting.{shorter}
 use Rattle.rust_cursor.proofs.Views.{beside_twins, symbol_same, next_ahead, next_behind}
 use Rattle.rust_cursor.proofs.Tests.{nest_same}
-use Rattle.rust_cursor.proofs.Braced.{tokens_at, symbol_at, some_at, bumped_at, inside_is, Deeper, enters, deeper_on, Walks, Stays, through}
+use Rattle.rust_cursor.proofs.Braced.{tokens_at, symbol_at, some_at, bumped_at, inside_is, Deeper, enters, deeper_on, brace_step, Walks, Stays, through}
 
 -- ---- nests that differ in what is counted for problems alone
 
@@ -53,18 +53,7 @@ suc_off n k e = grind (arith, nat_tests)
 -- braces that match match in others
 shifted : (d k j : ℕ) (ms : List Piece) → braces_from k ms ≡ Some j → braces_from (k + d) ms ≡ Some (j + d)
 shifted d k j [] e = let same : k ≡ j = cc in ap (λ i. Some (i + d)) same
-shifted d k j (t ∷ ms) e =
-    when (symbol_of t == 123)
-    (λ p. let f = rw p at e in rw p (ap (λ i. braces_from i ms) (omega arith) ∙ shifted d (suc k) j ms f))
-    (λ p. let f = rw p at e in
-    when (symbol_of t == 125)
-    (λ q. let g = rw q at f in
-    when (k == 0) (λ r. absurd (let no = rw r at g in cc))
-    (λ r. let h = rw r at g in
-    let some : k ≢ 0 = grind (arith, nat_tests) in
-    let more : (k + d == 0) ≡ false = grind (arith, nat_tests) in
-    rw (p, q, more) (ap (λ i. braces_from i ms) (omega arith) ∙ shifted d (k - 1) j ms h)))
-    (λ q. let g = rw q at f in rw (p, q) (shifted d k j ms g)))
+shifted d k j (t ∷ ms) e = let brace = brace_step t ms k j e in brace.deeper d ∙ shifted d brace.depth j ms brace.rest
 
 pub matched_in : (d : ℕ) (ms : List Piece) → braces_from 0 ms ≡ Some 0 → braces_from d ms ≡ Some d
 matched_in d ms e = let same : 0 + d ≡ d = omega arith in subst (λ (k : ℕ). braces_from k ms ≡ Some k) same (shifted d 0 0 ms e)

@@ -1,14 +1,13 @@
 -- What stands in angle brackets, and what is found beside them.
-use Rattle.std.specs.Prelude.{ℕ, ◌==◌, nat_lt, Bool, true, false, not, ◌&&◌, ◌||◌, if◌then◌else◌, Option, Some, List, [], ◌∷◌, codes, bytes_eq}
+use Rattle.std.specs.Prelude.{ℕ, ◌==◌, nat_lt, Bool, true, false, not, ◌&&◌, ◌||◌, if◌then◌else◌, Option, Some, codes, bytes_eq}
 use Rattle.rust_lexer.specs.declared.kind.TokenKind.{TokenKind}
 use Rattle.rust_lexer.specs.declared.kind.TokenKind.TheVariants as kinds
-use Rattle.rust_lexer.specs.Piece.{Piece}
 use Rattle.rust_cursor.specs.declared.cursor.nest.Nest.{Nest}
 use Rattle.rust_cursor.specs.declared.cursor.generics.Reach.{Reach}
 use Rattle.rust_cursor.specs.declared.cursor.generics.Reach.TheVariants as reaches
 use Rattle.rust_cursor.specs.Tokens.{Tokens}
 use Rattle.rust_cursor.specs.Words.{symbol, word, kind, is_empty, is_at_end, bumped}
-use Rattle.rust_cursor.specs.Nests.{begun, is_flat, is_mark, nest_behind}
+use Rattle.rust_cursor.specs.Nests.{begun, is_flat, is_mark, passing_from}
 use Rattle.rust_cursor.specs.Extents.{begins}
 
 abbrev pub is_lifetime : Option TokenKind → Bool
@@ -53,15 +52,8 @@ is_closed reaches.Angles nest = is_flat nest && nest.angles == 0
 is_closed reaches.Field nest = false
 is_closed reaches.Header nest = false
 
--- goes on from here, at most as many times as a token is in this list
-abbrev pub reaching_from : Reach → Nest → Tokens → List Piece → Tokens
-reaching_from reach nest ts [] = ts
-reaching_from reach nest ts (_ ∷ more) =
-    if is_reached reach nest ts then ts
-    else (if is_closed reach (nest_behind nest ts) then bumped ts else reaching_from reach (nest_behind nest ts) (bumped ts) more)
-
 unfoldable pub reaching : Reach → Nest → Tokens → Tokens
-reaching reach nest ts = reaching_from reach nest ts ts.left
+reaching reach nest ts = passing_from (is_reached reach) (is_closed reach) nest ts ts.left
 
 unfoldable pub reached : Reach → Tokens → Tokens
 reached reach ts = reaching reach begun ts

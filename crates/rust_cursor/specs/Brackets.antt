@@ -1,10 +1,9 @@
 -- What is left behind brackets. Braces are told from other brackets: a `}` also ends what was opened in its braces and is not closed.
-use Rattle.std.specs.Prelude.{ℕ, ◌==◌, Bool, true, false, not, ◌&&◌, if◌then◌else◌, List, [], ◌∷◌}
-use Rattle.rust_lexer.specs.Piece.{Piece}
+use Rattle.std.specs.Prelude.{ℕ, ◌==◌, Bool, true, false, not, ◌&&◌, if◌then◌else◌}
 use Rattle.rust_cursor.specs.declared.cursor.nest.Nest.{Nest}
 use Rattle.rust_cursor.specs.Tokens.{Tokens}
 use Rattle.rust_cursor.specs.Words.{symbol, is_empty, is_at_open, bumped}
-use Rattle.rust_cursor.specs.Nests.{flat, closes_other, nest_behind}
+use Rattle.rust_cursor.specs.Nests.{flat, closes_other, passing_from}
 
 -- In no brace that was opened since: the next token closes the bracket that this symbol opened, or the braces around it.
 abbrev pub shuts : ℕ → Nest → Tokens → Bool
@@ -13,13 +12,8 @@ shuts bracket nest ts = if symbol ts == 125 then true else not (bracket == 123) 
 unfoldable pub is_closing : ℕ → Nest → Tokens → Bool
 is_closing bracket nest ts = if is_empty ts then true else (if nest.braces == 0 then shuts bracket nest ts else false)
 
--- goes on from here, at most as many times as a token is in this list
-abbrev pub closing_from : ℕ → Nest → Tokens → List Piece → Tokens
-closing_from bracket nest ts [] = ts
-closing_from bracket nest ts (_ ∷ more) = if is_closing bracket nest ts then ts else closing_from bracket (nest_behind nest ts) (bumped ts) more
-
 unfoldable pub closing : ℕ → Nest → Tokens → Tokens
-closing bracket nest ts = closing_from bracket nest ts ts.left
+closing bracket nest ts = passing_from (is_closing bracket) (λ _. false) nest ts ts.left
 
 -- What is left from the bracket on that closes one that was opened by this symbol, or the braces around that; or nothing.
 unfoldable pub to_closing : ℕ → Tokens → Tokens

@@ -1,5 +1,5 @@
 -- The texts of what is taken: what stands in brackets, and what is left of an item.
-use Rattle.std.specs.Prelude.{◌≡◌, ◌≤◌, ◌+◌, ℕ, ◌==◌, Bool, true, false, not, ◌&&◌, ◌||◌, if◌then◌else◌, Option, Some, None, List, [], ◌∷◌, ◌++◌, length, slice_index, string_bytes, codes, bytes_eq}
+use Rattle.std.specs.Prelude.{◌≡◌, ◌≤◌, ◌+◌, ℕ, ◌==◌, Bool, true, false, not, ◌&&◌, ◌||◌, if◌then◌else◌, Option, Some, None, List, [], ◌∷◌, ◌++◌, length, string_bytes, codes, bytes_eq}
 use Rattle.hir_input.specs.declared.edition.EditionYear.{EditionYear}
 use Rattle.rust_lexer.specs.Piece.{Piece}
 use Rattle.rust_cursor.specs.declared.cursor.nest.Before.{Before}
@@ -55,20 +55,6 @@ begins_within ts =
     else (if bytes_eq (word ts) (codes "use") then is_at_identifier (bumped ts)
     else (if bytes_eq (word ts) (codes "static") then not (bytes_eq (word (bumped ts)) (codes "move") || bytes_eq (word (bumped ts)) (codes "async")) && begins_item ts
     else begins_item ts))
-
--- a word that can begin an item has this length and this first byte
-abbrev pub leads_by : ℕ → ℕ → Bool
-leads_by n c =
-    if n == 2 then c == 102
-    else (if n == 3 then c == 109 || (c == 112 || c == 117)
-    else (if n == 4 then c == 101 || (c == 105 || c == 116)
-    else (if n == 5 then c == 99 || c == 116
-    else (if n == 6 then c == 101 || (c == 115 || c == 117)
-    else (if n == 11 then c == 109 else false)))))
-
--- a word that may begin an item, by its length and its first byte
-abbrev pub leads_item : List ℕ → Bool
-leads_item w = leads_by (length w) (slice_index w 0)
 
 -- An item begins, in no brace.
 abbrev pub begins : Nest → Tokens → Bool

@@ -8,3 +8,4 @@ pub mod Elements
 pub mod Extents
 pub mod Angles
 pub mod Beside
+pub mod Inner

@@ -1,13 +1,14 @@
 -- Where a token stands: in which brackets, and behind what.
-use Rattle.std.specs.Prelude.{ℕ, ◌+◌, ◌-◌, ◌==◌, Bool, true, false, not, ◌&&◌, ◌||◌, if◌then◌else◌, Option, Some, List, [], ◌∷◌, length, slice_index, codes, bytes_eq}
+use Rattle.std.specs.Prelude.{ℕ, ◌+◌, ◌-◌, ◌==◌, Bool, true, false, not, ◌&&◌, ◌||◌, if◌then◌else◌, Option, Some, List, [], ◌∷◌, codes, bytes_eq}
 use Rattle.std.specs.List.{list_any}
+use Rattle.rust_lexer.specs.Piece.{Piece}
 use Rattle.rust_lexer.specs.declared.kind.TokenKind.{TokenKind}
 use Rattle.rust_lexer.specs.declared.kind.TokenKind.TheVariants as kinds
 use Rattle.rust_cursor.specs.declared.cursor.nest.Before.{Before}
 use Rattle.rust_cursor.specs.declared.cursor.nest.Before.TheVariants as befores
 use Rattle.rust_cursor.specs.declared.cursor.nest.Nest.{Nest}
 use Rattle.rust_cursor.specs.Tokens.{Tokens}
-use Rattle.rust_cursor.specs.Words.{symbol, word, kind, is_at_end, is_at_identifier, is_at_doc, is_glued}
+use Rattle.rust_cursor.specs.Words.{symbol, word, kind, bumped, is_at_end, is_at_identifier, is_at_doc, is_glued}
 
 -- ---- brackets, by the symbol of the next token
 
@@ -72,21 +73,7 @@ angles_behind nest ts =
 
 -- ---- what a token is for the next
 
--- a keyword with which neither a type nor a value ends has this length and this first byte
-abbrev pub leads_on_by : ℕ → ℕ → Bool
-leads_on_by n c =
-    if n == 2 then c == 97 || (c == 102 || c == 105)
-    else (if n == 3 then c == 100 || (c == 102 || (c == 108 || (c == 109 || (c == 112 || (c == 114 || c == 117)))))
-    else (if n == 4 then c == 101 || (c == 105 || (c == 108 || (c == 109 || c == 116)))
-    else (if n == 5 then c == 97 || (c == 98 || (c == 99 || (c == 109 || (c == 116 || (c == 119 || c == 121)))))
-    else (if n == 6 then c == 101 || (c == 114 || (c == 115 || c == 117))
-    else (if n == 8 then c == 99 else false)))))
-
--- a word that may be such a keyword, by its length and its first byte
-abbrev pub may_lead_on : List ℕ → Bool
-may_lead_on w = leads_on_by (length w) (slice_index w 0)
-
--- such a keyword
+-- a keyword with which neither a type nor a value ends
 unfoldable pub leads_on : List ℕ → Bool
 leads_on w =
     list_any (bytes_eq w) (codes "as" ∷ codes "async" ∷ codes "break" ∷ codes "const" ∷ codes "continue" ∷ codes "dyn" ∷ codes "else" ∷ codes "enum"
@@ -187,3 +174,10 @@ nest_inside nest ts = inside_behind nest (symbol ts)
 -- where what stands behind the next token is
 unfoldable pub nest_behind : Nest → Tokens → Nest
 nest_behind nest ts = if nest.braces == 0 then nest_outside nest ts else nest_inside nest ts
+
+-- What is left where this stops, or behind the token that is the last by what is behind it. At most as many are passed over as are in this list.
+abbrev pub passing_from : (Nest → Tokens → Bool) → (Nest → Bool) → Nest → Tokens → List Piece → Tokens
+passing_from is_stop is_last nest ts [] = ts
+passing_from is_stop is_last nest ts (_ ∷ more) =
+    if is_stop nest ts then ts
+    else (if is_last (nest_behind nest ts) then bumped ts else passing_from is_stop is_last (nest_behind nest ts) (bumped ts) more)

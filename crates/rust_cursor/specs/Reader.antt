@@ -1,5 +1,5 @@
 -- Readers: each takes tokens from the front, and answers with what it read and what is left.
-use Rattle.std.specs.Prelude.{◌≡◌, Result, Ok, Err}
+use Rattle.std.specs.Prelude.{◌≡◌, Bool, if◌then◌else◌, Option, Some, None, Result, Ok, Err}
 use Rattle.std.specs.declared.alloc.AllocError.{AllocError}
 use Rattle.rust_cursor.specs.Tokens.{Tokens}
 
@@ -20,6 +20,10 @@ look view = λ ts. (view ts, ts)
 -- passes over tokens
 abbrev pub pass : (Tokens → Tokens) → Reader (Unit {0})
 pass behind = λ ts. (tt, behind ts)
+
+-- what is read where it is to be read
+abbrev pub only_if : {A : Type 0} → Reader A → Bool → Reader (Option A)
+only_if reader test ts = if test then (Some (reader ts).0, (reader ts).1) else (None, ts)
 
 -- what a function that reads ensures: it read this, unless memory ran out
 abbrev pub Gives : {X Y : Type 0} → (X → Y) → Y × Tokens → Result X AllocError → Tokens → Type 0

@@ -3,6 +3,8 @@
 
 mod among;
 mod cursor;
+mod lists;
 
 pub use among::is_among;
 pub use cursor::{Cursor, Excerpt};
+pub use lists::push_some;

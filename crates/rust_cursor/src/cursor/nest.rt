@@ -1,6 +1,7 @@
 //! Where a token stands.
 
 ghost use Rattle.std.specs.Prelude.{◌≡◌, ◌+◌, ◌<◌, ◌^◌, slice_index};
+ghost use Rattle.rust_cursor.specs.Inner as inner;
 ghost use Rattle.rust_cursor.specs.Nests as spec;
 
 use crate::among::is_among;
@@ -403,7 +404,7 @@ const LEADING: [&str; 32] = [
 /// Whether one of these has this length and this first byte.
 #[inline(always)]
 fn leads_on_by(len: usize, first: u8) -> bool
-    ensures { result ≡ spec.leads_on_by len first }
+    ensures { result ≡ inner.leads_on_by len first }
 {
     match len {
         2 => matches!(first, b'a' | b'f' | b'i'),
@@ -416,14 +417,6 @@ fn leads_on_by(len: usize, first: u8) -> bool
     }
 }
 
-/// Whether a word may be one of these, by its length and its first byte.
-#[inline(always)]
-fn may_lead_on(word: &str) -> bool
-    ensures { result ≡ spec.may_lead_on word.now }
-{
-    leads_on_by(word.len(), first_byte(word))
-}
-
 #[inline(never)]
 #[tactic(auto, unfolding(crate::specs::Nests::leads_on))]
 fn is_leading(word: &str) -> bool
@@ -433,11 +426,12 @@ fn is_leading(word: &str) -> bool
 }
 
 /// Whether neither a type nor a value ends with the word.
+#[tactic(auto, using(crate::proofs::Keywords::leads_none))]
 fn leads_on(word: &str) -> bool
     ensures { result ≡ spec.leads_on word.now }
 {
     // Most words are told by their length and their first byte.
-    if !may_lead_on(word) {
+    if !leads_on_by(word.len(), first_byte(word)) {
         return false;
     }
     is_leading(word)

@@ -3,6 +3,7 @@
 ghost use Rattle.std.specs.Prelude.{ℕ, ◌≡◌, ◌≤◌, ◌<◌, ◌+◌, ◌^◌, ◌++◌, ◌==◌, ◌&&◌, not, false, if◌then◌else◌, OnOk, Option, length, string_bytes, filter};
 ghost use Rattle.rust_lexer.specs.Tokens.{is_significant};
 ghost use Rattle.rust_cursor.specs.Extents as spec;
+ghost use Rattle.rust_cursor.specs.Inner as inner;
 ghost use Rattle.rust_cursor.specs.Reader.{Gives};
 ghost use Rattle.rust_cursor.specs.Tokens.{Tokens, last_unended, left_of};
 ghost use Rattle.rust_cursor.specs.Words.{bumped, is_empty, symbol};
@@ -521,7 +522,7 @@ fn push_token(text: &mut String, token: &str) -> Result<(), AllocError>
 /// Whether a word that can begin an item has this length and this first byte.
 #[inline(always)]
 fn leads_by(len: usize, first: u8) -> bool
-    ensures { result ≡ spec.leads_by len first }
+    ensures { result ≡ inner.leads_by len first }
 {
     match len {
         2 => first == b'f',
@@ -537,7 +538,7 @@ fn leads_by(len: usize, first: u8) -> bool
 /// Whether a word may begin an item, by its length and its first byte.
 #[inline(always)]
 fn leads_item(word: &str) -> bool
-    ensures { result ≡ spec.leads_item word.now }
+    ensures { result ≡ inner.leads_item word.now }
 {
     leads_by(word.len(), first_byte(word))
 }

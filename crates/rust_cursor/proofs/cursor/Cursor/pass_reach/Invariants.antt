@@ -1,14 +1,12 @@
-use Rattle.std.proofs.Common.{◌≡◌, ◌<◌, ◌+◌, ◌^◌, length}
+use Rattle.std.proofs.Common.{◌≡◌, length}
 use Rattle.rust_cursor.proofs.Common.{reaching, reached}
+use Rattle.rust_cursor.proofs.Nesting.{AreCounted}
 use Rattle.rust_cursor.proofs.cursor.Cursor.pass_reach.Given as goal
 
 abbrev pub invariant-tokens : goal.invariant-tokens
 invariant-tokens l = record {
   same : reaching l.reach l.nest l.self ≡ reached l.reach l.initial.self;
-  braces : l.nest.braces + length l.self.left < 2 ^ 64;
-  others : l.nest.others + length l.self.left < 2 ^ 64;
-  angles : l.nest.angles + length l.self.left < 2 ^ 64;
-  inner : l.nest.inner + length l.self.left < 2 ^ 64;
+  counted : AreCounted l.nest l.self;
 }
 
 abbrev pub decreases-tokens : goal.decreases-tokens
