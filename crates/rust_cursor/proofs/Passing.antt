@@ -1,5 +1,5 @@
 -- What passes over tokens comes to tokens beside: up to brackets, behind angle brackets, and to the end of an item.
-use Rattle.std.proofs.Common.{◌≡◌, ◌≢◌, ℕ, suc, ◌+◌, ◌-◌, ◌==◌, ◌&&◌, Bool, true, false, Option, Some, None, List, [], ◌∷◌, ◌++◌, refl, ap, ◌∙◌, sym, arith, map, not}
+use Rattle.std.proofs.Common.{◌≡◌, ℕ, ◌+◌, ◌==◌, ◌&&◌, Bool, true, false, Option, Some, None, List, [], ◌∷◌, ◌++◌, refl, ap, ◌∙◌, sym, arith, map, not}
 use Rattle.rust_cursor.proofs.Common.{nat_tests, eqb-true, EditionYear, Piece, symbol_of, moved, braces_from, Before, Nest, Reach, Extent, Tokens, end_of, is_open, symbol, is_empty, is_at_open, bumped, braces_behind, begun, flat, flat_behind, is_mark, is_whole, nest_behind, ExcerptRead, excerpt, stops, ends, opened_behind, block_at, taking, taken, more, is_reached, is_closed, reaching, reached, behind_angles, behind_field, behind_header, is_trait_impl, is_closing, closing, to_closing, behind_closing, behind_closed, behind_tree, beyond, Bodies, AreOpen, Beside, ahead, behind}
 use Rattle.rust_cursor.specs.declared.cursor.generics.Reach.TheVariants as reaches
 use Rattle.rust_cursor.specs.declared.cursor.texts.Extent.TheVariants as extents

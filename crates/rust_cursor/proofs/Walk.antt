@@ -1,5 +1,5 @@
 -- Walks over tokens beside: what passes over tokens and whole braces comes to tokens beside.
-use Rattle.std.proofs.Common.{◌≡◌, ◌≢◌, ◌≤◌, ◌<◌, ℕ, zero, suc, ◌+◌, ◌-◌, ◌==◌, Bool, true, false, Option, Some, List, [], ◌∷◌, ◌++◌, length, refl, ap, ◌∙◌, sym, subst, arith, map, length-append, if◌then◌else◌}
+use Rattle.std.proofs.Common.{◌≡◌, ◌≤◌, ◌<◌, ℕ, zero, suc, ◌+◌, ◌==◌, Bool, true, false, Option, Some, List, [], ◌∷◌, ◌++◌, length, refl, ap, ◌∙◌, sym, subst, arith, map, length-append, if◌then◌else◌}
 use Rattle.rust_cursor.proofs.Common.{nat_tests, EditionYear, Piece, symbol_of, moved, braces_from, Before, Nest, Tokens, end_of, symbol, is_empty, bumped, behind_braces, nest_inside, nest_behind, Bodies, AreOpen, Beside, ahead, behind}
 use Rattle.rust_cursor.proofs.Leads.{when}
 use Rattle.rust_cursor.proofs.Nesting.{shorter}

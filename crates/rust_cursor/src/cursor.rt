@@ -283,12 +283,16 @@ impl<'t> Cursor<'t> {
 
     /// Takes one token, if one is left.
     #[inline(never)]
-    #[tactic(auto, unfolding(crate::specs::Words::bumped))]
+    #[tactic(auto, unfolding(crate::specs::Words::bumped), using(crate::proofs::White::frequent_found, crate::proofs::White::frequent_last))]
     pub fn bump(&mut self)
         ensures { self.new ≡ spec.bumped self.old }
     {
         if let Some(token) = &self.next {
             self.past = token.end();
+            if let Some(token) = self.lexer.next_frequent() {
+                self.next = Some(token);
+                return;
+            }
             find_significant(&mut self.lexer, &mut self.last, &mut self.next);
         }
     }

@@ -216,6 +216,7 @@ impl<'t> Cursor<'t> {
             || matches!(next, b',' | b':')
     }
 
+    #[inline(always)]
     #[tactic(auto, unfolding(crate::specs::Extents::has_blank))]
     fn has_blank(&self, extent: Extent, last: u8) -> bool
         ensures { result ≡ spec.has_blank extent last self.now }

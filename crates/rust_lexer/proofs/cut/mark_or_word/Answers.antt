@@ -1,4 +1,4 @@
-use Rattle.std.proofs.Common.{sym, ap, ◌∙◌, subst, IsTrue}
+use Rattle.std.proofs.Common.{sym, ap, ◌∙◌}
 use Rattle.rust_lexer.proofs.Common.{cut, is_significant_kind}
 use Rattle.rust_lexer.proofs.Frequent.{mark_first, letter_first, symbol_counts}
 use Rattle.rust_lexer.proofs.Wholes.{mark_whole, word_whole}

@@ -1,5 +1,5 @@
-use Rattle.std.proofs.Common.{◌≡◌, ◌+◌, ◌∷◌, ◌∙◌, sym, ap, length}
-use Rattle.rust_lexer.proofs.Common.{Piece, is_nil, pieces, tokens_from}
+use Rattle.std.proofs.Common.{◌+◌, ◌∷◌, ◌∙◌, sym, ap, length}
+use Rattle.rust_lexer.proofs.Common.{is_nil, pieces, tokens_from}
 use Rattle.rust_lexer.proofs.Steps.{past_white_of, some_left}
 use Rattle.rust_lexer.proofs.lexer.Lexer.next_frequent.Goals as goal
 
