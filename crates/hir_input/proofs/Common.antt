@@ -1,6 +1,6 @@
 -- The names that most proofs here cite, passed on from one place. Declares nothing.
 pub use Rattle.hir_input.specs.Attr.{MetaView, cfg_attr_meta, cfg_meta, key_value_meta, meta_and, meta_step, meta_view, metas_from, path_meta, token_tree_meta, unsafe_meta}
-pub use Rattle.hir_input.specs.Cfg.{AtomView, CfgView, all_answer, all_of, any_answer, any_of, atom, atom_view, by_commas, cfg_and, cfg_step, cfg_view, cfgs_from, is_atom, is_set, not_of}
+pub use Rattle.hir_input.specs.Cfg.{AtomView, CfgView, all_of, any_of, atom, atom_view, by_commas, cfg_and, cfg_step, cfg_view, cfgs_from, first_but, is_atom, is_set, not_of}
 unfoldable pub use Rattle.hir_input.specs.Cfg.{shown_cfg, shown_cfgs, truth, truths}
 pub use Rattle.hir_input.specs.Equality.{DecidesEq, DecidesEqOf}
 pub use Rattle.hir_input.specs.Name.{IsName, is_name, name_in, shown_name}

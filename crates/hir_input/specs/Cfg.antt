@@ -99,18 +99,15 @@ is_set set wanted = list_any (λ a. is_atom a wanted) set
 abbrev pub holds : List AtomView → AtomView → Bool
 holds set a = if is_atom a (flag_atom (codes "true")) then true else if is_atom a (flag_atom (codes "false")) then false else is_set set a
 
+-- the answer is known, and is this one
 abbrev pub is_answer : Bool → Option Bool → Bool
 is_answer true (Some b) = b
 is_answer false (Some b) = not b
 is_answer b None = false
 
--- the first answer that is not true, or true where there is none
-abbrev pub all_answer : List (Option Bool) → Option Bool
-all_answer answers = unwrap_or (find (λ a. not (is_answer true a)) answers) (Some true)
-
--- the first answer that is not false, or false where there is none
-abbrev pub any_answer : List (Option Bool) → Option Bool
-any_answer answers = unwrap_or (find (λ a. not (is_answer false a)) answers) (Some false)
+-- the first answer that is not the neutral one, or the neutral one where there is none
+abbrev pub first_but : Bool → List (Option Bool) → Option Bool
+first_but neutral answers = unwrap_or (find (λ a. not (is_answer neutral a)) answers) (Some neutral)
 
 -- whether a condition is true where these atoms are set
 unfoldable mutual
@@ -118,8 +115,8 @@ unfoldable mutual
   pub truth : List AtomView → CfgView → Option Bool
   truth set invalid = None
   truth set (atom a) = Some (holds set a)
-  truth set (all_of cs) = all_answer (truths set cs)
-  truth set (any_of cs) = any_answer (truths set cs)
+  truth set (all_of cs) = first_but true (truths set cs)
+  truth set (any_of cs) = first_but false (truths set cs)
   truth set (not_of c) = option_map not (truth set c)
 
   pub truths : List AtomView → CfgViews → List (Option Bool)

@@ -283,8 +283,7 @@ fn clone_value(value: &Option<Literal>) -> Result<Option<Literal>, AllocError>
 }
 
 // A copy of a meta.
-#[cycle(clone_meta)]
-#[tactic(auto, using(crate::proofs::MetaLemmas::meta_views))]
+#[tactic(auto, using(crate::proofs::MetaLemmas::meta_views, std::proofs::lemmas::Grind::common_steps))]
 fn clone_meta(meta: &Meta) -> Result<Meta, AllocError>
     ensures { IfOk result (λ copy. meta_view copy ≡ meta_view meta.now) }
 {
@@ -296,25 +295,26 @@ fn clone_meta(meta: &Meta) -> Result<Meta, AllocError>
         Meta::KeyValue { path, value, ctxt } => {
             let path = clone_path(path)?;
             let value = clone_value(value)?;
-            Ok(Meta::KeyValue {
-                path,
-                value,
-                ctxt: *ctxt,
-            })
+            let ctxt = *ctxt;
+            Ok(Meta::KeyValue { path, value, ctxt })
         }
         Meta::TokenTree { path, tokens, ctxt } => {
             let path = clone_path(path)?;
             let tokens = tokens.clone()?;
-            Ok(Meta::TokenTree {
-                path,
-                tokens,
-                ctxt: *ctxt,
-            })
+            let ctxt = *ctxt;
+            Ok(Meta::TokenTree { path, tokens, ctxt })
         }
         Meta::Cfg(condition) => Ok(Meta::Cfg(condition.clone()?)),
-        Meta::CfgAttr { condition, metas } => {
+        Meta::CfgAttr {
+            condition,
+            metas: inner,
+        } => {
+            let mut metas = Vec::new(*inner.allocator());
+            for i in 0..inner.len() {
+                let copy = clone_meta(&inner[i])?;
+                metas.push(copy)?;
+            }
             let condition = condition.clone()?;
-            let metas = clone_metas(metas)?;
             Ok(Meta::CfgAttr { condition, metas })
         }
         Meta::Unsafe(inner) => {
@@ -324,23 +324,7 @@ fn clone_meta(meta: &Meta) -> Result<Meta, AllocError>
     }
 }
 
-// Copies of metas.
-#[cycle(clone_meta)]
-fn clone_metas(metas: &Vec<Meta>) -> Result<Vec<Meta>, AllocError>
-    ensures { IfOk result (λ copies. map meta_view copies.items ≡ map meta_view metas.now.items) }
-{
-    let mut copies = Vec::new(*metas.allocator());
-    for i in 0..metas.len() {
-        let copy = clone_meta(&metas[i])?;
-        copies.push(copy)?;
-    }
-    Ok(copies)
-}
-
 impl Clone for Meta {
-    ghost use Rattle.std.specs.Prelude.{◌≡◌};
-    ghost use Rattle.hir_input.specs.Attr.{meta_view};
-
     ghost is_clone = { λ meta copy. meta_view copy ≡ meta_view meta };
 
     fn clone(&self) -> Result<Meta, AllocError> {

@@ -1,7 +1,7 @@
 //! Conditions on the options of a crate.
 ghost use Rattle.std.specs.Prelude.{◌≡◌, IfOk, Some, map};
 ghost use Rattle.std.specs.Fmt.{WritesOnOk};
-ghost use Rattle.hir_input.specs.Cfg.{atom_view, by_commas, cfg_view, shown_cfg, truth, holds, is_set, all_answer, any_answer};
+ghost use Rattle.hir_input.specs.Cfg.{atom_view, by_commas, cfg_view, shown_cfg, truth, holds, is_set, first_but};
 
 use crate::name::Name;
 use std::alloc::AllocError;
@@ -112,9 +112,6 @@ impl fmt::Display for CfgExpr {
 }
 
 impl Clone for CfgAtom {
-    ghost use Rattle.std.specs.Prelude.{◌≡◌};
-    ghost use Rattle.hir_input.specs.Cfg.{atom_view};
-
     ghost is_clone = { λ atom copy. atom_view copy ≡ atom_view atom };
 
     fn clone(&self) -> Result<CfgAtom, AllocError> {
@@ -149,7 +146,7 @@ fn clone_cfg(cfg: &CfgExpr) -> Result<CfgExpr, AllocError>
 
 // Copies of members.
 #[cycle(clone_cfg)]
-#[tactic(auto, using(crate::proofs::CfgLemmas::cfg_views))]
+#[tactic(auto, using(crate::proofs::CfgLemmas::cfg_views, std::proofs::lemmas::Grind::common_steps))]
 fn clone_members(members: &Vec<CfgExpr>) -> Result<Vec<CfgExpr>, AllocError>
     ensures { IfOk result (λ copies. map cfg_view copies.items ≡ map cfg_view members.now.items) }
 {
@@ -162,9 +159,6 @@ fn clone_members(members: &Vec<CfgExpr>) -> Result<Vec<CfgExpr>, AllocError>
 }
 
 impl Clone for CfgExpr {
-    ghost use Rattle.std.specs.Prelude.{◌≡◌};
-    ghost use Rattle.hir_input.specs.Cfg.{cfg_view};
-
     ghost is_clone = { λ cfg copy. cfg_view copy ≡ cfg_view cfg };
 
     fn clone(&self) -> Result<CfgExpr, AllocError> {
@@ -247,38 +241,26 @@ fn check_cfg(options: &CfgOptions, cfg: &CfgExpr) -> Option<bool>
     match cfg {
         CfgExpr::Invalid => None,
         CfgExpr::Atom(atom) => Some(check_atom(options, atom)),
-        CfgExpr::All(members) => check_all(options, members),
-        CfgExpr::Any(members) => check_any(options, members),
+        CfgExpr::All(members) => check_members(options, members, true),
+        CfgExpr::Any(members) => check_members(options, members, false),
         CfgExpr::Not(inner) => check_cfg(options, inner).map(|answer| !answer),
     }
 }
 
-// Whether all members are true.
+// The first answer of the members that is not the neutral one, or the neutral one if there is none.
 #[cycle(check_cfg)]
-fn check_all(options: &CfgOptions, members: &[CfgExpr]) -> Option<bool>
-    ensures { result ≡ all_answer (map (λ c. truth options.now (cfg_view c)) members.now) }
+#[tactic(auto, using(crate::proofs::CfgLemmas::cfg_truths, std::proofs::lemmas::Grind::common_steps))]
+fn check_members(options: &CfgOptions, members: &[CfgExpr], neutral: bool) -> Option<bool>
+    ensures { let answers = map (λ c. truth options.now (cfg_view c)) members.now in
+        result ≡ first_but neutral answers }
 {
     for member in members {
         let answer = check_cfg(options, member);
-        if answer != Some(true) {
+        if answer != Some(neutral) {
             return answer;
         }
     }
-    Some(true)
-}
-
-// Whether any member is true.
-#[cycle(check_cfg)]
-fn check_any(options: &CfgOptions, members: &[CfgExpr]) -> Option<bool>
-    ensures { result ≡ any_answer (map (λ c. truth options.now (cfg_view c)) members.now) }
-{
-    for member in members {
-        let answer = check_cfg(options, member);
-        if answer != Some(false) {
-            return answer;
-        }
-    }
-    Some(false)
+    Some(neutral)
 }
 
 #[tactic(auto, using(crate::proofs::CfgEq::atoms_copied))]

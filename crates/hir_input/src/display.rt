@@ -80,6 +80,7 @@ impl ModPath {
 }
 
 // `super`, n times.
+#[tactic(auto, using(std::proofs::lemmas::Grind::common_steps))]
 fn write_supers<W: fmt::Write>(n: u32, f: &mut fmt::Formatter<W>) -> fmt::Result
     requires { 0 < n }
     ensures { let words = replicate n (codes "super") in
@@ -107,6 +108,7 @@ fn write_kind<W: fmt::Write>(kind: PathKind, f: &mut fmt::Formatter<W>) -> fmt::
 }
 
 // Names behind other words.
+#[tactic(auto, using(std::proofs::lemmas::Grind::common_steps))]
 fn write_names<W: fmt::Write>(
     names: &[Name],
     edition: &Edition,

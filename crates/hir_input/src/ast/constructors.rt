@@ -15,6 +15,26 @@ use crate::ids::SyntaxContext;
 use crate::name::Name;
 use std::alloc::Global;
 
+// A node whose id has the hash 0 and the number 0, without attributes and body, and with these fields.
+macro_rules! bare_node {
+    ($alloc:expr, $kind:ident $(, $field:ident: $value:expr)*) => {
+        $kind {
+            hash: 0,
+            number: 0,
+            attrs: Vec::new($alloc),
+            body: String::new($alloc)
+            $(, $field: $value)*
+        }
+    };
+}
+
+// Such a node that has this name, or none, and no visibility.
+macro_rules! bare_named {
+    ($alloc:expr, $name:expr, $kind:ident $(, $field:ident: $value:expr)*) => {
+        bare_node!($alloc, $kind, name: $name, visibility: None $(, $field: $value)*)
+    };
+}
+
 impl NamedNode {
     /// `const NAME: ..;`, `enum NAME {}`, `fn NAME();`, `macro NAME() {}`, `static NAME: ..;`, `trait NAME {}`,
     /// `type NAME = ..;` or `union NAME {}`, as the case says that it is put into.
@@ -22,14 +42,7 @@ impl NamedNode {
         ensures { named_from result.hash result.number result.attrs.items result.name
             result.visibility result.body ≡ named_alone name }
     {
-        NamedNode {
-            hash: 0,
-            number: 0,
-            attrs: Vec::new(alloc),
-            name,
-            visibility: None,
-            body: String::new(alloc),
-        }
+        bare_named!(alloc, name, NamedNode)
     }
 }
 
@@ -38,12 +51,7 @@ impl AsmExpr {
     pub fn new(alloc: Global) -> Self
         ensures { node_from result.hash result.number result.attrs.items result.body ≡ empty_node }
     {
-        AsmExpr {
-            hash: 0,
-            number: 0,
-            attrs: Vec::new(alloc),
-            body: String::new(alloc),
-        }
+        bare_node!(alloc, AsmExpr)
     }
 }
 
@@ -54,13 +62,7 @@ impl ExternBlock {
             ≡ empty_node }
         ensures items { result.items ≡ Some items }
     {
-        ExternBlock {
-            hash: 0,
-            number: 0,
-            attrs: Vec::new(alloc),
-            items: Some(items),
-            body: String::new(alloc),
-        }
+        bare_node!(alloc, ExternBlock, items: Some(items))
     }
 }
 
@@ -71,15 +73,7 @@ impl ExternCrate {
             result.visibility result.body ≡ named_alone name }
         ensures rename { result.rename ≡ None }
     {
-        ExternCrate {
-            hash: 0,
-            number: 0,
-            attrs: Vec::new(alloc),
-            name,
-            visibility: None,
-            rename: None,
-            body: String::new(alloc),
-        }
+        bare_named!(alloc, name, ExternCrate, rename: None)
     }
 }
 
@@ -90,13 +84,7 @@ impl Impl {
             ≡ empty_node }
         ensures inherent { result.is_trait_impl ≡ false }
     {
-        Impl {
-            hash: 0,
-            number: 0,
-            attrs: Vec::new(alloc),
-            is_trait_impl: false,
-            body: String::new(alloc),
-        }
+        bare_node!(alloc, Impl, is_trait_impl: false)
     }
 }
 
@@ -109,15 +97,7 @@ impl MacroCall {
         ensures expands { result.expand_to ≡ Items }
         ensures ctxt { result.ctxt ≡ ctxt }
     {
-        MacroCall {
-            hash: 0,
-            number: 0,
-            attrs: Vec::new(alloc),
-            path,
-            expand_to: ExpandTo::Items,
-            ctxt,
-            body: String::new(alloc),
-        }
+        bare_node!(alloc, MacroCall, path: path, expand_to: ExpandTo::Items, ctxt: ctxt)
     }
 }
 
@@ -128,13 +108,7 @@ impl MacroRules {
             ≡ empty_node }
         ensures name { result.name ≡ name }
     {
-        MacroRules {
-            hash: 0,
-            number: 0,
-            attrs: Vec::new(alloc),
-            name,
-            body: String::new(alloc),
-        }
+        bare_node!(alloc, MacroRules, name: name)
     }
 }
 
@@ -146,16 +120,7 @@ impl Module {
         ensures inline { result.semicolon ≡ false }
         ensures items { result.items ≡ Some items }
     {
-        Module {
-            hash: 0,
-            number: 0,
-            attrs: Vec::new(alloc),
-            name,
-            visibility: None,
-            semicolon: false,
-            items: Some(items),
-            body: String::new(alloc),
-        }
+        bare_named!(alloc, name, Module, semicolon: false, items: Some(items))
     }
 
     /// `mod NAME;`
@@ -165,16 +130,7 @@ impl Module {
         ensures outline { result.semicolon ≡ true }
         ensures items { result.items ≡ None }
     {
-        Module {
-            hash: 0,
-            number: 0,
-            attrs: Vec::new(alloc),
-            name,
-            visibility: None,
-            semicolon: true,
-            items: None,
-            body: String::new(alloc),
-        }
+        bare_named!(alloc, name, Module, semicolon: true, items: None)
     }
 }
 
@@ -185,15 +141,7 @@ impl Struct {
             result.visibility result.body ≡ named_alone name }
         ensures kind { result.kind ≡ kind }
     {
-        Struct {
-            hash: 0,
-            number: 0,
-            attrs: Vec::new(alloc),
-            name,
-            visibility: None,
-            kind,
-            body: String::new(alloc),
-        }
+        bare_named!(alloc, name, Struct, kind: kind)
     }
 }
 
@@ -205,14 +153,7 @@ impl Use {
         ensures visibility { result.visibility ≡ None }
         ensures tree { result.use_tree ≡ Some tree }
     {
-        Use {
-            hash: 0,
-            number: 0,
-            attrs: Vec::new(alloc),
-            visibility: None,
-            use_tree: Some(tree),
-            body: String::new(alloc),
-        }
+        bare_node!(alloc, Use, visibility: None, use_tree: Some(tree))
     }
 }
 
