@@ -21,7 +21,7 @@ pub use Rattle.rust_metas.specs.Attributes.{behind_attribute, behind_bracket, be
 unfoldable pub use Rattle.rust_metas.specs.Attributes.{attribute, attributes, behind_docs, bracketed, inner_attributes, is_attribute, is_behind, is_doc, one_attribute, outer_attributes}
 pub use Rattle.rust_metas.specs.Conditions.{comma_from, condition_with, if_named, is_word_kind, named_condition, some}
 unfoldable pub use Rattle.rust_metas.specs.Conditions.{behind_comma, composed, condition, conditions, ended_condition, is_option_word, option_name, pair}
-pub use Rattle.rust_metas.specs.Docs.{is_doc_meta, kept_by}
+pub use Rattle.rust_metas.specs.Docs.{is_condition_meta, is_wanted_meta, kept_by}
 unfoldable pub use Rattle.rust_metas.specs.Docs.{kept_metas}
 pub use Rattle.rust_metas.specs.Escapes.{blanks, number_from, scalar_of, stands_for}
 pub use Rattle.rust_metas.specs.Literals.{root, style_by}
@@ -30,6 +30,9 @@ pub use Rattle.rust_metas.specs.Metas.{assigned, cfg_attr_with, cfg_meta_with, m
 unfoldable pub use Rattle.rust_metas.specs.Metas.{doc, input, is_call, member_at, meta, plain_meta}
 pub use Rattle.rust_metas.specs.Strings.{beside, ended_string, hashes, prepend, pushed, raw_from, unescaped, written_byte}
 unfoldable pub use Rattle.rust_metas.specs.Strings.{as_text, escaped_character}
+pub use Rattle.rust_metas.specs.Unread.{behind_unread, is_unread, may_condition}
+unfoldable pub use Rattle.rust_metas.specs.Unread.{is_plain_name, plain_bracketed, plain_input}
+pub use Rattle.rust_metas.specs.declared.wanted.WantedMetas.{WantedMetas}
 pub use Rattle.rust_paths.proofs.Alike.{name_until, path_until}
 pub use Rattle.rust_paths.proofs.Leads.{name_leads, path_leads}
 unfoldable pub use Rattle.rust_paths.specs.Paths.{path}

@@ -11,4 +11,6 @@ pub mod Alike
 pub mod AlikeMetas
 pub mod AlikeAttributes
 pub mod UntilAttributes
+pub mod RoundTexts
+pub mod Passed
 pub mod Common

@@ -5,3 +5,4 @@ pub mod Conditions
 pub mod Metas
 pub mod Attributes
 pub mod Docs
+pub mod Unread

@@ -1,14 +1,17 @@
 //! Attributes.
 
-ghost use Rattle.std.specs.Prelude.{◌≡◌, ◌++◌, ◌∷◌, [], OnOk, false, map, option_map, option_to_list};
+ghost use Rattle.std.specs.Prelude.{◌≡◌, ◌++◌, [], IsTrue, OnOk, false, if◌then◌else◌, map, option_map, option_to_list};
 ghost use Rattle.hir_input.specs.Attr.{meta_view};
 ghost use Rattle.rust_cursor.specs.Elements.{one};
 ghost use Rattle.rust_cursor.specs.Reader.{Gives};
+ghost use Rattle.rust_cursor.specs.Words.{bumped};
 ghost use Rattle.rust_metas.specs.Attributes as spec;
 ghost use Rattle.rust_metas.specs.Docs as docs;
 
 use crate::literal::style_by;
 use crate::meta::{doc, meta};
+use crate::unread::pass_unread;
+use crate::wanted::WantedMetas;
 use hir_input::Meta;
 use hir_input::ast::PathNode;
 use rust_cursor::Cursor;
@@ -34,7 +37,7 @@ fn is_doc(cursor: &Cursor<'_>, style: DocStyle) -> bool
 }
 
 /// Passes over the `#`, and the `!` of an inner attribute.
-fn pass_mark(cursor: &mut Cursor<'_>, style: DocStyle)
+pub(crate) fn pass_mark(cursor: &mut Cursor<'_>, style: DocStyle)
     ensures { cursor.new ≡ spec.past_mark style cursor.old }
 {
     cursor.bump();
@@ -160,28 +163,76 @@ fn is_doc_meta(meta: &Meta) -> bool
     }
 }
 
-/// An attribute, if it is kept. A comment that is not is passed over.
-#[tactic(auto, using(crate::proofs::Kept::docs_kept, crate::proofs::Kept::doc_passed, crate::proofs::Kept::meta_kept, crate::proofs::Kept::meta_dropped))]
+/// Whether a meta tells a condition, or one may stand in it.
+#[tactic(auto, using(hir_input::proofs::MetaLemmas::meta_views))]
+fn is_condition_meta(meta: &Meta) -> bool
+    ensures { result ≡ docs.is_condition_meta (meta_view meta.now) }
+{
+    matches!(meta, Meta::Cfg(_) | Meta::CfgAttr { .. } | Meta::Unsafe(_))
+}
+
+fn is_wanted_meta(meta: &Meta, wanted: WantedMetas) -> bool
+    ensures { result ≡ docs.is_wanted_meta wanted (meta_view meta.now) }
+{
+    match wanted {
+        WantedMetas::All => true,
+        WantedMetas::Undocumented => !is_doc_meta(meta),
+        WantedMetas::Conditions => is_condition_meta(meta),
+    }
+}
+
+/// Passes over a documentation comment of the style, and what stands behind it. Something else is left where it is.
+fn pass_doc(cursor: &mut Cursor<'_>, style: DocStyle) -> bool
+    ensures told { result ≡ spec.is_doc style cursor.old }
+    ensures passed { cursor.new
+        ≡ (if result then spec.behind_attribute style (bumped cursor.old) else cursor.old) }
+{
+    if !is_doc(cursor, style) {
+        return false;
+    }
+    cursor.bump();
+    pass_behind(cursor, style);
+    true
+}
+
+/// Passes over an attribute that plainly is not wanted, without reading it. Another is left where it is.
+fn pass_unwanted(cursor: &mut Cursor<'_>, style: DocStyle, wanted: WantedMetas) -> bool
+    ensures passed { IsTrue result
+        → docs.kept_by wanted (one (spec.attribute style)) cursor.old ≡ ([], cursor.new) }
+    ensures left { result ≡ false → cursor.new ≡ cursor.old }
+{
+    match wanted {
+        WantedMetas::All => false,
+        WantedMetas::Undocumented => pass_doc(cursor, style),
+        WantedMetas::Conditions => {
+            if pass_doc(cursor, style) {
+                return true;
+            }
+            if pass_unread(cursor, style) {
+                pass_behind(cursor, style);
+                return true;
+            }
+            false
+        }
+    }
+}
+
+/// An attribute, if it is wanted.
+#[tactic(auto, using(crate::proofs::Kept::meta_kept, crate::proofs::Kept::meta_dropped))]
 fn kept_attribute(
     alloc: Global,
     cursor: &mut Cursor<'_>,
     style: DocStyle,
-    keeps_docs: bool,
+    wanted: WantedMetas,
 ) -> Result<Option<Meta>, AllocError>
     ensures { Gives (λ m. option_to_list (option_map meta_view m))
-        (docs.kept_by keeps_docs (one (spec.attribute style)) cursor.old) result cursor.new }
+        (docs.kept_by wanted (one (spec.attribute style)) cursor.old) result cursor.new }
 {
-    if keeps_docs {
-        let meta = attribute(alloc, cursor, style)?;
-        return Ok(Some(meta));
-    }
-    if is_doc(cursor, style) {
-        cursor.bump();
-        pass_behind(cursor, style);
+    if pass_unwanted(cursor, style, wanted) {
         return Ok(None);
     }
     let meta = attribute(alloc, cursor, style)?;
-    if is_doc_meta(&meta) {
+    if !is_wanted_meta(&meta, wanted) {
         return Ok(None);
     }
     Ok(Some(meta))
@@ -206,10 +257,10 @@ fn attributes(
     alloc: Global,
     cursor: &mut Cursor<'_>,
     style: DocStyle,
-    keeps_docs: bool,
+    wanted: WantedMetas,
 ) -> Result<Vec<Meta>, AllocError>
     ensures { Gives (λ v. map meta_view v.items)
-        (docs.kept_by keeps_docs (spec.attributes style) cursor.old) result cursor.new }
+        (docs.kept_by wanted (spec.attributes style) cursor.old) result cursor.new }
 {
     let mut metas = Vec::new(alloc);
     let most = Cursor::most_turns();
@@ -218,7 +269,7 @@ fn attributes(
             break;
         }
         let past = cursor.past();
-        let meta = kept_attribute(alloc, cursor, style, keeps_docs)?;
+        let meta = kept_attribute(alloc, cursor, style, wanted)?;
         push_some(&mut metas, meta)?;
         cursor.pass_beyond(past);
     }
@@ -238,7 +289,7 @@ pub fn outer_attributes(alloc: Global, cursor: &mut Cursor<'_>) -> Result<Vec<Me
     ensures { Gives (λ v. map meta_view v.items)
         (spec.outer_attributes cursor.old) result cursor.new }
 {
-    kept_outer_attributes(alloc, cursor, true)
+    kept_outer_attributes(alloc, cursor, WantedMetas::All)
 }
 
 /// Takes the inner attributes that come next, in order: those in `#![..]`, and the comments `//!` and `/*! .. */` as
@@ -252,11 +303,10 @@ pub fn inner_attributes(alloc: Global, cursor: &mut Cursor<'_>) -> Result<Vec<Me
     ensures { Gives (λ v. map meta_view v.items)
         (spec.inner_attributes cursor.old) result cursor.new }
 {
-    kept_inner_attributes(alloc, cursor, true)
+    kept_inner_attributes(alloc, cursor, WantedMetas::All)
 }
 
-/// Takes the outer attributes that come next as [`outer_attributes`] does, but keeps those of the one name `doc` only if
-/// documentation is kept.
+/// Takes the outer attributes that come next as [`outer_attributes`] does, but keeps those only that are wanted.
 ///
 /// # Errors
 ///
@@ -265,16 +315,15 @@ pub fn inner_attributes(alloc: Global, cursor: &mut Cursor<'_>) -> Result<Vec<Me
 pub fn kept_outer_attributes(
     alloc: Global,
     cursor: &mut Cursor<'_>,
-    keeps_docs: bool,
+    wanted: WantedMetas,
 ) -> Result<Vec<Meta>, AllocError>
     ensures { Gives (λ v. map meta_view v.items)
-        (docs.kept_by keeps_docs spec.outer_attributes cursor.old) result cursor.new }
+        (docs.kept_by wanted spec.outer_attributes cursor.old) result cursor.new }
 {
-    attributes(alloc, cursor, DocStyle::Outer, keeps_docs)
+    attributes(alloc, cursor, DocStyle::Outer, wanted)
 }
 
-/// Takes the inner attributes that come next as [`inner_attributes`] does, but keeps those of the one name `doc` only if
-/// documentation is kept.
+/// Takes the inner attributes that come next as [`inner_attributes`] does, but keeps those only that are wanted.
 ///
 /// # Errors
 ///
@@ -283,10 +332,10 @@ pub fn kept_outer_attributes(
 pub fn kept_inner_attributes(
     alloc: Global,
     cursor: &mut Cursor<'_>,
-    keeps_docs: bool,
+    wanted: WantedMetas,
 ) -> Result<Vec<Meta>, AllocError>
     ensures { Gives (λ v. map meta_view v.items)
-        (docs.kept_by keeps_docs spec.inner_attributes cursor.old) result cursor.new }
+        (docs.kept_by wanted spec.inner_attributes cursor.old) result cursor.new }
 {
-    attributes(alloc, cursor, DocStyle::Inner, keeps_docs)
+    attributes(alloc, cursor, DocStyle::Inner, wanted)
 }

@@ -93,7 +93,7 @@ fn is_truth(cursor: &Cursor<'_>) -> bool
 }
 
 #[tactic(auto, unfolding(crate::specs::Literals::is_literal))]
-fn is_literal(cursor: &Cursor<'_>) -> bool
+pub(crate) fn is_literal(cursor: &Cursor<'_>) -> bool
     ensures { result ≡ spec.is_literal cursor.now }
 {
     is_literal_kind(cursor.kind()) || is_truth(cursor)

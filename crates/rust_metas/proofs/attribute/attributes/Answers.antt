@@ -5,10 +5,10 @@ use Rattle.rust_metas.proofs.attribute.attributes.Goals as goal
 
 pub loop-turn-init : goal.loop-turn-init
 loop-turn-init c =
-    attributes_kept c.args.keeps_docs c.args.style c.args.cursor.now c.most_turns-most.result (map meta_view c.new-metas.result.items) c.most_turns-most.ensures (ap (map meta_view) c.new-metas.ensures.items)
+    attributes_kept c.args.wanted c.args.style c.args.cursor.now c.most_turns-most.result (map meta_view c.new-metas.result.items) c.most_turns-most.ensures (ap (map meta_view) c.new-metas.ensures.items)
 
 pub loop-turn-preserved : goal.loop-turn-preserved
 loop-turn-preserved c =
-    turns_more (is_behind c.args.style) (kept_by c.args.keeps_docs (one (attribute c.args.style))) c.most_turns-most.result c.loop-turn._turn c.past-past.result (map meta_view c.loop-turn.metas.items) (map meta_view c.push_some.new.metas.items)
-    (option_to_list (option_map meta_view c.in_ok-meta.meta)) c.loop-turn.cursor c.kept_attribute.new.cursor c.pass_beyond.new.self (kept_by c.args.keeps_docs (attributes c.args.style) c.args.cursor.now)
+    turns_more (is_behind c.args.style) (kept_by c.args.wanted (one (attribute c.args.style))) c.most_turns-most.result c.loop-turn._turn c.past-past.result (map meta_view c.loop-turn.metas.items) (map meta_view c.push_some.new.metas.items)
+    (option_to_list (option_map meta_view c.in_ok-meta.meta)) c.loop-turn.cursor c.kept_attribute.new.cursor c.pass_beyond.new.self (kept_by c.args.wanted (attributes c.args.style) c.args.cursor.now)
     c.loop-turn-test.true (sym c.is_behind.ensures ∙ c.if-is_behind.false) c.in_ok-meta.ensures c.past-past.ensures c.pass_beyond.ensures c.in_ok-push_some.ensures c.loop-turn.invariant
