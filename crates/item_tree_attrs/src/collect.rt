@@ -5,7 +5,7 @@ ghost use Rattle.hir_input.specs.Cfg.{cfg_view, truth};
 ghost use Rattle.hir_input.specs.declared.attr.AttrInput.TheVariants.{Literal as literal, TokenTree as token_tree};
 ghost use Rattle.item_tree_attrs.specs.Collected.{attr_events, attr_limit, cfg_events, collected, collected_from, cut_events, events, is_false, is_skipped, join, nothing_collected, attr_path, IsUnit, JoinsLists};
 ghost use Rattle.item_tree_attrs.specs.Inner.Collecting.{found, AddsCollected};
-ghost use Rattle.item_tree_attrs.specs.declared.collect.AttrError.TheVariants.{TooMany};
+ghost use Rattle.item_tree_attrs.specs.declared.collect.AttrError.TheVariants.{OutOfMemory, TooMany};
 
 use either::{Either, Left, Right};
 use hir_input::ast::PathNode;
@@ -29,9 +29,6 @@ pub enum AttrError {
 }
 
 impl From<AllocError> for AttrError {
-    ghost use Rattle.std.specs.Prelude.{◌≡◌};
-    ghost use Rattle.item_tree_attrs.specs.declared.collect.AttrError.TheVariants.{OutOfMemory};
-
     ghost from_gives = { λ _ e. e ≡ OutOfMemory };
 
     fn from(_refused: AllocError) -> AttrError {
@@ -40,9 +37,6 @@ impl From<AllocError> for AttrError {
 }
 
 impl<T: Drop> From<AllocFailed<T>> for AttrError {
-    ghost use Rattle.std.specs.Prelude.{◌≡◌};
-    ghost use Rattle.item_tree_attrs.specs.declared.collect.AttrError.TheVariants.{OutOfMemory};
-
     ghost from_gives = { λ _ e. e ≡ OutOfMemory };
 
     fn from(_refused: AllocFailed<T>) -> AttrError {
@@ -125,7 +119,7 @@ impl AttrsOrCfg {
     /// Where more than u32::MAX attributes are collected, it is refused: as `TooMany`, or as `OutOfMemory` if memory
     /// was refused first. Otherwise `OutOfMemory` is the only refusal.
     /// A list followed by another collects what `merge` makes of the two.
-    #[tactic(auto, using(crate::proofs::Cutting::joins_lists))]
+    #[tactic(auto, using(crate::proofs::Cutting::joins_lists, std::proofs::lemmas::Grind::common_steps))]
     pub fn lower(
         alloc: Global,
         metas: &[Meta],
@@ -236,12 +230,8 @@ fn key_value_event<'a>(
         return Ok(None);
     }
     let path = readable_path(alloc, path)?;
-    let input = AttrInput::Literal(value.clone()?);
-    Ok(Some(Left(Attr {
-        path,
-        input: Some(input),
-        ctxt,
-    })))
+    let input = Some(AttrInput::Literal(value.clone()?));
+    Ok(Some(Left(Attr { path, input, ctxt })))
 }
 
 // An attribute whose input is a token tree.
@@ -259,12 +249,8 @@ fn token_tree_event<'a>(
         return Ok(None);
     }
     let path = readable_path(alloc, path)?;
-    let input = AttrInput::TokenTree(tokens.clone()?);
-    Ok(Some(Left(Attr {
-        path,
-        input: Some(input),
-        ctxt,
-    })))
+    let input = Some(AttrInput::TokenTree(tokens.clone()?));
+    Ok(Some(Left(Attr { path, input, ctxt })))
 }
 
 // Whether a cfg is false.
@@ -305,6 +291,7 @@ fn take<'a>(
 
 // Collects from a meta, up to a false cfg.
 #[cycle(collect)]
+#[tactic(auto, using(std::proofs::lemmas::Grind::common_steps))]
 fn collect<'a>(
     alloc: Global,
     meta: &'a Meta,
@@ -339,6 +326,7 @@ fn collect<'a>(
 
 // Collects from metas, up to the first false cfg.
 #[cycle(collect)]
+#[tactic(auto, using(std::proofs::lemmas::Grind::common_steps))]
 fn collect_all<'a>(
     alloc: Global,
     metas: &'a [Meta],

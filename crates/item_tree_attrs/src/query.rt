@@ -1,5 +1,6 @@
 //! Attributes that are lent, and what is asked of them.
 ghost use Rattle.std.specs.Prelude.{◌≡◌, ◌<◌, ◌^◌, length};
+ghost use Rattle.std.specs.Iterator.{YieldsFirstBy, YieldsFirstRef, item_count};
 ghost use Rattle.item_tree_attrs.specs.Key.{has_key, referred_attrs};
 
 use crate::collect::AttrsOwned;
@@ -133,8 +134,6 @@ impl<'a> Model for AttrIter<'a> {
 impl<'a> Iterator for AttrIter<'a> {
     type Item = (AttrId, &'a Attr);
 
-    ghost use Rattle.std.specs.Iterator.{YieldsFirstBy, item_count};
-
     ghost next_gives = { YieldsFirstBy (λ item. (item.0, item.1.now)) (λ s. s) };
 
     ghost remaining = { item_count (λ s. s) };
@@ -244,8 +243,6 @@ impl Clone for KeyedAttrs<'_> {
 impl<'a> Iterator for KeyedAttrs<'a> {
     type Item = &'a Attr;
 
-    ghost use Rattle.std.specs.Iterator.{YieldsFirstRef, item_count};
-
     ghost next_gives = { YieldsFirstRef (λ s. s) };
 
     ghost remaining = { item_count (λ s. s) };
@@ -288,8 +285,6 @@ impl<'a> Model for TtValues<'a> {
 
 impl<'a> Iterator for TtValues<'a> {
     type Item = &'a TokenTree;
-
-    ghost use Rattle.std.specs.Iterator.{YieldsFirstRef, item_count};
 
     ghost next_gives = { YieldsFirstRef (λ s. s) };
 

@@ -1,5 +1,4 @@
 use Rattle.std.proofs.Common.{map, None, Some, sym, ap, ◌∙◌, subst}
-use Rattle.std.proofs.{Common.arith, lemmas.Grind.common_steps}
 use Rattle.hir_input.specs.Attr.{meta_view}
 use Rattle.item_tree_attrs.specs.{Collected.cut_events, Collected.events, Collected.collected_from, Inner.Collecting.AddsCollected}
 use Rattle.item_tree_attrs.proofs.CollectSteps.{cut-CfgAttr, collected_by, Adds-more}
@@ -25,21 +24,3 @@ collect_all-returns-in-Some t c =
     let added = subst (λ met. AddsCollected c.loop-meta.attrs.items c.collect.new.attrs.items met found) c.in-Some.is c.in_ok-cfg.ensures in
     let whole = Adds-more c.args.cfg_options.now c.args.skipped.now c.args.metas.now c.loop-meta.meta-index c.meta-item.result _ _ (Some c.in-Some.cfg) c.loop-meta-test.true c.meta-item.is added ∙ c.loop-meta.invariant in
     record { attrs = ap (λ x. x.attrs) whole; false_cfg = ap (λ x. x.false_cfg) whole }
-
-pub collect-returns-in_err-path_event-in-Path : goal.collect-returns-in_err-path_event-in-Path
-collect-returns-in_err-path_event-in-Path t c = grind (arith, common_steps)
-
-pub collect-returns-in_err-key_value_event-in-KeyValue : goal.collect-returns-in_err-key_value_event-in-KeyValue
-collect-returns-in_err-key_value_event-in-KeyValue t c = grind (arith, common_steps)
-
-pub collect-returns-in_err-token_tree_event-in-TokenTree : goal.collect-returns-in_err-token_tree_event-in-TokenTree
-collect-returns-in_err-token_tree_event-in-TokenTree t c = grind (arith, common_steps)
-
-pub collect_all-loop-meta-init : goal.collect_all-loop-meta-init
-collect_all-loop-meta-init t c = grind (arith, common_steps)
-
-pub collect_all-returns-in_err-cfg : goal.collect_all-returns-in_err-cfg
-collect_all-returns-in_err-cfg t c = grind (arith, common_steps)
-
-pub collect_all-returns : goal.collect_all-returns
-collect_all-returns t c = grind (arith, common_steps)
