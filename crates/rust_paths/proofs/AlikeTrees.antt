@@ -61,14 +61,14 @@ all_same place fs gs h = record { value = values_same place fs gs h; starts = st
 
 -- ---- trees
 
-comma_onward : (b : Parting) (n : ℕ) (ts us : Tokens) → b.twins.are ts us → Onward b.twins.are b.lost (tree_comma_from n ts) (tree_comma_from n us)
+pub comma_onward : (b : Parting) (n : ℕ) (ts us : Tokens) → b.twins.are ts us → Onward b.twins.are b.lost (tree_comma_from n ts) (tree_comma_from n us)
 comma_onward b zero ts us h = on h
 comma_onward b (suc n) ts us h =
     cond_onward (end_same b.twins ts us h) (λ _. on h)
     (λ _. cond_onward (symbol_test b.twins 44 ts us h) (λ f. on (after_symbol b.twins 44 ts us refl h f))
     (λ _. onward_leads b (b.tree ts us h) (comma_from_leads n _) (comma_from_leads n _) (λ k. comma_onward b n (behind_tree ts) (behind_tree us) k)))
 
-behind_comma_onward : (b : Parting) (ts us : Tokens) → b.twins.are ts us → Onward b.twins.are b.lost (tree_behind_comma ts) (tree_behind_comma us)
+pub behind_comma_onward : (b : Parting) (ts us : Tokens) → b.twins.are ts us → Onward b.twins.are b.lost (tree_behind_comma ts) (tree_behind_comma us)
 unfolding tree_behind_comma
 behind_comma_onward b ts us h = comma_onward b _ ts us h
 

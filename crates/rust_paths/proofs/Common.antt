@@ -6,7 +6,7 @@ pub use Rattle.hir_input.specs.declared.ast.PathNode.{PathNode}
 pub use Rattle.hir_input.specs.declared.ast.PathNode.TheVariants.{Readable, Unreadable}
 pub use Rattle.hir_input.specs.declared.ast.Visibility.{Visibility}
 pub use Rattle.hir_input.specs.declared.edition.EditionYear.{EditionYear}
-pub use Rattle.rust_cursor.proofs.Leads.{Forwards, LeadsTo, behind_angles_leads, behind_closed_leads, behind_tree_leads, bumped_leads, eat_pair_leads, eat_word_leads, further, here, through, turns_leads, when}
+pub use Rattle.rust_cursor.proofs.Leads.{Forwards, LeadsTo, behind_angles_leads, behind_closed_leads, behind_tree_leads, bumped_leads, eat_pair_leads, eat_word_leads, further, here, only_if_leads, through, turns_leads, when}
 pub use Rattle.rust_cursor.proofs.Local.{Local, both_true}
 pub use Rattle.rust_cursor.proofs.Parting.{Entering, Onward, Parting, Until, UntilBy, UpTo, bind_until, by_kept, by_next, cond_onward, cond_until, eat_pair_until, eat_word_until, gone, kept, map_until, on, onward_leads, pass_until, then_until, turns_by, with_rest}
 pub use Rattle.rust_cursor.proofs.Places.{AreAlike, IsAlike, SamePlace, alike_join, alike_or, both, neither, no_more, one_more}
@@ -21,9 +21,9 @@ pub use Rattle.rust_cursor.specs.Tokens.{Tokens}
 pub use Rattle.rust_cursor.specs.Words.{by_first, eat_colons}
 unfoldable pub use Rattle.rust_cursor.specs.Words.{at, bumped, eat_word, is_at_end, is_empty, kind, symbol, text, word}
 pub use Rattle.rust_lexer.specs.Piece.{Piece}
-pub use Rattle.rust_paths.specs.Inner.{meaning, meant_path, path_start, then_word, with_word, with_words, word_behind}
+pub use Rattle.rust_paths.specs.Inner.{may_be_keyword, meaning, meant_path, path_start, then_word, with_word, with_words, word_behind}
 pub use Rattle.rust_paths.specs.Meaning.{all_words, fits, node_of, path_node, read_all}
-pub use Rattle.rust_paths.specs.Names.{Placed, as_name, behind_hash, is_since_2018, is_since_2024, is_underscore, keywords, keywords_since_2018, keywords_since_2024, may_be_keyword, name_text, placed_if, taken_with}
+pub use Rattle.rust_paths.specs.Names.{Placed, as_name, behind_hash, is_since_2018, is_since_2024, is_underscore, keywords, keywords_since_2018, keywords_since_2024, name_text, placed_if, taken_with}
 unfoldable pub use Rattle.rust_paths.specs.Names.{has_name, is_keyword, is_path_keyword, name, next_name, placed_name, plain_name}
 pub use Rattle.rust_paths.specs.Paths.{and_path_word, front_of_path, is_raw, more_from, named_word, path_in, written_path}
 unfoldable pub use Rattle.rust_paths.specs.Paths.{is_colons, is_dollar_crate, is_joint, is_path_colons, is_path_start, is_segment, more_segments, other_segment, path, segment, use_path}

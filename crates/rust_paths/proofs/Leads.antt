@@ -1,6 +1,6 @@
 -- What is left behind names, paths, visibilities and use trees is left of the tokens before them.
 use Rattle.std.proofs.Common.{◌≡◌, ◌==◌, ◌||◌, ℕ, zero, suc, Bool, true, false, Option, Some, None, List, [], ◌∷◌, refl, sym, ap, codes, is_none, bytes_eq}
-use Rattle.rust_paths.proofs.Common.{PathNode, Visibility, UseTreeView, Piece, Tokens, Reader, symbol, word, kind, at, by_first, is_empty, bumped, is_at_end, one, LeadsTo, here, further, through, Forwards, when, bumped_leads, eat_word_leads, eat_pair_leads, behind_closed_leads, behind_tree_leads, behind_angles_leads, turns_leads, Placed, placed_if, taken_with, next_name, name, placed_name, is_raw, is_dollar_crate, named_word, other_segment, segment, is_path_colons, more_from, more_segments, written_path, is_path_start, path_in, path, use_path, path_scope, plain_scope, scope, is_in, scoped, visibility, FoundInUse, alias, alias_if, rename, star_or_list, renamed_tree, tree_behind, tree_with, tree_comma_from, tree_behind_comma, element_with, list, tree_at, use_tree}
+use Rattle.rust_paths.proofs.Common.{PathNode, Visibility, UseTreeView, Piece, Tokens, Reader, symbol, word, kind, at, by_first, is_empty, bumped, is_at_end, one, LeadsTo, here, further, only_if_leads, through, Forwards, when, bumped_leads, eat_word_leads, eat_pair_leads, behind_closed_leads, behind_tree_leads, behind_angles_leads, turns_leads, Placed, placed_if, taken_with, next_name, name, placed_name, is_raw, is_dollar_crate, named_word, other_segment, segment, is_path_colons, more_from, more_segments, written_path, is_path_start, path_in, path, use_path, path_scope, plain_scope, scope, is_in, scoped, visibility, FoundInUse, alias, alias_if, rename, star_or_list, renamed_tree, tree_behind, tree_with, tree_comma_from, tree_behind_comma, element_with, list, tree_at, use_tree}
 
 -- ---- names
 
@@ -121,8 +121,7 @@ unfolding alias
 alias_leads ts = through (name_leads ts) (eat_word_leads _ _)
 
 pub alias_if_leads : (found : Bool) → Forwards (alias_if found)
-alias_if_leads true ts = alias_leads ts
-alias_if_leads false ts = here
+alias_if_leads = only_if_leads alias alias_leads
 
 pub rename_leads : Forwards rename
 unfolding rename

@@ -1,5 +1,5 @@
--- Paths, word by word.
-use Rattle.std.specs.Prelude.{ℕ, Bool, nat_lt, ◌+◌, if◌then◌else◌, Option, Some, None, option_map, List, [], ◌∷◌, ◌++◌}
+-- Paths, word by word, and a quick test of words.
+use Rattle.std.specs.Prelude.{ℕ, Bool, false, nat_lt, ◌==◌, ◌||◌, ◌+◌, if◌then◌else◌, Option, Some, None, option_map, List, [], ◌∷◌, ◌++◌, length, slice_index}
 use Rattle.hir_input.specs.declared.mod_path.PathKind.{PathKind}
 use Rattle.hir_input.specs.declared.mod_path.PathKind.TheVariants.{Plain, Super, Crate, Abs, DollarCrate}
 use Rattle.hir_input.specs.declared.ast.PathNode.{PathNode}
@@ -42,3 +42,21 @@ with_word p r = (then_word p r.0, r.1)
 
 abbrev pub with_words : Option Path → List (Option PathWord) × Tokens → PathNode × Tokens
 with_words p r = (meaning p r.0, r.1)
+
+-- ---- a quick test of words
+
+-- a keyword of some edition has this length and this first byte
+abbrev pub is_keyword_by : ℕ → ℕ → Bool
+is_keyword_by n c =
+    if n == 2 then c == 97 || (c == 100 || (c == 102 || c == 105))
+    else (if n == 3 then c == 98 || (c == 100 || (c == 102 || (c == 103 || (c == 108 || (c == 109 || (c == 112 || (c == 114 || (c == 116 || c == 117))))))))
+    else (if n == 4 then c == 101 || (c == 105 || (c == 108 || (c == 109 || (c == 112 || c == 116))))
+    else (if n == 5 then c == 97 || (c == 98 || (c == 99 || (c == 102 || (c == 109 || (c == 116 || (c == 119 || c == 121))))))
+    else (if n == 6 then c == 98 || (c == 101 || (c == 114 || (c == 115 || (c == 116 || c == 117))))
+    else (if n == 7 then c == 117 || c == 118
+    else (if n == 8 then c == 97 || (c == 99 || c == 111)
+    else false))))))
+
+-- a word that may be a keyword, by its length and its first byte
+abbrev pub may_be_keyword : List ℕ → Bool
+may_be_keyword w = is_keyword_by (length w) (slice_index w 0)

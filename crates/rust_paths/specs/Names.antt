@@ -1,5 +1,5 @@
 -- Names.
-use Rattle.std.specs.Prelude.{ℕ, Bool, true, false, ◌==◌, if◌then◌else◌, Option, Some, None, is_some, List, [], ◌∷◌, ◌||◌, length, slice_index, codes, bytes_eq}
+use Rattle.std.specs.Prelude.{ℕ, Bool, true, false, ◌==◌, if◌then◌else◌, Option, Some, None, is_some, List, [], ◌∷◌, codes, bytes_eq}
 use Rattle.std.specs.List.{list_any}
 use Rattle.hir_input.specs.declared.edition.EditionYear.{EditionYear}
 use Rattle.hir_input.specs.declared.edition.EditionYear.TheVariants as year
@@ -28,22 +28,6 @@ keywords_since_2018 = codes "async" ∷ codes "await" ∷ codes "dyn" ∷ codes 
 -- and with 2024
 abbrev pub keywords_since_2024 : List (List ℕ)
 keywords_since_2024 = codes "gen" ∷ []
-
--- one of these has this length and this first byte
-abbrev pub is_keyword_by : ℕ → ℕ → Bool
-is_keyword_by n c =
-    if n == 2 then c == 97 || (c == 100 || (c == 102 || c == 105))
-    else (if n == 3 then c == 98 || (c == 100 || (c == 102 || (c == 103 || (c == 108 || (c == 109 || (c == 112 || (c == 114 || (c == 116 || c == 117))))))))
-    else (if n == 4 then c == 101 || (c == 105 || (c == 108 || (c == 109 || (c == 112 || c == 116))))
-    else (if n == 5 then c == 97 || (c == 98 || (c == 99 || (c == 102 || (c == 109 || (c == 116 || (c == 119 || c == 121))))))
-    else (if n == 6 then c == 98 || (c == 101 || (c == 114 || (c == 115 || (c == 116 || c == 117))))
-    else (if n == 7 then c == 117 || c == 118
-    else (if n == 8 then c == 97 || (c == 99 || c == 111)
-    else false))))))
-
--- a word that may be one of these, by its length and its first byte
-abbrev pub may_be_keyword : List ℕ → Bool
-may_be_keyword w = is_keyword_by (length w) (slice_index w 0)
 
 abbrev pub is_since_2018 : EditionYear → Bool
 is_since_2018 year.E2015 = false

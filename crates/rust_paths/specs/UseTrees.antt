@@ -6,7 +6,7 @@ use Rattle.hir_input.specs.declared.ast.PathNode.TheVariants.{Unreadable}
 use Rattle.hir_input.specs.declared.ast.Rename.{Rename}
 use Rattle.hir_input.specs.UseTreeView.{UseTreeView, tree_from}
 use Rattle.rust_cursor.specs.Tokens.{Tokens}
-use Rattle.rust_cursor.specs.Reader.{Reader, ◌>>=◌, pure, look, pass}
+use Rattle.rust_cursor.specs.Reader.{Reader, ◌>>=◌, pure, look, pass, only_if}
 use Rattle.rust_cursor.specs.Words.{symbol, at, bumped, is_at_end, eat_word, eat_colons}
 use Rattle.rust_cursor.specs.Brackets.{behind_closed, behind_tree}
 use Rattle.rust_cursor.specs.Elements.{most, elements, one}
@@ -30,7 +30,7 @@ alias = do
   pure (record { name = name })
 
 abbrev pub alias_if : Bool → Reader (Option Rename)
-alias_if found ts = if found then (Some (alias ts).0, (alias ts).1) else (None, ts)
+alias_if = only_if alias
 
 -- `as` and a name or `_`
 unfoldable pub rename : Reader (Option Rename)
@@ -94,6 +94,7 @@ abbrev pub tree_comma_from : ℕ → Tokens → Tokens
 tree_comma_from zero ts = ts
 tree_comma_from (suc n) ts = if is_at_end ts then ts else (if symbol ts == 44 then bumped ts else tree_comma_from n (behind_tree ts))
 
+-- what is left behind the next comma, or from a bracket that closes on
 unfoldable pub tree_behind_comma : Tokens → Tokens
 tree_behind_comma ts = tree_comma_from most ts
 

@@ -9,9 +9,9 @@ mod use_trees;
 mod visibilities;
 
 pub use names::{
-    KEYWORDS, KEYWORDS_SINCE_2018, KEYWORDS_SINCE_2024, PlacedName, TextRange, has_name, name,
-    placed_name,
+    KEYWORDS, KEYWORDS_SINCE_2018, KEYWORDS_SINCE_2024, PlacedName, TextRange, behind_hash,
+    has_name, name, placed_name,
 };
 pub use paths::path;
-pub use use_trees::{FoundUseTree, TreeStarts, use_tree};
+pub use use_trees::{FoundUseTree, TreeStarts, pass_comma, use_tree};
 pub use visibilities::visibility;

@@ -2,6 +2,7 @@
 
 ghost use Rattle.std.specs.Prelude.{◌≡◌, Some, IfOk, option_map, string_bytes};
 ghost use Rattle.rust_cursor.specs.Reader.{Gives};
+ghost use Rattle.rust_paths.specs.Inner as inner;
 ghost use Rattle.rust_paths.specs.Names as spec;
 ghost use Rattle.rust_paths.specs.Views.{placed_view};
 
@@ -53,7 +54,7 @@ fn is_since_2024(edition: EditionYear) -> bool
 /// Whether one of these has this length and this first byte.
 #[inline(always)]
 fn is_keyword_by(len: usize, first: u8) -> bool
-    ensures { result ≡ spec.is_keyword_by len first }
+    ensures { result ≡ inner.is_keyword_by len first }
 {
     match len {
         2 => matches!(first, b'a' | b'd' | b'f' | b'i'),
@@ -73,7 +74,7 @@ fn is_keyword_by(len: usize, first: u8) -> bool
 /// Whether a word may be one of these, by its length and its first byte.
 #[inline(always)]
 fn may_be_keyword(word: &str) -> bool
-    ensures { result ≡ spec.may_be_keyword word.now }
+    ensures { result ≡ inner.may_be_keyword word.now }
 {
     match word.as_bytes() {
         [first, ..] => is_keyword_by(word.len(), *first),
@@ -133,8 +134,8 @@ fn plain_name(edition: EditionYear, word: &str) -> Option<&str>
     Some(word)
 }
 
-/// What stands behind `r#`.
-fn behind_hash(text: &str) -> Option<&str>
+/// What stands behind `r#`, if that comes first.
+pub fn behind_hash(text: &str) -> Option<&str>
     ensures { option_map (λ word. word.now) result ≡ spec.behind_hash text.now }
 {
     match text.strip_prefix('r') {

@@ -1,12 +1,14 @@
 //! Paths.
 
-ghost use Rattle.std.specs.Prelude.{◌≡◌, OnOk, [], true, false};
+ghost use Rattle.std.specs.Prelude.{◌≡◌, OnOk, option_map, [], true, false};
+ghost use Rattle.hir_input.specs.Words.{name_word};
 ghost use Rattle.rust_cursor.specs.Reader.{Gives};
 ghost use Rattle.rust_paths.specs.Inner.{meaning, with_word, with_words};
 ghost use Rattle.rust_paths.specs.Paths as spec;
 
 use crate::meaning::PathWords;
 use crate::names::{has_name, is_path_keyword, name, next_name};
+use hir_input::Name;
 use hir_input::ast::PathNode;
 use rust_cursor::Cursor;
 use rust_lexer::TokenKind;
@@ -49,21 +51,15 @@ fn is_segment(cursor: &Cursor<'_>) -> bool
 }
 
 /// Takes a name, or a raw identifier that is none.
-fn named_word(
-    alloc: Global,
-    cursor: &mut Cursor<'_>,
-    words: &mut PathWords,
-) -> Result<(), AllocError>
-    ensures { OnOk result (with_word words.old (spec.named_word cursor.old)
-        ≡ (words.new, cursor.new)) }
+fn named_word(alloc: Global, cursor: &mut Cursor<'_>) -> Result<Option<Name>, AllocError>
+    ensures { Gives (option_map name_word) (spec.named_word cursor.old) result cursor.new }
 {
     if is_raw(cursor.kind()) {
         let name = next_name(alloc, cursor)?;
         cursor.bump();
-        return words.push_or_refuse(name);
+        return Ok(name);
     }
-    let name = name(alloc, cursor)?;
-    words.push_or_refuse(name)
+    name(alloc, cursor)
 }
 
 #[tactic(auto, unfolding(crate::specs::Paths::other_segment))]
@@ -86,7 +82,8 @@ fn other_segment(
         words.refuse();
         return Ok(());
     }
-    named_word(alloc, cursor, words)
+    let name = named_word(alloc, cursor)?;
+    words.push_or_refuse(name)
 }
 
 /// Takes a segment of a path, where one has to stand.

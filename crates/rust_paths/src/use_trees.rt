@@ -1,6 +1,6 @@
 //! Use trees.
 
-ghost use Rattle.std.specs.Prelude.{◌≡◌, ◌||◌, OnOk, option_map, option_to_list, ◌++◌, [], map, is_none};
+ghost use Rattle.std.specs.Prelude.{◌≡◌, ◌||◌, OnOk, option_map, ◌++◌, [], map, is_none};
 ghost use Rattle.hir_input.specs.UseTreeView.{use_tree_view};
 ghost use Rattle.rust_cursor.specs.Reader.{Gives};
 ghost use Rattle.rust_paths.specs.UseTrees as spec;
@@ -9,7 +9,7 @@ ghost use Rattle.rust_paths.specs.Views.{found_view, list_view, starts_view, tre
 use crate::names::name;
 use crate::paths::use_path;
 use hir_input::ast::{PathNode, Rename, UseTree};
-use rust_cursor::Cursor;
+use rust_cursor::{Cursor, push_some};
 use std::alloc::{AllocError, Global};
 
 /// How deep lists may stand in one another.
@@ -220,7 +220,7 @@ fn may_be_listed(joined: bool, path: &Option<PathNode>) -> bool
 
 /// Passes over what stands before the next comma, and it, or up to a bracket that closes.
 #[tactic(auto, unfolding(crate::specs::UseTrees::tree_behind_comma), using(crate::proofs::Trees::comma_end, crate::proofs::Trees::comma_here, crate::proofs::Trees::comma_more))]
-fn pass_comma(cursor: &mut Cursor<'_>)
+pub fn pass_comma(cursor: &mut Cursor<'_>)
     ensures { cursor.new ≡ spec.tree_behind_comma cursor.old }
 {
     let most = Cursor::most_turns();
@@ -233,19 +233,6 @@ fn pass_comma(cursor: &mut Cursor<'_>)
             return;
         }
         cursor.pass_tree();
-    }
-}
-
-fn push_some(trees: &mut Vec<UseTree>, tree: Option<UseTree>) -> Result<(), AllocError>
-    ensures { OnOk result (map use_tree_view trees.new.items ≡ map use_tree_view trees.old.items
-        ++ option_to_list (option_map use_tree_view tree)) }
-{
-    match tree {
-        Some(tree) => {
-            trees.push(tree)?;
-            Ok(())
-        }
-        None => Ok(()),
     }
 }
 
