@@ -1,5 +1,6 @@
 -- Items without bodies, or with what is wanted of them.
 use Rattle.std.proofs.Common.{◌≡◌, Bool, true, false, List, [], ◌∷◌, Option, Some, None, refl, ap, ◌∙◌, map, option_map, option_to_list}
+use Rattle.rust_metas.specs.declared.wanted.WantedMetas.TheVariants as wanted
 use Rattle.rust_items.proofs.Common.{item_without_bodies, items_without_bodies, named_without_body, node_without_body, ItemView, ItemViews, NamedView, NodeView, plain_item, fn_kind, listed_module, listed_extern_block, no_items, item_and, items_from, module_from, extern_block_from, kept_metas, Wanted, clipped_item, clipped_list, as_extern}
 
 pub from_list : (is : List ItemView) → items_without_bodies (items_from is) ≡ items_from (map item_without_bodies is)
@@ -27,11 +28,11 @@ list_of change (Some i) = refl
 
 -- all is wanted
 abbrev pub all : Wanted
-all = record { bodies = true; docs = true }
+all = record { bodies = true; metas = wanted.All }
 
 -- all but bodies is wanted
 abbrev pub bare : Wanted
-bare = record { bodies = false; docs = true }
+bare = record { bodies = false; metas = wanted.All }
 
 mutual
   unfolding kept_metas

@@ -28,18 +28,18 @@ same_views file syntax at uses wrong a b c d =
     ∙ ap (λ (p : List Problem). record { syntax = syntax; places = at; use_trees = uses; problems = p }) d
 
 file_clipped : (w : Wanted) (edition : EditionYear) (text : List ℕ) (place : ℕ → ℕ) (ids : List FileAstId) (is : List ItemView) → is ≡ clipped_items w (read_of edition text).0
-    → (file : FileView) → file.syntax ≡ source_file (kept_metas w.docs (inner_attributes (tokens_of edition text)).0) (with_ids (items_from is) ids).0
+    → (file : FileView) → file.syntax ≡ source_file (kept_metas w.metas (inner_attributes (tokens_of edition text)).0) (with_ids (items_from is) ids).0
     → file.places ≡ places ids (map (moved_span place) (found_in edition text).spans) → file.use_trees ≡ map place (found_in edition text).use_trees → file.problems ≡ map (moved_problem place) (found_in edition text).problems
     → file ≡ clipped_file w (whole_of edition text place ids)
 unfolding items_in clipped_items
 file_clipped w edition text place ids is e file a b c d =
-    let attrs = kept_metas w.docs (inner_attributes (tokens_of edition text)).0 in
+    let attrs = kept_metas w.metas (inner_attributes (tokens_of edition text)).0 in
     let list : with_ids (items_from is) ids ≡ with_ids (clipped_list w (items_in edition text)) ids = ap (λ l. with_ids l ids) (ap items_from e ∙ sym (wanted_from w (read_of edition text).0)) in
     same_views file _ _ _ _ (a ∙ ap (λ r. source_file attrs r.0) (list ∙ with_clipped w (items_in edition text) ids)) b c d
 
 -- what is read, with its ids, is that of the text
 pub is_clipped : (w : Wanted) (edition : EditionYear) (text : List ℕ) (place : ℕ → ℕ) (ids : List FileAstId) (is : List ItemView) (file : FileView) → AreIds (found_in edition text).rows ids
-    → is ≡ clipped_items w (read_of edition text).0 → file.syntax ≡ source_file (kept_metas w.docs (inner_attributes (tokens_of edition text)).0) (with_ids (items_from is) ids).0
+    → is ≡ clipped_items w (read_of edition text).0 → file.syntax ≡ source_file (kept_metas w.metas (inner_attributes (tokens_of edition text)).0) (with_ids (items_from is) ids).0
     → file.places ≡ places ids (map (moved_span place) (found_in edition text).spans) → file.use_trees ≡ map place (found_in edition text).use_trees → file.problems ≡ map (moved_problem place) (found_in edition text).problems
     → IsClipped w edition text place file
 is_clipped w edition text place ids is file are e a b c d =

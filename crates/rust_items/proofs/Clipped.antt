@@ -63,14 +63,14 @@ finding_clipped w ends turn f ts = finding_from_clipped w ends turn most [] f ts
 -- what stands in braces, from the `{` on, as far as its attributes are kept
 abbrev pub block_kept : Wanted → Finder (Option ItemView) → Finder BlockRead
 block_kept w turn f ts =
-    let inner = kept_by w.docs inner_attributes (bumped ts) in
+    let inner = kept_by w.metas inner_attributes (bumped ts) in
     let list = finding (is_list_end false) turn f inner.1 in
     (record { attrs = inner.0; items = Some list.0; is_ended = (eat 125 list.1.1).0 }, (list.1.0, (eat 125 list.1.1).1))
 
 block_clipped : (w : Wanted) (turn : Finder (Option ItemView)) (f : Found) (ts : Tokens) → with_value (clipped_block w) (block_of turn f ts) ≡ block_kept w (clipped_turn w turn) f ts
 unfolding with_value clipped_block
 block_clipped w turn f ts =
-    let inner = kept_by w.docs inner_attributes (bumped ts) in
+    let inner = kept_by w.metas inner_attributes (bumped ts) in
     let around : List ItemView × (Found × Tokens) → BlockRead × (Found × Tokens) =
     λ list. (record { attrs = inner.0; items = Some list.0; is_ended = (eat 125 list.1.1).0 }, (list.1.0, (eat 125 list.1.1).1)) in
     ap around (finding_clipped w (is_list_end false) turn f inner.1)
@@ -78,7 +78,7 @@ block_clipped w turn f ts =
 -- no braces hold no attributes
 empty_clipped : {A : Type 0} (w : Wanted) (is_ended : Bool) (rest : A) → with_value (clipped_block w) (empty_block is_ended, rest) ≡ (empty_block is_ended, rest)
 unfolding with_value clipped_block
-empty_clipped w is_ended rest = ap (λ (ms : List MetaView). (record (empty_block is_ended) { attrs = ms }, rest)) (kept_none w.docs)
+empty_clipped w is_ended rest = ap (λ (ms : List MetaView). (record (empty_block is_ended) { attrs = ms }, rest)) (kept_none w.metas)
 
 -- ---- extern blocks
 
@@ -117,12 +117,12 @@ extern_inside_clipped w depth f ts =
     ∙ ap (λ b. if symbol ts == 123 then block_kept w (clipped_turn w (extern_turn depth)) f ts else b) (empty_clipped w false (f, ts))
 
 block_held : (w : Wanted) (attrs inner : List MetaView) (is : Option (List ItemView))
-    → wanted_item w attrs (extern_block_from (node inner []) is) ≡ extern_block_from (node (attrs ++ kept_metas w.docs inner) []) (option_map (clipped_items w) is)
+    → wanted_item w attrs (extern_block_from (node inner []) is) ≡ extern_block_from (node (attrs ++ kept_metas w.metas inner) []) (option_map (clipped_items w) is)
 unfolding wanted_item clipped_items
-block_held w attrs inner None = ap (λ b. bare_extern_block (node (attrs ++ kept_metas w.docs inner) b)) (text_none w.bodies)
+block_held w attrs inner None = ap (λ b. bare_extern_block (node (attrs ++ kept_metas w.metas inner) b)) (text_none w.bodies)
 block_held w attrs inner (Some is) =
-    ap (λ b. listed_extern_block (node (attrs ++ kept_metas w.docs inner) b) (clipped_list w (items_from is))) (text_none w.bodies)
-    ∙ ap (listed_extern_block (node (attrs ++ kept_metas w.docs inner) [])) (wanted_from w is)
+    ap (λ b. listed_extern_block (node (attrs ++ kept_metas w.metas inner) b) (clipped_list w (items_from is))) (text_none w.bodies)
+    ∙ ap (listed_extern_block (node (attrs ++ kept_metas w.metas inner) [])) (wanted_from w is)
 
 pub extern_block_clipped : (w : Wanted) (depth start : ℕ) (attrs : List MetaView) (f : Found) (ts : Tokens) → with_value (wanted_item w attrs) (extern_block depth start [] f ts)
     ≡ (let b = with_value (clipped_block w) (extern_inside (one_more depth) nothing_found ts) in
@@ -132,12 +132,12 @@ extern_block_clipped w depth start attrs f ts =
     let b = extern_inside (one_more depth) nothing_found ts in
     ap (λ i. (i, (and_parent depth start b.1.1.past kind.ExternBlock no_name b.0.is_ended b.1.0 f, b.1.1))) (block_held w attrs b.0.attrs b.0.items)
 
-block_front : (w : Wanted) (attrs inner : List MetaView) (is : Option (List ItemView)) → clipped_item w (extern_block_from (node (attrs ++ inner) []) is) ≡ wanted_item w (kept_metas w.docs attrs) (extern_block_from (node inner []) is)
+block_front : (w : Wanted) (attrs inner : List MetaView) (is : Option (List ItemView)) → clipped_item w (extern_block_from (node (attrs ++ inner) []) is) ≡ wanted_item w (kept_metas w.metas attrs) (extern_block_from (node inner []) is)
 unfolding wanted_item
-block_front w attrs inner None = ap (λ a. bare_extern_block (node a (kept_text w.bodies []))) (kept_append w.docs attrs inner)
-block_front w attrs inner (Some is) = ap (λ a. listed_extern_block (node a (kept_text w.bodies [])) (clipped_list w (items_from is))) (kept_append w.docs attrs inner)
+block_front w attrs inner None = ap (λ a. bare_extern_block (node a (kept_text w.bodies []))) (kept_append w.metas attrs inner)
+block_front w attrs inner (Some is) = ap (λ a. listed_extern_block (node a (kept_text w.bodies [])) (clipped_list w (items_from is))) (kept_append w.metas attrs inner)
 
-extern_block_front : (w : Wanted) (depth start : ℕ) (attrs : List MetaView) (f : Found) (ts : Tokens) → with_value (clipped_item w) (extern_block depth start attrs f ts) ≡ with_value (wanted_item w (kept_metas w.docs attrs)) (extern_block depth start [] f ts)
+extern_block_front : (w : Wanted) (depth start : ℕ) (attrs : List MetaView) (f : Found) (ts : Tokens) → with_value (clipped_item w) (extern_block depth start attrs f ts) ≡ with_value (wanted_item w (kept_metas w.metas attrs)) (extern_block depth start [] f ts)
 unfolding with_value extern_block
 extern_block_front w depth start attrs f ts =
     let b = extern_inside (one_more depth) nothing_found ts in
@@ -162,12 +162,12 @@ unless_clipped w semicolon left f ts =
     with_if (clipped_block w) semicolon (no_block, (f, ts)) (inside left f ts) ∙ ap (λ b. if semicolon then b else with_value (clipped_block w) (inside left f ts)) (empty_clipped w false (f, ts))
 
 module_held : (w : Wanted) (attrs inner : List MetaView) (name : Option (List ℕ)) (visibility : Option Visibility) (semicolon : Bool) (is : Option (List ItemView))
-    → wanted_item w attrs (module_from (named_node inner name visibility []) semicolon is) ≡ module_from (named_node (attrs ++ kept_metas w.docs inner) name visibility []) semicolon (option_map (clipped_items w) is)
+    → wanted_item w attrs (module_from (named_node inner name visibility []) semicolon is) ≡ module_from (named_node (attrs ++ kept_metas w.metas inner) name visibility []) semicolon (option_map (clipped_items w) is)
 unfolding wanted_item clipped_items
-module_held w attrs inner name visibility semicolon None = ap (λ b. bare_module (named_node (attrs ++ kept_metas w.docs inner) name visibility b) semicolon) (text_none w.bodies)
+module_held w attrs inner name visibility semicolon None = ap (λ b. bare_module (named_node (attrs ++ kept_metas w.metas inner) name visibility b) semicolon) (text_none w.bodies)
 module_held w attrs inner name visibility semicolon (Some is) =
-    ap (λ b. listed_module (named_node (attrs ++ kept_metas w.docs inner) name visibility b) semicolon (clipped_list w (items_from is))) (text_none w.bodies)
-    ∙ ap (listed_module (named_node (attrs ++ kept_metas w.docs inner) name visibility []) semicolon) (wanted_from w is)
+    ap (λ b. listed_module (named_node (attrs ++ kept_metas w.metas inner) name visibility b) semicolon (clipped_list w (items_from is))) (text_none w.bodies)
+    ∙ ap (listed_module (named_node (attrs ++ kept_metas w.metas inner) name visibility []) semicolon) (wanted_from w is)
 
 pub module_clipped : (w : Wanted) (left : ℕ) (attrs : List MetaView) (start : ℕ) (visibility : Option Visibility) (head : Head) (f : Found) (ts : Tokens)
     → with_value (wanted_item w attrs) (module_item left (record { start = start; attrs = []; visibility = visibility; head = head }) f ts)
@@ -183,13 +183,13 @@ module_clipped w left attrs start visibility head f ts =
     ap (λ i. (i, (and_parent (depth_of left) start b.1.1.past kind.Module n.0 (semicolon.0 || b.0.is_ended) b.1.0 f, b.1.1))) (module_held w attrs b.0.attrs n.0.name visibility semicolon.0 b.0.items)
 
 listed_front : (w : Wanted) (attrs inner : List MetaView) (name : Option (List ℕ)) (visibility : Option Visibility) (semicolon : Bool) (is : Option (List ItemView))
-    → clipped_item w (module_from (named_node (attrs ++ inner) name visibility []) semicolon is) ≡ wanted_item w (kept_metas w.docs attrs) (module_from (named_node inner name visibility []) semicolon is)
+    → clipped_item w (module_from (named_node (attrs ++ inner) name visibility []) semicolon is) ≡ wanted_item w (kept_metas w.metas attrs) (module_from (named_node inner name visibility []) semicolon is)
 unfolding wanted_item
-listed_front w attrs inner name visibility semicolon None = ap (λ a. bare_module (named_node a name visibility (kept_text w.bodies [])) semicolon) (kept_append w.docs attrs inner)
+listed_front w attrs inner name visibility semicolon None = ap (λ a. bare_module (named_node a name visibility (kept_text w.bodies [])) semicolon) (kept_append w.metas attrs inner)
 listed_front w attrs inner name visibility semicolon (Some is) =
-    ap (λ a. listed_module (named_node a name visibility (kept_text w.bodies [])) semicolon (clipped_list w (items_from is))) (kept_append w.docs attrs inner)
+    ap (λ a. listed_module (named_node a name visibility (kept_text w.bodies [])) semicolon (clipped_list w (items_from is))) (kept_append w.metas attrs inner)
 
-module_front : (w : Wanted) (left : ℕ) (h : FrontRead) (f : Found) (ts : Tokens) → with_value (clipped_item w) (module_item left h f ts) ≡ with_value (wanted_item w (kept_metas w.docs h.attrs)) (module_item left (unattributed h) f ts)
+module_front : (w : Wanted) (left : ℕ) (h : FrontRead) (f : Found) (ts : Tokens) → with_value (clipped_item w) (module_item left h f ts) ≡ with_value (wanted_item w (kept_metas w.metas h.attrs)) (module_item left (unattributed h) f ts)
 unfolding with_value module_item
 module_front w left h f ts =
     let n = named ts in

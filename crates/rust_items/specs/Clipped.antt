@@ -18,7 +18,7 @@ clipped_items w is = map (clipped_item w) is
 
 -- what stands in an item's braces, with what is wanted of it
 unfoldable pub clipped_block : Wanted → BlockRead → BlockRead
-clipped_block w b = record { attrs = kept_metas w.docs b.attrs; items = option_map (clipped_items w) b.items; is_ended = b.is_ended }
+clipped_block w b = record { attrs = kept_metas w.metas b.attrs; items = option_map (clipped_items w) b.items; is_ended = b.is_ended }
 
 -- the same of what gives an item or none
 abbrev pub clipped_turn : Wanted → Finder (Option ItemView) → Finder (Option ItemView)

@@ -78,7 +78,7 @@ bare_file file = record { syntax = without_bodies file.syntax; places = file.pla
 
 -- the syntax of a file, with what is wanted of it (no other is read of a text)
 abbrev pub clipped_syntax : Wanted → SyntaxView → SyntaxView
-clipped_syntax w (source_file attrs is) = source_file (kept_metas w.docs attrs) (clipped_list w is)
+clipped_syntax w (source_file attrs is) = source_file (kept_metas w.metas attrs) (clipped_list w is)
 clipped_syntax w s = s
 
 -- what was read, with what is wanted of it

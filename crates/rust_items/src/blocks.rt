@@ -21,7 +21,9 @@ use hir_input::ast::{BlockExpr, Item, MacroCall, Stmt, Tail};
 use hir_input::{AstIdKind, EditionYear, Meta};
 use rust_cursor::Cursor;
 use rust_ids::assign;
-use rust_leaves::{Call, Wanted, front_behind, is_item, pass_statement, statement_call};
+use rust_leaves::{
+    Call, Wanted, WantedMetas, front_behind, is_item, pass_statement, statement_call,
+};
 use rust_metas::{inner_attributes, outer_attributes};
 use rust_paths::TextRange;
 use std::alloc::{AllocError, Global};
@@ -184,7 +186,7 @@ fn take_item<'t>(
     let front = front_behind(alloc, cursor, start, attrs)?;
     let wanted = Wanted {
         bodies: true,
-        docs: true,
+        metas: WantedMetas::All,
     };
     let item = behind_front(alloc, cursor, wanted, MOST_DEPTH, front, log)?;
     Ok(item_part(item))

@@ -202,7 +202,7 @@ fn extern_inside<'t>(
         });
     }
     cursor.bump();
-    let attrs = kept_inner_attributes(alloc, cursor, wanted.docs)?;
+    let attrs = kept_inner_attributes(alloc, cursor, wanted.metas)?;
     let items = extern_items(alloc, cursor, wanted, depth, log)?;
     let is_ended = cursor.eat(b'}');
     Ok(ExternInside {

@@ -135,7 +135,7 @@ fn module_inside<'t>(
         return Ok(no_inside(alloc, true));
     }
     cursor.bump();
-    let attrs = kept_inner_attributes(alloc, cursor, wanted.docs)?;
+    let attrs = kept_inner_attributes(alloc, cursor, wanted.metas)?;
     let items = items(alloc, cursor, wanted, false, left - 1, log)?;
     let is_ended = cursor.eat(b'}');
     Ok(Inside {

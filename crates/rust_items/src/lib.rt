@@ -13,6 +13,6 @@ mod turn;
 
 pub use blocks::{SourceBlock, read_block};
 pub use log::{Problem, ProblemKind};
-pub use rust_leaves::Wanted;
+pub use rust_leaves::{Wanted, WantedMetas};
 pub use rust_paths::TextRange;
 pub use source_file::{ItemPlace, SourceFile, read_source_file, read_wanted, read_without_bodies};

@@ -19,7 +19,7 @@ use hir_input::ast::{Item, Syntax};
 use hir_input::{EditionYear, FileAstId, Meta};
 use rust_cursor::Cursor;
 use rust_ids::assign;
-use rust_leaves::Wanted;
+use rust_leaves::{Wanted, WantedMetas};
 use rust_metas::kept_inner_attributes;
 use rust_paths::TextRange;
 use std::alloc::{AllocError, Global};
@@ -120,7 +120,7 @@ fn reading_of(
         (place_by ends.now.len ends.now.returns.items) (reading_file read)) }
 {
     let mut cursor = Cursor::new(text, edition);
-    let attrs = kept_inner_attributes(alloc, &mut cursor, wanted.docs)?;
+    let attrs = kept_inner_attributes(alloc, &mut cursor, wanted.metas)?;
     let mut log = Log::new(alloc);
     let items = top_items(alloc, &mut cursor, wanted, &mut log)?;
     log.push_problem_at(ProblemKind::Unterminated, cursor.unended())?;
@@ -204,7 +204,7 @@ pub fn read_source_file(
 {
     let wanted = Wanted {
         bodies: true,
-        docs: true,
+        metas: WantedMetas::All,
     };
     read_wanted(alloc, text, wanted, edition)
 }
@@ -228,7 +228,7 @@ pub fn read_without_bodies(
 {
     let wanted = Wanted {
         bodies: false,
-        docs: true,
+        metas: WantedMetas::All,
     };
     read_wanted(alloc, text, wanted, edition)
 }

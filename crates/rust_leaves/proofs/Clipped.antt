@@ -7,6 +7,7 @@ use Rattle.rust_paths.specs.Paths.{path}
 use Rattle.rust_metas.specs.Attributes.{outer_attributes}
 use Rattle.rust_metas.specs.Docs.{kept_metas}
 use Rattle.rust_metas.proofs.Kept.{kept_append, kept_none}
+use Rattle.rust_metas.specs.declared.wanted.WantedMetas.TheVariants as wanted
 use Rattle.rust_leaves.specs.declared.head.Head.TheVariants as head
 use Rattle.rust_leaves.specs.declared.wanted.Wanted.{Wanted}
 use Rattle.rust_leaves.specs.Clipped.{with_value, clipped_rest, clipped_front, clipped_leaf, clipped_leaf_if, wanted_item, wanted_leaf, wanted_leaf_if, leaf_behind}
@@ -55,10 +56,10 @@ abbrev pub up_to : Bool → Reader RestRead → Reader RestRead
 up_to keeps end ts = with_value (clipped_rest keeps) (end ts)
 
 -- an item that has no attributes of its own
-none_behind : (w : Wanted) (attrs : List MetaView) → attrs ++ kept_metas w.docs [] ≡ attrs
-none_behind w attrs = ap (λ ms. attrs ++ ms) (kept_none w.docs) ∙ append-nil attrs
+none_behind : (w : Wanted) (attrs : List MetaView) → attrs ++ kept_metas w.metas [] ≡ attrs
+none_behind w attrs = ap (λ ms. attrs ++ ms) (kept_none w.metas) ∙ append-nil attrs
 
-at_none : {A : Type 0} (w : Wanted) (attrs : List MetaView) (made : List MetaView → A) → made (attrs ++ kept_metas w.docs []) ≡ made attrs
+at_none : {A : Type 0} (w : Wanted) (attrs : List MetaView) (made : List MetaView → A) → made (attrs ++ kept_metas w.metas []) ≡ made attrs
 at_none w attrs made = ap made (none_behind w attrs)
 
 pub text_none : (keeps : Bool) → kept_text keeps [] ≡ []
@@ -66,12 +67,12 @@ text_none true = refl
 text_none false = refl
 
 pub function_clipped : (w : Wanted) (attrs : List MetaView) (visibility : Option Visibility) (ts : Tokens) → with_value (wanted_leaf w attrs) (function [] visibility ts)
-    ≡ (let n = named ts in let r = up_to w.bodies item_end n.1 in (plain_read fn_kind (attrs ++ kept_metas w.docs (block_attributes r.0.block)) visibility n.0 r.0, r.1))
+    ≡ (let n = named ts in let r = up_to w.bodies item_end n.1 in (plain_read fn_kind (attrs ++ kept_metas w.metas (block_attributes r.0.block)) visibility n.0 r.0, r.1))
 unfolding with_value function clipped_rest wanted_leaf wanted_item
 function_clipped w attrs visibility ts = refl
 
 pub implementation_clipped : (w : Wanted) (attrs : List MetaView) (ts : Tokens) → with_value (wanted_leaf w attrs) (implementation [] ts)
-    ≡ (let r = up_to w.bodies impl_end ts in (leaf_read (impl_item (node (attrs ++ kept_metas w.docs (block_attributes r.0.block)) r.0.body) (has_trait r.1.past ts)) kind.Impl no_name r.0, r.1))
+    ≡ (let r = up_to w.bodies impl_end ts in (leaf_read (impl_item (node (attrs ++ kept_metas w.metas (block_attributes r.0.block)) r.0.body) (has_trait r.1.past ts)) kind.Impl no_name r.0, r.1))
 unfolding with_value implementation clipped_rest wanted_leaf wanted_item
 implementation_clipped w attrs ts = refl
 
@@ -119,7 +120,7 @@ invocation_clipped w attrs ts =
 
 -- an item without its body text, if that is not wanted
 abbrev textless : Bool → Option LeafRead × Tokens → Option LeafRead × Tokens
-textless bodies = with_value (clipped_leaf_if (record { bodies = bodies; docs = true }))
+textless bodies = with_value (clipped_leaf_if (record { bodies = bodies; metas = wanted.All }))
 
 -- a use and an extern crate have no body
 use_whole : (bodies : Bool) (attrs : List MetaView) (v : Option Visibility) (ts : Tokens) → textless bodies (some_read (use_declaration attrs v ts)) ≡ some_read (use_declaration attrs v ts)
@@ -159,25 +160,25 @@ leaf_clipped w h ts = by_clipped w h.head h.attrs h.visibility ts
 
 -- ---- attributes before items
 
-invocation_front : (w : Wanted) (attrs : List MetaView) (ts : Tokens) → with_value (clipped_leaf_if w) (invocation attrs ts) ≡ with_value (wanted_leaf_if w (kept_metas w.docs attrs)) (invocation [] ts)
+invocation_front : (w : Wanted) (attrs : List MetaView) (ts : Tokens) → with_value (clipped_leaf_if w) (invocation attrs ts) ≡ with_value (wanted_leaf_if w (kept_metas w.metas attrs)) (invocation [] ts)
 unfolding with_value clipped_rest clipped_leaf clipped_leaf_if invocation
 invocation_front w attrs ts =
     let last = bare (last_text (path ts).1.past ts) in
     with_if (clipped_leaf_if w) (is_some (path ts).0 && is_called (path ts).1) (some_read (call_behind attrs (path ts).0 last (bumped (path ts).1))) (None, ts)
-    ∙ ap (λ r. if is_some (path ts).0 && is_called (path ts).1 then some_read r else (None, ts)) (sym (call_clipped w (kept_metas w.docs attrs) (path ts).0 last (bumped (path ts).1)))
-    ∙ sym (invocation_clipped w (kept_metas w.docs attrs) ts)
+    ∙ ap (λ r. if is_some (path ts).0 && is_called (path ts).1 then some_read r else (None, ts)) (sym (call_clipped w (kept_metas w.metas attrs) (path ts).0 last (bumped (path ts).1)))
+    ∙ sym (invocation_clipped w (kept_metas w.metas attrs) ts)
 
 -- those that begin an item stand before its inner ones, if it has any
-by_front : (w : Wanted) (h : Head) (attrs : List MetaView) (v : Option Visibility) (ts : Tokens) → with_value (clipped_leaf_if w) (leaf_by h attrs v ts) ≡ with_value (wanted_leaf_if w (kept_metas w.docs attrs)) (leaf_by h [] v ts)
+by_front : (w : Wanted) (h : Head) (attrs : List MetaView) (v : Option Visibility) (ts : Tokens) → with_value (clipped_leaf_if w) (leaf_by h attrs v ts) ≡ with_value (wanted_leaf_if w (kept_metas w.metas attrs)) (leaf_by h [] v ts)
 unfolding with_value clipped_rest clipped_leaf clipped_leaf_if wanted_leaf wanted_leaf_if wanted_item kept_metas function implementation use_declaration crate_item trait_item union_item enumeration macro_def type_alias static_value constant structure macro_definition
 by_front w head.Fn attrs v ts =
-    let n = named ts in let r = up_to w.bodies item_end n.1 in ap (λ a. (Some (plain_read fn_kind a v n.0 r.0), r.1)) (kept_append w.docs attrs (block_attributes (item_end n.1).0.block))
+    let n = named ts in let r = up_to w.bodies item_end n.1 in ap (λ a. (Some (plain_read fn_kind a v n.0 r.0), r.1)) (kept_append w.metas attrs (block_attributes (item_end n.1).0.block))
 by_front w head.Impl attrs v ts =
-    let r = up_to w.bodies impl_end ts in ap (λ a. (Some (leaf_read (impl_item (node a r.0.body) (has_trait r.1.past ts)) kind.Impl no_name r.0), r.1)) (kept_append w.docs attrs (block_attributes (impl_end ts).0.block))
+    let r = up_to w.bodies impl_end ts in ap (λ a. (Some (leaf_read (impl_item (node a r.0.body) (has_trait r.1.past ts)) kind.Impl no_name r.0), r.1)) (kept_append w.metas attrs (block_attributes (impl_end ts).0.block))
 by_front w head.Module attrs v ts = invocation_front w attrs ts
 by_front w head.ExternBlock attrs v ts = invocation_front w attrs ts
 by_front w head.Other attrs v ts = invocation_front w attrs ts
-by_front w h attrs v ts = sym (at_none w (kept_metas w.docs attrs) (λ a. textless w.bodies (leaf_by h a v ts)))
+by_front w h attrs v ts = sym (at_none w (kept_metas w.metas attrs) (λ a. textless w.bodies (leaf_by h a v ts)))
 
 -- an item with what is wanted of it stands behind what is wanted of what stands before it
 pub leaf_front : (w : Wanted) (h : FrontRead) (ts : Tokens) → with_value (clipped_leaf_if w) (leaf h ts) ≡ leaf_behind w (clipped_front w h) ts
@@ -185,6 +186,6 @@ unfolding leaf leaf_behind clipped_front
 leaf_front w h ts = by_front w h.head h.attrs h.visibility ts
 
 -- what stands before an item, step by step
-pub front_clipped : (w : Wanted) (ts : Tokens) → with_value (clipped_front w) (front ts) ≡ front_behind (at ts) (kept_metas w.docs (outer_attributes ts).0) (outer_attributes ts).1
+pub front_clipped : (w : Wanted) (ts : Tokens) → with_value (clipped_front w) (front ts) ≡ front_behind (at ts) (kept_metas w.metas (outer_attributes ts).0) (outer_attributes ts).1
 unfolding with_value clipped_front front front_behind
 front_clipped w ts = refl

@@ -18,9 +18,9 @@ with_value change read = (change read.0, read.1)
 unfoldable pub clipped_rest : Bool → RestRead → RestRead
 clipped_rest keeps r = record { body = kept_text keeps r.body; is_ended = r.is_ended; block = r.block; braces = r.braces }
 
--- what stands before an item, with its documentation if that is wanted
+-- what stands before an item, with those of its metas that are wanted
 unfoldable pub clipped_front : Wanted → FrontRead → FrontRead
-clipped_front w h = record { start = h.start; attrs = kept_metas w.docs h.attrs; visibility = h.visibility; head = h.head }
+clipped_front w h = record { start = h.start; attrs = kept_metas w.metas h.attrs; visibility = h.visibility; head = h.head }
 
 -- ---- items
 
@@ -43,9 +43,9 @@ item_changed change (macro_call c) = macro_call (record { node = change c.node; 
 item_changed change (macro_rules n name) = macro_rules (change n) name
 item_changed change (asm_item n) = asm_item (change n)
 
--- what every node has, with its documentation and its body text if they are wanted
+-- what every node has, with those of its metas that are wanted, and its body text if that is
 abbrev pub clipped_node : Wanted → NodeView → NodeView
-clipped_node w n = record { hash = n.hash; number = n.number; attrs = kept_metas w.docs n.attrs; body = kept_text w.bodies n.body }
+clipped_node w n = record { hash = n.hash; number = n.number; attrs = kept_metas w.metas n.attrs; body = kept_text w.bodies n.body }
 
 abbrev pub clipped_named : Wanted → NamedView → NamedView
 clipped_named w = named_changed (clipped_node w)

@@ -66,7 +66,7 @@ pub fn take_front(alloc: Global, cursor: &mut Cursor<'_>) -> Result<Front, Alloc
     front_behind(alloc, cursor, start, attrs)
 }
 
-/// Takes the same with its documentation only if that is wanted.
+/// Takes the same with those of its metas alone that are wanted.
 ///
 /// # Errors
 ///
@@ -81,6 +81,6 @@ pub fn wanted_front(
         (with_value (clipped_front wanted) (spec.front cursor.old)) result cursor.new }
 {
     let start = cursor.at();
-    let attrs = kept_outer_attributes(alloc, cursor, wanted.docs)?;
+    let attrs = kept_outer_attributes(alloc, cursor, wanted.metas)?;
     front_behind(alloc, cursor, start, attrs)
 }

@@ -93,7 +93,7 @@ fn function<'t>(
 {
     let named = item_name(alloc, cursor)?;
     let rest = item_end(alloc, cursor, wanted.bodies)?;
-    let attrs = with_inner(alloc, attrs, rest.block, wanted.docs)?;
+    let attrs = with_inner(alloc, attrs, rest.block, wanted.metas)?;
     Ok(named_leaf!(Fn, alloc, attrs, visibility, named, rest))
 }
 
@@ -204,7 +204,7 @@ fn implementation<'t>(
     let header = cursor.ahead();
     let rest = impl_end(alloc, cursor, wanted.bodies)?;
     let is_trait_impl = has_trait(&header, cursor.past());
-    let attrs = with_inner(alloc, attrs, rest.block, wanted.docs)?;
+    let attrs = with_inner(alloc, attrs, rest.block, wanted.metas)?;
     let item = Item::Impl(Impl {
         hash: 0,
         number: 0,

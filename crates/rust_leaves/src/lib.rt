@@ -17,5 +17,6 @@ pub use front::{Front, front_behind, take_front, wanted_front};
 pub use head::{Head, pass_others};
 pub use leaf::{Leaf, take_leaf};
 pub use named::{Named, item_name, joined};
+pub use rust_metas::WantedMetas;
 pub use statements::{Call, is_item, pass_statement, statement_call};
 pub use wanted::Wanted;

@@ -14,7 +14,7 @@ ghost use Rattle.rust_leaves.specs.Views.{name_view, rest_view};
 use crate::texts::bare;
 use hir_input::{Meta, Name};
 use rust_cursor::{Cursor, Excerpt};
-use rust_metas::kept_inner_attributes;
+use rust_metas::{WantedMetas, kept_inner_attributes};
 use rust_paths::{PlacedName, TextRange, placed_name};
 use std::alloc::{AllocError, Global};
 
@@ -236,15 +236,15 @@ pub(crate) fn call_end<'t>(
 fn block_attributes(
     alloc: Global,
     block: Option<Cursor<'_>>,
-    keeps_docs: bool,
+    wanted: WantedMetas,
 ) -> Result<Vec<Meta>, AllocError>
     ensures { IfOk result (λ v. map meta_view v.items
-        ≡ kept_metas keeps_docs (spec.block_attributes block.entry)) }
+        ≡ kept_metas wanted (spec.block_attributes block.entry)) }
 {
     match block {
         Some(mut inside) => {
             inside.bump();
-            kept_inner_attributes(alloc, &mut inside, keeps_docs)
+            kept_inner_attributes(alloc, &mut inside, wanted)
         }
         None => Ok(Vec::new(alloc)),
     }
@@ -268,11 +268,11 @@ pub(crate) fn with_inner(
     alloc: Global,
     attrs: Vec<Meta>,
     block: Option<Cursor<'_>>,
-    keeps_docs: bool,
+    wanted: WantedMetas,
 ) -> Result<Vec<Meta>, AllocError>
     ensures { IfOk result (λ v. map meta_view v.items ≡ map meta_view attrs.items
-        ++ kept_metas keeps_docs (spec.block_attributes block.entry)) }
+        ++ kept_metas wanted (spec.block_attributes block.entry)) }
 {
-    let inner = block_attributes(alloc, block, keeps_docs)?;
+    let inner = block_attributes(alloc, block, wanted)?;
     joined(attrs, inner)
 }

@@ -15,7 +15,7 @@ use crate::wanted::Wanted;
 use hir_input::ast::{Item, Struct, StructKind, TupleField, Visibility};
 use hir_input::{AstIdKind, Meta};
 use rust_cursor::Cursor;
-use rust_metas::kept_outer_attributes;
+use rust_metas::{WantedMetas, kept_outer_attributes};
 use rust_paths::{TreeStarts, visibility};
 use std::alloc::{AllocError, Global};
 
@@ -54,7 +54,7 @@ fn visibility_before(
 fn field(alloc: Global, cursor: &mut Cursor<'_>, end: usize) -> Result<TupleField, AllocError>
     ensures { Gives field_view (spec.header_field end cursor.old) result cursor.new }
 {
-    let _attrs = kept_outer_attributes(alloc, cursor, false)?;
+    let _attrs = kept_outer_attributes(alloc, cursor, WantedMetas::Conditions)?;
     let visibility = visibility_before(alloc, cursor, end)?;
     cursor.pass_field();
     cursor.eat(b',');
