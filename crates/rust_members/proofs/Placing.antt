@@ -9,6 +9,7 @@ use Rattle.hir_input.specs.declared.ast.Visibility.{Visibility}
 use Rattle.hir_input.specs.Attr.{MetaView}
 use Rattle.rust_members.proofs.Common.{ItemView, Tokens, tokens_of, Reader, symbol, at, is_at_end, bumped, most, beyond, turns_from, turns, perhaps, TextRange, front, LeafRead, named, IsNameIn, Member, Stand, MemberRead, moved_member, MemberTold, told_with, body_of, member_kept, leaf_member, associated, opens_generics, is_pair_here, behind_operand, is_part_end, behind_operands, behind_value, is_type_end, behind_type_part, behind_type_parts, behind_type, behind_part, part_of, part_member, member_turn, is_list_over, members_from, members_in, cut_out, ArePlaced, member_view}
 use Rattle.rust_metas.specs.Docs.{kept_metas}
+use Rattle.rust_metas.specs.declared.wanted.WantedMetas.{WantedMetas}
 use Rattle.rust_cursor.proofs.Leads.{LeadsTo, here, further, through, when, bumped_leads, eat_leads, behind_tree_leads, behind_angles_leads, beyond_leads, takes, takes_leads}
 use Rattle.rust_cursor.proofs.Laid.{IsLaid, behind, past_within, at_behind, taken_behind, takes_strict, tokens_laid}
 use Rattle.rust_paths.specs.Visibilities.{visibility}
@@ -124,11 +125,11 @@ leaf_kept_found : (end : ℕ) (ts us : Tokens) (told : ItemView → Option Membe
 leaf_kept_found end ts us told None laid p = none_found (through p (behind_others_leads us))
 leaf_kept_found end ts us told (Some l) laid t = kept_found end ts us l (told l.item) laid t
 
-associated_found : (end : ℕ) (docs : Bool) → Finds end (associated docs)
+associated_found : (end : ℕ) (w : WantedMetas) → Finds end (associated w)
 unfolding associated
-associated_found end docs ts laid =
+associated_found end w ts laid =
     when (is_at_end ts) (λ e. rw e (none_found (bumped_leads ts)))
-    (λ e. rw (e, front_start ts) (leaf_kept_found end ts _ (told_with docs) _ laid (leaf_found (front ts).0 ts (front ts).1 (front_takes ts))))
+    (λ e. rw (e, front_start ts) (leaf_kept_found end ts _ (told_with w) _ laid (leaf_found (front ts).0 ts (front ts).1 (front_takes ts))))
 
 -- ---- variants and fields
 
@@ -173,9 +174,9 @@ part_placed end ts us vs ps qs k attrs v (Some name) laid a (by_token t before s
       tt,
     )
 
-part_found : (end : ℕ) (docs : Bool) (k : MemberKind) → Finds end (part_member docs k)
+part_found : (end : ℕ) (w : WantedMetas) (k : MemberKind) → Finds end (part_member w k)
 unfolding part_member
-part_found end docs k ts laid =
+part_found end w k ts laid =
     let a = outer_attributes ts in
     let v = visibility a.1 in
     let n = named v.1 in
@@ -184,38 +185,38 @@ part_found end docs k ts laid =
     let comma = eat_leads 44 (behind_part k n.1) in
     record {
       leads = through before (through (named_leads v.1) (through rest comma));
-      placed = part_placed end ts v.1 n.1 (behind_part k n.1) _ k (kept_metas docs a.0) v.0 n.0.range laid before (named_named v.1) rest comma;
+      placed = part_placed end ts v.1 n.1 (behind_part k n.1) _ k (kept_metas w a.0) v.0 n.0.range laid before (named_named v.1) rest comma;
     }
 
 -- ---- all
 
-turn_found : (end : ℕ) (docs : Bool) (k : AstIdKind) → Finds end (member_turn docs k)
+turn_found : (end : ℕ) (w : WantedMetas) (k : AstIdKind) → Finds end (member_turn w k)
 unfolding member_turn
-turn_found end docs kind.Enum = part_found end docs member.Variant
-turn_found end docs kind.Struct = part_found end docs member.Field
-turn_found end docs kind.Union = part_found end docs member.Field
-turn_found end docs _ = associated_found end docs
+turn_found end w kind.Enum = part_found end w member.Variant
+turn_found end w kind.Struct = part_found end w member.Field
+turn_found end w kind.Union = part_found end w member.Field
+turn_found end w _ = associated_found end w
 
-from_placed : (end : ℕ) (docs : Bool) (k : AstIdKind) (ts : Tokens) → IsLaid end ts → ArePlaced 0 end (members_from docs k ts)
+from_placed : (end : ℕ) (w : WantedMetas) (k : AstIdKind) (ts : Tokens) → IsLaid end ts → ArePlaced 0 end (members_from w k ts)
 unfolding members_from
-from_placed end docs k ts laid =
+from_placed end w k ts laid =
     let inner_leads : LeadsTo ts (inner_attributes (bumped ts)).1 = further (inner_attributes_leads (bumped ts)) in
     let first = behind end inner_leads laid in
-    let found = list_found end is_list_over (member_turn docs k) (turn_found end docs k) (inner_attributes (bumped ts)).1 first.laid in
+    let found = list_found end is_list_over (member_turn w k) (turn_found end w k) (inner_attributes (bumped ts)).1 first.laid in
     let last = behind end found.leads first.laid in
     when (symbol ts == 123)
     (λ e. rw e (placed_widened 0 end _ _ _ (omega arith) (past_within end _ last.laid) found.placed))
     (λ e. rw e tt)
 
 -- the members of a text stand in it
-pub members_placed : (docs : Bool) (edition : EditionYear) (k : AstIdKind) (text : List ℕ) → ArePlaced 0 (length text) (members_in docs edition k text)
-members_placed docs edition k text = from_placed (length text) docs k (tokens_of edition text) (tokens_laid edition text)
+pub members_placed : (w : WantedMetas) (edition : EditionYear) (k : AstIdKind) (text : List ℕ) → ArePlaced 0 (length text) (members_in w edition k text)
+members_placed w edition k text = from_placed (length text) w k (tokens_of edition text) (tokens_laid edition text)
 
 -- ---- members of a part of a text
 
-module _ (docs : Bool) (edition : EditionYear) (k : AstIdKind) (text part : List ℕ) (range : TextRange) (cut : Some part ≡ cut_out text range) (ms : List MemberRead) (read : ms ≡ members_in docs edition k part) where
+module _ (w : WantedMetas) (edition : EditionYear) (k : AstIdKind) (text part : List ℕ) (range : TextRange) (cut : Some part ≡ cut_out text range) (ms : List MemberRead) (read : ms ≡ members_in w edition k part) where
   here_placed : ArePlaced 0 (length part) ms
-  here_placed = rw read (members_placed docs edition k part)
+  here_placed = rw read (members_placed w edition k part)
 
   -- they fit where they stand in the text
   pub part_fits : range.end < 2 ^ 64 → ArePlaced 0 (18446744073709551615 - range.start) ms

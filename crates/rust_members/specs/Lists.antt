@@ -9,31 +9,32 @@ use Rattle.rust_cursor.specs.Words.{symbol, is_empty, bumped}
 use Rattle.rust_cursor.specs.Elements.{turns, perhaps}
 use Rattle.rust_paths.specs.declared.names.TextRange.{TextRange}
 use Rattle.rust_metas.specs.Attributes.{inner_attributes}
+use Rattle.rust_metas.specs.declared.wanted.WantedMetas.{WantedMetas}
 use Rattle.rust_members.specs.declared.member.MemberKind.TheVariants as member
 use Rattle.rust_members.specs.Members.{MemberRead, moved_member}
 use Rattle.rust_members.specs.Parts.{associated, part_member}
 
--- a member of an item of this kind, with its documentation if that is kept, or none
-unfoldable pub member_turn : Bool → AstIdKind → Reader (Option MemberRead)
-member_turn docs kind.Enum = part_member docs member.Variant
-member_turn docs kind.Struct = part_member docs member.Field
-member_turn docs kind.Union = part_member docs member.Field
-member_turn docs _ = associated docs
+-- a member of an item of this kind, with those of its metas that are wanted, or none
+unfoldable pub member_turn : WantedMetas → AstIdKind → Reader (Option MemberRead)
+member_turn metas kind.Enum = part_member metas member.Variant
+member_turn metas kind.Struct = part_member metas member.Field
+member_turn metas kind.Union = part_member metas member.Field
+member_turn metas _ = associated metas
 
 -- a list of members ends with the text, and before its `}`
 unfoldable pub is_list_over : Tokens → Bool
 is_list_over ts = is_empty ts || symbol ts == 125
 
-abbrev pub member_list : Bool → AstIdKind → Reader (List MemberRead)
-member_list docs k = turns is_list_over (perhaps (member_turn docs k))
+abbrev pub member_list : WantedMetas → AstIdKind → Reader (List MemberRead)
+member_list metas k = turns is_list_over (perhaps (member_turn metas k))
 
 -- behind the `{` inner attributes may stand
-unfoldable pub members_from : Bool → AstIdKind → Tokens → List MemberRead
-members_from docs k ts = if symbol ts == 123 then (member_list docs k (inner_attributes (bumped ts)).1).0 else []
+unfoldable pub members_from : WantedMetas → AstIdKind → Tokens → List MemberRead
+members_from metas k ts = if symbol ts == 123 then (member_list metas k (inner_attributes (bumped ts)).1).0 else []
 
 -- the members in a text of an edition that begins with the `{` of an item of this kind
-abbrev pub members_in : Bool → EditionYear → AstIdKind → List ℕ → List MemberRead
-members_in docs edition k text = members_from docs k (tokens_of edition text)
+abbrev pub members_in : WantedMetas → EditionYear → AstIdKind → List ℕ → List MemberRead
+members_in metas edition k text = members_from metas k (tokens_of edition text)
 
 -- ---- in a text
 
@@ -48,10 +49,10 @@ is_cut text range = nat_le range.start range.end && (is_boundary text range.star
 abbrev pub cut_out : List ℕ → TextRange → Option (List ℕ)
 cut_out text range = if is_cut text range then Some (slice_range text range.start range.end) else None
 
-abbrev pub members_at : Bool → EditionYear → AstIdKind → ℕ → Option (List ℕ) → List MemberRead
-members_at docs edition k place None = []
-members_at docs edition k place (Some braces) = map (moved_member place) (members_in docs edition k braces)
+abbrev pub members_at : WantedMetas → EditionYear → AstIdKind → ℕ → Option (List ℕ) → List MemberRead
+members_at metas edition k place None = []
+members_at metas edition k place (Some braces) = map (moved_member place) (members_in metas edition k braces)
 
--- the members in these braces of a text, at their places in it, with their documentation if it is kept
-abbrev pub members : Bool → EditionYear → AstIdKind → List ℕ → TextRange → List MemberRead
-members docs edition k text body = members_at docs edition k body.start (cut_out text body)
+-- the members in these braces of a text, at their places in it, with those of their metas that are wanted
+abbrev pub members : WantedMetas → EditionYear → AstIdKind → List ℕ → TextRange → List MemberRead
+members metas edition k text body = members_at metas edition k body.start (cut_out text body)

@@ -14,6 +14,7 @@ use Rattle.rust_paths.specs.declared.names.TextRange.{TextRange}
 use Rattle.rust_paths.specs.Visibilities.{visibility}
 use Rattle.rust_metas.specs.Attributes.{outer_attributes}
 use Rattle.rust_metas.specs.Docs.{kept_by, kept_metas}
+use Rattle.rust_metas.specs.declared.wanted.WantedMetas.{WantedMetas}
 use Rattle.rust_leaves.specs.declared.wanted.Wanted.{Wanted}
 use Rattle.rust_leaves.specs.Clipped.{leaf_behind}
 use Rattle.rust_leaves.specs.Fronts.{FrontRead, front}
@@ -53,12 +54,12 @@ abbrev pub body_of : MemberKind → Option TextRange → Option TextRange
 body_of member.Function body = body
 body_of _ body = None
 
--- the same with its documentation if that is kept
-abbrev pub told_keeping : Bool → MemberTold → MemberTold
-told_keeping docs t = record { kind = t.kind; attrs = kept_metas docs t.attrs; visibility = t.visibility }
+-- the same with those of its metas that are wanted
+abbrev pub told_keeping : WantedMetas → MemberTold → MemberTold
+told_keeping metas t = record { kind = t.kind; attrs = kept_metas metas t.attrs; visibility = t.visibility }
 
-abbrev pub told_with : Bool → ItemView → Option MemberTold
-told_with docs i = option_map (told_keeping docs) (told_of i)
+abbrev pub told_with : WantedMetas → ItemView → Option MemberTold
+told_with metas i = option_map (told_keeping metas) (told_of i)
 
 -- a member from a place on up to another
 abbrev pub member_kept : ℕ → ℕ → LeafRead → Option MemberTold → Option MemberRead
@@ -77,12 +78,12 @@ abbrev pub leaf_member : (ItemView → Option MemberTold) → ℕ → Option Lea
 leaf_member told start None ts = (None, behind_others ts)
 leaf_member told start (Some l) ts = (member_kept start ts.past l (told l.item), ts)
 
-abbrev pub member_behind_front : Bool → FrontRead → Reader (Option MemberRead)
-member_behind_front docs h ts = leaf_member (told_with docs) h.start (leaf h ts).0 (leaf h ts).1
+abbrev pub member_behind_front : WantedMetas → FrontRead → Reader (Option MemberRead)
+member_behind_front metas h ts = leaf_member (told_with metas) h.start (leaf h ts).0 (leaf h ts).1
 
 -- AssociatedItem, or none: then tokens are passed over
-unfoldable pub associated : Bool → Reader (Option MemberRead)
-associated docs ts = if is_at_end ts then (None, bumped ts) else member_behind_front docs (front ts).0 (front ts).1
+unfoldable pub associated : WantedMetas → Reader (Option MemberRead)
+associated metas ts = if is_at_end ts then (None, bumped ts) else member_behind_front metas (front ts).0 (front ts).1
 
 -- the same without body texts, by what is wanted of what stands before it and of the item
 abbrev pub member_wanted : Wanted → FrontRead → Reader (Option MemberRead)
@@ -199,10 +200,10 @@ part_of kind start attrs v (Some name) end = Some (record {
 })
 
 -- EnumVariant or StructField: up to the comma, which is taken too
-unfoldable pub part_member : Bool → MemberKind → Reader (Option MemberRead)
-part_member docs kind = do
+unfoldable pub part_member : WantedMetas → MemberKind → Reader (Option MemberRead)
+part_member metas kind = do
   start ← look at
-  attrs ← kept_by docs outer_attributes
+  attrs ← kept_by metas outer_attributes
   v ← visibility
   n ← named
   _ ← pass (behind_part kind)

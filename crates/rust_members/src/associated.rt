@@ -11,7 +11,7 @@ use crate::member::{Member, MemberKind};
 use hir_input::Meta;
 use hir_input::ast::{Item, MacroCall, NamedNode, Visibility};
 use rust_cursor::Cursor;
-use rust_leaves::{Front, Leaf, Wanted, pass_others, take_leaf, wanted_front};
+use rust_leaves::{Front, Leaf, Wanted, WantedMetas, pass_others, take_leaf, wanted_front};
 use rust_paths::TextRange;
 use std::alloc::{AllocError, Global};
 
@@ -115,9 +115,9 @@ fn behind_front(
 pub(crate) fn associated(
     alloc: Global,
     cursor: &mut Cursor<'_>,
-    keeps_docs: bool,
+    metas: WantedMetas,
 ) -> Result<Option<Member>, AllocError>
-    ensures { Gives (option_map member_view) (spec.associated keeps_docs cursor.old) result cursor.new }
+    ensures { Gives (option_map member_view) (spec.associated metas cursor.old) result cursor.new }
 {
     if cursor.is_at_end() {
         cursor.bump();
@@ -125,7 +125,7 @@ pub(crate) fn associated(
     }
     let wanted = Wanted {
         bodies: false,
-        docs: keeps_docs,
+        metas,
     };
     let front = wanted_front(alloc, cursor, wanted)?;
     behind_front(alloc, cursor, wanted, front)

@@ -13,7 +13,7 @@ use crate::member::{Member, MemberKind};
 use crate::part::part;
 use hir_input::{AstIdKind, EditionYear};
 use rust_cursor::Cursor;
-use rust_metas::kept_inner_attributes;
+use rust_metas::{WantedMetas, kept_inner_attributes};
 use rust_paths::TextRange;
 use std::alloc::{AllocError, Global};
 
@@ -30,15 +30,15 @@ fn turn(
     alloc: Global,
     cursor: &mut Cursor<'_>,
     kind: AstIdKind,
-    keeps_docs: bool,
+    metas: WantedMetas,
 ) -> Result<Option<Member>, AllocError>
-    ensures { Gives (option_map member_view) (spec.member_turn keeps_docs kind cursor.old) result
+    ensures { Gives (option_map member_view) (spec.member_turn metas kind cursor.old) result
         cursor.new }
 {
     match kind {
-        AstIdKind::Enum => part(alloc, cursor, MemberKind::Variant, keeps_docs),
-        AstIdKind::Struct | AstIdKind::Union => part(alloc, cursor, MemberKind::Field, keeps_docs),
-        _ => associated(alloc, cursor, keeps_docs),
+        AstIdKind::Enum => part(alloc, cursor, MemberKind::Variant, metas),
+        AstIdKind::Struct | AstIdKind::Union => part(alloc, cursor, MemberKind::Field, metas),
+        _ => associated(alloc, cursor, metas),
     }
 }
 
@@ -60,9 +60,9 @@ fn list(
     alloc: Global,
     cursor: &mut Cursor<'_>,
     kind: AstIdKind,
-    keeps_docs: bool,
+    metas: WantedMetas,
 ) -> Result<Vec<Member>, AllocError>
-    ensures { Gives (λ v. map member_view v.items) (spec.member_list keeps_docs kind cursor.old)
+    ensures { Gives (λ v. map member_view v.items) (spec.member_list metas kind cursor.old)
         result cursor.new }
 {
     let mut members = Vec::new(alloc);
@@ -72,7 +72,7 @@ fn list(
             break;
         }
         let past = cursor.past();
-        let member = turn(alloc, cursor, kind, keeps_docs)?;
+        let member = turn(alloc, cursor, kind, metas)?;
         push_some(&mut members, member)?;
         cursor.pass_beyond(past);
     }
@@ -86,18 +86,18 @@ fn members_in(
     kind: AstIdKind,
     text: &str,
     edition: EditionYear,
-    keeps_docs: bool,
+    metas: WantedMetas,
 ) -> Result<Vec<Member>, AllocError>
     ensures { IfOk result
-        (λ v. map member_view v.items ≡ spec.members_in keeps_docs edition kind text.now) }
+        (λ v. map member_view v.items ≡ spec.members_in metas edition kind text.now) }
 {
     let mut cursor = Cursor::new(text, edition);
     if cursor.symbol() != b'{' {
         return Ok(Vec::new(alloc));
     }
     cursor.bump();
-    let _attrs = kept_inner_attributes(alloc, &mut cursor, false)?;
-    list(alloc, &mut cursor, kind, keeps_docs)
+    let _attrs = kept_inner_attributes(alloc, &mut cursor, WantedMetas::Conditions)?;
+    list(alloc, &mut cursor, kind, metas)
 }
 
 fn moved_range(range: TextRange, by: usize) -> TextRange
@@ -148,8 +148,8 @@ fn all_moved(alloc: Global, members: Vec<Member>, by: usize) -> Result<Vec<Membe
 /// Reads the members in the braces of an item of this kind, which are this range of a text of an edition.
 ///
 /// It answers for every text: what is no member is passed over, and in a range that is none of the text is none. An item of
-/// another kind than a trait, an impl, an enum, a struct or a union is read as a trait is. Documentation is among the attributes
-/// only if it is kept.
+/// another kind than a trait, an impl, an enum, a struct or a union is read as a trait is. Their attributes are those
+/// that are wanted.
 ///
 /// # Errors
 ///
@@ -160,15 +160,15 @@ pub fn read_members(
     text: &str,
     body: TextRange,
     edition: EditionYear,
-    keeps_docs: bool,
+    metas: WantedMetas,
 ) -> Result<Vec<Member>, AllocError>
     ensures read { IfOk result
-        (λ v. map member_view v.items ≡ spec.members keeps_docs edition kind text.now body) }
+        (λ v. map member_view v.items ≡ spec.members metas edition kind text.now body) }
     ensures placed { IfOk result (λ v. ArePlaced body.start body.end (map member_view v.items)) }
 {
     match cut_out(text, body) {
         Some(braces) => {
-            let members = members_in(alloc, kind, braces, edition, keeps_docs)?;
+            let members = members_in(alloc, kind, braces, edition, metas)?;
             all_moved(alloc, members, body.start)
         }
         None => Ok(Vec::new(alloc)),

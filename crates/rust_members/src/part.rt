@@ -11,7 +11,7 @@ use hir_input::Meta;
 use hir_input::ast::Visibility;
 use rust_cursor::Cursor;
 use rust_leaves::item_name;
-use rust_metas::kept_outer_attributes;
+use rust_metas::{WantedMetas, kept_outer_attributes};
 use rust_paths::{TextRange, visibility};
 use std::alloc::{AllocError, Global};
 
@@ -251,13 +251,13 @@ pub(crate) fn part(
     alloc: Global,
     cursor: &mut Cursor<'_>,
     kind: MemberKind,
-    keeps_docs: bool,
+    metas: WantedMetas,
 ) -> Result<Option<Member>, AllocError>
-    ensures { Gives (option_map member_view) (spec.part_member keeps_docs kind cursor.old) result
+    ensures { Gives (option_map member_view) (spec.part_member metas kind cursor.old) result
         cursor.new }
 {
     let start = cursor.at();
-    let attrs = kept_outer_attributes(alloc, cursor, keeps_docs)?;
+    let attrs = kept_outer_attributes(alloc, cursor, metas)?;
     let visibility = visibility(alloc, cursor)?;
     let named = item_name(alloc, cursor)?;
     pass_part(cursor, kind);

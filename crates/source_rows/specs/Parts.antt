@@ -1,10 +1,11 @@
 -- The items of a text and their members, as parts of it.
-use Rattle.std.specs.Prelude.{ℕ, Bool, true, false, nat_lt, List, [], ◌∷◌, ◌++◌, map, filter, codes, Option, Some, None}
+use Rattle.std.specs.Prelude.{ℕ, Bool, true, nat_lt, List, [], ◌∷◌, ◌++◌, map, filter, codes, Option, Some, None}
 use Rattle.hir_input.specs.declared.edition.EditionYear.{EditionYear}
 use Rattle.hir_input.specs.declared.ids.AstIdKind.{AstIdKind}
 use Rattle.hir_input.specs.declared.ids.AstIdKind.TheVariants as kind
 use Rattle.rust_paths.specs.declared.names.TextRange.{TextRange}
 use Rattle.rust_items.specs.declared.source_file.ItemPlace.{ItemPlace}
+use Rattle.rust_metas.specs.declared.wanted.WantedMetas.TheVariants as wanted
 use Rattle.rust_members.specs.declared.member.MemberKind.{MemberKind}
 use Rattle.rust_members.specs.declared.member.MemberKind.TheVariants as member
 use Rattle.rust_members.specs.Members.{MemberRead}
@@ -45,9 +46,9 @@ member_part text path m = record {
   body = m.body;
 }
 
--- the members of an item of this kind in this body, if it may have some, without documentation, which no list asks for
+-- the members of an item of this kind in this body, if it may have some, with their conditions alone: no list asks for other attributes
 abbrev pub body_members : EditionYear → AstIdKind → List ℕ → Bool → Option TextRange → List MemberRead
-body_members edition k text true (Some body) = members false edition k text body
+body_members edition k text true (Some body) = members wanted.Conditions edition k text body
 body_members edition k text _ body = []
 
 abbrev pub member_parts : EditionYear → List ℕ → List ℕ → ItemPlace → List Part

@@ -7,7 +7,7 @@ ghost use Rattle.source_rows.specs.Headers as spec;
 use crate::labels::text_at;
 use hir_input::EditionYear;
 use rust_cursor::Cursor;
-use rust_leaves::{Wanted, wanted_front};
+use rust_leaves::{Wanted, WantedMetas, wanted_front};
 use rust_members::TextRange;
 use std::alloc::{AllocError, Global};
 
@@ -120,7 +120,7 @@ fn header_in(
     let mut cursor = Cursor::new(item, edition);
     let wanted = Wanted {
         bodies: false,
-        docs: false,
+        metas: WantedMetas::Conditions,
     };
     let _front = wanted_front(alloc, &mut cursor, wanted)?;
     cursor.pass_angles();

@@ -11,6 +11,7 @@ use crate::labels::{kind_texts, member_word, push_label, text_at, text_at_some};
 use hir_input::{AstIdKind, EditionYear};
 use rust_items::ItemPlace;
 use rust_members::{Member, MemberKind, TextRange, read_members};
+use rust_metas::WantedMetas;
 use std::alloc::{AllocError, Global};
 
 /// An item or a member of one, as a part of a text.
@@ -105,8 +106,8 @@ fn has_members(kind: AstIdKind) -> bool
     kind_texts(kind).scope.is_some()
 }
 
-/// The members of an item of a text, which has these braces: none, where items of its kind have none. Documentation is not
-/// among their attributes.
+/// The members of an item of a text, which has these braces: none, where items of its kind have none. Of their
+/// attributes they have those that tell conditions.
 ///
 /// # Errors
 ///
@@ -125,7 +126,7 @@ pub fn members_in(
         return Ok(Vec::new(alloc));
     }
     match body {
-        Some(body) => read_members(alloc, kind, text, body, edition, false),
+        Some(body) => read_members(alloc, kind, text, body, edition, WantedMetas::Conditions),
         None => Ok(Vec::new(alloc)),
     }
 }

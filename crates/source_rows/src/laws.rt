@@ -1,7 +1,12 @@
 //! What holds of the types here. Each derive is held to it by a clause; the functions do nothing.
 
 ghost use Rattle.hir_input.specs.Equality.{IsCopied};
-ghost use Rattle.std.specs.Prelude.{◌≡◌, Decides};
+ghost use Rattle.std.specs.Prelude.{◌≡◌, List, Decides};
+ghost use Rattle.hir_input.specs.Attr.{MetaView, metas_from};
+ghost use Rattle.hir_input.specs.Cfg.{AtomView};
+ghost use Rattle.rust_metas.specs.Docs.{kept_metas};
+ghost use Rattle.rust_metas.specs.declared.wanted.WantedMetas.TheVariants as wanted;
+ghost use Rattle.source_rows.specs.Enabled.{any_disables};
 
 use crate::compare::Change;
 use crate::kept::Hole;
@@ -24,4 +29,12 @@ fn holes()
 fn changes()
     ensures copied { (source copy : Change) → ⟦<Change<'static> as Clone>⟧.is_clone source copy
         → copy ≡ source }
+{}
+
+/// What a cfg disables is told by the metas that tell conditions.
+#[tactic(auto, using(crate::proofs::Conditions::conditions_disable))]
+fn conditions()
+    ensures { (options : List AtomView) (ms : List MetaView)
+        → any_disables options (metas_from (kept_metas wanted.Conditions ms))
+        ≡ any_disables options (metas_from ms) }
 {}

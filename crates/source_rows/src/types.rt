@@ -5,7 +5,7 @@ ghost use Rattle.source_rows.specs.Types as spec;
 
 use hir_input::{EditionYear, Name};
 use rust_cursor::Cursor;
-use rust_leaves::{Wanted, wanted_front};
+use rust_leaves::{Wanted, WantedMetas, wanted_front};
 use rust_paths::name;
 use std::alloc::{AllocError, Global};
 
@@ -123,7 +123,7 @@ pub(crate) fn type_name(
     let mut cursor = Cursor::new(item, edition);
     let wanted = Wanted {
         bodies: false,
-        docs: false,
+        metas: WantedMetas::Conditions,
     };
     let _front = wanted_front(alloc, &mut cursor, wanted)?;
     cursor.pass_angles();

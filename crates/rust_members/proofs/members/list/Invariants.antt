@@ -3,4 +3,4 @@ use Rattle.rust_members.proofs.Common.{turns_from, perhaps, member_turn, is_list
 use Rattle.rust_members.proofs.members.list.Given as goal
 
 abbrev pub invariant-loop-turn : goal.invariant-loop-turn
-invariant-loop-turn l = turns_from is_list_over (perhaps (member_turn l.keeps_docs l.kind)) (l.most - l._turn) (map member_view l.members.items) l.cursor ≡ member_list l.keeps_docs l.kind l.fn.cursor
+invariant-loop-turn l = turns_from is_list_over (perhaps (member_turn l.metas l.kind)) (l.most - l._turn) (map member_view l.members.items) l.cursor ≡ member_list l.metas l.kind l.fn.cursor
