@@ -1,10 +1,10 @@
 -- What is kept of what is read of a text, and how much of it there is, depends neither on body texts nor on documentation that is skipped.
-use Rattle.std.proofs.Common.{◌≡◌, ◌≤◌, ◌^◌, ℕ, Bool, true, false, if◌then◌else◌, not, max, List, [], ◌∷◌, ◌++◌, Option, Some, None, length, codes, inr, refl, ap, ◌∙◌, subst, sym, option_map, flat_map, bytes_eq}
+use Rattle.std.proofs.Common.{◌≡◌, ◌≤◌, ◌^◌, ℕ, Bool, true, false, if◌then◌else◌, max, List, [], ◌∷◌, ◌++◌, Option, Some, None, length, codes, inr, refl, ap, ◌∙◌, subst, sym, option_map, flat_map, bytes_eq}
 use Rattle.std.specs.Option.{option_and_then, option_map_or}
 use Rattle.std.proofs.lemmas.Slice.Eq.{bytes_eq-Decides}
 use Rattle.hir_input.specs.declared.ast.PathNode.{PathNode}
 use Rattle.hir_input.specs.declared.ast.PathNode.TheVariants.{Readable, Unreadable}
-use Rattle.itemtree_commands.proofs.Common.{EditionYear, NodeView, NamedView, ItemView, ItemViews, plain_item, const_item, struct_item, bare_module, listed_module, use_item, extern_crate, bare_extern_block, listed_extern_block, impl_item, macro_call, macro_rules, asm_item, no_items, item_and, SyntaxView, source_file, syntax_view, CrateData, crate_view, shape_of, readable, module_node, head_of, kept, kept_all, IsTooLargeIn, kept_in, Lower, SourceTree, IsTreeRefused, IsTreeOf, wanted_under}
+use Rattle.itemtree_commands.proofs.Common.{EditionYear, NodeView, NamedView, ItemView, ItemViews, plain_item, const_item, struct_item, bare_module, listed_module, use_item, extern_crate, bare_extern_block, listed_extern_block, impl_item, macro_call, macro_rules, asm_item, no_items, item_and, SyntaxView, source_file, syntax_view, CrateData, crate_view, shape_of, readable, module_node, head_of, kept, kept_all, IsTooLargeIn, kept_in, Lower, SourceTree, IsTreeRefused, IsTreeOf, metas_under, wanted_under}
 use Rattle.hir_input.specs.Attr.{MetaView, path_meta, key_value_meta, token_tree_meta, cfg_meta, cfg_attr_meta, unsafe_meta}
 use Rattle.hir_input.specs.Cfg.{AtomView}
 use Rattle.hir_input.specs.Name.{is_among}
@@ -19,6 +19,7 @@ use Rattle.item_tree.specs.Node as node
 use Rattle.item_tree.specs.Size.{IsPassed, Sizes, if_some, item_written, items_written, most_written, sizes_of}
 use Rattle.item_tree.specs.Visibility.{read_visibility}
 use Rattle.rust_metas.specs.Docs.{is_doc_path, is_doc_meta, kept_metas}
+use Rattle.rust_metas.specs.declared.wanted.WantedMetas.TheVariants as wanted
 use Rattle.rust_leaves.specs.declared.wanted.Wanted.{Wanted}
 use Rattle.rust_leaves.specs.Clipped.{clipped_node, clipped_item, clipped_list}
 use Rattle.rust_items.specs.declared.source_file.SourceFile.{SourceFile}
@@ -46,22 +47,22 @@ doc_events options skipped (unsafe_meta inner) among doc = absurd cc
 
 -- a meta before others, one that documents or not
 before : (options : List AtomView) (skipped : List (List ℕ)) (m : MetaView) (ms : List MetaView) (b : Bool) → is_doc_meta m ≡ b → is_among skipped (codes "doc") ≡ true
-    → flat_map (events options skipped) (kept_metas false ms) ≡ flat_map (events options skipped) ms → flat_map (events options skipped) (kept_metas false (m ∷ ms)) ≡ flat_map (events options skipped) (m ∷ ms)
+    → flat_map (events options skipped) (kept_metas wanted.Undocumented ms) ≡ flat_map (events options skipped) ms → flat_map (events options skipped) (kept_metas wanted.Undocumented (m ∷ ms)) ≡ flat_map (events options skipped) (m ∷ ms)
 unfolding kept_metas
 before options skipped m ms true e among rest = rw (e, doc_events options skipped m among e) rest
 before options skipped m ms false e among rest = rw e (ap (λ es. events options skipped m ++ es) rest)
 
-undocumented : (options : List AtomView) (skipped : List (List ℕ)) (ms : List MetaView) → is_among skipped (codes "doc") ≡ true → flat_map (events options skipped) (kept_metas false ms) ≡ flat_map (events options skipped) ms
+undocumented : (options : List AtomView) (skipped : List (List ℕ)) (ms : List MetaView) → is_among skipped (codes "doc") ≡ true → flat_map (events options skipped) (kept_metas wanted.Undocumented ms) ≡ flat_map (events options skipped) ms
 unfolding kept_metas
 undocumented options skipped [] among = refl
 undocumented options skipped (m ∷ ms) among = before options skipped m ms (is_doc_meta m) refl among (undocumented options skipped ms among)
 
-metas_collect : (options : List AtomView) (skipped : List (List ℕ)) (skips : Bool) (ms : List MetaView) → is_among skipped (codes "doc") ≡ skips → collected_from options skipped (kept_metas (not skips) ms) ≡ collected_from options skipped ms
+metas_collect : (options : List AtomView) (skipped : List (List ℕ)) (skips : Bool) (ms : List MetaView) → is_among skipped (codes "doc") ≡ skips → collected_from options skipped (kept_metas (metas_under skips) ms) ≡ collected_from options skipped ms
 unfolding kept_metas
 metas_collect options skipped true ms e = ap cut_events (undocumented options skipped ms e)
 metas_collect options skipped false ms e = refl
 
-attrs_collect : (options : List AtomView) (skipped : List (List ℕ)) (ms : List MetaView) → collected_from options skipped (kept_metas (wanted_under skipped).docs ms) ≡ collected_from options skipped ms
+attrs_collect : (options : List AtomView) (skipped : List (List ℕ)) (ms : List MetaView) → collected_from options skipped (kept_metas (wanted_under skipped).metas ms) ≡ collected_from options skipped ms
 attrs_collect options skipped ms = metas_collect options skipped (is_among skipped (codes "doc")) ms refl
 
 -- ---- items

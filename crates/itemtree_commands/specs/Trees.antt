@@ -1,10 +1,12 @@
 -- What a Rust text's tree is.
-use Rattle.std.specs.Prelude.{◌≡◌, ◌≢◌, ◌<◌, ◌≤◌, ◌^◌, ◌⊎◌, ℕ, false, not, List, length, AllPairs, codes}
+use Rattle.std.specs.Prelude.{◌≡◌, ◌≢◌, ◌<◌, ◌≤◌, ◌^◌, ◌⊎◌, ℕ, Bool, true, false, List, length, AllPairs, codes}
 use Rattle.hir_input.specs.declared.edition.EditionYear.{EditionYear}
 use Rattle.hir_input.specs.Name.{is_among}
 use Rattle.item_tree.specs.declared.crate_data.CrateData.{CrateData}
 use Rattle.item_tree.specs.declared.fault.LowerError.TheVariants.{OutOfMemory}
 use Rattle.item_tree.specs.Lowered.{IsTooLargeIn, kept_in}
+use Rattle.rust_metas.specs.declared.wanted.WantedMetas.{WantedMetas}
+use Rattle.rust_metas.specs.declared.wanted.WantedMetas.TheVariants as wanted
 use Rattle.rust_leaves.specs.declared.wanted.Wanted.{Wanted}
 use Rattle.rust_items.specs.SourceFiles.{FileView, IsFileView}
 use Rattle.itemtree_commands.specs.declared.trees.SourceTree.{SourceTree}
@@ -35,6 +37,11 @@ IsTreeRefused krate skipped edition text TooLong = 2 ^ 32 < length text
 IsTreeRefused krate skipped edition text (Lower e) =
     (length text ≤ 2 ^ 32) × ((e ≡ OutOfMemory) ⊎ ((file : FileView) × IsFileView edition text file × IsTooLargeIn krate false skipped file.syntax e))
 
+-- the metas that are wanted where documentation is skipped, or not
+abbrev pub metas_under : Bool → WantedMetas
+metas_under true = wanted.Undocumented
+metas_under false = wanted.All
+
 -- what is wanted of a text where these names are skipped: no body texts, and documentation unless it is skipped
 abbrev pub wanted_under : List (List ℕ) → Wanted
-wanted_under skipped = record { bodies = false; docs = not (is_among skipped (codes "doc")) }
+wanted_under skipped = record { bodies = false; metas = metas_under (is_among skipped (codes "doc")) }

@@ -5,11 +5,13 @@ ghost use Rattle.hir_input.specs.Name.{is_among};
 ghost use Rattle.hir_input.specs.Syntax.{syntax_view};
 ghost use Rattle.item_tree.specs.Lowered.{IsTooLargeIn, kept_in};
 ghost use Rattle.rust_items.specs.SourceFiles.{IsClippedFile, IsSourceFile, file_view};
-ghost use Rattle.itemtree_commands.specs.Trees.{HasOwnIds, IsTreeRefused, IsTreeOf, IsTextUnread, wanted_under};
+ghost use Rattle.itemtree_commands.specs.Trees.{HasOwnIds, IsTreeRefused, IsTreeOf, IsTextUnread, metas_under, wanted_under};
 
 use hir_input::{EditionYear, Name};
 use item_tree::{CrateData, ItemTree, LowerError, lower_syntax};
-use rust_items::{ItemPlace, Problem, SourceFile, Wanted, read_source_file, read_wanted};
+use rust_items::{
+    ItemPlace, Problem, SourceFile, Wanted, WantedMetas, read_source_file, read_wanted,
+};
 use std::alloc::{AllocError, Global};
 use thiserror::Error;
 
@@ -112,6 +114,16 @@ fn skips_docs(skipped: &[Name]) -> bool
     skipped.iter().any(|name| name.text() == "doc")
 }
 
+fn metas_under(skips_docs: bool) -> WantedMetas
+    ensures { result ≡ metas_under skips_docs }
+{
+    if skips_docs {
+        WantedMetas::Undocumented
+    } else {
+        WantedMetas::All
+    }
+}
+
 /// Reads a text of an edition: no body texts, and documentation only where it is not left out.
 fn bare_source(
     alloc: Global,
@@ -130,7 +142,7 @@ fn bare_source(
     }
     let wanted = Wanted {
         bodies: false,
-        docs: !skips_docs(skipped),
+        metas: metas_under(skips_docs(skipped)),
     };
     let file = read_wanted(alloc, text, wanted, edition)?;
     Ok(file)

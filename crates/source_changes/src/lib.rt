@@ -10,7 +10,7 @@ ghost use Rattle.source_changes.specs.Views.{lined_view};
 use hir_input::EditionYear;
 use item_changes::{ChangeKind, change_word};
 use line_index::LineIndex;
-use rust_items::{Wanted, read_wanted};
+use rust_items::{Wanted, WantedMetas, read_wanted};
 pub use source_rows::Source;
 use source_rows::{Change, Part, bodies, changes, parts, push_place, rows, same_texts, skeleton};
 use std::alloc::{AllocError, Global};
@@ -30,7 +30,7 @@ fn parts_of(alloc: Global, text: &str, edition: EditionYear) -> Result<Vec<Part>
 {
     let wanted = Wanted {
         bodies: false,
-        docs: false,
+        metas: WantedMetas::Undocumented,
     };
     let file = read_wanted(alloc, text, wanted, edition)?;
     let parts = parts(alloc, text, edition, &file.places)?;
