@@ -21,7 +21,7 @@ pub use Rattle.rust_leaves.specs.Kinds.{block_item, call_behind, called, leaf_by
 unfoldable pub use Rattle.rust_leaves.specs.Kinds.{constant, crate_item, enumeration, function, implementation, invocation, is_called, leaf, macro_def, macro_definition, plain_leaf, static_value, structure, trait_item, type_alias, union_item, use_declaration}
 pub use Rattle.rust_leaves.specs.Leaves.{LeafRead, NameRead, RestRead, are_over, bare_end, crate_alias_if, is_before, name_read, next_range, no_name, range_to, rename_of, rest_read, semicolon_end, symbol_within}
 unfoldable pub use Rattle.rust_leaves.specs.Leaves.{block_attributes, call_end, crate_alias, fields, has_trait, header_field, impl_end, item_end, macro_end, named, named_or, renamed, struct_fields, value_end}
-pub use Rattle.rust_leaves.specs.Statements.{by_step, is_block_at, is_label_kind, is_let, statement_from, statement_up_to}
+pub use Rattle.rust_leaves.specs.Statements.{by_step, is_block_at, is_label_kind, statement_from, statement_up_to}
 unfoldable pub use Rattle.rust_leaves.specs.Statements.{behind_block_word, behind_label, block_start, is_block_word, part_step, statement, statement_step}
 pub use Rattle.rust_leaves.specs.Texts.{last_text_from}
 unfoldable pub use Rattle.rust_leaves.specs.Texts.{bare, last_text}

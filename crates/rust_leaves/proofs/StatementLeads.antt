@@ -1,6 +1,7 @@
 -- What is left behind a statement is left of the tokens before it.
-use Rattle.std.proofs.Common.{◌==◌, ◌&&◌, ◌||◌, ℕ, zero, suc, Bool}
-use Rattle.rust_leaves.proofs.Common.{Tokens, Reader, symbol, word, kind, is_at_end, is_pair, begins_item, LeadsTo, here, further, through, Forwards, when, bumped_leads, behind_tree_leads, Scan, Step, is_block_word, is_label_kind, behind_label, behind_block_word, block_start, is_block_at, is_let, part_step, statement_step, by_step, statement_from, statement}
+use Rattle.std.proofs.Common.{◌==◌, ◌||◌, ℕ, zero, suc, Bool}
+use Rattle.rust_leaves.proofs.Common.{Tokens, Reader, symbol, word, kind, is_at_end, is_pair, begins_item, LeadsTo, here, further, through, Forwards, when, bumped_leads, behind_tree_leads, Scan, Step, is_block_word, is_label_kind, behind_label, behind_block_word, block_start, is_block_at, part_step, statement_step, by_step, statement_from, statement}
+use Rattle.rust_leaves.specs.declared.statements.Scan.TheVariants as scans
 use Rattle.rust_leaves.specs.declared.statements.Step.TheVariants as steps
 
 label_leads : (ts : Tokens) → LeadsTo ts (behind_label ts)
@@ -17,7 +18,8 @@ block_start_leads ts = through (label_leads ts) (through (block_word_leads _) (b
 
 part_step_leads : (s : Scan) → Forwards (part_step s)
 unfolding part_step
-part_step_leads s ts = when (is_let s && is_pair 46 61 ts) (λ e. rw e (further (bumped_leads _))) (λ e. rw e (behind_tree_leads ts))
+part_step_leads scans.Let ts = when (is_pair 46 61 ts) (λ e. rw e (further (bumped_leads _))) (λ e. rw e (behind_tree_leads ts))
+part_step_leads _ ts = behind_tree_leads ts
 
 step_leads : (s : Scan) → Forwards (statement_step s)
 unfolding statement_step

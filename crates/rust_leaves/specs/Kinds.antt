@@ -92,6 +92,7 @@ plain_kind _ = trait_kind
 
 -- how far it goes
 abbrev pub plain_end : Head → Reader RestRead
+plain_end head.Impl = impl_end
 plain_end head.MacroDef = macro_end
 plain_end head.Static = value_end
 plain_end head.TypeAlias = value_end
@@ -181,6 +182,18 @@ call_behind attrs path last = do
 
 abbrev pub some_read : {A : Type 0} → A × Tokens → Option A × Tokens
 some_read r = (Some r.0, r.1)
+
+-- what a macro is called by: its path, and the last word of it
+pub record CalleeRead : Type 0 where
+  pub path : Option PathNode
+  pub name : List ℕ
+
+-- the path of a macro and its `!`, if a macro call comes next
+unfoldable pub callee : Reader (Option CalleeRead)
+callee ts =
+    if is_some (path ts).0 && is_called (path ts).1
+    then (Some (record { path = (path ts).0; name = bare (last_text (path ts).1.past ts) }), bumped (path ts).1)
+    else (None, ts)
 
 -- MacroInvocationSemi, or nothing, where none is written
 unfoldable pub invocation : List MetaView → Reader (Option LeafRead)

@@ -104,19 +104,11 @@ step_behind_block ts =
     if bytes_eq (word ts) (codes "else") then steps.On scans.Header
     else (if symbol ts == 46 || symbol ts == 63 then steps.On scans.Plain else steps.Stop)
 
-abbrev pub is_header : Scan → Bool
-is_header scans.Header = true
-is_header _ = false
-
-abbrev pub is_let : Scan → Bool
-is_let scans.Let = true
-is_let _ = false
-
 -- a token of a statement, or what stands in brackets; the `=` of `..=` ends no pattern
 unfoldable pub part_step : Scan → Reader Step
-part_step s ts =
-    if is_let s && is_pair 46 61 ts then (steps.On s, bumped (bumped ts))
-    else (if is_header s && symbol ts == 123 then step_behind_block (behind_tree ts) else steps.On (scan_behind s ts), behind_tree ts)
+part_step scans.Let ts = if is_pair 46 61 ts then (steps.On scans.Let, bumped (bumped ts)) else (steps.On (scan_behind scans.Let ts), behind_tree ts)
+part_step scans.Header ts = (if symbol ts == 123 then step_behind_block (behind_tree ts) else steps.On (scan_behind scans.Header ts), behind_tree ts)
+part_step s ts = (steps.On (scan_behind s ts), behind_tree ts)
 
 -- A step of a statement: it ends with a semicolon, and before a bracket that closes or a word that can begin an item only.
 unfoldable pub statement_step : Scan → Reader Step

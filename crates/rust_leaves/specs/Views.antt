@@ -8,10 +8,12 @@ use Rattle.rust_paths.specs.Views.{starts_view}
 use Rattle.rust_leaves.specs.declared.named.Named.{Named}
 use Rattle.rust_leaves.specs.declared.named.Rest.{Rest}
 use Rattle.rust_leaves.specs.declared.leaf.Leaf.{Leaf}
+use Rattle.rust_leaves.specs.declared.calls.Callee.{Callee}
 use Rattle.rust_leaves.specs.declared.front.Front.{Front}
 use Rattle.rust_leaves.specs.declared.statements.Call.{Call}
 use Rattle.rust_leaves.specs.Fronts.{FrontRead}
 use Rattle.rust_leaves.specs.Leaves.{NameRead, RestRead, LeafRead}
+use Rattle.rust_leaves.specs.Kinds.{CalleeRead}
 use Rattle.rust_leaves.specs.Statements.{CallRead}
 
 -- the name of an item, as plain data
@@ -28,6 +30,10 @@ leaf_view l = record { item = item_view l.item; kind = l.kind; name = l.name.now
 -- what stands before an item's own words, as plain data
 abbrev pub front_view : Front → FrontRead
 front_view f = record { start = f.start; attrs = map meta_view f.attrs.items; visibility = f.visibility; head = f.head }
+
+-- what a macro is called by, as plain data
+abbrev pub callee_view : Callee → CalleeRead
+callee_view c = record { path = c.path; name = c.name.now }
 
 -- a macro call that was read, as plain data
 abbrev pub call_read_view : Call → CallRead

@@ -5,7 +5,7 @@ ghost use Rattle.hir_input.specs.Attr.{meta_view};
 ghost use Rattle.rust_cursor.specs.Reader.{Gives};
 ghost use Rattle.rust_leaves.specs.Clipped.{wanted_leaf, wanted_leaf_if, with_value};
 ghost use Rattle.rust_leaves.specs.Kinds as spec;
-ghost use Rattle.rust_leaves.specs.Views.{leaf_view};
+ghost use Rattle.rust_leaves.specs.Views.{callee_view, leaf_view};
 
 use crate::head::second;
 use crate::leaf::{Leaf, read_leaf};
@@ -43,10 +43,40 @@ pub(crate) fn macro_definition<'t>(
 
 /// Whether a `!` and a bracket come next.
 #[tactic(auto, unfolding(crate::specs::Kinds::is_called))]
-pub(crate) fn is_called(cursor: &Cursor<'_>) -> bool
+fn is_called(cursor: &Cursor<'_>) -> bool
     ensures { result ≡ spec.is_called cursor.now }
 {
     cursor.symbol() == b'!' && second(cursor).is_at_open()
+}
+
+/// What a macro is called by.
+#[derive(Drop)]
+pub(crate) struct Callee<'t> {
+    pub path: Option<PathNode>,
+    /// The last word of the path, which is hashed.
+    pub name: &'t str,
+}
+
+/// Takes the path of a macro and its `!`, if a macro call comes next.
+#[tactic(auto, unfolding(crate::specs::Kinds::callee))]
+pub(crate) fn take_callee<'t>(
+    alloc: Global,
+    cursor: &mut Cursor<'t>,
+) -> Result<Option<Callee<'t>>, AllocError>
+    ensures { Gives (option_map callee_view) (spec.callee cursor.old) result cursor.new }
+{
+    let mut ahead = cursor.ahead();
+    let path = path(alloc, &mut ahead)?;
+    if path.is_none() {
+        return Ok(None);
+    }
+    if !is_called(&ahead) {
+        return Ok(None);
+    }
+    let name = bare(last_text(cursor, ahead.past()));
+    ahead.bump();
+    *cursor = ahead;
+    Ok(Some(Callee { path, name }))
 }
 
 #[tactic(auto, using(hir_input::proofs::SyntaxViews::item_views, crate::proofs::Clipped::call_clipped))]
@@ -76,7 +106,7 @@ fn call_behind<'t>(
 }
 
 /// Takes a macro call, or nothing where none is written.
-#[tactic(auto, using(crate::proofs::Clipped::invocation_clipped))]
+#[tactic(auto, using(crate::proofs::Callees::invocation_taken))]
 pub(crate) fn invocation<'t>(
     alloc: Global,
     cursor: &mut Cursor<'t>,
@@ -87,16 +117,11 @@ pub(crate) fn invocation<'t>(
         (with_value (wanted_leaf_if wanted (map meta_view attrs.items))
         (spec.invocation [] cursor.old)) result cursor.new }
 {
-    let mut ahead = cursor.ahead();
-    let path = path(alloc, &mut ahead)?;
-    if path.is_none() {
-        return Ok(None);
+    match take_callee(alloc, cursor)? {
+        Some(Callee { path, name }) => {
+            let leaf = call_behind(alloc, cursor, wanted, attrs, path, name)?;
+            Ok(Some(leaf))
+        }
+        None => Ok(None),
     }
-    if !is_called(&ahead) {
-        return Ok(None);
-    }
-    let name = bare(last_text(cursor, ahead.past()));
-    ahead.bump();
-    *cursor = ahead;
-    Ok(Some(call_behind(alloc, cursor, wanted, attrs, path, name)?))
 }

@@ -1,6 +1,6 @@
 //! The words that begin an item, and the modifiers before them.
 
-ghost use Rattle.std.specs.Prelude.{◌≡◌, ◌||◌};
+ghost use Rattle.std.specs.Prelude.{◌≡◌, ◌||◌, if◌then◌else◌};
 ghost use Rattle.rust_cursor.specs.Nests.{is_literal_kind};
 ghost use Rattle.rust_cursor.specs.Words.{bumped, word};
 ghost use Rattle.rust_leaves.specs.Heads as spec;
@@ -31,56 +31,25 @@ pub enum Head {
     Other,
 }
 
-#[tactic(auto, unfolding(crate::specs::Heads::may_follow_const))]
-fn follows_const(word: &str) -> bool
-    ensures { result ≡ spec.may_follow_const word.now }
-{
-    matches!(
-        word,
-        "fn" | "unsafe" | "extern" | "async" | "trait" | "impl"
-    )
-}
+/// What may stand behind `const` as a modifier: another modifier, or the word of an item.
+const BEHIND_CONST: [&str; 6] = ["fn", "unsafe", "extern", "async", "trait", "impl"];
 
-#[tactic(auto, unfolding(crate::specs::Heads::follows_async))]
-fn follows_async(word: &str) -> bool
-    ensures { result ≡ spec.follows_async word.now }
-{
-    matches!(word, "fn" | "unsafe" | "extern" | "gen")
-}
+/// The same behind `async`.
+const BEHIND_ASYNC: [&str; 4] = ["fn", "unsafe", "extern", "gen"];
 
-#[tactic(auto, unfolding(crate::specs::Heads::follows_unsafe))]
-fn follows_unsafe(word: &str) -> bool
-    ensures { result ≡ spec.follows_unsafe word.now }
-{
-    matches!(
-        word,
-        "fn" | "extern" | "trait" | "impl" | "mod" | "static" | "type" | "const" | "async" | "safe"
-    )
-}
+/// The same behind `unsafe`.
+const BEHIND_UNSAFE: [&str; 10] = [
+    "fn", "extern", "trait", "impl", "mod", "static", "type", "const", "async", "safe",
+];
 
-#[tactic(auto, unfolding(crate::specs::Heads::follows_safe))]
-fn follows_safe(word: &str) -> bool
-    ensures { result ≡ spec.follows_safe word.now }
-{
-    matches!(word, "fn" | "static")
-}
+/// The same behind `safe`.
+const BEHIND_SAFE: [&str; 2] = ["fn", "static"];
 
-#[tactic(auto, unfolding(crate::specs::Heads::follows_default))]
-fn follows_default(word: &str) -> bool
-    ensures { result ≡ spec.follows_default word.now }
-{
-    matches!(
-        word,
-        "fn" | "unsafe" | "const" | "type" | "impl" | "async" | "extern"
-    )
-}
+/// The same behind `default`.
+const BEHIND_DEFAULT: [&str; 7] = ["fn", "unsafe", "const", "type", "impl", "async", "extern"];
 
-#[tactic(auto, unfolding(crate::specs::Heads::follows_extern))]
-fn follows_extern(word: &str) -> bool
-    ensures { result ≡ spec.follows_extern word.now }
-{
-    matches!(word, "fn" | "unsafe")
-}
+/// The same behind `extern`.
+const BEHIND_EXTERN: [&str; 2] = ["fn", "unsafe"];
 
 fn is_literal_kind(kind: Option<TokenKind>) -> bool
     ensures { result ≡ is_literal_kind kind }
@@ -98,12 +67,12 @@ fn pass_abi(cursor: &mut Cursor<'_>)
     }
 }
 
-fn extern_modifies(behind: &Cursor<'_>) -> bool
-    ensures { result ≡ spec.follows_extern (spec.word_behind_abi behind.now) }
+fn word_behind_abi<'t>(behind: &Cursor<'t>) -> &'t str
+    ensures { result.now ≡ spec.word_behind_abi behind.now }
 {
     let mut ahead = behind.ahead();
     pass_abi(&mut ahead);
-    follows_extern(ahead.word())
+    ahead.word()
 }
 
 fn is_auto_trait(cursor: &Cursor<'_>) -> bool
@@ -121,32 +90,34 @@ pub(crate) fn second<'t>(cursor: &Cursor<'t>) -> Cursor<'t>
     second
 }
 
+#[tactic(auto, unfolding(crate::specs::Heads::may_follow_const))]
 fn is_const_modifier(behind: &Cursor<'_>) -> bool
     ensures { result ≡ (spec.may_follow_const (word behind.now) || spec.is_auto_trait behind.now) }
 {
-    follows_const(behind.word()) || is_auto_trait(behind)
+    is_among(behind.word(), &BEHIND_CONST) || is_auto_trait(behind)
 }
 
+#[tactic(auto, unfolding(crate::specs::Heads::follows_unsafe))]
 fn is_unsafe_modifier(behind: &Cursor<'_>) -> bool
     ensures { result ≡ (spec.follows_unsafe (word behind.now) || spec.is_auto_trait behind.now) }
 {
-    follows_unsafe(behind.word()) || is_auto_trait(behind)
+    is_among(behind.word(), &BEHIND_UNSAFE) || is_auto_trait(behind)
 }
 
 /// Whether a modifier comes next. Only behind a word that can be one a token is cut.
-#[tactic(auto, unfolding(crate::specs::Heads::is_modifier, crate::specs::Heads::is_modifier_before))]
+#[tactic(auto, unfolding(crate::specs::Heads::is_modifier, crate::specs::Heads::is_modifier_before, crate::specs::Heads::follows_async, crate::specs::Heads::follows_safe, crate::specs::Heads::follows_default, crate::specs::Heads::follows_extern))]
 pub(crate) fn is_modifier(cursor: &Cursor<'_>) -> bool
     ensures { result ≡ spec.is_modifier cursor.now }
 {
     match cursor.word() {
         "const" => is_const_modifier(&second(cursor)),
-        "async" => follows_async(second(cursor).word()),
+        "async" => is_among(second(cursor).word(), &BEHIND_ASYNC),
         "unsafe" => is_unsafe_modifier(&second(cursor)),
-        "safe" => follows_safe(second(cursor).word()),
-        "default" => follows_default(second(cursor).word()),
+        "safe" => is_among(second(cursor).word(), &BEHIND_SAFE),
+        "default" => is_among(second(cursor).word(), &BEHIND_DEFAULT),
         "gen" => second(cursor).word() == "fn",
         "auto" => second(cursor).word() == "trait",
-        "extern" => extern_modifies(&second(cursor)),
+        "extern" => is_among(word_behind_abi(&second(cursor)), &BEHIND_EXTERN),
         _ => false,
     }
 }
@@ -176,6 +147,13 @@ pub(crate) fn pass_modifiers(cursor: &mut Cursor<'_>)
     }
 }
 
+/// The kind of item, if the test holds.
+fn head_if(test: bool, head: Head) -> Head
+    ensures { result ≡ (if test then head else Head.Other) }
+{
+    if test { head } else { Head::Other }
+}
+
 #[tactic(auto, unfolding(crate::specs::Heads::extern_head))]
 fn extern_head(behind: &Cursor<'_>) -> Head
     ensures { result ≡ spec.extern_head behind.now }
@@ -185,36 +163,22 @@ fn extern_head(behind: &Cursor<'_>) -> Head
     }
     let mut ahead = behind.ahead();
     pass_abi(&mut ahead);
-    if ahead.symbol() == b'{' {
-        Head::ExternBlock
-    } else {
-        Head::Other
-    }
+    head_if(ahead.symbol() == b'{', Head::ExternBlock)
 }
 
 #[tactic(auto, unfolding(crate::specs::Heads::macro_rules_head))]
 fn macro_rules_head(behind: &Cursor<'_>) -> Head
     ensures { result ≡ spec.macro_rules_head behind.now }
 {
-    if behind.symbol() != b'!' {
-        return Head::Other;
-    }
-    if second(behind).is_at_identifier() {
-        Head::MacroRules
-    } else {
-        Head::Other
-    }
+    let is_named = behind.symbol() == b'!' && second(behind).is_at_identifier();
+    head_if(is_named, Head::MacroRules)
 }
 
 #[tactic(auto, unfolding(crate::specs::Heads::union_head))]
 fn union_head(behind: &Cursor<'_>) -> Head
     ensures { result ≡ spec.union_head behind.now }
 {
-    if has_name(behind) {
-        Head::Union
-    } else {
-        Head::Other
-    }
+    head_if(has_name(behind), Head::Union)
 }
 
 /// What kind of item the next words begin.
@@ -341,21 +305,8 @@ fn is_behind_others(cursor: &Cursor<'_>) -> bool
     cursor.is_at_end() || may_begin(cursor)
 }
 
-#[tactic(auto, using(crate::proofs::Steps::others_more, crate::proofs::Steps::others_stop))]
-fn pass_more_others(cursor: &mut Cursor<'_>)
-    ensures { cursor.new ≡ spec.behind_more_others cursor.old }
-{
-    let most = Cursor::most_turns();
-    for _turn in 0..most {
-        if is_behind_others(cursor) {
-            break;
-        }
-        cursor.pass_tree();
-    }
-}
-
 /// Passes over tokens that begin no item, up to where one may begin or a bracket closes.
-#[tactic(auto, unfolding(crate::specs::Heads::behind_others))]
+#[tactic(auto, unfolding(crate::specs::Heads::behind_others), using(crate::proofs::Steps::others_more, crate::proofs::Steps::others_stop))]
 pub fn pass_others(cursor: &mut Cursor<'_>)
     ensures { cursor.new ≡ spec.behind_others cursor.old }
 {
@@ -363,5 +314,11 @@ pub fn pass_others(cursor: &mut Cursor<'_>)
         return;
     }
     cursor.pass_tree();
-    pass_more_others(cursor);
+    let most = Cursor::most_turns();
+    for _turn in 0..most {
+        if is_behind_others(cursor) {
+            break;
+        }
+        cursor.pass_tree();
+    }
 }

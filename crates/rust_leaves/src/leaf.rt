@@ -10,7 +10,7 @@ ghost use Rattle.rust_leaves.specs.Views.{front_view, leaf_view, name_view, rest
 use crate::calls::{invocation, macro_definition};
 use crate::front::Front;
 use crate::head::Head;
-use crate::named::{Named, Rest, impl_end, item_end, item_name, macro_end, value_end, with_inner};
+use crate::named::{Named, Rest, item_name, plain_end, with_inner};
 use crate::structs::{has_trait, structure};
 use crate::uses::{crate_item, use_declaration};
 use crate::wanted::Wanted;
@@ -92,26 +92,9 @@ fn function<'t>(
         (spec.function [] visibility cursor.old)) result cursor.new }
 {
     let named = item_name(alloc, cursor)?;
-    let rest = item_end(alloc, cursor, wanted.bodies)?;
+    let rest = plain_end(alloc, cursor, wanted.bodies, Head::Fn)?;
     let attrs = with_inner(alloc, attrs, rest.block, wanted.metas)?;
     Ok(named_leaf!(Fn, alloc, attrs, visibility, named, rest))
-}
-
-/// What is left of an item that has nothing else of its own, behind its name.
-fn plain_end<'t>(
-    alloc: Global,
-    cursor: &mut Cursor<'t>,
-    keeps_body: bool,
-    head: Head,
-) -> Result<Rest<'t>, AllocError>
-    ensures { Gives rest_view
-        (with_value (clipped_rest keeps_body) (spec.plain_end head cursor.old)) result cursor.new }
-{
-    match head {
-        Head::MacroDef => macro_end(alloc, cursor, keeps_body),
-        Head::Static | Head::TypeAlias => value_end(alloc, cursor, keeps_body),
-        _ => item_end(alloc, cursor, keeps_body),
-    }
 }
 
 /// What was read of an item that has nothing else of its own.
@@ -186,7 +169,8 @@ fn constant<'t>(
 {
     let named = item_name(alloc, cursor)?;
     cursor.eat_word("_");
-    let rest = value_end(alloc, cursor, wanted.bodies)?;
+    // (it ends as a static does)
+    let rest = plain_end(alloc, cursor, wanted.bodies, Head::Static)?;
     Ok(named_leaf!(Const, alloc, attrs, visibility, named, rest))
 }
 
@@ -202,7 +186,7 @@ fn implementation<'t>(
         (spec.implementation [] cursor.old)) result cursor.new }
 {
     let header = cursor.ahead();
-    let rest = impl_end(alloc, cursor, wanted.bodies)?;
+    let rest = plain_end(alloc, cursor, wanted.bodies, Head::Impl)?;
     let is_trait_impl = has_trait(&header, cursor.past());
     let attrs = with_inner(alloc, attrs, rest.block, wanted.metas)?;
     let item = Item::Impl(Impl {

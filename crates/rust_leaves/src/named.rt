@@ -8,9 +8,11 @@ ghost use Rattle.rust_cursor.specs.Reader.{Gives};
 ghost use Rattle.rust_cursor.specs.Words.{bumped};
 ghost use Rattle.rust_metas.specs.Docs.{kept_metas};
 ghost use Rattle.rust_leaves.specs.Clipped.{clipped_rest, with_value};
+ghost use Rattle.rust_leaves.specs.Kinds.{plain_end};
 ghost use Rattle.rust_leaves.specs.Leaves as spec;
 ghost use Rattle.rust_leaves.specs.Views.{name_view, rest_view};
 
+use crate::head::Head;
 use crate::texts::bare;
 use hir_input::{Meta, Name};
 use rust_cursor::{Cursor, Excerpt};
@@ -130,60 +132,26 @@ fn rest_of<'t>(excerpt: Excerpt<'t>, end: usize) -> Rest<'t>
     }
 }
 
-/// Takes what is left of an item that ends with a semicolon or a block, and keeps its text where that is asked for.
-#[tactic(auto, using(crate::proofs::Clipped::item_end_clipped))]
-pub(crate) fn item_end<'t>(
+/// Takes what is left of an item up to its end, by its word, and keeps its text where that is asked for.
+#[tactic(auto, using(crate::proofs::Clipped::item_end_clipped, crate::proofs::Clipped::impl_end_clipped, crate::proofs::Clipped::macro_end_clipped, crate::proofs::Clipped::value_end_clipped))]
+pub(crate) fn plain_end<'t>(
     alloc: Global,
     cursor: &mut Cursor<'t>,
     keeps_body: bool,
+    head: Head,
 ) -> Result<Rest<'t>, AllocError>
     ensures { Gives rest_view
-        (with_value (clipped_rest keeps_body) (spec.item_end cursor.old)) result cursor.new }
+        (with_value (clipped_rest keeps_body) (plain_end head cursor.old)) result cursor.new }
 {
-    let excerpt = cursor.item_rest(alloc, keeps_body)?;
-    Ok(rest_of(excerpt, cursor.past()))
-}
-
-/// The same of an impl, behind its word.
-#[tactic(auto, using(crate::proofs::Clipped::impl_end_clipped))]
-pub(crate) fn impl_end<'t>(
-    alloc: Global,
-    cursor: &mut Cursor<'t>,
-    keeps_body: bool,
-) -> Result<Rest<'t>, AllocError>
-    ensures { Gives rest_view
-        (with_value (clipped_rest keeps_body) (spec.impl_end cursor.old)) result cursor.new }
-{
-    let excerpt = cursor.impl_rest(alloc, keeps_body)?;
-    Ok(rest_of(excerpt, cursor.past()))
-}
-
-/// The same of a macro with parameters.
-#[tactic(auto, using(crate::proofs::Clipped::macro_end_clipped))]
-pub(crate) fn macro_end<'t>(
-    alloc: Global,
-    cursor: &mut Cursor<'t>,
-    keeps_body: bool,
-) -> Result<Rest<'t>, AllocError>
-    ensures { Gives rest_view
-        (with_value (clipped_rest keeps_body) (spec.macro_end cursor.old)) result cursor.new }
-{
-    let excerpt = cursor.macro_rest(alloc, keeps_body)?;
-    Ok(rest_of(excerpt, cursor.past()))
-}
-
-/// Takes what is left of an item that ends with a semicolon.
-#[tactic(auto, using(crate::proofs::Clipped::value_end_clipped))]
-pub(crate) fn value_end<'t>(
-    alloc: Global,
-    cursor: &mut Cursor<'t>,
-    keeps_body: bool,
-) -> Result<Rest<'t>, AllocError>
-    ensures { Gives rest_view
-        (with_value (clipped_rest keeps_body) (spec.value_end cursor.old)) result cursor.new }
-{
-    let excerpt = cursor.value_rest(alloc, keeps_body)?;
-    Ok(rest_of(excerpt, cursor.past()))
+    match head {
+        Head::Impl => Ok(rest_of(cursor.impl_rest(alloc, keeps_body)?, cursor.past())),
+        Head::MacroDef => Ok(rest_of(cursor.macro_rest(alloc, keeps_body)?, cursor.past())),
+        Head::Static | Head::TypeAlias => Ok(rest_of(
+            cursor.value_rest(alloc, keeps_body)?,
+            cursor.past(),
+        )),
+        _ => Ok(rest_of(cursor.item_rest(alloc, keeps_body)?, cursor.past())),
+    }
 }
 
 fn no_call<'t>(alloc: Global) -> Rest<'t>

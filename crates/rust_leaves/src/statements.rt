@@ -2,19 +2,19 @@
 
 ghost use Rattle.std.specs.Prelude.{◌≡◌, map, option_map};
 ghost use Rattle.hir_input.specs.Attr.{meta_view};
+ghost use Rattle.rust_cursor.specs.Brackets.{behind_tree};
 ghost use Rattle.rust_cursor.specs.Reader.{Gives};
 ghost use Rattle.rust_leaves.specs.Statements as spec;
 ghost use Rattle.rust_leaves.specs.Views.{call_read_view};
 
-use crate::calls::is_called;
+use crate::calls::{Callee, take_callee};
 use crate::head::{Head, head_at, is_modifier, second};
 use crate::named::range_to;
-use crate::texts::{bare, last_text};
 use hir_input::ast::{MacroCall, PathNode};
 use hir_input::{EditionYear, ExpandTo, Meta, SyntaxContext};
 use rust_cursor::Cursor;
 use rust_lexer::TokenKind;
-use rust_paths::{TextRange, path};
+use rust_paths::TextRange;
 use std::alloc::{AllocError, Global};
 
 /// How a statement goes on.
@@ -205,16 +205,13 @@ fn step_behind_block(cursor: &Cursor<'_>) -> Step
     }
 }
 
-fn is_header(scan: Scan) -> bool
-    ensures { result ≡ spec.is_header scan }
+fn pass_part(cursor: &mut Cursor<'_>, scan: Scan) -> Step
+    ensures step { result ≡ Step.On (spec.scan_behind scan cursor.old) }
+    ensures rest { cursor.new ≡ behind_tree cursor.old }
 {
-    matches!(scan, Scan::Header)
-}
-
-fn is_let(scan: Scan) -> bool
-    ensures { result ≡ spec.is_let scan }
-{
-    matches!(scan, Scan::Let)
+    let next = scan_behind(scan, cursor);
+    cursor.pass_tree();
+    Step::On(next)
 }
 
 /// Takes a token of a statement, or what stands in brackets.
@@ -222,18 +219,24 @@ fn is_let(scan: Scan) -> bool
 fn part_step(cursor: &mut Cursor<'_>, scan: Scan) -> Step
     ensures { spec.part_step scan cursor.old ≡ (result, cursor.new) }
 {
-    if is_let(scan) && cursor.is_pair(b'.', b'=') {
-        cursor.bump();
-        cursor.bump();
-        return Step::On(scan);
+    match scan {
+        Scan::Let => {
+            if cursor.is_pair(b'.', b'=') {
+                cursor.bump();
+                cursor.bump();
+                return Step::On(Scan::Let);
+            }
+            pass_part(cursor, scan)
+        }
+        Scan::Header => {
+            if cursor.symbol() == b'{' {
+                cursor.pass_tree();
+                return step_behind_block(cursor);
+            }
+            pass_part(cursor, scan)
+        }
+        _ => pass_part(cursor, scan),
     }
-    if is_header(scan) && cursor.symbol() == b'{' {
-        cursor.pass_tree();
-        return step_behind_block(cursor);
-    }
-    let next = scan_behind(scan, cursor);
-    cursor.pass_tree();
-    Step::On(next)
 }
 
 #[tactic(auto, unfolding(crate::specs::Statements::statement_step))]
@@ -328,7 +331,7 @@ fn call_tree<'t>(
 /// # Errors
 ///
 /// Only if memory runs out. The cursor may then stand anywhere.
-#[tactic(auto, unfolding(crate::specs::Statements::statement_call))]
+#[tactic(auto, using(crate::proofs::Callees::call_taken))]
 pub fn statement_call<'t>(
     alloc: Global,
     cursor: &mut Cursor<'t>,
@@ -337,16 +340,11 @@ pub fn statement_call<'t>(
     ensures { let read = spec.statement_call (map meta_view attrs.items) cursor.old in
         Gives (option_map call_read_view) read result cursor.new }
 {
-    let mut ahead = cursor.ahead();
-    let path = path(alloc, &mut ahead)?;
-    if path.is_none() {
-        return Ok(None);
+    match take_callee(alloc, cursor)? {
+        Some(Callee { path, name }) => {
+            let call = call_tree(alloc, cursor, attrs, path, name)?;
+            Ok(Some(call))
+        }
+        None => Ok(None),
     }
-    if !is_called(&ahead) {
-        return Ok(None);
-    }
-    let name = bare(last_text(cursor, ahead.past()));
-    ahead.bump();
-    *cursor = ahead;
-    Ok(Some(call_tree(alloc, cursor, attrs, path, name)?))
 }

@@ -1,6 +1,6 @@
 //! Structs, and what an impl is of.
 
-ghost use Rattle.std.specs.Prelude.{◌≡◌, IfOk, [], map};
+ghost use Rattle.std.specs.Prelude.{◌≡◌, IfOk, None, [], if◌then◌else◌, map};
 ghost use Rattle.hir_input.specs.Attr.{meta_view};
 ghost use Rattle.hir_input.specs.Syntax.{fields_view};
 ghost use Rattle.rust_cursor.specs.Reader.{Gives};
@@ -9,8 +9,9 @@ ghost use Rattle.rust_leaves.specs.Kinds as kinds;
 ghost use Rattle.rust_leaves.specs.Leaves as spec;
 ghost use Rattle.rust_leaves.specs.Views.{field_view, leaf_view};
 
+use crate::head::Head;
 use crate::leaf::{Leaf, read_leaf};
-use crate::named::{item_end, item_name};
+use crate::named::{item_name, plain_end};
 use crate::wanted::Wanted;
 use hir_input::ast::{Item, Struct, StructKind, TupleField, Visibility};
 use hir_input::{AstIdKind, Meta};
@@ -36,18 +37,10 @@ fn is_before(cursor: &Cursor<'_>, end: usize) -> bool
     cursor.past() < end
 }
 
-fn visibility_before(
-    alloc: Global,
-    cursor: &mut Cursor<'_>,
-    end: usize,
-) -> Result<Option<Visibility>, AllocError>
-    ensures { Gives (λ v. v) (spec.visibility_before end cursor.old) result cursor.new }
+fn visibility_if(test: bool, visibility: Option<Visibility>) -> Option<Visibility>
+    ensures { result ≡ (if test then visibility else None) }
 {
-    let visibility = visibility(alloc, cursor)?;
-    if is_before(cursor, end) {
-        return Ok(visibility);
-    }
-    Ok(None)
+    if test { visibility } else { None }
 }
 
 #[tactic(auto, unfolding(crate::specs::Leaves::header_field))]
@@ -55,7 +48,8 @@ fn field(alloc: Global, cursor: &mut Cursor<'_>, end: usize) -> Result<TupleFiel
     ensures { Gives field_view (spec.header_field end cursor.old) result cursor.new }
 {
     let _attrs = kept_outer_attributes(alloc, cursor, WantedMetas::Conditions)?;
-    let visibility = visibility_before(alloc, cursor, end)?;
+    let visibility = visibility(alloc, cursor)?;
+    let visibility = visibility_if(is_before(cursor, end), visibility);
     cursor.pass_field();
     cursor.eat(b',');
     Ok(TupleField { visibility })
@@ -94,25 +88,6 @@ fn symbol_before(cursor: &Cursor<'_>, end: usize) -> u8
     0
 }
 
-fn fields_at(
-    alloc: Global,
-    cursor: &mut Cursor<'_>,
-    has_block: bool,
-    end: usize,
-) -> Result<StructKind, AllocError>
-    ensures { IfOk result (λ kind. fields_view kind ≡ spec.fields_at has_block end cursor.old) }
-{
-    let symbol = symbol_before(cursor, end);
-    if symbol == b'(' {
-        cursor.bump();
-        return Ok(StructKind::Tuple(fields(alloc, cursor, end)?));
-    }
-    if symbol == b'{' || has_block {
-        return Ok(StructKind::Record);
-    }
-    Ok(StructKind::Unit)
-}
-
 fn header_end(end: usize, block: &Option<Cursor<'_>>) -> usize
     ensures { result ≡ spec.header_end end block.now }
 {
@@ -134,7 +109,16 @@ fn struct_fields(
 {
     let mut behind = header.ahead();
     behind.pass_angles();
-    fields_at(alloc, &mut behind, block.is_some(), header_end(end, block))
+    let end = header_end(end, block);
+    let symbol = symbol_before(&behind, end);
+    if symbol == b'(' {
+        behind.bump();
+        return Ok(StructKind::Tuple(fields(alloc, &mut behind, end)?));
+    }
+    if symbol == b'{' || block.is_some() {
+        return Ok(StructKind::Record);
+    }
+    Ok(StructKind::Unit)
 }
 
 #[tactic(auto, using(hir_input::proofs::SyntaxViews::item_views, crate::proofs::Clipped::structure_clipped))]
@@ -151,7 +135,7 @@ pub(crate) fn structure<'t>(
 {
     let named = item_name(alloc, cursor)?;
     let header = cursor.ahead();
-    let rest = item_end(alloc, cursor, wanted.bodies)?;
+    let rest = plain_end(alloc, cursor, wanted.bodies, Head::Struct)?;
     let kind = struct_fields(alloc, &header, cursor.past(), &rest.block)?;
     let item = Item::Struct(Struct {
         hash: 0,

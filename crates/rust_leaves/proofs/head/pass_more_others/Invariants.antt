@@ -1,6 +1,0 @@
-use Rattle.std.proofs.Common.{◌≡◌, ◌-◌}
-use Rattle.rust_leaves.proofs.Common.{behind_others_from, behind_more_others}
-use Rattle.rust_leaves.proofs.head.pass_more_others.Given as goal
-
-abbrev pub invariant-loop-turn : goal.invariant-loop-turn
-invariant-loop-turn l = behind_others_from (l.most - l._turn) l.cursor ≡ behind_more_others l.fn.cursor
