@@ -2,3 +2,4 @@ pub mod Typed
 pub mod Refused
 pub mod BareTrees
 pub mod Common
+pub mod RowTrees

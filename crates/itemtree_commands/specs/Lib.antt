@@ -1,3 +1,4 @@
 pub mod Answers
 pub mod Typing
 pub mod Trees
+pub mod Inner

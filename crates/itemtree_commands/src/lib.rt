@@ -6,6 +6,7 @@ mod trees;
 
 ghost use Rattle.std.specs.Prelude.{◌≡◌, ◌≤◌, ◌^◌, length, map, IfOk, IfErr, OnOk, option_copied, string_bytes};
 ghost use Rattle.itemtree_commands.specs.Answers as spec;
+ghost use Rattle.itemtree_commands.specs.Inner.{HasRowsOf};
 ghost use Rattle.itemtree_commands.specs.Typing.{IsSameInBody, IsSameWhereTyped};
 ghost use Rattle.source_listing.specs.Ends.{IsBeginOf};
 ghost use Rattle.source_listing.specs.Views.{choice_view, look_view, query_view, source_view};
@@ -17,6 +18,7 @@ use source_listing::{Choice, Look, Query, Side, Source, without_ids};
 use source_problems::source_problems;
 use source_rows::Reading;
 use std::alloc::{AllocError, Global};
+use trees::row_tree;
 pub use trees::{SourceError, SourceTree, source_file, source_tree};
 
 /// What trees are made and written under.
@@ -106,6 +108,23 @@ fn read(alloc: Global, text: &str, options: &Options) -> Result<SourceTree, Sour
     )
 }
 
+/// A tree of a text under the options that has the rows of the text's tree.
+fn read_rows(alloc: Global, text: &str, options: &Options) -> Result<SourceTree, SourceError>
+    ensures tree { IfOk result
+        (HasRowsOf options.now.krate options.now.skipped.items options.now.edition.year text.now) }
+    ensures ids { IfOk result HasOwnIds }
+    ensures short { OnOk result (length text.now ≤ 2 ^ 32) }
+    ensures refused { IfErr result (spec.HasNoTree options.now text.now) }
+{
+    row_tree(
+        alloc,
+        text,
+        options.edition.year,
+        &options.krate,
+        &options.skipped,
+    )
+}
+
 /// `itemtree outline`: a line for each item and each member of one, or for those in fewer than so many items; with or
 /// without members, and with or without colours.
 ///
@@ -126,7 +145,7 @@ pub fn outline(
         IfOk result (λ out. outline (string_bytes out)) }
     ensures refused { IfErr result (spec.HasNoTree options.now source.entry.text.now) }
 {
-    let file = read(alloc, source.text, options)?;
+    let file = read_rows(alloc, source.text, options)?;
     let look = options.look(depth, is_colored);
     let members = options.members(has_members);
     let edition = &options.edition;
@@ -214,7 +233,7 @@ pub fn find(
         IfOk result (λ out. found (string_bytes out)) }
     ensures refused { IfErr result (spec.HasNoTree options.now source.entry.text.now) }
 {
-    let file = read(alloc, source.text, options)?;
+    let file = read_rows(alloc, source.text, options)?;
     let members = options.members(has_members);
     let edition = &options.edition;
     let (places, tree) = (&file.places, &file.tree);
@@ -293,7 +312,7 @@ pub fn push_tags(
     ensures kept { IsBeginOf tags.old.items tags.new.items }
     ensures refused { IfErr result (spec.HasNoTree options.now source.entry.text.now) }
 {
-    let file = read(alloc, source.text, options)?;
+    let file = read_rows(alloc, source.text, options)?;
     let choice = options.choice(None);
     let reading = Reading {
         text: source.text,

@@ -5,6 +5,9 @@ ghost use Rattle.hir_input.specs.Name.{is_among};
 ghost use Rattle.hir_input.specs.Syntax.{syntax_view};
 ghost use Rattle.item_tree.specs.Lowered.{IsTooLargeIn, kept_in};
 ghost use Rattle.rust_items.specs.SourceFiles.{IsClippedFile, IsSourceFile, file_view};
+ghost use Rattle.item_tree.specs.declared.fault.LowerError.TheVariants.{OutOfMemory};
+ghost use Rattle.itemtree_commands.specs.declared.trees.SourceError.TheVariants.{Lower};
+ghost use Rattle.itemtree_commands.specs.Inner.{HasRowsOf};
 ghost use Rattle.itemtree_commands.specs.Trees.{HasOwnIds, IsTreeRefused, IsTreeOf, IsTextUnread, metas_under, wanted_under};
 
 use hir_input::{EditionYear, Name};
@@ -124,15 +127,15 @@ fn metas_under(skips_docs: bool) -> WantedMetas
     }
 }
 
-/// Reads a text of an edition: no body texts, and documentation only where it is not left out.
-fn bare_source(
+/// Reads what is wanted of a text of an edition.
+fn wanted_source(
     alloc: Global,
     text: &str,
+    wanted: Wanted,
     edition: EditionYear,
-    skipped: &[Name],
 ) -> Result<SourceFile, SourceError>
-    ensures file { IfOk result (λ file. IsClippedFile (wanted_under skipped.now) edition text.now
-        (file_view file)) }
+    ensures file { IfOk result
+        (λ file. IsClippedFile wanted edition text.now (file_view file)) }
     ensures ids { IfOk result (λ file. AllPairs (λ p q. p.id ≢ q.id) file.places.items) }
     ensures short { OnOk result (length text.now ≤ 2 ^ 32) }
     ensures refused { IfErr result (IsTextUnread text.now) }
@@ -140,10 +143,6 @@ fn bare_source(
     if text.len() > MOST_BYTES {
         return Err(SourceError::TooLong);
     }
-    let wanted = Wanted {
-        bodies: false,
-        metas: metas_under(skips_docs(skipped)),
-    };
     let file = read_wanted(alloc, text, wanted, edition)?;
     Ok(file)
 }
@@ -167,7 +166,57 @@ pub fn source_tree(
     ensures short { OnOk result (length text.now ≤ 2 ^ 32) }
     ensures refused { IfErr result (IsTreeRefused krate.now skipped.now edition text.now) }
 {
-    let file = bare_source(alloc, text, edition, skipped)?;
+    let wanted = Wanted {
+        bodies: false,
+        metas: metas_under(skips_docs(skipped)),
+    };
+    let file = wanted_source(alloc, text, wanted, edition)?;
     let tree = tree_of(alloc, file, krate, skipped)?;
     Ok(tree)
+}
+
+/// Reads a text of an edition without attributes, but for conditions, and makes the tree of that.
+fn bare_row_tree(
+    alloc: Global,
+    text: &str,
+    edition: EditionYear,
+    krate: &CrateData,
+    skipped: &[Name],
+) -> Result<SourceTree, SourceError>
+    ensures tree { IfOk result (HasRowsOf krate.now skipped.now edition text.now) }
+    ensures ids { IfOk result HasOwnIds }
+    ensures short { OnOk result (length text.now ≤ 2 ^ 32) }
+    ensures no_memory { IfErr result (λ e. e ≡ Lower OutOfMemory → length text.now ≤ 2 ^ 32) }
+{
+    let wanted = Wanted {
+        bodies: false,
+        metas: WantedMetas::Conditions,
+    };
+    let file = wanted_source(alloc, text, wanted, edition)?;
+    let tree = tree_of(alloc, file, krate, skipped)?;
+    Ok(tree)
+}
+
+/// Reads a text of an edition and makes a tree that has the rows of the text's tree, with conditions alone as its attributes. Where
+/// that passes a size, the text's tree tells whether it does.
+#[tactic(auto, using(crate::proofs::Refused::no_memory, crate::proofs::RowTrees::own_rows))]
+pub(crate) fn row_tree(
+    alloc: Global,
+    text: &str,
+    edition: EditionYear,
+    krate: &CrateData,
+    skipped: &[Name],
+) -> Result<SourceTree, SourceError>
+    ensures tree { IfOk result (HasRowsOf krate.now skipped.now edition text.now) }
+    ensures ids { IfOk result HasOwnIds }
+    ensures short { OnOk result (length text.now ≤ 2 ^ 32) }
+    ensures refused { IfErr result (IsTreeRefused krate.now skipped.now edition text.now) }
+{
+    match bare_row_tree(alloc, text, edition, krate, skipped) {
+        Ok(tree) => Ok(tree),
+        Err(SourceError::Lower(LowerError::OutOfMemory)) => {
+            Err(SourceError::Lower(LowerError::OutOfMemory))
+        }
+        Err(_) => source_tree(alloc, text, edition, krate, skipped),
+    }
 }

@@ -1,5 +1,18 @@
-use Rattle.std.proofs.Common.{rules}
+use Rattle.std.proofs.Common.{◌≡◌, ◌∙◌, ◌++◌, List, ℕ, None, map, rules, string_bytes}
+use Rattle.tree_walk.specs.Rows.{RowView, rows}
+use Rattle.rust_items.specs.declared.source_file.ItemPlace.{ItemPlace}
+use Rattle.source_listing.specs.Tags.{tags}
+use Rattle.source_listing.specs.Views.{source_view}
+use Rattle.itemtree_commands.specs.Answers.{choice, reading_in}
+use Rattle.itemtree_commands.proofs.RowTrees.{same_list}
 use Rattle.itemtree_commands.proofs.push_tags.Goals as goal
 
 pub returns-clause-tags : goal.returns-clause-tags
-returns-clause-tags c = (c.in_ok-file.file, search rules, search rules)
+returns-clause-tags c =
+    let o = c.args.options.now in
+    let s = source_view c.args.source in
+    let file = c.in_ok-file in
+    let listed : List ItemPlace → List RowView → List (List ℕ) =
+    λ places rs. map string_bytes c.args.tags.now.items ++ tags s.path (reading_in o c.args.has_members s) places (choice o None) rs in
+    let is : map string_bytes c.push_tags.new.tags.items ≡ listed file.file.places.items (rows file.file.tree) = search rules in
+    (file.ensures.tree.whole, file.ensures.tree.is_tree, is ∙ same_list file.ensures.tree listed)
