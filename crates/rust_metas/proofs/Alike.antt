@@ -1,23 +1,11 @@
 -- Conditions of tokens that look alike are the same, until one goes past where the texts part.
 use Rattle.std.proofs.Common.{◌≡◌, ◌==◌, ℕ, zero, suc, true, false, Option, Some, None, List, refl, ap, if◌then◌else◌}
-use Rattle.rust_metas.proofs.Common.{CfgView, invalid, behind_closed, behind_tree, Reader, Tokens, symbol, bumped, through, Forwards, behind_closed_leads, Onward, on, gone, kept, Parting, Until, UpTo, by_next, onward_leads, cond_onward, cond_until, map_until, pass_until, bind_until, elements_until, Entering, is_edge, symbol_same, kind_same, text_same, open_same, end_same, symbol_test, after_symbol, name_until, comma_from, behind_comma, is_option_word, option_name, composed, pair, named_condition, if_named, ended_condition, condition_with, conditions, condition, is_literal_kind, is_ended}
+use Rattle.rust_metas.proofs.Common.{CfgView, invalid, behind_closed, Reader, Tokens, symbol, bumped, through, Forwards, behind_closed_leads, gone, kept, Parting, Until, UpTo, by_next, cond_until, map_until, pass_until, bind_until, elements_until, Entering, is_edge, symbol_same, kind_same, text_same, open_same, end_same, symbol_test, after_symbol, name_until, is_option_word, option_name, composed, pair, named_condition, if_named, ended_condition, condition_with, conditions, condition, is_literal_kind, is_ended}
 use Rattle.rust_cursor.specs.Reader.{◌>>=◌}
 use Rattle.rust_paths.specs.Names.{as_name}
 use Rattle.rust_metas.proofs.Around.{option_symbol}
-use Rattle.rust_metas.proofs.Leads.{comma_from_leads, if_named_leads, ended_leads, condition_with_leads, conditions_leads}
-
--- ---- what stands between commas
-
-comma_onward : (b : Parting) (n : ℕ) (ts us : Tokens) → b.twins.are ts us → Onward b.twins.are b.lost (comma_from n ts) (comma_from n us)
-comma_onward b zero ts us h = on h
-comma_onward b (suc n) ts us h =
-    cond_onward (end_same b.twins ts us h) (λ _. on h)
-    (λ _. cond_onward (symbol_test b.twins 44 ts us h) (λ f. on (after_symbol b.twins 44 ts us refl h f))
-    (λ _. onward_leads b (b.tree ts us h) (comma_from_leads n _) (comma_from_leads n _) (λ k. comma_onward b n (behind_tree ts) (behind_tree us) k)))
-
-pub behind_comma_onward : (b : Parting) (ts us : Tokens) → b.twins.are ts us → Onward b.twins.are b.lost (behind_comma ts) (behind_comma us)
-unfolding behind_comma
-behind_comma_onward b ts us h = comma_onward b _ ts us h
+use Rattle.rust_metas.proofs.Leads.{if_named_leads, ended_leads, condition_with_leads, conditions_leads}
+use Rattle.rust_paths.proofs.AlikeTrees.{behind_comma_onward}
 
 pub ended_same : (b : Parting) (ts us : Tokens) → b.twins.are ts us → is_ended us ≡ is_ended ts
 unfolding is_ended

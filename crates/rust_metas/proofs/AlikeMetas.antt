@@ -1,10 +1,12 @@
 -- Metas of tokens that look alike are the same, until one goes past where the texts part. Their spans count from anchors that are as far from both.
 use Rattle.std.proofs.Common.{◌≡◌, ◌&&◌, ◌==◌, ℕ, zero, suc, true, false, Option, Some, List, [], refl, ap, codes, bytes_eq}
-use Rattle.rust_metas.proofs.Common.{and_parts, PathNode, MetaView, key_value_meta, token_tree_meta, cfg_meta, cfg_attr_meta, unsafe_meta, metas_from, CfgView, elements, one, Reader, pure, Tokens, symbol, word, bumped, is_at_open, through, Forwards, when, kept, Parting, Until, UpTo, cond_until, map_until, pass_until, bind_until, elements_until, Entering, Counted, is_edge, word_same, kind_same, text_same, open_same, edge_word, edge_test, symbol_test, after_word, after_symbol, path, path_until, behind_comma, condition, is_truth, is_literal, is_ended, root, next_literal, value, assigned, input, plain_meta, is_call, member, meta_with, meta}
+use Rattle.rust_metas.proofs.Common.{and_parts, PathNode, MetaView, key_value_meta, token_tree_meta, cfg_meta, cfg_attr_meta, unsafe_meta, metas_from, CfgView, elements, one, Reader, pure, Tokens, symbol, word, bumped, is_at_open, through, Forwards, when, kept, Parting, Until, UpTo, cond_until, map_until, pass_until, bind_until, elements_until, Entering, Counted, is_edge, word_same, kind_same, text_same, open_same, edge_word, edge_test, symbol_test, after_word, after_symbol, path, path_until, tree_behind_comma, condition, is_truth, is_literal, is_ended, root, next_literal, value, assigned, input, plain_meta, is_call, member, meta_with, meta}
 use Rattle.rust_cursor.specs.Reader.{◌>>=◌}
-use Rattle.rust_metas.proofs.Alike.{behind_comma_onward, ended_same, inside, inside_until, condition_until}
+use Rattle.rust_metas.proofs.Alike.{ended_same, inside, inside_until, condition_until}
 use Rattle.rust_metas.proofs.Around.{literal_symbol}
-use Rattle.rust_metas.proofs.Leads.{behind_comma_leads, condition_leads, input_leads, member_leads, members_leads, meta_leads}
+use Rattle.rust_metas.proofs.Leads.{condition_leads, input_leads, member_leads, members_leads, meta_leads}
+use Rattle.rust_paths.proofs.AlikeTrees.{behind_comma_onward}
+use Rattle.rust_paths.proofs.Leads.{behind_comma_leads}
 
 -- ---- literals
 
@@ -69,7 +71,7 @@ conditional inner condition = do
 
 module _ (b : Parting) (enter : Entering b) (a a' : ℕ) (count : Counted b a a') (inner inner' : Reader MetaView) (i : UpTo b inner inner') (f : Forwards inner) (f' : Forwards inner') (condition : Reader CfgView) (c : UpTo b condition condition) (d : Forwards condition) where
   member_until : UpTo b (member inner) (member inner')
-  member_until ts us h = pass_until b behind_comma behind_comma_leads (behind_comma_onward b) (i ts us h)
+  member_until ts us h = pass_until b tree_behind_comma behind_comma_leads (behind_comma_onward b) (i ts us h)
 
   conditional_until : UpTo b (conditional inner condition) (conditional inner' condition)
   conditional_until =

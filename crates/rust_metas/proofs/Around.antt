@@ -1,6 +1,6 @@
 -- Attributes stay in the brackets that they stand in.
 use Rattle.std.proofs.Common.{◌≡◌, ◌==◌, ◌||◌, ◌&&◌, ℕ, zero, suc, Bool, true, false, Option, Some, None, List, [], ◌∷◌, refl, sym, ◌∙◌, subst, codes, if◌then◌else◌, not, slice_index, bytes_eq}
-use Rattle.rust_metas.proofs.Common.{eqb-true, PathNode, MetaView, CfgView, DocStyle, Outer, Inner, Tokens, Reader, by_first, symbol, word, kind, text, at, is_empty, bumped, is_at_open, is_at_end, behind_closed, behind_tree, elements, one, begins_item, LeadsTo, here, further, through, Forwards, when, bumped_leads, behind_tree_leads, path, path_leads, is_literal_kind, is_truth, is_literal, is_ended, style_by, value, documentation, comma_from, behind_comma, is_word_kind, is_option_word, option_name, pair, named_condition, if_named, ended_condition, condition_with, conditions, condition, input, plain_meta, is_call, member, meta_with, meta, doc, behind_docs_from, behind_docs, behind_attribute, deepest, is_style, is_doc, is_attribute, is_behind, bracketed, past_mark, one_attribute, attribute, attributes, inner_attributes}
+use Rattle.rust_metas.proofs.Common.{eqb-true, PathNode, MetaView, CfgView, DocStyle, Outer, Inner, Tokens, Reader, by_first, symbol, word, kind, text, at, is_empty, bumped, is_at_open, is_at_end, behind_closed, behind_tree, elements, one, begins_item, LeadsTo, here, further, through, Forwards, when, bumped_leads, behind_tree_leads, path, path_leads, is_literal_kind, is_truth, is_literal, is_ended, style_by, value, documentation, tree_comma_from, tree_behind_comma, is_word_kind, is_option_word, option_name, pair, named_condition, if_named, ended_condition, condition_with, conditions, condition, input, plain_meta, is_call, member, meta_with, meta, doc, behind_docs_from, behind_docs, behind_attribute, deepest, is_style, is_doc, is_attribute, is_behind, bracketed, past_mark, one_attribute, attribute, attributes, inner_attributes}
 use Rattle.rust_lexer.specs.declared.kind.TokenKind.{TokenKind}
 use Rattle.rust_lexer.specs.declared.kind.TokenKind.TheVariants as kinds
 use Rattle.rust_lexer.specs.Piece.{Piece}
@@ -43,15 +43,15 @@ value_around c anchor ts =
 
 -- ---- conditions
 
-comma_within : (end c n : ℕ) (ts : Tokens) → IsSound end ts → Within c (comma_from n ts) ts
+comma_within : (end c n : ℕ) (ts : Tokens) → IsSound end ts → Within c (tree_comma_from n ts) ts
 comma_within end c zero ts s = here
 comma_within end c (suc n) ts s =
     when (is_at_end ts) (λ e. rw e here)
     (λ e. rw e (when (symbol ts == 44) (λ f. rw f (same_within c (bumped ts) ts (other_around c 44 ts refl f)))
     (λ f. rw f (through (comma_within end c n (behind_tree ts) (sound_on end (behind_tree_leads ts) s)) (tree_within end c ts s (not_end end ts s e))))))
 
-behind_comma_within : (end c : ℕ) (ts : Tokens) → IsSound end ts → Within c (behind_comma ts) ts
-unfolding behind_comma
+behind_comma_within : (end c : ℕ) (ts : Tokens) → IsSound end ts → Within c (tree_behind_comma ts) ts
+unfolding tree_behind_comma
 behind_comma_within end c ts s = comma_within end c _ ts s
 
 -- an option's word begins with no symbol, or with the `r` of `r#true`

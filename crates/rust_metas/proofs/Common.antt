@@ -19,8 +19,8 @@ pub use Rattle.rust_lexer.specs.declared.kind.DocStyle.{DocStyle}
 pub use Rattle.rust_lexer.specs.declared.kind.DocStyle.TheVariants.{Inner, Outer}
 pub use Rattle.rust_metas.specs.Attributes.{behind_attribute, behind_bracket, behind_docs_from, deepest, is_style, past_mark}
 unfoldable pub use Rattle.rust_metas.specs.Attributes.{attribute, attributes, behind_docs, bracketed, inner_attributes, is_attribute, is_behind, is_doc, one_attribute, outer_attributes}
-pub use Rattle.rust_metas.specs.Conditions.{comma_from, condition_with, if_named, is_word_kind, named_condition, some}
-unfoldable pub use Rattle.rust_metas.specs.Conditions.{behind_comma, composed, condition, conditions, ended_condition, is_option_word, option_name, pair}
+pub use Rattle.rust_metas.specs.Conditions.{condition_with, if_named, is_word_kind, named_condition, some}
+unfoldable pub use Rattle.rust_metas.specs.Conditions.{composed, condition, conditions, ended_condition, is_option_word, option_name, pair}
 pub use Rattle.rust_metas.specs.Docs.{is_condition_meta, is_wanted_meta, kept_by}
 unfoldable pub use Rattle.rust_metas.specs.Docs.{kept_metas}
 pub use Rattle.rust_metas.specs.Escapes.{blanks, number_from, scalar_of, stands_for}
@@ -36,6 +36,8 @@ pub use Rattle.rust_metas.specs.declared.wanted.WantedMetas.{WantedMetas}
 pub use Rattle.rust_paths.proofs.Alike.{name_until, path_until}
 pub use Rattle.rust_paths.proofs.Leads.{name_leads, path_leads}
 unfoldable pub use Rattle.rust_paths.specs.Paths.{path}
+pub use Rattle.rust_paths.specs.UseTrees.{tree_comma_from}
+unfoldable pub use Rattle.rust_paths.specs.UseTrees.{tree_behind_comma}
 pub use Rattle.std.proofs.ResultArms.{chosen}
 pub use Rattle.std.proofs.lemmas.Bool.{and_parts, eqb-true, ne_eqb}
 pub use Rattle.std.proofs.lemmas.List.{append_assoc, map-append}

@@ -1,6 +1,7 @@
 -- What is left behind attributes is left of the tokens before them.
 use Rattle.std.proofs.Common.{◌==◌, ◌&&◌, ℕ, zero, suc, Option, Some, None, List, codes}
-use Rattle.rust_metas.proofs.Common.{PathNode, MetaView, CfgView, DocStyle, Outer, Inner, Tokens, Reader, symbol, word, kind, bumped, is_at_end, is_at_open, elements, one, begins_item, LeadsTo, here, further, through, Forwards, when, bumped_leads, behind_closed_leads, behind_tree_leads, turns_leads, taken_leads_on, name_leads, path_leads, is_literal_kind, is_literal, is_ended, value, documentation, comma_from, behind_comma, is_option_word, option_name, pair, named_condition, if_named, ended_condition, condition_with, conditions, condition, input, plain_meta, is_call, unsafe_with, cfg_meta_with, member, cfg_attr_with, meta_with, meta, doc, is_doc, is_behind, behind_bracket, bracketed, past_mark, one_attribute, behind_docs_from, behind_docs, behind_attribute, attribute, attributes, outer_attributes, inner_attributes}
+use Rattle.rust_metas.proofs.Common.{PathNode, MetaView, CfgView, DocStyle, Outer, Inner, Tokens, Reader, symbol, word, kind, bumped, is_at_end, is_at_open, elements, one, begins_item, LeadsTo, here, further, through, Forwards, when, bumped_leads, behind_closed_leads, turns_leads, taken_leads_on, name_leads, path_leads, is_literal_kind, is_literal, is_ended, value, documentation, is_option_word, option_name, pair, named_condition, if_named, ended_condition, condition_with, conditions, condition, input, plain_meta, is_call, unsafe_with, cfg_meta_with, member, cfg_attr_with, meta_with, meta, doc, is_doc, is_behind, behind_bracket, bracketed, past_mark, one_attribute, behind_docs_from, behind_docs, behind_attribute, attribute, attributes, outer_attributes, inner_attributes}
+use Rattle.rust_paths.proofs.Leads.{behind_comma_leads}
 
 -- ---- literals
 
@@ -13,16 +14,6 @@ unfolding documentation
 documentation_leads anchor ts = bumped_leads ts
 
 -- ---- conditions
-
-pub comma_from_leads : (n : ℕ) (ts : Tokens) → LeadsTo ts (comma_from n ts)
-comma_from_leads zero ts = here
-comma_from_leads (suc n) ts =
-    when (is_at_end ts) (λ e. rw e here)
-    (λ e. rw e (when (symbol ts == 44) (λ f. rw f (bumped_leads ts)) (λ f. rw f (through (behind_tree_leads ts) (comma_from_leads n _)))))
-
-pub behind_comma_leads : (ts : Tokens) → LeadsTo ts (behind_comma ts)
-unfolding behind_comma
-behind_comma_leads ts = comma_from_leads _ ts
 
 pub option_name_leads : Forwards option_name
 unfolding option_name

@@ -1,5 +1,4 @@
 pub mod Characters
-pub mod Commas
 pub mod Depths
 pub mod Docs
 pub mod Kept

@@ -5,22 +5,13 @@ use Rattle.rust_lexer.specs.declared.kind.TokenKind.TheVariants as kinds
 use Rattle.hir_input.specs.Cfg.{CfgView, invalid, atom, all_of, any_of, not_of, cfgs_from, flag_atom, key_value}
 use Rattle.rust_cursor.specs.Tokens.{Tokens}
 use Rattle.rust_cursor.specs.Reader.{Reader, ◌>>=◌, pure, look, pass}
-use Rattle.rust_cursor.specs.Words.{symbol, kind, text, bump, bumped, is_at_end, is_at_open}
-use Rattle.rust_cursor.specs.Brackets.{behind_closed, behind_tree}
-use Rattle.rust_cursor.specs.Elements.{most, elements, one}
+use Rattle.rust_cursor.specs.Words.{symbol, kind, text, bump, bumped, is_at_open}
+use Rattle.rust_cursor.specs.Brackets.{behind_closed}
+use Rattle.rust_cursor.specs.Elements.{elements, one}
 use Rattle.rust_paths.specs.Names.{as_name, name}
+use Rattle.rust_paths.specs.UseTrees.{tree_behind_comma}
 use Rattle.rust_cursor.specs.Nests.{is_literal_kind}
 use Rattle.rust_metas.specs.Literals.{string_by, is_ended}
-
--- ---- what stands between commas
-
-abbrev pub comma_from : ℕ → Tokens → Tokens
-comma_from zero ts = ts
-comma_from (suc n) ts = if is_at_end ts then ts else (if symbol ts == 44 then bumped ts else comma_from n (behind_tree ts))
-
--- what is left behind the next comma in no bracket, or from a bracket that closes
-unfoldable pub behind_comma : Tokens → Tokens
-behind_comma ts = comma_from most ts
 
 -- ---- conditions
 
@@ -81,7 +72,7 @@ if_named inside (Some word) ts = named_condition inside word ts
 
 -- a condition up to a comma; with more behind it, it is none
 unfoldable pub ended_condition : CfgView → Reader CfgView
-ended_condition c ts = (if is_ended ts then c else invalid, behind_comma ts)
+ended_condition c ts = (if is_ended ts then c else invalid, tree_behind_comma ts)
 
 -- ConfigurationPredicate and the comma behind it, by what reads those inside
 abbrev pub condition_with : Reader (Option (List CfgView)) → Reader CfgView

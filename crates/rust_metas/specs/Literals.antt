@@ -1,5 +1,5 @@
 -- Literals and documentation comments. Their spans count from a place in the text, the anchor.
-use Rattle.std.specs.Prelude.{ℕ, Bool, true, false, ◌==◌, ◌-◌, ◌&&◌, ◌||◌, min, if◌then◌else◌, Option, Some, None, List, length, take, drop, slice_index, codes, bytes_eq}
+use Rattle.std.specs.Prelude.{ℕ, Bool, ◌==◌, ◌-◌, ◌&&◌, ◌||◌, min, if◌then◌else◌, Option, Some, None, List, length, take, drop, slice_index, codes, bytes_eq}
 use Rattle.hir_input.specs.declared.edition.EditionYear.TheVariants.{E2024}
 use Rattle.hir_input.specs.declared.ids.SyntaxContext.{SyntaxContext}
 use Rattle.hir_input.specs.declared.ids.SyntaxContext.TheVariants.{Root}

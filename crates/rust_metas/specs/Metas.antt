@@ -13,7 +13,8 @@ use Rattle.rust_cursor.specs.Elements.{elements, one}
 use Rattle.rust_cursor.specs.Extents.{tree_text}
 use Rattle.rust_paths.specs.Paths.{path}
 use Rattle.rust_metas.specs.Literals.{root, value, documentation}
-use Rattle.rust_metas.specs.Conditions.{behind_comma, condition}
+use Rattle.rust_paths.specs.UseTrees.{tree_behind_comma}
+use Rattle.rust_metas.specs.Conditions.{condition}
 
 -- ---- a path and its input
 
@@ -65,7 +66,7 @@ cfg_meta_with condition = do
 abbrev pub member : Reader MetaView → Reader MetaView
 member inner = do
   m ← inner
-  _ ← pass behind_comma
+  _ ← pass tree_behind_comma
   pure m
 
 abbrev pub cfg_attr_with : Reader MetaView → Reader CfgView → Reader MetaView

@@ -1,6 +1,6 @@
 //! Attributes.
 
-ghost use Rattle.std.specs.Prelude.{◌≡◌, ◌++◌, [], IsTrue, OnOk, false, if◌then◌else◌, map, option_map, option_to_list};
+ghost use Rattle.std.specs.Prelude.{◌≡◌, [], IsTrue, false, if◌then◌else◌, map, option_map, option_to_list};
 ghost use Rattle.hir_input.specs.Attr.{meta_view};
 ghost use Rattle.rust_cursor.specs.Elements.{one};
 ghost use Rattle.rust_cursor.specs.Reader.{Gives};
@@ -14,7 +14,7 @@ use crate::unread::pass_unread;
 use crate::wanted::WantedMetas;
 use hir_input::Meta;
 use hir_input::ast::PathNode;
-use rust_cursor::Cursor;
+use rust_cursor::{Cursor, push_some};
 use rust_lexer::DocStyle;
 use std::alloc::{AllocError, Global};
 
@@ -236,19 +236,6 @@ fn kept_attribute(
         return Ok(None);
     }
     Ok(Some(meta))
-}
-
-fn push_some(metas: &mut Vec<Meta>, meta: Option<Meta>) -> Result<(), AllocError>
-    ensures { OnOk result (map meta_view metas.new.items ≡ map meta_view metas.old.items
-        ++ option_to_list (option_map meta_view meta)) }
-{
-    match meta {
-        Some(meta) => {
-            metas.push(meta)?;
-            Ok(())
-        }
-        None => Ok(()),
-    }
 }
 
 /// The attributes of a style that come next, as far as they are kept.

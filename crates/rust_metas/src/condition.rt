@@ -10,26 +10,8 @@ use crate::literal::{is_ended, is_literal_kind, string_by};
 use hir_input::{CfgAtom, CfgExpr, Name};
 use rust_cursor::Cursor;
 use rust_lexer::TokenKind;
-use rust_paths::name;
+use rust_paths::{name, pass_comma};
 use std::alloc::{AllocError, Global};
-
-/// Passes over what stands up to a comma in no bracket, and it, or up to a bracket that closes.
-#[tactic(auto, unfolding(crate::specs::Conditions::behind_comma), using(crate::proofs::Commas::comma_end, crate::proofs::Commas::comma_here, crate::proofs::Commas::comma_more))]
-pub(crate) fn pass_comma(cursor: &mut Cursor<'_>)
-    ensures { cursor.new ≡ spec.behind_comma cursor.old }
-{
-    let most = Cursor::most_turns();
-    for _turn in 0..most {
-        if cursor.is_at_end() {
-            return;
-        }
-        if cursor.symbol() == b',' {
-            cursor.bump();
-            return;
-        }
-        cursor.pass_tree();
-    }
-}
 
 /// Whether an option's name comes next as it is written: a word, or `r#true` or `r#false`, which are not `true` and `false`.
 #[tactic(auto, unfolding(crate::specs::Conditions::is_option_word))]

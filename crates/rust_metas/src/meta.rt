@@ -7,12 +7,12 @@ ghost use Rattle.rust_cursor.specs.Reader.{Gives};
 ghost use Rattle.rust_metas.specs.Conditions as conditions;
 ghost use Rattle.rust_metas.specs.Metas as spec;
 
-use crate::condition::{condition, pass_comma};
+use crate::condition::condition;
 use crate::literal::{documentation, root, value};
 use hir_input::ast::PathNode;
 use hir_input::{Meta, ModPath, Name, PathKind, TokenTree};
 use rust_cursor::Cursor;
-use rust_paths::path;
+use rust_paths::{pass_comma, path};
 use std::alloc::{AllocError, Global};
 
 /// What stands behind a path and `=`, from that on. A value that is no literal is left.
