@@ -6,7 +6,7 @@ use Rattle.hir_input.specs.declared.ast.Visibility.{Visibility}
 use Rattle.hir_input.specs.Attr.{MetaView}
 use Rattle.hir_input.specs.Syntax.{FieldsView, ItemView, record_fields, tuple_fields, no_fields}
 use Rattle.rust_cursor.specs.Tokens.{Tokens}
-use Rattle.rust_cursor.specs.Reader.{Reader, ◌>>=◌, pure, look, pass}
+use Rattle.rust_cursor.specs.Reader.{Reader, ◌>>=◌, pure, look, pass, only_if}
 use Rattle.rust_cursor.specs.Words.{symbol, word, text, at, eat, eat_word, bumped, is_at_open, is_at_end}
 use Rattle.rust_cursor.specs.Elements.{turns, one}
 use Rattle.rust_cursor.specs.Extents.{ExcerptRead, tree_body, impl_rest, item_rest, macro_rest, value_rest}
@@ -71,7 +71,7 @@ unfoldable pub crate_alias : Reader NameRead
 crate_alias ts = if bytes_eq (word ts) (codes "_") then (record { name = None; hashed = []; range = Some (next_range ts) }, bumped ts) else named ts
 
 abbrev pub crate_alias_if : Bool → Reader (Option NameRead)
-crate_alias_if found ts = if found then (Some (crate_alias ts).0, (crate_alias ts).1) else (None, ts)
+crate_alias_if = only_if crate_alias
 
 -- `as` and what is behind it
 unfoldable pub renamed : Reader (Option NameRead)

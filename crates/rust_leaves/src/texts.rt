@@ -1,20 +1,10 @@
 //! Texts.
 
-ghost use Rattle.std.specs.Prelude.{◌≡◌, option_map};
-ghost use Rattle.rust_paths.specs.Names as names;
+ghost use Rattle.std.specs.Prelude.{◌≡◌};
 ghost use Rattle.rust_leaves.specs.Texts as spec;
 
 use rust_cursor::Cursor;
-
-/// What stands behind `r#`.
-fn behind_hash(text: &str) -> Option<&str>
-    ensures { option_map (λ word. word.now) result ≡ names.behind_hash text.now }
-{
-    match text.strip_prefix('r') {
-        Some(rest) => rest.strip_prefix('#'),
-        None => None,
-    }
-}
+use rust_paths::behind_hash;
 
 /// An identifier without `r#`.
 #[tactic(auto, unfolding(crate::specs::Texts::bare))]
