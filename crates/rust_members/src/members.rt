@@ -1,6 +1,6 @@
 //! Lists of members.
 
-ghost use Rattle.std.specs.Prelude.{◌≡◌, ◌++◌, ◌+◌, ◌-◌, ◌<◌, ◌^◌, IfOk, OnOk, map, option_map, option_to_list};
+ghost use Rattle.std.specs.Prelude.{◌≡◌, ◌+◌, ◌-◌, ◌<◌, ◌^◌, IfOk, map, option_map};
 ghost use Rattle.rust_cursor.specs.Reader.{Gives};
 ghost use Rattle.rust_members.specs.Lists as spec;
 ghost use Rattle.rust_members.specs.Members.{moved_member, range_moved_by};
@@ -12,7 +12,7 @@ use crate::cut::cut_out;
 use crate::member::{Member, MemberKind};
 use crate::part::part;
 use hir_input::{AstIdKind, EditionYear};
-use rust_cursor::Cursor;
+use rust_cursor::{Cursor, push_some};
 use rust_metas::{WantedMetas, kept_inner_attributes};
 use rust_paths::TextRange;
 use std::alloc::{AllocError, Global};
@@ -39,19 +39,6 @@ fn turn(
         AstIdKind::Enum => part(alloc, cursor, MemberKind::Variant, metas),
         AstIdKind::Struct | AstIdKind::Union => part(alloc, cursor, MemberKind::Field, metas),
         _ => associated(alloc, cursor, metas),
-    }
-}
-
-fn push_some(members: &mut Vec<Member>, member: Option<Member>) -> Result<(), AllocError>
-    ensures { OnOk result (map member_view members.new.items ≡ map member_view members.old.items
-        ++ option_to_list (option_map member_view member)) }
-{
-    match member {
-        Some(member) => {
-            members.push(member)?;
-            Ok(())
-        }
-        None => Ok(()),
     }
 }
 
