@@ -12,7 +12,7 @@ ghost use Rattle.item_tree_request.specs.Requests.{IsJsonText, IsRequest};
 ghost use Rattle.item_tree_request.specs.Runs.{IsOutputOf, IsRefusedFor};
 
 use crate::error::RunError;
-use crate::request::{Request, request_of};
+use crate::request::{Request, Settings, request_of};
 use crate::show_writer::{ShowWriter, output_of};
 use hir_input::Name;
 use hir_input_json::Fault;
@@ -87,13 +87,16 @@ fn serve<T: ShowWriter>(alloc: Global, writer: &T, request: Request) -> Result<S
         (IsUnmade (first_table (request_view request)) (request_view request).edits) }
 {
     let Request {
-        start,
-        skipped,
-        edition,
+        settings,
         crates,
         edits,
         shows,
     } = request;
+    let Settings {
+        start,
+        skipped,
+        edition,
+    } = settings;
     let sources = sources_of(alloc, crates, skipped, start, edits)?;
     match output_of(alloc, writer, &sources, &edition, &shows) {
         Ok(text) => Ok(text),

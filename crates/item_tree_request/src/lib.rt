@@ -7,6 +7,7 @@ mod answer;
 mod error;
 mod imports;
 mod laws;
+pub mod program;
 pub mod request;
 mod runner;
 pub mod show;

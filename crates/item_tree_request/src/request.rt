@@ -31,9 +31,7 @@ use std::alloc::Global;
 // The edits of a new table, and what is to be shown after them.
 #[derive(Drop)]
 pub(crate) struct Request {
-    pub(crate) start: u64,
-    pub(crate) skipped: Vec<Name>,
-    pub(crate) edition: Edition,
+    pub(crate) settings: Settings,
     pub(crate) crates: Vec<CrateData>,
     pub(crate) edits: Vec<Edit>,
     pub(crate) shows: Vec<Show>,
@@ -41,10 +39,10 @@ pub(crate) struct Request {
 
 // What does not hold of one crate or file alone.
 #[derive(Drop)]
-struct Settings {
-    start: u64,
-    skipped: Vec<Name>,
-    edition: Edition,
+pub(crate) struct Settings {
+    pub(crate) start: u64,
+    pub(crate) skipped: Vec<Name>,
+    pub(crate) edition: Edition,
 }
 
 // Takes the settings out.
@@ -78,15 +76,8 @@ fn parts_of(alloc: Global, members: &mut Map<String, Value>) -> Result<Request, 
     let crates = crates_at(alloc, members)?;
     let edits = edits_at(alloc, members, &crates)?;
     let shows = shows_at(alloc, members, &crates)?;
-    let Settings {
-        start,
-        skipped,
-        edition,
-    } = settings;
     Ok(Request {
-        start,
-        skipped,
-        edition,
+        settings,
         crates,
         edits,
         shows,

@@ -1,47 +1,29 @@
 //! The texts of shows: pages and imports, and the lines of what changed.
 ghost use Rattle.std.specs.Prelude.{◌≡◌, ◌++◌, OnOk, string_bytes, flat_map};
+ghost use Rattle.item_tree.specs.Page.{page};
 ghost use Rattle.item_tree_db.specs.State.{IsKnown};
-ghost use Rattle.item_tree_request.specs.Outputs.{AreChanges, IsAdded, table_change_line, page_text, imports_text, printed, IsPrinted};
+ghost use Rattle.item_tree_request.specs.Outputs.{AreChanges, IsAdded, table_change_line, printed, IsPrinted};
 
 use crate::imports::push_imports;
 use crate::request::show::{Show, ShowKind, TreeShow};
 use crate::show_writer::ShowWriter;
 use hir_input::{Crate, Edition};
+use item_tree::ItemTree;
 use item_tree_db::{ChangedSince, Place, Sources};
 use std::alloc::{AllocError, Global};
 
-#[tactic(auto, unfolding(crate::specs::Outputs::page_text))]
 fn push_page(
     alloc: Global,
-    sources: &Sources,
+    tree: &ItemTree,
     edition: &Edition,
-    show: TreeShow,
     text: &mut String,
 ) -> Result<(), AllocError>
-    requires { IsKnown sources.now show.krate }
     ensures { OnOk result (string_bytes text.new ≡ string_bytes text.old
-        ++ page_text edition.now.reserved.items sources.now show) }
+        ++ page edition.now.reserved.items tree.now) }
 {
-    let tree = sources.tree(show.place, show.krate);
-    let page = tree.pretty_print(alloc, edition)?;
-    text.push_str(&page)?;
+    let lines = tree.pretty_print(alloc, edition)?;
+    text.push_str(&lines)?;
     Ok(())
-}
-
-#[tactic(auto, unfolding(crate::specs::Outputs::imports_text))]
-fn push_tree_imports(
-    alloc: Global,
-    sources: &Sources,
-    edition: &Edition,
-    show: TreeShow,
-    text: &mut String,
-) -> Result<(), AllocError>
-    requires { IsKnown sources.now show.krate }
-    ensures { OnOk result (string_bytes text.new ≡ string_bytes text.old
-        ++ imports_text edition.now.reserved.items sources.now show) }
-{
-    let tree = sources.tree(show.place, show.krate);
-    push_imports(alloc, tree, edition, text)
 }
 
 /// Adds the line on a place and a crate, with a change number.
@@ -72,6 +54,7 @@ pub fn push_change(
     }
 }
 
+#[tactic(auto, unfolding(crate::specs::Outputs::page_text, crate::specs::Outputs::imports_text))]
 fn push_tree(
     alloc: Global,
     sources: &Sources,
@@ -83,14 +66,15 @@ fn push_tree(
     ensures { OnOk result (string_bytes text.new ≡ string_bytes text.old
         ++ printed edition.now.reserved.items sources.now show) }
 {
+    let tree = sources.tree(show.place, show.krate);
     match show.kind {
-        ShowKind::Page => push_page(alloc, sources, edition, show, text),
+        ShowKind::Page => push_page(alloc, tree, edition, text),
         ShowKind::Tree => {
             let changed = sources.changed(show.place, show.krate);
             push_change(show.place, show.krate, changed, text)?;
-            push_page(alloc, sources, edition, show, text)
+            push_page(alloc, tree, edition, text)
         }
-        ShowKind::Imports => push_tree_imports(alloc, sources, edition, show, text),
+        ShowKind::Imports => push_imports(alloc, tree, edition, text),
     }
 }
 

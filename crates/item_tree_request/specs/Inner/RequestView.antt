@@ -8,7 +8,7 @@ use Rattle.item_tree_request.specs.Named.{NamesCrate, EditNamesCrate}
 use Rattle.item_tree_request.specs.Requests.{Request}
 
 abbrev pub request_view : read.Request → Request
-request_view r = record { start = r.start; edition = edition_view r.edition; skipped = r.skipped.items; crates = map crate_view r.crates.items; edits = map edit_view r.edits.items; shows = r.shows.items }
+request_view r = record { start = r.settings.start; edition = edition_view r.settings.edition; skipped = r.settings.skipped.items; crates = map crate_view r.crates.items; edits = map edit_view r.edits.items; shows = r.shows.items }
 
 -- the edits and the shows of the request name its crates
 pub record NamesOwnCrates (r : read.Request) : Type 0 where
