@@ -6,67 +6,12 @@ mod outlines;
 pub mod run;
 
 use crate::run::run;
-use item_tree_request::RunError;
+use item_tree_request::program::{ended, told};
 use std::process::ExitCode;
-use std::{env, io};
-
-const HELP: &str =
-    "outline_tool reads a request in JSON from standard input, and writes the outlines of what it asks for.
-docs/FORMAT.md tells of both.
-
-Usage: outline_tool < REQUEST
-
-Options:
-  -h, --help     Print help
-  -V, --version  Print version
-
-Example: itemtree request --show page src/lib.rs | outline_tool
-
-Statuses:
-  0  everything that was asked for is written
-  2  the input is not JSON
-  3  the JSON is not a request
-  4  an edit is refused for a size
-  5  out of memory
-  6  reading or writing failed
-";
-
-/// What the first argument asks for in place of an answer. Other arguments mean nothing.
-fn told(rt: &HostRuntime) -> Result<Option<&'static str>, RunError> {
-    let mut words = match env::args(rt) {
-        Ok(words) => words,
-        Err(error) if error.kind() == io::ErrorKind::OutOfMemory => {
-            return Err(RunError::OutOfMemory);
-        }
-        Err(_) => return Ok(None),
-    };
-    let Some(word) = words.nth(1) else {
-        return Ok(None);
-    };
-    match word.as_str() {
-        "-h" | "--help" => Ok(Some(HELP)),
-        "-V" | "--version" => Ok(Some("outline_tool 0.2.0\n")),
-        _ => Ok(None),
-    }
-}
-
-/// Tells what is asked of the program itself, or else answers a request.
-fn answer(rt: &HostRuntime) -> Result<(), RunError> {
-    let Some(text) = told(rt)? else {
-        return run(rt.alloc(), &mut rt.stdin(), &mut rt.stdout());
-    };
-    match print!(rt; "{text}") {
-        Ok(()) => Ok(()),
-        Err(_) => Err(RunError::Write),
-    }
-}
 
 fn main(rt: HostRuntime) -> ExitCode {
-    match answer(&rt) {
-        Ok(()) => ExitCode::SUCCESS,
-        Err(e) => {
-            let _ = eprintln!(rt; "{e}");
-            ExitCode::from(e.status())
-        }
+    match told(&rt, "outline_tool", "the outlines of what it asks for") {
+        Some(status) => status,
+        None => ended(&rt, run(rt.alloc(), &mut rt.stdin(), &mut rt.stdout())),
     }
 }

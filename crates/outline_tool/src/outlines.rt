@@ -1,7 +1,7 @@
 //! The texts of shows: outlines, and the lines of what changed.
 ghost use Rattle.std.specs.Prelude.{◌≡◌, ◌++◌, OnOk, string_bytes};
 ghost use Rattle.item_tree_db.specs.State.{IsKnown};
-ghost use Rattle.outline_tool.specs.Outlines.{outline_of, outlined, IsOutlined};
+ghost use Rattle.outline_tool.specs.Outlines.{outlined, IsOutlined};
 
 use hir_input::Edition;
 use item_tree_db::Sources;
@@ -12,19 +12,6 @@ use std::alloc::{AllocError, Global};
 use tree_walk::push_outline;
 
 #[tactic(auto, unfolding(crate::specs::Outlines::outline_of))]
-fn push_tree_outline(
-    alloc: Global,
-    sources: &Sources,
-    show: TreeShow,
-    text: &mut String,
-) -> Result<(), AllocError>
-    requires { IsKnown sources.now show.krate }
-    ensures { OnOk result (string_bytes text.new ≡ string_bytes text.old
-        ++ outline_of sources.now show) }
-{
-    push_outline(alloc, sources.tree(show.place, show.krate), text)
-}
-
 fn push_tree(
     alloc: Global,
     sources: &Sources,
@@ -35,13 +22,14 @@ fn push_tree(
     ensures { OnOk result (string_bytes text.new ≡ string_bytes text.old
         ++ outlined sources.now show) }
 {
+    let tree = sources.tree(show.place, show.krate);
     match show.kind {
         ShowKind::Tree => {
             let changed = sources.changed(show.place, show.krate);
             push_change(show.place, show.krate, changed, text)?;
-            push_tree_outline(alloc, sources, show, text)
+            push_outline(alloc, tree, text)
         }
-        ShowKind::Page | ShowKind::Imports => push_tree_outline(alloc, sources, show, text),
+        ShowKind::Page | ShowKind::Imports => push_outline(alloc, tree, text),
     }
 }
 
