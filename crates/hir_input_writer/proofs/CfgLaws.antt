@@ -1,24 +1,16 @@
 -- An atom and a condition that are written are read again.
-use Rattle.std.proofs.Common.{◌≡◌, ℕ, List, [], ◌∷◌, false, IfSome, Option, Some, None, refl, ap, subst, ◌∙◌}
+use Rattle.std.proofs.Common.{◌≡◌, ℕ, List, false, IfSome, Option, Some, None, refl, ap, subst, ◌∙◌}
 use Rattle.serde_json.specs.Data.{Data}
 use Rattle.serde_json.specs.Written.{has_float}
-use Rattle.hir_input_writer.proofs.Common.{AtomView, CfgView, CfgViews, invalid, all_of, any_of, not_of, no_cfgs, cfg_and, cfgs_from, right, field, identifier_form, cfg_reads_itself, atom_by, atom_data, cfg_data, cfgs_data, name_data, Holds, HoldEach}
+use Rattle.hir_input_writer.proofs.Common.{AtomView, CfgView, CfgViews, invalid, all_of, any_of, not_of, no_cfgs, cfg_and, cfgs_from, right, field, identifier_form, cfg_reads_itself, atom_by, atom_data, cfg_data, cfgs_data, name_data, Holds}
 use Rattle.hir_input.specs.Cfg as condition
 use Rattle.hir_input_json.specs.Cfgs.{atom, cfg}
-use Rattle.hir_input_writer.proofs.Held.{mapped, named_law, name_law, next_law}
+use Rattle.hir_input_writer.proofs.Held.{HoldAll, mapped, named_law, name_law, next_of, none_of}
 
 -- what a condition's data may be: a null too
 pub record CfgHolds (c : CfgView) (d : Data) : Type 0 where
   pub reads : cfg d ≡ right c
   pub exact : has_float d ≡ false
-
-abbrev listed : CfgViews → List CfgView
-listed no_cfgs = []
-listed (cfg_and c cs) = c ∷ listed cs
-
-from_listed : (cs : CfgViews) → cfgs_from (listed cs) ≡ cs
-from_listed no_cfgs = refl
-from_listed (cfg_and c cs) = ap (cfg_and c) (from_listed cs)
 
 atom_by_law : (n : List ℕ) (value : Option (List ℕ)) → IfSome (atom_by n value) (Holds atom (record { name = n; value = value }))
 unfolding field
@@ -48,16 +40,16 @@ mutual
   cfg_law invalid = record { reads = cfg_reads_itself _; exact = refl }
   cfg_law (condition.atom a) = atom_cfg a.name a.value
   cfg_law (all_of cs) =
-      mapped (cfgs_data cs) _ (HoldEach cfg (listed cs)) (CfgHolds (all_of cs)) (cfgs_law cs)
-      (λ ds h. record { reads = cfg_reads_itself _ ∙ rw (h.reads 0) (ap (λ x. right (all_of x)) (from_listed cs)); exact = rw h.exact refl })
+      mapped (cfgs_data cs) _ (HoldAll cfg cfgs_from cs) (CfgHolds (all_of cs)) (cfgs_law cs)
+      (λ ds h. record { reads = cfg_reads_itself _ ∙ rw (h.each.reads 0) (ap (λ x. right (all_of x)) h.made); exact = rw h.each.exact refl })
   cfg_law (any_of cs) =
-      mapped (cfgs_data cs) _ (HoldEach cfg (listed cs)) (CfgHolds (any_of cs)) (cfgs_law cs)
-      (λ ds h. record { reads = cfg_reads_itself _ ∙ rw (h.reads 0) (ap (λ x. right (any_of x)) (from_listed cs)); exact = rw h.exact refl })
+      mapped (cfgs_data cs) _ (HoldAll cfg cfgs_from cs) (CfgHolds (any_of cs)) (cfgs_law cs)
+      (λ ds h. record { reads = cfg_reads_itself _ ∙ rw (h.each.reads 0) (ap (λ x. right (any_of x)) h.made); exact = rw h.each.exact refl })
   cfg_law (not_of c) =
       mapped (cfg_data c) _ (CfgHolds c) (CfgHolds (not_of c)) (cfg_law c)
       (λ d h. record { reads = cfg_reads_itself _ ∙ rw h.reads refl; exact = rw h.exact refl })
 
-  cfgs_law : (cs : CfgViews) → IfSome (cfgs_data cs) (HoldEach cfg (listed cs))
-  cfgs_law no_cfgs = record { reads = λ n. refl; exact = refl }
+  cfgs_law : (cs : CfgViews) → IfSome (cfgs_data cs) (HoldAll cfg cfgs_from cs)
+  cfgs_law no_cfgs = none_of cfg cfgs_from
   cfgs_law (cfg_and c cs) =
-      next_law cfg c (listed cs) (cfg_data c) (cfgs_data cs) (CfgHolds c) (cfg_law c) (λ d h. h.reads) (λ d h. h.exact) (cfgs_law cs)
+      next_of cfg cfgs_from cfg_and c cs (cfg_data c) (cfgs_data cs) (CfgHolds c) (λ all. refl) (cfg_law c) (λ d h. h.reads) (λ d h. h.exact) (cfgs_law cs)

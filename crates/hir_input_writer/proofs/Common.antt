@@ -30,7 +30,7 @@ pub use Rattle.hir_input_writer.specs.Kept.{body_kept, call_kept, item_kept, ite
 pub use Rattle.hir_input_writer.specs.Lists.{after, joined}
 pub use Rattle.hir_input_writer.specs.Literals.{context_data, is_same_context, literal_data, span_data, year_number}
 pub use Rattle.hir_input_writer.specs.Metas.{key_value_data, meta_data, metas_data, path_meta_data, tokens_data}
-pub use Rattle.hir_input_writer.specs.Parts.{each_data, maybe_data, name_data, text_or_null, whole_data}
+pub use Rattle.hir_input_writer.specs.Parts.{each_data, led, maybe_data, name_data, text_or_null, whole_data}
 pub use Rattle.hir_input_writer.specs.Paths.{kind_data, path_data, visibility_data, word_and_names}
 pub use Rattle.hir_input_writer.specs.Syntaxes.{stmt_data, syntax_data, tail_data}
 pub use Rattle.hir_input_writer.specs.UseTrees.{rename_data, renamed_data, use_node_data, use_tree_data, use_trees_data}

@@ -1,8 +1,8 @@
 -- What is written of a part, and how parts are put together.
-use Rattle.std.proofs.Common.{◌≡◌, ℕ, ◌+◌, List, [], ◌∷◌, map, Bool, true, false, nat_lt, IfSome, Option, Some, None, if◌then◌else◌, option_map, option_and_then, refl}
-use Rattle.serde_json.specs.Data.{Data, number, unsigned, string, Items, item}
+use Rattle.std.proofs.Common.{◌≡◌, ℕ, ◌+◌, List, [], ◌∷◌, map, Bool, true, false, nat_lt, IfSome, Option, Some, None, if◌then◌else◌, option_map, option_and_then, refl, ap, ◌∙◌}
+use Rattle.serde_json.specs.Data.{Data, number, unsigned, string, Items, no_items}
 use Rattle.serde_json.specs.Written.{has_float}
-use Rattle.hir_input_writer.proofs.Common.{Reading, right, is_name, name_in, below, identifier_form, text_form, whole_form, Holds, MayHold, HoldEach, each_data, maybe_data, name_data, text_or_null, whole_data}
+use Rattle.hir_input_writer.proofs.Common.{Reading, right, is_name, name_in, below, identifier_form, text_form, whole_form, Holds, MayHold, HoldEach, each_data, led, maybe_data, name_data, text_or_null, whole_data}
 
 -- ---- steps
 
@@ -24,13 +24,13 @@ maybe_law make form law (Some a) = weaker (make a) (Holds form a) (MayHold form 
 
 -- one item before others
 pub next_law : {A : Type 0} (form : Data → Reading A) (a : A) (as' : List A) (m : Option Data) (o : Option Items) (P : Data → Type 0) → IfSome m P → ((d : Data) → P d → form d ≡ right a) → ((d : Data) → P d → has_float d ≡ false) → IfSome o (HoldEach form as')
-    → IfSome (option_and_then (λ d. option_and_then (λ ds. Some (item d ds)) o) m) (HoldEach form (a ∷ as'))
+    → IfSome (led m o) (HoldEach form (a ∷ as'))
 next_law form a as' None o P h reads exact hs = tt
 next_law form a as' (Some d) None P h reads exact hs = tt
 next_law form a as' (Some d) (Some ds) P h reads exact hs = record { reads = λ n. rw (reads d h, hs.reads (n + 1)) refl; exact = rw (exact d h, hs.exact) refl }
 
 pub held_next : {A : Type 0} (form : Data → Reading A) (a : A) (as' : List A) (m : Option Data) (o : Option Items) → IfSome m (Holds form a) → IfSome o (HoldEach form as')
-    → IfSome (option_and_then (λ d. option_and_then (λ ds. Some (item d ds)) o) m) (HoldEach form (a ∷ as'))
+    → IfSome (led m o) (HoldEach form (a ∷ as'))
 held_next form a as' m o h hs = next_law form a as' m o (Holds form a) h (λ d k. k.reads) (λ d k. k.exact) hs
 
 pub each_law : {A : Type 0} (make : A → Option Data) (form : Data → Reading A) → ((a : A) → IfSome (make a) (Holds form a)) → (as' : List A) → IfSome (each_data make as') (HoldEach form as')
@@ -41,6 +41,28 @@ each_law make form law (a ∷ as') = held_next form a as' (make a) (each_data ma
 pub each_seen : {A B : Type 0} (make : A → Option Data) (form : Data → Reading B) (seen : A → B) → ((a : A) → IfSome (make a) (Holds form (seen a))) → (as' : List A) → IfSome (each_data make as') (HoldEach form (map seen as'))
 each_seen make form seen law [] = record { reads = λ n. refl; exact = refl }
 each_seen make form seen law (a ∷ as') = held_next form (seen a) (map seen as') (make a) (each_data make as') (law a) (each_seen make form seen law as')
+
+-- the items are read as a list, of which this is made
+pub record HoldAll {A B : Type 0} (form : Data → Reading A) (from : List A → B) (b : B) (ds : Items) : Type 0 where
+  pub list : List A
+  pub made : from list ≡ b
+  pub each : HoldEach form list ds
+
+pub none_of : {A B : Type 0} (form : Data → Reading A) (from : List A → B) → HoldAll form from (from []) no_items
+none_of form from = record { list = []; made = refl; each = record { reads = λ n. refl; exact = refl } }
+
+-- one item before others, and what is made of them all
+pub next_of : {A B : Type 0} (form : Data → Reading A) (from : List A → B) (step : A → B → B) (a : A) (b : B) (m : Option Data) (o : Option Items) (P : Data → Type 0)
+    → ((as' : List A) → from (a ∷ as') ≡ step a (from as')) → IfSome m P → ((d : Data) → P d → form d ≡ right a) → ((d : Data) → P d → has_float d ≡ false)
+    → IfSome o (HoldAll form from b) → IfSome (led m o) (HoldAll form from (step a b))
+next_of form from step a b None o P steps h reads exact hs = tt
+next_of form from step a b (Some d) None P steps h reads exact hs = tt
+next_of form from step a b (Some d) (Some ds) P steps h reads exact hs =
+    record { list = a ∷ hs.list; made = steps hs.list ∙ ap (step a) hs.made; each = next_law form a hs.list (Some d) (Some ds) P h reads exact hs.each }
+
+pub held_of : {A B : Type 0} (form : Data → Reading A) (from : List A → B) (step : A → B → B) (a : A) (b : B) (m : Option Data) (o : Option Items)
+    → ((as' : List A) → from (a ∷ as') ≡ step a (from as')) → IfSome m (Holds form a) → IfSome o (HoldAll form from b) → IfSome (led m o) (HoldAll form from (step a b))
+held_of form from step a b m o steps h hs = next_of form from step a b m o (Holds form a) steps h (λ d k. k.reads) (λ d k. k.exact) hs
 
 -- ---- numbers and texts
 

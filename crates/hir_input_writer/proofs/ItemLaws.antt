@@ -2,19 +2,11 @@
 use Rattle.std.proofs.Common.{◌≡◌, List, [], ◌∷◌, Bool, false, IfSome, Option, Some, None, codes, refl, ap, subst, ◌∙◌}
 use Rattle.serde_json.specs.Data.{Data, null, array, object}
 use Rattle.serde_json.specs.Written.{has_float}
-use Rattle.hir_input_writer.proofs.Common.{NodeView, NamedView, CallView, PlainKind, fn_kind, static_kind, type_alias_kind, ItemView, ItemViews, plain_item, const_item, struct_item, bare_module, listed_module, use_item, extern_crate, bare_extern_block, listed_extern_block, impl_item, macro_call, macro_rules, asm_item, no_items, item_and, extern_block_from, items_from, module_from, Reading, right, reading_map, field, flag, list_of, maybe, maybe_at, optional_at, unless_null, item, extern_item, named_item, item_reads_itself, Holds, HoldEach, call_data, extern_block_data, extern_block_object, extern_item_data, extern_items_data, item_data, items_data, kind_word, module_data, module_object, named_data, node_data, call_kept, item_kept, items_kept, named_kept, node_kept}
+use Rattle.hir_input_writer.proofs.Common.{NodeView, NamedView, CallView, PlainKind, fn_kind, static_kind, type_alias_kind, ItemView, ItemViews, plain_item, const_item, struct_item, bare_module, listed_module, use_item, extern_crate, bare_extern_block, listed_extern_block, impl_item, macro_call, macro_rules, asm_item, no_items, item_and, extern_block_from, items_from, module_from, Reading, right, reading_map, field, flag, list_of, maybe, maybe_at, optional_at, unless_null, item, extern_item, named_item, item_reads_itself, Holds, call_data, extern_block_data, extern_block_object, extern_item_data, extern_items_data, item_data, items_data, kind_word, module_data, module_object, named_data, node_data, call_kept, item_kept, items_kept, named_kept, node_kept}
 use Rattle.hir_input_json.specs.Reading.{◌>>=◌}
-use Rattle.hir_input_writer.proofs.Held.{bind, held_next, mapped, weaker}
-use Rattle.hir_input_writer.proofs.KindLaws.{CallHolds, asm_law, call_law, extern_crate_law, impl_law, macro_rules_law, plain_law, struct_law, use_law}
+use Rattle.hir_input_writer.proofs.Held.{HoldAll, bind, held_of, mapped, none_of, weaker}
+use Rattle.hir_input_writer.proofs.KindLaws.{CallHolds, asm_law, call_law, extern_crate_law, impl_law, macro_rules_law, plain_law, struct_law, use_law, with_part}
 use Rattle.hir_input_writer.proofs.NodeLaws.{NamedHolds, NodeHolds, named_law, named_reads, node_law, node_reads}
-
-abbrev pub listed : ItemViews → List ItemView
-listed no_items = []
-listed (item_and i is) = i ∷ listed is
-
-pub from_listed : (is : ItemViews) → items_from (listed is) ≡ is
-from_listed no_items = refl
-from_listed (item_and i is) = ap (item_and i) (from_listed is)
 
 plain_item_law : (kind : PlainKind) (bodies : Bool) (n : NamedView) → IfSome (item_data bodies (plain_item kind n)) (Holds item (plain_item kind (named_kept bodies n)))
 unfolding named_item
@@ -42,17 +34,10 @@ extern_item_law bodies (macro_call c) =
     (λ d h. record { there = h.there; reads = rw (h.object, h.is) (ap (reading_map macro_call) h.reads); exact = h.exact })
 extern_item_law bodies i = tt
 
-extern_items_law : (bodies : Bool) (is : ItemViews) → IfSome (extern_items_data bodies is) (HoldEach extern_item (listed (items_kept bodies is)))
-extern_items_law bodies no_items = record { reads = λ n. refl; exact = refl }
+extern_items_law : (bodies : Bool) (is : ItemViews) → IfSome (extern_items_data bodies is) (HoldAll extern_item items_from (items_kept bodies is))
+extern_items_law bodies no_items = none_of extern_item items_from
 extern_items_law bodies (item_and i is) =
-    held_next extern_item (item_kept bodies i) (listed (items_kept bodies is)) (extern_item_data bodies i) (extern_items_data bodies is) (extern_item_law bodies i) (extern_items_law bodies is)
-
--- an extern block, over what was read of the keys of every item
-abbrev extern_block_by : Data → Reading NodeView → Reading ItemView
-extern_block_by d r = do
-  n ← r
-  items ← maybe_at (codes "items") (list_of extern_item) d
-  right (extern_block_from n items)
+    held_of extern_item items_from item_and (item_kept bodies i) (items_kept bodies is) (extern_item_data bodies i) (extern_items_data bodies is) (λ all. refl) (extern_item_law bodies i) (extern_items_law bodies is)
 
 -- over the reading of the list that is written
 block_law : (bodies : Bool) (n : NodeView) (list : Data) (is : Option (List ItemView)) → maybe (list_of extern_item) (unless_null list) ≡ right is → has_float list ≡ false
@@ -63,16 +48,16 @@ block_law bodies n list is reads exact =
     record {
       there = refl;
       reads = item_reads_itself _
-          ∙ ap (extern_block_by (extern_block_object nd list)) (node_reads bodies n nd (extern_block_object nd list) h refl refl refl refl)
+          ∙ ap (with_part extern_block_from (maybe_at (codes "items") (list_of extern_item) (extern_block_object nd list))) (node_reads bodies n nd (extern_block_object nd list) h refl refl refl refl)
           ∙ rw reads refl;
       exact = rw (h.attrs.exact, h.body.exact, h.hash.exact, exact, h.number.exact) refl;
     })
 
 listed_block_law : (bodies : Bool) (n : NodeView) (is : ItemViews) → IfSome (item_data bodies (listed_extern_block n is)) (Holds item (item_kept bodies (listed_extern_block n is)))
 listed_block_law bodies n is =
-    bind (extern_items_data bodies is) _ (HoldEach extern_item (listed (items_kept bodies is))) (Holds item (item_kept bodies (listed_extern_block n is))) (extern_items_law bodies is) (λ ds h.
-    subst (λ us. IfSome (extern_block_data bodies n (array ds)) (Holds item (listed_extern_block (node_kept bodies n) us))) (from_listed (items_kept bodies is))
-    (block_law bodies n (array ds) (Some (listed (items_kept bodies is))) (ap (reading_map Some) (h.reads 0)) h.exact))
+    bind (extern_items_data bodies is) _ (HoldAll extern_item items_from (items_kept bodies is)) (Holds item (item_kept bodies (listed_extern_block n is))) (extern_items_law bodies is) (λ ds h.
+    subst (λ us. IfSome (extern_block_data bodies n (array ds)) (Holds item (listed_extern_block (node_kept bodies n) us))) h.made
+    (block_law bodies n (array ds) (Some h.list) (ap (reading_map Some) (h.each.reads 0)) h.each.exact))
 
 -- ---- modules
 
@@ -104,9 +89,9 @@ mutual
   item_law bodies (struct_item n fields) = struct_law bodies n fields
   item_law bodies (bare_module n semicolon) = module_law bodies n semicolon null None refl refl
   item_law bodies (listed_module n semicolon is) =
-      bind (items_data bodies is) _ (HoldEach item (listed (items_kept bodies is))) (Holds item (item_kept bodies (listed_module n semicolon is))) (items_law bodies is) (λ ds h.
-      subst (λ us. IfSome (module_data bodies n semicolon (array ds)) (Holds item (listed_module (named_kept bodies n) semicolon us))) (from_listed (items_kept bodies is))
-      (module_law bodies n semicolon (array ds) (Some (listed (items_kept bodies is))) (ap (reading_map Some) (h.reads 0)) h.exact))
+      bind (items_data bodies is) _ (HoldAll item items_from (items_kept bodies is)) (Holds item (item_kept bodies (listed_module n semicolon is))) (items_law bodies is) (λ ds h.
+      subst (λ us. IfSome (module_data bodies n semicolon (array ds)) (Holds item (listed_module (named_kept bodies n) semicolon us))) h.made
+      (module_law bodies n semicolon (array ds) (Some h.list) (ap (reading_map Some) (h.each.reads 0)) h.each.exact))
   item_law bodies (use_item u) = use_law bodies u
   item_law bodies (extern_crate n rename) = extern_crate_law bodies n rename
   item_law bodies (bare_extern_block n) = block_law bodies n null None refl refl
@@ -116,7 +101,7 @@ mutual
   item_law bodies (macro_rules n name) = macro_rules_law bodies n name
   item_law bodies (asm_item n) = asm_law bodies n
 
-  pub items_law : (bodies : Bool) (is : ItemViews) → IfSome (items_data bodies is) (HoldEach item (listed (items_kept bodies is)))
-  items_law bodies no_items = record { reads = λ n. refl; exact = refl }
+  pub items_law : (bodies : Bool) (is : ItemViews) → IfSome (items_data bodies is) (HoldAll item items_from (items_kept bodies is))
+  items_law bodies no_items = none_of item items_from
   items_law bodies (item_and i is) =
-      held_next item (item_kept bodies i) (listed (items_kept bodies is)) (item_data bodies i) (items_data bodies is) (item_law bodies i) (items_law bodies is)
+      held_of item items_from item_and (item_kept bodies i) (items_kept bodies is) (item_data bodies i) (items_data bodies is) (λ all. refl) (item_law bodies i) (items_law bodies is)

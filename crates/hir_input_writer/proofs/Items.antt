@@ -4,6 +4,7 @@ use Rattle.serde_json.specs.Data.{Items, array}
 use Rattle.hir_input_writer.proofs.Common.{Item, NodeView, ItemView, bare_module, listed_module, extern_block_from, items_from, items_view, module_view, named_from, extern_block_data, extern_items_data, item_data, listed_data}
 use Rattle.hir_input.specs.declared.ast.Module as ast_module
 use Rattle.hir_input.proofs.SyntaxViews.{module_view-fields}
+use Rattle.hir_input_writer.proofs.Nulls.{view-Null}
 
 block_by : (bodies : Bool) (n : NodeView) (ds : Option Items) → option_and_then (λ es. extern_block_data bodies n (array es)) ds ≡ option_and_then (extern_block_data bodies n) (option_map array ds)
 block_by bodies n None = refl
@@ -22,4 +23,4 @@ pub module_view-listed : (m : ast_module.Module) (list : Vec Item Global) → m.
     → module_view m ≡ listed_module (named_from m.hash m.number m.attrs.items m.name m.visibility m.body) m.semicolon (items_view list.items)
 module_view-listed m list e = module_view-fields m ∙ rw e refl
 
-pub ruleset modules = (module_view-bare, module_view-listed)
+pub ruleset modules = (module_view-bare, module_view-listed, view-Null)

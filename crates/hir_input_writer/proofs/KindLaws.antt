@@ -17,11 +17,12 @@ use Rattle.hir_input_writer.proofs.UseTreeLaws.{rename_law, use_tree_law}
 
 -- ---- kinds of items, over what was read of the keys of every item
 
-abbrev struct_by : Data → Reading NamedView → Reading ItemView
-struct_by d r = do
+-- and one part more
+abbrev pub with_part : {N A B : Type 0} → (N → A → B) → Reading A → Reading N → Reading B
+with_part make part r = do
   n ← r
-  kind ← required_at (codes "fields") fields_form d
-  right (struct_item n kind)
+  a ← part
+  right (make n a)
 
 abbrev use_by : Data → Reading NodeView → Reading ItemView
 use_by d r = do
@@ -30,18 +31,6 @@ use_by d r = do
   tree ← maybe_at (codes "tree") use_tree_form d
   right (use_item (record { node = n; visibility = vis; use_tree = tree }))
 
-abbrev extern_crate_by : Data → Reading NamedView → Reading ItemView
-extern_crate_by d r = do
-  n ← r
-  renamed ← maybe_at (codes "rename") rename_form d
-  right (extern_crate n renamed)
-
-abbrev impl_by : Data → Reading NodeView → Reading ItemView
-impl_by d r = do
-  n ← r
-  of_trait ← optional_at false (codes "trait") flag d
-  right (impl_item n of_trait)
-
 abbrev call_by : Data → Reading NodeView → Reading CallView
 call_by d r = do
   n ← r
@@ -49,12 +38,6 @@ call_by d r = do
   expands ← expand_to_at d
   ctxt ← context_at d
   right (record { node = n; path = p; expand_to = expands; ctxt = ctxt })
-
-abbrev macro_rules_by : Data → Reading NodeView → Reading ItemView
-macro_rules_by d r = do
-  n ← r
-  called ← maybe_at (codes "name") identifier_form d
-  right (macro_rules n called)
 
 -- ---- what is written is read again
 
@@ -89,7 +72,7 @@ struct_law bodies n f =
     record {
       there = refl;
       reads = item_reads_itself _
-          ∙ ap (struct_by (struct_object nd fd)) (named_reads bodies n nd (struct_object nd fd) h refl refl refl refl refl refl)
+          ∙ ap (with_part struct_item (required_at (codes "fields") fields_form (struct_object nd fd))) (named_reads bodies n nd (struct_object nd fd) h refl refl refl refl refl refl)
           ∙ rw (k.there, k.reads) refl;
       exact = rw (h.node.attrs.exact, h.node.body.exact, k.exact, h.node.hash.exact, h.name.exact, h.node.number.exact, h.vis.exact) refl;
     }))
@@ -116,7 +99,7 @@ extern_crate_law bodies n r =
     record {
       there = refl;
       reads = item_reads_itself _
-          ∙ ap (extern_crate_by (extern_crate_object nd rd)) (named_reads bodies n nd (extern_crate_object nd rd) h refl refl refl refl refl refl)
+          ∙ ap (with_part extern_crate (maybe_at (codes "rename") rename_form (extern_crate_object nd rd))) (named_reads bodies n nd (extern_crate_object nd rd) h refl refl refl refl refl refl)
           ∙ rw k.reads refl;
       exact = rw (h.node.attrs.exact, h.node.body.exact, h.node.hash.exact, h.name.exact, h.node.number.exact, k.exact, h.vis.exact) refl;
     }))
@@ -127,7 +110,7 @@ impl_law bodies n of_trait =
     mapped (node_data bodies n) _ (NodeHolds bodies n) (Holds forms.item (impl_item (node_kept bodies n) of_trait)) (node_law bodies n) (λ nd h.
     record {
       there = refl;
-      reads = item_reads_itself _ ∙ ap (impl_by (impl_object nd of_trait)) (node_reads bodies n nd (impl_object nd of_trait) h refl refl refl refl);
+      reads = item_reads_itself _ ∙ ap (with_part impl_item (optional_at false (codes "trait") flag (impl_object nd of_trait))) (node_reads bodies n nd (impl_object nd of_trait) h refl refl refl refl);
       exact = rw (h.attrs.exact, h.body.exact, h.hash.exact, h.number.exact) refl;
     })
 
@@ -168,7 +151,7 @@ macro_rules_law bodies n called =
     bind (maybe_data name_data called) _ (MayHold identifier_form called) (Holds forms.item (macro_rules (node_kept bodies n) called)) (maybe_law name_data identifier_form name_law called) (λ cd k.
     record {
       there = refl;
-      reads = item_reads_itself _ ∙ ap (macro_rules_by (macro_rules_object nd cd)) (node_reads bodies n nd (macro_rules_object nd cd) h refl refl refl refl) ∙ rw k.reads refl;
+      reads = item_reads_itself _ ∙ ap (with_part macro_rules (maybe_at (codes "name") identifier_form (macro_rules_object nd cd))) (node_reads bodies n nd (macro_rules_object nd cd) h refl refl refl refl) ∙ rw k.reads refl;
       exact = rw (h.attrs.exact, h.body.exact, h.hash.exact, k.exact, h.number.exact) refl;
     }))
 

@@ -1,22 +1,19 @@
 -- A meta that is written is read again.
 use Rattle.std.proofs.Common.{◌≡◌, ℕ, List, [], ◌∷◌, IfSome, Option, refl, ap, ◌∙◌}
-use Rattle.hir_input_writer.proofs.Common.{PathNode, SyntaxContext, LiteralView, MetaView, MetaViews, path_meta, key_value_meta, token_tree_meta, cfg_meta, cfg_attr_meta, unsafe_meta, no_metas, meta_and, metas_from, right, field, context, literal, meta_form, path_node_form, meta_reads_itself, cfg_data, context_data, literal_data, key_value_data, meta_data, metas_data, path_meta_data, tokens_data, maybe_data, path_data, Holds, MayHold, HoldEach}
-use Rattle.hir_input_writer.proofs.Held.{bind, held_next, mapped, maybe_law}
+use Rattle.hir_input_writer.proofs.Common.{PathNode, SyntaxContext, LiteralView, MetaView, MetaViews, path_meta, key_value_meta, token_tree_meta, cfg_meta, cfg_attr_meta, unsafe_meta, no_metas, meta_and, metas_from, right, field, context, literal, meta_form, path_node_form, meta_reads_itself, cfg_data, context_data, literal_data, key_value_data, meta_data, metas_data, path_meta_data, tokens_data, maybe_data, path_data, Holds, MayHold}
+use Rattle.hir_input_writer.proofs.Held.{HoldAll, bind, held_of, mapped, maybe_law, none_of}
 use Rattle.hir_input_writer.proofs.CfgLaws.{CfgHolds, cfg_law}
 use Rattle.hir_input_writer.proofs.LiteralLaws.{context_law, literal_law}
 use Rattle.hir_input_writer.proofs.PathLaws.{path_law}
 
-abbrev pub listed : MetaViews → List MetaView
-listed no_metas = []
-listed (meta_and m ms) = m ∷ listed ms
-
-pub from_listed : (ms : MetaViews) → metas_from (listed ms) ≡ ms
-from_listed no_metas = refl
-from_listed (meta_and m ms) = ap (meta_and m) (from_listed ms)
-
-pub listed_from : (ms : List MetaView) → listed (metas_from ms) ≡ ms
-listed_from [] = refl
-listed_from (m ∷ ms) = ap (λ rest. m ∷ rest) (listed_from ms)
+-- one list of metas alone makes them
+pub metas_apart : (ms ns : List MetaView) → metas_from ms ≡ metas_from ns → ms ≡ ns
+metas_apart [] [] same = refl
+metas_apart (m ∷ ms) (n ∷ ns) same =
+    let others : metas_from ms ≡ metas_from ns = cc in
+    let all = metas_apart ms ns others in
+    cc
+metas_apart ms ns same = absurd cc
 
 path_meta_law : (p : Option PathNode) (c : SyntaxContext) → IfSome (path_meta_data p c) (Holds meta_form (path_meta p c))
 unfolding field
@@ -52,13 +49,13 @@ mutual
       (λ d h. record { there = refl; reads = meta_reads_itself _ ∙ rw h.reads refl; exact = rw h.exact refl })
   meta_law (cfg_attr_meta c ms) =
       bind (cfg_data c) _ (CfgHolds c) (Holds meta_form (cfg_attr_meta c ms)) (cfg_law c) (λ d h.
-      bind (metas_data ms) _ (HoldEach meta_form (listed ms)) (Holds meta_form (cfg_attr_meta c ms)) (metas_law ms) (λ ds hs.
-      record { there = refl; reads = meta_reads_itself _ ∙ rw (h.reads, hs.reads 0) (ap (λ x. right (cfg_attr_meta c x)) (from_listed ms)); exact = rw (h.exact, hs.exact) refl }))
+      bind (metas_data ms) _ (HoldAll meta_form metas_from ms) (Holds meta_form (cfg_attr_meta c ms)) (metas_law ms) (λ ds hs.
+      record { there = refl; reads = meta_reads_itself _ ∙ rw (h.reads, hs.each.reads 0) (ap (λ x. right (cfg_attr_meta c x)) hs.made); exact = rw (h.exact, hs.each.exact) refl }))
   meta_law (unsafe_meta m) =
       mapped (meta_data m) _ (Holds meta_form m) (Holds meta_form (unsafe_meta m)) (meta_law m)
       (λ d h. record { there = refl; reads = meta_reads_itself _ ∙ rw (h.there, h.reads) refl; exact = rw h.exact refl })
 
-  pub metas_law : (ms : MetaViews) → IfSome (metas_data ms) (HoldEach meta_form (listed ms))
-  metas_law no_metas = record { reads = λ n. refl; exact = refl }
+  pub metas_law : (ms : MetaViews) → IfSome (metas_data ms) (HoldAll meta_form metas_from ms)
+  metas_law no_metas = none_of meta_form metas_from
   metas_law (meta_and m ms) =
-      held_next meta_form m (listed ms) (meta_data m) (metas_data ms) (meta_law m) (metas_law ms)
+      held_of meta_form metas_from meta_and m ms (meta_data m) (metas_data ms) (λ all. refl) (meta_law m) (metas_law ms)

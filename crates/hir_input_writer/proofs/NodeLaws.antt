@@ -2,10 +2,10 @@
 use Rattle.std.proofs.Common.{◌≡◌, ◌^◌, ℕ, List, [], Bool, true, false, IfSome, codes, refl, ap, ◌∙◌}
 use Rattle.serde_json.specs.Data.{Data, array, no_items}
 use Rattle.serde_json.specs.Written.{has_float}
-use Rattle.hir_input_writer.proofs.Common.{MetaView, metas_from, NodeView, NamedView, Reading, right, under, each, field, array_items, maybe_at, identifier_form, optional, text_form, unless_null, whole_form, named_form, node_form, meta_form, vis_form, Holds, MayHold, HoldEach, NodeData, NamedData, attrs_data, body_data, named_data, node_data, body_kept, node_kept, named_kept, metas_data, maybe_data, name_data, whole_data, visibility_data}
+use Rattle.hir_input_writer.proofs.Common.{MetaView, metas_from, NodeView, NamedView, Reading, right, under, each, field, array_items, maybe_at, identifier_form, optional, text_form, unless_null, whole_form, named_form, node_form, meta_form, vis_form, Holds, MayHold, NodeData, NamedData, attrs_data, body_data, named_data, node_data, body_kept, node_kept, named_kept, metas_data, maybe_data, name_data, whole_data, visibility_data}
 use Rattle.hir_input_json.specs.Reading.{◌>>=◌}
-use Rattle.hir_input_writer.proofs.Held.{bind, mapped, maybe_law, name_law, whole_law}
-use Rattle.hir_input_writer.proofs.MetaLaws.{listed, listed_from, metas_law}
+use Rattle.hir_input_writer.proofs.Held.{HoldAll, bind, mapped, maybe_law, name_law, whole_law}
+use Rattle.hir_input_writer.proofs.MetaLaws.{metas_apart, metas_law}
 use Rattle.hir_input_writer.proofs.PathLaws.{visibility_law}
 
 -- the metas of a list at their key, which may be a null
@@ -20,8 +20,8 @@ pub record AttrsHold (ms : List MetaView) (d : Data) : Type 0 where
 
 pub attrs_law : (ms : List MetaView) → IfSome (attrs_data ms) (AttrsHold ms)
 attrs_law ms =
-    mapped (metas_data (metas_from ms)) array (HoldEach meta_form (listed (metas_from ms))) (AttrsHold ms) (metas_law (metas_from ms))
-    (λ ds h. record { reads = ap (under (codes "attrs")) (h.reads 0) ∙ ap right (listed_from ms); exact = h.exact })
+    mapped (metas_data (metas_from ms)) array (HoldAll meta_form metas_from (metas_from ms)) (AttrsHold ms) (metas_law (metas_from ms))
+    (λ ds h. record { reads = ap (under (codes "attrs")) (h.each.reads 0) ∙ ap right (metas_apart h.list ms h.made); exact = h.each.exact })
 
 pub record BodyHolds (bodies : Bool) (body : List ℕ) (d : Data) : Type 0 where
   pub reads : optional [] text_form (unless_null d) ≡ right (body_kept bodies body)

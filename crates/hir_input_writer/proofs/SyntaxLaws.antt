@@ -2,12 +2,12 @@
 use Rattle.std.proofs.Common.{◌≡◌, List, [], ◌∷◌, map, Bool, true, false, IfSome, Some, codes, refl, ap, subst}
 use Rattle.serde_json.specs.Data.{Data}
 use Rattle.hir_input.specs.Bodies.{item_without_bodies, items_without_bodies, stmt_without_bodies, tail_without_body}
-use Rattle.hir_input_writer.proofs.Common.{ItemView, ItemViews, listed_module, listed_extern_block, no_items, item_and, StmtView, item_stmt, call_stmt, other_stmt, TailView, no_tail, call_tail, other_tail, SyntaxView, source_file, macro_items, macro_stmts, block_expr, error, right, reading_map, under, field, optional, unless_null, item, Holds, HoldEach, attrs_data, call_data, item_data, items_data, call_kept, item_kept, items_kept, named_kept, node_kept, stmt_kept, tail_kept, each_data, stmt_data, syntax_data, tail_data}
+use Rattle.hir_input_writer.proofs.Common.{ItemView, ItemViews, listed_module, listed_extern_block, items_from, no_items, item_and, StmtView, item_stmt, call_stmt, other_stmt, TailView, no_tail, call_tail, other_tail, SyntaxView, source_file, macro_items, macro_stmts, block_expr, error, right, reading_map, under, field, optional, unless_null, item, Holds, HoldEach, attrs_data, call_data, item_data, items_data, call_kept, item_kept, items_kept, named_kept, node_kept, stmt_kept, tail_kept, each_data, stmt_data, syntax_data, tail_data}
 use Rattle.hir_input_json.specs.Syntaxes.{stmt, tail}
 use Rattle.hir_input_writer.specs.Laws.{IsReadAs, kept_bodies}
 use Rattle.serde_json.specs.Written.{has_float}
-use Rattle.hir_input_writer.proofs.Held.{bind, each_seen, mapped}
-use Rattle.hir_input_writer.proofs.ItemLaws.{from_listed, item_law, items_law, listed}
+use Rattle.hir_input_writer.proofs.Held.{HoldAll, bind, each_seen, mapped}
+use Rattle.hir_input_writer.proofs.ItemLaws.{item_law, items_law}
 use Rattle.hir_input_writer.proofs.KindLaws.{CallHolds, call_law}
 use Rattle.hir_input_writer.proofs.NodeLaws.{AttrsHold, attrs_law}
 
@@ -44,11 +44,11 @@ syntax_law : (bodies : Bool) (s : SyntaxView) → IfSome (syntax_data bodies s) 
 unfolding field
 syntax_law bodies (source_file attrs is) =
     bind (attrs_data attrs) _ (AttrsHold attrs) (IsReadAs (syntax_kept bodies (source_file attrs is))) (attrs_law attrs) (λ a h.
-    bind (items_data bodies is) _ (HoldEach item (listed (items_kept bodies is))) (IsReadAs (syntax_kept bodies (source_file attrs is))) (items_law bodies is) (λ ds hs.
-    record { reads = rw (h.reads, hs.reads 0) (ap (λ us. right (source_file attrs us)) (from_listed (items_kept bodies is))); no_float = rw (h.exact, hs.exact) refl }))
+    bind (items_data bodies is) _ (HoldAll item items_from (items_kept bodies is)) (IsReadAs (syntax_kept bodies (source_file attrs is))) (items_law bodies is) (λ ds hs.
+    record { reads = rw (h.reads, hs.each.reads 0) (ap (λ us. right (source_file attrs us)) hs.made); no_float = rw (h.exact, hs.each.exact) refl }))
 syntax_law bodies (macro_items is) =
-    mapped (items_data bodies is) _ (HoldEach item (listed (items_kept bodies is))) (IsReadAs (macro_items (items_kept bodies is))) (items_law bodies is)
-    (λ ds hs. record { reads = rw (hs.reads 0) (ap (λ us. right (macro_items us)) (from_listed (items_kept bodies is))); no_float = rw hs.exact refl })
+    mapped (items_data bodies is) _ (HoldAll item items_from (items_kept bodies is)) (IsReadAs (macro_items (items_kept bodies is))) (items_law bodies is)
+    (λ ds hs. record { reads = rw (hs.each.reads 0) (ap (λ us. right (macro_items us)) hs.made); no_float = rw hs.each.exact refl })
 syntax_law bodies (macro_stmts ss t) =
     bind (each_data (stmt_data bodies) ss) _ (HoldEach stmt (map (stmt_kept bodies) ss)) (IsReadAs (syntax_kept bodies (macro_stmts ss t))) (each_seen (stmt_data bodies) stmt (stmt_kept bodies) (stmt_law bodies) ss) (λ ds hs.
     bind (tail_data bodies t) _ (TailHolds (tail_kept bodies t)) (IsReadAs (syntax_kept bodies (macro_stmts ss t))) (tail_law bodies t) (λ d h.

@@ -1,10 +1,10 @@
 -- A rename and a use tree that are written are read again.
-use Rattle.std.proofs.Common.{◌≡◌, ℕ, List, [], ◌∷◌, Bool, true, false, bytes_eq, IfSome, Option, Some, None, if◌then◌else◌, codes, refl, ap, subst, ◌∙◌}
+use Rattle.std.proofs.Common.{◌≡◌, ℕ, List, Bool, true, false, bytes_eq, IfSome, Option, Some, None, if◌then◌else◌, codes, refl, ap, subst, ◌∙◌}
 use Rattle.serde_json.specs.Data.{Data, null, array}
 use Rattle.serde_json.specs.Written.{has_float}
-use Rattle.hir_input_writer.proofs.Common.{Rename, UseNode, UseTreeView, UseTreeViews, bare_tree, listed_tree, no_trees, tree_and, tree_from, trees_from, right, reading_map, field, list_of, maybe, unless_null, path_node_form, rename_form, use_tree_form, Holds, MayHold, HoldEach, maybe_data, name_data, path_data, rename_data, renamed_data, use_node_data, use_tree_data, use_trees_data}
+use Rattle.hir_input_writer.proofs.Common.{Rename, UseNode, UseTreeView, UseTreeViews, bare_tree, listed_tree, no_trees, tree_and, tree_from, trees_from, right, reading_map, field, list_of, maybe, unless_null, path_node_form, rename_form, use_tree_form, Holds, MayHold, maybe_data, name_data, path_data, rename_data, renamed_data, use_node_data, use_tree_data, use_trees_data}
 use Rattle.hir_input_json.proofs.UseTrees.{use_tree_reads_itself}
-use Rattle.hir_input_writer.proofs.Held.{bind, held_next, maybe_law, named_law}
+use Rattle.hir_input_writer.proofs.Held.{HoldAll, bind, held_of, maybe_law, named_law, none_of}
 use Rattle.hir_input_writer.proofs.PathLaws.{path_law}
 
 other_by : (b : Bool) (n : List ℕ) (Q : Data → Type 0) (o : Option Data) → (b ≡ false → IfSome o Q) → IfSome (if b then None else o) Q
@@ -20,14 +20,6 @@ renamed_law (Some n) =
 pub rename_law : (r : Rename) → IfSome (rename_data r) (Holds rename_form r)
 rename_law r = renamed_law r.name
 
-abbrev listed : UseTreeViews → List UseTreeView
-listed no_trees = []
-listed (tree_and t ts) = t ∷ listed ts
-
-from_listed : (ts : UseTreeViews) → trees_from (listed ts) ≡ ts
-from_listed no_trees = refl
-from_listed (tree_and t ts) = ap (tree_and t) (from_listed ts)
-
 -- over the reading of the list that is written
 node_law : (node : UseNode) (list : Data) (ts : Option (List UseTreeView)) → maybe (list_of use_tree_form) (unless_null list) ≡ right ts → has_float list ≡ false
     → IfSome (use_node_data node list) (Holds use_tree_form (tree_from node ts))
@@ -41,10 +33,10 @@ mutual
   pub use_tree_law : (t : UseTreeView) → IfSome (use_tree_data t) (Holds use_tree_form t)
   use_tree_law (bare_tree node) = node_law node null None refl refl
   use_tree_law (listed_tree node ts) =
-      bind (use_trees_data ts) _ (HoldEach use_tree_form (listed ts)) (Holds use_tree_form (listed_tree node ts)) (use_trees_law ts) (λ ds h.
-      subst (λ us. IfSome (use_node_data node (array ds)) (Holds use_tree_form (listed_tree node us))) (from_listed ts) (node_law node (array ds) (Some (listed ts)) (ap (reading_map Some) (h.reads 0)) h.exact))
+      bind (use_trees_data ts) _ (HoldAll use_tree_form trees_from ts) (Holds use_tree_form (listed_tree node ts)) (use_trees_law ts) (λ ds h.
+      subst (λ us. IfSome (use_node_data node (array ds)) (Holds use_tree_form (listed_tree node us))) h.made (node_law node (array ds) (Some h.list) (ap (reading_map Some) (h.each.reads 0)) h.each.exact))
 
-  pub use_trees_law : (ts : UseTreeViews) → IfSome (use_trees_data ts) (HoldEach use_tree_form (listed ts))
-  use_trees_law no_trees = record { reads = λ n. refl; exact = refl }
+  pub use_trees_law : (ts : UseTreeViews) → IfSome (use_trees_data ts) (HoldAll use_tree_form trees_from ts)
+  use_trees_law no_trees = none_of use_tree_form trees_from
   use_trees_law (tree_and t ts) =
-      held_next use_tree_form t (listed ts) (use_tree_data t) (use_trees_data ts) (use_tree_law t) (use_trees_law ts)
+      held_of use_tree_form trees_from tree_and t ts (use_tree_data t) (use_trees_data ts) (λ all. refl) (use_tree_law t) (use_trees_law ts)

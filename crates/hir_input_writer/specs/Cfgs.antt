@@ -1,8 +1,8 @@
 -- The data of an atom and of a condition.
 use Rattle.std.specs.Prelude.{ℕ, List, codes, Option, Some, None, option_map}
-use Rattle.serde_json.specs.Data.{Data, null, string, array, object, Items, no_items, item, no_members, member}
+use Rattle.serde_json.specs.Data.{Data, null, string, array, object, Items, no_items, no_members, member}
 use Rattle.hir_input.specs.Cfg.{AtomView, CfgView, CfgViews, invalid, atom, all_of, any_of, not_of, no_cfgs, cfg_and}
-use Rattle.hir_input_writer.specs.Parts.{name_data, ◌>>=◌}
+use Rattle.hir_input_writer.specs.Parts.{led, name_data}
 
 -- a key and its value
 abbrev pub keyed : Data → List ℕ → Data
@@ -28,7 +28,4 @@ abbrev mutual
 
   pub cfgs_data : CfgViews → Option Items
   cfgs_data no_cfgs = Some no_items
-  cfgs_data (cfg_and c cs) = do
-    d ← cfg_data c
-    ds ← cfgs_data cs
-    Some (item d ds)
+  cfgs_data (cfg_and c cs) = led (cfg_data c) (cfgs_data cs)

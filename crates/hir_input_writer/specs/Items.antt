@@ -1,6 +1,6 @@
 -- The data of an item, with its body or without.
 use Rattle.std.specs.Prelude.{ℕ, ◌^◌, List, Bool, true, false, codes, Option, Some, None, option_map}
-use Rattle.serde_json.specs.Data.{Data, null, boolean, number as number_value, unsigned, string, array, object, Items, no_items, item, Members, no_members, member}
+use Rattle.serde_json.specs.Data.{Data, null, boolean, number as number_value, unsigned, string, array, object, Items, no_items, Members, no_members, member}
 use Rattle.hir_input.specs.declared.ast.Rename.{Rename}
 use Rattle.hir_input.specs.declared.ast.Visibility.{Visibility}
 use Rattle.hir_input.specs.Attr.{MetaView, metas_from}
@@ -9,7 +9,7 @@ use Rattle.hir_input.specs.Syntax.{NodeView, NamedView, UseView, CallView, Plain
 use Rattle.hir_input.specs.Syntax as syntax
 use Rattle.hir_input_writer.specs.Literals.{context_data}
 use Rattle.hir_input_writer.specs.Metas.{metas_data}
-use Rattle.hir_input_writer.specs.Parts.{list_data, maybe_data, name_data, whole_data, ◌>>=◌}
+use Rattle.hir_input_writer.specs.Parts.{led, list_data, maybe_data, name_data, whole_data, ◌>>=◌}
 use Rattle.hir_input_writer.specs.Paths.{path_data, visibility_data}
 use Rattle.hir_input_writer.specs.UseTrees.{rename_data, use_tree_data}
 
@@ -193,10 +193,7 @@ extern_item_data bodies i = None
 
 abbrev pub extern_items_data : Bool → ItemViews → Option Items
 extern_items_data bodies syntax.no_items = Some no_items
-extern_items_data bodies (syntax.item_and i is) = do
-  d ← extern_item_data bodies i
-  ds ← extern_items_data bodies is
-  Some (item d ds)
+extern_items_data bodies (syntax.item_and i is) = led (extern_item_data bodies i) (extern_items_data bodies is)
 
 -- the items of a list, null where none is written
 abbrev pub listed_data : (ItemViews → Option Items) → Option (List ItemView) → Option Data
@@ -226,7 +223,4 @@ abbrev mutual
 
   pub items_data : Bool → ItemViews → Option Items
   items_data bodies syntax.no_items = Some no_items
-  items_data bodies (syntax.item_and i is) = do
-    d ← item_data bodies i
-    ds ← items_data bodies is
-    Some (item d ds)
+  items_data bodies (syntax.item_and i is) = led (item_data bodies i) (items_data bodies is)

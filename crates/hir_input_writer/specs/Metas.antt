@@ -1,13 +1,13 @@
 -- The data of a meta.
 use Rattle.std.specs.Prelude.{ℕ, List, codes, Option, Some, option_map}
-use Rattle.serde_json.specs.Data.{Data, string, array, object, Items, no_items, item, no_members, member}
+use Rattle.serde_json.specs.Data.{Data, string, array, object, Items, no_items, no_members, member}
 use Rattle.hir_input.specs.declared.ast.PathNode.{PathNode}
 use Rattle.hir_input.specs.declared.ids.SyntaxContext.{SyntaxContext}
 use Rattle.hir_input.specs.Attr.{MetaView, MetaViews, path_meta, key_value_meta, token_tree_meta, cfg_meta, cfg_attr_meta, unsafe_meta, no_metas, meta_and}
 use Rattle.hir_input.specs.Literal.{LiteralView}
 use Rattle.hir_input_writer.specs.Cfgs.{cfg_data}
 use Rattle.hir_input_writer.specs.Literals.{context_data, literal_data}
-use Rattle.hir_input_writer.specs.Parts.{maybe_data, ◌>>=◌}
+use Rattle.hir_input_writer.specs.Parts.{led, maybe_data, ◌>>=◌}
 use Rattle.hir_input_writer.specs.Paths.{path_data}
 
 abbrev pub path_object : (path ctxt : Data) → Data
@@ -65,7 +65,4 @@ abbrev mutual
 
   pub metas_data : MetaViews → Option Items
   metas_data no_metas = Some no_items
-  metas_data (meta_and m ms) = do
-    d ← meta_data m
-    ds ← metas_data ms
-    Some (item d ds)
+  metas_data (meta_and m ms) = led (meta_data m) (metas_data ms)

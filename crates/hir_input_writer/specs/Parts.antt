@@ -18,13 +18,17 @@ abbrev pub text_or_null : Option (List ℕ) → Data
 text_or_null None = null
 text_or_null (Some text) = string text
 
+-- one item, and the others behind it
+abbrev pub led : Option Data → Option Items → Option Items
+led first others = do
+  d ← first
+  ds ← others
+  Some (item d ds)
+
 -- each of a list
 abbrev pub each_data : {A : Type 0} → (A → Option Data) → List A → Option Items
 each_data make [] = Some no_items
-each_data make (a ∷ as') = do
-  d ← make a
-  ds ← each_data make as'
-  Some (item d ds)
+each_data make (a ∷ as') = led (make a) (each_data make as')
 
 -- the array of a list
 abbrev pub list_data : {A : Type 0} → (A → Option Data) → List A → Option Data

@@ -1,9 +1,9 @@
 -- The data of a rename and of a use tree.
 use Rattle.std.specs.Prelude.{ℕ, List, Bool, codes, bytes_eq, if◌then◌else◌, Option, Some, None}
-use Rattle.serde_json.specs.Data.{Data, null, boolean, string, array, object, Items, no_items, item, no_members, member}
+use Rattle.serde_json.specs.Data.{Data, null, boolean, string, array, object, Items, no_items, no_members, member}
 use Rattle.hir_input.specs.declared.ast.Rename.{Rename}
 use Rattle.hir_input.specs.UseTreeView.{UseNode, UseTreeView, UseTreeViews, bare_tree, listed_tree, no_trees, tree_and}
-use Rattle.hir_input_writer.specs.Parts.{maybe_data, name_data, ◌>>=◌}
+use Rattle.hir_input_writer.specs.Parts.{led, maybe_data, name_data, ◌>>=◌}
 use Rattle.hir_input_writer.specs.Paths.{path_data}
 
 -- `_` is no name for one
@@ -35,7 +35,4 @@ abbrev mutual
 
   pub use_trees_data : UseTreeViews → Option Items
   use_trees_data no_trees = Some no_items
-  use_trees_data (tree_and t ts) = do
-    d ← use_tree_data t
-    ds ← use_trees_data ts
-    Some (item d ds)
+  use_trees_data (tree_and t ts) = led (use_tree_data t) (use_trees_data ts)

@@ -1,14 +1,15 @@
 //! Conditions as JSON.
 ghost use Rattle.std.specs.Prelude.{◌≡◌, IfOk, map, string_bytes};
-ghost use Rattle.serde_json.specs.View.{view, items_view};
+ghost use Rattle.serde_json.specs.View.{view};
 ghost use Rattle.hir_input.specs.Cfg.{atom_view, cfg_view, cfgs_from};
 ghost use Rattle.hir_input_json.specs.Cfgs.{atom as atom_form};
 ghost use Rattle.hir_input_writer.specs.Cfgs.{atom_data, cfg_data, cfgs_data, keyed};
 ghost use Rattle.hir_input_writer.specs.Held.{Holds};
-ghost use Rattle.hir_input_writer.specs.Writes.{Writes};
+ghost use Rattle.hir_input_writer.specs.Writes.{Writes, WritesEach};
 
-use crate::fault::WriteFault;
+use crate::fault::{WriteFault, Written};
 use crate::name::name_value;
+use crate::values::each_value;
 use hir_input::{CfgAtom, CfgExpr};
 use json_object::{of_text, one, with};
 use serde_json::Value;
@@ -21,7 +22,7 @@ fn key_object(alloc: Global, key: Value, value: &String) -> Result<Value, AllocE
     Ok(Value::Object(with(alloc, members, "key", key)?))
 }
 
-fn written(alloc: Global, atom: &CfgAtom) -> Result<Value, WriteFault>
+fn written(alloc: Global, atom: &CfgAtom) -> Written
     ensures { Writes view result (atom_data (atom_view atom.now)) }
 {
     match atom {
@@ -48,7 +49,7 @@ pub fn atom_value(alloc: Global, atom: &CfgAtom) -> Result<Value, WriteFault>
 
 #[cycle(cfgs)]
 #[tactic(auto, using(hir_input::proofs::CfgLemmas::cfg_views))]
-pub(crate) fn cfg_value(alloc: Global, cfg: &CfgExpr) -> Result<Value, WriteFault>
+pub(crate) fn cfg_value(alloc: Global, cfg: &CfgExpr) -> Written
     ensures { Writes view result (cfg_data (cfg_view cfg.now)) }
 {
     match cfg {
@@ -72,12 +73,7 @@ pub(crate) fn cfg_value(alloc: Global, cfg: &CfgExpr) -> Result<Value, WriteFaul
 #[cycle(cfgs)]
 #[tactic(auto, using(crate::proofs::Lists::lists))]
 fn cfg_values(alloc: Global, members: &[CfgExpr]) -> Result<Vec<Value>, WriteFault>
-    ensures { Writes (λ v. items_view v.items) result
-        (cfgs_data (cfgs_from (map cfg_view members.now))) }
+    ensures { WritesEach result (cfgs_data (cfgs_from (map cfg_view members.now))) }
 {
-    let mut values = Vec::new(alloc);
-    for member in members {
-        values.push(cfg_value(alloc, member)?)?;
-    }
-    Ok(values)
+    each_value!(alloc, member in members, cfg_value(alloc, member))
 }

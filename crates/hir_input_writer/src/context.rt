@@ -4,12 +4,12 @@ ghost use Rattle.serde_json.specs.View.{view};
 ghost use Rattle.hir_input_writer.specs.Literals.{context_data, is_same_context, year_number as number_of_year};
 ghost use Rattle.hir_input_writer.specs.Writes.{Writes};
 
-use crate::fault::WriteFault;
+use crate::fault::Written;
 use hir_input::{EditionYear, SyntaxContext};
 use serde_json::Value;
 use std::alloc::Global;
 
-pub(crate) fn context_value(alloc: Global, context: SyntaxContext) -> Result<Value, WriteFault>
+pub(crate) fn context_value(alloc: Global, context: SyntaxContext) -> Written
     ensures { Writes view result (context_data context) }
 {
     match context {

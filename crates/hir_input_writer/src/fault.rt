@@ -3,6 +3,7 @@ ghost use Rattle.hir_input.specs.Equality.{DecidesEq, IsCopied};
 ghost use Rattle.std.specs.Prelude.{◌≡◌};
 ghost use Rattle.hir_input_writer.specs.declared.fault.WriteFault.TheVariants.{OutOfMemory};
 
+use serde_json::Value;
 use std::alloc::{AllocError, AllocFailed};
 use thiserror::Error;
 
@@ -15,6 +16,9 @@ pub enum WriteFault {
     #[error("out of memory")]
     OutOfMemory,
 }
+
+/// What a writing function answers.
+pub(crate) type Written = Result<Value, WriteFault>;
 
 impl<T: Drop> From<AllocFailed<T>> for WriteFault {
     ghost from_gives = { λ _ e. e ≡ OutOfMemory };

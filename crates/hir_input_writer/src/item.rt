@@ -1,59 +1,40 @@
 //! Items as JSON.
-ghost use Rattle.std.specs.Prelude.{◌≡◌, IfOk, map};
-ghost use Rattle.serde_json.specs.View.{view, items_view};
+ghost use Rattle.std.specs.Prelude.{map};
+ghost use Rattle.serde_json.specs.View.{view};
 ghost use Rattle.hir_input.specs.Syntax.{item_view, items_view as items_seen, module_view, named_from};
-ghost use Rattle.hir_input_writer.specs.Items as objects;
 ghost use Rattle.hir_input_writer.specs.Items.{item_data, items_data, module_data};
-ghost use Rattle.hir_input_writer.specs.Seen.{named_seen};
-ghost use Rattle.hir_input_writer.specs.Writes.{Writes};
+ghost use Rattle.hir_input_writer.specs.Writes.{Writes, WritesEach};
 
 use crate::extern_block::extern_block_value;
-use crate::fault::WriteFault;
+use crate::fault::{WriteFault, Written};
 use crate::kinds::{
     asm_value, call_value, extern_crate_value, impl_value, macro_rules_value, struct_value,
     use_value,
 };
-use crate::node::{Named, named_members, named_of, node, node_of};
+use crate::node::{named_members, named_of, node, node_of};
 use crate::plain::plain_value;
+use crate::values::{each_value, object};
 use hir_input::ast::{Item, Module};
 use json_object::with;
 use serde_json::Value;
-use std::alloc::{AllocError, Global};
-
-fn module_object(
-    alloc: Global,
-    item: Named,
-    semicolon: bool,
-    items: Value,
-) -> Result<Value, AllocError>
-    ensures { IfOk result (λ v. view v
-        ≡ objects.module_object (named_seen item) semicolon (view items)) }
-{
-    let members = named_members(alloc, "module", item)?;
-    let members = with(alloc, members, "items", items)?;
-    let members = with(alloc, members, "semicolon", Value::from(semicolon))?;
-    Ok(Value::Object(members))
-}
+use std::alloc::Global;
 
 // A module, whose items are written.
-fn module_with(
-    alloc: Global,
-    bodies: bool,
-    item: &Module,
-    items: Value,
-) -> Result<Value, WriteFault>
+fn module_with(alloc: Global, bodies: bool, item: &Module, items: Value) -> Written
     ensures { let m = item.now in
         let named = named_from m.hash m.number m.attrs.items m.name m.visibility m.body in
         Writes view result (module_data bodies named m.semicolon (view items)) }
 {
     let node = node!(alloc, bodies, item)?;
     let named = named_of(alloc, node, &item.name, &item.visibility)?;
-    Ok(module_object(alloc, named, item.semicolon, items)?)
+    let members = named_members(alloc, "module", named)?;
+    let semicolon = Value::from(item.semicolon);
+    Ok(object!(alloc, members, "items": items, "semicolon": semicolon))
 }
 
 #[cycle(items)]
 #[tactic(auto, using(crate::proofs::Items::modules))]
-fn module_value(alloc: Global, bodies: bool, item: &Module) -> Result<Value, WriteFault>
+fn module_value(alloc: Global, bodies: bool, item: &Module) -> Written
     ensures { Writes view result (item_data bodies (module_view item.now)) }
 {
     match &item.items {
@@ -67,7 +48,7 @@ fn module_value(alloc: Global, bodies: bool, item: &Module) -> Result<Value, Wri
 
 #[cycle(items)]
 #[tactic(auto, using(hir_input::proofs::SyntaxViews::item_views))]
-pub(crate) fn item_value(alloc: Global, bodies: bool, item: &Item) -> Result<Value, WriteFault>
+pub(crate) fn item_value(alloc: Global, bodies: bool, item: &Item) -> Written
     ensures { Writes view result (item_data bodies (item_view item.now)) }
 {
     match item {
@@ -98,11 +79,7 @@ pub(crate) fn item_values(
     bodies: bool,
     items: &[Item],
 ) -> Result<Vec<Value>, WriteFault>
-    ensures { Writes (λ v. items_view v.items) result (items_data bodies (items_seen items.now)) }
+    ensures { WritesEach result (items_data bodies (items_seen items.now)) }
 {
-    let mut values = Vec::new(alloc);
-    for item in items {
-        values.push(item_value(alloc, bodies, item)?)?;
-    }
-    Ok(values)
+    each_value!(alloc, item in items, item_value(alloc, bodies, item))
 }

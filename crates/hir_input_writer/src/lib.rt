@@ -18,6 +18,7 @@ mod path;
 mod plain;
 pub mod syntax;
 mod use_tree;
+mod values;
 mod visibility;
 
 pub use fault::WriteFault;

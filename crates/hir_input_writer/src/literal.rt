@@ -1,18 +1,19 @@
 //! Literals as JSON.
 ghost use Rattle.std.specs.Prelude.{◌≡◌, IfOk, option_map, string_bytes};
 ghost use Rattle.serde_json.specs.View.{view};
-ghost use Rattle.hir_input_writer.specs.Literals.{literal_data, literal_object as object_of, span_data};
+ghost use Rattle.hir_input_writer.specs.Literals.{literal_data, span_data};
 ghost use Rattle.hir_input_writer.specs.Parts.{maybe_data, text_or_null as text_data};
 ghost use Rattle.hir_input_writer.specs.Writes.{Writes};
 
 use crate::context::is_same;
-use crate::fault::WriteFault;
+use crate::fault::{WriteFault, Written};
+use crate::values::object;
 use hir_input::{Literal, Span, SyntaxContext};
 use json_object::{of_text, with};
 use serde_json::{Value, json};
 use std::alloc::{AllocError, Global};
 
-fn span_value(alloc: Global, span: Span) -> Result<Value, WriteFault>
+fn span_value(alloc: Global, span: Span) -> Written
     ensures { Writes view result (span_data span) }
 {
     Ok(json!(in alloc; [span.start, span.end])?)
@@ -27,25 +28,7 @@ fn text_or_null(alloc: Global, text: &Option<String>) -> Result<Value, AllocErro
     }
 }
 
-fn literal_object(
-    alloc: Global,
-    rendered: &String,
-    span: Value,
-    string: Value,
-) -> Result<Value, AllocError>
-    ensures { IfOk result (λ v. view v
-        ≡ object_of (string_bytes rendered.now) (view span) (view string)) }
-{
-    let members = of_text(alloc, "rendered", rendered.as_str())?;
-    let members = with(alloc, members, "span", span)?;
-    Ok(Value::Object(with(alloc, members, "string", string)?))
-}
-
-fn literal_value(
-    alloc: Global,
-    context: SyntaxContext,
-    literal: &Literal,
-) -> Result<Value, WriteFault>
+fn literal_value(alloc: Global, context: SyntaxContext, literal: &Literal) -> Written
     ensures { Writes view result (literal_data context literal.now) }
 {
     if !is_same(context, literal.span.ctxt) {
@@ -53,7 +36,8 @@ fn literal_value(
     }
     let span = span_value(alloc, literal.span)?;
     let string = text_or_null(alloc, &literal.string)?;
-    Ok(literal_object(alloc, &literal.rendered, span, string)?)
+    let members = of_text(alloc, "rendered", literal.rendered.as_str())?;
+    Ok(object!(alloc, members, "span": span, "string": string))
 }
 
 // The literal of a meta in this context, null where there is none.
@@ -61,7 +45,7 @@ pub(crate) fn literal_or_null(
     alloc: Global,
     context: SyntaxContext,
     literal: &Option<Literal>,
-) -> Result<Value, WriteFault>
+) -> Written
     ensures { Writes view result (maybe_data (literal_data context) literal.now) }
 {
     match literal {

@@ -6,7 +6,7 @@ ghost use Rattle.hir_input_writer.specs.Held.{Holds};
 ghost use Rattle.hir_input_writer.specs.Parts.{maybe_data, name_data};
 ghost use Rattle.hir_input_writer.specs.Writes.{Writes};
 
-use crate::fault::WriteFault;
+use crate::fault::{WriteFault, Written};
 use hir_input::Name;
 use serde_json::Value;
 use std::alloc::Global;
@@ -25,7 +25,7 @@ pub fn name_value(alloc: Global, name: &Name) -> Result<Value, WriteFault>
 }
 
 // Null where there is no name.
-pub(crate) fn name_or_null(alloc: Global, name: &Option<Name>) -> Result<Value, WriteFault>
+pub(crate) fn name_or_null(alloc: Global, name: &Option<Name>) -> Written
     ensures { Writes view result (maybe_data name_data name.now) }
 {
     match name {

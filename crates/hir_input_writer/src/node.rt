@@ -7,7 +7,7 @@ ghost use Rattle.hir_input_writer.specs.Items.{attrs_data, body_data, named_memb
 ghost use Rattle.hir_input_writer.specs.Seen.{named_seen, node_seen};
 ghost use Rattle.hir_input_writer.specs.Writes.{Writes};
 
-use crate::fault::WriteFault;
+use crate::fault::{WriteFault, Written};
 use crate::meta::meta_values;
 use crate::name::name_or_null;
 use crate::visibility::visibility_or_null;
@@ -43,7 +43,7 @@ macro_rules! node {
 
 pub(crate) use node;
 
-pub(crate) fn attrs_value(alloc: Global, attrs: &Vec<Meta>) -> Result<Value, WriteFault>
+pub(crate) fn attrs_value(alloc: Global, attrs: &Vec<Meta>) -> Written
     ensures { Writes view result (attrs_data (map meta_view attrs.now.items)) }
 {
     Ok(Value::from(meta_values(alloc, attrs)?))

@@ -1,12 +1,12 @@
 //! Paths as JSON.
 ghost use Rattle.std.specs.Prelude.{map, option_and_then};
-ghost use Rattle.serde_json.specs.View.{view, items_view};
+ghost use Rattle.serde_json.specs.View.{view};
 ghost use Rattle.hir_input_writer.specs.Lists.{joined};
 ghost use Rattle.hir_input_writer.specs.Parts.{each_data, maybe_data, name_data};
 ghost use Rattle.hir_input_writer.specs.Paths.{word_and_names as behind_data, mod_path_data, path_data};
-ghost use Rattle.hir_input_writer.specs.Writes.{Writes};
+ghost use Rattle.hir_input_writer.specs.Writes.{Writes, WritesEach};
 
-use crate::fault::WriteFault;
+use crate::fault::{WriteFault, Written};
 use crate::name::name_value;
 use hir_input::ast::PathNode;
 use hir_input::{ModPath, Name, PathKind};
@@ -20,8 +20,7 @@ fn names_behind(
     mut values: Vec<Value>,
     names: &[Name],
 ) -> Result<Vec<Value>, WriteFault>
-    ensures { Writes (λ v. items_view v.items) result
-        (joined (map view values.items) (each_data name_data names.now)) }
+    ensures { WritesEach result (joined (map view values.items) (each_data name_data names.now)) }
 {
     for name in names {
         values.push(name_value(alloc, name)?)?;
@@ -31,12 +30,7 @@ fn names_behind(
 
 // Names behind a word and a number.
 #[tactic(auto, using(crate::proofs::Paths::names_joined))]
-fn behind(
-    alloc: Global,
-    word: &str,
-    number: Option<u32>,
-    names: &[Name],
-) -> Result<Value, WriteFault>
+fn behind(alloc: Global, word: &str, number: Option<u32>, names: &[Name]) -> Written
     ensures { Writes view result
         (option_and_then (behind_data word.now number) (each_data name_data names.now)) }
 {
@@ -50,7 +44,7 @@ fn behind(
 }
 
 #[tactic(auto, using(crate::proofs::Paths::plain_names))]
-fn mod_path_value(alloc: Global, path: &ModPath) -> Result<Value, WriteFault>
+fn mod_path_value(alloc: Global, path: &ModPath) -> Written
     ensures { Writes view result (mod_path_data path.now) }
 {
     let names = path.segments();
@@ -63,7 +57,7 @@ fn mod_path_value(alloc: Global, path: &ModPath) -> Result<Value, WriteFault>
     }
 }
 
-pub(crate) fn path_value(alloc: Global, path: &PathNode) -> Result<Value, WriteFault>
+pub(crate) fn path_value(alloc: Global, path: &PathNode) -> Written
     ensures { Writes view result (path_data path.now) }
 {
     match path {
@@ -73,7 +67,7 @@ pub(crate) fn path_value(alloc: Global, path: &PathNode) -> Result<Value, WriteF
 }
 
 // Null where there is no path.
-pub(crate) fn path_or_null(alloc: Global, path: &Option<PathNode>) -> Result<Value, WriteFault>
+pub(crate) fn path_or_null(alloc: Global, path: &Option<PathNode>) -> Written
     ensures { Writes view result (maybe_data path_data path.now) }
 {
     match path {

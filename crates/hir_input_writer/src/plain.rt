@@ -4,19 +4,14 @@ ghost use Rattle.hir_input.specs.Syntax.{named_view};
 ghost use Rattle.hir_input_writer.specs.Items.{plain_data};
 ghost use Rattle.hir_input_writer.specs.Writes.{Writes};
 
-use crate::fault::WriteFault;
+use crate::fault::Written;
 use crate::node::{named_members, named_of, node, node_of};
 use hir_input::ast::NamedNode;
 use serde_json::Value;
 use std::alloc::Global;
 
 // An item of the kind that this word tells.
-pub(crate) fn plain_value(
-    alloc: Global,
-    bodies: bool,
-    word: &str,
-    item: &NamedNode,
-) -> Result<Value, WriteFault>
+pub(crate) fn plain_value(alloc: Global, bodies: bool, word: &str, item: &NamedNode) -> Written
     ensures { Writes view result (plain_data bodies word.now (named_view item.now)) }
 {
     let node = node!(alloc, bodies, item)?;

@@ -1,135 +1,87 @@
 //! The syntax of a file as JSON.
 ghost use Rattle.std.specs.Prelude.{◌≡◌, IfOk, map};
-ghost use Rattle.serde_json.specs.View.{view, items_view};
+ghost use Rattle.serde_json.specs.View.{view};
 ghost use Rattle.hir_input.specs.Attr.{meta_view};
 ghost use Rattle.hir_input.specs.Syntax.{items_view as items_seen, stmt_view, syntax_view, tail_view};
 ghost use Rattle.hir_input_writer.specs.Laws.{IsReadAs, kept_bodies};
 ghost use Rattle.hir_input_writer.specs.Parts.{each_data};
 ghost use Rattle.hir_input_writer.specs.Syntaxes as objects;
 ghost use Rattle.hir_input_writer.specs.Syntaxes.{macro_items_data, macro_stmts_data, source_data, stmt_data, syntax_data, tail_data};
-ghost use Rattle.hir_input_writer.specs.Writes.{Writes};
+ghost use Rattle.hir_input_writer.specs.Writes.{Writes, WritesEach};
 
-use crate::fault::WriteFault;
+use crate::fault::{WriteFault, Written};
 use crate::item::{item_value, item_values};
 use crate::kinds::call_value;
 use crate::node::attrs_value;
+use crate::values::{each_value, object};
 use hir_input::Meta;
 use hir_input::ast::{Item, Stmt, Syntax, Tail};
 use json_object::{of_text, one, with};
 use serde_json::Value;
 use std::alloc::{AllocError, Global};
 
-fn item_object(alloc: Global, item: Value) -> Result<Value, AllocError>
-    ensures { IfOk result (λ v. view v ≡ objects.item_object (view item)) }
-{
-    one(alloc, "item", item)
-}
-
-fn call_object(alloc: Global, call: Value) -> Result<Value, AllocError>
-    ensures { IfOk result (λ v. view v ≡ objects.call_syntax_object (view call)) }
-{
-    one(alloc, "call", call)
-}
-
-fn stmt_value(alloc: Global, bodies: bool, stmt: &Stmt) -> Result<Value, WriteFault>
+fn stmt_value(alloc: Global, bodies: bool, stmt: &Stmt) -> Written
     ensures { Writes view result (stmt_data bodies (stmt_view stmt.now)) }
 {
     match stmt {
         Stmt::Item(item) => {
             let item = item_value(alloc, bodies, item)?;
-            Ok(item_object(alloc, item)?)
+            Ok(one(alloc, "item", item)?)
         }
         Stmt::MacroCall(call) => {
             let call = call_value(alloc, bodies, call)?;
-            Ok(call_object(alloc, call)?)
+            Ok(one(alloc, "call", call)?)
         }
         Stmt::Other => Ok(Value::try_from_str(alloc, "other")?),
     }
 }
 
 fn stmt_values(alloc: Global, bodies: bool, stmts: &[Stmt]) -> Result<Vec<Value>, WriteFault>
-    ensures { Writes (λ v. items_view v.items) result
-        (each_data (stmt_data bodies) (map stmt_view stmts.now)) }
+    ensures { WritesEach result (each_data (stmt_data bodies) (map stmt_view stmts.now)) }
 {
-    let mut values = Vec::new(alloc);
-    for stmt in stmts {
-        values.push(stmt_value(alloc, bodies, stmt)?)?;
-    }
-    Ok(values)
+    each_value!(alloc, stmt in stmts, stmt_value(alloc, bodies, stmt))
 }
 
 // Null where there is nothing.
-fn tail_value(alloc: Global, bodies: bool, tail: &Tail) -> Result<Value, WriteFault>
+fn tail_value(alloc: Global, bodies: bool, tail: &Tail) -> Written
     ensures { Writes view result (tail_data bodies (tail_view tail.now)) }
 {
     match tail {
         Tail::Nothing => Ok(Value::Null),
         Tail::MacroCall(call) => {
             let call = call_value(alloc, bodies, call)?;
-            Ok(call_object(alloc, call)?)
+            Ok(one(alloc, "call", call)?)
         }
         Tail::Other => Ok(Value::try_from_str(alloc, "other")?),
     }
 }
 
-fn source_object(alloc: Global, attrs: Value, items: Vec<Value>) -> Result<Value, AllocError>
-    ensures { IfOk result (λ v. view v
-        ≡ objects.source_object (view attrs) (items_view items.items)) }
-{
-    let members = of_text(alloc, "root", "source_file")?;
-    let members = with(alloc, members, "attrs", attrs)?;
-    Ok(Value::Object(with(alloc, members, "items", Value::from(items))?))
-}
-
-fn source_value(
-    alloc: Global,
-    bodies: bool,
-    attrs: &Vec<Meta>,
-    items: &[Item],
-) -> Result<Value, WriteFault>
+fn source_value(alloc: Global, bodies: bool, attrs: &Vec<Meta>, items: &[Item]) -> Written
     ensures { Writes view result
         (source_data bodies (map meta_view attrs.now.items) (items_seen items.now)) }
 {
     let attrs = attrs_value(alloc, attrs)?;
     let items = item_values(alloc, bodies, items)?;
-    Ok(source_object(alloc, attrs, items)?)
+    let members = of_text(alloc, "root", "source_file")?;
+    Ok(object!(alloc, members, "attrs": attrs, "items": Value::from(items)))
 }
 
-fn macro_items_object(alloc: Global, items: Vec<Value>) -> Result<Value, AllocError>
-    ensures { IfOk result (λ v. view v ≡ objects.macro_items_object (items_view items.items)) }
-{
-    let members = of_text(alloc, "root", "macro_items")?;
-    Ok(Value::Object(with(alloc, members, "items", Value::from(items))?))
-}
-
-fn macro_items_value(alloc: Global, bodies: bool, items: &[Item]) -> Result<Value, WriteFault>
+fn macro_items_value(alloc: Global, bodies: bool, items: &[Item]) -> Written
     ensures { Writes view result (macro_items_data bodies (items_seen items.now)) }
 {
     let items = item_values(alloc, bodies, items)?;
-    Ok(macro_items_object(alloc, items)?)
+    let members = of_text(alloc, "root", "macro_items")?;
+    Ok(object!(alloc, members, "items": Value::from(items)))
 }
 
-fn macro_stmts_object(alloc: Global, stmts: Vec<Value>, tail: Value) -> Result<Value, AllocError>
-    ensures { IfOk result (λ v. view v
-        ≡ objects.macro_stmts_object (items_view stmts.items) (view tail)) }
-{
-    let members = of_text(alloc, "root", "macro_stmts")?;
-    let members = with(alloc, members, "stmts", Value::from(stmts))?;
-    Ok(Value::Object(with(alloc, members, "tail", tail)?))
-}
-
-fn macro_stmts_value(
-    alloc: Global,
-    bodies: bool,
-    stmts: &[Stmt],
-    tail: &Tail,
-) -> Result<Value, WriteFault>
+fn macro_stmts_value(alloc: Global, bodies: bool, stmts: &[Stmt], tail: &Tail) -> Written
     ensures { Writes view result
         (macro_stmts_data bodies (map stmt_view stmts.now) (tail_view tail.now)) }
 {
     let stmts = stmt_values(alloc, bodies, stmts)?;
     let tail = tail_value(alloc, bodies, tail)?;
-    Ok(macro_stmts_object(alloc, stmts, tail)?)
+    let members = of_text(alloc, "root", "macro_stmts")?;
+    Ok(object!(alloc, members, "stmts": Value::from(stmts), "tail": tail))
 }
 
 fn error_value(alloc: Global) -> Result<Value, AllocError>
@@ -138,7 +90,7 @@ fn error_value(alloc: Global) -> Result<Value, AllocError>
     Ok(Value::Object(of_text(alloc, "root", "error")?))
 }
 
-fn written(alloc: Global, syntax: &Syntax, bodies: bool) -> Result<Value, WriteFault>
+fn written(alloc: Global, syntax: &Syntax, bodies: bool) -> Written
     ensures { Writes view result (syntax_data bodies (syntax_view syntax.now)) }
 {
     match syntax {

@@ -4,14 +4,14 @@ ghost use Rattle.hir_input_writer.specs.Parts.{maybe_data};
 ghost use Rattle.hir_input_writer.specs.Paths.{visibility_data};
 ghost use Rattle.hir_input_writer.specs.Writes.{Writes};
 
-use crate::fault::WriteFault;
+use crate::fault::Written;
 use crate::path::path_value;
 use hir_input::ast::{PathNode, Visibility};
 use json_object::one;
 use serde_json::Value;
 use std::alloc::Global;
 
-pub(crate) fn visibility_value(alloc: Global, visibility: &Visibility) -> Result<Value, WriteFault>
+pub(crate) fn visibility_value(alloc: Global, visibility: &Visibility) -> Written
     ensures { Writes view result (visibility_data visibility.now) }
 {
     match visibility {
@@ -27,10 +27,7 @@ pub(crate) fn visibility_value(alloc: Global, visibility: &Visibility) -> Result
 }
 
 // Null where there is no visibility.
-pub(crate) fn visibility_or_null(
-    alloc: Global,
-    visibility: &Option<Visibility>,
-) -> Result<Value, WriteFault>
+pub(crate) fn visibility_or_null(alloc: Global, visibility: &Option<Visibility>) -> Written
     ensures { Writes view result (maybe_data visibility_data visibility.now) }
 {
     match visibility {

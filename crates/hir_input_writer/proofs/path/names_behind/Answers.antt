@@ -2,7 +2,7 @@
 use Rattle.std.proofs.Common.{rules, refl, ap, ◌∙◌, ◌+◌, sym, map, drop}
 use Rattle.serde_json.specs.View.{view}
 use Rattle.hir_input_writer.proofs.Common.{joined, each_data, name_data}
-use Rattle.hir_input_writer.proofs.Lists.{one_more, none_left}
+use Rattle.hir_input_writer.proofs.Lists.{none_left, one_more}
 use Rattle.hir_input_writer.proofs.path.names_behind.Goals as goal
 
 pub loop-name-preserved : goal.loop-name-preserved

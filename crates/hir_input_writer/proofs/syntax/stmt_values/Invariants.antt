@@ -5,4 +5,4 @@ use Rattle.hir_input_writer.proofs.Lists.{HasMade}
 use Rattle.hir_input_writer.proofs.syntax.stmt_values.Given as goal
 
 abbrev pub invariant-loop-stmt : goal.invariant-loop-stmt
-invariant-loop-stmt l = HasMade l.stmts (λ ss. each_data (stmt_data l.bodies) (map stmt_view ss)) l.values.items l.stmt-index
+invariant-loop-stmt l = HasMade (λ s. stmt_data l.bodies (stmt_view s)) (λ ss. each_data (stmt_data l.bodies) (map stmt_view ss)) l.stmts l.values.items l.stmt-index
