@@ -3,7 +3,7 @@ pub use Rattle.hir_input.specs.Cfg.{AtomView, atom_view}
 pub use Rattle.hir_input.specs.Syntax.{SyntaxView, syntax_view}
 pub use Rattle.hir_input.specs.declared.edition.EditionYear.{EditionYear}
 pub use Rattle.hir_input_json.specs.Reading.{right, wrong}
-pub use Rattle.hir_input_writer.proofs.Lists.{after_all, joined_push, none_left, one_more}
+pub use Rattle.hir_input_writer.proofs.Lists.{after_all, joined_push}
 pub use Rattle.hir_input_writer.specs.Cfgs.{atom_data}
 pub use Rattle.hir_input_writer.specs.Lists.{joined}
 pub use Rattle.hir_input_writer.specs.Parts.{each_data, led, name_data, whole_data}

@@ -1,6 +1,6 @@
 -- Data that does not nest past a depth nests at most so deep.
 use Rattle.std.proofs.Common.{◌≡◌, ◌<◌, ◌≤◌, ℕ, zero, suc, max, Bool, true, false, ◌||◌, refl, arith}
-use Rattle.serde_json.specs.Data.{Data, null, boolean, number, string, array, object, Items, no_items, item, Members, no_members, member, depth, items_depth, members_depth}
+use Rattle.serde_json.specs.Data.{Data, array, object, Items, no_items, item, Members, no_members, member, depth, items_depth, members_depth}
 use Rattle.request_writer.proofs.Common.{nests_past, items_nest_past, members_nest_past}
 
 first_false : (a b : Bool) → (a || b) ≡ false → a ≡ false
@@ -13,14 +13,11 @@ second_false true b h = absurd cc
 
 mutual
   pub within : (n : ℕ) (d : Data) → nests_past n d ≡ false → depth d ≤ n
-  within n null h = omega arith
-  within n (boolean b) h = omega arith
-  within n (number x) h = omega arith
-  within n (string s) h = omega arith
   within zero (array ds) h = absurd cc
   within zero (object ms) h = absurd cc
   within (suc n) (array ds) h = omega (arith, items_within n ds h)
   within (suc n) (object ms) h = omega (arith, members_within n ms h)
+  within n d h = omega arith
 
   items_within : (n : ℕ) (ds : Items) → items_nest_past n ds ≡ false → items_depth ds ≤ n
   items_within n no_items h = omega arith
@@ -36,14 +33,11 @@ either_past false b n x y h f g = let l = g h in omega (arith, l)
 
 mutual
   pub past : (n : ℕ) (d : Data) → nests_past n d ≡ true → n < depth d
-  past n null h = absurd cc
-  past n (boolean b) h = absurd cc
-  past n (number x) h = absurd cc
-  past n (string s) h = absurd cc
   past zero (array ds) h = omega arith
   past zero (object ms) h = omega arith
   past (suc n) (array ds) h = omega (arith, items_past n ds h)
   past (suc n) (object ms) h = omega (arith, members_past n ms h)
+  past n d h = absurd cc
 
   items_past : (n : ℕ) (ds : Items) → items_nest_past n ds ≡ true → n < items_depth ds
   items_past n no_items h = absurd cc

@@ -1,10 +1,10 @@
 -- A request that is written is read again.
 use Rattle.std.proofs.Common.{◌≡◌, ◌+◌, ◌^◌, ℕ, List, [], ◌∷◌, Bool, true, false, nat_lt, IfSome, Some, None, if◌then◌else◌, refl, sym, ap, subst, ◌∙◌, arith}
 use Rattle.std.proofs.lemmas.Bool.Decides.{nat_tests}
-use Rattle.serde_json.specs.Data.{Data, null, boolean, number, unsigned, string, array, object, Items}
+use Rattle.serde_json.specs.Data.{Data, null, number, unsigned, Items}
 use Rattle.serde_json.specs.Written.{has_float, items_have_float}
 use Rattle.request_writer.proofs.Common.{EditionYear, AtomView, SyntaxView, right, wrong, atom_data, each_data, name_data, whole_data, Show, request, request_parts, block_object, crate_object, edit_data, edition_data, edition_object, edits_data, file_object, show_word, place_show, request_data, request_object, show_data}
-use Rattle.hir_input.specs.declared.edition.EditionYear.TheVariants.{E2015, E2018, E2021, E2024}
+use Rattle.hir_input.specs.declared.edition.EditionYear.TheVariants.{E2015}
 use Rattle.hir_input_json.specs.Cfgs.{atom}
 use Rattle.hir_input_json.specs.Editions.{EditionView, edition, year}
 use Rattle.hir_input_json.specs.Forms.{below, each, field, identifier_form, unless_null, whole_form}
@@ -22,7 +22,7 @@ use Rattle.item_tree_db.specs.declared.place.Place.TheVariants.{File, Block}
 use Rattle.item_tree_db.specs.Edits.{set}
 use Rattle.item_tree_request.specs.declared.request.show.Show.TheVariants.{OfTree, Changed}
 use Rattle.item_tree_request.specs.declared.request.show.ShowKind.{ShowKind}
-use Rattle.item_tree_request.specs.declared.request.show.ShowKind.TheVariants.{Page, Tree, Imports}
+use Rattle.item_tree_request.specs.declared.request.show.ShowKind.TheVariants.{Page}
 use Rattle.item_tree_request.specs.Edits.{crate_data, edit}
 use Rattle.item_tree_request.specs.Shows.{show}
 use Rattle.request_writer.specs.Meant.{files_set, meant}
@@ -31,9 +31,7 @@ use Rattle.request_writer.specs.Meant.{files_set, meant}
 
 year_law : (y : EditionYear) → year (number (unsigned (year_number y))) ≡ right y
 year_law E2015 = refl
-year_law E2018 = refl
-year_law E2021 = refl
-year_law E2024 = refl
+year_law y = refl
 
 edition_law : (e : EditionView) → IfSome (edition_data e) (Holds edition e)
 unfolding field
@@ -55,11 +53,7 @@ crate_law options ds h = rw h refl
 there_by : (s : SyntaxView) (d : Data) → syntax d ≡ right s → unless_null d ≡ Some d
 unfolding field
 there_by s null h = absurd cc
-there_by s (boolean b) h = refl
-there_by s (number n) h = refl
-there_by s (string t) h = refl
-there_by s (array ds) h = refl
-there_by s (object ms) h = refl
+there_by s d h = refl
 
 edit_law : (count : ℕ) (bodies : Bool) (n : ℕ) (s : SyntaxView) → IfSome (edit_data bodies n s) (Holds (edit count) (set (File (record { 0 = n })) (kept_bodies bodies s)))
 unfolding field
@@ -81,15 +75,13 @@ file_reads : (kind : ShowKind) (n : ℕ) (d : Data) → Holds (whole_form (2 ^ 3
     → show 1 (file_object (show_word kind) (number (unsigned 0)) d) ≡ right (OfTree (record { kind = kind; krate = record { 0 = 0 }; place = File (record { 0 = n }) }))
 unfolding field
 file_reads Page n d h = rw (h.there, h.reads) refl
-file_reads Tree n d h = rw (h.there, h.reads) refl
-file_reads Imports n d h = rw (h.there, h.reads) refl
+file_reads kind n d h = rw (h.there, h.reads) refl
 
 block_reads : (kind : ShowKind) (n : ℕ) (d : Data) → Holds (whole_form (2 ^ 32)) n d
     → show 1 (block_object (show_word kind) (number (unsigned 0)) d) ≡ right (OfTree (record { kind = kind; krate = record { 0 = 0 }; place = Block (record { 0 = n }) }))
 unfolding field
 block_reads Page n d h = rw (h.there, h.reads) refl
-block_reads Tree n d h = rw (h.there, h.reads) refl
-block_reads Imports n d h = rw (h.there, h.reads) refl
+block_reads kind n d h = rw (h.there, h.reads) refl
 
 place_law : (kind : ShowKind) (place : Place) → IfSome (place_show (show_word kind) (number (unsigned 0)) place) (Holds (show 1) (OfTree (record { kind = kind; krate = record { 0 = 0 }; place = place })))
 unfolding field

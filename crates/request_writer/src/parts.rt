@@ -133,30 +133,20 @@ fn kind_word(kind: ShowKind) -> &'static str
     }
 }
 
-fn file_object(alloc: Global, word: &str, file: u32) -> Result<Value, AllocError>
-    ensures { IfOk result (λ v. view v
-        ≡ objects.file_object word.now (number (unsigned 0)) (number (unsigned file))) }
-{
-    let members = of_text(alloc, "show", word)?;
-    let members = with(alloc, members, "crate", Value::from(0u32))?;
-    Ok(Value::Object(with(alloc, members, "file", Value::from(file))?))
-}
-
-fn block_object(alloc: Global, word: &str, block: u32) -> Result<Value, AllocError>
-    ensures { IfOk result (λ v. view v
-        ≡ objects.block_object word.now (number (unsigned 0)) (number (unsigned block))) }
-{
-    let members = of_text(alloc, "show", word)?;
-    let members = with(alloc, members, "crate", Value::from(0u32))?;
-    Ok(Value::Object(with(alloc, members, "block", Value::from(block))?))
-}
-
 fn place_value(alloc: Global, word: &str, place: Place) -> Result<Value, WriteFault>
     ensures { Writes view result (place_show word.now (number (unsigned 0)) place) }
 {
+    let members = of_text(alloc, "show", word)?;
+    let members = with(alloc, members, "crate", Value::from(0u32))?;
     match place {
-        Place::File(file) => Ok(file_object(alloc, word, file.0)?),
-        Place::Block(block) => Ok(block_object(alloc, word, block.0)?),
+        Place::File(file) => {
+            let file = Value::from(file.0);
+            Ok(Value::Object(with(alloc, members, "file", file)?))
+        }
+        Place::Block(block) => {
+            let block = Value::from(block.0);
+            Ok(Value::Object(with(alloc, members, "block", block)?))
+        }
     }
 }
 

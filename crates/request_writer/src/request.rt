@@ -10,6 +10,7 @@ ghost use Rattle.item_tree_request.specs.Requests.{IsJsonText, IsRequest, reques
 ghost use Rattle.request_writer.specs.Meant.{meant};
 ghost use Rattle.request_writer.specs.Unwritten.{IsNoText, IsDataUnwritten, fault_of};
 ghost use Rattle.request_writer.specs.Written.{request_data, request_object as object_of};
+ghost use Rattle.request_writer.specs.declared.request.RequestFault.TheVariants.{OutOfMemory};
 
 use crate::depth::nests_past;
 use crate::parts::{
@@ -65,8 +66,6 @@ impl From<WriteFault> for RequestFault {
 }
 
 impl From<AllocError> for RequestFault {
-    ghost use Rattle.request_writer.specs.declared.request.RequestFault.TheVariants.{OutOfMemory};
-
     ghost from_gives = { λ _ e. e ≡ OutOfMemory };
 
     fn from(_failed: AllocError) -> RequestFault {
