@@ -47,31 +47,7 @@ fn close_braces(
     push(problems, at, SourceProblemKind::Unmatched)
 }
 
-/// Takes a `)` or a `]`: it closes the last bracket, if that is no brace.
-fn close_other(
-    symbol: u8,
-    at: usize,
-    opened: &mut VecDeque<OpenBracket>,
-    problems: &mut Vec<SourceProblem>,
-) -> Result<(), AllocError>
-    ensures { OnOk result (spec.AddsProblems
-        (spec.close_other symbol at opened.old.items) problems.old.items
-        (problems.new.items, opened.new.items)) }
-{
-    let Some(last) = opened.pop_front() else {
-        return push(problems, at, SourceProblemKind::Unmatched);
-    };
-    if last.symbol == b'{' {
-        opened.push_front(last)?;
-        return push(problems, at, SourceProblemKind::Unmatched);
-    }
-    if closer(last.symbol) == symbol {
-        return Ok(());
-    }
-    push(problems, at, SourceProblemKind::Mismatched)
-}
-
-/// Takes a bracket that closes.
+/// Takes a bracket that closes: a `)` or a `]` closes the last bracket, if that is no brace.
 fn close(
     symbol: u8,
     at: usize,
@@ -84,7 +60,17 @@ fn close(
     if symbol == b'}' {
         return close_braces(at, opened, problems);
     }
-    close_other(symbol, at, opened, problems)
+    let Some(last) = opened.pop_front() else {
+        return push(problems, at, SourceProblemKind::Unmatched);
+    };
+    if last.symbol == b'{' {
+        opened.push_front(last)?;
+        return push(problems, at, SourceProblemKind::Unmatched);
+    }
+    if closer(last.symbol) == symbol {
+        return Ok(());
+    }
+    push(problems, at, SourceProblemKind::Mismatched)
 }
 
 /// Takes a token.

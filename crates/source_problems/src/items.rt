@@ -7,10 +7,10 @@ ghost use Rattle.hir_input.specs.UseTreeView.{use_tree_view};
 ghost use Rattle.source_problems.specs.Metas.{attribute_problems};
 ghost use Rattle.source_problems.specs.Items.{in_preorder, held_items};
 ghost use Rattle.source_problems.specs.Items as spec;
-ghost use Rattle.source_problems.specs.Inner as inner;
+ghost use Rattle.source_problems.specs.Inner.{AddsHere, Walks};
 
 use crate::metas::push_attributes;
-use crate::problem::{SourceProblem, SourceProblemKind, push, push_path};
+use crate::problem::{Found, SourceProblemKind};
 use crate::use_trees::push_tree;
 use hir_input::Meta;
 use hir_input::ast::{
@@ -42,46 +42,34 @@ impl Places<'_> {
     }
 }
 
-fn push_visibility(
-    visibility: &Option<Visibility>,
-    at: usize,
-    problems: &mut Vec<SourceProblem>,
-) -> Result<(), AllocError>
-    ensures { OnOk result (problems.new.items ≡ problems.old.items
-        ++ spec.visibility_problems at visibility.now) }
+fn push_visibility(visibility: &Option<Visibility>, found: &mut Found) -> Result<(), AllocError>
+    ensures { OnOk result (AddsHere found.old found.new
+        (spec.visibility_problems found.old.at visibility.now)) }
 {
     match visibility {
         Some(Visibility::InPath(PathNode::Unreadable)) => {
-            push(problems, at, SourceProblemKind::VisibilityPath)
+            found.push(SourceProblemKind::VisibilityPath)
         }
         _ => Ok(()),
     }
 }
 
-fn push_fields(
-    fields: &[TupleField],
-    at: usize,
-    problems: &mut Vec<SourceProblem>,
-) -> Result<(), AllocError>
-    ensures { OnOk result (problems.new.items ≡ problems.old.items
-        ++ spec.fields_problems at (map (λ f. f.visibility) fields.now)) }
+fn push_fields(fields: &[TupleField], found: &mut Found) -> Result<(), AllocError>
+    ensures { OnOk result (AddsHere found.old found.new
+        (spec.fields_problems found.old.at (map (λ f. f.visibility) fields.now))) }
 {
     for field in fields {
-        push_visibility(&field.visibility, at, problems)?;
+        push_visibility(&field.visibility, found)?;
     }
     Ok(())
 }
 
-fn push_struct_fields(
-    kind: &StructKind,
-    at: usize,
-    problems: &mut Vec<SourceProblem>,
-) -> Result<(), AllocError>
-    ensures { OnOk result (problems.new.items ≡ problems.old.items
-        ++ spec.struct_problems at (fields_view kind.now)) }
+fn push_struct_fields(kind: &StructKind, found: &mut Found) -> Result<(), AllocError>
+    ensures { OnOk result (AddsHere found.old found.new
+        (spec.struct_problems found.old.at (fields_view kind.now))) }
 {
     match kind {
-        StructKind::Tuple(fields) => push_fields(fields, at, problems),
+        StructKind::Tuple(fields) => push_fields(fields, found),
         StructKind::Record => Ok(()),
         StructKind::Unit => Ok(()),
     }
@@ -92,106 +80,89 @@ fn push_struct_fields(
 fn push_named(
     attrs: &[Meta],
     visibility: &Option<Visibility>,
-    at: usize,
-    problems: &mut Vec<SourceProblem>,
+    found: &mut Found,
 ) -> Result<(), AllocError>
-    ensures { OnOk result (problems.new.items ≡ problems.old.items
-        ++ (attribute_problems at (map meta_view attrs.now) ++ spec.visibility_problems at visibility.now)) }
+    ensures { OnOk result (AddsHere found.old found.new
+        (attribute_problems found.old.at (map meta_view attrs.now) ++ spec.visibility_problems found.old.at visibility.now)) }
 {
-    push_attributes(attrs, at, problems)?;
-    push_visibility(visibility, at, problems)
+    push_attributes(attrs, found)?;
+    push_visibility(visibility, found)
 }
 
 #[tactic(auto, using(std::proofs::Common::append_assoc))]
-fn push_struct(
-    item: &Struct,
-    at: usize,
-    problems: &mut Vec<SourceProblem>,
-) -> Result<(), AllocError>
-    ensures { OnOk result (problems.new.items ≡ problems.old.items
-        ++ (spec.named_problems at (struct_view item.now) ++ spec.struct_problems at (fields_view item.now.kind))) }
+fn push_struct(item: &Struct, found: &mut Found) -> Result<(), AllocError>
+    ensures { OnOk result (AddsHere found.old found.new
+        (spec.named_problems found.old.at (struct_view item.now) ++ spec.struct_problems found.old.at (fields_view item.now.kind))) }
 {
-    push_named(&item.attrs, &item.visibility, at, problems)?;
-    push_struct_fields(&item.kind, at, problems)
+    push_named(&item.attrs, &item.visibility, found)?;
+    push_struct_fields(&item.kind, found)
 }
 
-fn push_some_tree(
-    tree: &Option<UseTree>,
-    at: usize,
-    problems: &mut Vec<SourceProblem>,
-) -> Result<(), AllocError>
-    ensures { OnOk result (problems.new.items ≡ problems.old.items
-        ++ spec.some_tree_problems at (option_map use_tree_view tree.now)) }
+fn push_some_tree(tree: &Option<UseTree>, found: &mut Found) -> Result<(), AllocError>
+    ensures { OnOk result (AddsHere found.old found.new
+        (spec.some_tree_problems found.old.at (option_map use_tree_view tree.now))) }
 {
     match tree {
-        Some(tree) => push_tree(tree, at, problems),
+        Some(tree) => push_tree(tree, found),
         None => Ok(()),
     }
 }
 
 #[tactic(auto, using(std::proofs::Common::append_assoc))]
-fn push_use(item: &Use, at: usize, problems: &mut Vec<SourceProblem>) -> Result<(), AllocError>
-    ensures { OnOk result (problems.new.items ≡ problems.old.items
-        ++ spec.use_problems at (use_view item.now)) }
+fn push_use(item: &Use, found: &mut Found) -> Result<(), AllocError>
+    ensures { OnOk result (AddsHere found.old found.new
+        (spec.use_problems found.old.at (use_view item.now))) }
 {
-    push_named(&item.attrs, &item.visibility, at, problems)?;
-    push_some_tree(&item.use_tree, at, problems)
+    push_named(&item.attrs, &item.visibility, found)?;
+    push_some_tree(&item.use_tree, found)
 }
 
 #[tactic(auto, using(std::proofs::Common::append_assoc))]
-fn push_call(
-    item: &MacroCall,
-    at: usize,
-    problems: &mut Vec<SourceProblem>,
-) -> Result<(), AllocError>
-    ensures { OnOk result (problems.new.items ≡ problems.old.items
-        ++ spec.call_problems at (call_view item.now)) }
+fn push_call(item: &MacroCall, found: &mut Found) -> Result<(), AllocError>
+    ensures { OnOk result (AddsHere found.old found.new
+        (spec.call_problems found.old.at (call_view item.now))) }
 {
-    push_attributes(&item.attrs, at, problems)?;
-    push_path(problems, at, SourceProblemKind::MacroPath, &item.path)
+    push_attributes(&item.attrs, found)?;
+    found.push_path(SourceProblemKind::MacroPath, &item.path)
 }
 
 /// Adds what is wrong with an item, without those that it holds.
 #[tactic(auto, using(hir_input::proofs::SyntaxViews::item_views, crate::proofs::Views::own_parents))]
-fn push_own(item: &Item, at: usize, problems: &mut Vec<SourceProblem>) -> Result<(), AllocError>
-    ensures { OnOk result (problems.new.items ≡ problems.old.items
-        ++ spec.own_problems at (item_view item.now)) }
+fn push_own(item: &Item, found: &mut Found) -> Result<(), AllocError>
+    ensures { OnOk result (AddsHere found.old found.new
+        (spec.own_problems found.old.at (item_view item.now))) }
 {
     match item {
-        Item::AsmExpr(item) => push_attributes(&item.attrs, at, problems),
-        Item::Const(item) => push_named(&item.attrs, &item.visibility, at, problems),
-        Item::Enum(item) => push_named(&item.attrs, &item.visibility, at, problems),
-        Item::ExternBlock(item) => push_attributes(&item.attrs, at, problems),
-        Item::ExternCrate(item) => push_named(&item.attrs, &item.visibility, at, problems),
-        Item::Fn(item) => push_named(&item.attrs, &item.visibility, at, problems),
-        Item::Impl(item) => push_attributes(&item.attrs, at, problems),
-        Item::MacroCall(item) => push_call(item, at, problems),
-        Item::MacroDef(item) => push_named(&item.attrs, &item.visibility, at, problems),
-        Item::MacroRules(item) => push_attributes(&item.attrs, at, problems),
-        Item::Module(item) => push_named(&item.attrs, &item.visibility, at, problems),
-        Item::Static(item) => push_named(&item.attrs, &item.visibility, at, problems),
-        Item::Struct(item) => push_struct(item, at, problems),
-        Item::Trait(item) => push_named(&item.attrs, &item.visibility, at, problems),
-        Item::TypeAlias(item) => push_named(&item.attrs, &item.visibility, at, problems),
-        Item::Union(item) => push_named(&item.attrs, &item.visibility, at, problems),
-        Item::Use(item) => push_use(item, at, problems),
+        Item::AsmExpr(item) => push_attributes(&item.attrs, found),
+        Item::Const(item) => push_named(&item.attrs, &item.visibility, found),
+        Item::Enum(item) => push_named(&item.attrs, &item.visibility, found),
+        Item::ExternBlock(item) => push_attributes(&item.attrs, found),
+        Item::ExternCrate(item) => push_named(&item.attrs, &item.visibility, found),
+        Item::Fn(item) => push_named(&item.attrs, &item.visibility, found),
+        Item::Impl(item) => push_attributes(&item.attrs, found),
+        Item::MacroCall(item) => push_call(item, found),
+        Item::MacroDef(item) => push_named(&item.attrs, &item.visibility, found),
+        Item::MacroRules(item) => push_attributes(&item.attrs, found),
+        Item::Module(item) => push_named(&item.attrs, &item.visibility, found),
+        Item::Static(item) => push_named(&item.attrs, &item.visibility, found),
+        Item::Struct(item) => push_struct(item, found),
+        Item::Trait(item) => push_named(&item.attrs, &item.visibility, found),
+        Item::TypeAlias(item) => push_named(&item.attrs, &item.visibility, found),
+        Item::Union(item) => push_named(&item.attrs, &item.visibility, found),
+        Item::Use(item) => push_use(item, found),
     }
 }
 
 /// The same of an item of an extern block, which holds none.
-fn push_extern_item(
-    item: &ExternItem,
-    at: usize,
-    problems: &mut Vec<SourceProblem>,
-) -> Result<(), AllocError>
-    ensures { OnOk result (problems.new.items ≡ problems.old.items
-        ++ spec.own_problems at (extern_item_view item.now)) }
+fn push_extern_item(item: &ExternItem, found: &mut Found) -> Result<(), AllocError>
+    ensures { OnOk result (AddsHere found.old found.new
+        (spec.own_problems found.old.at (extern_item_view item.now))) }
 {
     match item {
-        ExternItem::Fn(item) => push_named(&item.attrs, &item.visibility, at, problems),
-        ExternItem::MacroCall(item) => push_call(item, at, problems),
-        ExternItem::Static(item) => push_named(&item.attrs, &item.visibility, at, problems),
-        ExternItem::TypeAlias(item) => push_named(&item.attrs, &item.visibility, at, problems),
+        ExternItem::Fn(item) => push_named(&item.attrs, &item.visibility, found),
+        ExternItem::MacroCall(item) => push_call(item, found),
+        ExternItem::Static(item) => push_named(&item.attrs, &item.visibility, found),
+        ExternItem::TypeAlias(item) => push_named(&item.attrs, &item.visibility, found),
     }
 }
 
@@ -199,27 +170,23 @@ fn push_extern_item(
 fn push_extern_items(
     items: &[ExternItem],
     places: &mut Places<'_>,
-    problems: &mut Vec<SourceProblem>,
+    found: &mut Found,
 ) -> Result<(), AllocError>
-    ensures { OnOk result (inner.Walks (in_preorder (items_from (map extern_item_view items.now)))
-        problems.old.items places.old.left.now problems.new.items places.new.left.now) }
+    ensures { OnOk result (Walks (in_preorder (items_from (map extern_item_view items.now)))
+        found.old.problems.items places.old.left.now found.new.problems.items places.new.left.now) }
 {
     for item in items {
-        let at = places.next();
-        push_extern_item(item, at, problems)?;
+        found.at = places.next();
+        push_extern_item(item, found)?;
     }
     Ok(())
 }
 
 /// Adds what is wrong with what an item holds.
 #[cycle(items)]
-fn push_held(
-    item: &Item,
-    places: &mut Places<'_>,
-    problems: &mut Vec<SourceProblem>,
-) -> Result<(), AllocError>
-    ensures { OnOk result (inner.Walks (held_items (item_view item.now))
-        problems.old.items places.old.left.now problems.new.items places.new.left.now) }
+fn push_held(item: &Item, places: &mut Places<'_>, found: &mut Found) -> Result<(), AllocError>
+    ensures { OnOk result (Walks (held_items (item_view item.now))
+        found.old.problems.items places.old.left.now found.new.problems.items places.new.left.now) }
 {
     match item {
         Item::Module(
@@ -227,13 +194,13 @@ fn push_held(
                 items: Some(items),
                 ..
             },
-        ) => push_items(items, places, problems),
+        ) => push_items(items, places, found),
         Item::ExternBlock(
             ExternBlock {
                 items: Some(items),
                 ..
             },
-        ) => { push_extern_items(items, places, problems) }
+        ) => { push_extern_items(items, places, found) }
         _ => Ok(()),
     }
 }
@@ -243,15 +210,15 @@ fn push_held(
 pub(crate) fn push_items(
     items: &[Item],
     places: &mut Places<'_>,
-    problems: &mut Vec<SourceProblem>,
+    found: &mut Found,
 ) -> Result<(), AllocError>
-    ensures { OnOk result (inner.Walks (in_preorder (items_view items.now))
-        problems.old.items places.old.left.now problems.new.items places.new.left.now) }
+    ensures { OnOk result (Walks (in_preorder (items_view items.now))
+        found.old.problems.items places.old.left.now found.new.problems.items places.new.left.now) }
 {
     for item in items {
-        let at = places.next();
-        push_own(item, at, problems)?;
-        push_held(item, places, problems)?;
+        found.at = places.next();
+        push_own(item, found)?;
+        push_held(item, places, found)?;
     }
     Ok(())
 }
@@ -260,16 +227,17 @@ pub(crate) fn push_items(
 pub(crate) fn push_syntax(
     syntax: &Syntax,
     places: &[ItemPlace],
-    problems: &mut Vec<SourceProblem>,
+    found: &mut Found,
 ) -> Result<(), AllocError>
-    ensures { OnOk result (problems.new.items ≡ problems.old.items
+    ensures { OnOk result (found.new.problems.items ≡ found.old.problems.items
         ++ spec.syntax_problems (syntax_view syntax.now) places.now) }
 {
     let Syntax::SourceFile { attrs, items } = syntax else {
         return Ok(());
     };
     let mut places = Places { left: places };
-    push_attributes(attrs, 0, problems)?;
-    push_items(items, &mut places, problems)?;
+    found.at = 0;
+    push_attributes(attrs, found)?;
+    push_items(items, &mut places, found)?;
     Ok(())
 }

@@ -1,6 +1,7 @@
 //! What may be wrong with a text.
 
 ghost use Rattle.std.specs.Prelude.{◌≡◌, ◌++◌, ◌∷◌, [], OnOk};
+ghost use Rattle.source_problems.specs.Inner.{AddsHere};
 ghost use Rattle.source_problems.specs.Problems as spec;
 
 use hir_input::ast::PathNode;
@@ -86,19 +87,34 @@ pub(crate) fn push(
     Ok(())
 }
 
-/// Adds a problem where a path is written and has no meaning.
-pub(crate) fn push_path(
-    problems: &mut Vec<SourceProblem>,
-    at: usize,
-    kind: SourceProblemKind,
-    path: &Option<PathNode>,
-) -> Result<(), AllocError>
-    ensures { OnOk result (problems.new.items ≡ problems.old.items
-        ++ spec.path_problems kind at path.now) }
-{
-    match path {
-        Some(PathNode::Unreadable) => push(problems, at, kind),
-        Some(PathNode::Readable(_)) => Ok(()),
-        None => Ok(()),
+/// What was found in a text so far, and the place at which more of it would stand.
+#[derive(Drop)]
+pub(crate) struct Found {
+    pub(crate) at: usize,
+    pub(crate) problems: Vec<SourceProblem>,
+}
+
+impl Found {
+    /// Adds a problem.
+    pub(crate) fn push(&mut self, kind: SourceProblemKind) -> Result<(), AllocError>
+        ensures { OnOk result (AddsHere self.old self.new (spec.problem kind self.old.at ∷ [])) }
+    {
+        push(&mut self.problems, self.at, kind)
+    }
+
+    /// Adds a problem where a path is written and has no meaning.
+    pub(crate) fn push_path(
+        &mut self,
+        kind: SourceProblemKind,
+        path: &Option<PathNode>,
+    ) -> Result<(), AllocError>
+        ensures { let more = spec.path_problems kind self.old.at path.now in
+            OnOk result (AddsHere self.old self.new more) }
+    {
+        match path {
+            Some(PathNode::Unreadable) => self.push(kind),
+            Some(PathNode::Readable(_)) => Ok(()),
+            None => Ok(()),
+        }
     }
 }

@@ -10,7 +10,7 @@ ghost use Rattle.source_problems.specs.Texts as spec;
 
 use crate::brackets::bracket_problems;
 use crate::items::push_syntax;
-use crate::problem::{SourceProblem, told};
+use crate::problem::{Found, SourceProblem, told};
 use rust_items::line_ends::{LineEnds, has_return, with_feeds};
 use rust_items::{Problem, SourceFile};
 use std::alloc::{AllocError, Global};
@@ -112,6 +112,7 @@ pub fn source_problems(
 {
     let mut problems = line_problems(alloc, text)?;
     push_told(&file.problems, &mut problems)?;
-    push_syntax(&file.syntax, &file.places, &mut problems)?;
-    in_order(alloc, &problems)
+    let mut found = Found { at: 0, problems };
+    push_syntax(&file.syntax, &file.places, &mut found)?;
+    in_order(alloc, &found.problems)
 }

@@ -6,5 +6,5 @@ use Rattle.source_problems.proofs.items.+items.Given as goal
 
 abbrev pub invariant-push_items-loop-item : goal.invariant-push_items-loop-item
 invariant-push_items-loop-item l =
-    (more : List ItemView) → l.problems.items ++ placed_problems (in_preorder (items_view (drop l.item-index l.items)) ++ more) l.places.left.now
-    ≡ l.fn.problems.items ++ placed_problems (in_preorder (items_view l.items) ++ more) l.fn.places.left.now
+    (more : List ItemView) → l.found.problems.items ++ placed_problems (in_preorder (items_view (drop l.item-index l.items)) ++ more) l.places.left.now
+    ≡ l.fn.found.problems.items ++ placed_problems (in_preorder (items_view l.items) ++ more) l.fn.places.left.now

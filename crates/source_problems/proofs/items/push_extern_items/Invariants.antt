@@ -6,5 +6,5 @@ use Rattle.source_problems.proofs.items.push_extern_items.Given as goal
 
 abbrev pub invariant-loop-item : goal.invariant-loop-item
 invariant-loop-item l =
-    (more : List ItemView) → l.problems.items ++ placed_problems (in_preorder (items_from (map extern_item_view (drop l.item-index l.items))) ++ more) l.places.left.now
-    ≡ l.fn.problems.items ++ placed_problems (in_preorder (items_from (map extern_item_view l.items)) ++ more) l.fn.places.left.now
+    (more : List ItemView) → l.found.problems.items ++ placed_problems (in_preorder (items_from (map extern_item_view (drop l.item-index l.items))) ++ more) l.places.left.now
+    ≡ l.fn.found.problems.items ++ placed_problems (in_preorder (items_from (map extern_item_view l.items)) ++ more) l.fn.places.left.now
