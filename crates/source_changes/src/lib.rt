@@ -119,25 +119,6 @@ fn lines(
     Ok(out)
 }
 
-/// The lines of what became of the parts of a file in another.
-fn lines_of(
-    alloc: Global,
-    old: Source<'_>,
-    new: Source<'_>,
-    olds: &[Part],
-    news: &[Part],
-    has_docs: bool,
-) -> Result<String, AllocError>
-    ensures { let lines = spec.lines_between has_docs (source_view old.entry)
-        (source_view new.entry) (map part_view olds.now) (map part_view news.now) in
-        IfOk result (λ text. string_bytes text ≡ lines) }
-{
-    let old_rows = rows(alloc, old.text, olds, has_docs)?;
-    let new_rows = rows(alloc, new.text, news, has_docs)?;
-    let changes = changes(alloc, &old_rows, &new_rows)?;
-    lines(alloc, old, new, &changes)
-}
-
 /// Whether others can see the same of two texts.
 fn is_same(
     alloc: Global,
@@ -173,7 +154,10 @@ fn text_of(
     if is_same {
         return Ok(String::new(alloc));
     }
-    lines_of(alloc, old, new, olds, news, has_docs)
+    let old_rows = rows(alloc, old.text, olds, has_docs)?;
+    let new_rows = rows(alloc, new.text, news, has_docs)?;
+    let changes = changes(alloc, &old_rows, &new_rows)?;
+    lines(alloc, old, new, &changes)
 }
 
 /// Compares what others can see of two files of an edition: every token but those between the braces of functions and comments, and
