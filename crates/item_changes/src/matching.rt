@@ -25,6 +25,12 @@ pub enum Match<T> {
     Stays(T, T),
 }
 
+/// A thing of a list, with the one of another list that is the same.
+type Pair<'a, A> = (&'a A, Option<&'a A>);
+
+/// What was found of two lists so far.
+type Found<'a, A> = Vec<Match<&'a A>>;
+
 /// How many there are of a key, and one more is counted.
 fn count_one<K: Eq + Hash + Drop>(
     counts: &mut HashMap<K, usize>,
@@ -73,10 +79,7 @@ fn partners<'b, 'a, K: Eq + Hash + Copy + Drop, T>(
 }
 
 /// What the old list alone has of one of its things.
-fn push_gone<'a, A>(
-    pair: &(&'a A, Option<&'a A>),
-    found: &mut Vec<Match<&'a A>>,
-) -> Result<(), AllocError>
+fn push_gone<'a, A>(pair: &Pair<'a, A>, found: &mut Found<'a, A>) -> Result<(), AllocError>
     ensures { OnOk result (map match_now found.new.items
         ≡ map match_now found.old.items ++ spec.gone_of (pair_now pair.now)) }
 {
@@ -87,10 +90,7 @@ fn push_gone<'a, A>(
     Ok(())
 }
 
-fn push_all_gone<'a, A>(
-    pairs: &[(&'a A, Option<&'a A>)],
-    found: &mut Vec<Match<&'a A>>,
-) -> Result<(), AllocError>
+fn push_all_gone<'a, A>(pairs: &[Pair<'a, A>], found: &mut Found<'a, A>) -> Result<(), AllocError>
     ensures { let gone = flat_map spec.gone_of (map pair_now pairs.now) in
         OnOk result (map match_now found.new.items ≡ map match_now found.old.items ++ gone) }
 {
@@ -101,7 +101,7 @@ fn push_all_gone<'a, A>(
 }
 
 /// What the new list has.
-fn match_of<'a, A>(pair: &(&'a A, Option<&'a A>)) -> Match<&'a A>
+fn match_of<'a, A>(pair: &Pair<'a, A>) -> Match<&'a A>
     ensures { match_now result ≡ spec.match_of (pair_now pair.now) }
 {
     match pair.1 {
@@ -110,10 +110,7 @@ fn match_of<'a, A>(pair: &(&'a A, Option<&'a A>)) -> Match<&'a A>
     }
 }
 
-fn push_all_new<'a, A>(
-    pairs: &[(&'a A, Option<&'a A>)],
-    found: &mut Vec<Match<&'a A>>,
-) -> Result<(), AllocError>
+fn push_all_new<'a, A>(pairs: &[Pair<'a, A>], found: &mut Found<'a, A>) -> Result<(), AllocError>
     ensures { let new = map spec.match_of (map pair_now pairs.now) in
         OnOk result (map match_now found.new.items ≡ map match_now found.old.items ++ new) }
 {

@@ -8,17 +8,11 @@ use Rattle.item_changes.proofs.own.is_same_by_itself.Goals as goal
 
 pub returns-then-not-is_same_attrs : goal.returns-then-not-is_same_attrs
 returns-then-not-is_same_attrs c =
-    let u = c.args.old.now in
-    let w = c.args.new.now in
-    part_differs (own_at u c.args.left) (own_at w c.args.right) _ _ _ _ _ c.is_same_attrs.ensures c.if-not-is_same_attrs.true c.attrs.ensures c.attrs-2.ensures
-    (own_attrs no_node (node_at u.forest c.args.left) (node_at w.forest c.args.right) c.requires.left c.requires.right)
+    part_differs (own_at c.args.old.now c.args.left) (own_at c.args.new.now c.args.right) _ _ _ _ _ c.is_same_attrs.ensures c.if-not-is_same_attrs.true c.attrs.ensures c.attrs-2.ensures (own_attrs no_node _ _ c.requires.left c.requires.right)
 
 pub returns-then-not-is_same_visibility : goal.returns-then-not-is_same_visibility
 returns-then-not-is_same_visibility c =
-    let u = c.args.old.now in
-    let w = c.args.new.now in
-    part_differs (own_at u c.args.left) (own_at w c.args.right) _ _ _ _ _ c.is_same_visibility.ensures c.if-not-is_same_visibility.true c.visibility_at.ensures c.visibility_at-2.ensures
-    (own_visibility no_node (node_at u.forest c.args.left) (node_at w.forest c.args.right) c.requires.left c.requires.right)
+    part_differs (own_at c.args.old.now c.args.left) (own_at c.args.new.now c.args.right) _ _ _ _ _ c.is_same_visibility.ensures c.if-not-is_same_visibility.true c.visibility_at.ensures c.visibility_at-2.ensures (own_visibility no_node _ _ c.requires.left c.requires.right)
 
 pub returns-then-not-are_same_constructors : goal.returns-then-not-are_same_constructors
 returns-then-not-are_same_constructors c =
