@@ -1,7 +1,8 @@
 -- A chain of prefixes, and the path that it means.
-use Rattle.std.proofs.Common.{◌≡◌, ℕ, zero, suc, ◌+◌, Bool, true, false, List, [], ◌∷◌, ◌++◌, Option, Some, None, refl, sym, ap, ◌∙◌, append_assoc, append-nil, arith, flat_map}
-use Rattle.item_tree.proofs.Common.{option_and_then, option_map, option_map_or, flat_map-append, PathKind, Plain, Super, Crate, Abs, DollarCrate, Path, HasWords, PathWord, words, read_words, Tree, Branches, single, glob, prefixed, no_branches, branch_and, tree_count, Import, is_self, read_chain, read_below, read_star, kind_below, import_of, imports_from, all_imports_from}
+use Rattle.std.proofs.Common.{◌≡◌, ℕ, zero, suc, ◌+◌, Bool, true, false, List, [], ◌∷◌, ◌++◌, Option, Some, None, refl, sym, ap, ◌∙◌, append_assoc, append-nil, arith, flat_map, Vec, Global}
+use Rattle.item_tree.proofs.Common.{option_and_then, option_map, option_map_or, flat_map-append, PathKind, Plain, Super, Crate, Abs, DollarCrate, Path, HasWords, PathWord, words, read_words, Tree, Branches, single, glob, prefixed, no_branches, branch_and, tree_count, Import, is_self, read_chain, read_below, read_star, kind_below, import_of, imports_from, all_imports_from, UseTree, UseTreeKind, Prefixed, tree_of, tree_of_kind, trees_of}
 use Rattle.hir_input.proofs.Reading.{read-append, then_words, read-words}
+use Rattle.item_tree.proofs.TreeLemmas.{found_prefixed}
 use Rattle.item_tree.specs.declared.use_tree.ImportKind.TheVariants.{Glob}
 
 abbrev pub IsFilled : {A : Type 0} → List A → Type 0
@@ -108,18 +109,30 @@ prefix_reads : (ps : List Path) (p : Path) (o : Option Path) (vs : List PathWord
 prefix_reads ps p o vs h e = read-append_filled (flat_map words (ps ++ p ∷ [])) vs (more_filled ps p h) ∙ ap (λ r. then_words r vs) e
 
 -- whose chain means nothing there is no import
-pub no_imports_below : (ps : List Path) (p : Path) (i : ℕ) (ts : Branches) → HasWords p.kind p.names → read_chain (ps ++ p ∷ []) ≡ None → all_imports_from (ps ++ p ∷ []) i ts ≡ []
+no_imports_below : (ps : List Path) (p : Path) (i : ℕ) (ts : Branches) → HasWords p.kind p.names → read_chain (ps ++ p ∷ []) ≡ None → all_imports_from (ps ++ p ∷ []) i ts ≡ []
 no_imports_below ps p i ts h e =
     reads-all (ps ++ p ∷ []) None i ts (record { reads = λ vs. prefix_reads ps p None vs h e; filled = filled-append ps (p ∷ []) tt; others = tt })
 
 -- whose chain means a path, that path stands for it
-pub imports_below : (ps : List Path) (p q : Path) (i : ℕ) (ts : Branches) → HasWords p.kind p.names → read_chain (ps ++ p ∷ []) ≡ Some q → all_imports_from (ps ++ p ∷ []) i ts ≡ all_imports_from (q ∷ []) i ts
+imports_below : (ps : List Path) (p q : Path) (i : ℕ) (ts : Branches) → HasWords p.kind p.names → read_chain (ps ++ p ∷ []) ≡ Some q → all_imports_from (ps ++ p ∷ []) i ts ≡ all_imports_from (q ∷ []) i ts
 imports_below ps p q i ts h e =
     reads-all (ps ++ p ∷ []) (Some (q ∷ [])) i ts (record {
       reads = λ vs. prefix_reads ps p (Some q) vs h e ∙ ap (λ ws. read_words (ws ++ vs)) (sym (append-nil (words q)));
       filled = filled-append ps (p ∷ []) tt;
       others = tt;
     })
+
+-- a node with such a path and trees below it, as the code finds it, has the imports of the trees below what the path means
+module _ (ps : List Path) (p : Path) (i : ℕ) (t : UseTree) (k : UseTreeKind) (b : Option Path) (list : Vec UseTree Global) (ts : List UseTree) (seen : tree_of_kind k ≡ tree_of t) (listed : k ≡ Prefixed b list) (is : b ≡ Some p) (same : ts ≡ list.items)
+    (h : HasWords p.kind p.names) (r : Option Path) (reads : r ≡ read_chain (ps ++ p ∷ [])) where
+  all_below : imports_from ps i (tree_of t) ≡ all_imports_from (ps ++ p ∷ []) (i + 1) (trees_of ts)
+  all_below = ap (imports_from ps i) (found_prefixed t k (Some p) b list ts seen listed is same)
+
+  pub imports_joined : (q : Path) → r ≡ Some q → imports_from ps i (tree_of t) ≡ all_imports_from (q ∷ []) (i + 1) (trees_of ts)
+  imports_joined q e = all_below ∙ imports_below ps p q (i + 1) (trees_of ts) h (sym reads ∙ e)
+
+  pub imports_unjoined : r ≡ None → imports_from ps i (tree_of t) ≡ []
+  imports_unjoined e = all_below ∙ no_imports_below ps p (i + 1) (trees_of ts) h (sym reads ∙ e)
 
 -- a path alone means itself
 pub read_chain_alone : (p : Path) → HasWords p.kind p.names → read_chain (p ∷ []) ≡ Some p

@@ -12,7 +12,26 @@ ghost use Rattle.item_tree.specs.Inner.Growth.{IsWithinLimits, IsLowered, AreLow
 ghost use Rattle.item_tree.specs.Inner.Statements.{body_items};
 ghost use Rattle.item_tree.specs.Visibility.{read_visibility};
 
+/// Ends the lowering of a node, whatever its type: its item goes into a new row.
+macro_rules! push_item {
+    ($ctx:expr, $rows:expr, $node:expr, $item:expr) => {
+        Ok(Some($crate::lower::push_row(
+            $ctx,
+            $rows,
+            $crate::rows::AstKey {
+                hash: $node.hash,
+                number: $node.number,
+            },
+            &$node.attrs,
+            $item,
+        )?))
+    };
+}
+
+pub(crate) use push_item;
+
 mod constructor;
+mod each;
 mod extern_block;
 mod macros;
 mod named;
@@ -27,13 +46,19 @@ use crate::lower::extern_block::lower_extern_block;
 use crate::lower::macros::{lower_macro_call, lower_macro_rules};
 use crate::lower::named::{NamedKind, lower_const, lower_extern_crate, lower_named};
 use crate::lower::stmts::lower_stmts;
-use crate::rows::{AstKey, Rows, ast_key, push_attrs};
+use crate::rows::{AstKey, Rows, push_attrs};
 use crate::tree::ItemTree;
 use crate::visibility::{RawVisibilityId, visibility_from_ast};
 use hir_input::{Meta, Name, ast};
 use item_tree_attrs::AttrsOrCfg;
 use std::alloc::Global;
 pub use use_tree::lower_use_tree;
+
+/// The id of what is kept of an item, if it is kept.
+type LoweredItem = Result<Option<ModItemId>, LowerError>;
+
+/// The ids of what is kept of several items.
+type LoweredItems = Result<Vec<ModItemId>, LowerError>;
 
 // The most rows.
 const ROW_LIMIT: usize = 2_147_483_647;
@@ -225,7 +250,7 @@ fn lower_body(ctx: Ctx, top_attrs: AttrsOrCfg, body: Body) -> Result<ItemTree, L
     Ok(ItemTree::from_rows(top_level, top_place, rows))
 }
 
-fn lower_top_level(ctx: Ctx, rows: &mut Rows, body: Body) -> Result<Vec<ModItemId>, LowerError>
+fn lower_top_level(ctx: Ctx, rows: &mut Rows, body: Body) -> LoweredItems
     requires { IsWithinLimits rows.old }
     ensures { AreLowered ctx.entry rows.old rows.new (body_items body.entry) result }
 {
@@ -236,7 +261,7 @@ fn lower_top_level(ctx: Ctx, rows: &mut Rows, body: Body) -> Result<Vec<ModItemI
 }
 
 #[cycle(lower)]
-fn lower_items(ctx: Ctx, rows: &mut Rows, items: &[ast::Item]) -> Result<Vec<ModItemId>, LowerError>
+fn lower_items(ctx: Ctx, rows: &mut Rows, items: &[ast::Item]) -> LoweredItems
     requires { IsWithinLimits rows.old }
     ensures { AreLowered ctx.entry rows.old rows.new (items_view items.now) result }
 {
@@ -251,7 +276,7 @@ fn lower_items(ctx: Ctx, rows: &mut Rows, items: &[ast::Item]) -> Result<Vec<Mod
 
 #[cycle(lower)]
 #[tactic(auto, using(hir_input::proofs::SyntaxViews::item_views))]
-fn lower_item(ctx: Ctx, rows: &mut Rows, item: &ast::Item) -> Result<Option<ModItemId>, LowerError>
+fn lower_item(ctx: Ctx, rows: &mut Rows, item: &ast::Item) -> LoweredItem
     requires { IsWithinLimits rows.old }
     ensures { IsLowered ctx.entry rows.old rows.new (item_view item.now) result }
 {
@@ -277,11 +302,7 @@ fn lower_item(ctx: Ctx, rows: &mut Rows, item: &ast::Item) -> Result<Option<ModI
 }
 
 #[cycle(lower)]
-fn lower_module(
-    ctx: Ctx,
-    rows: &mut Rows,
-    mod_node: &ast::Module,
-) -> Result<Option<ModItemId>, LowerError>
+fn lower_module(ctx: Ctx, rows: &mut Rows, mod_node: &ast::Module) -> LoweredItem
     requires { IsWithinLimits rows.old }
     ensures { IsLowered ctx.entry rows.old rows.new (module_view mod_node.now) result }
 {
@@ -296,7 +317,7 @@ fn lower_module(
             visibility,
             kind: ModKind::Outline,
         });
-        return Ok(Some(push_row(ctx, rows, ast_key!(mod_node), &mod_node.attrs, item)?));
+        return push_item!(ctx, rows, mod_node, item);
     }
     let items = lower_module_items(ctx, rows, mod_node)?;
     let name = name.clone()?;
@@ -305,15 +326,11 @@ fn lower_module(
         visibility,
         kind: ModKind::Inline { items },
     });
-    Ok(Some(push_row(ctx, rows, ast_key!(mod_node), &mod_node.attrs, item)?))
+    push_item!(ctx, rows, mod_node, item)
 }
 
 #[cycle(lower)]
-fn lower_module_items(
-    ctx: Ctx,
-    rows: &mut Rows,
-    mod_node: &ast::Module,
-) -> Result<Vec<ModItemId>, LowerError>
+fn lower_module_items(ctx: Ctx, rows: &mut Rows, mod_node: &ast::Module) -> LoweredItems
     requires { IsWithinLimits rows.old }
     ensures { AreLowered ctx.entry rows.old rows.new
         (items_below (module_view mod_node.now)) result }
@@ -324,11 +341,7 @@ fn lower_module_items(
     }
 }
 
-fn lower_impl(
-    ctx: Ctx,
-    rows: &mut Rows,
-    impl_node: &ast::Impl,
-) -> Result<Option<ModItemId>, LowerError>
+fn lower_impl(ctx: Ctx, rows: &mut Rows, impl_node: &ast::Impl) -> LoweredItem
     requires { IsWithinLimits rows.old }
     ensures { IsLowered ctx.entry rows.old rows.new
         (impl_item (impl_view impl_node.now) impl_node.now.is_trait_impl) result }
@@ -336,15 +349,11 @@ fn lower_impl(
     let item = ModItem::Impl(Impl {
         is_trait_impl: impl_node.is_trait_impl,
     });
-    Ok(Some(push_row(ctx, rows, ast_key!(impl_node), &impl_node.attrs, item)?))
+    push_item!(ctx, rows, impl_node, item)
 }
 
 // A use is dropped before its visibility is met.
-fn lower_use(
-    ctx: Ctx,
-    rows: &mut Rows,
-    use_node: &ast::Use,
-) -> Result<Option<ModItemId>, LowerError>
+fn lower_use(ctx: Ctx, rows: &mut Rows, use_node: &ast::Use) -> LoweredItem
     requires { IsWithinLimits rows.old }
     ensures { IsLowered ctx.entry rows.old rows.new (use_item (use_view use_node.now)) result }
 {
@@ -356,7 +365,7 @@ fn lower_use(
     };
     let visibility = lower_visibility(ctx.alloc, rows, use_node.visibility.as_ref())?;
     let item = ModItem::Use(Use::new(visibility, tree));
-    Ok(Some(push_row(ctx, rows, ast_key!(use_node), &use_node.attrs, item)?))
+    push_item!(ctx, rows, use_node, item)
 }
 
 // The id of a written visibility.

@@ -27,18 +27,6 @@ pub(crate) struct AstKey {
     pub(crate) number: u32,
 }
 
-/// The key of a node, whatever its type.
-macro_rules! ast_key {
-    ($node:expr) => {
-        $crate::rows::AstKey {
-            hash: $node.hash,
-            number: $node.number,
-        }
-    };
-}
-
-pub(crate) use ast_key;
-
 /// The rows of a tree in columns of equal length, the attributes that their places tell, and the visibilities of
 /// modules in order of first use.
 #[derive(Debug, Drop)]

@@ -1,12 +1,12 @@
 //! Copies of items that have lists of ids, and of uses.
 ghost use Rattle.std.specs.Prelude.{◌≡◌};
+ghost use Rattle.item_tree.specs.Items.{block_value, inline_ids, mod_value, struct_value};
+ghost use Rattle.item_tree.specs.Shown.{ctor_ids};
 
 use crate::items::{ExternBlock, Mod, ModKind, Struct, StructValueNsCtor, Use};
 use std::alloc::AllocError;
 
 impl Clone for ExternBlock {
-    ghost use Rattle.item_tree.specs.Items.{block_value};
-
     ghost is_clone = { λ block copy. block_value copy ≡ block_value block };
 
     fn clone(&self) -> Result<ExternBlock, AllocError> {
@@ -17,8 +17,6 @@ impl Clone for ExternBlock {
 }
 
 impl Clone for ModKind {
-    ghost use Rattle.item_tree.specs.Items.{inline_ids};
-
     ghost is_clone = { λ kind copy. inline_ids copy ≡ inline_ids kind };
 
     fn clone(&self) -> Result<ModKind, AllocError> {
@@ -32,8 +30,6 @@ impl Clone for ModKind {
 }
 
 impl Clone for Mod {
-    ghost use Rattle.item_tree.specs.Items.{mod_value};
-
     ghost is_clone = { λ item copy. mod_value copy ≡ mod_value item };
 
     fn clone(&self) -> Result<Mod, AllocError> {
@@ -46,8 +42,6 @@ impl Clone for Mod {
 }
 
 impl Clone for StructValueNsCtor {
-    ghost use Rattle.item_tree.specs.Shown.{ctor_ids};
-
     ghost is_clone = { λ ctor copy. ctor_ids copy ≡ ctor_ids ctor };
 
     fn clone(&self) -> Result<StructValueNsCtor, AllocError> {
@@ -64,8 +58,6 @@ impl Clone for StructValueNsCtor {
 }
 
 impl Clone for Struct {
-    ghost use Rattle.item_tree.specs.Items.{struct_value};
-
     ghost is_clone = { λ item copy. struct_value copy ≡ struct_value item };
 
     fn clone(&self) -> Result<Struct, AllocError> {

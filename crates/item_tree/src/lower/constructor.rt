@@ -10,20 +10,16 @@ ghost use Rattle.item_tree.specs.Shown.{ctor_ids};
 ghost use Rattle.item_tree.specs.Visibility.{read_visibility};
 
 use crate::fault::LowerError;
-use crate::items::{FieldsShape, ModItem, ModItemId, Struct, StructValueNsCtor};
-use crate::lower::{Ctx, lower_visibility, push_row};
-use crate::rows::{Rows, ast_key};
+use crate::items::{FieldsShape, ModItem, Struct, StructValueNsCtor};
+use crate::lower::{Ctx, LoweredItem, lower_visibility, push_item};
+use crate::rows::Rows;
 use crate::visibility::{RawVisibility, RawVisibilityId, visibility_from_ast};
 use hir_input::ast;
 use indexmap::IndexSet;
 use std::alloc::{AllocError, Global};
 
 #[tactic(auto, using(crate::proofs::Constructors::has_id))]
-pub(super) fn lower_struct(
-    ctx: Ctx,
-    rows: &mut Rows,
-    struct_node: &ast::Struct,
-) -> Result<Option<ModItemId>, LowerError>
+pub(super) fn lower_struct(ctx: Ctx, rows: &mut Rows, struct_node: &ast::Struct) -> LoweredItem
     requires { IsWithinLimits rows.old }
     ensures { IsLowered ctx.entry rows.old rows.new
         (struct_item (struct_view struct_node.now) (fields_view struct_node.now.kind)) result }
@@ -40,7 +36,7 @@ pub(super) fn lower_struct(
         shape: shape_of(&struct_node.kind),
         value_ns_ctor,
     });
-    Ok(Some(push_row(ctx, rows, ast_key!(struct_node), &struct_node.attrs, item)?))
+    push_item!(ctx, rows, struct_node, item)
 }
 
 fn shape_of(kind: &ast::StructKind) -> FieldsShape

@@ -2,19 +2,14 @@
 ghost use Rattle.hir_input.specs.Syntax.{macro_call, call_view, macro_rules, macro_rules_view};
 ghost use Rattle.item_tree.specs.Inner.Growth.{IsWithinLimits, IsLowered};
 
-use crate::fault::LowerError;
-use crate::items::{MacroCall, MacroRules, ModItem, ModItemId};
-use crate::lower::{Ctx, push_row};
-use crate::rows::{Rows, ast_key};
+use crate::items::{MacroCall, MacroRules, ModItem};
+use crate::lower::{Ctx, LoweredItem, push_item};
+use crate::rows::Rows;
 use hir_input::ast;
 use std::alloc::Global;
 
 // A macro call is kept where its path is there and can be read.
-pub(super) fn lower_macro_call(
-    ctx: Ctx,
-    rows: &mut Rows,
-    call_node: &ast::MacroCall,
-) -> Result<Option<ModItemId>, LowerError>
+pub(super) fn lower_macro_call(ctx: Ctx, rows: &mut Rows, call_node: &ast::MacroCall) -> LoweredItem
     requires { IsWithinLimits rows.old }
     ensures { IsLowered ctx.entry rows.old rows.new (macro_call (call_view call_node.now)) result }
 {
@@ -26,14 +21,14 @@ pub(super) fn lower_macro_call(
         expand_to: call_node.expand_to,
         ctxt: call_node.ctxt,
     });
-    Ok(Some(push_row(ctx, rows, ast_key!(call_node), &call_node.attrs, item)?))
+    push_item!(ctx, rows, call_node, item)
 }
 
 pub(super) fn lower_macro_rules(
     ctx: Ctx,
     rows: &mut Rows,
     macro_node: &ast::MacroRules,
-) -> Result<Option<ModItemId>, LowerError>
+) -> LoweredItem
     requires { IsWithinLimits rows.old }
     ensures { IsLowered ctx.entry rows.old rows.new
         (macro_rules (macro_rules_view macro_node.now) macro_node.now.name) result }
@@ -43,5 +38,5 @@ pub(super) fn lower_macro_rules(
     };
     let name = name.clone()?;
     let item = ModItem::MacroRules(MacroRules { name });
-    Ok(Some(push_row(ctx, rows, ast_key!(macro_node), &macro_node.attrs, item)?))
+    push_item!(ctx, rows, macro_node, item)
 }

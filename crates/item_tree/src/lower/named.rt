@@ -6,13 +6,12 @@ ghost use Rattle.item_tree.specs.Node.{plain};
 ghost use Rattle.item_tree.specs.Inner.Growth.{IsWithinLimits, IsLowered, named_kind};
 ghost use Rattle.item_tree.specs.Stored.{item_row};
 
-use crate::fault::LowerError;
 use crate::items::{
-    Const, Enum, ExternCrate, Function, Macro2, ModItem, ModItemId, Static, Trait, TypeAlias, Union,
+    Const, Enum, ExternCrate, Function, Macro2, ModItem, Static, Trait, TypeAlias, Union,
 };
 use crate::lower::use_tree::lower_alias;
-use crate::lower::{Ctx, lower_visibility, push_row};
-use crate::rows::{Rows, ast_key};
+use crate::lower::{Ctx, LoweredItem, lower_visibility, push_item};
+use crate::rows::Rows;
 use crate::visibility::RawVisibilityId;
 use hir_input::{Name, ast};
 use std::alloc::Global;
@@ -49,7 +48,7 @@ pub(super) fn lower_named(
     rows: &mut Rows,
     kind: NamedKind,
     node: &ast::NamedNode,
-) -> Result<Option<ModItemId>, LowerError>
+) -> LoweredItem
     requires { IsWithinLimits rows.old }
     ensures { IsLowered ctx.entry rows.old rows.new
         (plain_item (named_kind kind) (named_view node.now)) result }
@@ -59,15 +58,11 @@ pub(super) fn lower_named(
     };
     let visibility = lower_visibility(ctx.alloc, rows, node.visibility.as_ref())?;
     let item = plain_item(kind, name.clone()?, visibility);
-    Ok(Some(push_row(ctx, rows, ast_key!(node), &node.attrs, item)?))
+    push_item!(ctx, rows, node, item)
 }
 
 // A constant is kept without a name too.
-pub(super) fn lower_const(
-    ctx: Ctx,
-    rows: &mut Rows,
-    const_node: &ast::Const,
-) -> Result<Option<ModItemId>, LowerError>
+pub(super) fn lower_const(ctx: Ctx, rows: &mut Rows, const_node: &ast::Const) -> LoweredItem
     requires { IsWithinLimits rows.old }
     ensures { IsLowered ctx.entry rows.old rows.new
         (const_item (named_view const_node.now)) result }
@@ -75,14 +70,14 @@ pub(super) fn lower_const(
     let visibility = lower_visibility(ctx.alloc, rows, const_node.visibility.as_ref())?;
     let name = const_node.name.clone()?;
     let item = ModItem::Const(Const { name, visibility });
-    Ok(Some(push_row(ctx, rows, ast_key!(const_node), &const_node.attrs, item)?))
+    push_item!(ctx, rows, const_node, item)
 }
 
 pub(super) fn lower_extern_crate(
     ctx: Ctx,
     rows: &mut Rows,
     crate_node: &ast::ExternCrate,
-) -> Result<Option<ModItemId>, LowerError>
+) -> LoweredItem
     requires { IsWithinLimits rows.old }
     ensures { IsLowered ctx.entry rows.old rows.new
         (extern_crate (extern_crate_view crate_node.now) crate_node.now.rename) result }
@@ -96,5 +91,5 @@ pub(super) fn lower_extern_crate(
         visibility,
         alias: lower_alias(crate_node.rename.as_ref())?,
     });
-    Ok(Some(push_row(ctx, rows, ast_key!(crate_node), &crate_node.attrs, item)?))
+    push_item!(ctx, rows, crate_node, item)
 }

@@ -1,13 +1,11 @@
 //! Lowering of statements.
-ghost use Rattle.std.specs.Prelude.{map};
-ghost use Rattle.hir_input.specs.Syntax.{items_from, stmt_items, stmts_view, tail_view};
+ghost use Rattle.hir_input.specs.Syntax.{stmt_items, stmts_view, tail_view};
 ghost use Rattle.item_tree.specs.Inner.Growth.{IsWithinLimits, IsLowered, AreLowered};
 ghost use Rattle.item_tree.specs.Inner.Statements.{stmt_item, tail_item};
 
-use crate::fault::LowerError;
-use crate::items::ModItemId;
+use crate::lower::each::{LowerNode, lower_each};
 use crate::lower::macros::lower_macro_call;
-use crate::lower::{Ctx, lower_item};
+use crate::lower::{Ctx, LoweredItem, LoweredItems, lower_item};
 use crate::rows::Rows;
 use hir_input::ast;
 
@@ -17,7 +15,7 @@ pub(super) fn lower_stmts(
     rows: &mut Rows,
     stmts: &[ast::Stmt],
     tail: &ast::Tail,
-) -> Result<Vec<ModItemId>, LowerError>
+) -> LoweredItems
     requires { IsWithinLimits rows.old }
     ensures { AreLowered ctx.entry rows.old rows.new
         (stmt_items (stmts_view stmts.now) (tail_view tail.now)) result }
@@ -29,31 +27,19 @@ pub(super) fn lower_stmts(
     Ok(ids)
 }
 
-fn lower_each(ctx: Ctx, rows: &mut Rows, stmts: &[ast::Stmt]) -> Result<Vec<ModItemId>, LowerError>
-    requires { IsWithinLimits rows.old }
-    ensures { AreLowered ctx.entry rows.old rows.new (items_from (map stmt_item stmts.now)) result }
-{
-    let mut ids = Vec::new(ctx.alloc);
-    for stmt in stmts {
-        if let Some(id) = lower_stmt(ctx, rows, stmt)? {
-            ids.push(id)?;
+impl LowerNode for ast::Stmt {
+    ghost seen = { stmt_item };
+
+    fn lower(&self, ctx: Ctx, rows: &mut Rows) -> LoweredItem {
+        match self {
+            ast::Stmt::Item(item) => lower_item(ctx, rows, item),
+            ast::Stmt::MacroCall(node) => lower_macro_call(ctx, rows, node),
+            ast::Stmt::Other => Ok(None),
         }
     }
-    Ok(ids)
 }
 
-fn lower_stmt(ctx: Ctx, rows: &mut Rows, stmt: &ast::Stmt) -> Result<Option<ModItemId>, LowerError>
-    requires { IsWithinLimits rows.old }
-    ensures { IsLowered ctx.entry rows.old rows.new (stmt_item stmt.now) result }
-{
-    match stmt {
-        ast::Stmt::Item(item) => lower_item(ctx, rows, item),
-        ast::Stmt::MacroCall(node) => lower_macro_call(ctx, rows, node),
-        ast::Stmt::Other => Ok(None),
-    }
-}
-
-fn lower_tail(ctx: Ctx, rows: &mut Rows, tail: &ast::Tail) -> Result<Option<ModItemId>, LowerError>
+fn lower_tail(ctx: Ctx, rows: &mut Rows, tail: &ast::Tail) -> LoweredItem
     requires { IsWithinLimits rows.old }
     ensures { IsLowered ctx.entry rows.old rows.new (tail_item tail.now) result }
 {

@@ -61,9 +61,6 @@ fn clone_trees(trees: &Vec<UseTree>) -> Result<Vec<UseTree>, AllocError>
 }
 
 impl Clone for UseTree {
-    ghost use Rattle.std.specs.Prelude.{◌≡◌};
-    ghost use Rattle.item_tree.specs.Tree.{tree_of};
-
     ghost is_clone = { λ tree copy. tree_of copy ≡ tree_of tree };
 
     fn clone(&self) -> Result<UseTree, AllocError> {
@@ -72,9 +69,6 @@ impl Clone for UseTree {
 }
 
 impl Clone for UseTreeKind {
-    ghost use Rattle.std.specs.Prelude.{◌≡◌};
-    ghost use Rattle.item_tree.specs.Tree.{tree_of_kind};
-
     ghost is_clone = { λ kind copy. tree_of_kind copy ≡ tree_of_kind kind };
 
     fn clone(&self) -> Result<UseTreeKind, AllocError> {

@@ -1,15 +1,14 @@
 //! When aliases and use trees are equal.
 ghost use Rattle.std.specs.Prelude.{◌≡◌, ◌↔◌, IsTrue};
+ghost use Rattle.std.specs.Ordering.{on};
+ghost use Rattle.std.specs.Cmp.{on_equiv, on_per, partial_equiv_from_equiv};
+ghost use Rattle.item_tree.specs.Same.{same, same_is_equivalence};
+ghost use Rattle.item_tree.specs.Code.Tree.{alias_code, tree_code};
 ghost use Rattle.item_tree.specs.Tree.{tree_of, tree_of_kind, trees_of};
 
 use crate::use_tree::{ImportAlias, UseTree, UseTreeKind};
 
 impl PartialEq for ImportAlias {
-    ghost use Rattle.std.specs.Prelude.{◌≡◌, ◌↔◌, IsTrue};
-    ghost use Rattle.std.specs.Cmp.{partial_equiv_from_equiv};
-    ghost use Rattle.item_tree.specs.Same.{same, same_is_equivalence};
-    ghost use Rattle.item_tree.specs.Code.Tree.{alias_code};
-
     ghost eq = { same alias_code };
 
     ghost laws = { partial_equiv_from_equiv (same_is_equivalence _) };
@@ -27,8 +26,6 @@ impl PartialEq for ImportAlias {
 }
 
 impl Eq for ImportAlias {
-    ghost use Rattle.item_tree.specs.Same.{same_is_equivalence};
-
     ghost laws = { same_is_equivalence _ };
 }
 
@@ -85,13 +82,6 @@ fn same_trees(trees: &[UseTree], others: &[UseTree]) -> bool
 
 /// Two cases are equal where they are seen as the same tree.
 impl PartialEq for UseTreeKind {
-    ghost use Rattle.std.specs.Prelude.{◌≡◌, ◌↔◌, IsTrue};
-    ghost use Rattle.std.specs.Ordering.{on};
-    ghost use Rattle.std.specs.Cmp.{on_per, partial_equiv_from_equiv};
-    ghost use Rattle.item_tree.specs.Same.{same, same_is_equivalence};
-    ghost use Rattle.item_tree.specs.Tree.{tree_of_kind};
-    ghost use Rattle.item_tree.specs.Code.Tree.{tree_code};
-
     ghost eq = { on tree_of_kind (same tree_code) };
 
     ghost laws = { on_per tree_of_kind (partial_equiv_from_equiv (same_is_equivalence _)) };
@@ -105,22 +95,11 @@ impl PartialEq for UseTreeKind {
 }
 
 impl Eq for UseTreeKind {
-    ghost use Rattle.std.specs.Cmp.{on_equiv};
-    ghost use Rattle.item_tree.specs.Same.{same_is_equivalence};
-    ghost use Rattle.item_tree.specs.Tree.{tree_of_kind};
-
     ghost laws = { on_equiv tree_of_kind (same_is_equivalence _) };
 }
 
 /// Two use trees are equal where they are seen as the same tree.
 impl PartialEq for UseTree {
-    ghost use Rattle.std.specs.Prelude.{◌≡◌, ◌↔◌, IsTrue};
-    ghost use Rattle.std.specs.Ordering.{on};
-    ghost use Rattle.std.specs.Cmp.{on_per, partial_equiv_from_equiv};
-    ghost use Rattle.item_tree.specs.Same.{same, same_is_equivalence};
-    ghost use Rattle.item_tree.specs.Tree.{tree_of};
-    ghost use Rattle.item_tree.specs.Code.Tree.{tree_code};
-
     ghost eq = { on tree_of (same tree_code) };
 
     ghost laws = { on_per tree_of (partial_equiv_from_equiv (same_is_equivalence _)) };
@@ -134,9 +113,5 @@ impl PartialEq for UseTree {
 }
 
 impl Eq for UseTree {
-    ghost use Rattle.std.specs.Cmp.{on_equiv};
-    ghost use Rattle.item_tree.specs.Same.{same_is_equivalence};
-    ghost use Rattle.item_tree.specs.Tree.{tree_of};
-
     ghost laws = { on_equiv tree_of (same_is_equivalence _) };
 }

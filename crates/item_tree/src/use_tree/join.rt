@@ -9,6 +9,9 @@ use crate::use_tree::ImportKind;
 use hir_input::{ModPath, Name, PathKind};
 use std::alloc::{AllocError, Global};
 
+/// The path that is meant, if one is.
+type MeantPath = Result<Option<ModPath>, AllocError>;
+
 // The names of `front`, and then those of `back`.
 fn joined_names(alloc: Global, front: &[Name], back: &[Name]) -> Result<Vec<Name>, AllocError>
     ensures { IfOk result (λ names. names.items ≡ front.now ++ back.now) }
@@ -36,7 +39,7 @@ fn joined_kind(front: PathKind, names: &[Name], back: PathKind) -> Option<PathKi
 
 // The path that the words of `before` and then those of `path` mean, if they mean one.
 #[tactic(auto, using(crate::proofs::Joins::read_join, crate::proofs::Joins::joined_made))]
-fn join(alloc: Global, before: &ModPath, path: &ModPath) -> Result<Option<ModPath>, AllocError>
+fn join(alloc: Global, before: &ModPath, path: &ModPath) -> MeantPath
     requires { super_count before.now.kind + super_count path.now.kind ≤ super_limit }
     ensures reads { IfOk result
         (λ joined. joined ≡ read_words (words before.now ++ words path.now)) }
@@ -56,7 +59,7 @@ fn join(alloc: Global, before: &ModPath, path: &ModPath) -> Result<Option<ModPat
 
 // The path that the words of `path` mean.
 #[tactic(auto, using(crate::proofs::Chains::read_chain_alone))]
-fn alone(alloc: Global, path: &ModPath) -> Result<Option<ModPath>, AllocError>
+fn alone(alloc: Global, path: &ModPath) -> MeantPath
     ensures reads { IfOk result (λ alone. alone ≡ read_chain (path.now ∷ [])) }
     ensures supers { IfOk result
         (λ alone. IfSome alone (λ q. super_count q.kind ≡ super_count path.now.kind)) }
@@ -68,11 +71,7 @@ fn alone(alloc: Global, path: &ModPath) -> Result<Option<ModPath>, AllocError>
 
 // The path that `path` means as a prefix below `before`, if it means one.
 #[tactic(auto, using(crate::proofs::Chains::read_chain_both))]
-pub(crate) fn join_below(
-    alloc: Global,
-    before: Option<&ModPath>,
-    path: &ModPath,
-) -> Result<Option<ModPath>, AllocError>
+pub(crate) fn join_below(alloc: Global, before: Option<&ModPath>, path: &ModPath) -> MeantPath
     requires { supers_before before + super_count path.now.kind ≤ super_limit }
     ensures reads { IfOk result
         (λ joined. joined ≡ read_chain (chain_of before.entry ++ path.now ∷ [])) }
@@ -95,11 +94,7 @@ fn is_self(path: &ModPath) -> bool
 }
 
 // The path that `path` means as a leaf below `before`, if it means one.
-pub(crate) fn meaning(
-    alloc: Global,
-    before: Option<&ModPath>,
-    path: &ModPath,
-) -> Result<Option<ModPath>, AllocError>
+pub(crate) fn meaning(alloc: Global, before: Option<&ModPath>, path: &ModPath) -> MeantPath
     requires { supers_before before + super_count path.now.kind ≤ super_limit }
     ensures { IfOk result (λ meaning. meaning
         ≡ read_below (is_self path.now) (chain_of before.entry) path.now) }
@@ -115,7 +110,7 @@ pub(crate) fn star_meaning(
     alloc: Global,
     before: Option<&ModPath>,
     path: &Option<ModPath>,
-) -> Result<Option<ModPath>, AllocError>
+) -> MeantPath
     requires { supers_before before + supers_in path.now ≤ super_limit }
     ensures { IfOk result (λ meaning. meaning ≡ read_star (chain_of before.entry) path.now) }
 {

@@ -1,5 +1,5 @@
-use Rattle.item_tree.proofs.Common.{err_from_is_err_and, meet_all, common_steps}
-use Rattle.std.proofs.Common.{sym, ◌∙◌, ap, arith}
+use Rattle.item_tree.proofs.Common.{err_from_is_err_and, meet_all}
+use Rattle.std.proofs.Common.{sym, ◌∙◌, ap}
 use Rattle.item_tree.proofs.Constructors.{unmet-first, MeetsUpTo-step}
 use Rattle.item_tree.proofs.lower.constructor.alloc_visibilities.Goals as goal
 
@@ -13,15 +13,3 @@ returns-in_err-alloc_visibility-clause-fault c =
 
 pub loop-visibility-preserved : goal.loop-visibility-preserved
 loop-visibility-preserved c = MeetsUpTo-step c.loop-visibility.visibility-iterator c.in-Some.ensures.steps c.loop-visibility.invariant c.in_ok-alloc_visibility.ensures.met c.in_ok-push.ensures.items
-
-pub loop-visibility-init : goal.loop-visibility-init
-loop-visibility-init c = grind (arith, common_steps)
-
-pub returns-clause-given : goal.returns-clause-given
-returns-clause-given c = grind (arith, common_steps)
-
-pub returns-clause-met : goal.returns-clause-met
-returns-clause-met c = grind (arith, common_steps)
-
-pub returns-in_err-push-clause-fault : goal.returns-in_err-push-clause-fault
-returns-in_err-push-clause-fault c = grind (arith, common_steps)
