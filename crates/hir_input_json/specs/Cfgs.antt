@@ -4,17 +4,14 @@ use Rattle.serde_json.specs.Data.{Data}
 use Rattle.serde_json.specs.Find.{get, as_null, as_str}
 use Rattle.hir_input.specs.Cfg.{AtomView, flag_atom, key_value, CfgView, CfgViews, invalid, all_of, any_of, not_of, cfgs_from}
 use Rattle.hir_input.specs.Cfg as condition
-use Rattle.hir_input_json.specs.Reading.{Reading, right, wrong, reading_map, here, under, ◌>>=◌}
+use Rattle.hir_input_json.specs.Reading.{Reading, right, wrong, reading_map, reading_both, here, under, ◌>>=◌}
 use Rattle.hir_input.specs.Name.{name_in}
 use Rattle.hir_input_json.specs.Forms.{field, required_at, by_form, text_form, identifier_form, object_members, list_of}
 use Rattle.hir_input_json.specs.Nested.{nested}
 
 -- an atom of this key, and of the value beside it, which is required
 abbrev pub keyed_by : Data → Data → Reading AtomView
-keyed_by e d = do
-  key ← under (codes "key") (identifier_form e)
-  value ← required_at (codes "value") text_form d
-  right (key_value key value)
+keyed_by e d = reading_both key_value (under (codes "key") (identifier_form e)) (required_at (codes "value") text_form d)
 
 -- a key, which is required, and its value
 abbrev pub keyed_atom : Data → Reading AtomView

@@ -82,6 +82,13 @@ whole_form bound d = here (option_and_then (below bound) (option_and_then as_u64
 abbrev pub number_form : List ℕ → Data → Reading ℕ
 number_form key d = required_at key (whole_form (2 ^ 32)) d
 
+-- an object, by the word that it holds at this key
+abbrev pub object_by : {A : Type 0} → List ℕ → Data → (List ℕ → Reading A) → Reading A
+object_by key d form = do
+  _ ← object_members d
+  word ← required_at key text_form d
+  form word
+
 -- a text that is a name
 abbrev pub identifier_form : Data → Reading (List ℕ)
 identifier_form d = do

@@ -6,8 +6,8 @@ use Rattle.hir_input.specs.declared.ast.Visibility.{Visibility}
 use Rattle.hir_input.specs.declared.expand_to.ExpandTo.{ExpandTo}
 use Rattle.hir_input.specs.declared.expand_to.ExpandTo.TheVariants.{Statements, Items, Pattern, Ty, Expr}
 use Rattle.hir_input.specs.Syntax.{NodeView, NamedView, PlainKind, fn_kind, union_kind, enum_kind, static_kind, trait_kind, type_alias_kind, macro_def_kind, FieldsView, record_fields, tuple_fields, no_fields, CallView, ItemView, plain_item, const_item, struct_item, module_from, use_item, extern_crate, extern_block_from, impl_item, macro_call, macro_rules, asm_item}
-use Rattle.hir_input_json.specs.Reading.{Reading, right, wrong, reading_map, ◌>>=◌}
-use Rattle.hir_input_json.specs.Forms.{required_at, optional_at, maybe, maybe_at, by_form, on_word, wrong_at, unless_null, whole_form, text_form, flag, identifier_form, object_members, list_of}
+use Rattle.hir_input_json.specs.Reading.{Reading, right, wrong, reading_map, reading_both, ◌>>=◌}
+use Rattle.hir_input_json.specs.Forms.{required_at, optional_at, maybe, maybe_at, by_form, on_word, wrong_at, unless_null, whole_form, text_form, flag, identifier_form, object_by, list_of}
 use Rattle.hir_input_json.specs.Literals.{context_at}
 use Rattle.hir_input_json.specs.Metas.{attrs_form}
 use Rattle.hir_input_json.specs.Nested.{nested}
@@ -49,10 +49,7 @@ fields_form d = by_form (as_str d) fields_word (reading_map tuple_fields (list_o
 
 -- a struct, with its fields
 abbrev pub struct_form : Data → Reading ItemView
-struct_form d = do
-  n ← named_form d
-  kind ← required_at (codes "fields") fields_form d
-  right (struct_item n kind)
+struct_form d = reading_both struct_item (named_form d) (required_at (codes "fields") fields_form d)
 
 -- a module, with its semicolon and its items
 abbrev pub module_form : (Data → Reading ItemView) → Data → Reading ItemView
@@ -72,33 +69,22 @@ use_form d = do
 
 -- an extern crate, with its rename
 abbrev pub extern_crate_form : Data → Reading ItemView
-extern_crate_form d = do
-  n ← named_form d
-  renamed ← maybe_at (codes "rename") rename_form d
-  right (extern_crate n renamed)
+extern_crate_form d = reading_both extern_crate (named_form d) (maybe_at (codes "rename") rename_form d)
 
 -- an impl, of a trait or not
 abbrev pub impl_form : Data → Reading ItemView
-impl_form d = do
-  n ← node_form d
-  of_trait ← optional_at false (codes "trait") flag d
-  right (impl_item n of_trait)
+impl_form d = reading_both impl_item (node_form d) (optional_at false (codes "trait") flag d)
 
--- the words for what a macro call expands to
-abbrev pub expand_word : List ℕ → Reading ExpandTo
-expand_word word =
-    on_word word (codes "Statements") (right Statements)
-    (on_word word (codes "Items") (right Items)
-    (on_word word (codes "Pattern") (right Pattern)
-    (on_word word (codes "Type") (right Ty)
-    (on_word word (codes "Expr") (right Expr)
-    (wrong [])))))
-
--- what a macro call expands to
+-- what a macro call expands to, by its word
 abbrev pub expand_to : Data → Reading ExpandTo
 expand_to d = do
   word ← text_form d
-  expand_word word
+  on_word word (codes "Statements") (right Statements)
+      (on_word word (codes "Items") (right Items)
+      (on_word word (codes "Pattern") (right Pattern)
+      (on_word word (codes "Type") (right Ty)
+      (on_word word (codes "Expr") (right Expr)
+      (wrong [])))))
 
 -- items where it is absent
 abbrev pub expand_to_at : Data → Reading ExpandTo
@@ -118,56 +104,38 @@ macro_call_form d = reading_map macro_call (call_form d)
 
 -- a macro by example, with its name
 abbrev pub macro_rules_form : Data → Reading ItemView
-macro_rules_form d = do
-  n ← node_form d
-  called ← maybe_at (codes "name") identifier_form d
-  right (macro_rules n called)
+macro_rules_form d = reading_both macro_rules (node_form d) (maybe_at (codes "name") identifier_form d)
 
--- by the word of the kind of an item in an extern block
-abbrev pub extern_form_by : List ℕ → Data → Reading ItemView
-extern_form_by word d =
+-- an item of an extern block, by the word of its kind
+unfoldable pub extern_item : Data → Reading ItemView
+extern_item d = object_by (codes "is") d (λ word.
     on_word word (codes "fn") (plain_form fn_kind d)
     (on_word word (codes "static") (plain_form static_kind d)
     (on_word word (codes "type_alias") (plain_form type_alias_kind d)
     (on_word word (codes "macro_call") (macro_call_form d)
-    (wrong_at (codes "is")))))
-
--- an item of an extern block
-unfoldable pub extern_item : Data → Reading ItemView
-extern_item d = do
-  _ ← object_members d
-  word ← required_at (codes "is") text_form d
-  extern_form_by word d
+    (wrong_at (codes "is"))))))
 
 -- an extern block, with its items
 abbrev pub extern_block_form : Data → Reading ItemView
-extern_block_form d = do
-  n ← node_form d
-  items ← maybe_at (codes "items") (list_of extern_item) d
-  right (extern_block_from n items)
+extern_block_form d = reading_both extern_block_from (node_form d) (maybe_at (codes "items") (list_of extern_item) d)
 
--- by the word of the kind of an item that has a name and a visibility, and no keys of its own
-abbrev pub named_form_by : List ℕ → Data → Reading ItemView
-named_form_by word d =
-    on_word word (codes "fn") (plain_form fn_kind d)
-    (on_word word (codes "union") (plain_form union_kind d)
-    (on_word word (codes "enum") (plain_form enum_kind d)
-    (on_word word (codes "static") (plain_form static_kind d)
-    (on_word word (codes "trait") (plain_form trait_kind d)
-    (on_word word (codes "type_alias") (plain_form type_alias_kind d)
-    (on_word word (codes "macro_def") (plain_form macro_def_kind d)
-    (on_word word (codes "const") (reading_map const_item (named_form d))
-    (wrong_at (codes "is")))))))))
-
--- an item of such a kind
+-- an item of a kind that has a name and a visibility, and no keys of its own, by the word of its kind
 unfoldable pub named_item : Data → Reading ItemView
 named_item d = do
   word ← required_at (codes "is") text_form d
-  named_form_by word d
+  on_word word (codes "fn") (plain_form fn_kind d)
+      (on_word word (codes "union") (plain_form union_kind d)
+      (on_word word (codes "enum") (plain_form enum_kind d)
+      (on_word word (codes "static") (plain_form static_kind d)
+      (on_word word (codes "trait") (plain_form trait_kind d)
+      (on_word word (codes "type_alias") (plain_form type_alias_kind d)
+      (on_word word (codes "macro_def") (plain_form macro_def_kind d)
+      (on_word word (codes "const") (reading_map const_item (named_form d))
+      (wrong_at (codes "is")))))))))
 
--- by the word of an item's kind
-abbrev pub item_by : List ℕ → (Data → Reading ItemView) → Data → Reading ItemView
-item_by word item d =
+-- an item, over the reading of those inside, by the word of its kind
+abbrev pub item_with : (Data → Reading ItemView) → Data → Reading ItemView
+item_with item d = object_by (codes "is") d (λ word.
     on_word word (codes "struct") (struct_form d)
     (on_word word (codes "module") (module_form item d)
     (on_word word (codes "use") (use_form d)
@@ -177,14 +145,7 @@ item_by word item d =
     (on_word word (codes "macro_call") (macro_call_form d)
     (on_word word (codes "macro_rules") (macro_rules_form d)
     (on_word word (codes "asm") (reading_map asm_item (node_form d))
-    (named_item d)))))))))
-
--- an item, over the reading of those inside
-abbrev pub item_with : (Data → Reading ItemView) → Data → Reading ItemView
-item_with item d = do
-  _ ← object_members d
-  word ← required_at (codes "is") text_form d
-  item_by word item d
+    (named_item d))))))))))
 
 -- an item, with those inside it
 abbrev pub item : Data → Reading ItemView

@@ -4,9 +4,9 @@ use Rattle.serde_json.specs.Data.{Data}
 use Rattle.serde_json.specs.Find.{get}
 use Rattle.hir_input.specs.Cfg.{CfgView, invalid}
 use Rattle.hir_input.specs.Attr.{MetaView, path_meta, key_value_meta, token_tree_meta, cfg_meta, cfg_attr_meta, unsafe_meta, metas_from}
-use Rattle.hir_input_json.specs.Reading.{Reading, right, under, ◌>>=◌}
+use Rattle.hir_input_json.specs.Reading.{Reading, right, reading_both, under, ◌>>=◌}
 use Rattle.hir_input_json.specs.Cfgs.{cfg}
-use Rattle.hir_input_json.specs.Forms.{required_at, optional, maybe_at, list_at, on_word, wrong_at, text_form, object_members}
+use Rattle.hir_input_json.specs.Forms.{required_at, optional, maybe_at, list_at, on_word, wrong_at, text_form, object_by}
 use Rattle.hir_input_json.specs.Literals.{context_at, literal}
 use Rattle.hir_input_json.specs.Nested.{nested}
 use Rattle.hir_input_json.specs.Paths.{path_at}
@@ -17,10 +17,7 @@ condition_at d = under (codes "cfg") (optional invalid cfg (get (codes "cfg") d)
 
 -- a path alone
 abbrev pub path_form : Data → Reading MetaView
-path_form d = do
-  p ← path_at d
-  ctxt ← context_at d
-  right (path_meta p ctxt)
+path_form d = reading_both path_meta (path_at d) (context_at d)
 
 -- a path and a literal, which may be absent
 abbrev pub key_value_form : Data → Reading MetaView
@@ -57,23 +54,16 @@ unsafe_form meta d = do
   inner ← required_at (codes "inner") meta d
   right (unsafe_meta inner)
 
--- by the word of a meta's kind
-abbrev pub meta_by : List ℕ → (Data → Reading MetaView) → Data → Reading MetaView
-meta_by word meta d =
+-- a meta, over the reading of those inside, by the word of its kind
+abbrev pub meta_form_with : (Data → Reading MetaView) → Data → Reading MetaView
+meta_form_with meta d = object_by (codes "meta") d (λ word.
     on_word word (codes "path") (path_form d)
     (on_word word (codes "key_value") (key_value_form d)
     (on_word word (codes "tokens") (tokens_form d)
     (on_word word (codes "cfg") (cfg_form d)
     (on_word word (codes "cfg_attr") (cfg_attr_form meta d)
     (on_word word (codes "unsafe") (unsafe_form meta d)
-    (wrong_at (codes "meta")))))))
-
--- a meta, over the reading of those inside
-abbrev pub meta_form_with : (Data → Reading MetaView) → Data → Reading MetaView
-meta_form_with meta d = do
-  _ ← object_members d
-  word ← required_at (codes "meta") text_form d
-  meta_by word meta d
+    (wrong_at (codes "meta"))))))))
 
 -- a meta, with those inside it
 abbrev pub meta_form : Data → Reading MetaView

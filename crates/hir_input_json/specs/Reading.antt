@@ -16,6 +16,13 @@ abbrev pub reading_map : {A B : Type 0} → (A → B) → Reading A → Reading 
 reading_map f (right a) = right (f a)
 reading_map f (wrong pointer) = wrong pointer
 
+-- what is made of two that are read, one after the other
+abbrev pub reading_both : {A B C : Type 0} → (A → B → C) → Reading A → Reading B → Reading C
+reading_both f r s = do
+  a ← r
+  b ← s
+  right (f a b)
+
 -- what there is, or else the value itself is not of its form
 abbrev pub here : {A : Type 0} → Option A → Reading A
 here (Some a) = right a

@@ -3,8 +3,8 @@ use Rattle.std.specs.Prelude.{List, ℕ, [], codes}
 use Rattle.serde_json.specs.Data.{Data}
 use Rattle.serde_json.specs.Find.{as_str}
 use Rattle.hir_input.specs.Syntax.{CallView, items_from, StmtView, item_stmt, call_stmt, other_stmt, TailView, no_tail, call_tail, other_tail, SyntaxView, source_file, macro_items, macro_stmts, block_expr, error}
-use Rattle.hir_input_json.specs.Reading.{Reading, right, wrong, reading_map, under, ◌>>=◌}
-use Rattle.hir_input_json.specs.Forms.{field, required_at, optional_at, by_form, on_word, wrong_at, text_form, object_members, list_at}
+use Rattle.hir_input_json.specs.Reading.{Reading, right, wrong, reading_map, reading_both, under, ◌>>=◌}
+use Rattle.hir_input_json.specs.Forms.{field, required_at, optional_at, by_form, on_word, wrong_at, text_form, object_members, object_by, list_at}
 use Rattle.hir_input_json.specs.Items.{item, call_form}
 use Rattle.hir_input_json.specs.Metas.{attrs_form}
 
@@ -55,26 +55,16 @@ macro_items_form d = reading_map (λ items. macro_items (items_from items)) (lis
 
 -- the statements and the tail of a macro's result
 abbrev pub macro_stmts_form : Data → Reading SyntaxView
-macro_stmts_form d = do
-  stmts ← list_at stmt (codes "stmts") d
-  end ← tail_at d
-  right (macro_stmts stmts end)
+macro_stmts_form d = reading_both macro_stmts (list_at stmt (codes "stmts") d) (tail_at d)
 
--- by the word of a root
-abbrev pub syntax_by : List ℕ → Data → Reading SyntaxView
-syntax_by word d =
+-- a syntax, by the word of its root
+abbrev pub syntax : Data → Reading SyntaxView
+syntax d = object_by (codes "root") d (λ word.
     on_word word (codes "source_file") (source_form d)
     (on_word word (codes "macro_items") (macro_items_form d)
     (on_word word (codes "macro_stmts") (macro_stmts_form d)
     (on_word word (codes "error") (right error)
-    (wrong_at (codes "root")))))
-
--- a syntax, by its root
-abbrev pub syntax : Data → Reading SyntaxView
-syntax d = do
-  _ ← object_members d
-  word ← required_at (codes "root") text_form d
-  syntax_by word d
+    (wrong_at (codes "root"))))))
 
 -- a block, with its attributes, its statements and its tail
 abbrev pub block_form : Data → Reading SyntaxView

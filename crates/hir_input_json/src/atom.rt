@@ -7,19 +7,20 @@ ghost use Rattle.hir_input_json.specs.Forms.{each, list_at as each_at};
 ghost use Rattle.hir_input_json.specs.Held.{held, without};
 ghost use Rattle.hir_input_json.specs.Reads.{Reads};
 
+use crate::each_of;
 use crate::fault::{Fault, ReadIn};
 use crate::literal::required_text_at;
-use crate::member::{each_of, list_at, members_of, required_at};
+use crate::member::{Members, list_at, members_of, required_at};
 use crate::name::name_of;
 use hir_input::CfgAtom;
-use serde_json::{Map, Value};
+use serde_json::Value;
 use std::alloc::Global;
 
 // The atom of this key, with the value that the members hold.
 pub(crate) fn keyed_atom_of(
     alloc: Global,
     key: Value,
-    members: &mut Map<String, Value>,
+    members: &mut Members,
 ) -> Result<CfgAtom, Fault>
     ensures { Reads atom_view result (keyed_by (view key) (held members.old)) }
 {
@@ -49,11 +50,7 @@ fn atoms_of(alloc: Global, items: Vec<Value>) -> Result<Vec<CfgAtom>, Fault>
 /// Takes a list of atoms out, none where it is absent: the options that are set in a crate.
 ///
 /// `WrongForm` comes only where the list is not of its form (`Cfgs.atom`), and tells where.
-pub fn atoms_at(
-    alloc: Global,
-    members: &mut Map<String, Value>,
-    key: &str,
-) -> Result<Vec<CfgAtom>, Fault>
+pub fn atoms_at(alloc: Global, members: &mut Members, key: &str) -> Result<Vec<CfgAtom>, Fault>
     ensures reads { Reads (λ v. map atom_view v.items) result
         (each_at atom_form key.now (held members.old)) }
     ensures left { OnOk result (held members.new ≡ without key.now (held members.old)) }

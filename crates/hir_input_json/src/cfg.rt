@@ -9,10 +9,11 @@ ghost use Rattle.hir_input_json.specs.Metas.{condition_at as condition_form};
 ghost use Rattle.hir_input_json.specs.Reads.{Reads};
 
 use crate::atom::{atom_of, keyed_atom_of};
+use crate::each_of;
 use crate::fault::{Fault, ReadIn};
-use crate::member::{array_of, each_of, members_of, removed, taken};
+use crate::member::{Members, array_of, members_of, removed, taken};
 use hir_input::CfgExpr;
-use serde_json::{Map, Value};
+use serde_json::Value;
 use std::alloc::Global;
 
 #[cycle(cfgs)]
@@ -41,7 +42,7 @@ fn cfg_in(alloc: Global, value: Value) -> Result<CfgExpr, Fault>
 // A condition by the first key that it holds.
 #[cycle(cfgs)]
 #[tactic(auto, using(crate::proofs::Held::field_without, crate::proofs::Inside::depth_found_in, crate::proofs::Inside::depth_found_get, hir_input::proofs::CfgLemmas::cfg_views))]
-fn cfg_by(alloc: Global, members: &mut Map<String, Value>) -> Result<CfgExpr, Fault>
+fn cfg_by(alloc: Global, members: &mut Members) -> Result<CfgExpr, Fault>
     ensures { Reads cfg_view result (cfg_by_form cfg_form (held members.old)) }
 {
     let inner = removed(members, "not");
@@ -82,10 +83,7 @@ fn cfgs_of(alloc: Global, items: Vec<Value>) -> Result<Vec<CfgExpr>, Fault>
 }
 
 // The condition of a meta, taken out, which cannot be read where it is absent.
-pub(crate) fn condition_at(
-    alloc: Global,
-    members: &mut Map<String, Value>,
-) -> Result<CfgExpr, Fault>
+pub(crate) fn condition_at(alloc: Global, members: &mut Members) -> Result<CfgExpr, Fault>
     ensures reads { Reads cfg_view result (condition_form (held members.old)) }
     ensures left { OnOk result (held members.new ≡ without (codes "cfg") (held members.old)) }
 {

@@ -6,9 +6,9 @@ ghost use Rattle.hir_input_json.specs.Literals.{context as context_form, context
 ghost use Rattle.hir_input_json.specs.Reads.{Reads};
 
 use crate::fault::{Fault, ReadIn};
-use crate::member::{field, u32_of};
+use crate::member::{Members, field, u32_of};
 use hir_input::{EditionYear, SyntaxContext};
-use serde_json::{Map, Value};
+use serde_json::Value;
 use std::alloc::Global;
 
 // A root by its word.
@@ -34,10 +34,7 @@ fn context_of(alloc: Global, value: &Value) -> Result<SyntaxContext, Fault>
 }
 
 // The latest root where it is absent.
-pub(crate) fn context_at(
-    alloc: Global,
-    members: &Map<String, Value>,
-) -> Result<SyntaxContext, Fault>
+pub(crate) fn context_at(alloc: Global, members: &Members) -> Result<SyntaxContext, Fault>
     ensures { Reads (λ ctxt. ctxt) result (context_at_form (held members.now)) }
 {
     match field(members, "ctxt") {

@@ -9,14 +9,14 @@ ghost use Rattle.hir_input_json.specs.Held.{held, without};
 ghost use Rattle.hir_input_json.specs.Reads.{Reads};
 
 use crate::fault::{Fault, ReadIn};
-use crate::member::{field, members_of, taken};
+use crate::member::{Members, field, members_of, taken};
 use crate::name::names_at;
 use hir_input::{Edition, EditionYear};
-use serde_json::{Map, Value};
+use serde_json::Value;
 use std::alloc::Global;
 
 // The latest year where it is absent.
-fn year_at(alloc: Global, members: &Map<String, Value>) -> Result<EditionYear, Fault>
+fn year_at(alloc: Global, members: &Members) -> Result<EditionYear, Fault>
     ensures { Reads (λ year. year) result
         (optional_at E2024 (codes "year") year_form (held members.now)) }
 {
@@ -45,7 +45,7 @@ fn edition_of(alloc: Global, value: Value) -> Result<Edition, Fault>
 /// Takes the edition out: the latest, without reserved words, where it is absent.
 ///
 /// `WrongForm` comes only where it is there and not of its form (`Editions.edition`), and tells where.
-pub fn edition_at(alloc: Global, members: &mut Map<String, Value>) -> Result<Edition, Fault>
+pub fn edition_at(alloc: Global, members: &mut Members) -> Result<Edition, Fault>
     ensures reads { Reads edition_view result (edition_at_form (held members.old)) }
     ensures left { OnOk result (held members.new ≡ without (codes "edition") (held members.old)) }
 {

@@ -3,7 +3,8 @@ ghost use Rattle.std.specs.Prelude.{◌≡◌};
 ghost use Rattle.serde_json.specs.View.{view, items_view, members_view};
 ghost use Rattle.serde_json.specs.Written.{has_float as holds_float, items_have_float as items_hold_float, members_have_float as members_hold_float};
 
-use serde_json::{Map, Value};
+use crate::member::Members;
+use serde_json::Value;
 
 /// Whether a number that is held as a float occurs anywhere in the value, also under keys that no form names.
 #[inline(always)]
@@ -34,7 +35,7 @@ fn items_have_float(items: &Vec<Value>) -> bool
 
 #[inline(never)]
 #[cycle(floats)]
-fn members_have_float(members: &Map<String, Value>) -> bool
+fn members_have_float(members: &Members) -> bool
     ensures { result ≡ members_hold_float (members_view members.now.entries) }
 {
     for (_key, member) in members.iter() {

@@ -13,23 +13,24 @@ mod fields;
 pub(crate) mod macros;
 mod node;
 
+use crate::each_of;
 use crate::fault::{Fault, ReadIn};
 use crate::item::extern_block::extern_block_of;
 use crate::item::fields::struct_kind_at;
 use crate::item::macros::{macro_call_of, macro_rules_of};
 use crate::item::node::{named_at, node_at, with_name, with_node};
-use crate::member::{array_of, each_of, flag_at, members_of, taken, word_at};
+use crate::member::{Members, array_of, flag_at, maybe_list_of, members_of, taken, word_at};
 use crate::use_tree::{rename_at, use_tree_at};
 use crate::visibility::visibility_at;
 use hir_input::ast::{
     AsmExpr, Const, Enum, ExternCrate, Fn, Impl, Item, MacroDef, Module, Static, Struct, Trait,
     TypeAlias, Union, Use,
 };
-use serde_json::{Map, Value};
+use serde_json::Value;
 use std::alloc::Global;
 
 #[tactic(auto, using(crate::proofs::Held::field_without, hir_input::proofs::SyntaxViews::item_views))]
-fn struct_of(alloc: Global, members: &mut Map<String, Value>) -> Result<Item, Fault>
+fn struct_of(alloc: Global, members: &mut Members) -> Result<Item, Fault>
     ensures { Reads item_view result (struct_form (held members.old)) }
 {
     let named = named_at(alloc, members)?;
@@ -38,7 +39,7 @@ fn struct_of(alloc: Global, members: &mut Map<String, Value>) -> Result<Item, Fa
 }
 
 #[tactic(auto, using(crate::proofs::Held::field_without, hir_input::proofs::SyntaxViews::item_views))]
-fn use_of(alloc: Global, members: &mut Map<String, Value>) -> Result<Item, Fault>
+fn use_of(alloc: Global, members: &mut Members) -> Result<Item, Fault>
     ensures { Reads item_view result (use_form (held members.old)) }
 {
     let node = node_at(alloc, members)?;
@@ -48,7 +49,7 @@ fn use_of(alloc: Global, members: &mut Map<String, Value>) -> Result<Item, Fault
 }
 
 #[tactic(auto, using(crate::proofs::Held::field_without, hir_input::proofs::SyntaxViews::item_views))]
-fn extern_crate_of(alloc: Global, members: &mut Map<String, Value>) -> Result<Item, Fault>
+fn extern_crate_of(alloc: Global, members: &mut Members) -> Result<Item, Fault>
     ensures { Reads item_view result (extern_crate_form (held members.old)) }
 {
     let named = named_at(alloc, members)?;
@@ -57,7 +58,7 @@ fn extern_crate_of(alloc: Global, members: &mut Map<String, Value>) -> Result<It
 }
 
 #[tactic(auto, using(crate::proofs::Held::field_without, hir_input::proofs::SyntaxViews::item_views))]
-fn impl_of(alloc: Global, members: &mut Map<String, Value>) -> Result<Item, Fault>
+fn impl_of(alloc: Global, members: &mut Members) -> Result<Item, Fault>
     ensures { Reads item_view result (impl_form (held members.old)) }
 {
     let node = node_at(alloc, members)?;
@@ -66,14 +67,14 @@ fn impl_of(alloc: Global, members: &mut Map<String, Value>) -> Result<Item, Faul
 }
 
 #[tactic(auto, using(hir_input::proofs::SyntaxViews::item_views))]
-fn macro_item_of(alloc: Global, members: &mut Map<String, Value>) -> Result<Item, Fault>
+fn macro_item_of(alloc: Global, members: &mut Members) -> Result<Item, Fault>
     ensures { Reads item_view result (macro_call_form (held members.old)) }
 {
     Ok(Item::MacroCall(macro_call_of(alloc, members)?))
 }
 
 #[tactic(auto, using(hir_input::proofs::SyntaxViews::item_views))]
-fn asm_of(alloc: Global, members: &mut Map<String, Value>) -> Result<Item, Fault>
+fn asm_of(alloc: Global, members: &mut Members) -> Result<Item, Fault>
     ensures { Reads item_view result (reading_map asm_item (node_form (held members.old))) }
 {
     let node = node_at(alloc, members)?;
@@ -82,7 +83,7 @@ fn asm_of(alloc: Global, members: &mut Map<String, Value>) -> Result<Item, Fault
 
 // An item of a kind that has a name and a visibility, and no keys of its own.
 #[tactic(auto, unfolding(crate::specs::Items::named_item), using(hir_input::proofs::SyntaxViews::item_views))]
-fn named_item_of(alloc: Global, members: &mut Map<String, Value>) -> Result<Item, Fault>
+fn named_item_of(alloc: Global, members: &mut Members) -> Result<Item, Fault>
     ensures { Reads item_view result (named_item_form (held members.old)) }
 {
     match word_at(alloc, members, "is")? {
@@ -109,7 +110,7 @@ pub(crate) fn item_of(alloc: Global, value: Value) -> Result<Item, Fault>
 
 #[cycle(items)]
 #[tactic(auto, using(hir_input::proofs::SyntaxViews::item_views))]
-fn item_in(alloc: Global, members: &mut Map<String, Value>) -> Result<Item, Fault>
+fn item_in(alloc: Global, members: &mut Members) -> Result<Item, Fault>
     ensures { Reads item_view result (item_with item_form (held members.old)) }
 {
     match word_at(alloc, members, "is")? {
@@ -128,7 +129,7 @@ fn item_in(alloc: Global, members: &mut Map<String, Value>) -> Result<Item, Faul
 
 #[cycle(items)]
 #[tactic(auto, using(crate::proofs::Held::field_without, crate::proofs::Inside::depth_found_in, hir_input::proofs::SyntaxViews::item_views))]
-fn module_of(alloc: Global, members: &mut Map<String, Value>) -> Result<Item, Fault>
+fn module_of(alloc: Global, members: &mut Members) -> Result<Item, Fault>
     ensures { Reads item_view result (module_form item_form (held members.old)) }
 {
     let named = named_at(alloc, members)?;
@@ -144,11 +145,7 @@ fn items_in(alloc: Global, list: Option<Value>) -> Result<Option<Vec<Item>>, Fau
     ensures { Reads (option_map (λ v. map item_view v.items)) result
         (maybe (list_of item_form) (option_map view list)) }
 {
-    let Some(list) = list else {
-        return Ok(None);
-    };
-    let items = array_of(alloc, list)?;
-    Ok(Some(items_of(alloc, items)?))
+    maybe_list_of!(alloc, list, items_of)
 }
 
 #[cycle(items)]

@@ -7,15 +7,15 @@ ghost use Rattle.hir_input_json.specs.Literals.{literal as literal_form, span as
 ghost use Rattle.hir_input_json.specs.Reads.{Reads};
 
 use crate::fault::{Fault, ReadIn};
-use crate::member::{field, members_of, required_at, taken, text_of, u32_of};
+use crate::member::{Members, field, maybe_of, members_of, required_at, taken, text_of, u32_of};
 use hir_input::{Literal, Span, SyntaxContext};
-use serde_json::{Map, Value};
+use serde_json::Value;
 use std::alloc::Global;
 
 // A text that has to be there, taken out.
 pub(crate) fn required_text_at(
     alloc: Global,
-    members: &mut Map<String, Value>,
+    members: &mut Members,
     key: &str,
 ) -> Result<String, Fault>
     ensures reads { Reads string_bytes result (required_form key.now text_form (held members.old)) }
@@ -25,15 +25,12 @@ pub(crate) fn required_text_at(
     text_of(alloc, found).in_member(alloc, key)
 }
 
-fn string_at(alloc: Global, members: &mut Map<String, Value>) -> Result<Option<String>, Fault>
+fn string_at(alloc: Global, members: &mut Members) -> Result<Option<String>, Fault>
     ensures reads { Reads (option_map string_bytes) result
         (maybe_at (codes "string") text_form (held members.old)) }
     ensures left { OnOk result (held members.new ≡ without (codes "string") (held members.old)) }
 {
-    match taken(members, "string") {
-        Some(found) => Ok(Some(text_of(alloc, found).in_member(alloc, "string")?)),
-        None => Ok(None),
-    }
+    maybe_of!(alloc, members, "string", text_of)
 }
 
 fn span_of(alloc: Global, value: &Value, ctxt: SyntaxContext) -> Result<Span, Fault>
@@ -53,7 +50,7 @@ fn span_of(alloc: Global, value: &Value, ctxt: SyntaxContext) -> Result<Span, Fa
 }
 
 // Empty at 0 where it is absent.
-fn span_at(alloc: Global, members: &Map<String, Value>, ctxt: SyntaxContext) -> Result<Span, Fault>
+fn span_at(alloc: Global, members: &Members, ctxt: SyntaxContext) -> Result<Span, Fault>
     ensures { Reads (λ span. span) result
         (optional_at (span_from ctxt 0 0) (codes "span") (span_form ctxt) (held members.now)) }
 {
@@ -85,14 +82,11 @@ fn literal_of(alloc: Global, value: Value, ctxt: SyntaxContext) -> Result<Litera
 // The value of a meta in this context, taken out.
 pub(crate) fn literal_at(
     alloc: Global,
-    members: &mut Map<String, Value>,
+    members: &mut Members,
     ctxt: SyntaxContext,
 ) -> Result<Option<Literal>, Fault>
     ensures { Reads (λ literal. literal) result
         (maybe_at (codes "value") (literal_form ctxt) (held members.old)) }
 {
-    match taken(members, "value") {
-        Some(found) => Ok(Some(literal_of(alloc, found, ctxt).in_member(alloc, "value")?)),
-        None => Ok(None),
-    }
+    maybe_of!(alloc, members, "value", literal_of, ctxt)
 }

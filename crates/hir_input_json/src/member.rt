@@ -11,10 +11,13 @@ use crate::fault::{Fault, ReadIn};
 use serde_json::{Map, Value};
 use std::alloc::Global;
 
+/// The members of an object by their keys.
+pub type Members = Map<String, Value>;
+
 /// The members of an object, by which its parts are read.
 ///
 /// An error comes exactly where the value is no object.
-pub fn members_of(alloc: Global, value: Value) -> Result<Map<String, Value>, Fault>
+pub fn members_of(alloc: Global, value: Value) -> Result<Members, Fault>
     ensures { MatchResult result (λ members. view value ≡ held members)
         (λ e. IsHere e × (as_object (view value) ≡ None)) }
 {
@@ -34,20 +37,43 @@ pub(crate) fn array_of(alloc: Global, value: Value) -> Result<Vec<Value>, Fault>
     }
 }
 
-// Each of the values by the function that reads one; a fault is told of the array.
+/// Each of the values by the function that reads one; a fault is told of the array.
+#[macro_export]
 macro_rules! each_of {
-    ($alloc:expr, $values:expr, $read:ident) => {{
+    ($alloc:expr, $values:expr, $read:ident $(, $more:expr)*) => {{
         let mut done = Vec::with_capacity($alloc, $values.len())?;
         for item in $values {
             let place = done.len();
-            let read = $read($alloc, item).in_item($alloc, place)?;
+            let read = $read($alloc, item $(, $more)*).in_item($alloc, place)?;
             done.push(read)?;
         }
         Ok(done)
     }};
 }
 
-pub(crate) use each_of;
+// The items of a list that may be absent, by the function that reads them.
+macro_rules! maybe_list_of {
+    ($alloc:expr, $list:expr, $read:ident) => {{
+        let Some(list) = $list else {
+            return Ok(None);
+        };
+        let items = array_of($alloc, list)?;
+        Ok(Some($read($alloc, items)?))
+    }};
+}
+
+// The member at this key, taken out, by the function that reads one; it may be absent.
+macro_rules! maybe_of {
+    ($alloc:expr, $members:expr, $key:expr, $read:ident $(, $more:expr)*) => {
+        match taken($members, $key) {
+            Some(found) => Ok(Some($read($alloc, found $(, $more)*).in_member($alloc, $key)?)),
+            None => Ok(None),
+        }
+    };
+}
+
+pub(crate) use maybe_list_of;
+pub(crate) use maybe_of;
 
 // The text of a string.
 pub(crate) fn text_of(alloc: Global, value: Value) -> Result<String, Fault>
@@ -59,7 +85,7 @@ pub(crate) fn text_of(alloc: Global, value: Value) -> Result<String, Fault>
     }
 }
 
-fn found<'v>(members: &'v Map<String, Value>, key: &str) -> Option<&'v Value>
+fn found<'v>(members: &'v Members, key: &str) -> Option<&'v Value>
     ensures { option_map (λ v. view v.now) result ≡ get_in key.now (held members.now) }
 {
     members.get(key)
@@ -67,7 +93,7 @@ fn found<'v>(members: &'v Map<String, Value>, key: &str) -> Option<&'v Value>
 
 // Takes the member out, also if it is null, and leaves a null.
 #[inline(always)]
-pub(crate) fn removed(members: &mut Map<String, Value>, key: &str) -> Option<Value>
+pub(crate) fn removed(members: &mut Members, key: &str) -> Option<Value>
     ensures taken { option_map view result ≡ get_in key.now (held members.old) }
     ensures left { held members.new ≡ without key.now (held members.old) }
 {
@@ -81,7 +107,7 @@ pub(crate) fn removed(members: &mut Map<String, Value>, key: &str) -> Option<Val
 ///
 /// A null counts as absent, as in every form but a condition's.
 #[tactic(auto, unfolding(crate::specs::Forms::field))]
-pub fn field<'v>(members: &'v Map<String, Value>, key: &str) -> Option<&'v Value>
+pub fn field<'v>(members: &'v Members, key: &str) -> Option<&'v Value>
     ensures { option_map (λ v. view v.now) result ≡ field_of key.now (held members.now) }
 {
     match found(members, key) {
@@ -93,7 +119,7 @@ pub fn field<'v>(members: &'v Map<String, Value>, key: &str) -> Option<&'v Value
 /// Takes the member out, unless it is null, and leaves a null.
 #[inline(always)]
 #[tactic(auto, unfolding(crate::specs::Forms::field))]
-pub fn taken(members: &mut Map<String, Value>, key: &str) -> Option<Value>
+pub fn taken(members: &mut Members, key: &str) -> Option<Value>
     ensures taken { option_map view result ≡ field_of key.now (held members.old) }
     ensures left { held members.new ≡ without key.now (held members.old) }
 {
@@ -106,11 +132,7 @@ pub fn taken(members: &mut Map<String, Value>, key: &str) -> Option<Value>
 /// Takes a member out that has to be there.
 ///
 /// `WrongForm` comes only where it is absent.
-pub fn required_at(
-    alloc: Global,
-    members: &mut Map<String, Value>,
-    key: &str,
-) -> Result<Value, Fault>
+pub fn required_at(alloc: Global, members: &mut Members, key: &str) -> Result<Value, Fault>
     ensures reads { Reads view result (required_form key.now right (held members.old)) }
     ensures left { OnOk result (held members.new ≡ without key.now (held members.old)) }
 {
@@ -120,11 +142,7 @@ pub fn required_at(
 /// The word that says which case of a form this is.
 ///
 /// `WrongForm` comes only where the member is absent or no string.
-pub fn word_at<'v>(
-    alloc: Global,
-    members: &'v Map<String, Value>,
-    key: &str,
-) -> Result<&'v str, Fault>
+pub fn word_at<'v>(alloc: Global, members: &'v Members, key: &str) -> Result<&'v str, Fault>
     ensures { Reads (λ word. word.now) result (required_form key.now text_form (held members.now)) }
 {
     field(members, key)
@@ -133,7 +151,7 @@ pub fn word_at<'v>(
 }
 
 // A truth value, false where it is absent.
-pub(crate) fn flag_at(alloc: Global, members: &Map<String, Value>, key: &str) -> Result<bool, Fault>
+pub(crate) fn flag_at(alloc: Global, members: &Members, key: &str) -> Result<bool, Fault>
     ensures { Reads (λ flag. flag) result (optional_at false key.now flag (held members.now)) }
 {
     match field(members, key) {
@@ -143,11 +161,7 @@ pub(crate) fn flag_at(alloc: Global, members: &Map<String, Value>, key: &str) ->
 }
 
 // Takes a text out, empty where it is absent.
-pub(crate) fn text_at(
-    alloc: Global,
-    members: &mut Map<String, Value>,
-    key: &str,
-) -> Result<String, Fault>
+pub(crate) fn text_at(alloc: Global, members: &mut Members, key: &str) -> Result<String, Fault>
     ensures reads { Reads string_bytes result (optional_at [] key.now text_form (held members.old)) }
     ensures left { OnOk result (held members.new ≡ without key.now (held members.old)) }
 {
@@ -160,11 +174,7 @@ pub(crate) fn text_at(
 /// Takes the items of a list out, none where it is absent.
 ///
 /// `WrongForm` comes only where the member is there and is no array. The errors of an item are for whoever reads it.
-pub fn list_at(
-    alloc: Global,
-    members: &mut Map<String, Value>,
-    key: &str,
-) -> Result<Vec<Value>, Fault>
+pub fn list_at(alloc: Global, members: &mut Members, key: &str) -> Result<Vec<Value>, Fault>
     ensures reads { Reads (λ v. items_view v.items) result (items_form key.now (held members.old)) }
     ensures left { OnOk result (held members.new ≡ without key.now (held members.old)) }
 {
@@ -191,7 +201,7 @@ pub(crate) fn u32_of(alloc: Global, value: &Value) -> Result<u32, Fault>
 }
 
 // A whole number of 16 bits, 0 where it is absent.
-pub(crate) fn u16_at(alloc: Global, members: &Map<String, Value>, key: &str) -> Result<u16, Fault>
+pub(crate) fn u16_at(alloc: Global, members: &Members, key: &str) -> Result<u16, Fault>
     ensures { Reads (λ n. n) result (optional_at 0 key.now (whole_form (2 ^ 16)) (held members.now)) }
 {
     match field(members, key) {
@@ -201,7 +211,7 @@ pub(crate) fn u16_at(alloc: Global, members: &Map<String, Value>, key: &str) -> 
 }
 
 // A whole number of 32 bits, 0 where it is absent.
-pub(crate) fn u32_at(alloc: Global, members: &Map<String, Value>, key: &str) -> Result<u32, Fault>
+pub(crate) fn u32_at(alloc: Global, members: &Members, key: &str) -> Result<u32, Fault>
     ensures { Reads (λ n. n) result (optional_at 0 key.now (whole_form (2 ^ 32)) (held members.now)) }
 {
     match field(members, key) {
@@ -213,7 +223,7 @@ pub(crate) fn u32_at(alloc: Global, members: &Map<String, Value>, key: &str) -> 
 /// An integer of 64 bits, 0 where it is absent.
 ///
 /// `WrongForm` comes only where the member is there and is no such number, as where it is below 0 or held as a float.
-pub fn u64_at(alloc: Global, members: &Map<String, Value>, key: &str) -> Result<u64, Fault>
+pub fn u64_at(alloc: Global, members: &Members, key: &str) -> Result<u64, Fault>
     ensures { Reads (λ n. n) result (optional_at 0 key.now (whole_form (2 ^ 64)) (held members.now)) }
 {
     match field(members, key) {
@@ -225,7 +235,7 @@ pub fn u64_at(alloc: Global, members: &Map<String, Value>, key: &str) -> Result<
 /// The number of a file, a block or a crate.
 ///
 /// `WrongForm` comes only where the member is absent or no integer of 32 bits.
-pub fn id_at(alloc: Global, members: &Map<String, Value>, key: &str) -> Result<u32, Fault>
+pub fn id_at(alloc: Global, members: &Members, key: &str) -> Result<u32, Fault>
     ensures { Reads (λ n. n) result (id_form key.now (held members.now)) }
 {
     match field(members, key) {

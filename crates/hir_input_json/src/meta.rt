@@ -9,16 +9,17 @@ ghost use Rattle.hir_input_json.specs.Reads.{Reads};
 
 use crate::cfg::condition_at;
 use crate::context::context_at;
+use crate::each_of;
 use crate::fault::{Fault, ReadIn};
 use crate::literal::{literal_at, required_text_at};
-use crate::member::{each_of, list_at, members_of, taken, word_at};
+use crate::member::{Members, list_at, members_of, taken, word_at};
 use crate::path::path_at;
 use hir_input::{Meta, TokenTree};
-use serde_json::{Map, Value};
+use serde_json::Value;
 use std::alloc::Global;
 
 #[tactic(auto, using(crate::proofs::Held::field_without, hir_input::proofs::MetaLemmas::meta_views))]
-fn path_meta_of(alloc: Global, members: &mut Map<String, Value>) -> Result<Meta, Fault>
+fn path_meta_of(alloc: Global, members: &mut Members) -> Result<Meta, Fault>
     ensures { Reads meta_view result (path_form (held members.old)) }
 {
     let path = path_at(alloc, members)?;
@@ -27,7 +28,7 @@ fn path_meta_of(alloc: Global, members: &mut Map<String, Value>) -> Result<Meta,
 }
 
 #[tactic(auto, using(crate::proofs::Held::field_without, hir_input::proofs::MetaLemmas::meta_views))]
-fn key_value_of(alloc: Global, members: &mut Map<String, Value>) -> Result<Meta, Fault>
+fn key_value_of(alloc: Global, members: &mut Members) -> Result<Meta, Fault>
     ensures { Reads meta_view result (key_value_form (held members.old)) }
 {
     let path = path_at(alloc, members)?;
@@ -37,7 +38,7 @@ fn key_value_of(alloc: Global, members: &mut Map<String, Value>) -> Result<Meta,
 }
 
 #[tactic(auto, using(crate::proofs::Held::field_without, hir_input::proofs::MetaLemmas::meta_views))]
-fn tokens_of(alloc: Global, members: &mut Map<String, Value>) -> Result<Meta, Fault>
+fn tokens_of(alloc: Global, members: &mut Members) -> Result<Meta, Fault>
     ensures { Reads meta_view result (tokens_form (held members.old)) }
 {
     let path = path_at(alloc, members)?;
@@ -51,7 +52,7 @@ fn tokens_of(alloc: Global, members: &mut Map<String, Value>) -> Result<Meta, Fa
 }
 
 #[tactic(auto, using(hir_input::proofs::MetaLemmas::meta_views))]
-fn cfg_meta_of(alloc: Global, members: &mut Map<String, Value>) -> Result<Meta, Fault>
+fn cfg_meta_of(alloc: Global, members: &mut Members) -> Result<Meta, Fault>
     ensures { Reads meta_view result (cfg_form (held members.old)) }
 {
     Ok(Meta::Cfg(condition_at(alloc, members)?))
@@ -67,7 +68,7 @@ fn meta_of(alloc: Global, value: Value) -> Result<Meta, Fault>
 }
 
 #[cycle(metas)]
-fn meta_in(alloc: Global, members: &mut Map<String, Value>) -> Result<Meta, Fault>
+fn meta_in(alloc: Global, members: &mut Members) -> Result<Meta, Fault>
     ensures { Reads meta_view result (meta_form_with meta_form (held members.old)) }
 {
     match word_at(alloc, members, "meta")? {
@@ -83,7 +84,7 @@ fn meta_in(alloc: Global, members: &mut Map<String, Value>) -> Result<Meta, Faul
 
 #[cycle(metas)]
 #[tactic(auto, using(crate::proofs::Held::field_without, crate::proofs::Inside::depth_listed_in, hir_input::proofs::MetaLemmas::meta_views))]
-fn cfg_attr_of(alloc: Global, members: &mut Map<String, Value>) -> Result<Meta, Fault>
+fn cfg_attr_of(alloc: Global, members: &mut Members) -> Result<Meta, Fault>
     ensures { Reads meta_view result (cfg_attr_form meta_form (held members.old)) }
 {
     let condition = condition_at(alloc, members)?;
@@ -94,7 +95,7 @@ fn cfg_attr_of(alloc: Global, members: &mut Map<String, Value>) -> Result<Meta, 
 
 #[cycle(metas)]
 #[tactic(auto, using(hir_input::proofs::MetaLemmas::meta_views))]
-fn unsafe_of(alloc: Global, members: &mut Map<String, Value>) -> Result<Meta, Fault>
+fn unsafe_of(alloc: Global, members: &mut Members) -> Result<Meta, Fault>
     ensures { Reads meta_view result (unsafe_form meta_form (held members.old)) }
 {
     let Some(inner) = taken(members, "inner") else {
@@ -114,7 +115,7 @@ fn metas_of(alloc: Global, items: Vec<Value>) -> Result<Vec<Meta>, Fault>
 /// Takes the metas of an owner out, none where they are absent.
 ///
 /// `WrongForm` comes only where they are not of their form (`Metas.attrs_at`), and tells where.
-pub fn attrs_at(alloc: Global, members: &mut Map<String, Value>) -> Result<Vec<Meta>, Fault>
+pub fn attrs_at(alloc: Global, members: &mut Members) -> Result<Vec<Meta>, Fault>
     ensures reads { Reads (λ v. map meta_view v.items) result (attrs_form (held members.old)) }
     ensures left { OnOk result (held members.new ≡ without (codes "attrs") (held members.old)) }
 {

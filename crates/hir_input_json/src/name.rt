@@ -9,9 +9,9 @@ ghost use Rattle.hir_input_json.specs.Held.{held, without};
 ghost use Rattle.hir_input_json.specs.Reads.{Reads};
 
 use crate::fault::{Fault, ReadIn};
-use crate::member::{list_at, taken, text_of};
+use crate::member::{Members, list_at, maybe_of, taken, text_of};
 use hir_input::Name;
-use serde_json::{Map, Value};
+use serde_json::Value;
 use std::alloc::Global;
 use std::vec::IntoIter;
 
@@ -34,16 +34,13 @@ pub fn name_of(alloc: Global, value: Value) -> Result<Name, Fault>
 // Takes a name out.
 pub(crate) fn name_at(
     alloc: Global,
-    members: &mut Map<String, Value>,
+    members: &mut Members,
     key: &str,
 ) -> Result<Option<Name>, Fault>
     ensures reads { Reads (λ name. name) result (maybe_at key.now name_form (held members.old)) }
     ensures left { OnOk result (held members.new ≡ without key.now (held members.old)) }
 {
-    match taken(members, key) {
-        Some(found) => Ok(Some(name_of(alloc, found).in_member(alloc, key)?)),
-        None => Ok(None),
-    }
+    maybe_of!(alloc, members, key, name_of)
 }
 
 // Each of the items, the first one with this number.
@@ -68,11 +65,7 @@ pub(crate) fn names_of(
 /// Takes a list of names out, none where it is absent.
 ///
 /// `WrongForm` comes only where the member is no list of strings, or one of them is empty or holds a line feed.
-pub fn names_at(
-    alloc: Global,
-    members: &mut Map<String, Value>,
-    key: &str,
-) -> Result<Vec<Name>, Fault>
+pub fn names_at(alloc: Global, members: &mut Members, key: &str) -> Result<Vec<Name>, Fault>
     ensures reads { Reads (λ v. v.items) result (each_at name_form key.now (held members.old)) }
     ensures left { OnOk result (held members.new ≡ without key.now (held members.old)) }
 {

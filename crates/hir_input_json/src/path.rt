@@ -7,11 +7,11 @@ ghost use Rattle.hir_input_json.specs.Paths.{path_node_form as path_form, path_a
 ghost use Rattle.hir_input_json.specs.Reads.{Reads};
 
 use crate::fault::{Fault, ReadIn};
-use crate::member::{array_of, taken, text_of, u32_of};
+use crate::member::{Members, array_of, maybe_of, taken, text_of, u32_of};
 use crate::name::names_of;
 use hir_input::ast::PathNode;
 use hir_input::{Crate, ModPath, PathKind};
-use serde_json::{Map, Value};
+use serde_json::Value;
 use std::alloc::Global;
 use std::vec::IntoIter;
 
@@ -88,15 +88,9 @@ pub(crate) fn path_of(alloc: Global, value: Value) -> Result<PathNode, Fault>
 }
 
 // Takes the path of a meta or of a use tree out.
-pub(crate) fn path_at(
-    alloc: Global,
-    members: &mut Map<String, Value>,
-) -> Result<Option<PathNode>, Fault>
+pub(crate) fn path_at(alloc: Global, members: &mut Members) -> Result<Option<PathNode>, Fault>
     ensures reads { Reads (λ path. path) result (path_at_form (held members.old)) }
     ensures left { OnOk result (held members.new ≡ without (codes "path") (held members.old)) }
 {
-    match taken(members, "path") {
-        Some(found) => Ok(Some(path_of(alloc, found).in_member(alloc, "path")?)),
-        None => Ok(None),
-    }
+    maybe_of!(alloc, members, "path", path_of)
 }

@@ -7,16 +7,27 @@ ghost use Rattle.hir_input_json.specs.Held.{held, without};
 ghost use Rattle.hir_input_json.specs.Syntaxes.{call as call_form, stmt as stmt_form, stmt_by, tail as tail_form, tail_at as tail_at_form};
 ghost use Rattle.hir_input_json.specs.Reads.{Reads};
 
+use crate::each_of;
 use crate::fault::{Fault, ReadIn};
 use crate::item::item_of;
 use crate::item::macros::macro_call_of;
-use crate::member::{each_of, field, list_at, members_of, required_at, taken};
+use crate::member::{Members, field, list_at, members_of, required_at, taken};
 use hir_input::ast::{MacroCall, Stmt, Tail};
-use serde_json::{Map, Value};
+use serde_json::Value;
 use std::alloc::Global;
 
+// What is no item and no call, by the word for it.
+macro_rules! other_by {
+    ($alloc:expr, $word:expr, $other:expr) => {
+        match $word {
+            "other" => Ok($other),
+            _ => Err(Fault::here($alloc)),
+        }
+    };
+}
+
 // The word of a call's kind, which may be absent.
-fn kind_at<'v>(alloc: Global, members: &'v Map<String, Value>) -> Result<&'v str, Fault>
+fn kind_at<'v>(alloc: Global, members: &'v Members) -> Result<&'v str, Fault>
     ensures { Reads (λ word. word.now) result
         (optional_at (codes "macro_call") (codes "is") text_form (held members.now)) }
 {
@@ -40,10 +51,7 @@ fn stmt_of(alloc: Global, value: Value) -> Result<Stmt, Fault>
     ensures { Reads stmt_view result (stmt_form (view value)) }
 {
     if let Some(word) = value.as_str() {
-        return match word {
-            "other" => Ok(Stmt::Other),
-            _ => Err(Fault::here(alloc)),
-        };
+        return other_by!(alloc, word, Stmt::Other);
     }
     let mut members = members_of(alloc, value)?;
     stmt_in(alloc, &mut members)
@@ -51,7 +59,7 @@ fn stmt_of(alloc: Global, value: Value) -> Result<Stmt, Fault>
 
 // An item, or else a call.
 #[tactic(auto, using(crate::proofs::Held::field_without))]
-fn stmt_in(alloc: Global, members: &mut Map<String, Value>) -> Result<Stmt, Fault>
+fn stmt_in(alloc: Global, members: &mut Members) -> Result<Stmt, Fault>
     ensures { Reads stmt_view result (stmt_by (held members.old)) }
 {
     if let Some(item) = taken(members, "item") {
@@ -70,7 +78,7 @@ fn stmts_of(alloc: Global, values: Vec<Value>) -> Result<Vec<Stmt>, Fault>
 }
 
 // Takes the statements out, none where they are absent.
-pub(crate) fn stmts_at(alloc: Global, members: &mut Map<String, Value>) -> Result<Vec<Stmt>, Fault>
+pub(crate) fn stmts_at(alloc: Global, members: &mut Members) -> Result<Vec<Stmt>, Fault>
     ensures reads { Reads (λ v. stmts_view v.items) result
         (each_at stmt_form (codes "stmts") (held members.old)) }
     ensures left { OnOk result (held members.new ≡ without (codes "stmts") (held members.old)) }
@@ -83,10 +91,7 @@ fn tail_of(alloc: Global, value: Value) -> Result<Tail, Fault>
     ensures { Reads tail_view result (tail_form (view value)) }
 {
     if let Some(word) = value.as_str() {
-        return match word {
-            "other" => Ok(Tail::Other),
-            _ => Err(Fault::here(alloc)),
-        };
+        return other_by!(alloc, word, Tail::Other);
     }
     let mut members = members_of(alloc, value)?;
     let call = required_at(alloc, &mut members, "call")?;
@@ -95,7 +100,7 @@ fn tail_of(alloc: Global, value: Value) -> Result<Tail, Fault>
 }
 
 // Takes the tail out, nothing where it is absent.
-pub(crate) fn tail_at(alloc: Global, members: &mut Map<String, Value>) -> Result<Tail, Fault>
+pub(crate) fn tail_at(alloc: Global, members: &mut Members) -> Result<Tail, Fault>
     ensures reads { Reads tail_view result (tail_at_form (held members.old)) }
     ensures left { held members.new ≡ without (codes "tail") (held members.old) }
 {

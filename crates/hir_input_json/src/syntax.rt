@@ -8,15 +8,15 @@ ghost use Rattle.hir_input_json.specs.Reads.{Reads};
 
 use crate::fault::{Fault, ReadIn};
 use crate::item::items_of;
-use crate::member::{list_at, members_of, word_at};
+use crate::member::{Members, list_at, members_of, word_at};
 use crate::meta::attrs_at;
 use crate::stmt::{stmts_at, tail_at};
 use hir_input::ast::{BlockExpr, Syntax};
-use serde_json::{Map, Value};
+use serde_json::Value;
 use std::alloc::Global;
 
 #[tactic(auto, using(crate::proofs::Held::field_without))]
-fn source_file_of(alloc: Global, members: &mut Map<String, Value>) -> Result<Syntax, Fault>
+fn source_file_of(alloc: Global, members: &mut Members) -> Result<Syntax, Fault>
     ensures { Reads syntax_view result (source_form (held members.old)) }
 {
     let attrs = attrs_at(alloc, members)?;
@@ -25,7 +25,7 @@ fn source_file_of(alloc: Global, members: &mut Map<String, Value>) -> Result<Syn
     Ok(Syntax::SourceFile { attrs, items })
 }
 
-fn macro_items_of(alloc: Global, members: &mut Map<String, Value>) -> Result<Syntax, Fault>
+fn macro_items_of(alloc: Global, members: &mut Members) -> Result<Syntax, Fault>
     ensures { Reads syntax_view result (macro_items_form (held members.old)) }
 {
     let items = list_at(alloc, members, "items")?;
@@ -34,7 +34,7 @@ fn macro_items_of(alloc: Global, members: &mut Map<String, Value>) -> Result<Syn
 }
 
 #[tactic(auto, using(crate::proofs::Held::field_without))]
-fn macro_stmts_of(alloc: Global, members: &mut Map<String, Value>) -> Result<Syntax, Fault>
+fn macro_stmts_of(alloc: Global, members: &mut Members) -> Result<Syntax, Fault>
     ensures { Reads syntax_view result (macro_stmts_form (held members.old)) }
 {
     let stmts = stmts_at(alloc, members)?;
@@ -52,7 +52,7 @@ pub fn syntax_of(alloc: Global, value: Value) -> Result<Syntax, Fault>
     syntax_in(alloc, &mut members)
 }
 
-fn syntax_in(alloc: Global, members: &mut Map<String, Value>) -> Result<Syntax, Fault>
+fn syntax_in(alloc: Global, members: &mut Members) -> Result<Syntax, Fault>
     ensures { Reads syntax_view result (syntax_form (held members.old)) }
 {
     match word_at(alloc, members, "root")? {
@@ -68,7 +68,7 @@ fn syntax_in(alloc: Global, members: &mut Map<String, Value>) -> Result<Syntax, 
 ///
 /// `WrongForm` comes only where the object is not of its form (`Syntaxes.block`), and tells where.
 #[tactic(auto, using(crate::proofs::Held::field_without))]
-pub fn block_in(alloc: Global, members: &mut Map<String, Value>) -> Result<BlockExpr, Fault>
+pub fn block_in(alloc: Global, members: &mut Members) -> Result<BlockExpr, Fault>
     ensures reads { Reads block_view result (block_form (held members.old)) }
     ensures left { OnOk result (held members.new
         ≡ without (codes "tail") (without (codes "stmts") (without (codes "attrs") (held members.old)))) }

@@ -7,12 +7,15 @@ ghost use Rattle.hir_input_json.specs.Held.{held, without};
 ghost use Rattle.hir_input_json.specs.Reads.{Reads};
 ghost use Rattle.hir_input_json.specs.UseTrees.{rename_form as rename_form, use_tree_form as use_tree_form, use_tree_with};
 
+use crate::each_of;
 use crate::fault::{Fault, ReadIn};
-use crate::member::{array_of, each_of, flag_at, members_of, taken, text_of};
+use crate::member::{
+    Members, array_of, flag_at, maybe_list_of, maybe_of, members_of, taken, text_of,
+};
 use crate::name::name_from;
 use crate::path::path_at;
 use hir_input::ast::{Rename, UseTree};
-use serde_json::{Map, Value};
+use serde_json::Value;
 use std::alloc::Global;
 
 fn rename_of(alloc: Global, value: Value) -> Result<Rename, Fault>
@@ -28,18 +31,12 @@ fn rename_of(alloc: Global, value: Value) -> Result<Rename, Fault>
 }
 
 // Takes a rename out.
-pub(crate) fn rename_at(
-    alloc: Global,
-    members: &mut Map<String, Value>,
-) -> Result<Option<Rename>, Fault>
+pub(crate) fn rename_at(alloc: Global, members: &mut Members) -> Result<Option<Rename>, Fault>
     ensures reads { Reads (λ rename. rename) result
         (maybe_at (codes "rename") rename_form (held members.old)) }
     ensures left { OnOk result (held members.new ≡ without (codes "rename") (held members.old)) }
 {
-    match taken(members, "rename") {
-        Some(found) => Ok(Some(rename_of(alloc, found).in_member(alloc, "rename")?)),
-        None => Ok(None),
-    }
+    maybe_of!(alloc, members, "rename", rename_of)
 }
 
 #[cycle(trees)]
@@ -53,7 +50,7 @@ fn use_tree_of(alloc: Global, value: Value) -> Result<UseTree, Fault>
 
 #[cycle(trees)]
 #[tactic(auto, using(crate::proofs::Held::field_without, crate::proofs::Inside::depth_found_in, crate::proofs::UseTrees::use_tree_view_made))]
-fn use_tree_in(alloc: Global, members: &mut Map<String, Value>) -> Result<UseTree, Fault>
+fn use_tree_in(alloc: Global, members: &mut Members) -> Result<UseTree, Fault>
     ensures { Reads use_tree_view result (use_tree_with use_tree_form (held members.old)) }
 {
     let path = path_at(alloc, members)?;
@@ -75,11 +72,7 @@ fn use_trees_in(alloc: Global, list: Option<Value>) -> Result<Option<Vec<UseTree
     ensures { Reads (option_map (λ v. map use_tree_view v.items)) result
         (maybe (list_of use_tree_form) (option_map view list)) }
 {
-    let Some(list) = list else {
-        return Ok(None);
-    };
-    let items = array_of(alloc, list)?;
-    Ok(Some(use_trees_of(alloc, items)?))
+    maybe_list_of!(alloc, list, use_trees_of)
 }
 
 #[cycle(trees)]
@@ -91,15 +84,9 @@ fn use_trees_of(alloc: Global, items: Vec<Value>) -> Result<Vec<UseTree>, Fault>
 }
 
 // The use tree of a use, taken out.
-pub(crate) fn use_tree_at(
-    alloc: Global,
-    members: &mut Map<String, Value>,
-) -> Result<Option<UseTree>, Fault>
+pub(crate) fn use_tree_at(alloc: Global, members: &mut Members) -> Result<Option<UseTree>, Fault>
     ensures { Reads (option_map use_tree_view) result
         (maybe_at (codes "tree") use_tree_form (held members.old)) }
 {
-    match taken(members, "tree") {
-        Some(found) => Ok(Some(use_tree_of(alloc, found).in_member(alloc, "tree")?)),
-        None => Ok(None),
-    }
+    maybe_of!(alloc, members, "tree", use_tree_of)
 }

@@ -7,10 +7,10 @@ ghost use Rattle.hir_input_json.specs.Paths.{vis_form as visibility_form, visibi
 ghost use Rattle.hir_input_json.specs.Reads.{Reads};
 
 use crate::fault::{Fault, ReadIn};
-use crate::member::{members_of, required_at, taken};
+use crate::member::{Members, maybe_of, members_of, required_at, taken};
 use crate::path::path_of;
 use hir_input::ast::Visibility;
-use serde_json::{Map, Value};
+use serde_json::Value;
 use std::alloc::Global;
 
 // A visibility by its word.
@@ -41,14 +41,11 @@ pub(crate) fn visibility_of(alloc: Global, value: Value) -> Result<Visibility, F
 // Takes a visibility out.
 pub(crate) fn visibility_at(
     alloc: Global,
-    members: &mut Map<String, Value>,
+    members: &mut Members,
 ) -> Result<Option<Visibility>, Fault>
     ensures reads { Reads (λ visibility. visibility) result
         (maybe_at (codes "vis") visibility_form (held members.old)) }
     ensures left { OnOk result (held members.new ≡ without (codes "vis") (held members.old)) }
 {
-    match taken(members, "vis") {
-        Some(found) => Ok(Some(visibility_of(alloc, found).in_member(alloc, "vis")?)),
-        None => Ok(None),
-    }
+    maybe_of!(alloc, members, "vis", visibility_of)
 }

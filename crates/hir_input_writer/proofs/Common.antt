@@ -16,7 +16,7 @@ pub use Rattle.hir_input_json.proofs.Attrs.{cfg_reads_itself, meta_reads_itself}
 pub use Rattle.hir_input_json.proofs.Items.{item_reads_itself}
 pub use Rattle.hir_input_json.specs.Forms.{array_items, below, each, each_from, flag, identifier_form, list_of, maybe, maybe_at, optional, optional_at, required_at, text_form, unless_null, whole_form}
 unfoldable pub use Rattle.hir_input_json.specs.Forms.{field}
-pub use Rattle.hir_input_json.specs.Items.{call_form, expand_to_at, expand_word, fields_form, item, named_form, node_form, tuple_field}
+pub use Rattle.hir_input_json.specs.Items.{call_form, expand_to_at, fields_form, item, named_form, node_form, tuple_field}
 unfoldable pub use Rattle.hir_input_json.specs.Items.{extern_item, named_item}
 pub use Rattle.hir_input_json.specs.Literals.{context, context_at, literal, span}
 pub use Rattle.hir_input_json.specs.Metas.{meta_form}

@@ -3,7 +3,7 @@ use Rattle.std.proofs.Common.{◌≡◌, ℕ, List, [], ◌∷◌, Bool, false, 
 use Rattle.serde_json.specs.Data.{Data, string, array, object, Members}
 use Rattle.serde_json.specs.Find.{as_object}
 use Rattle.serde_json.specs.Written.{has_float}
-use Rattle.hir_input_writer.proofs.Common.{Rename, Visibility, NodeView, NamedView, UseView, CallView, FieldsView, tuple_fields, ItemView, struct_item, use_item, extern_crate, impl_item, macro_rules, asm_item, Reading, right, reading_map, field, flag, maybe_at, identifier_form, optional_at, required_at, unless_null, named_form, fields_form, tuple_field, expand_word, expand_to_at, call_form, context, context_at, path_node_form, path_at, vis_form, rename_form, use_tree_form, item_reads_itself, Holds, MayHold, HoldEach, asm_data, asm_object, call_data, call_object, extern_crate_data, extern_crate_object, fields_data, impl_data, impl_object, macro_rules_data, macro_rules_object, named_data, node_data, plain_data, plain_object, struct_data, struct_object, use_data, use_object, call_kept, named_kept, node_kept, use_kept, context_data, each_data, maybe_data, name_data, path_data, visibility_data, rename_data, use_tree_data}
+use Rattle.hir_input_writer.proofs.Common.{Rename, Visibility, NodeView, NamedView, UseView, CallView, FieldsView, tuple_fields, ItemView, struct_item, use_item, extern_crate, impl_item, macro_rules, asm_item, Reading, right, reading_map, field, flag, maybe_at, identifier_form, optional_at, required_at, unless_null, named_form, fields_form, tuple_field, expand_to_at, call_form, context, context_at, path_node_form, path_at, vis_form, rename_form, use_tree_form, item_reads_itself, Holds, MayHold, HoldEach, asm_data, asm_object, call_data, call_object, extern_crate_data, extern_crate_object, fields_data, impl_data, impl_object, macro_rules_data, macro_rules_object, named_data, node_data, plain_data, plain_object, struct_data, struct_object, use_data, use_object, call_kept, named_kept, node_kept, use_kept, context_data, each_data, maybe_data, name_data, path_data, visibility_data, rename_data, use_tree_data}
 use Rattle.hir_input.specs.declared.expand_to.ExpandTo.{ExpandTo}
 use Rattle.hir_input.specs.declared.expand_to.ExpandTo.TheVariants as expand_to
 use Rattle.hir_input.specs.Id.{shown_expand_to}
@@ -114,7 +114,7 @@ impl_law bodies n of_trait =
       exact = rw (h.attrs.exact, h.body.exact, h.hash.exact, h.number.exact) refl;
     })
 
-expand_law : (e : ExpandTo) → expand_word (shown_expand_to e) ≡ right e
+expand_law : (e : ExpandTo) → forms.expand_to (string (shown_expand_to e)) ≡ right e
 expand_law expand_to.Statements = refl
 expand_law e = refl
 

@@ -7,12 +7,13 @@ ghost use Rattle.hir_input_json.specs.Held.{held};
 ghost use Rattle.hir_input_json.specs.Items.{extern_block_form, extern_item as extern_item_form};
 ghost use Rattle.hir_input_json.specs.Reads.{Reads};
 
+use crate::each_of;
 use crate::fault::{Fault, ReadIn};
 use crate::item::macros::macro_call_of;
 use crate::item::node::{named_at, node_at, with_name, with_node};
-use crate::member::{array_of, each_of, members_of, taken, word_at};
+use crate::member::{Members, array_of, maybe_list_of, members_of, taken, word_at};
 use hir_input::ast::{ExternBlock, ExternItem, Fn, Item, Static, TypeAlias};
-use serde_json::{Map, Value};
+use serde_json::Value;
 use std::alloc::Global;
 
 #[tactic(auto, unfolding(crate::specs::Items::extern_item))]
@@ -24,7 +25,7 @@ fn extern_item_of(alloc: Global, value: Value) -> Result<ExternItem, Fault>
 }
 
 #[tactic(auto, unfolding(crate::specs::Items::extern_item), using(hir_input::proofs::SyntaxViews::item_views))]
-fn extern_item_in(alloc: Global, members: &mut Map<String, Value>) -> Result<ExternItem, Fault>
+fn extern_item_in(alloc: Global, members: &mut Members) -> Result<ExternItem, Fault>
     ensures { Reads extern_item_view result (extern_item_form (held members.old)) }
 {
     match word_at(alloc, members, "is")? {
@@ -47,18 +48,11 @@ fn extern_items_in(alloc: Global, list: Option<Value>) -> Result<Option<Vec<Exte
     ensures { Reads (option_map (λ v. map extern_item_view v.items)) result
         (maybe (list_of extern_item_form) (option_map view list)) }
 {
-    let Some(list) = list else {
-        return Ok(None);
-    };
-    let values = array_of(alloc, list)?;
-    Ok(Some(extern_items_of(alloc, values)?))
+    maybe_list_of!(alloc, list, extern_items_of)
 }
 
 #[tactic(auto, using(crate::proofs::Held::field_without, hir_input::proofs::SyntaxViews::item_views))]
-pub(crate) fn extern_block_of(
-    alloc: Global,
-    members: &mut Map<String, Value>,
-) -> Result<Item, Fault>
+pub(crate) fn extern_block_of(alloc: Global, members: &mut Members) -> Result<Item, Fault>
     ensures { Reads item_view result (extern_block_form (held members.old)) }
 {
     let node = node_at(alloc, members)?;

@@ -7,11 +7,12 @@ ghost use Rattle.hir_input_json.specs.Held.{held};
 ghost use Rattle.hir_input_json.specs.Items.{fields_form as fields_form, tuple_field};
 ghost use Rattle.hir_input_json.specs.Reads.{Reads};
 
+use crate::each_of;
 use crate::fault::{Fault, ReadIn};
-use crate::member::{array_of, each_of, required_at};
+use crate::member::{Members, array_of, required_at};
 use crate::visibility::visibility_of;
 use hir_input::ast::{StructKind, TupleField};
-use serde_json::{Map, Value};
+use serde_json::Value;
 use std::alloc::Global;
 
 // A null is a field without visibility.
@@ -46,10 +47,7 @@ fn struct_kind_of(alloc: Global, value: Value) -> Result<StructKind, Fault>
     }
 }
 
-pub(crate) fn struct_kind_at(
-    alloc: Global,
-    members: &mut Map<String, Value>,
-) -> Result<StructKind, Fault>
+pub(crate) fn struct_kind_at(alloc: Global, members: &mut Members) -> Result<StructKind, Fault>
     ensures { Reads fields_view result
         (required_form (codes "fields") fields_form (held members.old)) }
 {

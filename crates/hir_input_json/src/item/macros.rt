@@ -8,16 +8,15 @@ ghost use Rattle.hir_input_json.specs.Reads.{Reads};
 use crate::context::context_at;
 use crate::fault::Fault;
 use crate::item::node::{node_at, with_node};
-use crate::member::field;
+use crate::member::{Members, field};
 use crate::name::name_at;
 use crate::path::path_at;
 use hir_input::ExpandTo;
 use hir_input::ast::{Item, MacroCall, MacroRules};
-use serde_json::{Map, Value};
 use std::alloc::Global;
 
 // Items where it is absent.
-fn expand_to_at(alloc: Global, members: &Map<String, Value>) -> Result<ExpandTo, Fault>
+fn expand_to_at(alloc: Global, members: &Members) -> Result<ExpandTo, Fault>
     ensures { Reads (λ expand_to. expand_to) result (expand_to_form (held members.now)) }
 {
     let Some(found) = field(members, "expand_to") else {
@@ -35,10 +34,7 @@ fn expand_to_at(alloc: Global, members: &Map<String, Value>) -> Result<ExpandTo,
 }
 
 #[tactic(auto, using(crate::proofs::Held::field_without))]
-pub(crate) fn macro_call_of(
-    alloc: Global,
-    members: &mut Map<String, Value>,
-) -> Result<MacroCall, Fault>
+pub(crate) fn macro_call_of(alloc: Global, members: &mut Members) -> Result<MacroCall, Fault>
     ensures { Reads call_view result (call_form (held members.old)) }
 {
     let node = node_at(alloc, members)?;
@@ -49,7 +45,7 @@ pub(crate) fn macro_call_of(
 }
 
 #[tactic(auto, using(crate::proofs::Held::field_without, hir_input::proofs::SyntaxViews::item_views))]
-pub(crate) fn macro_rules_of(alloc: Global, members: &mut Map<String, Value>) -> Result<Item, Fault>
+pub(crate) fn macro_rules_of(alloc: Global, members: &mut Members) -> Result<Item, Fault>
     ensures { Reads item_view result (macro_rules_form (held members.old)) }
 {
     let node = node_at(alloc, members)?;

@@ -6,13 +6,12 @@ ghost use Rattle.hir_input_json.specs.Reads.{Reads};
 ghost use Rattle.hir_input_json.specs.Inner.{node_view, named_parts_view};
 
 use crate::fault::Fault;
-use crate::member::{text_at, u16_at, u32_at};
+use crate::member::{Members, text_at, u16_at, u32_at};
 use crate::meta::attrs_at;
 use crate::name::name_at;
 use crate::visibility::visibility_at;
 use hir_input::ast::Visibility;
 use hir_input::{Meta, Name};
-use serde_json::{Map, Value};
 use std::alloc::Global;
 
 // What every item has.
@@ -66,7 +65,7 @@ pub(crate) use with_name;
 pub(crate) use with_node;
 
 #[tactic(auto, using(crate::proofs::Held::field_without))]
-pub(crate) fn node_at(alloc: Global, members: &mut Map<String, Value>) -> Result<Node, Fault>
+pub(crate) fn node_at(alloc: Global, members: &mut Members) -> Result<Node, Fault>
     ensures reads { Reads node_view result (node_form (held members.old)) }
     ensures left { OnOk result
         (held members.new ≡ without (codes "body") (without (codes "attrs") (held members.old))) }
@@ -84,7 +83,7 @@ pub(crate) fn node_at(alloc: Global, members: &mut Map<String, Value>) -> Result
 }
 
 #[tactic(auto, using(crate::proofs::Held::field_without))]
-pub(crate) fn named_at(alloc: Global, members: &mut Map<String, Value>) -> Result<Named, Fault>
+pub(crate) fn named_at(alloc: Global, members: &mut Members) -> Result<Named, Fault>
     ensures reads { Reads named_parts_view result (named_form (held members.old)) }
     ensures left { OnOk result
         (held members.new ≡ without (codes "vis")
