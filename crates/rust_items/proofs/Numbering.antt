@@ -1,23 +1,28 @@
 -- Steps of what gives items their ids.
 use Rattle.std.proofs.Common.{◌≡◌, List, [], ◌∷◌, ◌++◌, Option, Some, None, refl, sym, ap, ◌∙◌, append_assoc, append-nil, rules, Bool, map, option_map}
-use Rattle.rust_items.proofs.Common.{FileAstId, ItemView, items_from, item_and, NamedView, NodeView, module_from, extern_block_from, listed_module, listed_extern_block, named_from, item_view, module_view, extern_block_view, module_view-fields, Numbers, held_with_ids, item_with_ids, with_ids, list_with_ids, some_with_ids, listed_by, numbered_named, numbered_node}
+use Rattle.rust_items.proofs.Common.{FileAstId, ItemView, items_from, item_and, NamedView, NodeView, module_from, extern_block_from, listed_module, listed_extern_block, named_from, item_view, module_view, extern_block_view, module_view-fields, Numbers, each_with_ids, held_with_ids, item_with_ids, with_ids, list_with_ids, some_with_ids, listed_by, numbered_named, numbered_node}
 use Rattle.hir_input.specs.declared.ast.Module as ast_module
 use Rattle.hir_input.specs.declared.ast.ExternBlock as ast_extern_block
 use Rattle.hir_input.specs.declared.ast.Item.{Item, the_lemmas}
 
 -- what is done, and then this
-abbrev pub behind : List ItemView → List ItemView × List FileAstId → List ItemView × List FileAstId
+abbrev pub behind : {A : Type 0} → List A → List A × List FileAstId → List A × List FileAstId
 behind done r = (done ++ r.0, r.1)
+
+-- one more of a list
+pub each_more : {A : Type 0} (with_own : A → List FileAstId → A × List FileAstId) (done : List A) (x made : A) (xs : List A) (ids rest : List FileAstId) → with_own x ids ≡ (made, rest)
+    → behind done (each_with_ids with_own (x ∷ xs) ids) ≡ behind (done ++ made ∷ []) (each_with_ids with_own xs rest)
+each_more with_own done x made xs ids rest e =
+    ap (λ r. (done ++ (r.0 ∷ (each_with_ids with_own xs r.1).0), (each_with_ids with_own xs r.1).1)) e
+    ∙ ap (λ l. (l, (each_with_ids with_own xs rest).1)) (sym (append_assoc done (made ∷ []) (each_with_ids with_own xs rest).0))
 
 -- one more item
 pub one_more : (done : List ItemView) (i made : ItemView) (is : List ItemView) (ids rest : List FileAstId) → item_with_ids i ids ≡ (made, rest)
     → behind done (list_with_ids (i ∷ is) ids) ≡ behind (done ++ made ∷ []) (list_with_ids is rest)
-one_more done i made is ids rest e =
-    ap (λ r. (done ++ (r.0 ∷ (list_with_ids is r.1).0), (list_with_ids is r.1).1)) e
-    ∙ ap (λ l. (l, (list_with_ids is rest).1)) (sym (append_assoc done (made ∷ []) (list_with_ids is rest).0))
+one_more = each_more item_with_ids
 
--- no item is left
-pub no_more : (done : List ItemView) (ids : List FileAstId) → behind done (list_with_ids [] ids) ≡ (done, ids)
+-- none is left
+pub no_more : {A : Type 0} (done : List A) (ids : List FileAstId) → behind done ([], ids) ≡ (done, ids)
 no_more done ids = ap (λ l. (l, ids)) (append-nil done)
 
 -- a list of items, one way and the other

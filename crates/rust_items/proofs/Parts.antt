@@ -1,6 +1,7 @@
 -- Steps of what reads blocks.
-use Rattle.std.proofs.Common.{◌≡◌, ◌<◌, ◌+◌, ◌-◌, ℕ, zero, suc, Bool, true, false, List, [], ◌∷◌, ◌++◌, refl, sym, ap, ◌∙◌, arith, append-nil, append_assoc}
+use Rattle.std.proofs.Common.{◌≡◌, ◌<◌, ◌+◌, ◌-◌, ℕ, zero, suc, Bool, true, false, List, [], ◌∷◌, ◌++◌, refl, sym, ap, ◌∙◌, arith}
 use Rattle.rust_items.proofs.Common.{FileAstId, StmtView, Tokens, beyond, Found, is_list_end, PartView, BodyRead, and_part, part, parts_from, stmt_with_ids, stmts_with_ids}
+use Rattle.rust_items.proofs.Numbering.{behind, each_more}
 
 pub parts_stop : (is_top : Bool) (n : ℕ) (done : BodyRead) (f : Found) (ts : Tokens) → is_list_end is_top ts ≡ true → parts_from is_top n done f ts ≡ (done, (f, ts))
 parts_stop is_top zero done f ts e = refl
@@ -19,17 +20,7 @@ parts_more is_top bound at past done done' p f f' ts mid after all below e told 
     ∙ ap (λ k. parts_from is_top n (and_part done p) f' k) (a ∙ ap (λ k. beyond k mid) q)
     ∙ sym here ∙ sym step ∙ before
 
--- what is done, and then this
-abbrev pub behind : List StmtView → List StmtView × List FileAstId → List StmtView × List FileAstId
-behind done r = (done ++ r.0, r.1)
-
 -- one more statement
 pub one_more : (done : List StmtView) (s made : StmtView) (ss : List StmtView) (ids rest : List FileAstId) → stmt_with_ids s ids ≡ (made, rest)
     → behind done (stmts_with_ids (s ∷ ss) ids) ≡ behind (done ++ made ∷ []) (stmts_with_ids ss rest)
-one_more done s made ss ids rest e =
-    ap (λ r. (done ++ (r.0 ∷ (stmts_with_ids ss r.1).0), (stmts_with_ids ss r.1).1)) e
-    ∙ ap (λ l. (l, (stmts_with_ids ss rest).1)) (sym (append_assoc done (made ∷ []) (stmts_with_ids ss rest).0))
-
--- no statement is left
-pub no_more : (done : List StmtView) (ids : List FileAstId) → behind done (stmts_with_ids [] ids) ≡ (done, ids)
-no_more done ids = ap (λ l. (l, ids)) (append-nil done)
+one_more = each_more stmt_with_ids

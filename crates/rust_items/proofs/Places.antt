@@ -1,6 +1,6 @@
 -- Items stand where their places say.
-use Rattle.std.proofs.Common.{◌≡◌, ◌≤◌, ◌+◌, ◌-◌, ◌==◌, ◌&&◌, ℕ, zero, suc, Bool, true, false, Option, Some, None, List, [], ◌∷◌, ◌++◌, map, length, refl, sym, subst, ap, ◌∙◌, arith, append_assoc, append-nil, option_to_list, All, is_none}
-use Rattle.rust_items.proofs.Common.{AllZip, All-nil, All-cons, map-append, AstIdKind, Visibility, MetaView, ItemView, ItemViews, plain_item, fn_kind, static_kind, type_alias_kind, macro_call, no_items, item_and, items_from, module_from, extern_block_from, UseTreeView, Tokens, symbol, at, eat, is_at_end, bumped, most, beyond, LeadsTo, here, further, through, when, bumped_leads, eat_leads, behind_tree_leads, beyond_leads, Takes, takes_leads, takes_before, IsLaid, at_behind, taken_behind, takes_strict, Row, TextRange, inner_attributes, inner_attributes_leads, Head, ItemSpan, ProblemKind, ItemPlace, Found, Finder, nothing_found, and_problem, and_problem_if, and_problem_at, and_row, and_use_trees, and_all, LeafRead, NameRead, no_name, named, node, named_node, FrontRead, front, BlockRead, span_of, needs_name, and_flaw, and_item, and_leaf, and_parent, leaf_found, leaf_turn, finding_from, finding, is_list_end, block_of, as_extern, extern_kept, extern_found, extern_turn, extern_inside, extern_block, one_more, unmatched, inside_unless, module_with, by_head, turn_with, inside, turn, depth_of, items, Telling, id_of, name_of, items_held, IsNameIn, IsBodyIn, IsPlace, ArePlaces, nothing, placed, trees_in, trees_within}
+use Rattle.std.proofs.Common.{◌≡◌, ◌≤◌, ◌<◌, ◌+◌, ◌-◌, ◌==◌, ◌&&◌, ℕ, zero, suc, Bool, true, false, Option, Some, None, List, [], ◌∷◌, ◌++◌, map, length, refl, sym, subst, ap, ◌∙◌, arith, append_assoc, append-nil, option_to_list, All, is_none}
+use Rattle.rust_items.proofs.Common.{AllZip, All-nil, All-cons, map-append, AstIdKind, Visibility, MetaView, ItemView, ItemViews, plain_item, fn_kind, static_kind, type_alias_kind, macro_call, no_items, item_and, items_from, module_from, extern_block_from, UseTreeView, Tokens, symbol, at, eat, is_empty, is_at_end, bumped, most, beyond, LeadsTo, here, further, through, when, bumped_leads, eat_leads, behind_tree_leads, beyond_leads, Takes, takes_leads, takes_before, IsLaid, at_behind, taken_behind, takes_strict, Row, TextRange, inner_attributes, inner_attributes_leads, Head, ItemSpan, ProblemKind, ItemPlace, Found, Finder, nothing_found, and_problem, and_problem_if, and_problem_at, and_row, and_use_trees, and_all, LeafRead, NameRead, no_name, named, node, named_node, FrontRead, front, BlockRead, span_of, needs_name, and_flaw, and_item, and_leaf, and_parent, leaf_found, leaf_turn, finding_from, finding, is_list_end, block_of, as_extern, extern_kept, extern_found, extern_turn, extern_inside, extern_block, one_more, unmatched, inside_unless, module_with, by_head, turn_with, inside, turn, depth_of, items, Telling, id_of, name_of, items_held, IsNameIn, IsBodyIn, IsPlace, ArePlaces, nothing, placed, trees_in, trees_within}
 use Rattle.hir_input.specs.declared.ids.AstIdKind.TheVariants as kind
 use Rattle.rust_cursor.proofs.Laid.{behind}
 use Rattle.rust_leaves.specs.declared.head.Head.TheVariants as heads
@@ -185,24 +185,31 @@ module _ (end : ℕ) (ends : Tokens → Bool) (turn : Finder (Option ItemView)) 
 
 -- ---- one item
 
-name_in : (end : ℕ) (ts us : Tokens) (name : Option TextRange) → IsLaid end ts → IsNamed ts us name → IsNameIn (record { start = at ts; end = us.past }) name
+-- a token that is left of these, with what is left behind it
+record Stands (end : ℕ) (ts t : Tokens) : Type 0 where
+  first : at ts ≤ at t
+  strict : at t < (bumped t).past
+  laid : IsLaid end (bumped t)
+
+stands : (end : ℕ) (ts t : Tokens) → IsLaid end ts → LeadsTo ts t → is_empty t ≡ false → Stands end ts t
+stands end ts t laid before some =
+    let first = behind end before laid in
+    record { first = first.place; strict = taken_behind end t first.laid some; laid = (behind end (bumped_leads t) first.laid).laid }
+
+pub name_in : (end : ℕ) (ts us : Tokens) (name : Option TextRange) → IsLaid end ts → IsNamed ts us name → IsNameIn (record { start = at ts; end = us.past }) name
 name_in end ts us None laid n = tt
 name_in end ts us (Some range) laid (by_token t before some later) =
-    let first = behind end before laid in
-    let strict = taken_behind end t first.laid some in
-    let next = behind end (bumped_leads t) first.laid in
-    let last = behind end later next.laid in
-    (first.place, strict, last.past)
+    let token = stands end ts t laid before some in
+    (token.first, token.strict, (behind end later token.laid).past)
 
 body_in : (end : ℕ) (ts us : Tokens) (body : Option TextRange) → IsLaid end ts → IsBraced ts us body → IsBodyIn (record { start = at ts; end = us.past }) body
 body_in end ts us None laid n = tt
 body_in end ts us (Some range) laid (braced b before some t) =
-    let first = behind end before laid in
-    let brace = taken_behind end b first.laid some in
-    let next = behind end (bumped_leads b) first.laid in
-    let inside = at_behind end (bumped b) next.laid in
-    let strict = takes_strict end t next.laid in
-    (first.place, omega arith, refl)
+    let brace = stands end ts b laid before some in
+    let width = brace.strict in
+    let inside = at_behind end (bumped b) brace.laid in
+    let strict = takes_strict end t brace.laid in
+    (brace.first, omega arith, refl)
 
 pub place_is : (end : ℕ) (ts us : Tokens) (i : ItemView) (k : AstIdKind) (body name : Option TextRange) → IsLaid end ts → Takes ts us → id_of i ≡ Some (blank k) → IsNamed ts us name → IsBraced ts us body → ((k ≡ kind.ExternCrate → ⊥) → IsToken ts (name_of i) name)
     → IsPlace (IsToken ts) ts.past us.past i (unnumbered k (at ts) us.past body name)

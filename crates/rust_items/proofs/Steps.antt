@@ -1,6 +1,6 @@
 -- Steps of what is read in turns.
-use Rattle.std.proofs.Common.{◌≡◌, ◌≢◌, ◌==◌, ◌<◌, ◌+◌, ◌-◌, ℕ, zero, suc, Bool, true, false, List, [], ◌∷◌, ◌++◌, Option, refl, sym, ap, ◌∙◌, arith, append-nil, option_to_list, ne_eqb}
-use Rattle.rust_items.proofs.Common.{FileAstId, ItemView, Tokens, symbol, at, behind_tree, beyond, ItemSpan, ItemPlace, Found, Finder, and_problem, finding_from, deep_block, block_of, inside, turn, places}
+use Rattle.std.proofs.Common.{◌≡◌, ◌≢◌, ◌==◌, ◌<◌, ◌+◌, ◌-◌, ℕ, zero, suc, Bool, true, false, List, [], ◌∷◌, ◌++◌, Option, Some, None, map, option_map, refl, sym, ap, ◌∙◌, arith, append-nil, option_to_list, ne_eqb}
+use Rattle.rust_items.proofs.Common.{map-append, FileAstId, ItemView, Tokens, symbol, at, behind_tree, beyond, ItemSpan, ItemPlace, Found, Finder, and_problem, finding_from, deep_block, block_of, inside, turn, places}
 use Rattle.rust_items.specs.declared.log.ProblemKind.TheVariants as problem
 use Rattle.rust_items.specs.Items.{no_block}
 
@@ -22,6 +22,11 @@ finding_more ends turn bound at past done done' i f f' ts mid after all below e 
     ap (λ l. finding_from ends turn n l f' after) d
     ∙ ap (λ k. finding_from ends turn n (done ++ option_to_list i) f' k) (a ∙ ap (λ k. beyond k mid) p)
     ∙ sym here ∙ sym step ∙ before
+
+-- the views of a list that may have one more
+pub pushed : {A B : Type 0} (view : A → B) (old new : List A) (o : Option A) → new ≡ old ++ option_to_list o → map view new ≡ map view old ++ option_to_list (option_map view o)
+pushed view old new None e = ap (map view) e ∙ map-append view old []
+pushed view old new (Some x) e = ap (map view) e ∙ map-append view old (x ∷ [])
 
 -- ---- modules
 

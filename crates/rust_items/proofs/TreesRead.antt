@@ -223,11 +223,11 @@ unfolding readable_in
 readable_option None = refl
 readable_option (Some w) = append-nil (readable_trees w)
 
-values_push : (fs : List (FoundInUse (Option UseTreeView))) (f : FoundInUse (Option UseTreeView)) → values (fs ++ f ∷ []) ≡ values fs ++ option_to_list f.value
+pub values_push : (fs : List (FoundInUse (Option UseTreeView))) (f : FoundInUse (Option UseTreeView)) → values (fs ++ f ∷ []) ≡ values fs ++ option_to_list f.value
 values_push [] f = append-nil (option_to_list f.value)
 values_push (g ∷ fs) f = ap (λ ws. option_to_list g.value ++ ws) (values_push fs f) ∙ sym (append_assoc (option_to_list g.value) (values fs) (option_to_list f.value))
 
-starts_push : (fs : List (FoundInUse (Option UseTreeView))) (f : FoundInUse (Option UseTreeView)) → all_starts (fs ++ f ∷ []) ≡ all_starts fs ++ f.starts
+pub starts_push : (fs : List (FoundInUse (Option UseTreeView))) (f : FoundInUse (Option UseTreeView)) → all_starts (fs ++ f ∷ []) ≡ all_starts fs ++ f.starts
 starts_push [] f = append-nil f.starts
 starts_push (g ∷ fs) f = ap (λ ss. g.starts ++ ss) (starts_push fs f) ∙ sym (append_assoc g.starts (all_starts fs) f.starts)
 

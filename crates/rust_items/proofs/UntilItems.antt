@@ -1,6 +1,6 @@
 -- The items of two texts that differ between the braces of one item are the same but for body texts.
 use Rattle.std.proofs.Common.{◌≡◌, ◌≤◌, ◌<◌, ◌+◌, ◌==◌, ◌||◌, ℕ, zero, suc, Bool, true, false, Option, Some, None, List, [], ◌∷◌, ◌++◌, map, refl, ap, sym, subst, ◌∙◌, arith, append_assoc, append-nil, option_map, option_to_list, eqb-true}
-use Rattle.rust_items.proofs.Common.{Visibility, EditionYear, AstIdKind, MetaView, item_without_bodies, ItemView, ItemViews, module_from, extern_block_from, Tokens, symbol, at, eat, is_at_end, bumped, most, beyond, Bodies, Beside, ahead, behind, LeadsTo, further, through, when, eat_leads, beyond_leads, IsSound, sound_on, before_at, behind_at, symbol_same, empty_same, end_same, beyond_beside, behind_tree_beside, eat_local, Gone, gone_on, by_kept, by_next, bumped_onward, by_stayed, AreAlike, no_more, alike_join, SamePlace, at_place, past_place, Row, TextRange, inner_attributes, inner_attributes_leads, inner_attributes_until, Head, FrontRead, front, NameRead, LeafRead, no_name, named, node, named_node, leaf, behind_others_beside, SameRange, RangeAlike, LeafAlike, named_local, ItemSpan, ProblemKind, ItemPlace, Found, Finder, nothing_found, and_problem_if, and_problem_at, BlockRead, span_of, and_flaw, and_item, and_leaf, and_parent, leaf_found, leaf_turn, finding_from, finding, is_list_end, block_of, as_extern, extern_kept, extern_found, extern_turn, extern_inside, extern_block, one_more, unmatched, inside_unless, module_with, some_item, by_head, turn_with, inside, turn, depth_of, items, begins_at, has_body, found_in, read_of, Telling, IsBodyIn, ArePlaces, nothing, placed, map-append}
+use Rattle.rust_items.proofs.Common.{Visibility, EditionYear, AstIdKind, MetaView, item_without_bodies, ItemView, ItemViews, items_from, module_from, extern_block_from, Tokens, symbol, at, eat, is_at_end, bumped, most, beyond, Bodies, Beside, ahead, behind, LeadsTo, further, through, when, eat_leads, beyond_leads, IsSound, sound_on, before_at, behind_at, symbol_same, empty_same, end_same, beyond_beside, behind_tree_beside, eat_local, Gone, gone_on, by_kept, by_next, bumped_onward, by_stayed, AreAlike, no_more, alike_join, SamePlace, at_place, past_place, Row, TextRange, inner_attributes, inner_attributes_leads, inner_attributes_until, Head, FrontRead, front, NameRead, LeafRead, no_name, named, node, named_node, leaf, behind_others_beside, SameRange, RangeAlike, LeafAlike, NameAlike, named_local, ItemSpan, ProblemKind, ItemPlace, Found, Finder, nothing_found, and_problem_if, and_problem_at, BlockRead, span_of, and_flaw, and_item, and_leaf, and_parent, leaf_found, leaf_turn, finding_from, finding, is_list_end, block_of, as_extern, extern_kept, extern_found, extern_turn, extern_inside, extern_block, one_more, unmatched, inside_unless, module_with, some_item, by_head, turn_with, inside, turn, depth_of, items, begins_at, has_body, found_in, read_of, Telling, IsBodyIn, ArePlaces, nothing, placed, map-append}
 use Rattle.hir_input.specs.declared.ids.AstIdKind.TheVariants as kind
 use Rattle.rust_cursor.proofs.Laid as laid
 use Rattle.rust_cursor.proofs.Places as places
@@ -305,14 +305,14 @@ by_found (lost g m) x y = x g m
 by_found (same k) x y = y k
 
 -- the braces are passed
-passed : Bodies → Bodies
+unfoldable pub passed : Bodies → Bodies
 passed b = record b { passed = true }
 
-plain_passed : (b : Bodies) → BeginPlain b → BeginPlain (passed b)
+pub plain_passed : (b : Bodies) → BeginPlain b → BeginPlain (passed b)
 unfolding passed
 plain_passed b plain = record { new_behind = plain.new_behind; old = plain.old; new = plain.new }
 
-side : {P : Type 0} (b : Bodies) (ts us : Tokens) → Beside b ts us → (ts.past ≤ b.opening.at → P) → (Beside (passed b) ts us → P) → P
+pub side : {P : Type 0} (b : Bodies) (ts us : Tokens) → Beside b ts us → (ts.past ≤ b.opening.at → P) → (Beside (passed b) ts us → P) → P
 unfolding passed
 side b ts us (ahead past x r u u' i j) before far = before (before_at b.opening.at past x i)
 side b ts us (behind past r u u' i) before far = far (behind past r u u' i)
@@ -321,7 +321,7 @@ found_passed : (b : Bodies) (f g : Found) → FoundAlike b f g → FoundAlike (p
 unfolding passed
 found_passed b f g a = a
 
-unpassed_beside : (b : Bodies) (ts us : Tokens) → Beside (passed b) ts us → Beside b ts us
+pub unpassed_beside : (b : Bodies) (ts us : Tokens) → Beside (passed b) ts us → Beside b ts us
 unfolding passed
 unpassed_beside b ts us (ahead past x r u u' i j) = absurd (let no : true ≡ false = j.unpassed in cc)
 unpassed_beside b ts us (behind past r u u' i) = behind past r u u' i
@@ -336,6 +336,19 @@ more_alike done done' o o' a e =
     map-append item_without_bodies done' (option_to_list o') ∙ ap (λ l. l ++ map item_without_bodies (option_to_list o')) a
     ∙ ap (λ l. map item_without_bodies done ++ l) (list_of item_without_bodies o' ∙ ap option_to_list e ∙ sym (list_of item_without_bodies o)) ∙ sym (map-append item_without_bodies done (option_to_list o))
 
+-- what is found by a turn, and what is left behind it and what is passed over then
+pub record TurnOn (end : ℕ) (turn : Finder (Option ItemView)) (f : Found) (ts : Tokens) : Type 0 where
+  pub found : AreFound ts (turn f ts).1.1 f (turn f ts).1.0 (items_from (option_to_list (turn f ts).0))
+  pub leads : LeadsTo (turn f ts).1.1 (beyond ts.past (turn f ts).1.1)
+  pub sound : IsSound end (beyond ts.past (turn f ts).1.1)
+  pub past : (turn f ts).1.1.past ≤ (beyond ts.past (turn f ts).1.1).past
+
+pub turn_on : (end : ℕ) (turn : Finder (Option ItemView)) → Finds end turn → (f : Found) (ts : Tokens) → IsSound end ts → TurnOn end turn f ts
+turn_on end turn finds f ts l =
+    let found = finds f ts l.laid in
+    let leads = beyond_leads ts.past (turn f ts).1.1 in
+    record { found = found; leads = leads; sound = sound_on end (through found.leads leads) l; past = (laid.behind end leads (laid.behind end found.leads l.laid).laid).past }
+
 module _ (end : ℕ) (ends : Tokens → Bool) (ends_same : (b : Bodies) (ts us : Tokens) → Beside b ts us → ends us ≡ ends ts) (turn : Finder (Option ItemView)) (finds : Finds end turn)
     (each : (b : Bodies) → BeginPlain b → UpToFound end b turn) where
   list_until : (n : ℕ) (b : Bodies) → BeginPlain b → (done done' : List ItemView) (f f' : Found) (ts us : Tokens) → IsSound end ts → ListAlike done done' → FoundAlike b f f' → Beside b ts us
@@ -348,21 +361,18 @@ module _ (end : ℕ) (ends : Tokens → Bool) (ends_same : (b : Bodies) (ts us :
       let g' = (turn f' us).1.0 in
       let next = beyond ts.past (turn f ts).1.1 in
       let next' = beyond us.past (turn f' us).1.1 in
-      let one = finds f ts l.laid in
-      let leads : LeadsTo (turn f ts).1.1 next = beyond_leads ts.past (turn f ts).1.1 in
-      let first = laid.behind end one.leads l.laid in
-      let then_laid = laid.behind end leads first.laid in
-      let rest = list_from end ends turn finds n (done ++ option_to_list o) g next then_laid.laid in
+      let one = turn_on end turn finds f ts l in
+      let rest = list_from end ends turn finds n (done ++ option_to_list o) g next one.sound.laid in
       when (ends ts)
       (λ z. rw (ends_same b ts us h, z) (same (record { value = a; found = e; rest = h })))
       (λ z. rw (ends_same b ts us h, z) (by_found (each b plain f f' ts us l e h)
-      (λ k m. let k' = gone_on k leads in lost (gone_on k' rest.found.leads) (misses_both m (found_gone rest.found k')))
+      (λ k m. let k' = gone_on k one.leads in lost (gone_on k' rest.found.leads) (misses_both m (found_gone rest.found k')))
       (λ k. let both = beyond_beside b ts us _ _ h k.rest in
       let alike = more_alike done done' o o' a k.value in
       side b next next' both
-      (λ low. by_found (list_until n b plain (done ++ option_to_list o) (done' ++ option_to_list o') g g' next next' (sound_on end (through one.leads leads) l) alike k.found both)
-      (λ x m. lost x (misses_both (found_before b one (let past = then_laid.past in omega arith)) m)) (λ j. same j))
-      (λ far. unpassed b (list_until n (passed b) (plain_passed b plain) (done ++ option_to_list o) (done' ++ option_to_list o') g g' next next' (sound_on end (through one.leads leads) l) alike (found_passed b g g' k.found) far)))))
+      (λ low. by_found (list_until n b plain (done ++ option_to_list o) (done' ++ option_to_list o') g g' next next' one.sound alike k.found both)
+      (λ x m. lost x (misses_both (found_before b one.found (let past = one.past in omega arith)) m)) (λ j. same j))
+      (λ far. unpassed b (list_until n (passed b) (plain_passed b plain) (done ++ option_to_list o) (done' ++ option_to_list o') g g' next next' one.sound alike (found_passed b g g' k.found) far)))))
 
 -- ---- blocks
 
@@ -439,6 +449,18 @@ extern_block_lost end depth start attrs b f ts l g =
     let found = extern_inside_found end (one_more depth) nothing_found ts l.laid in
     record { gone = gone_on g found.leads; misses = parent_misses b.opening.at depth start x.1.1.past kind.ExternBlock no_name x.0.is_ended x.1.0 f (found_gone found g) }
 
+-- the names of modules of both, and the semicolons behind them
+pub record NamedAlike (b : Bodies) (ts us : Tokens) : Type 0 where
+  pub name : NameAlike b (named ts).0 (named us).0
+  pub ended : (eat 59 (named us).1).0 ≡ (eat 59 (named ts).1).0
+  pub rest : Beside b (eat 59 (named ts).1).1 (eat 59 (named us).1).1
+
+pub named_alike : (b : Bodies) (ts us : Tokens) → Beside b ts us → NamedAlike b ts us
+named_alike b ts us h =
+    let n = named_local b ts us h in
+    let s = eat_local b 59 refl (named ts).1 (named us).1 n.rest in
+    record { name = n.value; ended = s.value; rest = s.rest }
+
 -- modules
 module _ (end : ℕ) (inside : Finder BlockRead) (finds : FindsIn end inside) (each : (b : Bodies) → BeginPlain b → UpToBlock end b inside) (depth : ℕ) where
   unless_until : (b : Bodies) → BeginPlain b → (s s' : Bool) → s' ≡ s → (f f' : Found) (ts us : Tokens) → IsSound end ts → FoundAlike b f f' → Beside b ts us
@@ -449,19 +471,18 @@ module _ (end : ℕ) (inside : Finder BlockRead) (finds : FindsIn end inside) (e
   module_until : (b : Bodies) → BeginPlain b → (h h' : FrontRead) → FrontAlike b h h' → (f f' : Found) (ts us : Tokens) → IsSound end ts → FoundAlike b f f' → Beside b ts us
       → FoundUntil ItemAlike b f (some_item (module_with inside depth h f ts)) (some_item (module_with inside depth h' f' us))
   module_until b plain h h' a f f' ts us l e k =
-      let n = named_local b ts us k in
-      let s = eat_local b 59 refl (named ts).1 (named us).1 n.rest in
+      let n = named_alike b ts us k in
       let c = eat 59 (named ts).1 in
       let c' = eat 59 (named us).1 in
       let x = inside_unless c.0 inside nothing_found c.1 in
       let y = inside_unless c'.0 inside nothing_found c'.1 in
       let sound = sound_on end (through (named_leads ts) (eat_leads 59 (named ts).1)) l in
-      by_found (unless_until b plain c.0 c'.0 s.value nothing_found nothing_found c.1 c'.1 sound (nothing_alike b) s.rest)
+      by_found (unless_until b plain c.0 c'.0 n.ended nothing_found nothing_found c.1 c'.1 sound (nothing_alike b) n.rest)
       (λ g m. lost g (parent_misses b.opening.at depth h.start x.1.1.past kind.Module (named ts).0 (c.0 || x.0.is_ended) x.1.0 f m))
       (λ j. same (record {
         value = ap Some (module_same (h.attrs ++ x.0.attrs) (h'.attrs ++ y.0.attrs) (named ts).0.name (named us).0.name h.visibility h'.visibility c.0 c'.0 x.0.items y.0.items
-            (ap (λ l. l ++ y.0.attrs) a.attrs ∙ ap (λ l. h.attrs ++ l) j.value.attrs) n.value.name a.visibility s.value j.value.items);
-        found = parent_same b depth h.start x.1.1.past h'.start y.1.1.past kind.Module (named ts).0 (named us).0 (c.0 || x.0.is_ended) (c'.0 || y.0.is_ended) x.1.0 y.1.0 f f' a.start (past_place b x.1.1 y.1.1 j.rest) n.value.hashed n.value.range j.found e;
+            (ap (λ l. l ++ y.0.attrs) a.attrs ∙ ap (λ l. h.attrs ++ l) j.value.attrs) n.name.name a.visibility n.ended j.value.items);
+        found = parent_same b depth h.start x.1.1.past h'.start y.1.1.past kind.Module (named ts).0 (named us).0 (c.0 || x.0.is_ended) (c'.0 || y.0.is_ended) x.1.0 y.1.0 f f' a.start (past_place b x.1.1 y.1.1 j.rest) n.name.hashed n.name.range j.found e;
         rest = j.rest;
       }))
 

@@ -17,7 +17,7 @@ use Rattle.rust_leaves.specs.Statements.{CallRead, is_item, statement, statement
 use Rattle.rust_items.specs.declared.blocks.SourceBlock.{SourceBlock}
 use Rattle.rust_items.specs.declared.log.ProblemKind.TheVariants as problem
 use Rattle.rust_items.specs.Found.{Found, Finder, nothing_found, and_problem, and_problem_at}
-use Rattle.rust_items.specs.Ids.{first_numbers, numbered_call, item_with_ids}
+use Rattle.rust_items.specs.Ids.{each_with_ids, first_numbers, item_with_ids, numbered_call}
 use Rattle.rust_items.specs.Items.{and_item, is_list_end, behind_front}
 use Rattle.rust_items.specs.LineEnds.{with_feeds, place_in, moved_span, moved_problem}
 use Rattle.rust_items.specs.SourceFiles.{places}
@@ -136,11 +136,7 @@ stmt_with_ids other_stmt ids = (other_stmt, ids)
 
 -- the statements with their ids, which are given in preorder, and the ids that are left
 abbrev pub stmts_with_ids : List StmtView → List FileAstId → List StmtView × List FileAstId
-stmts_with_ids [] ids = ([], ids)
-stmts_with_ids (s ∷ ss) ids =
-    let head = stmt_with_ids s ids in
-    let rest = stmts_with_ids ss head.1 in
-    (head.0 ∷ rest.0, rest.1)
+stmts_with_ids = each_with_ids stmt_with_ids
 
 abbrev pub tail_with_id : TailView → List FileAstId → TailView
 tail_with_id (call_tail c) ids = call_tail (call_with_id c ids).0

@@ -64,13 +64,17 @@ item_with_ids i ids = held_with_ids (first_numbers ids).0 i (first_numbers ids).
 
 -- ---- lists
 
+-- each of a list with what it takes of the ids, one after another, and the ids that are left
+abbrev pub each_with_ids : {A : Type 0} → (A → List FileAstId → A × List FileAstId) → List A → List FileAstId → List A × List FileAstId
+each_with_ids with_own [] ids = ([], ids)
+each_with_ids with_own (x ∷ xs) ids =
+    let head = with_own x ids in
+    let rest = each_with_ids with_own xs head.1 in
+    (head.0 ∷ rest.0, rest.1)
+
 -- the same of a list
 abbrev pub list_with_ids : List ItemView → List FileAstId → List ItemView × List FileAstId
-list_with_ids [] ids = ([], ids)
-list_with_ids (i ∷ is) ids =
-    let head = item_with_ids i ids in
-    let rest = list_with_ids is head.1 in
-    (head.0 ∷ rest.0, rest.1)
+list_with_ids = each_with_ids item_with_ids
 
 abbrev pub some_with_ids : Option (List ItemView) → List FileAstId → Option (List ItemView) × List FileAstId
 some_with_ids None ids = (None, ids)

@@ -306,7 +306,7 @@ fn stmt_with_ids(alloc: Global, stmt: Stmt, supply: &mut Supply<'_>) -> Result<S
     }
 }
 
-#[tactic(auto, using(crate::proofs::Parts::one_more, crate::proofs::Parts::no_more))]
+#[tactic(auto, using(crate::proofs::Parts::one_more, crate::proofs::Numbering::no_more))]
 fn stmts_with_ids(
     alloc: Global,
     stmts: Vec<Stmt>,

@@ -1,6 +1,6 @@
 //! Extern blocks.
 
-ghost use Rattle.std.specs.Prelude.{◌≡◌, ◌++◌, ◌+◌, ◌<◌, IfOk, OnOk, map, false, [], option_map, option_to_list};
+ghost use Rattle.std.specs.Prelude.{◌≡◌, ◌++◌, ◌+◌, ◌<◌, IfOk, OnOk, map, false, [], option_map};
 ghost use Rattle.hir_input.specs.Attr.{meta_view};
 ghost use Rattle.hir_input.specs.Syntax.{item_view, extern_item_view, extern_block_from};
 ghost use Rattle.rust_leaves.specs.Clipped.{wanted_item, with_value};
@@ -13,7 +13,7 @@ ghost use Rattle.rust_items.specs.Items as spec;
 ghost use Rattle.rust_items.specs.Views.{extern_inside_view};
 
 use crate::log::{Log, ProblemKind};
-use crate::turn::{Extent, push_item};
+use crate::turn::{Extent, push_item, push_some};
 use hir_input::ast::{ExternBlock, ExternItem, Item};
 use hir_input::{AstIdKind, Meta};
 use rust_cursor::Cursor;
@@ -138,20 +138,6 @@ fn extern_turn<'t>(
         return Ok(None);
     }
     extern_by(alloc, cursor, wanted, depth, log)
-}
-
-fn push_some(items: &mut Vec<ExternItem>, item: Option<ExternItem>) -> Result<(), AllocError>
-    ensures { OnOk result (map extern_item_view items.new.items
-        ≡ map extern_item_view items.old.items
-        ++ option_to_list (option_map extern_item_view item)) }
-{
-    match item {
-        Some(item) => {
-            items.push(item)?;
-            Ok(())
-        }
-        None => Ok(()),
-    }
 }
 
 #[tactic(auto, unfolding(crate::specs::Items::finding), using(crate::proofs::Steps::finding_stop))]

@@ -1,6 +1,6 @@
 //! The items of files and modules.
 
-ghost use Rattle.std.specs.Prelude.{◌≡◌, ◌++◌, IfOk, OnOk, map, option_map, option_to_list, []};
+ghost use Rattle.std.specs.Prelude.{◌≡◌, ◌++◌, IfOk, OnOk, map, option_map, []};
 ghost use Rattle.hir_input.specs.Attr.{meta_view};
 ghost use Rattle.hir_input.specs.Syntax.{item_view, module_from};
 ghost use Rattle.rust_items.specs.Clipped.{clipped_block, clipped_item_if, clipped_turn, wanted_behind};
@@ -13,7 +13,7 @@ ghost use Rattle.rust_leaves.specs.Views.{front_view, name_view};
 
 use crate::externs::{extern_block, is_list_end};
 use crate::log::{Log, ProblemKind};
-use crate::turn::{Extent, leaf_turn, push_item};
+use crate::turn::{Extent, leaf_turn, push_item, push_some};
 use hir_input::ast::{Item, Module};
 use hir_input::{AstIdKind, Meta, Name};
 use rust_cursor::Cursor;
@@ -45,19 +45,6 @@ fn no_inside(alloc: Global, is_ended: bool) -> Inside
         attrs: Vec::new(alloc),
         items: None,
         is_ended,
-    }
-}
-
-fn push_some(items: &mut Vec<Item>, item: Option<Item>) -> Result<(), AllocError>
-    ensures { OnOk result (map item_view items.new.items ≡ map item_view items.old.items
-        ++ option_to_list (option_map item_view item)) }
-{
-    match item {
-        Some(item) => {
-            items.push(item)?;
-            Ok(())
-        }
-        None => Ok(()),
     }
 }
 

@@ -6,22 +6,20 @@ ghost use Rattle.rust_items.specs.Uses.{UsesAreTold};
 use crate::log::{Problem, ProblemKind};
 use crate::source_file::ItemPlace;
 
-fn problem_kinds()
-    ensures equal { DecidesEq ⟦<ProblemKind as PartialEq>⟧.eq }
-    ensures copied { IsCopied ⟦<ProblemKind as Clone>⟧.is_clone }
+fn equal_values()
+    ensures kinds { DecidesEq ⟦<ProblemKind as PartialEq>⟧.eq }
+    ensures problems { DecidesEq ⟦<Problem as PartialEq>⟧.eq }
+    ensures places { DecidesEq ⟦<ItemPlace as PartialEq>⟧.eq }
 {}
 
-fn problems()
-    ensures equal { DecidesEq ⟦<Problem as PartialEq>⟧.eq }
-    ensures copied { IsCopied ⟦<Problem as Clone>⟧.is_clone }
-{}
-
-fn places()
-    ensures equal { DecidesEq ⟦<ItemPlace as PartialEq>⟧.eq }
-    ensures copied { IsCopied ⟦<ItemPlace as Clone>⟧.is_clone }
+fn copies()
+    ensures kinds { IsCopied ⟦<ProblemKind as Clone>⟧.is_clone }
+    ensures problems { IsCopied ⟦<Problem as Clone>⟧.is_clone }
+    ensures places { IsCopied ⟦<ItemPlace as Clone>⟧.is_clone }
 {}
 
 // In the range of each item, exactly its own use trees begin, in order.
+#[tactic(auto, using(crate::proofs::UsesTold::uses_told))]
 fn uses_are_told()
     ensures { UsesAreTold }
 {}

@@ -1,6 +1,6 @@
 use Rattle.std.proofs.Common.{◌≡◌, map}
 use Rattle.rust_items.proofs.Common.{stmt_view, stmts_with_ids, supply_view}
-use Rattle.rust_items.proofs.Parts.{behind}
+use Rattle.rust_items.proofs.Numbering.{behind}
 use Rattle.rust_items.proofs.blocks.stmts_with_ids.Given as goal
 
 abbrev pub invariant-loop-stmt : goal.invariant-loop-stmt
