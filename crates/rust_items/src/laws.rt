@@ -19,7 +19,6 @@ fn copies()
 {}
 
 // In the range of each item, exactly its own use trees begin, in order.
-#[tactic(auto, using(crate::proofs::UsesTold::uses_told))]
 fn uses_are_told()
     ensures { UsesAreTold }
 {}
