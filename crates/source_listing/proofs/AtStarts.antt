@@ -73,15 +73,10 @@ read_at ts start t f =
 
 -- ---- one tree
 
--- a list's trees stand at these places, and where there is no list, there are none
-IsListed : (ℕ → Tree → Type 0) → List ℕ → Option (List UseTreeView) → Type 0
-IsListed R ss None = ss ≡ []
-IsListed R ss (Some ws) = AllZip R ss (nodes_in ws)
-
-listed_is : (R S : ℕ → Tree → Type 0) → ((x : ℕ) (t : Tree) → R x t → S x t) → (ss : List ℕ) (l : Option (List UseTreeView)) → IsListed R ss l → IsListed S ss l
-unfolding IsListed
-listed_is R S f ss None h = h
-listed_is R S f ss (Some ws) h = zip_is R S f ss (nodes_in ws) h
+-- the trees that are kept of a list, of which there are none where there is no list
+listed : Option (List UseTreeView) → List Tree
+listed None = []
+listed (Some ws) = nodes_in ws
 
 module _ (R : ℕ → Tree → Type 0) (start : ℕ) where
   -- what is kept of this tree stands at the place
@@ -100,14 +95,11 @@ module _ (R : ℕ → Tree → Type 0) (start : ℕ) where
   path_at (Some Unreadable) r e root = tt
   path_at (Some (Readable q)) r e root = (root _ refl, tt)
 
-  none_below : (ss : List ℕ) → ss ≡ [] → AllZip R ss []
-  none_below ss e = subst (λ (l : List ℕ). AllZip R l []) (sym e) tt
-
-  listed_at : (p : Option PathNode) (ss : List ℕ) (l : Option (List UseTreeView)) → IsListed R ss l → Root (tree_with_list p l) → AllZip R (begun_list p start l ss) (kept_nodes (tree_with_list p l))
-  unfolding IsListed Root
+  listed_at : (p : Option PathNode) (ss : List ℕ) (l : Option (List UseTreeView)) → AllZip R ss (listed l) → Root (tree_with_list p l) → AllZip R (begun_list p start l ss) (kept_nodes (tree_with_list p l))
+  unfolding listed Root
   listed_at None ss None h root = tt
   listed_at (Some Unreadable) ss None h root = tt
-  listed_at (Some (Readable q)) ss None h root = (root _ refl, none_below ss h)
+  listed_at (Some (Readable q)) ss None h root = (root _ refl, h)
   listed_at None ss (Some ws) h root = (root _ refl, subst (AllZip R ss) (sym (list_nodes ws)) h)
   listed_at (Some Unreadable) ss (Some ws) h root = tt
   listed_at (Some (Readable q)) ss (Some ws) h root = (root _ refl, subst (AllZip R ss) (sym (list_nodes ws)) h)
@@ -115,7 +107,7 @@ module _ (R : ℕ → Tree → Type 0) (start : ℕ) where
 -- ---- what is told of what is read
 
 record ListTold (ts : Tokens) (l : FoundInUse (Option (List UseTreeView)) × Tokens) : Type 0 where
-  each : IsListed (IsFound ts) l.0.starts l.0.value
+  each : AllZip (IsFound ts) l.0.starts (listed l.0.value)
   leads : LeadsTo ts l.1
 
 record TreeTold (ts : Tokens) (t : FoundInUse (Option UseTreeView) × Tokens) : Type 0 where
@@ -148,7 +140,7 @@ module _ (read : Reader (FoundInUse (Option (List UseTreeView)))) (h : (ts : Tok
         rw e (record { each = all; leads = through leads (bumped_leads us) }))
         (λ e.
         let v : (star_or_list read (at ts) p us).0.value ≡ tree_with_list p (read us).0.value = rw e refl in
-        let inner = listed_is (IsFound us) (IsFound ts) (later leads) (read us).0.starts (read us).0.value (h us).each in
+        let inner = zip_is (IsFound us) (IsFound ts) (later leads) (read us).0.starts (listed (read us).0.value) (h us).each in
         let all = listed_at (IsFound ts) (at ts) p (read us).0.starts (read us).0.value inner (subst (Root (IsFound ts) (at ts)) v root) in
         rw e (record { each = all; leads = through leads (h us).leads }))
 
@@ -215,15 +207,15 @@ module _ (read : Reader (FoundInUse (Option UseTreeView))) (h : (ts : Tokens) �
   elements_told ts p = turns_told most [] ts p tt
 
 list_told : (depth : ℕ) (ts : Tokens) → ListTold ts (list depth ts)
-unfolding list IsListed
+unfolding list listed
 list_told zero ts =
-    when (symbol ts == 123) (λ e. rw e (record { each = refl; leads = behind_tree_leads ts })) (λ e. rw e (record { each = refl; leads = here }))
+    when (symbol ts == 123) (λ e. rw e (record { each = tt; leads = behind_tree_leads ts })) (λ e. rw e (record { each = tt; leads = here }))
 list_told (suc depth) ts =
     when (symbol ts == 123)
     (λ e.
     let all = elements_told (element_with (list depth)) (element_told depth (list_told depth)) ts (bumped ts) (bumped_leads ts) in
     rw e (record { each = all.each; leads = through all.leads (behind_closed_leads 123 _) }))
-    (λ e. rw e (record { each = refl; leads = here }))
+    (λ e. rw e (record { each = tt; leads = here }))
 
 pub all_told : (ts : Tokens) → AreToldFor ts
 unfolding use_tree tree_at

@@ -4,7 +4,7 @@ pub mod Found
 pub mod Nested
 pub mod NoFloats
 pub mod Pushed
-pub mod Outlined
+pub mod Chosen
 pub mod Tagged
 pub mod Imported
 pub mod Repeats

@@ -63,18 +63,21 @@ tag_of path scope _ _ _ = None
 abbrev pub tag : List ℕ → List ℕ → Option ItemPlace → RowView → Option (List ℕ)
 tag path text place r = tag_of path r.scope r.name (kind_texts r.id.kind).letter (option_map (λ p. line_at text (stands_at p)) place)
 
--- a member of an item, which is called so for its members, has one if its kind has a letter
-abbrev pub member_tag : List ℕ → List ℕ → RowView → Option (List ℕ) → Listed → Option (List ℕ)
-member_tag path text r name m =
-    option_map (λ l. tag_text m.name path (line_at text m.at) l (scope_word name (kind_texts r.id.kind).scope) (r.scope ++ option_to_list name)) (member_letter m.kind)
+-- a member that stands in these, of which the innermost has this word, has one if its kind has a letter
+abbrev pub tag_inside : List ℕ → List ℕ → List ℕ → List (List ℕ) → Listed → Option (List ℕ)
+tag_inside path text word scope m = option_map (λ l. tag_text m.name path (line_at text m.at) l word scope) (member_letter m.kind)
 
 abbrev pub if_any : Option (List ℕ) → List (List ℕ)
 if_any None = []
 if_any (Some text) = text ∷ []
 
--- the tags of the listed members of an item
+unfoldable pub tags_inside : List ℕ → List ℕ → List ℕ → List (List ℕ) → List Listed → List (List ℕ)
+tags_inside path text word scope ms = flat_map (λ m. if_any (tag_inside path text word scope m)) ms
+
+-- the tags of the listed members of an item, which is called so for its members
 unfoldable pub member_tags : List ℕ → List ℕ → Choice → RowView → Option (List ℕ) → List Listed → List (List ℕ)
-member_tags path text c r name ms = flat_map (λ m. if_any (member_tag path text r name m)) (filter (λ m. is_chosen c (r.level + 1) m.is_active) ms)
+member_tags path text c r name ms =
+    tags_inside path text (scope_word name (kind_texts r.id.kind).scope) (r.scope ++ option_to_list name) (filter (λ m. is_chosen c (r.level + 1) m.is_active) ms)
 
 -- the tag of an item, and behind it those of its listed members
 abbrev pub tags_at : List ℕ → List ℕ → MemberReading → Choice → RowView → Option ItemPlace → List (List ℕ)

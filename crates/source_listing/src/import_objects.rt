@@ -42,11 +42,7 @@ fn alias_value(
 {
     match alias {
         None => Ok(Value::Null),
-        Some(alias) => {
-            let alias = alias.display(edition);
-            let text = alias.to_string(alloc)?;
-            Ok(Value::String(text))
-        }
+        Some(alias) => Ok(Value::String(alias.display(edition).to_string(alloc)?)),
     }
 }
 
@@ -89,28 +85,7 @@ fn import_value(
     Ok(Value::Object(members))
 }
 
-/// Adds the object of an import, whose use tree is one of these.
-fn push_import(
-    alloc: Global,
-    edition: &Edition,
-    finder: &mut TreeFinder<'_>,
-    trees: Option<UseTrees<'_>>,
-    import: &Listed,
-    out: &mut Vec<Value>,
-) -> Result<(), AllocError>
-    ensures objects { let spots = tree_spots (finder_text finder.old)
-        (option_map placed_trees_view trees.entry) in
-        let objects = spec.import_object edition.now.reserved.items spots (listed_import import.now) in
-        OnOk result (map view out.new.items ≡ map view out.old.items ++ objects) }
-    ensures same { IsSameTreeFinder finder.old finder.new }
-{
-    let spot = finder.spot(trees, import.index);
-    let value = import_value(alloc, edition, spot, import)?;
-    out.push(value)?;
-    Ok(())
-}
-
-/// Adds the objects of the imports of a use.
+/// Adds the objects of the imports of a use, whose use trees are these.
 fn push_imports(
     alloc: Global,
     edition: &Edition,
@@ -126,7 +101,8 @@ fn push_imports(
     ensures same { IsSameTreeFinder finder.old finder.new }
 {
     for import in imports {
-        push_import(alloc, edition, finder, trees, import, out)?;
+        let spot = finder.spot(trees, import.index);
+        out.push(import_value(alloc, edition, spot, import)?)?;
     }
     Ok(())
 }

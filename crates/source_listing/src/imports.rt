@@ -60,28 +60,7 @@ pub(crate) fn push_import_text(
     }
 }
 
-/// The line of an import, whose use tree is one of these.
-fn push_import(
-    path: &str,
-    edition: &Edition,
-    finder: &mut TreeFinder<'_>,
-    trees: Option<UseTrees<'_>>,
-    import: &Listed,
-    out: &mut String,
-) -> Result<(), AllocError>
-    ensures text { let spots = tree_spots (finder_text finder.old)
-        (option_map placed_trees_view trees.entry) in
-        let line = spec.placed_import_line path.now edition.now.reserved.items spots in
-        OnOk result (string_bytes out.new ≡ string_bytes out.old ++ line (listed_import import.now)) }
-    ensures same { IsSameTreeFinder finder.old finder.new }
-{
-    let spot = finder.spot(trees, import.index);
-    push_spot(path, spot, out)?;
-    push_import_text(edition, import, out)?;
-    out.push_str("\n")
-}
-
-/// The lines of the imports of a use.
+/// The lines of the imports of a use, whose use trees are these.
 fn push_imports(
     path: &str,
     edition: &Edition,
@@ -97,7 +76,10 @@ fn push_imports(
     ensures same { IsSameTreeFinder finder.old finder.new }
 {
     for import in imports {
-        push_import(path, edition, finder, trees, import, out)?;
+        let spot = finder.spot(trees, import.index);
+        push_spot(path, spot, out)?;
+        push_import_text(edition, import, out)?;
+        out.push_str("\n")?;
     }
     Ok(())
 }

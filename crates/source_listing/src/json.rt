@@ -111,11 +111,7 @@ fn subject_value(
             push_short_tree(edition, tree, &mut text)?;
             Ok(Value::String(text))
         }
-        Subject::Call(path) => {
-            let path = path.display(edition);
-            let text = path.to_string(alloc)?;
-            Ok(Value::String(text))
-        }
+        Subject::Call(path) => Ok(Value::String(path.display(edition).to_string(alloc)?)),
     }
 }
 
@@ -289,30 +285,7 @@ fn member_object(
     )
 }
 
-/// Adds the object of a member of an item in so many others, if that is chosen.
-fn push_member(
-    alloc: Global,
-    printer: &mut Printer<'_>,
-    choice: Choice,
-    level: usize,
-    member: &ListedMember,
-    out: &mut Vec<Value>,
-) -> Result<(), AllocError>
-    ensures objects { let objects = spec.member_objects (file_of printer.old).text
-        (reserved_of printer.old) (choice_view choice) level in
-        OnOk result (map view out.new.items ≡ map view out.old.items ++ objects (listed_view member.now ∷ [])) }
-    ensures same { IsSameFile printer.old printer.new }
-{
-    if !choice.takes_inside(level, member.is_active) {
-        return Ok(());
-    }
-    let object = member_object(alloc, printer, member)?;
-    out.push(object)?;
-    Ok(())
-}
-
 /// The objects of the chosen members of an item that is there, in so many others.
-#[tactic(auto, using(crate::proofs::Outlined::one_more_object))]
 fn member_values(
     alloc: Global,
     printer: &mut Printer<'_>,
@@ -326,10 +299,11 @@ fn member_values(
         IfOk result (λ values. map view values.items ≡ objects (members_of (reading_view listing.entry.reading) place is_active)) }
     ensures same { IsSameFile printer.old printer.new }
 {
-    let members = listing.reading.members(alloc, place, is_active)?;
+    let (choice, reading) = (listing.choice, listing.reading);
+    let members = choice.members(alloc, reading, place, level, is_active)?;
     let mut values = Vec::new(alloc);
     for member in &members {
-        push_member(alloc, printer, listing.choice, level, member, &mut values)?;
+        values.push(member_object(alloc, printer, member)?)?;
     }
     Ok(values)
 }

@@ -1,6 +1,9 @@
 //! What lines of text are made of.
-ghost use Rattle.std.specs.Prelude.{◌≡◌, ◌+◌, ◌++◌, OnOk, option_copied, string_bytes};
+ghost use Rattle.std.specs.Prelude.{◌≡◌, ◌+◌, ◌++◌, IfOk, OnOk, filter, map, option_copied, string_bytes};
+ghost use Rattle.tree_walk.specs.Rows as rows;
 ghost use Rattle.tree_walk.specs.Views.{row_view};
+ghost use Rattle.source_rows.specs.Listed.{members_of};
+ghost use Rattle.source_rows.specs.ListedViews.{listed_view, reading_view};
 ghost use Rattle.source_listing.specs.Inner.{IsPrinterOf, IsSameFile, file_of, places_of, reserved_of};
 ghost use Rattle.source_listing.specs.Lines as spec;
 ghost use Rattle.source_listing.specs.Places.{AreDistinct, item_place, place_of};
@@ -8,11 +11,11 @@ ghost use Rattle.source_listing.specs.Views.{choice_view, source_view};
 
 use crate::finder::{Finder, Spot, stand_of};
 use hir_input::{Edition, FileAstId, ModPath, Name, PathKind};
-use item_tree::{RawVisibility, VisibilityExplicitness};
+use item_tree::{ItemTree, RawVisibility, VisibilityExplicitness};
 use rust_items::ItemPlace;
-use source_rows::{Source, push_place};
-use std::alloc::AllocError;
-use tree_walk::Row;
+use source_rows::{ListedMember, Reading, Source, push_place};
+use std::alloc::{AllocError, Global};
+use tree_walk::{Row, item_rows};
 
 /// Which items are listed.
 #[derive(Clone, Copy, Debug)]
@@ -35,14 +38,14 @@ impl Choice {
         is_within && (!self.only_active || is_active)
     }
 
-    pub(crate) fn lists(self, row: &Row<'_>) -> bool
+    fn lists(self, row: &Row<'_>) -> bool
         ensures { result ≡ spec.is_listed (choice_view self) (row_view row.now) }
     {
         self.takes(row.level, row.is_active)
     }
 
     /// Whether a member of an item in so many others is listed.
-    pub(crate) fn takes_inside(self, level: usize, is_active: bool) -> bool
+    fn takes_inside(self, level: usize, is_active: bool) -> bool
         ensures { result ≡ spec.is_chosen (choice_view self) (level + 1) is_active }
     {
         let is_within = match self.depth {
@@ -50,6 +53,38 @@ impl Choice {
             None => true,
         };
         is_within && (!self.only_active || is_active)
+    }
+
+    /// The rows of a tree that are listed.
+    pub(crate) fn rows<'t>(
+        self,
+        alloc: Global,
+        tree: &'t ItemTree,
+    ) -> Result<Vec<Row<'t>>, AllocError>
+        ensures { let listed = filter (spec.is_listed (choice_view self)) (rows.rows tree.now) in
+            IfOk result (λ v. map row_view v.items ≡ listed) }
+    {
+        let mut rows = item_rows(alloc, tree)?;
+        rows.retain(|row| self.lists(row));
+        Ok(rows)
+    }
+
+    /// The members that are listed of an item in so many others, which stands there.
+    pub(crate) fn members(
+        self,
+        alloc: Global,
+        reading: Reading<'_>,
+        place: Option<ItemPlace>,
+        level: usize,
+        is_active: bool,
+    ) -> Result<Vec<ListedMember>, AllocError>
+        ensures { let members = members_of (reading_view reading.entry) place is_active in
+            let listed = filter (λ m. spec.is_chosen (choice_view self) (level + 1) m.is_active) members in
+            IfOk result (λ v. map listed_view v.items ≡ listed) }
+    {
+        let mut members = reading.members(alloc, place, is_active)?;
+        members.retain(|member| self.takes_inside(level, member.is_active));
+        Ok(members)
     }
 }
 

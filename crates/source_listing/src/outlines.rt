@@ -1,7 +1,8 @@
 //! Outlines as lines of text.
-ghost use Rattle.std.specs.Prelude.{◌≡◌, ◌++◌, ◌∷◌, [], IfOk, OnOk, Some, option_copied, string_bytes, map};
+ghost use Rattle.std.specs.Prelude.{◌≡◌, ◌++◌, IfOk, OnOk, option_copied, string_bytes};
 ghost use Rattle.tree_walk.specs.Rows as rows;
 ghost use Rattle.tree_walk.specs.Views.{row_view, subject_view};
+ghost use Rattle.source_rows.specs.Listed.{members_of};
 ghost use Rattle.source_rows.specs.ListedViews.{listed_view, reading_view};
 ghost use Rattle.source_listing.specs.Colors.{bold, colored, faint};
 ghost use Rattle.source_listing.specs.Inner.{IsSameFile, file_of, places_of, reserved_of};
@@ -19,7 +20,7 @@ use item_tree::ItemTree;
 use rust_items::ItemPlace;
 use source_rows::{ListedMember, Reading, Source, item_word, member_word};
 use std::alloc::{AllocError, Global};
-use tree_walk::{Row, Subject, item_rows};
+use tree_walk::{Row, Subject};
 
 /// Which items and members have lines, and how these are written.
 #[derive(Clone, Copy, Debug)]
@@ -125,46 +126,31 @@ impl Printer<'_> {
         push_end(member.is_active, out)
     }
 
-    /// The line of a member, if that is chosen.
-    fn push_chosen_member(
-        &mut self,
-        look: Look,
-        level: usize,
-        member: &ListedMember,
-        out: &mut String,
-    ) -> Result<(), AllocError>
-        ensures text { let lines = spec.member_lines (file_of self.old) (reserved_of self.old)
-            (look_view look) level in
-            OnOk result (string_bytes out.new ≡ string_bytes out.old ++ lines (listed_view member.now ∷ [])) }
-        ensures same { IsSameFile self.old self.new }
-    {
-        if !look.choice.takes_inside(level, member.is_active) {
-            return Ok(());
-        }
-        self.push_member(look.is_colored, level, member, out)
-    }
-
-    /// The lines of the chosen members of an item in so many others.
-    #[tactic(auto, using(crate::proofs::Outlined::one_more_member))]
+    /// The lines of the chosen members of an item in so many others, which stands there.
     fn push_members(
         &mut self,
+        alloc: Global,
+        reading: Reading<'_>,
         look: Look,
-        level: usize,
-        members: &[ListedMember],
+        row: &Row<'_>,
+        place: Option<ItemPlace>,
         out: &mut String,
     ) -> Result<(), AllocError>
         ensures text { let lines = spec.member_lines (file_of self.old) (reserved_of self.old)
-            (look_view look) level in
-            OnOk result (string_bytes out.new ≡ string_bytes out.old ++ lines (map listed_view members.now)) }
+            (look_view look) row.now.level in
+            let members = members_of (reading_view reading.entry) place row.now.is_active in
+            OnOk result (string_bytes out.new ≡ string_bytes out.old ++ lines members) }
         ensures same { IsSameFile self.old self.new }
     {
-        for member in members {
-            self.push_chosen_member(look, level, member, out)?;
+        let choice = look.choice;
+        let members = choice.members(alloc, reading, place, row.level, row.is_active)?;
+        for member in &members {
+            self.push_member(look.is_colored, row.level, member, out)?;
         }
         Ok(())
     }
 
-    /// The line of an item, and those of its members.
+    /// The line of an item, and those of its chosen members.
     fn push_whole(
         &mut self,
         alloc: Global,
@@ -183,30 +169,7 @@ impl Printer<'_> {
         let place = self.finder.places.find(row.id);
         let header = reading.header(alloc, row.id.kind, place)?;
         self.push_item(look.is_colored, row, place, &header, out)?;
-        let members = reading.members(alloc, place, row.is_active)?;
-        self.push_members(look, row.level, &members, out)
-    }
-
-    /// The line of an item and those of its members, if the item is chosen.
-    fn push_chosen(
-        &mut self,
-        alloc: Global,
-        reading: Reading<'_>,
-        look: Look,
-        row: &Row<'_>,
-        out: &mut String,
-    ) -> Result<(), AllocError>
-        requires { AreDistinct (places_of self.old) }
-        ensures text { let lines = spec.outline_text (file_of self.old) (reading_view reading.entry)
-            (reserved_of self.old) in
-            let lines = lines (places_of self.old) (look_view look) (row_view row.now ∷ []) in
-            OnOk result (string_bytes out.new ≡ string_bytes out.old ++ lines) }
-        ensures same { IsSameFile self.old self.new }
-    {
-        if !look.choice.lists(row) {
-            return Ok(());
-        }
-        self.push_whole(alloc, reading, look, row, out)
+        self.push_members(alloc, reading, look, row, place, out)
     }
 }
 
@@ -222,7 +185,6 @@ impl Printer<'_> {
 /// # Errors
 ///
 /// Only if memory runs out.
-#[tactic(auto, using(crate::proofs::Outlined::one_more))]
 pub fn outline(
     alloc: Global,
     source: Source<'_>,
@@ -245,9 +207,9 @@ pub fn outline(
     };
     let mut printer = Printer::new(source, places, edition);
     let mut out = String::new(alloc);
-    let rows = item_rows(alloc, tree)?;
+    let rows = look.choice.rows(alloc, tree)?;
     for row in &rows {
-        printer.push_chosen(alloc, reading, look, row, &mut out)?;
+        printer.push_whole(alloc, reading, look, row, &mut out)?;
     }
     Ok(out)
 }

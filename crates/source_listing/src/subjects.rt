@@ -11,20 +11,21 @@ use item_tree::{UseTree, UseTreeKind};
 use std::alloc::AllocError;
 use tree_walk::Subject;
 
-/// What stands in front of a star or of a list.
-fn push_prefix(
+/// What stands in front of a star or of a list, and then this.
+fn push_under(
     edition: &Edition,
     prefix: &Option<ModPath>,
+    names: &str,
     out: &mut String,
 ) -> Result<(), AllocError>
-    ensures { let text = shown_prefix edition.now.reserved.items prefix.now in
+    ensures { let text = shown_prefix edition.now.reserved.items prefix.now ++ names.now in
         OnOk result (string_bytes out.new ≡ string_bytes out.old ++ text) }
 {
     match prefix {
-        None => Ok(()),
+        None => out.push_str(names),
         Some(path) => {
             let path = path.display(edition);
-            write!(out, "{path}::")
+            write!(out, "{path}::{names}")
         }
     }
 }
@@ -44,14 +45,8 @@ pub(crate) fn push_short_tree(
             write!(out, "{path}")?;
             push_rename(edition, alias, out)
         }
-        UseTreeKind::Glob { path } => {
-            push_prefix(edition, path, out)?;
-            out.push_str("*")
-        }
-        UseTreeKind::Prefixed { prefix, .. } => {
-            push_prefix(edition, prefix, out)?;
-            out.push_str("{..}")
-        }
+        UseTreeKind::Glob { path } => push_under(edition, path, "*", out),
+        UseTreeKind::Prefixed { prefix, .. } => push_under(edition, prefix, "{..}", out),
     }
 }
 

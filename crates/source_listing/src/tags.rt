@@ -1,5 +1,5 @@
 //! Lines of a tags file, by which editors jump to names.
-ghost use Rattle.std.specs.Prelude.{◌≡◌, ◌<◌, ◌++◌, ◌∷◌, [], IfOk, OnOk, map, option_copied, option_map, option_to_list, string_bytes};
+ghost use Rattle.std.specs.Prelude.{◌≡◌, ◌<◌, ◌++◌, IfOk, OnOk, map, option_copied, option_map, option_to_list, string_bytes};
 ghost use Rattle.hir_input.specs.Id.{hex_digit as hex_digit_of};
 ghost use Rattle.tree_walk.specs.Rows as rows;
 ghost use Rattle.tree_walk.specs.Views.{row_view};
@@ -16,11 +16,12 @@ use crate::lines::Choice;
 use crate::search::{holder, push_scope};
 use hir_input::{AstIdKind, Name};
 use item_tree::ItemTree;
+use itoa::Buffer;
 use rust_items::ItemPlace;
 use rust_members::MemberKind;
 use source_rows::{ListedMember, Reading, kind_texts};
 use std::alloc::{AllocError, Global};
-use tree_walk::{Row, item_rows};
+use tree_walk::Row;
 
 /// The letter of a member's kind.
 fn member_letter(kind: MemberKind) -> Option<&'static str>
@@ -150,7 +151,13 @@ fn tag_text(
         .saturating_add(around)
         .saturating_add(LINE_ROOM);
     let mut tag = String::with_capacity(alloc, room)?;
-    write!(tag, "{name}\t{path}\t{line};\"\t{letter}")?;
+    tag.push_str(name)?;
+    tag.push_str("\t")?;
+    tag.push_str(path)?;
+    tag.push_str("\t")?;
+    tag.push_str(Buffer::new().format(line))?;
+    tag.push_str(";\"\t")?;
+    tag.push_str(letter)?;
     push_scope_field(word, scope, &mut tag)?;
     tag.push_str("\n")?;
     Ok(tag)
@@ -199,17 +206,17 @@ fn names_around<'a>(
     Ok(names)
 }
 
-/// The tag of a member of an item, which is called so for its members, if it has one.
+/// The tag of a member that stands in these, of which the innermost has this word, if it has one.
 fn member_tag(
     alloc: Global,
     finder: &mut Finder<'_>,
     path: &str,
-    row: &Row<'_>,
-    name: Option<&Name>,
+    word: &str,
+    scope: &[&Name],
     member: &ListedMember,
 ) -> Result<Option<String>, AllocError>
-    ensures tag { let tag = spec.member_tag path.now finder.old.lines (row_view row.now)
-        (option_copied name.entry) in
+    ensures tag { let tag = spec.tag_inside path.now finder.old.lines word.now
+        (map (λ n. n.now) scope.now) in
         IfOk result (λ made. option_map string_bytes made ≡ tag (listed_view member.now)) }
     ensures same { IsSameFinder finder.old finder.new }
 {
@@ -217,9 +224,7 @@ fn member_tag(
         return Ok(None);
     };
     let line = finder.lines.position(member.at).line;
-    let word = scope_word(row.id.kind, name);
-    let names = names_around(alloc, row, name)?;
-    let tag = tag_text(alloc, &member.name, path, line, letter, word, &names)?;
+    let tag = tag_text(alloc, &member.name, path, line, letter, word, scope)?;
     Ok(Some(tag))
 }
 
@@ -237,77 +242,32 @@ fn push_if_any(tag: Option<String>, tags: &mut Vec<String>) -> Result<(), AllocE
     Ok(())
 }
 
-/// Adds the tag of an item, if it has one.
-#[tactic(auto, using(crate::proofs::Begins::begin_itself))]
-fn push_tag(
-    alloc: Global,
-    finder: &mut Finder<'_>,
-    path: &str,
-    row: &Row<'_>,
-    place: Option<ItemPlace>,
-    tags: &mut Vec<String>,
-) -> Result<(), AllocError>
-    ensures tags { let added = spec.if_any
-        (spec.tag path.now finder.old.lines place (row_view row.now)) in
-        OnOk result (map string_bytes tags.new.items ≡ map string_bytes tags.old.items ++ added) }
-    ensures kept { IsBeginOf tags.old.items tags.new.items }
-    ensures same { IsSameFinder finder.old finder.new }
-{
-    let tag = tag(alloc, finder, path, row, place)?;
-    push_if_any(tag, tags)
-}
-
-/// Adds the tag of a member, if it is chosen and has one.
-#[tactic(auto, unfolding(crate::specs::Tags::member_tags), using(crate::proofs::Begins::begin_itself))]
-fn push_member_tag(
-    alloc: Global,
-    finder: &mut Finder<'_>,
-    path: &str,
-    choice: Choice,
-    row: &Row<'_>,
-    name: Option<&Name>,
-    member: &ListedMember,
-    tags: &mut Vec<String>,
-) -> Result<(), AllocError>
-    ensures tags { let all = spec.member_tags path.now finder.old.lines (choice_view choice) in
-        let all = all (row_view row.now) (option_copied name.entry) in
-        OnOk result (map string_bytes tags.new.items ≡ map string_bytes tags.old.items ++ all (listed_view member.now ∷ [])) }
-    ensures kept { IsBeginOf tags.old.items tags.new.items }
-    ensures same { IsSameFinder finder.old finder.new }
-{
-    if !choice.takes_inside(row.level, member.is_active) {
-        return Ok(());
-    }
-    let tag = member_tag(alloc, finder, path, row, name, member)?;
-    push_if_any(tag, tags)
-}
-
-/// Adds the tags of the chosen members of an item.
-#[tactic(auto, unfolding(crate::specs::Tags::member_tags), using(crate::proofs::Begins::begin_itself))]
+/// Adds the tags of members that stand in these, of which the innermost has this word.
+#[tactic(auto, unfolding(crate::specs::Tags::tags_inside), using(crate::proofs::Begins::begin_itself, crate::proofs::Begins::begin_later))]
 fn push_member_tags(
     alloc: Global,
     finder: &mut Finder<'_>,
     path: &str,
-    choice: Choice,
-    row: &Row<'_>,
-    name: Option<&Name>,
+    word: &str,
+    scope: &[&Name],
     members: &[ListedMember],
     tags: &mut Vec<String>,
 ) -> Result<(), AllocError>
-    ensures tags { let all = spec.member_tags path.now finder.old.lines (choice_view choice) in
-        let all = all (row_view row.now) (option_copied name.entry) in
+    ensures tags { let all = spec.tags_inside path.now finder.old.lines word.now
+        (map (λ n. n.now) scope.now) in
         OnOk result (map string_bytes tags.new.items ≡ map string_bytes tags.old.items ++ all (map listed_view members.now)) }
     ensures kept { IsBeginOf tags.old.items tags.new.items }
     ensures same { IsSameFinder finder.old finder.new }
 {
     for member in members {
-        push_member_tag(alloc, finder, path, choice, row, name, member, tags)?;
+        let tag = member_tag(alloc, finder, path, word, scope, member)?;
+        push_if_any(tag, tags)?;
     }
     Ok(())
 }
 
-/// Adds the tag of an item, and those of its chosen members.
-#[tactic(auto, using(crate::proofs::Begins::begin_later))]
+/// Adds the tag of an item, and those of its chosen members, of all that have one.
+#[tactic(auto, unfolding(crate::specs::Tags::member_tags), using(crate::proofs::Begins::begin_itself, crate::proofs::Begins::begin_later))]
 fn push_whole(
     alloc: Global,
     finder: &mut Finder<'_>,
@@ -326,36 +286,14 @@ fn push_whole(
     ensures same { IsSameFinder finder.old finder.new }
 {
     let place = finder.places.find(row.id);
-    push_tag(alloc, finder, path, row, place, tags)?;
-    let members = reading.members(alloc, place, row.is_active)?;
+    let tag = tag(alloc, finder, path, row, place)?;
+    push_if_any(tag, tags)?;
     let type_name = reading.type_name(alloc, row.id.kind, place)?;
     let name = holder(row.name, &type_name);
-    push_member_tags(alloc, finder, path, choice, row, name, &members, tags)
-}
-
-/// Adds the tag of an item and those of its members, if the item is chosen.
-#[tactic(auto, using(crate::proofs::Begins::begin_itself))]
-fn push_chosen(
-    alloc: Global,
-    finder: &mut Finder<'_>,
-    path: &str,
-    reading: Reading<'_>,
-    choice: Choice,
-    row: &Row<'_>,
-    tags: &mut Vec<String>,
-) -> Result<(), AllocError>
-    requires { AreDistinct finder.old.places.all.now }
-    ensures tags { let all = spec.tags_under path.now finder.old.lines
-        (reading_view reading.entry) in
-        let added = all finder.old.places.all.now (choice_view choice) (row_view row.now ∷ []) in
-        OnOk result (map string_bytes tags.new.items ≡ map string_bytes tags.old.items ++ added) }
-    ensures kept { IsBeginOf tags.old.items tags.new.items }
-    ensures same { IsSameFinder finder.old finder.new }
-{
-    if !choice.lists(row) {
-        return Ok(());
-    }
-    push_whole(alloc, finder, path, reading, choice, row, tags)
+    let word = scope_word(row.id.kind, name);
+    let scope = names_around(alloc, row, name)?;
+    let members = choice.members(alloc, reading, place, row.level, row.is_active)?;
+    push_member_tags(alloc, finder, path, word, &scope, &members, tags)
 }
 
 /// Adds the tags of a file: for each chosen item with a name of a kind that has a letter, and for each chosen member with a
@@ -369,7 +307,7 @@ fn push_chosen(
 /// # Errors
 ///
 /// Only if memory runs out.
-#[tactic(auto, using(crate::proofs::Tagged::one_more, crate::proofs::Begins::begin_itself, crate::proofs::Begins::begin_later))]
+#[tactic(auto, using(crate::proofs::Begins::begin_itself, crate::proofs::Begins::begin_later))]
 pub fn push_tags(
     alloc: Global,
     path: &str,
@@ -387,9 +325,9 @@ pub fn push_tags(
 {
     let mut finder = Finder::new(reading.text, places);
     let written = written_path(alloc, path)?;
-    let rows = item_rows(alloc, tree)?;
+    let rows = choice.rows(alloc, tree)?;
     for row in &rows {
-        push_chosen(alloc, &mut finder, &written, reading, choice, row, tags)?;
+        push_whole(alloc, &mut finder, &written, reading, choice, row, tags)?;
     }
     Ok(())
 }

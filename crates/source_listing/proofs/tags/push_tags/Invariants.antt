@@ -1,10 +1,10 @@
-use Rattle.source_listing.proofs.Common.{◌≡◌, ◌++◌, map, take, string_bytes, row_view, reading_view, IsBeginOf, choice_view, IsFinderOf}
+use Rattle.source_listing.proofs.Common.{◌≡◌, ◌++◌, map, take, string_bytes, flat_map, row_view, reading_view, IsBeginOf, choice_view, IsFinderOf}
 use Rattle.source_listing.specs.Tags as spec
 use Rattle.source_listing.proofs.tags.push_tags.Given as goal
 
 abbrev pub invariant-loop-row : goal.invariant-loop-row
 invariant-loop-row l = record {
-  tags : map string_bytes l.tags.items ≡ map string_bytes l.initial.tags.items ++ spec.tags l.fn.path (reading_view l.fn.reading) l.fn.places (choice_view l.fn.choice) (map row_view (take l.row-index l.row-items));
+  tags : map string_bytes l.tags.items ≡ map string_bytes l.initial.tags.items ++ flat_map (spec.whole_tags (spec.tag_path l.fn.path) (reading_view l.fn.reading).text (reading_view l.fn.reading) l.fn.places (choice_view l.fn.choice)) (map row_view (take l.row-index l.row-items));
   kept : IsBeginOf l.initial.tags.items l.tags.items;
   is : IsFinderOf l.fn.reading.text.now l.fn.places l.finder;
 }
