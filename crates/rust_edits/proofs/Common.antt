@@ -80,7 +80,7 @@ pub use Rattle.rust_leaves.specs.Fronts.{FrontRead}
 unfoldable pub use Rattle.rust_leaves.specs.Fronts.{front, front_behind}
 pub use Rattle.rust_leaves.specs.Heads.{behind_head, behind_modifiers_from}
 unfoldable pub use Rattle.rust_leaves.specs.Heads.{behind_abi, behind_modifier, behind_modifiers, head, head_by, is_modifier, is_modifier_before}
-pub use Rattle.rust_leaves.specs.Kinds.{block_item, call_behind, called, leaf_by, leaf_read, named_node, node, plain_read, some_read, told_at, use_read}
+pub use Rattle.rust_leaves.specs.Kinds.{block_item, call_behind, called, leaf_by, leaf_read, named_node, node, plain_end, plain_read, some_read, told_at, use_read}
 unfoldable pub use Rattle.rust_leaves.specs.Kinds.{constant, crate_item, enumeration, function, implementation, invocation, is_called, leaf, macro_def, macro_definition, static_value, structure, trait_item, type_alias, union_item, use_declaration}
 pub use Rattle.rust_leaves.specs.Leaves.{LeafRead, NameRead, RestRead, are_over, bare_end, crate_alias_if, fields_at, is_before, name_read, next_range, no_name, range_to, rename_of, rest_read, semicolon_end, symbol_within}
 unfoldable pub use Rattle.rust_leaves.specs.Leaves.{block_attributes, call_end, crate_alias, fields, has_trait, header_field, impl_end, item_end, macro_end, named, named_or, renamed, struct_fields, value_end}

@@ -197,15 +197,15 @@ module _ (old typed : List ℕ) (items : List ItemPlace) (body range : TextRange
 
   old_is : old ≡ with_body q m s
   unfolding q m s
-  old_is = parts.whole ∙ body_is p.before.now p.front.now p.replaced.now p.back.now p.behind.now
+  old_is = parts.about.whole ∙ body_is p.before.now p.front.now p.replaced.now p.back.now p.behind.now
 
   new_is : edited old range typed ≡ with_body q m' s
   unfolding q m' s
-  new_is = edited_is old p.before.now p.front.now p.replaced.now p.back.now p.behind.now range typed parts.whole parts.starts parts.ends
+  new_is = edited_is old p.before.now p.front.now p.replaced.now p.back.now p.behind.now range typed parts.about.whole parts.about.starts parts.about.ends
 
   opening : shift.opening ≡ length q
   unfolding q
-  opening = moves.opening ∙ sym parts.opens
+  opening = moves.opening ∙ sym parts.about.opens
 
   closing : shift.closing ≡ close_at q m
   unfolding q m
@@ -221,10 +221,10 @@ module _ (old typed : List ℕ) (items : List ItemPlace) (body range : TextRange
   typed_is : (edition : EditionYear) (read : FileView) → read.places ≡ items → IsFileView edition (with_body q m s) read → IsTyped edition (with_feeds q) (with_feeds m) (with_feeds m') (with_feeds s)
   unfolding q m m'
   typed_is edition read e f =
-      let one = alone_is (p.front.now ++ (p.replaced.now ++ p.back.now)) (IsUtf8-append _ _ parts.front_utf8 (IsUtf8-append _ _ parts.replaced_utf8 parts.back_utf8)) alone in
-      let two = alone_is (p.front.now ++ (typed ++ p.back.now)) (IsUtf8-append _ _ parts.front_utf8 (IsUtf8-append _ _ utf8 parts.back_utf8)) alone_new in
+      let one = alone_is (p.front.now ++ (p.replaced.now ++ p.back.now)) (IsUtf8-append _ _ parts.about.front_utf8 (IsUtf8-append _ _ parts.about.replaced_utf8 parts.about.back_utf8)) alone in
+      let two = alone_is (p.front.now ++ (typed ++ p.back.now)) (IsUtf8-append _ _ parts.about.front_utf8 (IsUtf8-append _ _ utf8 parts.about.back_utf8)) alone_new in
       let front : IsBare (with_body (with_feeds q) (with_feeds m) (with_feeds s)) = subst IsBare (ap with_feeds old_is ∙ feeds_body q m s) (bare_is old bare) in
-      let here : has_body_at (length q) read.places ≡ true = ap (λ (n : ℕ). has_body_at n read.places) parts.opens ∙ ap (has_body_at body.start) e ∙ told in
+      let here : has_body_at (length q) read.places ≡ true = ap (λ (n : ℕ). has_body_at n read.places) parts.about.opens ∙ ap (has_body_at body.start) e ∙ told in
       let is : IsBody edition (with_feeds q) (with_feeds m) (with_feeds s) =
       sym (body_is_told edition (with_feeds q) (with_feeds m) (with_feeds s) (with_body q m s) read (feeds_body q m s) f) ∙ ap (λ (n : ℕ). has_body_at n read.places) (place_open q m s) ∙ here in
       record {
@@ -239,10 +239,10 @@ module _ (old typed : List ℕ) (items : List ItemPlace) (body range : TextRange
   -- brackets are counted in braces, and are as many between them
   module _ (keeps : Bool) (counted : keeps ≡ same_loose (loose_inside (with_feeds (in_braces (p.front.now ++ (p.replaced.now ++ p.back.now))))) (loose_inside (with_feeds (in_braces (p.front.now ++ (typed ++ p.back.now)))))) where
     stood : loose_inside (with_feeds (in_braces (p.front.now ++ (p.replaced.now ++ p.back.now)))) ≡ loose_in (with_feeds (p.front.now ++ (p.replaced.now ++ p.back.now)))
-    stood = loose_is (p.front.now ++ (p.replaced.now ++ p.back.now)) (alone_is (p.front.now ++ (p.replaced.now ++ p.back.now)) (IsUtf8-append _ _ parts.front_utf8 (IsUtf8-append _ _ parts.replaced_utf8 parts.back_utf8)) alone).0
+    stood = loose_is (p.front.now ++ (p.replaced.now ++ p.back.now)) (alone_is (p.front.now ++ (p.replaced.now ++ p.back.now)) (IsUtf8-append _ _ parts.about.front_utf8 (IsUtf8-append _ _ parts.about.replaced_utf8 parts.about.back_utf8)) alone).0
 
     stands : loose_inside (with_feeds (in_braces (p.front.now ++ (typed ++ p.back.now)))) ≡ loose_in (with_feeds (p.front.now ++ (typed ++ p.back.now)))
-    stands = loose_is (p.front.now ++ (typed ++ p.back.now)) (alone_is (p.front.now ++ (typed ++ p.back.now)) (IsUtf8-append _ _ parts.front_utf8 (IsUtf8-append _ _ utf8 parts.back_utf8)) alone_new).0
+    stands = loose_is (p.front.now ++ (typed ++ p.back.now)) (alone_is (p.front.now ++ (typed ++ p.back.now)) (IsUtf8-append _ _ parts.about.front_utf8 (IsUtf8-append _ _ utf8 parts.about.back_utf8)) alone_new).0
 
     pub loose_kept : keeps ≡ true → loose_in (with_feeds (p.front.now ++ (typed ++ p.back.now))) ≡ loose_in (with_feeds (p.front.now ++ (p.replaced.now ++ p.back.now)))
     loose_kept k = sym stands ∙ same_is _ _ (sym counted ∙ k) ∙ stood

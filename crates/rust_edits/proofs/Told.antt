@@ -54,10 +54,10 @@ same_parts text body range p q a b c s k h =
     let starts = h.starts in
     let ends = h.ends in
     let closes = h.closes in
-    let opens_too = k.opens in
-    let starts_too = k.starts in
-    let ends_too = k.ends in
-    let closes_too = k.closes in
+    let opens_too = k.about.opens in
+    let starts_too = k.about.starts in
+    let ends_too = k.about.ends in
+    let closes_too = k.about.closes in
     let f = p.front.now in
     let r = p.replaced.now in
     let d = p.back.now in
@@ -65,9 +65,9 @@ same_parts text body range p q a b c s k h =
     let one : length a ≡ length f = omega (arith, opens, starts, opens_too, starts_too) in
     let two : length b ≡ length r = omega (arith, ends, ends_too) in
     let three : length c ≡ length d = omega (arith, closes, closes_too) in
-    let front_is = sym (from_front text body range q a b c s h p.before.now (f ++ (r ++ (d ++ 125 ∷ w))) k.whole k.opens) in
-    let replaced_is = sym (from_replaced text body range q a b c s h p.before.now f (r ++ (d ++ 125 ∷ w)) k.whole k.opens (sym one)) in
-    let back_is = sym (from_back text body range q a b c s h p.before.now f r (d ++ 125 ∷ w) k.whole k.opens (sym one) (sym two)) in
+    let front_is = sym (from_front text body range q a b c s h p.before.now (f ++ (r ++ (d ++ 125 ∷ w))) k.about.whole k.about.opens) in
+    let replaced_is = sym (from_replaced text body range q a b c s h p.before.now f (r ++ (d ++ 125 ∷ w)) k.about.whole k.about.opens (sym one)) in
+    let back_is = sym (from_back text body range q a b c s h p.before.now f r (d ++ 125 ∷ w) k.about.whole k.about.opens (sym one) (sym two)) in
     record {
       front = front_alike a (b ++ (c ++ 125 ∷ s)) f (r ++ (d ++ 125 ∷ w)) one front_is;
       replaced = front_alike b (c ++ 125 ∷ s) r (d ++ 125 ∷ w) two replaced_is;
@@ -163,18 +163,9 @@ module _ (items : List ItemPlace) (old typed : List ℕ) (range : TextRange) whe
           behind = p.behind.now;
           bare = bare;
           about = sym about;
-          parts = record {
-            whole = cut.whole;
-            opens = cut.opens;
-            starts = cut.starts;
-            ends = cut.ends;
-            closes = cut.closes;
-            front_utf8 = cut.front_utf8;
-            replaced_utf8 = cut.replaced_utf8;
-            back_utf8 = cut.back_utf8;
-          };
-          stood = alone_is (p.front.now ++ (p.replaced.now ++ p.back.now)) (IsUtf8-append _ _ cut.front_utf8 (IsUtf8-append _ _ cut.replaced_utf8 cut.back_utf8)) stood;
-          stands = alone_is (p.front.now ++ (typed ++ p.back.now)) (IsUtf8-append _ _ cut.front_utf8 (IsUtf8-append _ _ u cut.back_utf8)) stands;
+          parts = cut.about;
+          stood = alone_is (p.front.now ++ (p.replaced.now ++ p.back.now)) (IsUtf8-append _ _ cut.about.front_utf8 (IsUtf8-append _ _ cut.about.replaced_utf8 cut.about.back_utf8)) stood;
+          stands = alone_is (p.front.now ++ (typed ++ p.back.now)) (IsUtf8-append _ _ cut.about.front_utf8 (IsUtf8-append _ _ u cut.about.back_utf8)) stands;
         },
         λ m. t.1 (fits small small_typed),
       )

@@ -1,5 +1,5 @@
 -- For the crate's own functions.
-use Rattle.std.specs.Prelude.{◌≡◌, ◌<◌, ℕ, suc, ◌+◌, ◌-◌, ◌^◌, Bool, false, ◌==◌, ◌&&◌, nat_le, if◌then◌else◌, List, [], ◌∷◌, ◌++◌, length, IsUtf8, filter}
+use Rattle.std.specs.Prelude.{◌≡◌, ◌<◌, ℕ, ◌+◌, ◌-◌, ◌^◌, Bool, false, ◌==◌, ◌&&◌, nat_le, if◌then◌else◌, List, [], ◌∷◌, ◌++◌, IsUtf8, filter}
 use Rattle.rust_lexer.specs.Piece.{Piece}
 use Rattle.rust_lexer.specs.Symbol.{symbol_of}
 use Rattle.rust_lexer.specs.Tokens.{is_nil, is_significant, tokens}
@@ -48,15 +48,8 @@ or_kept has move a = if has a then move a else a
 
 -- these are the parts of a text about a range in these braces
 pub record AreCut (text : List ℕ) (body range : TextRange) (p : Parts) : Type 0 where
-  pub whole : text ≡ p.before.now ++ 123 ∷ (p.front.now ++ (p.replaced.now ++ (p.back.now ++ 125 ∷ p.behind.now)))
-  pub opens : length p.before.now ≡ body.start
-  pub starts : suc (length p.before.now) + length p.front.now ≡ range.start
-  pub ends : range.start + length p.replaced.now ≡ range.end
-  pub closes : range.end + suc (length p.back.now) ≡ body.end
+  pub about : ArePartsAbout text body range p.before.now p.front.now p.replaced.now p.back.now p.behind.now
   pub before_utf8 : IsUtf8 p.before.now
-  pub front_utf8 : IsUtf8 p.front.now
-  pub replaced_utf8 : IsUtf8 p.replaced.now
-  pub back_utf8 : IsUtf8 p.back.now
 
 -- a range of a text does not stand in these braces, or cuts a character
 abbrev pub IsUncut : List ℕ → TextRange → TextRange → Type 0

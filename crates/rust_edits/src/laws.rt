@@ -15,17 +15,15 @@ ghost use Rattle.rust_edits.specs.Ranges.Laws.{RangeAlone};
 use crate::edit::BodyEdit;
 use crate::shift::Shift;
 
-fn shifts()
-    ensures equal { DecidesEq ⟦<Shift as PartialEq>⟧.eq }
-    ensures copied { IsCopied ⟦<Shift as Clone>⟧.is_clone }
-{}
-
-fn edits()
-    ensures equal { DecidesEq ⟦<BodyEdit as PartialEq>⟧.eq }
-    ensures copied { IsCopied ⟦<BodyEdit as Clone>⟧.is_clone }
+fn values()
+    ensures shifts_equal { DecidesEq ⟦<Shift as PartialEq>⟧.eq }
+    ensures shifts_copied { IsCopied ⟦<Shift as Clone>⟧.is_clone }
+    ensures edits_equal { DecidesEq ⟦<BodyEdit as PartialEq>⟧.eq }
+    ensures edits_copied { IsCopied ⟦<BodyEdit as Clone>⟧.is_clone }
 {}
 
 // What typing inside a body leaves as it is, and what `edit_inside` asks of items.
+#[tactic(auto, using(crate::proofs::Order::items_are_in_order, crate::proofs::Typing::Typing::typing_inside, crate::proofs::Typing::Moved::places_move, crate::proofs::Typing::Moved::is_read_anew, crate::proofs::Typing::Moved::body_is_told, crate::proofs::Typing::BodyStarts::body_opens, crate::proofs::Typing::ProblemsIn::problems_stand, crate::proofs::Typing::Loose::problems_move))]
 fn typing()
     ensures items_are_in_order { ItemsAreInOrder }
     ensures typing_inside { TypingInside }

@@ -93,28 +93,20 @@ module _ (past past' : ℕ) (t : Piece) (l : List Piece) (u : Option ℕ) (y : E
   unfolding bumped
   bumped_b = refl
 
-  bumped_same : bumped a' ≡ bumped a
-  unfolding bumped
-  bumped_same = refl
+  -- the next words of both
+  record Words : Type 0 where
+    of_bumped : bumped a' ≡ bumped a
+    of_word : word a' ≡ word a
+    of_symbol : symbol a' ≡ symbol a
+    of_kind : kind a' ≡ kind a
+    of_text : text a' ≡ text a
 
-  word_same : word a' ≡ word a
-  unfolding word
-  word_same = refl
-
-  symbol_same : symbol a' ≡ symbol a
-  unfolding symbol
-  symbol_same = refl
-
-  kind_same : kind a' ≡ kind a
-  unfolding kind
-  kind_same = refl
-
-  text_same : text a' ≡ text a
-  unfolding text
-  text_same = refl
+  words : Words
+  unfolding bumped word symbol kind text
+  words = record { of_bumped = refl; of_word = refl; of_symbol = refl; of_kind = refl; of_text = refl }
 
   name_text_same : name_text y (kind a') (text a') ≡ name_text y (kind a) (text a)
-  name_text_same = ap (λ k. name_text y k (text a')) kind_same ∙ ap (name_text y (kind a)) text_same
+  name_text_same = ap (λ k. name_text y k (text a')) words.of_kind ∙ ap (name_text y (kind a)) words.of_text
 
   name_same : next_name a' ≡ next_name a
   unfolding next_name
@@ -128,14 +120,14 @@ module _ (past past' : ℕ) (t : Piece) (l : List Piece) (u : Option ℕ) (y : E
 
   -- behind a token
   next : {X : Type 0} {S : X → Type 0} (x : X) → Alike S a a' b (x, bumped a) (x, bumped a')
-  next x = took (ap (λ n. (x, n)) bumped_same) (subst (λ (n : Tokens). LeadsTo b n) (sym bumped_b) here)
+  next x = took (ap (λ n. (x, n)) words.of_bumped) (subst (λ (n : Tokens). LeadsTo b n) (sym bumped_b) here)
 
   next_two : {X : Type 0} {S : X → Type 0} (x : X) → Alike S a a' b (x, bumped (bumped a)) (x, bumped (bumped a'))
-  next_two x = took (ap (λ n. (x, bumped n)) bumped_same) (subst (λ (n : Tokens). LeadsTo b (bumped n)) (sym bumped_b) (bumped_leads b))
+  next_two x = took (ap (λ n. (x, bumped n)) words.of_bumped) (subst (λ (n : Tokens). LeadsTo b (bumped n)) (sym bumped_b) (bumped_leads b))
 
   pair_same : (c d : ℕ) → is_pair c d a' ≡ is_pair c d a
   unfolding is_pair
-  pair_same c d = rw (symbol_same, bumped_same) refl
+  pair_same c d = rw (words.of_symbol, words.of_bumped) refl
 
   colons_alike : Same Any eat_colons
   unfolding eat_pair
@@ -153,18 +145,18 @@ module _ (past past' : ℕ) (t : Piece) (l : List Piece) (u : Option ℕ) (y : E
   unfolding behind_angles reached reaching
   angles_alike x =
       when (symbol a == 60)
-      (λ e. rw (symbol_same, e)
+      (λ e. rw (words.of_symbol, e)
       (when (is_reached reaches.Angles begun a)
       (λ f. rw (reached_same, f) (stood x tt))
       (λ f. rw (reached_same, f, nest_same)
       (when (is_closed reaches.Angles (nest_behind begun a))
       (λ g. rw g (next x))
-      (λ g. rw (g, bumped_same, bumped_b) (took refl (reaching_leads reaches.Angles (nest_behind begun a) b)))))))
-      (λ e. rw (symbol_same, e) (stood x tt))
+      (λ g. rw (g, words.of_bumped, bumped_b) (took refl (reaching_leads reaches.Angles (nest_behind begun a) b)))))))
+      (λ e. rw (words.of_symbol, e) (stood x tt))
 
   dollar_same : is_dollar_crate a' ≡ is_dollar_crate a
   unfolding is_dollar_crate
-  dollar_same = rw (symbol_same, bumped_same) refl
+  dollar_same = rw (words.of_symbol, words.of_bumped) refl
 
   taken_alike : (o : Option (List ℕ)) → Same Any (taken_with o)
   taken_alike None = stood None tt
@@ -177,21 +169,21 @@ module _ (past past' : ℕ) (t : Piece) (l : List Piece) (u : Option ℕ) (y : E
   named_alike : Same Any named_word
   named_alike =
       when (is_raw (kind a))
-      (λ e. rw (kind_same, e, name_same) (next _))
-      (λ e. rw (kind_same, e) (with_alike (λ (o : Option (List ℕ)). option_map name_word o) (λ x s. tt) name_alike))
+      (λ e. rw (words.of_kind, e, name_same) (next _))
+      (λ e. rw (words.of_kind, e) (with_alike (λ (o : Option (List ℕ)). option_map name_word o) (λ x s. tt) name_alike))
 
   other_alike : Same Any other_segment
   unfolding other_segment
   other_alike =
       when (symbol a == 60)
-      (λ e. rw (symbol_same, e) (angles_alike None))
-      (λ e. rw (symbol_same, e)
+      (λ e. rw (words.of_symbol, e) (angles_alike None))
+      (λ e. rw (words.of_symbol, e)
       (when (is_dollar_crate a) (λ f. rw (dollar_same, f) (next_two None)) (λ f. rw (dollar_same, f) named_alike)))
 
   segment_alike : Same Any segment
   unfolding segment
   segment_alike =
-      rw word_same
+      rw words.of_word
       (when (bytes_eq (word a) (codes "self")) (λ e. rw e (next _))
       (λ e. rw e (when (bytes_eq (word a) (codes "super")) (λ f. rw f (next _))
       (λ f. rw f (when (bytes_eq (word a) (codes "crate")) (λ g. rw g (next _))
@@ -204,7 +196,7 @@ module _ (past past' : ℕ) (t : Piece) (l : List Piece) (u : Option ℕ) (y : E
   more_alike : (n : ℕ) → Same Any (more_from false (suc n))
   more_alike n =
       when (is_path_colons false a)
-      (λ e. rw (path_colons_same, e, bumped_same, bumped_b) (took refl (through (bumped_leads b) (through (segment_leads (bumped b)) (more_from_leads false n _)))))
+      (λ e. rw (path_colons_same, e, words.of_bumped, bumped_b) (took refl (through (bumped_leads b) (through (segment_leads (bumped b)) (more_from_leads false n _)))))
       (λ e. rw (path_colons_same, e) (stood [] tt))
 
   segments_alike : Same Any (more_segments false)
@@ -213,7 +205,7 @@ module _ (past past' : ℕ) (t : Piece) (l : List Piece) (u : Option ℕ) (y : E
 
   start_same : is_path_start false a' ≡ is_path_start false a
   unfolding is_path_start is_segment
-  start_same = rw (path_colons_same, word_same, kind_same, has_same, dollar_same) refl
+  start_same = rw (path_colons_same, words.of_word, words.of_kind, has_same, dollar_same) refl
 
   written_alike : Same Any (written_path false)
   written_alike =
@@ -234,16 +226,16 @@ module _ (past past' : ℕ) (t : Piece) (l : List Piece) (u : Option ℕ) (y : E
   unfolding visibility
   visibility_alike =
       when (bytes_eq (word a) (codes "pub"))
-      (λ e. rw (word_same, e, bumped_same, bumped_b) (took refl (scoped_leads b)))
-      (λ e. rw (word_same, e) (stood None tt))
+      (λ e. rw (words.of_word, e, words.of_bumped, bumped_b) (took refl (scoped_leads b)))
+      (λ e. rw (words.of_word, e) (stood None tt))
 
   modifier_same : is_modifier a' ≡ is_modifier a
   unfolding is_modifier
-  modifier_same = rw (word_same, bumped_same) refl
+  modifier_same = rw (words.of_word, words.of_bumped) refl
 
   behind_modifier_same : behind_modifier a' ≡ behind_modifier a
   unfolding behind_modifier
-  behind_modifier_same = rw (word_same, bumped_same) refl
+  behind_modifier_same = rw (words.of_word, words.of_bumped) refl
 
   behind_modifier_next : LeadsTo b (behind_modifier a)
   unfolding behind_modifier
@@ -263,12 +255,12 @@ module _ (past past' : ℕ) (t : Piece) (l : List Piece) (u : Option ℕ) (y : E
   by_head_alike heads.Other = stood heads.Other refl
   by_head_alike heads.ExternCrate = next_two heads.ExternCrate
   by_head_alike heads.MacroRules = next_two heads.MacroRules
-  by_head_alike heads.ExternBlock = took (ap (λ n. (heads.ExternBlock, behind_abi n)) bumped_same) (subst (λ (n : Tokens). LeadsTo b (behind_abi n)) (sym bumped_b) (behind_abi_leads b))
+  by_head_alike heads.ExternBlock = took (ap (λ n. (heads.ExternBlock, behind_abi n)) words.of_bumped) (subst (λ (n : Tokens). LeadsTo b (behind_abi n)) (sym bumped_b) (behind_abi_leads b))
   by_head_alike h = next h
 
   head_alike : Same IsOther head
   unfolding head
-  head_alike = rw (word_same, bumped_same) (by_head_alike (head_by (word a) (bumped a)))
+  head_alike = rw (words.of_word, words.of_bumped) (by_head_alike (head_by (word a) (bumped a)))
 
   behind_visibility_alike : (start : ℕ) (attrs : List MetaView) (v : Option Visibility) → Same BeginsOther (behind_visibility start attrs v)
   behind_visibility_alike start attrs v =
@@ -345,7 +337,7 @@ module _ (past past' : ℕ) (t : Piece) (l : List Piece) (u : Option ℕ) (y : E
 
     called_same : is_called a' ≡ is_called a
     unfolding is_called
-    called_same = rw (symbol_same, bumped_same) refl
+    called_same = rw (words.of_symbol, words.of_bumped) refl
 
     abbrev call_of : List MetaView → Tokens → Option PathNode × Tokens → Option LeafRead × Tokens
     call_of attrs ts p =
@@ -359,7 +351,7 @@ module _ (past past' : ℕ) (t : Piece) (l : List Piece) (u : Option ℕ) (y : E
         (λ c. absurd (let no = rw c at some in cc))
     call_same attrs (stood x s) some =
         when (is_some x && is_called a)
-        (λ c. rw (called_same, c, bumped_same, last_none past' a' refl, last_none past a refl) refl)
+        (λ c. rw (called_same, c, words.of_bumped, last_none past' a' refl, last_none past a refl) refl)
         (λ c. absurd (let no = rw c at some in cc))
 
     invocation_same : (attrs : List MetaView) → is_some (invocation attrs a).0 ≡ true → invocation attrs a' ≡ invocation attrs a
@@ -387,7 +379,7 @@ module _ (past past' : ℕ) (t : Piece) (l : List Piece) (u : Option ℕ) (y : E
     end_same = refl
 
     unmatched_same : (f : Found) → unmatched f a' ≡ unmatched f a
-    unmatched_same f = rw (at_same, bumped_same) refl
+    unmatched_same f = rw (at_same, words.of_bumped) refl
 
     with_same : (inside : Finder BlockRead) (depth : ℕ) (f : Found) → is_some (turn_with inside depth f a).0 ≡ true → turn_with inside depth f a' ≡ turn_with inside depth f a
     with_same inside depth f some =

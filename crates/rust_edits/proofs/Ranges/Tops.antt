@@ -258,6 +258,22 @@ pub record IsTurned (top start : Tokens) (place : ℕ → ℕ) (g : Found) (i : 
 none_placed : {N : Telling} {from to : ℕ} {ps : List ItemPlace} → ArePlaces N from to no_items ps [] → ps ≡ []
 none_placed nothing = refl
 
+-- the ids and the spans that an item and those in it have, with those of the items behind it
+record OwnPart (place : ℕ → ℕ) (j : ItemView) (segment rest : List Span) (ids : List FileAstId) : Type 0 where
+  count : item_count (item_with_ids j ids).0 ≡ item_count j
+  short : item_count (item_with_ids j ids).0 ≤ length ids
+  exact : length (map (moved_span place) segment) ≡ item_count (item_with_ids j ids).0
+  enough : length rest ≤ length (drop (item_count (item_with_ids j ids).0) ids)
+
+own_part : (place : ℕ → ℕ) (j : ItemView) (segment rest : List Span) (ids : List FileAstId) → length segment ≡ item_count j → length (segment ++ rest) ≤ length ids → OwnPart place j segment rest ids
+own_part place j segment rest ids own all =
+    let c = item_count (item_with_ids j ids).0 in
+    let same : c ≡ item_count j = count_same ids j (first_numbers ids).1 in
+    let many = length-append segment rest in
+    let shift = length-map segment (moved_span place) in
+    let dropped = length-drop c ids in
+    record { count = same; short = omega arith; exact = omega arith; enough = omega arith }
+
 module _ (end : ℕ) (top start : Tokens) (place : ℕ → ℕ) where
   abbrev Tops : List ItemView → List FileAstId → List Span → List (ItemView × List ItemPlace)
   Tops is ids spans = at_top (with_ids (items_from is) ids).0 (places ids (map (moved_span place) spans))
@@ -297,14 +313,9 @@ module _ (end : ℕ) (top start : Tokens) (place : ℕ → ℕ) where
           pick j e ps spans size ids enough zero i qs low at =
               let segment = map place_span ps in
               let all = map (moved_span place) (segment ++ tail.spans) in
-              let head = item_with_ids j ids in
-              let many = length-append segment tail.spans in
               let own = length-map ps place_span in
-              let c = item_count head.0 in
-              let count : c ≡ item_count j = count_same ids j (first_numbers ids).1 in
-              let short : c ≤ length ids = omega arith in
-              let shift = length-map segment (moved_span place) in
-              let exact : length (map (moved_span place) segment) ≡ c = omega arith in
+              let part = own_part place j segment tail.spans ids (omega arith) enough in
+              let c = item_count (item_with_ids j ids).0 in
               record {
                 f = f;
                 ts = ts;
@@ -316,29 +327,24 @@ module _ (end : ℕ) (top start : Tokens) (place : ℕ → ℕ) where
                 same = ap (λ (p : ItemView × List ItemPlace). without_ids p.0) (sym at) ∙ without_again j ids;
                 segment = segment;
                 spans = spans;
-                places = ap (λ (p : ItemView × List ItemPlace). map place_span p.1) (sym at) ∙ places_take c ids all short ∙ ap (take c) (map-append (moved_span place) segment tail.spans)
-                    ∙ take_at (map (moved_span place) segment) (map (moved_span place) tail.spans) c exact;
+                places = ap (λ (p : ItemView × List ItemPlace). map place_span p.1) (sym at) ∙ places_take c ids all part.short ∙ ap (take c) (map-append (moved_span place) segment tail.spans)
+                    ∙ take_at (map (moved_span place) segment) (map (moved_span place) tail.spans) c part.exact;
                 keeps = tail.keeps;
               }
           pick j e ps spans size ids enough (suc k) i qs low at =
               let segment = map place_span ps in
               let all = map (moved_span place) (segment ++ tail.spans) in
-              let head = item_with_ids j ids in
-              let many = length-append segment tail.spans in
               let own = length-map ps place_span in
+              let part = own_part place j segment tail.spans ids (omega arith) enough in
+              let head = item_with_ids j ids in
               let c = item_count head.0 in
-              let count : c ≡ item_count j = count_same ids j (first_numbers ids).1 in
-              let shift = length-map segment (moved_span place) in
-              let exact : length (map (moved_span place) segment) ≡ c = omega arith in
-              let dropped = length-drop c ids in
-              let enough' : length tail.spans ≤ length (drop c ids) = omega arith in
-              let left : head.1 ≡ drop c ids = item_left j ids ∙ ap (λ n. drop n ids) (sym count) in
+              let left : head.1 ≡ drop c ids = item_left j ids ∙ ap (λ n. drop n ids) (sym part.count) in
               let rest : drop c all ≡ map (moved_span place) tail.spans =
-              ap (drop c) (map-append (moved_span place) segment tail.spans) ∙ drop_at (map (moved_span place) segment) (map (moved_span place) tail.spans) c exact in
+              ap (drop c) (map-append (moved_span place) segment tail.spans) ∙ drop_at (map (moved_span place) segment) (map (moved_span place) tail.spans) c part.exact in
               let tops : at_top (with_ids (items_from is) head.1).0 (drop c (places ids all)) ≡ Tops is (drop c ids) tail.spans =
               ap (λ l. at_top (with_ids (items_from is) l).0 (drop c (places ids all))) left
               ∙ ap (at_top (with_ids (items_from is) (drop c ids)).0) (places_drop c ids all ∙ ap (places (drop c ids)) rest) in
-              tail.turned (drop c ids) enough' k i qs (subst (λ (l : List (ItemView × List ItemPlace)). k < length l) tops (let here : suc k < suc (length (at_top (with_ids (items_from is) head.1).0 (drop c (places ids all)))) = low in omega arith)) (ap (λ (l : List (ItemView × List ItemPlace)). get_or l k (i, qs)) (sym tops) ∙ at)
+              tail.turned (drop c ids) part.enough k i qs (subst (λ (l : List (ItemView × List ItemPlace)). k < length l) tops (let here : suc k < suc (length (at_top (with_ids (items_from is) head.1).0 (drop c (places ids all)))) = low in omega arith)) (ap (λ (l : List (ItemView × List ItemPlace)). get_or l k (i, qs)) (sym tops) ∙ at)
 
   tops_of : {f : Found} {ts : Tokens} {is : List ItemView} {g : Found} → Turns f ts is g → IsLaid end ts → LeadsTo top ts → Chain nothing_found start f ts → AreTops f is g
   tops_of {f = f} no_turn laid leads chain = record { spans = []; are = sym (append-nil f.spans); keeps = keeps_same f; turned = λ ids enough k i ps low e. absurd (omega arith) }

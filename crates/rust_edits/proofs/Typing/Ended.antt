@@ -8,6 +8,7 @@ use Rattle.rust_cursor.proofs.Scans.{taking_stop, taking_end, taking_more}
 use Rattle.rust_cursor.proofs.Views.{symbol_same}
 use Rattle.rust_cursor.proofs.Tests.{nest_same, stops_same, ends_same}
 use Rattle.rust_cursor.proofs.Inside.{stops_deep, not_last}
+use Rattle.rust_cursor.proofs.Braced.{brace_step}
 use Rattle.rust_cursor.proofs.Walk.{nothing, matched_in}
 use Rattle.rust_paths.proofs.Beside.{path_local}
 use Rattle.rust_paths.proofs.UntilTrees.{use_tree_until}
@@ -91,18 +92,9 @@ module _ (R : ExcerptRead × Tokens → Type 0) (y : EditionYear) (u : Option �
       let same : i ≡ k = cc in
       subst (λ (j : ℕ). R (taking e done last o (inside n (suc j) l) (tokens_at y past left u))) same (next done last o past)
   through e left i (t ∷ ms) k past l done last o f next =
-      when (symbol_of t == 123)
-      (λ a. let g = rw a at f in
-      step e t (ms ++ left) k (suc k) past l done last o (rw a (omega arith)) (λ done last o. through e left i ms (suc k) (end_of t) (loose_behind l (symbol_of t)) done last o g next))
-      (λ a. let g = rw a at f in
-      when (symbol_of t == 125)
-      (λ b. let h = rw b at g in
-      when (k == 0) (λ z. absurd (let no = rw z at h in cc))
-      (λ z. let r = rw z at h in
-      let some : k ≢ 0 = grind (arith, nat_tests) in
-      step e t (ms ++ left) k (k - 1) past l done last o (rw (a, b) (omega arith)) (λ done last o. through e left i ms (k - 1) (end_of t) (loose_behind l (symbol_of t)) done last o r next)))
-      (λ b. let h = rw b at g in
-      step e t (ms ++ left) k k past l done last o (rw (a, b) refl) (λ done last o. through e left i ms k (end_of t) (loose_behind l (symbol_of t)) done last o h next)))
+      let brace = brace_step t ms k i f in
+      step e t (ms ++ left) k brace.depth past l done last o brace.inside
+      (λ done last o. through e left i ms brace.depth (end_of t) (loose_behind l (symbol_of t)) done last o brace.rest next)
 
 -- ---- both texts
 

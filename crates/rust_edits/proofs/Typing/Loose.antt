@@ -1,13 +1,14 @@
 -- Problems stand where they stood, or are moved with the text.
 use Rattle.std.proofs.Common.{◌≡◌, ℕ, suc, false, List, [], ◌∷◌, length, refl, ap, sym, subst, ◌∙◌, map, arith}
-use Rattle.rust_edits.proofs.Common.{slice_index, filter, EditionYear, StandsAlone, tokens_in_front, moved, Piece, symbol_from, symbol_of, is_significant, is_significant_kind, TokenKind, Bodies, tokens_of, Problem, ProblemKind, and_problem_at, with_feeds, place_in, moved_problem, FileView, found_in, read_of, IsFile, has_body, with_body, IsTyped, Loose, none_loose, loose_behind, loose_from, loose_in, ProblemsMove, shifted_by, nat_tests, body, inside_of, tokens_sound, when, AreAlike, no_more, one_more, IsAlike, Rows, found_rows}
+use Rattle.rust_edits.proofs.Common.{slice_index, filter, EditionYear, StandsAlone, tokens_in_front, moved, Piece, symbol_from, symbol_of, is_significant, is_significant_kind, TokenKind, tokens_of, Problem, ProblemKind, and_problem_at, with_feeds, place_in, moved_problem, FileView, found_in, read_of, IsFile, with_body, IsTyped, Loose, none_loose, loose_behind, loose_from, loose_in, ProblemsMove, shifted_by, nat_tests, body, inside_of, tokens_sound, when, AreAlike, no_more, one_more, IsAlike}
 use Rattle.rust_items.specs.declared.log.ProblemKind.TheVariants as problem
 use Rattle.rust_edits.proofs.Typing.Ended.{SameLoose}
 use Rattle.rust_edits.proofs.Typing.Moved.{place_is}
 use Rattle.rust_edits.proofs.Typing.ProblemsAlike.{ProblemAlike, maybe_same, FileTold, of_none, alike, file_told}
 use Rattle.rust_edits.proofs.Typing.ProblemsIn.{AreIn, unended_kept, read_leads, problems_in}
 use Rattle.rust_edits.proofs.Typing.Returns.{feeds_body}
-use Rattle.rust_edits.proofs.Typing.Texts.{bodies, bodies_at, IsMoved, of_bodies, of_places, are_moved, tokens_beside, begin_plain}
+use Rattle.rust_edits.proofs.Typing.Texts.{bodies, IsMoved, of_bodies, of_places, are_moved, tokens_beside, begin_plain}
+use Rattle.rust_edits.proofs.Typing.Typing.{typed, has_typed}
 use Rattle.rust_edits.proofs.Typing.Unended.{unended_alike}
 
 -- ---- what is loose between the braces
@@ -35,8 +36,8 @@ pub both_told : (edition : EditionYear) (q m m' s : List ℕ) → IsTyped editio
     → AreAlike (ProblemAlike (IsMoved q m m' s)) (found_in edition (with_body q m s)).problems (found_in edition (with_body q m' s)).problems
 unfolding found_in
 both_told edition q m m' s t e =
-    by (file_told (length x) b (same_loose edition q m m' s t.alone t.alone_new e) (begin_plain edition q m m' s t.alone t.alone_new t.begins t.begins_new) (tokens_of edition x) (tokens_of edition x') (tokens_sound edition x)
-    (tokens_beside edition q m m' s t.opens t.alone t.alone_new))
+    by (file_told (length x) (typed edition q m m' s t) (same_loose edition q m m' s t.alone t.alone_new e) (begin_plain edition q m m' s t.alone t.alone_new t.begins t.begins_new) (tokens_of edition x) (tokens_of edition x')
+    (tokens_sound edition x) (tokens_beside edition q m m' s t.opens t.alone t.alone_new))
   where
     x : List ℕ
     x = with_body q m s
@@ -44,20 +45,13 @@ both_told edition q m m' s t e =
     x' : List ℕ
     x' = with_body q m' s
 
-    b : Bodies
-    b = bodies edition q m m' s t.alone t.alone_new
-
-    by : FileTold b (tokens_of edition x) (tokens_of edition x') → AreAlike (ProblemAlike (IsMoved q m m' s)) (found_in edition x).problems (found_in edition x').problems
-    by (of_none k) =
-        let none : has_body (length q) (read_of edition x).1.0.spans ≡ false = subst (λ (n : ℕ). has_body n (read_of edition x).1.0.spans ≡ false) (bodies_at edition q m m' s t.alone t.alone_new) k in
-        let same : has_body (length q) (found_in edition x).spans ≡ has_body (length q) (read_of edition x).1.0.spans = ap (λ (r : Rows). has_body (length q) r.1.0) (found_rows edition x) in
-        let some = t.body in
-        absurd cc
+    by : FileTold (typed edition q m m' s t) (tokens_of edition x) (tokens_of edition x') → AreAlike (ProblemAlike (IsMoved q m m' s)) (found_in edition x).problems (found_in edition x').problems
+    by (of_none k) = absurd (has_typed edition q m m' s t k)
     by (alike d) =
         let last = of_places edition q m m' s t.alone t.alone_new (λ same. IsAlike same (tokens_of edition x).unended (tokens_of edition x').unended) (unended_alike edition q m m' s t.opens t.alone t.alone_new) in
         are_moved edition q m m' s t.alone t.alone_new
         (λ same. AreAlike (ProblemAlike same) (and_problem_at problem.Unterminated (read_of edition x).1.1.unended (read_of edition x).1.0).problems (and_problem_at problem.Unterminated (read_of edition x').1.1.unended (read_of edition x').1.0).problems)
-        (maybe_same b (read_of edition x).1.0 (read_of edition x').1.0 d problem.Unterminated (read_of edition x).1.1.unended (read_of edition x').1.1.unended (rw (unended_kept (read_leads edition x), unended_kept (read_leads edition x')) last))
+        (maybe_same (typed edition q m m' s t) (read_of edition x).1.0 (read_of edition x').1.0 d problem.Unterminated (read_of edition x).1.1.unended (read_of edition x').1.1.unended (rw (unended_kept (read_leads edition x), unended_kept (read_leads edition x')) last))
 
 -- ---- the law
 

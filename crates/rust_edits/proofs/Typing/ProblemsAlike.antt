@@ -1,9 +1,7 @@
 -- The problems of two texts that differ between the braces of one item are the same, where they stood or moved with the text.
 use Rattle.std.proofs.Common.{◌≡◌, ◌≤◌, ◌<◌, ◌==◌, ◌||◌, ◌&&◌, ℕ, zero, suc, Bool, true, false, Option, Some, None, List, [], ◌∷◌, ◌++◌, map, refl, ap, sym, ◌∙◌, arith}
-use Rattle.rust_edits.proofs.Common.{is_none, is_some, option_to_list, AstIdKind, MetaView, ItemView, ItemViews, Tokens, symbol, eat, is_at_end, bumped, most, beyond, Bodies, Beside, ahead, TextRange, inner_attributes, Head, FrontRead, front, NameRead, LeafRead, no_name, named, leaf, Problem, ProblemKind, ItemPlace, Found, Finder, nothing_found, and_problem, and_problem_at, BlockRead, span_of, needs_name, and_flaw, and_item, and_leaf, and_parent, leaf_found, leaf_turn, finding_from, finding, is_list_end, block_of, as_extern, extern_kept, extern_found, extern_turn, extern_inside, extern_block, unmatched, inside_unless, module_with, some_item, by_head, turn_with, inside, turn, depth_of, items, begins_at, has_body, Telling, IsBodyIn, ArePlaces, placed, nat_tests, IsSound, sound_on, LeadsTo, further, through, when, eat_leads, beyond_leads, AreAlike, no_more, one_more, alike_join, IsAlike, neither, both, SamePlace, at_place, before_at, behind_at, inner_attributes_leads, LeafAlike, named_local, named_leads, behind_others_leads, front_takes, front_start, Span, adds_item, adds_problem_at, adds_use_trees, AreFound, Finds, FindsIn, list_from, list_found, place_span, inside_found, turn_found, turn_with_found, extern_turn_found, extern_inside_found, unless_found, FrontAlike, front_until, BeginPlain, LeafLost, leaf_gone, item_without_bodies, eat_local, by_stayed, beyond_beside, behind_tree_beside, gone_on}
+use Rattle.rust_edits.proofs.Common.{is_none, is_some, option_to_list, AstIdKind, MetaView, ItemView, ItemViews, Tokens, symbol, eat, is_at_end, bumped, most, beyond, Bodies, Beside, TextRange, inner_attributes, Head, FrontRead, front, NameRead, LeafRead, no_name, named, leaf, Problem, ProblemKind, ItemPlace, Found, Finder, nothing_found, and_problem, and_problem_at, BlockRead, span_of, needs_name, and_flaw, and_item, and_leaf, and_parent, leaf_found, leaf_turn, finding_from, finding, is_list_end, block_of, as_extern, extern_kept, extern_found, extern_turn, extern_inside, extern_block, unmatched, inside_unless, module_with, some_item, by_head, turn_with, inside, turn, depth_of, items, begins_at, has_body, Telling, IsBodyIn, ArePlaces, placed, nat_tests, IsSound, sound_on, LeadsTo, further, through, when, eat_leads, AreAlike, no_more, one_more, alike_join, IsAlike, neither, both, SamePlace, at_place, behind_at, inner_attributes_leads, LeafAlike, named_leads, behind_others_leads, front_takes, front_start, Span, adds_item, adds_problem_at, adds_use_trees, AreFound, Finds, FindsIn, list_from, list_found, place_span, inside_found, turn_found, turn_with_found, extern_turn_found, extern_inside_found, unless_found, FrontAlike, front_until, BeginPlain, LeafLost, leaf_gone, item_without_bodies, eat_local, by_stayed, beyond_beside, behind_tree_beside, gone_on}
 use Rattle.hir_input.specs.declared.ids.AstIdKind.TheVariants as kind
-use Rattle.rust_cursor.specs.Beside.{behind}
-use Rattle.rust_cursor.proofs.Laid as laid
 use Rattle.rust_cursor.proofs.Until.{Gone, by_kept, by_next, bumped_onward}
 use Rattle.rust_cursor.proofs.Views.{symbol_same, empty_same, end_same}
 use Rattle.rust_metas.proofs.UntilAttributes.{inner_attributes_until}
@@ -12,6 +10,7 @@ use Rattle.rust_leaves.proofs.Fronts.{behind_others_beside}
 use Rattle.rust_items.specs.declared.log.ProblemKind.TheVariants as problem
 use Rattle.rust_items.specs.Items.{one_more as one_deeper}
 use Rattle.rust_items.specs.Places.{nothing}
+use Rattle.rust_items.proofs.UntilItems.{passed, plain_passed, side, unpassed_beside, turn_on, named_alike}
 use Rattle.rust_edits.proofs.Typing.Ended.{SameLoose, SameFlaws, LeafTold, lost as leaf_lost, told as told_leaf, leaf_told}
 
 -- ---- whose braces they are
@@ -216,37 +215,6 @@ leaf_turn_lost end depth b h f ts l g = leaf_found_lost b depth h.start f (leaf 
 
 -- ---- lists
 
--- the braces are passed
-passed : Bodies → Bodies
-passed b = record {
-  edition = b.edition;
-  passed = true;
-  opening = b.opening;
-  closing = b.closing;
-  old = b.old;
-  new = b.new;
-  by = b.by;
-  by_new = b.by_new;
-  opens = b.opens;
-  is_bracket = b.is_bracket;
-  closes = b.closes;
-  old_behind = b.old_behind;
-  apart = b.apart;
-  apart_new = b.apart_new;
-  old_matched = b.old_matched;
-  new_matched = b.new_matched;
-}
-
-side : {P : Type 0} (b : Bodies) (ts us : Tokens) → Beside b ts us → (ts.past ≤ b.opening.at → P) → (Beside (passed b) ts us → P) → P
-unfolding passed
-side b ts us (ahead past x r u u' i j) before far = before (before_at b.opening.at past x i)
-side b ts us (behind past r u u' i) before far = far (behind past r u u' i)
-
-unpassed_beside : (b : Bodies) (ts us : Tokens) → Beside (passed b) ts us → Beside b ts us
-unfolding passed
-unpassed_beside b ts us (ahead past x r u u' i j) = absurd (let no : true ≡ false = j.unpassed in cc)
-unpassed_beside b ts us (behind past r u u' i) = behind past r u u' i
-
 module _ (end : ℕ) (ends : Tokens → Bool) (ends_same : (b : Bodies) (ts us : Tokens) → Beside b ts us → ends us ≡ ends ts) (turn : Finder (Option ItemView)) (finds : Finds end turn)
     (each : (b : Bodies) → SameLoose b → BeginPlain b → UpTo end b turn) where
   abbrev Lists : ℕ → Bodies → Type 0
@@ -256,7 +224,7 @@ module _ (end : ℕ) (ends : Tokens → Bool) (ends_same : (b : Bodies) (ts us :
       → Told Any b g (finding_from ends turn n done f ts) (finding_from ends turn n done' f' us)
   unfolding passed
   far_told n b loose plain more done done' f g f' ts us l e h =
-      by_told (more (passed b) loose (record { new_behind = plain.new_behind; old = plain.old; new = plain.new }) done done' f f' ts us l e h)
+      by_told (more (passed b) loose (plain_passed b plain) done done' f f' ts us l e h)
       (λ x. absurd (let no : true ≡ false = x.0.unpassed in cc)) (λ a d r. told a d (unpassed_beside b _ _ r))
 
   list_told : (n : ℕ) (b : Bodies) → SameLoose b → BeginPlain b → Lists n b
@@ -268,21 +236,17 @@ module _ (end : ℕ) (ends : Tokens → Bool) (ends_same : (b : Bodies) (ts us :
       let g' = (turn f' us).1.0 in
       let next = beyond ts.past (turn f ts).1.1 in
       let next' = beyond us.past (turn f' us).1.1 in
-      let one = finds f ts l.laid in
-      let leads : LeadsTo (turn f ts).1.1 next = beyond_leads ts.past (turn f ts).1.1 in
-      let sound : IsSound end next = sound_on end (through one.leads leads) l in
-      let first = laid.behind end one.leads l.laid in
-      let then_laid = laid.behind end leads first.laid in
-      let rest = list_from end ends turn finds n o g next sound.laid in
+      let one = turn_on end turn finds f ts l in
+      let rest = list_from end ends turn finds n o g next one.sound.laid in
       when (ends ts)
       (λ z. rw (ends_same b ts us h, z) (told tt e h))
       (λ z. rw (ends_same b ts us h, z) (by_told (each b loose plain f f' ts us l e h)
-      (λ x. let k = gone_on x.0 leads in lost (gone_on k rest.found.leads, found_gone rest.found k ∙ x.1))
+      (λ x. let k = gone_on x.0 one.leads in lost (gone_on k rest.found.leads, found_gone rest.found k ∙ x.1))
       (λ a k r. let both = beyond_beside b ts us _ _ h r in
       side b next next' both
-      (λ low. by_told (list_told n b loose plain o o' g g' next next' sound k both)
-      (λ x. lost (x.0, x.1 ∙ found_before b one (let past = then_laid.past in omega arith))) (λ a d r. told a d r))
-      (λ far. far_told n b loose plain (list_told n) o o' g f g' next next' sound k far))))
+      (λ low. by_told (list_told n b loose plain o o' g g' next next' one.sound k both)
+      (λ x. lost (x.0, x.1 ∙ found_before b one.found (let past = one.past in omega arith))) (λ a d r. told a d r))
+      (λ far. far_told n b loose plain (list_told n) o o' g f g' next next' one.sound k far))))
 
 -- ---- blocks
 
@@ -345,16 +309,15 @@ module _ (end : ℕ) (inside : Finder BlockRead) (finds : FindsIn end inside) (e
   module_told : (b : Bodies) → SameLoose b → BeginPlain b → (h h' : FrontRead) → FrontAlike b h h' → (f f' : Found) (ts us : Tokens) → IsSound end ts → ProblemsAlike b f f' → Beside b ts us
       → Told Any b f (some_item (module_with inside depth h f ts)) (some_item (module_with inside depth h' f' us))
   module_told b loose plain h h' a f f' ts us l e k =
-      let n = named_local b ts us k in
-      let s = eat_local b 59 refl (named ts).1 (named us).1 n.rest in
+      let n = named_alike b ts us k in
       let c = eat 59 (named ts).1 in
       let c' = eat 59 (named us).1 in
       let x = inside_unless c.0 inside nothing_found c.1 in
       let y = inside_unless c'.0 inside nothing_found c'.1 in
-      by_told (unless_told b loose plain c.0 c'.0 s.value nothing_found nothing_found c.1 c'.1 (sound_on end (through (named_leads ts) (eat_leads 59 (named ts).1)) l) no_more s.rest)
+      by_told (unless_told b loose plain c.0 c'.0 n.ended nothing_found nothing_found c.1 c'.1 (sound_on end (through (named_leads ts) (eat_leads 59 (named ts).1)) l) no_more n.rest)
       (λ z. lost (z.0, parent_misses b.opening.at depth h.start x.1.1.past kind.Module (named ts).0 (c.0 || x.0.is_ended) x.1.0 f z.1))
-      (λ j d r. told tt (parent_same b depth h.start h'.start a.start f f' e x.1.1.past y.1.1.past kind.Module (named ts).0 (named us).0 (c.0 || x.0.is_ended) (c'.0 || y.0.is_ended) x.1.0 y.1.0 (none_same _ _ n.value.range)
-      (ap (λ t. t || y.0.is_ended) s.value ∙ ap (λ t. c.0 || t) j) d) r)
+      (λ j d r. told tt (parent_same b depth h.start h'.start a.start f f' e x.1.1.past y.1.1.past kind.Module (named ts).0 (named us).0 (c.0 || x.0.is_ended) (c'.0 || y.0.is_ended) x.1.0 y.1.0 (none_same _ _ n.name.range)
+      (ap (λ t. t || y.0.is_ended) n.ended ∙ ap (λ t. c.0 || t) j) d) r)
 
   module_lost : (b : Bodies) (h : FrontRead) (f : Found) (ts : Tokens) → IsSound end ts → Gone b ts → Lost b f (some_item (module_with inside depth h f ts))
   module_lost b h f ts l g =

@@ -36,31 +36,37 @@ pub record ReadAlike (edition : EditionYear) (q m m' s : List ℕ) : Type 0 wher
   pub items : ListAlike (read_of edition (with_body q m s)).0 (read_of edition (with_body q m' s)).0
   pub found : RowsAlike (IsMoved q m m' s) (rows_of (found_in edition (with_body q m s))) (rows_of (found_in edition (with_body q m' s)))
 
-pub both_read : (edition : EditionYear) (q m m' s : List ℕ) → IsTyped edition q m m' s → ReadAlike edition q m m' s
-both_read edition q m m' s t =
-    by (file_until (length x) b (begin_plain edition q m m' s t.alone t.alone_new t.begins t.begins_new) (tokens_of edition x) (tokens_of edition x') (tokens_sound edition x)
-    (tokens_beside edition q m m' s t.opens t.alone t.alone_new))
-  where
-    x : List ℕ
-    x = with_body q m s
+module _ (edition : EditionYear) (q m m' s : List ℕ) (t : IsTyped edition q m m' s) where
+  abbrev x : List ℕ
+  x = with_body q m s
 
-    x' : List ℕ
-    x' = with_body q m' s
+  abbrev x' : List ℕ
+  x' = with_body q m' s
 
-    b : Bodies
-    b = bodies edition q m m' s t.alone t.alone_new
+  -- what stands between the braces of both
+  abbrev pub typed : Bodies
+  typed = bodies edition q m m' s t.alone t.alone_new
 
-    by : FileUntil b (tokens_of edition x) (tokens_of edition x') → ReadAlike edition q m m' s
-    by (of_none k) =
-        let none : has_body (length q) (read_of edition x).1.0.spans ≡ false = subst (λ (n : ℕ). has_body n (read_of edition x).1.0.spans ≡ false) (bodies_at edition q m m' s t.alone t.alone_new) k in
-        let same : has_body (length q) (found_in edition x).spans ≡ has_body (length q) (read_of edition x).1.0.spans = ap (λ (r : Rows). has_body (length q) r.1.0) (found_rows edition x) in
-        let some = t.body in
-        absurd cc
-    by (alike a v r) = record {
-      attrs = a;
-      items = v;
-      found = by_rows (found_rows edition x) (found_rows edition x') (are_moved edition q m m' s t.alone t.alone_new (λ same. RowsAlike same (rows_of (read_of edition x).1.0) (rows_of (read_of edition x').1.0)) r);
-    }
+  -- an item has these braces
+  pub has_typed : has_body typed.opening.at (read_of edition x).1.0.spans ≡ false → ⊥
+  has_typed k =
+      let none : has_body (length q) (read_of edition x).1.0.spans ≡ false = subst (λ (n : ℕ). has_body n (read_of edition x).1.0.spans ≡ false) (bodies_at edition q m m' s t.alone t.alone_new) k in
+      let same : has_body (length q) (found_in edition x).spans ≡ has_body (length q) (read_of edition x).1.0.spans = ap (λ (r : Rows). has_body (length q) r.1.0) (found_rows edition x) in
+      let some = t.body in
+      cc
+
+  pub both_read : ReadAlike edition q m m' s
+  both_read =
+      by (file_until (length x) typed (begin_plain edition q m m' s t.alone t.alone_new t.begins t.begins_new) (tokens_of edition x) (tokens_of edition x') (tokens_sound edition x)
+      (tokens_beside edition q m m' s t.opens t.alone t.alone_new))
+    where
+      by : FileUntil typed (tokens_of edition x) (tokens_of edition x') → ReadAlike edition q m m' s
+      by (of_none k) = absurd (has_typed k)
+      by (alike a v r) = record {
+        attrs = a;
+        items = v;
+        found = by_rows (found_rows edition x) (found_rows edition x') (are_moved edition q m m' s t.alone t.alone_new (λ same. RowsAlike same (rows_of (read_of edition x).1.0) (rows_of (read_of edition x').1.0)) r);
+      }
 
 pub same_ids : (edition : EditionYear) (x x' : List ℕ) (place place' : ℕ → ℕ) (file file' : FileView) (f : IsFile edition x place file) (g : IsFile edition x' place' file')
     → (found_in edition x').rows ≡ (found_in edition x).rows → g.ids ≡ f.ids
