@@ -1,7 +1,9 @@
 #!/usr/bin/env python3
-"""Writes the lexer of crates/rust_lexer as plain Rust, without its contracts, so that rustc can build it and both can be timed.
+"""Writes the reader of Rust source as plain Rust, without its contracts, so that rustc can build it: to time it beside the proved one, and to try
+a change by callgrind before it is proved. The instructions are those of the proved reader, but for some 3 %.
 
-    plain.py FOLDER    writes FOLDER/main.rs: a program that cuts standard input so many times and tells how long that took
+    plain.py FOLDER    writes FOLDER/main.rs and its modules. The program reads standard input so many times:
+                       plain lex TIMES, or plain read all|undocumented|conditions TIMES
 """
 
 import pathlib
@@ -9,8 +11,8 @@ import re
 import sys
 
 HERE = pathlib.Path(__file__).resolve().parent
-SOURCE = HERE.parent / 'crates' / 'rust_lexer' / 'src'
-MODULES = ['bytes', 'comment', 'cut', 'depth', 'frontmatter', 'identifier', 'kind', 'lexer', 'number', 'quoted', 'token']
+CRATES = HERE.parent / 'crates'
+NAMES = 'hir_input rust_lexer rust_cursor rust_paths rust_metas rust_leaves rust_ids rust_items'.split()
 
 MAIN = '''
 mod memchr {
@@ -23,15 +25,26 @@ mod unicode_ident {
 }
 
 fn main() {
+    let words: std::vec::Vec<_> = std::env::args().collect();
     let text = std::io::read_to_string(std::io::stdin()).unwrap();
-    let times = std::env::args().nth(1).and_then(|word| word.parse().ok()).unwrap_or(1);
-    let start = std::time::Instant::now();
-    let mut tokens = 0usize;
+    let times = words.last().unwrap().parse().unwrap();
+    let metas = match words[2].as_str() {
+        "conditions" => rust_metas::WantedMetas::Conditions,
+        "undocumented" => rust_metas::WantedMetas::Undocumented,
+        _ => rust_metas::WantedMetas::All,
+    };
+    let mut count = 0;
     for _ in 0..times {
-        tokens = std::hint::black_box(lexer::Lexer::new(std::hint::black_box(&text))).count();
+        let text = std::hint::black_box(text.as_str());
+        count = match words[1].as_str() {
+            "lex" => rust_lexer::Lexer::new(text).count(),
+            _ => {
+                let wanted = rust_items::Wanted { bodies: words[2] == "all", metas };
+                rust_items::read_wanted(plain_std::Global, text, wanted, hir_input::EditionYear::E2021).unwrap().places.len()
+            }
+        };
     }
-    eprintln!("plain lexer {:?}", start.elapsed());
-    println!("{tokens} tokens");
+    println!("{count}");
 }
 '''
 
@@ -47,32 +60,49 @@ def block_end(text, start):
 
 
 def without(text, pattern):
-    """The text without the blocks that begin with the pattern at the beginning of a line."""
+    """The text without what begins with the pattern and ends with the block behind it."""
     while found := re.search(pattern, text, re.M):
         end = block_end(text, found.start())
-        text = text[:found.start()] + text[end:].removeprefix(';').removeprefix('\n')
+        text = text[:found.start()] + text[end:].lstrip(';,').removeprefix('\n')
     return text
 
 
-def plain(text):
-    text = without(text, r'^ *(ensures|requires)\b[^{\n]*')
-    text = without(text, r'^impl[^{\n]* Model for ')
-    text = without(text, r'^impl Clone for ')
-    text = without(text, r'^(///[^\n]*\n)*pub fn tokenize\b')
-    text = re.sub(r'^ *ghost [^;]*;\n', '', text, flags=re.M)
-    text = re.sub(r'^ *#!?\[tactic[^\n]*\n', '', text, flags=re.M)
-    text = re.sub(r'^use (std::alloc|std::marker)[^\n]*\n', '', text, flags=re.M)
-    text = re.sub(r'^use (memchr|unicode_ident)', r'use crate::\1', text, flags=re.M)
-    return re.sub(r'#\[derive\(([^)]*)\)\]', lambda m: '#[derive(%s)]' % ', '.join(w for w in m[1].split(', ') if w != 'Drop'), text)
+def derives(found):
+    """What a type derives, without what is none of Rust's, and a copy that takes memory."""
+    words = [it for it in found[1].split(', ') if it not in ('Drop', 'Error') and (it != 'Clone' or 'Copy' in found[1])]
+    return f'#[derive({", ".join(words)})]\n' if words else ''
+
+
+def plain(text, crate):
+    for pattern in (r'^ *(ensures|requires)\b[^{\n]*\{', r'^ *ghost \w+( =|:) \{', r'^impl[^{\n]* (Model|Drop) for [^{]*\{'):
+        text = without(text, pattern)
+    text = re.sub(r'^ *ghost [^;]*;\n|^ *#!?\[(tactic|cycle|error)\b[^\n]*\n|^use (std::marker|thiserror|std::collections)\b[^\n]*\n', '', text, flags=re.M)
+    text = re.sub(r'^impl Clone for', 'impl TryClone for', text, flags=re.M)
+    text = re.sub(r"<('\w+, )?W: fmt::Write>", lambda found: f'<{found[1][:-2]}>' if found[1] else '', text)
+    text = re.sub(r'\b(\w+): Drop\b', r'\1', text)
+    text = text.replace('fmt::Formatter<W>', "fmt::Formatter<'_>").replace('std::alloc::', 'crate::plain_std::')
+    text = re.sub(r'\bcrate::(?!plain_std)', f'crate::{crate}::', text)
+    text = re.sub(r'^(pub )?mod laws;\n', '', text, flags=re.M)
+    for name in [*NAMES, 'memchr', 'unicode_ident']:
+        text = re.sub(rf'\buse {name}::', f'use crate::{name}::', text)
+        text = re.sub(rf'(?<![\w:]){name}::(?=[a-z_]+\()', f'crate::{name}::', text)
+    text = re.sub(r'#\[derive\(([^)]*)\)\]\n', derives, text)
+    head = re.match(r'(//![^\n]*\n|#!\[[^\n]*\n|\n)*', text)[0]
+    return f'{head}use crate::plain_std::*;\nuse std::fmt::Write as _;\n{text[len(head):]}'
 
 
 def main():
     folder = pathlib.Path(sys.argv[1])
-    folder.mkdir(parents=True, exist_ok=True)
-    for module in MODULES:
-        (folder / f'{module}.rs').write_text(plain((SOURCE / f'{module}.rt').read_text()))
-    heads = ''.join(f'mod {module};\n' for module in MODULES)
-    (folder / 'main.rs').write_text('#![allow(dead_code)]\n' + heads + MAIN)
+    for name in NAMES:
+        source = CRATES / name / 'src'
+        for file in sorted(source.rglob('*.rt')):
+            page = file.relative_to(source).with_suffix('.rs')
+            page = folder / name / ('mod.rs' if page == pathlib.Path('lib.rs') else page)
+            page.parent.mkdir(parents=True, exist_ok=True)
+            page.write_text(plain(file.read_text(), name))
+    (folder / 'plain_std.rs').write_text((HERE / 'plain_std.rs').read_text())
+    heads = ''.join(f'mod {name};\n' for name in [*NAMES, 'plain_std'])
+    (folder / 'main.rs').write_text('#![allow(warnings)]\n' + heads + MAIN)
 
 
 main()

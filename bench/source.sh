@@ -1,5 +1,5 @@
 #!/usr/bin/env bash
-# Times the reader of Rust source over real files, by `itemtree check`, beside its lexer as plain Rust that rustc builds.
+# Times the reader of Rust source over real files, by `itemtree check`, beside its lexer and itself as plain Rust that rustc builds.
 #
 #     bench/source.sh FOLDER..    over all .rs files below the folders, in one text
 #
@@ -23,7 +23,7 @@ trap 'rm -rf "$work"' EXIT
 find "$@" -name '*.rs' -print0 | sort -z | xargs -0 cat | grep -av '^//!\|^#!\[' > "$work/text.rs"
 bytes=$(stat -c %s "$work/text.rs")
 python3 "$here/plain.py" "$work/plain"
-rustc -O --edition 2021 -A warnings -o "$work/plain_lexer" "$work/plain/main.rs"
+rustc -O -C codegen-units=1 -C panic=abort --edition 2021 -o "$work/plain_reader" "$work/plain/main.rs"
 
 # Reads the text so many times. (Where something of it cannot be read, the status is 1.)
 cat > "$work/reader" << 'READER'
@@ -46,5 +46,6 @@ line() {
 }
 
 tell "$bytes bytes, each line the mean of $times passes, in processor time"
-line 'plain lexer' "$work/plain_lexer"
+line 'plain lexer' "$work/plain_reader" lex
+line 'plain reader' "$work/plain_reader" read all
 line reader bash "$work/reader" "$program" "$work/text.rs"

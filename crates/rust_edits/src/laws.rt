@@ -23,7 +23,6 @@ fn values()
 {}
 
 // What typing inside a body leaves as it is, and what `edit_inside` asks of items.
-#[tactic(auto, using(crate::proofs::Order::items_are_in_order, crate::proofs::Typing::Typing::typing_inside, crate::proofs::Typing::Moved::places_move, crate::proofs::Typing::Moved::is_read_anew, crate::proofs::Typing::Moved::body_is_told, crate::proofs::Typing::BodyStarts::body_opens, crate::proofs::Typing::ProblemsIn::problems_stand, crate::proofs::Typing::Loose::problems_move))]
 fn typing()
     ensures items_are_in_order { ItemsAreInOrder }
     ensures typing_inside { TypingInside }
