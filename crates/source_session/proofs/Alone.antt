@@ -1,6 +1,6 @@
 -- Edits inside bodies.
 use Rattle.std.proofs.Common.{◌≡◌, ◌≢◌, ℕ, zero, suc, ◌+◌, ◌<◌, ◌≤◌, ◌==◌, Bool, true, false, if◌then◌else◌, List, [], ◌∷◌, Option, Some, None, IfSome, IfNone, OnSome, is_some, Result, Ok, Err, All, slice_get, length, map, take, drop, refl, sym, ap, subst, ◌∙◌, append_assoc, arith, IsCharBoundary, nat_le, string_bytes}
-use Rattle.source_session.proofs.Common.{list_all, and_parts, nat_tests, get_or-map, length-map, EditionYear, Place, File, IsSetAgain, EditView, set, IsFooting, FitsAfter, last_number, State, present, ItemPlace, FileView, IsBareFile, IsFileView, bare_file, HasPlaces, IsReadMoved, edited, has_item, has_place, has_problem, shifted_item, shifted_place, shifted_problem, is_cut, TextRange, AreDistinct, IndexView, ChangeFault, SourceText, LineEdit, set_text, change_text, CrateFiles, AreSetTo, AreTogether, IsPlaced, IsSetTo, LeavesPlaced, session_of, CanReplace, HasRoom, IsInside, IsMadeAlone, IsMadeOrNot, IsRetyped, IsRetypedIf, MakesAlone, IsEdited, TextChange, IsKeptWith, IsReading, Texts, bytes_kept, change_fault, changed_text, spliced, text_after, text_in, unless_fault, Touched}
+use Rattle.source_session.proofs.Common.{list_all, and_parts, nat_tests, get_or-map, length-map, EditionYear, Place, File, IsSetAgain, EditView, set, IsFooting, FitsAfter, last_number, State, present, ItemPlace, FileView, IsBareFile, IsFileView, bare_file, HasPlaces, IsReadMoved, edited, has_item, has_place, has_problem, shifted_item, shifted_place, shifted_problem, is_cut, TextRange, AreDistinct, IndexView, ChangeFault, SourceText, LineEdit, set_text, change_text, CrateFiles, AreSetTo, AreTogether, IsPlaced, IsSetTo, LeavesPlaced, session_of, CanReplace, HasRoom, IsInside, IsMadeAlone, IsMadeOrNot, IsRetyped, IsRetypedIf, MakesAlone, IsEdited, TextChange, IsKeptWith, IsReading, Texts, bytes_kept, change_fault, changed_text, spliced, text_after, text_in, unless_fault, Touched, IsAfter, AreMeant}
 use Rattle.std.specs.String.{string_capacity, string_len}
 use Rattle.std.specs.String.Boundary.{IsSplitPoint}
 use Rattle.std.specs.declared.alloc.AllocError.{AllocError}
@@ -41,6 +41,12 @@ distinct_moved shift ps distinct i j d less within =
 
 some_same : {A : Type 0} (a b : A) → Some a ≡ Some b → a ≡ b
 some_same a b e = cc
+
+-- an edit that sets a file again, and is the only one, by what it changes and by what is then left
+alone_by : (edition : EditionYear) (s u : State) (old new : Texts) (asked : List LineEdit) (edit : EditView) (change : TextChange) (place : Place) → AreMeant edition (text_in old) asked (edit ∷ []) (change ∷ []) → IsAfter s (edit ∷ []) u → IsSetAgain s place u
+    → IsFooting s u → FitsAfter s [] edit → u.number ≤ last_number → LeavesPlaced change → ((file : ℕ) → text_in new file ≡ text_after (text_in old) (change ∷ []) file) → IsMadeAlone edition s old asked u new
+alone_by edition s u old new asked edit change place meant after again footing fits number placed texts =
+    record { edit = edit; change = change; meant = meant; after = after; place = place; again = again; footing = footing; fits = fits; number = number; placed = placed; texts = texts }
 
 -- ---- the text of a file that is changed inside a body
 
@@ -116,19 +122,9 @@ module _ (edition : EditionYear) (s u : State) (old new : Texts) (file : ℕ) (r
 
   -- is a change of it
   pub made_alone : AreDistinct text.places.items → IsFooting s u → u.number ≤ last_number → IsMadeAlone edition s old (change_text file range typed ∷ []) u new
-  made_alone distinct footing number = record {
-    edit = edit;
-    change = change;
-    meant = ((spliced bytes range typed, changed, reading), tt);
-    after = again.after;
-    place = File (record { 0 = file });
-    again = again;
-    footing = footing;
-    fits = again.fits;
-    number = number;
-    placed = subst AreDistinct (sym (retyped.places (ap (list_all (has_item shift)) (sym places_are) ∙ all.items))) (distinct_moved shift text.places.items distinct);
-    texts = texts;
-  }
+  made_alone distinct footing number =
+      let placed = subst AreDistinct (sym (retyped.places (ap (list_all (has_item shift)) (sym places_are) ∙ all.items))) (distinct_moved shift text.places.items distinct) in
+      alone_by edition s u old new (change_text file range typed ∷ []) edit change (File (record { 0 = file })) ((spliced bytes range typed, changed, reading), tt) again.after again footing again.fits number placed texts
 
 retyped_to : (range : TextRange) (typed : List ℕ) (move : Shift) (text : SourceText) (new : Option SourceText) → IsRetypedIf range typed move (Some text) new → (after : SourceText) × (new ≡ Some after) × IsRetyped range typed move text after
 retyped_to range typed move text None h = absurd h
@@ -163,30 +159,18 @@ still old file text had = text_step old old file (Some text) [] (λ f. elim (fil
 
 pub same_alone : (edition : EditionYear) (s u : State) (old : Texts) (file : ℕ) (text : SourceText) (made : List ℕ) → text_in old file ≡ Some text → made ≡ string_bytes text.text → IsSetAgain s (File (record { 0 = file })) u → IsFooting s u → u.number ≤ last_number
     → IsSetTo edition (present s (File (record { 0 = file }))) text → AreDistinct text.places.items → IsMadeAlone edition s old (set_text file made ∷ []) u old
-same_alone edition s u old file text made had is again footing number read distinct = record {
-  edit = set (File (record { 0 = file })) again.syntax;
-  change = Some (file, Some text);
-  meant = (
-    record {
+same_alone edition s u old file text made had is again footing number read distinct =
+    let place = File (record { 0 = file }) in
+    let reading : IsReading edition file made (set place again.syntax) (Some (file, Some text)) = record {
       read = read.read;
       is_read = subst (λ x. IsBareFile edition x read.read) (sym is) read.is_read;
-      edit_is = ap (set (File (record { 0 = file }))) (some_same again.syntax read.read.syntax (sym again.had ∙ read.syntax_is));
+      edit_is = ap (set place) (some_same again.syntax read.read.syntax (sym again.had ∙ read.syntax_is));
       kept = text;
       change_is = refl;
       text_is = sym is;
       rest = read.rest;
-    },
-    tt,
-  );
-  after = again.after;
-  place = File (record { 0 = file });
-  again = again;
-  footing = footing;
-  fits = again.fits;
-  number = number;
-  placed = distinct;
-  texts = still old file text had;
-}
+    } in
+    alone_by edition s u old old (set_text file made ∷ []) (set place again.syntax) (Some (file, Some text)) place (reading, tt) again.after again footing again.fits number distinct (still old file text had)
 
 -- ---- a file that is set to another text
 
@@ -197,19 +181,9 @@ only_text (Some cause) made text e = absurd cc
 -- changing its text by the difference is setting it
 pub set_alone : (edition : EditionYear) (s u : State) (old new : Texts) (file : ℕ) (range : TextRange) (typed made : List ℕ) (text : SourceText) → text_in old file ≡ Some text → made ≡ spliced (string_bytes text.text) range typed
     → IsMadeAlone edition s old (change_text file range typed ∷ []) u new → IsMadeAlone edition s old (set_text file made ∷ []) u new
-set_alone edition s u old new file range typed made text had is m = record {
-  edit = m.edit;
-  change = m.change;
-  meant = (subst (λ x. IsReading edition file x m.edit m.change) (only_text (change_fault (string_bytes text.text) range typed) (spliced (string_bytes text.text) range typed) m.meant.0.0 (ap (λ t. changed_text (bytes_kept t) range typed) (sym had) ∙ m.meant.0.1) ∙ sym is) m.meant.0.2, tt);
-  after = m.after;
-  place = m.place;
-  again = m.again;
-  footing = m.footing;
-  fits = m.fits;
-  number = m.number;
-  placed = m.placed;
-  texts = m.texts;
-}
+set_alone edition s u old new file range typed made text had is m =
+    let text_is = only_text (change_fault (string_bytes text.text) range typed) (spliced (string_bytes text.text) range typed) m.meant.0.0 (ap (λ t. changed_text (bytes_kept t) range typed) (sym had) ∙ m.meant.0.1) ∙ sym is in
+    alone_by edition s u old new (set_text file made ∷ []) m.edit m.change m.place (subst (λ x. IsReading edition file x m.edit m.change) text_is m.meant.0.2, tt) m.after m.again m.footing m.fits m.number m.placed m.texts
 
 -- the same, made or not
 pub set_by_change : (s u : State) (old new : Texts) (file : ℕ) (range : TextRange) (typed made : List ℕ) (text : SourceText) (r : Result Bool AllocError) → text_in old file ≡ Some text → made ≡ spliced (string_bytes text.text) range typed

@@ -1,6 +1,6 @@
 -- Items found by their ids.
-use Rattle.std.proofs.Common.{◌≡◌, ◌≢◌, ℕ, suc, zero, ◌<◌, ◌≤◌, ◌-◌, ◌==◌, List, [], ◌∷◌, Bor, length, drop, map, Option, Some, None, IsSome, refl, sym, ap, ◌∙◌, subst, arith, ⊎_elim, slice_index_or, AllPairs, flat_map}
-use Rattle.source_session.proofs.Common.{option_map_or, cases_Bool, nat_tests, length-drop, Crate, FileAstId, Unfolding, Place, File, Block, State, unfolding_at, node_name, declaration_id, Entry, IsDeclared, ItemPlace, AreDistinct, place_of, bare_segment, SourceText, HaveDistinctIds, declared_scope, found_with, head_place, head_scope, found_value, IsPlaced, found_scope, text_bytes, text_places, Texts, text_of_place, text_in}
+use Rattle.std.proofs.Common.{◌≡◌, ◌≢◌, ℕ, suc, zero, ◌<◌, ◌≤◌, ◌-◌, ◌==◌, List, [], ◌∷◌, Bor, length, drop, take, map, Option, Some, None, IsSome, refl, sym, ap, ◌∙◌, subst, arith, ⊎_elim, slice_index_or, AllPairs, flat_map}
+use Rattle.source_session.proofs.Common.{option_map_or, cases_Bool, nat_tests, length-drop, take_all, Crate, FileAstId, Unfolding, Place, File, Block, State, unfolding_at, node_name, declaration_id, Entry, IsDeclared, ItemPlace, AreDistinct, place_of, bare_segment, SourceText, HaveDistinctIds, declared_scope, found_with, head_place, head_scope, found_value, IsPlaced, found_scope, text_bytes, text_places, Texts, text_of_place, text_in}
 use Rattle.item_tree.specs.Layout.{node_at}
 use Rattle.item_tree.specs.Shown.{IsContained}
 use Rattle.def_collector.specs.declared.collector.Declaration as code
@@ -50,11 +50,17 @@ drop_scopes zero ds = refl
 drop_scopes (suc k) [] = refl
 drop_scopes (suc k) (d ∷ ds) = drop_scopes k ds
 
+-- as many as are left are all that are left
+left_whole : {A : Type 0} (k : ℕ) (xs : List A) → take (length xs - k) (drop k xs) ≡ drop k xs
+left_whole k xs = take_all (length xs - k) (drop k xs) (omega (arith, length-drop k xs))
+
 -- of declarations with different ids, the first one behind some is the only one
-pub scope_later : (id k : ℕ) (ds left found : List code.Declaration) → AllPairs (λ i j. i ≢ j) (map declaration_id ds) → left ≡ drop k ds → 0 < length found → head_scope found ≡ found_scope id (map declared_scope left) → head_scope found ≡ found_scope id (map declared_scope ds)
-scope_later id k ds left [] once is some e = absurd (omega (arith, some))
-scope_later id k ds left (d ∷ found) once is some e =
+pub scope_later : (id k : ℕ) (ds found : List code.Declaration) → AllPairs (λ i j. i ≢ j) (map declaration_id ds) → 0 < length found → head_scope found ≡ found_scope id (map declared_scope (take (length ds - k) (drop k ds)))
+    → head_scope found ≡ found_scope id (map declared_scope ds)
+scope_later id k ds [] once some e = absurd (omega (arith, some))
+scope_later id k ds (d ∷ found) once some e =
     let s = map (λ name. name.now) d.path.items in
+    let is = left_whole k ds in
     sym (later id k (map declared_scope ds) s (subst (AllPairs Differ) (sym (ids_are ds)) once)
     (ap (found_scope id) (sym (ap (map declared_scope) is ∙ drop_scopes k ds)) ∙ sym e))
 
@@ -70,9 +76,9 @@ is_end k all within =
     ap (λ n. drop n all) count
 
 -- of different places, the first one behind some is the only one
-pub place_later : (id : FileAstId) (k : ℕ) (all left found : List ItemPlace) → AreDistinct all → k ≤ length all → left ≡ drop k all → 0 < length found → head_place found ≡ place_of id left → head_place found ≡ place_of id all
-place_later id k all left [] distinct within is some e = absurd (omega (arith, some))
-place_later id k all left (p ∷ found) distinct within is some e = sym (found_later id (drop k all) all p distinct (is_end k all within) (ap (place_of id) (sym is) ∙ sym e))
+pub place_later : (id : FileAstId) (k : ℕ) (all found : List ItemPlace) → AreDistinct all → k ≤ length all → 0 < length found → head_place found ≡ place_of id (take (length all - k) (drop k all)) → head_place found ≡ place_of id all
+place_later id k all [] distinct within some e = absurd (omega (arith, some))
+place_later id k all (p ∷ found) distinct within some e = sym (found_later id (drop k all) all p distinct (is_end k all within) (ap (place_of id) (sym (left_whole k all)) ∙ sym e))
 
 places_distinct : (t : Option SourceText) → IsPlaced t → AreDistinct (text_places t)
 places_distinct None h = λ i j p less within. absurd (omega (arith, less, within))

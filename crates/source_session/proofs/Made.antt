@@ -50,10 +50,7 @@ together_after count edition s u edits old new changes index were are t behind a
 pub same_length : (edition : EditionYear) (texts : FileTexts) (ls : List LineEdit) (es : List EditView) (cs : List TextChange) → AreMeant edition texts ls es cs → length cs ≡ length es
 same_length edition texts [] [] [] h = refl
 same_length edition texts (l ∷ ls) (e ∷ es) (c ∷ cs) h = ap suc (same_length edition (text_after texts (c ∷ [])) ls es cs h.1)
-same_length edition texts [] (e ∷ es) cs h = absurd h
-same_length edition texts [] [] (c ∷ cs) h = absurd h
-same_length edition texts (l ∷ ls) [] cs h = absurd h
-same_length edition texts (l ∷ ls) (e ∷ es) [] h = absurd h
+same_length edition texts ls es cs h = absurd h
 
 -- nothing is made
 pub made_none : (s u : Session) → u.count ≡ s.count → u.files ≡ s.files → u.edition ≡ s.edition → u.table ≡ s.table → ((file : ℕ) → text_in u.texts file ≡ text_in s.texts file) → AreMade s [] [] u
@@ -66,10 +63,7 @@ stopped_none s asked u count files edition table texts = record { edits = []; ch
 pub unmeant : (s : Session) (asked : List LineEdit) (e : LineError) → TellsFault (FailsAt s.edition.0 (text_in s.texts) asked) e → IsUnedited s asked s e
 unmeant s asked (NotChanged place cause) h = (h, refl)
 unmeant s asked why.OutOfMemory h = stopped_none s asked s refl refl refl refl (λ file. refl)
-unmeant s asked (NotJson column) h = absurd h
-unmeant s asked (NotRequest pointer) h = absurd h
-unmeant s asked (Refused place cause) h = absurd h
-unmeant s asked TooLong h = absurd h
+unmeant s asked e h = absurd h
 
 -- all is made, and memory runs out behind it
 pub stopped_all : (s : Session) (asked : List LineEdit) (u : Session) → IsEdited s asked u → IsStopped s asked u

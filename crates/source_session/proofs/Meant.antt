@@ -37,10 +37,7 @@ meant_push edition texts [] [] [] l e c are is = (is, tt)
 meant_push edition texts (k ∷ ls) (f ∷ es) (d ∷ cs) l e c are is =
     let next = text_after texts (d ∷ []) in
     (are.0, meant_push edition next ls es cs l e c are.1 (means_over edition (text_after texts (d ∷ cs)) (text_after next cs) (after_first texts d cs) l e c is))
-meant_push edition texts [] (f ∷ es) cs l e c are is = absurd are
-meant_push edition texts [] [] (d ∷ cs) l e c are is = absurd are
-meant_push edition texts (k ∷ ls) [] cs l e c are is = absurd are
-meant_push edition texts (k ∷ ls) (f ∷ es) [] l e c are is = absurd are
+meant_push edition texts ls es cs l e c are is = absurd are
 
 -- the first that means nothing
 pub fails_behind : (edition : EditionYear) (texts : FileTexts) (ls : List LineEdit) (es : List EditView) (cs : List TextChange) (l : LineEdit) (rest : List LineEdit) (cause : ChangeFault) → AreMeant edition texts ls es cs → Fails (text_after texts cs) l cause → FailsAt edition texts (ls ++ l ∷ rest) (length ls) cause
@@ -48,26 +45,16 @@ fails_behind edition texts [] [] [] l rest cause are fails = fails
 fails_behind edition texts (k ∷ ls) (f ∷ es) (d ∷ cs) l rest cause are fails =
     let next = text_after texts (d ∷ []) in
     (f, d, are.0, fails_behind edition next ls es cs l rest cause are.1 (fails_over edition (text_after texts (d ∷ cs)) (text_after next cs) (after_first texts d cs) l cause fails))
-fails_behind edition texts [] (f ∷ es) cs l rest cause are fails = absurd are
-fails_behind edition texts [] [] (d ∷ cs) l rest cause are fails = absurd are
-fails_behind edition texts (k ∷ ls) [] cs l rest cause are fails = absurd are
-fails_behind edition texts (k ∷ ls) (f ∷ es) [] l rest cause are fails = absurd are
+fails_behind edition texts ls es cs l rest cause are fails = absurd are
 
 meant_length : (edition : EditionYear) (texts : FileTexts) (ls : List LineEdit) (es : List EditView) (cs : List TextChange) → AreMeant edition texts ls es cs → length cs ≡ length ls
 meant_length edition texts [] [] [] are = refl
 meant_length edition texts (l ∷ ls) (e ∷ es) (c ∷ cs) are = ap suc (meant_length edition (text_after texts (c ∷ [])) ls es cs are.1)
-meant_length edition texts [] (e ∷ es) cs are = absurd are
-meant_length edition texts [] [] (c ∷ cs) are = absurd are
-meant_length edition texts (l ∷ ls) [] cs are = absurd are
-meant_length edition texts (l ∷ ls) (e ∷ es) [] are = absurd are
+meant_length edition texts ls es cs are = absurd are
 
 -- what is told of an edit behind others is told of all
 pub tells_behind : (edition : EditionYear) (texts : FileTexts) (ls : List LineEdit) (es : List EditView) (cs : List TextChange) (l : LineEdit) (rest : List LineEdit) (e : LineError) → AreMeant edition texts ls es cs → TellsFault (IsFailing (text_after texts cs) l (length cs)) e
     → TellsFault (FailsAt edition texts (ls ++ l ∷ rest)) e
 tells_behind edition texts ls es cs l rest (NotChanged place cause) are h =
     subst (λ k. FailsAt edition texts (ls ++ l ∷ rest) k cause) (sym (h.0 ∙ meant_length edition texts ls es cs are)) (fails_behind edition texts ls es cs l rest cause are h.1)
-tells_behind edition texts ls es cs l rest OutOfMemory are h = h
-tells_behind edition texts ls es cs l rest (NotJson column) are h = h
-tells_behind edition texts ls es cs l rest (NotRequest pointer) are h = h
-tells_behind edition texts ls es cs l rest (Refused place cause) are h = h
-tells_behind edition texts ls es cs l rest TooLong are h = h
+tells_behind edition texts ls es cs l rest e are h = h

@@ -10,6 +10,7 @@ ghost use Rattle.source_session.specs.LineViews.{asked_view, IsOwn};
 ghost use Rattle.source_session.specs.Replies.{IsCarriedOut, IsOutcome, IsReply, IsReplyTo, IsValueReply, IsWanting, asked_of, reply_number};
 
 use crate::error::LineError;
+use crate::keys::Members;
 use crate::line::{Asked, first_line, later_line};
 use crate::reply::{Outcome, Reply, reply_text};
 use crate::session::Session;
@@ -17,7 +18,7 @@ use hir_input_json::Fault;
 use hir_input_json::float::has_float;
 use hir_input_json::member::{members_of, taken};
 use line_stream::{Answer, Line, Service};
-use serde_json::{Map, Value};
+use serde_json::Value;
 use std::alloc::Global;
 use std::marker::Model;
 
@@ -81,7 +82,7 @@ impl Conversation {
     }
 
     // Does what the first line asks.
-    fn open(&mut self, alloc: Global, members: Map<String, Value>) -> Outcome
+    fn open(&mut self, alloc: Global, members: Members) -> Outcome
         requires { self.old ≡ None }
         ensures outcome { IsWanting self.old self.new (outcome_view result)
             ⊎ IsOutcome self.old (asked_of self.old (held members)) self.new (outcome_view result) }
@@ -95,7 +96,7 @@ impl Conversation {
     }
 
     // Does what a line asks.
-    fn ask(&mut self, alloc: Global, members: Map<String, Value>) -> Outcome
+    fn ask(&mut self, alloc: Global, members: Members) -> Outcome
         ensures outcome { IsWanting self.old self.new (outcome_view result)
             ⊎ IsOutcome self.old (asked_of self.old (held members)) self.new (outcome_view result) }
         ensures no_float { IsUnfloating result }
@@ -112,7 +113,7 @@ impl Conversation {
     }
 
     // Answers an object.
-    fn reply_to(&mut self, alloc: Global, mut members: Map<String, Value>) -> Reply
+    fn reply_to(&mut self, alloc: Global, mut members: Members) -> Reply
         ensures reply { IsReplyTo self.old (held members) self.new (reply_view result) }
         ensures id { has_float (view result.id) ≡ false }
         ensures outcome { IsUnfloating result.outcome }

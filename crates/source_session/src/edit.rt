@@ -6,7 +6,7 @@ ghost use Rattle.hir_input_json.specs.Held.{held};
 ghost use Rattle.hir_input_json.specs.Reads.{Reads};
 ghost use Rattle.source_session.specs.Edits.{edit_form as edit_form, line_edit, text_edit, change_edit, range as range_form, short_text, line_edit_view, IsUsable, IsShort};
 
-use crate::keys::{LineObject, only_known};
+use crate::keys::{LineObject, Members, only_known};
 use hir_input::HirFileId;
 use hir_input_json::float::has_float;
 use hir_input_json::member::{field, id_at, members_of, taken, word_at};
@@ -14,7 +14,7 @@ use hir_input_json::{Fault, ReadIn};
 use item_tree_db::Edit;
 use item_tree_request::request::edit::edit_in;
 use rust_members::TextRange;
-use serde_json::{Map, Value};
+use serde_json::Value;
 use std::alloc::Global;
 
 /// An edit of a line.
@@ -39,7 +39,7 @@ pub enum LineEdit {
 pub(crate) const MOST_BYTES: usize = 0x1_0000_0000;
 
 // Takes a text of at most 2^32 bytes out.
-fn text_at(alloc: Global, members: &mut Map<String, Value>) -> Result<String, Fault>
+fn text_at(alloc: Global, members: &mut Members) -> Result<String, Fault>
     ensures reads { Reads string_bytes result
         (required_form (codes "text") short_text (held members.old)) }
     ensures short { IfOk result (λ text. IsShort (string_bytes text)) }
@@ -55,7 +55,7 @@ fn text_at(alloc: Global, members: &mut Map<String, Value>) -> Result<String, Fa
     }
 }
 
-fn set_text_of(alloc: Global, members: &mut Map<String, Value>) -> Result<LineEdit, Fault>
+fn set_text_of(alloc: Global, members: &mut Members) -> Result<LineEdit, Fault>
     ensures reads { Reads line_edit_view result (text_edit (held members.old)) }
     ensures usable { (count : ℕ) → IfOk result (IsUsable count) }
 {
@@ -88,7 +88,7 @@ fn range_of(alloc: Global, value: &Value) -> Result<TextRange, Fault>
     }
 }
 
-fn range_at(alloc: Global, members: &Map<String, Value>) -> Result<TextRange, Fault>
+fn range_at(alloc: Global, members: &Members) -> Result<TextRange, Fault>
     ensures { Reads (λ range. range) result
         (required_form (codes "range") range_form (held members.now)) }
 {
@@ -98,7 +98,7 @@ fn range_at(alloc: Global, members: &Map<String, Value>) -> Result<TextRange, Fa
     }
 }
 
-fn change_text_of(alloc: Global, members: &mut Map<String, Value>) -> Result<LineEdit, Fault>
+fn change_text_of(alloc: Global, members: &mut Members) -> Result<LineEdit, Fault>
     ensures reads { Reads line_edit_view result (change_edit (held members.old)) }
     ensures usable { (count : ℕ) → IfOk result (IsUsable count) }
 {
@@ -109,11 +109,7 @@ fn change_text_of(alloc: Global, members: &mut Map<String, Value>) -> Result<Lin
 }
 
 // An edit of a table of this many crates, whose members are taken out.
-fn members_edit(
-    alloc: Global,
-    members: &mut Map<String, Value>,
-    count: usize,
-) -> Result<LineEdit, Fault>
+fn members_edit(alloc: Global, members: &mut Members, count: usize) -> Result<LineEdit, Fault>
     ensures reads { Reads line_edit_view result (edit_form count (held members.old)) }
     ensures usable { IfOk result (IsUsable count) }
 {

@@ -1,7 +1,8 @@
 //! Why a line has no shows.
 ghost use Rattle.std.specs.Prelude.{◌≡◌, IfOk};
 ghost use Rattle.serde_json.specs.View.{view};
-ghost use Rattle.source_session.specs.Errors.{cause_text, error_form, fault_text};
+ghost use Rattle.source_session.specs.Errors.{cause_text, error_form, fault_text, line_error};
+ghost use Rattle.source_session.specs.declared.error.LineError.TheVariants.{OutOfMemory};
 
 use crate::expected::expected;
 use crate::splice::ChangeFault;
@@ -29,9 +30,6 @@ pub enum LineError {
 }
 
 impl From<AllocError> for LineError {
-    ghost use Rattle.std.specs.Prelude.{◌≡◌};
-    ghost use Rattle.source_session.specs.declared.error.LineError.TheVariants.{OutOfMemory};
-
     ghost from_gives = { λ _ e. e ≡ OutOfMemory };
 
     fn from(_error: AllocError) -> LineError {
@@ -40,9 +38,6 @@ impl From<AllocError> for LineError {
 }
 
 impl<T: Drop> From<AllocFailed<T>> for LineError {
-    ghost use Rattle.std.specs.Prelude.{◌≡◌};
-    ghost use Rattle.source_session.specs.declared.error.LineError.TheVariants.{OutOfMemory};
-
     ghost from_gives = { λ _ e. e ≡ OutOfMemory };
 
     fn from(_failed: AllocFailed<T>) -> LineError {
@@ -51,9 +46,6 @@ impl<T: Drop> From<AllocFailed<T>> for LineError {
 }
 
 impl From<Fault> for LineError {
-    ghost use Rattle.std.specs.Prelude.{◌≡◌};
-    ghost use Rattle.source_session.specs.Errors.{line_error};
-
     ghost from_gives = { λ fault e. e ≡ line_error fault };
 
     fn from(fault: Fault) -> LineError {

@@ -7,11 +7,13 @@ ghost use Rattle.hir_input_json.specs.Held.{held};
 ghost use Rattle.hir_input_json.specs.Reads.{Reads};
 ghost use Rattle.source_session.specs.Files as spec;
 
+use crate::keys::Members;
+use crate::list::each_read;
 use hir_input::Crate;
 use hir_input_json::member::field;
 use hir_input_json::{Fault, ReadIn};
 use item_tree_db::Place;
-use serde_json::{Map, Value};
+use serde_json::Value;
 use std::alloc::Global;
 use std::marker::Model;
 
@@ -65,13 +67,7 @@ fn number_of(alloc: Global, value: &Value) -> Result<u32, Fault>
 fn numbers_of(alloc: Global, items: &[Value]) -> Result<Vec<u32>, Fault>
     ensures { Reads (λ v. v.items) result (each (whole_form (2 ^ 32)) (items_view items.now)) }
 {
-    let mut numbers = Vec::with_capacity(alloc, items.len())?;
-    for item in items {
-        let place = numbers.len();
-        let read = number_of(alloc, item).in_item(alloc, place)?;
-        numbers.push(read)?;
-    }
-    Ok(numbers)
+    each_read!(alloc, item in items, number_of(alloc, item))
 }
 
 fn files_of(alloc: Global, value: &Value) -> Result<Files, Fault>
@@ -104,22 +100,13 @@ fn crate_files_of(alloc: Global, value: &Value) -> Result<Option<Files>, Fault>
 fn all_files_of(alloc: Global, items: &[Value]) -> Result<Vec<Option<Files>>, Fault>
     ensures { Reads (λ v. v.items) result (each spec.crate_files (items_view items.now)) }
 {
-    let mut files = Vec::with_capacity(alloc, items.len())?;
-    for item in items {
-        let place = files.len();
-        let read = crate_files_of(alloc, item).in_item(alloc, place)?;
-        files.push(read)?;
-    }
-    Ok(files)
+    each_read!(alloc, item in items, crate_files_of(alloc, item))
 }
 
 /// The files of the crates, none where the crates are absent.
 ///
 /// `WrongForm` comes only where the crates are no list or those of one are not of their form (`Files.crate_files`), and tells where.
-pub(crate) fn crate_files_at(
-    alloc: Global,
-    members: &Map<String, Value>,
-) -> Result<Vec<Option<Files>>, Fault>
+pub(crate) fn crate_files_at(alloc: Global, members: &Members) -> Result<Vec<Option<Files>>, Fault>
     ensures { Reads (λ v. v.items) result
         (each_at spec.crate_files (codes "crates") (held members.now)) }
 {

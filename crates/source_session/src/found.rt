@@ -1,7 +1,6 @@
 //! The objects of what is found.
 ghost use Rattle.std.specs.Prelude.{ℕ, List, None, ◌≡◌, ◌++◌, true, All, IfOk, IfSome, OnOk, map, string_bytes, flat_map};
-ghost use Rattle.serde_json.specs.Data.{string};
-ghost use Rattle.serde_json.specs.View.{view};
+ghost use Rattle.serde_json.specs.{Data.string, View.view};
 ghost use Rattle.hir_input.specs.Id.{shown_id};
 ghost use Rattle.item_tree.specs.Shown.{IsContained};
 ghost use Rattle.item_tree_db.specs.State.{IsKnown};
@@ -9,8 +8,7 @@ ghost use Rattle.decl_index.specs.Entries.{IsDeclared};
 ghost use Rattle.source_listing.specs.Places.{AreDistinct, place_of};
 ghost use Rattle.source_session.specs.Finders.{HaveDistinctIds, IsFinder, FindsIn, IsSameText, KnowsScopes, ast_in, found_with};
 ghost use Rattle.source_session.specs.Found as spec;
-ghost use Rattle.source_session.specs.Inner.{found_one};
-ghost use Rattle.source_session.specs.Sought.{is_at, path_within};
+ghost use Rattle.source_session.specs.{Inner.found_one, Sought.is_at, Sought.path_within};
 
 use crate::files::{Files, is_in_crate};
 use crate::finder::{Scopes, Spots, push_segment};

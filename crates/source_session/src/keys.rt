@@ -1,15 +1,16 @@
 //! The keys that the objects of a line may have.
 ghost use Rattle.std.specs.Prelude.{◌≡◌, is_none, option_map};
 ghost use Rattle.serde_json.specs.View.{members_view, view};
-ghost use Rattle.hir_input_json.specs.Forms.{unless_null};
-ghost use Rattle.hir_input_json.specs.Held.{held};
-ghost use Rattle.hir_input_json.specs.Reads.{Reads};
+ghost use Rattle.hir_input_json.specs.{Forms.unless_null, Held.held, Reads.Reads};
 ghost use Rattle.source_session.specs.Keys as spec;
 ghost use Rattle.source_session.specs.Keys.{only_known};
 
 use hir_input_json::Fault;
 use serde_json::{Map, Value};
 use std::alloc::Global;
+
+/// The members of an object of a line.
+pub(crate) type Members = Map<String, Value>;
 
 /// An object of a line, each with keys of its own.
 #[derive(Clone, Copy)]
@@ -56,7 +57,7 @@ fn is_absent(value: &Value) -> bool
 }
 
 // The key of the first member that no such object has. A null counts as absent.
-fn unknown_key(object: LineObject, members: &Map<String, Value>) -> Option<&str>
+fn unknown_key(object: LineObject, members: &Members) -> Option<&str>
     ensures { option_map (λ key. key.now) result
         ≡ spec.unknown_key object (members_view members.now.entries) }
 {
@@ -71,11 +72,7 @@ fn unknown_key(object: LineObject, members: &Map<String, Value>) -> Option<&str>
 /// Whether the members of an object have its keys alone.
 ///
 /// `WrongForm` comes only where one has another, and tells the first.
-pub(crate) fn only_known(
-    alloc: Global,
-    members: &Map<String, Value>,
-    object: LineObject,
-) -> Result<(), Fault>
+pub(crate) fn only_known(alloc: Global, members: &Members, object: LineObject) -> Result<(), Fault>
     ensures { Reads (λ _. tt) result (only_known object (held members.now)) }
 {
     match unknown_key(object, members) {

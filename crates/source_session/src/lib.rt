@@ -14,6 +14,7 @@ mod inside;
 mod keys;
 mod laws;
 mod line;
+mod list;
 mod meaning;
 mod parts;
 mod reply;

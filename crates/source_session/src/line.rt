@@ -13,7 +13,8 @@ ghost use Rattle.source_session.specs.Shows.{ShowNamesCrate, line_show};
 
 use crate::edit::{LineEdit, edit_of};
 use crate::files::{Files, crate_files_at};
-use crate::keys::{LineObject, only_known};
+use crate::keys::{LineObject, Members, only_known};
+use crate::list::each_read;
 use crate::show::{LineShow, show_of};
 use hir_input::{Edition, Name};
 use hir_input_json::edition::edition_at;
@@ -22,7 +23,7 @@ use hir_input_json::name::names_at;
 use hir_input_json::{Fault, ReadIn};
 use item_tree::CrateData;
 use item_tree_request::request::crates::crates_at;
-use serde_json::{Map, Value};
+use serde_json::Value;
 use std::alloc::{AllocError, Global};
 
 /// What opens a session.
@@ -91,7 +92,7 @@ fn usual_skipped(alloc: Global) -> Result<Vec<Name>, AllocError>
 }
 
 // Takes the names of the attributes out that are left out of trees.
-fn skipped_at(alloc: Global, members: &mut Map<String, Value>) -> Result<Vec<Name>, Fault>
+fn skipped_at(alloc: Global, members: &mut Members) -> Result<Vec<Name>, Fault>
     ensures reads { Reads (λ v. v.items) result (spec.skipped_at (held members.old)) }
     ensures left { OnOk result (held members.new ≡ without (codes "skipped") (held members.old)) }
 {
@@ -104,7 +105,7 @@ fn skipped_at(alloc: Global, members: &mut Map<String, Value>) -> Result<Vec<Nam
 }
 
 #[tactic(auto, using(hir_input_json::proofs::Held::field_without))]
-fn settings_in(alloc: Global, members: &mut Map<String, Value>) -> Result<Settings, Fault>
+fn settings_in(alloc: Global, members: &mut Members) -> Result<Settings, Fault>
     ensures reads { Reads settings_view result (spec.settings (held members.old)) }
     ensures left { OnOk result (held members.new
         ≡ without (codes "edition") (without (codes "skipped") (without (codes "crates") (held members.old)))) }
@@ -124,7 +125,7 @@ fn settings_in(alloc: Global, members: &mut Map<String, Value>) -> Result<Settin
 }
 
 // No member at this key.
-fn none_in(alloc: Global, members: &Map<String, Value>, key: &str) -> Result<(), Fault>
+fn none_in(alloc: Global, members: &Members, key: &str) -> Result<(), Fault>
     ensures { Reads (λ _. tt) result (none_at key.now (held members.now)) }
 {
     match field(members, key) {
@@ -133,7 +134,7 @@ fn none_in(alloc: Global, members: &Map<String, Value>, key: &str) -> Result<(),
     }
 }
 
-fn no_settings_in(alloc: Global, members: &Map<String, Value>) -> Result<(), Fault>
+fn no_settings_in(alloc: Global, members: &Members) -> Result<(), Fault>
     ensures { Reads (λ _. tt) result (spec.no_settings (held members.now)) }
 {
     none_in(alloc, members, "crates")?;
@@ -149,33 +150,17 @@ fn edits_of(alloc: Global, items: Vec<Value>, count: usize) -> Result<Vec<LineEd
         (each (line_edit count) (items_view items.items)) }
     ensures usable { IfOk result (λ v. All (IsUsable count) v.items) }
 {
-    let mut edits = Vec::with_capacity(alloc, items.len())?;
-    for item in items {
-        let place = edits.len();
-        let read = edit_of(alloc, item, count).in_item(alloc, place)?;
-        edits.push(read)?;
-    }
-    Ok(edits)
+    each_read!(alloc, item in items, edit_of(alloc, item, count))
 }
 
 fn shows_of(alloc: Global, items: Vec<Value>, count: usize) -> Result<Vec<LineShow>, Fault>
     ensures reads { Reads (λ v. v.items) result (each (line_show count) (items_view items.items)) }
     ensures known { IfOk result (λ v. All (ShowNamesCrate count) v.items) }
 {
-    let mut shows = Vec::with_capacity(alloc, items.len())?;
-    for item in items {
-        let place = shows.len();
-        let read = show_of(alloc, item, count).in_item(alloc, place)?;
-        shows.push(read)?;
-    }
-    Ok(shows)
+    each_read!(alloc, item in items, show_of(alloc, item, count))
 }
 
-fn edits_in(
-    alloc: Global,
-    members: &mut Map<String, Value>,
-    count: usize,
-) -> Result<Vec<LineEdit>, Fault>
+fn edits_in(alloc: Global, members: &mut Members, count: usize) -> Result<Vec<LineEdit>, Fault>
     ensures reads { Reads (λ v. map line_edit_view v.items) result
         (each_at (line_edit count) (codes "edits") (held members.old)) }
     ensures usable { IfOk result (λ v. All (IsUsable count) v.items) }
@@ -185,11 +170,7 @@ fn edits_in(
     edits_of(alloc, items, count).in_member(alloc, "edits")
 }
 
-fn shows_in(
-    alloc: Global,
-    members: &mut Map<String, Value>,
-    count: usize,
-) -> Result<Vec<LineShow>, Fault>
+fn shows_in(alloc: Global, members: &mut Members, count: usize) -> Result<Vec<LineShow>, Fault>
     ensures reads { Reads (λ v. v.items) result
         (each_at (line_show count) (codes "shows") (held members.old)) }
     ensures known { IfOk result (λ v. All (ShowNamesCrate count) v.items) }
@@ -199,7 +180,7 @@ fn shows_in(
 }
 
 #[tactic(auto, using(hir_input_json::proofs::Held::field_without))]
-fn asked_in(alloc: Global, members: &mut Map<String, Value>, count: usize) -> Result<Asked, Fault>
+fn asked_in(alloc: Global, members: &mut Members, count: usize) -> Result<Asked, Fault>
     ensures reads { Reads asked_view result (spec.line_asked count (held members.old)) }
     ensures own { IfOk result (IsOwn count) }
 {
@@ -211,7 +192,7 @@ fn asked_in(alloc: Global, members: &mut Map<String, Value>, count: usize) -> Re
 // ---- lines
 
 /// The line that opens a session.
-pub(crate) fn first_line(alloc: Global, mut members: Map<String, Value>) -> Result<First, Fault>
+pub(crate) fn first_line(alloc: Global, mut members: Members) -> Result<First, Fault>
     ensures reads { Reads first_view result (spec.first_line (held members)) }
     ensures own { IfOk result (λ first. IsOwn (length first.settings.crates.items) first.asked) }
 {
@@ -222,11 +203,7 @@ pub(crate) fn first_line(alloc: Global, mut members: Map<String, Value>) -> Resu
 }
 
 /// A line of a session with this many crates.
-pub(crate) fn later_line(
-    alloc: Global,
-    mut members: Map<String, Value>,
-    count: usize,
-) -> Result<Asked, Fault>
+pub(crate) fn later_line(alloc: Global, mut members: Members, count: usize) -> Result<Asked, Fault>
     ensures reads { Reads asked_view result (spec.later_line count (held members)) }
     ensures own { IfOk result (IsOwn count) }
 {

@@ -8,7 +8,7 @@ ghost use Rattle.source_session.specs.Sought.{asked_path_in};
 ghost use Rattle.source_session.specs.Shows as spec;
 ghost use Rattle.source_session.specs.Shows.{ShowNamesCrate, IsCrateOf};
 
-use crate::keys::{LineObject, only_known};
+use crate::keys::{LineObject, Members, only_known};
 use crate::sought::{SoughtItem, sought_of};
 use hir_input::{Crate, HirFileId};
 use hir_input_json::float::has_float;
@@ -16,7 +16,7 @@ use hir_input_json::member::{field, id_at, members_of, word_at};
 use hir_input_json::{Fault, ReadIn};
 use item_tree_db::Place;
 use item_tree_request::request::show::{Show, ShowKind, TreeShow, show_in};
-use serde_json::{Map, Value};
+use serde_json::Value;
 use std::alloc::Global;
 
 /// A show of a line.
@@ -39,7 +39,7 @@ pub enum LineShow {
 }
 
 // One of this many crates.
-fn crate_at(alloc: Global, members: &Map<String, Value>, count: usize) -> Result<Crate, Fault>
+fn crate_at(alloc: Global, members: &Members, count: usize) -> Result<Crate, Fault>
     ensures reads { Reads (λ krate. krate) result (spec.crate_in count (held members.now)) }
     ensures known { IfOk result (IsCrateOf count) }
 {
@@ -50,14 +50,14 @@ fn crate_at(alloc: Global, members: &Map<String, Value>, count: usize) -> Result
     Ok(Crate(krate))
 }
 
-fn file_at(alloc: Global, members: &Map<String, Value>) -> Result<HirFileId, Fault>
+fn file_at(alloc: Global, members: &Members) -> Result<HirFileId, Fault>
     ensures { Reads (λ file. file) result (spec.file_named (held members.now)) }
 {
     Ok(HirFileId(id_at(alloc, members, "file")?))
 }
 
 // The path that is looked for.
-fn sought_at(alloc: Global, members: &Map<String, Value>) -> Result<SoughtItem, Fault>
+fn sought_at(alloc: Global, members: &Members) -> Result<SoughtItem, Fault>
     ensures { Reads (λ sought. sought) result (asked_path_in (held members.now)) }
 {
     match field(members, "name") {
@@ -83,7 +83,7 @@ fn values_of(alloc: Global, value: &Value) -> Result<bool, Fault>
 }
 
 // Whether a show is to be answered by values.
-fn as_values(alloc: Global, members: &Map<String, Value>) -> Result<bool, Fault>
+fn as_values(alloc: Global, members: &Members) -> Result<bool, Fault>
     ensures { Reads (λ by_values. by_values) result (spec.as_values (held members.now)) }
 {
     match field(members, "as") {
@@ -118,11 +118,7 @@ fn answered_by(by_values: bool, show: Show) -> LineShow
     }
 }
 
-fn request_show(
-    alloc: Global,
-    members: &Map<String, Value>,
-    count: usize,
-) -> Result<LineShow, Fault>
+fn request_show(alloc: Global, members: &Members, count: usize) -> Result<LineShow, Fault>
     ensures reads { Reads (λ show. show) result (spec.request_show count (held members.now)) }
     ensures known { IfOk result (ShowNamesCrate count) }
 {
@@ -134,11 +130,7 @@ fn request_show(
 // ---- shows
 
 // A show after edits of a table of this many crates, of these members.
-fn members_show(
-    alloc: Global,
-    members: &Map<String, Value>,
-    count: usize,
-) -> Result<LineShow, Fault>
+fn members_show(alloc: Global, members: &Members, count: usize) -> Result<LineShow, Fault>
     ensures reads { Reads (λ show. show) result (spec.show_form count (held members.now)) }
     ensures known { IfOk result (ShowNamesCrate count) }
 {

@@ -2,11 +2,9 @@
 ghost use Rattle.std.specs.Prelude.{◌≡◌, ◌&&◌, nat_eq, option_map};
 ghost use Rattle.std.specs.List.{ends_with};
 ghost use Rattle.serde_json.specs.View.{view};
-ghost use Rattle.hir_input_json.specs.Reading.{here};
-ghost use Rattle.hir_input_json.specs.Reads.{Reads};
+ghost use Rattle.hir_input_json.specs.{Reading.here, Reads.Reads};
 ghost use Rattle.rust_paths.specs.Names.{behind_hash};
-ghost use Rattle.source_listing.specs.Sought.{sought};
-ghost use Rattle.source_listing.specs.Views.{sought_view};
+ghost use Rattle.source_listing.specs.{Sought.sought, Views.sought_view};
 ghost use Rattle.source_session.specs.Sought as spec;
 
 use crate::parts::{part_at, parts};

@@ -6,4 +6,4 @@ use Rattle.source_session.proofs.files.all_files_of.Given as goal
 
 abbrev pub invariant-loop-item : goal.invariant-loop-item
 invariant-loop-item l =
-    each crate_files (items_view l.items) ≡ joined l.files.items (each_from (length l.files.items) crate_files (items_view (drop l.item-index l.items)))
+    each crate_files (items_view l.items) ≡ joined l.done.items (each_from (length l.done.items) crate_files (items_view (drop l.item-index l.items)))

@@ -6,4 +6,4 @@ use Rattle.source_session.proofs.files.numbers_of.Given as goal
 
 abbrev pub invariant-loop-item : goal.invariant-loop-item
 invariant-loop-item l =
-    (each (whole_form (2 ^ 32)) (items_view l.items) ≡ joined l.numbers.items (each_from (length l.numbers.items) (whole_form (2 ^ 32)) (items_view (drop l.item-index l.items))))
+    (each (whole_form (2 ^ 32)) (items_view l.items) ≡ joined l.done.items (each_from (length l.done.items) (whole_form (2 ^ 32)) (items_view (drop l.item-index l.items))))

@@ -6,5 +6,5 @@ use Rattle.source_session.proofs.line.edits_of.Given as goal
 
 abbrev pub invariant-loop-item : goal.invariant-loop-item
 invariant-loop-item l =
-    (each (line_edit l.count) (items_view l.fn.items.items) ≡ joined (map line_edit_view l.edits.items) (each_from (length l.edits.items) (line_edit l.count) (items_view l.item-iterator.rest.items)))
-    × All (IsUsable l.count) l.edits.items
+    (each (line_edit l.count) (items_view l.fn.items.items) ≡ joined (map line_edit_view l.done.items) (each_from (length l.done.items) (line_edit l.count) (items_view l.item-iterator.rest.items)))
+    × All (IsUsable l.count) l.done.items

@@ -6,5 +6,5 @@ use Rattle.source_session.proofs.line.shows_of.Given as goal
 
 abbrev pub invariant-loop-item : goal.invariant-loop-item
 invariant-loop-item l =
-    (each (line_show l.count) (items_view l.fn.items.items) ≡ joined l.shows.items (each_from (length l.shows.items) (line_show l.count) (items_view l.item-iterator.rest.items)))
-    × All (ShowNamesCrate l.count) l.shows.items
+    (each (line_show l.count) (items_view l.fn.items.items) ≡ joined l.done.items (each_from (length l.done.items) (line_show l.count) (items_view l.item-iterator.rest.items)))
+    × All (ShowNamesCrate l.count) l.done.items
