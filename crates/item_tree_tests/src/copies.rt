@@ -23,7 +23,7 @@ pub fn is_copied<T: Clone + PartialEq + Drop>(source: &T) -> bool {
 }
 
 // The same of what is there, or it was not made for out of memory.
-fn copies<T: Clone + PartialEq + Drop>(source: Result<Option<T>, AllocError>) -> bool {
+pub fn copies<T: Clone + PartialEq + Drop>(source: Result<Option<T>, AllocError>) -> bool {
     match source {
         Ok(Some(source)) => is_copied(&source),
         Ok(None) => false,

@@ -13,6 +13,19 @@
 //! `where_no_memory_is_left` with all refused from a mark on.
 #![tactic(auto)]
 
+/// The first text of a table of which something else holds than what stands beside it.
+#[cfg(test)]
+macro_rules! first_other {
+    ($alloc:expr, $rows:expr, $holds:expr) => {{
+        for &(text, wanted) in $rows {
+            if !$holds($alloc, text, wanted)? {
+                return Ok(Some(text));
+            }
+        }
+        Ok(None)
+    }};
+}
+
 #[cfg(test)]
 mod conversations;
 #[cfg(test)]

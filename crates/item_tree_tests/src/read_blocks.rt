@@ -98,12 +98,7 @@ fn has_shape(alloc: Global, text: &str, shape: &str) -> Result<bool, AllocError>
 
 // The first text whose block has other parts.
 fn first_other(alloc: Global) -> Result<Option<&'static str>, AllocError> {
-    for &(text, shape) in SHAPES {
-        if !has_shape(alloc, text, shape)? {
-            return Ok(Some(text));
-        }
-    }
-    Ok(None)
+    first_other!(alloc, SHAPES, has_shape)
 }
 
 #[test]

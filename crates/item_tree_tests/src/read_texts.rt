@@ -79,12 +79,7 @@ fn has_bodies(alloc: Global, text: &str, wanted: &str) -> Result<bool, AllocErro
 
 // The first text whose items have other braces.
 fn first_other(alloc: Global) -> Result<Option<&'static str>, AllocError> {
-    for &(text, wanted) in BRACES {
-        if !has_bodies(alloc, text, wanted)? {
-            return Ok(Some(text));
-        }
-    }
-    Ok(None)
+    first_other!(alloc, BRACES, has_bodies)
 }
 
 #[test]

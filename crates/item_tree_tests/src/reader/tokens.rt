@@ -146,12 +146,7 @@ fn is_cut(alloc: Global, text: &str, wanted: &str) -> Result<bool, AllocError> {
 
 // The first text that is cut into others.
 fn first_other(alloc: Global) -> Result<Option<&'static str>, AllocError> {
-    for &(text, wanted) in CUTS {
-        if !is_cut(alloc, text, wanted)? {
-            return Ok(Some(text));
-        }
-    }
-    Ok(None)
+    first_other!(alloc, CUTS, is_cut)
 }
 
 #[test]

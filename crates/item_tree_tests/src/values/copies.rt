@@ -1,36 +1,14 @@
 //! A copy is equal to its source, or refused, and of two requests never both are refused.
+use crate::copies::{copies as copies_some, is_copied};
 use crate::samples::attributes::{flag, literal, nested, options, tokens};
 use crate::samples::words::{name, path};
 use hir_input::{Attr, AttrInput, CfgAtom, Edition, EditionYear, PathKind, SyntaxContext};
 use std::alloc::{AllocError, Global};
 
-// Whether a copy is made, of two requests at least once, and equal to its source.
-fn is_copied<T: Clone + PartialEq + Drop>(source: &T) -> bool {
-    let mut is_made = false;
-    for _ in 0..2 {
-        if let Ok(copy) = source.clone() {
-            if copy != *source {
-                return false;
-            }
-            is_made = true;
-        }
-    }
-    is_made
-}
-
-// The same, or the source was not made for out of memory.
+// Whether a source is copied, or it was not made for out of memory.
 fn copies<T: Clone + PartialEq + Drop>(source: Result<T, AllocError>) -> bool {
     match source {
         Ok(source) => is_copied(&source),
-        Err(AllocError) => true,
-    }
-}
-
-// The same of what is there.
-fn copies_some<T: Clone + PartialEq + Drop>(source: Result<Option<T>, AllocError>) -> bool {
-    match source {
-        Ok(Some(source)) => is_copied(&source),
-        Ok(None) => false,
         Err(AllocError) => true,
     }
 }
