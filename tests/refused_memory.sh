@@ -5,8 +5,8 @@
 #   refused_memory.sh PROGRAM OUTLINES ITEMTREE [TESTS ..]
 #
 # The program on each request of tests/requests that it answers, and OUTLINES on each of tests/outlines, has to end with status 5,
-# the line `out of memory` and nothing written, or to do without and write all that it writes else. ITEMTREE with each of its commands on a small file has to end with status 2, a line
-# that ends so, and nothing written but the head of a tags file. ITEMTREE's serve on tests/itemtree/session.jsonl may end so before it
+# the line `out of memory` and nothing written, or to do without and write all that it writes else. ITEMTREE with each of its commands on a
+# small file has to end with status 2, a line that ends so, and nothing written but the head of a tags file, or to do without as well. ITEMTREE's serve on tests/itemtree/session.jsonl may end so before it
 # reads a line; otherwise it has to answer each line with one, one of them at most with an error of want of memory, and to go on.
 # Each test of the binaries TESTS whose name holds `when_memory_is_refused` has to pass in every run. Each whose name holds
 # `where_no_memory_is_left` has to pass where all requests between its marks are refused, and to make only the one there by
@@ -71,10 +71,11 @@ try_command() {
     local request command
     read -ra command <<< "$2"
     command=("${command[@]/#FILE/"$here/itemtree/shapes.rs"}")
+    "$1" "${command[@]}" "$here/itemtree/shapes.rs" > "$own/whole" 2> "$own/err"
     for ((request = 1; ; request++)); do
         refuse "$request" "$1" "${command[@]}" "$here/itemtree/shapes.rs"
         [ "$made" -ge "$request" ] || break
-        [ "$status" = 2 ] && ! grep -qv '^!_TAG' "$own/out" && grep -q 'out of memory$' "$own/err"
+        if [ "$status" = 2 ]; then ! grep -qv '^!_TAG' "$own/out" && grep -q 'out of memory$' "$own/err"; else [ "$status" = 0 ] && cmp -s "$own/out" "$own/whole"; fi
         judge $? "itemtree $2: status $status with request $request for memory refused"
     done
     [ "$status" = 0 ]
