@@ -17,5 +17,7 @@ pub mod Whole
 pub mod Each
 pub mod Braces
 pub mod Depths
-pub mod Plain
+pub mod Gaps
+pub mod Lanes
+pub mod Blocks
 pub mod Common

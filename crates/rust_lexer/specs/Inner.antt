@@ -1,7 +1,9 @@
 -- For the crate's own functions.
-use Rattle.std.specs.Prelude.{ℕ, zero, suc, Bool, not, ◌&&◌, ◌||◌, ◌==◌, nat_le, nat_lt, slice_index, if◌then◌else◌, List, [], ◌∷◌, drop, Option, Some, None}
+use Rattle.std.specs.Prelude.{◌≡◌, ◌≤◌, ◌<◌, ℕ, suc, ◌+◌, ◌-◌, Bool, not, ◌&&◌, ◌||◌, ◌==◌, nat_le, nat_lt, length, slice_index, if◌then◌else◌, List, [], ◌∷◌, drop, Option, Some, None}
+use Rattle.std.specs.Int.{bit_at}
 use Rattle.rust_lexer.specs.declared.cut.Cut.{Cut}
-use Rattle.std.specs.Char.{is_ascii_alphabetic, is_ascii_alphanumeric, is_ascii_digit}
+use Rattle.rust_lexer.specs.declared.stops.Block.{Block}
+use Rattle.std.specs.Char.{is_ascii_alphanumeric}
 use Rattle.rust_lexer.specs.Bytes.{code, is_char, is_continuation}
 use Rattle.rust_lexer.specs.Cut.{is_punctuation}
 use Rattle.rust_lexer.specs.Piece.{Piece}
@@ -45,30 +47,31 @@ is_lone_mark b = is_punctuation b && not (b == 47)
 abbrev pub is_mark_byte : ℕ → Bool
 is_mark_byte b = is_open_byte b || is_close_byte b || is_lone_mark b
 
--- ---- bytes that are whole tokens side by side
+-- ---- bytes at which tokens end
 
--- a letter of ASCII or `_`
-abbrev pub is_name_letter : ℕ → Bool
-is_name_letter b = is_ascii_alphabetic b || b == 95
+abbrev pub is_quote_byte : ℕ → Bool
+is_quote_byte b = b == 34 || b == 39
 
--- a letter, white space, or a mark that begins no comment and is no `#`
-abbrev pub is_plain_byte : ℕ → Bool
-is_plain_byte b = is_name_letter b || is_blank_byte b || (is_lone_mark b && not (b == 35))
+-- a bracket, a quote or a `/`: a token that holds one begins with it, or with the prefix of a literal before it
+abbrev pub is_stop_byte : ℕ → Bool
+is_stop_byte b = is_open_byte b || is_close_byte b || is_quote_byte b || b == 47
 
--- how many bytes at the front are plain
-abbrev pub plain_run : List ℕ → ℕ
-plain_run [] = 0
-plain_run (b ∷ z) = if is_plain_byte b then suc (plain_run z) else 0
+-- how many bytes at the front are no stops
+abbrev pub gap : List ℕ → ℕ
+gap [] = 0
+gap (b ∷ z) = if is_stop_byte b then 0 else suc (gap z)
 
--- can make one token with a letter before it
-abbrev pub joins : ℕ → Bool
-joins b = b == 34 || b == 35 || b == 39 || is_ascii_digit b
+-- can stand in the prefix of a literal, before its quote
+abbrev pub is_prefix_byte : ℕ → Bool
+is_prefix_byte b = b == 35 || b == 98 || b == 99 || b == 114
 
--- a letter stands before a place; at the front, as this says
-abbrev pub is_letter_before : Bool → List ℕ → ℕ → Bool
-is_letter_before front z zero = front
-is_letter_before front z (suc n) = is_name_letter (slice_index z n)
+-- where a token begins at the first of two places, and no stop is between them, one ends at the second
+abbrev pub is_clean : List ℕ → ℕ → ℕ → Bool
+is_clean z from stop = not (nat_lt from stop && (is_prefix_byte (slice_index z (stop - 1)) && is_quote_byte (slice_index z stop)))
 
--- plain bytes end with a token before this byte, where a letter is the last of them or not
-abbrev pub is_clean : Bool → ℕ → Bool
-is_clean after_letter b = nat_lt b 128 && not (after_letter && joins b)
+-- the bits of a block tell the stops of a text, and it begins no later than this place
+pub record IsBlock (z : List ℕ) (from : ℕ) (b : Block) : Type 0 where
+  pub begun : b.at ≤ from
+  pub within : b.end ≤ length z
+  pub full : b.at < b.end → b.end ≡ b.at + 64
+  pub told : (k : ℕ) → b.at + k < b.end → (bit_at b.bits k == 1) ≡ is_stop_byte (slice_index z (b.at + k))

@@ -54,17 +54,6 @@ static CLASSES: [u8; 256] = *b"\
     @@@@@@@@@@@@@@@@@@@@@@@@@@@@@@@@\
     @@@@@@@@@@@@@@@@@@@@@@@@@@@@@@@@";
 
-// For each byte `1` where it is plain.
-static PLAIN: [u8; 256] = *b"\
-    00000000011111000000000000000000\
-    11001110001111100000000000111111\
-    11111111111111111111111111100011\
-    01111111111111111111111111101010\
-    00000000000000000000000000000000\
-    00000000000000000000000000000000\
-    00000000000000000000000000000000\
-    00000000000000000000000000000000";
-
 /// Whether a byte goes on with an identifier, whatever stands behind it.
 #[inline(always)]
 fn is_word_byte(b: u8) -> bool
@@ -111,88 +100,6 @@ pub(crate) fn is_close(b: u8) -> bool
     ensures { result ≡ inner.is_close_byte b }
 {
     CLASSES[b as usize] & CLOSE != 0
-}
-
-/// Whether a byte is a letter of ASCII, `_`, white space of ASCII, or a mark that begins no comment and is no `#`.
-#[inline(always)]
-fn is_plain(b: u8) -> bool
-    ensures { result ≡ inner.is_plain_byte b }
-{
-    PLAIN[b as usize] & 1 != 0
-}
-
-/// How many bytes at the front are plain.
-#[inline(always)]
-pub(crate) fn plain_run(mut z: &[u8]) -> usize
-    ensures value { result ≡ inner.plain_run z.entry.now }
-    ensures within { result ≤ length z.entry.now }
-{
-    let mut count = 0;
-    while let [a, b, c, d, rest @ ..] = z {
-        if !is_plain(*a) {
-            return count;
-        }
-        if !is_plain(*b) {
-            return count + 1;
-        }
-        if !is_plain(*c) {
-            return count + 2;
-        }
-        if !is_plain(*d) {
-            return count + 3;
-        }
-        count += 4;
-        z = rest;
-    }
-    count + plain_run_bytewise(z)
-}
-
-/// The same, one by one, for the few bytes at the end of a text.
-#[inline(never)]
-fn plain_run_bytewise(mut z: &[u8]) -> usize
-    ensures value { result ≡ inner.plain_run z.entry.now }
-    ensures within { result ≤ length z.entry.now }
-{
-    let mut count = 0;
-    while let [b, rest @ ..] = z {
-        if !is_plain(*b) {
-            return count;
-        }
-        count += 1;
-        z = rest;
-    }
-    count
-}
-
-/// Whether the last of so many plain bytes ends a token, whatever stands behind the next byte.
-#[inline(always)]
-pub(crate) fn is_clean(z: &[u8], count: usize) -> bool
-    requires { count ≤ length z.now }
-    ensures { result ≡ inner.is_clean (inner.is_letter_before false z.now count)
-        (slice_index z.now count) }
-{
-    let next = byte(z, count);
-    if 128 <= next {
-        return false;
-    }
-    if !joins(next) || count == 0 {
-        return true;
-    }
-    !is_name_letter(z[count - 1])
-}
-
-/// Whether a byte is a letter of ASCII or `_`.
-fn is_name_letter(b: u8) -> bool
-    ensures { result ≡ inner.is_name_letter b }
-{
-    b.is_ascii_alphabetic() || b == b'_'
-}
-
-/// Whether a byte of ASCII can make one token with a letter before it.
-fn joins(b: u8) -> bool
-    ensures { result ≡ inner.joins b }
-{
-    matches!(b, b'"' | b'#' | b'\'') || b.is_ascii_digit()
 }
 
 /// Whether a byte before these is white space past ASCII.

@@ -2,11 +2,13 @@
 
 ghost use Rattle.std.specs.Prelude.{ℕ, ◌≡◌, ◌==◌, ◌&&◌, ◌≤◌, ◌<◌, ◌+◌, ◌^◌, IfSome, IsTrue, Some, drop, length, IsUtf8};
 ghost use Rattle.rust_lexer.specs.Depths as spec;
+ghost use Rattle.rust_lexer.specs.Inner.{IsBlock};
 ghost use Rattle.rust_lexer.specs.Tokens.{tokens_from};
 ghost use Rattle.rust_lexer.specs.declared.depth.Depth.{Depth};
 
-use crate::bytes::{is_clean, is_close, is_open, plain_run};
+use crate::bytes::{is_close, is_open};
 use crate::cut::token_len;
+use crate::stops::{Block, is_clean, stop_from};
 
 /// In how many brackets something stands that is in braces.
 #[derive(Clone, Copy, Debug)]
@@ -57,26 +59,27 @@ fn is_last(depth: Depth, symbol: u8) -> bool
     depth.braces == 1 && symbol == b'}'
 }
 
-/// The place behind plain bytes from a token's beginning on, which are tokens that count for nothing; or the same place. Where the last
-/// of them is not whole, its end is put down, and up to there tokens are cut.
+/// The next stop from a token's beginning on, where a token ends before it: those between them count for nothing. Else the same place;
+/// the stop is put down, and up to there tokens are cut.
 #[inline(always)]
-fn past_plain(bytes: &[u8], count: usize, until: &mut usize) -> usize
-    requires { count ≤ length bytes.now }
+fn past_gap(bytes: &[u8], count: usize, until: &mut usize, block: &mut Block) -> usize
+    requires within { count ≤ length bytes.now }
+    requires block { IsBlock bytes.now until.old block.old }
     ensures same { (d : Depth) (at : ℕ) →
         spec.to_outer d (tokens_from 0 (at + result) (drop result bytes.now))
         ≡ spec.to_outer d (tokens_from 0 (at + count) (drop count bytes.now)) }
     ensures onwards { count ≤ result }
     ensures within { result ≤ length bytes.now }
+    ensures block { IsBlock bytes.now until.new block.new }
 {
     if count < *until {
         return count;
     }
-    let rest = &bytes[count..];
-    let len = plain_run(rest);
-    if is_clean(rest, len) {
-        return count + len;
+    let stop = stop_from(bytes, count, block);
+    *until = stop;
+    if is_clean(bytes, count, stop) {
+        return stop;
     }
-    *until = count + len;
     count
 }
 
@@ -93,6 +96,7 @@ pub(crate) fn to_outer(at: usize, text: &str, depth: Depth) -> Option<(Depth, us
     let mut depth = depth;
     let mut count = 0;
     let mut until = 0;
+    let mut block = Block::empty();
     'tokens: while count < bytes.len() {
         let first = bytes[count];
         if is_last(depth, first) {
@@ -102,7 +106,7 @@ pub(crate) fn to_outer(at: usize, text: &str, depth: Depth) -> Option<(Depth, us
             return None;
         }
         count += 1 + token_len(first, &bytes[count + 1..]);
-        count = past_plain(bytes, count, &mut until);
+        count = past_gap(bytes, count, &mut until, &mut block);
     }
     None
 }

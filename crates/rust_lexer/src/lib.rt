@@ -11,6 +11,7 @@ mod kind;
 mod lexer;
 mod number;
 mod quoted;
+mod stops;
 mod token;
 
 pub use depth::Depth;

@@ -1,8 +1,7 @@
 use Rattle.std.proofs.Common.{refl, arith}
 use Rattle.rust_lexer.proofs.Common.{CLASSES, is_letter}
-use Rattle.rust_lexer.proofs.Table.{agree_below, from_table}
+use Rattle.rust_lexer.proofs.Table.{from_table}
 use Rattle.rust_lexer.proofs.bytes.is_letter.Goals as goal
 
 pub returns : goal.returns
-unfolding agree_below
 returns c = from_table CLASSES 4 is_letter c.args.b (omega arith) refl
