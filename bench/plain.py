@@ -3,7 +3,7 @@
 a change by callgrind before it is proved. The instructions are those of the proved reader, but for some 3 %.
 
     plain.py FOLDER    writes FOLDER/main.rs and its modules. The program reads standard input so many times:
-                       plain lex TIMES, or plain read all|undocumented|conditions TIMES
+                       plain lex TIMES, or plain read|members all|undocumented|conditions TIMES
 """
 
 import pathlib
@@ -12,7 +12,7 @@ import sys
 
 HERE = pathlib.Path(__file__).resolve().parent
 CRATES = HERE.parent / 'crates'
-NAMES = 'hir_input rust_lexer rust_cursor rust_paths rust_metas rust_leaves rust_ids rust_items'.split()
+NAMES = 'hir_input rust_lexer rust_cursor rust_paths rust_metas rust_leaves rust_ids rust_items rust_members'.split()
 
 MAIN = '''
 mod memchr {
@@ -22,6 +22,23 @@ mod memchr {
 mod unicode_ident {
     pub fn is_xid_start(c: char) -> bool { c.is_alphabetic() }
     pub fn is_xid_continue(c: char) -> bool { c.is_alphanumeric() || c == '_' }
+}
+
+const EDITION: hir_input::EditionYear = hir_input::EditionYear::E2021;
+
+fn read(text: &str, bodies: bool, metas: rust_metas::WantedMetas) -> plain_std::Vec<rust_items::ItemPlace> {
+    let wanted = rust_items::Wanted { bodies, metas };
+    rust_items::read_wanted(plain_std::Global, text, wanted, EDITION).unwrap().places
+}
+
+fn members(text: &str, place: &rust_items::ItemPlace, metas: rust_metas::WantedMetas) -> usize {
+    use hir_input::AstIdKind::*;
+    match (place.id.kind, place.body) {
+        (Impl | Trait | Enum | Struct | Union, Some(body)) => {
+            rust_members::read_members(plain_std::Global, place.id.kind, text, body, EDITION, metas).unwrap().len()
+        }
+        _ => 0,
+    }
 }
 
 fn main() {
@@ -38,10 +55,8 @@ fn main() {
         let text = std::hint::black_box(text.as_str());
         count = match words[1].as_str() {
             "lex" => rust_lexer::Lexer::new(text).count(),
-            _ => {
-                let wanted = rust_items::Wanted { bodies: words[2] == "all", metas };
-                rust_items::read_wanted(plain_std::Global, text, wanted, hir_input::EditionYear::E2021).unwrap().places.len()
-            }
+            "read" => read(text, words[2] == "all", metas).len(),
+            _ => read(text, false, metas).iter().map(|place| members(text, place, metas)).sum(),
         };
     }
     println!("{count}");
@@ -76,7 +91,7 @@ def derives(found):
 def plain(text, crate):
     for pattern in (r'^ *(ensures|requires)\b[^{\n]*\{', r'^ *ghost \w+( =|:) \{', r'^impl[^{\n]* (Model|Drop) for [^{]*\{'):
         text = without(text, pattern)
-    text = re.sub(r'^ *ghost [^;]*;\n|^ *#!?\[(tactic|cycle|error)\b[^\n]*\n|^use (std::marker|thiserror|std::collections)\b[^\n]*\n', '', text, flags=re.M)
+    text = re.sub(r'^ *ghost [^;]*;\n|^ *#!?\[(tactic|cycle|error)\b[^\n]*\n|^use (std::marker|std::simd|thiserror|std::collections)\b[^\n]*\n', '', text, flags=re.M)
     text = re.sub(r'^impl Clone for', 'impl TryClone for', text, flags=re.M)
     text = re.sub(r"<('\w+, )?W: fmt::Write>", lambda found: f'<{found[1][:-2]}>' if found[1] else '', text)
     text = re.sub(r'\b(\w+): Drop\b', r'\1', text)

@@ -1,6 +1,7 @@
 //! What of std the reader calls: with an allocator as an argument, and results where memory may run out.
+use std::arch::x86_64::*;
 use std::fmt;
-use std::ops::{Deref, DerefMut};
+use std::ops::{BitOr, Deref, DerefMut};
 
 #[derive(Clone, Copy, Debug, PartialEq, Eq)]
 pub struct AllocError;
@@ -107,4 +108,31 @@ impl<K: Eq + std::hash::Hash, V> HashMap<K, V> {
     pub fn new(_: Global) -> Self { HashMap(std::collections::HashMap::new()) }
     pub fn insert(&mut self, key: K, value: V) -> Result<Option<V>, AllocError> { Ok(self.0.insert(key, value)) }
     pub fn get(&self, key: &K) -> Option<&V> { self.0.get(key) }
+}
+
+/// 64 bytes, as four vectors of SSE2.
+#[derive(Clone, Copy)]
+pub struct u8x64([__m128i; 4]);
+
+impl u8x64 {
+    pub fn splat(byte: u8) -> Self { u8x64([unsafe { _mm_set1_epi8(byte as i8) }; 4]) }
+
+    #[inline(always)]
+    pub fn from_slice(bytes: &[u8]) -> Self {
+        let bytes = &bytes[..64];
+        u8x64(std::array::from_fn(|k| unsafe { _mm_loadu_si128(bytes[16 * k..].as_ptr().cast()) }))
+    }
+
+    #[inline(always)]
+    pub fn simd_eq(self, other: Self) -> Self { u8x64(std::array::from_fn(|k| unsafe { _mm_cmpeq_epi8(self.0[k], other.0[k]) })) }
+
+    #[inline(always)]
+    pub fn to_bitmask(self) -> u64 { (0..4).map(|k| (unsafe { _mm_movemask_epi8(self.0[k]) } as u64) << (16 * k)).sum() }
+}
+
+impl BitOr for u8x64 {
+    type Output = Self;
+
+    #[inline(always)]
+    fn bitor(self, other: Self) -> Self { u8x64(std::array::from_fn(|k| unsafe { _mm_or_si128(self.0[k], other.0[k]) })) }
 }
