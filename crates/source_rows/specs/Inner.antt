@@ -1,9 +1,11 @@
--- For the crate's own functions: rows with their labels as keys.
-use Rattle.std.specs.Prelude.{ℕ, List, [], ◌∷◌, Option, Some, None}
+-- For the crate's own functions: rows with their labels as keys, and what of a text is passed over.
+use Rattle.std.specs.Prelude.{◌≤◌, ◌<◌, ℕ, ◌+◌, Bool, false, nat_le, length, List, [], ◌∷◌, Option, Some, None}
 use Rattle.std.specs.Borrow.{Bor}
 use Rattle.item_changes.specs.declared.matching.Keyed.{Keyed}
 use Rattle.item_changes.specs.declared.matching.Match.{Match}
 use Rattle.item_changes.specs.Matches.{match_map}
+use Rattle.rust_lexer.specs.Piece.{Piece}
+use Rattle.source_rows.specs.declared.kept.Hole.{Hole}
 use Rattle.source_rows.specs.declared.compare.Row as code_row
 use Rattle.source_rows.specs.declared.compare.Change as code_change
 use Rattle.source_rows.specs.Changes.{TextRow, RowChange}
@@ -21,3 +23,13 @@ row_match m = match_map (λ k. text_row_view k.now.item.now) m
 abbrev pub found_row_change : Option code_change.Change → List RowChange
 found_row_change None = []
 found_row_change (Some c) = row_change_view c ∷ []
+
+-- each begins at a place or behind it, and none is empty
+abbrev pub IsAfter : ℕ → List Piece → Type 0
+IsAfter place [] = Unit {0}
+IsAfter place (t ∷ ts) = (place ≤ t.at) × ((0 < length t.text) × IsAfter (t.at + length t.text) ts)
+
+-- the first of some parts ends where the next token begins, or later
+abbrev pub ends_behind : List Piece → List Hole → Bool
+ends_behind (t ∷ ts) (h ∷ hs) = nat_le t.at h.end
+ends_behind _ _ = false

@@ -1,10 +1,11 @@
 //! The tokens of a text that count, without those that stand in some parts of it.
 
-ghost use Rattle.std.specs.Prelude.{◌≡◌, ◌↔◌, ◌++◌, IfOk, OnOk, IsTrue, map};
+ghost use Rattle.std.specs.Prelude.{◌≡◌, ◌↔◌, ◌++◌, ◌+◌, ◌≤◌, Bool, IfOk, OnOk, IsTrue, length, map};
 ghost use Rattle.source_rows.specs.Changes.{same_texts};
+ghost use Rattle.source_rows.specs.Inner as inner;
 ghost use Rattle.source_rows.specs.Skeletons as spec;
 
-use rust_lexer::{Lexer, Token, TokenKind};
+use rust_lexer::{Depth, Lexer, Token, TokenKind};
 use std::alloc::{AllocError, Global};
 
 /// A part of a text, in bytes.
@@ -73,6 +74,43 @@ fn push_kept<'t>(
     Ok(())
 }
 
+/// In the braces that a `{` opens.
+const INSIDE: Depth = Depth {
+    braces: 1,
+    inner: 0,
+    is_torn: false,
+};
+
+/// Whether the first of some parts ends behind all tokens before the next one, if there is one.
+fn ends_behind(lexer: &Lexer<'_>, holes: &[Hole]) -> bool
+    ensures { result ≡ inner.ends_behind lexer.now holes.now }
+{
+    match (lexer.copy().next(), holes) {
+        (Some(next), [hole, ..]) => next.at() <= hole.end,
+        _ => false,
+    }
+}
+
+/// Passes over what stands in braces behind a token, if the token opens them and all of that stands in the first of some parts.
+fn pass_hole(token: &Token<'_>, holes: &[Hole], lexer: &mut Lexer<'_>)
+    requires { inner.IsAfter (token.now.at + length token.now.text) lexer.old }
+    ensures same { (has_docs : Bool) → spec.kept has_docs holes.now lexer.new
+        ≡ spec.kept has_docs holes.now lexer.old }
+    ensures after { inner.IsAfter (token.now.at + length token.now.text) lexer.new }
+    ensures fewer { length lexer.new ≤ length lexer.old }
+{
+    if token.symbol() != b'{' || !is_begun(token.end(), holes) {
+        return;
+    }
+    let mut ahead = lexer.copy();
+    let Some(_around) = ahead.pass_braces(INSIDE) else {
+        return;
+    };
+    if ends_behind(&ahead, holes) {
+        *lexer = ahead;
+    }
+}
+
 /// The texts of the tokens of a text that count and stand in none of these parts.
 ///
 /// Documentation counts where that is asked. The parts come in order: one that begins before an earlier one ends is looked
@@ -92,6 +130,7 @@ pub fn skeleton<'t>(
     'tokens: while let Some(token) = lexer.next() {
         left = not_over(token.at(), left);
         push_kept(&token, left, has_docs, &mut texts)?;
+        pass_hole(&token, left, &mut lexer);
     }
     Ok(texts)
 }

@@ -7,7 +7,7 @@ ghost use Rattle.source_rows.specs.Views.{part_view};
 
 use crate::compare::Row;
 use crate::items::Part;
-use crate::kept::{Hole, skeleton};
+use crate::kept::Hole;
 use crate::labels::text_at;
 use rust_members::TextRange;
 use std::alloc::{AllocError, Global};
@@ -116,17 +116,16 @@ fn row<'t>(
         ≡ spec.part_row has_docs text.now (part_view part.now) (map part_view behind.now)) }
 {
     let holes = holes(alloc, part, behind)?;
-    let holes = moved_back(alloc, part.range.start, &holes)?;
-    let own = skeleton(alloc, text_at(text, part.range), &holes, has_docs)?;
-    let label = String::from_str(alloc, &part.label)?;
     Ok(Row {
-        label,
+        label: String::from_str(alloc, &part.label)?,
         at: part.at,
-        own,
+        text: text_at(text, part.range),
+        holes: moved_back(alloc, part.range.start, &holes)?,
+        has_docs,
     })
 }
 
-/// Each part of a text, which come in preorder, with its own tokens. Documentation counts where that is asked.
+/// Each part of a text, which come in preorder, with what tells its own tokens. Documentation counts where that is asked.
 pub fn rows<'t>(
     alloc: Global,
     text: &'t str,
