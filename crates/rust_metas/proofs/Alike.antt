@@ -1,6 +1,6 @@
 -- Conditions of tokens that look alike are the same, until one goes past where the texts part.
 use Rattle.std.proofs.Common.{◌≡◌, ◌==◌, ℕ, zero, suc, true, false, Option, Some, None, List, refl, ap, if◌then◌else◌}
-use Rattle.rust_metas.proofs.Common.{CfgView, invalid, behind_closed, Reader, Tokens, symbol, bumped, through, Forwards, behind_closed_leads, gone, kept, Parting, Until, UpTo, by_next, cond_until, map_until, pass_until, bind_until, elements_until, Entering, is_edge, symbol_same, kind_same, text_same, open_same, end_same, symbol_test, after_symbol, name_until, is_option_word, option_name, composed, pair, named_condition, if_named, ended_condition, condition_with, conditions, condition, is_literal_kind, is_ended}
+use Rattle.rust_metas.proofs.Common.{CfgView, invalid, behind_closed, Reader, Tokens, symbol, bumped, through, Forwards, behind_closed_leads, gone, kept, Parting, Until, UpTo, by_next, cond_until, map_until, pass_until, bind_until, elements_until, Entering, is_edge, symbol_same, kind_same, text_same, open_same, end_same, symbol_test, after_symbol, name_until, is_option_word, option_name, composed, pair, named_condition, if_named, in_brackets, ended_condition, condition_with, conditions, condition, is_literal_kind, is_ended}
 use Rattle.rust_cursor.specs.Reader.{◌>>=◌}
 use Rattle.rust_paths.specs.Names.{as_name}
 use Rattle.rust_metas.proofs.Around.{option_symbol}
@@ -40,12 +40,8 @@ pair_until b enter key ts us h e =
     (λ m. kept (record { value = rw (kind_same b.twins (bumped ts) (bumped us) n, text_same b.twins (bumped ts) (bumped us) n) refl; rest = m })))
     (λ _. kept (record { value = refl; rest = n }))
 
--- what a reader gives of what is in the bracket that comes next
-abbrev pub inside : {A B : Type 0} → (A → B) → Reader A → Reader B
-inside f m ts = (f (m (bumped ts)).0, behind_closed (symbol ts) (m (bumped ts)).1)
-
-pub inside_until : {A B : Type 0} (b : Parting) (enter : Entering b) (f : A → B) (m m' : Reader A) → UpTo b m m' → Forwards m → Forwards m' → UpTo b (inside f m) (inside f m')
-inside_until b enter f m m' each leads leads' ts us h =
+pub in_brackets_until : {A B : Type 0} (b : Parting) (enter : Entering b) (f : A → B) (m m' : Reader A) → UpTo b m m' → Forwards m → Forwards m' → UpTo b (in_brackets f m) (in_brackets f m')
+in_brackets_until b enter f m m' each leads leads' ts us h =
     let c = symbol ts in
     by_next (enter.onward ts us h) (λ g. gone (b.lost_on _ _ _ _ g (through (leads (bumped ts)) (behind_closed_leads c _)) (through (leads' (bumped us)) (behind_closed_leads (symbol us) _))))
     (λ n. rw (symbol_same b.twins ts us h) (pass_until b (behind_closed c) (behind_closed_leads c) (b.closed c) (map_until f (each (bumped ts) (bumped us) n))))
@@ -53,7 +49,7 @@ inside_until b enter f m m' each leads leads' ts us h =
 module _ (b : Parting) (enter : Entering b) (m : Reader (Option (List CfgView))) (i : UpTo b m m) (f : Forwards m) where
   named_until : (w : List ℕ) → UpTo b (named_condition m w) (named_condition m w)
   named_until w ts us h =
-      cond_until (open_same b.twins ts us h) (λ _. inside_until b enter (composed w) m m i f f ts us h)
+      cond_until (open_same b.twins ts us h) (λ _. in_brackets_until b enter (composed w) m m i f f ts us h)
       (λ _. cond_until (symbol_test b.twins 61 ts us h) (λ e. pair_until b enter w ts us h e) (λ _. kept (record { value = refl; rest = h })))
 
   if_named_until : (o : Option (List ℕ)) → UpTo b (if_named m o) (if_named m o)

@@ -1,10 +1,9 @@
 -- Metas of tokens that look alike are the same, until one goes past where the texts part. Their spans count from anchors that are as far from both.
 use Rattle.std.proofs.Common.{◌≡◌, ◌&&◌, ◌==◌, ℕ, zero, suc, true, false, Option, Some, List, [], refl, ap, codes, bytes_eq}
-use Rattle.rust_metas.proofs.Common.{and_parts, PathNode, MetaView, key_value_meta, token_tree_meta, cfg_meta, cfg_attr_meta, unsafe_meta, metas_from, CfgView, elements, one, Reader, pure, Tokens, symbol, word, bumped, is_at_open, through, Forwards, when, kept, Parting, Until, UpTo, cond_until, map_until, pass_until, bind_until, elements_until, Entering, Counted, is_edge, word_same, kind_same, text_same, open_same, edge_word, edge_test, symbol_test, after_word, after_symbol, path, path_until, tree_behind_comma, condition, is_truth, is_literal, is_ended, root, next_literal, value, assigned, input, plain_meta, is_call, member, meta_with, meta}
-use Rattle.rust_cursor.specs.Reader.{◌>>=◌}
-use Rattle.rust_metas.proofs.Alike.{ended_same, inside, inside_until, condition_until}
+use Rattle.rust_metas.proofs.Common.{and_parts, PathNode, MetaView, key_value_meta, token_tree_meta, cfg_meta, cfg_attr_meta, unsafe_meta, metas_from, CfgView, elements, one, Reader, pure, Tokens, symbol, word, bumped, is_at_open, through, Forwards, when, kept, Parting, Until, UpTo, cond_until, map_until, pass_until, bind_until, elements_until, Entering, Counted, is_edge, word_same, kind_same, text_same, open_same, edge_word, edge_test, symbol_test, after_word, after_symbol, path, path_until, tree_behind_comma, condition, is_truth, is_literal, is_ended, root, next_literal, value, assigned, input, plain_meta, is_call, in_brackets, member, conditional, meta_with, meta}
+use Rattle.rust_metas.proofs.Alike.{ended_same, in_brackets_until, condition_until}
 use Rattle.rust_metas.proofs.Around.{literal_symbol}
-use Rattle.rust_metas.proofs.Leads.{condition_leads, input_leads, member_leads, members_leads, meta_leads}
+use Rattle.rust_metas.proofs.Leads.{condition_leads, conditional_leads, input_leads, member_leads, members_leads, meta_leads}
 use Rattle.rust_paths.proofs.AlikeTrees.{behind_comma_onward}
 use Rattle.rust_paths.proofs.Leads.{behind_comma_leads}
 
@@ -57,17 +56,10 @@ unfolding is_call
 call_next b w ts us empty h e = after_word b.twins w ts us empty h (and_parts (bytes_eq (word ts) w) (is_at_open (bumped ts)) e).0
 
 called_until : {A B : Type 0} (b : Parting) (enter : Entering b) (w : List ℕ) (f : A → B) (m m' : Reader A) → bytes_eq [] w ≡ false → UpTo b m m' → Forwards m → Forwards m' → (ts us : Tokens) → b.twins.are ts us → is_call w ts ≡ true
-    → Until b (inside f m (bumped ts)) (inside f m' (bumped us))
-called_until b enter w f m m' empty each leads leads' ts us h e = inside_until b enter f m m' each leads leads' (bumped ts) (bumped us) (call_next b w ts us empty h e)
+    → Until b (in_brackets f m (bumped ts)) (in_brackets f m' (bumped us))
+called_until b enter w f m m' empty each leads leads' ts us h e = in_brackets_until b enter f m m' each leads leads' (bumped ts) (bumped us) (call_next b w ts us empty h e)
 
 -- ---- metas
-
--- a condition, and the metas behind it
-abbrev conditional : Reader MetaView → Reader CfgView → Reader (CfgView × List MetaView)
-conditional inner condition = do
-  c ← condition
-  metas ← elements (one (member inner))
-  pure (c, metas)
 
 module _ (b : Parting) (enter : Entering b) (a a' : ℕ) (count : Counted b a a') (inner inner' : Reader MetaView) (i : UpTo b inner inner') (f : Forwards inner) (f' : Forwards inner') (condition : Reader CfgView) (c : UpTo b condition condition) (d : Forwards condition) where
   member_until : UpTo b (member inner) (member inner')
@@ -79,18 +71,12 @@ module _ (b : Parting) (enter : Entering b) (a a' : ℕ) (count : Counted b a a'
       (λ x ts us h. map_until (λ metas. (x, metas)) (elements_until b (member inner) (member inner') member_until (member_leads inner condition f d) (member_leads inner' condition f' d) ts us h))
       (λ x. members_leads inner condition f d) (λ x. members_leads inner' condition f' d)
 
-  conditional_leads : Forwards (conditional inner condition)
-  conditional_leads ts = through (d ts) (members_leads inner condition f d (condition ts).1)
-
-  conditional_leads' : Forwards (conditional inner' condition)
-  conditional_leads' ts = through (d ts) (members_leads inner' condition f' d (condition ts).1)
-
   meta_with_until : UpTo b (meta_with a inner condition) (meta_with a' inner' condition)
   meta_with_until ts us h =
       cond_until (call_same b (codes "unsafe") ts us refl h) (λ k. called_until b enter (codes "unsafe") unsafe_meta inner inner' refl i f f' ts us h k)
       (λ _. cond_until (call_same b (codes "cfg") ts us refl h) (λ k. called_until b enter (codes "cfg") cfg_meta condition condition refl c d d ts us h k)
       (λ _. cond_until (call_same b (codes "cfg_attr") ts us refl h)
-      (λ k. called_until b enter (codes "cfg_attr") (λ p. cfg_attr_meta p.0 (metas_from p.1)) (conditional inner condition) (conditional inner' condition) refl conditional_until conditional_leads conditional_leads' ts us h k)
+      (λ k. called_until b enter (codes "cfg_attr") (λ p. cfg_attr_meta p.0 (metas_from p.1)) (conditional inner condition) (conditional inner' condition) refl conditional_until (conditional_leads inner condition f d) (conditional_leads inner' condition f' d) ts us h k)
       (λ _. plain_until b enter a a' count ts us h)))
 
 pub meta_until : (b : Parting) → Entering b → (a a' depth : ℕ) → Counted b a a' → UpTo b (meta a depth) (meta a' depth)

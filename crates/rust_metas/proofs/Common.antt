@@ -19,15 +19,15 @@ pub use Rattle.rust_lexer.specs.declared.kind.DocStyle.{DocStyle}
 pub use Rattle.rust_lexer.specs.declared.kind.DocStyle.TheVariants.{Inner, Outer}
 pub use Rattle.rust_metas.specs.Attributes.{behind_attribute, behind_bracket, behind_docs_from, deepest, is_style, past_mark}
 unfoldable pub use Rattle.rust_metas.specs.Attributes.{attribute, attributes, behind_docs, bracketed, inner_attributes, is_attribute, is_behind, is_doc, one_attribute, outer_attributes}
-pub use Rattle.rust_metas.specs.Conditions.{condition_with, if_named, is_word_kind, named_condition, some}
+pub use Rattle.rust_metas.specs.Conditions.{condition_with, if_named, in_brackets, is_word_kind, named_condition, some}
 unfoldable pub use Rattle.rust_metas.specs.Conditions.{composed, condition, conditions, ended_condition, is_option_word, option_name, pair}
 pub use Rattle.rust_metas.specs.Docs.{is_condition_meta, is_wanted_meta, kept_by}
 unfoldable pub use Rattle.rust_metas.specs.Docs.{kept_metas}
 pub use Rattle.rust_metas.specs.Escapes.{blanks, number_from, scalar_of, stands_for}
 pub use Rattle.rust_metas.specs.Literals.{root, style_by}
 unfoldable pub use Rattle.rust_metas.specs.Literals.{documentation, is_ended, is_literal, is_truth, next_literal, value}
-pub use Rattle.rust_metas.specs.Metas.{assigned, cfg_attr_with, cfg_meta_with, member, meta_with, unsafe_with}
-unfoldable pub use Rattle.rust_metas.specs.Metas.{doc, input, is_call, member_at, meta, plain_meta}
+pub use Rattle.rust_metas.specs.Metas.{assigned, conditional, member, meta_with}
+unfoldable pub use Rattle.rust_metas.specs.Metas.{doc, input, is_call, meta, plain_meta}
 pub use Rattle.rust_metas.specs.Strings.{beside, ended_string, hashes, prepend, pushed, raw_from, unescaped, written_byte}
 unfoldable pub use Rattle.rust_metas.specs.Strings.{as_text, escaped_character}
 pub use Rattle.rust_metas.specs.Unread.{behind_unread, is_unread, may_condition}

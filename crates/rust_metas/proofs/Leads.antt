@@ -1,6 +1,6 @@
 -- What is left behind attributes is left of the tokens before them.
 use Rattle.std.proofs.Common.{◌==◌, ◌&&◌, ℕ, zero, suc, Option, Some, None, List, codes}
-use Rattle.rust_metas.proofs.Common.{PathNode, MetaView, CfgView, DocStyle, Outer, Inner, Tokens, Reader, symbol, word, kind, bumped, is_at_end, is_at_open, elements, one, begins_item, LeadsTo, here, further, through, Forwards, when, bumped_leads, behind_closed_leads, turns_leads, taken_leads_on, name_leads, path_leads, is_literal_kind, is_literal, is_ended, value, documentation, is_option_word, option_name, pair, named_condition, if_named, ended_condition, condition_with, conditions, condition, input, plain_meta, is_call, unsafe_with, cfg_meta_with, member, cfg_attr_with, meta_with, meta, doc, is_doc, is_behind, behind_bracket, bracketed, past_mark, one_attribute, behind_docs_from, behind_docs, behind_attribute, attribute, attributes, outer_attributes, inner_attributes}
+use Rattle.rust_metas.proofs.Common.{PathNode, MetaView, CfgView, DocStyle, Outer, Inner, Tokens, Reader, symbol, word, kind, bumped, is_at_end, is_at_open, elements, one, begins_item, LeadsTo, here, further, through, Forwards, when, bumped_leads, behind_closed_leads, turns_leads, taken_leads_on, name_leads, path_leads, is_literal_kind, is_literal, is_ended, value, documentation, is_option_word, option_name, pair, in_brackets, composed, named_condition, if_named, ended_condition, condition_with, conditions, condition, input, plain_meta, is_call, member, conditional, unsafe_meta, cfg_meta, cfg_attr_meta, metas_from, meta_with, meta, doc, is_doc, is_behind, behind_bracket, bracketed, past_mark, one_attribute, behind_docs_from, behind_docs, behind_attribute, attribute, attributes, outer_attributes, inner_attributes}
 use Rattle.rust_paths.proofs.Leads.{behind_comma_leads}
 
 -- ---- literals
@@ -23,9 +23,12 @@ pair_leads : (key : List ℕ) → Forwards (pair key)
 unfolding pair
 pair_leads key ts = when (is_literal_kind (kind (bumped ts))) (λ e. rw e (further (bumped_leads _))) (λ e. rw e (bumped_leads ts))
 
+in_brackets_leads : {A B : Type 0} (f : A → B) (inside : Reader A) → Forwards inside → Forwards (in_brackets f inside)
+in_brackets_leads f inside i ts = further (through (i _) (behind_closed_leads _ _))
+
 pub named_leads : (inside : Reader (Option (List CfgView))) → Forwards inside → (word : List ℕ) → Forwards (named_condition inside word)
 named_leads inside i word ts =
-    when (is_at_open ts) (λ e. rw e (further (through (i _) (behind_closed_leads _ _))))
+    when (is_at_open ts) (λ e. rw e (in_brackets_leads (composed word) inside i ts))
     (λ e. rw e (when (symbol ts == 61) (λ f. rw f (pair_leads word ts)) (λ f. rw f here)))
 
 pub if_named_leads : (inside : Reader (Option (List CfgView))) → Forwards inside → (o : Option (List ℕ)) → Forwards (if_named inside o)
@@ -61,26 +64,20 @@ unfolding plain_meta
 plain_leads anchor ts = through (path_leads ts) (input_leads anchor _ _)
 
 module _ (inner : Reader MetaView) (condition : Reader CfgView) (i : Forwards inner) (c : Forwards condition) where
-  unsafe_leads : Forwards (unsafe_with inner)
-  unsafe_leads ts = further (further (through (i _) (behind_closed_leads _ _)))
-
-  cfg_leads : Forwards (cfg_meta_with condition)
-  cfg_leads ts = further (further (through (c _) (behind_closed_leads _ _)))
-
   pub member_leads : Forwards (member inner)
   member_leads ts = through (i ts) (behind_comma_leads _)
 
   pub members_leads : Forwards (elements (one (member inner)))
   members_leads = turns_leads is_at_end (one (member inner)) member_leads
 
-  cfg_attr_leads : Forwards (cfg_attr_with inner condition)
-  cfg_attr_leads ts = further (further (through (c _) (through (members_leads _) (behind_closed_leads _ _))))
+  pub conditional_leads : Forwards (conditional inner condition)
+  conditional_leads ts = through (c ts) (members_leads _)
 
   meta_with_leads : (anchor : ℕ) → Forwards (meta_with anchor inner condition)
   meta_with_leads anchor ts =
-      when (is_call (codes "unsafe") ts) (λ e. rw e (unsafe_leads ts))
-      (λ e. rw e (when (is_call (codes "cfg") ts) (λ f. rw f (cfg_leads ts))
-      (λ f. rw f (when (is_call (codes "cfg_attr") ts) (λ g. rw g (cfg_attr_leads ts)) (λ g. rw g (plain_leads anchor ts))))))
+      when (is_call (codes "unsafe") ts) (λ e. rw e (further (in_brackets_leads unsafe_meta inner i _)))
+      (λ e. rw e (when (is_call (codes "cfg") ts) (λ f. rw f (further (in_brackets_leads cfg_meta condition c _)))
+      (λ f. rw f (when (is_call (codes "cfg_attr") ts) (λ g. rw g (further (in_brackets_leads (λ p. cfg_attr_meta p.0 (metas_from p.1)) (conditional inner condition) conditional_leads _))) (λ g. rw g (plain_leads anchor ts))))))
 
 pub meta_leads : (anchor depth : ℕ) → Forwards (meta anchor depth)
 unfolding meta

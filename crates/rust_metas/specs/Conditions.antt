@@ -52,18 +52,19 @@ unfoldable pub pair : List ℕ → Reader CfgView
 pair key ts =
     if is_literal_kind (kind (bumped ts)) then (pair_from key (string_by (kind (bumped ts)) (text (bumped ts))), bumped (bumped ts)) else (invalid, bumped ts)
 
--- a word with conditions in a bracket
-abbrev pub group : Reader (Option (List CfgView)) → List ℕ → Reader CfgView
-group inside word = do
+-- what stands in the bracket that comes next, as this
+abbrev pub in_brackets : {A B : Type 0} → (A → B) → Reader A → Reader B
+in_brackets f inside = do
   bracket ← look symbol
   _ ← bump
-  conditions ← inside
+  a ← inside
   _ ← pass (behind_closed bracket)
-  pure (composed word conditions)
+  pure (f a)
 
+-- a word with conditions in a bracket, one with a value, or alone
 abbrev pub named_condition : Reader (Option (List CfgView)) → List ℕ → Reader CfgView
 named_condition inside word ts =
-    if is_at_open ts then group inside word ts
+    if is_at_open ts then in_brackets (composed word) inside ts
     else (if symbol ts == 61 then pair word ts else (atom (flag_atom word), ts))
 
 abbrev pub if_named : Reader (Option (List CfgView)) → Option (List ℕ) → Reader CfgView

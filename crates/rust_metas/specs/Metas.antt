@@ -6,15 +6,14 @@ use Rattle.hir_input.specs.declared.mod_path.PathKind.TheVariants.{Plain}
 use Rattle.hir_input.specs.Attr.{MetaView, path_meta, key_value_meta, token_tree_meta, cfg_meta, cfg_attr_meta, unsafe_meta, metas_from}
 use Rattle.hir_input.specs.Cfg.{CfgView}
 use Rattle.rust_cursor.specs.Tokens.{Tokens}
-use Rattle.rust_cursor.specs.Reader.{Reader, ◌>>=◌, pure, look, pass}
+use Rattle.rust_cursor.specs.Reader.{Reader, ◌>>=◌, pure, pass}
 use Rattle.rust_cursor.specs.Words.{symbol, word, bump, bumped, is_at_open}
-use Rattle.rust_cursor.specs.Brackets.{behind_closed}
 use Rattle.rust_cursor.specs.Elements.{elements, one}
 use Rattle.rust_cursor.specs.Extents.{tree_text}
 use Rattle.rust_paths.specs.Paths.{path}
 use Rattle.rust_metas.specs.Literals.{root, value, documentation}
 use Rattle.rust_paths.specs.UseTrees.{tree_behind_comma}
-use Rattle.rust_metas.specs.Conditions.{condition}
+use Rattle.rust_metas.specs.Conditions.{in_brackets, condition}
 
 -- ---- a path and its input
 
@@ -44,24 +43,6 @@ plain_meta anchor = do
 unfoldable pub is_call : List ℕ → Tokens → Bool
 is_call w ts = bytes_eq (word ts) w && is_at_open (bumped ts)
 
-abbrev pub unsafe_with : Reader MetaView → Reader MetaView
-unsafe_with inner = do
-  _ ← bump
-  bracket ← look symbol
-  _ ← bump
-  m ← inner
-  _ ← pass (behind_closed bracket)
-  pure (unsafe_meta m)
-
-abbrev pub cfg_meta_with : Reader CfgView → Reader MetaView
-cfg_meta_with condition = do
-  _ ← bump
-  bracket ← look symbol
-  _ ← bump
-  c ← condition
-  _ ← pass (behind_closed bracket)
-  pure (cfg_meta c)
-
 -- a meta and the comma behind it
 abbrev pub member : Reader MetaView → Reader MetaView
 member inner = do
@@ -69,30 +50,25 @@ member inner = do
   _ ← pass tree_behind_comma
   pure m
 
-abbrev pub cfg_attr_with : Reader MetaView → Reader CfgView → Reader MetaView
-cfg_attr_with inner condition = do
-  _ ← bump
-  bracket ← look symbol
-  _ ← bump
+-- a condition, and the metas behind it
+abbrev pub conditional : Reader MetaView → Reader CfgView → Reader (CfgView × List MetaView)
+conditional inner condition = do
   c ← condition
   metas ← elements (one (member inner))
-  _ ← pass (behind_closed bracket)
-  pure (cfg_attr_meta c (metas_from metas))
+  pure (c, metas)
 
 -- Attr, by what reads the metas and the conditions inside
 abbrev pub meta_with : ℕ → Reader MetaView → Reader CfgView → Reader MetaView
 meta_with anchor inner condition ts =
-    if is_call (codes "unsafe") ts then unsafe_with inner ts
-    else (if is_call (codes "cfg") ts then cfg_meta_with condition ts
-    else (if is_call (codes "cfg_attr") ts then cfg_attr_with inner condition ts else plain_meta anchor ts))
+    if is_call (codes "unsafe") ts then in_brackets unsafe_meta inner (bumped ts)
+    else (if is_call (codes "cfg") ts then in_brackets cfg_meta condition (bumped ts)
+    else (if is_call (codes "cfg_attr") ts then in_brackets (λ p. cfg_attr_meta p.0 (metas_from p.1)) (conditional inner condition) (bumped ts)
+    else plain_meta anchor ts))
 
 -- A meta. The second number bounds how deep metas and conditions stand in one another; a deeper meta is one without a path.
 unfoldable pub meta : ℕ → ℕ → Reader MetaView
 meta anchor zero ts = (path_meta None root, ts)
 meta anchor (suc depth) ts = meta_with anchor (meta anchor depth) (condition depth) ts
-
-unfoldable pub member_at : ℕ → ℕ → Reader MetaView
-member_at anchor depth = member (meta anchor depth)
 
 -- ---- documentation
 

@@ -2,7 +2,6 @@
 
 ghost use Rattle.std.specs.Prelude.{◌≡◌, IfOk, Some, map, option_map, string_bytes};
 ghost use Rattle.hir_input.specs.Cfg.{cfg_view};
-ghost use Rattle.rust_cursor.specs.Elements.{elements, one};
 ghost use Rattle.rust_cursor.specs.Reader.{Gives};
 ghost use Rattle.rust_metas.specs.Conditions as spec;
 
@@ -103,62 +102,6 @@ fn pair(alloc: Global, cursor: &mut Cursor<'_>, key: Name) -> Result<CfgExpr, Al
     Ok(pair_from(key, value))
 }
 
-/// A word with conditions in its bracket, from that on.
-#[cycle(conditions)]
-fn group(
-    alloc: Global,
-    cursor: &mut Cursor<'_>,
-    word: Name,
-    depth: usize,
-) -> Result<CfgExpr, AllocError>
-    ensures { Gives cfg_view
-        (spec.group (spec.conditions depth) word cursor.old) result cursor.new }
-{
-    let bracket = cursor.symbol();
-    cursor.bump();
-    let inside = conditions(alloc, cursor, depth)?;
-    cursor.pass_closed(bracket);
-    composed(alloc, word, inside)
-}
-
-/// What begins with a word.
-#[cycle(conditions)]
-#[tactic(auto, using(hir_input::proofs::CfgLemmas::cfg_views))]
-fn named(
-    alloc: Global,
-    cursor: &mut Cursor<'_>,
-    word: Name,
-    depth: usize,
-) -> Result<CfgExpr, AllocError>
-    ensures { Gives cfg_view
-        (spec.named_condition (spec.conditions depth) word cursor.old) result cursor.new }
-{
-    if cursor.is_at_open() {
-        return group(alloc, cursor, word, depth);
-    }
-    if cursor.symbol() == b'=' {
-        return pair(alloc, cursor, word);
-    }
-    Ok(CfgExpr::Atom(CfgAtom::Flag(word)))
-}
-
-#[cycle(conditions)]
-#[tactic(auto, using(hir_input::proofs::CfgLemmas::cfg_views))]
-fn if_named(
-    alloc: Global,
-    cursor: &mut Cursor<'_>,
-    word: Option<Name>,
-    depth: usize,
-) -> Result<CfgExpr, AllocError>
-    ensures { Gives cfg_view
-        (spec.if_named (spec.conditions depth) word cursor.old) result cursor.new }
-{
-    match word {
-        Some(word) => named(alloc, cursor, word, depth),
-        None => Ok(CfgExpr::Invalid),
-    }
-}
-
 /// A condition that goes up to a comma. With more behind it, it is none.
 #[tactic(auto, unfolding(crate::specs::Conditions::ended_condition), using(hir_input::proofs::CfgLemmas::cfg_views))]
 fn ended(cursor: &mut Cursor<'_>, condition: CfgExpr) -> CfgExpr
@@ -174,7 +117,7 @@ fn ended(cursor: &mut Cursor<'_>, condition: CfgExpr) -> CfgExpr
 
 /// Takes a condition and the comma behind it. `depth` bounds how deep conditions stand in one another.
 #[cycle(conditions)]
-#[tactic(auto, unfolding(crate::specs::Conditions::condition))]
+#[tactic(auto, unfolding(crate::specs::Conditions::condition), using(hir_input::proofs::CfgLemmas::cfg_views))]
 pub(crate) fn condition(
     alloc: Global,
     cursor: &mut Cursor<'_>,
@@ -182,14 +125,27 @@ pub(crate) fn condition(
 ) -> Result<CfgExpr, AllocError>
     ensures { Gives cfg_view (spec.condition depth cursor.old) result cursor.new }
 {
-    let word = option_name(alloc, cursor)?;
-    let condition = if_named(alloc, cursor, word, depth)?;
-    Ok(ended(cursor, condition))
+    let Some(word) = option_name(alloc, cursor)? else {
+        return Ok(ended(cursor, CfgExpr::Invalid));
+    };
+    if cursor.is_at_open() {
+        let bracket = cursor.symbol();
+        cursor.bump();
+        let inside = conditions(alloc, cursor, depth)?;
+        cursor.pass_closed(bracket);
+        let condition = composed(alloc, word, inside)?;
+        return Ok(ended(cursor, condition));
+    }
+    if cursor.symbol() == b'=' {
+        let condition = pair(alloc, cursor, word)?;
+        return Ok(ended(cursor, condition));
+    }
+    Ok(ended(cursor, CfgExpr::Atom(CfgAtom::Flag(word))))
 }
 
 /// Takes conditions up to a bracket that closes, unless they stand too deep.
 #[cycle(conditions)]
-#[tactic(auto, using(crate::proofs::Depths::conditions_deep, crate::proofs::Depths::conditions_at))]
+#[tactic(auto, unfolding(rust_cursor::specs::Elements::turns), using(rust_cursor::proofs::Turns::turns_stop, crate::proofs::Depths::conditions_deep, crate::proofs::Depths::conditions_at))]
 fn conditions(
     alloc: Global,
     cursor: &mut Cursor<'_>,
@@ -201,20 +157,6 @@ fn conditions(
     if depth == 0 {
         return Ok(None);
     }
-    let conditions = condition_list(alloc, cursor, depth - 1)?;
-    Ok(Some(conditions))
-}
-
-#[cycle(conditions)]
-#[tactic(auto, unfolding(rust_cursor::specs::Elements::turns), using(rust_cursor::proofs::Turns::turns_stop))]
-fn condition_list(
-    alloc: Global,
-    cursor: &mut Cursor<'_>,
-    depth: usize,
-) -> Result<Vec<CfgExpr>, AllocError>
-    ensures { Gives (λ v. map cfg_view v.items)
-        (elements (one (spec.condition depth)) cursor.old) result cursor.new }
-{
     let mut conditions = Vec::new(alloc);
     let most = Cursor::most_turns();
     for _turn in 0..most {
@@ -222,9 +164,9 @@ fn condition_list(
             break;
         }
         let past = cursor.past();
-        let condition = condition(alloc, cursor, depth)?;
+        let condition = condition(alloc, cursor, depth - 1)?;
         conditions.push(condition)?;
         cursor.pass_beyond(past);
     }
-    Ok(conditions)
+    Ok(Some(conditions))
 }

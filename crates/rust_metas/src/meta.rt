@@ -4,7 +4,7 @@ ghost use Rattle.std.specs.Prelude.{◌≡◌, IfOk, Some, map};
 ghost use Rattle.hir_input.specs.Attr.{meta_view};
 ghost use Rattle.rust_cursor.specs.Elements.{elements, one};
 ghost use Rattle.rust_cursor.specs.Reader.{Gives};
-ghost use Rattle.rust_metas.specs.Conditions as conditions;
+ghost use Rattle.rust_cursor.specs.Words.{bumped, symbol};
 ghost use Rattle.rust_metas.specs.Metas as spec;
 
 use crate::condition::condition;
@@ -15,43 +15,7 @@ use rust_cursor::Cursor;
 use rust_paths::{pass_comma, path};
 use std::alloc::{AllocError, Global};
 
-/// What stands behind a path and `=`, from that on. A value that is no literal is left.
-#[tactic(auto, using(hir_input::proofs::MetaLemmas::meta_views))]
-fn assigned(
-    alloc: Global,
-    cursor: &mut Cursor<'_>,
-    anchor: usize,
-    path: Option<PathNode>,
-) -> Result<Meta, AllocError>
-    ensures { Gives meta_view (spec.assigned anchor path cursor.old) result cursor.new }
-{
-    cursor.bump();
-    let value = value(alloc, cursor, anchor)?;
-    Ok(Meta::KeyValue {
-        path,
-        value,
-        ctxt: root(),
-    })
-}
-
-/// The token tree behind a path.
-#[tactic(auto, using(hir_input::proofs::MetaLemmas::meta_views))]
-fn called(
-    alloc: Global,
-    cursor: &mut Cursor<'_>,
-    path: Option<PathNode>,
-) -> Result<Meta, AllocError>
-    ensures { Gives meta_view (spec.called_meta path cursor.old) result cursor.new }
-{
-    let rendered = cursor.tree_text(alloc)?;
-    Ok(Meta::TokenTree {
-        path,
-        tokens: TokenTree { rendered },
-        ctxt: root(),
-    })
-}
-
-/// What stands behind a path: `=` and a value, a token tree, or nothing.
+/// What stands behind a path: `=` and a value, a token tree, or nothing. A value that is no literal is left.
 #[tactic(auto, unfolding(crate::specs::Metas::input), using(hir_input::proofs::MetaLemmas::meta_views))]
 fn input(
     alloc: Global,
@@ -61,13 +25,18 @@ fn input(
 ) -> Result<Meta, AllocError>
     ensures { Gives meta_view (spec.input anchor path cursor.old) result cursor.new }
 {
+    let ctxt = root();
     if cursor.symbol() == b'=' {
-        return assigned(alloc, cursor, anchor, path);
+        cursor.bump();
+        let value = value(alloc, cursor, anchor)?;
+        return Ok(Meta::KeyValue { path, value, ctxt });
     }
     if cursor.is_at_open() {
-        return called(alloc, cursor, path);
+        let rendered = cursor.tree_text(alloc)?;
+        let tokens = TokenTree { rendered };
+        return Ok(Meta::TokenTree { path, tokens, ctxt });
     }
-    Ok(Meta::Path { path, ctxt: root() })
+    Ok(Meta::Path { path, ctxt })
 }
 
 /// A path and its input.
@@ -92,60 +61,15 @@ fn is_call(cursor: &Cursor<'_>, word: &str) -> bool
     ahead.is_at_open()
 }
 
-/// `cfg(..)`.
-#[tactic(auto, using(hir_input::proofs::MetaLemmas::meta_views))]
-fn cfg(alloc: Global, cursor: &mut Cursor<'_>, depth: usize) -> Result<Meta, AllocError>
-    ensures { Gives meta_view
-        (spec.cfg_meta_with (conditions.condition depth) cursor.old) result cursor.new }
+/// Passes over a word and the bracket behind it, which it gives.
+fn pass_open(cursor: &mut Cursor<'_>) -> u8
+    ensures given { result ≡ symbol (bumped cursor.old) }
+    ensures passed { cursor.new ≡ bumped (bumped cursor.old) }
 {
     cursor.bump();
     let bracket = cursor.symbol();
     cursor.bump();
-    let condition = condition(alloc, cursor, depth)?;
-    cursor.pass_closed(bracket);
-    Ok(Meta::Cfg(condition))
-}
-
-/// `unsafe(..)`.
-#[cycle(metas)]
-#[tactic(auto, using(hir_input::proofs::MetaLemmas::meta_views))]
-fn unsafe_meta(
-    alloc: Global,
-    cursor: &mut Cursor<'_>,
-    anchor: usize,
-    depth: usize,
-) -> Result<Meta, AllocError>
-    ensures { Gives meta_view
-        (spec.unsafe_with (spec.meta anchor depth) cursor.old) result cursor.new }
-{
-    cursor.bump();
-    let bracket = cursor.symbol();
-    cursor.bump();
-    let inner = meta(alloc, cursor, anchor, depth)?;
-    cursor.pass_closed(bracket);
-    Ok(Meta::Unsafe(Box::new(alloc, inner)?))
-}
-
-/// `cfg_attr(..)`.
-#[cycle(metas)]
-#[tactic(auto, using(hir_input::proofs::MetaLemmas::meta_views))]
-fn cfg_attr(
-    alloc: Global,
-    cursor: &mut Cursor<'_>,
-    anchor: usize,
-    depth: usize,
-) -> Result<Meta, AllocError>
-    ensures { Gives meta_view
-        (spec.cfg_attr_with (spec.meta anchor depth) (conditions.condition depth) cursor.old) result
-        cursor.new }
-{
-    cursor.bump();
-    let bracket = cursor.symbol();
-    cursor.bump();
-    let condition = condition(alloc, cursor, depth)?;
-    let metas = metas(alloc, cursor, anchor, depth)?;
-    cursor.pass_closed(bracket);
-    Ok(Meta::CfgAttr { condition, metas })
+    bracket
 }
 
 /// Takes a meta. Spans count from the anchor. `depth` bounds how deep metas and conditions stand in one another.
@@ -160,57 +84,34 @@ pub(crate) fn meta(
     ensures { Gives meta_view (spec.meta anchor depth cursor.old) result cursor.new }
 {
     if depth == 0 {
-        return Ok(Meta::Path {
-            path: None,
-            ctxt: root(),
-        });
+        let ctxt = root();
+        return Ok(Meta::Path { path: None, ctxt });
     }
-    meta_over(alloc, cursor, anchor, depth - 1)
-}
-
-/// A meta over those inside it.
-#[cycle(metas)]
-fn meta_over(
-    alloc: Global,
-    cursor: &mut Cursor<'_>,
-    anchor: usize,
-    depth: usize,
-) -> Result<Meta, AllocError>
-    ensures { Gives meta_view
-        (spec.meta_with anchor (spec.meta anchor depth) (conditions.condition depth) cursor.old)
-        result cursor.new }
-{
     if is_call(cursor, "unsafe") {
-        return unsafe_meta(alloc, cursor, anchor, depth);
+        let bracket = pass_open(cursor);
+        let inner = meta(alloc, cursor, anchor, depth - 1)?;
+        cursor.pass_closed(bracket);
+        return Ok(Meta::Unsafe(Box::new(alloc, inner)?));
     }
     if is_call(cursor, "cfg") {
-        return cfg(alloc, cursor, depth);
+        let bracket = pass_open(cursor);
+        let condition = condition(alloc, cursor, depth - 1)?;
+        cursor.pass_closed(bracket);
+        return Ok(Meta::Cfg(condition));
     }
     if is_call(cursor, "cfg_attr") {
-        return cfg_attr(alloc, cursor, anchor, depth);
+        let bracket = pass_open(cursor);
+        let condition = condition(alloc, cursor, depth - 1)?;
+        let metas = metas(alloc, cursor, anchor, depth - 1)?;
+        cursor.pass_closed(bracket);
+        return Ok(Meta::CfgAttr { condition, metas });
     }
     plain(alloc, cursor, anchor)
 }
 
-/// A meta and the comma behind it.
+/// Metas with the commas behind them, up to a bracket that closes.
 #[cycle(metas)]
-#[tactic(auto, unfolding(crate::specs::Metas::member_at))]
-fn member(
-    alloc: Global,
-    cursor: &mut Cursor<'_>,
-    anchor: usize,
-    depth: usize,
-) -> Result<Meta, AllocError>
-    ensures { Gives meta_view (spec.member_at anchor depth cursor.old) result cursor.new }
-{
-    let meta = meta(alloc, cursor, anchor, depth)?;
-    pass_comma(cursor);
-    Ok(meta)
-}
-
-/// Metas up to a bracket that closes.
-#[cycle(metas)]
-#[tactic(auto, unfolding(rust_cursor::specs::Elements::turns, crate::specs::Metas::member_at), using(rust_cursor::proofs::Turns::turns_stop))]
+#[tactic(auto, unfolding(rust_cursor::specs::Elements::turns), using(rust_cursor::proofs::Turns::turns_stop))]
 fn metas(
     alloc: Global,
     cursor: &mut Cursor<'_>,
@@ -227,7 +128,8 @@ fn metas(
             break;
         }
         let past = cursor.past();
-        let meta = member(alloc, cursor, anchor, depth)?;
+        let meta = meta(alloc, cursor, anchor, depth)?;
+        pass_comma(cursor);
         metas.push(meta)?;
         cursor.pass_beyond(past);
     }

@@ -3,22 +3,10 @@ use Rattle.rust_metas.proofs.Common.{meta_view, is_at_end, elements, one, turns_
 use Rattle.rust_metas.proofs.meta.+metas.Given as goal
 
 abbrev pub decreases-meta : goal.decreases-meta
-decreases-meta l = 5 * l.depth
-
-abbrev pub decreases-member : goal.decreases-member
-decreases-member l = 5 * l.depth + 1
+decreases-meta l = 2 * l.depth
 
 abbrev pub decreases-metas : goal.decreases-metas
-decreases-metas l = 5 * l.depth + 2
-
-abbrev pub decreases-cfg_attr : goal.decreases-cfg_attr
-decreases-cfg_attr l = 5 * l.depth + 3
-
-abbrev pub decreases-unsafe_meta : goal.decreases-unsafe_meta
-decreases-unsafe_meta l = 5 * l.depth + 1
-
-abbrev pub decreases-meta_over : goal.decreases-meta_over
-decreases-meta_over l = 5 * l.depth + 4
+decreases-metas l = 2 * l.depth + 1
 
 abbrev pub invariant-metas-loop-turn : goal.invariant-metas-loop-turn
 invariant-metas-loop-turn l = turns_from is_at_end (one (member (meta l.anchor l.depth))) (l.most - l._turn) (map meta_view l.metas.items) l.cursor ≡ elements (one (member (meta l.anchor l.depth))) l.fn.cursor
