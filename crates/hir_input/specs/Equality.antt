@@ -18,6 +18,18 @@ IsCopied {A} is_clone = (source copy : A) → is_clone source copy → copy ≡ 
 abbrev pub IsCopiedOf : {A V : Type 0} → (A → V) → (A → A → Type 0) → Type 0
 IsCopiedOf {A} view is_clone = (source copy : A) → is_clone source copy → view copy ≡ view source
 
+-- the test is true exactly where the two values are one, and a copy is its source
+abbrev pub IsByValue : {A : Type 0} → (A → A → Bool) → (A → A → Type 0) → Type 0
+IsByValue test is_clone = DecidesEq test × IsCopied is_clone
+
+-- the same of values by what they are seen as
+abbrev pub IsByValueOf : {A V : Type 0} → (A → V) → (A → A → Bool) → (A → A → Type 0) → Type 0
+IsByValueOf view test is_clone = DecidesEqOf view test × IsCopiedOf view is_clone
+
 -- values that are tested equal are hashed alike
 abbrev pub HashesAlike : {A : Type 0} → (A → A → Bool) → (A → HashWrites) → Type 0
 HashesAlike {A} test hash_input = (a b : A) → test a b ≡ true → hash_input a ≡ hash_input b
+
+-- all three of a type whose values are keys
+abbrev pub IsKey : {A : Type 0} → (A → A → Bool) → (A → A → Type 0) → (A → HashWrites) → Type 0
+IsKey test is_clone hash_input = IsByValue test is_clone × HashesAlike test hash_input

@@ -1,9 +1,9 @@
-//! What holds of every type here: `==` decides whether two values are one, values that are equal are hashed alike,
-//! and a copy is its source. Each derive is held to it by a clause; the functions do nothing.
+//! What holds of every type here: `==` decides whether two values are one, a copy is its source, and values that are
+//! equal are hashed alike. Each derive is held to it by a clause; the functions do nothing.
 ghost use Rattle.hir_input.specs.Attr.{meta_view};
 ghost use Rattle.hir_input.specs.Cfg.{atom_view, cfg_view};
 ghost use Rattle.hir_input.specs.Edition.{edition_view};
-ghost use Rattle.hir_input.specs.Equality.{DecidesEq, DecidesEqOf, HashesAlike, IsCopied, IsCopiedOf};
+ghost use Rattle.hir_input.specs.Equality.{DecidesEq, IsByValue, IsByValueOf, IsKey};
 
 use crate::ast::PathNode;
 use crate::attr::{Attr, AttrId, AttrInput, Literal, Meta, TokenTree};
@@ -16,70 +16,35 @@ use crate::name::Name;
 use crate::span::Span;
 use std::hash::Hash;
 
-// `==` of ids, contexts and spans is true exactly where the two are one.
-fn equal_ids()
-    ensures crates { DecidesEq ⟦<Crate as PartialEq>⟧.eq }
-    ensures files { DecidesEq ⟦<HirFileId as PartialEq>⟧.eq }
-    ensures blocks { DecidesEq ⟦<BlockId as PartialEq>⟧.eq }
-    ensures attr_ids { DecidesEq ⟦<AttrId as PartialEq>⟧.eq }
-    ensures kinds { DecidesEq ⟦<AstIdKind as PartialEq>⟧.eq }
-    ensures nodes { DecidesEq ⟦<FileAstId as PartialEq>⟧.eq }
-    ensures years { DecidesEq ⟦<EditionYear as PartialEq>⟧.eq }
-    ensures contexts { DecidesEq ⟦<SyntaxContext as PartialEq>⟧.eq }
-    ensures spans { DecidesEq ⟦<Span as PartialEq>⟧.eq }
-    ensures expansions { DecidesEq ⟦<ExpandTo as PartialEq>⟧.eq }
-    ensures path_kinds { DecidesEq ⟦<PathKind as PartialEq>⟧.eq }
+// `==` of what owns no memory is true exactly where the two are one, a copy is its source, and keys that are equal are
+// hashed alike.
+fn ids()
+    ensures crates { IsKey ⟦<Crate as PartialEq>⟧.eq ⟦<Crate as Clone>⟧.is_clone ⟦<Crate as Hash>⟧.hash_input }
+    ensures files { IsKey ⟦<HirFileId as PartialEq>⟧.eq ⟦<HirFileId as Clone>⟧.is_clone ⟦<HirFileId as Hash>⟧.hash_input }
+    ensures blocks { IsKey ⟦<BlockId as PartialEq>⟧.eq ⟦<BlockId as Clone>⟧.is_clone ⟦<BlockId as Hash>⟧.hash_input }
+    ensures attr_ids { IsByValue ⟦<AttrId as PartialEq>⟧.eq ⟦<AttrId as Clone>⟧.is_clone }
+    ensures kinds { IsByValue ⟦<AstIdKind as PartialEq>⟧.eq ⟦<AstIdKind as Clone>⟧.is_clone }
+    ensures nodes { IsByValue ⟦<FileAstId as PartialEq>⟧.eq ⟦<FileAstId as Clone>⟧.is_clone }
+    ensures years { IsByValue ⟦<EditionYear as PartialEq>⟧.eq ⟦<EditionYear as Clone>⟧.is_clone }
+    ensures contexts { IsByValue ⟦<SyntaxContext as PartialEq>⟧.eq ⟦<SyntaxContext as Clone>⟧.is_clone }
+    ensures spans { IsByValue ⟦<Span as PartialEq>⟧.eq ⟦<Span as Clone>⟧.is_clone }
+    ensures expansions { IsByValue ⟦<ExpandTo as PartialEq>⟧.eq ⟦<ExpandTo as Clone>⟧.is_clone }
+    ensures path_kinds { IsKey ⟦<PathKind as PartialEq>⟧.eq ⟦<PathKind as Clone>⟧.is_clone ⟦<PathKind as Hash>⟧.hash_input }
 {}
 
-// `==` of what owns memory is true exactly where the values behind it are one.
+// The same of the values behind what owns memory.
 #[tactic(auto, using(crate::proofs::MetaEq::equalities))]
-fn equal_values()
-    ensures names { DecidesEq ⟦<Name as PartialEq>⟧.eq }
-    ensures editions { DecidesEqOf edition_view ⟦<Edition as PartialEq>⟧.eq }
-    ensures paths { DecidesEq ⟦<ModPath as PartialEq>⟧.eq }
+fn values()
+    ensures names { IsKey ⟦<Name as PartialEq>⟧.eq ⟦<Name as Clone>⟧.is_clone ⟦<Name as Hash>⟧.hash_input }
+    ensures editions { IsByValueOf edition_view ⟦<Edition as PartialEq>⟧.eq ⟦<Edition as Clone>⟧.is_clone }
+    ensures paths { IsKey ⟦<ModPath as PartialEq>⟧.eq ⟦<ModPath as Clone>⟧.is_clone ⟦<ModPath as Hash>⟧.hash_input }
     ensures path_nodes { DecidesEq ⟦<PathNode as PartialEq>⟧.eq }
-    ensures atoms { DecidesEqOf atom_view ⟦<CfgAtom as PartialEq>⟧.eq }
-    ensures cfgs { DecidesEqOf cfg_view ⟦<CfgExpr as PartialEq>⟧.eq }
-    ensures option_sets { DecidesEq ⟦<CfgOptions as PartialEq>⟧.eq }
-    ensures literals { DecidesEq ⟦<Literal as PartialEq>⟧.eq }
-    ensures token_trees { DecidesEq ⟦<TokenTree as PartialEq>⟧.eq }
-    ensures inputs { DecidesEq ⟦<AttrInput as PartialEq>⟧.eq }
-    ensures attrs { DecidesEq ⟦<Attr as PartialEq>⟧.eq }
-    ensures metas { DecidesEqOf meta_view ⟦<Meta as PartialEq>⟧.eq }
-{}
-
-// Values that are equal are hashed alike.
-fn hashes()
-    ensures crates { HashesAlike ⟦<Crate as PartialEq>⟧.eq ⟦<Crate as Hash>⟧.hash_input }
-    ensures files { HashesAlike ⟦<HirFileId as PartialEq>⟧.eq ⟦<HirFileId as Hash>⟧.hash_input }
-    ensures blocks { HashesAlike ⟦<BlockId as PartialEq>⟧.eq ⟦<BlockId as Hash>⟧.hash_input }
-    ensures path_kinds { HashesAlike ⟦<PathKind as PartialEq>⟧.eq ⟦<PathKind as Hash>⟧.hash_input }
-    ensures names { HashesAlike ⟦<Name as PartialEq>⟧.eq ⟦<Name as Hash>⟧.hash_input }
-    ensures paths { HashesAlike ⟦<ModPath as PartialEq>⟧.eq ⟦<ModPath as Hash>⟧.hash_input }
-{}
-
-// A copy is its source.
-fn copies()
-    ensures crates { IsCopied ⟦<Crate as Clone>⟧.is_clone }
-    ensures files { IsCopied ⟦<HirFileId as Clone>⟧.is_clone }
-    ensures blocks { IsCopied ⟦<BlockId as Clone>⟧.is_clone }
-    ensures attr_ids { IsCopied ⟦<AttrId as Clone>⟧.is_clone }
-    ensures kinds { IsCopied ⟦<AstIdKind as Clone>⟧.is_clone }
-    ensures nodes { IsCopied ⟦<FileAstId as Clone>⟧.is_clone }
-    ensures years { IsCopied ⟦<EditionYear as Clone>⟧.is_clone }
-    ensures contexts { IsCopied ⟦<SyntaxContext as Clone>⟧.is_clone }
-    ensures spans { IsCopied ⟦<Span as Clone>⟧.is_clone }
-    ensures expansions { IsCopied ⟦<ExpandTo as Clone>⟧.is_clone }
-    ensures path_kinds { IsCopied ⟦<PathKind as Clone>⟧.is_clone }
-    ensures names { IsCopied ⟦<Name as Clone>⟧.is_clone }
-    ensures editions { IsCopiedOf edition_view ⟦<Edition as Clone>⟧.is_clone }
-    ensures paths { IsCopied ⟦<ModPath as Clone>⟧.is_clone }
-    ensures atoms { IsCopiedOf atom_view ⟦<CfgAtom as Clone>⟧.is_clone }
-    ensures cfgs { IsCopiedOf cfg_view ⟦<CfgExpr as Clone>⟧.is_clone }
-    ensures option_sets { IsCopied ⟦<CfgOptions as Clone>⟧.is_clone }
-    ensures literals { IsCopied ⟦<Literal as Clone>⟧.is_clone }
-    ensures token_trees { IsCopied ⟦<TokenTree as Clone>⟧.is_clone }
-    ensures inputs { IsCopied ⟦<AttrInput as Clone>⟧.is_clone }
-    ensures attrs { IsCopied ⟦<Attr as Clone>⟧.is_clone }
-    ensures metas { IsCopiedOf meta_view ⟦<Meta as Clone>⟧.is_clone }
+    ensures atoms { IsByValueOf atom_view ⟦<CfgAtom as PartialEq>⟧.eq ⟦<CfgAtom as Clone>⟧.is_clone }
+    ensures cfgs { IsByValueOf cfg_view ⟦<CfgExpr as PartialEq>⟧.eq ⟦<CfgExpr as Clone>⟧.is_clone }
+    ensures option_sets { IsByValue ⟦<CfgOptions as PartialEq>⟧.eq ⟦<CfgOptions as Clone>⟧.is_clone }
+    ensures literals { IsByValue ⟦<Literal as PartialEq>⟧.eq ⟦<Literal as Clone>⟧.is_clone }
+    ensures token_trees { IsByValue ⟦<TokenTree as PartialEq>⟧.eq ⟦<TokenTree as Clone>⟧.is_clone }
+    ensures inputs { IsByValue ⟦<AttrInput as PartialEq>⟧.eq ⟦<AttrInput as Clone>⟧.is_clone }
+    ensures attrs { IsByValue ⟦<Attr as PartialEq>⟧.eq ⟦<Attr as Clone>⟧.is_clone }
+    ensures metas { IsByValueOf meta_view ⟦<Meta as PartialEq>⟧.eq ⟦<Meta as Clone>⟧.is_clone }
 {}
