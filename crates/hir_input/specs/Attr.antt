@@ -1,5 +1,5 @@
 -- Attributes, and metas as plain data.
-use Rattle.std.specs.Prelude.{ℕ, List, [], ◌∷◌, Option, Some, None, option_map}
+use Rattle.std.specs.Prelude.{ℕ, List, Option, Some, None, option_map}
 use Rattle.hir_input.specs.declared.ast.PathNode.{PathNode}
 use Rattle.hir_input.specs.declared.ids.SyntaxContext.{SyntaxContext}
 use Rattle.hir_input.specs.declared.span.Span.{Span}
@@ -9,6 +9,7 @@ use Rattle.hir_input.specs.declared.attr.Attr.{Attr}
 use Rattle.hir_input.specs.declared.attr.Meta.{Meta, fold-Meta}
 use Rattle.hir_input.specs.declared.attr.Meta.TheOpen.{Meta-F}
 use Rattle.hir_input.specs.Cfg.{CfgView, cfg_view}
+use Rattle.hir_input.specs.Lists.{list_as}
 use Rattle.hir_input.specs.Literal.{LiteralView}
 
 abbrev pub token_tree_in : Option AttrInput → Option (List ℕ)
@@ -45,8 +46,7 @@ mutual
 
 -- a list of metas
 abbrev pub metas_from : List MetaView → MetaViews
-metas_from [] = no_metas
-metas_from (m ∷ ms) = meta_and m (metas_from ms)
+metas_from = list_as no_metas meta_and
 
 -- a meta's plain data, with each meta inside seen in its place
 abbrev pub meta_step : Meta-F MetaView → MetaView

@@ -5,6 +5,7 @@ use Rattle.std.specs.Option.{option_eq}
 use Rattle.std.specs.Ordering.{on, eq_of_both}
 use Rattle.std.specs.String.{string_bytes}
 use Rattle.std.specs.Cmp.Lexicographic.{pointwise}
+use Rattle.hir_input.specs.Lists.{list_as}
 use Rattle.hir_input.specs.declared.cfg.CfgAtom.{CfgAtom}
 use Rattle.hir_input.specs.declared.cfg.CfgAtom.TheVariants.{Flag, KeyValue}
 use Rattle.hir_input.specs.declared.cfg.CfgExpr.{CfgExpr, fold-CfgExpr}
@@ -41,8 +42,7 @@ mutual
 
 -- a list of conditions
 abbrev pub cfgs_from : List CfgView → CfgViews
-cfgs_from [] = no_cfgs
-cfgs_from (c ∷ cs) = cfg_and c (cfgs_from cs)
+cfgs_from = list_as no_cfgs cfg_and
 
 -- a condition's plain data, with each condition inside seen in its place
 abbrev pub cfg_step : CfgExpr-F CfgView → CfgView

@@ -3,6 +3,7 @@ pub mod Name
 pub mod Edition
 pub mod Path
 pub mod Id
+pub mod Lists
 pub mod Literal
 pub mod Cfg
 pub mod Attr

@@ -32,6 +32,7 @@ use Rattle.hir_input.specs.declared.ast.ExternItem.TheVariants as external
 use Rattle.hir_input.specs.declared.ast.Item.{Item}
 use Rattle.hir_input.specs.declared.ast.Item.TheOpen.{Item-F, Module-F}
 use Rattle.hir_input.specs.declared.ast.Item.TheFolds.{fold-Item, fold-Module}
+use Rattle.hir_input.specs.Lists.{list_as}
 use Rattle.hir_input.specs.Attr.{MetaView, meta_view}
 use Rattle.hir_input.specs.UseTreeView.{UseTreeView, use_tree_view}
 
@@ -146,8 +147,7 @@ items_of error = no_items
 
 -- a list of items
 abbrev pub items_from : List ItemView → ItemViews
-items_from [] = no_items
-items_from (i ∷ is) = item_and i (items_from is)
+items_from = list_as no_items item_and
 
 -- a module with or without a list
 abbrev pub module_from : NamedView → Bool → Option (List ItemView) → ItemView

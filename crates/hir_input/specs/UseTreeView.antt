@@ -1,5 +1,6 @@
 -- A use tree as it is written, as plain data.
 use Rattle.std.specs.Prelude.{ℕ, Bool, List, [], ◌∷◌, ◌++◌, length, map, Option, Some, None, option_map}
+use Rattle.hir_input.specs.Lists.{list_as}
 use Rattle.hir_input.specs.declared.ast.PathNode.{PathNode}
 use Rattle.hir_input.specs.declared.ast.Rename.{Rename}
 use Rattle.hir_input.specs.declared.ast.UseTree.{UseTree}
@@ -24,8 +25,7 @@ mutual
 
 -- a list of use trees
 abbrev pub trees_from : List UseTreeView → UseTreeViews
-trees_from [] = no_trees
-trees_from (t ∷ ts) = tree_and t (trees_from ts)
+trees_from = list_as no_trees tree_and
 
 -- a use tree with or without a list
 abbrev pub tree_from : UseNode → Option (List UseTreeView) → UseTreeView
