@@ -11,60 +11,64 @@ use std::fmt;
 use std::fmt::Display;
 use std::marker::Model;
 
-/// A name as it is written in an edition. In place of the `impl Display` of rust-analyzer's `Name::display`.
+/// What is written as a text that depends on the edition.
+pub trait Written {
+    ghost use Rattle.std.specs.Prelude.{ℕ, List};
+    ghost use Rattle.std.specs.Fmt.{WritesOnOk};
+
+    // Its text under these reserved words.
+    ghost shown: { List (List ℕ) → Self → List ℕ };
+
+    /// Writes the text in an edition.
+    fn write<W: fmt::Write>(&self, edition: &Edition, f: &mut fmt::Formatter<W>) -> fmt::Result
+        ensures { WritesOnOk W.write_str_gives f.old result (shown edition.now.reserved.items self.now) f.new };
+}
+
+/// A value as it is written in an edition. In place of the `impl Display` of rust-analyzer's `display` methods.
 #[derive(Drop)]
-pub struct NameDisplay<'a> {
-    name: &'a Name,
+pub struct InEdition<'a, T: Written> {
+    value: &'a T,
     edition: &'a Edition,
 }
 
-impl<'a> Model for NameDisplay<'a> {
+impl<'a, T: Written> Model for InEdition<'a, T> {
     ghost use Rattle.std.specs.Prelude.{ℕ, List};
-    ghost use Rattle.hir_input.specs.Name.{shown_name};
 
     ghost Value = { List ℕ };
 
-    ghost view = { λ d. shown_name d.edition.now.reserved.items d.name.now };
+    ghost view = { λ d. T.shown d.edition.now.reserved.items d.value.now };
 }
+
+impl<'a, T: Written> InEdition<'a, T> {
+    /// The value as it is written in the edition.
+    pub fn new(value: &'a T, edition: &'a Edition) -> InEdition<'a, T>
+        ensures { result ≡ T.shown edition.now.reserved.items value.now }
+    {
+        InEdition { value, edition }
+    }
+}
+
+impl<T: Written> fmt::Display for InEdition<'_, T> {
+    ghost output = { λ d. Some d };
+
+    fn fmt<W: fmt::Write>(&self, f: &mut fmt::Formatter<W>) -> fmt::Result {
+        self.value.write(self.edition, f)
+    }
+}
+
+/// A name as it is written in an edition.
+pub type NameDisplay<'a> = InEdition<'a, Name>;
+
+/// A path as it is written in an edition.
+pub type ModPathDisplay<'a> = InEdition<'a, ModPath>;
 
 impl Name {
     /// The name as it is written in an edition: reserved words have `r#` in front.
     pub fn display<'a>(&'a self, edition: &'a Edition) -> NameDisplay<'a>
         ensures { result ≡ shown_name edition.now.reserved.items self.now }
     {
-        NameDisplay {
-            name: self,
-            edition,
-        }
+        InEdition::new(self, edition)
     }
-}
-
-impl fmt::Display for NameDisplay<'_> {
-    ghost output = { λ d. Some d };
-
-    fn fmt<W: fmt::Write>(&self, f: &mut fmt::Formatter<W>) -> fmt::Result {
-        let text = self.name.text();
-        if self.edition.reserves(self.name) {
-            return write!(f, "r#{text}");
-        }
-        f.write_str(text)
-    }
-}
-
-/// A path as it is written in an edition. In place of the `impl Display` of rust-analyzer's `ModPath::display`.
-#[derive(Drop)]
-pub struct ModPathDisplay<'a> {
-    path: &'a ModPath,
-    edition: &'a Edition,
-}
-
-impl<'a> Model for ModPathDisplay<'a> {
-    ghost use Rattle.std.specs.Prelude.{ℕ, List};
-    ghost use Rattle.hir_input.specs.Path.{shown_path};
-
-    ghost Value = { List ℕ };
-
-    ghost view = { λ d. shown_path d.edition.now.reserved.items d.path.now };
 }
 
 impl ModPath {
@@ -72,10 +76,19 @@ impl ModPath {
     pub fn display<'a>(&'a self, edition: &'a Edition) -> ModPathDisplay<'a>
         ensures { result ≡ shown_path edition.now.reserved.items self.now }
     {
-        ModPathDisplay {
-            path: self,
-            edition,
+        InEdition::new(self, edition)
+    }
+}
+
+impl Written for Name {
+    ghost shown = { shown_name };
+
+    fn write<W: fmt::Write>(&self, edition: &Edition, f: &mut fmt::Formatter<W>) -> fmt::Result {
+        let text = self.text();
+        if edition.reserves(self) {
+            return write!(f, "r#{text}");
         }
+        f.write_str(text)
     }
 }
 
@@ -160,10 +173,10 @@ fn write_path<W: fmt::Write>(
     }
 }
 
-impl fmt::Display for ModPathDisplay<'_> {
-    ghost output = { λ d. Some d };
+impl Written for ModPath {
+    ghost shown = { shown_path };
 
-    fn fmt<W: fmt::Write>(&self, f: &mut fmt::Formatter<W>) -> fmt::Result {
-        write_path(self.path, self.edition, f)
+    fn write<W: fmt::Write>(&self, edition: &Edition, f: &mut fmt::Formatter<W>) -> fmt::Result {
+        write_path(self, edition, f)
     }
 }

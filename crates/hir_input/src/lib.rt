@@ -16,7 +16,7 @@ mod use_trees;
 
 pub use attr::{Attr, AttrId, AttrInput, Literal, Meta, TokenTree};
 pub use cfg::{CfgAtom, CfgExpr, CfgOptions};
-pub use display::{ModPathDisplay, NameDisplay};
+pub use display::{InEdition, ModPathDisplay, NameDisplay, Written};
 pub use edition::{Edition, EditionYear};
 pub use expand_to::ExpandTo;
 pub use ids::{AstIdKind, BlockId, Crate, FileAstId, HirFileId, SyntaxContext};
