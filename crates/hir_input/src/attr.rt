@@ -95,7 +95,7 @@ impl Eq for TokenTree {
 /// What follows the path of an attribute.
 ///
 /// Stands for rust-analyzer's `AttrInput`.
-#[derive(Debug, Drop, PartialEq, Eq)]
+#[derive(Clone, Debug, Drop, PartialEq, Eq)]
 pub enum AttrInput {
     /// `#[path = literal]`
     Literal(Literal),
@@ -106,7 +106,7 @@ pub enum AttrInput {
 /// An attribute.
 ///
 /// Stands for rust-analyzer's `Attr`.
-#[derive(Debug, Drop, PartialEq, Eq)]
+#[derive(Clone, Debug, Drop, PartialEq, Eq)]
 pub struct Attr {
     pub path: ModPath,
     pub input: Option<AttrInput>,
@@ -144,18 +144,16 @@ impl Attr {
 ///
 /// Stands for rust-analyzer's `AttrId`.
 #[derive(Clone, Copy, Debug, PartialEq, Eq)]
-pub struct AttrId {
-    index: u32,
-}
+pub struct AttrId(u32);
 
 impl Model for AttrId {
     ghost use Rattle.std.specs.Prelude.{ℕ};
 
     ghost Value = { ℕ };
 
-    ghost view = { λ id. id.index };
+    ghost view = { λ id. id.0 };
 
-    ghost inverse = { λ n. record { index = n } };
+    ghost inverse = { λ n. record { 0 = n } };
 }
 
 impl AttrId {
@@ -163,14 +161,14 @@ impl AttrId {
     pub fn from_item_tree_index(index: u32) -> AttrId
         ensures { result ≡ index }
     {
-        AttrId { index }
+        AttrId(index)
     }
 
     /// The position. rust-analyzer's `AttrId::item_tree_index`.
     pub fn item_tree_index(self) -> u32
         ensures { result ≡ self }
     {
-        self.index
+        self.0
     }
 }
 
@@ -212,10 +210,7 @@ impl Clone for Literal {
 
     fn clone(&self) -> Result<Literal, AllocError> {
         let rendered = self.rendered.clone()?;
-        let string = match &self.string {
-            Some(string) => Some(string.clone()?),
-            None => None,
-        };
+        let string = self.string.clone()?;
         Ok(Literal {
             rendered,
             string,
@@ -230,34 +225,6 @@ impl Clone for TokenTree {
     fn clone(&self) -> Result<TokenTree, AllocError> {
         let rendered = self.rendered.clone()?;
         Ok(TokenTree { rendered })
-    }
-}
-
-impl Clone for AttrInput {
-    ghost is_clone = { λ input copy. copy ≡ input };
-
-    fn clone(&self) -> Result<AttrInput, AllocError> {
-        match self {
-            AttrInput::Literal(literal) => Ok(AttrInput::Literal(literal.clone()?)),
-            AttrInput::TokenTree(tokens) => Ok(AttrInput::TokenTree(tokens.clone()?)),
-        }
-    }
-}
-
-impl Clone for Attr {
-    ghost is_clone = { λ attr copy. copy ≡ attr };
-
-    fn clone(&self) -> Result<Attr, AllocError> {
-        let path = self.path.clone()?;
-        let input = match &self.input {
-            Some(input) => Some(input.clone()?),
-            None => None,
-        };
-        Ok(Attr {
-            path,
-            input,
-            ctxt: self.ctxt,
-        })
     }
 }
 
