@@ -1,5 +1,5 @@
 -- `==` at conditions decides whether their plain data are one.
-use Rattle.std.proofs.Common.{◌≡◌, Bool, true, false, ◌||◌, List, [], ◌∷◌, map, refl, sym, ap, ◌∙◌, subst, rules, Decides}
+use Rattle.std.proofs.Common.{◌≡◌, Bool, true, false, ◌||◌, List, [], ◌∷◌, map, refl, sym, ap, ◌∙◌, rules, Decides}
 use Rattle.hir_input.proofs.Common.{AllZip, list_any, pointwise, pointwise_decides, Decides-at, Decides-and, Decides-like, DecidesEq, DecidesEqOf, CfgExpr, roll-CfgExpr, out-CfgExpr, out-roll-CfgExpr, roll-out-CfgExpr, ind-CfgExpr, map-CfgExpr, fold-roll-CfgExpr, atom_view, is_atom, is_set, CfgView, cfg_and, atom, all_of, any_of, not_of, cfgs_from, cfg_step, cfg_view}
 use Rattle.std.specs.Cmp.Derive.Mapped.{pointwise-map}
 pub use Rattle.std.proofs.lemmas.Bool.Decides.{Decides-like as same_fact}
@@ -11,6 +11,7 @@ use Rattle.hir_input.specs.contracts.cfg.CfgAtomPartialEq.TheImpl as atoms
 use Rattle.hir_input.specs.contracts.cfg.CfgExprPartialEq.TheImpl as cfgs
 use Rattle.hir_input.specs.contracts.cfg.CfgExprPartialEq.TheImpl.Laws as cfg_laws
 use Rattle.hir_input.proofs.AttrEq.{option_decides}
+use Rattle.hir_input.proofs.Layers.{rolled_decide, of_rolled}
 
 pub atom_view_decides : DecidesEq is_atom
 atom_view_decides a b =
@@ -51,9 +52,7 @@ IsDecided a b = Decides (cfgs.ghosts.eq a b) (cfg_view a ≡ cfg_view b)
 
 -- from a test that decides it of the layers
 of_layers : (x z : CfgExpr-F CfgExpr) (t : Bool) → Decides t (cfg_step (map-CfgExpr CfgExpr CfgView cfg_view x) ≡ cfg_step (map-CfgExpr CfgExpr CfgView cfg_view z)) → cfg_laws.unfolded (roll-CfgExpr x) (roll-CfgExpr z) ≡ t → IsDecided (roll-CfgExpr x) (roll-CfgExpr z)
-of_layers x z t d e =
-    let same = fold-roll-CfgExpr CfgView cfg_step in
-    Decides-like _ (λ s. same x ∙ s ∙ sym (same z)) (λ s. sym (same x) ∙ s ∙ same z) (Decides-at _ t (cfg_laws.is _ _ ∙ e) d)
+of_layers x z t d e = rolled_decide roll-CfgExpr cfg_view (fold-roll-CfgExpr CfgView cfg_step) x z _ t (cfg_laws.is _ _ ∙ e) d
 
 module _ {S : Type 0} (cfg_of : S → CfgExpr) (decided : (s : S) (b : CfgExpr) → IsDecided (cfg_of s) b) where
   members_decide : (ss : List S) (bs : List CfgExpr) → Decides (pointwise cfgs.ghosts.eq (map cfg_of ss) bs) (cfgs_from (map cfg_view (map cfg_of ss)) ≡ cfgs_from (map cfg_view bs))
@@ -71,6 +70,4 @@ module _ {S : Type 0} (cfg_of : S → CfgExpr) (decided : (s : S) (b : CfgExpr) 
   layers_decide y z = of_layers _ _ false (λ h. cc, λ e. cc) (simp out-roll-CfgExpr)
 
 pub cfg_decides : DecidesEqOf cfg_view cfgs.ghosts.eq
-cfg_decides = ind-CfgExpr (λ a. (b : CfgExpr) → IsDecided a b) (λ x y e b.
-    subst (IsDecided (roll-CfgExpr x)) (roll-out-CfgExpr b)
-    (subst (λ w. IsDecided (roll-CfgExpr w) (roll-CfgExpr (out-CfgExpr b))) e (layers_decide (λ s. s.0) (λ s. s.1) y (out-CfgExpr b))))
+cfg_decides = ind-CfgExpr (λ a. (b : CfgExpr) → IsDecided a b) (λ x y e. of_rolled IsDecided roll-CfgExpr out-CfgExpr roll-out-CfgExpr e (layers_decide (λ s. s.0) (λ s. s.1) y))

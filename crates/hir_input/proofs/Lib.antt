@@ -2,6 +2,7 @@ pub mod AttrEq
 pub mod CfgEq
 pub mod CfgLemmas
 pub mod Joining
+pub mod Layers
 pub mod MetaEq
 pub mod MetaLemmas
 pub mod Naming

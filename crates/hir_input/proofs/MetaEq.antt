@@ -1,6 +1,6 @@
 -- `==` at metas decides whether their plain data are one.
-use Rattle.std.proofs.Common.{◌≡◌, Bool, false, List, [], ◌∷◌, map, refl, sym, ap, ◌∙◌, subst, Decides}
-use Rattle.hir_input.proofs.Common.{option_eq, pointwise, Decides-at, Decides-and, Decides-like, Meta, roll-Meta, out-Meta, out-roll-Meta, roll-out-Meta, ind-Meta, map-Meta, fold-roll-Meta, DecidesEq, DecidesEqOf, MetaView, path_meta, key_value_meta, token_tree_meta, cfg_meta, cfg_attr_meta, unsafe_meta, meta_and, metas_from, meta_step, meta_view}
+use Rattle.std.proofs.Common.{◌≡◌, Bool, false, List, [], ◌∷◌, map, refl, ap, ◌∙◌, Decides}
+use Rattle.hir_input.proofs.Common.{option_eq, pointwise, Decides-and, Decides-like, Meta, roll-Meta, out-Meta, out-roll-Meta, roll-out-Meta, ind-Meta, map-Meta, fold-roll-Meta, DecidesEq, DecidesEqOf, MetaView, path_meta, key_value_meta, token_tree_meta, cfg_meta, cfg_attr_meta, unsafe_meta, meta_and, metas_from, meta_step, meta_view}
 use lib.Pointwise.{bytes_decides}
 use Rattle.hir_input.specs.declared.attr.Meta.TheOpen.{Meta-F}
 use Rattle.hir_input.specs.contracts.ast.PathNodePartialEq.TheImpl as nodes
@@ -8,6 +8,7 @@ use Rattle.hir_input.specs.contracts.attr.MetaPartialEq.TheImpl as metas
 use Rattle.hir_input.specs.contracts.attr.MetaPartialEq.TheImpl.Laws as meta_laws
 use Rattle.hir_input.proofs.AttrEq.{option_decides, context_decides, edition_decides, literal_decides, input_decides, attr_decides, path_node_decides}
 use Rattle.hir_input.proofs.CfgEq.{atom_decides, cfg_decides, options_decide}
+use Rattle.hir_input.proofs.Layers.{rolled_decide, of_rolled}
 use Rattle.hir_input.proofs.PathEq.{path_decides}
 
 -- `==` at the two metas decides whether their plain data are one
@@ -16,9 +17,7 @@ IsDecided a b = Decides (metas.ghosts.eq a b) (meta_view a ≡ meta_view b)
 
 -- from a test that decides it of the layers
 of_layers : (x z : Meta-F Meta) (t : Bool) → Decides t (meta_step (map-Meta Meta MetaView meta_view x) ≡ meta_step (map-Meta Meta MetaView meta_view z)) → meta_laws.unfolded (roll-Meta x) (roll-Meta z) ≡ t → IsDecided (roll-Meta x) (roll-Meta z)
-of_layers x z t d e =
-    let same = fold-roll-Meta MetaView meta_step in
-    Decides-like _ (λ s. same x ∙ s ∙ sym (same z)) (λ s. sym (same x) ∙ s ∙ same z) (Decides-at _ t (meta_laws.is _ _ ∙ e) d)
+of_layers x z t d e = rolled_decide roll-Meta meta_view (fold-roll-Meta MetaView meta_step) x z _ t (meta_laws.is _ _ ∙ e) d
 
 paths_decide : DecidesEq (option_eq nodes.ghosts.eq)
 paths_decide = option_decides _ path_node_decides
@@ -49,9 +48,7 @@ module _ {S : Type 0} (meta_of : S → Meta) (decided : (s : S) (b : Meta) → I
   layers_decide y z = of_layers _ _ false (λ h. cc, λ e. cc) (simp out-roll-Meta)
 
 pub meta_decides : DecidesEqOf meta_view metas.ghosts.eq
-meta_decides = ind-Meta (λ a. (b : Meta) → IsDecided a b) (λ x y e b.
-    subst (IsDecided (roll-Meta x)) (roll-out-Meta b)
-    (subst (λ w. IsDecided (roll-Meta w) (roll-Meta (out-Meta b))) e (layers_decide (λ s. s.0) (λ s. s.1) y (out-Meta b))))
+meta_decides = ind-Meta (λ a. (b : Meta) → IsDecided a b) (λ x y e. of_rolled IsDecided roll-Meta out-Meta roll-out-Meta e (layers_decide (λ s. s.0) (λ s. s.1) y))
 
 -- what `==` decides at each type that owns memory
 pub ruleset equalities = (edition_decides, path_decides, path_node_decides, atom_decides, cfg_decides, options_decide, literal_decides, input_decides, attr_decides, meta_decides)
