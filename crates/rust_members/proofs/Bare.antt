@@ -1,6 +1,6 @@
 -- What a member is stands neither in metas that are not wanted nor in body texts.
 use Rattle.std.proofs.Common.{◌≡◌, ℕ, false, Option, Some, None, refl, sym, ap, ◌∙◌}
-use Rattle.rust_members.proofs.Common.{ItemView, plain_item, fn_kind, Tokens, is_at_end, with_value, clipped_front, clipped_item, clipped_leaf, clipped_leaf_if, FrontRead, front, LeafRead, MemberTold, told_of, told_with, member_kept, leaf_member, member_behind_front, associated, member_wanted}
+use Rattle.rust_members.proofs.Common.{ItemView, plain_item, fn_kind, Tokens, is_at_end, with_value, clipped_front, clipped_item, clipped_leaf, clipped_leaf_if, FrontRead, front, LeafRead, MemberTold, told_of, told_with, member_kept, leaf_member, member_behind_front, associated, MemberRead, Reader, leaf_behind}
 use Rattle.rust_leaves.specs.declared.wanted.Wanted.{Wanted}
 use Rattle.rust_leaves.specs.Kinds.{leaf}
 use Rattle.rust_leaves.proofs.Clipped.{leaf_front}
@@ -18,6 +18,10 @@ leaf_wanted : (w : Wanted) (start : ℕ) (l : Option LeafRead) (ts : Tokens) →
 unfolding clipped_leaf_if clipped_leaf
 leaf_wanted w start None ts = refl
 leaf_wanted w start (Some l) ts = ap (λ m. (m, ts)) (kept_same w start ts.past l (told_of (clipped_item w l.item)) ∙ ap (member_kept start ts.past l) (told_wanted w l.item))
+
+-- a member without its body text, by what is wanted of what stands before it and of the item
+abbrev pub member_wanted : Wanted → FrontRead → Reader (Option MemberRead)
+member_wanted w h ts = leaf_member told_of h.start (leaf_behind w h ts).0 (leaf_behind w h ts).1
 
 front_kept : (w : Wanted) (h : FrontRead) (ts : Tokens) → member_wanted w (clipped_front w h) ts ≡ member_behind_front w.metas h ts
 unfolding with_value clipped_front

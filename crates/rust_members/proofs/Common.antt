@@ -2,7 +2,7 @@
 pub use Rattle.hir_input.specs.Syntax.{ItemView, fn_kind, plain_item}
 pub use Rattle.rust_cursor.specs.Elements.{perhaps, turns_from}
 unfoldable pub use Rattle.rust_cursor.specs.Elements.{beyond, most, turns}
-pub use Rattle.rust_cursor.specs.Reader.{Gives, Reader}
+pub use Rattle.rust_cursor.specs.Reader.{Reader}
 pub use Rattle.rust_cursor.specs.Tokens.{Tokens}
 unfoldable pub use Rattle.rust_cursor.specs.Tokens.{tokens_of}
 unfoldable pub use Rattle.rust_cursor.specs.Words.{at, bumped, is_at_end, symbol}
@@ -17,7 +17,7 @@ pub use Rattle.rust_leaves.specs.Views.{front_view, leaf_view}
 pub use Rattle.rust_members.specs.Lists.{cut_out, is_boundary, is_cut, member_list, members_in}
 unfoldable pub use Rattle.rust_members.specs.Lists.{is_list_over, member_turn, members_from}
 pub use Rattle.rust_members.specs.Members.{MemberRead, moved_member, range_moved_by}
-pub use Rattle.rust_members.specs.Parts.{MemberTold, behind_operand, behind_operands, behind_part, behind_type_part, behind_type_parts, body_of, is_pair_here, is_part_end, is_type_end, leaf_member, member_behind_front, member_kept, member_wanted, opens_generics, part_of, stand_behind, told_of, told_with}
+pub use Rattle.rust_members.specs.Parts.{MemberTold, behind_operand, behind_operands, behind_part, behind_type_part, behind_type_parts, body_of, is_pair_here, is_part_end, is_type_end, leaf_member, member_behind_front, member_kept, opens_generics, part_of, stand_behind, told_of, told_with}
 unfoldable pub use Rattle.rust_members.specs.Parts.{associated, behind_type, behind_value, part_member}
 pub use Rattle.rust_members.specs.Places.{ArePlaced, FitsMoved}
 pub use Rattle.rust_members.specs.Views.{member_view}

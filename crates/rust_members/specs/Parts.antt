@@ -15,8 +15,6 @@ use Rattle.rust_paths.specs.Visibilities.{visibility}
 use Rattle.rust_metas.specs.Attributes.{outer_attributes}
 use Rattle.rust_metas.specs.Docs.{kept_by, kept_metas}
 use Rattle.rust_metas.specs.declared.wanted.WantedMetas.{WantedMetas}
-use Rattle.rust_leaves.specs.declared.wanted.Wanted.{Wanted}
-use Rattle.rust_leaves.specs.Clipped.{leaf_behind}
 use Rattle.rust_leaves.specs.Fronts.{FrontRead, front}
 use Rattle.rust_leaves.specs.Heads.{behind_others}
 use Rattle.rust_leaves.specs.Leaves.{LeafRead, named}
@@ -84,10 +82,6 @@ member_behind_front metas h ts = leaf_member (told_with metas) h.start (leaf h t
 -- AssociatedItem, or none: then tokens are passed over
 unfoldable pub associated : WantedMetas → Reader (Option MemberRead)
 associated metas ts = if is_at_end ts then (None, bumped ts) else member_behind_front metas (front ts).0 (front ts).1
-
--- the same without body texts, by what is wanted of what stands before it and of the item
-abbrev pub member_wanted : Wanted → FrontRead → Reader (Option MemberRead)
-member_wanted w h ts = leaf_member told_of h.start (leaf_behind w h ts).0 (leaf_behind w h ts).1
 
 -- ---- values
 

@@ -3,7 +3,7 @@
 ghost use Rattle.std.specs.Prelude.{◌≡◌, option_map};
 ghost use Rattle.hir_input.specs.Syntax.{call_view, item_view, named_view};
 ghost use Rattle.rust_cursor.specs.Reader.{Gives};
-ghost use Rattle.rust_leaves.specs.Views.{front_view, leaf_view};
+ghost use Rattle.rust_leaves.specs.Views.{leaf_view};
 ghost use Rattle.rust_members.specs.Parts as spec;
 ghost use Rattle.rust_members.specs.Views.{member_view, told_view};
 
@@ -11,7 +11,7 @@ use crate::member::{Member, MemberKind};
 use hir_input::Meta;
 use hir_input::ast::{Item, MacroCall, NamedNode, Visibility};
 use rust_cursor::Cursor;
-use rust_leaves::{Front, Leaf, Wanted, WantedMetas, pass_others, take_leaf, wanted_front};
+use rust_leaves::{Leaf, Wanted, WantedMetas, pass_others, take_leaf, wanted_front};
 use rust_paths::TextRange;
 use std::alloc::{AllocError, Global};
 
@@ -88,28 +88,6 @@ fn kept(leaf: Leaf<'_>, start: usize, end: usize) -> Option<Member>
     }
 }
 
-fn behind_front(
-    alloc: Global,
-    cursor: &mut Cursor<'_>,
-    wanted: Wanted,
-    front: Front,
-) -> Result<Option<Member>, AllocError>
-    ensures { Gives (option_map member_view)
-        (spec.member_wanted wanted (front_view front) cursor.old) result cursor.new }
-{
-    let start = front.start;
-    match take_leaf(alloc, cursor, wanted, front)? {
-        Some(leaf) => {
-            let end = cursor.past();
-            Ok(kept(leaf, start, end))
-        }
-        None => {
-            pass_others(cursor);
-            Ok(None)
-        }
-    }
-}
-
 /// Takes a member of a trait or an impl, or tokens that begin none.
 #[tactic(auto, unfolding(crate::specs::Parts::associated))]
 pub(crate) fn associated(
@@ -128,5 +106,15 @@ pub(crate) fn associated(
         metas,
     };
     let front = wanted_front(alloc, cursor, wanted)?;
-    behind_front(alloc, cursor, wanted, front)
+    let start = front.start;
+    match take_leaf(alloc, cursor, wanted, front)? {
+        Some(leaf) => {
+            let end = cursor.past();
+            Ok(kept(leaf, start, end))
+        }
+        None => {
+            pass_others(cursor);
+            Ok(None)
+        }
+    }
 }
