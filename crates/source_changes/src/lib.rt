@@ -30,7 +30,7 @@ fn parts_of(alloc: Global, text: &str, edition: EditionYear) -> Result<Vec<Part>
 {
     let wanted = Wanted {
         bodies: false,
-        metas: WantedMetas::Undocumented,
+        metas: WantedMetas::Conditions,
     };
     let file = read_wanted(alloc, text, wanted, edition)?;
     let parts = parts(alloc, text, edition, &file.places)?;
