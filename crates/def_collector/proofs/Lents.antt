@@ -32,8 +32,7 @@ declares-leaf f (plain k n v) = refl
 declares-leaf f _ = refl
 
 name-trunk : {V W : Type 0} (f : V → W) (t : Trunk V) → trunk_name (trunk_map f t) ≡ trunk_name t
-name-trunk f (inline n v) = refl
-name-trunk f extern_block = refl
+name-trunk f = elim [ inline n v ↦ refl | extern_block ↦ refl ]
 
 name-leaf : {V W : Type 0} (f : V → W) (l : Leaf V) → leaf_name (leaf_map f l) ≡ leaf_name l
 name-leaf f (plain k n v) = refl

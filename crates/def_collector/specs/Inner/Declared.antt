@@ -1,7 +1,7 @@
 -- For the crate's own functions: what is declared by the ids of items, and by items that are lent.
 use Rattle.std.specs.Prelude.{ℕ, Bool, false, List, [], ◌∷◌, map, Option, option_map, slice_get}
 use Rattle.std.specs.{List.flat_map, Option.option_map_or}
-use Rattle.item_tree.specs.{Layout.leaf_vis, Layout.trunk_vis, Node.Unfolding, Shown.Lent, Shown.lent_leaf, Shown.lent_parent, Walk.of_id}
+use Rattle.item_tree.specs.{Layout.leaf_vis, Layout.trunk_vis, Node.Leaf, Node.Trunk, Node.Unfolding, Shown.Lent, Shown.lent_leaf, Shown.lent_parent, Walk.of_id}
 use Rattle.def_collector.specs.Declarations.{Declared, declared_name, leaf_name, trunk_name, leaf_declares, node_declares, Declaration, declaration_of, with_id, node_declared}
 use Rattle.def_collector.specs.{DeclarationView.DeclarationView, DeclarationView.defined, Found.same_names, Found.first_named}
 
@@ -19,18 +19,20 @@ own_defined u path i = map defined (own_from u path i)
 abbrev pub defined_from : Unfolding → List (List ℕ) → ℕ → List (ℕ × DeclarationView)
 defined_from u path i = map defined (declared_from u path i)
 
+-- a word of an item that is lent, by that word of an item without children and of one with them
+abbrev pub lent_by : {A : Type 0} → (Leaf ℕ → A) → (Trunk ℕ → A) → Lent → A
+lent_by of_leaf of_trunk (lent_leaf a l) = of_leaf l
+lent_by of_leaf of_trunk (lent_parent a t is) = of_trunk t
+
 -- the same words of an item that is lent
 abbrev pub lent_name : Lent → Option (List ℕ)
-lent_name (lent_leaf a l) = leaf_name l
-lent_name (lent_parent a t is) = trunk_name t
+lent_name = lent_by leaf_name trunk_name
 
 abbrev pub lent_declares : Lent → Option Declared
-lent_declares (lent_leaf a l) = leaf_declares l
-lent_declares (lent_parent a t is) = option_map declared_name (trunk_name t)
+lent_declares = lent_by leaf_declares (λ t. option_map declared_name (trunk_name t))
 
 abbrev pub lent_visibility : Lent → Option ℕ
-lent_visibility (lent_leaf a l) = slice_get (leaf_vis l) 0
-lent_visibility (lent_parent a t is) = slice_get (trunk_vis t) 0
+lent_visibility = lent_by (λ l. slice_get (leaf_vis l) 0) (λ t. slice_get (trunk_vis t) 0)
 
 -- ---- the first of a path of names, which begins in the module of the item of an id
 
