@@ -1,6 +1,6 @@
 -- Items by their values.
-use Rattle.std.specs.Prelude.{ℕ, Bool, List, Option, Some, None}
-use Rattle.hir_input.specs.Equality.{DecidesEq, DecidesEqOf, IsCopied, IsCopiedOf}
+use Rattle.std.specs.Prelude.{ℕ, List, Option, Some, None}
+pub use Rattle.hir_input.specs.Equality.{IsByValue, IsByValueOf}
 use Rattle.item_tree.specs.declared.items.ExternBlock.{ExternBlock}
 use Rattle.item_tree.specs.declared.items.FieldsShape.{FieldsShape}
 use Rattle.item_tree.specs.declared.items.Struct.{Struct}
@@ -39,11 +39,3 @@ struct_value s = record { name = s.name; visibility = s.visibility; shape = s.sh
 -- an extern block by the ids of its children
 abbrev pub block_value : ExternBlock → List ℕ
 block_value b = b.children.items
-
--- a test decides whether two values are one, and a copy is its source
-abbrev pub IsByValue : {A : Type 0} → (A → A → Bool) → (A → A → Type 0) → Type 0
-IsByValue test is_clone = DecidesEq test × IsCopied is_clone
-
--- whether two are seen as one, and a copy is seen as its source
-abbrev pub IsByValueOf : {A V : Type 0} → (A → V) → (A → A → Bool) → (A → A → Type 0) → Type 0
-IsByValueOf view test is_clone = DecidesEqOf view test × IsCopiedOf view is_clone
