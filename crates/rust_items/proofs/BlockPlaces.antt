@@ -1,6 +1,6 @@
 -- The places of a block are those of its items and macro calls.
 use Rattle.std.proofs.Common.{◌≡◌, ◌<◌, ◌==◌, ◌&&◌, ℕ, zero, suc, Bool, true, false, not, Option, Some, None, List, [], ◌∷◌, ◌++◌, length, refl, sym, subst, ap, ◌∙◌, arith, append_assoc, append-nil, is_some, option_to_list}
-use Rattle.rust_items.proofs.Common.{and_parts, ne_eqb, All-nil, EditionYear, FileAstId, MetaView, ItemView, ItemViews, macro_call, no_items, item_and, items_from, items_of, StmtView, item_stmt, call_stmt, other_stmt, TailView, no_tail, call_tail, other_tail, stmt_items, block_view, Tokens, tokens_of, symbol, at, eat, is_at_end, bumped, most, beyond, LeadsTo, here, through, when, bumped_leads, eat_leads, beyond_leads, Takes, takes, takes_leads, takes_behind, taken_block, IsLaid, at_behind, takes_strict, tokens_laid, path, path_leads, outer_attributes, outer_attributes_leads, inner_attributes_leads, front_behind, front, is_called, SourceBlock, PartView, no_part, stmt_part, tail_part, BodyRead, empty_body, and_part, item_found, other_part, other_read, other_found, and_call, is_operand, call_found, called_found, taken_item, part_behind_attributes, part, parts_from, parts, stmts_with_ids, tail_with_id, is_bare, attributes_of, block_body, found_of, IsBlock, Found, nothing_found, first_numbers, numbered_call, item_with_ids, with_ids, is_list_end, turn, behind_front, with_feeds, id_of, IsWritten, ArePlaces, nothing, placed}
+use Rattle.rust_items.proofs.Common.{and_parts, ne_eqb, All-nil, EditionYear, FileAstId, MetaView, ItemView, ItemViews, macro_call, no_items, item_and, items_from, items_of, StmtView, item_stmt, call_stmt, other_stmt, TailView, no_tail, call_tail, other_tail, stmt_items, block_view, Tokens, tokens_of, symbol, at, eat, is_at_end, bumped, most, beyond, LeadsTo, here, through, when, bumped_leads, eat_leads, beyond_leads, Takes, takes, takes_leads, takes_behind, taken_block, IsLaid, at_behind, takes_strict, tokens_laid, path, path_leads, outer_attributes, outer_attributes_leads, inner_attributes_leads, front_behind, front, is_called, SourceBlock, PartView, no_part, stmt_part, tail_part, BodyRead, empty_body, and_part, item_found, other_part, other_read, other_found, and_call, is_operand, call_found, called_found, taken_item, part_behind_attributes, part, parts_from, parts, stmts_with_ids, tail_with_id, is_bare, attributes_of, block_body, found_of, IsBlockRead, Found, nothing_found, first_numbers, numbered_call, item_with_ids, with_ids, is_list_end, turn, behind_front, with_feeds, id_of, IsWritten, ArePlaces, nothing, placed}
 use Rattle.hir_input.specs.declared.ids.AstIdKind.TheVariants as ast
 use Rattle.rust_cursor.proofs.Laid.{behind}
 use Rattle.rust_leaves.specs.Statements.{CallRead, statement, statement_call, is_item}
@@ -222,7 +222,7 @@ block_found edition text =
     whole_text edition text (attributes_of edition text).1 _ _ _ _ _ p (parts_found (length text) (is_bare edition text) nothing_found (attributes_of edition text).1 first.laid)
 
 -- the places of a block are those of its items and its macro calls
-pub block_placed : (edition : EditionYear) (text : List ℕ) (read : SourceBlock) → IsBlock edition text read → ArePlaces (IsWritten text) 0 (length text) (items_of (block_view read.block)) read.places.items []
+pub block_placed : (edition : EditionYear) (text : List ℕ) (read : SourceBlock) → IsBlockRead edition text read → ArePlaces (IsWritten text) 0 (length text) (items_of (block_view read.block)) read.places.items []
 block_placed edition text read is =
     let body = (block_body edition (with_feeds text)).0 in
     let same : items_of (block_view read.block) ≡ (with_ids (stmt_items body.stmts body.tail) is.ids).0 = ap items_of is.value ∙ block_with_ids body.stmts body.tail is.ids in

@@ -29,7 +29,7 @@ pub use Rattle.rust_cursor.specs.Words.{by_first, eat_colons, rest, word_by}
 unfoldable pub use Rattle.rust_cursor.specs.Words.{at, bumped, eat, eat_pair, eat_word, is_at_end, is_at_open, is_empty, is_pair, kind, symbol, text, word}
 pub use Rattle.rust_ids.specs.Ids.{AreIds, id_at, nth_row}
 pub use Rattle.rust_ids.specs.Row.{Row}
-pub use Rattle.rust_items.specs.Blocks.{BodyRead, IsBlock, IsBlockOf, PartView, and_call, and_part, attributes_of, block_body, called_found, empty_body, is_bare, is_operand, item_found, no_part, other_found, other_part, parts, parts_from, stmt_part, stmt_with_ids, stmts_with_ids, tail_part, tail_with_id, taken_item}
+pub use Rattle.rust_items.specs.Blocks.{BodyRead, IsBlockRead, IsBlockOf, PartView, and_call, and_part, attributes_of, block_body, called_found, empty_body, is_bare, is_operand, item_found, no_part, other_found, other_part, parts, parts_from, stmt_part, stmt_with_ids, stmts_with_ids, tail_part, tail_with_id, taken_item}
 unfoldable pub use Rattle.rust_items.specs.Blocks.{call_found, found_of, other_read, part, part_behind_attributes}
 pub use Rattle.rust_items.specs.Clipped.{clipped_turn}
 unfoldable pub use Rattle.rust_items.specs.Clipped.{clipped_block, clipped_item_if, clipped_items, wanted_behind, wanted_item_if}

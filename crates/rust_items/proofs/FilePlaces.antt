@@ -1,6 +1,6 @@
 -- The places of a whole text, with the ids of its items.
 use Rattle.std.proofs.Common.{true, ◌≡◌, ◌≢◌, ◌<◌, ◌≤◌, ◌+◌, ◌-◌, ℕ, zero, suc, Option, Some, List, [], ◌∷◌, map, length, refl, sym, ap, subst, ◌∙◌, arith, get_or, option_map, AllPairs}
-use Rattle.rust_items.proofs.Common.{length-map, EditionYear, AstIdKind, FileAstId, ItemView, ItemViews, plain_item, listed_module, listed_extern_block, items_of, Tokens, tokens_of, past_within, tokens_laid, LeadsTo, here, inner_attributes_leads, Row, AreIds, nth_row, id_at, Numbers, ItemSpan, ProblemKind, ItemPlace, SourceBlock, IsBlock, IsBlockOf, Found, nothing_found, and_problem_at, held_with_ids, with_ids, Telling, id_of, name_of, IsWritten, items_held, IsPlace, ArePlaces, nothing, placed, with_feeds, returns_from, place_by, place_in, moved_span, FileView, places, behind_attributes, found_in, items_in, IsFileView}
+use Rattle.rust_items.proofs.Common.{length-map, EditionYear, AstIdKind, FileAstId, ItemView, ItemViews, plain_item, listed_module, listed_extern_block, items_of, Tokens, tokens_of, past_within, tokens_laid, LeadsTo, here, inner_attributes_leads, Row, AreIds, nth_row, id_at, Numbers, ItemSpan, ProblemKind, ItemPlace, SourceBlock, IsBlockRead, IsBlockOf, Found, nothing_found, and_problem_at, held_with_ids, with_ids, Telling, id_of, name_of, IsWritten, items_held, IsPlace, ArePlaces, nothing, placed, with_feeds, returns_from, place_by, place_in, moved_span, FileView, places, behind_attributes, found_in, items_in, IsFileView}
 use Rattle.rust_cursor.proofs.Laid.{behind}
 use Rattle.rust_ids.proofs.Consequences.{distinct}
 use Rattle.rust_items.proofs.Names.{IsToken, told_behind, told_written}
@@ -146,7 +146,7 @@ view_placed edition text file is = rw (is.syntax, is.places) (placed_text editio
 
 -- what is read of a block with line feeds alone is read of the text
 pub same_block : (edition : EditionYear) (text feeds : List ℕ) (len : ℕ) (returns : List ℕ) (read : SourceBlock) → feeds ≡ with_feeds text → len ≡ length (with_feeds text) → returns ≡ returns_from 0 text
-    → IsBlockOf edition feeds (place_by len returns) read → IsBlock edition text read
+    → IsBlockOf edition feeds (place_by len returns) read → IsBlockRead edition text read
 unfolding place_in
 same_block edition text feeds len returns read f l r is =
     subst (λ (p : List ℕ × (ℕ × List ℕ)). IsBlockOf edition p.0 (place_by p.1.0 p.1.1) read)

@@ -171,5 +171,5 @@ pub record IsBlockOf (edition : EditionYear) (text : List ℕ) (place : ℕ → 
   pub problems : read.problems.items ≡ map (moved_problem place) (found_of edition text).problems
 
 -- what is read of a block of an edition
-abbrev pub IsBlock : EditionYear → List ℕ → SourceBlock → Type 0
-IsBlock edition text read = IsBlockOf edition (with_feeds text) (place_in text) read
+abbrev pub IsBlockRead : EditionYear → List ℕ → SourceBlock → Type 0
+IsBlockRead edition text read = IsBlockOf edition (with_feeds text) (place_in text) read

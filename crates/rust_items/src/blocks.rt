@@ -376,7 +376,7 @@ fn block_of(
 /// What is read of a block's text, whichever line ends it has.
 #[tactic(auto, using(crate::proofs::FilePlaces::same_block))]
 fn read_text(alloc: Global, text: &str, edition: EditionYear) -> Result<SourceBlock, AllocError>
-    ensures { IfOk result (λ read. spec.IsBlock edition text.now read) }
+    ensures { IfOk result (λ read. spec.IsBlockRead edition text.now read) }
 {
     if !has_return(text) {
         let ends = LineEnds::none(alloc, text);
@@ -402,7 +402,7 @@ pub fn read_block(
     text: &str,
     edition: EditionYear,
 ) -> Result<SourceBlock, AllocError>
-    ensures block { IfOk result (λ read. spec.IsBlock edition text.now read) }
+    ensures block { IfOk result (λ read. spec.IsBlockRead edition text.now read) }
     ensures placed { IfOk result (λ read. let items = items_of (block_view read.block) in
         ArePlaces (IsWritten text.now) 0 (length text.now) items read.places.items []) }
 {
