@@ -1,7 +1,8 @@
 //! Entries of an index.
-ghost use Rattle.std.specs.Prelude.{◌≡◌};
+ghost use Rattle.std.specs.Prelude.{◌≡◌, refl};
+ghost use Rattle.std.specs.Ordering.{as_partial_cmp};
 ghost use Rattle.hir_input.specs.Equality.{DecidesEq};
-ghost use Rattle.decl_index.specs.EntryOrder.{entry_cmp};
+ghost use Rattle.decl_index.specs.EntryOrder.{entry_cmp, entry_cmp_partial, entry_cmp_total, entry_cmp_ties};
 
 use hir_input::{Crate, Name};
 use item_tree::ModItemId;
@@ -21,9 +22,6 @@ pub struct Entry {
 }
 
 impl PartialOrd for Entry {
-    ghost use Rattle.std.specs.Ordering.{as_partial_cmp};
-    ghost use Rattle.decl_index.specs.EntryOrder.{entry_cmp, entry_cmp_partial};
-
     ghost partial_cmp = { as_partial_cmp entry_cmp };
 
     ghost laws = { entry_cmp_partial };
@@ -34,9 +32,6 @@ impl PartialOrd for Entry {
 }
 
 impl Ord for Entry {
-    ghost use Rattle.std.specs.Prelude.{refl};
-    ghost use Rattle.decl_index.specs.EntryOrder.{entry_cmp, entry_cmp_total, entry_cmp_ties};
-
     ghost cmp = { entry_cmp };
 
     ghost total = { entry_cmp_total };

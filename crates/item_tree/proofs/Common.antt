@@ -20,7 +20,7 @@ pub use Rattle.item_tree.specs.Imports.{Import, all_imports_from, all_most_super
 pub use Rattle.item_tree.specs.Inner.Expanding.{CallsLeft, branch_count, chain_of, joined_kind, supers_before}
 pub use Rattle.item_tree.specs.Inner.Growth.{Adds, HasId, Lowers, Meets, MeetsAll, MeetsUpTo, Pushes, Puts, all_kept_in, attrs_in, items_below, kept_of, row_count, sizes_meeting, sizes_pushing, sizes_with, to_list}
 pub use Rattle.item_tree.specs.Inner.Meeting.{meet, meet_all}
-pub use Rattle.item_tree.specs.Inner.PageByIds.{Gains, Starts, gap, item_lines, lent_lines, lines_at, list_lines, node_lines, own_lines_at}
+pub use Rattle.item_tree.specs.Inner.PageByIds.{Gains, Starts, blank_between, item_lines, lent_lines, lines_at, list_lines, node_lines, own_lines_at}
 pub use Rattle.item_tree.specs.Inner.Statements.{body_items, stmt_item, tail_item}
 pub use Rattle.item_tree.specs.Kept.{head_of, kept, kept_all, kept_syntax, kept_top, module_node, shape_of}
 pub use Rattle.item_tree.specs.KeptUse.{ArePlacesOf, all_kept_places, if_kept, kept_bare, kept_places, kept_prefix, kept_tree, kept_trees, use_tree_limit, with_kept}

@@ -1,6 +1,6 @@
 -- The lines of a page by ids are those of the nodes.
 use Rattle.std.proofs.Common.{◌≡◌, ℕ, Bool, true, Option, None, suc, zero, ◌+◌, ◌<◌, ◌≤◌, List, [], ◌∷◌, ◌++◌, length, map, take, get_or, codes, Some, refl, ap, sym, ◌∙◌, false, string_bytes, replicate, ◌*◌, append_assoc, arith, inl, inr, ◌==◌, ◌⊎◌, not, is_some, option_map, String, Result, OnOk}
-use Rattle.item_tree.proofs.Common.{option_map_or, cases_Bool, ne_eqb, common_steps, flat_map-append, on_ok_weaker, take_more, map-append, append-nil, FileAstId, Collected, RawVisibility, has_no_attributes, unless, some_unless, Trunk, inline, extern_block, Node, Forest, empty, more, nodes, node_head, Unfolding, trunk_map, vis_at, node_at, IsParent, StandFor, lent_attrs, attrs_at, Line, text, blank, line_text, item_opening, top_opening, with_blanks, id_text, attrs_lines, trunk_header, own_lines, parts, page_parts, page_lines, Gains, Starts, gap, item_lines, lent_lines, node_lines, own_lines_at, lines_at, list_lines}
+use Rattle.item_tree.proofs.Common.{option_map_or, cases_Bool, ne_eqb, common_steps, flat_map-append, on_ok_weaker, take_more, map-append, append-nil, FileAstId, Collected, RawVisibility, has_no_attributes, unless, some_unless, Trunk, inline, extern_block, Node, Forest, empty, more, nodes, node_head, Unfolding, trunk_map, vis_at, node_at, IsParent, StandFor, lent_attrs, attrs_at, Line, text, blank, line_text, item_opening, top_opening, with_blanks, id_text, attrs_lines, trunk_header, own_lines, parts, page_parts, page_lines, Gains, Starts, blank_between, item_lines, lent_lines, node_lines, own_lines_at, lines_at, list_lines}
 use Rattle.std.specs.declared.alloc.Global.{Global}
 use Rattle.item_tree.proofs.Column.{empty-is}
 use Rattle.item_tree.proofs.Walking.{map_of_id, parent_of_id}
@@ -96,7 +96,7 @@ module _ (reserved : List (List ℕ)) where
 
   page-parts : (b : Bool) (c : Collected) (f : Forest) →
       page_lines (unless b (attrs_lines reserved top_opening 0 c) ++ parts reserved f 0)
-      ≡ lent_lines reserved top_opening 0 (some_unless b c) ++ (gap (is_some (some_unless b c)) (has_nodes f) ++ with_blanks (parts reserved f 0))
+      ≡ lent_lines reserved top_opening 0 (some_unless b c) ++ (blank_between (is_some (some_unless b c)) (has_nodes f) ++ with_blanks (parts reserved f 0))
   page-parts true c empty = refl
   page-parts true c (more n f) = refl
   page-parts false c empty = refl
@@ -110,10 +110,10 @@ module _ (reserved : List (List ℕ)) where
   -- the page is the lines of the top attributes, and those of the ids at the top
   pub page_of_ids :
       (u : Unfolding) (is : List ℕ) → StandFor u is u.forest →
-      page_lines (page_parts reserved u) ≡ lent_lines reserved top_opening 0 (lent_attrs u.top_attrs) ++ (gap (is_some (lent_attrs u.top_attrs)) (not (length is == 0)) ++ list_lines reserved u 0 is)
+      page_lines (page_parts reserved u) ≡ lent_lines reserved top_opening 0 (lent_attrs u.top_attrs) ++ (blank_between (is_some (lent_attrs u.top_attrs)) (not (length is == 0)) ++ list_lines reserved u 0 is)
   page_of_ids u is h =
       page-parts (has_no_attributes u.top_attrs) u.top_attrs u.forest
-      ∙ (λ j. lent_lines reserved top_opening 0 (lent_attrs u.top_attrs) ++ (gap (is_some (lent_attrs u.top_attrs)) (sym (has-ids u is u.forest h) j) ++ with_blanks (sym (parts-ids u u.forest 0 is h) j)))
+      ∙ (λ j. lent_lines reserved top_opening 0 (lent_attrs u.top_attrs) ++ (blank_between (is_some (lent_attrs u.top_attrs)) (sym (has-ids u is u.forest h) j) ++ with_blanks (sym (parts-ids u u.forest 0 is h) j)))
 
 -- three pieces of text, one behind another
 pub gains_three :

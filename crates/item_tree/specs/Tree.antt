@@ -1,5 +1,6 @@
 -- A kept use tree as plain data.
 use Rattle.std.specs.Prelude.{ℕ, List, [], ◌∷◌, ◌++◌, length, map, Option}
+use Rattle.hir_input.specs.Lists.{list_as}
 use Rattle.hir_input.specs.Path.{Path}
 use Rattle.item_tree.specs.declared.use_tree.ImportAlias.{ImportAlias}
 use Rattle.item_tree.specs.declared.use_tree.UseTree.{UseTree}
@@ -18,15 +19,13 @@ mutual
     branch_and : Tree → Branches → Branches
 
 abbrev pub branches_from : List Tree → Branches
-branches_from [] = no_branches
-branches_from (t ∷ ts) = branch_and t (branches_from ts)
+branches_from = list_as no_branches branch_and
 
 -- all nodes, each before those below it
 abbrev mutual
   pub tree_nodes : Tree → List Tree
-  tree_nodes (single p a) = single p a ∷ []
-  tree_nodes (glob p) = glob p ∷ []
   tree_nodes (prefixed p ts) = prefixed p ts ∷ branch_nodes ts
+  tree_nodes t = t ∷ []
 
   pub branch_nodes : Branches → List Tree
   branch_nodes no_branches = []

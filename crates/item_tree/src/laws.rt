@@ -1,8 +1,8 @@
-//! What holds of every type here: `==` decides whether two values are one, values that are equal are hashed alike,
-//! and a copy is its source. Each derive is held to it by a clause; the functions do nothing.
+//! What holds of every type here: `==` decides whether two values are one, a copy is its source, and values that are
+//! equal are hashed alike. Each derive is held to it by a clause; the functions do nothing.
 ghost use Rattle.std.specs.Prelude.{◌≡◌};
 ghost use Rattle.hir_input.specs.declared.ids.AstIdKind.TheVariants as kinds;
-ghost use Rattle.hir_input.specs.Equality.{HashesAlike, IsCopied, IsCopiedOf};
+ghost use Rattle.hir_input.specs.Equality.{IsCopied, IsCopiedOf, IsKey};
 ghost use Rattle.item_tree.specs.Items.{IsByValue, IsByValueOf, block_value, inline_ids, mod_value, struct_value};
 ghost use Rattle.item_tree.specs.Shown.{ctor_ids};
 ghost use Rattle.item_tree.specs.Stats.{no_stats};
@@ -20,13 +20,15 @@ use crate::visibility::{RawVisibility, RawVisibilityId, VisibilityExplicitness};
 use hir_input::AstIdKind;
 use std::hash::Hash;
 
-// `==` of what owns no memory is true exactly where the two are one, and a copy is its source.
+// `==` of what owns no memory is true exactly where the two are one, a copy is its source, and keys that are equal are
+// hashed alike.
 fn parts()
-    ensures explicitness { IsByValue ⟦<VisibilityExplicitness as PartialEq>⟧.eq
-        ⟦<VisibilityExplicitness as Clone>⟧.is_clone }
+    ensures explicitness { IsKey ⟦<VisibilityExplicitness as PartialEq>⟧.eq ⟦<VisibilityExplicitness as Clone>⟧.is_clone
+        ⟦<VisibilityExplicitness as Hash>⟧.hash_input }
     ensures visibility_ids { IsByValue ⟦<RawVisibilityId as PartialEq>⟧.eq
         ⟦<RawVisibilityId as Clone>⟧.is_clone }
-    ensures item_ids { IsByValue ⟦<ModItemId as PartialEq>⟧.eq ⟦<ModItemId as Clone>⟧.is_clone }
+    ensures item_ids { IsKey ⟦<ModItemId as PartialEq>⟧.eq ⟦<ModItemId as Clone>⟧.is_clone
+        ⟦<ModItemId as Hash>⟧.hash_input }
     ensures indices { IsByValue ⟦<UseTreeIdx as PartialEq>⟧.eq ⟦<UseTreeIdx as Clone>⟧.is_clone }
     ensures shapes { IsByValue ⟦<FieldsShape as PartialEq>⟧.eq ⟦<FieldsShape as Clone>⟧.is_clone }
     ensures import_kinds { IsByValue ⟦<ImportKind as PartialEq>⟧.eq
@@ -37,11 +39,11 @@ fn parts()
         ⟦<ItemTreeDataStats as Clone>⟧.is_clone }
 {}
 
-// `==` of visibilities and items is true exactly where their values are one, and a copy is its source.
+// The same of visibilities and items by their values.
 #[tactic(auto, using(crate::proofs::Equal::items_decide))]
 fn items()
-    ensures visibilities { IsByValue ⟦<RawVisibility as PartialEq>⟧.eq
-        ⟦<RawVisibility as Clone>⟧.is_clone }
+    ensures visibilities { IsKey ⟦<RawVisibility as PartialEq>⟧.eq ⟦<RawVisibility as Clone>⟧.is_clone
+        ⟦<RawVisibility as Hash>⟧.hash_input }
     ensures constructors { IsByValueOf ctor_ids ⟦<StructValueNsCtor as PartialEq>⟧.eq
         ⟦<StructValueNsCtor as Clone>⟧.is_clone }
     ensures module_kinds { IsByValueOf inline_ids ⟦<ModKind as PartialEq>⟧.eq
@@ -66,15 +68,6 @@ fn items()
     ensures type_aliases { IsByValue ⟦<TypeAlias as PartialEq>⟧.eq ⟦<TypeAlias as Clone>⟧.is_clone }
     ensures unions { IsByValue ⟦<Union as PartialEq>⟧.eq ⟦<Union as Clone>⟧.is_clone }
     ensures uses { IsByValue ⟦<Use as PartialEq>⟧.eq ⟦<Use as Clone>⟧.is_clone }
-{}
-
-// Values that are equal are hashed alike.
-fn hashes()
-    ensures explicitness { HashesAlike ⟦<VisibilityExplicitness as PartialEq>⟧.eq
-        ⟦<VisibilityExplicitness as Hash>⟧.hash_input }
-    ensures visibilities { HashesAlike ⟦<RawVisibility as PartialEq>⟧.eq
-        ⟦<RawVisibility as Hash>⟧.hash_input }
-    ensures item_ids { HashesAlike ⟦<ModItemId as PartialEq>⟧.eq ⟦<ModItemId as Hash>⟧.hash_input }
 {}
 
 // A copy of what is lent, of an alias and of a use tree is its source.

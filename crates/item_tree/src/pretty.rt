@@ -2,7 +2,7 @@
 ghost use Rattle.std.specs.Prelude.{◌≡◌, ◌+◌, ◌<◌, ◌^◌, ◌∷◌, ◌++◌, [], IfOk, OnOk, codes, string_bytes, sum_by};
 ghost use Rattle.item_tree.specs.Line.{text};
 ghost use Rattle.item_tree.specs.Page.{shown_visibility, id_text, call_id_text, named_header, constant_header, use_header, extern_crate_header, macro_call_header, macro_rules_header, page};
-ghost use Rattle.item_tree.specs.Inner.PageByIds.{Gains, Starts, gap, item_lines, own_lines_at, lines_at, list_lines};
+ghost use Rattle.item_tree.specs.Inner.PageByIds.{Gains, Starts, blank_between, item_lines, own_lines_at, lines_at, list_lines};
 ghost use Rattle.item_tree.specs.Shown.{IsContained, IsModule};
 ghost use Rattle.item_tree.specs.Walk.{AreContained, count_at};
 
@@ -14,53 +14,15 @@ use crate::items::{
 use crate::line::{push_blank, push_indent, push_line};
 use crate::tree::ItemTree;
 use crate::visibility::RawVisibility;
-use hir_input::{Edition, FileAstId, Name};
+use hir_input::{Edition, FileAstId, InEdition, Name};
 use std::alloc::{AllocError, Global};
-use std::fmt;
-use std::marker::Model;
-
-/// A visibility as it is written in an edition, with a space at its end.
-#[derive(Drop)]
-struct VisibilityDisplay<'a> {
-    visibility: &'a RawVisibility,
-    edition: &'a Edition,
-}
-
-impl<'a> Model for VisibilityDisplay<'a> {
-    ghost use Rattle.std.specs.Prelude.{ℕ, List};
-    ghost use Rattle.item_tree.specs.Page.{shown_visibility};
-
-    ghost Value = { List ℕ };
-
-    ghost view = { λ d. shown_visibility d.edition.now.reserved.items d.visibility.now };
-}
 
 impl RawVisibility {
-    fn display<'a>(&'a self, edition: &'a Edition) -> VisibilityDisplay<'a>
+    // The visibility as it is written in an edition, with a space at its end.
+    fn display<'a>(&'a self, edition: &'a Edition) -> InEdition<'a, RawVisibility>
         ensures { result ≡ shown_visibility edition.now.reserved.items self.now }
     {
-        VisibilityDisplay {
-            visibility: self,
-            edition,
-        }
-    }
-}
-
-impl fmt::Display for VisibilityDisplay<'_> {
-    ghost use Rattle.std.specs.Prelude.{Some};
-
-    ghost output = { λ d. Some d };
-
-    fn fmt<W: fmt::Write>(&self, f: &mut fmt::Formatter<W>) -> fmt::Result {
-        match self.visibility {
-            RawVisibility::Public => f.write_str("pub "),
-            RawVisibility::PubCrate => f.write_str("pub(crate) "),
-            RawVisibility::PubSelf(_) => f.write_str("pub(self) "),
-            RawVisibility::Module(path, _) => {
-                let path = path.display(self.edition);
-                write!(f, "pub(in {path}) ")
-            }
-        }
+        InEdition::new(self, edition)
     }
 }
 
@@ -236,7 +198,7 @@ impl Printer<'_> {
 
 // A blank between the top attributes and the items, or alone where there is neither.
 fn push_gap(out: &mut String, has_attrs: bool, has_items: bool) -> Result<(), AllocError>
-    ensures { OnOk result (Gains out.old out.new (gap has_attrs has_items)) }
+    ensures { OnOk result (Gains out.old out.new (blank_between has_attrs has_items)) }
 {
     if has_attrs == has_items {
         push_blank(out)

@@ -1,11 +1,11 @@
 //! Visibilities.
-ghost use Rattle.std.specs.Prelude.{◌≡◌, ◌↔◌, [], IsTrue, IfOk, option_copied};
+ghost use Rattle.std.specs.Prelude.{◌≡◌, ◌↔◌, ℕ, [], IsTrue, IfOk, option_copied};
 ghost use Rattle.item_tree.specs.Visibility.{read_visibility};
 ghost use Rattle.item_tree.specs.Layout.{fixed};
 ghost use Rattle.item_tree.specs.declared.visibility.VisibilityExplicitness.TheVariants.{Explicit};
 
 use hir_input::ast::{PathNode, Visibility};
-use hir_input::{ModPath, PathKind};
+use hir_input::{Edition, ModPath, PathKind, Written};
 use std::alloc::{AllocError, Global};
 use std::fmt;
 use std::marker::Model;
@@ -59,6 +59,25 @@ impl Clone for RawVisibility {
     }
 }
 
+/// Written with a space at its end.
+impl Written for RawVisibility {
+    ghost use Rattle.item_tree.specs.Page.{shown_visibility};
+
+    ghost shown = { shown_visibility };
+
+    fn write<W: fmt::Write>(&self, edition: &Edition, f: &mut fmt::Formatter<W>) -> fmt::Result {
+        match self {
+            RawVisibility::Public => f.write_str("pub "),
+            RawVisibility::PubCrate => f.write_str("pub(crate) "),
+            RawVisibility::PubSelf(_) => f.write_str("pub(self) "),
+            RawVisibility::Module(path, _) => {
+                let path = path.display(edition);
+                write!(f, "pub(in {path}) ")
+            }
+        }
+    }
+}
+
 pub(crate) const PUBLIC: u32 = u32::MAX;
 
 pub(crate) const PRIVATE_IMPLICIT: u32 = u32::MAX - 1;
@@ -69,31 +88,27 @@ pub(crate) const PUB_CRATE: u32 = u32::MAX - 3;
 
 /// The id of a visibility in an item tree, by which the tree lends its value. rust-analyzer's `RawVisibilityId`.
 #[derive(Clone, Copy, PartialEq, Eq)]
-pub struct RawVisibilityId {
-    id: u32,
-}
+pub struct RawVisibilityId(u32);
 
 impl Model for RawVisibilityId {
-    ghost use Rattle.std.specs.Prelude.{ℕ};
-
     ghost Value = { ℕ };
 
-    ghost view = { λ i. i.id };
+    ghost view = { λ i. i.0 };
 
-    ghost inverse = { λ n. record { id = n } };
+    ghost inverse = { λ n. record { 0 = n } };
 }
 
 impl RawVisibilityId {
     pub(crate) fn number(self) -> u32
         ensures { result ≡ self }
     {
-        self.id
+        self.0
     }
 
     pub(crate) fn from_number(id: u32) -> RawVisibilityId
         ensures { result ≡ id }
     {
-        RawVisibilityId { id }
+        RawVisibilityId(id)
     }
 }
 
@@ -120,7 +135,7 @@ impl FixedVisibilities {
 /// Shows the four ids that every tree has by what they stand for, and any other as its number.
 impl fmt::Debug for RawVisibilityId {
     fn fmt<W: fmt::Write>(&self, f: &mut fmt::Formatter<W>) -> fmt::Result {
-        match self.id {
+        match self.0 {
             PUBLIC => f.debug_tuple("RawVisibilityId").field(&"pub").finish(),
             PRIVATE_IMPLICIT | PRIVATE_EXPLICIT => {
                 f.debug_tuple("RawVisibilityId")

@@ -26,11 +26,11 @@ lent_lines reserved opening level None = []
 lent_lines reserved opening level (Some c) = attrs_lines reserved opening level c
 
 -- between top attributes and items, and on the page that has neither, stands a blank
-abbrev pub gap : Bool → Bool → List Line
-gap true true = blank ∷ []
-gap true false = []
-gap false true = []
-gap false false = blank ∷ []
+abbrev pub blank_between : Bool → Bool → List Line
+blank_between true true = blank ∷ []
+blank_between true false = []
+blank_between false true = []
+blank_between false false = blank ∷ []
 
 -- all lines of a node
 abbrev pub node_lines : List (List ℕ) → ℕ → Node → List Line

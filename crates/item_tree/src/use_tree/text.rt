@@ -1,5 +1,5 @@
 //! How aliases and use trees are displayed.
-ghost use Rattle.std.specs.Prelude.{◌≡◌, ◌++◌, Some, map};
+ghost use Rattle.std.specs.Prelude.{◌≡◌, ◌++◌, map};
 ghost use Rattle.std.specs.Fmt.{WritesOnOk};
 ghost use Rattle.hir_input.specs.Cfg.{by_commas};
 ghost use Rattle.hir_input.specs.Path.{shown_path};
@@ -7,25 +7,21 @@ ghost use Rattle.item_tree.specs.Tree.{tree_of, tree_of_kind};
 ghost use Rattle.item_tree.specs.UseText.{shown_alias, shown_rename, shown_prefix, shown_tree};
 
 use crate::use_tree::{ImportAlias, UseTree, UseTreeKind};
-use hir_input::{Edition, ModPath};
+use hir_input::{Edition, InEdition, ModPath, Written};
 use std::fmt;
-use std::fmt::Display;
-use std::marker::Model;
 
 /// An alias as it is written in an edition. In place of the `impl Display` of rust-analyzer's `ImportAlias::display`.
-#[derive(Drop)]
-pub struct ImportAliasDisplay<'a> {
-    alias: &'a ImportAlias,
-    edition: &'a Edition,
-}
+pub type ImportAliasDisplay<'a> = InEdition<'a, ImportAlias>;
 
-impl<'a> Model for ImportAliasDisplay<'a> {
-    ghost use Rattle.std.specs.Prelude.{ℕ, List};
-    ghost use Rattle.item_tree.specs.UseText.{shown_alias};
+impl Written for ImportAlias {
+    ghost shown = { shown_alias };
 
-    ghost Value = { List ℕ };
-
-    ghost view = { λ d. shown_alias d.edition.now.reserved.items d.alias.now };
+    fn write<W: fmt::Write>(&self, edition: &Edition, f: &mut fmt::Formatter<W>) -> fmt::Result {
+        match self {
+            ImportAlias::Underscore => f.write_str("_"),
+            ImportAlias::Alias(name) => name.write(edition, f),
+        }
+    }
 }
 
 impl ImportAlias {
@@ -34,50 +30,16 @@ impl ImportAlias {
     pub fn display<'a>(&'a self, edition: &'a Edition) -> ImportAliasDisplay<'a>
         ensures { result ≡ shown_alias edition.now.reserved.items self.now }
     {
-        ImportAliasDisplay {
-            alias: self,
-            edition,
-        }
+        InEdition::new(self, edition)
     }
-}
-
-impl fmt::Display for ImportAliasDisplay<'_> {
-    ghost output = { λ d. Some d };
-
-    fn fmt<W: fmt::Write>(&self, f: &mut fmt::Formatter<W>) -> fmt::Result {
-        match self.alias {
-            ImportAlias::Underscore => f.write_str("_"),
-            ImportAlias::Alias(name) => name.display(self.edition).fmt(f),
-        }
-    }
-}
-
-/// A use tree as it is written in an edition.
-#[derive(Drop)]
-pub(crate) struct UseTreeDisplay<'a> {
-    tree: &'a UseTree,
-    edition: &'a Edition,
-}
-
-impl<'a> Model for UseTreeDisplay<'a> {
-    ghost use Rattle.std.specs.Prelude.{ℕ, List};
-    ghost use Rattle.item_tree.specs.Tree.{tree_of};
-    ghost use Rattle.item_tree.specs.UseText.{shown_tree};
-
-    ghost Value = { List ℕ };
-
-    ghost view = { λ d. shown_tree d.edition.now.reserved.items (tree_of d.tree.now) };
 }
 
 impl UseTree {
     // The use tree as it is written in an edition.
-    pub(crate) fn display<'a>(&'a self, edition: &'a Edition) -> UseTreeDisplay<'a>
+    pub(crate) fn display<'a>(&'a self, edition: &'a Edition) -> InEdition<'a, UseTree>
         ensures { result ≡ shown_tree edition.now.reserved.items (tree_of self.now) }
     {
-        UseTreeDisplay {
-            tree: self,
-            edition,
-        }
+        InEdition::new(self, edition)
     }
 }
 
@@ -166,11 +128,11 @@ fn write_list<W: fmt::Write>(
     Ok(())
 }
 
-impl fmt::Display for UseTreeDisplay<'_> {
-    ghost output = { λ d. Some d };
+impl Written for UseTree {
+    ghost shown = { λ reserved tree. shown_tree reserved (tree_of tree) };
 
     #[tactic(auto, using(crate::proofs::TreeLemmas::tree_forms))]
-    fn fmt<W: fmt::Write>(&self, f: &mut fmt::Formatter<W>) -> fmt::Result {
-        write_kind(&self.tree.kind, self.edition, f)
+    fn write<W: fmt::Write>(&self, edition: &Edition, f: &mut fmt::Formatter<W>) -> fmt::Result {
+        write_kind(&self.kind, edition, f)
     }
 }
