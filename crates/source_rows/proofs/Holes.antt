@@ -8,17 +8,17 @@ use Rattle.rust_lexer.specs.Symbol.{symbol_of}
 use Rattle.rust_lexer.specs.Tokens.{AreInPlace}
 use Rattle.rust_lexer.specs.declared.depth.Depth.{Depth}
 use Rattle.rust_lexer.proofs.Counted.{when}
-use Rattle.source_rows.specs.Inner.{IsAfter, ends_behind}
+use Rattle.source_rows.specs.Inner.{ComeBehind, ends_behind}
 use Rattle.source_rows.specs.Skeletons.{counts, is_begun, kept}
 use Rattle.source_rows.specs.declared.kept.Hole.{Hole}
 use Rattle.source_rows.proofs.Common.{nat_tests}
 
-pub sooner : (n m : ℕ) (ts : List Piece) → n ≤ m → IsAfter m ts → IsAfter n ts
+pub sooner : (n m : ℕ) (ts : List Piece) → n ≤ m → ComeBehind m ts → ComeBehind n ts
 sooner n m [] le a = tt
 sooner n m (t ∷ ts) le a = (omega (arith, le, a.0), a.1)
 
 -- tokens that are in place, and not empty, come one behind the other
-pub after_all : (at : ℕ) (ts : List Piece) → AreInPlace at ts → All (λ t. 0 < length t.text) ts → IsAfter at ts
+pub after_all : (at : ℕ) (ts : List Piece) → AreInPlace at ts → All (λ t. 0 < length t.text) ts → ComeBehind at ts
 after_all at [] p a = tt
 after_all at (t ∷ ts) p a =
     let next = after_all (at + length t.text) ts p.1 (All-tail (λ t. 0 < length t.text) t ts a) in
@@ -30,12 +30,12 @@ behind (Some p) = p.1
 
 -- what is left of tokens behind a place, up to a part's end, of which none is kept
 pub record Passed (holes : List Hole) (place : ℕ) (ts us : List Piece) : Type 0 where
-  pub after : IsAfter place us
+  pub after : ComeBehind place us
   pub fewer : length us ≤ length ts
   pub same : ends_behind us holes ≡ true → (docs : Bool) → kept docs holes us ≡ kept docs holes ts
 
 module _ (h : Hole) (hs : List Hole) where
-  before_end : (place : ℕ) (us : List Piece) → IsAfter place us → ends_behind us (h ∷ hs) ≡ true → place ≤ h.end
+  before_end : (place : ℕ) (us : List Piece) → ComeBehind place us → ends_behind us (h ∷ hs) ≡ true → place ≤ h.end
   before_end place [] a e = absurd cc
   before_end place (u ∷ us) a e = omega (arith, a.0, leb-true u.at h.end e)
 
@@ -45,7 +45,7 @@ module _ (h : Hole) (hs : List Hole) where
       let begun : nat_le h.start t.at ≡ true = grind (arith, nat_tests) in
       when (counts docs t) (λ c. rw (over, begun, c) refl) (λ c. rw (over, begun, c) refl)
 
-  passed : (d d' : Depth) (place : ℕ) (ts us : List Piece) → h.start ≤ place → IsAfter place ts → to_outer d ts ≡ Some (d', us) → Passed (h ∷ hs) place ts us
+  passed : (d d' : Depth) (place : ℕ) (ts us : List Piece) → h.start ≤ place → ComeBehind place ts → to_outer d ts ≡ Some (d', us) → Passed (h ∷ hs) place ts us
   passed d d' place [] us from a e = absurd cc
   passed d d' place (t ∷ ts) us from a e =
       when (d.braces == 1 && symbol_of t == 125)
@@ -61,6 +61,6 @@ module _ (h : Hole) (hs : List Hole) where
       })
 
 -- up to the `}` that closes what is around, which comes next
-pub hole_passed : (holes : List Hole) (d d' : Depth) (place : ℕ) (ts us : List Piece) → is_begun place holes ≡ true → IsAfter place ts → to_outer d ts ≡ Some (d', us) → Passed holes place ts us
+pub hole_passed : (holes : List Hole) (d d' : Depth) (place : ℕ) (ts us : List Piece) → is_begun place holes ≡ true → ComeBehind place ts → to_outer d ts ≡ Some (d', us) → Passed holes place ts us
 hole_passed [] d d' place ts us b a e = absurd cc
 hole_passed (h ∷ hs) d d' place ts us b a e = passed h hs d d' place ts us (leb-true h.start place b) a e

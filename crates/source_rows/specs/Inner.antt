@@ -25,9 +25,9 @@ found_row_change None = []
 found_row_change (Some c) = row_change_view c ∷ []
 
 -- each begins at a place or behind it, and none is empty
-abbrev pub IsAfter : ℕ → List Piece → Type 0
-IsAfter place [] = Unit {0}
-IsAfter place (t ∷ ts) = (place ≤ t.at) × ((0 < length t.text) × IsAfter (t.at + length t.text) ts)
+abbrev pub ComeBehind : ℕ → List Piece → Type 0
+ComeBehind place [] = Unit {0}
+ComeBehind place (t ∷ ts) = (place ≤ t.at) × ((0 < length t.text) × ComeBehind (t.at + length t.text) ts)
 
 -- the first of some parts ends where the next token begins, or later
 abbrev pub ends_behind : List Piece → List Hole → Bool

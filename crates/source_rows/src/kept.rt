@@ -93,10 +93,10 @@ fn ends_behind(lexer: &Lexer<'_>, holes: &[Hole]) -> bool
 
 /// Passes over what stands in braces behind a token, if the token opens them and all of that stands in the first of some parts.
 fn pass_hole(token: &Token<'_>, holes: &[Hole], lexer: &mut Lexer<'_>)
-    requires { inner.IsAfter (token.now.at + length token.now.text) lexer.old }
+    requires { inner.ComeBehind (token.now.at + length token.now.text) lexer.old }
     ensures same { (has_docs : Bool) → spec.kept has_docs holes.now lexer.new
         ≡ spec.kept has_docs holes.now lexer.old }
-    ensures after { inner.IsAfter (token.now.at + length token.now.text) lexer.new }
+    ensures after { inner.ComeBehind (token.now.at + length token.now.text) lexer.new }
     ensures fewer { length lexer.new ≤ length lexer.old }
 {
     if token.symbol() != b'{' || !is_begun(token.end(), holes) {
