@@ -18,7 +18,7 @@ use crate::fault::{Fault, ReadIn};
 use crate::item::extern_block::extern_block_of;
 use crate::item::fields::struct_kind_at;
 use crate::item::macros::{macro_call_of, macro_rules_of};
-use crate::item::node::{named_at, node_at, with_name, with_node};
+use crate::item::node::{named_at, named_by, node_at, with_name, with_node};
 use crate::member::{Members, array_of, flag_at, maybe_list_of, members_of, taken, word_at};
 use crate::use_tree::{rename_at, use_tree_at};
 use crate::visibility::visibility_at;
@@ -86,17 +86,10 @@ fn asm_of(alloc: Global, members: &mut Members) -> Result<Item, Fault>
 fn named_item_of(alloc: Global, members: &mut Members) -> Result<Item, Fault>
     ensures { Reads item_view result (named_item_form (held members.old)) }
 {
-    match word_at(alloc, members, "is")? {
-        "fn" => Ok(Item::Fn(with_name!(Fn, named_at(alloc, members)?))),
-        "union" => Ok(Item::Union(with_name!(Union, named_at(alloc, members)?))),
-        "enum" => Ok(Item::Enum(with_name!(Enum, named_at(alloc, members)?))),
-        "static" => Ok(Item::Static(with_name!(Static, named_at(alloc, members)?))),
-        "trait" => Ok(Item::Trait(with_name!(Trait, named_at(alloc, members)?))),
-        "type_alias" => Ok(Item::TypeAlias(with_name!(TypeAlias, named_at(alloc, members)?))),
-        "macro_def" => Ok(Item::MacroDef(with_name!(MacroDef, named_at(alloc, members)?))),
-        "const" => Ok(Item::Const(with_name!(Const, named_at(alloc, members)?))),
-        _ => Err(Fault::at(alloc, "is")),
-    }
+    named_by!(alloc, members, Item {
+        "fn": Fn, "union": Union, "enum": Enum, "static": Static, "trait": Trait,
+        "type_alias": TypeAlias, "macro_def": MacroDef, "const": Const
+    }, _ => Err(Fault::at(alloc, "is")))
 }
 
 #[cycle(items)]

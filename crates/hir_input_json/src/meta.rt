@@ -4,7 +4,7 @@ ghost use Rattle.serde_json.specs.View.{view, items_view};
 ghost use Rattle.hir_input.specs.Attr.{meta_view};
 ghost use Rattle.hir_input_json.specs.Forms.{each};
 ghost use Rattle.hir_input_json.specs.Held.{held, without};
-ghost use Rattle.hir_input_json.specs.Metas.{meta_form as meta_form, meta_form_with, path_form, key_value_form, tokens_form, cfg_form, cfg_attr_form, unsafe_form, attrs_form as attrs_form};
+ghost use Rattle.hir_input_json.specs.Metas.{meta_form as meta_form, meta_form_with, key_value_form, tokens_form, cfg_attr_form, unsafe_form, attrs_form as attrs_form};
 ghost use Rattle.hir_input_json.specs.Reads.{Reads};
 
 use crate::cfg::condition_at;
@@ -17,15 +17,6 @@ use crate::path::path_at;
 use hir_input::{Meta, TokenTree};
 use serde_json::Value;
 use std::alloc::Global;
-
-#[tactic(auto, using(crate::proofs::Held::field_without, hir_input::proofs::MetaLemmas::meta_views))]
-fn path_meta_of(alloc: Global, members: &mut Members) -> Result<Meta, Fault>
-    ensures { Reads meta_view result (path_form (held members.old)) }
-{
-    let path = path_at(alloc, members)?;
-    let ctxt = context_at(alloc, members)?;
-    Ok(Meta::Path { path, ctxt })
-}
 
 #[tactic(auto, using(crate::proofs::Held::field_without, hir_input::proofs::MetaLemmas::meta_views))]
 fn key_value_of(alloc: Global, members: &mut Members) -> Result<Meta, Fault>
@@ -51,13 +42,6 @@ fn tokens_of(alloc: Global, members: &mut Members) -> Result<Meta, Fault>
     })
 }
 
-#[tactic(auto, using(hir_input::proofs::MetaLemmas::meta_views))]
-fn cfg_meta_of(alloc: Global, members: &mut Members) -> Result<Meta, Fault>
-    ensures { Reads meta_view result (cfg_form (held members.old)) }
-{
-    Ok(Meta::Cfg(condition_at(alloc, members)?))
-}
-
 #[cycle(metas)]
 #[tactic(auto, using(crate::proofs::Attrs::meta_reads_itself))]
 fn meta_of(alloc: Global, value: Value) -> Result<Meta, Fault>
@@ -68,14 +52,18 @@ fn meta_of(alloc: Global, value: Value) -> Result<Meta, Fault>
 }
 
 #[cycle(metas)]
+#[tactic(auto, using(crate::proofs::Held::field_without, hir_input::proofs::MetaLemmas::meta_views))]
 fn meta_in(alloc: Global, members: &mut Members) -> Result<Meta, Fault>
     ensures { Reads meta_view result (meta_form_with meta_form (held members.old)) }
 {
     match word_at(alloc, members, "meta")? {
-        "path" => path_meta_of(alloc, members),
+        "path" => Ok(Meta::Path {
+            path: path_at(alloc, members)?,
+            ctxt: context_at(alloc, members)?,
+        }),
         "key_value" => key_value_of(alloc, members),
         "tokens" => tokens_of(alloc, members),
-        "cfg" => cfg_meta_of(alloc, members),
+        "cfg" => Ok(Meta::Cfg(condition_at(alloc, members)?)),
         "cfg_attr" => cfg_attr_of(alloc, members),
         "unsafe" => unsafe_of(alloc, members),
         _ => Err(Fault::at(alloc, "meta")),
@@ -87,10 +75,10 @@ fn meta_in(alloc: Global, members: &mut Members) -> Result<Meta, Fault>
 fn cfg_attr_of(alloc: Global, members: &mut Members) -> Result<Meta, Fault>
     ensures { Reads meta_view result (cfg_attr_form meta_form (held members.old)) }
 {
-    let condition = condition_at(alloc, members)?;
-    let items = list_at(alloc, members, "metas")?;
-    let metas = metas_of(alloc, items).in_member(alloc, "metas")?;
-    Ok(Meta::CfgAttr { condition, metas })
+    Ok(Meta::CfgAttr {
+        condition: condition_at(alloc, members)?,
+        metas: metas_of(alloc, list_at(alloc, members, "metas")?).in_member(alloc, "metas")?,
+    })
 }
 
 #[cycle(metas)]

@@ -10,7 +10,7 @@ ghost use Rattle.hir_input_json.specs.Reads.{Reads};
 use crate::each_of;
 use crate::fault::{Fault, ReadIn};
 use crate::item::macros::macro_call_of;
-use crate::item::node::{named_at, node_at, with_name, with_node};
+use crate::item::node::{named_at, named_by, node_at, with_name, with_node};
 use crate::member::{Members, array_of, maybe_list_of, members_of, taken, word_at};
 use hir_input::ast::{ExternBlock, ExternItem, Fn, Item, Static, TypeAlias};
 use serde_json::Value;
@@ -28,13 +28,9 @@ fn extern_item_of(alloc: Global, value: Value) -> Result<ExternItem, Fault>
 fn extern_item_in(alloc: Global, members: &mut Members) -> Result<ExternItem, Fault>
     ensures { Reads extern_item_view result (extern_item_form (held members.old)) }
 {
-    match word_at(alloc, members, "is")? {
-        "fn" => Ok(ExternItem::Fn(with_name!(Fn, named_at(alloc, members)?))),
-        "static" => Ok(ExternItem::Static(with_name!(Static, named_at(alloc, members)?))),
-        "type_alias" => Ok(ExternItem::TypeAlias(with_name!(TypeAlias, named_at(alloc, members)?))),
+    named_by!(alloc, members, ExternItem { "fn": Fn, "static": Static, "type_alias": TypeAlias },
         "macro_call" => Ok(ExternItem::MacroCall(macro_call_of(alloc, members)?)),
-        _ => Err(Fault::at(alloc, "is")),
-    }
+        _ => Err(Fault::at(alloc, "is")))
 }
 
 fn extern_items_of(alloc: Global, values: Vec<Value>) -> Result<Vec<ExternItem>, Fault>

@@ -61,6 +61,17 @@ macro_rules! with_name {
     }};
 }
 
+// By the word for its kind: an item that has what every named item has and no more, or what the other arms give.
+macro_rules! named_by {
+    ($alloc:expr, $members:expr, $item:ident { $($word:literal: $kind:ident),* }, $($other:tt)*) => {
+        match word_at($alloc, $members, "is")? {
+            $($word => Ok($item::$kind(with_name!($kind, named_at($alloc, $members)?))),)*
+            $($other)*
+        }
+    };
+}
+
+pub(crate) use named_by;
 pub(crate) use with_name;
 pub(crate) use with_node;
 
@@ -70,15 +81,11 @@ pub(crate) fn node_at(alloc: Global, members: &mut Members) -> Result<Node, Faul
     ensures left { OnOk result
         (held members.new ≡ without (codes "body") (without (codes "attrs") (held members.old))) }
 {
-    let hash = u16_at(alloc, members, "hash")?;
-    let number = u32_at(alloc, members, "number")?;
-    let attrs = attrs_at(alloc, members)?;
-    let body = text_at(alloc, members, "body")?;
     Ok(Node {
-        hash,
-        number,
-        attrs,
-        body,
+        hash: u16_at(alloc, members, "hash")?,
+        number: u32_at(alloc, members, "number")?,
+        attrs: attrs_at(alloc, members)?,
+        body: text_at(alloc, members, "body")?,
     })
 }
 
@@ -90,12 +97,9 @@ pub(crate) fn named_at(alloc: Global, members: &mut Members) -> Result<Named, Fa
         (without (codes "name")
         (without (codes "body") (without (codes "attrs") (held members.old))))) }
 {
-    let node = node_at(alloc, members)?;
-    let name = name_at(alloc, members, "name")?;
-    let visibility = visibility_at(alloc, members)?;
     Ok(Named {
-        node,
-        name,
-        visibility,
+        node: node_at(alloc, members)?,
+        name: name_at(alloc, members, "name")?,
+        visibility: visibility_at(alloc, members)?,
     })
 }
