@@ -10,6 +10,12 @@ use Rattle.item_tree_request.specs.declared.request.show.ShowKind.TheVariants.{P
 use Rattle.hir_input_json.specs.Reading.{Reading, right, reading_map, here, under, ◌>>=◌}
 use Rattle.hir_input_json.specs.Forms.{field, required_at, by_form, on_word, wrong_at, whole_form, text_form, number_form, below, object_members}
 
+-- the word for what is shown of a tree
+abbrev pub show_word : ShowKind → List ℕ
+show_word Page = codes "page"
+show_word Tree = codes "tree"
+show_word Imports = codes "imports"
+
 -- a place: the file, where one stands there, or else the block
 abbrev pub place_form : Data → Reading Place
 place_form d =

@@ -1,4 +1,9 @@
 //! What a program over requests tells of itself, and how it ends.
+ghost use Rattle.std.specs.Prelude.{◌≡◌, ◌⊎◌, IfErr, IfSome, MatchResult};
+ghost use Rattle.std.specs.Process.{exit_status};
+ghost use Rattle.item_tree_request.specs.Status.{status_of};
+ghost use Rattle.item_tree_request.specs.declared.error.RunError.{RunError};
+
 use crate::error::RunError;
 use std::process::ExitCode;
 use std::rt::Env;
@@ -12,7 +17,9 @@ enum Asked {
 }
 
 // Other arguments mean nothing.
-fn what_is_asked(rt: &(impl AllocGlobal + Env)) -> Result<Option<Asked>, RunError> {
+fn what_is_asked(rt: &(impl AllocGlobal + Env)) -> Result<Option<Asked>, RunError>
+    ensures { IfErr result (λ e. e ≡ RunError.OutOfMemory) }
+{
     let mut words = match env::args(rt) {
         Ok(words) => words,
         Err(error) if error.kind() == io::ErrorKind::OutOfMemory => {
@@ -54,7 +61,9 @@ Statuses:
     )
 }
 
-fn print_asked(rt: &impl Print, what: Asked, name: &str, writes: &str) -> Result<(), RunError> {
+fn print_asked(rt: &impl Print, what: Asked, name: &str, writes: &str) -> Result<(), RunError>
+    ensures { IfErr result (λ e. e ≡ RunError.Write) }
+{
     let printed = match what {
         Asked::Help => print_help(rt, name, writes),
         Asked::Version => println!(rt; "{name} 0.2.0"),
@@ -73,7 +82,11 @@ pub fn told<R: AllocGlobal + Env + Print + Eprint>(
     rt: &R,
     name: &str,
     writes: &str,
-) -> Option<ExitCode> {
+) -> Option<ExitCode>
+    ensures { IfSome result (λ code. (exit_status code ≡ 0)
+        ⊎ (exit_status code ≡ status_of RunError.OutOfMemory)
+        ⊎ (exit_status code ≡ status_of RunError.Write)) }
+{
     match what_is_asked(rt) {
         Ok(None) => None,
         Ok(Some(what)) => Some(ended(rt, print_asked(rt, what, name, writes))),
@@ -82,7 +95,9 @@ pub fn told<R: AllocGlobal + Env + Print + Eprint>(
 }
 
 /// How a program ends after a run: the status of its error, which is told on standard error.
-pub fn ended(rt: &impl Eprint, run: Result<(), RunError>) -> ExitCode {
+pub fn ended(rt: &impl Eprint, run: Result<(), RunError>) -> ExitCode
+    ensures { MatchResult run (λ _. exit_status result ≡ 0) (λ e. exit_status result ≡ status_of e) }
+{
     match run {
         Ok(()) => ExitCode::SUCCESS,
         Err(e) => {

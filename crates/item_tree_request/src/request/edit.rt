@@ -54,24 +54,20 @@ pub fn edit_in(alloc: Global, members: &mut Map<String, Value>, count: usize) ->
     ensures known { IfOk result (EditNamesCrate count) }
 {
     match word_at(alloc, members, "edit")? {
-        "set_file" => {
-            let file = HirFileId(id_at(alloc, members, "file")?);
-            let syntax = syntax_at(alloc, members)?;
-            Ok(Edit::SetFile { file, syntax })
-        }
-        "remove_file" => {
-            let file = HirFileId(id_at(alloc, members, "file")?);
-            Ok(Edit::RemoveFile { file })
-        }
-        "set_block" => {
-            let block = BlockId(id_at(alloc, members, "block")?);
-            let syntax = block_in(alloc, members)?;
-            Ok(Edit::SetBlock { block, syntax })
-        }
-        "remove_block" => {
-            let block = BlockId(id_at(alloc, members, "block")?);
-            Ok(Edit::RemoveBlock { block })
-        }
+        "set_file" => Ok(Edit::SetFile {
+            file: HirFileId(id_at(alloc, members, "file")?),
+            syntax: syntax_at(alloc, members)?,
+        }),
+        "remove_file" => Ok(Edit::RemoveFile {
+            file: HirFileId(id_at(alloc, members, "file")?),
+        }),
+        "set_block" => Ok(Edit::SetBlock {
+            block: BlockId(id_at(alloc, members, "block")?),
+            syntax: block_in(alloc, members)?,
+        }),
+        "remove_block" => Ok(Edit::RemoveBlock {
+            block: BlockId(id_at(alloc, members, "block")?),
+        }),
         "set_cfg" => set_cfg_of(alloc, members, count),
         _ => Err(Fault::at(alloc, "edit")),
     }

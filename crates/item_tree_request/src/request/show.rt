@@ -6,7 +6,7 @@ ghost use Rattle.hir_input_json.specs.Forms.{each, required_at as required_form,
 ghost use Rattle.hir_input_json.specs.Held.{held};
 ghost use Rattle.hir_input_json.specs.Reads.{Reads};
 ghost use Rattle.item_tree_request.specs.Named.{NamesCrate};
-ghost use Rattle.item_tree_request.specs.Shows.{show as show_form, place_form as place_form, tree_show};
+ghost use Rattle.item_tree_request.specs.Shows.{show as show_form, place_form as place_form, show_word, tree_show};
 
 use hir_input::{BlockId, Crate, HirFileId};
 use hir_input_json::member::{field, id_at, list_at, members_of, word_at};
@@ -25,6 +25,19 @@ pub enum ShowKind {
     Tree,
     /// The imports of its uses.
     Imports,
+}
+
+impl ShowKind {
+    /// The word for it in a request.
+    pub fn word(self) -> &'static str
+        ensures { result.now ≡ show_word self }
+    {
+        match self {
+            ShowKind::Page => "page",
+            ShowKind::Tree => "tree",
+            ShowKind::Imports => "imports",
+        }
+    }
 }
 
 /// A crate's tree of a place that is to be shown.
