@@ -10,6 +10,10 @@ pub bind : {A B : Type 0} (m : Option A) (f : A → Option B) (P : A → Type 0)
 bind None f P Q h k = h
 bind (Some a) f P Q h k = k a h
 
+-- two parts
+pub both : {A B C : Type 0} (m : Option A) (o : Option B) (f : A → B → Option C) (P : A → Type 0) (R : B → Type 0) (Q : C → Type 0) → IfSome m P → IfSome o R → ((a : A) → P a → (b : B) → R b → IfSome (f a b) Q) → IfSome (option_and_then (λ a. option_and_then (f a) o) m) Q
+both m o f P R Q h k l = bind m (λ a. option_and_then (f a) o) P Q h (λ a p. bind o (f a) R Q k (l a p))
+
 pub mapped : {A B : Type 0} (m : Option A) (f : A → B) (P : A → Type 0) (Q : B → Type 0) → IfSome m P → ((a : A) → P a → Q (f a)) → IfSome (option_map f m) Q
 mapped None f P Q h k = h
 mapped (Some a) f P Q h k = k a h

@@ -9,7 +9,7 @@ use Rattle.hir_input.specs.declared.expand_to.ExpandTo.TheVariants as expand_to
 use Rattle.hir_input.specs.Id.{shown_expand_to}
 use Rattle.hir_input_json.specs.Reading.{◌>>=◌}
 use Rattle.hir_input_json.specs.Items as forms
-use Rattle.hir_input_writer.proofs.Held.{bind, mapped, maybe_law, name_law, next_law}
+use Rattle.hir_input_writer.proofs.Held.{bind, both, mapped, maybe_law, name_law, next_law}
 use Rattle.hir_input_writer.proofs.LiteralLaws.{context_law}
 use Rattle.hir_input_writer.proofs.NodeLaws.{NamedHolds, NodeHolds, named_law, named_reads, node_law, node_reads}
 use Rattle.hir_input_writer.proofs.PathLaws.{path_law, visibility_law}
@@ -67,15 +67,14 @@ fields_law f = record { there = refl; reads = refl; exact = refl }
 pub struct_law : (bodies : Bool) (n : NamedView) (f : FieldsView) → IfSome (struct_data bodies n f) (Holds forms.item (struct_item (named_kept bodies n) f))
 unfolding field
 struct_law bodies n f =
-    bind (named_data bodies n) _ (NamedHolds bodies n) (Holds forms.item (struct_item (named_kept bodies n) f)) (named_law bodies n) (λ nd h.
-    bind (fields_data f) _ (Holds fields_form f) (Holds forms.item (struct_item (named_kept bodies n) f)) (fields_law f) (λ fd k.
+    both (named_data bodies n) (fields_data f) _ (NamedHolds bodies n) (Holds fields_form f) (Holds forms.item (struct_item (named_kept bodies n) f)) (named_law bodies n) (fields_law f) (λ nd h fd k.
     record {
       there = refl;
       reads = item_reads_itself _
           ∙ ap (with_part struct_item (required_at (codes "fields") fields_form (struct_object nd fd))) (named_reads bodies n nd (struct_object nd fd) h refl refl refl refl refl refl)
           ∙ rw (k.there, k.reads) refl;
       exact = rw (h.node.attrs.exact, h.node.body.exact, k.exact, h.node.hash.exact, h.name.exact, h.node.number.exact, h.vis.exact) refl;
-    }))
+    })
 
 pub use_law : (bodies : Bool) (u : UseView) → IfSome (use_data bodies u) (Holds forms.item (use_item (use_kept bodies u)))
 unfolding field
@@ -94,15 +93,14 @@ use_law bodies u =
 pub extern_crate_law : (bodies : Bool) (n : NamedView) (r : Option Rename) → IfSome (extern_crate_data bodies n r) (Holds forms.item (extern_crate (named_kept bodies n) r))
 unfolding field
 extern_crate_law bodies n r =
-    bind (named_data bodies n) _ (NamedHolds bodies n) (Holds forms.item (extern_crate (named_kept bodies n) r)) (named_law bodies n) (λ nd h.
-    bind (maybe_data rename_data r) _ (MayHold rename_form r) (Holds forms.item (extern_crate (named_kept bodies n) r)) (maybe_law rename_data rename_form rename_law r) (λ rd k.
+    both (named_data bodies n) (maybe_data rename_data r) _ (NamedHolds bodies n) (MayHold rename_form r) (Holds forms.item (extern_crate (named_kept bodies n) r)) (named_law bodies n) (maybe_law rename_data rename_form rename_law r) (λ nd h rd k.
     record {
       there = refl;
       reads = item_reads_itself _
           ∙ ap (with_part extern_crate (maybe_at (codes "rename") rename_form (extern_crate_object nd rd))) (named_reads bodies n nd (extern_crate_object nd rd) h refl refl refl refl refl refl)
           ∙ rw k.reads refl;
       exact = rw (h.node.attrs.exact, h.node.body.exact, h.node.hash.exact, h.name.exact, h.node.number.exact, k.exact, h.vis.exact) refl;
-    }))
+    })
 
 pub impl_law : (bodies : Bool) (n : NodeView) (of_trait : Bool) → IfSome (impl_data bodies n of_trait) (Holds forms.item (impl_item (node_kept bodies n) of_trait))
 unfolding field
@@ -147,13 +145,12 @@ call_law bodies c =
 pub macro_rules_law : (bodies : Bool) (n : NodeView) (called : Option (List ℕ)) → IfSome (macro_rules_data bodies n called) (Holds forms.item (macro_rules (node_kept bodies n) called))
 unfolding field
 macro_rules_law bodies n called =
-    bind (node_data bodies n) _ (NodeHolds bodies n) (Holds forms.item (macro_rules (node_kept bodies n) called)) (node_law bodies n) (λ nd h.
-    bind (maybe_data name_data called) _ (MayHold identifier_form called) (Holds forms.item (macro_rules (node_kept bodies n) called)) (maybe_law name_data identifier_form name_law called) (λ cd k.
+    both (node_data bodies n) (maybe_data name_data called) _ (NodeHolds bodies n) (MayHold identifier_form called) (Holds forms.item (macro_rules (node_kept bodies n) called)) (node_law bodies n) (maybe_law name_data identifier_form name_law called) (λ nd h cd k.
     record {
       there = refl;
       reads = item_reads_itself _ ∙ ap (with_part macro_rules (maybe_at (codes "name") identifier_form (macro_rules_object nd cd))) (node_reads bodies n nd (macro_rules_object nd cd) h refl refl refl refl) ∙ rw k.reads refl;
       exact = rw (h.attrs.exact, h.body.exact, h.hash.exact, k.exact, h.number.exact) refl;
-    }))
+    })
 
 pub asm_law : (bodies : Bool) (n : NodeView) → IfSome (asm_data bodies n) (Holds forms.item (asm_item (node_kept bodies n)))
 unfolding field

@@ -7,9 +7,9 @@ ghost use Rattle.hir_input_writer.specs.Cfgs.{atom_data, cfg_data, cfgs_data, ke
 ghost use Rattle.hir_input_writer.specs.Held.{Holds};
 ghost use Rattle.hir_input_writer.specs.Writes.{Writes, WritesEach};
 
+use crate::each_value;
 use crate::fault::{WriteFault, Written};
 use crate::name::name_value;
-use crate::values::each_value;
 use hir_input::{CfgAtom, CfgExpr};
 use json_object::{of_text, one, with};
 use serde_json::Value;

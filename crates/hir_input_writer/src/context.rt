@@ -21,7 +21,8 @@ pub(crate) fn context_value(alloc: Global, context: SyntaxContext) -> Written
     }
 }
 
-fn year_number(year: EditionYear) -> u32
+/// The number of a year, as `edition` has it in a request.
+pub fn year_number(year: EditionYear) -> u32
     ensures { result ≡ number_of_year year }
 {
     match year {

@@ -5,11 +5,12 @@ ghost use Rattle.hir_input.specs.Syntax.{extern_block_view, extern_item_view, it
 ghost use Rattle.hir_input_writer.specs.Items.{extern_item_data, extern_items_data, item_data, listed_data};
 ghost use Rattle.hir_input_writer.specs.Writes.{Writes, WritesEach};
 
+use crate::each_value;
 use crate::fault::{WriteFault, Written};
 use crate::kinds::call_value;
 use crate::node::{node, node_members, node_of};
 use crate::plain::plain_value;
-use crate::values::{each_value, object};
+use crate::values::object;
 use hir_input::ast::{ExternBlock, ExternItem};
 use json_object::with;
 use serde_json::Value;

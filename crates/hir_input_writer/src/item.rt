@@ -5,6 +5,7 @@ ghost use Rattle.hir_input.specs.Syntax.{item_view, items_view as items_seen, mo
 ghost use Rattle.hir_input_writer.specs.Items.{item_data, items_data, module_data};
 ghost use Rattle.hir_input_writer.specs.Writes.{Writes, WritesEach};
 
+use crate::each_value;
 use crate::extern_block::extern_block_value;
 use crate::fault::{WriteFault, Written};
 use crate::kinds::{
@@ -13,7 +14,7 @@ use crate::kinds::{
 };
 use crate::node::{named_members, named_of, node, node_of};
 use crate::plain::plain_value;
-use crate::values::{each_value, object};
+use crate::values::object;
 use hir_input::ast::{Item, Module};
 use json_object::with;
 use serde_json::Value;

@@ -8,12 +8,13 @@ ghost use Rattle.hir_input_writer.specs.Paths.{visibility_data};
 ghost use Rattle.hir_input_writer.specs.Writes.{Writes, WritesEach};
 
 use crate::context::context_value;
+use crate::each_value;
 use crate::fault::{WriteFault, Written};
 use crate::name::name_or_null;
 use crate::node::{named_members, named_of, node, node_members, node_of};
 use crate::path::path_or_null;
 use crate::use_tree::{rename_or_null, use_tree_or_null};
-use crate::values::{each_value, object};
+use crate::values::object;
 use crate::visibility::visibility_or_null;
 use hir_input::ast::{
     AsmExpr, ExternCrate, Impl, MacroCall, MacroRules, Struct, StructKind, TupleField, Use,

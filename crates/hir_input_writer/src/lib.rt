@@ -21,5 +21,6 @@ mod use_tree;
 mod values;
 mod visibility;
 
+pub use context::year_number;
 pub use fault::WriteFault;
 pub use syntax::syntax_value;

@@ -7,10 +7,11 @@ ghost use Rattle.hir_input_writer.specs.Writes.{Writes, WritesEach};
 
 use crate::cfg::cfg_value;
 use crate::context::context_value;
+use crate::each_value;
 use crate::fault::{WriteFault, Written};
 use crate::literal::literal_or_null;
 use crate::path::path_or_null;
-use crate::values::{each_value, object};
+use crate::values::object;
 use hir_input::ast::PathNode;
 use hir_input::{Literal, Meta, SyntaxContext, TokenTree};
 use json_object::{of_text, with, with_text};

@@ -9,11 +9,12 @@ ghost use Rattle.hir_input_writer.specs.Syntaxes as objects;
 ghost use Rattle.hir_input_writer.specs.Syntaxes.{macro_items_data, macro_stmts_data, source_data, stmt_data, syntax_data, tail_data};
 ghost use Rattle.hir_input_writer.specs.Writes.{Writes, WritesEach};
 
+use crate::each_value;
 use crate::fault::{WriteFault, Written};
 use crate::item::{item_value, item_values};
 use crate::kinds::call_value;
 use crate::node::attrs_value;
-use crate::values::{each_value, object};
+use crate::values::object;
 use hir_input::Meta;
 use hir_input::ast::{Item, Stmt, Syntax, Tail};
 use json_object::{of_text, one, with};

@@ -6,10 +6,11 @@ ghost use Rattle.hir_input_writer.specs.Parts.{maybe_data};
 ghost use Rattle.hir_input_writer.specs.UseTrees.{rename_data, use_node_data, use_tree_data, use_trees_data};
 ghost use Rattle.hir_input_writer.specs.Writes.{Writes, WritesEach};
 
+use crate::each_value;
 use crate::fault::{WriteFault, Written};
 use crate::name::name_value;
 use crate::path::path_or_null;
-use crate::values::{each_value, object};
+use crate::values::object;
 use hir_input::ast::{PathNode, Rename, UseTree};
 use json_object::with;
 use serde_json::{Map, Value};

@@ -1,6 +1,7 @@
 //! Lists and objects of values.
 
-// Each of the items by what writes one.
+/// Each of the items by what writes one.
+#[macro_export]
 macro_rules! each_value {
     ($alloc:expr, $item:ident in $items:expr, $written:expr) => {{
         let mut values = Vec::new($alloc);
@@ -20,5 +21,4 @@ macro_rules! object {
     }};
 }
 
-pub(crate) use each_value;
 pub(crate) use object;

@@ -9,8 +9,9 @@ pub use Rattle.hir_input_writer.specs.Lists.{joined}
 pub use Rattle.hir_input_writer.specs.Parts.{each_data, led, name_data, whole_data}
 pub use Rattle.item_tree_request.specs.Requests.{IsJsonText, IsRequest, Request, request_parts}
 unfoldable pub use Rattle.item_tree_request.specs.Requests.{request}
+pub use Rattle.item_tree_request.specs.Shows.{show_word}
 pub use Rattle.item_tree_request.specs.declared.request.show.Show.{Show}
 pub use Rattle.request_writer.specs.Inner.{items_nest_past, members_nest_past, nests_past}
 pub use Rattle.request_writer.specs.RustTexts.{AreRead, IsReadOf}
-pub use Rattle.request_writer.specs.Written.{block_object, crate_object, edit_data, edition_data, edition_object, edits_data, file_object, place_show, request_data, request_object, show_data, show_word}
+pub use Rattle.request_writer.specs.Written.{block_object, crate_object, edit_data, edition_data, edition_object, edits_data, file_object, place_show, request_data, request_object, show_data}
 pub use Rattle.std.proofs.lemmas.List.{drop_all, drop_more, map-append, map_more}

@@ -13,8 +13,7 @@ use Rattle.item_tree_db.specs.declared.place.Place.{Place}
 use Rattle.item_tree_db.specs.declared.place.Place.TheVariants.{File, Block}
 use Rattle.item_tree_request.specs.declared.request.show.Show.{Show}
 use Rattle.item_tree_request.specs.declared.request.show.Show.TheVariants.{OfTree, Changed}
-use Rattle.item_tree_request.specs.declared.request.show.ShowKind.{ShowKind}
-use Rattle.item_tree_request.specs.declared.request.show.ShowKind.TheVariants.{Page, Tree, Imports}
+use Rattle.item_tree_request.specs.Shows.{show_word}
 
 -- ---- the objects, whose members are in the order of their keys
 
@@ -59,11 +58,6 @@ edits_data bodies n (s ∷ ss) = do
   d ← edit_data bodies n s
   ds ← edits_data bodies (n + 1) ss
   Some (item d ds)
-
-abbrev pub show_word : ShowKind → List ℕ
-show_word Page = codes "page"
-show_word Tree = codes "tree"
-show_word Imports = codes "imports"
 
 -- of a crate that is written, by a place
 abbrev pub place_show : List ℕ → Data → Place → Option Data

@@ -1,33 +1,32 @@
 //! The parts of a request as JSON.
-ghost use Rattle.std.specs.Prelude.{◌≡◌, ◌^◌, IfOk, codes, map, option_and_then, option_map};
+ghost use Rattle.std.specs.Prelude.{◌≡◌, ◌^◌, IfOk, codes, map};
 ghost use Rattle.serde_json.specs.Data.{number, unsigned};
 ghost use Rattle.serde_json.specs.View.{view, items_view};
 ghost use Rattle.hir_input.specs.Cfg.{atom_view};
 ghost use Rattle.hir_input.specs.Syntax.{syntax_view};
 ghost use Rattle.hir_input.specs.Edition.{edition_view};
 ghost use Rattle.hir_input_writer.specs.Cfgs.{atom_data};
-ghost use Rattle.hir_input_writer.specs.Literals.{year_number as number_of_year};
 ghost use Rattle.hir_input_writer.specs.Parts.{each_data, name_data, whole_data};
 ghost use Rattle.hir_input_writer.specs.Syntaxes.{syntax_data};
-ghost use Rattle.hir_input_writer.specs.Writes.{Writes};
+ghost use Rattle.hir_input_writer.specs.Writes.{Writes, WritesEach};
 ghost use Rattle.request_writer.specs.Written as objects;
-ghost use Rattle.request_writer.specs.Written.{edit_data, edition_data, edits_data, show_word as word_of_kind, place_show, show_data};
+ghost use Rattle.request_writer.specs.Written.{edit_data, edition_data, edits_data, place_show, show_data};
 
 use hir_input::ast::Syntax;
-use hir_input::{CfgAtom, Edition, EditionYear, Name};
-use hir_input_writer::WriteFault;
+use hir_input::{CfgAtom, Edition, Name};
 use hir_input_writer::cfg::atom_value;
 use hir_input_writer::name::name_value;
 use hir_input_writer::syntax::syntax_value;
+use hir_input_writer::{WriteFault, year_number};
 use item_tree_db::Place;
-use item_tree_request::request::show::{Show, ShowKind};
+use item_tree_request::request::show::Show;
 use json_object::{of_text, with};
 use serde_json::{Value, json};
 use std::alloc::{AllocError, Global};
 
 #[tactic(auto, using(hir_input_writer::proofs::Lists::lists))]
 pub(crate) fn name_values(alloc: Global, names: &[Name]) -> Result<Vec<Value>, WriteFault>
-    ensures { Writes (λ v. items_view v.items) result (each_data name_data names.now) }
+    ensures { WritesEach result (each_data name_data names.now) }
 {
     let mut values = Vec::new(alloc);
     for name in names {
@@ -38,8 +37,7 @@ pub(crate) fn name_values(alloc: Global, names: &[Name]) -> Result<Vec<Value>, W
 
 #[tactic(auto, using(hir_input_writer::proofs::Lists::lists))]
 pub(crate) fn atom_values(alloc: Global, atoms: &[CfgAtom]) -> Result<Vec<Value>, WriteFault>
-    ensures { Writes (λ v. items_view v.items) result
-        (each_data atom_data (map atom_view atoms.now)) }
+    ensures { WritesEach result (each_data atom_data (map atom_view atoms.now)) }
 {
     let mut values = Vec::new(alloc);
     for atom in atoms {
@@ -52,17 +50,6 @@ pub(crate) fn crate_object(alloc: Global, atoms: Vec<Value>) -> Result<Value, Al
     ensures { IfOk result (λ v. view v ≡ objects.crate_object (items_view atoms.items)) }
 {
     json!(in alloc; {"cfg": atoms, "root": 0u32})
-}
-
-fn year_number(year: EditionYear) -> u32
-    ensures { result ≡ number_of_year year }
-{
-    match year {
-        EditionYear::E2015 => 2015,
-        EditionYear::E2018 => 2018,
-        EditionYear::E2021 => 2021,
-        EditionYear::E2024 => 2024,
-    }
 }
 
 fn edition_object(alloc: Global, year: u32, reserved: Vec<Value>) -> Result<Value, AllocError>
@@ -113,24 +100,13 @@ pub(crate) fn edit_values(
     bodies: bool,
     files: &[Syntax],
 ) -> Result<Vec<Value>, WriteFault>
-    ensures { Writes (λ v. items_view v.items) result
-        (edits_data bodies 0 (map syntax_view files.now)) }
+    ensures { WritesEach result (edits_data bodies 0 (map syntax_view files.now)) }
 {
     let mut values = Vec::new(alloc);
     for i in 0..files.len() {
         values.push(edit_value(alloc, bodies, i, &files[i])?)?;
     }
     Ok(values)
-}
-
-fn kind_word(kind: ShowKind) -> &'static str
-    ensures { result.now ≡ word_of_kind kind }
-{
-    match kind {
-        ShowKind::Page => "page",
-        ShowKind::Tree => "tree",
-        ShowKind::Imports => "imports",
-    }
 }
 
 fn place_value(alloc: Global, word: &str, place: Place) -> Result<Value, WriteFault>
@@ -165,7 +141,7 @@ fn show_value(alloc: Global, show: &Show) -> Result<Value, WriteFault>
             if tree.krate.0 > 0 {
                 return Err(WriteFault::NoForm);
             }
-            place_value(alloc, kind_word(tree.kind), tree.place)
+            place_value(alloc, tree.kind.word(), tree.place)
         }
         Show::Changed { since } => Ok(changed_object(alloc, *since)?),
     }
@@ -173,7 +149,7 @@ fn show_value(alloc: Global, show: &Show) -> Result<Value, WriteFault>
 
 #[tactic(auto, using(hir_input_writer::proofs::Lists::lists))]
 pub(crate) fn show_values(alloc: Global, shows: &[Show]) -> Result<Vec<Value>, WriteFault>
-    ensures { Writes (λ v. items_view v.items) result (each_data show_data shows.now) }
+    ensures { WritesEach result (each_data show_data shows.now) }
 {
     let mut values = Vec::new(alloc);
     for show in shows {
