@@ -1,11 +1,10 @@
 -- Which places stand under which numbers.
 use Rattle.std.proofs.Common.{◌≡◌, ◌≢◌, ◌⊎◌, inl, inr, ℕ, zero, suc, ◌+◌, ◌<◌, ◌≤◌, max, Bool, true, false, cond, ◌||◌, List, [], ◌∷◌, ◌++◌, length, map, drop, get_or, Some, None, Option, IfSome, slice_get, refl, sym, ap, subst, ◌∙◌, arith, true≢false, Contains, IsTrue}
-use Rattle.item_tree_db.proofs.Common.{is_at, IsTotalOrder, nat_cmp_total, on_total, then_total, AllByRecursion, list_any, IsStrictlySortedBy, is_eq, is_lt, nat_cmp, ordering_then, Ordering, Less, Equal, Greater, nat_tests, btree_set_IsUpperBound-last, btree_set_contains_iff, IfSome_then, same_Some, none-some, Place, Row, place_cmp, place_cmp_total, AreNoted, HoldsNoted, IsNoted, newest, noted_cmp, Shelved, Places, placed_at, HasNumber}
+use Rattle.item_tree_db.proofs.Common.{is_at, IsTotalOrder, nat_cmp_total, on_total, then_total, AllByRecursion, list_any, IsStrictlySortedBy, is_eq, is_lt, nat_cmp, ordering_then, Ordering, Less, Equal, Greater, nat_tests, btree_set_IsUpperBound-last, IfSome_then, same_Some, none-some, Place, Row, place_cmp, place_cmp_total, AreNoted, HoldsNoted, IsNoted, newest, noted_cmp, Shelved, Places, placed_at, HasNumber}
 use Rattle.std.specs.BTreeSet.{BTreeSet, Updates, contains}
-use Rattle.std.proofs.lemmas.Map.Lookups.{CmpEqualImpliesEq}
 use Rattle.item_tree_db.specs.declared.recent.Recent.{Recent}
 use Rattle.item_tree_db.proofs.Crates.{drop_at}
-use Rattle.item_tree_db.proofs.Places.{equal_of, itself}
+use Rattle.item_tree_db.proofs.Places.{equal_of, itself, has, had}
 
 -- ---- the order
 
@@ -53,15 +52,6 @@ module _ (r : Recent) (places : BTreeSet (ℕ × Place)) where
   ]
 
 -- ---- the places above a bound
-
-exact_places : CmpEqualImpliesEq place_cmp
-exact_places p q h = equal_of p q (ap is_eq h)
-
-has : (s : BTreeSet Place) (p : Place) → IsTrue (contains place_cmp s p) → Contains s.keys p
-has s p h = (btree_set_contains_iff place_cmp_total exact_places s p).0 h
-
-had : (s : BTreeSet Place) (p : Place) → Contains s.keys p → IsTrue (contains place_cmp s p)
-had s p h = (btree_set_contains_iff place_cmp_total exact_places s p).1 h
 
 -- whether the place stands under the number in a list
 abbrev stands : ℕ → Place → List (ℕ × Place) → Bool
@@ -129,10 +119,10 @@ up_to_newest (r ∷ rows) (suc i) n h = let p = up_to_newest rows i n h in omega
 -- ---- of all places
 
 -- one place has this now, and the others have what they had
-pub noted_put : (r s : Recent) (k : Place) (x : Shelved) (old new : Places) → AreNoted r old → ((q : Place) → placed_at new q ≡ cond (is_at (place_cmp k) q) (Some x) (placed_at old q)) → IsNoted s k (newest x.rows)
+pub noted_put : (r s : Recent) (k : Place) (x : Shelved) (old new : Places) → AreNoted r old → ((q : Place) → placed_at new q ≡ cond (is_at (place_cmp k) q) (Some x) (placed_at old q)) → (number : ℕ) → number ≡ newest x.rows → IsNoted s k number
     → ((q : Place) (n : ℕ) → q ≢ k → IsNoted r q n → IsNoted s q n) → AreNoted s new
-noted_put r s k x old new were put here others q = subst (λ (o : Option Shelved). IfSome o (λ p. IsNoted s q (newest p.rows))) (sym (put q)) (elim (is_at (place_cmp k) q) as (λ b. is_at (place_cmp k) q ≡ b → IfSome (cond b (Some x) (placed_at old q)) (λ p. IsNoted s q (newest p.rows))) [
-  | true ↦ λ t. subst (λ (z : Place). IsNoted s z (newest x.rows)) (equal_of k q t) here
+noted_put r s k x old new were put number is here others q = subst (λ (o : Option Shelved). IfSome o (λ p. IsNoted s q (newest p.rows))) (sym (put q)) (elim (is_at (place_cmp k) q) as (λ b. is_at (place_cmp k) q ≡ b → IfSome (cond b (Some x) (placed_at old q)) (λ p. IsNoted s q (newest p.rows))) [
+  | true ↦ λ t. subst (λ (z : Place). IsNoted s z (newest x.rows)) (equal_of k q t) (subst (IsNoted s k) is here)
   | false ↦ λ t. IfSome_then (placed_at old q) (were q) (λ p n. others q (newest p.rows) (λ e. true≢false (sym (ap (is_at (place_cmp k)) e ∙ itself k) ∙ t)) n)
 ] refl)
 

@@ -1,6 +1,8 @@
 -- The order of places.
-use Rattle.std.proofs.Common.{◌≡◌, ◌≢◌, true, false, refl, sym, ap, ◌∙◌, arith, true≢false}
-use Rattle.item_tree_db.proofs.Common.{tied_itself, eq_by_cmp, is_eq, Less, Equal, nat_tests, Place, File, Block, place_cmp, place_cmp_total, same_place}
+use Rattle.std.proofs.Common.{◌≡◌, ◌≢◌, true, false, refl, sym, ap, ◌∙◌, arith, true≢false, Contains, IsTrue}
+use Rattle.std.specs.BTreeSet.{BTreeSet, contains}
+use Rattle.std.proofs.lemmas.Map.Lookups.{CmpEqualImpliesEq}
+use Rattle.item_tree_db.proofs.Common.{btree_set_contains_iff, tied_itself, eq_by_cmp, is_eq, Less, Equal, nat_tests, Place, File, Block, place_cmp, place_cmp_total, same_place}
 
 abbrev pub IsBelow : Place → Place → Type 0
 IsBelow p q = place_cmp p q ≡ Less
@@ -32,3 +34,14 @@ same_here p = sym (tests p p) ∙ itself p
 
 pub other_of : (p q : Place) → same_place p q ≡ false → q ≢ p
 other_of p q h e = true≢false (sym (same_here q) ∙ ap (λ (r : Place). same_place r q) e ∙ h)
+
+-- ---- sets of places
+
+exact_places : CmpEqualImpliesEq place_cmp
+exact_places p q h = equal_of p q (ap is_eq h)
+
+pub has : (s : BTreeSet Place) (p : Place) → IsTrue (contains place_cmp s p) → Contains s.keys p
+has s p h = (btree_set_contains_iff place_cmp_total exact_places s p).0 h
+
+pub had : (s : BTreeSet Place) (p : Place) → Contains s.keys p → IsTrue (contains place_cmp s p)
+had s p h = (btree_set_contains_iff place_cmp_total exact_places s p).1 h

@@ -8,7 +8,7 @@ use Rattle.item_tree.specs.Node.{Unfolding, nothing}
 use Rattle.item_tree_db.specs.declared.source.Source.TheVariants.{File, Block}
 use Rattle.item_tree_db.proofs.Places.{same_is, other_of, same_here}
 use Rattle.item_tree_db.proofs.Histories.{footing}
-use Rattle.item_tree_db.proofs.Crates.{fresh_get}
+use Rattle.item_tree_db.proofs.Crates.{fresh_get, given_here}
 use Rattle.item_tree_db.proofs.Shelves.{fresh_each, recast_is, length-change_at, get_here, get_other, map_within, get_cleared, row_set, length-set}
 
 -- ---- what callers see
@@ -301,3 +301,13 @@ module _ (crates : List CrateData) (skipped : List (List ℕ)) (start number : �
       | inl e ↦ inl e
       | inr p ↦ inr (p.0, lowers (λ c x. TreePasses skipped p.0 c x error) p.0 p.1)
     ])
+
+  -- what each place is brought under options that are given to a crate, which is this one after it
+  pub cfg_brought : (k : Crate) (o : List AtomView) (after : List CrateData) (krate : CrateData) → krate ≡ get_or after k.0 krate → k.0 < length s.crates → length after ≡ length crates → map crate_view after ≡ change_at k.0 (given o) (map crate_view crates)
+      → (names : List (List ℕ)) → names ≡ skipped → (fresh : List (Place × Row)) → fresh ≡ fresh_each (fresh_of (number + 1) names (Some (crate_view krate))) places → IsInOrder places → PlacesFit names (Some (crate_view krate)) places
+      → ((q : Place) → placed_at new q ≡ recast_each (number + 1) k.0 fresh q (placed_at places q)) → IsMade s (set_cfg k.0 o) (table_from after skipped start (number + 1) new) × FitsAfter s [] (set_cfg k.0 o)
+  cfg_brought k o after krate e known same gives_it names named fresh f order fits each =
+      let at = given_here o crates after k.0 krate e (subst (λ (z : State). k.0 < length z.crates) (sym is) known) same gives_it in
+      let fit = subst (λ (l : List (List ℕ)). PlacesFit l (Some (crate_view krate)) places) named fits in
+      let lowered = f ∙ (λ j. fresh_each (fresh_of (number + 1) (named j) (Some (crate_view krate))) places) in
+      (cfg_made k o (crate_view krate) at after gives_it fresh lowered order fit each, cfg_fits k o (crate_view krate) at fit)

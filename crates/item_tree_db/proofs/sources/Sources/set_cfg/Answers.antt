@@ -1,41 +1,21 @@
-use Rattle.std.proofs.Common.{◌≡◌, ℕ, ◌+◌, ◌<◌, ◌≤◌, List, length, map, Some, slice_get, sym, ap, subst, ◌∙◌, option_map}
-use Rattle.item_tree_db.proofs.Common.{AtomView, CrateView, crate_view, SetCfg, UnlessMemory, change_at, fresh_of, PlacesFit, PlacesPass, State, crate_limit, given, state_of, IsSound}
+use Rattle.std.proofs.Common.{◌≡◌, ℕ, ◌<◌, ◌≤◌, List, length, map, Some, slice_get, sym, ap, subst, ◌∙◌, option_map}
+use Rattle.item_tree_db.proofs.Common.{AtomView, CrateView, crate_view, SetCfg, UnlessMemory, change_at, PlacesPass, State, crate_limit, given, state_of, IsSound}
 use Rattle.item_tree_db.specs.declared.edit.EditRefused.{EditRefused}
 use Rattle.item_tree_db.proofs.Crates.{given_here, given_back, given_options}
-use Rattle.item_tree_db.proofs.Steps.{cfg_made, cfg_fits, cfg_refused}
-use Rattle.item_tree_db.proofs.Shelves.{fresh_each}
+use Rattle.item_tree_db.proofs.Steps.{cfg_brought, cfg_refused}
 use Rattle.item_tree_db.proofs.sources.Sources.set_cfg.Goals as goal
 
 pub invariant_of-self : goal.invariant_of-self
 invariant_of-self c =
     let i = c.self.inside in
-    let k = c.args.krate in
-    let after = c.swap_options.new.crates.items in
-    let krate = crate_view c.index.result.now in
-    let at = given_here c.args.options i.crates.items after k.0 c.index.result.now c.index.ensures (subst (λ (z : State). k.0 < length z.crates) (sym c.self.view_is) c.requires.known) c.swap_options.ensures.count c.swap_options.ensures.swapped in
-    let fresh = c.in-Ok.ensures.fresh ∙ (λ j. fresh_each (fresh_of (i.number + 1) (c.deref.ensures.value j) (Some krate)) i.places) in
-    let fits = subst (λ (names : List (List ℕ)). PlacesFit names (Some krate) i.places) c.deref.ensures.value c.in-Ok.ensures.fits in
-    let made = cfg_made i.crates.items i.skipped.items i.start i.number i.places c.recast.new.self c.args.self.now c.self.invariant.sound c.self.view_is k c.args.options krate at after c.swap_options.ensures.swapped c.in-Ok.fresh.items fresh c.in-Ok.ensures.in_order fits c.recast.ensures in
+    let made = (cfg_brought i.crates.items i.skipped.items i.start i.number i.places c.recast.new.self c.args.self.now c.self.invariant.sound c.self.view_is c.args.krate c.args.options c.swap_options.new.crates.items c.index.result.now c.index.ensures c.requires.known c.swap_options.ensures.count c.swap_options.ensures.swapped _ c.deref.ensures.value c.in-Ok.fresh.items c.in-Ok.ensures.fresh c.in-Ok.ensures.in_order c.in-Ok.ensures.fits c.recast.ensures).0 in
     record { few = subst (λ (m : ℕ). m ≤ crate_limit) (sym c.swap_options.ensures.count) c.self.invariant.few; sound = made.sound; empty = c.self.invariant.empty }
 
 pub returns-in-Ok : goal.returns-in-Ok
 returns-in-Ok c =
     let i = c.self.inside in
-    let k = c.args.krate in
-    let after = c.swap_options.new.crates.items in
-    let krate = crate_view c.index.result.now in
-    let at = given_here c.args.options i.crates.items after k.0 c.index.result.now c.index.ensures (subst (λ (z : State). k.0 < length z.crates) (sym c.self.view_is) c.requires.known) c.swap_options.ensures.count c.swap_options.ensures.swapped in
-    let fresh = c.in-Ok.ensures.fresh ∙ (λ j. fresh_each (fresh_of (i.number + 1) (c.deref.ensures.value j) (Some krate)) i.places) in
-    let fits = subst (λ (names : List (List ℕ)). PlacesFit names (Some krate) i.places) c.deref.ensures.value c.in-Ok.ensures.fits in
-    let made = cfg_made i.crates.items i.skipped.items i.start i.number i.places c.recast.new.self c.args.self.now c.self.invariant.sound c.self.view_is k c.args.options krate at after c.swap_options.ensures.swapped c.in-Ok.fresh.items fresh c.in-Ok.ensures.in_order fits c.recast.ensures in
-    record {
-      ok = made.after;
-      fits = cfg_fits i.crates.items i.skipped.items i.start i.number i.places i.places c.args.self.now c.self.invariant.sound c.self.view_is k c.args.options krate at fits;
-      err = tt;
-      returned = tt;
-      cause = tt;
-      not_full = tt;
-    }
+    let brought = cfg_brought i.crates.items i.skipped.items i.start i.number i.places c.recast.new.self c.args.self.now c.self.invariant.sound c.self.view_is c.args.krate c.args.options c.swap_options.new.crates.items c.index.result.now c.index.ensures c.requires.known c.swap_options.ensures.count c.swap_options.ensures.swapped _ c.deref.ensures.value c.in-Ok.fresh.items c.in-Ok.ensures.fresh c.in-Ok.ensures.in_order c.in-Ok.ensures.fits c.recast.ensures in
+    record { ok = brought.0.after; fits = brought.1; err = tt; returned = tt; cause = tt; not_full = tt }
 
 pub invariant_of-self-in-Err : goal.invariant_of-self-in-Err
 invariant_of-self-in-Err c =
