@@ -3,10 +3,14 @@ use itemtree_options::Filter;
 use line_index::{LineIndex, Position};
 use std::alloc::{AllocError, Global};
 use std::fmt::Display;
+use std::fs::File;
 use std::io::{BufRead, BufReader, Read};
 use std::rt::Files;
 use std::{fs, io};
 use thiserror::Error;
+
+/// The room that is taken at once for a file at most, in bytes.
+const MOST_ROOM: u64 = 1 << 24;
 
 /// What stands for standard input.
 pub(crate) const STDIN: &str = "-";
@@ -216,11 +220,16 @@ fn not_text(bytes: &[u8], count: usize) -> ReadError {
 }
 
 fn read_bytes(rt: &HostRuntime, path: &str) -> io::Result<Vec<u8>> {
-    if path != STDIN {
-        return fs::read(rt, path);
+    if path == STDIN {
+        let mut bytes = Vec::new(rt.alloc());
+        rt.stdin().read_to_end(&mut bytes)?;
+        return Ok(bytes);
     }
-    let mut bytes = Vec::new(rt.alloc());
-    rt.stdin().read_to_end(&mut bytes)?;
+    let mut file = File::open(rt, path)?;
+    // With room for all of it at once, no more than that is cleared before it is read.
+    let room = file.metadata()?.len().min(MOST_ROOM) as usize + 1;
+    let mut bytes = Vec::with_capacity(rt.alloc(), room)?;
+    file.read_to_end(&mut bytes)?;
     Ok(bytes)
 }
 
