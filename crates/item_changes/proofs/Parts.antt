@@ -1,5 +1,5 @@
 -- What a tree keeps of an item by itself is its attributes, its visibility, its constructor and the rest.
-use Rattle.std.proofs.Common.{◌≡◌, ℕ, Bool, true, false, List, [], ◌∷◌, Option, Some, None, Bor, refl, ap, sym, ◌∙◌}
+use Rattle.std.proofs.Common.{◌≡◌, ℕ, Bool, true, false, List, [], Option, Some, None, Bor, refl, ap, sym, ◌∙◌}
 use Rattle.std.specs.{Prelude.IsSome, Prelude.option_copied, Prelude.option_map, Bool.Decides, Option.option_map_or}
 use Rattle.std.proofs.lemmas.Bool.{false≢true, Decides.Decides-like}
 use Rattle.hir_input.specs.{declared.attr.Attr.Attr, declared.ids.AstIdKind.AstIdKind, Cfg.CfgView, Syntax.PlainKind}

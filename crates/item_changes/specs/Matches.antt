@@ -35,6 +35,10 @@ match_of p = came_if p.0 p.1
 abbrev pub matched : {A : Type 0} → (A → A → Bool) → List A → List A → List (Match A)
 matched like olds news = flat_map gone_of (partners like news olds) ++ map match_of (partners like olds news)
 
+-- the same, where these stay that stand in front of both lists
+abbrev pub matched_behind : {A : Type 0} → (A → A → Bool) → List (Match A) → List A → List A → List (Match A)
+matched_behind like both olds news = flat_map gone_of (partners like news olds) ++ (both ++ map match_of (partners like olds news))
+
 abbrev pub match_map : {A B : Type 0} → (A → B) → Match A → Match B
 match_map f (Gone x) = Gone (f x)
 match_map f (Came x) = Came (f x)

@@ -1,5 +1,5 @@
 //! Which things of two lists are the same: the n-th of their key in one list, and the n-th of it in the other.
-ghost use Rattle.std.specs.Prelude.{◌≡◌, ◌<◌, ◌-◌, ◌^◌, ◌++◌, map, IfOk, OnOk, flat_map};
+ghost use Rattle.std.specs.Prelude.{◌≡◌, ◌<◌, ◌-◌, ◌^◌, ◌++◌, ◌∷◌, true, map, IfNone, IfOk, IfSome, OnOk, flat_map};
 ghost use Rattle.item_changes.specs.Matches as spec;
 ghost use Rattle.item_changes.specs.Matches.{CountsKey, FindsAll, key_count, match_now, pair_now, same_keys};
 
@@ -120,6 +120,43 @@ fn push_all_new<'a, A>(pairs: &[Pair<'a, A>], found: &mut Found<'a, A>) -> Resul
     Ok(())
 }
 
+/// Takes the first of two lists, if both have one and these have equal keys.
+fn take_first<'a, K: Eq, T>(
+    olds: &mut &'a [Keyed<K, T>],
+    news: &mut &'a [Keyed<K, T>],
+) -> Option<(&'a Keyed<K, T>, &'a Keyed<K, T>)>
+    ensures both { IfSome result (λ p. (olds.old.now ≡ p.0.now ∷ olds.new.now)
+        × (news.old.now ≡ p.1.now ∷ news.new.now)
+        × (same_keys K.eq p.0.now p.1.now ≡ true)) }
+    ensures none { IfNone result ((olds.new.now ≡ olds.old.now) × (news.new.now ≡ news.old.now)) }
+{
+    let ([old, old_rest @ ..], [new, new_rest @ ..]) = (*olds, *news) else {
+        return None;
+    };
+    if old.key != new.key {
+        return None;
+    }
+    (*olds, *news) = (old_rest, new_rest);
+    Some((old, new))
+}
+
+/// Takes what both lists have in front, as long as keys are equal: it is not looked for in a table.
+fn take_front<'a, K: Eq, T>(
+    alloc: Global,
+    olds: &mut &'a [Keyed<K, T>],
+    news: &mut &'a [Keyed<K, T>],
+) -> Result<Found<'a, Keyed<K, T>>, AllocError>
+    ensures { IfOk result
+        (λ both. spec.matched_behind (same_keys K.eq) (map match_now both.items) olds.new.now news.new.now
+        ≡ spec.matched (same_keys K.eq) olds.old.now news.old.now) }
+{
+    let mut both = Vec::new(alloc);
+    'pairs: while let Some((old, new)) = take_first(olds, news) {
+        both.push(Match::Stays(old, new))?;
+    }
+    Ok(both)
+}
+
 /// What of two lists is the same: first what the old list alone has, in its order, and then what the new list has, in its
 /// order. Two things are the same where both are the n-th of their key.
 ///
@@ -134,8 +171,11 @@ pub fn matched<'a, K: Eq + Hash + Copy + Drop, T>(
     ensures { IfOk result (λ v. map match_now v.items
         ≡ spec.matched (same_keys K.eq) olds.now news.now) }
 {
+    let (mut olds, mut news) = (olds, news);
+    let mut both = take_front(alloc, &mut olds, &mut news)?;
     let mut found = Vec::new(alloc);
     push_all_gone(&partners(alloc, olds, news)?, &mut found)?;
+    found.append(&mut both)?;
     push_all_new(&partners(alloc, news, olds)?, &mut found)?;
     Ok(found)
 }

@@ -12,7 +12,7 @@ use item_changes::{ChangeKind, change_word};
 use line_index::LineIndex;
 use rust_items::{Wanted, WantedMetas, read_wanted};
 pub use source_rows::Source;
-use source_rows::{Change, Part, bodies, changes, parts, push_place, rows, same_texts, skeleton};
+use source_rows::{Change, Part, Skeleton, bodies, changes, parts, push_place, rows};
 use std::alloc::{AllocError, Global};
 
 /// What became of a file in another.
@@ -35,20 +35,6 @@ fn parts_of(alloc: Global, text: &str, edition: EditionYear) -> Result<Vec<Part>
     let file = read_wanted(alloc, text, wanted, edition)?;
     let parts = parts(alloc, text, edition, &file.places)?;
     Ok(parts)
-}
-
-/// What others can see of a text.
-fn seen<'t>(
-    alloc: Global,
-    text: &'t str,
-    parts: &[Part],
-    has_docs: bool,
-) -> Result<Vec<&'t str>, AllocError>
-    ensures { IfOk result (λ v. map (λ t. t.now) v.items
-        ≡ spec.seen_texts has_docs text.now (map part_view parts.now)) }
-{
-    let bodies = bodies(alloc, parts)?;
-    skeleton(alloc, text, &bodies, has_docs)
 }
 
 /// A file, with what finds the lines of its places.
@@ -132,9 +118,18 @@ fn is_same(
         let after = spec.seen_texts has_docs new.now (map part_view news.now) in
         IfOk result (λ same. IsTrue same ↔ (before ≡ after)) }
 {
-    let old_texts = seen(alloc, old, olds, has_docs)?;
-    let new_texts = seen(alloc, new, news, has_docs)?;
-    Ok(same_texts(&old_texts, &new_texts))
+    let (old_holes, new_holes) = (bodies(alloc, olds)?, bodies(alloc, news)?);
+    let before = Skeleton {
+        text: old,
+        holes: &old_holes,
+        has_docs,
+    };
+    let after = Skeleton {
+        text: new,
+        holes: &new_holes,
+        has_docs,
+    };
+    Ok(before.is_same(after))
 }
 
 /// The lines of what became of the parts of a file in another; none where others see the same of both.

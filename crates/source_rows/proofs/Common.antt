@@ -6,7 +6,7 @@ pub use Rattle.source_rows.specs.ChangeViews.{row_change_view, text_row_view}
 pub use Rattle.source_rows.specs.Changes.{row_change_of, same_text, same_texts}
 pub use Rattle.source_rows.specs.Headers.{gap_text, is_over, reach_behind, spaced_from, spaced_tokens}
 pub use Rattle.source_rows.specs.Inner.{labelled_view, row_match, with_label}
-pub use Rattle.source_rows.specs.Labels.{Outer, modules_path}
+pub use Rattle.source_rows.specs.Labels.{Outer, modules_path, text_at}
 pub use Rattle.source_rows.specs.Parts.{Part, around_behind, item_parts, item_parts_from, member_part, parts_of, still_open}
 pub use Rattle.source_rows.specs.Rows.{bodies, holes_begun, moved_back, outside, part_rows}
 pub use Rattle.source_rows.specs.Skeletons.{kept, not_over, skeleton}

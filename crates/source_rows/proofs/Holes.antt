@@ -1,5 +1,5 @@
 -- What stands in a part that is left out is passed over at once.
-use Rattle.std.proofs.Common.{◌≡◌, ◌≤◌, ◌<◌, ◌+◌, ◌==◌, ◌&&◌, ℕ, Bool, true, false, Option, Some, None, List, [], ◌∷◌, length, All, refl, sym, ap, ◌∙◌, subst, arith, nat_le}
+use Rattle.std.proofs.Common.{◌≡◌, ◌≤◌, ◌<◌, ◌+◌, ◌++◌, ◌==◌, ◌&&◌, ℕ, Bool, true, false, Option, Some, None, List, [], ◌∷◌, length, All, refl, sym, ap, ◌∙◌, subst, arith, nat_le}
 use Rattle.std.proofs.lemmas.Bool.{leb-true}
 use Rattle.std.proofs.lemmas.List.Elements.{All-head, All-tail}
 use Rattle.rust_lexer.specs.Depths.{depth_behind, to_outer}
@@ -9,7 +9,7 @@ use Rattle.rust_lexer.specs.Tokens.{AreInPlace}
 use Rattle.rust_lexer.specs.declared.depth.Depth.{Depth}
 use Rattle.rust_lexer.proofs.Counted.{when}
 use Rattle.source_rows.specs.Inner.{ComeBehind, ends_behind}
-use Rattle.source_rows.specs.Skeletons.{counts, is_begun, kept}
+use Rattle.source_rows.specs.Skeletons.{counts, is_begun, kept, not_over, text_if_kept}
 use Rattle.source_rows.specs.declared.kept.Hole.{Hole}
 use Rattle.source_rows.proofs.Common.{nat_tests}
 
@@ -23,6 +23,25 @@ after_all at [] p a = tt
 after_all at (t ∷ ts) p a =
     let next = after_all (at + length t.text) ts p.1 (All-tail (λ t. 0 < length t.text) t ts a) in
     (omega (arith, p.0), (All-head (λ t. 0 < length t.text) t ts a, sooner (t.at + length t.text) (at + length t.text) ts (omega (arith, p.0)) next))
+
+-- ---- parts that end before tokens
+
+not_over_later : (place at : ℕ) (holes : List Hole) → place ≤ at → not_over at (not_over place holes) ≡ not_over at holes
+not_over_later place at [] le = refl
+not_over_later place at (h ∷ hs) le =
+    when (nat_le h.end place)
+    (λ c. let over : nat_le h.end at ≡ true = grind (arith, nat_tests) in rw (c, over) (not_over_later place at hs le))
+    (λ c. rw c refl)
+
+pub uncounted : (docs : Bool) (holes : List Hole) (t : Piece) → counts docs t ≡ false → text_if_kept docs holes t ≡ []
+uncounted docs holes t c = rw c refl
+
+-- they count for none of these
+pub kept_later : (docs : Bool) (place behind : ℕ) (holes : List Hole) (ts : List Piece) → place ≤ behind → ComeBehind behind ts → kept docs (not_over place holes) ts ≡ kept docs holes ts
+kept_later docs place behind holes [] le a = refl
+kept_later docs place behind holes (t ∷ ts) le a = ap (λ hs. text_if_kept docs hs t ++ kept docs hs ts) (not_over_later place t.at holes (omega (arith, le, a.0)))
+
+-- ---- braces
 
 abbrev behind : Option (Depth × List Piece) → List Piece
 behind None = []

@@ -1,9 +1,10 @@
 -- Steps of what is done in turns.
-use Rattle.std.proofs.Common.{◌≡◌, ◌<◌, ◌≤◌, ◌+◌, ℕ, suc, true, false, List, [], ◌∷◌, ◌++◌, length, map, drop, get_or, refl, ap, sym, ◌∙◌, arith, append_assoc, append-nil, Option, Bool, nat_le}
+use Rattle.std.proofs.Common.{◌≡◌, ◌<◌, ◌≤◌, ◌+◌, ℕ, suc, true, false, List, [], ◌∷◌, ◌++◌, length, map, drop, get_or, refl, ap, sym, ◌∙◌, arith, append_assoc, append-nil, Option, Bool, nat_le, codes}
 use Rattle.std.proofs.Math.Seq.{drop-cons}
 use Rattle.source_rows.proofs.Common.{nat_tests, Tokens, not_first, gap_text, is_over, reach_behind, spaced_tokens, spaced_from, Outer, Part, still_open, parts_of, around_behind, item_parts_from, outside, holes_begun, part_view}
 use Rattle.hir_input.specs.declared.edition.EditionYear.{EditionYear}
 use Rattle.rust_lexer.specs.Piece.{Piece}
+use Rattle.source_rows.specs.Labels.{label}
 use Rattle.rust_cursor.specs.Words.{symbol, text, is_empty, bumped}
 use Rattle.source_rows.specs.declared.kept.Hole.{Hole}
 use Rattle.source_rows.specs.declared.items.Part as code_part
@@ -31,6 +32,19 @@ spaced_more is_cut reach done before ts e = more_from is_cut reach done before t
 -- a header that is not over has a token
 pub end_some : (is_cut : Bool) (reach : ℕ) (done : List ℕ) (ts : Tokens) → is_over is_cut reach done ts ≡ false → is_empty ts ≡ false
 end_some is_cut reach done ts e = not_first (is_empty ts) _ e
+
+-- ---- labels
+
+-- a path is not empty
+some_label : (word path name : List ℕ) → label word (path ++ codes "::" ++ name) ≡ word ++ 32 ∷ (path ++ codes "::" ++ name)
+some_label word [] name = refl
+some_label word (b ∷ bs) name = refl
+
+pub path_label : (word path name : List ℕ) → label word (path ++ codes "::" ++ name) ≡ word ++ codes " " ++ path ++ codes "::" ++ name
+path_label word path name =
+    let front = word ++ codes " " in
+    some_label word path name ∙ sym (append_assoc word (codes " ") (path ++ codes "::" ++ name)) ∙ sym (append_assoc front (path ++ codes "::") name)
+    ∙ ap (λ l. l ++ name) (sym (append_assoc front path (codes "::")))
 
 -- ---- lists
 

@@ -1,13 +1,20 @@
--- Rows and changes as plain data.
-use Rattle.std.specs.Prelude.{string_bytes}
+-- Rows and changes as plain data, and texts that are told by their tokens.
+use Rattle.std.specs.Prelude.{ℕ, List, map}
 use Rattle.source_rows.specs.declared.compare.Row as code_row
 use Rattle.source_rows.specs.declared.compare.Change as code_change
+use Rattle.source_rows.specs.declared.kept.Skeleton as code_skeleton
 use Rattle.source_rows.specs.Changes.{TextRow, RowChange}
+use Rattle.source_rows.specs.Rows.{part_row}
 use Rattle.source_rows.specs.Skeletons.{skeleton}
+use Rattle.source_rows.specs.Views.{part_view}
+
+-- the texts of the tokens that tell a text
+abbrev pub skeleton_view : code_skeleton.Skeleton → List (List ℕ)
+skeleton_view s = skeleton s.has_docs s.holes.now s.text.now
 
 -- a row as plain data
 abbrev pub text_row_view : code_row.Row → TextRow
-text_row_view r = record { label = string_bytes r.label; at = r.at; own = skeleton r.has_docs r.holes.items r.text.now }
+text_row_view r = part_row r.has_docs r.text.now (part_view r.part.now) (map part_view r.behind.now)
 
 -- a change as plain data
 abbrev pub row_change_view : code_change.Change → RowChange

@@ -40,7 +40,7 @@ is_over is_cut reach done ts = if is_empty ts then true else (if nat_lt ts.past 
 
 -- up to where brackets reach behind the next token
 abbrev pub reach_behind : ℕ → Tokens → ℕ
-reach_behind reach ts = if nat_lt ts.past reach then reach else (behind_tree ts).past
+reach_behind reach ts = if nat_lt ts.past reach || not (is_at_open ts) then reach else (behind_tree ts).past
 
 -- the texts of tokens behind others, the last of which has this symbol; at most as many as a token is in this list
 abbrev pub spaced_from : Bool → ℕ → List ℕ → ℕ → Tokens → List Piece → List ℕ

@@ -1,24 +1,26 @@
 -- For the crate's own functions: rows with their labels as keys, and what of a text is passed over.
-use Rattle.std.specs.Prelude.{◌≤◌, ◌<◌, ℕ, ◌+◌, Bool, false, nat_le, length, List, [], ◌∷◌, Option, Some, None}
+use Rattle.std.specs.Prelude.{◌≤◌, ◌<◌, ℕ, ◌+◌, Bool, false, nat_le, length, if◌then◌else◌, List, [], ◌∷◌, Option, Some, None}
 use Rattle.std.specs.Borrow.{Bor}
 use Rattle.item_changes.specs.declared.matching.Keyed.{Keyed}
 use Rattle.item_changes.specs.declared.matching.Match.{Match}
 use Rattle.item_changes.specs.Matches.{match_map}
 use Rattle.rust_lexer.specs.Piece.{Piece}
 use Rattle.source_rows.specs.declared.kept.Hole.{Hole}
+use Rattle.source_rows.specs.declared.kept.Kept.{Kept}
 use Rattle.source_rows.specs.declared.compare.Row as code_row
 use Rattle.source_rows.specs.declared.compare.Change as code_change
 use Rattle.source_rows.specs.Changes.{TextRow, RowChange}
 use Rattle.source_rows.specs.ChangeViews.{row_change_view, text_row_view}
+use Rattle.source_rows.specs.Skeletons.{kept}
 
 abbrev pub with_label : TextRow → List ℕ × TextRow
 with_label r = (r.label, r)
 
-abbrev pub labelled_view : Keyed (Bor (List ℕ)) (Bor code_row.Row) → List ℕ × TextRow
-labelled_view k = (k.key.now, text_row_view k.item.now)
+abbrev pub labelled_view : Keyed (Bor (List ℕ)) code_row.Row → List ℕ × TextRow
+labelled_view k = (k.key.now, text_row_view k.item)
 
-abbrev pub row_match : Match (Bor (Keyed (Bor (List ℕ)) (Bor code_row.Row))) → Match TextRow
-row_match m = match_map (λ k. text_row_view k.now.item.now) m
+abbrev pub row_match : Match (Bor (Keyed (Bor (List ℕ)) code_row.Row)) → Match TextRow
+row_match m = match_map (λ k. text_row_view k.now.item) m
 
 abbrev pub found_row_change : Option code_change.Change → List RowChange
 found_row_change None = []
@@ -33,3 +35,11 @@ ComeBehind place (t ∷ ts) = (place ≤ t.at) × ((0 < length t.text) × ComeBe
 abbrev pub ends_behind : List Piece → List Hole → Bool
 ends_behind (t ∷ ts) (h ∷ hs) = nat_le t.at h.end
 ends_behind _ _ = false
+
+-- the texts of the tokens that are taken of what is left
+abbrev pub left_texts : Kept → List (List ℕ)
+left_texts left = kept left.has_docs left.holes.now left.lexer
+
+-- a text in front of others, if it is taken
+abbrev pub text_first : Bool → List ℕ → List (List ℕ) → List (List ℕ)
+text_first is_taken text more = if is_taken then text ∷ more else more

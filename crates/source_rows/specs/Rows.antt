@@ -37,8 +37,11 @@ holes p behind = hole_inside p.body ++ holes_begun p.range.end behind
 abbrev pub moved_back : ℕ → Hole → Hole
 moved_back by h = hole (h.start - by) (h.end - by)
 
+abbrev pub own_holes : Part → List Part → List Hole
+own_holes p behind = map (moved_back p.range.start) (holes p behind)
+
 abbrev pub own_tokens : Bool → List ℕ → Part → List Part → List (List ℕ)
-own_tokens has_docs text p behind = skeleton has_docs (map (moved_back p.range.start) (holes p behind)) (text_at text p.range)
+own_tokens has_docs text p behind = skeleton has_docs (own_holes p behind) (text_at text p.range)
 
 abbrev pub part_row : Bool → List ℕ → Part → List Part → TextRow
 part_row has_docs text p behind = record { label = p.label; at = p.at; own = own_tokens has_docs text p behind }

@@ -3,88 +3,52 @@
 ghost use Rattle.std.specs.Prelude.{◌≡◌, ◌++◌, map, IfOk, IsTrue, OnOk, flat_map};
 ghost use Rattle.source_rows.specs.Changes as spec;
 ghost use Rattle.source_rows.specs.Inner.{found_row_change, row_match};
-ghost use Rattle.source_rows.specs.ChangeViews.{row_change_view, text_row_view};
+ghost use Rattle.source_rows.specs.ChangeViews.{row_change_view, skeleton_view, text_row_view};
+ghost use Rattle.source_rows.specs.Labels.{text_at};
+ghost use Rattle.source_rows.specs.Skeletons.{skeleton};
 
-use crate::kept::{Hole, same_texts, skeleton};
+use crate::items::Part;
+use crate::kept::{Hole, Skeleton};
 use crate::labelled::{Labelled, labelled};
+use crate::labels::text_at;
+use crate::tokens::own_holes;
 use item_changes::{ChangeKind, Match, matched};
 use std::alloc::{AllocError, Global};
 
 /// A part of a text that is told by itself.
-#[derive(Debug)]
-pub struct Row<'t> {
-    /// What it is called, as in `fn area`.
-    pub label: String,
-    /// The byte place at which it is told.
-    pub at: usize,
-    /// The text of the part.
-    pub text: &'t str,
-    /// Where in that text tokens stand that are not its own.
-    pub holes: Vec<Hole>,
+#[derive(Clone, Copy, Debug)]
+pub struct Row<'a> {
+    pub part: &'a Part,
+    /// The parts that come behind it.
+    pub behind: &'a [Part],
+    /// The whole text.
+    pub text: &'a str,
     /// Whether documentation counts.
     pub has_docs: bool,
 }
 
-// (Written out: what is derived is proved anew, field by field, in each crate that drops one.)
-impl Drop for Row<'_> {
-    fn drop(self) {
-        let Row {
-            label: _,
-            at: _,
-            text: _,
-            holes: _,
-            has_docs: _,
-        } = self;
-    }
-}
-
-impl<'t> Row<'t> {
-    /// The texts of its own tokens.
-    ///
-    /// # Errors
-    ///
-    /// Only if memory runs out.
-    pub fn own(&self, alloc: Global) -> Result<Vec<&'t str>, AllocError>
-        ensures { IfOk result (λ v. map (λ t. t.now) v.items ≡ (text_row_view self.now).own) }
+impl<'a> Row<'a> {
+    /// What tells its own tokens, where the others stand in these holes of its text.
+    fn skeleton(self, holes: &'a [Hole]) -> Skeleton<'a>
+        ensures { let r = self.entry in
+            skeleton_view result ≡ skeleton r.has_docs holes.now (text_at r.text.now r.part.now.range) }
     {
-        skeleton(alloc, self.text, &self.holes, self.has_docs)
-    }
-
-    fn is_written_as(&self, other: &Row<'_>) -> bool
-        ensures { IsTrue result → (text_row_view self.now).own ≡ (text_row_view other.now).own }
-    {
-        if self.has_docs != other.has_docs || !is_same_text(self.text, other.text) {
-            return false;
+        Skeleton {
+            text: text_at(self.text, self.part.range),
+            holes,
+            has_docs: self.has_docs,
         }
-        are_same_holes(&self.holes, &other.holes)
     }
-}
-
-fn is_same_text(old: &str, new: &str) -> bool
-    ensures { IsTrue result → old.now ≡ new.now }
-{
-    old == new
-}
-
-#[tactic(auto, using(crate::proofs::Texts::holes_tell))]
-fn are_same_holes(old: &[Hole], new: &[Hole]) -> bool
-    ensures { IsTrue result → old.now ≡ new.now }
-{
-    old == new
 }
 
 /// Whether two rows have the same tokens.
-#[tactic(auto, using(crate::proofs::Texts::texts_same))]
-fn is_same(alloc: Global, old: &Row<'_>, new: &Row<'_>) -> Result<bool, AllocError>
-    ensures { let same = spec.same_texts (text_row_view old.now).own (text_row_view new.now).own in
+fn is_same(alloc: Global, old: Row<'_>, new: Row<'_>) -> Result<bool, AllocError>
+    ensures { let same = spec.same_texts (text_row_view old.entry).own (text_row_view new.entry).own in
         IfOk result (λ is_same. is_same ≡ same) }
 {
-    // Most rows are written as they were: their tokens are not looked at.
-    if old.is_written_as(new) {
-        return Ok(true);
-    }
-    let (old, new) = (old.own(alloc)?, new.own(alloc)?);
-    Ok(same_texts(&old, &new))
+    let old_holes = own_holes(alloc, old.part, old.behind)?;
+    let new_holes = own_holes(alloc, new.part, new.behind)?;
+    Ok(old.skeleton(&old_holes).is_same(new.skeleton(&new_holes)))
 }
 
 /// A change of a row.
@@ -96,20 +60,20 @@ pub struct Change<'r> {
     pub at: usize,
 }
 
-fn changed<'r>(kind: ChangeKind, row: &'r Row<'_>) -> Change<'r>
-    ensures { row_change_view result ≡ spec.row_change kind (text_row_view row.now) }
+fn changed<'r>(kind: ChangeKind, row: Row<'r>) -> Change<'r>
+    ensures { row_change_view result ≡ spec.row_change kind (text_row_view row.entry) }
 {
     Change {
         kind,
-        label: &row.label,
-        at: row.at,
+        label: &row.part.label,
+        at: row.part.at,
     }
 }
 
 /// What became of a row; none where both texts have the same tokens of it.
 fn change_of<'r>(
     alloc: Global,
-    found: &Match<&Labelled<'r, '_>>,
+    found: &Match<&Labelled<'r>>,
 ) -> Result<Option<Change<'r>>, AllocError>
     ensures { IfOk result
         (λ change. found_row_change change ≡ spec.row_change_of (row_match found.now)) }
@@ -142,7 +106,7 @@ fn push_change<'r>(
 
 fn changes_of<'r>(
     alloc: Global,
-    found: &[Match<&Labelled<'r, '_>>],
+    found: &[Match<&Labelled<'r>>],
 ) -> Result<Vec<Change<'r>>, AllocError>
     ensures { IfOk result (λ v. map row_change_view v.items
         ≡ flat_map spec.row_change_of (map row_match found.now)) }
@@ -165,8 +129,8 @@ fn changes_of<'r>(
 /// Only if memory runs out.
 pub fn changes<'r>(
     alloc: Global,
-    old: &'r [Row<'_>],
-    new: &'r [Row<'_>],
+    old: &[Row<'r>],
+    new: &[Row<'r>],
 ) -> Result<Vec<Change<'r>>, AllocError>
     ensures { IfOk result (λ v. map row_change_view v.items
         ≡ spec.row_changes (map text_row_view old.now) (map text_row_view new.now)) }

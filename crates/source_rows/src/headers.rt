@@ -11,6 +11,9 @@ use rust_leaves::{Wanted, WantedMetas, wanted_front};
 use rust_members::TextRange;
 use std::alloc::{AllocError, Global};
 
+// Most headers are shorter than so many bytes.
+const ROOM: usize = 64;
+
 fn clings_behind(symbol: u8) -> bool
     ensures { result ≡ spec.clings_behind symbol }
 {
@@ -84,7 +87,7 @@ fn is_over(is_cut: bool, reach: usize, out: &str, cursor: &Cursor<'_>) -> bool
 fn reach_behind(reach: usize, cursor: &Cursor<'_>) -> usize
     ensures { result ≡ spec.reach_behind reach cursor.now }
 {
-    if cursor.past() < reach {
+    if cursor.past() < reach || !cursor.is_at_open() {
         return reach;
     }
     let mut behind = cursor.ahead();
@@ -96,7 +99,7 @@ fn reach_behind(reach: usize, cursor: &Cursor<'_>) -> usize
 fn spaced(alloc: Global, is_cut: bool, cursor: &mut Cursor<'_>) -> Result<String, AllocError>
     ensures { IfOk result (λ out. string_bytes out ≡ spec.spaced_tokens is_cut 0 [] 60 cursor.old) }
 {
-    let mut out = String::new(alloc);
+    let mut out = String::with_capacity(alloc, ROOM)?;
     let mut before = b'<';
     let mut reach = 0;
     'tokens: while !is_over(is_cut, reach, &out, cursor) {

@@ -2,7 +2,7 @@
 
 ghost use Rattle.std.specs.Prelude.{◌≡◌, ◌++◌, ◌∷◌, [], IfOk, OnOk, map, string_bytes};
 ghost use Rattle.rust_members.specs.Views.{member_view};
-ghost use Rattle.source_rows.specs.Labels.{has_members, modules_path};
+ghost use Rattle.source_rows.specs.Labels.{has_members, label, member_word, modules_path};
 ghost use Rattle.source_rows.specs.Parts as spec;
 ghost use Rattle.source_rows.specs.Views.{outer_view, part_view};
 
@@ -27,6 +27,9 @@ pub struct Part {
     /// The braces whose tokens do not count.
     pub body: Option<TextRange>,
 }
+
+// Most labels are shorter than so many bytes: they take memory once.
+const ROOM: usize = 64;
 
 /// A module around an item: where it ends, and its name.
 #[derive(Clone, Copy)]
@@ -53,29 +56,32 @@ fn kept_name(kind: MemberKind, name: Option<TextRange>) -> Option<TextRange>
     }
 }
 
-fn member_path(
+#[tactic(auto, using(crate::proofs::Steps::path_label))]
+fn member_label(
     alloc: Global,
     text: &str,
     path: &str,
-    name: Option<TextRange>,
+    member: &Member,
 ) -> Result<String, AllocError>
-    ensures { IfOk result (λ out. string_bytes out ≡ spec.member_path text.now path.now name) }
+    ensures { let m = member_view member.now in
+        IfOk result (λ out. string_bytes out
+        ≡ label (member_word m.kind) (spec.member_path text.now path.now m.name)) }
 {
-    let mut out = String::from_str(alloc, path)?;
-    out.push_str("::")?;
-    out.push_str(text_at_some(text, name))?;
-    Ok(out)
+    let mut label = String::with_capacity(alloc, ROOM)?;
+    label.push_str(member_word(member.kind))?;
+    label.push_str(" ")?;
+    label.push_str(path)?;
+    label.push_str("::")?;
+    label.push_str(text_at_some(text, member.name))?;
+    Ok(label)
 }
 
 fn member_part(alloc: Global, text: &str, path: &str, member: &Member) -> Result<Part, AllocError>
     ensures { IfOk result (λ part. part_view part
         ≡ spec.member_part text.now path.now (member_view member.now)) }
 {
-    let path = member_path(alloc, text, path, member.name)?;
-    let mut label = String::new(alloc);
-    push_label(&mut label, member_word(member.kind), &path)?;
     Ok(Part {
-        label,
+        label: member_label(alloc, text, path, member)?,
         at: told_at(member.range, member.name),
         range: member.range,
         kept: kept_name(member.kind, member.name),
@@ -181,7 +187,7 @@ fn item_path(
     ensures { IfOk result (λ out. string_bytes out
         ≡ spec.part_path edition text.now (map outer_view around.now) item.now) }
 {
-    let mut out = String::new(alloc);
+    let mut out = String::with_capacity(alloc, ROOM)?;
     push_path(around, &mut out)?;
     push_name(alloc, text, edition, item, &mut out)?;
     Ok(out)
@@ -199,7 +205,7 @@ fn fn_body(kind: AstIdKind, body: Option<TextRange>) -> Option<TextRange>
 fn item_part(alloc: Global, path: &str, item: &ItemPlace) -> Result<Part, AllocError>
     ensures { IfOk result (λ part. part_view part ≡ spec.part_of_item path.now item.now) }
 {
-    let mut label = String::new(alloc);
+    let mut label = String::with_capacity(alloc, ROOM)?;
     push_label(&mut label, kind_texts(item.id.kind).word, path)?;
     Ok(Part {
         label,

@@ -1,12 +1,11 @@
 //! The tokens of a text that count, without those that stand in some parts of it.
 
-ghost use Rattle.std.specs.Prelude.{◌≡◌, ◌↔◌, ◌++◌, ◌+◌, ◌≤◌, Bool, IfOk, OnOk, IsTrue, length, map};
-ghost use Rattle.source_rows.specs.Changes.{same_texts};
+ghost use Rattle.std.specs.Prelude.{◌≡◌, ◌↔◌, ◌+◌, ◌≤◌, ◌<◌, ℕ, Bool, List, [], ◌∷◌, IfSome, IsTrue, MatchOption, length};
 ghost use Rattle.source_rows.specs.Inner as inner;
 ghost use Rattle.source_rows.specs.Skeletons as spec;
+ghost use Rattle.source_rows.specs.ChangeViews.{skeleton_view};
 
 use rust_lexer::{Depth, Lexer, Token, TokenKind};
-use std::alloc::{AllocError, Global};
 
 /// A part of a text, in bytes.
 #[derive(Clone, Copy, Debug, PartialEq, Eq)]
@@ -54,26 +53,6 @@ fn is_begun(place: usize, holes: &[Hole]) -> bool
     }
 }
 
-/// Adds the text of a token that counts, unless it stands in the first of some parts that do not end before it.
-fn push_kept<'t>(
-    token: &Token<'t>,
-    holes: &[Hole],
-    has_docs: bool,
-    texts: &mut Vec<&'t str>,
-) -> Result<(), AllocError>
-    ensures { OnOk result (map (λ t. t.now) texts.new.items ≡ map (λ t. t.now) texts.old.items
-        ++ spec.text_if_kept has_docs holes.now token.now) }
-{
-    if !counts(token, has_docs) {
-        return Ok(());
-    }
-    if is_begun(token.at(), holes) {
-        return Ok(());
-    }
-    texts.push(token.text())?;
-    Ok(())
-}
-
 /// In the braces that a `{` opens.
 const INSIDE: Depth = Depth {
     braces: 1,
@@ -111,35 +90,122 @@ fn pass_hole(token: &Token<'_>, holes: &[Hole], lexer: &mut Lexer<'_>)
     }
 }
 
-/// The texts of the tokens of a text that count and stand in none of these parts.
+/// What is left of a text, of which the tokens are taken that count and stand in none of some parts.
+#[derive(Drop)]
+struct Kept<'a> {
+    lexer: Lexer<'a>,
+    holes: &'a [Hole],
+    has_docs: bool,
+}
+
+/// Whether a token is taken that comes in front of what is left. What need not be looked at behind it is passed over.
+fn is_taken(token: &Token<'_>, left: &mut Kept<'_>) -> bool
+    requires { inner.ComeBehind (token.now.at + length token.now.text) left.old.lexer }
+    ensures same { spec.kept left.old.has_docs left.old.holes.now (token.now ∷ left.old.lexer)
+        ≡ inner.text_first result token.now.text (inner.left_texts left.new) }
+    ensures after { inner.ComeBehind 0 left.new.lexer }
+    ensures fewer { length left.new.lexer ≤ length left.old.lexer }
+{
+    if !counts(token, left.has_docs) {
+        return false;
+    }
+    left.holes = not_over(token.at(), left.holes);
+    pass_hole(token, left.holes, &mut left.lexer);
+    !is_begun(token.at(), left.holes)
+}
+
+/// The text of the next token that is taken.
+fn next_taken<'a>(left: &mut Kept<'a>) -> Option<&'a str>
+    requires { inner.ComeBehind 0 left.old.lexer }
+    ensures taken { MatchOption result (inner.left_texts left.old ≡ [])
+        (λ t. inner.left_texts left.old ≡ t.now ∷ inner.left_texts left.new) }
+    ensures after { inner.ComeBehind 0 left.new.lexer }
+    ensures fewer { IfSome result (λ t. length left.new.lexer < length left.old.lexer) }
+{
+    'tokens: while let Some(token) = left.lexer.next() {
+        if is_taken(&token, left) {
+            return Some(token.text());
+        }
+    }
+    None
+}
+
+/// Whether the next token that is taken has this text.
+fn is_next(one: &str, left: &mut Kept<'_>) -> bool
+    requires { inner.ComeBehind 0 left.old.lexer }
+    ensures next { (more : List (List ℕ)) → (one.now ∷ more ≡ inner.left_texts left.old)
+        ↔ (IsTrue result × (more ≡ inner.left_texts left.new)) }
+    ensures after { inner.ComeBehind 0 left.new.lexer }
+{
+    match next_taken(left) {
+        Some(other) => one == other,
+        None => false,
+    }
+}
+
+/// Whether the same tokens are taken of two texts.
+fn are_same(mut ours: Kept<'_>, mut theirs: Kept<'_>) -> bool
+    requires ours { inner.ComeBehind 0 ours.lexer }
+    requires theirs { inner.ComeBehind 0 theirs.lexer }
+    ensures { IsTrue result ↔ (inner.left_texts ours.entry ≡ inner.left_texts theirs.entry) }
+{
+    'texts: while let Some(one) = next_taken(&mut ours) {
+        if !is_next(one, &mut theirs) {
+            return false;
+        }
+    }
+    next_taken(&mut theirs).is_none()
+}
+
+/// A text, told by the texts of its tokens that count and stand in none of some parts.
 ///
 /// Documentation counts where that is asked. The parts come in order: one that begins before an earlier one ends is looked
 /// at when that has ended.
-pub fn skeleton<'t>(
-    alloc: Global,
-    text: &'t str,
-    holes: &[Hole],
-    has_docs: bool,
-) -> Result<Vec<&'t str>, AllocError>
-    ensures { IfOk result (λ v. map (λ t. t.now) v.items
-        ≡ spec.skeleton has_docs holes.now text.now) }
-{
-    let mut texts = Vec::new(alloc);
-    let mut left = holes;
-    let mut lexer = Lexer::new(text);
-    'tokens: while let Some(token) = lexer.next() {
-        left = not_over(token.at(), left);
-        push_kept(&token, left, has_docs, &mut texts)?;
-        pass_hole(&token, left, &mut lexer);
-    }
-    Ok(texts)
+#[derive(Clone, Copy, Debug)]
+pub struct Skeleton<'a> {
+    pub text: &'a str,
+    pub holes: &'a [Hole],
+    pub has_docs: bool,
 }
 
-/// Whether two lists of texts are one.
-#[tactic(auto, using(crate::proofs::Texts::lists_tell, crate::proofs::Texts::lists_same))]
-pub fn same_texts(left: &[&str], right: &[&str]) -> bool
-    ensures one { IsTrue result ↔ (map (λ t. t.now) left.now ≡ map (λ t. t.now) right.now) }
-    ensures test { result ≡ same_texts (map (λ t. t.now) left.now) (map (λ t. t.now) right.now) }
+fn is_same_text(old: &str, new: &str) -> bool
+    ensures { IsTrue result → old.now ≡ new.now }
 {
-    left == right
+    old == new
+}
+
+fn are_same_holes(old: &[Hole], new: &[Hole]) -> bool
+    ensures { IsTrue result → old.now ≡ new.now }
+{
+    old == new
+}
+
+impl<'a> Skeleton<'a> {
+    fn is_written_as(self, other: Skeleton<'_>) -> bool
+        ensures { IsTrue result → skeleton_view self.entry ≡ skeleton_view other.entry }
+    {
+        if self.has_docs != other.has_docs || !is_same_text(self.text, other.text) {
+            return false;
+        }
+        are_same_holes(self.holes, other.holes)
+    }
+
+    fn kept(self) -> Kept<'a>
+        ensures value { inner.left_texts result ≡ skeleton_view self.entry }
+        ensures after { inner.ComeBehind 0 result.lexer }
+    {
+        Kept {
+            lexer: Lexer::new(self.text),
+            holes: self.holes,
+            has_docs: self.has_docs,
+        }
+    }
+
+    /// Whether another has the same tokens.
+    pub fn is_same(self, other: Skeleton<'_>) -> bool
+        ensures { IsTrue result ↔ (skeleton_view self.entry ≡ skeleton_view other.entry) }
+    {
+        // Most are written as they were: their tokens are not looked at.
+        self.is_written_as(other) || are_same(self.kept(), other.kept())
+    }
 }

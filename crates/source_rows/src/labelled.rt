@@ -8,21 +8,18 @@ use crate::compare::Row;
 use item_changes::Keyed;
 use std::alloc::{AllocError, Global};
 
-pub(crate) type Labelled<'r, 't> = Keyed<&'r str, &'r Row<'t>>;
+pub(crate) type Labelled<'a> = Keyed<&'a str, Row<'a>>;
 
 /// The rows of a text, each with its label.
-pub(crate) fn labelled<'r, 't>(
-    alloc: Global,
-    rows: &'r [Row<'t>],
-) -> Result<Vec<Labelled<'r, 't>>, AllocError>
+pub(crate) fn labelled<'a>(alloc: Global, rows: &[Row<'a>]) -> Result<Vec<Labelled<'a>>, AllocError>
     ensures { IfOk result (λ v. map labelled_view v.items
         ≡ map with_label (map text_row_view rows.now)) }
 {
     let mut items = Vec::new(alloc);
     for row in rows {
         items.push(Keyed {
-            key: row.label.as_str(),
-            item: row,
+            key: row.part.label.as_str(),
+            item: *row,
         })?;
     }
     Ok(items)

@@ -8,8 +8,8 @@ ghost use Rattle.rust_metas.specs.Docs.{kept_metas};
 ghost use Rattle.rust_metas.specs.declared.wanted.WantedMetas.TheVariants as wanted;
 ghost use Rattle.source_rows.specs.Enabled.{any_disables};
 
-use crate::compare::Change;
-use crate::kept::Hole;
+use crate::compare::{Change, Row};
+use crate::kept::{Hole, Skeleton};
 use crate::reading::Reading;
 use crate::source::Source;
 
@@ -24,6 +24,14 @@ fn sources()
 fn holes()
     ensures equal { (a b : Hole) → Decides (⟦<Hole as PartialEq>⟧.eq a b) (a ≡ b) }
     ensures copied { (source copy : Hole) → ⟦<Hole as Clone>⟧.is_clone source copy → copy ≡ source }
+{}
+
+fn rows()
+    ensures { IsCopied ⟦<Row<'static> as Clone>⟧.is_clone }
+{}
+
+fn skeletons()
+    ensures { IsCopied ⟦<Skeleton<'static> as Clone>⟧.is_clone }
 {}
 
 fn changes()

@@ -20,7 +20,7 @@ pub use compare::{Change, Row, changes};
 pub use headers::header;
 pub use item_changes::ChangeKind;
 pub use items::{Part, members_in, parts};
-pub use kept::{Hole, same_texts, skeleton};
+pub use kept::{Hole, Skeleton};
 pub use labels::{KindTexts, item_word, kind_texts, member_word, text_at};
 pub use listed::ListedMember;
 pub use reading::Reading;

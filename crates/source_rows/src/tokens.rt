@@ -8,7 +8,6 @@ ghost use Rattle.source_rows.specs.Views.{part_view};
 use crate::compare::Row;
 use crate::items::Part;
 use crate::kept::Hole;
-use crate::labels::text_at;
 use rust_members::TextRange;
 use std::alloc::{AllocError, Global};
 
@@ -105,41 +104,38 @@ fn moved_back(alloc: Global, by: usize, holes: &[Hole]) -> Result<Vec<Hole>, All
     Ok(moved)
 }
 
-fn row<'t>(
+/// The same in the part's own text.
+pub(crate) fn own_holes(
     alloc: Global,
-    text: &'t str,
     part: &Part,
     behind: &[Part],
-    has_docs: bool,
-) -> Result<Row<'t>, AllocError>
-    ensures { IfOk result (λ row. text_row_view row
-        ≡ spec.part_row has_docs text.now (part_view part.now) (map part_view behind.now)) }
+) -> Result<Vec<Hole>, AllocError>
+    ensures { IfOk result (λ v. v.items
+        ≡ spec.own_holes (part_view part.now) (map part_view behind.now)) }
 {
     let holes = holes(alloc, part, behind)?;
-    Ok(Row {
-        label: String::from_str(alloc, &part.label)?,
-        at: part.at,
-        text: text_at(text, part.range),
-        holes: moved_back(alloc, part.range.start, &holes)?,
-        has_docs,
-    })
+    moved_back(alloc, part.range.start, &holes)
 }
 
 /// Each part of a text, which come in preorder, with what tells its own tokens. Documentation counts where that is asked.
-pub fn rows<'t>(
+pub fn rows<'a>(
     alloc: Global,
-    text: &'t str,
-    parts: &[Part],
+    text: &'a str,
+    parts: &'a [Part],
     has_docs: bool,
-) -> Result<Vec<Row<'t>>, AllocError>
+) -> Result<Vec<Row<'a>>, AllocError>
     ensures { IfOk result (λ v. map text_row_view v.items
         ≡ spec.part_rows has_docs text.now (map part_view parts.now)) }
 {
-    let mut rows = Vec::new(alloc);
+    let mut rows = Vec::with_capacity(alloc, parts.len())?;
     let mut left = parts;
     while let [part, behind @ ..] = left {
-        let row = row(alloc, text, part, behind, has_docs)?;
-        rows.push(row)?;
+        rows.push(Row {
+            part,
+            behind,
+            text,
+            has_docs,
+        })?;
         left = behind;
     }
     Ok(rows)

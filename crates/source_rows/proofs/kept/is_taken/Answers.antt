@@ -1,0 +1,18 @@
+use Rattle.std.proofs.Common.{◌∙◌, ◌++◌, ◌+◌, ap, arith, length, sym}
+use Rattle.source_rows.specs.Skeletons.{kept, not_over}
+use Rattle.source_rows.proofs.Holes.{kept_later, sooner, uncounted}
+use Rattle.source_rows.proofs.kept.is_taken.Goals as goal
+
+pub returns-then-not-counts-clause-same : goal.returns-then-not-counts-clause-same
+returns-then-not-counts-clause-same c =
+    let docs = c.args.left.now.has_docs in
+    let t = c.args.token.now in
+    let holes = c.args.left.now.holes.now in
+    ap (λ l. l ++ kept docs (not_over t.at holes) c.args.left.now.lexer) (uncounted docs (not_over t.at holes) t (sym c.counts.ensures ∙ c.if-not-counts.true))
+    ∙ kept_later docs t.at (t.at + length t.text) holes c.args.left.now.lexer (omega arith) c.requires
+
+pub returns-then-not-counts-clause-after : goal.returns-then-not-counts-clause-after
+returns-then-not-counts-clause-after c = sooner _ _ _ (omega arith) c.requires
+
+pub returns-clause-after : goal.returns-clause-after
+returns-clause-after c = sooner _ _ _ (omega arith) c.pass_hole.ensures.after
