@@ -78,7 +78,8 @@ def without(text, pattern):
     """The text without what begins with the pattern and ends with the block behind it."""
     while found := re.search(pattern, text, re.M):
         end = block_end(text, found.start())
-        text = text[:found.start()] + text[end:].lstrip(';,').removeprefix('\n')
+        marks = ',' if 'ensures' in found[0] else ';,'
+        text = text[:found.start()] + text[end:].lstrip(marks).removeprefix('\n')
     return text
 
 

@@ -37,6 +37,10 @@ impl<T: TryClone> TryClone for Vec<T> {
     fn clone(&self) -> Result<Self, AllocError> { Ok(Vec(self.0.iter().map(TryClone::clone).collect::<Result<_, _>>()?)) }
 }
 
+impl<T: TryClone> TryClone for Option<T> {
+    fn clone(&self) -> Result<Self, AllocError> { self.as_ref().map(TryClone::clone).transpose() }
+}
+
 impl<T> Deref for Vec<T> {
     type Target = [T];
     fn deref(&self) -> &[T] { &self.0 }
@@ -69,6 +73,7 @@ pub struct String(pub std::string::String);
 
 impl String {
     pub fn new(_: Global) -> Self { String(std::string::String::new()) }
+    pub fn with_capacity(_: Global, room: usize) -> Result<Self, AllocError> { Ok(String(std::string::String::with_capacity(room))) }
     pub fn from_str(_: Global, text: &str) -> Result<Self, AllocError> { Ok(String(text.to_string())) }
     pub fn from_utf8(bytes: Vec<u8>) -> Result<Self, std::string::FromUtf8Error> { std::string::String::from_utf8(bytes.0).map(String) }
     pub fn as_str(&self) -> &str { &self.0 }
