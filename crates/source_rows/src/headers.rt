@@ -4,15 +4,12 @@ ghost use Rattle.std.specs.Prelude.{◌≡◌, ◌++◌, [], IfOk, OnOk, string_
 ghost use Rattle.rust_cursor.specs.Words.{text};
 ghost use Rattle.source_rows.specs.Headers as spec;
 
-use crate::labels::text_at;
+use crate::labels::{ROOM, text_at};
 use hir_input::EditionYear;
 use rust_cursor::Cursor;
 use rust_leaves::{Wanted, WantedMetas, wanted_front};
 use rust_members::TextRange;
 use std::alloc::{AllocError, Global};
-
-// Most headers are shorter than so many bytes.
-const ROOM: usize = 64;
 
 fn clings_behind(symbol: u8) -> bool
     ensures { result ≡ spec.clings_behind symbol }

@@ -7,7 +7,7 @@ ghost use Rattle.source_rows.specs.Parts as spec;
 ghost use Rattle.source_rows.specs.Views.{outer_view, part_view};
 
 use crate::headers::header;
-use crate::labels::{kind_texts, member_word, push_label, text_at, text_at_some};
+use crate::labels::{ROOM, kind_texts, member_word, push_label, text_at, text_at_some};
 use hir_input::{AstIdKind, EditionYear};
 use rust_items::ItemPlace;
 use rust_members::{Member, MemberKind, TextRange, read_members};
@@ -27,9 +27,6 @@ pub struct Part {
     /// The braces whose tokens do not count.
     pub body: Option<TextRange>,
 }
-
-// Most labels are shorter than so many bytes: they take memory once.
-const ROOM: usize = 64;
 
 /// A module around an item: where it ends, and its name.
 #[derive(Clone, Copy)]

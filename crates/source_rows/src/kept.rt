@@ -168,14 +168,15 @@ pub struct Skeleton<'a> {
     pub has_docs: bool,
 }
 
+#[tactic(auto, using(crate::proofs::Texts::text_told))]
 fn is_same_text(old: &str, new: &str) -> bool
-    ensures { IsTrue result → old.now ≡ new.now }
+    ensures { IsTrue result ↔ (old.now ≡ new.now) }
 {
     old == new
 }
 
 fn are_same_holes(old: &[Hole], new: &[Hole]) -> bool
-    ensures { IsTrue result → old.now ≡ new.now }
+    ensures { IsTrue result ↔ (old.now ≡ new.now) }
 {
     old == new
 }

@@ -7,6 +7,9 @@ use hir_input::AstIdKind;
 use rust_members::{MemberKind, TextRange, cut_out};
 use std::alloc::AllocError;
 
+// Most labels are shorter than so many bytes: they take memory once.
+pub(crate) const ROOM: usize = 64;
+
 /// What is written of the items of a kind.
 #[derive(Clone, Copy)]
 pub struct KindTexts {
