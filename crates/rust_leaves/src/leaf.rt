@@ -218,22 +218,22 @@ pub fn take_leaf<'t>(
     let attrs = front.attrs;
     let visibility = front.visibility;
     let leaf = match front.head {
-        Head::Use => use_declaration(alloc, cursor, attrs, visibility)?,
-        Head::ExternCrate => crate_item(alloc, cursor, attrs, visibility)?,
-        Head::Fn => function(alloc, cursor, wanted, attrs, visibility)?,
-        Head::Impl => implementation(alloc, cursor, wanted, attrs)?,
-        Head::Struct => structure(alloc, cursor, wanted, attrs, visibility)?,
-        Head::Const => constant(alloc, cursor, wanted, attrs, visibility)?,
-        Head::Static => static_value(alloc, cursor, wanted, attrs, visibility)?,
-        Head::Trait => plain_leaf(alloc, cursor, wanted, Head::Trait, attrs, visibility)?,
-        Head::Union => plain_leaf(alloc, cursor, wanted, Head::Union, attrs, visibility)?,
-        Head::Enum => plain_leaf(alloc, cursor, wanted, Head::Enum, attrs, visibility)?,
-        Head::TypeAlias => plain_leaf(alloc, cursor, wanted, Head::TypeAlias, attrs, visibility)?,
-        Head::MacroDef => plain_leaf(alloc, cursor, wanted, Head::MacroDef, attrs, visibility)?,
-        Head::MacroRules => macro_definition(alloc, cursor, wanted, attrs)?,
+        Head::Use => use_declaration(alloc, cursor, attrs, visibility),
+        Head::ExternCrate => crate_item(alloc, cursor, attrs, visibility),
+        Head::Fn => function(alloc, cursor, wanted, attrs, visibility),
+        Head::Impl => implementation(alloc, cursor, wanted, attrs),
+        Head::Struct => structure(alloc, cursor, wanted, attrs, visibility),
+        Head::Const => constant(alloc, cursor, wanted, attrs, visibility),
+        Head::Static => static_value(alloc, cursor, wanted, attrs, visibility),
+        Head::Trait => plain_leaf(alloc, cursor, wanted, Head::Trait, attrs, visibility),
+        Head::Union => plain_leaf(alloc, cursor, wanted, Head::Union, attrs, visibility),
+        Head::Enum => plain_leaf(alloc, cursor, wanted, Head::Enum, attrs, visibility),
+        Head::TypeAlias => plain_leaf(alloc, cursor, wanted, Head::TypeAlias, attrs, visibility),
+        Head::MacroDef => plain_leaf(alloc, cursor, wanted, Head::MacroDef, attrs, visibility),
+        Head::MacroRules => macro_definition(alloc, cursor, wanted, attrs),
         Head::Module | Head::ExternBlock | Head::Other => return invocation(
             alloc, cursor, wanted, attrs,
         ),
-    };
+    }?;
     Ok(Some(leaf))
 }
