@@ -1,7 +1,7 @@
 //! What of std the reader calls: with an allocator as an argument, and results where memory may run out.
 use std::arch::x86_64::*;
 use std::fmt;
-use std::ops::{BitOr, Deref, DerefMut};
+use std::ops::{BitAnd, BitOr, Deref, DerefMut};
 
 #[derive(Clone, Copy, Debug, PartialEq, Eq)]
 pub struct AllocError;
@@ -115,29 +115,52 @@ impl<K: Eq + std::hash::Hash, V> HashMap<K, V> {
     pub fn get(&self, key: &K) -> Option<&V> { self.0.get(key) }
 }
 
-/// 64 bytes, as four vectors of SSE2.
+/// So many times 16 bytes, as vectors of SSE2.
 #[derive(Clone, Copy)]
-pub struct u8x64([__m128i; 4]);
+pub struct Lanes<const N: usize>([__m128i; N]);
 
-impl u8x64 {
-    pub fn splat(byte: u8) -> Self { u8x64([unsafe { _mm_set1_epi8(byte as i8) }; 4]) }
+pub type u8x64 = Lanes<4>;
 
+pub type u8x16 = Lanes<1>;
+
+impl<const N: usize> Lanes<N> {
     #[inline(always)]
-    pub fn from_slice(bytes: &[u8]) -> Self {
-        let bytes = &bytes[..64];
-        u8x64(std::array::from_fn(|k| unsafe { _mm_loadu_si128(bytes[16 * k..].as_ptr().cast()) }))
+    fn joined(self, other: Self, join: impl Fn(__m128i, __m128i) -> __m128i) -> Self {
+        Lanes(std::array::from_fn(|k| join(self.0[k], other.0[k])))
     }
 
     #[inline(always)]
-    pub fn simd_eq(self, other: Self) -> Self { u8x64(std::array::from_fn(|k| unsafe { _mm_cmpeq_epi8(self.0[k], other.0[k]) })) }
+    pub fn splat(byte: u8) -> Self { Lanes([unsafe { _mm_set1_epi8(byte as i8) }; N]) }
 
     #[inline(always)]
-    pub fn to_bitmask(self) -> u64 { (0..4).map(|k| (unsafe { _mm_movemask_epi8(self.0[k]) } as u64) << (16 * k)).sum() }
+    pub fn from_slice(bytes: &[u8]) -> Self {
+        let bytes = &bytes[..16 * N];
+        Lanes(std::array::from_fn(|k| unsafe { _mm_loadu_si128(bytes[16 * k..].as_ptr().cast()) }))
+    }
+
+    #[inline(always)]
+    pub fn simd_eq(self, other: Self) -> Self { self.joined(other, |a, b| unsafe { _mm_cmpeq_epi8(a, b) }) }
+
+    #[inline(always)]
+    pub fn simd_le(self, other: Self) -> Self { self.joined(other, |a, b| unsafe { _mm_cmpeq_epi8(_mm_min_epu8(a, b), a) }) }
+
+    #[inline(always)]
+    pub fn simd_ge(self, other: Self) -> Self { other.simd_le(self) }
+
+    #[inline(always)]
+    pub fn to_bitmask(self) -> u64 { (0..N).map(|k| (unsafe { _mm_movemask_epi8(self.0[k]) } as u64) << (16 * k)).sum() }
 }
 
-impl BitOr for u8x64 {
+impl<const N: usize> BitOr for Lanes<N> {
     type Output = Self;
 
     #[inline(always)]
-    fn bitor(self, other: Self) -> Self { u8x64(std::array::from_fn(|k| unsafe { _mm_or_si128(self.0[k], other.0[k]) })) }
+    fn bitor(self, other: Self) -> Self { self.joined(other, |a, b| unsafe { _mm_or_si128(a, b) }) }
+}
+
+impl<const N: usize> BitAnd for Lanes<N> {
+    type Output = Self;
+
+    #[inline(always)]
+    fn bitand(self, other: Self) -> Self { self.joined(other, |a, b| unsafe { _mm_and_si128(a, b) }) }
 }

@@ -1,6 +1,6 @@
 //! What became of a file in another, or of the files below a folder in those below another.
 use crate::commands::{FAILED, Failure, NOT_SO};
-use crate::files::{Found, STDIN, files_of_folder, is_a_folder, read, with_slash};
+use crate::files::{Found, Room, STDIN, files_of_folder, is_a_folder, with_slash};
 use crate::output::{Progress, complain, complain_of, write_out};
 use itemtree_commands::{CompareError, Options, changed};
 use itemtree_options::{Asked, Filter};
@@ -86,8 +86,8 @@ impl Comparison<'_> {
         Ok(())
     }
 
-    fn read(&mut self, path: &str) -> Option<String> {
-        match read(self.rt, path) {
+    fn read<'r>(&mut self, path: &str, room: &'r mut Room) -> Option<&'r str> {
+        match room.read(self.rt, path) {
             Ok(text) => Some(text),
             Err(error) => {
                 self.complain(path, error);
@@ -96,8 +96,16 @@ impl Comparison<'_> {
         }
     }
 
-    fn compare_files(&mut self, old_path: &str, new_path: &str) -> Result<(), Failure> {
-        let (Some(old), Some(new)) = (self.read(old_path), self.read(new_path)) else {
+    fn compare_files(
+        &mut self,
+        old_path: &str,
+        new_path: &str,
+        rooms: &mut [Room; 2],
+    ) -> Result<(), Failure> {
+        let [old_room, new_room] = rooms;
+        let old = self.read(old_path, old_room);
+        let new = self.read(new_path, new_room);
+        let (Some(old), Some(new)) = (old, new) else {
             return Ok(());
         };
         // (Others see the same of equal texts, and no text is too long to be seen.)
@@ -106,11 +114,11 @@ impl Comparison<'_> {
         }
         let olds = Source {
             path: old_path,
-            text: &old,
+            text: old,
         };
         let news = Source {
             path: new_path,
-            text: &new,
+            text: new,
         };
         if self.is_of_trees {
             self.compare_trees(olds, news)
@@ -134,9 +142,9 @@ impl Comparison<'_> {
         Ok(found)
     }
 
-    fn compare_pair(&mut self, pair: Pair<'_>) -> Result<(), Failure> {
+    fn compare_pair(&mut self, pair: Pair<'_>, rooms: &mut [Room; 2]) -> Result<(), Failure> {
         match pair {
-            (Some(old), Some(new)) => self.compare_files(old, new),
+            (Some(old), Some(new)) => self.compare_files(old, new, rooms),
             (Some(old), None) => self.tell_single(old, "removed"),
             (None, Some(new)) => self.tell_single(new, "added"),
             (None, None) => Ok(()),
@@ -153,8 +161,9 @@ impl Comparison<'_> {
         let (olds, news) = (self.found_in(old, filter)?, self.found_in(new, filter)?);
         let (old_top, new_top) = (with_slash(alloc, old)?, with_slash(alloc, new)?);
         let pairs = pairs(alloc, &old_top, &olds.files, &new_top, &news.files)?;
+        let mut rooms = [Room::new(alloc), Room::new(alloc)];
         for (before, pair) in pairs.iter().enumerate() {
-            self.compare_pair(*pair)?;
+            self.compare_pair(*pair, &mut rooms)?;
             self.progress.tell(before + 1, pairs.len());
         }
         self.progress.clear();
@@ -234,7 +243,10 @@ pub(crate) fn compare(
         progress: Progress::new(rt),
     };
     match (is_a_folder(rt, old), is_a_folder(rt, new)) {
-        (false, false) => comparison.compare_files(old, new)?,
+        (false, false) => {
+            let mut rooms = [Room::new(alloc), Room::new(alloc)];
+            comparison.compare_files(old, new, &mut rooms)?;
+        }
         (true, true) => comparison.compare_folders(old, new, &asked.filter)?,
         (true, false) => return refused(alloc, old, new),
         (false, true) => return refused(alloc, new, old),

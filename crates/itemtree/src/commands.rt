@@ -1,6 +1,6 @@
 //! The commands, file by file.
 use crate::changed::compare;
-use crate::files::{STDIN, files_of, read};
+use crate::files::{Room, STDIN, files_of};
 use crate::options::read_options;
 use crate::output::{Progress, STDOUT, complain, complain_of, is_colored, write_out};
 use crate::request::write_request;
@@ -158,9 +158,9 @@ impl Run<'_> {
         Ok(())
     }
 
-    fn do_file(&mut self, path: &str) -> Result<(), Failure> {
-        match read(self.rt, path) {
-            Ok(text) => self.do_text(path, &text),
+    fn do_file(&mut self, path: &str, room: &mut Room) -> Result<(), Failure> {
+        match room.read(self.rt, path) {
+            Ok(text) => self.do_text(path, text),
             Err(error) => {
                 self.complain(path, error);
                 Ok(())
@@ -174,8 +174,9 @@ impl Run<'_> {
             self.status = FAILED;
             complain_of(self.rt, &found.faults);
         }
+        let mut room = Room::new(self.rt.alloc());
         for (before, file) in found.files.iter().enumerate() {
-            self.do_file(file)?;
+            self.do_file(file, &mut room)?;
             self.progress.tell(before + 1, found.files.len());
         }
         self.progress.clear();

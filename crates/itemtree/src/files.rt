@@ -9,8 +9,8 @@ use std::rt::Files;
 use std::{fs, io};
 use thiserror::Error;
 
-/// The room that is taken at once for a file at most, in bytes.
-const MOST_ROOM: u64 = 1 << 24;
+/// The room that is taken for the first file at least, in bytes.
+const LEAST_ROOM: usize = 1 << 16;
 
 /// What stands for standard input.
 pub(crate) const STDIN: &str = "-";
@@ -219,24 +219,47 @@ fn not_text(bytes: &[u8], count: usize) -> ReadError {
     ReadError::NotText { line, column }
 }
 
-fn read_bytes(rt: &HostRuntime, path: &str) -> io::Result<Vec<u8>> {
-    if path == STDIN {
-        let mut bytes = Vec::new(rt.alloc());
-        rt.stdin().read_to_end(&mut bytes)?;
-        return Ok(bytes);
-    }
-    let mut file = File::open(rt, path)?;
-    // With room for all of it at once, no more than that is cleared before it is read.
-    let room = file.metadata()?.len().min(MOST_ROOM) as usize + 1;
-    let mut bytes = Vec::with_capacity(rt.alloc(), room)?;
-    file.read_to_end(&mut bytes)?;
-    Ok(bytes)
+/// Room for the texts of files, one after another: none of it is cleared again.
+#[derive(Drop)]
+pub(crate) struct Room {
+    bytes: Vec<u8>,
 }
 
-/// The text of a file, or of standard input.
-pub(crate) fn read(rt: &HostRuntime, path: &str) -> Result<String, ReadError> {
-    match String::from_utf8(read_bytes(rt, path)?) {
-        Ok(text) => Ok(text),
-        Err(error) => Err(not_text(error.as_bytes(), error.utf8_error().valid_up_to())),
+impl Room {
+    pub(crate) fn new(alloc: Global) -> Room {
+        Room {
+            bytes: Vec::new(alloc),
+        }
+    }
+
+    /// Reads to the end, and tells how many bytes there are.
+    fn fill(&mut self, mut file: impl Read + Drop) -> io::Result<usize> {
+        let mut len = 0usize;
+        for _turn in 0..u64::MAX {
+            if len == self.bytes.len() {
+                self.bytes.resize(len.saturating_mul(2).max(LEAST_ROOM), 0)?;
+            }
+            match file.read(self.bytes.get_mut(len..).unwrap_or(&mut [])) {
+                Ok(0) => break,
+                Ok(count) => len = len.saturating_add(count),
+                Err(error) if error.kind() == io::ErrorKind::Interrupted => {}
+                Err(error) => return Err(error),
+            }
+        }
+        Ok(len)
+    }
+
+    /// The text of a file, or of standard input.
+    pub(crate) fn read(&mut self, rt: &HostRuntime, path: &str) -> Result<&str, ReadError> {
+        let len = if path == STDIN {
+            self.fill(rt.stdin())?
+        } else {
+            self.fill(File::open(rt, path)?)?
+        };
+        let bytes = self.bytes.get(..len).unwrap_or(&[]);
+        match str::from_utf8(bytes) {
+            Ok(text) => Ok(text),
+            Err(error) => Err(not_text(bytes, error.valid_up_to())),
+        }
     }
 }

@@ -1,6 +1,6 @@
 //! The request in JSON that `item_tree_tool` reads.
 use crate::commands::{FAILED, Failure};
-use crate::files::{files_of, read};
+use crate::files::{Room, files_of};
 use crate::options::atoms_of;
 use crate::output::{complain, complain_of, write_out};
 use hir_input::{Crate, HirFileId};
@@ -44,10 +44,11 @@ fn texts_of(rt: &HostRuntime, asked: &Asked<'_>) -> Result<Option<Vec<String>>, 
         complain_of(rt, &found.faults);
         return Ok(None);
     }
+    let mut room = Room::new(rt.alloc());
     let mut texts = Vec::new(rt.alloc());
     for file in &found.files {
-        match read(rt, file) {
-            Ok(text) => texts.push(text)?,
+        match room.read(rt, file) {
+            Ok(text) => texts.push(String::from_str(rt.alloc(), text)?)?,
             Err(error) => {
                 complain(rt, file, error);
                 return Ok(None);

@@ -86,7 +86,6 @@ fn find_significant<'t>(
     ensures found { filter is_significant lexer.old ≡ left_of next.new lexer.new }
     ensures last { last_unended last.new lexer.new ≡ last_unended last.old lexer.old }
 {
-    pass_white(lexer, last);
     'tokens: while let Some(token) = lexer.next() {
         // Of the tokens that are behind one another, only the last one tells. (Its copy keeps the token out of memory.)
         if lexer.is_empty() {
@@ -289,6 +288,7 @@ impl<'t> Cursor<'t> {
     {
         if let Some(token) = &self.next {
             self.past = token.end();
+            pass_white(&mut self.lexer, &mut self.last);
             if let Some(token) = self.lexer.next_frequent() {
                 self.next = Some(token);
                 return;

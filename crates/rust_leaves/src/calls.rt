@@ -24,10 +24,10 @@ pub(crate) fn macro_definition<'t>(
     cursor: &mut Cursor<'t>,
     wanted: Wanted,
     attrs: Vec<Meta>,
-) -> Result<Leaf<'t>, AllocError>
-    ensures { Gives leaf_view
-        (with_value (wanted_leaf wanted (map meta_view attrs.items))
-        (spec.macro_definition [] cursor.old)) result cursor.new }
+) -> Result<Option<Leaf<'t>>, AllocError>
+    ensures { Gives (option_map leaf_view)
+        (spec.some_read (with_value (wanted_leaf wanted (map meta_view attrs.items))
+        (spec.macro_definition [] cursor.old))) result cursor.new }
 {
     let named = item_name_or(alloc, cursor, "try")?;
     let rest = call_end(alloc, cursor, wanted.bodies)?;
@@ -87,10 +87,10 @@ fn call_behind<'t>(
     attrs: Vec<Meta>,
     path: Option<PathNode>,
     name: &'t str,
-) -> Result<Leaf<'t>, AllocError>
-    ensures { Gives leaf_view
-        (with_value (wanted_leaf wanted (map meta_view attrs.items))
-        (spec.call_behind [] path name.now cursor.old)) result cursor.new }
+) -> Result<Option<Leaf<'t>>, AllocError>
+    ensures { Gives (option_map leaf_view)
+        (spec.some_read (with_value (wanted_leaf wanted (map meta_view attrs.items))
+        (spec.call_behind [] path name.now cursor.old))) result cursor.new }
 {
     let rest = call_end(alloc, cursor, wanted.bodies)?;
     let item = Item::MacroCall(MacroCall {
@@ -118,10 +118,7 @@ pub(crate) fn invocation<'t>(
         (spec.invocation [] cursor.old)) result cursor.new }
 {
     match take_callee(alloc, cursor)? {
-        Some(Callee { path, name }) => {
-            let leaf = call_behind(alloc, cursor, wanted, attrs, path, name)?;
-            Ok(Some(leaf))
-        }
+        Some(Callee { path, name }) => { call_behind(alloc, cursor, wanted, attrs, path, name) }
         None => Ok(None),
     }
 }

@@ -1,6 +1,6 @@
 //! Items that hold no items.
 
-ghost use Rattle.std.specs.Prelude.{◌≡◌, [], map, option_map};
+ghost use Rattle.std.specs.Prelude.{◌≡◌, Some, [], map, option_map};
 ghost use Rattle.hir_input.specs.Attr.{meta_view};
 ghost use Rattle.rust_cursor.specs.Reader.{Gives};
 ghost use Rattle.rust_leaves.specs.Clipped.{clipped_rest, leaf_behind, wanted_leaf, with_value};
@@ -43,7 +43,7 @@ pub struct Leaf<'t> {
 // What was read of an item other than a use.
 macro_rules! read_leaf {
     ($alloc:expr, $kind:ident, $item:expr, $name:expr, $named:expr, $rest:expr) => {
-        Leaf {
+        Some(Leaf {
             item: $item,
             kind: AstIdKind::$kind,
             name: $name,
@@ -52,7 +52,7 @@ macro_rules! read_leaf {
             is_ended: $rest.is_ended,
             too_deep: None,
             use_trees: TreeStarts::none($alloc),
-        }
+        })
     };
 }
 
@@ -86,10 +86,10 @@ fn function<'t>(
     wanted: Wanted,
     attrs: Vec<Meta>,
     visibility: Option<Visibility>,
-) -> Result<Leaf<'t>, AllocError>
-    ensures { Gives leaf_view
-        (with_value (wanted_leaf wanted (map meta_view attrs.items))
-        (spec.function [] visibility cursor.old)) result cursor.new }
+) -> Result<Option<Leaf<'t>>, AllocError>
+    ensures { Gives (option_map leaf_view)
+        (spec.some_read (with_value (wanted_leaf wanted (map meta_view attrs.items))
+        (spec.function [] visibility cursor.old))) result cursor.new }
 {
     let named = item_name(alloc, cursor)?;
     let rest = plain_end(alloc, cursor, wanted.bodies, Head::Fn)?;
@@ -106,9 +106,9 @@ fn plain_of<'t>(
     visibility: Option<Visibility>,
     named: Named<'t>,
     rest: Rest<'t>,
-) -> Leaf<'t>
-    ensures { leaf_view result ≡ spec.plain_read (spec.plain_kind head) (map meta_view attrs.items)
-        visibility (name_view named.entry) (rest_view rest.entry) }
+) -> Option<Leaf<'t>>
+    ensures { option_map leaf_view result ≡ Some (spec.plain_read (spec.plain_kind head)
+        (map meta_view attrs.items) visibility (name_view named.entry) (rest_view rest.entry)) }
 {
     match head {
         Head::Enum => named_leaf!(Enum, alloc, attrs, visibility, named, rest),
@@ -129,10 +129,10 @@ fn plain_leaf<'t>(
     head: Head,
     attrs: Vec<Meta>,
     visibility: Option<Visibility>,
-) -> Result<Leaf<'t>, AllocError>
-    ensures { Gives leaf_view
-        (with_value (wanted_leaf wanted (map meta_view attrs.items))
-        (spec.plain_leaf head [] visibility cursor.old)) result cursor.new }
+) -> Result<Option<Leaf<'t>>, AllocError>
+    ensures { Gives (option_map leaf_view)
+        (spec.some_read (with_value (wanted_leaf wanted (map meta_view attrs.items))
+        (spec.plain_leaf head [] visibility cursor.old))) result cursor.new }
 {
     let named = item_name(alloc, cursor)?;
     let rest = plain_end(alloc, cursor, wanted.bodies, head)?;
@@ -146,10 +146,10 @@ fn static_value<'t>(
     wanted: Wanted,
     attrs: Vec<Meta>,
     visibility: Option<Visibility>,
-) -> Result<Leaf<'t>, AllocError>
-    ensures { Gives leaf_view
-        (with_value (wanted_leaf wanted (map meta_view attrs.items))
-        (spec.static_value [] visibility cursor.old)) result cursor.new }
+) -> Result<Option<Leaf<'t>>, AllocError>
+    ensures { Gives (option_map leaf_view)
+        (spec.some_read (with_value (wanted_leaf wanted (map meta_view attrs.items))
+        (spec.static_value [] visibility cursor.old))) result cursor.new }
 {
     cursor.eat_word("mut");
     plain_leaf(alloc, cursor, wanted, Head::Static, attrs, visibility)
@@ -162,10 +162,10 @@ fn constant<'t>(
     wanted: Wanted,
     attrs: Vec<Meta>,
     visibility: Option<Visibility>,
-) -> Result<Leaf<'t>, AllocError>
-    ensures { Gives leaf_view
-        (with_value (wanted_leaf wanted (map meta_view attrs.items))
-        (spec.constant [] visibility cursor.old)) result cursor.new }
+) -> Result<Option<Leaf<'t>>, AllocError>
+    ensures { Gives (option_map leaf_view)
+        (spec.some_read (with_value (wanted_leaf wanted (map meta_view attrs.items))
+        (spec.constant [] visibility cursor.old))) result cursor.new }
 {
     let named = item_name(alloc, cursor)?;
     cursor.eat_word("_");
@@ -180,10 +180,10 @@ fn implementation<'t>(
     cursor: &mut Cursor<'t>,
     wanted: Wanted,
     attrs: Vec<Meta>,
-) -> Result<Leaf<'t>, AllocError>
-    ensures { Gives leaf_view
-        (with_value (wanted_leaf wanted (map meta_view attrs.items))
-        (spec.implementation [] cursor.old)) result cursor.new }
+) -> Result<Option<Leaf<'t>>, AllocError>
+    ensures { Gives (option_map leaf_view)
+        (spec.some_read (with_value (wanted_leaf wanted (map meta_view attrs.items))
+        (spec.implementation [] cursor.old))) result cursor.new }
 {
     let header = cursor.ahead();
     let rest = plain_end(alloc, cursor, wanted.bodies, Head::Impl)?;
@@ -217,7 +217,7 @@ pub fn take_leaf<'t>(
 {
     let attrs = front.attrs;
     let visibility = front.visibility;
-    let leaf = match front.head {
+    match front.head {
         Head::Use => use_declaration(alloc, cursor, attrs, visibility),
         Head::ExternCrate => crate_item(alloc, cursor, attrs, visibility),
         Head::Fn => function(alloc, cursor, wanted, attrs, visibility),
@@ -231,9 +231,6 @@ pub fn take_leaf<'t>(
         Head::TypeAlias => plain_leaf(alloc, cursor, wanted, Head::TypeAlias, attrs, visibility),
         Head::MacroDef => plain_leaf(alloc, cursor, wanted, Head::MacroDef, attrs, visibility),
         Head::MacroRules => macro_definition(alloc, cursor, wanted, attrs),
-        Head::Module | Head::ExternBlock | Head::Other => return invocation(
-            alloc, cursor, wanted, attrs,
-        ),
-    }?;
-    Ok(Some(leaf))
+        Head::Module | Head::ExternBlock | Head::Other => invocation(alloc, cursor, wanted, attrs),
+    }
 }

@@ -143,15 +143,13 @@ pub(crate) fn plain_end<'t>(
     ensures { Gives rest_view
         (with_value (clipped_rest keeps_body) (plain_end head cursor.old)) result cursor.new }
 {
-    match head {
-        Head::Impl => Ok(rest_of(cursor.impl_rest(alloc, keeps_body)?, cursor.past())),
-        Head::MacroDef => Ok(rest_of(cursor.macro_rest(alloc, keeps_body)?, cursor.past())),
-        Head::Static | Head::TypeAlias => Ok(rest_of(
-            cursor.value_rest(alloc, keeps_body)?,
-            cursor.past(),
-        )),
-        _ => Ok(rest_of(cursor.item_rest(alloc, keeps_body)?, cursor.past())),
-    }
+    let excerpt = match head {
+        Head::Impl => cursor.impl_rest(alloc, keeps_body),
+        Head::MacroDef => cursor.macro_rest(alloc, keeps_body),
+        Head::Static | Head::TypeAlias => cursor.value_rest(alloc, keeps_body),
+        _ => cursor.item_rest(alloc, keeps_body),
+    }?;
+    Ok(rest_of(excerpt, cursor.past()))
 }
 
 fn no_call<'t>(alloc: Global) -> Rest<'t>

@@ -1,6 +1,6 @@
 //! Structs, and what an impl is of.
 
-ghost use Rattle.std.specs.Prelude.{◌≡◌, IfOk, None, [], if◌then◌else◌, map};
+ghost use Rattle.std.specs.Prelude.{◌≡◌, IfOk, None, [], if◌then◌else◌, map, option_map};
 ghost use Rattle.hir_input.specs.Attr.{meta_view};
 ghost use Rattle.hir_input.specs.Syntax.{fields_view};
 ghost use Rattle.rust_cursor.specs.Reader.{Gives};
@@ -128,10 +128,10 @@ pub(crate) fn structure<'t>(
     wanted: Wanted,
     attrs: Vec<Meta>,
     visibility: Option<Visibility>,
-) -> Result<Leaf<'t>, AllocError>
-    ensures { Gives leaf_view
-        (with_value (wanted_leaf wanted (map meta_view attrs.items))
-        (kinds.structure [] visibility cursor.old)) result cursor.new }
+) -> Result<Option<Leaf<'t>>, AllocError>
+    ensures { Gives (option_map leaf_view)
+        (kinds.some_read (with_value (wanted_leaf wanted (map meta_view attrs.items))
+        (kinds.structure [] visibility cursor.old))) result cursor.new }
 {
     let named = item_name(alloc, cursor)?;
     let header = cursor.ahead();

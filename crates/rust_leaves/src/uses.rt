@@ -67,9 +67,9 @@ pub(crate) fn crate_item<'t>(
     cursor: &mut Cursor<'t>,
     attrs: Vec<Meta>,
     visibility: Option<Visibility>,
-) -> Result<Leaf<'t>, AllocError>
-    ensures { Gives leaf_view
-        (spec.crate_item (map meta_view attrs.items) visibility cursor.old) result cursor.new }
+) -> Result<Option<Leaf<'t>>, AllocError>
+    ensures { Gives (option_map leaf_view)
+        (spec.some_read (spec.crate_item (map meta_view attrs.items) visibility cursor.old)) result cursor.new }
 {
     let named = item_name_or(alloc, cursor, "self")?;
     let alias = renamed(alloc, cursor)?;
@@ -84,7 +84,7 @@ pub(crate) fn crate_item<'t>(
         rename: rename_of(alias),
         body: String::new(alloc),
     });
-    Ok(Leaf {
+    Ok(Some(Leaf {
         item,
         kind: AstIdKind::ExternCrate,
         name: named.hashed,
@@ -93,7 +93,7 @@ pub(crate) fn crate_item<'t>(
         is_ended,
         too_deep: None,
         use_trees: TreeStarts::none(alloc),
-    })
+    }))
 }
 
 #[tactic(auto, unfolding(crate::specs::Kinds::use_declaration), using(hir_input::proofs::SyntaxViews::item_views))]
@@ -102,9 +102,9 @@ pub(crate) fn use_declaration<'t>(
     cursor: &mut Cursor<'t>,
     attrs: Vec<Meta>,
     visibility: Option<Visibility>,
-) -> Result<Leaf<'t>, AllocError>
-    ensures { Gives leaf_view
-        (spec.use_declaration (map meta_view attrs.items) visibility cursor.old) result cursor.new }
+) -> Result<Option<Leaf<'t>>, AllocError>
+    ensures { Gives (option_map leaf_view)
+        (spec.some_read (spec.use_declaration (map meta_view attrs.items) visibility cursor.old)) result cursor.new }
 {
     let found = use_tree(alloc, cursor)?;
     let is_ended = cursor.eat(b';');
@@ -116,7 +116,7 @@ pub(crate) fn use_declaration<'t>(
         use_tree: found.tree,
         body: String::new(alloc),
     });
-    Ok(Leaf {
+    Ok(Some(Leaf {
         item,
         kind: AstIdKind::Use,
         name: "",
@@ -125,5 +125,5 @@ pub(crate) fn use_declaration<'t>(
         is_ended,
         too_deep: found.too_deep,
         use_trees: found.starts,
-    })
+    }))
 }

@@ -7,13 +7,13 @@ pub use Rattle.rust_lexer.specs.Cut.{apostrophe, b_word, c_word, cut, cut_word, 
 unfoldable pub use Rattle.rust_lexer.specs.Cut.{first_cut}
 pub use Rattle.rust_lexer.specs.Depths.{depth_behind, to_outer}
 pub use Rattle.rust_lexer.specs.Frontmatter.{closing_dashes, frontmatter}
-pub use Rattle.rust_lexer.specs.Inner.{IsBlock, gap, is_blank_byte, is_clean, is_close_byte, is_letter, is_mark_byte, is_open_byte, is_prefix_byte, is_quote_byte, is_stop_byte, is_word_byte, split_of}
+pub use Rattle.rust_lexer.specs.Inner.{IsBlock, gap, is_blank_byte, is_clean, is_close_byte, is_letter, is_mark_byte, is_open_byte, is_plain_byte, is_prefix_byte, is_quote_byte, is_stop_byte, is_word_byte, split_of}
 pub use Rattle.rust_lexer.specs.Number.{based, float, int, is_exponent, is_fraction, is_sign, number, past_decimal, past_exponent, past_fraction}
 unfoldable pub use Rattle.rust_lexer.specs.Number.{past_digits}
 pub use Rattle.rust_lexer.specs.Piece.{Piece}
 pub use Rattle.rust_lexer.specs.Quoted.{character, closed, ends_single, is_one_char, raw, raw_string, single, string, unclosed}
 pub use Rattle.rust_lexer.specs.Symbol.{symbol_from, symbol_of}
-pub use Rattle.rust_lexer.specs.Tokens.{IsPastWhite, AreInPlace, has_mark, is_blank, is_bracket_next, is_nil, is_shebang, is_significant, is_significant_kind, lines_from, mark_from, matter_by, matter_from, piece, pieces, shebang_from, text_of, tokens_from, whole}
+pub use Rattle.rust_lexer.specs.Tokens.{AreInPlace, has_mark, is_blank, is_bracket_next, is_nil, is_shebang, is_significant, is_significant_kind, lines_from, mark_from, matter_by, matter_from, piece, pieces, shebang_from, text_of, tokens_from, whole}
 unfoldable pub use Rattle.rust_lexer.specs.Tokens.{tokens}
 pub use Rattle.rust_lexer.specs.declared.bytes.Class.{Class}
 pub use Rattle.rust_lexer.specs.declared.bytes.TheConstants.{CLASSES}

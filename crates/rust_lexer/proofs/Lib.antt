@@ -6,6 +6,7 @@ pub mod Standing
 pub mod Frequent
 pub mod Emptied
 pub mod Table
+pub mod Runs
 pub mod Lines
 pub mod Wholes
 pub mod Same

@@ -1,10 +1,11 @@
 -- A search for the end of a line gives how many bytes stand before it.
-use Rattle.std.proofs.Common.{◌≡◌, ◌≤◌, ◌<◌, ℕ, zero, suc, ◌==◌, true, List, [], ◌∷◌, Option, None, Some, length, refl, ap, sym, ◌∙◌, arith, slice_index}
+use Rattle.std.proofs.Common.{◌≡◌, ◌≤◌, ◌<◌, ℕ, zero, suc, ◌==◌, true, not, List, [], ◌∷◌, Option, None, Some, length, refl, ap, sym, ◌∙◌, arith, slice_index}
 use Rattle.std.specs.Option.{unwrap_or}
 use Rattle.memchr.specs.Find.{IsFirstByte, is_byte}
 use Rattle.rust_lexer.specs.declared.bytes.Class.TheVariants as class
 use Rattle.rust_lexer.proofs.Common.{run}
 use Rattle.rust_lexer.proofs.Counted.{when}
+use Rattle.rust_lexer.proofs.Runs.{run_to}
 
 goes_on : (b : ℕ) (z : List ℕ) → ((b == 10) ≡ true → ⊥) → run class.Line (b ∷ z) ≡ suc (run class.Line z)
 goes_on b z none = when (b == 10) (λ e. absurd (none e)) (λ e. rw e refl)
@@ -14,10 +15,7 @@ no_end [] none = refl
 no_end (b ∷ z) none = goes_on b z (none 0 (omega arith)) ∙ ap suc (no_end z (λ k lt. none (suc k) (omega (arith, lt))))
 
 first_end : (z : List ℕ) (n : ℕ) → n < length z → (slice_index z n == 10) ≡ true → ((k : ℕ) → k < n → (slice_index z k == 10) ≡ true → ⊥) → run class.Line z ≡ n
-first_end [] n lt hit none = absurd (omega (arith, lt))
-first_end (b ∷ z) zero lt hit none = rw hit refl
-first_end (b ∷ z) (suc n) lt hit none =
-    goes_on b z (none 0 (omega arith)) ∙ ap suc (first_end z n (omega (arith, lt)) hit (λ k below. none (suc k) (omega (arith, below))))
+first_end z n lt hit none = run_to class.Line z n lt (λ k below. when (slice_index z k == 10) (λ e. absurd (none k below e)) (ap not)) (ap not hit)
 
 pub line_run : (z : List ℕ) (r : Option ℕ) → IsFirstByte (is_byte 10) z r → unwrap_or r (length z) ≡ run class.Line z
 line_run z None h = sym (no_end z (λ k lt hit. h k (omega arith) lt hit))

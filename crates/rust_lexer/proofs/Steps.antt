@@ -1,6 +1,6 @@
 -- The tokens of a text, step by step.
 use Rattle.std.proofs.Common.{◌≡◌, ℕ, zero, suc, ◌+◌, ◌≤◌, ◌<◌, false, List, [], ◌∷◌, take, drop, get_or, refl, ap, ◌∙◌, arith, length, Some, subst, ◌-◌}
-use Rattle.rust_lexer.proofs.Common.{take_rest, Cut, run, cut, first_cut, split_of, Piece, IsPastWhite, is_nil, lines_from, mark_from, matter_by, matter_from, piece, shebang_from, tokens_from, whole}
+use Rattle.rust_lexer.proofs.Common.{take_rest, Cut, run, cut, first_cut, split_of, Piece, is_nil, lines_from, mark_from, matter_by, matter_from, piece, shebang_from, tokens_from, whole}
 use Rattle.rust_lexer.specs.declared.bytes.Class.TheVariants as class
 use Rattle.rust_lexer.specs.declared.kind.TokenKind.TheVariants as kind
 
@@ -52,11 +52,6 @@ shebang_next at (b ∷ z) w n t rest same some is h =
 pub mark_next : (at : ℕ) (text : List ℕ) (t : Piece) (rest : List ℕ) → split_of (cut kind.ByteOrderMark 2) at text ≡ Some (t, rest) → mark_from at text ≡ t ∷ lines_from (at + length t.text) rest
 mark_next at [] t rest h = cc
 mark_next at (b ∷ z) t rest h = front_next (cut kind.ByteOrderMark 2) lines_from at b z t rest h
-
--- ---- behind white space
-
-pub past_white_of : {ts ts' us us' : List Piece} → ts ≡ ts' → us ≡ us' → IsPastWhite ts us → IsPastWhite ts' us'
-past_white_of {us' = us'} e f h = subst (λ l. IsPastWhite l us') e (subst (IsPastWhite _) f h)
 
 -- of a text that is not empty a token is left
 pub some_left : (at : ℕ) (z : List ℕ) → 0 < length z → is_nil (tokens_from 0 at z) ≡ false

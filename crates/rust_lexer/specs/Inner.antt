@@ -24,6 +24,10 @@ wide_char b z = if is_char (code b z) then Some (code b z) else None
 abbrev pub is_word_byte : ℕ → Bool
 is_word_byte b = is_ascii_alphanumeric b || b == 95 || is_continuation b
 
+-- a letter, a digit or `_` of ASCII
+abbrev pub is_plain_byte : ℕ → Bool
+is_plain_byte b = is_ascii_alphanumeric b || b == 95
+
 -- white space of ASCII
 abbrev pub is_blank_byte : ℕ → Bool
 is_blank_byte b = b == 32 || (nat_le 9 b && nat_le b 13)

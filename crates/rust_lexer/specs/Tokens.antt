@@ -1,5 +1,5 @@
 -- The tokens of a text.
-use Rattle.std.specs.Prelude.{ℕ, zero, suc, ◌≡◌, ◌⊎◌, ◌+◌, ◌-◌, ◌==◌, Bool, true, false, not, ◌&&◌, if◌then◌else◌, List, [], ◌∷◌, take, drop, length, slice_index, Option, Some, None, flat_map}
+use Rattle.std.specs.Prelude.{ℕ, zero, suc, ◌≡◌, ◌+◌, ◌-◌, ◌==◌, Bool, true, false, not, ◌&&◌, if◌then◌else◌, List, [], ◌∷◌, take, drop, length, slice_index, Option, Some, None, flat_map}
 use Rattle.rust_lexer.specs.declared.bytes.Class.TheVariants as class
 use Rattle.rust_lexer.specs.declared.cut.Cut.{Cut}
 use Rattle.rust_lexer.specs.declared.kind.TokenKind.{TokenKind}
@@ -115,7 +115,3 @@ AreInPlace at (t ∷ ts) = (t.at ≡ at) × AreInPlace (at + length t.text) ts
 abbrev pub is_nil : List Piece → Bool
 is_nil [] = true
 is_nil (t ∷ ts) = false
-
--- the second tokens are the first ones, or those behind a piece of white space in front of them
-abbrev pub IsPastWhite : List Piece → List Piece → Type 0
-IsPastWhite ts us = (ts ≡ us) ⊎ ((w : Piece) × (w.kind ≡ kind.Whitespace) × (ts ≡ w ∷ us))

@@ -5,6 +5,7 @@ ghost use Rattle.rust_lexer.specs.Bytes as spec;
 ghost use Rattle.rust_lexer.specs.declared.bytes.Class.TheVariants as class;
 ghost use Rattle.rust_lexer.specs.Inner as inner;
 
+use crate::words::words;
 use memchr::memchr;
 use unicode_ident::{is_xid_continue, is_xid_start};
 
@@ -232,15 +233,12 @@ fn line(z: &[u8]) -> usize
     memchr(b'\n', z).unwrap_or(z.len())
 }
 
-/// How many bytes at the front are of the class.
+/// How many bytes at the front are of the class, one by one.
 #[inline(always)]
-pub(crate) fn run(class: Class, mut z: &[u8]) -> usize
+pub(crate) fn run_by_bytes(class: Class, mut z: &[u8]) -> usize
     ensures value { result ≡ spec.run class z.entry.now }
     ensures within { result ≤ length z.entry.now }
 {
-    if let Class::Line = class {
-        return line(z);
-    }
     let mut count = 0;
     while let [b, rest @ ..] = z {
         if !is_in(class, *b, rest) {
@@ -250,6 +248,19 @@ pub(crate) fn run(class: Class, mut z: &[u8]) -> usize
         z = rest;
     }
     count
+}
+
+/// How many bytes at the front are of the class.
+#[inline(always)]
+pub(crate) fn run(class: Class, z: &[u8]) -> usize
+    ensures value { result ≡ spec.run class z.now }
+    ensures within { result ≤ length z.now }
+{
+    match class {
+        Class::Line => line(z),
+        Class::Word => words(z),
+        _ => run_by_bytes(class, z),
+    }
 }
 
 /// Whether an identifier may begin at the front.

@@ -114,20 +114,18 @@ impl<'a> Lexer<'a> {
         Some(token)
     }
 
-    /// A short path for a mark or a word of ASCII letters that begins no literal, with white space in front or without: what it takes is
-    /// that, and more tokens are left. Where it takes nothing, the lexer stays as it was and any token may come next, and so it is at the
-    /// front of a text.
+    /// A short path for a mark or a word of ASCII letters that begins no literal: what it takes is the next token, and more tokens are
+    /// left. Where it takes nothing, the lexer stays as it was and any token may come next: at the front of a text it takes nothing.
     #[inline(always)]
     pub fn next_frequent(&mut self) -> Option<Token<'a>>
         ensures { MatchOption result (self.new ≡ self.old)
-            (λ t. IsTrue (spec.is_significant t) × (spec.is_nil self.new ≡ false) × spec.IsPastWhite self.old (t ∷ self.new)) }
+            (λ t. IsTrue (spec.is_significant t) × (spec.is_nil self.new ≡ false) × (self.old ≡ t ∷ self.new)) }
     {
         let Front::Token = self.front else {
             return None;
         };
-        let (at, rest) = past_white(self.at, self.rest);
-        let (token, rest) = frequent(at, rest)?;
-        self.at = at + token.text().len();
+        let (token, rest) = frequent(self.at, self.rest)?;
+        self.at += token.text().len();
         self.rest = rest;
         Some(token)
     }
@@ -242,21 +240,6 @@ fn first_white(at: usize, text: &str) -> Option<(Token<'_>, &str)>
             Some(split_whole(cut, at, text))
         }
         _ => None,
-    }
-}
-
-/// A place in a text, or behind the white space that stands there, and the text from there on.
-#[inline(always)]
-fn past_white(at: usize, text: &str) -> (usize, &str)
-    requires { at + length text.now < 2 ^ 64 }
-    ensures passed { spec.IsPastWhite (spec.tokens_from 0 at text.now)
-        (spec.tokens_from 0 result.0 result.1.now) }
-    ensures utf8 { IsUtf8 result.1.now }
-    ensures fits { result.0 + length result.1.now < 2 ^ 64 }
-{
-    match first_white(at, text) {
-        Some((white, rest)) => (at + white.text().len(), rest),
-        None => (at, text),
     }
 }
 

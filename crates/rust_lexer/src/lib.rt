@@ -13,6 +13,7 @@ mod number;
 mod quoted;
 mod stops;
 mod token;
+mod words;
 
 pub use depth::Depth;
 pub use identifier::is_identifier;

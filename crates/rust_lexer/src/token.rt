@@ -17,8 +17,9 @@ pub struct Token<'a> {
     kind: TokenKind,
     text: &'a str,
     at: usize,
-    /// Its byte, if it is a bracket or punctuation, or 0: more is asked for that than for all else.
-    symbol: u8,
+    /// Its byte, if it is a bracket or punctuation, or 0: more is asked for that than for all else. (As long as a word of the machine:
+    /// what would stand unused behind a byte takes longer to be moved.)
+    symbol: usize,
 }
 
 impl<'a> Model for Token<'a> {
@@ -33,7 +34,7 @@ impl<'a> Model for Token<'a> {
     ghost view = { λ t. record { kind = t.kind; text = t.text.now; at = t.at } };
 
     ghost invariant = { λ t. (t.at + length t.text.now < 2 ^ 64)
-        × (t.symbol ≡ symbol_from t.kind (slice_index t.text.now 0)) };
+        × (t.symbol ≡ symbol_from t.kind (slice_index t.text.now 0)) × (t.symbol < 2 ^ 8) };
 }
 
 impl Clone for Token<'_> {
@@ -73,7 +74,7 @@ impl<'a> Token<'a> {
             kind,
             text,
             at,
-            symbol,
+            symbol: symbol as usize,
         }
     }
 
@@ -119,7 +120,7 @@ impl<'a> Token<'a> {
     pub fn symbol(&self) -> u8
         ensures { result ≡ symbol_of self.now }
     {
-        self.symbol
+        self.symbol as u8
     }
 
     /// Whether it is neither white space nor a comment, but for one that documents something, nor a byte order mark, a

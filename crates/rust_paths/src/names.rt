@@ -7,7 +7,7 @@ ghost use Rattle.rust_paths.specs.Names as spec;
 ghost use Rattle.rust_paths.specs.Views.{placed_view};
 
 use hir_input::{EditionYear, Name};
-use rust_cursor::{Cursor, is_among};
+use rust_cursor::{Cursor, first_byte, has_length, is_among, middle_byte};
 use rust_lexer::TokenKind;
 use std::alloc::{AllocError, Global};
 
@@ -51,35 +51,63 @@ fn is_since_2024(edition: EditionYear) -> bool
     matches!(edition, EditionYear::E2024)
 }
 
-/// Whether one of these has this length and this first byte.
+/// The lengths of those of these with this first byte, one bit each.
 #[inline(always)]
-fn is_keyword_by(len: usize, first: u8) -> bool
-    ensures { result ≡ inner.is_keyword_by len first }
+fn keyword_lengths(first: u8) -> u32
+    ensures { result ≡ inner.keyword_lengths first }
 {
-    match len {
-        2 => matches!(first, b'a' | b'd' | b'f' | b'i'),
-        3 => matches!(
-            first,
-            b'b' | b'd' | b'f' | b'g' | b'l' | b'm' | b'p' | b'r' | b't' | b'u'
-        ),
-        4 => matches!(first, b'e' | b'i' | b'l' | b'm' | b'p' | b't'),
-        5 => matches!(first, b'a' | b'b' | b'c' | b'f' | b'm' | b't' | b'w' | b'y'),
-        6 => matches!(first, b'b' | b'e' | b'r' | b's' | b't' | b'u'),
-        7 => matches!(first, b'u' | b'v'),
-        8 => matches!(first, b'a' | b'c' | b'o'),
-        _ => false,
+    match first {
+        b'd' => 0b1100,
+        b'f' => 0b101100,
+        b'i' => 0b10100,
+        b'a' => 0b100100100,
+        b'g' => 0b1000,
+        b'l' | b'p' => 0b11000,
+        b'm' => 0b111000,
+        b't' => 0b1111000,
+        b'b' => 0b1101000,
+        b'r' => 0b1001000,
+        b'u' => 0b11001000,
+        b'e' => 0b1010000,
+        b'w' | b'y' => 0b100000,
+        b'c' => 0b100100000,
+        b's' => 0b1000000,
+        b'v' => 0b10000000,
+        b'o' => 0b100000000,
+        _ => 0,
     }
 }
 
-/// Whether a word may be one of these, by its length and its first byte.
+/// And with this byte in their middle.
+#[inline(always)]
+fn keyword_middles(middle: u8) -> u32
+    ensures { result ≡ inner.keyword_middles middle }
+{
+    match middle {
+        b'f' => 0b100,
+        b's' => 0b11100,
+        b'o' => 0b1011100,
+        b'n' => 0b100100,
+        b'u' => 0b1011000,
+        b'y' => 0b101000,
+        b'e' => 0b1101000,
+        b'r' => 0b100001000,
+        b'p' | b'v' => 0b10000,
+        b'i' => 0b110110000,
+        b'c' | b'l' => 0b100000,
+        b'a' => 0b1100000,
+        b't' => 0b11100000,
+        _ => 0,
+    }
+}
+
+/// Whether a word may be one of these, by its length and two of its bytes.
 #[inline(always)]
 fn may_be_keyword(word: &str) -> bool
     ensures { result ≡ inner.may_be_keyword word.now }
 {
-    match word.as_bytes() {
-        [first, ..] => is_keyword_by(word.len(), *first),
-        [] => false,
-    }
+    has_length(keyword_lengths(first_byte(word)), word)
+        && has_length(keyword_middles(middle_byte(word)), word)
 }
 
 #[tactic(auto, unfolding(crate::specs::Names::is_keyword))]
@@ -103,7 +131,7 @@ fn is_keyword_among(edition: EditionYear, word: &str) -> bool
 fn is_keyword(edition: EditionYear, word: &str) -> bool
     ensures { result ≡ spec.is_keyword edition word.now }
 {
-    // Most names are told by their length and their first byte.
+    // Most names are told by their length and two bytes.
     if !may_be_keyword(word) {
         return false;
     }

@@ -1,10 +1,10 @@
 //! Where a token stands.
 
-ghost use Rattle.std.specs.Prelude.{◌≡◌, ◌+◌, ◌<◌, ◌^◌, slice_index};
+ghost use Rattle.std.specs.Prelude.{◌≡◌, ◌+◌, ◌<◌, ◌^◌};
 ghost use Rattle.rust_cursor.specs.Inner as inner;
 ghost use Rattle.rust_cursor.specs.Nests as spec;
 
-use crate::among::is_among;
+use crate::among::{first_byte, has_length, is_among, middle_byte};
 use crate::cursor::Cursor;
 use rust_lexer::TokenKind;
 
@@ -383,17 +383,6 @@ fn free_behind(nest: Nest, symbol: u8) -> usize
     }
 }
 
-/// The first byte of a word, or 0.
-#[inline(always)]
-pub(crate) fn first_byte(word: &str) -> u8
-    ensures { result ≡ slice_index word.now 0 }
-{
-    match word.as_bytes() {
-        [first, ..] => *first,
-        [] => 0,
-    }
-}
-
 /// The keywords with which neither a type nor a value ends.
 const LEADING: [&str; 32] = [
     "as", "async", "break", "const", "continue", "dyn", "else", "enum", "extern", "fn", "for",
@@ -401,20 +390,55 @@ const LEADING: [&str; 32] = [
     "static", "struct", "trait", "type", "unsafe", "use", "where", "while", "yield",
 ];
 
-/// Whether one of these has this length and this first byte.
+/// The lengths of those of these with this first byte, one bit each.
 #[inline(always)]
-fn leads_on_by(len: usize, first: u8) -> bool
-    ensures { result ≡ inner.leads_on_by len first }
+fn leading_lengths(first: u8) -> u32
+    ensures { result ≡ inner.leading_lengths first }
 {
-    match len {
-        2 => matches!(first, b'a' | b'f' | b'i'),
-        3 => matches!(first, b'd' | b'f' | b'l' | b'm' | b'p' | b'r' | b'u'),
-        4 => matches!(first, b'e' | b'i' | b'l' | b'm' | b't'),
-        5 => matches!(first, b'a' | b'b' | b'c' | b'm' | b't' | b'w' | b'y'),
-        6 => matches!(first, b'e' | b'r' | b's' | b'u'),
-        8 => first == b'c',
-        _ => false,
+    match first {
+        b'f' => 0b1100,
+        b'i' => 0b10100,
+        b'a' => 0b100100,
+        b'd' | b'p' => 0b1000,
+        b'l' => 0b11000,
+        b'm' => 0b111000,
+        b'r' | b'u' => 0b1001000,
+        b't' => 0b110000,
+        b'e' => 0b1010000,
+        b'b' | b'w' | b'y' => 0b100000,
+        b'c' => 0b100100000,
+        b's' => 0b1000000,
+        _ => 0,
     }
+}
+
+/// And with this byte in their middle.
+#[inline(always)]
+fn leading_middles(middle: u8) -> u32
+    ensures { result ≡ inner.leading_middles middle }
+{
+    match middle {
+        b'f' => 0b100,
+        b's' => 0b11100,
+        b'n' => 0b100100,
+        b'o' => 0b11000,
+        b'u' => 0b1011000,
+        b'y' => 0b101000,
+        b'e' => 0b1101000,
+        b'p' | b'v' => 0b10000,
+        b'a' | b't' => 0b1100000,
+        b'i' => 0b100100000,
+        _ => 0,
+    }
+}
+
+/// Whether a word may be one of these, by its length and two of its bytes.
+#[inline(always)]
+fn may_lead_on(word: &str) -> bool
+    ensures { result ≡ inner.may_lead_on word.now }
+{
+    has_length(leading_lengths(first_byte(word)), word)
+        && has_length(leading_middles(middle_byte(word)), word)
 }
 
 #[inline(never)]
@@ -430,8 +454,8 @@ fn is_leading(word: &str) -> bool
 fn leads_on(word: &str) -> bool
     ensures { result ≡ spec.leads_on word.now }
 {
-    // Most words are told by their length and their first byte.
-    if !leads_on_by(word.len(), first_byte(word)) {
+    // Most words are told by their length and two bytes.
+    if !may_lead_on(word) {
         return false;
     }
     is_leading(word)

@@ -8,7 +8,8 @@ ghost use Rattle.rust_cursor.specs.Reader.{Gives};
 ghost use Rattle.rust_cursor.specs.Tokens.{Tokens, last_unended, left_of};
 ghost use Rattle.rust_cursor.specs.Words.{bumped, is_empty, symbol};
 
-use crate::cursor::nest::{Before, Nest, count_inside, first_byte, is_mark};
+use crate::among::{first_byte, has_length};
+use crate::cursor::nest::{Before, Nest, count_inside, is_mark};
 use crate::cursor::{Cursor, note_last};
 use rust_lexer::{Depth, Lexer, Token};
 use std::alloc::{AllocError, Global};
@@ -520,19 +521,22 @@ fn push_token(text: &mut String, token: &str) -> Result<(), AllocError>
     }
 }
 
-/// Whether a word that can begin an item has this length and this first byte.
+/// The lengths of the words with this first byte that can begin an item, one bit each.
 #[inline(always)]
-fn leads_by(len: usize, first: u8) -> bool
-    ensures { result ≡ inner.leads_by len first }
+fn item_lengths(first: u8) -> u32
+    ensures { result ≡ inner.item_lengths first }
 {
-    match len {
-        2 => first == b'f',
-        3 => matches!(first, b'm' | b'p' | b'u'),
-        4 => matches!(first, b'e' | b'i' | b't'),
-        5 => matches!(first, b'c' | b't'),
-        6 => matches!(first, b'e' | b's' | b'u'),
-        11 => first == b'm',
-        _ => false,
+    match first {
+        b'f' => 0b100,
+        b'p' => 0b1000,
+        b'u' => 0b1001000,
+        b'm' => 0b100000001000,
+        b'i' => 0b10000,
+        b't' => 0b110000,
+        b'e' => 0b1010000,
+        b'c' => 0b100000,
+        b's' => 0b1000000,
+        _ => 0,
     }
 }
 
@@ -541,7 +545,7 @@ fn leads_by(len: usize, first: u8) -> bool
 fn leads_item(word: &str) -> bool
     ensures { result ≡ inner.leads_item word.now }
 {
-    leads_by(word.len(), first_byte(word))
+    has_length(item_lengths(first_byte(word)), word)
 }
 
 fn opens(symbol: u8) -> bool

@@ -1,6 +1,6 @@
 use Rattle.std.proofs.Common.{◌≡◌, ◌+◌, length}
 use Rattle.rust_lexer.proofs.Common.{run}
-use Rattle.rust_lexer.proofs.bytes.run.Given as goal
+use Rattle.rust_lexer.proofs.bytes.run_by_bytes.Given as goal
 
 abbrev pub invariant-loop-z : goal.invariant-loop-z
 invariant-loop-z l = (l.count + run l.class l.z ≡ run l.class l.initial.z) × (l.count + length l.z ≡ length l.initial.z)
