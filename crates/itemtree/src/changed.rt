@@ -100,9 +100,9 @@ impl Comparison<'_> {
         &mut self,
         old_path: &str,
         new_path: &str,
-        rooms: &mut [Room; 2],
+        old_room: &mut Room,
+        new_room: &mut Room,
     ) -> Result<(), Failure> {
-        let [old_room, new_room] = rooms;
         let old = self.read(old_path, old_room);
         let new = self.read(new_path, new_room);
         let (Some(old), Some(new)) = (old, new) else {
@@ -142,9 +142,14 @@ impl Comparison<'_> {
         Ok(found)
     }
 
-    fn compare_pair(&mut self, pair: Pair<'_>, rooms: &mut [Room; 2]) -> Result<(), Failure> {
+    fn compare_pair(
+        &mut self,
+        pair: Pair<'_>,
+        old_room: &mut Room,
+        new_room: &mut Room,
+    ) -> Result<(), Failure> {
         match pair {
-            (Some(old), Some(new)) => self.compare_files(old, new, rooms),
+            (Some(old), Some(new)) => self.compare_files(old, new, old_room, new_room),
             (Some(old), None) => self.tell_single(old, "removed"),
             (None, Some(new)) => self.tell_single(new, "added"),
             (None, None) => Ok(()),
@@ -161,9 +166,9 @@ impl Comparison<'_> {
         let (olds, news) = (self.found_in(old, filter)?, self.found_in(new, filter)?);
         let (old_top, new_top) = (with_slash(alloc, old)?, with_slash(alloc, new)?);
         let pairs = pairs(alloc, &old_top, &olds.files, &new_top, &news.files)?;
-        let mut rooms = [Room::new(alloc), Room::new(alloc)];
+        let (mut old_room, mut new_room) = (Room::new(alloc), Room::new(alloc));
         for (before, pair) in pairs.iter().enumerate() {
-            self.compare_pair(*pair, &mut rooms)?;
+            self.compare_pair(*pair, &mut old_room, &mut new_room)?;
             self.progress.tell(before + 1, pairs.len());
         }
         self.progress.clear();
@@ -244,8 +249,8 @@ pub(crate) fn compare(
     };
     match (is_a_folder(rt, old), is_a_folder(rt, new)) {
         (false, false) => {
-            let mut rooms = [Room::new(alloc), Room::new(alloc)];
-            comparison.compare_files(old, new, &mut rooms)?;
+            let (mut old_room, mut new_room) = (Room::new(alloc), Room::new(alloc));
+            comparison.compare_files(old, new, &mut old_room, &mut new_room)?;
         }
         (true, true) => comparison.compare_folders(old, new, &asked.filter)?,
         (true, false) => return refused(alloc, old, new),

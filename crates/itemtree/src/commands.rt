@@ -7,7 +7,7 @@ use crate::request::write_request;
 use crate::serve::answer_lines;
 use crate::tags::write_tags;
 use itemtree_commands::{
-    Options, SourceError, check, duplicates, find, imports, outline, outline_json, page, push_tags,
+    Options, SourceError, check, duplicates, find, imports, outline, outline_json, page, tags,
 };
 use itemtree_options::{Asked, Command};
 use source_listing::{Query, SoughtPath, Source, sought_path};
@@ -84,10 +84,9 @@ impl Run<'_> {
 
     fn push_tags(&mut self, source: Source<'_>) -> Result<String, SourceError> {
         let (alloc, has_members) = (self.rt.alloc(), self.asked.has_members);
-        let mut tags = Vec::new(alloc);
-        push_tags(alloc, source, self.options, has_members, &mut tags)?;
         // (all of a file's at once: where memory runs out, there are none)
-        self.tags.push_str(&tags.concat(alloc)?)?;
+        self.tags
+            .push_str(&tags(alloc, source, self.options, has_members)?)?;
         Ok(String::new(alloc))
     }
 

@@ -239,7 +239,10 @@ impl Room {
             if len == self.bytes.len() {
                 self.bytes.resize(len.saturating_mul(2).max(LEAST_ROOM), 0)?;
             }
-            match file.read(self.bytes.get_mut(len..).unwrap_or(&mut [])) {
+            let Some(left) = self.bytes.as_mut_slice().get_mut(len..) else {
+                break;
+            };
+            match file.read(left) {
                 Ok(0) => break,
                 Ok(count) => len = len.saturating_add(count),
                 Err(error) if error.kind() == io::ErrorKind::Interrupted => {}

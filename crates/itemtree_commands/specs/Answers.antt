@@ -76,11 +76,11 @@ AreFound o has_members q s out =
     (t : SourceTree) × HasTree o s.text t
     × (out ≡ found_lines s (reading_in o has_members s) o.edition.reserved.items t.places.items q (rows t.tree))
 
--- tags behind others
-abbrev pub AddsTags : Options → Bool → Source → List (List ℕ) → List (List ℕ) → Type 0
-AddsTags o has_members s old new =
+-- the tags
+abbrev pub AreTags : Options → Bool → Source → List ℕ → Type 0
+AreTags o has_members s out =
     (t : SourceTree) × HasTree o s.text t
-    × (new ≡ old ++ tags s.path (reading_in o has_members s) t.places.items (choice o None) (rows t.tree))
+    × (out ≡ tags s.path (reading_in o has_members s) t.places.items (choice o None) (rows t.tree))
 
 -- the debug page, with or without the lines of ids
 abbrev pub if_ids : Bool → List ℕ → List ℕ

@@ -8,7 +8,6 @@ ghost use Rattle.std.specs.Prelude.{◌≡◌, ◌≤◌, ◌^◌, length, map, 
 ghost use Rattle.itemtree_commands.specs.Answers as spec;
 ghost use Rattle.itemtree_commands.specs.Inner.{HasRowsOf};
 ghost use Rattle.itemtree_commands.specs.Typing.{IsSameInBody, IsSameWhereTyped};
-ghost use Rattle.source_listing.specs.Ends.{IsBeginOf};
 ghost use Rattle.source_listing.specs.Views.{choice_view, look_view, query_view, source_view};
 ghost use Rattle.itemtree_commands.specs.Trees.{HasOwnIds, IsTextUnread};
 
@@ -293,23 +292,20 @@ pub fn duplicates(
     Ok(text)
 }
 
-/// `itemtree tags`: adds the tags of the file, with or without those of members. The tags before stay as they are, also at an
-/// error, where some of those of the file may stand behind them.
+/// `itemtree tags`: the tags of the file, with or without those of members.
 ///
 /// # Errors
 ///
 /// Those of `source_tree`.
-#[tactic(auto, using(crate::proofs::Refused::no_memory, source_listing::proofs::Begins::begin_itself))]
-pub fn push_tags(
+#[tactic(auto, using(crate::proofs::Refused::no_memory))]
+pub fn tags(
     alloc: Global,
     source: Source<'_>,
     options: &Options,
     has_members: bool,
-    tags: &mut Vec<String>,
-) -> Result<(), SourceError>
-    ensures tags { let added = spec.AddsTags options.now has_members (source_view source.entry) in
-        OnOk result (added (map string_bytes tags.old.items) (map string_bytes tags.new.items)) }
-    ensures kept { IsBeginOf tags.old.items tags.new.items }
+) -> Result<String, SourceError>
+    ensures text { let tags = spec.AreTags options.now has_members (source_view source.entry) in
+        IfOk result (λ out. tags (string_bytes out)) }
     ensures refused { IfErr result (spec.HasNoTree options.now source.entry.text.now) }
 {
     let file = read_rows(alloc, source.text, options)?;
@@ -320,8 +316,8 @@ pub fn push_tags(
         options: options.members(has_members),
     };
     let (places, tree) = (&file.places, &file.tree);
-    source_listing::push_tags(alloc, source.path, reading, places, tree, choice, tags)?;
-    Ok(())
+    let text = source_listing::tag_lines(alloc, source.path, reading, places, tree, choice)?;
+    Ok(text)
 }
 
 /// `itemtree changed`: a line for each item that was removed, added or changed, and whether the trees are equal, as

@@ -17,7 +17,7 @@ pub use Rattle.rust_cursor.proofs.Leads.{LeadsTo, behind_closed_leads, behind_tr
 pub use Rattle.rust_items.specs.declared.source_file.ItemPlace.{ItemPlace}
 pub use Rattle.serde_json.specs.View.{items_of, view}
 pub use Rattle.source_listing.specs.Changed.{Side, change_lines, line_between}
-pub use Rattle.source_listing.specs.Ends.{IsBeginOf, IsEndOf}
+pub use Rattle.source_listing.specs.Ends.{IsEndOf}
 pub use Rattle.source_listing.specs.ImportObjects.{alias_form, import_form, import_object, import_objects, seen_objects}
 pub use Rattle.source_listing.specs.Imports.{import_lines, of_declared, of_seen, of_uses, placed_import_line, seen_lines, spots_of_any}
 pub use Rattle.source_listing.specs.Inner.{FindsFirsts, Firsts, IsFinderOf, IsPrinterOf, IsSameFile, IsSameFinder, IsSameTreeFinder, IsTreeFinderOf, NamedKey, PutsFirst, file_of, finder_text, first_in, has_named_key, id_key, is_around, item_at, key, lent_named, listed_named_view, named_at, named_key_view, objects_at, own_named, own_named_at, placed_trees_view, places_in, places_of, reserved_of, same_named_key, shown_item_view, side_of_printer}

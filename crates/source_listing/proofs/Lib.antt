@@ -12,5 +12,4 @@ pub mod Printers
 pub mod Between
 pub mod Firsts
 pub mod AtStarts
-pub mod Begins
 pub mod Named

@@ -22,6 +22,11 @@ one_more_found_member s reserved q r around ms m =
 pub segments_of : {A : Type 0} (f : A → List ℕ) (xs : List A) → flat_map bare_segment (map f xs) ≡ flat_map (λ x. bare_segment (f x)) xs
 segments_of f xs = flat_map-map bare_segment f xs
 
+-- a tag, pushed part by part
+pub tag_pushed : (o name path line letter field o1 o2 o3 o4 o5 o6 o7 o8 o9 : List ℕ) → o1 ≡ o ++ name → o2 ≡ o1 ++ codes "\t" → o3 ≡ o2 ++ path → o4 ≡ o3 ++ codes "\t" → o5 ≡ o4 ++ line → o6 ≡ o5 ++ codes ";\"\t" → o7 ≡ o6 ++ letter
+    → o8 ≡ o7 ++ field → o9 ≡ o8 ++ codes "\n" → o9 ≡ o ++ (name ++ codes "\t" ++ path ++ codes "\t" ++ line ++ codes ";\"\t" ++ letter ++ field ++ codes "\n")
+tag_pushed o name path line letter field o1 o2 o3 o4 o5 o6 o7 o8 o9 a b c d e f g h i = rw (i, h, g, f, e, d, c, b, a) (simp append_assoc)
+
 -- what a tag stands in, pushed one after another
 pub scope_pushed : {A : Type 0} (f : A → List ℕ) (xs : List A) (first : A) (rest : List A) (word o o1 o2 o3 o4 o5 : List ℕ) → xs ≡ first ∷ rest → o1 ≡ o ++ codes "\t" → o2 ≡ o1 ++ word → o3 ≡ o2 ++ codes ":" → o4 ≡ o3 ++ f first → o5 ≡ o4 ++ flat_map (λ x. bare_segment (f x)) rest
     → o5 ≡ o ++ scope_field word (map f xs)

@@ -1,5 +1,5 @@
 -- From a place on.
-use Rattle.source_listing.proofs.Common.{◌≡◌, ◌≤◌, ◌<◌, ℕ, true, false, List, [], ◌∷◌, refl, ◌∙◌, arith, nat_lt, nat_tests, when, from_place}
+use Rattle.source_listing.proofs.Common.{◌≡◌, ◌≤◌, ℕ, true, false, List, [], ◌∷◌, refl, arith, nat_lt, nat_tests, when, from_place}
 
 -- nothing stands before the first byte
 pub from_none : (ss : List ℕ) → from_place 0 ss ≡ ss

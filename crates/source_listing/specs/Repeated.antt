@@ -1,5 +1,5 @@
 -- Imports that repeat an earlier one of their module.
-use Rattle.std.specs.Prelude.{Bool, true, false, ◌&&◌, if◌then◌else◌, List, [], ◌∷◌, ◌++◌, ℕ, codes, decimal, map, Option, Some, None, find, bytes_eq}
+use Rattle.std.specs.Prelude.{Bool, true, false, ◌&&◌, List, [], ◌∷◌, ◌++◌, ℕ, codes, decimal, map, Option, Some, None, find, bytes_eq}
 use Rattle.hir_input.specs.declared.ids.FileAstId.{FileAstId}
 use Rattle.item_tree.specs.Imports.{Import, imports}
 use Rattle.item_tree.specs.Node.{Leaf, use_item, Node, leaf, parent, Forest, empty, more, node_ast}

@@ -67,30 +67,30 @@ tag path text place r = tag_of path r.scope r.name (kind_texts r.id.kind).letter
 abbrev pub tag_inside : List ℕ → List ℕ → List ℕ → List (List ℕ) → Listed → Option (List ℕ)
 tag_inside path text word scope m = option_map (λ l. tag_text m.name path (line_at text m.at) l word scope) (member_letter m.kind)
 
-abbrev pub if_any : Option (List ℕ) → List (List ℕ)
+abbrev pub if_any : Option (List ℕ) → List ℕ
 if_any None = []
-if_any (Some text) = text ∷ []
+if_any (Some text) = text
 
-unfoldable pub tags_inside : List ℕ → List ℕ → List ℕ → List (List ℕ) → List Listed → List (List ℕ)
+unfoldable pub tags_inside : List ℕ → List ℕ → List ℕ → List (List ℕ) → List Listed → List ℕ
 tags_inside path text word scope ms = flat_map (λ m. if_any (tag_inside path text word scope m)) ms
 
 -- the tags of the listed members of an item, which is called so for its members
-unfoldable pub member_tags : List ℕ → List ℕ → Choice → RowView → Option (List ℕ) → List Listed → List (List ℕ)
+unfoldable pub member_tags : List ℕ → List ℕ → Choice → RowView → Option (List ℕ) → List Listed → List ℕ
 member_tags path text c r name ms =
     tags_inside path text (scope_word name (kind_texts r.id.kind).scope) (r.scope ++ option_to_list name) (filter (λ m. is_chosen c (r.level + 1) m.is_active) ms)
 
 -- the tag of an item, and behind it those of its listed members
-abbrev pub tags_at : List ℕ → List ℕ → MemberReading → Choice → RowView → Option ItemPlace → List (List ℕ)
+abbrev pub tags_at : List ℕ → List ℕ → MemberReading → Choice → RowView → Option ItemPlace → List ℕ
 tags_at path text x c r place =
     if_any (tag path text place r) ++ member_tags path text c r (holder x r place) (members_of x place r.is_active)
 
-abbrev pub whole_tags : List ℕ → List ℕ → MemberReading → List ItemPlace → Choice → RowView → List (List ℕ)
+abbrev pub whole_tags : List ℕ → List ℕ → MemberReading → List ItemPlace → Choice → RowView → List ℕ
 whole_tags path text x places c r = tags_at path text x c r (place_of r.id places)
 
 -- the tags of the listed items, in their order
-abbrev pub tags_under : List ℕ → List ℕ → MemberReading → List ItemPlace → Choice → List RowView → List (List ℕ)
+abbrev pub tags_under : List ℕ → List ℕ → MemberReading → List ItemPlace → Choice → List RowView → List ℕ
 tags_under path text x places c rs = flat_map (whole_tags path text x places c) (filter (is_listed c) rs)
 
 -- those of a file
-abbrev pub tags : List ℕ → MemberReading → List ItemPlace → Choice → List RowView → List (List ℕ)
+abbrev pub tags : List ℕ → MemberReading → List ItemPlace → Choice → List RowView → List ℕ
 tags path x places c rs = tags_under (tag_path path) x.text x places c rs

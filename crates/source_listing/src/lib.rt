@@ -33,4 +33,4 @@ pub use repeated::repeated_lines;
 pub use search::{Query, found_lines};
 pub use sought::{SoughtPath, sought_path};
 pub use source_rows::Source;
-pub use tags::push_tags;
+pub use tags::tag_lines;

@@ -5,7 +5,6 @@ ghost use Rattle.tree_walk.specs.Rows as rows;
 ghost use Rattle.tree_walk.specs.Views.{row_view};
 ghost use Rattle.source_rows.specs.Labels.{kind_texts};
 ghost use Rattle.source_rows.specs.ListedViews.{listed_view, reading_view};
-ghost use Rattle.source_listing.specs.Ends.{IsBeginOf};
 ghost use Rattle.source_listing.specs.Inner.{IsSameFinder};
 ghost use Rattle.source_listing.specs.Places.{AreDistinct};
 ghost use Rattle.source_listing.specs.Tags as spec;
@@ -123,70 +122,54 @@ fn written_path(alloc: Global, path: &str) -> Result<String, AllocError>
     Ok(text)
 }
 
-/// The room for what a tag has beside its name, its path and its scope.
-const LINE_ROOM: usize = 24;
-
-/// The room for a name of a scope.
-const SCOPE_ROOM: usize = 16;
-
-/// The text of a tag, with the path as it is written.
-fn tag_text(
-    alloc: Global,
+/// Adds a tag, with the path as it is written.
+fn push_text(
     name: &Name,
     path: &str,
     line: usize,
     letter: &str,
     word: &str,
     scope: &[&Name],
-) -> Result<String, AllocError>
+    out: &mut String,
+) -> Result<(), AllocError>
     ensures { let tag = spec.tag_text name.now path.now line letter.now word.now
         (map (λ n. n.now) scope.now) in
-        IfOk result (λ text. string_bytes text ≡ tag) }
+        OnOk result (string_bytes out.new ≡ string_bytes out.old ++ tag) }
 {
-    let name = name.text();
-    let around = scope.len().saturating_mul(SCOPE_ROOM);
-    let room = name
-        .len()
-        .saturating_add(path.len())
-        .saturating_add(around)
-        .saturating_add(LINE_ROOM);
-    let mut tag = String::with_capacity(alloc, room)?;
-    tag.push_str(name)?;
-    tag.push_str("\t")?;
-    tag.push_str(path)?;
-    tag.push_str("\t")?;
-    tag.push_str(Buffer::new().format(line))?;
-    tag.push_str(";\"\t")?;
-    tag.push_str(letter)?;
-    push_scope_field(word, scope, &mut tag)?;
-    tag.push_str("\n")?;
-    Ok(tag)
+    out.push_str(name.text())?;
+    out.push_str("\t")?;
+    out.push_str(path)?;
+    out.push_str("\t")?;
+    out.push_str(Buffer::new().format(line))?;
+    out.push_str(";\"\t")?;
+    out.push_str(letter)?;
+    push_scope_field(word, scope, out)?;
+    out.push_str("\n")
 }
 
-/// The tag of an item, if it has one.
-fn tag(
-    alloc: Global,
+/// Adds the tag of an item, if it has one.
+fn push_tag(
     finder: &mut Finder<'_>,
     path: &str,
     row: &Row<'_>,
     place: Option<ItemPlace>,
-) -> Result<Option<String>, AllocError>
+    out: &mut String,
+) -> Result<(), AllocError>
     ensures tag { let tag = spec.tag path.now finder.old.lines place (row_view row.now) in
-        IfOk result (λ made. option_map string_bytes made ≡ tag) }
+        OnOk result (string_bytes out.new ≡ string_bytes out.old ++ spec.if_any tag) }
     ensures same { IsSameFinder finder.old finder.new }
 {
     let Some(name) = row.name else {
-        return Ok(None);
+        return Ok(());
     };
     let Some(letter) = kind_texts(row.id.kind).letter else {
-        return Ok(None);
+        return Ok(());
     };
     let Some(place) = place else {
-        return Ok(None);
+        return Ok(());
     };
     let line = finder.lines.position(stands_at(place)).line;
-    let tag = tag_text(alloc, name, path, line, letter, "module", &row.scope)?;
-    Ok(Some(tag))
+    push_text(name, path, line, letter, "module", &row.scope, out)
 }
 
 /// The modules around an item, and what its members stand in.
@@ -206,68 +189,50 @@ fn names_around<'a>(
     Ok(names)
 }
 
-/// The tag of a member that stands in these, of which the innermost has this word, if it has one.
-fn member_tag(
-    alloc: Global,
+/// Adds the tag of a member that stands in these, of which the innermost has this word, if it has one.
+fn push_member_tag(
     finder: &mut Finder<'_>,
     path: &str,
     word: &str,
     scope: &[&Name],
     member: &ListedMember,
-) -> Result<Option<String>, AllocError>
+    out: &mut String,
+) -> Result<(), AllocError>
     ensures tag { let tag = spec.tag_inside path.now finder.old.lines word.now
-        (map (λ n. n.now) scope.now) in
-        IfOk result (λ made. option_map string_bytes made ≡ tag (listed_view member.now)) }
+        (map (λ n. n.now) scope.now) (listed_view member.now) in
+        OnOk result (string_bytes out.new ≡ string_bytes out.old ++ spec.if_any tag) }
     ensures same { IsSameFinder finder.old finder.new }
 {
     let Some(letter) = member_letter(member.kind) else {
-        return Ok(None);
-    };
-    let line = finder.lines.position(member.at).line;
-    let tag = tag_text(alloc, &member.name, path, line, letter, word, scope)?;
-    Ok(Some(tag))
-}
-
-/// Adds a tag, if there is one.
-#[tactic(auto, using(crate::proofs::Begins::begin_itself, crate::proofs::Begins::begin_one_more))]
-fn push_if_any(tag: Option<String>, tags: &mut Vec<String>) -> Result<(), AllocError>
-    ensures tags { let added = spec.if_any (option_map string_bytes tag) in
-        OnOk result (map string_bytes tags.new.items ≡ map string_bytes tags.old.items ++ added) }
-    ensures kept { IsBeginOf tags.old.items tags.new.items }
-{
-    let Some(tag) = tag else {
         return Ok(());
     };
-    tags.push(tag)?;
-    Ok(())
+    let line = finder.lines.position(member.at).line;
+    push_text(&member.name, path, line, letter, word, scope, out)
 }
 
 /// Adds the tags of members that stand in these, of which the innermost has this word.
-#[tactic(auto, unfolding(crate::specs::Tags::tags_inside), using(crate::proofs::Begins::begin_itself, crate::proofs::Begins::begin_later))]
+#[tactic(auto, unfolding(crate::specs::Tags::tags_inside))]
 fn push_member_tags(
-    alloc: Global,
     finder: &mut Finder<'_>,
     path: &str,
     word: &str,
     scope: &[&Name],
     members: &[ListedMember],
-    tags: &mut Vec<String>,
+    out: &mut String,
 ) -> Result<(), AllocError>
     ensures tags { let all = spec.tags_inside path.now finder.old.lines word.now
         (map (λ n. n.now) scope.now) in
-        OnOk result (map string_bytes tags.new.items ≡ map string_bytes tags.old.items ++ all (map listed_view members.now)) }
-    ensures kept { IsBeginOf tags.old.items tags.new.items }
+        OnOk result (string_bytes out.new ≡ string_bytes out.old ++ all (map listed_view members.now)) }
     ensures same { IsSameFinder finder.old finder.new }
 {
     for member in members {
-        let tag = member_tag(alloc, finder, path, word, scope, member)?;
-        push_if_any(tag, tags)?;
+        push_member_tag(finder, path, word, scope, member, out)?;
     }
     Ok(())
 }
 
 /// Adds the tag of an item, and those of its chosen members, of all that have one.
-#[tactic(auto, unfolding(crate::specs::Tags::member_tags), using(crate::proofs::Begins::begin_itself, crate::proofs::Begins::begin_later))]
+#[tactic(auto, unfolding(crate::specs::Tags::member_tags))]
 fn push_whole(
     alloc: Global,
     finder: &mut Finder<'_>,
@@ -275,59 +240,57 @@ fn push_whole(
     reading: Reading<'_>,
     choice: Choice,
     row: &Row<'_>,
-    tags: &mut Vec<String>,
+    out: &mut String,
 ) -> Result<(), AllocError>
     requires { AreDistinct finder.old.places.all.now }
     ensures tags { let all = spec.whole_tags path.now finder.old.lines
         (reading_view reading.entry) in
         let added = all finder.old.places.all.now (choice_view choice) (row_view row.now) in
-        OnOk result (map string_bytes tags.new.items ≡ map string_bytes tags.old.items ++ added) }
-    ensures kept { IsBeginOf tags.old.items tags.new.items }
+        OnOk result (string_bytes out.new ≡ string_bytes out.old ++ added) }
     ensures same { IsSameFinder finder.old finder.new }
 {
     let place = finder.places.find(row.id);
-    let tag = tag(alloc, finder, path, row, place)?;
-    push_if_any(tag, tags)?;
+    push_tag(finder, path, row, place, out)?;
+    let members = choice.members(alloc, reading, place, row.level, row.is_active)?;
+    if members.is_empty() {
+        return Ok(());
+    }
     let type_name = reading.type_name(alloc, row.id.kind, place)?;
     let name = holder(row.name, &type_name);
     let word = scope_word(row.id.kind, name);
     let scope = names_around(alloc, row, name)?;
-    let members = choice.members(alloc, reading, place, row.level, row.is_active)?;
-    push_member_tags(alloc, finder, path, word, &scope, &members, tags)
+    push_member_tags(finder, path, word, &scope, &members, out)
 }
 
-/// Adds the tags of a file: for each chosen item with a name of a kind that has a letter, and for each chosen member with a
+/// The tags of a file: for each chosen item with a name of a kind that has a letter, and for each chosen member with a
 /// name where members are asked for, its name, the file, the line, the letter and what it stands in, as Universal Ctags writes
 /// them, in the order of the items, each before its members. A member stands in its item, and one of an impl in the type, if
 /// that is a path. A control character or a backslash in the path stands behind a backslash, as Universal Ctags has it too.
 ///
-/// The tags before stay as they are, also at an error, where some of those of the file may stand behind them. The places are
-/// those that the reader gave with the syntax of the tree.
+/// The places are those that the reader gave with the syntax of the tree.
 ///
 /// # Errors
 ///
 /// Only if memory runs out.
-#[tactic(auto, using(crate::proofs::Begins::begin_itself, crate::proofs::Begins::begin_later))]
-pub fn push_tags(
+pub fn tag_lines(
     alloc: Global,
     path: &str,
     reading: Reading<'_>,
     places: &[ItemPlace],
     tree: &ItemTree,
     choice: Choice,
-    tags: &mut Vec<String>,
-) -> Result<(), AllocError>
+) -> Result<String, AllocError>
     requires { AreDistinct places.now }
-    ensures tags { let added = spec.tags path.now (reading_view reading.entry) places.now
+    ensures { let tags = spec.tags path.now (reading_view reading.entry) places.now
         (choice_view choice) in
-        OnOk result (map string_bytes tags.new.items ≡ map string_bytes tags.old.items ++ added (rows.rows tree.now)) }
-    ensures kept { IsBeginOf tags.old.items tags.new.items }
+        IfOk result (λ text. string_bytes text ≡ tags (rows.rows tree.now)) }
 {
     let mut finder = Finder::new(reading.text, places);
     let written = written_path(alloc, path)?;
     let rows = choice.rows(alloc, tree)?;
+    let mut out = String::new(alloc);
     for row in &rows {
-        push_whole(alloc, &mut finder, &written, reading, choice, row, tags)?;
+        push_whole(alloc, &mut finder, &written, reading, choice, row, &mut out)?;
     }
-    Ok(())
+    Ok(out)
 }
