@@ -1,6 +1,6 @@
 //! Words.
 
-ghost use Rattle.std.specs.Prelude.{◌≡◌, ◌/◌, ◌==◌, ◌&&◌, bytes_eq, length, nat_lt, slice_index};
+ghost use Rattle.std.specs.Prelude.{◌≡◌, ◌/◌, ◌%◌, ◌==◌, ◌&&◌, bytes_eq, length, nat_lt, slice_index};
 ghost use Rattle.std.specs.Int.{bit_at};
 ghost use Rattle.std.specs.List.{list_any};
 
@@ -37,11 +37,12 @@ pub fn middle_byte(word: &str) -> u8
     }
 }
 
-/// Whether a word has one of these lengths, each of which is a bit.
+/// Whether words of the length of this one have this byte at a place, where a bit stands for each length, by the last five bits of a byte.
 #[inline(always)]
-pub fn has_length(lengths: u32, word: &str) -> bool
-    ensures { result ≡ (nat_lt (length word.now) 32 && bit_at lengths (length word.now) == 1) }
+pub fn has_length(lengths: &[u16; 32], byte: u8, word: &str) -> bool
+    ensures { result ≡ (nat_lt (length word.now) 16
+        && bit_at (slice_index lengths.now (byte % 32)) (length word.now) == 1) }
 {
     let len = word.len();
-    len < 32 && lengths >> len & 1 == 1
+    len < 16 && lengths[(byte % 32) as usize] >> len & 1 == 1
 }

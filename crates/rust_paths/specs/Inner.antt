@@ -7,6 +7,7 @@ use Rattle.hir_input.specs.declared.ast.PathNode.TheVariants.{Unreadable}
 use Rattle.hir_input.specs.Path.{Path}
 use Rattle.hir_input.specs.Words.{PathWord, self_word, super_word, crate_word, absolute_word, dollar_crate_word, name_word, words}
 use Rattle.rust_cursor.specs.Inner.{has_length}
+use Rattle.rust_paths.specs.declared.names.TheConstants.{KEYWORD_FIRST, KEYWORD_MIDDLE}
 use Rattle.rust_cursor.specs.Tokens.{Tokens}
 use Rattle.rust_paths.specs.Meaning.{node_of, read_all, all_words}
 
@@ -46,48 +47,6 @@ with_words p r = (meaning p r.0, r.1)
 
 -- ---- a quick test of words
 
--- the lengths, as bits, of the keywords with this first byte
-abbrev pub keyword_lengths : ℕ → ℕ
-keyword_lengths c =
-    if c == 97 then 292
-    else (if c == 98 then 104
-    else (if c == 99 then 288
-    else (if c == 100 then 12
-    else (if c == 101 then 80
-    else (if c == 102 then 44
-    else (if c == 103 then 8
-    else (if c == 105 then 20
-    else (if c == 108 then 24
-    else (if c == 109 then 56
-    else (if c == 111 then 256
-    else (if c == 112 then 24
-    else (if c == 114 then 72
-    else (if c == 115 then 64
-    else (if c == 116 then 120
-    else (if c == 117 then 200
-    else (if c == 118 then 128
-    else (if c == 119 then 32
-    else (if c == 121 then 32 else 0))))))))))))))))))
-
--- and with this byte in their middle
-abbrev pub keyword_middles : ℕ → ℕ
-keyword_middles c =
-    if c == 97 then 96
-    else (if c == 99 then 32
-    else (if c == 101 then 104
-    else (if c == 102 then 4
-    else (if c == 105 then 432
-    else (if c == 108 then 32
-    else (if c == 110 then 36
-    else (if c == 111 then 92
-    else (if c == 112 then 16
-    else (if c == 114 then 264
-    else (if c == 115 then 28
-    else (if c == 116 then 224
-    else (if c == 117 then 88
-    else (if c == 118 then 16
-    else (if c == 121 then 40 else 0))))))))))))))
-
--- a word that may be a keyword, by its length and these two bytes
+-- a word that may be a keyword, by its length and two of its bytes
 abbrev pub may_be_keyword : List ℕ → Bool
-may_be_keyword w = has_length (keyword_lengths (slice_index w 0)) w && has_length (keyword_middles (slice_index w (length w / 2))) w
+may_be_keyword w = has_length KEYWORD_FIRST (slice_index w 0) w && has_length KEYWORD_MIDDLE (slice_index w (length w / 2)) w

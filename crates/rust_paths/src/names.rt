@@ -51,63 +51,25 @@ fn is_since_2024(edition: EditionYear) -> bool
     matches!(edition, EditionYear::E2024)
 }
 
-/// The lengths of those of these with this first byte, one bit each.
-#[inline(always)]
-fn keyword_lengths(first: u8) -> u32
-    ensures { result ≡ inner.keyword_lengths first }
-{
-    match first {
-        b'd' => 0b1100,
-        b'f' => 0b101100,
-        b'i' => 0b10100,
-        b'a' => 0b100100100,
-        b'g' => 0b1000,
-        b'l' | b'p' => 0b11000,
-        b'm' => 0b111000,
-        b't' => 0b1111000,
-        b'b' => 0b1101000,
-        b'r' => 0b1001000,
-        b'u' => 0b11001000,
-        b'e' => 0b1010000,
-        b'w' | b'y' => 0b100000,
-        b'c' => 0b100100000,
-        b's' => 0b1000000,
-        b'v' => 0b10000000,
-        b'o' => 0b100000000,
-        _ => 0,
-    }
-}
+/// Their lengths, by their first byte, a bit for each.
+static KEYWORD_FIRST: [u16; 32] = [
+    0, 292, 104, 288, 12, 80, 44, 8, 0, 20, 0, 0, 24, 56, 0, 256, 24, 0, 72, 64, 120, 200, 128, 32,
+    0, 32, 0, 0, 0, 0, 0, 0,
+];
 
-/// And with this byte in their middle.
-#[inline(always)]
-fn keyword_middles(middle: u8) -> u32
-    ensures { result ≡ inner.keyword_middles middle }
-{
-    match middle {
-        b'f' => 0b100,
-        b's' => 0b11100,
-        b'o' => 0b1011100,
-        b'n' => 0b100100,
-        b'u' => 0b1011000,
-        b'y' => 0b101000,
-        b'e' => 0b1101000,
-        b'r' => 0b100001000,
-        b'p' | b'v' => 0b10000,
-        b'i' => 0b110110000,
-        b'c' | b'l' => 0b100000,
-        b'a' => 0b1100000,
-        b't' => 0b11100000,
-        _ => 0,
-    }
-}
+/// And by the one in their middle.
+static KEYWORD_MIDDLE: [u16; 32] = [
+    0, 96, 0, 32, 0, 104, 4, 0, 0, 432, 0, 0, 32, 0, 36, 92, 16, 0, 264, 28, 224, 88, 16, 0, 0, 40,
+    0, 0, 0, 0, 0, 0,
+];
 
 /// Whether a word may be one of these, by its length and two of its bytes.
 #[inline(always)]
 fn may_be_keyword(word: &str) -> bool
     ensures { result ≡ inner.may_be_keyword word.now }
 {
-    has_length(keyword_lengths(first_byte(word)), word)
-        && has_length(keyword_middles(middle_byte(word)), word)
+    has_length(&KEYWORD_FIRST, first_byte(word), word)
+        && has_length(&KEYWORD_MIDDLE, middle_byte(word), word)
 }
 
 #[tactic(auto, unfolding(crate::specs::Names::is_keyword))]

@@ -390,55 +390,25 @@ const LEADING: [&str; 32] = [
     "static", "struct", "trait", "type", "unsafe", "use", "where", "while", "yield",
 ];
 
-/// The lengths of those of these with this first byte, one bit each.
-#[inline(always)]
-fn leading_lengths(first: u8) -> u32
-    ensures { result ≡ inner.leading_lengths first }
-{
-    match first {
-        b'f' => 0b1100,
-        b'i' => 0b10100,
-        b'a' => 0b100100,
-        b'd' | b'p' => 0b1000,
-        b'l' => 0b11000,
-        b'm' => 0b111000,
-        b'r' | b'u' => 0b1001000,
-        b't' => 0b110000,
-        b'e' => 0b1010000,
-        b'b' | b'w' | b'y' => 0b100000,
-        b'c' => 0b100100000,
-        b's' => 0b1000000,
-        _ => 0,
-    }
-}
+/// Their lengths, by their first byte.
+static LEADING_FIRST: [u16; 32] = [
+    0, 36, 32, 288, 8, 80, 12, 0, 0, 20, 0, 0, 24, 56, 0, 0, 8, 0, 72, 64, 48, 72, 0, 32, 0, 32, 0,
+    0, 0, 0, 0, 0,
+];
 
-/// And with this byte in their middle.
-#[inline(always)]
-fn leading_middles(middle: u8) -> u32
-    ensures { result ≡ inner.leading_middles middle }
-{
-    match middle {
-        b'f' => 0b100,
-        b's' => 0b11100,
-        b'n' => 0b100100,
-        b'o' => 0b11000,
-        b'u' => 0b1011000,
-        b'y' => 0b101000,
-        b'e' => 0b1101000,
-        b'p' | b'v' => 0b10000,
-        b'a' | b't' => 0b1100000,
-        b'i' => 0b100100000,
-        _ => 0,
-    }
-}
+/// And by the one in their middle.
+static LEADING_MIDDLE: [u16; 32] = [
+    0, 96, 0, 0, 0, 104, 4, 0, 0, 288, 0, 0, 0, 0, 36, 24, 16, 0, 0, 28, 96, 88, 16, 0, 0, 40, 0,
+    0, 0, 0, 0, 0,
+];
 
 /// Whether a word may be one of these, by its length and two of its bytes.
 #[inline(always)]
 fn may_lead_on(word: &str) -> bool
     ensures { result ≡ inner.may_lead_on word.now }
 {
-    has_length(leading_lengths(first_byte(word)), word)
-        && has_length(leading_middles(middle_byte(word)), word)
+    has_length(&LEADING_FIRST, first_byte(word), word)
+        && has_length(&LEADING_MIDDLE, middle_byte(word), word)
 }
 
 #[inline(never)]
