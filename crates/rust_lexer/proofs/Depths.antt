@@ -56,7 +56,7 @@ bracket_kind b e =
     when (b == 40 || b == 91 || b == 123) (λ o. rw o refl)
     (λ o. let c : (b == 41 || b == 93 || b == 125) ≡ true = grind (arith, nat_tests) in rw (o, c) refl)
 
-symbol_by : (k : TokenKind) (b : ℕ) → (symbol_from k b ≡ b) ⊎ (symbol_from k b ≡ 0)
+pub symbol_by : (k : TokenKind) (b : ℕ) → (symbol_from k b ≡ b) ⊎ (symbol_from k b ≡ 0)
 symbol_by kind.OpenDelim b = inl refl
 symbol_by kind.CloseDelim b = inl refl
 symbol_by kind.Punct b = inl refl

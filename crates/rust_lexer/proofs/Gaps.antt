@@ -1,7 +1,9 @@
 -- Between two stops tokens are whole, and count for nothing.
-use Rattle.std.proofs.Common.{◌≡◌, ◌≤◌, ℕ, zero, suc, ◌+◌, ◌-◌, ◌==◌, ◌||◌, ◌&&◌, not, Bool, true, false, List, [], ◌∷◌, drop, drop-drop, None, refl, sym, ap, ◌∙◌, arith, slice_index, nat_lt}
-use Rattle.rust_lexer.proofs.Common.{get_or-drop, is_ascii_digit, nat_tests, Class, Depth, LiteralKind, is_in_class, is_start, is_white, is_wide_continue, is_word_start, run, number, based, past_decimal, past_exponent, past_fraction, past_digits, is_exponent, is_fraction, is_sign, raw_string, first_cut, plain, raw_identifier, prefixed_raw, cut_word, suffix_len, to_outer, gap, is_clean, is_prefix_byte, is_quote_byte, is_stop_byte, tokens_from, whole}
+use Rattle.std.proofs.Common.{◌≡◌, ◌≤◌, ℕ, zero, suc, ◌+◌, ◌-◌, ◌==◌, ◌||◌, ◌&&◌, not, Bool, true, false, List, [], ◌∷◌, take, drop, drop-drop, take-append-drop, None, refl, sym, ap, ◌∙◌, subst, arith, slice_index, nat_lt}
+use Rattle.rust_lexer.proofs.Common.{get_or-drop, is_ascii_digit, nat_tests, Class, Depth, LiteralKind, is_in_class, is_start, is_white, is_wide_continue, is_word_start, run, number, based, past_decimal, past_exponent, past_fraction, past_digits, is_exponent, is_fraction, is_sign, raw_string, first_cut, plain, raw_identifier, prefixed_raw, cut_word, suffix_len, to_outer, gap, is_clean, is_prefix_byte, is_quote_byte, is_stop_byte, overhang, tokens_from, whole}
 use Rattle.rust_lexer.specs.declared.bytes.Class.TheVariants as class
+use Rattle.rust_lexer.specs.Inner.{BeginsAt}
+use Rattle.rust_lexer.proofs.Begins.{begins_behind}
 use Rattle.rust_lexer.proofs.Counted.{when}
 use Rattle.rust_lexer.proofs.Depths.{is_bracket, quiet_turn}
 
@@ -257,6 +259,22 @@ module _ (d : Depth) where
       (λ e. absurd (omega (arith, le, gap_out b z e)))
       (λ e. gap_passed left (suc at) z (is_prefix_byte b) (omega (arith, le, gap_in b z e)) (sym (clean_next s b z e) ∙ h) ∙ on at b z e)
 
+gap_over : (left : ℕ) (z : List ℕ) (s : Bool) → left ≤ gap z → clean s z ≡ true → overhang left (take (gap z) z) (drop (gap z) z) ≡ 0
+gap_over zero [] s le h = refl
+gap_over (suc left) [] s le h = absurd (omega (arith, le))
+gap_over zero (b ∷ z) s le h =
+    when (is_stop_byte b)
+    (λ e. ap (λ n. overhang 0 (take n (b ∷ z)) (drop n (b ∷ z))) (gap_out b z e))
+    (λ e. let more = sym (clean_next s b z e) ∙ h in
+    ap (λ n. overhang 0 (take n (b ∷ z)) (drop n (b ∷ z))) (gap_in b z e)
+    ∙ ap (λ l. overhang (whole (first_cut b l) l) (take (gap z) z) (drop (gap z) z)) (take-append-drop (gap z) z)
+    ∙ gap_over (whole (first_cut b z) z) z (is_prefix_byte b) (token_in b z e more) more)
+gap_over (suc left) (b ∷ z) s le h =
+    when (is_stop_byte b)
+    (λ e. absurd (omega (arith, le, gap_out b z e)))
+    (λ e. ap (λ n. overhang (suc left) (take n (b ∷ z)) (drop n (b ∷ z))) (gap_in b z e)
+    ∙ gap_over left z (is_prefix_byte b) (omega (arith, le, gap_in b z e)) (sym (clean_next s b z e) ∙ h))
+
 -- a text that is cut before a stop is cut before the end of its gap
 clean_behind : (k n : ℕ) (w : List ℕ) → is_clean w k (k + n) ≡ true → clean_by (is_prefixed false (drop k w) n) (slice_index w (k + n)) ≡ true
 clean_behind k zero w h = refl
@@ -268,15 +286,22 @@ clean_behind k (suc n) w h =
     ∙ h
 
 -- behind a place in a text
-pub gap_behind : (d : Depth) (at k stop : ℕ) (w : List ℕ) → stop ≡ k + gap (drop k w) → is_clean w k stop ≡ true
-    → to_outer d (tokens_from 0 (at + stop) (drop stop w)) ≡ to_outer d (tokens_from 0 (at + k) (drop k w))
-gap_behind d at k stop w is h =
-    let z = drop k w in
-    let n = gap z in
-    let place : at + (k + n) ≡ at + k + n = omega arith in
-    let ends = clean_behind k n w (ap (is_clean w k) (sym is) ∙ h) in
-    let ends_here : clean false z ≡ true = ap (clean_by (is_prefixed false z n)) (get_or-drop k w n 0) ∙ ends in
-    ap (λ m. to_outer d (tokens_from 0 (at + m) (drop m w))) is
-    ∙ ap (λ l. to_outer d (tokens_from 0 (at + (k + n)) l)) (sym (drop-drop n k w))
-    ∙ ap (λ m. to_outer d (tokens_from 0 m (drop n z))) place
-    ∙ sym (gap_passed d 0 (at + k) z false (omega arith) ends_here)
+module _ (k stop : ℕ) (w : List ℕ) (is : stop ≡ k + gap (drop k w)) (h : is_clean w k stop ≡ true) where
+  ends_here : clean false (drop k w) ≡ true
+  ends_here =
+      let z = drop k w in
+      let n = gap z in
+      ap (clean_by (is_prefixed false z n)) (get_or-drop k w n 0) ∙ clean_behind k n w (ap (is_clean w k) (sym is) ∙ h)
+
+  pub gap_behind : (d : Depth) (at : ℕ) → to_outer d (tokens_from 0 (at + stop) (drop stop w)) ≡ to_outer d (tokens_from 0 (at + k) (drop k w))
+  gap_behind d at =
+      let z = drop k w in
+      let n = gap z in
+      let place : at + (k + n) ≡ at + k + n = omega arith in
+      ap (λ m. to_outer d (tokens_from 0 (at + m) (drop m w))) is
+      ∙ ap (λ l. to_outer d (tokens_from 0 (at + (k + n)) l)) (sym (drop-drop n k w))
+      ∙ ap (λ m. to_outer d (tokens_from 0 m (drop n z))) place
+      ∙ sym (gap_passed d 0 (at + k) z false (omega arith) ends_here)
+
+  pub gap_begins : BeginsAt w k → BeginsAt w stop
+  gap_begins here = subst (BeginsAt w) (sym is) (begins_behind w k (gap (drop k w)) here (gap_over 0 (drop k w) false (omega arith) ends_here))

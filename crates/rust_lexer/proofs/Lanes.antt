@@ -4,7 +4,6 @@ use Rattle.std.proofs.lemmas.Bool.{agree_below, agree_below_at}
 use Rattle.std.proofs.lemmas.List.{get_or-map, length-map}
 use Rattle.std.proofs.lemmas.Simd.{zip2_splat, zip2_splat_left, map-map, Each1-get_or, mask_l-lt, mask_l-mod, bit_mask_l}
 use Rattle.std.specs.Int.{bit_at}
-use lib.Bits.{bit_and, bit_or}
 use lib.Dec.{leb}
 use lib.Lanes.{zip2, mask_l, top, Each1}
 
@@ -20,14 +19,8 @@ zip2-map op f g [] = refl
 zip2-map op f g (x ∷ xs) = ap (λ r. op (f x) (g x) ∷ r) (zip2-map op f g xs)
 
 -- lanes that are joined one by one
-joined : (op : ℕ → ℕ → ℕ) (f g : ℕ → ℕ) (v : List ℕ) {a b : List ℕ} → a ≡ map f v → b ≡ map g v → zip2 op a b ≡ map (λ x. op (f x) (g x)) v
+pub joined : (op : ℕ → ℕ → ℕ) (f g : ℕ → ℕ) (v : List ℕ) {a b : List ℕ} → a ≡ map f v → b ≡ map g v → zip2 op a b ≡ map (λ x. op (f x) (g x)) v
 joined op f g v p q = ap₂ (zip2 op) p q ∙ zip2-map op f g v
-
-pub either : (f g : ℕ → ℕ) (v : List ℕ) {a b : List ℕ} → a ≡ map f v → b ≡ map g v → zip2 bit_or a b ≡ map (λ x. bit_or (f x) (g x)) v
-either = joined bit_or
-
-pub both : (f g : ℕ → ℕ) (v : List ℕ) {a b : List ℕ} → a ≡ map f v → b ≡ map g v → zip2 bit_and a b ≡ map (λ x. bit_and (f x) (g x)) v
-both = joined bit_and
 
 -- and each with the same
 pub with_splat : (op : ℕ → ℕ → ℕ) (f : ℕ → ℕ) (y n : ℕ) (v : List ℕ) {a : List ℕ} → length v ≡ n → a ≡ map f v → zip2 op a (replicate n y) ≡ map (λ x. op (f x) y) v

@@ -18,7 +18,9 @@ pub mod Whole
 pub mod Each
 pub mod Braces
 pub mod Depths
+pub mod Full
 pub mod Gaps
 pub mod Lanes
+pub mod Begins
 pub mod Blocks
 pub mod Common

@@ -1,5 +1,5 @@
 -- A search for the end of a line gives how many bytes stand before it.
-use Rattle.std.proofs.Common.{◌≡◌, ◌≤◌, ◌<◌, ℕ, zero, suc, ◌==◌, true, not, List, [], ◌∷◌, Option, None, Some, length, refl, ap, sym, ◌∙◌, arith, slice_index}
+use Rattle.std.proofs.Common.{◌≡◌, ◌≤◌, ◌<◌, ℕ, suc, ◌==◌, true, not, List, [], ◌∷◌, Option, None, Some, length, refl, ap, sym, ◌∙◌, arith, slice_index}
 use Rattle.std.specs.Option.{unwrap_or}
 use Rattle.memchr.specs.Find.{IsFirstByte, is_byte}
 use Rattle.rust_lexer.specs.declared.bytes.Class.TheVariants as class

@@ -1,5 +1,5 @@
 -- How far a run goes, and a word by the bits of sixteen bytes.
-use Rattle.std.proofs.Common.{◌≡◌, ◌+◌, ◌≤◌, ◌<◌, ◌^◌, ◌==◌, ◌||◌, ℕ, zero, suc, true, false, List, [], ◌∷◌, length, drop, refl, ap, sym, ◌∙◌, arith, slice_index, nat_le, w64}
+use Rattle.std.proofs.Common.{◌≡◌, ◌+◌, ◌≤◌, ◌<◌, ◌^◌, ◌==◌, ℕ, zero, suc, true, false, List, [], ◌∷◌, length, drop, refl, ap, sym, ◌∙◌, arith, slice_index, nat_le, w64}
 use Rattle.std.proofs.lemmas.Nat.Bits.{bit_at-trailing_ones}
 use Rattle.std.proofs.lemmas.Simd.{get_or-chunk}
 use Rattle.std.specs.Int.{bit_at, trailing_ones}
@@ -21,7 +21,7 @@ run_to c (b ∷ z) (suc n) lt all none =
 plain_in : (b : ℕ) (y : List ℕ) → is_plain_byte b ≡ true → is_in_class class.Word b y ≡ true
 plain_in b y e =
     when (is_ascii_alphanumeric b) (λ f. rw f refl)
-    (λ f. let low : (b == 95) ≡ true = (let g = rw f at e in g) in rw (f, low) refl)
+    (λ f. let low : (b == 95) ≡ true = rw f at e in rw (f, low) refl)
 
 other_out : (b : ℕ) (y : List ℕ) → is_plain_byte b ≡ false → b < 128 → is_in_class class.Word b y ≡ false
 unfolding is_wide_continue
@@ -29,7 +29,7 @@ other_out b y e low =
     let behind : is_continuation b ≡ false = grind (arith, nat_tests) in
     let wide : nat_le 192 b ≡ false = grind (arith, nat_tests) in
     when (is_ascii_alphanumeric b) (λ f. let g = rw f at e in absurd cc)
-    (λ f. let under : (b == 95) ≡ false = (let g = rw f at e in g) in rw (f, under, behind, wide) refl)
+    (λ f. let under : (b == 95) ≡ false = rw f at e in rw (f, under, behind, wide) refl)
 
 -- the first bit that is not set stands for the first byte behind a word
 pub word_told : (z : List ℕ) (bits n : ℕ) → 16 ≤ length z → ((k : ℕ) → k < 16 → (bit_at bits k == 1) ≡ is_plain_byte (slice_index (chunk 0 16 z) k)) → bits < 2 ^ 16 → n ≡ trailing_ones w64 bits → n < 16 → slice_index z n < 128

@@ -24,7 +24,7 @@ drop_upto o x y zero le = refl
 drop_upto o [] y (suc n) le = absurd (omega arith)
 drop_upto o (b ∷ x) y (suc n) le = drop_upto o x y n (omega arith)
 
-both : (s t : Bool) → (s && t) ≡ true → (s ≡ true) × (t ≡ true)
+pub both : (s t : Bool) → (s && t) ≡ true → (s ≡ true) × (t ≡ true)
 both true t e = (refl, e)
 both false t e = absurd cc
 

@@ -1,9 +1,11 @@
 -- The tokens of a whole text with braces in it.
-use Rattle.std.proofs.Common.{◌≡◌, ℕ, suc, ◌+◌, ◌-◌, ◌==◌, ◌||◌, ◌&&◌, true, false, Some, None, List, [], ◌∷◌, ◌++◌, length, refl, ap, ◌∙◌, sym, arith, map, slice_index, not, nat_le, nat_lt, filter}
+use Rattle.std.proofs.Common.{◌≡◌, inl, inr, ℕ, suc, ◌+◌, ◌-◌, ◌==◌, ◌||◌, ◌&&◌, true, false, Some, None, List, [], ◌∷◌, ◌++◌, length, refl, ap, ◌∙◌, sym, arith, map, slice_index, not, nat_le, nat_lt, filter}
 use Rattle.rust_lexer.proofs.Common.{filter-append, nat_tests, TokenKind, is_wide_start, run, first_cut, frontmatter, Piece, symbol_from, symbol_of, has_mark, is_blank, is_bracket_next, is_shebang, is_significant, is_significant_kind, piece, tokens, tokens_from, whole, opening, is_fence, is_full, overhang, tokens_in_front, moved, braces_from, StandsAlone}
 use Rattle.rust_lexer.specs.declared.bytes.Class.TheVariants as class
 use Rattle.rust_lexer.specs.declared.kind.TokenKind.TheVariants as kind
+use Rattle.rust_lexer.specs.Inner.{begins_front}
 use Rattle.rust_lexer.proofs.Counted.{when}
+use Rattle.rust_lexer.proofs.Depths.{symbol_by}
 use Rattle.rust_lexer.proofs.Same.{upto, full_behind, run_same}
 use Rattle.rust_lexer.proofs.Apart.{apart}
 
@@ -50,6 +52,19 @@ pub record OpensAt (q y : List ℕ) : Type 0 where
 pub plain_is : (text : List ℕ) → has_mark text ≡ false → is_shebang (tokens_from 0 0 text) ≡ false → is_fence text ≡ false → tokens text ≡ tokens_from 0 0 text
 unfolding tokens
 plain_is text e f g = rw (e, f, no_matter 0 text g) refl
+
+-- what begins a text tells that nothing stands in front alone
+pub bare_is : (b : ℕ) (z : List ℕ) → begins_front b ≡ false → tokens_from 0 0 (b ∷ z) ≡ tokens (b ∷ z)
+bare_is b z e =
+    let mark : has_mark (b ∷ z) ≡ false = grind (arith, nat_tests) in
+    let feed : (b == 10 || b == 13) ≡ false = grind (arith, nat_tests) in
+    let dash : (b == 45) ≡ false = grind (arith, nat_tests) in
+    let fence : is_fence (b ∷ z) ≡ false = rw (feed, dash) refl in
+    let hash : (b == 35) ≡ false = grind (arith, nat_tests) in
+    let other : (symbol_of (piece (first_cut b z) 0 b z) == 35) ≡ false =
+    elim (symbol_by (first_cut b z).kind b) [ inl same ↦ rw (same, hash) refl | inr none ↦ rw none refl ] in
+    let bare : is_shebang (tokens_from 0 0 (b ∷ z)) ≡ false = rw other refl in
+    sym (plain_is (b ∷ z) mark bare fence)
 
 unfoldable pub inside_of : ℕ → List ℕ → List Piece
 inside_of at m = map (moved (suc at)) (tokens_in_front 0 0 m (125 ∷ []))

@@ -1,9 +1,10 @@
 -- For the crate's own functions.
-use Rattle.std.specs.Prelude.{◌≡◌, ◌≤◌, ◌<◌, ℕ, suc, ◌+◌, ◌-◌, Bool, not, ◌&&◌, ◌||◌, ◌==◌, nat_le, nat_lt, length, slice_index, if◌then◌else◌, List, [], ◌∷◌, drop, Option, Some, None}
+use Rattle.std.specs.Prelude.{◌≡◌, ◌≤◌, ◌<◌, ℕ, suc, ◌+◌, ◌-◌, Bool, not, ◌&&◌, ◌||◌, ◌==◌, nat_le, nat_lt, length, slice_index, if◌then◌else◌, List, [], ◌∷◌, take, drop, true, Option, Some, None}
 use Rattle.std.specs.Int.{bit_at}
 use Rattle.rust_lexer.specs.declared.cut.Cut.{Cut}
 use Rattle.rust_lexer.specs.declared.stops.Block.{Block}
 use Rattle.std.specs.Char.{is_ascii_alphanumeric}
+use Rattle.rust_lexer.specs.Alone.{overhang}
 use Rattle.rust_lexer.specs.Bytes.{code, is_char, is_continuation}
 use Rattle.rust_lexer.specs.Cut.{is_punctuation}
 use Rattle.rust_lexer.specs.Piece.{Piece}
@@ -79,3 +80,23 @@ pub record IsBlock (z : List ℕ) (from : ℕ) (b : Block) : Type 0 where
   pub within : b.end ≤ length z
   pub full : b.at < b.end → b.end ≡ b.at + 64
   pub told : (k : ℕ) → b.at + k < b.end → (bit_at b.bits k == 1) ≡ is_stop_byte (slice_index z (b.at + k))
+
+-- what may stand in front of a text alone can begin with it
+abbrev pub begins_front : ℕ → Bool
+begins_front b = b == 239 || b == 35 || b == 45 || b == 10 || b == 13
+
+-- ---- what two texts begin with
+
+abbrev pub is_brace_byte : ℕ → Bool
+is_brace_byte b = b == 123 || b == 125
+
+-- no token of a text reaches over a place
+abbrev pub BeginsAt : List ℕ → ℕ → Type 0
+BeginsAt z k = overhang 0 (take k z) (drop k z) ≡ 0
+
+-- a brace is a token of a text, and another has the same bytes up to and with it
+pub record IsCommon (z w : List ℕ) (k : ℕ) : Type 0 where
+  pub within : k < length z
+  pub begins : BeginsAt z k
+  pub brace : is_brace_byte (slice_index z k) ≡ true
+  pub same : take (k + 1) w ≡ take (k + 1) z

@@ -1,5 +1,5 @@
 -- The tokens of a text.
-use Rattle.std.specs.Prelude.{ℕ, zero, suc, ◌≡◌, ◌+◌, ◌-◌, ◌==◌, Bool, true, false, not, ◌&&◌, if◌then◌else◌, List, [], ◌∷◌, take, drop, length, slice_index, Option, Some, None, flat_map}
+use Rattle.std.specs.Prelude.{ℕ, zero, suc, ◌≡◌, ◌<◌, ◌+◌, ◌++◌, All, ◌-◌, ◌==◌, Bool, true, false, not, ◌&&◌, if◌then◌else◌, List, [], ◌∷◌, take, drop, length, slice_index, Option, Some, None, flat_map}
 use Rattle.rust_lexer.specs.declared.bytes.Class.TheVariants as class
 use Rattle.rust_lexer.specs.declared.cut.Cut.{Cut}
 use Rattle.rust_lexer.specs.declared.kind.TokenKind.{TokenKind}
@@ -115,3 +115,7 @@ AreInPlace at (t ∷ ts) = (t.at ≡ at) × AreInPlace (at + length t.text) ts
 abbrev pub is_nil : List Piece → Bool
 is_nil [] = true
 is_nil (t ∷ ts) = false
+
+-- the same tokens, which begin before a place, are passed of two lists
+abbrev pub ArePassed : ℕ → List Piece → List Piece → List Piece → List Piece → Type 0
+ArePassed place olds news olds' news' = (front : List Piece) × (olds ≡ front ++ news) × (olds' ≡ front ++ news') × All (λ t. t.at < place) front

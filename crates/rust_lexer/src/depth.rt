@@ -2,7 +2,7 @@
 
 ghost use Rattle.std.specs.Prelude.{ℕ, ◌≡◌, ◌==◌, ◌&&◌, ◌≤◌, ◌<◌, ◌+◌, ◌^◌, IfSome, IsTrue, Some, drop, length, IsUtf8};
 ghost use Rattle.rust_lexer.specs.Depths as spec;
-ghost use Rattle.rust_lexer.specs.Inner.{IsBlock};
+ghost use Rattle.rust_lexer.specs.Inner.{BeginsAt, IsBlock};
 ghost use Rattle.rust_lexer.specs.Tokens.{tokens_from};
 ghost use Rattle.rust_lexer.specs.declared.depth.Depth.{Depth};
 
@@ -62,12 +62,13 @@ fn is_last(depth: Depth, symbol: u8) -> bool
 /// The next stop from a token's beginning on, where a token ends before it: those between them count for nothing. Else the same place;
 /// the stop is put down, and up to there tokens are cut.
 #[inline(always)]
-fn past_gap(bytes: &[u8], count: usize, until: &mut usize, block: &mut Block) -> usize
+pub(crate) fn past_gap(bytes: &[u8], count: usize, until: &mut usize, block: &mut Block) -> usize
     requires within { count ≤ length bytes.now }
     requires block { IsBlock bytes.now until.old block.old }
     ensures same { (d : Depth) (at : ℕ) →
         spec.to_outer d (tokens_from 0 (at + result) (drop result bytes.now))
         ≡ spec.to_outer d (tokens_from 0 (at + count) (drop count bytes.now)) }
+    ensures begins { BeginsAt bytes.now count → BeginsAt bytes.now result }
     ensures onwards { count ≤ result }
     ensures within { result ≤ length bytes.now }
     ensures block { IsBlock bytes.now until.new block.new }

@@ -14,6 +14,7 @@ use crate::cut::{Cut, any_cut, frequent_cut, mark_or_word};
 use crate::depth::{Depth, to_outer};
 use crate::frontmatter::frontmatter;
 use crate::kind::TokenKind;
+use crate::prefix::common_prefix;
 use crate::token::Token;
 use std::alloc::{AllocError, Global};
 use std::marker::Model;
@@ -72,7 +73,6 @@ impl Clone for Lexer<'_> {
 
 impl<'a> Lexer<'a> {
     /// The tokens of a text.
-    #[tactic(auto, unfolding(crate::specs::Tokens::tokens))]
     pub fn new(text: &'a str) -> Self
         ensures value { result ≡ spec.tokens text.now }
         ensures lossless { text_of result ≡ text.now }
@@ -83,7 +83,7 @@ impl<'a> Lexer<'a> {
         Lexer {
             rest: text,
             at: 0,
-            front: Front::Mark,
+            front: front_of(text),
         }
     }
 
@@ -99,7 +99,7 @@ impl<'a> Lexer<'a> {
     }
 
     /// A short path for white space: what it takes is the next token, and white space. Where it takes nothing, the
-    /// lexer stays as it was and any token may come next: at the front of a text it takes nothing.
+    /// lexer stays as it was and any token may come next.
     #[inline(always)]
     pub fn next_white(&mut self) -> Option<Token<'a>>
         ensures { MatchOption result (self.new ≡ self.old)
@@ -115,7 +115,7 @@ impl<'a> Lexer<'a> {
     }
 
     /// A short path for a mark or a word of ASCII letters that begins no literal: what it takes is the next token, and more tokens are
-    /// left. Where it takes nothing, the lexer stays as it was and any token may come next: at the front of a text it takes nothing.
+    /// left. Where it takes nothing, the lexer stays as it was and any token may come next.
     #[inline(always)]
     pub fn next_frequent(&mut self) -> Option<Token<'a>>
         ensures { MatchOption result (self.new ≡ self.old)
@@ -131,7 +131,7 @@ impl<'a> Lexer<'a> {
     }
 
     /// A short path over what stands in so many braces: it gives in which brackets the `}` stands that closes the last of these, and
-    /// that comes next. Where it finds none, the lexer stays as it was, and so it does at the front of a text.
+    /// that comes next. Where it finds none, the lexer stays as it was.
     pub fn pass_braces(&mut self, depth: Depth) -> Option<Depth>
         ensures { MatchOption result (self.new ≡ self.old)
             (λ d. depths.to_outer depth self.old ≡ Some (d, self.new)) }
@@ -143,6 +143,28 @@ impl<'a> Lexer<'a> {
         self.at = at;
         self.rest = rest;
         Some(depth)
+    }
+
+    /// A short path over tokens with which two texts go on alike: both lexers pass the same, none of which begins at this place or
+    /// behind it. Where the texts differ soon, or the lexers stand at two places, they pass none.
+    pub fn pass_same(&mut self, other: &mut Lexer<'_>, place: usize)
+        ensures { spec.ArePassed place self.old self.new other.old other.new }
+    {
+        let (Front::Token, Front::Token) = (self.front, other.front) else {
+            return;
+        };
+        if self.at != other.at {
+            return;
+        }
+        let most = place.saturating_sub(self.at);
+        let len = common_prefix(self.rest.as_bytes(), other.rest.as_bytes(), most);
+        if len == 0 {
+            return;
+        }
+        self.at += len;
+        self.rest = self.rest.split_at(len).1;
+        other.at += len;
+        other.rest = other.rest.split_at(len).1;
     }
 
     /// Whether no token is left.
@@ -170,6 +192,24 @@ impl<'a> Iterator for Lexer<'a> {
         let (token, left) = step(self.front, self.at, self.rest)?;
         *self = left;
         Some(token)
+    }
+}
+
+/// Whether what may stand in front of a text alone can begin with a byte.
+fn begins_front(first: u8) -> bool
+    ensures { result ≡ inner.begins_front first }
+{
+    matches!(first, 0xEF | b'#' | b'-' | b'\n' | b'\r')
+}
+
+/// What may stand in front of a text.
+#[tactic(auto, using(crate::proofs::Whole::bare_is), unfolding(crate::specs::Tokens::tokens))]
+fn front_of(text: &str) -> Front
+    ensures { spec.pieces result 0 text.now ≡ spec.tokens text.now }
+{
+    match text.as_bytes() {
+        [first, ..] if !begins_front(*first) => Front::Token,
+        _ => Front::Mark,
     }
 }
 

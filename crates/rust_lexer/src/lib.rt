@@ -10,6 +10,7 @@ mod identifier;
 mod kind;
 mod lexer;
 mod number;
+mod prefix;
 mod quoted;
 mod stops;
 mod token;

@@ -14,8 +14,8 @@ const LANES: usize = 16;
 /// Which of 16 bytes are letters, digits and `_` of ASCII, one bit each.
 #[inline(always)]
 fn plain(v: u8x16) -> u64
-    ensures told { (k : ℕ) → k < 16 → (bit_at result k == 1) ≡ inner.is_plain_byte (slice_index v k) }
-    ensures few { result < 2 ^ 16 }
+    ensures { ((k : ℕ) → k < 16 → (bit_at result k == 1) ≡ inner.is_plain_byte (slice_index v k))
+        × (result < 2 ^ 16) }
 {
     let lower = v | u8x16::splat(0x20);
     let is_letter = lower.simd_ge(u8x16::splat(b'a')) & lower.simd_le(u8x16::splat(b'z'));
