@@ -1,12 +1,8 @@
 -- Quick tests of words, by their length and one or two of their bytes. No public clause cites them.
-use Rattle.std.specs.Prelude.{ℕ, ◌/◌, ◌%◌, ◌==◌, Bool, ◌&&◌, List, length, slice_index, nat_lt}
-use Rattle.std.specs.Int.{bit_at}
+use Rattle.std.specs.Prelude.{ℕ, ◌/◌, Bool, ◌&&◌, List, length, slice_index}
 use Rattle.rust_cursor.specs.declared.cursor.texts.TheConstants.{ITEMS}
 use Rattle.rust_cursor.specs.declared.cursor.nest.TheConstants.{LEADING_FIRST, LEADING_MIDDLE}
-
--- of the lengths of some words, which are bits of numbers, this byte has that of a word
-abbrev pub has_length : List ℕ → ℕ → List ℕ → Bool
-has_length lengths byte w = nat_lt (length w) 16 && bit_at (slice_index lengths (byte % 32)) (length w) == 1
+use Rattle.rust_cursor.specs.Words.{has_length}
 
 -- a word that may be a keyword with which neither a type nor a value ends, by its length and two of its bytes
 abbrev pub may_lead_on : List ℕ → Bool

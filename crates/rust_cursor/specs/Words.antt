@@ -1,5 +1,6 @@
 -- What comes next, and what takes it.
-use Rattle.std.specs.Prelude.{ℕ, Bool, true, false, ◌==◌, ◌&&◌, if◌then◌else◌, Option, Some, None, List, [], ◌∷◌, bytes_eq}
+use Rattle.std.specs.Prelude.{ℕ, ◌%◌, Bool, true, false, ◌==◌, ◌&&◌, nat_lt, length, slice_index, if◌then◌else◌, Option, Some, None, List, [], ◌∷◌, bytes_eq}
+use Rattle.std.specs.Int.{bit_at}
 use Rattle.rust_lexer.specs.declared.kind.TokenKind.{TokenKind}
 use Rattle.rust_lexer.specs.declared.kind.TokenKind.TheVariants as kinds
 use Rattle.rust_lexer.specs.Piece.{Piece}
@@ -122,3 +123,7 @@ eat_pair a b ts = (is_pair a b ts, if is_pair a b ts then bumped (bumped ts) els
 -- `::`
 abbrev pub eat_colons : Reader Bool
 eat_colons = eat_pair 58 58
+
+-- the bits of a number for each byte, by its last five bits, are lengths: this byte has that of a word
+abbrev pub has_length : List ℕ → ℕ → List ℕ → Bool
+has_length lengths byte w = nat_lt (length w) 16 && bit_at (slice_index lengths (byte % 32)) (length w) == 1

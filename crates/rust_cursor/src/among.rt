@@ -1,8 +1,8 @@
 //! Words.
 
-ghost use Rattle.std.specs.Prelude.{◌≡◌, ◌/◌, ◌%◌, ◌==◌, ◌&&◌, bytes_eq, length, nat_lt, slice_index};
-ghost use Rattle.std.specs.Int.{bit_at};
+ghost use Rattle.std.specs.Prelude.{◌≡◌, ◌-◌, ◌/◌, bytes_eq, length, slice_index};
 ghost use Rattle.std.specs.List.{list_any};
+ghost use Rattle.rust_cursor.specs.Words as spec;
 
 /// Whether a word is one of these.
 #[inline(always)]
@@ -37,11 +37,21 @@ pub fn middle_byte(word: &str) -> u8
     }
 }
 
-/// Whether words of the length of this one have this byte at a place, where a bit stands for each length, by the last five bits of a byte.
+/// The last byte of a word, or 0.
+#[inline(always)]
+pub fn last_byte(word: &str) -> u8
+    ensures { result ≡ slice_index word.now (length word.now - 1) }
+{
+    match word.as_bytes() {
+        [.., last] => *last,
+        [] => 0,
+    }
+}
+
+/// Whether a table has the length of a word for this byte: it holds a number for the last five bits of each, with a bit for each length.
 #[inline(always)]
 pub fn has_length(lengths: &[u16; 32], byte: u8, word: &str) -> bool
-    ensures { result ≡ (nat_lt (length word.now) 16
-        && bit_at (slice_index lengths.now (byte % 32)) (length word.now) == 1) }
+    ensures { result ≡ spec.has_length lengths.now byte word.now }
 {
     let len = word.len();
     len < 16 && lengths[(byte % 32) as usize] >> len & 1 == 1

@@ -5,6 +5,6 @@ mod among;
 mod cursor;
 mod lists;
 
-pub use among::{first_byte, has_length, is_among, middle_byte};
+pub use among::{first_byte, has_length, is_among, last_byte, middle_byte};
 pub use cursor::{Cursor, Excerpt};
 pub use lists::push_some;

@@ -21,9 +21,9 @@ pub use Rattle.rust_cursor.specs.Tokens.{Tokens}
 pub use Rattle.rust_cursor.specs.Words.{by_first, eat_colons}
 unfoldable pub use Rattle.rust_cursor.specs.Words.{at, bumped, eat_word, is_at_end, is_empty, kind, symbol, text, word}
 pub use Rattle.rust_lexer.specs.Piece.{Piece}
-pub use Rattle.rust_paths.specs.Inner.{may_be_keyword, meaning, meant_path, path_start, then_word, with_word, with_words, word_behind}
+pub use Rattle.rust_paths.specs.Inner.{meaning, meant_path, path_start, then_word, with_word, with_words, word_behind}
 pub use Rattle.rust_paths.specs.Meaning.{all_words, fits, node_of, path_node, read_all}
-pub use Rattle.rust_paths.specs.Names.{Placed, as_name, behind_hash, is_since_2018, is_since_2024, is_underscore, keywords, keywords_since_2018, keywords_since_2024, name_text, placed_if, taken_with}
+pub use Rattle.rust_paths.specs.Names.{Placed, as_name, behind_hash, is_since_2018, is_since_2024, is_underscore, keywords, keywords_since_2018, keywords_since_2024, may_be_keyword, name_text, placed_if, taken_with}
 unfoldable pub use Rattle.rust_paths.specs.Names.{has_name, is_keyword, is_path_keyword, name, next_name, placed_name, plain_name}
 pub use Rattle.rust_paths.specs.Paths.{and_path_word, front_of_path, is_raw, more_from, named_word, path_in, written_path}
 unfoldable pub use Rattle.rust_paths.specs.Paths.{is_colons, is_dollar_crate, is_joint, is_path_colons, is_path_start, is_segment, more_segments, other_segment, path, segment, use_path}

@@ -1,13 +1,11 @@
--- Paths, word by word, and a quick test of words.
-use Rattle.std.specs.Prelude.{ℕ, Bool, nat_lt, ◌/◌, ◌==◌, ◌&&◌, ◌||◌, ◌+◌, if◌then◌else◌, Option, Some, None, option_map, List, [], ◌∷◌, ◌++◌, length, slice_index}
+-- Paths, word by word.
+use Rattle.std.specs.Prelude.{ℕ, Bool, nat_lt, ◌==◌, ◌&&◌, ◌||◌, ◌+◌, if◌then◌else◌, Option, Some, None, option_map, List, [], ◌∷◌, ◌++◌}
 use Rattle.hir_input.specs.declared.mod_path.PathKind.{PathKind}
 use Rattle.hir_input.specs.declared.mod_path.PathKind.TheVariants.{Plain, Super, Crate, Abs, DollarCrate}
 use Rattle.hir_input.specs.declared.ast.PathNode.{PathNode}
 use Rattle.hir_input.specs.declared.ast.PathNode.TheVariants.{Unreadable}
 use Rattle.hir_input.specs.Path.{Path}
 use Rattle.hir_input.specs.Words.{PathWord, self_word, super_word, crate_word, absolute_word, dollar_crate_word, name_word, words}
-use Rattle.rust_cursor.specs.Inner.{has_length}
-use Rattle.rust_paths.specs.declared.names.TheConstants.{KEYWORD_FIRST, KEYWORD_MIDDLE}
 use Rattle.rust_cursor.specs.Tokens.{Tokens}
 use Rattle.rust_paths.specs.Meaning.{node_of, read_all, all_words}
 
@@ -44,9 +42,3 @@ with_word p r = (then_word p r.0, r.1)
 
 abbrev pub with_words : Option Path → List (Option PathWord) × Tokens → PathNode × Tokens
 with_words p r = (meaning p r.0, r.1)
-
--- ---- a quick test of words
-
--- a word that may be a keyword, by its length and two of its bytes
-abbrev pub may_be_keyword : List ℕ → Bool
-may_be_keyword w = has_length KEYWORD_FIRST (slice_index w 0) w && has_length KEYWORD_MIDDLE (slice_index w (length w / 2)) w

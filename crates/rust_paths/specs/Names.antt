@@ -1,5 +1,5 @@
 -- Names.
-use Rattle.std.specs.Prelude.{ℕ, Bool, true, false, ◌==◌, if◌then◌else◌, Option, Some, None, is_some, List, [], ◌∷◌, codes, bytes_eq}
+use Rattle.std.specs.Prelude.{ℕ, ◌-◌, ◌/◌, Bool, true, false, ◌==◌, ◌&&◌, length, slice_index, if◌then◌else◌, Option, Some, None, is_some, List, [], ◌∷◌, codes, bytes_eq}
 use Rattle.std.specs.List.{list_any}
 use Rattle.hir_input.specs.declared.edition.EditionYear.{EditionYear}
 use Rattle.hir_input.specs.declared.edition.EditionYear.TheVariants as year
@@ -8,7 +8,8 @@ use Rattle.rust_lexer.specs.declared.kind.TokenKind.{TokenKind}
 use Rattle.rust_lexer.specs.declared.kind.TokenKind.TheVariants as kinds
 use Rattle.rust_cursor.specs.Tokens.{Tokens}
 use Rattle.rust_cursor.specs.Reader.{Reader}
-use Rattle.rust_cursor.specs.Words.{kind, text, at, bumped}
+use Rattle.rust_cursor.specs.Words.{kind, text, at, bumped, has_length}
+use Rattle.rust_paths.specs.declared.names.TheConstants.{KEYWORD_FIRST, KEYWORD_LAST, KEYWORD_MIDDLE}
 
 -- ---- keywords
 
@@ -43,6 +44,11 @@ is_keyword edition word =
     if list_any (bytes_eq word) keywords then true
     else (if list_any (bytes_eq word) keywords_since_2018 then is_since_2018 edition
     else (if list_any (bytes_eq word) keywords_since_2024 then is_since_2024 edition else false))
+
+-- A word that may be one in some edition, by its length and three of its bytes. Most names are none.
+abbrev pub may_be_keyword : List ℕ → Bool
+may_be_keyword w = has_length KEYWORD_FIRST (slice_index w 0) w && has_length KEYWORD_MIDDLE (slice_index w (length w / 2)) w
+    && has_length KEYWORD_LAST (slice_index w (length w - 1)) w
 
 -- the keywords that a path may hold
 abbrev pub path_keywords : List (List ℕ)

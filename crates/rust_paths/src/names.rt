@@ -2,12 +2,11 @@
 
 ghost use Rattle.std.specs.Prelude.{◌≡◌, Some, IfOk, option_map, string_bytes};
 ghost use Rattle.rust_cursor.specs.Reader.{Gives};
-ghost use Rattle.rust_paths.specs.Inner as inner;
 ghost use Rattle.rust_paths.specs.Names as spec;
 ghost use Rattle.rust_paths.specs.Views.{placed_view};
 
 use hir_input::{EditionYear, Name};
-use rust_cursor::{Cursor, first_byte, has_length, is_among, middle_byte};
+use rust_cursor::{Cursor, first_byte, has_length, is_among, last_byte, middle_byte};
 use rust_lexer::TokenKind;
 use std::alloc::{AllocError, Global};
 
@@ -63,13 +62,20 @@ static KEYWORD_MIDDLE: [u16; 32] = [
     0, 0, 0, 0, 0, 0,
 ];
 
-/// Whether a word may be one of these, by its length and two of its bytes.
+/// And by their last.
+static KEYWORD_LAST: [u16; 32] = [
+    0, 0, 8, 96, 168, 376, 76, 0, 32, 0, 0, 32, 176, 16, 76, 36, 16, 0, 8, 4, 360, 0, 16, 0, 8, 8,
+    0, 0, 0, 0, 0, 0,
+];
+
+/// Whether a word may be one of all these, by its length and three of its bytes. It is a quick test: most names are none of them.
 #[inline(always)]
-fn may_be_keyword(word: &str) -> bool
-    ensures { result ≡ inner.may_be_keyword word.now }
+pub fn may_be_keyword(word: &str) -> bool
+    ensures { result ≡ spec.may_be_keyword word.now }
 {
     has_length(&KEYWORD_FIRST, first_byte(word), word)
         && has_length(&KEYWORD_MIDDLE, middle_byte(word), word)
+        && has_length(&KEYWORD_LAST, last_byte(word), word)
 }
 
 #[tactic(auto, unfolding(crate::specs::Names::is_keyword))]
@@ -93,7 +99,7 @@ fn is_keyword_among(edition: EditionYear, word: &str) -> bool
 fn is_keyword(edition: EditionYear, word: &str) -> bool
     ensures { result ≡ spec.is_keyword edition word.now }
 {
-    // Most names are told by their length and two bytes.
+    // Most names are told by their length and three bytes.
     if !may_be_keyword(word) {
         return false;
     }

@@ -4,7 +4,7 @@ ghost use Rattle.std.specs.Prelude.{◌≡◌, ◌+◌, ◌<◌, ◌^◌};
 ghost use Rattle.rust_cursor.specs.Inner as inner;
 ghost use Rattle.rust_cursor.specs.Nests as spec;
 
-use crate::among::{first_byte, has_length, is_among, middle_byte};
+use crate::among::{first_byte, has_length, middle_byte};
 use crate::cursor::Cursor;
 use rust_lexer::TokenKind;
 
@@ -383,14 +383,7 @@ fn free_behind(nest: Nest, symbol: u8) -> usize
     }
 }
 
-/// The keywords with which neither a type nor a value ends.
-const LEADING: [&str; 32] = [
-    "as", "async", "break", "const", "continue", "dyn", "else", "enum", "extern", "fn", "for",
-    "if", "impl", "in", "let", "loop", "match", "mod", "move", "mut", "pub", "ref", "return",
-    "static", "struct", "trait", "type", "unsafe", "use", "where", "while", "yield",
-];
-
-/// Their lengths, by their first byte.
+/// The lengths of the keywords with which neither a type nor a value ends, by their first byte.
 static LEADING_FIRST: [u16; 32] = [
     0, 36, 32, 288, 8, 80, 12, 0, 0, 20, 0, 0, 24, 56, 0, 0, 8, 0, 72, 64, 48, 72, 0, 32, 0, 32, 0,
     0, 0, 0, 0, 0,
@@ -416,7 +409,40 @@ fn may_lead_on(word: &str) -> bool
 fn is_leading(word: &str) -> bool
     ensures { result ≡ spec.leads_on word.now }
 {
-    is_among(word, &LEADING)
+    matches!(
+        word,
+        "as" | "async"
+            | "break"
+            | "const"
+            | "continue"
+            | "dyn"
+            | "else"
+            | "enum"
+            | "extern"
+            | "fn"
+            | "for"
+            | "if"
+            | "impl"
+            | "in"
+            | "let"
+            | "loop"
+            | "match"
+            | "mod"
+            | "move"
+            | "mut"
+            | "pub"
+            | "ref"
+            | "return"
+            | "static"
+            | "struct"
+            | "trait"
+            | "type"
+            | "unsafe"
+            | "use"
+            | "where"
+            | "while"
+            | "yield"
+    )
 }
 
 /// Whether neither a type nor a value ends with the word.
