@@ -3,7 +3,7 @@ use Rattle.std.proofs.Common.{◌≡◌, ◌≤◌, ◌<◌, ℕ, zero, suc, ◌
 use Rattle.std.specs.Cmp.Lexicographic.{pointwise, pointwise_decides}
 use Rattle.std.proofs.lemmas.Bool.Decides.{Decides-eqb}
 use Rattle.rust_lexer.proofs.Common.{first_cut, whole, overhang, take_rest}
-use Rattle.rust_lexer.specs.Inner.{BeginsAt, IsCommon, is_brace_byte}
+use Rattle.rust_lexer.specs.Inner.{IsTokenBoundary, IsCommon, is_brace_byte}
 
 over_append : (left : ℕ) (x y w : List ℕ) → overhang left (x ++ y) w ≡ overhang (overhang left x (y ++ w)) y w
 over_append left [] y w = refl
@@ -18,7 +18,7 @@ over_taken (suc n) [] w le = absurd (omega arith)
 over_taken (suc n) (b ∷ z) w le = over_taken n z w (omega arith)
 
 -- so many bytes behind one
-pub begins_behind : (z : List ℕ) (k n : ℕ) → BeginsAt z k → BeginsAt (drop k z) n → BeginsAt z (k + n)
+pub begins_behind : (z : List ℕ) (k n : ℕ) → IsTokenBoundary z k → IsTokenBoundary (drop k z) n → IsTokenBoundary z (k + n)
 begins_behind z k n here behind =
     let y = drop k z in
     ap (λ l. overhang 0 l (drop (k + n) z)) (take-add k n z)
@@ -29,7 +29,7 @@ begins_behind z k n here behind =
     ∙ behind
 
 -- behind a token
-pub begins_next : (z y : List ℕ) (k n : ℕ) → k < length z → y ≡ take (length z - (k + 1)) (drop (k + 1) z) → n ≡ whole (first_cut (get_or z k 0) y) y → n ≤ length y → BeginsAt z k → BeginsAt z (k + (1 + n))
+pub begins_next : (z y : List ℕ) (k n : ℕ) → k < length z → y ≡ take (length z - (k + 1)) (drop (k + 1) z) → n ≡ whole (first_cut (get_or z k 0) y) y → n ≤ length y → IsTokenBoundary z k → IsTokenBoundary z (k + (1 + n))
 begins_next z y k n some same is le here =
     let b = get_or z k 0 in
     let behind : suc k ≡ k + 1 = omega arith in
@@ -60,7 +60,7 @@ pub record IsFound (z w : List ℕ) (most count k : ℕ) : Type 0 where
   pub order : k ≤ count
   pub within : k ≤ most
 
-pub found_here : (z w : List ℕ) (most count : ℕ) → count < length z → count ≤ most → BeginsAt z count → is_brace_byte (get_or z count 0) ≡ true → take (count + 1) w ≡ take (count + 1) z → IsFound z w most count count
+pub found_here : (z w : List ℕ) (most count : ℕ) → count < length z → count ≤ most → IsTokenBoundary z count → is_brace_byte (get_or z count 0) ≡ true → take (count + 1) w ≡ take (count + 1) z → IsFound z w most count count
 found_here z w most count some le begins brace same = record {
   common = λ _. record { within = some; begins = begins; brace = brace; same = same };
   same = sym (take-take count (count + 1) w (omega arith)) ∙ ap (take count) same ∙ take-take count (count + 1) z (omega arith);

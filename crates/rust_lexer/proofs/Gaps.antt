@@ -2,7 +2,7 @@
 use Rattle.std.proofs.Common.{◌≡◌, ◌≤◌, ℕ, zero, suc, ◌+◌, ◌-◌, ◌==◌, ◌||◌, ◌&&◌, not, Bool, true, false, List, [], ◌∷◌, take, drop, drop-drop, take-append-drop, None, refl, sym, ap, ◌∙◌, subst, arith, slice_index, nat_lt}
 use Rattle.rust_lexer.proofs.Common.{get_or-drop, is_ascii_digit, nat_tests, Class, Depth, LiteralKind, is_in_class, is_start, is_white, is_wide_continue, is_word_start, run, number, based, past_decimal, past_exponent, past_fraction, past_digits, is_exponent, is_fraction, is_sign, raw_string, first_cut, plain, raw_identifier, prefixed_raw, cut_word, suffix_len, to_outer, gap, is_clean, is_prefix_byte, is_quote_byte, is_stop_byte, overhang, tokens_from, whole}
 use Rattle.rust_lexer.specs.declared.bytes.Class.TheVariants as class
-use Rattle.rust_lexer.specs.Inner.{BeginsAt}
+use Rattle.rust_lexer.specs.Inner.{IsTokenBoundary}
 use Rattle.rust_lexer.proofs.Begins.{begins_behind}
 use Rattle.rust_lexer.proofs.Counted.{when}
 use Rattle.rust_lexer.proofs.Depths.{is_bracket, quiet_turn}
@@ -303,5 +303,5 @@ module _ (k stop : ℕ) (w : List ℕ) (is : stop ≡ k + gap (drop k w)) (h : i
       ∙ ap (λ m. to_outer d (tokens_from 0 m (drop n z))) place
       ∙ sym (gap_passed d 0 (at + k) z false (omega arith) ends_here)
 
-  pub gap_begins : BeginsAt w k → BeginsAt w stop
-  gap_begins here = subst (BeginsAt w) (sym is) (begins_behind w k (gap (drop k w)) here (gap_over 0 (drop k w) false (omega arith) ends_here))
+  pub gap_begins : IsTokenBoundary w k → IsTokenBoundary w stop
+  gap_begins here = subst (IsTokenBoundary w) (sym is) (begins_behind w k (gap (drop k w)) here (gap_over 0 (drop k w) false (omega arith) ends_here))

@@ -91,12 +91,12 @@ abbrev pub is_brace_byte : ℕ → Bool
 is_brace_byte b = b == 123 || b == 125
 
 -- no token of a text reaches over a place
-abbrev pub BeginsAt : List ℕ → ℕ → Type 0
-BeginsAt z k = overhang 0 (take k z) (drop k z) ≡ 0
+abbrev pub IsTokenBoundary : List ℕ → ℕ → Type 0
+IsTokenBoundary z k = overhang 0 (take k z) (drop k z) ≡ 0
 
 -- a brace is a token of a text, and another has the same bytes up to and with it
 pub record IsCommon (z w : List ℕ) (k : ℕ) : Type 0 where
   pub within : k < length z
-  pub begins : BeginsAt z k
+  pub begins : IsTokenBoundary z k
   pub brace : is_brace_byte (slice_index z k) ≡ true
   pub same : take (k + 1) w ≡ take (k + 1) z

@@ -2,7 +2,7 @@
 
 ghost use Rattle.std.specs.Prelude.{ℕ, ◌≡◌, ◌==◌, ◌&&◌, ◌≤◌, ◌<◌, ◌+◌, ◌^◌, IfSome, IsTrue, Some, drop, length, IsUtf8};
 ghost use Rattle.rust_lexer.specs.Depths as spec;
-ghost use Rattle.rust_lexer.specs.Inner.{BeginsAt, IsBlock};
+ghost use Rattle.rust_lexer.specs.Inner.{IsTokenBoundary, IsBlock};
 ghost use Rattle.rust_lexer.specs.Tokens.{tokens_from};
 ghost use Rattle.rust_lexer.specs.declared.depth.Depth.{Depth};
 
@@ -68,7 +68,7 @@ pub(crate) fn past_gap(bytes: &[u8], count: usize, until: &mut usize, block: &mu
     ensures same { (d : Depth) (at : ℕ) →
         spec.to_outer d (tokens_from 0 (at + result) (drop result bytes.now))
         ≡ spec.to_outer d (tokens_from 0 (at + count) (drop count bytes.now)) }
-    ensures begins { BeginsAt bytes.now count → BeginsAt bytes.now result }
+    ensures begins { IsTokenBoundary bytes.now count → IsTokenBoundary bytes.now result }
     ensures onwards { count ≤ result }
     ensures within { result ≤ length bytes.now }
     ensures block { IsBlock bytes.now until.new block.new }

@@ -1,12 +1,12 @@
 use Rattle.std.proofs.Common.{◌≤◌, ◌-◌, length}
 use Rattle.rust_lexer.proofs.Common.{IsBlock}
 use Rattle.rust_lexer.proofs.Begins.{IsFound}
-use Rattle.rust_lexer.specs.Inner.{BeginsAt}
+use Rattle.rust_lexer.specs.Inner.{IsTokenBoundary}
 use Rattle.rust_lexer.proofs.prefix.common_prefix.Given as goal
 
 abbrev pub invariant-tokens : goal.invariant-tokens
 invariant-tokens l = record {
-  begins : BeginsAt l.ours l.count;
+  begins : IsTokenBoundary l.ours l.count;
   within : l.count ≤ length l.ours;
   block : IsBlock l.ours l.until l.block;
   found : IsFound l.ours l.theirs l.most l.count l.found;
