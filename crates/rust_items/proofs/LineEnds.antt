@@ -3,6 +3,7 @@ use Rattle.std.proofs.Common.{◌≡◌, ◌≢◌, ◌<◌, ◌≤◌, ◌+◌,
 use Rattle.rust_items.proofs.Common.{prefix_len, list_any, IsPartitionPoint, split_parts, ne_eqb, cases_Bool, and_parts, eqb-true, nat_tests, ItemViews, TextRange, ItemPlace, is_return, with_feeds, returns_from, place_by, place_in, moved_range, Telling, name_of, IsBodyIn, IsNameIn, IsPlace, ArePlaces, nothing, placed}
 use Rattle.std.specs.Str.Pattern.{FindsChar}
 use Rattle.std.proofs.Math.Nat.{eq-or-lt_of_le}
+use Rattle.memchr.specs.Find.{IsFirstByte, is_byte}
 
 -- ---- where no return stands
 
@@ -71,6 +72,10 @@ returns_turn left front behind done mid next returns more all s h m n r e =
 -- where a text without returns is found
 pub no_return : (text : List ℕ) → FindsChar 13 text None → (i : ℕ) → i < length text → get_or text i 0 ≢ 13
 no_return text h = split_parts 13 text None h (lit< tt)
+
+-- where the search for the byte of one finds none
+pub none_found : (text bytes : List ℕ) → bytes ≡ text → IsFirstByte (is_byte 13) bytes None → (i : ℕ) → i < length text → get_or text i 0 ≢ 13
+none_found text bytes same h i lt e = h i (omega arith) (omega (arith, lt, ap length same)) (rw (same, e) refl)
 
 -- behind the last return
 pub ended : (text left feeds returns : List ℕ) (at : ℕ) → ((i : ℕ) → i < length left → get_or left i 0 ≢ 13) → feeds ++ with_feeds left ≡ with_feeds text → returns ++ returns_from at left ≡ returns_from 0 text

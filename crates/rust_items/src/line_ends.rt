@@ -5,6 +5,7 @@ ghost use Rattle.std.specs.List.Sorted.{IsNonDecreasing};
 ghost use Rattle.rust_items.specs.LineEnds as spec;
 
 use crate::log::{ItemSpan, Problem};
+use memchr::memchr;
 use rust_paths::TextRange;
 use std::alloc::{AllocError, Global};
 
@@ -24,7 +25,7 @@ pub fn has_return(text: &str) -> bool
     ensures text { result ≡ false → spec.with_feeds text.now ≡ text.now }
     ensures returns { result ≡ false → spec.returns_from 0 text.now ≡ [] }
 {
-    match text.split_once('\r') {
+    match memchr(b'\r', text.as_bytes()) {
         Some(_) => true,
         None => false,
     }
