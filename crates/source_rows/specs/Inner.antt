@@ -1,5 +1,5 @@
 -- For the crate's own functions: rows with their labels as keys, and what of a text is passed over.
-use Rattle.std.specs.Prelude.{◌≤◌, ◌<◌, ℕ, ◌+◌, Bool, false, nat_le, length, if◌then◌else◌, List, [], ◌∷◌, Option, Some, None}
+use Rattle.std.specs.Prelude.{◌≡◌, ◌≤◌, ◌<◌, ℕ, ◌+◌, All, Bool, false, nat_le, length, if◌then◌else◌, List, [], ◌∷◌, Option, Some, None}
 use Rattle.std.specs.Borrow.{Bor}
 use Rattle.item_changes.specs.declared.matching.Keyed.{Keyed}
 use Rattle.item_changes.specs.declared.matching.Match.{Match}
@@ -43,3 +43,13 @@ left_texts left = kept left.has_docs left.holes.now left.lexer
 -- a text in front of others, if it is taken
 abbrev pub text_first : Bool → List ℕ → List (List ℕ) → List (List ℕ)
 text_first is_taken text more = if is_taken then text ∷ more else more
+
+-- the first of some parts neither begins nor ends before a place
+abbrev pub IsBefore : ℕ → List Hole → Type 0
+IsBefore place [] = Unit {0}
+IsBefore place (h ∷ hs) = (place ≤ h.start) × (place ≤ h.end)
+
+-- some parts and others leave out the same of tokens that begin before a place
+abbrev pub AreSameUntil : ℕ → List Hole → List Hole → Type 0
+AreSameUntil place holes others =
+    (has_docs : Bool) (front : List Piece) → All (λ t. t.at < place) front → kept has_docs holes front ≡ kept has_docs others front

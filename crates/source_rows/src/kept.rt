@@ -143,8 +143,52 @@ fn is_next(one: &str, left: &mut Kept<'_>) -> bool
     }
 }
 
+/// A place before which some parts neither begin nor end.
+fn beginning(holes: &[Hole]) -> usize
+    ensures { inner.IsBefore result holes.now }
+{
+    match holes {
+        [hole, ..] => hole.start.min(hole.end),
+        [] => usize::MAX,
+    }
+}
+
+/// A place before which some parts and others are the same.
+fn same_until(ours: &[Hole], theirs: &[Hole]) -> usize
+    ensures { inner.AreSameUntil result ours.now theirs.now }
+{
+    let (mut ours, mut theirs) = (ours, theirs);
+    while let [one, more @ ..] = ours {
+        let [other, others @ ..] = theirs else {
+            break;
+        };
+        if one != other {
+            break;
+        }
+        ours = more;
+        theirs = others;
+    }
+    beginning(ours).min(beginning(theirs))
+}
+
+/// Passes over tokens with which two texts go on alike.
+fn pass_same(ours: &mut Kept<'_>, theirs: &mut Kept<'_>)
+    requires ours { inner.ComeBehind 0 ours.old.lexer }
+    requires theirs { inner.ComeBehind 0 theirs.old.lexer }
+    ensures same { (inner.left_texts ours.new ≡ inner.left_texts theirs.new)
+        ↔ (inner.left_texts ours.old ≡ inner.left_texts theirs.old) }
+    ensures ours { inner.ComeBehind 0 ours.new.lexer }
+    ensures theirs { inner.ComeBehind 0 theirs.new.lexer }
+{
+    if ours.has_docs != theirs.has_docs {
+        return;
+    }
+    let place = same_until(ours.holes, theirs.holes);
+    ours.lexer.pass_same(&mut theirs.lexer, place);
+}
+
 /// Whether the same tokens are taken of two texts.
-fn are_same(mut ours: Kept<'_>, mut theirs: Kept<'_>) -> bool
+fn are_all_same(mut ours: Kept<'_>, mut theirs: Kept<'_>) -> bool
     requires ours { inner.ComeBehind 0 ours.lexer }
     requires theirs { inner.ComeBehind 0 theirs.lexer }
     ensures { IsTrue result ↔ (inner.left_texts ours.entry ≡ inner.left_texts theirs.entry) }
@@ -155,6 +199,22 @@ fn are_same(mut ours: Kept<'_>, mut theirs: Kept<'_>) -> bool
         }
     }
     next_taken(&mut theirs).is_none()
+}
+
+/// The same, where both may go on alike behind the first.
+fn are_same(mut ours: Kept<'_>, mut theirs: Kept<'_>) -> bool
+    requires ours { inner.ComeBehind 0 ours.lexer }
+    requires theirs { inner.ComeBehind 0 theirs.lexer }
+    ensures { IsTrue result ↔ (inner.left_texts ours.entry ≡ inner.left_texts theirs.entry) }
+{
+    let Some(one) = next_taken(&mut ours) else {
+        return next_taken(&mut theirs).is_none();
+    };
+    if !is_next(one, &mut theirs) {
+        return false;
+    }
+    pass_same(&mut ours, &mut theirs);
+    are_all_same(ours, theirs)
 }
 
 /// A text, told by the texts of its tokens that count and stand in none of some parts.

@@ -106,8 +106,8 @@ pub(crate) fn listed_members(
         let members = spec.listed_members a.edition a.options.now a.text.now item.now a.is_active in
         IfOk result (λ v. map listed_view v.items ≡ members) }
 {
-    let mut out = Vec::new(alloc);
     let members = members_in(alloc, item.id.kind, around.text, item.body, around.edition)?;
+    let mut out = Vec::with_capacity(alloc, members.len())?;
     for member in &members {
         push_listed(alloc, around, member, &mut out)?;
     }

@@ -3,6 +3,7 @@
 ghost use Rattle.std.specs.Prelude.{◌≡◌, ◌++◌, OnOk, string_bytes};
 ghost use Rattle.source_rows.specs.Sources.{place_text};
 
+use itoa::Buffer;
 use line_index::Position;
 use std::alloc::AllocError;
 
@@ -22,6 +23,10 @@ pub fn push_place(path: &str, position: Position, out: &mut String) -> Result<()
     ensures { OnOk result (string_bytes out.new ≡ string_bytes out.old
         ++ place_text path.now position) }
 {
-    let (line, column) = (position.line, position.column);
-    write!(out, "{path}:{line}:{column}: ")
+    out.push_str(path)?;
+    out.push_str(":")?;
+    out.push_str(Buffer::new().format(position.line))?;
+    out.push_str(":")?;
+    out.push_str(Buffer::new().format(position.column))?;
+    out.push_str(": ")
 }

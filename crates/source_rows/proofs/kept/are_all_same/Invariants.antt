@@ -1,6 +1,6 @@
 use Rattle.std.proofs.Common.{◌≡◌, ◌↔◌, length}
 use Rattle.source_rows.specs.Inner.{ComeBehind, left_texts}
-use Rattle.source_rows.proofs.kept.are_same.Given as goal
+use Rattle.source_rows.proofs.kept.are_all_same.Given as goal
 
 abbrev pub invariant-texts : goal.invariant-texts
 invariant-texts l = record {

@@ -1,0 +1,81 @@
+-- What two texts go on with alike counts alike.
+use Rattle.std.proofs.Common.{◌≡◌, ◌↔◌, ◌≤◌, ◌<◌, ◌+◌, ◌-◌, ◌++◌, ℕ, Bool, false, List, [], ◌∷◌, length, All, refl, sym, ap, ◌∙◌, arith, nat_le, append_assoc, drop, get_or, not, subst, take, true}
+use Rattle.std.specs.Bool.{beq}
+use Rattle.std.proofs.lemmas.List.{append_cancel_left, take_rest}
+use Rattle.std.proofs.lemmas.List.Elements.{All-head, All-tail}
+use Rattle.rust_lexer.specs.Piece.{Piece}
+use Rattle.rust_lexer.specs.Tokens.{ArePassed}
+use Rattle.rust_lexer.proofs.Counted.{when}
+use Rattle.source_rows.specs.Inner.{AreSameUntil, ComeBehind, IsBefore}
+use Rattle.source_rows.specs.Skeletons.{kept, not_over, text_if_kept}
+use Rattle.source_rows.specs.declared.kept.Hole.{Hole}
+use Rattle.source_rows.proofs.Common.{nat_tests}
+use Rattle.source_rows.proofs.Texts.{hole_told, is_hole}
+use Rattle.source_rows.proofs.Holes.{kept_later, sooner}
+
+-- ---- parts
+
+kept_before : (docs : Bool) (place : ℕ) (holes : List Hole) (front : List Piece) → IsBefore place holes → All (λ t. t.at < place) front → kept docs holes front ≡ kept docs [] front
+kept_before docs place [] front b a = refl
+kept_before docs place (h ∷ hs) [] b a = refl
+kept_before docs place (h ∷ hs) (t ∷ ts) b a =
+    let first = All-head (λ t. t.at < place) t ts a in
+    let over : nat_le h.end t.at ≡ false = grind (arith, nat_tests) in
+    let begun : nat_le h.start t.at ≡ false = grind (arith, nat_tests) in
+    rw (over, begun) (ap (λ l. text_if_kept docs [] t ++ l) (kept_before docs place (h ∷ hs) ts b (All-tail (λ t. t.at < place) t ts a)))
+
+pub nearer : (place further : ℕ) (holes : List Hole) → place ≤ further → IsBefore further holes → IsBefore place holes
+nearer place further [] le b = tt
+nearer place further (h ∷ hs) le b = (omega (arith, le, b.0), omega (arith, le, b.1))
+
+-- none of them comes before the place
+pub same_before : (place : ℕ) (holes others : List Hole) → IsBefore place holes → IsBefore place others → AreSameUntil place holes others
+same_before place holes others b b' docs front a = kept_before docs place holes front b a ∙ sym (kept_before docs place others front b' a)
+
+same_first : (h : Hole) (place : ℕ) (hs ks : List Hole) → AreSameUntil place hs ks → AreSameUntil place (h ∷ hs) (h ∷ ks)
+same_first h place hs ks same docs [] a = refl
+same_first h place hs ks same docs (t ∷ ts) a =
+    when (nat_le h.end t.at)
+    (λ e. rw e (same docs (t ∷ ts) a))
+    (λ e. rw e (ap (λ l. text_if_kept docs (h ∷ hs) t ++ l) (same_first h place hs ks same docs ts (All-tail (λ t. t.at < place) t ts a))))
+
+-- and the rest of both is the same so far
+pub same_turn : (place : ℕ) (hs ks : List Hole) (none : Hole) (differ : Bool) → 1 ≤ length hs → 1 ≤ length ks → differ ≡ not (is_hole (get_or hs 0 none) (get_or ks 0 none)) → differ ≡ false
+    → AreSameUntil place (take (length hs - 1) (drop 1 hs)) (take (length ks - 1) (drop 1 ks)) → AreSameUntil place hs ks
+same_turn place [] ks none differ some some' is e same = absurd (omega (arith, some))
+same_turn place (h ∷ hs) [] none differ some some' is e same = absurd (omega (arith, some'))
+same_turn place (h ∷ hs) (k ∷ ks) none differ some some' is e same =
+    subst (λ l. AreSameUntil place (h ∷ hs) (l ∷ ks)) (hole_told h k (sym is ∙ e))
+    (same_first h place hs ks (subst (AreSameUntil place hs) (take_rest (k ∷ ks) 1) (subst (λ l. AreSameUntil place l (take (length (k ∷ ks) - 1) (drop 1 (k ∷ ks)))) (take_rest (h ∷ hs) 1) same)))
+
+-- ---- tokens
+
+pub come_behind : (place : ℕ) (front ts : List Piece) → ComeBehind place (front ++ ts) → ComeBehind place ts
+come_behind place [] ts b = b
+come_behind place (t ∷ front) ts b = sooner place (t.at + length t.text) ts (omega (arith, b.0)) (come_behind (t.at + length t.text) front ts b.1.1)
+
+kept_append : (docs : Bool) (holes : List Hole) (place : ℕ) (front ts : List Piece) → ComeBehind place (front ++ ts) → kept docs holes (front ++ ts) ≡ kept docs holes front ++ kept docs holes ts
+kept_append docs holes place [] ts b = refl
+kept_append docs holes place (t ∷ front) ts b =
+    let left = not_over t.at holes in
+    let next = t.at + length t.text in
+    ap (λ l. text_if_kept docs left t ++ l) (kept_append docs left next front ts b.1.1
+    ∙ ap (λ l. kept docs left front ++ l) (kept_later docs t.at next holes ts (omega arith) (come_behind next front ts b.1.1)))
+    ∙ sym (append_assoc (text_if_kept docs left t) (kept docs left front) (kept docs holes ts))
+
+-- the same is left of both where the same is passed
+pub left_alike : (docs docs' : Bool) (place : ℕ) (holes others : List Hole) (ts us ts' us' : List Piece) → docs ≡ docs' → AreSameUntil place holes others → ComeBehind 0 ts → ComeBehind 0 ts' → ArePassed place ts us ts' us'
+    → (kept docs holes us ≡ kept docs' others us') ↔ (kept docs holes ts ≡ kept docs' others ts')
+left_alike docs docs' place holes others ts us ts' us' e same b b' p =
+    let front = kept docs holes p.0 in
+    let ours : kept docs holes ts ≡ front ++ kept docs holes us = ap (kept docs holes) p.1 ∙ kept_append docs holes 0 p.0 us (subst (ComeBehind 0) p.1 b) in
+    let theirs : kept docs' others ts' ≡ front ++ kept docs' others us' =
+    ap (kept docs' others) p.2 ∙ kept_append docs' others 0 p.0 us' (subst (ComeBehind 0) p.2 b')
+    ∙ ap (λ d. kept d others p.0 ++ kept docs' others us') (sym e) ∙ ap (λ l. l ++ kept docs' others us') (sym (same docs p.0 p.3)) in
+    (λ k. ours ∙ ap (λ l. front ++ l) k ∙ sym theirs, λ k. append_cancel_left front _ _ (sym ours ∙ k ∙ theirs))
+
+pub same_docs : (d d' : Bool) → not (beq d d') ≡ false → d ≡ d'
+same_docs true true e = refl
+same_docs true false e = absurd cc
+same_docs false true e = absurd cc
+same_docs false false e = refl
