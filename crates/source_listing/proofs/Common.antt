@@ -33,7 +33,7 @@ unfoldable pub use Rattle.source_listing.specs.Tags.{tags_inside}
 pub use Rattle.source_listing.specs.Uses.{FilePlaces, Trees, from_place, import_spot, placed, tree_spots, use_trees_at}
 pub use Rattle.source_listing.specs.Views.{choice_view, look_view, query_view, side_view, source_view}
 pub use Rattle.source_listing.specs.declared.finder.Spot.{Spot}
-pub use Rattle.source_listing.specs.declared.lines.Printer.{Printer}
+pub use Rattle.source_listing.specs.declared.printer.Printer.{Printer}
 pub use Rattle.source_rows.specs.Listed.{Listed, MemberReading, header_of, members_of}
 pub use Rattle.source_rows.specs.ListedViews.{listed_view, reading_view}
 pub use Rattle.std.proofs.Common.{All, Bool, Bor, Decides, IfOk, List, None, Option, Some, [], ap, append-nil, append_assoc, arith, codes, false, filter, find, flat_map, get_or, if◌then◌else◌, length, length-append, length-take, lit<, map, map-id, nat_eq, nat_lt, not, option_copied, option_map, refl, rules, slice_index_or, string_bytes, subst, suc, sum_by, sym, take, take-append-drop, take-take, take_all, true, ℕ, ⊎_elim, ◌&&◌, ◌*◌, ◌++◌, ◌+◌, ◌-◌, ◌<◌, ◌==◌, ◌||◌, ◌∙◌, ◌∷◌, ◌≡◌, ◌≢◌, ◌≤◌}

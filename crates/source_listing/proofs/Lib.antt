@@ -13,3 +13,4 @@ pub mod Between
 pub mod Firsts
 pub mod AtStarts
 pub mod Named
+pub mod Shown

@@ -16,7 +16,7 @@ use Rattle.rust_ids.specs.Ids.{kind_place}
 use Rattle.rust_items.specs.declared.source_file.ItemPlace.{ItemPlace}
 use Rattle.source_rows.specs.Listed.{MemberReading}
 use Rattle.source_listing.specs.declared.json.Item as code_item
-use Rattle.source_listing.specs.declared.lines.Printer.{Printer}
+use Rattle.source_listing.specs.declared.printer.Printer.{Printer}
 use Rattle.source_listing.specs.declared.finder.Finder.{Finder}
 use Rattle.source_listing.specs.declared.finder.Spot.{Spot}
 use Rattle.source_listing.specs.declared.repeated.Named as code_named

@@ -7,7 +7,7 @@ ghost use Rattle.source_listing.specs.Inner.{IsSameFile, places_of, reserved_of,
 ghost use Rattle.source_listing.specs.Places.{AreDistinct};
 ghost use Rattle.source_listing.specs.Views.{side_view};
 
-use crate::lines::{Printer, push_name};
+use crate::printer::Printer;
 use crate::subjects::push_subject;
 use hir_input::Edition;
 use item_changes::{Change, ChangeKind, change_word, changes};
@@ -35,7 +35,7 @@ impl Printer<'_> {
         self.push_place_of(change.row.id, out)?;
         out.push_str(change_word(change.kind))?;
         out.push_str(item_word(change.row.id.kind))?;
-        push_name(self.edition, change.row.name, out)?;
+        self.push_name(change.row.name, out)?;
         push_subject(self.edition, change.row.subject, out)?;
         out.push_str("\n")
     }

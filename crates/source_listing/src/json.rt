@@ -15,7 +15,8 @@ ghost use Rattle.source_listing.specs.Places.{AreDistinct, place_of, spot_at};
 ghost use Rattle.source_listing.specs.Views.{choice_view, source_view};
 
 use crate::finder::Spot;
-use crate::lines::{Choice, Printer, push_visible_in};
+use crate::lines::{Choice, push_visible_in};
+use crate::printer::Printer;
 use crate::subjects::push_short_tree;
 use def_collector::{name_at, visibility_at};
 use hir_input::{CfgOptions, Edition, FileAstId, Name};

@@ -12,6 +12,7 @@ mod lines;
 mod outlines;
 mod pages;
 mod places;
+mod printer;
 mod problems;
 mod repeated;
 mod search;

@@ -10,9 +10,11 @@ ghost use Rattle.source_listing.specs.Places.{AreDistinct, item_place, place_of}
 ghost use Rattle.source_listing.specs.Views.{choice_view, source_view};
 
 use crate::finder::{Finder, Spot, stand_of};
+use crate::printer::{Printer, are_keywords};
 use hir_input::{Edition, FileAstId, ModPath, Name, PathKind};
 use item_tree::{ItemTree, RawVisibility, VisibilityExplicitness};
 use rust_items::ItemPlace;
+use rust_paths::may_be_keyword;
 use source_rows::{ListedMember, Reading, Source, push_place};
 use std::alloc::{AllocError, Global};
 use tree_walk::{Row, item_rows};
@@ -163,36 +165,11 @@ pub(crate) fn push_visibility(
     }
 }
 
-pub(crate) fn push_name(
-    edition: &Edition,
-    name: Option<&Name>,
-    out: &mut String,
-) -> Result<(), AllocError>
-    ensures { let text = spec.listed_name edition.now.reserved.items (option_copied name.entry) in
-        OnOk result (string_bytes out.new ≡ string_bytes out.old ++ text) }
-{
-    match name {
-        None => Ok(()),
-        Some(name) => {
-            let name = name.display(edition);
-            write!(out, " {name}")
-        }
-    }
-}
-
 /// The end of an item's line, which tells whether a cfg disables it.
 pub(crate) fn push_end(is_active: bool, out: &mut String) -> Result<(), AllocError>
     ensures { OnOk result (string_bytes out.new ≡ string_bytes out.old ++ spec.line_end is_active) }
 {
     out.push_str(if is_active { "\n" } else { " (inactive)\n" })
-}
-
-/// What the lines of a file are made from.
-#[derive(Drop)]
-pub(crate) struct Printer<'a> {
-    pub(crate) path: &'a str,
-    pub(crate) edition: &'a Edition,
-    pub(crate) finder: Finder<'a>,
 }
 
 impl<'a> Printer<'a> {
@@ -203,11 +180,29 @@ impl<'a> Printer<'a> {
             path: source.path,
             edition,
             finder: Finder::new(source.text, places),
+            has_keywords: are_keywords(&edition.reserved),
         }
     }
 }
 
 impl Printer<'_> {
+    /// A blank and a name, if there is one.
+    pub(crate) fn push_name(&self, name: Option<&Name>, out: &mut String) -> Result<(), AllocError>
+        ensures { let text = spec.listed_name (reserved_of self.now) (option_copied name.entry) in
+            OnOk result (string_bytes out.new ≡ string_bytes out.old ++ text) }
+    {
+        let Some(name) = name else {
+            return Ok(());
+        };
+        out.push_str(" ")?;
+        // Most names are told to be no reserved words by a quick test.
+        if self.has_keywords && !may_be_keyword(name.text()) {
+            return out.push_str(name.text());
+        }
+        let name = name.display(self.edition);
+        write!(out, "{name}")
+    }
+
     /// Where something stands in the file.
     pub(crate) fn push_at(&mut self, at: Option<usize>, out: &mut String) -> Result<(), AllocError>
         ensures text { OnOk result (string_bytes out.new ≡ string_bytes out.old

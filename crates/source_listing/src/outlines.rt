@@ -13,7 +13,8 @@ ghost use Rattle.source_listing.specs.Views.{look_view, source_view};
 
 use crate::colors::{BOLD, CYAN, FAINT, USUAL, push_color, push_colored};
 use crate::finder::stand_of;
-use crate::lines::{Choice, Printer, push_end, push_indent, push_name, push_visibility};
+use crate::lines::{Choice, push_end, push_indent, push_visibility};
+use crate::printer::Printer;
 use crate::subjects::push_subject;
 use hir_input::{CfgOptions, Edition, Name};
 use item_tree::ItemTree;
@@ -42,28 +43,28 @@ fn push_header(header: &str, out: &mut String) -> Result<(), AllocError>
     out.push_str(header)
 }
 
-/// What follows the word of a kind, bold if colours are wanted.
-#[tactic(auto, unfolding(crate::specs::Colors::colored))]
-fn push_title(
-    is_colored: bool,
-    edition: &Edition,
-    header: &str,
-    name: Option<&Name>,
-    subject: Subject<'_>,
-    out: &mut String,
-) -> Result<(), AllocError>
-    ensures { let text = spec.title edition.now.reserved.items header.now
-        (option_copied name.entry) (subject_view subject.entry) in
-        OnOk result (string_bytes out.new ≡ string_bytes out.old ++ colored is_colored bold text) }
-{
-    push_color(is_colored, BOLD, out)?;
-    push_header(header, out)?;
-    push_name(edition, name, out)?;
-    push_subject(edition, subject, out)?;
-    push_color(is_colored, USUAL, out)
-}
-
 impl Printer<'_> {
+    /// What follows the word of a kind, bold if colours are wanted.
+    #[tactic(auto, unfolding(crate::specs::Colors::colored))]
+    fn push_title(
+        &self,
+        is_colored: bool,
+        header: &str,
+        name: Option<&Name>,
+        subject: Subject<'_>,
+        out: &mut String,
+    ) -> Result<(), AllocError>
+        ensures { let text = spec.title (reserved_of self.now) header.now
+            (option_copied name.entry) (subject_view subject.entry) in
+            OnOk result (string_bytes out.new ≡ string_bytes out.old ++ colored is_colored bold text) }
+    {
+        push_color(is_colored, BOLD, out)?;
+        push_header(header, out)?;
+        self.push_name(name, out)?;
+        push_subject(self.edition, subject, out)?;
+        push_color(is_colored, USUAL, out)
+    }
+
     /// Where something stands, faint if colours are wanted, and four blanks for each level.
     #[tactic(auto, unfolding(crate::specs::Colors::colored))]
     fn push_head(
@@ -100,7 +101,7 @@ impl Printer<'_> {
         self.push_head(is_colored, stand_of(place), row.level, out)?;
         push_visibility(self.edition, row.visibility, out)?;
         push_colored(is_colored, CYAN, item_word(row.id.kind), out)?;
-        push_title(is_colored, self.edition, header, row.name, row.subject, out)?;
+        self.push_title(is_colored, header, row.name, row.subject, out)?;
         push_end(row.is_active, out)
     }
 
@@ -122,7 +123,7 @@ impl Printer<'_> {
         out.push_str("    ")?;
         push_visibility(self.edition, Some(&member.visibility), out)?;
         push_colored(is_colored, CYAN, member_word(member.kind), out)?;
-        push_title(is_colored, self.edition, "", name, Subject::Nothing, out)?;
+        self.push_title(is_colored, "", name, Subject::Nothing, out)?;
         push_end(member.is_active, out)
     }
 
@@ -206,7 +207,8 @@ pub fn outline(
         options: members,
     };
     let mut printer = Printer::new(source, places, edition);
-    let mut out = String::new(alloc);
+    // Most outlines take less room than a quarter of their texts.
+    let mut out = String::with_capacity(alloc, source.text.len() / 4)?;
     let rows = look.choice.rows(alloc, tree)?;
     for row in &rows {
         printer.push_whole(alloc, reading, look, row, &mut out)?;

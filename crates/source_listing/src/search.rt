@@ -11,7 +11,7 @@ ghost use Rattle.source_listing.specs.Places.{AreDistinct};
 ghost use Rattle.source_listing.specs.Views.{query_view, source_view};
 
 use crate::finder::stand_of;
-use crate::lines::{Printer, push_name};
+use crate::printer::Printer;
 use hir_input::{CfgOptions, Edition, Name};
 use item_tree::ItemTree;
 use rust_items::ItemPlace;
@@ -153,7 +153,7 @@ impl Printer<'_> {
     {
         self.push_at(at, out)?;
         out.push_str(word)?;
-        push_name(self.edition, name, out)?;
+        self.push_name(name, out)?;
         out.push_str("\n")
     }
 

@@ -1,5 +1,5 @@
 use Rattle.source_listing.proofs.Common.{◌≡◌, ◌++◌, map, take, string_bytes, flat_map, listed_view, member_line, IsSameFile, file_of, reserved_of}
-use Rattle.source_listing.proofs.lines.Printer.push_members.Given as goal
+use Rattle.source_listing.proofs.printer.Printer.push_members.Given as goal
 
 abbrev pub invariant-loop-member : goal.invariant-loop-member
 invariant-loop-member l = record {

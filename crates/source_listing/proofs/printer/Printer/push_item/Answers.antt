@@ -3,7 +3,7 @@ use Rattle.tree_walk.specs.Views.{subject_view}
 use Rattle.source_listing.specs.Colors.{bold, colored, cyan, faint}
 use Rattle.source_listing.specs.Lines as spec
 use Rattle.source_listing.proofs.Pushed.{line_pushed}
-use Rattle.source_listing.proofs.lines.Printer.push_item.Goals as goal
+use Rattle.source_listing.proofs.printer.Printer.push_item.Goals as goal
 
 pub returns-clause-text : goal.returns-clause-text
 returns-clause-text c =

@@ -1,5 +1,5 @@
 use Rattle.source_listing.proofs.Common.{◌≡◌, ◌++◌, map, take, string_bytes, option_copied, row_view, listed_view, IsSameFile, file_of, reserved_of, query_view, found_members}
-use Rattle.source_listing.proofs.lines.Printer.push_found_members.Given as goal
+use Rattle.source_listing.proofs.printer.Printer.push_found_members.Given as goal
 
 abbrev pub invariant-loop-member : goal.invariant-loop-member
 invariant-loop-member l = record {
