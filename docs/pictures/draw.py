@@ -1,12 +1,12 @@
 #!/usr/bin/env python3
 """Draws the README's two pictures from a real run: draw.py ITEMTREE, the built program. It needs rsvg-convert (librsvg2-bin).
 
-outline.png is a file in an editor with its outline beside it; edit.png is the way of two edits through a session.
+outline.png is a file in an editor with its outline beside it; edit.png is what `changed` says of two edits.
 """
-import json
 import pathlib
 import subprocess
 import sys
+import tempfile
 from xml.sax.saxutils import escape
 
 HERE = pathlib.Path(__file__).resolve().parent
@@ -63,39 +63,37 @@ def draw_outline(program):
 
 
 def draw_edit(program):
-    old = "fn area(a: u32) -> u32 {\n    a * a\n}\n"
-    typed, opened = old.replace("a * a", "a * a + 0"), "pub " + old.replace("a * a", "a * a + 0")
-    lines = [{"edits": [{"edit": "set_text", "file": 0, "text": text}], "shows": [{"show": "changed", "since": since}]} for text, since in [(old, 0), (typed, 1), (opened, 2)]]
-    lines[0]["crates"] = [{"root": 0}]
-    sent = "".join(json.dumps(it) + "\n" for it in lines)
-    said = subprocess.run([program, "serve"], input=sent, capture_output=True, text=True, check=True).stdout.splitlines()
-    shown = [json.loads(it) for it in said]
-    changes = [it["shows"][0].strip() or "nothing changed" for it in shown]
-    steps = [("text", "what is sent"), ("syntax", "items, bodies as texts"), ("tree", "items without bodies"), ("answer", "changed since the last edit")]
-    picture = Picture(1056, 440)
-    for at, (name, what) in enumerate(steps):
-        x = 16 + 262 * at
-        picture.text(x, 24, name, INK, "bold")
-        picture.text(x, 41, what, PALE)
-    trees = ["fn area", "fn area", "pub fn area"]
-    bodies = ["a * a", "a * a + 0", "a * a + 0"]
-    for row, text in enumerate([old, typed, opened]):
-        y = 56 + 126 * row
-        is_new = row != 1
-        for at in range(4):
-            picture.box(16 + 262 * at, y, 238, 100, "#ffffff", GREEN if at > 1 and not is_new else EDGE)
-            if at:
-                picture.line([(16 + 262 * at - 24, y + 50), (16 + 262 * at, y + 50)])
-        for at, line in enumerate(text.splitlines()):
-            before = (old, old, typed)[row].splitlines()[at]
-            picture.text(28, y + 28 + HIGH * at, line, INK if not row or line == before else RED)
-        picture.text(290, y + 28, trees[row], RED if row == 2 else INK)
-        picture.text(290, y + 28 + HIGH, "body", PALE)
-        picture.text(290 + 5 * WIDE, y + 28 + HIGH, f"{{ {bodies[row]} }}", RED if row == 1 else INK)
-        picture.text(552, y + 28, trees[row], RED if row == 2 else INK)
-        picture.text(552, y + 28 + 2 * HIGH, "equal: the old one stays" if not is_new else "new", GREEN if not is_new else PALE)
-        for at, part in enumerate((changes[row].replace(" change ", "\nchange ")).split("\n")):
-            picture.text(814, y + 28 + HIGH * at, part, GREEN if not is_new else INK)
+    old = FILE.read_text()
+    typed = old.replace("sides[0] *", "sides[1] *")
+    opened = old.replace("fn area(sides", "pub fn area(sides")
+    with tempfile.TemporaryDirectory() as folder:
+        at = pathlib.Path(folder)
+        (at / FILE.name).write_text(old)
+        answers = []
+        for name, text in (("typed.rs", typed), ("opened.rs", opened)):
+            (at / name).write_text(text)
+            done = subprocess.run([program, "changed", FILE.name, name], cwd=folder, capture_output=True, text=True, check=False)
+            answers.append((name, done.stdout.strip(), done.returncode))
+    picture = Picture(1056, 336)
+    shown = old.splitlines()[-3:]
+    heads = [FILE.name, "an edit inside a body", "an edit of a signature"]
+    for column, (head, text) in enumerate(zip(heads, (old, typed, opened))):
+        x = 16 + 348 * column
+        picture.text(x, 24, head, INK, "bold")
+        picture.box(x, 40, 328, 92)
+        for at, line in enumerate(text.splitlines()[-3:]):
+            picture.text(x + 12, 68 + HIGH * at, line, INK if line == shown[at] else RED)
+        if not column:
+            continue
+        name, said, status = answers[column - 1]
+        picture.line([(x + 164, 132), (x + 164, 176)])
+        picture.box(x, 176, 328, 132, "#ffffff", EDGE if status else GREEN)
+        picture.text(x + 12, 204, f"$ itemtree changed {FILE.name} {name}", PALE)
+        picture.text(x + 12, 204 + 2 * HIGH, said or "(nothing is printed)", INK if said else PALE)
+        picture.text(x + 12, 204 + 4 * HIGH, f"status {status}", RED if status else GREEN)
+    picture.text(16, 204, "What can others see of the", PALE)
+    picture.text(16, 204 + HIGH, "file? What they cannot see", PALE)
+    picture.text(16, 204 + 2 * HIGH, "is no change.", PALE)
     picture.write("edit.png")
 
 
