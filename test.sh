@@ -81,15 +81,19 @@ try_programs() {
     part 'streams' tests/streams.sh "$program"
     part 'the command line' tests/itemtree.py
     part 'the manual page' docs/man/make.py --check "$itemtree" docs/man
+    part 'edits that a dependent sees' tests/changed.py "$itemtree"
+    part 'recipes for git' tests/recipes.py "$itemtree"
     part 'the reader' tests/reader.sh "$itemtree"
     part 'deep and wide requests' tests/deep_and_wide.py "$program"
     part 'damaged requests' tests/hostile_bytes.py "$program" --seconds 60 --count "$1"
     part 'requests line by line' tests/serve.py "$itemtree" "$program" --sessions "$2"
+    part 'time that grows' tests/growth.py "$itemtree"
+    part 'freed memory' tests/freed_memory.py "$itemtree"
     part 'refused memory' tests/refused_memory.sh "$program" "$outlines" "$itemtree" "${tests[@]}"
 }
 
 [ "$(uname -sm)" = 'Linux x86_64' ] || lack "the tests need Linux on x86-64, and this is $(uname -sm)"
-needed_ones=(python3 cc) is_quick=
+needed_ones=(python3 cc git) is_quick=
 case $* in
     '') needed_ones+=(rt) ;;
     --quick) is_quick=1 ;;
@@ -105,7 +109,7 @@ if [ -n "$is_quick" ]; then
     mapfile -t tests < <(find "${tests[@]}" -executable 2> /dev/null)
 fi
 
-planned=$((is_quick ? 16 : 18))
+planned=$((is_quick ? 20 : 22))
 part 'the closed words' tests/closed_words.sh
 part 'words with one meaning' tests/one_meaning.py
 part 'the length of documents' tests/sentences.py
