@@ -15,7 +15,7 @@ use Rattle.def_collector.specs.Inner.Declared.{own_from, declared_from, own_defi
 -- ---- the declarations of ids are those of the nodes that they stand for
 
 module _ (u : Unfolding) where
-  pub forest_from : (path : List (List ℕ)) (is : List ℕ) (f : Forest) → StandFor u is f → flat_map (declared_from u path) is ≡ declared_in u path is f
+  forest_from : (path : List (List ℕ)) (is : List ℕ) (f : Forest) → StandFor u is f → flat_map (declared_from u path) is ≡ declared_in u path is f
   forest_from path [] empty e = refl
   forest_from path [] (more n f) e = refl
   forest_from path (i ∷ is) empty e = absurd (cc)
@@ -25,21 +25,21 @@ module _ (u : Unfolding) where
       rw (of_id_is u [] (node_declared u path i) i n first, forest_from path is f others) refl
 
 module _ {u : Unfolding} {i : ℕ} {a : FileAstId} (path : List (List ℕ)) where
-  pub leaf_from : {l : Leaf ℕ} → IsLeaf u i a l → declared_from u path i ≡ own_from u path i
+  leaf_from : {l : Leaf ℕ} → IsLeaf u i a l → declared_from u path i ≡ own_from u path i
   leaf_from {l} p = leaf_of_id u [] (node_declared u path i) i a l p ∙ sym (leaf_of_id u [] (λ n. with_id i (declaration_of path n (node_declares n))) i a l p)
 
-  pub parent_from : {t : Trunk ℕ} {is : List ℕ} (p : IsParent u i a t is) → declared_from u path i ≡ own_from u path i ++ flat_map (declared_from u (path_below path p.item)) is
+  parent_from : {t : Trunk ℕ} {is : List ℕ} (p : IsParent u i a t is) → declared_from u path i ≡ own_from u path i ++ flat_map (declared_from u (path_below path p.item)) is
   parent_from {t} {is} p =
       let below : List (List ℕ) = path_below path p.item in
       parent_of_id u [] (node_declared u path i) i a t is p
       ∙ ap (λ ds. with_id i (declaration_of path (parent p.head p.item p.below) (node_declares (parent p.head p.item p.below))) ++ ds) (ap (λ js. declared_in u below js p.below) (sym p.ids) ∙ sym (forest_from u below is p.below p.children))
       ∙ ap (λ ds. ds ++ flat_map (declared_from u below) is) (sym (parent_of_id u [] (λ n. with_id i (declaration_of path n (node_declares n))) i a t is p))
 
-pub inline_path : (u : Unfolding) (path : List (List ℕ)) (n : List ℕ) (v : ℕ) (t : Trunk RawVisibility) → trunk_map (vis_at u.forest) (inline n v) ≡ trunk_map Some t → path_below path t ≡ path ++ n ∷ []
+inline_path : (u : Unfolding) (path : List (List ℕ)) (n : List ℕ) (v : ℕ) (t : Trunk RawVisibility) → trunk_map (vis_at u.forest) (inline n v) ≡ trunk_map Some t → path_below path t ≡ path ++ n ∷ []
 inline_path u path n v (inline m w) e = let q : n ≡ m = cc in ap (λ n. path ++ n ∷ []) (sym q)
 inline_path u path n v extern_block e = absurd (cc)
 
-pub block_path : (u : Unfolding) (path : List (List ℕ)) (t : Trunk RawVisibility) → trunk_map (vis_at u.forest) extern_block ≡ trunk_map Some t → path_below path t ≡ path
+block_path : (u : Unfolding) (path : List (List ℕ)) (t : Trunk RawVisibility) → trunk_map (vis_at u.forest) extern_block ≡ trunk_map Some t → path_below path t ≡ path
 block_path u path (inline m w) e = absurd (cc)
 block_path u path extern_block e = refl
 
@@ -115,10 +115,10 @@ module _ (u : Unfolding) where
   all_those : AreThose (flat_map (ids_from u) (top_ids u)) (declarations u.forest) (declared_at u)
   all_those = forest_those u.forest [] (top_ids u) (tops_stand u)
 
-  pub declared_ids : map (λ d. d.0) (declared_at u) ≡ filter (is_declaring u) (all_ids u)
+  declared_ids : map (λ d. d.0) (declared_at u) ≡ filter (is_declaring u) (all_ids u)
   declared_ids = all_those.ids ∙ ap (filter (is_declaring u)) (sym (each_walked_once u).top)
 
-  pub declared_alone : map (λ d. d.1) (declared_at u) ≡ declarations u.forest
+  declared_alone : map (λ d. d.1) (declared_at u) ≡ declarations u.forest
   declared_alone = all_those.declarations
 
   -- ---- and of what is collected

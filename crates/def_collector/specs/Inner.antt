@@ -1,3 +1,2 @@
 -- Words that private contracts alone cite.
 pub mod Declared
-pub mod Imports

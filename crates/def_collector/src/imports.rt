@@ -1,7 +1,5 @@
-//! Lists the imports of a use by the public calls of `item_tree` alone, also with the use trees that they are written as,
-//! and finds those that repeat an earlier one.
-
-ghost use Rattle.std.specs.Prelude.{◌≡◌, ◌+◌, ◌<◌, ◌^◌, ◌++◌, [], ◌∷◌, false, length, map, IfOk};
+//! Lists the imports of a use by the public calls of `item_tree` alone.
+ghost use Rattle.std.specs.Prelude.{◌≡◌, ◌++◌, [], ◌∷◌, false, map, IfOk};
 ghost use Rattle.item_tree.specs.Imports.{imports};
 ghost use Rattle.item_tree.specs.Calls.{import};
 ghost use Rattle.def_collector.specs.Listed.{listed_import};
@@ -17,20 +15,6 @@ pub struct Listed {
     pub path: ModPath,
     pub kind: ImportKind,
     pub alias: Option<ImportAlias>,
-}
-
-/// How many imports a use has.
-///
-/// # Errors
-///
-/// Only if memory runs out.
-pub fn count_imports(alloc: Global, item: &Use) -> Result<u32, AllocError>
-    ensures { IfOk result (λ count. count ≡ length (imports item.now.tree)) }
-{
-    let _tree = item.use_tree();
-    let mut count = 0;
-    item.expand(alloc, &mut |_index, _path, _kind, _alias| count += 1)?;
-    Ok(count)
 }
 
 /// The imports of a use, in order.

@@ -1,8 +1,6 @@
-//! What the file with an item of each kind declares, and an item found by its path.
+//! What the file with an item of each kind declares.
 use crate::lowered::{is_right, tree_of_all_kinds};
-use crate::samples::words::name;
-use def_collector::{Declaration, Declares, collect, find};
-use hir_input::Name;
+use def_collector::{Declaration, Declares, collect};
 use item_tree::{ItemTree, LowerError};
 use std::alloc::{AllocError, Global};
 
@@ -63,31 +61,4 @@ fn are_collected(alloc: Global) -> Result<bool, LowerError> {
 #[test]
 fn declarations_are_whole_or_refused_when_memory_is_refused(rt: HostRuntime) {
     assert!(rt; is_right(are_collected(rt.alloc())));
-}
-
-// These two names.
-fn path(alloc: Global, first: &str, last: &str) -> Result<Vec<Name>, AllocError> {
-    let mut names = Vec::new(alloc);
-    for text in [first, last] {
-        if let Some(name) = name(alloc, text)? {
-            names.push(name)?;
-        }
-    }
-    Ok(names)
-}
-
-// Whether `m::f` is found, and `n::f` is not.
-fn is_function_found(alloc: Global) -> Result<bool, LowerError> {
-    let tree = tree_of_all_kinds(alloc)?;
-    let names = path(alloc, "m", "f")?;
-    let others = path(alloc, "n", "f")?;
-    match find(&tree, &names) {
-        Some(id) => Ok(id.ast_id(&tree).hash == 2 && find(&tree, &others).is_none()),
-        None => Ok(false),
-    }
-}
-
-#[test]
-fn an_item_is_found_by_its_path_when_memory_is_refused(rt: HostRuntime) {
-    assert!(rt; is_right(is_function_found(rt.alloc())));
 }

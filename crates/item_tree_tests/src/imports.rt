@@ -1,7 +1,7 @@
 //! The imports of `use a::{*, self as b, {c, {d::*}}};`, called for and listed, and those of as many supers as fit.
 use crate::lowered::{first_use, is_right, tree_of_all_kinds, tree_of_use};
 use crate::samples::use_trees::{below, leaf};
-use def_collector::{Listed, count_imports, list_imports};
+use def_collector::{Listed, list_imports};
 use hir_input::ast::UseTree;
 use hir_input::{ModPath, PathKind};
 use item_tree::{ImportAlias, ImportKind, ItemTree, LowerError, Use, UseTreeIdx};
@@ -84,28 +84,23 @@ fn show(alloc: Global, imports: &[Listed]) -> Result<String, AllocError> {
     Ok(text)
 }
 
-// Whether the imports of the first use are so many, and listed so.
-fn are_listed(
-    alloc: Global,
-    tree: &ItemTree,
-    count: u32,
-    wanted: &str,
-) -> Result<bool, LowerError> {
+// Whether the imports of the first use are listed so.
+fn are_listed(alloc: Global, tree: &ItemTree, wanted: &str) -> Result<bool, LowerError> {
     let Some(item) = first_use(tree) else {
         return Ok(false);
     };
     let imports = list_imports(alloc, item)?;
     let text = show(alloc, imports.as_slice())?;
-    Ok(count_imports(alloc, item)? == count && text.as_str() == wanted)
+    Ok(text.as_str() == wanted)
 }
 
 fn are_all_listed(alloc: Global) -> Result<bool, LowerError> {
     let tree = tree_of_all_kinds(alloc)?;
-    are_listed(alloc, &tree, 4, CALLS)
+    are_listed(alloc, &tree, CALLS)
 }
 
 #[test]
-fn imports_are_counted_and_listed(rt: HostRuntime) {
+fn imports_are_listed(rt: HostRuntime) {
     assert!(rt; are_all_listed(rt.alloc()).unwrap_or(false));
 }
 
@@ -121,7 +116,7 @@ const OF_SUPERS: &str =
 
 fn are_supers_listed(alloc: Global) -> Result<bool, LowerError> {
     let tree = tree_of_use(alloc, most_supers(alloc)?)?;
-    are_listed(alloc, &tree, 1, OF_SUPERS)
+    are_listed(alloc, &tree, OF_SUPERS)
 }
 
 #[test]

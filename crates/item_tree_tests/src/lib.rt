@@ -64,5 +64,3 @@ mod trees;
 mod use_trees;
 #[cfg(test)]
 mod values;
-#[cfg(test)]
-mod written_imports;

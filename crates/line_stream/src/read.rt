@@ -9,7 +9,7 @@ use crate::line::Line;
 use std::alloc::Global;
 use std::io::{BufRead, ErrorKind};
 
-const MOST_READS: u64 = u64::MAX;
+pub(crate) const MOST_READS: u64 = u64::MAX;
 
 // The next line of a reader.
 #[derive(Drop)]

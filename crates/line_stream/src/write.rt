@@ -10,7 +10,7 @@ use crate::service::Service;
 use std::alloc::Global;
 use std::io::{ErrorKind, Write};
 
-const MOST_WRITES: u64 = u64::MAX;
+pub(crate) const MOST_WRITES: u64 = u64::MAX;
 
 // The whole text, or after a failed write a beginning of it.
 fn write_whole<W: Write>(output: &mut W, text: &[u8]) -> Result<(), StreamError>

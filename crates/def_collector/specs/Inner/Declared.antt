@@ -1,9 +1,8 @@
 -- For the crate's own functions: what is declared by the ids of items, and by items that are lent.
-use Rattle.std.specs.Prelude.{ℕ, Bool, false, List, [], ◌∷◌, map, Option, option_map, slice_get}
-use Rattle.std.specs.{List.flat_map, Option.option_map_or}
+use Rattle.std.specs.Prelude.{ℕ, List, [], map, Option, option_map, slice_get}
 use Rattle.item_tree.specs.{Layout.leaf_vis, Layout.trunk_vis, Node.Leaf, Node.Trunk, Node.Unfolding, Shown.Lent, Shown.lent_leaf, Shown.lent_parent, Walk.of_id}
 use Rattle.def_collector.specs.Declarations.{Declared, declared_name, leaf_name, trunk_name, leaf_declares, node_declares, Declaration, declaration_of, with_id, node_declared}
-use Rattle.def_collector.specs.{DeclarationView.DeclarationView, DeclarationView.defined, Found.same_names, Found.first_named}
+use Rattle.def_collector.specs.DeclarationView.{DeclarationView, defined}
 
 -- the declaration of the item of an id alone, and all from it on down
 abbrev pub own_from : Unfolding → List (List ℕ) → ℕ → List (ℕ × Declaration)
@@ -33,16 +32,3 @@ lent_declares = lent_by leaf_declares (λ t. option_map declared_name (trunk_nam
 
 abbrev pub lent_visibility : Lent → Option ℕ
 lent_visibility = lent_by (λ l. slice_get (leaf_vis l) 0) (λ t. slice_get (trunk_vis t) 0)
-
--- ---- the first of a path of names, which begins in the module of the item of an id
-
--- of the declarations from the item of an id on down, and of those from several
-abbrev pub found_from : Unfolding → List (List ℕ) → ℕ → Option ℕ
-found_from u names i = first_named names (declared_from u [] i)
-
-abbrev pub found_among : Unfolding → List (List ℕ) → List ℕ → Option ℕ
-found_among u names is = first_named names (flat_map (declared_from u []) is)
-
--- whether the names are an item's alone, where it has one
-abbrev pub is_named : List (List ℕ) → Option (List ℕ) → Bool
-is_named names name = option_map_or (λ n. same_names names (n ∷ [])) name false
