@@ -32,30 +32,35 @@ MOST_MEMORY = 4 << 30
 COMMANDS = ('outline', 'check', 'changed')
 
 PATTERNS = [
-    '::a', 'a::', 'crate::', ';struct S(', 'use *struct S(', 'struct S(pub(in a::b) ', 'mod m {', 'mod m { fn f() {',
-    '{', '}', '(', ')', '[', ']', '<', '>', '{}', '()', '[]', '<>', ';', ',', ':', '::', '#', '!', '=', '=>', '->', '&', '*', '+', '-', '/', '|', '?',
-    '.', '..', '@', '$', '~', '\\', '^', '%', '"', "'", '`', "'a ", "'a'", '"b" ', 'r#"', '"#', 'r"', "b'", "'\\", '//', '/*', '*/', '/**/', '///\n', '//!\n',
-    '/**', '/*!', '\n', '\r', '\r\n', ' ', '\t', '\ufeff', '\u00e9', '\u2028', '\0', '---\n', '#!', '#!\n', 'a ', 'a', '_ ', 'r#a ', '0 ', '1.', '1e', '0x', "0'",
-    '#[a]', '#![a]', '#[', '#![', '#[a(', '#[cfg(', '#[cfg(not(', '#[cfg_attr(a, ', '#[doc = "a"]', '#[a = "', '#[a::',
-    'pub ', 'pub(', 'pub(crate) ', 'pub(in a::b) ', 'unsafe ', 'const ', 'async ', 'extern ', 'extern "C" ', 'extern "C" {', 'static ', 'default ', 'auto ', 'safe ', 'gen ',
-    'fn ', 'fn f', 'fn f(', 'fn f() ', 'fn f() {', 'fn f();', 'fn f<', 'fn f() where ', 'struct ', 'struct S ', 'struct S {', 'struct S;', 'struct S<', 'enum E {', 'enum E { A ',
-    'union U {', 'trait T {', 'trait T: ', 'impl ', 'impl S {', 'impl T for S {', 'impl<', 'type A ', 'type A = ', 'const A: u8 = ', 'static A: u8 = {', 'use ', 'use a::{',
-    'use a::', 'use a as ', 'use {', 'use *', 'use a;', 'mod ', 'mod m;', 'mod m {}', 'extern crate ', 'macro_rules! ', 'macro_rules! m {', 'macro_rules! m { () => {', 'macro m ',
-    'm!', 'm! {', 'm!(', 'm![', 'm!();', 'a::m!(', '!m', 'where ', 'where A: ', 'for ', 'for<', "for<'a> ", 'in ', 'as ', 'dyn ', 'self ', 'Self ', 'super::', 'crate ', 'let a = ',
-    'let a = {', 'if ', 'if a {', 'else ', 'match a {', 'match ', 'loop {', 'while ', 'return ', 'break ', 'move ', 'move || ', '|a| ', '|| ', 'unsafe {', 'const {', 'async {',
-    '{ ;', '{ a', '({', '[{', '<{', '{(', '(}', '{)', 'A<{', 'a: u8, ', 'A(', 'A {', 'A = ', 'A<', '= {', ': [', '-> [', '<<<<<<< ', '=======\n', '>>>>>>> ',
+    '::a', 'a::', 'crate::', ';struct S(', 'use *struct S(', 'struct S(pub(in a::b) ', 'mod m {', 'mod m { fn f() {', '{', '}', '(', ')', '[', ']',
+    '<', '>', '{}', '()', '[]', '<>', ';', ',', ':', '::', '#', '!', '=', '=>', '->', '&', '*', '+', '-', '/', '|', '?', '.', '..', '@', '$', '~',
+    '\\', '^', '%', '"', "'", '`', "'a ", "'a'", '"b" ', 'r#"', '"#', 'r"', "b'", "'\\", '//', '/*', '*/', '/**/', '///\n', '//!\n', '/**', '/*!',
+    '\n', '\r', '\r\n', ' ', '\t', '\ufeff', '\u00e9', '\u2028', '\0', '---\n', '#!', '#!\n', 'a ', 'a', '_ ', 'r#a ', '0 ', '1.', '1e', '0x', "0'",
+    '#[a]', '#![a]', '#[', '#![', '#[a(', '#[cfg(', '#[cfg(not(', '#[cfg_attr(a, ', '#[doc = "a"]', '#[a = "', '#[a::', 'pub ', 'pub(', 'pub(crate) ',
+    'pub(in a::b) ', 'unsafe ', 'const ', 'async ', 'extern ', 'extern "C" ', 'extern "C" {', 'static ', 'default ', 'auto ', 'safe ', 'gen ', 'fn ',
+    'fn f', 'fn f(', 'fn f() ', 'fn f() {', 'fn f();', 'fn f<', 'fn f() where ', 'struct ', 'struct S ', 'struct S {', 'struct S;', 'struct S<',
+    'enum E {', 'enum E { A ', 'union U {', 'trait T {', 'trait T: ', 'impl ', 'impl S {', 'impl T for S {', 'impl<', 'type A ', 'type A = ',
+    'const A: u8 = ', 'static A: u8 = {', 'use ', 'use a::{', 'use a::', 'use a as ', 'use {', 'use *', 'use a;', 'mod ', 'mod m;', 'mod m {}',
+    'extern crate ', 'macro_rules! ', 'macro_rules! m {', 'macro_rules! m { () => {', 'macro m ', 'm!', 'm! {', 'm!(', 'm![', 'm!();', 'a::m!(', '!m',
+    'where ', 'where A: ', 'for ', 'for<', "for<'a> ", 'in ', 'as ', 'dyn ', 'self ', 'Self ', 'super::', 'crate ', 'let a = ', 'let a = {', 'if ',
+    'if a {', 'else ', 'match a {', 'match ', 'loop {', 'while ', 'return ', 'break ', 'move ', 'move || ', '|a| ', '|| ', 'unsafe {', 'const {',
+    'async {', '{ ;', '{ a', '({', '[{', '<{', '{(', '(}', '{)', 'A<{', 'a: u8, ', 'A(', 'A {', 'A = ', 'A<', '= {', ': [', '-> [', '<<<<<<< ',
+    '=======\n', '>>>>>>> ',
 ]
 
 # The texts of the gate: each part is repeated before the next one begins.
 TEXTS = [
     ('::a',), ('a::',), ('crate::',), (';struct S(',), ('use *struct S(',), ('struct S(pub(in a::b) ',), ('mod m {',), ('mod m { fn f() {',),
-    ('mod m {', '}'), ('mod m { fn f() {', '}}'), ('::a', '!'), ('a::', '{}'), ('super::',), ('a ',), ('a:: ',), ('pub(in a::b) ',), ('pub(',), ('pub ',), ('unsafe ',), ('const ',),
-    ('extern "C" {',), ('extern "C" {', '}'), ('extern ',), ('async ',), ('{',), ('(',), ('[',), ('<',), ('{', '}'), ('}', '{'), (')',), ('(}',), ('#[',), ('#![',), ('#[a]',), ('#[cfg(not(',),
-    ('#[cfg_attr(a, ',), ('#[a::',), ('"',), ("'",), ("'a ",), ('r#"',), ('/*',), ('/*', '*/'), ('//',), ('///\n',), ('\r',), ('\n',), ('---\n',), ('fn ',), ('fn f() ',), ('fn f() {',),
-    ('fn f() {', '}'), ('fn f();',), ('fn f() {}',), ('fn f<',), ('fn f() where ',), ('struct S<',), ('struct S {',), ('struct S;',), ('enum E { A ',), ('trait T {',), ('impl S {',), ('impl<',),
-    ('impl S {', '}'), ('impl S { fn f() {} }',), ('use a::{',), ('use a::{', '}'), ('use a::',), ('use {',), ('use a;',), ('macro_rules! m {',), ('m!',), ('m!(',), ('a::m!(',), ('m!();',),
-    ('let a = {',), ('const A: u8 = {',), ('static A: u8 = {',), ('type A = [',), ('where A: ',), ('for<',), ('fn f() { impl S {',), ('fn f() { extern ',), ('<<<<<<< ',), ('0x',),
-    ('pub struct S(', ')'), ('struct S(pub(in a::b) ', ')'), (';struct S(', ');'), ('mod m { use a::', '}'), ('#[a = "',), ('\u00e9',), ('=> ',), ('m! { = > }',), ('m! { /** a */ }',),
+    ('mod m {', '}'), ('mod m { fn f() {', '}}'), ('::a', '!'), ('a::', '{}'), ('super::',), ('a ',), ('a:: ',), ('pub(in a::b) ',), ('pub(',),
+    ('pub ',), ('unsafe ',), ('const ',), ('extern "C" {',), ('extern "C" {', '}'), ('extern ',), ('async ',), ('{',), ('(',), ('[',), ('<',),
+    ('{', '}'), ('}', '{'), (')',), ('(}',), ('#[',), ('#![',), ('#[a]',), ('#[cfg(not(',), ('#[cfg_attr(a, ',), ('#[a::',), ('"',), ("'",), ("'a ",),
+    ('r#"',), ('/*',), ('/*', '*/'), ('//',), ('///\n',), ('\r',), ('\n',), ('---\n',), ('fn ',), ('fn f() ',), ('fn f() {',), ('fn f() {', '}'),
+    ('fn f();',), ('fn f() {}',), ('fn f<',), ('fn f() where ',), ('struct S<',), ('struct S {',), ('struct S;',), ('enum E { A ',), ('trait T {',),
+    ('impl S {',), ('impl<',), ('impl S {', '}'), ('impl S { fn f() {} }',), ('use a::{',), ('use a::{', '}'), ('use a::',), ('use {',), ('use a;',),
+    ('macro_rules! m {',), ('m!',), ('m!(',), ('a::m!(',), ('m!();',), ('let a = {',), ('const A: u8 = {',), ('static A: u8 = {',), ('type A = [',),
+    ('where A: ',), ('for<',), ('fn f() { impl S {',), ('fn f() { extern ',), ('<<<<<<< ',), ('0x',), ('pub struct S(', ')'),
+    ('struct S(pub(in a::b) ', ')'), (';struct S(', ');'), ('mod m { use a::', '}'), ('#[a = "',), ('\u00e9',), ('=> ',), ('m! { = > }',),
+    ('m! { /** a */ }',), ('a::crate::',), ('a::', 'crate::'), (';struct S(self ',), ('super::', '$'), ('mod m { fn f() {', '['),
 ]
 passed = failed = 0
 
