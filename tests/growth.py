@@ -94,7 +94,7 @@ class Program:
     """A command of itemtree, over texts of a size."""
 
     def __init__(self, program, folder):
-        self.program, self.folder = program, folder
+        self.program, self.folder, self.counts = program, folder, shutil.which('valgrind') is not None
 
     def words(self, command, parts, size, folder):
         paths = written(folder, parts, size)
@@ -115,7 +115,7 @@ class Program:
 
     def cost(self, command, parts, size):
         """The instructions of a run, or where valgrind is not here the least of five times."""
-        if shutil.which('valgrind') is None:
+        if not self.counts:
             return min(self.seconds(command, parts, size)[0] for _ in range(5))
         with tempfile.TemporaryDirectory(dir=self.folder) as folder:
             words = self.words(command, parts, size, folder)
@@ -125,8 +125,8 @@ class Program:
 
     def growth(self, command, parts, most):
         """By how much the cost grows for twice the text, at a size that takes some time."""
-        size = 1000
-        while size < most and self.seconds(command, parts, size)[0] < COUNTED:
+        size, enough = 1000, COUNTED if self.counts else 10 * COUNTED
+        while size < most and self.seconds(command, parts, size)[0] < enough:
             size *= 2
         return self.cost(command, parts, size) / self.cost(command, parts, size // 2), size
 
