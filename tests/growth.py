@@ -32,30 +32,35 @@ MOST_MEMORY = 4 << 30
 COMMANDS = ('outline', 'check', 'changed')
 
 PATTERNS = [
-    '::a', 'a::', 'crate::', ';struct S(', 'use *struct S(', 'struct S(pub(in a::b) ', 'mod m {', 'mod m { fn f() {',
-    '{', '}', '(', ')', '[', ']', '<', '>', '{}', '()', '[]', '<>', ';', ',', ':', '::', '#', '!', '=', '=>', '->', '&', '*', '+', '-', '/', '|', '?',
-    '.', '..', '@', '$', '~', '\\', '^', '%', '"', "'", '`', "'a ", "'a'", '"b" ', 'r#"', '"#', 'r"', "b'", "'\\", '//', '/*', '*/', '/**/', '///\n', '//!\n',
-    '/**', '/*!', '\n', '\r', '\r\n', ' ', '\t', '\ufeff', '\u00e9', '\u2028', '\0', '---\n', '#!', '#!\n', 'a ', 'a', '_ ', 'r#a ', '0 ', '1.', '1e', '0x', "0'",
-    '#[a]', '#![a]', '#[', '#![', '#[a(', '#[cfg(', '#[cfg(not(', '#[cfg_attr(a, ', '#[doc = "a"]', '#[a = "', '#[a::',
-    'pub ', 'pub(', 'pub(crate) ', 'pub(in a::b) ', 'unsafe ', 'const ', 'async ', 'extern ', 'extern "C" ', 'extern "C" {', 'static ', 'default ', 'auto ', 'safe ', 'gen ',
-    'fn ', 'fn f', 'fn f(', 'fn f() ', 'fn f() {', 'fn f();', 'fn f<', 'fn f() where ', 'struct ', 'struct S ', 'struct S {', 'struct S;', 'struct S<', 'enum E {', 'enum E { A ',
-    'union U {', 'trait T {', 'trait T: ', 'impl ', 'impl S {', 'impl T for S {', 'impl<', 'type A ', 'type A = ', 'const A: u8 = ', 'static A: u8 = {', 'use ', 'use a::{',
-    'use a::', 'use a as ', 'use {', 'use *', 'use a;', 'mod ', 'mod m;', 'mod m {}', 'extern crate ', 'macro_rules! ', 'macro_rules! m {', 'macro_rules! m { () => {', 'macro m ',
-    'm!', 'm! {', 'm!(', 'm![', 'm!();', 'a::m!(', '!m', 'where ', 'where A: ', 'for ', 'for<', "for<'a> ", 'in ', 'as ', 'dyn ', 'self ', 'Self ', 'super::', 'crate ', 'let a = ',
-    'let a = {', 'if ', 'if a {', 'else ', 'match a {', 'match ', 'loop {', 'while ', 'return ', 'break ', 'move ', 'move || ', '|a| ', '|| ', 'unsafe {', 'const {', 'async {',
-    '{ ;', '{ a', '({', '[{', '<{', '{(', '(}', '{)', 'A<{', 'a: u8, ', 'A(', 'A {', 'A = ', 'A<', '= {', ': [', '-> [', '<<<<<<< ', '=======\n', '>>>>>>> ',
+    '::a', 'a::', 'crate::', ';struct S(', 'use *struct S(', 'struct S(pub(in a::b) ', 'mod m {', 'mod m { fn f() {', '{', '}', '(', ')', '[', ']',
+    '<', '>', '{}', '()', '[]', '<>', ';', ',', ':', '::', '#', '!', '=', '=>', '->', '&', '*', '+', '-', '/', '|', '?', '.', '..', '@', '$', '~',
+    '\\', '^', '%', '"', "'", '`', "'a ", "'a'", '"b" ', 'r#"', '"#', 'r"', "b'", "'\\", '//', '/*', '*/', '/**/', '///\n', '//!\n', '/**', '/*!',
+    '\n', '\r', '\r\n', ' ', '\t', '\ufeff', '\u00e9', '\u2028', '\0', '---\n', '#!', '#!\n', 'a ', 'a', '_ ', 'r#a ', '0 ', '1.', '1e', '0x', "0'",
+    '#[a]', '#![a]', '#[', '#![', '#[a(', '#[cfg(', '#[cfg(not(', '#[cfg_attr(a, ', '#[doc = "a"]', '#[a = "', '#[a::', 'pub ', 'pub(', 'pub(crate) ',
+    'pub(in a::b) ', 'unsafe ', 'const ', 'async ', 'extern ', 'extern "C" ', 'extern "C" {', 'static ', 'default ', 'auto ', 'safe ', 'gen ', 'fn ',
+    'fn f', 'fn f(', 'fn f() ', 'fn f() {', 'fn f();', 'fn f<', 'fn f() where ', 'struct ', 'struct S ', 'struct S {', 'struct S;', 'struct S<',
+    'enum E {', 'enum E { A ', 'union U {', 'trait T {', 'trait T: ', 'impl ', 'impl S {', 'impl T for S {', 'impl<', 'type A ', 'type A = ',
+    'const A: u8 = ', 'static A: u8 = {', 'use ', 'use a::{', 'use a::', 'use a as ', 'use {', 'use *', 'use a;', 'mod ', 'mod m;', 'mod m {}',
+    'extern crate ', 'macro_rules! ', 'macro_rules! m {', 'macro_rules! m { () => {', 'macro m ', 'm!', 'm! {', 'm!(', 'm![', 'm!();', 'a::m!(', '!m',
+    'where ', 'where A: ', 'for ', 'for<', "for<'a> ", 'in ', 'as ', 'dyn ', 'self ', 'Self ', 'super::', 'crate ', 'let a = ', 'let a = {', 'if ',
+    'if a {', 'else ', 'match a {', 'match ', 'loop {', 'while ', 'return ', 'break ', 'move ', 'move || ', '|a| ', '|| ', 'unsafe {', 'const {',
+    'async {', '{ ;', '{ a', '({', '[{', '<{', '{(', '(}', '{)', 'A<{', 'a: u8, ', 'A(', 'A {', 'A = ', 'A<', '= {', ': [', '-> [', '<<<<<<< ',
+    '=======\n', '>>>>>>> ',
 ]
 
 # The texts of the gate: each part is repeated before the next one begins.
 TEXTS = [
     ('::a',), ('a::',), ('crate::',), (';struct S(',), ('use *struct S(',), ('struct S(pub(in a::b) ',), ('mod m {',), ('mod m { fn f() {',),
-    ('mod m {', '}'), ('mod m { fn f() {', '}}'), ('::a', '!'), ('a::', '{}'), ('super::',), ('a ',), ('a:: ',), ('pub(in a::b) ',), ('pub(',), ('pub ',), ('unsafe ',), ('const ',),
-    ('extern "C" {',), ('extern "C" {', '}'), ('extern ',), ('async ',), ('{',), ('(',), ('[',), ('<',), ('{', '}'), ('}', '{'), (')',), ('(}',), ('#[',), ('#![',), ('#[a]',), ('#[cfg(not(',),
-    ('#[cfg_attr(a, ',), ('#[a::',), ('"',), ("'",), ("'a ",), ('r#"',), ('/*',), ('/*', '*/'), ('//',), ('///\n',), ('\r',), ('\n',), ('---\n',), ('fn ',), ('fn f() ',), ('fn f() {',),
-    ('fn f() {', '}'), ('fn f();',), ('fn f() {}',), ('fn f<',), ('fn f() where ',), ('struct S<',), ('struct S {',), ('struct S;',), ('enum E { A ',), ('trait T {',), ('impl S {',), ('impl<',),
-    ('impl S {', '}'), ('impl S { fn f() {} }',), ('use a::{',), ('use a::{', '}'), ('use a::',), ('use {',), ('use a;',), ('macro_rules! m {',), ('m!',), ('m!(',), ('a::m!(',), ('m!();',),
-    ('let a = {',), ('const A: u8 = {',), ('static A: u8 = {',), ('type A = [',), ('where A: ',), ('for<',), ('fn f() { impl S {',), ('fn f() { extern ',), ('<<<<<<< ',), ('0x',),
-    ('pub struct S(', ')'), ('struct S(pub(in a::b) ', ')'), (';struct S(', ');'), ('mod m { use a::', '}'), ('#[a = "',), ('\u00e9',), ('=> ',), ('m! { = > }',), ('m! { /** a */ }',),
+    ('mod m {', '}'), ('mod m { fn f() {', '}}'), ('::a', '!'), ('a::', '{}'), ('super::',), ('a ',), ('a:: ',), ('pub(in a::b) ',), ('pub(',),
+    ('pub ',), ('unsafe ',), ('const ',), ('extern "C" {',), ('extern "C" {', '}'), ('extern ',), ('async ',), ('{',), ('(',), ('[',), ('<',),
+    ('{', '}'), ('}', '{'), (')',), ('(}',), ('#[',), ('#![',), ('#[a]',), ('#[cfg(not(',), ('#[cfg_attr(a, ',), ('#[a::',), ('"',), ("'",), ("'a ",),
+    ('r#"',), ('/*',), ('/*', '*/'), ('//',), ('///\n',), ('\r',), ('\n',), ('---\n',), ('fn ',), ('fn f() ',), ('fn f() {',), ('fn f() {', '}'),
+    ('fn f();',), ('fn f() {}',), ('fn f<',), ('fn f() where ',), ('struct S<',), ('struct S {',), ('struct S;',), ('enum E { A ',), ('trait T {',),
+    ('impl S {',), ('impl<',), ('impl S {', '}'), ('impl S { fn f() {} }',), ('use a::{',), ('use a::{', '}'), ('use a::',), ('use {',), ('use a;',),
+    ('macro_rules! m {',), ('m!',), ('m!(',), ('a::m!(',), ('m!();',), ('let a = {',), ('const A: u8 = {',), ('static A: u8 = {',), ('type A = [',),
+    ('where A: ',), ('for<',), ('fn f() { impl S {',), ('fn f() { extern ',), ('<<<<<<< ',), ('0x',), ('pub struct S(', ')'),
+    ('struct S(pub(in a::b) ', ')'), (';struct S(', ');'), ('mod m { use a::', '}'), ('#[a = "',), ('\u00e9',), ('=> ',), ('m! { = > }',),
+    ('m! { /** a */ }',), ('a::crate::',), ('a::', 'crate::'), (';struct S(self ',), ('super::', '$'), ('mod m { fn f() {', '['),
 ]
 passed = failed = 0
 
@@ -89,7 +94,7 @@ class Program:
     """A command of itemtree, over texts of a size."""
 
     def __init__(self, program, folder):
-        self.program, self.folder = program, folder
+        self.program, self.folder, self.counts = program, folder, shutil.which('valgrind') is not None
 
     def words(self, command, parts, size, folder):
         paths = written(folder, parts, size)
@@ -110,7 +115,7 @@ class Program:
 
     def cost(self, command, parts, size):
         """The instructions of a run, or where valgrind is not here the least of five times."""
-        if shutil.which('valgrind') is None:
+        if not self.counts:
             return min(self.seconds(command, parts, size)[0] for _ in range(5))
         with tempfile.TemporaryDirectory(dir=self.folder) as folder:
             words = self.words(command, parts, size, folder)
@@ -120,8 +125,8 @@ class Program:
 
     def growth(self, command, parts, most):
         """By how much the cost grows for twice the text, at a size that takes some time."""
-        size = 1000
-        while size < most and self.seconds(command, parts, size)[0] < COUNTED:
+        size, enough = 1000, COUNTED if self.counts else 10 * COUNTED
+        while size < most and self.seconds(command, parts, size)[0] < enough:
             size *= 2
         return self.cost(command, parts, size) / self.cost(command, parts, size // 2), size
 
