@@ -56,7 +56,7 @@ fn tokens(
     Ok(object!(alloc, members, "ctxt": context, "path": path))
 }
 
-// `NoForm` comes exactly where a literal in it has a span of another context than its meta.
+// `NoForm` comes only where a literal in it has a span of another context than its meta.
 #[cycle(metas)]
 #[tactic(auto, using(hir_input::proofs::MetaLemmas::meta_views))]
 pub(crate) fn meta_value(alloc: Global, meta: &Meta) -> Written

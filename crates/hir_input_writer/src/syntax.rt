@@ -108,7 +108,7 @@ fn written(alloc: Global, syntax: &Syntax, bodies: bool) -> Written
 ///
 /// # Errors
 ///
-/// `NoForm` exactly where the syntax has no form: a rename in it is to a name `_`, or the span of a literal is in another
+/// `NoForm` only where the syntax has no form: a rename in it is to a name `_`, or the span of a literal is in another
 /// context than its meta. Else `OutOfMemory`.
 pub fn syntax_value(alloc: Global, syntax: &Syntax, bodies: bool) -> Result<Value, WriteFault>
     ensures written { Writes view result (syntax_data bodies (syntax_view syntax.now)) }

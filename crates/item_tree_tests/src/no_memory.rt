@@ -6,7 +6,7 @@ use item_tree::{
     UseTreeKind,
 };
 use std::alloc::Global;
-use tree_walk::{children, count_items};
+use tree_walk::children;
 
 const STATS: ItemTreeDataStats = ItemTreeDataStats {
     traits: 1,
@@ -63,8 +63,7 @@ fn is_module_lent(tree: &ItemTree, id: ModItemId) -> bool {
 // Whether a tree is read as it is. None of these calls takes memory.
 fn is_read(tree: &ItemTree, twin: &ItemTree) -> bool {
     let top = tree.top_level_items();
-    count_items(tree) == 18
-        && are_lent(tree, top)
+    are_lent(tree, top)
         && !top.is_empty()
         && is_module_lent(tree, top[0])
         && tree.top_level_attrs().is_some()

@@ -1,10 +1,9 @@
-//! The file with an item of each kind: its page, its tables and a walk over it.
-use crate::lowered::{bare_crate, is_right, tree_of, tree_of_all_kinds, tree_of_use};
-use crate::samples::{file, items, use_trees, words};
+//! The file with an item of each kind: its page and its tables.
+use crate::lowered::{is_right, tree_of, tree_of_all_kinds, tree_of_use};
+use crate::samples::{items, use_trees, words};
 use hir_input::{Edition, EditionYear};
 use item_tree::{ItemTree, LowerError};
 use std::alloc::{AllocError, Global};
-use tree_walk::{is_same_tree, outline};
 
 const PAGE: &str = "#![t]
 
@@ -183,37 +182,4 @@ fn shared_with_use(alloc: Global) -> Result<(bool, bool), LowerError> {
 fn ids_of_other_trees(rt: HostRuntime) {
     assert!(rt; matches!(shared_with_function(rt.alloc()), Ok((true, false))));
     assert!(rt; matches!(shared_with_use(rt.alloc()), Ok((false, false))));
-}
-
-// Whether the outline goes through the items in order.
-fn is_outlined(alloc: Global, tree: &ItemTree) -> Result<bool, AllocError> {
-    let ast_ids = outline(alloc, tree)?;
-    for (place, ast_id) in ast_ids.as_slice().iter().enumerate() {
-        if ast_id.hash as usize != place + 1 {
-            return Ok(false);
-        }
-    }
-    Ok(ast_ids.len() == 18)
-}
-
-fn is_file_outlined(alloc: Global) -> Result<bool, LowerError> {
-    let tree = tree_of_all_kinds(alloc)?;
-    Ok(is_outlined(alloc, &tree)?)
-}
-
-#[test]
-fn a_walk_meets_every_item(rt: HostRuntime) {
-    assert!(rt; is_file_outlined(rt.alloc()).unwrap_or(false));
-}
-
-// Whether the file of all kinds has the same tree as that with this hash of its last item.
-fn is_same(alloc: Global, hash: u16) -> Result<bool, LowerError> {
-    let (left, right) = (file::file(alloc, 18)?, file::file(alloc, hash)?);
-    is_same_tree(alloc, &bare_crate(alloc), &[], &left, &right)
-}
-
-#[test]
-fn same_trees_are_told_from_others(rt: HostRuntime) {
-    assert!(rt; is_same(rt.alloc(), 18).unwrap_or(false));
-    assert!(rt; !is_same(rt.alloc(), 19).unwrap_or(true));
 }

@@ -118,7 +118,7 @@ fn written(
 ///
 /// # Errors
 ///
-/// `NoForm` exactly where a part has no form: a syntax, as `syntax_value` says, a show of another crate than 0, or a file
+/// `NoForm` only where a part has no form: a syntax, as `syntax_value` says, a show of another crate than 0, or a file
 /// behind 2^32 others. Else `OutOfMemory`.
 pub fn request_value(
     alloc: Global,
@@ -151,7 +151,7 @@ fn text_of(alloc: Global, value: &Value) -> Result<String, RequestFault>
 ///
 /// # Errors
 ///
-/// `NoForm` as in `request_value`, `TooDeep` exactly where the JSON nests deeper than 127, and `OutOfMemory`.
+/// `NoForm` as in `request_value`, `TooDeep` only where the JSON nests deeper than 127. Else `OutOfMemory`.
 pub fn request_text(
     alloc: Global,
     options: &RequestOptions,

@@ -2,9 +2,8 @@
 use Rattle.std.proofs.Common.{◌≡◌, ℕ, List, [], ◌∷◌, Some, map, refl, ap, sym, ◌∙◌}
 use Rattle.std.proofs.lemmas.List.{map-append}
 use Rattle.std.specs.{Prelude.is_some, List.flat_map}
-use Rattle.hir_input.specs.declared.ids.{AstIdKind.TheVariants.Fn, FileAstId.FileAstId}
-use Rattle.item_tree.specs.{Node.Node, Node.leaf, Node.parent, Node.Forest, Node.empty, Node.more, Node.nodes, Node.node_ast, Node.Unfolding, Layout.node_at, Reach.child_ids, Reach.ids_from, Shown.StandFor, Walk.of_id}
-use Rattle.item_tree.proofs.Walking.{map_of_id, each_walked_once, children_of, no_ids}
+use Rattle.item_tree.specs.{Node.Node, Node.leaf, Node.parent, Node.Forest, Node.empty, Node.more, Node.nodes, Node.Unfolding, Layout.node_at, Reach.child_ids, Reach.ids_from, Shown.StandFor}
+use Rattle.item_tree.proofs.Walking.{each_walked_once, children_of, no_ids}
 use Rattle.tree_walk.specs.Preorder.{node_preorder, preorder}
 
 -- the ids from that of a node on down stand for the nodes in order
@@ -29,13 +28,3 @@ module _ (u : Unfolding) where
 
 pub preorder_ids : (u : Unfolding) (is : List ℕ) → StandFor u is u.forest → map (node_at u.forest) (flat_map (ids_from u) is) ≡ map Some (preorder u.forest)
 preorder_ids u is e = ids_of_forest u u.forest is e
-
-abbrev pub no_ast_id : FileAstId
-no_ast_id = record { kind = Fn; hash = 0; number = 0 }
-
--- the id in the file of the item of an id, and any where there is no item
-abbrev pub ast_at : Unfolding → ℕ → FileAstId
-ast_at u i = of_id u no_ast_id node_ast i
-
-pub ast_ids : (u : Unfolding) (is : List ℕ) (ns : List Node) → map (node_at u.forest) is ≡ map Some ns → map (ast_at u) is ≡ map node_ast ns
-ast_ids u is ns e = map_of_id u no_ast_id node_ast is ns e

@@ -1,5 +1,5 @@
 //! Outlines as lines of text.
-ghost use Rattle.std.specs.Prelude.{◌≡◌, ◌++◌, [], codes, string_bytes, IfOk, OnOk, option_copied, flat_map};
+ghost use Rattle.std.specs.Prelude.{◌≡◌, ◌++◌, [], codes, string_bytes, IfOk, OnErr, OnOk, option_copied, flat_map};
 ghost use Rattle.item_tree.specs.{Shown.IsContained, Walk.AreContained};
 ghost use Rattle.tree_walk.specs.{Lines.line, Lines.forest_lines, Inner.Outlines.outline_lines_at};
 
@@ -15,11 +15,12 @@ use std::alloc::{AllocError, Global};
 /// # Errors
 ///
 /// Only if memory runs out.
+#[tactic(auto, using(item_tree::proofs::Walking::ids_contained, crate::proofs::Outlines::top_lines))]
 pub fn outline_text(alloc: Global, tree: &ItemTree) -> Result<String, AllocError>
     ensures { IfOk result (λ text. string_bytes text ≡ forest_lines [] tree.now.forest) }
 {
     let mut text = String::new(alloc);
-    push_outline(alloc, tree, &mut text)?;
+    push_all(alloc, tree, tree.top_level_items(), "", &mut text)?;
     Ok(text)
 }
 
@@ -27,13 +28,14 @@ pub fn outline_text(alloc: Global, tree: &ItemTree) -> Result<String, AllocError
 ///
 /// # Errors
 ///
-/// Only if memory runs out.
-#[tactic(auto, using(item_tree::proofs::Walking::ids_contained, crate::proofs::Outlines::top_lines))]
+/// Only if memory runs out. Then the text stays as it was.
 pub fn push_outline(alloc: Global, tree: &ItemTree, text: &mut String) -> Result<(), AllocError>
-    ensures { OnOk result (string_bytes text.new ≡ string_bytes text.old
+    ensures lines { OnOk result (string_bytes text.new ≡ string_bytes text.old
         ++ forest_lines [] tree.now.forest) }
+    ensures same { OnErr result (string_bytes text.new ≡ string_bytes text.old) }
 {
-    push_all(alloc, tree, tree.top_level_items(), "", text)
+    let lines = outline_text(alloc, tree)?;
+    text.push_str(&lines)
 }
 
 // The lines of items, and of all that stand in them.
