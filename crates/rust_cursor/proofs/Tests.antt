@@ -105,7 +105,7 @@ header_same b n ts us h = rw (lone_for_same b ts us h, symbol_same b ts us h, wo
 
 barred_same : (b : Twins) (r : Reach) (n : Nest) (ts us : Tokens) → b.are ts us → is_barred r n us ≡ is_barred r n ts
 barred_same b reaches.Angles n ts us h = rw (begins_same b n ts us h, symbol_same b ts us h, end_same b ts us h) refl
-barred_same b reaches.Field n ts us h = rw (symbol_same b ts us h, end_same b ts us h) refl
+barred_same b reaches.Field n ts us h = rw (begins_same b n ts us h, symbol_same b ts us h, end_same b ts us h) refl
 barred_same b reaches.Header n ts us h = rw (begins_same b n ts us h, header_same b n ts us h, symbol_same b ts us h) refl
 
 pub reached_same : (b : Twins) (r : Reach) (n : Nest) (ts us : Tokens) → b.are ts us → is_reached r n us ≡ is_reached r n ts
