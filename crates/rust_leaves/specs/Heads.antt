@@ -1,13 +1,15 @@
 -- The words that begin an item, and the modifiers before them.
-use Rattle.std.specs.Prelude.{ℕ, zero, suc, Bool, true, false, ◌==◌, ◌&&◌, ◌||◌, if◌then◌else◌, List, [], ◌∷◌, codes, bytes_eq}
+use Rattle.std.specs.Prelude.{ℕ, zero, suc, Bool, true, false, not, ◌==◌, ◌&&◌, ◌||◌, if◌then◌else◌, List, [], ◌∷◌, codes, bytes_eq}
 use Rattle.std.specs.List.{list_any}
 use Rattle.rust_cursor.specs.Nests.{is_literal_kind}
 use Rattle.rust_cursor.specs.Tokens.{Tokens}
 use Rattle.rust_cursor.specs.Reader.{Reader}
-use Rattle.rust_cursor.specs.Words.{symbol, word, kind, is_at_identifier, is_at_doc, is_at_end, is_pair, bumped}
+use Rattle.rust_cursor.specs.Words.{symbol, word, kind, is_at_identifier, is_at_doc, is_at_end, is_at_open, is_pair, bumped}
 use Rattle.rust_cursor.specs.Brackets.{behind_tree}
 use Rattle.rust_cursor.specs.Elements.{most}
+use Rattle.rust_cursor.specs.Extents.{begins_item}
 use Rattle.rust_paths.specs.Names.{has_name}
+use Rattle.rust_paths.specs.Paths.{is_segment}
 use Rattle.rust_leaves.specs.declared.head.Head.{Head}
 use Rattle.rust_leaves.specs.declared.head.Head.TheVariants as heads
 
@@ -132,34 +134,48 @@ is_first_word w =
 abbrev pub is_union : Tokens → Bool
 is_union ts = bytes_eq (word ts) (codes "union") && has_name (bumped ts)
 
--- a name with `::` behind it
+-- a word comes next that can be a segment of a path
+abbrev pub is_path_word : Tokens → Bool
+is_path_word ts = is_at_identifier ts && is_segment ts
+
+-- such a word with `::` behind it
 abbrev pub begins_path : Tokens → Bool
-begins_path ts = is_at_identifier ts && is_pair 58 58 (bumped ts)
+begins_path ts = is_path_word ts && is_pair 58 58 (bumped ts)
 
 abbrev pub behind_segments_from : ℕ → Tokens → Tokens
 behind_segments_from zero ts = ts
 behind_segments_from (suc n) ts = if begins_path ts then behind_segments_from n (bumped (bumped (bumped ts))) else ts
 
--- from the last name of a path on
+-- from the last segment of a path on
 unfoldable pub behind_segments : Tokens → Tokens
 behind_segments ts = behind_segments_from most ts
 
-abbrev pub is_called_here : Tokens → Bool
-is_called_here ts = is_at_identifier (behind_segments ts) && symbol (bumped (behind_segments ts)) == 33
+-- the `!` of a macro call comes next
+unfoldable pub is_called : Tokens → Bool
+is_called ts = symbol ts == 33 && is_at_open (bumped ts)
 
--- something may begin an item: an attribute, such a word, or a path with `!` behind it
+abbrev pub is_called_here : Tokens → Bool
+is_called_here ts = is_path_word (behind_segments ts) && is_called (bumped (behind_segments ts))
+
+-- a word comes next that may begin an item; in front of `::` it is a segment of a path
+abbrev pub is_at_first : Tokens → Bool
+is_at_first ts = not (begins_path ts) && (is_first_word (word ts) || (is_union ts || begins_item ts))
+
+-- something may begin an item: an attribute, such a word, or the path of a macro call
 unfoldable pub may_begin : Tokens → Bool
-may_begin ts =
-    if symbol ts == 35 || is_at_doc ts then true
-    else (if is_first_word (word ts) || is_union ts then true else is_called_here ts)
+may_begin ts = if symbol ts == 35 || is_at_doc ts then true else (if is_at_first ts then true else is_called_here ts)
 
 -- no more is passed over
 unfoldable pub is_behind_others : Tokens → Bool
 is_behind_others ts = is_at_end ts || may_begin ts
 
+-- what is left behind a token or what stands in brackets, and of a path before its last segment
+abbrev pub behind_other : Tokens → Tokens
+behind_other ts = if begins_path ts then behind_segments ts else behind_tree ts
+
 abbrev pub behind_others_from : ℕ → Tokens → Tokens
 behind_others_from zero ts = ts
-behind_others_from (suc n) ts = if is_behind_others ts then ts else behind_others_from n (behind_tree ts)
+behind_others_from (suc n) ts = if is_behind_others ts then ts else behind_others_from n (behind_other ts)
 
 abbrev pub behind_more_others : Tokens → Tokens
 behind_more_others ts = behind_others_from most ts

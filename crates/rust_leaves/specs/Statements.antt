@@ -24,10 +24,10 @@ use Rattle.rust_leaves.specs.declared.statements.Scan.{Scan}
 use Rattle.rust_leaves.specs.declared.statements.Scan.TheVariants as scans
 use Rattle.rust_leaves.specs.declared.statements.Step.{Step}
 use Rattle.rust_leaves.specs.declared.statements.Step.TheVariants as steps
-use Rattle.rust_leaves.specs.Heads.{is_modifier, head_by}
+use Rattle.rust_leaves.specs.Heads.{is_modifier, head_by, is_called}
 use Rattle.rust_leaves.specs.Leaves.{range_to}
 use Rattle.rust_leaves.specs.Texts.{bare, last_text}
-use Rattle.rust_leaves.specs.Kinds.{node, is_called, some_read}
+use Rattle.rust_leaves.specs.Kinds.{node, some_read}
 
 -- ---- items
 

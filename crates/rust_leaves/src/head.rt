@@ -7,7 +7,7 @@ ghost use Rattle.rust_leaves.specs.Heads as spec;
 
 use rust_cursor::{Cursor, is_among};
 use rust_lexer::TokenKind;
-use rust_paths::has_name;
+use rust_paths::{has_name, is_segment};
 
 /// What kind of item the words begin that were taken.
 #[derive(Clone, Copy)]
@@ -251,20 +251,28 @@ fn is_union(cursor: &Cursor<'_>) -> bool
     cursor.word() == "union" && has_name(&second(cursor))
 }
 
-fn is_segment(cursor: &Cursor<'_>) -> bool
-    ensures { result ≡ spec.begins_path cursor.now }
+/// Whether a word comes next that can be a segment of a path.
+fn is_path_word(cursor: &Cursor<'_>) -> bool
+    ensures { result ≡ spec.is_path_word cursor.now }
 {
-    cursor.is_at_identifier() && second(cursor).is_pair(b':', b':')
+    cursor.is_at_identifier() && is_segment(cursor)
 }
 
-/// Passes over names with `::` behind them.
+/// Whether such a word comes next with `::` behind it.
+fn begins_path(cursor: &Cursor<'_>) -> bool
+    ensures { result ≡ spec.begins_path cursor.now }
+{
+    is_path_word(cursor) && second(cursor).is_pair(b':', b':')
+}
+
+/// Passes over words of a path with `::` behind them.
 #[tactic(auto, unfolding(crate::specs::Heads::behind_segments), using(crate::proofs::Steps::segments_more, crate::proofs::Steps::segments_stop))]
 fn pass_segments(cursor: &mut Cursor<'_>)
     ensures { cursor.new ≡ spec.behind_segments cursor.old }
 {
     let most = Cursor::most_turns();
     for _turn in 0..most {
-        if !is_segment(cursor) {
+        if !begins_path(cursor) {
             break;
         }
         cursor.bump();
@@ -273,16 +281,34 @@ fn pass_segments(cursor: &mut Cursor<'_>)
     }
 }
 
+/// Whether the `!` of a macro call comes next.
+#[tactic(auto, unfolding(crate::specs::Heads::is_called))]
+pub(crate) fn is_called(cursor: &Cursor<'_>) -> bool
+    ensures { result ≡ spec.is_called cursor.now }
+{
+    cursor.symbol() == b'!' && second(cursor).is_at_open()
+}
+
 fn is_called_here(cursor: &Cursor<'_>) -> bool
     ensures { result ≡ spec.is_called_here cursor.now }
 {
     let mut behind = cursor.ahead();
     pass_segments(&mut behind);
-    if !behind.is_at_identifier() {
+    if !is_path_word(&behind) {
         return false;
     }
     behind.bump();
-    behind.symbol() == b'!'
+    is_called(&behind)
+}
+
+/// Whether a word comes next that may begin an item; in front of `::` it is a segment of a path.
+fn is_at_first(cursor: &Cursor<'_>) -> bool
+    ensures { result ≡ spec.is_at_first cursor.now }
+{
+    if begins_path(cursor) {
+        return false;
+    }
+    is_first_word(cursor.word()) || is_union(cursor) || cursor.begins_item()
 }
 
 #[tactic(auto, unfolding(crate::specs::Heads::may_begin))]
@@ -292,7 +318,7 @@ fn may_begin(cursor: &Cursor<'_>) -> bool
     if cursor.symbol() == b'#' || cursor.is_at_doc() {
         return true;
     }
-    if is_first_word(cursor.word()) || is_union(cursor) {
+    if is_at_first(cursor) {
         return true;
     }
     is_called_here(cursor)
@@ -303,6 +329,17 @@ fn is_behind_others(cursor: &Cursor<'_>) -> bool
     ensures { result ≡ spec.is_behind_others cursor.now }
 {
     cursor.is_at_end() || may_begin(cursor)
+}
+
+/// Passes over a token or what stands in brackets, or over a path up to its last segment, so that each path is looked through once.
+fn pass_other(cursor: &mut Cursor<'_>)
+    ensures { cursor.new ≡ spec.behind_other cursor.old }
+{
+    if begins_path(cursor) {
+        pass_segments(cursor);
+    } else {
+        cursor.pass_tree();
+    }
 }
 
 /// Passes over tokens that begin no item, up to where one may begin or a bracket closes.
@@ -319,6 +356,6 @@ pub fn pass_others(cursor: &mut Cursor<'_>)
         if is_behind_others(cursor) {
             break;
         }
-        cursor.pass_tree();
+        pass_other(cursor);
     }
 }

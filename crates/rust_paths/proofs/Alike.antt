@@ -40,7 +40,7 @@ dollar_same b ts us h =
     (λ e. let n = after_symbol b.twins 36 ts us refl h e in rw (symbol_same b.twins ts us h, word_same b.twins (bumped ts) (bumped us) n) refl)
     (λ e. rw (symbol_same b.twins ts us h, e) refl)
 
-segment_same : (b : Parting) (ts us : Tokens) → b.twins.are ts us → is_segment us ≡ is_segment ts
+pub segment_same : (b : Parting) (ts us : Tokens) → b.twins.are ts us → is_segment us ≡ is_segment ts
 unfolding is_segment
 segment_same b ts us h = rw (word_same b.twins ts us h, kind_same b.twins ts us h, has_name_same b ts us h, dollar_same b ts us h) refl
 

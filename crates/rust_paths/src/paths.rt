@@ -35,7 +35,7 @@ fn is_dollar_crate(cursor: &Cursor<'_>) -> bool
 
 /// Whether a segment of a path comes next.
 #[tactic(auto, unfolding(crate::specs::Paths::is_segment))]
-fn is_segment(cursor: &Cursor<'_>) -> bool
+pub fn is_segment(cursor: &Cursor<'_>) -> bool
     ensures { result ≡ spec.is_segment cursor.now }
 {
     if is_path_keyword(cursor.word()) {
