@@ -1,6 +1,6 @@
 -- Names, paths and visibilities of tokens that look alike are the same, until one goes past where the texts part.
 use Rattle.std.proofs.Common.{◌≡◌, ◌==◌, ℕ, zero, suc, Bool, true, false, Option, Some, None, List, ◌∷◌, refl, ap, ◌∙◌, arith, codes, option_map, is_some, not, bytes_eq}
-use Rattle.rust_paths.proofs.Common.{nat_tests, and_parts, PathNode, Visibility, name_word, behind_closed, Reader, pure, Tokens, symbol, word, kind, text, is_at_identifier, bumped, eat_colons, Forwards, through, when, behind_closed_leads, Parting, Until, UpTo, kept, cond_until, with_rest, map_until, pass_until, then_until, bind_until, eat_pair_until, is_edge, symbol_same, word_same, kind_same, text_same, edge_word, edge_test, edge_identifier, identifier_same, word_test, symbol_test, after_word, after_symbol, pair_same, after_pair, path_node, name_text, has_name, as_name, next_name, taken_with, name, is_raw, is_dollar_crate, is_segment, named_word, other_segment, segment, is_colons, is_joint, is_path_colons, and_path_word, more_from, more_segments, front_of_path, written_path, is_path_start, path_in, path, use_path, in_path, scope_path, is_path_part, behind_parts_from, behind_parts, is_bare, plain_scope, scope_of, scope, is_in, scoped, visibility}
+use Rattle.rust_paths.proofs.Common.{nat_tests, and_parts, PathNode, Visibility, name_word, behind_closed, Reader, pure, Tokens, symbol, word, kind, text, bumped, eat_colons, Forwards, through, when, behind_closed_leads, Parting, Until, UpTo, kept, cond_until, with_rest, map_until, pass_until, then_until, bind_until, eat_pair_until, is_edge, symbol_same, word_same, kind_same, text_same, edge_word, edge_test, edge_identifier, identifier_same, word_test, symbol_test, after_word, after_symbol, pair_same, after_pair, path_node, name_text, has_name, as_name, next_name, taken_with, name, is_raw, is_dollar_crate, is_segment, named_word, other_segment, segment, is_colons, is_joint, is_last_self, is_path_colons, has_more, and_path_word, more_from, more_segments, front_of_path, written_path, is_path_start, path_in, path, use_path, in_path, scope_path, is_path_part, behind_parts_from, behind_parts, is_bare, plain_scope, scope_of, scope, is_in, scoped, visibility}
 use Rattle.rust_cursor.specs.Elements.{most}
 use Rattle.rust_cursor.specs.Reader.{◌>>=◌}
 use Rattle.rust_paths.proofs.Around.{name_symbol, raw_symbol}
@@ -101,13 +101,35 @@ unfolding is_path_colons
 are_colons true ts e = (and_parts (is_colons ts) (not (is_joint ts)) e).0
 are_colons false ts e = e
 
+pub last_self_same : (b : Parting) (ts us : Tokens) → b.twins.are ts us → is_last_self us ≡ is_last_self ts
+unfolding is_last_self
+last_self_same b ts us h =
+    when (bytes_eq (word ts) (codes "self"))
+    (λ e. rw (word_same b.twins ts us h, colons_same b (bumped ts) (bumped us) (after_word b.twins (codes "self") ts us refl h e)) refl)
+    (λ e. rw (word_same b.twins ts us h, e) refl)
+
+pub after_self : (b : Parting) (ts us : Tokens) → b.twins.are ts us → is_last_self ts ≡ true → b.twins.are (bumped ts) (bumped us)
+unfolding is_last_self
+after_self b ts us h e = after_word b.twins (codes "self") ts us refl h (and_parts (bytes_eq (word ts) (codes "self")) (not (is_colons (bumped ts))) e).0
+
+more_same : (b : Parting) (in_use : Bool) (ts us : Tokens) → b.twins.are ts us → has_more in_use us ≡ has_more in_use ts
+more_same b false ts us h = path_colons_same b false ts us h
+more_same b true ts us h =
+    when (is_path_colons true ts)
+    (λ e. rw (path_colons_same b true ts us h, last_self_same b _ _ (colons_behind b ts us h (are_colons true ts e))) refl)
+    (λ e. rw (path_colons_same b true ts us h, e) refl)
+
+more_colons : (in_use : Bool) (ts : Tokens) → has_more in_use ts ≡ true → is_colons ts ≡ true
+more_colons false ts e = are_colons false ts e
+more_colons true ts e = are_colons true ts (and_parts (is_path_colons true ts) (not (is_last_self (bumped (bumped ts)))) e).0
+
 more_until : (b : Parting) (in_use : Bool) (n : ℕ) → UpTo b (more_from in_use n) (more_from in_use n)
 more_until b in_use zero ts us h = kept (record { value = refl; rest = h })
 more_until b in_use (suc n) ts us h =
-    cond_until (path_colons_same b in_use ts us h)
+    cond_until (more_same b in_use ts us h)
     (λ e. then_until b (λ w us. and_path_word w (more_from in_use n us)) (λ w us. and_path_word w (more_from in_use n us)) (λ w. more_from_leads in_use n) (λ w. more_from_leads in_use n)
     (λ w ts us h. map_until (λ l. w ∷ l) (more_until b in_use n ts us h))
-    (segment_until b (bumped (bumped ts)) (bumped (bumped us)) (colons_behind b ts us h (are_colons in_use ts e))))
+    (segment_until b (bumped (bumped ts)) (bumped (bumped us)) (colons_behind b ts us h (more_colons in_use ts e))))
     (λ _. kept (record { value = refl; rest = h }))
 
 more_segments_until : (b : Parting) (in_use : Bool) → UpTo b (more_segments in_use) (more_segments in_use)

@@ -25,9 +25,9 @@ pub use Rattle.rust_paths.specs.Inner.{meaning, meant_path, path_start, then_wor
 pub use Rattle.rust_paths.specs.Meaning.{all_words, fits, node_of, path_node, read_all}
 pub use Rattle.rust_paths.specs.Names.{Placed, as_name, behind_hash, is_since_2018, is_since_2024, is_underscore, keywords, keywords_since_2018, keywords_since_2024, may_be_keyword, name_text, placed_if, taken_with}
 unfoldable pub use Rattle.rust_paths.specs.Names.{has_name, is_keyword, is_path_keyword, name, next_name, placed_name, plain_name}
-pub use Rattle.rust_paths.specs.Paths.{and_path_word, front_of_path, is_raw, more_from, named_word, path_in, written_path}
-unfoldable pub use Rattle.rust_paths.specs.Paths.{is_colons, is_dollar_crate, is_joint, is_path_colons, is_path_start, is_segment, more_segments, other_segment, path, segment, use_path}
-pub use Rattle.rust_paths.specs.UseTrees.{FoundInUse, alias_if, all_found, all_starts, begun_list, begun_trees, element_with, first_too_deep, no_list, renamed_tree, some_list, star_or_list, tree_behind, tree_comma_from, tree_with, tree_with_list, trees, values, with_bare, with_list}
+pub use Rattle.rust_paths.specs.Paths.{and_path_word, front_of_path, has_more, is_raw, more_from, named_word, path_in, written_path}
+unfoldable pub use Rattle.rust_paths.specs.Paths.{is_colons, is_dollar_crate, is_joint, is_last_self, is_path_colons, is_path_start, is_segment, more_segments, other_segment, path, segment, use_path}
+pub use Rattle.rust_paths.specs.UseTrees.{FoundInUse, alias_if, all_found, all_starts, bare_tree, begun_list, begun_trees, element_with, first_too_deep, no_list, renamed_tree, self_in_list, self_path, self_tree, some_list, star_or_list, tree_behind, tree_comma_from, tree_with, tree_with_list, trees, values, with_bare, with_list, with_self}
 unfoldable pub use Rattle.rust_paths.specs.UseTrees.{alias, element, list, rename, tree_at, tree_behind_comma, use_tree}
 pub use Rattle.rust_paths.specs.Visibilities.{behind_parts_from, in_path, is_path_part, plain_scope, scope_path}
 unfoldable pub use Rattle.rust_paths.specs.Visibilities.{behind_parts, is_bare, is_in, scope, scope_of, scoped, visibility}

@@ -152,8 +152,8 @@ fn scoped(alloc: Global, cursor: &mut Cursor<'_>) -> Result<Visibility, AllocErr
 
 /// Takes a visibility, if one is written.
 ///
-/// A bracket behind `pub` belongs to it where it holds `in` first, or one of `crate`, `super` and `self` alone, or a path before a word,
-/// as in `pub(a::b) fn f() {}`, which is read as `pub(in a::b)`; so `struct Pair(pub (u8, u8));` has a field that is `pub`.
+/// A bracket behind `pub` belongs to it where it holds `in` first, or one of `crate`, `super` and `self` alone, or a path before
+/// a word: `pub(a::b) fn f() {}` is read as `pub(in a::b)`, and `struct Pair(pub (u8, u8));` has a field that is `pub`.
 /// rust-analyzer's `opt_visibility`.
 #[tactic(auto, unfolding(crate::specs::Visibilities::visibility))]
 pub fn visibility(alloc: Global, cursor: &mut Cursor<'_>) -> Result<Option<Visibility>, AllocError>
