@@ -33,7 +33,7 @@ behind_same b _ ts us h n = refl
 
 within_same : (b : Twins) (ts us : Tokens) → b.are ts us → b.are (bumped ts) (bumped us) → begins_within us ≡ begins_within ts
 unfolding begins_within
-within_same b ts us h n = rw (word_same b ts us h, identifier_same b (bumped ts) (bumped us) n, word_same b (bumped ts) (bumped us) n, item_same b ts us h n) refl
+within_same b ts us h n = rw (word_same b ts us h, identifier_same b (bumped ts) (bumped us) n, item_same b ts us h n) refl
 
 edge_begins : (n : Nest) (ts : Tokens) → is_edge (symbol ts) ≡ true → begins n ts ≡ false
 edge_begins n ts e =
