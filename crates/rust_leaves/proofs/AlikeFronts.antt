@@ -1,6 +1,6 @@
 -- What stands before an item's own parts is the same of tokens that look alike, until one goes past where the texts part.
-use Rattle.std.proofs.Common.{◌≡◌, ◌==◌, ℕ, zero, suc, Bool, true, false, List, [], refl, sym, ap, subst, ◌∙◌, codes, if◌then◌else◌, bytes_eq}
-use Rattle.rust_leaves.proofs.Common.{and_parts, behind_tree, is_segment, Tokens, symbol, word, kind, is_at_identifier, is_pair, bumped, LeadsTo, here, through, when, behind_tree_leads, bumped_leads, has_name, Head, behind_abi, is_auto_trait, is_modifier_before, is_modifier, behind_modifier, behind_modifiers_from, behind_modifiers, extern_head, macro_rules_head, union_head, head_by, behind_head, head, is_union, is_path_word, begins_path, behind_segments_from, behind_segments, is_called, is_called_here, is_at_first, may_begin, is_behind_others, behind_other, behind_others_from, behind_others}
+use Rattle.std.proofs.Common.{◌≡◌, ◌==◌, ℕ, zero, suc, Bool, true, false, List, [], refl, sym, ap, subst, ◌∙◌, codes, if◌then◌else◌, bytes_eq, ◌&&◌}
+use Rattle.rust_leaves.proofs.Common.{and_parts, behind_tree, is_segment, Tokens, symbol, word, kind, is_at_identifier, is_pair, bumped, LeadsTo, here, through, when, behind_tree_leads, bumped_leads, has_name, Head, behind_abi, is_modifier_before, is_modifier, behind_modifier, behind_modifiers_from, behind_modifiers, extern_head, macro_rules_head, union_head, head_by, behind_head, head, is_union, is_path_word, begins_path, behind_segments_from, behind_segments, is_called, is_called_here, is_at_first, may_begin, is_behind_others, behind_other, behind_others_from, behind_others, follows_async, is_gen_modifier, is_weak_before, is_weak_modifier}
 use Rattle.rust_cursor.proofs.Parting.{Onward, on, kept, Parting, Until, UpTo, onward_leads, cond_onward}
 use Rattle.rust_cursor.proofs.Twins.{is_edge, symbol_same, word_same, kind_same, identifier_same, open_same, end_same, doc_same, pair_same, edge_word, edge_identifier, edge_test, after_word, after_symbol, after_pair}
 use Rattle.rust_cursor.proofs.Tests.{begins_item_same}
@@ -18,28 +18,44 @@ unfolding behind_abi
 abi_alike b ts us h =
     when (is_literal_kind (kind ts)) (λ e. rw (kind_same b.twins ts us h, e) (b.twins.next ts us h (literal_no_edge ts e))) (λ e. rw (kind_same b.twins ts us h, e) h)
 
-auto_same : (b : Parting) (ts us : Tokens) → b.twins.are ts us → is_auto_trait us ≡ is_auto_trait ts
-auto_same b ts us h =
+-- what is said of a word and what is behind it, if it is nothing without a word
+word_tells : (b : Parting) (test : List ℕ → Tokens → Bool) → ((ts : Tokens) → test [] ts ≡ false) → ((w : List ℕ) (ts us : Tokens) → b.twins.are ts us → test w us ≡ test w ts)
+    → (ts us : Tokens) → b.twins.are ts us → test (word us) (bumped us) ≡ test (word ts) (bumped ts)
+word_tells b test none same ts us h =
     when (is_edge (symbol ts))
-    (λ e. let f = edge_test b.twins ts us h e in rw (edge_word ts e, edge_word us f) refl)
-    (λ e. let n = b.twins.next ts us h e in rw (word_same b.twins ts us h, word_same b.twins (bumped ts) (bumped us) n) refl)
+    (λ e. let f = edge_test b.twins ts us h e in
+    ap (λ w. test w (bumped us)) (edge_word us f) ∙ none (bumped us) ∙ sym (ap (λ w. test w (bumped ts)) (edge_word ts e) ∙ none (bumped ts)))
+    (λ e. ap (λ w. test w (bumped us)) (word_same b.twins ts us h) ∙ same (word ts) (bumped ts) (bumped us) (b.twins.next ts us h e))
+
+abbrev gen_before : List ℕ → Tokens → Bool
+gen_before w behind = bytes_eq w (codes "gen") && follows_async (word behind)
+
+gen_same : (b : Parting) (ts us : Tokens) → b.twins.are ts us → is_gen_modifier us ≡ is_gen_modifier ts
+gen_same b ts us h = word_tells b gen_before (λ _. refl) (λ w ts us h. rw (word_same b.twins ts us h) refl) ts us h
+
+weak_before_same : (b : Parting) (w : List ℕ) (ts us : Tokens) → b.twins.are ts us → is_weak_before w us ≡ is_weak_before w ts
+unfolding is_weak_before
+weak_before_same b w ts us h = rw (gen_same b ts us h, word_same b.twins ts us h) refl
+
+no_weak_before : (ts : Tokens) → is_weak_before [] ts ≡ false
+unfolding is_weak_before
+no_weak_before ts = refl
+
+weak_same : (b : Parting) (ts us : Tokens) → b.twins.are ts us → is_weak_modifier us ≡ is_weak_modifier ts
+weak_same b ts us h = word_tells b is_weak_before no_weak_before (weak_before_same b) ts us h
 
 before_same : (b : Parting) (w : List ℕ) (ts us : Tokens) → b.twins.are ts us → is_modifier_before w us ≡ is_modifier_before w ts
 unfolding is_modifier_before
 before_same b w ts us h =
-    rw (auto_same b ts us h, word_same b.twins (behind_abi ts) (behind_abi us) (abi_alike b ts us h), word_same b.twins ts us h) refl
+    rw (weak_same b ts us h, weak_before_same b w ts us h, word_same b.twins (behind_abi ts) (behind_abi us) (abi_alike b ts us h), word_same b.twins ts us h) refl
 
 pub nothing_before : (ts : Tokens) → is_modifier_before [] ts ≡ false
-unfolding is_modifier_before
+unfolding is_modifier_before is_weak_before
 nothing_before ts = refl
 
 modifier_same : (b : Parting) (ts us : Tokens) → b.twins.are ts us → is_modifier us ≡ is_modifier ts
 unfolding is_modifier
-modifier_same b ts us h =
-    when (is_edge (symbol ts))
-    (λ e. let f = edge_test b.twins ts us h e in
-    ap (λ w. is_modifier_before w (bumped us)) (edge_word us f) ∙ nothing_before (bumped us) ∙ sym (ap (λ w. is_modifier_before w (bumped ts)) (edge_word ts e) ∙ nothing_before (bumped ts)))
-    (λ e. ap (λ w. is_modifier_before w (bumped us)) (word_same b.twins ts us h) ∙ before_same b (word ts) (bumped ts) (bumped us) (b.twins.next ts us h e))
+modifier_same b ts us h = word_tells b is_modifier_before nothing_before (before_same b) ts us h
 
 modifier_no_edge : (ts : Tokens) → is_modifier ts ≡ true → is_edge (symbol ts) ≡ false
 unfolding is_modifier

@@ -17,11 +17,11 @@ use Rattle.rust_leaves.specs.declared.head.Head.TheVariants as heads
 
 -- what may stand behind each modifier: another modifier, or the word of an item
 unfoldable pub may_follow_const : List ℕ → Bool
-may_follow_const w =
-    list_any (bytes_eq w) (codes "fn" ∷ codes "unsafe" ∷ codes "extern" ∷ codes "async" ∷ codes "trait" ∷ codes "impl" ∷ [])
+may_follow_const w = list_any (bytes_eq w) (codes "fn" ∷ codes "unsafe" ∷ codes "extern" ∷ codes "trait" ∷ codes "impl" ∷ [])
 
+-- behind `gen` too
 unfoldable pub follows_async : List ℕ → Bool
-follows_async w = list_any (bytes_eq w) (codes "fn" ∷ codes "unsafe" ∷ codes "extern" ∷ codes "gen" ∷ [])
+follows_async w = list_any (bytes_eq w) (codes "fn" ∷ codes "unsafe" ∷ codes "safe" ∷ codes "extern" ∷ [])
 
 unfoldable pub follows_unsafe : List ℕ → Bool
 follows_unsafe w =
@@ -29,11 +29,13 @@ follows_unsafe w =
     ∷ codes "const" ∷ codes "async" ∷ codes "safe" ∷ [])
 
 unfoldable pub follows_safe : List ℕ → Bool
-follows_safe w = list_any (bytes_eq w) (codes "fn" ∷ codes "static" ∷ [])
+follows_safe w = list_any (bytes_eq w) (codes "fn" ∷ codes "static" ∷ codes "extern" ∷ [])
 
+-- behind `final` too
 unfoldable pub follows_default : List ℕ → Bool
 follows_default w =
-    list_any (bytes_eq w) (codes "fn" ∷ codes "unsafe" ∷ codes "const" ∷ codes "type" ∷ codes "impl" ∷ codes "async" ∷ codes "extern" ∷ [])
+    list_any (bytes_eq w) (codes "fn" ∷ codes "unsafe" ∷ codes "const" ∷ codes "type" ∷ codes "impl" ∷ codes "async" ∷ codes "extern" ∷ codes "gen"
+    ∷ codes "safe" ∷ [])
 
 unfoldable pub follows_extern : List ℕ → Bool
 follows_extern w = list_any (bytes_eq w) (codes "fn" ∷ codes "unsafe" ∷ [])
@@ -45,21 +47,30 @@ behind_abi ts = if is_literal_kind (kind ts) then bumped ts else ts
 abbrev pub word_behind_abi : Tokens → List ℕ
 word_behind_abi ts = word (behind_abi ts)
 
--- elsewhere `auto` is a name
-abbrev pub is_auto_trait : Tokens → Bool
-is_auto_trait ts = bytes_eq (word ts) (codes "auto") && bytes_eq (word (bumped ts)) (codes "trait")
+-- `gen` of `async gen fn`, and not of a block
+abbrev pub is_gen_modifier : Tokens → Bool
+is_gen_modifier ts = bytes_eq (word ts) (codes "gen") && follows_async (word (bumped ts))
 
--- a modifier comes next, where this stands behind it
+-- `async`, `gen` and `auto` are names, too: a modifier comes next, where this stands behind it
+unfoldable pub is_weak_before : List ℕ → Tokens → Bool
+is_weak_before w behind =
+    if bytes_eq w (codes "async") then follows_async (word behind) || is_gen_modifier behind
+    else (if bytes_eq w (codes "gen") then follows_async (word behind)
+    else (if bytes_eq w (codes "auto") then bytes_eq (word behind) (codes "trait") else false))
+
+abbrev pub is_weak_modifier : Tokens → Bool
+is_weak_modifier ts = is_weak_before (word ts) (bumped ts)
+
+-- the same of each modifier
 unfoldable pub is_modifier_before : List ℕ → Tokens → Bool
 is_modifier_before w behind =
-    if bytes_eq w (codes "const") then may_follow_const (word behind) || is_auto_trait behind
-    else (if bytes_eq w (codes "async") then follows_async (word behind)
-    else (if bytes_eq w (codes "unsafe") then follows_unsafe (word behind) || is_auto_trait behind
+    if bytes_eq w (codes "const") then may_follow_const (word behind) || is_weak_modifier behind
+    else (if bytes_eq w (codes "unsafe") then follows_unsafe (word behind) || is_weak_modifier behind
     else (if bytes_eq w (codes "safe") then follows_safe (word behind)
-    else (if bytes_eq w (codes "default") then follows_default (word behind)
-    else (if bytes_eq w (codes "gen") then bytes_eq (word behind) (codes "fn")
-    else (if bytes_eq w (codes "auto") then bytes_eq (word behind) (codes "trait")
-    else (if bytes_eq w (codes "extern") then follows_extern (word_behind_abi behind) else false)))))))
+    else (if bytes_eq w (codes "default") || bytes_eq w (codes "final") then follows_default (word behind)
+    else (if bytes_eq w (codes "extern") then follows_extern (word_behind_abi behind)
+    else (if bytes_eq w (codes "type") then bytes_eq (word behind) (codes "const")
+    else (if bytes_eq w (codes "reuse") then bytes_eq (word behind) (codes "impl") else is_weak_before w behind))))))
 
 unfoldable pub is_modifier : Tokens → Bool
 is_modifier ts = is_modifier_before (word ts) (bumped ts)

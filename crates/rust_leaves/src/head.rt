@@ -32,10 +32,10 @@ pub enum Head {
 }
 
 /// What may stand behind `const` as a modifier: another modifier, or the word of an item.
-const BEHIND_CONST: [&str; 6] = ["fn", "unsafe", "extern", "async", "trait", "impl"];
+const BEHIND_CONST: [&str; 5] = ["fn", "unsafe", "extern", "trait", "impl"];
 
-/// The same behind `async`.
-const BEHIND_ASYNC: [&str; 4] = ["fn", "unsafe", "extern", "gen"];
+/// The same behind `async` and `gen`.
+const BEHIND_ASYNC: [&str; 4] = ["fn", "unsafe", "safe", "extern"];
 
 /// The same behind `unsafe`.
 const BEHIND_UNSAFE: [&str; 10] = [
@@ -43,10 +43,12 @@ const BEHIND_UNSAFE: [&str; 10] = [
 ];
 
 /// The same behind `safe`.
-const BEHIND_SAFE: [&str; 2] = ["fn", "static"];
+const BEHIND_SAFE: [&str; 3] = ["fn", "static", "extern"];
 
-/// The same behind `default`.
-const BEHIND_DEFAULT: [&str; 7] = ["fn", "unsafe", "const", "type", "impl", "async", "extern"];
+/// The same behind `default` and `final`.
+const BEHIND_DEFAULT: [&str; 9] = [
+    "fn", "unsafe", "const", "type", "impl", "async", "extern", "gen", "safe",
+];
 
 /// The same behind `extern`.
 const BEHIND_EXTERN: [&str; 2] = ["fn", "unsafe"];
@@ -75,12 +77,6 @@ fn word_behind_abi<'t>(behind: &Cursor<'t>) -> &'t str
     ahead.word()
 }
 
-fn is_auto_trait(cursor: &Cursor<'_>) -> bool
-    ensures { result ≡ spec.is_auto_trait cursor.now }
-{
-    cursor.word() == "auto" && second(cursor).word() == "trait"
-}
-
 /// What is left behind the next token.
 pub(crate) fn second<'t>(cursor: &Cursor<'t>) -> Cursor<'t>
     ensures { result ≡ bumped cursor.now }
@@ -90,35 +86,66 @@ pub(crate) fn second<'t>(cursor: &Cursor<'t>) -> Cursor<'t>
     second
 }
 
+#[tactic(auto, unfolding(crate::specs::Heads::follows_async))]
+fn is_behind_async(behind: &Cursor<'_>) -> bool
+    ensures { result ≡ spec.follows_async (word behind.now) }
+{
+    is_among(behind.word(), &BEHIND_ASYNC)
+}
+
+fn is_gen_modifier(cursor: &Cursor<'_>) -> bool
+    ensures { result ≡ spec.is_gen_modifier cursor.now }
+{
+    cursor.word() == "gen" && is_behind_async(&second(cursor))
+}
+
+fn is_async_modifier(behind: &Cursor<'_>) -> bool
+    ensures { result ≡ (spec.follows_async (word behind.now) || spec.is_gen_modifier behind.now) }
+{
+    is_behind_async(behind) || is_gen_modifier(behind)
+}
+
+/// Whether a modifier comes next that is a name elsewhere.
+#[tactic(auto, unfolding(crate::specs::Heads::is_weak_before))]
+fn is_weak_modifier(cursor: &Cursor<'_>) -> bool
+    ensures { result ≡ spec.is_weak_modifier cursor.now }
+{
+    match cursor.word() {
+        "async" => is_async_modifier(&second(cursor)),
+        "gen" => is_behind_async(&second(cursor)),
+        "auto" => second(cursor).word() == "trait",
+        _ => false,
+    }
+}
+
 #[tactic(auto, unfolding(crate::specs::Heads::may_follow_const))]
 fn is_const_modifier(behind: &Cursor<'_>) -> bool
-    ensures { result ≡ (spec.may_follow_const (word behind.now) || spec.is_auto_trait behind.now) }
+    ensures { result ≡ (spec.may_follow_const (word behind.now) || spec.is_weak_modifier behind.now) }
 {
-    is_among(behind.word(), &BEHIND_CONST) || is_auto_trait(behind)
+    is_among(behind.word(), &BEHIND_CONST) || is_weak_modifier(behind)
 }
 
 #[tactic(auto, unfolding(crate::specs::Heads::follows_unsafe))]
 fn is_unsafe_modifier(behind: &Cursor<'_>) -> bool
-    ensures { result ≡ (spec.follows_unsafe (word behind.now) || spec.is_auto_trait behind.now) }
+    ensures { result ≡ (spec.follows_unsafe (word behind.now) || spec.is_weak_modifier behind.now) }
 {
-    is_among(behind.word(), &BEHIND_UNSAFE) || is_auto_trait(behind)
+    is_among(behind.word(), &BEHIND_UNSAFE) || is_weak_modifier(behind)
 }
 
 /// Whether a modifier comes next. Only behind a word that can be one a token is cut.
-#[tactic(auto, unfolding(crate::specs::Heads::is_modifier, crate::specs::Heads::is_modifier_before, crate::specs::Heads::follows_async, crate::specs::Heads::follows_safe, crate::specs::Heads::follows_default, crate::specs::Heads::follows_extern))]
+#[tactic(auto, unfolding(crate::specs::Heads::is_modifier, crate::specs::Heads::is_modifier_before, crate::specs::Heads::follows_safe, crate::specs::Heads::follows_default, crate::specs::Heads::follows_extern))]
 pub(crate) fn is_modifier(cursor: &Cursor<'_>) -> bool
     ensures { result ≡ spec.is_modifier cursor.now }
 {
     match cursor.word() {
         "const" => is_const_modifier(&second(cursor)),
-        "async" => is_among(second(cursor).word(), &BEHIND_ASYNC),
         "unsafe" => is_unsafe_modifier(&second(cursor)),
         "safe" => is_among(second(cursor).word(), &BEHIND_SAFE),
-        "default" => is_among(second(cursor).word(), &BEHIND_DEFAULT),
-        "gen" => second(cursor).word() == "fn",
-        "auto" => second(cursor).word() == "trait",
+        "default" | "final" => is_among(second(cursor).word(), &BEHIND_DEFAULT),
         "extern" => is_among(word_behind_abi(&second(cursor)), &BEHIND_EXTERN),
-        _ => false,
+        "type" => second(cursor).word() == "const",
+        "reuse" => second(cursor).word() == "impl",
+        _ => is_weak_modifier(cursor),
     }
 }
 
@@ -133,7 +160,7 @@ fn pass_modifier(cursor: &mut Cursor<'_>)
     }
 }
 
-/// Passes over `const`, `async`, `unsafe`, `safe`, `default`, `gen`, `auto` and `extern "C"`, where they are modifiers.
+/// Passes over the words that are modifiers where they stand, and the name of an interface behind `extern`.
 #[tactic(auto, unfolding(crate::specs::Heads::behind_modifiers), using(crate::proofs::Steps::modifiers_more, crate::proofs::Steps::modifiers_stop))]
 pub(crate) fn pass_modifiers(cursor: &mut Cursor<'_>)
     ensures { cursor.new ≡ spec.behind_modifiers cursor.old }
