@@ -1,6 +1,6 @@
 -- Metas of tokens that look alike are the same, until one goes past where the texts part. Their spans count from anchors that are as far from both.
 use Rattle.std.proofs.Common.{◌≡◌, ◌&&◌, ◌==◌, ℕ, zero, suc, true, false, Option, Some, List, [], refl, ap, codes, bytes_eq}
-use Rattle.rust_metas.proofs.Common.{and_parts, PathNode, MetaView, key_value_meta, token_tree_meta, cfg_meta, cfg_attr_meta, unsafe_meta, metas_from, CfgView, elements, one, Reader, pure, Tokens, symbol, word, bumped, is_at_open, through, Forwards, when, kept, Parting, Until, UpTo, cond_until, map_until, pass_until, bind_until, elements_until, Entering, Counted, is_edge, word_same, kind_same, text_same, open_same, edge_word, edge_test, symbol_test, after_word, after_symbol, path, path_until, tree_behind_comma, condition, is_truth, is_literal, is_ended, root, next_literal, value, assigned, input, plain_meta, is_call, is_named, is_named_call, in_brackets, member, conditional, meta_with, meta}
+use Rattle.rust_metas.proofs.Common.{and_parts, PathNode, MetaView, key_value_meta, token_tree_meta, cfg_meta, cfg_attr_meta, unsafe_meta, metas_from, CfgView, Reader, Tokens, symbol, word, bumped, is_at_open, Forwards, when, kept, Parting, Until, UpTo, cond_until, map_until, pass_until, bind_until, elements_until, Entering, Counted, is_edge, word_same, kind_same, text_same, open_same, edge_word, edge_test, symbol_test, after_word, after_symbol, path, path_until, tree_behind_comma, condition, is_truth, is_literal, is_ended, root, next_literal, value, assigned, input, plain_meta, is_call, is_named, is_named_call, member, conditional, meta_with, meta}
 use Rattle.rust_metas.proofs.Alike.{ended_same, in_brackets_until, condition_until}
 use Rattle.rust_metas.proofs.Around.{literal_symbol, named_symbol}
 use Rattle.rust_metas.proofs.Leads.{condition_leads, conditional_leads, input_leads, member_leads, members_leads, meta_leads}
