@@ -94,16 +94,16 @@ unfoldable pub leads_inside : Tokens → Bool
 leads_inside ts = is_block_word (word ts) || is_open_mark (symbol ts)
 
 -- one more block is to come before the statement's own; no more than so many are counted
-abbrev pub deeper : ℕ → ℕ
-deeper blocks = if nat_lt blocks 255 then blocks + 1 else blocks
+abbrev pub one_more_block : ℕ → ℕ
+one_more_block blocks = if nat_lt blocks 255 then blocks + 1 else blocks
 
 -- The same behind a token of what comes before its own block, which is the last of so many: each word of an expression that ends with a block
 -- asks for one. A pattern stands behind `let`, and behind a `for` that is not one of `for<'a>`.
 unfoldable pub header_behind : ℕ → Tokens → Scan
 header_behind blocks ts =
     if bytes_eq (word ts) (codes "let") then scans.Let blocks
-    else (if is_lone_for ts then scans.For (deeper blocks)
-    else (if is_control_word (word ts) then scans.Inside (deeper blocks)
+    else (if is_lone_for ts then scans.For (one_more_block blocks)
+    else (if is_control_word (word ts) then scans.Inside (one_more_block blocks)
     else (if leads_inside ts then scans.Inside blocks else scans.Header blocks)))
 
 -- how a statement goes on behind a token or a bracket of it that is not its own block; a pattern goes up to `=`, or to `in`

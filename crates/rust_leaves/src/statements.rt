@@ -168,8 +168,8 @@ fn leads_inside(cursor: &Cursor<'_>) -> bool
 }
 
 /// One more than so many blocks, if these can be counted.
-fn deeper(blocks: u8) -> u8
-    ensures { result ≡ spec.deeper blocks }
+fn one_more_block(blocks: u8) -> u8
+    ensures { result ≡ spec.one_more_block blocks }
 {
     if blocks < 255 { blocks + 1 } else { blocks }
 }
@@ -182,10 +182,10 @@ fn header_behind(cursor: &Cursor<'_>, blocks: u8) -> Scan
         return Scan::Let(blocks);
     }
     if cursor.is_lone_for() {
-        return Scan::For(deeper(blocks));
+        return Scan::For(one_more_block(blocks));
     }
     if is_control_word(cursor.word()) {
-        return Scan::Inside(deeper(blocks));
+        return Scan::Inside(one_more_block(blocks));
     }
     if leads_inside(cursor) {
         Scan::Inside(blocks)
