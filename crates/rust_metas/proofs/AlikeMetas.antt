@@ -1,6 +1,6 @@
 -- Metas of tokens that look alike are the same, until one goes past where the texts part. Their spans count from anchors that are as far from both.
 use Rattle.std.proofs.Common.{◌≡◌, ◌&&◌, ◌==◌, ℕ, zero, suc, true, false, Option, Some, List, [], refl, ap, codes, bytes_eq}
-use Rattle.rust_metas.proofs.Common.{and_parts, PathNode, MetaView, key_value_meta, token_tree_meta, cfg_meta, cfg_attr_meta, unsafe_meta, metas_from, CfgView, Reader, Tokens, symbol, word, bumped, is_at_open, Forwards, when, kept, Parting, Until, UpTo, cond_until, map_until, pass_until, bind_until, elements_until, Entering, Counted, is_edge, word_same, kind_same, text_same, open_same, edge_word, edge_test, symbol_test, after_word, after_symbol, path, path_until, tree_behind_comma, condition, is_truth, is_literal, is_ended, root, next_literal, value, assigned, input, plain_meta, is_call, is_named, is_named_call, member, conditional, meta_with, meta}
+use Rattle.rust_metas.proofs.Common.{and_parts, PathNode, MetaView, key_value_meta, token_tree_meta, cfg_meta, cfg_attr_meta, unsafe_meta, metas_from, CfgView, Reader, Tokens, symbol, word, bumped, is_at_open, Forwards, when, kept, Parting, Until, UpTo, cond_until, map_until, pass_until, bind_until, elements_until, Entering, Counted, is_edge, word_same, kind_same, text_same, open_same, edge_word, edge_test, symbol_test, after_word, after_symbol, path, path_until, tree_behind_comma, condition, is_truth, is_literal, is_ended, root, next_literal, value, assigned, input, plain_meta, is_call, is_at_name, is_named_call, member, conditional, meta_with, meta}
 use Rattle.rust_metas.proofs.Alike.{ended_same, in_brackets_until, condition_until}
 use Rattle.rust_metas.proofs.Around.{literal_symbol, named_symbol}
 use Rattle.rust_metas.proofs.Leads.{condition_leads, conditional_leads, input_leads, member_leads, members_leads, meta_leads}
@@ -55,23 +55,23 @@ call_next : (b : Parting) (w : List ℕ) (ts us : Tokens) → bytes_eq [] w ≡ 
 unfolding is_call
 call_next b w ts us empty h e = after_word b.twins w ts us empty h (and_parts (bytes_eq (word ts) w) (is_at_open (bumped ts)) e).0
 
-named_same : (b : Parting) (w : List ℕ) (ts us : Tokens) → b.twins.are ts us → is_named w us ≡ is_named w ts
-unfolding is_named
+named_same : (b : Parting) (w : List ℕ) (ts us : Tokens) → b.twins.are ts us → is_at_name w us ≡ is_at_name w ts
+unfolding is_at_name
 named_same b w ts us h = rw (word_same b.twins ts us h, kind_same b.twins ts us h, text_same b.twins ts us h) refl
 
-named_next : (b : Parting) (w : List ℕ) (ts us : Tokens) → bytes_eq [] w ≡ false → b.twins.are ts us → is_named w ts ≡ true → b.twins.are (bumped ts) (bumped us)
+named_next : (b : Parting) (w : List ℕ) (ts us : Tokens) → bytes_eq [] w ≡ false → b.twins.are ts us → is_at_name w ts ≡ true → b.twins.are (bumped ts) (bumped us)
 named_next b w ts us empty h e = b.twins.next ts us h (ap is_edge (named_symbol w ts empty e))
 
 named_call_same : (b : Parting) (w : List ℕ) (ts us : Tokens) → bytes_eq [] w ≡ false → b.twins.are ts us → is_named_call w us ≡ is_named_call w ts
 unfolding is_named_call
 named_call_same b w ts us empty h =
-    when (is_named w ts)
+    when (is_at_name w ts)
     (λ e. rw (named_same b w ts us h, open_same b.twins (bumped ts) (bumped us) (named_next b w ts us empty h e)) refl)
     (λ e. rw (named_same b w ts us h, e) refl)
 
 named_call_next : (b : Parting) (w : List ℕ) (ts us : Tokens) → bytes_eq [] w ≡ false → b.twins.are ts us → is_named_call w ts ≡ true → b.twins.are (bumped ts) (bumped us)
 unfolding is_named_call
-named_call_next b w ts us empty h e = named_next b w ts us empty h (and_parts (is_named w ts) (is_at_open (bumped ts)) e).0
+named_call_next b w ts us empty h e = named_next b w ts us empty h (and_parts (is_at_name w ts) (is_at_open (bumped ts)) e).0
 
 -- ---- metas
 

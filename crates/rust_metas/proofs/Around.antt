@@ -1,6 +1,6 @@
 -- Attributes stay in the brackets that they stand in.
 use Rattle.std.proofs.Common.{◌≡◌, ◌==◌, ◌||◌, ◌&&◌, ℕ, zero, suc, Bool, true, false, Option, Some, None, List, [], ◌∷◌, refl, sym, ◌∙◌, subst, codes, if◌then◌else◌, not, slice_index, bytes_eq}
-use Rattle.rust_metas.proofs.Common.{eqb-true, PathNode, MetaView, CfgView, DocStyle, Outer, Inner, Tokens, Reader, by_first, symbol, word, kind, text, at, is_empty, bumped, is_at_open, is_at_end, behind_closed, behind_tree, elements, one, begins_item, LeadsTo, here, further, through, Forwards, when, bumped_leads, behind_tree_leads, path, path_leads, is_literal_kind, is_truth, is_literal, is_ended, style_by, value, documentation, tree_comma_from, tree_behind_comma, is_word_kind, is_option_word, option_name, pair, named_condition, if_named, ended_condition, condition_with, conditions, condition, input, plain_meta, is_call, is_named, is_named_call, member, meta_with, meta, doc, behind_docs_from, behind_docs, behind_attribute, deepest, is_style, is_doc, is_attribute, is_behind, bracketed, past_mark, one_attribute, attribute, attributes, inner_attributes}
+use Rattle.rust_metas.proofs.Common.{eqb-true, PathNode, MetaView, CfgView, DocStyle, Outer, Inner, Tokens, Reader, by_first, symbol, word, kind, text, at, is_empty, bumped, is_at_open, is_at_end, behind_closed, behind_tree, elements, one, begins_item, LeadsTo, here, further, through, Forwards, when, bumped_leads, behind_tree_leads, path, path_leads, is_literal_kind, is_truth, is_literal, is_ended, style_by, value, documentation, tree_comma_from, tree_behind_comma, is_word_kind, is_option_word, option_name, pair, named_condition, if_named, ended_condition, condition_with, conditions, condition, input, plain_meta, is_call, is_at_name, is_named_call, member, meta_with, meta, doc, behind_docs_from, behind_docs, behind_attribute, deepest, is_style, is_doc, is_attribute, is_behind, bracketed, past_mark, one_attribute, attribute, attributes, inner_attributes}
 use Rattle.rust_lexer.specs.declared.kind.TokenKind.{TokenKind}
 use Rattle.rust_lexer.specs.declared.kind.TokenKind.TheVariants as kinds
 use Rattle.rust_lexer.specs.Piece.{Piece}
@@ -137,8 +137,8 @@ unfolding plain_meta
 plain_within end c anchor ts s = through (input_within end c anchor (path ts).0 (path ts).1 (sound_on end (path_leads ts) s)) (path_within end c ts s)
 
 -- a name has no symbol, written as `r#name` or not
-pub named_symbol : (w : List ℕ) (ts : Tokens) → bytes_eq [] w ≡ false → is_named w ts ≡ true → symbol ts ≡ 0
-unfolding is_named
+pub named_symbol : (w : List ℕ) (ts : Tokens) → bytes_eq [] w ≡ false → is_at_name w ts ≡ true → symbol ts ≡ 0
+unfolding is_at_name
 named_symbol w ts empty e =
     when (bytes_eq (word ts) w) (λ f. word_symbol w ts empty f)
     (λ f. let raw : (is_raw (kind ts) && is_text w (behind_hash (text ts))) ≡ true = rw f at e in raw_symbol ts (both_true (is_raw (kind ts)) (is_text w (behind_hash (text ts))) raw).0)
@@ -163,7 +163,7 @@ named_call_within : (end c : ℕ) (w : List ℕ) (ts us : Tokens) → bytes_eq [
     → Within c (behind_closed (symbol (bumped ts)) us) ts
 unfolding is_named_call
 named_call_within end c w ts us empty s e p h =
-    let first = both_true (is_named w ts) (is_at_open (bumped ts)) e in
+    let first = both_true (is_at_name w ts) (is_at_open (bumped ts)) e in
     behind_within end c ts us (named_symbol w ts empty first.0) s first.1 p h
 
 module _ (end : ℕ) (inner : Reader MetaView) (condition : Reader CfgView) (i : (c : ℕ) → Remains end c inner) (f : Forwards inner) (j : (c : ℕ) → Remains end c condition) (d : Forwards condition) where

@@ -14,7 +14,7 @@ use Rattle.rust_cursor.proofs.Common.{eat_pair, is_closing, is_pair, to_closing}
 use Rattle.rust_cursor.proofs.Steps.{closing_stop}
 use Rattle.rust_paths.proofs.Common.{eat_colons, has_name, is_colons, is_dollar_crate, is_keyword, is_path_colons, is_path_keyword, is_path_start, is_raw, is_segment, is_underscore, more_from, more_segments, name, next_name, other_segment, plain_name, segment}
 use Rattle.rust_metas.specs.declared.wanted.WantedMetas.TheVariants as wanted
-use Rattle.rust_metas.proofs.Common.{DocStyle, MetaView, Tokens, WantedMetas, and_parts, attribute, at, begins_item, behind_attribute, behind_bracket, behind_closed, behind_unread, bracketed, bumped, by_first, deepest, eqb-true, input, is_at_open, is_call, is_condition_meta, is_named, is_named_call, is_doc, is_empty, is_plain_name, is_unread, kept_by, kept_metas, kind, may_condition, meta, one, one_attribute, past_mark, path, plain_bracketed, plain_input, plain_meta, symbol, text, value, when, word}
+use Rattle.rust_metas.proofs.Common.{DocStyle, MetaView, Tokens, WantedMetas, and_parts, attribute, at, begins_item, behind_attribute, behind_bracket, behind_closed, behind_unread, bracketed, bumped, by_first, deepest, eqb-true, input, is_at_open, is_call, is_condition_meta, is_at_name, is_named_call, is_doc, is_empty, is_plain_name, is_unread, kept_by, kept_metas, kind, may_condition, meta, one, one_attribute, past_mark, path, plain_bracketed, plain_input, plain_meta, symbol, text, value, when, word}
 use Rattle.rust_metas.proofs.Depths.{meta_at}
 use Rattle.rust_metas.proofs.RoundTexts.{round_text}
 
@@ -164,7 +164,7 @@ no_call w ts e = rw e refl
 
 -- a word is no other name
 no_named_call : (w : List ℕ) (ts : Tokens) → IsWord ts → bytes_eq (word ts) w ≡ false → is_named_call w ts ≡ false
-unfolding is_named_call is_named
+unfolding is_named_call is_at_name
 no_named_call w ts here e = rw (e, here.kind_is) refl
 
 plain_read : (anchor : ℕ) (ts : Tokens) → IsPlainName ts → meta anchor deepest ts ≡ plain_meta anchor ts

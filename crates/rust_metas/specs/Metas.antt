@@ -49,12 +49,12 @@ is_text w None = false
 is_text w (Some v) = bytes_eq v w
 
 -- the name comes next, perhaps as `r#name`
-unfoldable pub is_named : List ℕ → Tokens → Bool
-is_named w ts = bytes_eq (word ts) w || (is_raw (kind ts) && is_text w (behind_hash (text ts)))
+unfoldable pub is_at_name : List ℕ → Tokens → Bool
+is_at_name w ts = bytes_eq (word ts) w || (is_raw (kind ts) && is_text w (behind_hash (text ts)))
 
 -- the name and a bracket
 unfoldable pub is_named_call : List ℕ → Tokens → Bool
-is_named_call w ts = is_named w ts && is_at_open (bumped ts)
+is_named_call w ts = is_at_name w ts && is_at_open (bumped ts)
 
 -- a meta and the comma behind it
 abbrev pub member : Reader MetaView → Reader MetaView

@@ -63,9 +63,9 @@ fn is_call(cursor: &Cursor<'_>, word: &str) -> bool
 }
 
 /// Whether the name comes next, perhaps as `r#name`.
-#[tactic(auto, unfolding(crate::specs::Metas::is_named))]
-fn is_named(cursor: &Cursor<'_>, name: &str) -> bool
-    ensures { result ≡ spec.is_named name.now cursor.now }
+#[tactic(auto, unfolding(crate::specs::Metas::is_at_name))]
+fn is_at_name(cursor: &Cursor<'_>, name: &str) -> bool
+    ensures { result ≡ spec.is_at_name name.now cursor.now }
 {
     if cursor.word() == name {
         return true;
@@ -81,7 +81,7 @@ fn is_named(cursor: &Cursor<'_>, name: &str) -> bool
 fn is_named_call(cursor: &Cursor<'_>, name: &str) -> bool
     ensures { result ≡ spec.is_named_call name.now cursor.now }
 {
-    if !is_named(cursor, name) {
+    if !is_at_name(cursor, name) {
         return false;
     }
     let mut ahead = cursor.ahead();

@@ -1,6 +1,6 @@
 -- Names, paths and visibilities of tokens that look alike are the same, until one goes past where the texts part.
 use Rattle.std.proofs.Common.{◌≡◌, ◌==◌, ℕ, zero, suc, Bool, true, false, Option, Some, None, List, ◌∷◌, refl, ap, ◌∙◌, arith, codes, option_map, is_some, not, bytes_eq}
-use Rattle.rust_paths.proofs.Common.{nat_tests, and_parts, PathNode, Visibility, name_word, behind_closed, Reader, pure, Tokens, symbol, word, kind, text, bumped, eat_colons, Forwards, through, when, behind_closed_leads, Parting, Until, UpTo, kept, cond_until, with_rest, map_until, pass_until, then_until, bind_until, eat_pair_until, is_edge, symbol_same, word_same, kind_same, text_same, edge_word, edge_test, edge_identifier, identifier_same, word_test, symbol_test, after_word, after_symbol, pair_same, after_pair, path_node, name_text, has_name, as_name, next_name, taken_with, name, is_raw, is_dollar_crate, is_segment, named_word, other_segment, segment, is_colons, is_joint, is_last_self, is_path_colons, has_more, and_path_word, more_from, more_segments, front_of_path, written_path, is_path_start, path_in, path, use_path, in_path, scope_path, is_path_part, behind_parts_from, behind_parts, is_bare, plain_scope, scope_of, scope, is_in, scoped, visibility}
+use Rattle.rust_paths.proofs.Common.{nat_tests, and_parts, PathNode, Visibility, name_word, behind_closed, Reader, pure, Tokens, symbol, word, kind, text, bumped, eat_colons, Forwards, through, when, behind_closed_leads, Parting, Until, UpTo, kept, cond_until, with_rest, map_until, pass_until, then_until, bind_until, eat_pair_until, is_edge, symbol_same, word_same, kind_same, text_same, edge_word, edge_test, edge_identifier, identifier_same, word_test, symbol_test, after_word, after_symbol, pair_same, after_pair, path_node, name_text, has_name, as_name, next_name, taken_with, name, is_raw, is_dollar_crate, is_segment, named_word, other_segment, segment, is_colons, is_joint, is_last_self, is_path_colons, has_more, and_path_word, more_from, more_segments, front_of_path, written_path, is_path_start, path_in, path, use_path, in_path, scope_path, is_path_part, behind_parts_from, behind_parts, is_bare_path, plain_scope, scope_of, scope, is_in, scoped, visibility}
 use Rattle.rust_cursor.specs.Elements.{most}
 use Rattle.rust_cursor.specs.Reader.{◌>>=◌}
 use Rattle.rust_paths.proofs.Around.{name_symbol, raw_symbol}
@@ -216,8 +216,8 @@ parts_are b (suc n) ts us h =
     let same : is_path_part us ≡ is_path_part ts = rw (identifier_same b.twins ts us h, symbol_same b.twins ts us h) refl in
     when (is_path_part ts) (λ e. rw (same, e) (parts_are b n (bumped ts) (bumped us) (b.twins.next ts us h (part_no_edge ts e)))) (λ e. rw (same, e) h)
 
-bare_same : (b : Parting) (ts us : Tokens) → b.twins.are (bumped ts) (bumped us) → is_bare us ≡ is_bare ts
-unfolding is_bare behind_parts
+bare_same : (b : Parting) (ts us : Tokens) → b.twins.are (bumped ts) (bumped us) → is_bare_path us ≡ is_bare_path ts
+unfolding is_bare_path behind_parts
 bare_same b ts us n =
     let vs = behind_parts_from most (bumped ts) in
     let ws = behind_parts_from most (bumped us) in

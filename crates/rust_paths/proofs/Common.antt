@@ -30,7 +30,7 @@ unfoldable pub use Rattle.rust_paths.specs.Paths.{is_colons, is_dollar_crate, is
 pub use Rattle.rust_paths.specs.UseTrees.{FoundInUse, alias_if, all_found, all_starts, bare_tree, begun_list, begun_trees, element_with, first_too_deep, no_list, renamed_tree, self_in_list, self_path, self_tree, some_list, star_or_list, tree_behind, tree_comma_from, tree_with, tree_with_list, trees, values, with_bare, with_list, with_self}
 unfoldable pub use Rattle.rust_paths.specs.UseTrees.{alias, element, list, rename, tree_at, tree_behind_comma, use_tree}
 pub use Rattle.rust_paths.specs.Visibilities.{behind_parts_from, in_path, is_path_part, plain_scope, scope_path}
-unfoldable pub use Rattle.rust_paths.specs.Visibilities.{behind_parts, is_bare, is_in, scope, scope_of, scoped, visibility}
+unfoldable pub use Rattle.rust_paths.specs.Visibilities.{behind_parts, is_bare_path, is_in, scope, scope_of, scoped, visibility}
 pub use Rattle.std.proofs.lemmas.Bool.{and_parts, ne_eqb}
 pub use Rattle.std.proofs.lemmas.Bool.Decides.{nat_tests}
 pub use Rattle.std.specs.Option.{SomeIff, option_or}

@@ -61,12 +61,12 @@ unfoldable pub behind_parts : Tokens → Tokens
 behind_parts ts = behind_parts_from most ts
 
 -- Words and colons in brackets come next, and a word behind these: so does a path in `pub(a::b) fn f() {}`, and no type in `struct Pair(pub (a::B))`.
-unfoldable pub is_bare : Tokens → Bool
-is_bare ts = symbol (behind_parts (bumped ts)) == 41 && is_at_identifier (bumped (behind_parts (bumped ts)))
+unfoldable pub is_bare_path : Tokens → Bool
+is_bare_path ts = symbol (behind_parts (bumped ts)) == 41 && is_at_identifier (bumped (behind_parts (bumped ts)))
 
 -- A word in brackets is the visibility that it names, and a path in them is read as behind `in`.
 abbrev pub plain_scope : Option Visibility → Reader Visibility
-plain_scope None ts = if is_bare ts then scope_path (bumped ts) else (Pub, ts)
+plain_scope None ts = if is_bare_path ts then scope_path (bumped ts) else (Pub, ts)
 plain_scope (Some v) ts = (v, bumped (bumped (bumped ts)))
 
 -- `in` comes next in a bracket

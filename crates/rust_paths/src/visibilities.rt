@@ -103,9 +103,9 @@ fn pass_parts(cursor: &mut Cursor<'_>)
 }
 
 /// Whether words and colons in brackets come next, and a word behind these.
-#[tactic(auto, unfolding(crate::specs::Visibilities::is_bare))]
-fn is_bare(cursor: &Cursor<'_>) -> bool
-    ensures { result ≡ spec.is_bare cursor.now }
+#[tactic(auto, unfolding(crate::specs::Visibilities::is_bare_path))]
+fn is_bare_path(cursor: &Cursor<'_>) -> bool
+    ensures { result ≡ spec.is_bare_path cursor.now }
 {
     let mut ahead = cursor.ahead();
     ahead.bump();
@@ -127,7 +127,7 @@ fn plain_scope(alloc: Global, cursor: &mut Cursor<'_>) -> Result<Visibility, All
         cursor.bump();
         return Ok(visibility);
     }
-    if !is_bare(cursor) {
+    if !is_bare_path(cursor) {
         return Ok(Visibility::Pub);
     }
     cursor.bump();
