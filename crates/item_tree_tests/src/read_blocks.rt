@@ -89,6 +89,35 @@ const SHAPES: &[(&str, &str)] = &[
         "OOO|M",
     ),
     ("{ union union {} union r#as {} union + 1 }", "II|O"),
+    ("{ async gen { yield 1 } }", "|O"),
+    (
+        "{ async gen move { yield 1 }; async gen fn f() {} gen { 1 }; gen unsafe fn g() {} 1 }",
+        "OIOI|O",
+    ),
+    (
+        "{ static move || {}; static || 1; use || x; let a = x.use; let b = x.use.y; use a::b; a.use }",
+        "OOOOOI|O",
+    ),
+    (
+        "{ const || {}; const move || {}; const A: u8 = 1; const async fn f() {} }",
+        "OOII|",
+    ),
+    (
+        "{ while !{ a(); b } { struct S; } if 1 < { n } { m!() } if m! { x } { struct T; } if -{ a } + { b } == *{ c } { } fn f() {} }",
+        "OOOOI|",
+    ),
+    (
+        "{ for x in if a { b } else { c } { } for y in match a { B => c } { } while if a { b } else if c { d } else { e } { } fn f() {} }",
+        "OOOI|",
+    ),
+    (
+        "{ if let S { a } = if b { c } else { d } && if if e { f } else { g } { h } else { i } { } else if { j } { } else { } fn f() {} }",
+        "OI|",
+    ),
+    (
+        "{ match None::<u8> { } match a::<{ N }, { M }>() { } for x in 0.. { } if 'a: { break 'a true } { } m!{} 1 }",
+        "OOOOM|O",
+    ),
 ];
 
 fn has_shape(alloc: Global, text: &str, shape: &str) -> Result<bool, AllocError> {

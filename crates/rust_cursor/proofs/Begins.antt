@@ -34,7 +34,7 @@ no_within : (ts : Tokens) → leads_item (word ts) ≡ false → begins_within t
 unfolding begins_within
 no_within ts e =
     let none : (k : List ℕ) → leads_item k ≡ true → bytes_eq (word ts) k ≡ false = λ k h. other_word (word ts) k e h in
-    rw (none (codes "pub") refl, none (codes "use") refl, none (codes "static") refl) (no_item ts e)
+    rw (none (codes "pub") refl, none (codes "use") refl) (no_item ts e)
 
 neither : (flat free item behind within : Bool) → item ≡ false → behind ≡ false → within ≡ false → (if flat then item || behind else free && within) ≡ false
 neither true free item behind within i b w = rw (i, b) refl

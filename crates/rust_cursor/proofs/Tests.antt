@@ -33,7 +33,7 @@ behind_same b _ ts us h n = refl
 
 within_same : (b : Twins) (ts us : Tokens) → b.are ts us → b.are (bumped ts) (bumped us) → begins_within us ≡ begins_within ts
 unfolding begins_within
-within_same b ts us h n = rw (word_same b ts us h, identifier_same b (bumped ts) (bumped us) n, word_same b (bumped ts) (bumped us) n, item_same b ts us h n) refl
+within_same b ts us h n = rw (word_same b ts us h, identifier_same b (bumped ts) (bumped us) n, item_same b ts us h n) refl
 
 edge_begins : (n : Nest) (ts : Tokens) → is_edge (symbol ts) ≡ true → begins n ts ≡ false
 edge_begins n ts e =
@@ -105,7 +105,7 @@ header_same b n ts us h = rw (lone_for_same b ts us h, symbol_same b ts us h, wo
 
 barred_same : (b : Twins) (r : Reach) (n : Nest) (ts us : Tokens) → b.are ts us → is_barred r n us ≡ is_barred r n ts
 barred_same b reaches.Angles n ts us h = rw (begins_same b n ts us h, symbol_same b ts us h, end_same b ts us h) refl
-barred_same b reaches.Field n ts us h = rw (symbol_same b ts us h, end_same b ts us h) refl
+barred_same b reaches.Field n ts us h = rw (begins_same b n ts us h, symbol_same b ts us h, end_same b ts us h) refl
 barred_same b reaches.Header n ts us h = rw (begins_same b n ts us h, header_same b n ts us h, symbol_same b ts us h) refl
 
 pub reached_same : (b : Twins) (r : Reach) (n : Nest) (ts us : Tokens) → b.are ts us → is_reached r n us ≡ is_reached r n ts

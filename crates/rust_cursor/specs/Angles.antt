@@ -40,7 +40,7 @@ is_header_end nest ts =
 -- nothing more is passed over from here on, in no brace
 abbrev pub is_barred : Reach → Nest → Tokens → Bool
 is_barred reaches.Angles nest ts = closes_around nest ts || (begins nest ts || (nest.others == 0 && symbol ts == 59))
-is_barred reaches.Field nest ts = closes_around nest ts || (nest.others == 0 && (nest.angles == 0 && symbol ts == 44))
+is_barred reaches.Field nest ts = closes_around nest ts || (begins nest ts || (nest.others == 0 && (nest.angles == 0 && symbol ts == 44)))
 is_barred reaches.Header nest ts = symbol ts == 125 || (begins nest ts || (nest.others == 0 && is_header_end nest ts))
 
 unfoldable pub is_reached : Reach → Nest → Tokens → Bool
@@ -62,7 +62,7 @@ reached reach ts = reaching reach begun ts
 unfoldable pub behind_angles : Tokens → Tokens
 behind_angles ts = if symbol ts == 60 then reached reaches.Angles ts else ts
 
--- what is left from the comma or the bracket that closes on that ends a field's type
+-- what is left from the comma or the bracket that closes on that ends a field's type, or from what begins an item
 abbrev pub behind_field : Tokens → Tokens
 behind_field = reached reaches.Field
 

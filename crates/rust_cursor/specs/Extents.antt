@@ -20,14 +20,23 @@ abbrev pub is_item_word : List ℕ → Bool
 is_item_word w =
     bytes_eq w (codes "pub") || (bytes_eq w (codes "mod") || (bytes_eq w (codes "struct") || (bytes_eq w (codes "enum") || bytes_eq w (codes "trait"))))
 
+-- behind `use`: a use tree begins, with a word, `::`, `*` or `{`; so it does in no closure `use ||`, bound `use<'a>` or value `x.use`
+abbrev pub follows_use : Tokens → Bool
+follows_use ts = is_at_identifier ts || (symbol ts == 58 || (symbol ts == 42 || symbol ts == 123))
+
+-- behind `static`: a name, or `mut`; `move`, `use` and `async` go on with a closure
+abbrev pub follows_static : Tokens → Bool
+follows_static ts = is_at_identifier ts && not (bytes_eq (word ts) (codes "move") || (bytes_eq (word ts) (codes "use") || bytes_eq (word ts) (codes "async")))
+
 -- A word comes next that can begin an item only: here an item ends that was not ended.
 unfoldable pub begins_item : Tokens → Bool
 begins_item ts =
     if is_item_word (word ts) then true
-    else (if bytes_eq (word ts) (codes "use") then not (symbol (bumped ts) == 60)
-    else (if bytes_eq (word ts) (codes "fn") || (bytes_eq (word ts) (codes "static") || bytes_eq (word ts) (codes "type")) then is_at_identifier (bumped ts)
+    else (if bytes_eq (word ts) (codes "use") then follows_use (bumped ts)
+    else (if bytes_eq (word ts) (codes "static") then follows_static (bumped ts)
+    else (if bytes_eq (word ts) (codes "fn") || bytes_eq (word ts) (codes "type") then is_at_identifier (bumped ts)
     else (if bytes_eq (word ts) (codes "macro_rules") then symbol (bumped ts) == 33
-    else (if bytes_eq (word ts) (codes "extern") then bytes_eq (word (bumped ts)) (codes "crate") else false))))
+    else (if bytes_eq (word ts) (codes "extern") then bytes_eq (word (bumped ts)) (codes "crate") else false)))))
 
 -- behind `const`: a function, or a name or `_` with a colon
 abbrev pub follows_const : Tokens → Bool
@@ -48,13 +57,11 @@ begins_behind befores.End ts = if symbol ts == 35 then symbol (bumped ts) == 91 
 begins_behind befores.Angle ts = begins_impl_or_const ts
 begins_behind _ ts = false
 
--- The same in a bracket that is no brace, where a field may be `pub` and a closure `use` or `static`.
+-- The same in a bracket that is no brace, where a field may be `pub`.
 unfoldable pub begins_within : Tokens → Bool
 begins_within ts =
     if bytes_eq (word ts) (codes "pub") then false
-    else (if bytes_eq (word ts) (codes "use") then is_at_identifier (bumped ts)
-    else (if bytes_eq (word ts) (codes "static") then not (bytes_eq (word (bumped ts)) (codes "move") || bytes_eq (word (bumped ts)) (codes "async")) && begins_item ts
-    else begins_item ts))
+    else (if bytes_eq (word ts) (codes "use") then is_at_identifier (bumped ts) else begins_item ts)
 
 -- An item begins, in no brace.
 abbrev pub begins : Nest → Tokens → Bool

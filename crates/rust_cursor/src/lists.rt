@@ -1,6 +1,6 @@
 //! Lists.
 
-ghost use Rattle.std.specs.Prelude.{◌≡◌, ◌++◌, OnOk, option_to_list};
+ghost use Rattle.std.specs.Prelude.{◌≡◌, ◌++◌, MatchResult, option_to_list};
 
 use std::alloc::AllocError;
 
@@ -8,9 +8,10 @@ use std::alloc::AllocError;
 ///
 /// # Errors
 ///
-/// Only if memory runs out.
+/// Only if memory runs out. Then the list is as it was.
 pub fn push_some<T: Drop>(list: &mut Vec<T>, item: Option<T>) -> Result<(), AllocError>
-    ensures { OnOk result (list.new.items ≡ list.old.items ++ option_to_list item) }
+    ensures { MatchResult result (λ _. list.new.items ≡ list.old.items ++ option_to_list item)
+        (λ _. list.new.items ≡ list.old.items) }
 {
     match item {
         Some(item) => {

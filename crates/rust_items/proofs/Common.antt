@@ -50,16 +50,16 @@ pub use Rattle.rust_items.specs.declared.ids.Numbers.{Numbers}
 pub use Rattle.rust_items.specs.declared.log.ItemSpan.{ItemSpan}
 pub use Rattle.rust_items.specs.declared.log.ProblemKind.{ProblemKind}
 pub use Rattle.rust_items.specs.declared.source_file.ItemPlace.{ItemPlace}
-pub use Rattle.rust_leaves.proofs.Beside.{LeafAlike, NameAlike, RangeAlike, RestAlike, SameRange, block_item_local, call_end_local, constant_local, fields_of, function_local, impl_end_local, implementation_local, item_end_local, macro_def_local, macro_definition_local, named_local, static_local, structure_local, type_alias_local}
+pub use Rattle.rust_leaves.proofs.Beside.{LeafAlike, NameAlike, RangeAlike, RestAlike, SameRange, block_item_local, call_end_local, constant_local, fields_of, impl_end_local, implementation_local, item_end_local, macro_def_local, macro_definition_local, named_local, static_local, structure_local, type_alias_local, attributed_local}
 pub use Rattle.rust_leaves.proofs.Fronts.{behind_others_beside, head_local, modifiers_beside}
 pub use Rattle.rust_leaves.specs.Clipped.{clipped_item, clipped_list, clipped_named, clipped_node, unattributed}
 unfoldable pub use Rattle.rust_leaves.specs.Clipped.{clipped_front, clipped_leaf, clipped_leaf_if, leaf_behind, wanted_item, wanted_leaf, wanted_leaf_if, with_value}
 pub use Rattle.rust_leaves.specs.Fronts.{FrontRead}
 unfoldable pub use Rattle.rust_leaves.specs.Fronts.{front, front_behind}
 pub use Rattle.rust_leaves.specs.Heads.{behind_head, behind_modifiers_from}
-unfoldable pub use Rattle.rust_leaves.specs.Heads.{behind_abi, behind_modifier, behind_modifiers, behind_others, head, head_by, is_modifier}
-pub use Rattle.rust_leaves.specs.Kinds.{block_item, call_behind, called, leaf_by, named_node, node, some_read, told_at, use_read}
-unfoldable pub use Rattle.rust_leaves.specs.Kinds.{constant, crate_item, enumeration, function, implementation, invocation, is_called, leaf, macro_def, macro_definition, static_value, structure, trait_item, type_alias, union_item, use_declaration}
+unfoldable pub use Rattle.rust_leaves.specs.Heads.{behind_abi, behind_modifier, behind_modifiers, behind_others, head, head_by, is_called, is_modifier}
+pub use Rattle.rust_leaves.specs.Kinds.{block_item, call_behind, called, leaf_by, named_node, node, some_read, told_at, use_read, attributed_item}
+unfoldable pub use Rattle.rust_leaves.specs.Kinds.{constant, crate_item, enumeration, function, implementation, invocation, leaf, macro_def, macro_definition, static_value, structure, trait_item, type_alias, union_item, use_declaration}
 pub use Rattle.rust_leaves.specs.Leaves.{LeafRead, NameRead, are_over, crate_alias_if, fields_at, is_before, name_read, no_name, range_to, semicolon_end, symbol_within}
 unfoldable pub use Rattle.rust_leaves.specs.Leaves.{block_attributes, call_end, crate_alias, fields, header_field, impl_end, item_end, macro_end, named, named_or, renamed, struct_fields, value_end}
 pub use Rattle.rust_leaves.specs.declared.head.Head.{Head}

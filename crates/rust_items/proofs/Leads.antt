@@ -1,6 +1,6 @@
 -- What is left behind items that hold none is left of the tokens before them, and what they are.
 use Rattle.std.proofs.Common.{◌≡◌, ◌==◌, ◌&&◌, ℕ, zero, suc, Bool, true, false, Option, Some, None, List, [], codes, refl, ap, ◌∙◌, arith, is_some, bytes_eq}
-use Rattle.rust_items.proofs.Common.{AllZip, and_parts, AstIdKind, FileAstId, Visibility, MetaView, PlainKind, union_kind, enum_kind, trait_kind, no_items, Tokens, symbol, word, kind, text, at, eat, eat_word, is_empty, is_at_open, bumped, is_at_end, ExcerptRead, tree_body, LeadsTo, here, further, through, Forwards, when, bumped_leads, eat_leads, eat_word_leads, behind_tree_leads, taken_leads_on, Takes, takes, takes_leads, takes_behind, takes_before, symbol_some, word_none, HasBlock, no_block, block, taken_block, TextRange, Placed, placed_name, path, use_tree, placed_name_leads, placed_next, path_leads, visibility_leads, use_tree_leads, outer_attributes_leads, Head, LeafRead, range_to, name_read, named, named_or, crate_alias, crate_alias_if, renamed, impl_end, item_end, macro_end, value_end, semicolon_end, call_end, function, block_item, union_item, enumeration, trait_item, macro_def, type_alias, static_value, constant, structure, implementation, told_at, crate_item, use_declaration, macro_definition, is_called, invocation, leaf_by, leaf, FrontRead, front_behind, front, id_of, name_of, items_held, trees_in, written_trees, behind_abi, is_modifier, behind_modifier, behind_modifiers_from, behind_modifiers, head_by, behind_head, head, behind_others}
+use Rattle.rust_items.proofs.Common.{AllZip, and_parts, AstIdKind, FileAstId, Visibility, MetaView, PlainKind, union_kind, enum_kind, trait_kind, no_items, Tokens, symbol, word, kind, text, at, eat, eat_word, is_empty, is_at_open, bumped, is_at_end, ExcerptRead, tree_body, LeadsTo, here, further, through, Forwards, when, bumped_leads, eat_leads, eat_word_leads, behind_tree_leads, taken_leads_on, Takes, takes, takes_leads, takes_behind, takes_before, symbol_some, word_none, HasBlock, no_block, block, taken_block, TextRange, Placed, placed_name, path, use_tree, placed_name_leads, placed_next, path_leads, visibility_leads, use_tree_leads, outer_attributes_leads, Head, LeafRead, range_to, name_read, named, named_or, crate_alias, crate_alias_if, renamed, impl_end, item_end, macro_end, value_end, semicolon_end, call_end, function, block_item, union_item, enumeration, trait_item, macro_def, type_alias, static_value, constant, structure, implementation, told_at, crate_item, use_declaration, macro_definition, is_called, invocation, leaf_by, leaf, FrontRead, front_behind, front, id_of, name_of, items_held, trees_in, written_trees, behind_abi, is_modifier, behind_modifier, behind_modifiers_from, behind_modifiers, head_by, behind_head, head, behind_others, fn_kind, attributed_item}
 use Rattle.std.specs.Option.{option_or}
 use Rattle.hir_input.specs.declared.ids.AstIdKind.TheVariants as ast
 use Rattle.rust_leaves.specs.declared.head.Head.TheVariants as heads
@@ -224,9 +224,8 @@ plain_leaf : {ts us : Tokens} (l : LeafRead) → id_of l.item ≡ Some (blank l.
 plain_leaf l e f uses leads name body told = record { leads = leads; id = e; alone = f; name = name; body = body; told = told; uses = uses }
 
 module _ (attrs : List MetaView) (v : Option Visibility) (ts : Tokens) where
-  pub function_leaf : IsLeaf ts (function attrs v ts).1 (function attrs v ts).0
-  unfolding function
-  function_leaf = plain_leaf _ refl refl tt (through (named_leads ts) (item_end_leads _)) (name_before (named_named ts) (item_end_leads _)) (braces_behind (named_leads ts) (item_end_braced _)) (λ _. named_told ts)
+  attributed_leaf : (k : PlainKind) → IsLeaf ts (attributed_item k attrs v ts).1 (attributed_item k attrs v ts).0
+  attributed_leaf k = plain_leaf _ refl refl tt (through (named_leads ts) (item_end_leads _)) (name_before (named_named ts) (item_end_leads _)) (braces_behind (named_leads ts) (item_end_braced _)) (λ _. named_told ts)
 
   block_leaf : (k : PlainKind) → IsLeaf ts (block_item k attrs v ts).1 (block_item k attrs v ts).0
   block_leaf k = plain_leaf _ refl refl tt (through (named_leads ts) (item_end_leads _)) (name_before (named_named ts) (item_end_leads _)) (braces_behind (named_leads ts) (item_end_braced _)) (λ _. named_told ts)
@@ -322,12 +321,12 @@ taken_at ts us vs None t p = through (takes_leads t) p
 taken_at ts us vs (Some l) t p = leaf_taken t p
 
 leaf_by_at : (h : Head) (attrs : List MetaView) (v : Option Visibility) (ts : Tokens) → LeafAt ts (leaf_by h attrs v ts).1 (leaf_by h attrs v ts).0
-unfolding trait_item union_item enumeration
+unfolding function trait_item union_item enumeration
 leaf_by_at heads.Use attrs v ts = use_leaf attrs v ts
 leaf_by_at heads.ExternCrate attrs v ts = crate_leaf attrs v ts
-leaf_by_at heads.Fn attrs v ts = function_leaf attrs v ts
+leaf_by_at heads.Fn attrs v ts = attributed_leaf attrs v ts fn_kind
 leaf_by_at heads.Impl attrs v ts = impl_leaf attrs v ts
-leaf_by_at heads.Trait attrs v ts = block_leaf attrs v ts trait_kind
+leaf_by_at heads.Trait attrs v ts = attributed_leaf attrs v ts trait_kind
 leaf_by_at heads.Struct attrs v ts = struct_leaf attrs v ts
 leaf_by_at heads.Union attrs v ts = block_leaf attrs v ts union_kind
 leaf_by_at heads.Enum attrs v ts = block_leaf attrs v ts enum_kind

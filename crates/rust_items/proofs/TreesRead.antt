@@ -1,11 +1,15 @@
 -- Where a use tree tells that trees begin, those of it that can be read are read.
-use Rattle.std.proofs.Common.{◌≡◌, ◌==◌, ◌||◌, ℕ, zero, suc, Bool, true, false, Option, Some, None, List, [], ◌∷◌, ◌++◌, codes, refl, sym, ap, ◌∙◌, subst, append-nil, append_assoc, arith, is_none, option_map, option_to_list, bytes_eq}
+use Rattle.std.proofs.Common.{◌≡◌, ◌==◌, ◌||◌, ℕ, zero, suc, Bool, true, false, Option, Some, None, List, [], ◌∷◌, ◌++◌, codes, refl, sym, ap, ◌∙◌, subst, append-nil, append_assoc, arith, is_none, option_map, option_to_list, not, bytes_eq}
 use Rattle.rust_items.proofs.Common.{AllZip, PathNode, UseTreeView, trees_from, Tokens, symbol, word, kind, at, is_empty, is_pair, eat_pair, bumped, is_at_end, eat_colons, most, beyond, turns_from, turns, elements, one, LeadsTo, here, through, when, bumped_leads, eat_pair_leads, behind_closed_leads, behind_tree_leads, beyond_leads, turns_leads, Takes, takes, takes_behind, takes_before, symbol_some, word_none, next_name, name, placed_name, taken_with, is_raw, is_dollar_crate, other_segment, segment, more_segments, front_of_path, written_path, is_path_start, use_path, FoundInUse, begun_trees, begun_list, values, all_starts, bare_tree, tree_with_list, star_or_list, tree_behind, tree_with, tree_at, element_with, list, rename, use_tree, placed_next, segment_leads, more_segments_leads, use_path_leads, rename_leads, behind_comma_leads, list_leads, element_leads, is_readable, all_readable_trees, readable_trees, written_trees}
 use Rattle.hir_input.specs.declared.ast.PathNode.TheVariants.{Readable, Unreadable}
 use Rattle.hir_input.specs.declared.ast.Rename.{Rename}
 use Rattle.hir_input.specs.Words.{PathWord, name_word}
 use Rattle.rust_cursor.specs.Reader.{Reader}
 use Rattle.rust_paths.specs.Meaning.{path_node}
+use Rattle.rust_paths.specs.Paths.{is_colons, is_last_self}
+use Rattle.rust_paths.specs.UseTrees.{self_in_list, self_path}
+use Rattle.rust_paths.proofs.Trees.{self_reads}
+use Rattle.std.proofs.lemmas.Bool.{and_parts}
 
 -- ---- lists side by side
 
@@ -124,6 +128,11 @@ module _ (R : ℕ → UseTreeView → Type 0) (start : ℕ) where
   bare_at (Some Unreadable) star r root = tt
   bare_at (Some (Readable q)) star r root = (root refl, tt)
 
+  self_at : (p : Option PathNode) (inner : ℕ) (r : Option Rename) → (is_readable p ≡ true → R start (self_in_list p r)) → R inner (bare_tree (Some self_path) false r) → AllZip R (begun_trees p start (inner ∷ [])) (readable_trees (self_in_list p r))
+  self_at None inner r root below = (root refl, (below, tt))
+  self_at (Some Unreadable) inner r root below = tt
+  self_at (Some (Readable q)) inner r root below = (root refl, (below, tt))
+
   none_below : (ss : List ℕ) → ss ≡ [] → AllZip R ss []
   none_below ss e = subst (λ (l : List ℕ). AllZip R l []) (sym e) tt
 
@@ -163,6 +172,10 @@ bare_takes : (p : Option PathNode) (ts us vs : Tokens) → PathTakes p ts us →
 bare_takes (Some (Readable q)) ts us vs t p e r = takes_before t p
 bare_takes _ ts us vs t p e r = absurd cc
 
+self_some : (ts : Tokens) → is_last_self ts ≡ true → is_empty ts ≡ false
+unfolding is_last_self
+self_some ts e = word_some (codes "self") refl ts (and_parts (bytes_eq (word ts) (codes "self")) (not (is_colons (bumped ts))) e).0
+
 module _ (depth : ℕ) (h : (ts : Tokens) → ListTold ts (list depth ts)) (ts us : Tokens) (p : Option PathNode) (leads : LeadsTo ts us) (path : PathTakes p ts us) where
   -- the tree that is read from here on is this
   IsTree : Option UseTreeView → Type 0
@@ -170,6 +183,15 @@ module _ (depth : ℕ) (h : (ts : Tokens) → ListTold ts (list depth ts)) (ts u
 
   root_read : (vs : Tokens) → Takes ts vs → (w : UseTreeView) → (tree_at depth ts).0.value ≡ Some w → IsRead ts vs (at ts) w
   root_read vs t w e = record { from = ts; before = here; taken = t; first = refl; depth = depth; tree = e }
+
+  self_told : (symbol us == 42) ≡ false → is_last_self us ≡ true → IsTree (star_or_list (list depth) (at ts) p us).0.value → TreeTold ts (star_or_list (list depth) (at ts) p us)
+  unfolding IsTree
+  self_told e f is =
+      let r = rename (bumped us) in
+      let v : (star_or_list (list depth) (at ts) p us).0.value ≡ Some (self_in_list p r.0) = rw (e, f) refl in
+      let some = self_some us f in
+      rw (e, f) (self_at (IsRead ts r.1) (at ts) p (at us) r.0 (λ g. root_read r.1 (takes us leads some (rename_leads (bumped us))) _ (is _ v))
+      (record { from = us; before = leads; taken = takes us here some (rename_leads (bumped us)); first = refl; depth = depth; tree = self_reads depth us f }))
 
   star_told : IsTree (star_or_list (list depth) (at ts) p us).0.value → TreeTold ts (star_or_list (list depth) (at ts) p us)
   unfolding IsTree
@@ -179,12 +201,13 @@ module _ (depth : ℕ) (h : (ts : Tokens) → ListTold ts (list depth ts)) (ts u
       let v : (star_or_list (list depth) (at ts) p us).0.value ≡ Some (bare_tree p true None) = rw e refl in
       let some = takes us leads (symbol_some 42 us (omega arith) e) here in
       rw e (bare_at (IsRead ts (bumped us)) (at ts) p true None (λ r. root_read (bumped us) some _ (is _ v))))
-      (λ e.
-      let v : (star_or_list (list depth) (at ts) p us).0.value ≡ tree_with_list p (list depth us).0.value = rw e refl in
+      (λ e. when (is_last_self us) (λ f. self_told e f is)
+      (λ f.
+      let v : (star_or_list (list depth) (at ts) p us).0.value ≡ tree_with_list p (list depth us).0.value = rw (e, f) refl in
       let told = h us in
       let inner = listed_is (IsRead us (list depth us).1) (IsRead ts (list depth us).1) (read_around leads here) (list depth us).0.starts (list depth us).0.value told.each in
-      rw e (listed_at (IsRead ts (list depth us).1) (at ts) p (list depth us).0.starts (list depth us).0.value inner
-      (λ r w f. root_read (list depth us).1 (listed_takes p (list depth us).0.value ts us (list depth us).1 path told.leads (λ ws g. takes_behind leads (told.some ws g)) r w f) w (is w (v ∙ f)))))
+      rw (e, f) (listed_at (IsRead ts (list depth us).1) (at ts) p (list depth us).0.starts (list depth us).0.value inner
+      (λ r w g. root_read (list depth us).1 (listed_takes p (list depth us).0.value ts us (list depth us).1 path told.leads (λ ws k. takes_behind leads (told.some ws k)) r w g) w (is w (v ∙ g))))))
 
   behind_told : (joined : Bool) → IsTree (tree_behind (list depth) (at ts) p joined us).0.value → TreeTold ts (tree_behind (list depth) (at ts) p joined us)
   unfolding IsTree

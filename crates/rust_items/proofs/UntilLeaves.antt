@@ -1,6 +1,6 @@
 -- Items that hold none, of tokens beside, are the same but for body texts, until one goes into the braces.
 use Rattle.std.proofs.Common.{◌≡◌, ◌≤◌, ◌+◌, ◌&&◌, ℕ, suc, true, false, Option, Some, None, List, [], ◌∷◌, ◌++◌, map, refl, ap, sym, subst, ◌∙◌, arith, is_some}
-use Rattle.rust_items.proofs.Common.{and_parts, PathNode, Visibility, MetaView, item_without_bodies, use_item, union_kind, enum_kind, trait_kind, UseTreeView, Piece, Tokens, end_of, at, is_empty, bumped, eat, Bodies, Beside, ahead, behind, LeadsTo, through, Forwards, when, bumped_leads, eat_leads, HasBlock, no_block, block, taken_block, IsLaid, at_behind, taken_behind, before_at, behind_at, next_ahead, next_behind, BothBeside, Kept, eat_local, Gone, gone_on, by_kept, KeptBy, UntilBy, went, stayed, by_stayed, IsAlike, no_more, SamePlace, at_place, TextRange, path, use_tree, visibility, path_local, visibility_local, path_leads, visibility_leads, outer_attributes, inner_attributes, IsSound, sound_on, outer_attributes_until, inner_attributes_until, Head, FrontRead, front_behind, front, LeafRead, named, impl_end, item_end, call_end, block_attributes, range_to, node, function, union_item, enumeration, trait_item, structure, implementation, use_read, use_declaration, is_called, called, call_behind, some_read, invocation, leaf_by, leaf, modifiers_beside, head_local, named_local, item_end_local, impl_end_local, call_end_local, NameAlike, RestAlike, LeafAlike, function_local, block_item_local, macro_def_local, type_alias_local, static_local, constant_local, fields_of, structure_local, implementation_local, macro_definition_local, behind_modifiers}
+use Rattle.rust_items.proofs.Common.{and_parts, PathNode, Visibility, MetaView, item_without_bodies, use_item, union_kind, enum_kind, trait_kind, UseTreeView, Piece, Tokens, end_of, at, is_empty, bumped, eat, Bodies, Beside, ahead, behind, LeadsTo, through, Forwards, when, bumped_leads, eat_leads, HasBlock, no_block, block, taken_block, IsLaid, at_behind, taken_behind, before_at, behind_at, next_ahead, next_behind, BothBeside, Kept, eat_local, Gone, gone_on, by_kept, KeptBy, UntilBy, went, stayed, by_stayed, IsAlike, no_more, SamePlace, at_place, TextRange, path, use_tree, visibility, path_local, visibility_local, path_leads, visibility_leads, outer_attributes, inner_attributes, IsSound, sound_on, outer_attributes_until, inner_attributes_until, Head, FrontRead, front_behind, front, LeafRead, named, impl_end, item_end, call_end, block_attributes, range_to, node, function, union_item, enumeration, trait_item, structure, implementation, use_read, use_declaration, is_called, called, call_behind, some_read, invocation, leaf_by, leaf, modifiers_beside, head_local, named_local, item_end_local, impl_end_local, call_end_local, NameAlike, RestAlike, LeafAlike, block_item_local, macro_def_local, type_alias_local, static_local, constant_local, fields_of, structure_local, implementation_local, macro_definition_local, behind_modifiers, PlainKind, fn_kind, attributed_item, attributed_local}
 use Rattle.rust_lexer.specs.Alone.{moved}
 use Rattle.rust_cursor.proofs.Laid as laid
 use Rattle.rust_cursor.proofs.Braced.{tokens_at}
@@ -144,9 +144,8 @@ unfolding impl_end
 impl_end_within end ts s t e = inner_within end ts (impl_end ts).1 t s (impl_enclosed ts t e)
 
 module _ (b : Bodies) (plain : BeginPlain b) (end : ℕ) (attrs : List MetaView) (v : Option Visibility) (ts us : Tokens) (l : IsSound end ts) (h : Beside b ts us) where
-  function_until : LeafUntil b (some_read (function attrs v ts)) (some_read (function attrs v us))
-  unfolding function
-  function_until = by (block_attributes_until b plain end sound.laid (item_end_block (named ts).1) r.value.block (item_end_within end (named ts).1 sound))
+  attributed_until : (k : PlainKind) → LeafUntil b (some_read (attributed_item k attrs v ts)) (some_read (attributed_item k attrs v us))
+  attributed_until k = by (block_attributes_until b plain end sound.laid (item_end_block (named ts).1) r.value.block (item_end_within end (named ts).1 sound))
     where
       sound : IsSound end (named ts).1
       sound = sound_on end (named_leads ts) l
@@ -158,9 +157,9 @@ module _ (b : Bodies) (plain : BeginPlain b) (end : ℕ) (attrs : List MetaView)
       r = item_end_local b (named ts).1 (named us).1 n.rest
 
       by : SameOr b (item_end (named ts).1).1 (item_end (named ts).1).0.block (block_attributes (item_end (named ts).1).0.block) (block_attributes (item_end (named us).1).0.block)
-          → LeafUntil b (some_read (function attrs v ts)) (some_read (function attrs v us))
-      by (not_same g f) = lost_block (function attrs v ts) (item_end (named ts).1).0.block (item_end (named ts).1).1.past (item_end_braces (named ts).1) g f
-      by (both_same e) = some_alike (function_local b attrs v ts us h e)
+          → LeafUntil b (some_read (attributed_item k attrs v ts)) (some_read (attributed_item k attrs v us))
+      by (not_same g f) = lost_block (attributed_item k attrs v ts) (item_end (named ts).1).0.block (item_end (named ts).1).1.past (item_end_braces (named ts).1) g f
+      by (both_same e) = some_alike (attributed_local b k attrs v ts us h e)
 
   implementation_until : LeafUntil b (some_read (implementation attrs ts)) (some_read (implementation attrs us))
   unfolding implementation
@@ -239,12 +238,12 @@ module _ (b : Bodies) (plain : BeginPlain b) (end : ℕ) (attrs : List MetaView)
 -- ---- all kinds
 
 leaf_by_until : (b : Bodies) → BeginPlain b → (end : ℕ) (k : Head) (attrs : List MetaView) (v : Option Visibility) (ts us : Tokens) → IsSound end ts → Beside b ts us → LeafUntil b (leaf_by k attrs v ts) (leaf_by k attrs v us)
-unfolding trait_item union_item enumeration
+unfolding function trait_item union_item enumeration
 leaf_by_until b plain end heads.Use attrs v ts us l h = use_until b plain end attrs v ts us l h
 leaf_by_until b plain end heads.ExternCrate attrs v ts us l h = some_alike (crate_item_local b attrs v ts us h)
-leaf_by_until b plain end heads.Fn attrs v ts us l h = function_until b plain end attrs v ts us l h
+leaf_by_until b plain end heads.Fn attrs v ts us l h = attributed_until b plain end attrs v ts us l h fn_kind
 leaf_by_until b plain end heads.Impl attrs v ts us l h = implementation_until b plain end attrs v ts us l h
-leaf_by_until b plain end heads.Trait attrs v ts us l h = some_alike (block_item_local b trait_kind attrs v ts us h)
+leaf_by_until b plain end heads.Trait attrs v ts us l h = attributed_until b plain end attrs v ts us l h trait_kind
 leaf_by_until b plain end heads.Struct attrs v ts us l h = structure_until b plain end attrs v ts us l h
 leaf_by_until b plain end heads.Union attrs v ts us l h = some_alike (block_item_local b union_kind attrs v ts us h)
 leaf_by_until b plain end heads.Enum attrs v ts us l h = some_alike (block_item_local b enum_kind attrs v ts us h)

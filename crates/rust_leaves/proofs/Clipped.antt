@@ -2,7 +2,7 @@
 use Rattle.std.proofs.Common.{◌≡◌, ◌==◌, ◌&&◌, ℕ, Bool, true, false, Option, Some, None, List, [], ◌++◌, refl, sym, ap, ◌∙◌, append-nil, if◌then◌else◌, is_some, codes}
 use Rattle.hir_input.specs.declared.ids.AstIdKind.TheVariants as kind
 use Rattle.hir_input.specs.declared.ast.PathNode.{PathNode}
-use Rattle.rust_leaves.proofs.Common.{Visibility, MetaView, fn_kind, const_item, struct_item, impl_item, macro_rules, Tokens, Reader, symbol, at, eat_word, bumped, is_at_open, clipped, kept_text, item_rest, impl_rest, macro_rest, value_rest, tree_body, Head, RestRead, LeafRead, no_name, named, named_or, rest_read, bare_end, semicolon_end, item_end, impl_end, macro_end, value_end, call_end, block_attributes, struct_fields, has_trait, node, named_node, leaf_read, plain_read, plain_kind, plain_end, plain_leaf, function, union_item, enumeration, trait_item, macro_def, type_alias, static_value, constant, structure, implementation, macro_definition, crate_item, use_declaration, is_called, called, call_behind, some_read, invocation, leaf_by, leaf, bare, last_text}
+use Rattle.rust_leaves.proofs.Common.{Visibility, MetaView, fn_kind, trait_kind, const_item, struct_item, impl_item, macro_rules, Tokens, Reader, symbol, at, eat_word, bumped, is_at_open, clipped, kept_text, item_rest, impl_rest, macro_rest, value_rest, tree_body, Head, RestRead, LeafRead, no_name, named, named_or, rest_read, bare_end, semicolon_end, item_end, impl_end, macro_end, value_end, call_end, block_attributes, struct_fields, has_trait, node, named_node, leaf_read, plain_read, plain_kind, plain_end, plain_leaf, function, union_item, enumeration, trait_item, macro_def, type_alias, static_value, constant, structure, implementation, macro_definition, crate_item, use_declaration, is_called, called, call_behind, some_read, invocation, leaf_by, leaf, bare, last_text}
 use Rattle.rust_paths.specs.Paths.{path}
 use Rattle.rust_metas.specs.Attributes.{outer_attributes}
 use Rattle.rust_metas.specs.Docs.{kept_metas}
@@ -71,6 +71,11 @@ pub function_clipped : (w : Wanted) (attrs : List MetaView) (visibility : Option
 unfolding with_value function clipped_rest wanted_leaf wanted_item
 function_clipped w attrs visibility ts = refl
 
+pub trait_clipped : (w : Wanted) (attrs : List MetaView) (visibility : Option Visibility) (ts : Tokens) → with_value (wanted_leaf w attrs) (trait_item [] visibility ts)
+    ≡ (let n = named ts in let r = up_to w.bodies item_end n.1 in (plain_read trait_kind (attrs ++ kept_metas w.metas (block_attributes r.0.block)) visibility n.0 r.0, r.1))
+unfolding with_value trait_item clipped_rest wanted_leaf wanted_item
+trait_clipped w attrs visibility ts = refl
+
 pub implementation_clipped : (w : Wanted) (attrs : List MetaView) (ts : Tokens) → with_value (wanted_leaf w attrs) (implementation [] ts)
     ≡ (let r = up_to w.bodies impl_end ts in (leaf_read (impl_item (node (attrs ++ kept_metas w.metas (block_attributes r.0.block)) r.0.body) (has_trait r.1.past ts)) kind.Impl no_name r.0, r.1))
 unfolding with_value implementation clipped_rest wanted_leaf wanted_item
@@ -138,6 +143,7 @@ abbrev pub wanted_by : Wanted → Head → List MetaView → Option Visibility �
 wanted_by w head.Use attrs v ts = some_read (use_declaration attrs v ts)
 wanted_by w head.ExternCrate attrs v ts = some_read (crate_item attrs v ts)
 wanted_by w head.Fn attrs v ts = some_read (with_value (wanted_leaf w attrs) (function [] v ts))
+wanted_by w head.Trait attrs v ts = some_read (with_value (wanted_leaf w attrs) (trait_item [] v ts))
 wanted_by w head.Impl attrs v ts = some_read (with_value (wanted_leaf w attrs) (implementation [] ts))
 wanted_by w head.Struct attrs v ts = some_read (with_value (wanted_leaf w attrs) (structure [] v ts))
 wanted_by w head.Const attrs v ts = some_read (with_value (wanted_leaf w attrs) (constant [] v ts))
@@ -173,6 +179,8 @@ by_front : (w : Wanted) (h : Head) (attrs : List MetaView) (v : Option Visibilit
 unfolding with_value clipped_rest clipped_leaf clipped_leaf_if wanted_leaf wanted_leaf_if wanted_item kept_metas function implementation use_declaration crate_item trait_item union_item enumeration macro_def type_alias static_value constant structure macro_definition
 by_front w head.Fn attrs v ts =
     let n = named ts in let r = up_to w.bodies item_end n.1 in ap (λ a. (Some (plain_read fn_kind a v n.0 r.0), r.1)) (kept_append w.metas attrs (block_attributes (item_end n.1).0.block))
+by_front w head.Trait attrs v ts =
+    let n = named ts in let r = up_to w.bodies item_end n.1 in ap (λ a. (Some (plain_read trait_kind a v n.0 r.0), r.1)) (kept_append w.metas attrs (block_attributes (item_end n.1).0.block))
 by_front w head.Impl attrs v ts =
     let r = up_to w.bodies impl_end ts in ap (λ a. (Some (leaf_read (impl_item (node a r.0.body) (has_trait r.1.past ts)) kind.Impl no_name r.0), r.1)) (kept_append w.metas attrs (block_attributes (impl_end ts).0.block))
 by_front w head.Module attrs v ts = invocation_front w attrs ts

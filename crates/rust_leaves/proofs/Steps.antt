@@ -1,6 +1,6 @@
 -- Steps of what is read in turns.
 use Rattle.std.proofs.Common.{◌≡◌, ◌≢◌, ◌==◌, ◌<◌, ◌+◌, ◌-◌, ℕ, zero, suc, true, false, List, refl, ap, arith}
-use Rattle.rust_leaves.proofs.Common.{ne_eqb, Tokens, text, bumped, behind_tree, is_modifier, behind_modifier, behind_modifiers_from, begins_path, behind_segments_from, is_behind_others, behind_others_from, Scan, Step, statement_step, by_step, statement_from, last_text_from}
+use Rattle.rust_leaves.proofs.Common.{ne_eqb, Tokens, text, bumped, behind_other, is_modifier, behind_modifier, behind_modifiers_from, begins_path, behind_segments_from, is_behind_others, behind_others_from, Scan, Step, statement_step, by_step, statement_from, last_text_from}
 
 -- ---- modifiers
 
@@ -24,7 +24,7 @@ pub others_stop : (n : ℕ) (ts : Tokens) → is_behind_others ts ≡ true → b
 others_stop zero ts e = refl
 others_stop (suc n) ts e = rw e refl
 
-pub others_more : (bound at : ℕ) (ts : Tokens) → at < bound → is_behind_others ts ≡ false → behind_others_from (bound - at) ts ≡ behind_others_from (bound - (at + 1)) (behind_tree ts)
+pub others_more : (bound at : ℕ) (ts : Tokens) → at < bound → is_behind_others ts ≡ false → behind_others_from (bound - at) ts ≡ behind_others_from (bound - (at + 1)) (behind_other ts)
 others_more bound at ts below e = let turn : bound - at ≡ suc (bound - (at + 1)) = omega arith in rw (turn, e) refl
 
 -- ---- texts

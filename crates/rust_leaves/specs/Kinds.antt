@@ -20,6 +20,7 @@ use Rattle.rust_paths.specs.UseTrees.{FoundInUse, use_tree}
 use Rattle.rust_leaves.specs.declared.head.Head.{Head}
 use Rattle.rust_leaves.specs.declared.head.Head.TheVariants as head
 use Rattle.rust_leaves.specs.Fronts.{FrontRead}
+use Rattle.rust_leaves.specs.Heads.{is_called}
 use Rattle.rust_leaves.specs.Texts.{bare, last_text}
 use Rattle.rust_leaves.specs.Leaves.{NameRead, RestRead, LeafRead, no_name, named, named_or, renamed, rename_of, past, bare_end, impl_end, item_end, macro_end, value_end, call_end, block_attributes, struct_fields, has_trait}
 
@@ -40,12 +41,20 @@ plain_read k attrs visibility n r = leaf_read (plain_item k (named_node attrs n.
 abbrev pub left_here : Tokens → Tokens
 left_here ts = ts
 
--- Function
-unfoldable pub function : List MetaView → Option Visibility → Reader LeafRead
-function attrs visibility = do
+-- a name, and all that is left; the inner attributes in its braces are its own
+abbrev pub attributed_item : PlainKind → List MetaView → Option Visibility → Reader LeafRead
+attributed_item k attrs visibility = do
   n ← named
   r ← item_end
-  pure (plain_read fn_kind (attrs ++ block_attributes r.block) visibility n r)
+  pure (plain_read k (attrs ++ block_attributes r.block) visibility n r)
+
+-- Function
+unfoldable pub function : List MetaView → Option Visibility → Reader LeafRead
+function = attributed_item fn_kind
+
+-- Trait
+unfoldable pub trait_item : List MetaView → Option Visibility → Reader LeafRead
+trait_item = attributed_item trait_kind
 
 -- a name, and what is left up to an end
 abbrev pub named_leaf : Reader RestRead → PlainKind → List MetaView → Option Visibility → Reader LeafRead
@@ -54,7 +63,7 @@ named_leaf end k attrs visibility = do
   r ← end
   pure (plain_read k attrs visibility n r)
 
--- Union, Enumeration and Trait: a name, and all that is left
+-- Union and Enumeration: a name, and all that is left
 abbrev pub block_item : PlainKind → List MetaView → Option Visibility → Reader LeafRead
 block_item = named_leaf item_end
 
@@ -63,9 +72,6 @@ union_item = block_item union_kind
 
 unfoldable pub enumeration : List MetaView → Option Visibility → Reader LeafRead
 enumeration = block_item enum_kind
-
-unfoldable pub trait_item : List MetaView → Option Visibility → Reader LeafRead
-trait_item = block_item trait_kind
 
 -- a macro 2.0
 unfoldable pub macro_def : List MetaView → Option Visibility → Reader LeafRead
@@ -87,8 +93,7 @@ plain_kind head.Enum = enum_kind
 plain_kind head.MacroDef = macro_def_kind
 plain_kind head.Static = static_kind
 plain_kind head.TypeAlias = type_alias_kind
-plain_kind head.Union = union_kind
-plain_kind _ = trait_kind
+plain_kind _ = union_kind
 
 -- how far it goes
 abbrev pub plain_end : Head → Reader RestRead
@@ -164,10 +169,6 @@ macro_definition attrs = do
   n ← named_or (codes "try")
   r ← call_end
   pure (leaf_read (macro_rules (node attrs r.body) n.name) kind.MacroRules n r)
-
--- behind a path: a macro is called
-unfoldable pub is_called : Tokens → Bool
-is_called ts = symbol ts == 33 && is_at_open (bumped ts)
 
 abbrev pub called : List MetaView → Option PathNode → List ℕ → RestRead → LeafRead
 called attrs path last r =

@@ -1,5 +1,5 @@
 -- Statements: what begins one, how far it goes, and the macro calls in the place of one.
-use Rattle.std.specs.Prelude.{ℕ, zero, suc, Bool, true, false, not, ◌==◌, ◌&&◌, ◌||◌, if◌then◌else◌, Option, Some, None, is_some, List, [], ◌∷◌, codes, bytes_eq}
+use Rattle.std.specs.Prelude.{ℕ, zero, suc, ◌+◌, ◌-◌, nat_lt, Bool, true, false, not, ◌==◌, ◌&&◌, ◌||◌, if◌then◌else◌, Option, Some, None, is_some, List, [], ◌∷◌, codes, bytes_eq}
 use Rattle.std.specs.List.{list_any}
 use Rattle.hir_input.specs.declared.ids.SyntaxContext.TheVariants as context
 use Rattle.hir_input.specs.declared.edition.EditionYear.TheVariants as year
@@ -24,10 +24,10 @@ use Rattle.rust_leaves.specs.declared.statements.Scan.{Scan}
 use Rattle.rust_leaves.specs.declared.statements.Scan.TheVariants as scans
 use Rattle.rust_leaves.specs.declared.statements.Step.{Step}
 use Rattle.rust_leaves.specs.declared.statements.Step.TheVariants as steps
-use Rattle.rust_leaves.specs.Heads.{is_modifier, head_by}
+use Rattle.rust_leaves.specs.Heads.{is_modifier, head_by, is_called}
 use Rattle.rust_leaves.specs.Leaves.{range_to}
 use Rattle.rust_leaves.specs.Texts.{bare, last_text}
-use Rattle.rust_leaves.specs.Kinds.{node, is_called, some_read}
+use Rattle.rust_leaves.specs.Kinds.{node, some_read}
 
 -- ---- items
 
@@ -35,15 +35,20 @@ abbrev pub is_other : Head → Bool
 is_other heads.Other = true
 is_other _ = false
 
+-- what stands behind `const` or `static` in front of a closure; `async` may be a name
+abbrev pub leads_closure : Tokens → Bool
+leads_closure ts = bytes_eq (word ts) (codes "move") || (bytes_eq (word ts) (codes "async") && not (symbol (bumped ts) == 58))
+
 -- `const` and `static`: of an item where a name follows, `_` or `mut`; else of a block or a closure
 unfoldable pub names_value : Tokens → Bool
-names_value behind = is_at_identifier behind && not (bytes_eq (word behind) (codes "move") || bytes_eq (word behind) (codes "async"))
+names_value behind = is_at_identifier behind && not (leads_closure behind)
 
--- the words of an item come next
+-- the words of an item come next; a closure may begin with `use`, too
 unfoldable pub is_item_head : Tokens → Bool
 is_item_head ts =
     if is_other (head_by (word ts) (bumped ts)) then false
-    else (if bytes_eq (word ts) (codes "const") || bytes_eq (word ts) (codes "static") then names_value (bumped ts) else true)
+    else (if bytes_eq (word ts) (codes "const") || bytes_eq (word ts) (codes "static") then names_value (bumped ts)
+    else (if bytes_eq (word ts) (codes "use") then not (symbol (bumped ts) == 124) else true))
 
 -- an item comes next, behind its attributes, and no expression
 unfoldable pub is_item : Tokens → Bool
@@ -56,9 +61,9 @@ unfoldable pub is_block_word : List ℕ → Bool
 is_block_word w =
     list_any (bytes_eq w) (codes "async" ∷ codes "const" ∷ codes "gen" ∷ codes "loop" ∷ codes "move" ∷ codes "try" ∷ codes "unsafe" ∷ [])
 
--- a word of an expression that ends with a block
+-- a word of an expression that ends with a block, beside `for`
 unfoldable pub is_control_word : List ℕ → Bool
-is_control_word w = list_any (bytes_eq w) (codes "for" ∷ codes "if" ∷ codes "match" ∷ codes "while" ∷ [])
+is_control_word w = list_any (bytes_eq w) (codes "if" ∷ codes "match" ∷ codes "while" ∷ [])
 
 abbrev pub is_label_kind : Option TokenKind → Bool
 is_label_kind (Some kinds.Lifetime) = true
@@ -72,43 +77,70 @@ behind_label ts = if is_label_kind (kind ts) then bumped (bumped ts) else ts
 unfoldable pub behind_block_word : Tokens → Tokens
 behind_block_word ts = if is_block_word (word ts) then bumped ts else ts
 
--- behind a label, and behind at most two words in front of a block, as in `async move { .. }`
+-- behind a label, and behind at most three words in front of a block, as in `async gen move { .. }`
 unfoldable pub block_start : Tokens → Tokens
-block_start ts = behind_block_word (behind_block_word (behind_label ts))
+block_start ts = behind_block_word (behind_block_word (behind_block_word (behind_label ts)))
 
 -- an expression that ends with its block comes next, behind these
 abbrev pub is_block_at : Tokens → Bool
-is_block_at ts = symbol ts == 123 || is_control_word (word ts)
+is_block_at ts = symbol ts == 123 || (is_control_word (word ts) || is_lone_for ts)
+
+-- a mark with which no operand ends: behind an operator, a comma or a label
+unfoldable pub is_open_mark : ℕ → Bool
+is_open_mark c = list_any (λ mark. c == mark) (codes "!%&*+,-/:<=^|")
 
 -- a block behind this token stands inside what comes before the statement's own block, as in `if let x = { .. } { .. }`
 unfoldable pub leads_inside : Tokens → Bool
-leads_inside ts = is_block_word (word ts) || (is_control_word (word ts) || (symbol ts == 61 || (symbol ts == 38 || symbol ts == 124)))
+leads_inside ts = is_block_word (word ts) || is_open_mark (symbol ts)
 
--- the same behind a token of what comes before its own block: a pattern stands behind `let`, and behind a `for` that is not one of `for<'a>`
-unfoldable pub header_behind : Tokens → Scan
-header_behind ts =
-    if bytes_eq (word ts) (codes "let") then scans.Let
-    else (if is_lone_for ts then scans.For else (if leads_inside ts then scans.Inside else scans.Header))
+-- one more block is to come before the statement's own; no more than so many are counted
+abbrev pub one_more_block : ℕ → ℕ
+one_more_block blocks = if nat_lt blocks 255 then blocks + 1 else blocks
+
+-- The same behind a token of what comes before its own block, which is the last of so many: each word of an expression that ends with a block
+-- asks for one. A pattern stands behind `let`, and behind a `for` that is not one of `for<'a>`.
+unfoldable pub header_behind : ℕ → Tokens → Scan
+header_behind blocks ts =
+    if bytes_eq (word ts) (codes "let") then scans.Let blocks
+    else (if is_lone_for ts then scans.For (one_more_block blocks)
+    else (if is_control_word (word ts) then scans.Inside (one_more_block blocks)
+    else (if leads_inside ts then scans.Inside blocks else scans.Header blocks)))
 
 -- how a statement goes on behind a token or a bracket of it that is not its own block; a pattern goes up to `=`, or to `in`
 unfoldable pub scan_behind : Scan → Tokens → Scan
 scan_behind scans.Plain ts = scans.Plain
-scan_behind scans.Header ts = header_behind ts
-scan_behind scans.Inside ts = header_behind ts
-scan_behind scans.Let ts = if symbol ts == 61 then scans.Inside else scans.Let
-scan_behind scans.For ts = if bytes_eq (word ts) (codes "in") then scans.Inside else scans.For
+scan_behind (scans.Header blocks) ts = header_behind blocks ts
+scan_behind (scans.Inside blocks) ts = header_behind blocks ts
+scan_behind (scans.Let blocks) ts = if symbol ts == 61 then scans.Inside blocks else scans.Let blocks
+scan_behind (scans.For blocks) ts = if bytes_eq (word ts) (codes "in") then scans.Inside blocks else scans.For blocks
 
--- how it goes on behind its block: with `else`, as an operand of `.` or `?`, or not
-unfoldable pub step_behind_block : Tokens → Step
-step_behind_block ts =
-    if bytes_eq (word ts) (codes "else") then steps.On scans.Header
+-- behind a block that is one of so many: before the last more comes; behind it nothing, or it is an operand of `.` or `?`
+abbrev pub step_behind_block : ℕ → Tokens → Step
+step_behind_block blocks ts =
+    if nat_lt 1 blocks then steps.On (scans.Header (blocks - 1))
     else (if symbol ts == 46 || symbol ts == 63 then steps.On scans.Plain else steps.Stop)
 
--- a token of a statement, or what stands in brackets; the `=` of `..=` ends no pattern
+-- behind `else`: a block, or `if`
+abbrev pub behind_else : ℕ → Reader Step
+behind_else blocks ts = if bytes_eq (word ts) (codes "if") then (steps.On (scans.Inside blocks), bumped ts) else (steps.On (scans.Header blocks), ts)
+
+-- how it goes on behind a block: with `else` there is another in place of it
+unfoldable pub behind_block : ℕ → Reader Step
+behind_block blocks ts = if bytes_eq (word ts) (codes "else") then behind_else blocks (bumped ts) else (step_behind_block blocks ts, ts)
+
+-- `.use` of an expression
+abbrev pub is_use_of : Tokens → Bool
+is_use_of ts = symbol ts == 46 && bytes_eq (word (bumped ts)) (codes "use")
+
+-- a token of a statement, or what stands in brackets
+unfoldable pub plain_step : Scan → Reader Step
+plain_step s ts = (steps.On (scan_behind s ts), if is_use_of ts then bumped (bumped ts) else behind_tree ts)
+
+-- the same; the `=` of `..=` ends no pattern
 unfoldable pub part_step : Scan → Reader Step
-part_step scans.Let ts = if is_pair 46 61 ts then (steps.On scans.Let, bumped (bumped ts)) else (steps.On (scan_behind scans.Let ts), behind_tree ts)
-part_step scans.Header ts = (if symbol ts == 123 then step_behind_block (behind_tree ts) else steps.On (scan_behind scans.Header ts), behind_tree ts)
-part_step s ts = (steps.On (scan_behind s ts), behind_tree ts)
+part_step (scans.Let blocks) ts = if is_pair 46 61 ts then (steps.On (scans.Let blocks), bumped (bumped ts)) else plain_step (scans.Let blocks) ts
+part_step (scans.Header blocks) ts = if symbol ts == 123 then behind_block blocks (behind_tree ts) else plain_step (scans.Header blocks) ts
+part_step s ts = plain_step s ts
 
 -- A step of a statement: it ends with a semicolon, and before a bracket that closes or a word that can begin an item only.
 unfoldable pub statement_step : Scan → Reader Step
@@ -131,7 +163,7 @@ statement_up_to s = statement_from most s
 
 -- A `let`, or another statement that is neither an item nor a macro call alone. Whether a semicolon ended it.
 unfoldable pub statement : Reader Bool
-statement ts = if is_block_at (block_start ts) then statement_up_to scans.Header (block_start ts) else statement_up_to scans.Plain ts
+statement ts = if is_block_at (block_start ts) then statement_up_to (scans.Header 0) (block_start ts) else statement_up_to scans.Plain ts
 
 -- ---- macro calls
 

@@ -7,7 +7,7 @@ ghost use Rattle.rust_leaves.specs.Clipped.{wanted_leaf, wanted_leaf_if, with_va
 ghost use Rattle.rust_leaves.specs.Kinds as spec;
 ghost use Rattle.rust_leaves.specs.Views.{callee_view, leaf_view};
 
-use crate::head::second;
+use crate::head::is_called;
 use crate::leaf::{Leaf, read_leaf};
 use crate::named::{call_end, item_name_or};
 use crate::texts::{bare, last_text};
@@ -39,14 +39,6 @@ pub(crate) fn macro_definition<'t>(
         body: rest.body,
     });
     Ok(read_leaf!(alloc, MacroRules, item, named.hashed, named.range, rest))
-}
-
-/// Whether a `!` and a bracket come next.
-#[tactic(auto, unfolding(crate::specs::Kinds::is_called))]
-fn is_called(cursor: &Cursor<'_>) -> bool
-    ensures { result ≡ spec.is_called cursor.now }
-{
-    cursor.symbol() == b'!' && second(cursor).is_at_open()
 }
 
 /// What a macro is called by.

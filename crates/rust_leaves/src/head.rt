@@ -7,7 +7,7 @@ ghost use Rattle.rust_leaves.specs.Heads as spec;
 
 use rust_cursor::{Cursor, is_among};
 use rust_lexer::TokenKind;
-use rust_paths::has_name;
+use rust_paths::{has_name, is_segment};
 
 /// What kind of item the words begin that were taken.
 #[derive(Clone, Copy)]
@@ -32,10 +32,10 @@ pub enum Head {
 }
 
 /// What may stand behind `const` as a modifier: another modifier, or the word of an item.
-const BEHIND_CONST: [&str; 6] = ["fn", "unsafe", "extern", "async", "trait", "impl"];
+const BEHIND_CONST: [&str; 5] = ["fn", "unsafe", "extern", "trait", "impl"];
 
-/// The same behind `async`.
-const BEHIND_ASYNC: [&str; 4] = ["fn", "unsafe", "extern", "gen"];
+/// The same behind `async` and `gen`.
+const BEHIND_ASYNC: [&str; 4] = ["fn", "unsafe", "safe", "extern"];
 
 /// The same behind `unsafe`.
 const BEHIND_UNSAFE: [&str; 10] = [
@@ -43,10 +43,12 @@ const BEHIND_UNSAFE: [&str; 10] = [
 ];
 
 /// The same behind `safe`.
-const BEHIND_SAFE: [&str; 2] = ["fn", "static"];
+const BEHIND_SAFE: [&str; 3] = ["fn", "static", "extern"];
 
-/// The same behind `default`.
-const BEHIND_DEFAULT: [&str; 7] = ["fn", "unsafe", "const", "type", "impl", "async", "extern"];
+/// The same behind `default` and `final`.
+const BEHIND_DEFAULT: [&str; 9] = [
+    "fn", "unsafe", "const", "type", "impl", "async", "extern", "gen", "safe",
+];
 
 /// The same behind `extern`.
 const BEHIND_EXTERN: [&str; 2] = ["fn", "unsafe"];
@@ -75,12 +77,6 @@ fn word_behind_abi<'t>(behind: &Cursor<'t>) -> &'t str
     ahead.word()
 }
 
-fn is_auto_trait(cursor: &Cursor<'_>) -> bool
-    ensures { result ≡ spec.is_auto_trait cursor.now }
-{
-    cursor.word() == "auto" && second(cursor).word() == "trait"
-}
-
 /// What is left behind the next token.
 pub(crate) fn second<'t>(cursor: &Cursor<'t>) -> Cursor<'t>
     ensures { result ≡ bumped cursor.now }
@@ -90,35 +86,66 @@ pub(crate) fn second<'t>(cursor: &Cursor<'t>) -> Cursor<'t>
     second
 }
 
+#[tactic(auto, unfolding(crate::specs::Heads::follows_async))]
+fn is_behind_async(behind: &Cursor<'_>) -> bool
+    ensures { result ≡ spec.follows_async (word behind.now) }
+{
+    is_among(behind.word(), &BEHIND_ASYNC)
+}
+
+fn is_gen_modifier(cursor: &Cursor<'_>) -> bool
+    ensures { result ≡ spec.is_gen_modifier cursor.now }
+{
+    cursor.word() == "gen" && is_behind_async(&second(cursor))
+}
+
+fn is_async_modifier(behind: &Cursor<'_>) -> bool
+    ensures { result ≡ (spec.follows_async (word behind.now) || spec.is_gen_modifier behind.now) }
+{
+    is_behind_async(behind) || is_gen_modifier(behind)
+}
+
+/// Whether a modifier comes next that is a name elsewhere.
+#[tactic(auto, unfolding(crate::specs::Heads::is_weak_before))]
+fn is_weak_modifier(cursor: &Cursor<'_>) -> bool
+    ensures { result ≡ spec.is_weak_modifier cursor.now }
+{
+    match cursor.word() {
+        "async" => is_async_modifier(&second(cursor)),
+        "gen" => is_behind_async(&second(cursor)),
+        "auto" => second(cursor).word() == "trait",
+        _ => false,
+    }
+}
+
 #[tactic(auto, unfolding(crate::specs::Heads::may_follow_const))]
 fn is_const_modifier(behind: &Cursor<'_>) -> bool
-    ensures { result ≡ (spec.may_follow_const (word behind.now) || spec.is_auto_trait behind.now) }
+    ensures { result ≡ (spec.may_follow_const (word behind.now) || spec.is_weak_modifier behind.now) }
 {
-    is_among(behind.word(), &BEHIND_CONST) || is_auto_trait(behind)
+    is_among(behind.word(), &BEHIND_CONST) || is_weak_modifier(behind)
 }
 
 #[tactic(auto, unfolding(crate::specs::Heads::follows_unsafe))]
 fn is_unsafe_modifier(behind: &Cursor<'_>) -> bool
-    ensures { result ≡ (spec.follows_unsafe (word behind.now) || spec.is_auto_trait behind.now) }
+    ensures { result ≡ (spec.follows_unsafe (word behind.now) || spec.is_weak_modifier behind.now) }
 {
-    is_among(behind.word(), &BEHIND_UNSAFE) || is_auto_trait(behind)
+    is_among(behind.word(), &BEHIND_UNSAFE) || is_weak_modifier(behind)
 }
 
 /// Whether a modifier comes next. Only behind a word that can be one a token is cut.
-#[tactic(auto, unfolding(crate::specs::Heads::is_modifier, crate::specs::Heads::is_modifier_before, crate::specs::Heads::follows_async, crate::specs::Heads::follows_safe, crate::specs::Heads::follows_default, crate::specs::Heads::follows_extern))]
+#[tactic(auto, unfolding(crate::specs::Heads::is_modifier, crate::specs::Heads::is_modifier_before, crate::specs::Heads::follows_safe, crate::specs::Heads::follows_default, crate::specs::Heads::follows_extern))]
 pub(crate) fn is_modifier(cursor: &Cursor<'_>) -> bool
     ensures { result ≡ spec.is_modifier cursor.now }
 {
     match cursor.word() {
         "const" => is_const_modifier(&second(cursor)),
-        "async" => is_among(second(cursor).word(), &BEHIND_ASYNC),
         "unsafe" => is_unsafe_modifier(&second(cursor)),
         "safe" => is_among(second(cursor).word(), &BEHIND_SAFE),
-        "default" => is_among(second(cursor).word(), &BEHIND_DEFAULT),
-        "gen" => second(cursor).word() == "fn",
-        "auto" => second(cursor).word() == "trait",
+        "default" | "final" => is_among(second(cursor).word(), &BEHIND_DEFAULT),
         "extern" => is_among(word_behind_abi(&second(cursor)), &BEHIND_EXTERN),
-        _ => false,
+        "type" => second(cursor).word() == "const",
+        "reuse" => second(cursor).word() == "impl",
+        _ => is_weak_modifier(cursor),
     }
 }
 
@@ -133,7 +160,7 @@ fn pass_modifier(cursor: &mut Cursor<'_>)
     }
 }
 
-/// Passes over `const`, `async`, `unsafe`, `safe`, `default`, `gen`, `auto` and `extern "C"`, where they are modifiers.
+/// Passes over the words that are modifiers where they stand, and the name of an interface behind `extern`.
 #[tactic(auto, unfolding(crate::specs::Heads::behind_modifiers), using(crate::proofs::Steps::modifiers_more, crate::proofs::Steps::modifiers_stop))]
 pub(crate) fn pass_modifiers(cursor: &mut Cursor<'_>)
     ensures { cursor.new ≡ spec.behind_modifiers cursor.old }
@@ -251,20 +278,28 @@ fn is_union(cursor: &Cursor<'_>) -> bool
     cursor.word() == "union" && has_name(&second(cursor))
 }
 
-fn is_segment(cursor: &Cursor<'_>) -> bool
-    ensures { result ≡ spec.begins_path cursor.now }
+/// Whether a word comes next that can be a segment of a path.
+fn is_path_word(cursor: &Cursor<'_>) -> bool
+    ensures { result ≡ spec.is_path_word cursor.now }
 {
-    cursor.is_at_identifier() && second(cursor).is_pair(b':', b':')
+    cursor.is_at_identifier() && is_segment(cursor)
 }
 
-/// Passes over names with `::` behind them.
+/// Whether such a word comes next with `::` behind it.
+fn begins_path(cursor: &Cursor<'_>) -> bool
+    ensures { result ≡ spec.begins_path cursor.now }
+{
+    is_path_word(cursor) && second(cursor).is_pair(b':', b':')
+}
+
+/// Passes over words of a path with `::` behind them.
 #[tactic(auto, unfolding(crate::specs::Heads::behind_segments), using(crate::proofs::Steps::segments_more, crate::proofs::Steps::segments_stop))]
 fn pass_segments(cursor: &mut Cursor<'_>)
     ensures { cursor.new ≡ spec.behind_segments cursor.old }
 {
     let most = Cursor::most_turns();
     for _turn in 0..most {
-        if !is_segment(cursor) {
+        if !begins_path(cursor) {
             break;
         }
         cursor.bump();
@@ -273,16 +308,34 @@ fn pass_segments(cursor: &mut Cursor<'_>)
     }
 }
 
+/// Whether the `!` of a macro call comes next.
+#[tactic(auto, unfolding(crate::specs::Heads::is_called))]
+pub(crate) fn is_called(cursor: &Cursor<'_>) -> bool
+    ensures { result ≡ spec.is_called cursor.now }
+{
+    cursor.symbol() == b'!' && second(cursor).is_at_open()
+}
+
 fn is_called_here(cursor: &Cursor<'_>) -> bool
     ensures { result ≡ spec.is_called_here cursor.now }
 {
     let mut behind = cursor.ahead();
     pass_segments(&mut behind);
-    if !behind.is_at_identifier() {
+    if !is_path_word(&behind) {
         return false;
     }
     behind.bump();
-    behind.symbol() == b'!'
+    is_called(&behind)
+}
+
+/// Whether a word comes next that may begin an item; in front of `::` it is a segment of a path.
+fn is_at_first(cursor: &Cursor<'_>) -> bool
+    ensures { result ≡ spec.is_at_first cursor.now }
+{
+    if begins_path(cursor) {
+        return false;
+    }
+    is_first_word(cursor.word()) || is_union(cursor) || cursor.begins_item()
 }
 
 #[tactic(auto, unfolding(crate::specs::Heads::may_begin))]
@@ -292,7 +345,7 @@ fn may_begin(cursor: &Cursor<'_>) -> bool
     if cursor.symbol() == b'#' || cursor.is_at_doc() {
         return true;
     }
-    if is_first_word(cursor.word()) || is_union(cursor) {
+    if is_at_first(cursor) {
         return true;
     }
     is_called_here(cursor)
@@ -303,6 +356,17 @@ fn is_behind_others(cursor: &Cursor<'_>) -> bool
     ensures { result ≡ spec.is_behind_others cursor.now }
 {
     cursor.is_at_end() || may_begin(cursor)
+}
+
+/// Passes over a token or what stands in brackets, or over a path up to its last segment, so that each path is looked through once.
+fn pass_other(cursor: &mut Cursor<'_>)
+    ensures { cursor.new ≡ spec.behind_other cursor.old }
+{
+    if begins_path(cursor) {
+        pass_segments(cursor);
+    } else {
+        cursor.pass_tree();
+    }
 }
 
 /// Passes over tokens that begin no item, up to where one may begin or a bracket closes.
@@ -319,6 +383,6 @@ pub fn pass_others(cursor: &mut Cursor<'_>)
         if is_behind_others(cursor) {
             break;
         }
-        cursor.pass_tree();
+        pass_other(cursor);
     }
 }

@@ -97,6 +97,24 @@ fn function<'t>(
     Ok(named_leaf!(Fn, alloc, attrs, visibility, named, rest))
 }
 
+#[tactic(auto, using(hir_input::proofs::SyntaxViews::item_views, crate::proofs::Clipped::trait_clipped))]
+fn trait_item<'t>(
+    alloc: Global,
+    cursor: &mut Cursor<'t>,
+    wanted: Wanted,
+    attrs: Vec<Meta>,
+    visibility: Option<Visibility>,
+) -> Result<Option<Leaf<'t>>, AllocError>
+    ensures { Gives (option_map leaf_view)
+        (spec.some_read (with_value (wanted_leaf wanted (map meta_view attrs.items))
+        (spec.trait_item [] visibility cursor.old))) result cursor.new }
+{
+    let named = item_name(alloc, cursor)?;
+    let rest = plain_end(alloc, cursor, wanted.bodies, Head::Trait)?;
+    let attrs = with_inner(alloc, attrs, rest.block, wanted.metas)?;
+    Ok(named_leaf!(Trait, alloc, attrs, visibility, named, rest))
+}
+
 /// What was read of an item that has nothing else of its own.
 #[tactic(auto, using(hir_input::proofs::SyntaxViews::item_views))]
 fn plain_of<'t>(
@@ -115,8 +133,7 @@ fn plain_of<'t>(
         Head::MacroDef => named_leaf!(MacroDef, alloc, attrs, visibility, named, rest),
         Head::Static => named_leaf!(Static, alloc, attrs, visibility, named, rest),
         Head::TypeAlias => named_leaf!(TypeAlias, alloc, attrs, visibility, named, rest),
-        Head::Union => named_leaf!(Union, alloc, attrs, visibility, named, rest),
-        _ => named_leaf!(Trait, alloc, attrs, visibility, named, rest),
+        _ => named_leaf!(Union, alloc, attrs, visibility, named, rest),
     }
 }
 
@@ -225,7 +242,7 @@ pub fn take_leaf<'t>(
         Head::Struct => structure(alloc, cursor, wanted, attrs, visibility),
         Head::Const => constant(alloc, cursor, wanted, attrs, visibility),
         Head::Static => static_value(alloc, cursor, wanted, attrs, visibility),
-        Head::Trait => plain_leaf(alloc, cursor, wanted, Head::Trait, attrs, visibility),
+        Head::Trait => trait_item(alloc, cursor, wanted, attrs, visibility),
         Head::Union => plain_leaf(alloc, cursor, wanted, Head::Union, attrs, visibility),
         Head::Enum => plain_leaf(alloc, cursor, wanted, Head::Enum, attrs, visibility),
         Head::TypeAlias => plain_leaf(alloc, cursor, wanted, Head::TypeAlias, attrs, visibility),

@@ -2,7 +2,6 @@
 
 ghost use Rattle.std.specs.Prelude.{◌≡◌, map, option_map};
 ghost use Rattle.hir_input.specs.Attr.{meta_view};
-ghost use Rattle.rust_cursor.specs.Brackets.{behind_tree};
 ghost use Rattle.rust_cursor.specs.Reader.{Gives};
 ghost use Rattle.rust_leaves.specs.Statements as spec;
 ghost use Rattle.rust_leaves.specs.Views.{call_read_view};
@@ -22,14 +21,14 @@ use std::alloc::{AllocError, Global};
 pub(crate) enum Scan {
     /// Up to a semicolon.
     Plain,
-    /// With what stands before its block, and this.
-    Header,
-    /// The same, where a block that comes next is not its own.
-    Inside,
+    /// With what stands before its block, and this. It is the last of so many blocks.
+    Header(u8),
+    /// The same, where a block that comes next is none of these.
+    Inside(u8),
     /// In a pattern behind `let`, up to its `=`.
-    Let,
+    Let(u8),
     /// In a pattern behind `for`, up to its `in`.
-    For,
+    For(u8),
 }
 
 /// A step of a statement.
@@ -42,14 +41,21 @@ pub(crate) enum Step {
     On(Scan),
 }
 
+fn leads_closure(cursor: &Cursor<'_>) -> bool
+    ensures { result ≡ spec.leads_closure cursor.now }
+{
+    match cursor.word() {
+        "move" => true,
+        "async" => second(cursor).symbol() != b':',
+        _ => false,
+    }
+}
+
 #[tactic(auto, unfolding(crate::specs::Statements::names_value))]
 fn names_value(behind: &Cursor<'_>) -> bool
     ensures { result ≡ spec.names_value behind.now }
 {
-    if !behind.is_at_identifier() {
-        return false;
-    }
-    !matches!(behind.word(), "move" | "async")
+    behind.is_at_identifier() && !leads_closure(behind)
 }
 
 fn is_other(head: Head) -> bool
@@ -67,6 +73,7 @@ fn is_item_head(cursor: &Cursor<'_>) -> bool
     }
     match cursor.word() {
         "const" | "static" => names_value(&second(cursor)),
+        "use" => second(cursor).symbol() != b'|',
         _ => true,
     }
 }
@@ -96,7 +103,7 @@ fn is_block_word(word: &str) -> bool
 fn is_control_word(word: &str) -> bool
     ensures { result ≡ spec.is_control_word word.now }
 {
-    matches!(word, "for" | "if" | "match" | "while")
+    matches!(word, "if" | "match" | "while")
 }
 
 fn is_label_kind(kind: Option<TokenKind>) -> bool
@@ -133,38 +140,57 @@ fn block_start<'t>(cursor: &Cursor<'t>) -> Cursor<'t>
     pass_label(&mut start);
     pass_block_word(&mut start);
     pass_block_word(&mut start);
+    pass_block_word(&mut start);
     start
 }
 
 fn is_block_at(start: &Cursor<'_>) -> bool
     ensures { result ≡ spec.is_block_at start.now }
 {
-    start.symbol() == b'{' || is_control_word(start.word())
+    start.symbol() == b'{' || is_control_word(start.word()) || start.is_lone_for()
+}
+
+#[tactic(auto, unfolding(crate::specs::Statements::is_open_mark))]
+fn is_open_mark(symbol: u8) -> bool
+    ensures { result ≡ spec.is_open_mark symbol }
+{
+    matches!(
+        symbol,
+        b'!' | b'%' | b'&' | b'*' | b'+' | b',' | b'-' | b'/' | b':' | b'<' | b'=' | b'^' | b'|'
+    )
 }
 
 #[tactic(auto, unfolding(crate::specs::Statements::leads_inside))]
 fn leads_inside(cursor: &Cursor<'_>) -> bool
     ensures { result ≡ spec.leads_inside cursor.now }
 {
-    is_block_word(cursor.word())
-        || is_control_word(cursor.word())
-        || matches!(cursor.symbol(), b'=' | b'&' | b'|')
+    is_block_word(cursor.word()) || is_open_mark(cursor.symbol())
+}
+
+/// One more than so many blocks, if these can be counted.
+fn one_more_block(blocks: u8) -> u8
+    ensures { result ≡ spec.one_more_block blocks }
+{
+    if blocks < 255 { blocks + 1 } else { blocks }
 }
 
 #[tactic(auto, unfolding(crate::specs::Statements::header_behind))]
-fn header_behind(cursor: &Cursor<'_>) -> Scan
-    ensures { result ≡ spec.header_behind cursor.now }
+fn header_behind(cursor: &Cursor<'_>, blocks: u8) -> Scan
+    ensures { result ≡ spec.header_behind blocks cursor.now }
 {
     if cursor.word() == "let" {
-        return Scan::Let;
+        return Scan::Let(blocks);
     }
     if cursor.is_lone_for() {
-        return Scan::For;
+        return Scan::For(one_more_block(blocks));
+    }
+    if is_control_word(cursor.word()) {
+        return Scan::Inside(one_more_block(blocks));
     }
     if leads_inside(cursor) {
-        Scan::Inside
+        Scan::Inside(blocks)
     } else {
-        Scan::Header
+        Scan::Header(blocks)
     }
 }
 
@@ -174,30 +200,29 @@ fn scan_behind(scan: Scan, cursor: &Cursor<'_>) -> Scan
 {
     match scan {
         Scan::Plain => Scan::Plain,
-        Scan::Header | Scan::Inside => header_behind(cursor),
-        Scan::Let => {
+        Scan::Header(blocks) | Scan::Inside(blocks) => header_behind(cursor, blocks),
+        Scan::Let(blocks) => {
             if cursor.symbol() == b'=' {
-                Scan::Inside
+                Scan::Inside(blocks)
             } else {
-                Scan::Let
+                Scan::Let(blocks)
             }
         }
-        Scan::For => {
+        Scan::For(blocks) => {
             if cursor.word() == "in" {
-                Scan::Inside
+                Scan::Inside(blocks)
             } else {
-                Scan::For
+                Scan::For(blocks)
             }
         }
     }
 }
 
-#[tactic(auto, unfolding(crate::specs::Statements::step_behind_block))]
-fn step_behind_block(cursor: &Cursor<'_>) -> Step
-    ensures { result ≡ spec.step_behind_block cursor.now }
+fn step_behind_block(cursor: &Cursor<'_>, blocks: u8) -> Step
+    ensures { result ≡ spec.step_behind_block blocks cursor.now }
 {
-    if cursor.word() == "else" {
-        return Step::On(Scan::Header);
+    if blocks > 1 {
+        return Step::On(Scan::Header(blocks - 1));
     }
     match cursor.symbol() {
         b'.' | b'?' => Step::On(Scan::Plain),
@@ -205,12 +230,45 @@ fn step_behind_block(cursor: &Cursor<'_>) -> Step
     }
 }
 
-fn pass_part(cursor: &mut Cursor<'_>, scan: Scan) -> Step
-    ensures step { result ≡ Step.On (spec.scan_behind scan cursor.old) }
-    ensures rest { cursor.new ≡ behind_tree cursor.old }
+fn pass_else(cursor: &mut Cursor<'_>, blocks: u8) -> Step
+    ensures { spec.behind_else blocks cursor.old ≡ (result, cursor.new) }
+{
+    if cursor.word() == "if" {
+        cursor.bump();
+        return Step::On(Scan::Inside(blocks));
+    }
+    Step::On(Scan::Header(blocks))
+}
+
+/// Takes `else` behind a block, if it comes next, and an `if` behind it.
+#[tactic(auto, unfolding(crate::specs::Statements::behind_block))]
+fn pass_behind_block(cursor: &mut Cursor<'_>, blocks: u8) -> Step
+    ensures { spec.behind_block blocks cursor.old ≡ (result, cursor.new) }
+{
+    if cursor.word() == "else" {
+        cursor.bump();
+        return pass_else(cursor, blocks);
+    }
+    step_behind_block(cursor, blocks)
+}
+
+fn is_use_of(cursor: &Cursor<'_>) -> bool
+    ensures { result ≡ spec.is_use_of cursor.now }
+{
+    cursor.symbol() == b'.' && second(cursor).word() == "use"
+}
+
+#[tactic(auto, unfolding(crate::specs::Statements::plain_step))]
+fn plain_step(cursor: &mut Cursor<'_>, scan: Scan) -> Step
+    ensures { spec.plain_step scan cursor.old ≡ (result, cursor.new) }
 {
     let next = scan_behind(scan, cursor);
-    cursor.pass_tree();
+    if is_use_of(cursor) {
+        cursor.bump();
+        cursor.bump();
+    } else {
+        cursor.pass_tree();
+    }
     Step::On(next)
 }
 
@@ -220,22 +278,22 @@ fn part_step(cursor: &mut Cursor<'_>, scan: Scan) -> Step
     ensures { spec.part_step scan cursor.old ≡ (result, cursor.new) }
 {
     match scan {
-        Scan::Let => {
+        Scan::Let(_) => {
             if cursor.is_pair(b'.', b'=') {
                 cursor.bump();
                 cursor.bump();
-                return Step::On(Scan::Let);
+                return Step::On(scan);
             }
-            pass_part(cursor, scan)
+            plain_step(cursor, scan)
         }
-        Scan::Header => {
+        Scan::Header(blocks) => {
             if cursor.symbol() == b'{' {
                 cursor.pass_tree();
-                return step_behind_block(cursor);
+                return pass_behind_block(cursor, blocks);
             }
-            pass_part(cursor, scan)
+            plain_step(cursor, scan)
         }
-        _ => pass_part(cursor, scan),
+        _ => plain_step(cursor, scan),
     }
 }
 
@@ -279,7 +337,7 @@ pub fn pass_statement(cursor: &mut Cursor<'_>) -> bool
     let start = block_start(cursor);
     if is_block_at(&start) {
         *cursor = start;
-        return pass_from(cursor, Scan::Header);
+        return pass_from(cursor, Scan::Header(0));
     }
     pass_from(cursor, Scan::Plain)
 }

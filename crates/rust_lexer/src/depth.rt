@@ -21,6 +21,11 @@ pub struct Depth {
     pub is_torn: bool,
 }
 
+// A copy is its source: the derive is held to it by this clause; the function does nothing.
+fn copied_depth()
+    ensures { (source copy : Depth) → ⟦<Depth as Clone>⟧.is_clone source copy → copy ≡ source }
+{}
+
 /// Counts a token that begins with this byte, unless there are too many brackets to be counted.
 #[inline(always)]
 fn count_bracket(first: u8, depth: &mut Depth) -> bool

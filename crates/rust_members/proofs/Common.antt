@@ -5,7 +5,7 @@ unfoldable pub use Rattle.rust_cursor.specs.Elements.{beyond, most, turns}
 pub use Rattle.rust_cursor.specs.Reader.{Reader}
 pub use Rattle.rust_cursor.specs.Tokens.{Tokens}
 unfoldable pub use Rattle.rust_cursor.specs.Tokens.{tokens_of}
-unfoldable pub use Rattle.rust_cursor.specs.Words.{at, bumped, is_at_end, symbol}
+unfoldable pub use Rattle.rust_cursor.specs.Words.{at, bumped, eat_word, is_at_end, symbol}
 pub use Rattle.rust_items.specs.Places.{IsNameIn}
 pub use Rattle.rust_leaves.specs.Clipped.{clipped_item}
 unfoldable pub use Rattle.rust_leaves.specs.Clipped.{clipped_front, clipped_leaf, clipped_leaf_if, leaf_behind, with_value}

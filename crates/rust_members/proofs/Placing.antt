@@ -1,5 +1,5 @@
 -- Members stand where they are read.
-use Rattle.std.proofs.Common.{◌≡◌, ◌<◌, ◌≤◌, ◌==◌, ◌-◌, ◌^◌, ℕ, zero, suc, Bool, Option, Some, None, List, [], ◌∷◌, ◌++◌, map, length, sym, ◌∙◌, arith, append_assoc, append-nil, option_to_list, IfOk, Result, Ok, Err, Vec}
+use Rattle.std.proofs.Common.{◌≡◌, ◌<◌, ◌≤◌, ◌==◌, ◌-◌, ◌^◌, ℕ, zero, suc, Bool, Option, Some, None, List, [], ◌∷◌, ◌++◌, map, length, codes, sym, ◌∙◌, arith, append_assoc, append-nil, option_to_list, IfOk, Result, Ok, Err, Vec}
 use Rattle.std.specs.declared.alloc.AllocError.{AllocError}
 use Rattle.std.specs.declared.alloc.Global.{Global}
 use Rattle.hir_input.specs.declared.edition.EditionYear.{EditionYear}
@@ -7,10 +7,10 @@ use Rattle.hir_input.specs.declared.ids.AstIdKind.{AstIdKind}
 use Rattle.hir_input.specs.declared.ids.AstIdKind.TheVariants as kind
 use Rattle.hir_input.specs.declared.ast.Visibility.{Visibility}
 use Rattle.hir_input.specs.Attr.{MetaView}
-use Rattle.rust_members.proofs.Common.{ItemView, Tokens, tokens_of, Reader, symbol, at, is_at_end, bumped, most, beyond, turns_from, turns, perhaps, TextRange, front, LeafRead, named, IsNameIn, Member, Stand, MemberRead, moved_member, MemberTold, told_with, body_of, member_kept, leaf_member, associated, opens_generics, is_pair_here, behind_operand, is_part_end, behind_operands, behind_value, is_type_end, behind_type_part, behind_type_parts, behind_type, behind_part, part_of, part_member, member_turn, is_list_over, members_from, members_in, cut_out, ArePlaced, member_view}
+use Rattle.rust_members.proofs.Common.{ItemView, Tokens, tokens_of, Reader, symbol, at, is_at_end, bumped, eat_word, most, beyond, turns_from, turns, perhaps, TextRange, front, LeafRead, named, IsNameIn, Member, Stand, MemberRead, moved_member, MemberTold, told_with, body_of, member_kept, leaf_member, associated, opens_generics, is_pair_here, behind_operand, is_part_end, behind_operands, behind_value, is_type_end, behind_type_part, behind_type_parts, behind_type, behind_part, part_of, part_member, member_turn, is_list_over, members_from, members_in, cut_out, ArePlaced, member_view}
 use Rattle.rust_metas.specs.Docs.{kept_metas}
 use Rattle.rust_metas.specs.declared.wanted.WantedMetas.{WantedMetas}
-use Rattle.rust_cursor.proofs.Leads.{LeadsTo, here, further, through, when, bumped_leads, eat_leads, behind_tree_leads, behind_angles_leads, beyond_leads, takes, takes_leads}
+use Rattle.rust_cursor.proofs.Leads.{LeadsTo, here, further, through, when, bumped_leads, eat_leads, eat_word_leads, behind_tree_leads, behind_angles_leads, beyond_leads, takes, takes_leads}
 use Rattle.rust_cursor.proofs.Laid.{IsLaid, behind, past_within, at_behind, taken_behind, takes_strict, tokens_laid}
 use Rattle.rust_paths.specs.Visibilities.{visibility}
 use Rattle.rust_paths.proofs.Leads.{visibility_leads}
@@ -179,13 +179,14 @@ unfolding part_member
 part_found end w k ts laid =
     let a = outer_attributes ts in
     let v = visibility a.1 in
-    let n = named v.1 in
-    let before = through (outer_attributes_leads ts) (visibility_leads a.1) in
+    let u = eat_word (codes "unsafe") v.1 in
+    let n = named u.1 in
+    let before = through (outer_attributes_leads ts) (through (visibility_leads a.1) (eat_word_leads (codes "unsafe") v.1)) in
     let rest = behind_part_leads k n.1 in
     let comma = eat_leads 44 (behind_part k n.1) in
     record {
-      leads = through before (through (named_leads v.1) (through rest comma));
-      placed = part_placed end ts v.1 n.1 (behind_part k n.1) _ k (kept_metas w a.0) v.0 n.0.range laid before (named_named v.1) rest comma;
+      leads = through before (through (named_leads u.1) (through rest comma));
+      placed = part_placed end ts u.1 n.1 (behind_part k n.1) _ k (kept_metas w a.0) v.0 n.0.range laid before (named_named u.1) rest comma;
     }
 
 -- ---- all

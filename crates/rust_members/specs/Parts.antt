@@ -5,7 +5,7 @@ use Rattle.hir_input.specs.Attr.{MetaView}
 use Rattle.hir_input.specs.Syntax.{CallView, ItemView, NamedView, plain_item, fn_kind, type_alias_kind, const_item, macro_call}
 use Rattle.rust_cursor.specs.Tokens.{Tokens}
 use Rattle.rust_cursor.specs.Reader.{Reader, ◌>>=◌, pure, look, pass}
-use Rattle.rust_cursor.specs.Words.{symbol, word, at, is_at_end, is_at_open, is_pair, eat, bumped}
+use Rattle.rust_cursor.specs.Words.{symbol, word, at, is_at_end, is_at_open, is_pair, eat, eat_word, bumped}
 use Rattle.rust_cursor.specs.Nests.{can_end}
 use Rattle.rust_cursor.specs.Brackets.{behind_tree}
 use Rattle.rust_cursor.specs.Elements.{most}
@@ -193,12 +193,13 @@ part_of kind start attrs v (Some name) end = Some (record {
   visibility = v;
 })
 
--- EnumVariant or StructField: up to the comma, which is taken too
+-- EnumVariant or StructField: up to the comma, which is taken too; a field may be `unsafe`
 unfoldable pub part_member : WantedMetas → MemberKind → Reader (Option MemberRead)
 part_member metas kind = do
   start ← look at
   attrs ← kept_by metas outer_attributes
   v ← visibility
+  _ ← eat_word (codes "unsafe")
   n ← named
   _ ← pass (behind_part kind)
   end ← look (λ ts. ts.past)

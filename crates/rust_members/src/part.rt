@@ -259,6 +259,7 @@ pub(crate) fn part(
     let start = cursor.at();
     let attrs = kept_outer_attributes(alloc, cursor, metas)?;
     let visibility = visibility(alloc, cursor)?;
+    cursor.eat_word("unsafe");
     let named = item_name(alloc, cursor)?;
     pass_part(cursor, kind);
     let end = cursor.past();

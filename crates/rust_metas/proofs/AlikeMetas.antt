@@ -1,8 +1,8 @@
 -- Metas of tokens that look alike are the same, until one goes past where the texts part. Their spans count from anchors that are as far from both.
 use Rattle.std.proofs.Common.{◌≡◌, ◌&&◌, ◌==◌, ℕ, zero, suc, true, false, Option, Some, List, [], refl, ap, codes, bytes_eq}
-use Rattle.rust_metas.proofs.Common.{and_parts, PathNode, MetaView, key_value_meta, token_tree_meta, cfg_meta, cfg_attr_meta, unsafe_meta, metas_from, CfgView, elements, one, Reader, pure, Tokens, symbol, word, bumped, is_at_open, through, Forwards, when, kept, Parting, Until, UpTo, cond_until, map_until, pass_until, bind_until, elements_until, Entering, Counted, is_edge, word_same, kind_same, text_same, open_same, edge_word, edge_test, symbol_test, after_word, after_symbol, path, path_until, tree_behind_comma, condition, is_truth, is_literal, is_ended, root, next_literal, value, assigned, input, plain_meta, is_call, in_brackets, member, conditional, meta_with, meta}
+use Rattle.rust_metas.proofs.Common.{and_parts, PathNode, MetaView, key_value_meta, token_tree_meta, cfg_meta, cfg_attr_meta, unsafe_meta, metas_from, CfgView, Reader, Tokens, symbol, word, bumped, is_at_open, Forwards, when, kept, Parting, Until, UpTo, cond_until, map_until, pass_until, bind_until, elements_until, Entering, Counted, is_edge, word_same, kind_same, text_same, open_same, edge_word, edge_test, symbol_test, after_word, after_symbol, path, path_until, tree_behind_comma, condition, is_truth, is_literal, is_ended, root, next_literal, value, assigned, input, plain_meta, is_call, is_at_name, is_named_call, member, conditional, meta_with, meta}
 use Rattle.rust_metas.proofs.Alike.{ended_same, in_brackets_until, condition_until}
-use Rattle.rust_metas.proofs.Around.{literal_symbol}
+use Rattle.rust_metas.proofs.Around.{literal_symbol, named_symbol}
 use Rattle.rust_metas.proofs.Leads.{condition_leads, conditional_leads, input_leads, member_leads, members_leads, meta_leads}
 use Rattle.rust_paths.proofs.AlikeTrees.{behind_comma_onward}
 use Rattle.rust_paths.proofs.Leads.{behind_comma_leads}
@@ -55,9 +55,23 @@ call_next : (b : Parting) (w : List ℕ) (ts us : Tokens) → bytes_eq [] w ≡ 
 unfolding is_call
 call_next b w ts us empty h e = after_word b.twins w ts us empty h (and_parts (bytes_eq (word ts) w) (is_at_open (bumped ts)) e).0
 
-called_until : {A B : Type 0} (b : Parting) (enter : Entering b) (w : List ℕ) (f : A → B) (m m' : Reader A) → bytes_eq [] w ≡ false → UpTo b m m' → Forwards m → Forwards m' → (ts us : Tokens) → b.twins.are ts us → is_call w ts ≡ true
-    → Until b (in_brackets f m (bumped ts)) (in_brackets f m' (bumped us))
-called_until b enter w f m m' empty each leads leads' ts us h e = in_brackets_until b enter f m m' each leads leads' (bumped ts) (bumped us) (call_next b w ts us empty h e)
+named_same : (b : Parting) (w : List ℕ) (ts us : Tokens) → b.twins.are ts us → is_at_name w us ≡ is_at_name w ts
+unfolding is_at_name
+named_same b w ts us h = rw (word_same b.twins ts us h, kind_same b.twins ts us h, text_same b.twins ts us h) refl
+
+named_next : (b : Parting) (w : List ℕ) (ts us : Tokens) → bytes_eq [] w ≡ false → b.twins.are ts us → is_at_name w ts ≡ true → b.twins.are (bumped ts) (bumped us)
+named_next b w ts us empty h e = b.twins.next ts us h (ap is_edge (named_symbol w ts empty e))
+
+named_call_same : (b : Parting) (w : List ℕ) (ts us : Tokens) → bytes_eq [] w ≡ false → b.twins.are ts us → is_named_call w us ≡ is_named_call w ts
+unfolding is_named_call
+named_call_same b w ts us empty h =
+    when (is_at_name w ts)
+    (λ e. rw (named_same b w ts us h, open_same b.twins (bumped ts) (bumped us) (named_next b w ts us empty h e)) refl)
+    (λ e. rw (named_same b w ts us h, e) refl)
+
+named_call_next : (b : Parting) (w : List ℕ) (ts us : Tokens) → bytes_eq [] w ≡ false → b.twins.are ts us → is_named_call w ts ≡ true → b.twins.are (bumped ts) (bumped us)
+unfolding is_named_call
+named_call_next b w ts us empty h e = named_next b w ts us empty h (and_parts (is_at_name w ts) (is_at_open (bumped ts)) e).0
 
 -- ---- metas
 
@@ -73,10 +87,10 @@ module _ (b : Parting) (enter : Entering b) (a a' : ℕ) (count : Counted b a a'
 
   meta_with_until : UpTo b (meta_with a inner condition) (meta_with a' inner' condition)
   meta_with_until ts us h =
-      cond_until (call_same b (codes "unsafe") ts us refl h) (λ k. called_until b enter (codes "unsafe") unsafe_meta inner inner' refl i f f' ts us h k)
-      (λ _. cond_until (call_same b (codes "cfg") ts us refl h) (λ k. called_until b enter (codes "cfg") cfg_meta condition condition refl c d d ts us h k)
-      (λ _. cond_until (call_same b (codes "cfg_attr") ts us refl h)
-      (λ k. called_until b enter (codes "cfg_attr") (λ p. cfg_attr_meta p.0 (metas_from p.1)) (conditional inner condition) (conditional inner' condition) refl conditional_until (conditional_leads inner condition f d) (conditional_leads inner' condition f' d) ts us h k)
+      cond_until (call_same b (codes "unsafe") ts us refl h) (λ k. in_brackets_until b enter unsafe_meta inner inner' i f f' (bumped ts) (bumped us) (call_next b (codes "unsafe") ts us refl h k))
+      (λ _. cond_until (named_call_same b (codes "cfg") ts us refl h) (λ k. in_brackets_until b enter cfg_meta condition condition c d d (bumped ts) (bumped us) (named_call_next b (codes "cfg") ts us refl h k))
+      (λ _. cond_until (named_call_same b (codes "cfg_attr") ts us refl h)
+      (λ k. in_brackets_until b enter (λ p. cfg_attr_meta p.0 (metas_from p.1)) (conditional inner condition) (conditional inner' condition) conditional_until (conditional_leads inner condition f d) (conditional_leads inner' condition f' d) (bumped ts) (bumped us) (named_call_next b (codes "cfg_attr") ts us refl h k))
       (λ _. plain_until b enter a a' count ts us h)))
 
 pub meta_until : (b : Parting) → Entering b → (a a' depth : ℕ) → Counted b a a' → UpTo b (meta a depth) (meta a' depth)

@@ -1,6 +1,6 @@
 -- Attributes stay in the brackets that they stand in.
 use Rattle.std.proofs.Common.{◌≡◌, ◌==◌, ◌||◌, ◌&&◌, ℕ, zero, suc, Bool, true, false, Option, Some, None, List, [], ◌∷◌, refl, sym, ◌∙◌, subst, codes, if◌then◌else◌, not, slice_index, bytes_eq}
-use Rattle.rust_metas.proofs.Common.{eqb-true, PathNode, MetaView, CfgView, DocStyle, Outer, Inner, Tokens, Reader, by_first, symbol, word, kind, text, at, is_empty, bumped, is_at_open, is_at_end, behind_closed, behind_tree, elements, one, begins_item, LeadsTo, here, further, through, Forwards, when, bumped_leads, behind_tree_leads, path, path_leads, is_literal_kind, is_truth, is_literal, is_ended, style_by, value, documentation, tree_comma_from, tree_behind_comma, is_word_kind, is_option_word, option_name, pair, named_condition, if_named, ended_condition, condition_with, conditions, condition, input, plain_meta, is_call, member, meta_with, meta, doc, behind_docs_from, behind_docs, behind_attribute, deepest, is_style, is_doc, is_attribute, is_behind, bracketed, past_mark, one_attribute, attribute, attributes, inner_attributes}
+use Rattle.rust_metas.proofs.Common.{eqb-true, PathNode, MetaView, CfgView, DocStyle, Outer, Inner, Tokens, Reader, by_first, symbol, word, kind, text, at, is_empty, bumped, is_at_open, is_at_end, behind_closed, behind_tree, elements, one, begins_item, LeadsTo, here, further, through, Forwards, when, bumped_leads, behind_tree_leads, path, path_leads, is_literal_kind, is_truth, is_literal, is_ended, style_by, value, documentation, tree_comma_from, tree_behind_comma, is_word_kind, is_option_word, option_name, pair, named_condition, if_named, ended_condition, condition_with, conditions, condition, input, plain_meta, is_call, is_at_name, is_named_call, member, meta_with, meta, doc, behind_docs_from, behind_docs, behind_attribute, deepest, is_style, is_doc, is_attribute, is_behind, bracketed, past_mark, one_attribute, attribute, attributes, inner_attributes}
 use Rattle.rust_lexer.specs.declared.kind.TokenKind.{TokenKind}
 use Rattle.rust_lexer.specs.declared.kind.TokenKind.TheVariants as kinds
 use Rattle.rust_lexer.specs.Piece.{Piece}
@@ -9,7 +9,10 @@ use Rattle.rust_cursor.proofs.Local.{both_true}
 use Rattle.rust_cursor.proofs.Around.{around, Within, same_within, is_plain, IsSound, sound_on, Remains, NoCloser, OpensAt, round, opens_at, opens_no_closer, not_end, plain_of, plain_upto, plain_around, other_around, word_symbol, entered_within, inside_within, tree_within, turns_within, elements_within, tree_text_within, to_around}
 use Rattle.rust_cursor.proofs.Enclosed.{AreEnclosed}
 use Rattle.rust_cursor.proofs.Near.{nothing}
-use Rattle.rust_paths.proofs.Around.{name_around, path_within}
+use Rattle.rust_paths.proofs.Around.{name_around, path_within, raw_symbol}
+use Rattle.rust_paths.specs.Names.{behind_hash}
+use Rattle.rust_paths.specs.Paths.{is_raw}
+use Rattle.rust_metas.specs.Metas.{is_text}
 use Rattle.rust_metas.proofs.Leads.{option_name_leads, if_named_leads, condition_with_leads, conditions_leads, condition_leads, member_leads, members_leads, meta_leads, attribute_leads}
 
 -- ---- literals
@@ -133,14 +136,35 @@ plain_within : (end c anchor : ℕ) → Remains end c (plain_meta anchor)
 unfolding plain_meta
 plain_within end c anchor ts s = through (input_within end c anchor (path ts).0 (path ts).1 (sound_on end (path_leads ts) s)) (path_within end c ts s)
 
+-- a name has no symbol, written as `r#name` or not
+pub named_symbol : (w : List ℕ) (ts : Tokens) → bytes_eq [] w ≡ false → is_at_name w ts ≡ true → symbol ts ≡ 0
+unfolding is_at_name
+named_symbol w ts empty e =
+    when (bytes_eq (word ts) w) (λ f. word_symbol w ts empty f)
+    (λ f. let raw : (is_raw (kind ts) && is_text w (behind_hash (text ts))) ≡ true = rw f at e in raw_symbol ts (both_true (is_raw (kind ts)) (is_text w (behind_hash (text ts))) raw).0)
+
+-- behind a token without a symbol and a bracket
+behind_within : (end c : ℕ) (ts us : Tokens) → symbol ts ≡ 0 → IsSound end ts → is_at_open (bumped ts) ≡ true → LeadsTo (bumped (bumped ts)) us → Within (symbol (bumped ts)) us (bumped (bumped ts))
+    → Within c (behind_closed (symbol (bumped ts)) us) ts
+behind_within end c ts us plain s e p h =
+    let s1 = sound_on end (bumped_leads ts) s in
+    through (inside_within end c (bumped ts) us s1 (opens_at end (bumped ts) s1 e) p h) (same_within c (bumped ts) ts (plain_around c ts plain))
+
 -- behind a word and a bracket
 call_within : (end c : ℕ) (w : List ℕ) (ts us : Tokens) → bytes_eq [] w ≡ false → IsSound end ts → is_call w ts ≡ true → LeadsTo (bumped (bumped ts)) us → Within (symbol (bumped ts)) us (bumped (bumped ts))
     → Within c (behind_closed (symbol (bumped ts)) us) ts
 unfolding is_call
 call_within end c w ts us empty s e p h =
     let first = both_true (bytes_eq (word ts) w) (is_at_open (bumped ts)) e in
-    let s1 = sound_on end (bumped_leads ts) s in
-    through (inside_within end c (bumped ts) us s1 (opens_at end (bumped ts) s1 first.1) p h) (same_within c (bumped ts) ts (plain_around c ts (word_symbol w ts empty first.0)))
+    behind_within end c ts us (word_symbol w ts empty first.0) s first.1 p h
+
+-- and behind a name
+named_call_within : (end c : ℕ) (w : List ℕ) (ts us : Tokens) → bytes_eq [] w ≡ false → IsSound end ts → is_named_call w ts ≡ true → LeadsTo (bumped (bumped ts)) us → Within (symbol (bumped ts)) us (bumped (bumped ts))
+    → Within c (behind_closed (symbol (bumped ts)) us) ts
+unfolding is_named_call
+named_call_within end c w ts us empty s e p h =
+    let first = both_true (is_at_name w ts) (is_at_open (bumped ts)) e in
+    behind_within end c ts us (named_symbol w ts empty first.0) s first.1 p h
 
 module _ (end : ℕ) (inner : Reader MetaView) (condition : Reader CfgView) (i : (c : ℕ) → Remains end c inner) (f : Forwards inner) (j : (c : ℕ) → Remains end c condition) (d : Forwards condition) where
   member_within : (c : ℕ) → Remains end c (member inner)
@@ -152,9 +176,9 @@ module _ (end : ℕ) (inner : Reader MetaView) (condition : Reader CfgView) (i :
       let b = symbol (bumped ts) in
       let s2 : IsSound end twice = sound_on end (further (bumped_leads (bumped ts))) s in
       when (is_call (codes "unsafe") ts) (λ e. rw e (call_within end c (codes "unsafe") ts (inner twice).1 refl s e (f twice) (i b twice s2)))
-      (λ e. rw e (when (is_call (codes "cfg") ts) (λ g. rw g (call_within end c (codes "cfg") ts (condition twice).1 refl s g (d twice) (j b twice s2)))
-      (λ g. rw g (when (is_call (codes "cfg_attr") ts)
-      (λ h. rw h (call_within end c (codes "cfg_attr") ts (elements (one (member inner)) (condition twice).1).1 refl s h (through (d twice) (members_leads inner condition f d (condition twice).1))
+      (λ e. rw e (when (is_named_call (codes "cfg") ts) (λ g. rw g (named_call_within end c (codes "cfg") ts (condition twice).1 refl s g (d twice) (j b twice s2)))
+      (λ g. rw g (when (is_named_call (codes "cfg_attr") ts)
+      (λ h. rw h (named_call_within end c (codes "cfg_attr") ts (elements (one (member inner)) (condition twice).1).1 refl s h (through (d twice) (members_leads inner condition f d (condition twice).1))
       (through (elements_within end b (one (member inner)) (member_leads inner condition f d) (member_within b) (condition twice).1 (sound_on end (d twice) s2)) (j b twice s2))))
       (λ h. rw h (plain_within end c anchor ts s))))))
 

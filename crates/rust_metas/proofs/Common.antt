@@ -27,7 +27,7 @@ pub use Rattle.rust_metas.specs.Escapes.{blanks, number_from, scalar_of, stands_
 pub use Rattle.rust_metas.specs.Literals.{root, style_by}
 unfoldable pub use Rattle.rust_metas.specs.Literals.{documentation, is_ended, is_literal, is_truth, next_literal, value}
 pub use Rattle.rust_metas.specs.Metas.{assigned, conditional, member, meta_with}
-unfoldable pub use Rattle.rust_metas.specs.Metas.{doc, input, is_call, meta, plain_meta}
+unfoldable pub use Rattle.rust_metas.specs.Metas.{doc, input, is_call, is_at_name, is_named_call, meta, plain_meta}
 pub use Rattle.rust_metas.specs.Strings.{beside, ended_string, hashes, prepend, pushed, raw_from, unescaped, written_byte}
 unfoldable pub use Rattle.rust_metas.specs.Strings.{as_text, escaped_character}
 pub use Rattle.rust_metas.specs.Unread.{behind_unread, is_unread, may_condition}

@@ -1,6 +1,6 @@
 -- What is left behind attributes is left of the tokens before them.
 use Rattle.std.proofs.Common.{◌==◌, ◌&&◌, ℕ, zero, suc, Option, Some, None, List, codes}
-use Rattle.rust_metas.proofs.Common.{PathNode, MetaView, CfgView, DocStyle, Outer, Inner, Tokens, Reader, symbol, word, kind, bumped, is_at_end, is_at_open, elements, one, begins_item, LeadsTo, here, further, through, Forwards, when, bumped_leads, behind_closed_leads, turns_leads, taken_leads_on, name_leads, path_leads, is_literal_kind, is_literal, is_ended, value, documentation, is_option_word, option_name, pair, in_brackets, composed, named_condition, if_named, ended_condition, condition_with, conditions, condition, input, plain_meta, is_call, member, conditional, unsafe_meta, cfg_meta, cfg_attr_meta, metas_from, meta_with, meta, doc, is_doc, is_behind, behind_bracket, bracketed, past_mark, one_attribute, behind_docs_from, behind_docs, behind_attribute, attribute, attributes, outer_attributes, inner_attributes}
+use Rattle.rust_metas.proofs.Common.{PathNode, MetaView, CfgView, DocStyle, Outer, Inner, Tokens, Reader, symbol, word, kind, bumped, is_at_end, is_at_open, elements, one, begins_item, LeadsTo, here, further, through, Forwards, when, bumped_leads, behind_closed_leads, turns_leads, taken_leads_on, name_leads, path_leads, is_literal_kind, is_literal, is_ended, value, documentation, is_option_word, option_name, pair, in_brackets, composed, named_condition, if_named, ended_condition, condition_with, conditions, condition, input, plain_meta, is_call, is_named_call, member, conditional, unsafe_meta, cfg_meta, cfg_attr_meta, metas_from, meta_with, meta, doc, is_doc, is_behind, behind_bracket, bracketed, past_mark, one_attribute, behind_docs_from, behind_docs, behind_attribute, attribute, attributes, outer_attributes, inner_attributes}
 use Rattle.rust_paths.proofs.Leads.{behind_comma_leads}
 
 -- ---- literals
@@ -76,8 +76,8 @@ module _ (inner : Reader MetaView) (condition : Reader CfgView) (i : Forwards in
   meta_with_leads : (anchor : ℕ) → Forwards (meta_with anchor inner condition)
   meta_with_leads anchor ts =
       when (is_call (codes "unsafe") ts) (λ e. rw e (further (in_brackets_leads unsafe_meta inner i _)))
-      (λ e. rw e (when (is_call (codes "cfg") ts) (λ f. rw f (further (in_brackets_leads cfg_meta condition c _)))
-      (λ f. rw f (when (is_call (codes "cfg_attr") ts) (λ g. rw g (further (in_brackets_leads (λ p. cfg_attr_meta p.0 (metas_from p.1)) (conditional inner condition) conditional_leads _))) (λ g. rw g (plain_leads anchor ts))))))
+      (λ e. rw e (when (is_named_call (codes "cfg") ts) (λ f. rw f (further (in_brackets_leads cfg_meta condition c _)))
+      (λ f. rw f (when (is_named_call (codes "cfg_attr") ts) (λ g. rw g (further (in_brackets_leads (λ p. cfg_attr_meta p.0 (metas_from p.1)) (conditional inner condition) conditional_leads _))) (λ g. rw g (plain_leads anchor ts))))))
 
 pub meta_leads : (anchor depth : ℕ) → Forwards (meta anchor depth)
 unfolding meta

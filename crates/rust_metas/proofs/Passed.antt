@@ -14,7 +14,7 @@ use Rattle.rust_cursor.proofs.Common.{eat_pair, is_closing, is_pair, to_closing}
 use Rattle.rust_cursor.proofs.Steps.{closing_stop}
 use Rattle.rust_paths.proofs.Common.{eat_colons, has_name, is_colons, is_dollar_crate, is_keyword, is_path_colons, is_path_keyword, is_path_start, is_raw, is_segment, is_underscore, more_from, more_segments, name, next_name, other_segment, plain_name, segment}
 use Rattle.rust_metas.specs.declared.wanted.WantedMetas.TheVariants as wanted
-use Rattle.rust_metas.proofs.Common.{DocStyle, MetaView, Tokens, WantedMetas, and_parts, attribute, at, begins_item, behind_attribute, behind_bracket, behind_closed, behind_unread, bracketed, bumped, by_first, deepest, eqb-true, input, is_at_open, is_call, is_condition_meta, is_doc, is_empty, is_plain_name, is_unread, kept_by, kept_metas, kind, may_condition, meta, one, one_attribute, past_mark, path, plain_bracketed, plain_input, plain_meta, symbol, text, value, when, word}
+use Rattle.rust_metas.proofs.Common.{DocStyle, MetaView, Tokens, WantedMetas, and_parts, attribute, at, begins_item, behind_attribute, behind_bracket, behind_closed, behind_unread, bracketed, bumped, by_first, deepest, eqb-true, input, is_at_open, is_call, is_condition_meta, is_at_name, is_named_call, is_doc, is_empty, is_plain_name, is_unread, kept_by, kept_metas, kind, may_condition, meta, one, one_attribute, past_mark, path, plain_bracketed, plain_input, plain_meta, symbol, text, value, when, word}
 use Rattle.rust_metas.proofs.Depths.{meta_at}
 use Rattle.rust_metas.proofs.RoundTexts.{round_text}
 
@@ -162,10 +162,15 @@ no_call : (w : List ℕ) (ts : Tokens) → bytes_eq (word ts) w ≡ false → is
 unfolding is_call
 no_call w ts e = rw e refl
 
+-- a word is no other name
+no_named_call : (w : List ℕ) (ts : Tokens) → IsWord ts → bytes_eq (word ts) w ≡ false → is_named_call w ts ≡ false
+unfolding is_named_call is_at_name
+no_named_call w ts here e = rw (e, here.kind_is) refl
+
 plain_read : (anchor : ℕ) (ts : Tokens) → IsPlainName ts → meta anchor deepest ts ≡ plain_meta anchor ts
 plain_read anchor ts n =
     meta_at anchor deepest ts (omega arith)
-    ∙ rw (no_call (codes "unsafe") ts n.no_unsafe, no_call (codes "cfg") ts n.no_cfg, no_call (codes "cfg_attr") ts n.no_cfg_attr) refl
+    ∙ rw (no_call (codes "unsafe") ts n.no_unsafe, no_named_call (codes "cfg") ts n.word_here n.no_cfg, no_named_call (codes "cfg_attr") ts n.word_here n.no_cfg_attr) refl
 
 -- a name and its input are read as they are passed over, and tell no condition
 meta_passed : (anchor : ℕ) (ts : Tokens) → is_plain_name ts ≡ true → (plain_input (bumped ts)).0 ≡ true

@@ -1,5 +1,5 @@
 -- Metas. The spans of their literals count from the anchor, which is the first argument.
-use Rattle.std.specs.Prelude.{ℕ, zero, suc, Bool, ◌==◌, ◌&&◌, if◌then◌else◌, Option, Some, None, List, [], ◌∷◌, codes, bytes_eq}
+use Rattle.std.specs.Prelude.{ℕ, zero, suc, Bool, false, ◌==◌, ◌&&◌, ◌||◌, if◌then◌else◌, Option, Some, None, List, [], ◌∷◌, codes, bytes_eq}
 use Rattle.hir_input.specs.declared.ast.PathNode.{PathNode}
 use Rattle.hir_input.specs.declared.ast.PathNode.TheVariants.{Readable}
 use Rattle.hir_input.specs.declared.mod_path.PathKind.TheVariants.{Plain}
@@ -7,10 +7,11 @@ use Rattle.hir_input.specs.Attr.{MetaView, path_meta, key_value_meta, token_tree
 use Rattle.hir_input.specs.Cfg.{CfgView}
 use Rattle.rust_cursor.specs.Tokens.{Tokens}
 use Rattle.rust_cursor.specs.Reader.{Reader, ◌>>=◌, pure, pass}
-use Rattle.rust_cursor.specs.Words.{symbol, word, bump, bumped, is_at_open}
+use Rattle.rust_cursor.specs.Words.{symbol, word, kind, text, bump, bumped, is_at_open}
 use Rattle.rust_cursor.specs.Elements.{elements, one}
 use Rattle.rust_cursor.specs.Extents.{tree_text}
-use Rattle.rust_paths.specs.Paths.{path}
+use Rattle.rust_paths.specs.Names.{behind_hash}
+use Rattle.rust_paths.specs.Paths.{is_raw, path}
 use Rattle.rust_metas.specs.Literals.{root, value, documentation}
 use Rattle.rust_paths.specs.UseTrees.{tree_behind_comma}
 use Rattle.rust_metas.specs.Conditions.{in_brackets, condition}
@@ -43,6 +44,18 @@ plain_meta anchor = do
 unfoldable pub is_call : List ℕ → Tokens → Bool
 is_call w ts = bytes_eq (word ts) w && is_at_open (bumped ts)
 
+abbrev pub is_text : List ℕ → Option (List ℕ) → Bool
+is_text w None = false
+is_text w (Some v) = bytes_eq v w
+
+-- the name comes next, perhaps as `r#name`
+unfoldable pub is_at_name : List ℕ → Tokens → Bool
+is_at_name w ts = bytes_eq (word ts) w || (is_raw (kind ts) && is_text w (behind_hash (text ts)))
+
+-- the name and a bracket
+unfoldable pub is_named_call : List ℕ → Tokens → Bool
+is_named_call w ts = is_at_name w ts && is_at_open (bumped ts)
+
 -- a meta and the comma behind it
 abbrev pub member : Reader MetaView → Reader MetaView
 member inner = do
@@ -61,8 +74,8 @@ conditional inner condition = do
 abbrev pub meta_with : ℕ → Reader MetaView → Reader CfgView → Reader MetaView
 meta_with anchor inner condition ts =
     if is_call (codes "unsafe") ts then in_brackets unsafe_meta inner (bumped ts)
-    else (if is_call (codes "cfg") ts then in_brackets cfg_meta condition (bumped ts)
-    else (if is_call (codes "cfg_attr") ts then in_brackets (λ p. cfg_attr_meta p.0 (metas_from p.1)) (conditional inner condition) (bumped ts)
+    else (if is_named_call (codes "cfg") ts then in_brackets cfg_meta condition (bumped ts)
+    else (if is_named_call (codes "cfg_attr") ts then in_brackets (λ p. cfg_attr_meta p.0 (metas_from p.1)) (conditional inner condition) (bumped ts)
     else plain_meta anchor ts))
 
 -- A meta. The second number bounds how deep metas and conditions stand in one another; a deeper meta is one without a path.

@@ -12,7 +12,8 @@ use crate::literal::{documentation, root, value};
 use hir_input::ast::PathNode;
 use hir_input::{Meta, ModPath, Name, PathKind, TokenTree};
 use rust_cursor::Cursor;
-use rust_paths::{pass_comma, path};
+use rust_lexer::TokenKind;
+use rust_paths::{behind_hash, pass_comma, path};
 use std::alloc::{AllocError, Global};
 
 /// What stands behind a path: `=` and a value, a token tree, or nothing. A value that is no literal is left.
@@ -61,6 +62,33 @@ fn is_call(cursor: &Cursor<'_>, word: &str) -> bool
     ahead.is_at_open()
 }
 
+/// Whether the name comes next, perhaps as `r#name`.
+#[tactic(auto, unfolding(crate::specs::Metas::is_at_name))]
+fn is_at_name(cursor: &Cursor<'_>, name: &str) -> bool
+    ensures { result ≡ spec.is_at_name name.now cursor.now }
+{
+    if cursor.word() == name {
+        return true;
+    }
+    match (cursor.kind(), behind_hash(cursor.text())) {
+        (Some(TokenKind::RawIdent), Some(word)) => word == name,
+        _ => false,
+    }
+}
+
+/// Whether the name and a bracket come next.
+#[tactic(auto, unfolding(crate::specs::Metas::is_named_call))]
+fn is_named_call(cursor: &Cursor<'_>, name: &str) -> bool
+    ensures { result ≡ spec.is_named_call name.now cursor.now }
+{
+    if !is_at_name(cursor, name) {
+        return false;
+    }
+    let mut ahead = cursor.ahead();
+    ahead.bump();
+    ahead.is_at_open()
+}
+
 /// Passes over a word and the bracket behind it, which it gives.
 fn pass_open(cursor: &mut Cursor<'_>) -> u8
     ensures given { result ≡ symbol (bumped cursor.old) }
@@ -93,13 +121,13 @@ pub(crate) fn meta(
         cursor.pass_closed(bracket);
         return Ok(Meta::Unsafe(Box::new(alloc, inner)?));
     }
-    if is_call(cursor, "cfg") {
+    if is_named_call(cursor, "cfg") {
         let bracket = pass_open(cursor);
         let condition = condition(alloc, cursor, depth - 1)?;
         cursor.pass_closed(bracket);
         return Ok(Meta::Cfg(condition));
     }
-    if is_call(cursor, "cfg_attr") {
+    if is_named_call(cursor, "cfg_attr") {
         let bracket = pass_open(cursor);
         let condition = condition(alloc, cursor, depth - 1)?;
         let metas = metas(alloc, cursor, anchor, depth - 1)?;

@@ -1,6 +1,7 @@
 -- Names, paths and visibilities of tokens that look alike are the same, until one goes past where the texts part.
-use Rattle.std.proofs.Common.{◌≡◌, ◌==◌, ℕ, zero, suc, Bool, true, false, Option, Some, None, List, ◌∷◌, refl, ap, ◌∙◌, codes, option_map, is_some, not, bytes_eq}
-use Rattle.rust_paths.proofs.Common.{and_parts, PathNode, Visibility, name_word, behind_closed, Reader, pure, Tokens, symbol, word, kind, text, bumped, eat_colons, Forwards, through, when, behind_closed_leads, Parting, Until, UpTo, kept, cond_until, with_rest, map_until, pass_until, then_until, bind_until, eat_pair_until, is_edge, symbol_same, word_same, kind_same, text_same, edge_word, edge_test, word_test, symbol_test, after_word, after_symbol, pair_same, after_pair, path_node, name_text, has_name, as_name, next_name, taken_with, name, is_raw, is_dollar_crate, is_segment, named_word, other_segment, segment, is_colons, is_joint, is_path_colons, and_path_word, more_from, more_segments, front_of_path, written_path, is_path_start, path_in, path, use_path, in_path, path_scope, plain_scope, scope_of, scope, is_in, scoped, visibility}
+use Rattle.std.proofs.Common.{◌≡◌, ◌==◌, ℕ, zero, suc, Bool, true, false, Option, Some, None, List, ◌∷◌, refl, ap, ◌∙◌, arith, codes, option_map, is_some, not, bytes_eq}
+use Rattle.rust_paths.proofs.Common.{nat_tests, and_parts, PathNode, Visibility, name_word, behind_closed, Reader, pure, Tokens, symbol, word, kind, text, bumped, eat_colons, Forwards, through, when, behind_closed_leads, Parting, Until, UpTo, kept, cond_until, with_rest, map_until, pass_until, then_until, bind_until, eat_pair_until, is_edge, symbol_same, word_same, kind_same, text_same, edge_word, edge_test, edge_identifier, identifier_same, word_test, symbol_test, after_word, after_symbol, pair_same, after_pair, path_node, name_text, has_name, as_name, next_name, taken_with, name, is_raw, is_dollar_crate, is_segment, named_word, other_segment, segment, is_colons, is_joint, is_last_self, is_path_colons, has_more, and_path_word, more_from, more_segments, front_of_path, written_path, is_path_start, path_in, path, use_path, in_path, scope_path, is_path_part, behind_parts_from, behind_parts, is_bare_path, plain_scope, scope_of, scope, is_in, scoped, visibility}
+use Rattle.rust_cursor.specs.Elements.{most}
 use Rattle.rust_cursor.specs.Reader.{◌>>=◌}
 use Rattle.rust_paths.proofs.Around.{name_symbol, raw_symbol}
 use Rattle.rust_paths.proofs.Leads.{segment_leads, more_from_leads, more_segments_leads}
@@ -40,7 +41,7 @@ dollar_same b ts us h =
     (λ e. let n = after_symbol b.twins 36 ts us refl h e in rw (symbol_same b.twins ts us h, word_same b.twins (bumped ts) (bumped us) n) refl)
     (λ e. rw (symbol_same b.twins ts us h, e) refl)
 
-segment_same : (b : Parting) (ts us : Tokens) → b.twins.are ts us → is_segment us ≡ is_segment ts
+pub segment_same : (b : Parting) (ts us : Tokens) → b.twins.are ts us → is_segment us ≡ is_segment ts
 unfolding is_segment
 segment_same b ts us h = rw (word_same b.twins ts us h, kind_same b.twins ts us h, has_name_same b ts us h, dollar_same b ts us h) refl
 
@@ -100,13 +101,35 @@ unfolding is_path_colons
 are_colons true ts e = (and_parts (is_colons ts) (not (is_joint ts)) e).0
 are_colons false ts e = e
 
+pub last_self_same : (b : Parting) (ts us : Tokens) → b.twins.are ts us → is_last_self us ≡ is_last_self ts
+unfolding is_last_self
+last_self_same b ts us h =
+    when (bytes_eq (word ts) (codes "self"))
+    (λ e. rw (word_same b.twins ts us h, colons_same b (bumped ts) (bumped us) (after_word b.twins (codes "self") ts us refl h e)) refl)
+    (λ e. rw (word_same b.twins ts us h, e) refl)
+
+pub after_self : (b : Parting) (ts us : Tokens) → b.twins.are ts us → is_last_self ts ≡ true → b.twins.are (bumped ts) (bumped us)
+unfolding is_last_self
+after_self b ts us h e = after_word b.twins (codes "self") ts us refl h (and_parts (bytes_eq (word ts) (codes "self")) (not (is_colons (bumped ts))) e).0
+
+more_same : (b : Parting) (in_use : Bool) (ts us : Tokens) → b.twins.are ts us → has_more in_use us ≡ has_more in_use ts
+more_same b false ts us h = path_colons_same b false ts us h
+more_same b true ts us h =
+    when (is_path_colons true ts)
+    (λ e. rw (path_colons_same b true ts us h, last_self_same b _ _ (colons_behind b ts us h (are_colons true ts e))) refl)
+    (λ e. rw (path_colons_same b true ts us h, e) refl)
+
+more_colons : (in_use : Bool) (ts : Tokens) → has_more in_use ts ≡ true → is_colons ts ≡ true
+more_colons false ts e = are_colons false ts e
+more_colons true ts e = are_colons true ts (and_parts (is_path_colons true ts) (not (is_last_self (bumped (bumped ts)))) e).0
+
 more_until : (b : Parting) (in_use : Bool) (n : ℕ) → UpTo b (more_from in_use n) (more_from in_use n)
 more_until b in_use zero ts us h = kept (record { value = refl; rest = h })
 more_until b in_use (suc n) ts us h =
-    cond_until (path_colons_same b in_use ts us h)
+    cond_until (more_same b in_use ts us h)
     (λ e. then_until b (λ w us. and_path_word w (more_from in_use n us)) (λ w us. and_path_word w (more_from in_use n us)) (λ w. more_from_leads in_use n) (λ w. more_from_leads in_use n)
     (λ w ts us h. map_until (λ l. w ∷ l) (more_until b in_use n ts us h))
-    (segment_until b (bumped (bumped ts)) (bumped (bumped us)) (colons_behind b ts us h (are_colons in_use ts e))))
+    (segment_until b (bumped (bumped ts)) (bumped (bumped us)) (colons_behind b ts us h (more_colons in_use ts e))))
     (λ _. kept (record { value = refl; rest = h }))
 
 more_segments_until : (b : Parting) (in_use : Bool) → UpTo b (more_segments in_use) (more_segments in_use)
@@ -177,9 +200,36 @@ scope_next b v ts us n s =
     let other : is_edge (symbol (bumped ts)) ≡ false = when (is_edge (symbol (bumped ts))) (λ f. let none = scope_none ts f in absurd cc) (λ f. f) in
     after_symbol b.twins 41 (bumped (bumped ts)) (bumped (bumped us)) refl (b.twins.next (bumped ts) (bumped us) n other) (scope_closed v ts s)
 
-plain_kept : (b : Parting) (o o' : Option Visibility) (ts us : Tokens) → o' ≡ o → b.twins.are ts us → ((v : Visibility) → o ≡ Some v → b.twins.are (bumped (bumped (bumped ts))) (bumped (bumped (bumped us)))) → Until b (plain_scope o ts) (plain_scope o' us)
-plain_kept b None o' ts us e h next = rw e (kept (record { value = refl; rest = h }))
-plain_kept b (Some v) o' ts us e h next = rw e (kept (record { value = refl; rest = next v refl }))
+-- a path, and the bracket that closes behind it
+scope_path_until : (b : Parting) → UpTo b scope_path scope_path
+scope_path_until b ts us h = pass_until b (behind_closed 40) (behind_closed_leads 40) (b.closed 40) (map_until in_path (path_until b ts us h))
+
+part_no_edge : (ts : Tokens) → is_path_part ts ≡ true → is_edge (symbol ts) ≡ false
+part_no_edge ts e =
+    when (is_edge (symbol ts))
+    (λ f. let other : (symbol ts == 58) ≡ false = grind (arith, nat_tests) in let none : is_path_part ts ≡ false = rw (edge_identifier ts f, other) refl in absurd cc)
+    (λ f. f)
+
+parts_are : (b : Parting) (n : ℕ) (ts us : Tokens) → b.twins.are ts us → b.twins.are (behind_parts_from n ts) (behind_parts_from n us)
+parts_are b zero ts us h = h
+parts_are b (suc n) ts us h =
+    let same : is_path_part us ≡ is_path_part ts = rw (identifier_same b.twins ts us h, symbol_same b.twins ts us h) refl in
+    when (is_path_part ts) (λ e. rw (same, e) (parts_are b n (bumped ts) (bumped us) (b.twins.next ts us h (part_no_edge ts e)))) (λ e. rw (same, e) h)
+
+bare_same : (b : Parting) (ts us : Tokens) → b.twins.are (bumped ts) (bumped us) → is_bare_path us ≡ is_bare_path ts
+unfolding is_bare_path behind_parts
+bare_same b ts us n =
+    let vs = behind_parts_from most (bumped ts) in
+    let ws = behind_parts_from most (bumped us) in
+    let k : b.twins.are vs ws = parts_are b most (bumped ts) (bumped us) n in
+    when (symbol vs == 41)
+    (λ e. rw (symbol_same b.twins vs ws k, identifier_same b.twins (bumped vs) (bumped ws) (after_symbol b.twins 41 vs ws refl k e)) refl)
+    (λ e. rw (symbol_same b.twins vs ws k, e) refl)
+
+plain_kept : (b : Parting) (o o' : Option Visibility) (ts us : Tokens) → o' ≡ o → b.twins.are ts us → b.twins.are (bumped ts) (bumped us) → ((v : Visibility) → o ≡ Some v → b.twins.are (bumped (bumped (bumped ts))) (bumped (bumped (bumped us)))) → Until b (plain_scope o ts) (plain_scope o' us)
+plain_kept b None o' ts us e h n next =
+    rw e (cond_until (bare_same b ts us n) (λ _. scope_path_until b (bumped ts) (bumped us) n) (λ _. kept (record { value = refl; rest = h })))
+plain_kept b (Some v) o' ts us e h n next = rw e (kept (record { value = refl; rest = next v refl }))
 
 in_same : (b : Parting) (ts us : Tokens) → b.twins.are (bumped ts) (bumped us) → is_in us ≡ is_in ts
 unfolding is_in
@@ -189,17 +239,13 @@ in_next : (b : Parting) (ts us : Tokens) → b.twins.are (bumped ts) (bumped us)
 unfolding is_in
 in_next b ts us n e = after_word b.twins (codes "in") (bumped ts) (bumped us) refl n e
 
-path_scope_until : (b : Parting) (ts us : Tokens) → b.twins.are (bumped (bumped ts)) (bumped (bumped us)) → Until b (path_scope ts) (path_scope us)
-path_scope_until b ts us n =
-    pass_until b (behind_closed 40) (behind_closed_leads 40) (b.closed 40) (map_until in_path (path_until b (bumped (bumped ts)) (bumped (bumped us)) n))
-
 scoped_until : (b : Parting) → UpTo b scoped scoped
 unfolding scoped
 scoped_until b ts us h =
     cond_until (symbol_test b.twins 40 ts us h)
     (λ e. let n = after_symbol b.twins 40 ts us refl h e in
-    cond_until (in_same b ts us n) (λ f. path_scope_until b ts us (in_next b ts us n f))
-    (λ _. plain_kept b (scope ts) (scope us) ts us (scope_same b ts us n) h (λ v s. scope_next b v ts us n s)))
+    cond_until (in_same b ts us n) (λ f. scope_path_until b (bumped (bumped ts)) (bumped (bumped us)) (in_next b ts us n f))
+    (λ _. plain_kept b (scope ts) (scope us) ts us (scope_same b ts us n) h n (λ v s. scope_next b v ts us n s)))
     (λ _. kept (record { value = refl; rest = h }))
 
 pub visibility_until : (b : Parting) → UpTo b visibility visibility

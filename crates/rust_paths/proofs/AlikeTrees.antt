@@ -1,7 +1,7 @@
 -- Use trees of tokens that look alike are the same, until one goes past where the texts part; where they begin is told alike.
-use Rattle.std.proofs.Common.{◌≡◌, ◌||◌, ℕ, zero, suc, Bool, true, false, Option, Some, None, List, [], ◌++◌, refl, ap, ◌∙◌, codes, is_none, option_to_list}
-use Rattle.rust_paths.proofs.Common.{PathNode, Readable, Unreadable, UseTreeView, behind_closed, behind_tree, one, Reader, Tokens, at, bumped, is_at_end, eat_word, eat_colons, through, Forwards, when, eat_word_leads, eat_pair_leads, behind_closed_leads, turns_leads, Onward, on, UntilBy, gone, kept, Parting, UpTo, by_next, onward_leads, cond_onward, by_kept, cond_until, map_until, bind_until, eat_word_until, eat_pair_until, turns_by, Entering, AreAlike, no_more, one_more, alike_join, IsAlike, neither, both, alike_or, end_same, symbol_test, after_symbol, name, use_path, FoundInUse, alias, alias_if, rename, begun_trees, with_bare, tree_with_list, begun_list, with_list, star_or_list, renamed_tree, tree_behind, tree_with, tree_comma_from, tree_behind_comma, element_with, values, all_starts, first_too_deep, all_found, trees, some_list, no_list, list, tree_at, use_tree}
-use Rattle.rust_paths.proofs.Alike.{name_until, use_path_until}
+use Rattle.std.proofs.Common.{◌≡◌, ◌||◌, ℕ, zero, suc, Bool, true, false, Option, Some, None, List, [], ◌∷◌, ◌++◌, refl, ap, ◌∙◌, codes, is_none, option_to_list}
+use Rattle.rust_paths.proofs.Common.{PathNode, Readable, Unreadable, UseTreeView, behind_closed, behind_tree, one, Reader, Tokens, at, bumped, is_at_end, eat_word, eat_colons, through, Forwards, when, eat_word_leads, eat_pair_leads, behind_closed_leads, turns_leads, Onward, on, UntilBy, gone, kept, Parting, UpTo, by_next, onward_leads, cond_onward, by_kept, cond_until, map_until, bind_until, eat_word_until, eat_pair_until, turns_by, Entering, AreAlike, no_more, one_more, alike_join, IsAlike, neither, both, alike_or, end_same, symbol_test, after_symbol, name, is_last_self, use_path, FoundInUse, alias, alias_if, rename, begun_trees, with_bare, tree_with_list, begun_list, with_list, star_or_list, self_in_list, with_self, self_tree, renamed_tree, tree_behind, tree_with, tree_comma_from, tree_behind_comma, element_with, values, all_starts, first_too_deep, all_found, trees, some_list, no_list, list, tree_at, use_tree}
+use Rattle.rust_paths.proofs.Alike.{name_until, use_path_until, last_self_same, after_self}
 use Rattle.rust_paths.proofs.Leads.{alias_if_leads, comma_from_leads, behind_comma_leads, tree_behind_leads, element_leads, list_leads}
 
 -- ---- renames
@@ -82,12 +82,22 @@ UpToFound b e reader = (ts us : Tokens) → b.twins.are ts us → FoundUntil b e
 bare_same : (place : ℕ → ℕ → Type 0) (s s' : ℕ) (p : Option PathNode) (star : Bool) (r r' : Option _) → place s s' → r' ≡ r → SameFound place (with_bare s p star r) (with_bare s' p star r')
 bare_same place s s' p star r r' a e = record { value = ap (λ z. (with_bare s p star z).value) e; starts = begun_same place p s s' [] [] a no_more; too_deep = neither }
 
+self_same : (place : ℕ → ℕ → Type 0) (s s' i i' : ℕ) (p : Option PathNode) (r r' : Option _) → place s s' → place i i' → r' ≡ r → SameFound place (with_self s i p r) (with_self s' i' p r')
+self_same place s s' i i' p r r' a c e =
+    record { value = ap (λ z. Some (self_in_list p z)) e; starts = begun_same place p s s' (i ∷ []) (i' ∷ []) a (one_more c no_more); too_deep = neither }
+
 module _ (b : Parting) (e : Entering b) (list : Reader (FoundInUse (Option (List UseTreeView)))) (l : UpToFound b e list) (f : Forwards list) where
+  self_until : (s s' : ℕ) (p : Option PathNode) → e.place s s' → (ts us : Tokens) → b.twins.are ts us → is_last_self ts ≡ true → FoundUntil b e (self_tree s p ts) (self_tree s' p us)
+  self_until s s' p a ts us h f =
+      by_kept (rename_until b (bumped ts) (bumped us) (after_self b ts us h f)) (λ g. gone g)
+      (λ r. kept (record { value = self_same e.place s s' (at ts) (at us) p (rename (bumped ts)).0 (rename (bumped us)).0 a (e.at_place ts us h) r.value; rest = r.rest }))
+
   star_or_list_until : (s s' : ℕ) (p : Option PathNode) → e.place s s' → (ts us : Tokens) → b.twins.are ts us → FoundUntil b e (star_or_list list s p ts) (star_or_list list s' p us)
   star_or_list_until s s' p a ts us h =
       cond_until (symbol_test b.twins 42 ts us h)
       (λ star. kept (record { value = bare_same e.place s s' p true None None a refl; rest = after_symbol b.twins 42 ts us refl h star }))
-      (λ _. by_kept (l ts us h) (λ g. gone g) (λ k. kept (record { value = with_list_same e.place p s s' (list ts).0 (list us).0 a k.value; rest = k.rest })))
+      (λ _. cond_until (last_self_same b ts us h) (λ f. self_until s s' p a ts us h f)
+      (λ _. by_kept (l ts us h) (λ g. gone g) (λ k. kept (record { value = with_list_same e.place p s s' (list ts).0 (list us).0 a k.value; rest = k.rest }))))
 
   renamed_until : (s s' : ℕ) (p : Option PathNode) → e.place s s' → (ts us : Tokens) → b.twins.are ts us → FoundUntil b e (renamed_tree s p ts) (renamed_tree s' p us)
   renamed_until s s' p a ts us h =

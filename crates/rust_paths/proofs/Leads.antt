@@ -1,6 +1,6 @@
 -- What is left behind names, paths, visibilities and use trees is left of the tokens before them.
 use Rattle.std.proofs.Common.{◌≡◌, ◌==◌, ◌||◌, ℕ, zero, suc, Bool, true, false, Option, Some, None, List, [], ◌∷◌, refl, sym, ap, codes, is_none, bytes_eq}
-use Rattle.rust_paths.proofs.Common.{PathNode, Visibility, UseTreeView, Piece, Tokens, Reader, symbol, word, kind, at, by_first, is_empty, bumped, is_at_end, one, LeadsTo, here, further, only_if_leads, through, Forwards, when, bumped_leads, eat_word_leads, eat_pair_leads, behind_closed_leads, behind_tree_leads, behind_angles_leads, turns_leads, Placed, placed_if, taken_with, next_name, name, placed_name, is_raw, is_dollar_crate, named_word, other_segment, segment, is_path_colons, more_from, more_segments, written_path, is_path_start, path_in, path, use_path, path_scope, plain_scope, scope, is_in, scoped, visibility, FoundInUse, alias, alias_if, rename, star_or_list, renamed_tree, tree_behind, tree_with, tree_comma_from, tree_behind_comma, element_with, list, tree_at, use_tree}
+use Rattle.rust_paths.proofs.Common.{PathNode, Visibility, UseTreeView, Piece, Tokens, Reader, symbol, word, kind, at, by_first, is_empty, bumped, is_at_end, one, LeadsTo, here, further, only_if_leads, through, Forwards, when, bumped_leads, eat_word_leads, eat_pair_leads, behind_closed_leads, behind_tree_leads, behind_angles_leads, turns_leads, Placed, placed_if, taken_with, next_name, name, placed_name, is_raw, is_dollar_crate, named_word, other_segment, segment, is_last_self, has_more, more_from, more_segments, written_path, is_path_start, path_in, path, use_path, scope_path, plain_scope, scope, is_bare_path, is_in, scoped, visibility, FoundInUse, alias, alias_if, rename, star_or_list, renamed_tree, tree_behind, tree_with, tree_comma_from, tree_behind_comma, element_with, list, tree_at, use_tree}
 
 -- ---- names
 
@@ -72,7 +72,7 @@ segment_leads ts =
 pub more_from_leads : (in_use : Bool) (n : ℕ) → Forwards (more_from in_use n)
 more_from_leads in_use zero ts = here
 more_from_leads in_use (suc n) ts =
-    when (is_path_colons in_use ts)
+    when (has_more in_use ts)
     (λ e. rw e (further (further (through (segment_leads (bumped (bumped ts))) (more_from_leads in_use n _)))))
     (λ e. rw e here)
 
@@ -96,18 +96,18 @@ use_path_leads ts = path_in_leads true ts
 
 -- ---- visibilities
 
-path_scope_leads : Forwards path_scope
-path_scope_leads ts = further (further (through (path_leads _) (behind_closed_leads _ _)))
+scope_path_leads : Forwards scope_path
+scope_path_leads ts = through (path_leads ts) (behind_closed_leads _ _)
 
 plain_scope_leads : (v : Option Visibility) → Forwards (plain_scope v)
-plain_scope_leads None ts = here
+plain_scope_leads None ts = when (is_bare_path ts) (λ e. rw e (further (scope_path_leads (bumped ts)))) (λ e. rw e here)
 plain_scope_leads (Some v) ts = further (further (bumped_leads _))
 
 pub scoped_leads : Forwards scoped
 unfolding scoped
 scoped_leads ts =
     when (symbol ts == 40)
-    (λ e. rw e (when (is_in ts) (λ f. rw f (path_scope_leads ts)) (λ f. rw f (plain_scope_leads (scope ts) ts))))
+    (λ e. rw e (when (is_in ts) (λ f. rw f (further (further (scope_path_leads _)))) (λ f. rw f (plain_scope_leads (scope ts) ts))))
     (λ e. rw e here)
 
 pub visibility_leads : Forwards visibility
@@ -138,7 +138,9 @@ unfolding tree_behind_comma
 behind_comma_leads ts = comma_from_leads _ ts
 
 star_or_list_leads : (list : Reader (FoundInUse (Option (List UseTreeView)))) → Forwards list → (start : ℕ) (p : Option PathNode) → Forwards (star_or_list list start p)
-star_or_list_leads list l start p ts = when (symbol ts == 42) (λ e. rw e (bumped_leads ts)) (λ e. rw e (l ts))
+star_or_list_leads list l start p ts =
+    when (symbol ts == 42) (λ e. rw e (bumped_leads ts))
+    (λ e. rw e (when (is_last_self ts) (λ f. rw f (further (rename_leads _))) (λ f. rw f (l ts))))
 
 renamed_tree_leads : (start : ℕ) (p : Option PathNode) → Forwards (renamed_tree start p)
 renamed_tree_leads start p ts = rename_leads ts

@@ -45,7 +45,7 @@ is_keyword edition word =
     else (if list_any (bytes_eq word) keywords_since_2018 then is_since_2018 edition
     else (if list_any (bytes_eq word) keywords_since_2024 then is_since_2024 edition else false))
 
--- A word that may be one in some edition, by its length and three of its bytes. Most names are none.
+-- A word may be a keyword in some edition, by its length and three of its bytes. It is a quick test: most names fail it, and no keyword does.
 abbrev pub may_be_keyword : List ℕ → Bool
 may_be_keyword w = has_length KEYWORD_FIRST (slice_index w 0) w && has_length KEYWORD_MIDDLE (slice_index w (length w / 2)) w
     && has_length KEYWORD_LAST (slice_index w (length w - 1)) w

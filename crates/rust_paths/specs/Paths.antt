@@ -60,11 +60,20 @@ is_path_colons in_use ts = if in_use then is_colons ts && not (is_joint ts) else
 abbrev pub and_path_word : Option PathWord → List (Option PathWord) × Tokens → List (Option PathWord) × Tokens
 and_path_word w p = (w ∷ p.0, p.1)
 
+-- `self` with no `::` behind it
+unfoldable pub is_last_self : Tokens → Bool
+is_last_self ts = bytes_eq (word ts) (codes "self") && not (is_colons (bumped ts))
+
+-- a `::` with another segment behind it; a last `self` is none of the path of a use tree, but stands behind it as in braces
+abbrev pub has_more : Bool → Tokens → Bool
+has_more false ts = is_path_colons false ts
+has_more true ts = is_path_colons true ts && not (is_last_self (bumped (bumped ts)))
+
 -- `::` and a segment, as often as they come
 abbrev pub more_from : Bool → ℕ → Reader (List (Option PathWord))
 more_from in_use zero ts = ([], ts)
 more_from in_use (suc n) ts =
-    if is_path_colons in_use ts then (let s = segment (bumped (bumped ts)) in and_path_word s.0 (more_from in_use n s.1)) else ([], ts)
+    if has_more in_use ts then (let s = segment (bumped (bumped ts)) in and_path_word s.0 (more_from in_use n s.1)) else ([], ts)
 
 unfoldable pub more_segments : Bool → Reader (List (Option PathWord))
 more_segments in_use = more_from in_use most
@@ -83,7 +92,7 @@ written_path in_use = do
 unfoldable pub is_path_start : Bool → Tokens → Bool
 is_path_start in_use ts = if is_path_colons in_use ts then true else is_segment ts
 
--- SimplePath: a path, if one is written. In a use tree it ends before `::*` and `::{`.
+-- SimplePath: a path, if one is written. In a use tree it ends before `::*`, `::{` and a last `::self`.
 abbrev pub path_in : Bool → Reader (Option PathNode)
 path_in in_use ts = if is_path_start in_use ts then (Some (written_path in_use ts).0, (written_path in_use ts).1) else (None, ts)
 

@@ -2,16 +2,17 @@
 use Rattle.std.specs.Prelude.{ℕ, zero, suc, Bool, true, false, ◌==◌, ◌||◌, if◌then◌else◌, Option, Some, None, is_none, option_to_list, List, [], ◌∷◌, ◌++◌, codes}
 use Rattle.std.specs.Option.{option_or}
 use Rattle.hir_input.specs.declared.ast.PathNode.{PathNode}
-use Rattle.hir_input.specs.declared.ast.PathNode.TheVariants.{Unreadable}
+use Rattle.hir_input.specs.declared.ast.PathNode.TheVariants.{Readable, Unreadable}
+use Rattle.hir_input.specs.declared.mod_path.PathKind.TheVariants.{Super}
 use Rattle.hir_input.specs.declared.ast.Rename.{Rename}
 use Rattle.hir_input.specs.UseTreeView.{UseTreeView, tree_from}
 use Rattle.rust_cursor.specs.Tokens.{Tokens}
 use Rattle.rust_cursor.specs.Reader.{Reader, ◌>>=◌, pure, look, pass, only_if}
-use Rattle.rust_cursor.specs.Words.{symbol, at, bumped, is_at_end, eat_word, eat_colons}
+use Rattle.rust_cursor.specs.Words.{symbol, at, bump, bumped, is_at_end, eat_word, eat_colons}
 use Rattle.rust_cursor.specs.Brackets.{behind_closed, behind_tree}
 use Rattle.rust_cursor.specs.Elements.{most, elements, one}
 use Rattle.rust_paths.specs.Names.{name}
-use Rattle.rust_paths.specs.Paths.{use_path}
+use Rattle.rust_paths.specs.Paths.{is_last_self, use_path}
 
 -- What was read; the first bytes of the trees in it that can be read, each before those in it, and so in the order of the numbers that imports
 -- have for them; and the place of the first list that was passed over, since it stands in too many others.
@@ -66,10 +67,31 @@ abbrev pub with_list : ℕ → Option PathNode → FoundInUse (Option (List UseT
 with_list start path found =
     record { value = tree_with_list path found.value; starts = begun_list path start found.value found.starts; too_deep = found.too_deep }
 
--- behind a path and `::`, or behind neither: a star or a list
+-- `self` alone
+abbrev pub self_path : PathNode
+self_path = Readable (record { kind = Super 0; names = [] })
+
+-- a path with `::self` behind it is that with `::{self}`
+abbrev pub self_in_list : Option PathNode → Option Rename → UseTreeView
+self_in_list path rename = tree_from (record { path = path; star = false; rename = None }) (Some (bare_tree (Some self_path) false rename ∷ []))
+
+-- this tree, in which `self` begins there
+abbrev pub with_self : ℕ → ℕ → Option PathNode → Option Rename → FoundInUse (Option UseTreeView)
+with_self start inner path rename = record { value = Some (self_in_list path rename); starts = begun_trees path start (inner ∷ []); too_deep = None }
+
+-- `self`, and a rename of it
+abbrev pub self_tree : ℕ → Option PathNode → Reader (FoundInUse (Option UseTreeView))
+self_tree start path = do
+  inner ← look at
+  _ ← bump
+  rename ← rename
+  pure (with_self start inner path rename)
+
+-- behind a path and `::`, or behind neither: a star, a last `self` or a list
 abbrev pub star_or_list : Reader (FoundInUse (Option (List UseTreeView))) → ℕ → Option PathNode → Reader (FoundInUse (Option UseTreeView))
 star_or_list list start path ts =
-    if symbol ts == 42 then (with_bare start path true None, bumped ts) else (with_list start path (list ts).0, (list ts).1)
+    if symbol ts == 42 then (with_bare start path true None, bumped ts)
+    else (if is_last_self ts then self_tree start path ts else (with_list start path (list ts).0, (list ts).1))
 
 abbrev pub renamed_tree : ℕ → Option PathNode → Reader (FoundInUse (Option UseTreeView))
 renamed_tree start path = do
@@ -79,7 +101,7 @@ renamed_tree start path = do
 abbrev pub tree_behind : Reader (FoundInUse (Option (List UseTreeView))) → ℕ → Option PathNode → Bool → Reader (FoundInUse (Option UseTreeView))
 tree_behind list start path joined = if joined || is_none path then star_or_list list start path else renamed_tree start path
 
--- UseTree: a path, and behind it `::*`, `::` and a list, a rename, or nothing; the path may be missing before the first two.
+-- UseTree: a path, and behind it `::*`, `::` and a list, `::self` and a rename, a rename, or nothing; the path may be missing before the first two.
 abbrev pub tree_with : Reader (FoundInUse (Option (List UseTreeView))) → Reader (FoundInUse (Option UseTreeView))
 tree_with list = do
   start ← look at

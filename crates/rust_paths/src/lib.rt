@@ -12,6 +12,6 @@ pub use names::{
     KEYWORDS, KEYWORDS_SINCE_2018, KEYWORDS_SINCE_2024, PlacedName, TextRange, behind_hash,
     has_name, may_be_keyword, name, placed_name,
 };
-pub use paths::path;
+pub use paths::{is_segment, path};
 pub use use_trees::{FoundUseTree, TreeStarts, pass_comma, use_tree};
 pub use visibilities::visibility;

@@ -68,7 +68,8 @@ static KEYWORD_LAST: [u16; 32] = [
     0, 0, 0, 0, 0, 0,
 ];
 
-/// Whether a word may be one of all these, by its length and three of its bytes. It is a quick test: most names are none of them.
+/// Whether a word may be one of all these, by its length and three of its bytes. It is a quick test: most names fail it, and no keyword
+/// of any edition does.
 #[inline(always)]
 pub fn may_be_keyword(word: &str) -> bool
     ensures { result ≡ spec.may_be_keyword word.now }

@@ -35,7 +35,7 @@ fn is_dollar_crate(cursor: &Cursor<'_>) -> bool
 
 /// Whether a segment of a path comes next.
 #[tactic(auto, unfolding(crate::specs::Paths::is_segment))]
-fn is_segment(cursor: &Cursor<'_>) -> bool
+pub fn is_segment(cursor: &Cursor<'_>) -> bool
     ensures { result ≡ spec.is_segment cursor.now }
 {
     if is_path_keyword(cursor.word()) {
@@ -150,6 +150,35 @@ fn is_path_colons(cursor: &Cursor<'_>, in_use: bool) -> bool
     is_colons(cursor)
 }
 
+/// Whether `self` comes next with no `::` behind it.
+#[tactic(auto, unfolding(crate::specs::Paths::is_last_self))]
+pub(crate) fn is_last_self(cursor: &Cursor<'_>) -> bool
+    ensures { result ≡ spec.is_last_self cursor.now }
+{
+    if cursor.word() != "self" {
+        return false;
+    }
+    let mut ahead = cursor.ahead();
+    ahead.bump();
+    !is_colons(&ahead)
+}
+
+/// Whether a `::` comes next with another segment of the path behind it.
+fn has_more(cursor: &Cursor<'_>, in_use: bool) -> bool
+    ensures { result ≡ spec.has_more in_use cursor.now }
+{
+    if !is_path_colons(cursor, in_use) {
+        return false;
+    }
+    if !in_use {
+        return true;
+    }
+    let mut ahead = cursor.ahead();
+    ahead.bump();
+    ahead.bump();
+    !is_last_self(&ahead)
+}
+
 /// Takes `::` and a segment, as often as they come.
 #[tactic(auto, unfolding(crate::specs::Paths::more_segments), using(crate::proofs::Steps::more_stop))]
 fn more_segments(
@@ -163,7 +192,7 @@ fn more_segments(
 {
     let most = Cursor::most_turns();
     for _turn in 0..most {
-        if !is_path_colons(cursor, in_use) {
+        if !has_more(cursor, in_use) {
             break;
         }
         cursor.bump();
@@ -222,7 +251,7 @@ pub fn path(alloc: Global, cursor: &mut Cursor<'_>) -> Result<Option<PathNode>, 
     path_in(alloc, cursor, false)
 }
 
-/// Takes the path of a use tree, if one is written. It ends before `::*` and `::{`.
+/// Takes the path of a use tree, if one is written. It ends before `::*`, `::{` and a last `::self`.
 #[tactic(auto, unfolding(crate::specs::Paths::use_path))]
 pub(crate) fn use_path(
     alloc: Global,

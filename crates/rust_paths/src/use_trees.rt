@@ -1,14 +1,16 @@
 //! Use trees.
 
-ghost use Rattle.std.specs.Prelude.{◌≡◌, ◌||◌, OnOk, option_map, ◌++◌, [], map, is_none};
+ghost use Rattle.std.specs.Prelude.{◌≡◌, ◌||◌, IfOk, MatchResult, Some, option_map, ◌++◌, [], map, is_none};
+ghost use Rattle.std.specs.Io.{StartsWith};
 ghost use Rattle.hir_input.specs.UseTreeView.{use_tree_view};
 ghost use Rattle.rust_cursor.specs.Reader.{Gives};
 ghost use Rattle.rust_paths.specs.UseTrees as spec;
 ghost use Rattle.rust_paths.specs.Views.{found_view, list_view, starts_view, trees_view};
 
 use crate::names::name;
-use crate::paths::use_path;
+use crate::paths::{is_last_self, use_path};
 use hir_input::ast::{PathNode, Rename, UseTree};
+use hir_input::{ModPath, PathKind};
 use rust_cursor::{Cursor, push_some};
 use std::alloc::{AllocError, Global};
 
@@ -39,9 +41,10 @@ impl TreeStarts {
     ///
     /// # Errors
     ///
-    /// Only if memory runs out.
+    /// Only if memory runs out. Then the list begins with what it was.
     pub fn push_to(self, starts: &mut Vec<usize>) -> Result<(), AllocError>
-        ensures { OnOk result (starts.new.items ≡ starts.old.items ++ starts_view self) }
+        ensures { MatchResult result (λ _. starts.new.items ≡ starts.old.items ++ starts_view self)
+            (λ _. StartsWith starts.new.items starts.old.items) }
     {
         let mut below = self.below;
         match self.own {
@@ -201,6 +204,53 @@ fn found_listed(
     }
 }
 
+fn self_path(alloc: Global) -> Option<PathNode>
+    ensures { result ≡ Some spec.self_path }
+{
+    let path = ModPath::from_segments(PathKind::Super(0), Vec::new(alloc))?;
+    Some(PathNode::Readable(path))
+}
+
+/// The tree of a path with a list that holds `self` alone.
+#[tactic(auto, using(crate::proofs::Trees::use_tree_view_made))]
+fn self_in_list(
+    alloc: Global,
+    path: Option<PathNode>,
+    rename: Option<Rename>,
+) -> Result<UseTree, AllocError>
+    ensures { IfOk result (λ tree. use_tree_view tree ≡ spec.self_in_list path rename) }
+{
+    let mut list = Vec::new(alloc);
+    list.push(bare(self_path(alloc), false, rename))?;
+    Ok(UseTree {
+        path,
+        star: false,
+        rename: None,
+        list: Some(list),
+    })
+}
+
+/// Takes `self` behind a path and `::`, and a rename.
+fn self_tree(
+    alloc: Global,
+    cursor: &mut Cursor<'_>,
+    start: usize,
+    path: Option<PathNode>,
+) -> Result<FoundUseTree, AllocError>
+    ensures { Gives found_view (spec.self_tree start path cursor.old) result cursor.new }
+{
+    let mut below = Vec::new(alloc);
+    below.push(cursor.at())?;
+    cursor.bump();
+    let rename = rename(alloc, cursor)?;
+    let starts = begun(alloc, &path, start, below);
+    Ok(FoundUseTree {
+        tree: Some(self_in_list(alloc, path, rename)?),
+        starts,
+        too_deep: None,
+    })
+}
+
 fn no_list(alloc: Global, too_deep: Option<usize>) -> FoundList
     ensures { list_view result ≡ spec.no_list too_deep }
 {
@@ -251,6 +301,9 @@ fn tree_at(alloc: Global, cursor: &mut Cursor<'_>, depth: usize) -> Result<Found
     if cursor.symbol() == b'*' {
         cursor.bump();
         return Ok(found_bare(alloc, start, path, true, None));
+    }
+    if is_last_self(cursor) {
+        return self_tree(alloc, cursor, start, path);
     }
     let found = list(alloc, cursor, depth)?;
     Ok(found_listed(alloc, start, path, found))
@@ -319,8 +372,9 @@ fn trees(alloc: Global, cursor: &mut Cursor<'_>, depth: usize) -> Result<FoundTr
 /// Takes a use tree, if one is written.
 ///
 /// Lists that stand in more than 128 others are passed over, and the place of the first of them is told. What stands
-/// between a tree of a list and the next comma is passed over too. Where the trees begin is told of those that can be read,
-/// as a tree's imports are numbered by them: not of a tree with an unreadable path, nor of those in it. rust-analyzer's
+/// between a tree of a list and the next comma is passed over too. `a::self` is read as `a::{self}`, which it means. Where the
+/// trees begin is told of those that can be read, as a tree's imports are numbered by them: not of a tree with an unreadable
+/// path, nor of those in it. rust-analyzer's
 /// `use_tree`.
 #[tactic(auto, unfolding(crate::specs::UseTrees::use_tree))]
 pub fn use_tree(alloc: Global, cursor: &mut Cursor<'_>) -> Result<FoundUseTree, AllocError>

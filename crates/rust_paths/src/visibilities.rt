@@ -73,28 +73,65 @@ fn is_in(cursor: &Cursor<'_>) -> bool
     ahead.word() == "in"
 }
 
-fn path_scope(alloc: Global, cursor: &mut Cursor<'_>) -> Result<Visibility, AllocError>
-    ensures { Gives (λ v. v) (spec.path_scope cursor.old) result cursor.new }
+/// Takes a path, up to the bracket that closes.
+fn scope_path(alloc: Global, cursor: &mut Cursor<'_>) -> Result<Visibility, AllocError>
+    ensures { Gives (λ v. v) (spec.scope_path cursor.old) result cursor.new }
 {
-    cursor.bump();
-    cursor.bump();
     let path = path(alloc, cursor)?;
     cursor.pass_closed(b'(');
     Ok(in_path(path))
 }
 
-fn plain_scope(cursor: &mut Cursor<'_>) -> Visibility
-    ensures { spec.plain_scope (spec.scope cursor.old) cursor.old ≡ (result, cursor.new) }
+/// Whether a word or a colon comes next.
+fn is_path_part(cursor: &Cursor<'_>) -> bool
+    ensures { result ≡ spec.is_path_part cursor.now }
 {
-    match scope(cursor) {
-        Some(visibility) => {
-            cursor.bump();
-            cursor.bump();
-            cursor.bump();
-            visibility
+    cursor.is_at_identifier() || cursor.symbol() == b':'
+}
+
+#[tactic(auto, unfolding(crate::specs::Visibilities::behind_parts), using(crate::proofs::Steps::parts_more, crate::proofs::Steps::parts_stop))]
+fn pass_parts(cursor: &mut Cursor<'_>)
+    ensures { cursor.new ≡ spec.behind_parts cursor.old }
+{
+    let most = Cursor::most_turns();
+    for _turn in 0..most {
+        if !is_path_part(cursor) {
+            break;
         }
-        None => Visibility::Pub,
+        cursor.bump();
     }
+}
+
+/// Whether words and colons in brackets come next, and a word behind these.
+#[tactic(auto, unfolding(crate::specs::Visibilities::is_bare_path))]
+fn is_bare_path(cursor: &Cursor<'_>) -> bool
+    ensures { result ≡ spec.is_bare_path cursor.now }
+{
+    let mut ahead = cursor.ahead();
+    ahead.bump();
+    pass_parts(&mut ahead);
+    if ahead.symbol() != b')' {
+        return false;
+    }
+    ahead.bump();
+    ahead.is_at_identifier()
+}
+
+/// Takes a word in brackets, or a path in them before a word.
+fn plain_scope(alloc: Global, cursor: &mut Cursor<'_>) -> Result<Visibility, AllocError>
+    ensures { Gives (λ v. v) (spec.plain_scope (spec.scope cursor.old) cursor.old) result cursor.new }
+{
+    if let Some(visibility) = scope(cursor) {
+        cursor.bump();
+        cursor.bump();
+        cursor.bump();
+        return Ok(visibility);
+    }
+    if !is_bare_path(cursor) {
+        return Ok(Visibility::Pub);
+    }
+    cursor.bump();
+    scope_path(alloc, cursor)
 }
 
 /// Takes what goes on a visibility behind `pub`.
@@ -106,15 +143,18 @@ fn scoped(alloc: Global, cursor: &mut Cursor<'_>) -> Result<Visibility, AllocErr
         return Ok(Visibility::Pub);
     }
     if is_in(cursor) {
-        return path_scope(alloc, cursor);
+        cursor.bump();
+        cursor.bump();
+        return scope_path(alloc, cursor);
     }
-    Ok(plain_scope(cursor))
+    plain_scope(alloc, cursor)
 }
 
 /// Takes a visibility, if one is written.
 ///
-/// A bracket behind `pub` belongs to it where it holds `in` first, or one of `crate`, `super` and `self` alone; so
-/// `struct Pair(pub (u8, u8));` has a field that is `pub`. rust-analyzer's `opt_visibility`.
+/// A bracket behind `pub` belongs to it where it holds `in` first, or one of `crate`, `super` and `self` alone, or a path before
+/// a word: `pub(a::b) fn f() {}` is read as `pub(in a::b)`, and `struct Pair(pub (u8, u8));` has a field that is `pub`.
+/// rust-analyzer's `opt_visibility`.
 #[tactic(auto, unfolding(crate::specs::Visibilities::visibility))]
 pub fn visibility(alloc: Global, cursor: &mut Cursor<'_>) -> Result<Option<Visibility>, AllocError>
     ensures { Gives (λ v. v) (spec.visibility cursor.old) result cursor.new }

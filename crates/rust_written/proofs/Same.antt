@@ -20,7 +20,7 @@ begins_same w next ts s n = rw (s.word_is, n.symbol_is, n.word_is, n.identifier_
 
 pub within_same : (w next : Word) (ts : Tokens) → Shows w ts → Shows next (bumped ts) → extents.begins_within ts ≡ trees.word_begins_within w next
 unfolding extents.begins_within word is_at_identifier bumped
-within_same w next ts s n = rw (begins_same w next ts s n, s.word_is, n.word_is, n.identifier_is) refl
+within_same w next ts s n = rw (begins_same w next ts s n, s.word_is, n.identifier_is) refl
 
 -- ---- what comes before
 

@@ -7,12 +7,12 @@ use Rattle.rust_cursor.specs.Brackets.{is_closing, to_closing, behind_closed}
 use Rattle.rust_cursor.proofs.Steps.{closing_stop}
 use Rattle.hir_input.specs.declared.edition.EditionYear.TheVariants as year
 use Rattle.rust_paths.specs.Meaning.{path_node}
-use Rattle.rust_paths.specs.Paths.{is_raw, is_dollar_crate, is_segment, other_segment, segment, is_colons, is_joint, is_path_colons, more_from, more_segments, front_of_path, is_path_start, use_path}
+use Rattle.rust_paths.specs.Paths.{is_raw, is_dollar_crate, is_segment, other_segment, segment, is_colons, is_joint, is_last_self, is_path_colons, more_from, more_segments, front_of_path, is_path_start, use_path}
 use Rattle.rust_paths.proofs.Steps.{more_stop}
 use Rattle.rust_paths.proofs.Trees.{comma_end}
 use Rattle.rust_written.specs.Trees as trees
 use Rattle.rust_written.proofs.Begins.{Shows, Begins, behind, behind_append, begins_left, begins_right, past_behind}
-use Rattle.rust_written.specs.UseTrees.{named}
+use Rattle.rust_written.specs.UseTrees.{named, self_segment, ends_plain}
 
 -- ---- how many tokens are left
 
@@ -88,18 +88,31 @@ joint ts e f = rw (e, f) refl
 
 -- ---- paths
 
+-- `self` is last before a `::` alone
+no_last_self : (s : Segment) (ss : List Segment) (us : Tokens) → IsSegment s → Shows (segment_word s) us → Begins (more_words ss) (bumped us) → (ends_plain (s ∷ ss) || is_pair 58 58 (behind (more_words ss) (bumped us))) ≡ true
+    → is_last_self us ≡ false
+unfolding is_last_self is_colons plain_name is_keyword is_path_keyword
+no_last_self (named n) ss us p w b e = rw (w.word_is, no_keyword (codes "self") n p.plain refl) refl
+no_last_self self_segment [] us p w b e = rw (w.word_is, e) refl
+no_last_self self_segment (t ∷ ss) us p w b e = rw (w.word_is, colons_here (bumped us) b.0 b.1.0) refl
+no_last_self _ ss us p w b e = rw w.word_is refl
+
+plain_behind : (s : Segment) (ss : List Segment) (x : Bool) → (ends_plain (s ∷ ss) || x) ≡ true → (ends_plain ss || x) ≡ true
+plain_behind s [] x e = refl
+plain_behind s (t ∷ ss) x e = e
+
 more_reads : (ss : List Segment) (n : ℕ) (ts : Tokens) → AreSegments ss → length ts.left ≤ n → Begins (more_words ss) ts → is_path_colons true (behind (more_words ss) ts) ≡ false
-    → more_from true n ts ≡ (map (λ s. Some (segment_meaning s)) ss, behind (more_words ss) ts)
-more_reads [] n ts h l b e = more_stop true n ts e
-more_reads (s ∷ ss) zero ts h l b e = let one : length (bumped ts).left + 1 ≡ length ts.left = shorter ts b.0.some in absurd (omega arith)
-more_reads (s ∷ ss) (suc n) ts h l b e =
+    → (ends_plain ss || is_pair 58 58 (behind (more_words ss) ts)) ≡ true → more_from true n ts ≡ (map (λ s. Some (segment_meaning s)) ss, behind (more_words ss) ts)
+more_reads [] n ts h l b e k = more_stop true n ts (rw e refl)
+more_reads (s ∷ ss) zero ts h l b e k = let one : length (bumped ts).left + 1 ≡ length ts.left = shorter ts b.0.some in absurd (omega arith)
+more_reads (s ∷ ss) (suc n) ts h l b e k =
     let one : length (bumped ts).left + 1 ≡ length ts.left = shorter ts b.0.some in
     let us = bumped (bumped ts) in
     let two : length us.left + 1 ≡ length (bumped ts).left = shorter (bumped ts) b.1.0.some in
     let three : length (bumped us).left + 1 ≡ length us.left = shorter us b.1.1.0.some in
-    let rest = more_reads ss n (bumped us) h.1 (omega arith) b.1.1.1 e in
+    let rest = more_reads ss n (bumped us) h.1 (omega arith) b.1.1.1 e (plain_behind s ss (is_pair 58 58 (behind (more_words ss) (bumped us))) k) in
     let turn : is_path_colons true ts ≡ true = path_colons s ts (colons_here ts b.0 b.1.0) b.1.1.0 in
-    rw (turn, segment_reads s us h.0 b.1.1.0, rest) refl
+    rw (turn, no_last_self s ss us h.0 b.1.1.0 b.1.1.1 k, segment_reads s us h.0 b.1.1.0, rest) refl
 
 segments_read : (absolute : Bool) (p : WrittenPath) (ts us vs : Tokens) → is_path_start true ts ≡ true → eat_pair 58 58 ts ≡ (absolute, us) → segment us ≡ (Some (segment_meaning p.first), vs)
     → (rest : Tokens) → more_from true most vs ≡ (map (λ s. Some (segment_meaning s)) p.more, rest)
@@ -120,23 +133,25 @@ first_flat g ts s = let flat : symbol ts ≡ 0 = s.symbol_is ∙ segment_flat g 
 
 path_by : (absolute : Bool) (p : WrittenPath) (ts : Tokens) → IsPath p → length ts.left ≤ most → Begins (path_front_words absolute ++ segment_word p.first ∷ more_words p.more) ts
     → is_path_colons true (behind (path_front_words absolute ++ segment_word p.first ∷ more_words p.more) ts) ≡ false
+    → (ends_plain p.more || is_pair 58 58 (behind (path_front_words absolute ++ segment_word p.first ∷ more_words p.more) ts)) ≡ true
     → use_path ts ≡ (Some (path_node (front_of_path absolute (Some (segment_meaning p.first) ∷ map (λ s. Some (segment_meaning s)) p.more))), behind (path_front_words absolute ++ segment_word p.first ∷ more_words p.more) ts)
-path_by false p ts h l b e =
+path_by false p ts h l b e k =
     let one : length (bumped ts).left + 1 ≡ length ts.left = shorter ts b.0.some in
     segments_read false p ts ts (bumped ts) (start_segment ts (segment_is p.first ts h.0 b.0)) (eat_none ts (no_colons ts (first_flat p.first ts b.0))) (segment_reads p.first ts h.0 b.0)
-    (behind (more_words p.more) (bumped ts)) (more_reads p.more most (bumped ts) h.1 (omega (arith, one, l)) b.1 e)
-path_by true p ts h l b e =
+    (behind (more_words p.more) (bumped ts)) (more_reads p.more most (bumped ts) h.1 (omega (arith, one, l)) b.1 e k)
+path_by true p ts h l b e k =
     let us = bumped (bumped ts) in
     let one : length (bumped ts).left + 1 ≡ length ts.left = shorter ts b.0.some in
     let two : length us.left + 1 ≡ length (bumped ts).left = shorter (bumped ts) b.1.0.some in
     let three : length (bumped us).left + 1 ≡ length us.left = shorter us b.1.1.0.some in
     let pair = colons_here ts b.0 b.1.0 in
     segments_read true p ts us (bumped us) (start_colons ts (path_colons p.first ts pair b.1.1.0)) (eat_here ts pair) (segment_reads p.first us h.0 b.1.1.0)
-    (behind (more_words p.more) (bumped us)) (more_reads p.more most (bumped us) h.1 (omega (arith, one, two, three, l)) b.1.1.1 e)
+    (behind (more_words p.more) (bumped us)) (more_reads p.more most (bumped us) h.1 (omega (arith, one, two, three, l)) b.1.1.1 e k)
 
 -- a path, with no `::` behind it that is its own
-path_reads : (p : WrittenPath) (ts : Tokens) → IsPath p → length ts.left ≤ most → Begins (path_words p) ts → is_path_colons true (behind (path_words p) ts) ≡ false → use_path ts ≡ (Some (path_view p), behind (path_words p) ts)
-path_reads p ts h l b e = path_by p.absolute p ts h l b e
+path_reads : (p : WrittenPath) (ts : Tokens) → IsPath p → length ts.left ≤ most → Begins (path_words p) ts → is_path_colons true (behind (path_words p) ts) ≡ false → (ends_plain p.more || is_pair 58 58 (behind (path_words p) ts)) ≡ true
+    → use_path ts ≡ (Some (path_view p), behind (path_words p) ts)
+path_reads p ts h l b e k = path_by p.absolute p ts h l b e k
 
 -- no path before a star or a list
 path_none : (ts : Tokens) (w : Word) → Shows w ts → trees.word_text w ≡ [] → (trees.symbol_of_word w == 58) ≡ false → (trees.symbol_of_word w == 36) ≡ false → is_raw (Some w.kind) ≡ false → has_name ts ≡ false → use_path ts ≡ (None, ts)
@@ -218,6 +233,10 @@ brace_starts : Starts (trees.open_mark 123)
 unfolding has_name
 brace_starts = record { joint = refl; other = refl; none = λ ts s. path_none ts (trees.open_mark 123) s refl refl refl refl (rw s.kind_is refl) }
 
+or_last : (a b : Bool) → b ≡ true → (a || b) ≡ true
+or_last true b e = refl
+or_last false b e = e
+
 prefix_steps : (inner : Reader (FoundInUse (Option (List UseTreeView)))) (p : Option WrittenPath) (w : Word) (tail : List Word) (ts : Tokens) → Starts w → IsPrefix p → length ts.left ≤ most → Begins (prefix_words p ++ w ∷ tail) ts
     → tree_with inner ts ≡ star_or_list inner (at ts) (option_map path_view p) (behind (prefix_words p) ts)
 prefix_steps inner None w tail ts start h l b =
@@ -229,12 +248,12 @@ prefix_steps inner (Some p) w tail ts start h l b =
     let here = begins_right (path_words p) (colons ++ w ∷ tail) ts all in
     let pair = colons_here us here.0 here.1.0 in
     let next : (symbol vs == 42 || symbol vs == 123) ≡ true = ap (λ (c : ℕ). c == 42 || c == 123) here.1.1.0.symbol_is ∙ start.joint in
-    tree_steps inner (Some (path_view p)) true ts us vs (path_reads p ts h l (begins_left (path_words p) (colons ++ w ∷ tail) ts all) (joint us pair next)) (eat_here us pair)
+    tree_steps inner (Some (path_view p)) true ts us vs (path_reads p ts h l (begins_left (path_words p) (colons ++ w ∷ tail) ts all) (joint us pair next) (or_last (ends_plain p.more) (is_pair 58 58 us) pair)) (eat_here us pair)
     ∙ ap (star_or_list inner (at ts) (Some (path_view p))) (sym (behind_append (path_words p) colons ts))
 
-path_tree_reads : (inner : Reader (FoundInUse (Option (List UseTreeView)))) (p : WrittenPath) (a : Alias) (ts : Tokens) → IsPath p → IsAlias a → length ts.left ≤ most → Begins (use_words (path_tree p a)) ts
+path_tree_reads : (inner : Reader (FoundInUse (Option (List UseTreeView)))) (p : WrittenPath) (a : Alias) (ts : Tokens) → IsPath p → IsAlias a → ends_plain p.more ≡ true → length ts.left ≤ most → Begins (use_words (path_tree p a)) ts
     → IsUseEnd (behind (use_words (path_tree p a)) ts) → IsUseRead inner (path_tree p a) ts
-path_tree_reads inner p a ts h i l b e =
+path_tree_reads inner p a ts h i k l b e =
     let us = behind (path_words p) ts in
     let same = behind_append (path_words p) (alias_words a) ts in
     let more = begins_right (path_words p) (alias_words a) ts b in
@@ -244,7 +263,7 @@ path_tree_reads inner p a ts h i l b e =
     let starts = begun_trees (Some (path_view p)) (at ts) [] in
     record {
       starts = starts;
-      reads = tree_steps inner (Some (path_view p)) false ts us us (path_reads p ts h l (begins_left (path_words p) (alias_words a) ts b) (no_path_colons us flat)) (eat_none us (no_colons us flat))
+      reads = tree_steps inner (Some (path_view p)) false ts us us (path_reads p ts h l (begins_left (path_words p) (alias_words a) ts b) (no_path_colons us flat) (rw k refl)) (eat_none us (no_colons us flat))
           ∙ ap (λ r. (with_bare (at ts) (Some (path_view p)) false r.0, r.1)) found
           ∙ ap (λ k. (found_at starts (use_view (path_tree p a)), k)) (sym same);
     }
@@ -385,7 +404,8 @@ list_steps depth fs ts us e f = rw (e, f) refl
 
 list_here : (inner : Reader (FoundInUse (Option (List UseTreeView)))) (start : ℕ) (path : Option PathNode) (found : FoundInUse (Option (List UseTreeView))) (ts us : Tokens) → Shows (trees.open_mark 123) ts → inner ts ≡ (found, us)
     → star_or_list inner start path ts ≡ (with_list start path found, us)
-list_here inner start path found ts us s e = rw (s.symbol_is, e) refl
+unfolding is_last_self
+list_here inner start path found ts us s e = rw (s.symbol_is, s.word_is, e) refl
 
 listed_some : (path : Option PathNode) (vs : List UseTreeView) → tree_with_list path (Some vs) ≡ Some (tree_from (record { path = path; star = false; rename = None }) (Some vs))
 listed_some None vs = refl
@@ -409,7 +429,7 @@ mutual
   -- a use tree, with nothing behind it that goes on with it
   pub tree_reads : (t : UseTree) (depth : ℕ) (ts : Tokens) → IsUse depth t → length ts.left ≤ most → Begins (use_words t) ts → IsUseEnd (behind (use_words t) ts)
       → IsUseRead (list depth) t ts
-  tree_reads (path_tree p a) depth ts h l b e = path_tree_reads (list depth) p a ts h.0 h.1 l b e
+  tree_reads (path_tree p a) depth ts h l b e = path_tree_reads (list depth) p a ts h.0 h.1 h.2 l b e
   tree_reads (star_tree p) depth ts h l b e = star_tree_reads (list depth) p ts h l b
   tree_reads (list_tree p us) zero ts h l b e = absurd h
   tree_reads (list_tree p us) (suc depth) ts h l b e =

@@ -129,6 +129,16 @@ abbrev pub AreSegments : List Segment → Type 0
 AreSegments [] = Unit {0}
 AreSegments (s ∷ ss) = IsSegment s × AreSegments ss
 
+abbrev pub is_no_self : Segment → Bool
+is_no_self self_segment = false
+is_no_self s = true
+
+-- behind another segment `self` is not the last: before no list and no star it is read as in braces
+abbrev pub ends_plain : List Segment → Bool
+ends_plain [] = true
+ends_plain (s ∷ []) = is_no_self s
+ends_plain (s ∷ t ∷ ss) = ends_plain (t ∷ ss)
+
 abbrev pub IsPath : WrittenPath → Type 0
 IsPath p = IsSegment p.first × AreSegments p.more
 
@@ -143,7 +153,7 @@ IsAlias _ = Unit {0}
 -- Names are names; lists stand in one another at most so deep.
 abbrev mutual
   pub IsUse : ℕ → UseTree → Type 0
-  IsUse depth (path_tree p a) = IsPath p × IsAlias a
+  IsUse depth (path_tree p a) = IsPath p × IsAlias a × (ends_plain p.more ≡ true)
   IsUse depth (star_tree p) = IsPrefix p
   IsUse zero (list_tree p us) = ⊥
   IsUse (suc depth) (list_tree p us) = IsPrefix p × AreUses depth us

@@ -11,9 +11,10 @@ use Rattle.rust_cursor.specs.Tokens.{Tokens}
 use Rattle.rust_cursor.specs.Reader.{Reader}
 use Rattle.rust_cursor.specs.Words.{symbol, at, bumped, is_at_end, eat_colons}
 use Rattle.rust_cursor.specs.Elements.{most, beyond, turns_from, turns, elements, one}
-use Rattle.rust_paths.specs.Paths.{use_path}
-use Rattle.rust_paths.specs.UseTrees.{FoundInUse, begun_trees, begun_list, values, all_starts, bare_tree, tree_with_list, star_or_list, tree_behind, tree_with, tree_at, element_with, list, tree_comma_from, tree_behind_comma, rename, use_tree}
+use Rattle.rust_paths.specs.Paths.{is_last_self, use_path}
+use Rattle.rust_paths.specs.UseTrees.{FoundInUse, begun_trees, begun_list, values, all_starts, bare_tree, tree_with_list, star_or_list, tree_behind, tree_with, tree_at, element_with, list, tree_comma_from, tree_behind_comma, rename, self_in_list, self_path, use_tree}
 use Rattle.rust_paths.proofs.Leads.{use_path_leads, rename_leads}
+use Rattle.rust_paths.proofs.Trees.{self_reads}
 use Rattle.rust_items.proofs.UsesTold.{counted}
 use Rattle.source_listing.specs.Told.{nodes_of, kept_nodes, IsReadAt, AreToldFor}
 
@@ -95,6 +96,13 @@ module _ (R : ℕ → Tree → Type 0) (start : ℕ) where
   path_at (Some Unreadable) r e root = tt
   path_at (Some (Readable q)) r e root = (root _ refl, tt)
 
+  self_at : (p : Option PathNode) (inner : ℕ) (r : Option Rename) → Root (Some (self_in_list p r)) → ((t : Tree) → kept_tree (bare_tree (Some self_path) false r) ≡ Some t → R inner t)
+      → AllZip R (begun_trees p start (inner ∷ [])) (kept_nodes (Some (self_in_list p r)))
+  unfolding Root
+  self_at None inner r root below = (root _ refl, (below _ refl, tt))
+  self_at (Some Unreadable) inner r root below = tt
+  self_at (Some (Readable q)) inner r root below = (root _ refl, (below _ refl, tt))
+
   listed_at : (p : Option PathNode) (ss : List ℕ) (l : Option (List UseTreeView)) → AllZip R ss (listed l) → Root (tree_with_list p l) → AllZip R (begun_list p start l ss) (kept_nodes (tree_with_list p l))
   unfolding listed Root
   listed_at None ss None h root = tt
@@ -138,11 +146,19 @@ module _ (read : Reader (FoundInUse (Option (List UseTreeView)))) (h : (ts : Tok
         let v : (star_or_list read (at ts) p us).0.value ≡ Some (bare_tree p true None) = rw e refl in
         let all = star_at (IsFound ts) (at ts) p (subst (Root (IsFound ts) (at ts)) v root) in
         rw e (record { each = all; leads = through leads (bumped_leads us) }))
-        (λ e.
-        let v : (star_or_list read (at ts) p us).0.value ≡ tree_with_list p (read us).0.value = rw e refl in
+        (λ e. when (is_last_self us)
+        (λ f.
+        let r = rename (bumped us) in
+        let v : (star_or_list read (at ts) p us).0.value ≡ Some (self_in_list p r.0) = rw (e, f) refl in
+        let below : (t : Tree) → kept_tree (bare_tree (Some self_path) false r.0) ≡ Some t → IsFound ts (at us) t =
+        λ t k. record { from = us; leads = leads; depth = 0; first = refl; kept = ap (option_and_then kept_tree) (self_reads 0 us f) ∙ k } in
+        let all = self_at (IsFound ts) (at ts) p (at us) r.0 (subst (Root (IsFound ts) (at ts)) v root) below in
+        rw (e, f) (record { each = all; leads = through leads (through (bumped_leads us) (rename_leads (bumped us))) }))
+        (λ f.
+        let v : (star_or_list read (at ts) p us).0.value ≡ tree_with_list p (read us).0.value = rw (e, f) refl in
         let inner = zip_is (IsFound us) (IsFound ts) (later leads) (read us).0.starts (listed (read us).0.value) (h us).each in
         let all = listed_at (IsFound ts) (at ts) p (read us).0.starts (read us).0.value inner (subst (Root (IsFound ts) (at ts)) v root) in
-        rw e (record { each = all; leads = through leads (h us).leads }))
+        rw (e, f) (record { each = all; leads = through leads (h us).leads })))
 
     behind_told : (p : Option PathNode) (joined : Bool) (us : Tokens) → LeadsTo ts us → Root (IsFound ts) (at ts) (tree_behind read (at ts) p joined us).0.value
         → TreeTold ts (tree_behind read (at ts) p joined us)

@@ -13,7 +13,7 @@ use rust_lexer::TokenKind;
 pub enum Reach {
     /// Up to the `>` that closes the first `<`, and it.
     Angles,
-    /// Up to a comma, or a bracket that closes.
+    /// Up to a comma, a bracket that closes, or what begins an item.
     Field,
     /// Up to a `for` that no `<` follows, a `where` or a block.
     Header,
@@ -72,7 +72,7 @@ impl<'t> Cursor<'t> {
     fn is_barred_field(&self, nest: &Nest) -> bool
         ensures { result ≡ spec.is_barred reaches.Field nest.now self.now }
     {
-        if self.closes_around(nest) {
+        if self.closes_around(nest) || self.begins(nest) {
             return true;
         }
         nest.others == 0 && nest.angles == 0 && self.symbol() == b','
@@ -149,7 +149,7 @@ impl<'t> Cursor<'t> {
         }
     }
 
-    /// Passes over a field's type, up to a comma or a bracket that closes.
+    /// Passes over a field's type, up to a comma, a bracket that closes or what begins an item.
     pub fn pass_field(&mut self)
         ensures { self.new ≡ spec.behind_field self.old }
     {

@@ -48,12 +48,25 @@ impl<'t> Cursor<'t> {
     {
         match self.word() {
             "pub" | "mod" | "struct" | "enum" | "trait" => true,
-            "use" => self.second().symbol() != b'<',
-            "fn" | "static" | "type" => self.second().is_at_identifier(),
+            "use" => self.second().follows_use(),
+            "static" => self.second().follows_static(),
+            "fn" | "type" => self.second().is_at_identifier(),
             "macro_rules" => self.second().symbol() == b'!',
             "extern" => self.second().word() == "crate",
             _ => false,
         }
+    }
+
+    fn follows_use(&self) -> bool
+        ensures { result ≡ spec.follows_use self.now }
+    {
+        self.is_at_identifier() || matches!(self.symbol(), b':' | b'*' | b'{')
+    }
+
+    fn follows_static(&self) -> bool
+        ensures { result ≡ spec.follows_static self.now }
+    {
+        self.is_at_identifier() && !matches!(self.word(), "move" | "use" | "async")
     }
 
     fn follows_const(&self) -> bool
@@ -103,7 +116,6 @@ impl<'t> Cursor<'t> {
         match self.word() {
             "pub" => false,
             "use" => self.second().is_at_identifier(),
-            "static" => !matches!(self.second().word(), "move" | "async") && self.begins_item(),
             _ => self.begins_item(),
         }
     }
