@@ -4,9 +4,10 @@ use Rattle.std.specs.Bool.{beq}
 use Rattle.std.proofs.lemmas.List.{append_cancel_left, take_rest}
 use Rattle.std.proofs.lemmas.List.Elements.{All-head, All-tail}
 use Rattle.rust_lexer.specs.Piece.{Piece}
+use Rattle.rust_lexer.specs.Symbol.{symbol_of}
 use Rattle.rust_lexer.specs.Tokens.{ArePassed}
 use Rattle.rust_lexer.proofs.Counted.{when}
-use Rattle.source_rows.specs.Inner.{AreSameUntil, ComeBehind, IsBefore}
+use Rattle.source_rows.specs.Inner.{AreSameUntil, ComeBehind, IsBefore, IsLone}
 use Rattle.source_rows.specs.Skeletons.{kept, not_over, text_if_kept}
 use Rattle.source_rows.specs.declared.kept.Hole.{Hole}
 use Rattle.source_rows.proofs.Common.{nat_tests}
@@ -15,14 +16,14 @@ use Rattle.source_rows.proofs.Holes.{kept_later, sooner}
 
 -- ---- parts
 
-kept_before : (docs : Bool) (place : ℕ) (holes : List Hole) (front : List Piece) → IsBefore place holes → All (λ t. t.at < place) front → kept docs holes front ≡ kept docs [] front
-kept_before docs place [] front b a = refl
-kept_before docs place (h ∷ hs) [] b a = refl
-kept_before docs place (h ∷ hs) (t ∷ ts) b a =
+kept_before : (docs : Bool) (before place : ℕ) (holes : List Hole) (front : List Piece) → IsBefore place holes → All (λ t. t.at < place) front → kept docs holes before front ≡ kept docs [] before front
+kept_before docs before place [] front b a = refl
+kept_before docs before place (h ∷ hs) [] b a = refl
+kept_before docs before place (h ∷ hs) (t ∷ ts) b a =
     let first = All-head (λ t. t.at < place) t ts a in
     let over : nat_le h.end t.at ≡ false = grind (arith, nat_tests) in
     let begun : nat_le h.start t.at ≡ false = grind (arith, nat_tests) in
-    rw (over, begun) (ap (λ l. text_if_kept docs [] t ++ l) (kept_before docs place (h ∷ hs) ts b (All-tail (λ t. t.at < place) t ts a)))
+    rw (over, begun) (ap (λ l. text_if_kept docs [] before t ++ l) (kept_before docs (symbol_of t) place (h ∷ hs) ts b (All-tail (λ t. t.at < place) t ts a)))
 
 pub nearer : (place further : ℕ) (holes : List Hole) → place ≤ further → IsBefore further holes → IsBefore place holes
 nearer place further [] le b = tt
@@ -30,14 +31,14 @@ nearer place further (h ∷ hs) le b = (omega (arith, le, b.0), omega (arith, le
 
 -- none of them comes before the place
 pub same_before : (place : ℕ) (holes others : List Hole) → IsBefore place holes → IsBefore place others → AreSameUntil place holes others
-same_before place holes others b b' docs front a = kept_before docs place holes front b a ∙ sym (kept_before docs place others front b' a)
+same_before place holes others b b' docs before front a = kept_before docs before place holes front b a ∙ sym (kept_before docs before place others front b' a)
 
 same_first : (h : Hole) (place : ℕ) (hs ks : List Hole) → AreSameUntil place hs ks → AreSameUntil place (h ∷ hs) (h ∷ ks)
-same_first h place hs ks same docs [] a = refl
-same_first h place hs ks same docs (t ∷ ts) a =
+same_first h place hs ks same docs before [] a = refl
+same_first h place hs ks same docs before (t ∷ ts) a =
     when (nat_le h.end t.at)
-    (λ e. rw e (same docs (t ∷ ts) a))
-    (λ e. rw e (ap (λ l. text_if_kept docs (h ∷ hs) t ++ l) (same_first h place hs ks same docs ts (All-tail (λ t. t.at < place) t ts a))))
+    (λ e. rw e (same docs before (t ∷ ts) a))
+    (λ e. rw e (ap (λ l. text_if_kept docs (h ∷ hs) before t ++ l) (same_first h place hs ks same docs (symbol_of t) ts (All-tail (λ t. t.at < place) t ts a))))
 
 -- and the rest of both is the same so far
 pub same_turn : (place : ℕ) (hs ks : List Hole) (none : Hole) (differ : Bool) → 1 ≤ length hs → 1 ≤ length ks → differ ≡ not (is_hole (get_or hs 0 none) (get_or ks 0 none)) → differ ≡ false
@@ -54,24 +55,35 @@ pub come_behind : (place : ℕ) (front ts : List Piece) → ComeBehind place (fr
 come_behind place [] ts b = b
 come_behind place (t ∷ front) ts b = sooner place (t.at + length t.text) ts (omega (arith, b.0)) (come_behind (t.at + length t.text) front ts b.1.1)
 
-kept_append : (docs : Bool) (holes : List Hole) (place : ℕ) (front ts : List Piece) → ComeBehind place (front ++ ts) → kept docs holes (front ++ ts) ≡ kept docs holes front ++ kept docs holes ts
-kept_append docs holes place [] ts b = refl
-kept_append docs holes place (t ∷ front) ts b =
+-- the symbol of the last of these, behind this one
+abbrev last_symbol : ℕ → List Piece → ℕ
+last_symbol before [] = before
+last_symbol before (t ∷ ts) = last_symbol (symbol_of t) ts
+
+kept_append : (docs : Bool) (holes : List Hole) (before place : ℕ) (front ts : List Piece) → ComeBehind place (front ++ ts) → kept docs holes before (front ++ ts) ≡ kept docs holes before front ++ kept docs holes (last_symbol before front) ts
+kept_append docs holes before place [] ts b = refl
+kept_append docs holes before place (t ∷ front) ts b =
     let left = not_over t.at holes in
     let next = t.at + length t.text in
-    ap (λ l. text_if_kept docs left t ++ l) (kept_append docs left next front ts b.1.1
-    ∙ ap (λ l. kept docs left front ++ l) (kept_later docs t.at next holes ts (omega arith) (come_behind next front ts b.1.1)))
-    ∙ sym (append_assoc (text_if_kept docs left t) (kept docs left front) (kept docs holes ts))
+    let last = last_symbol (symbol_of t) front in
+    ap (λ l. text_if_kept docs left before t ++ l) (kept_append docs left (symbol_of t) next front ts b.1.1
+    ∙ ap (λ l. kept docs left (symbol_of t) front ++ l) (kept_later docs t.at next holes last ts (omega arith) (come_behind next front ts b.1.1)))
+    ∙ sym (append_assoc (text_if_kept docs left before t) (kept docs left (symbol_of t) front) (kept docs holes last ts))
 
 -- the same is left of both where the same is passed
-pub left_alike : (docs docs' : Bool) (place : ℕ) (holes others : List Hole) (ts us ts' us' : List Piece) → docs ≡ docs' → AreSameUntil place holes others → ComeBehind 0 ts → ComeBehind 0 ts' → ArePassed place ts us ts' us'
-    → (kept docs holes us ≡ kept docs' others us') ↔ (kept docs holes ts ≡ kept docs' others ts')
-left_alike docs docs' place holes others ts us ts' us' e same b b' p =
-    let front = kept docs holes p.0 in
-    let ours : kept docs holes ts ≡ front ++ kept docs holes us = ap (kept docs holes) p.1 ∙ kept_append docs holes 0 p.0 us (subst (ComeBehind 0) p.1 b) in
-    let theirs : kept docs' others ts' ≡ front ++ kept docs' others us' =
-    ap (kept docs' others) p.2 ∙ kept_append docs' others 0 p.0 us' (subst (ComeBehind 0) p.2 b')
-    ∙ ap (λ d. kept d others p.0 ++ kept docs' others us') (sym e) ∙ ap (λ l. l ++ kept docs' others us') (sym (same docs p.0 p.3)) in
+pub left_alike : (docs docs' : Bool) (before before' place : ℕ) (holes others : List Hole) (ts copy us ts' copy' us' : List Piece) → docs ≡ docs' → before ≡ before' → AreSameUntil place holes others → ComeBehind 0 ts → ComeBehind 0 ts' → IsLone us → IsLone us' → copy ≡ ts → copy' ≡ ts' → ArePassed place copy us copy' us'
+    → (kept docs holes before us ≡ kept docs' others before' us') ↔ (kept docs holes before ts ≡ kept docs' others before' ts')
+left_alike docs docs' before before' place holes others ts copy us ts' copy' us' e e' same b b' lone lone' is is' p =
+    let first = sym is ∙ p.1 in
+    let second = sym is' ∙ p.2 in
+    let front = kept docs holes before p.0 in
+    let last = last_symbol before p.0 in
+    let last' = last_symbol before' p.0 in
+    let ours : kept docs holes before ts ≡ front ++ kept docs holes before us =
+    ap (kept docs holes before) first ∙ kept_append docs holes before 0 p.0 us (subst (ComeBehind 0) first b) ∙ ap (λ l. front ++ l) (lone docs holes last before) in
+    let theirs : kept docs' others before' ts' ≡ front ++ kept docs' others before' us' =
+    ap (kept docs' others before') second ∙ kept_append docs' others before' 0 p.0 us' (subst (ComeBehind 0) second b') ∙ ap (λ l. kept docs' others before' p.0 ++ l) (lone' docs' others last' before')
+    ∙ ap (λ d. kept d others before' p.0 ++ kept docs' others before' us') (sym e) ∙ ap (λ c. kept docs others c p.0 ++ kept docs' others before' us') (sym e') ∙ ap (λ l. l ++ kept docs' others before' us') (sym (same docs before p.0 p.3)) in
     (λ k. ours ∙ ap (λ l. front ++ l) k ∙ sym theirs, λ k. append_cancel_left front _ _ (sym ours ∙ k ∙ theirs))
 
 pub same_docs : (d d' : Bool) → not (beq d d') ≡ false → d ≡ d'

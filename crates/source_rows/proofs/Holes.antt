@@ -1,15 +1,16 @@
 -- What stands in a part that is left out is passed over at once.
 use Rattle.std.proofs.Common.{◌≡◌, ◌≤◌, ◌<◌, ◌+◌, ◌++◌, ◌==◌, ◌&&◌, ℕ, Bool, true, false, Option, Some, None, List, [], ◌∷◌, length, All, refl, sym, ap, ◌∙◌, subst, arith, nat_le}
-use Rattle.std.proofs.lemmas.Bool.{leb-true}
+use Rattle.std.proofs.lemmas.Bool.{eqb-true, leb-true}
 use Rattle.std.proofs.lemmas.List.Elements.{All-head, All-tail}
 use Rattle.rust_lexer.specs.Depths.{depth_behind, to_outer}
 use Rattle.rust_lexer.specs.Piece.{Piece}
 use Rattle.rust_lexer.specs.Symbol.{symbol_of}
 use Rattle.rust_lexer.specs.Tokens.{AreInPlace}
 use Rattle.rust_lexer.specs.declared.depth.Depth.{Depth}
+use Rattle.rust_cursor.proofs.Local.{both_true}
 use Rattle.rust_lexer.proofs.Counted.{when}
-use Rattle.source_rows.specs.Inner.{ComeBehind, ends_behind}
-use Rattle.source_rows.specs.Skeletons.{counts, is_begun, kept, not_over, text_if_kept}
+use Rattle.source_rows.specs.Inner.{ComeBehind, IsLone, ends_behind}
+use Rattle.source_rows.specs.Skeletons.{counts, is_begun, is_joint, kept, not_over, text_if_kept}
 use Rattle.source_rows.specs.declared.kept.Hole.{Hole}
 use Rattle.source_rows.proofs.Common.{nat_tests}
 
@@ -33,13 +34,27 @@ not_over_later place at (h ∷ hs) le =
     (λ c. let over : nat_le h.end at ≡ true = grind (arith, nat_tests) in rw (c, over) (not_over_later place at hs le))
     (λ c. rw c refl)
 
-pub uncounted : (docs : Bool) (holes : List Hole) (t : Piece) → counts docs t ≡ false → text_if_kept docs holes t ≡ []
-uncounted docs holes t c = rw c refl
+pub uncounted : (docs : Bool) (holes : List Hole) (before : ℕ) (t : Piece) → counts docs t ≡ false → text_if_kept docs holes before t ≡ []
+uncounted docs holes before t c = rw c refl
 
 -- they count for none of these
-pub kept_later : (docs : Bool) (place behind : ℕ) (holes : List Hole) (ts : List Piece) → place ≤ behind → ComeBehind behind ts → kept docs (not_over place holes) ts ≡ kept docs holes ts
-kept_later docs place behind holes [] le a = refl
-kept_later docs place behind holes (t ∷ ts) le a = ap (λ hs. text_if_kept docs hs t ++ kept docs hs ts) (not_over_later place t.at holes (omega (arith, le, a.0)))
+pub kept_later : (docs : Bool) (place behind : ℕ) (holes : List Hole) (before : ℕ) (ts : List Piece) → place ≤ behind → ComeBehind behind ts → kept docs (not_over place holes) before ts ≡ kept docs holes before ts
+kept_later docs place behind holes before [] le a = refl
+kept_later docs place behind holes before (t ∷ ts) le a =
+    ap (λ hs. text_if_kept docs hs before t ++ kept docs hs (symbol_of t) ts) (not_over_later place t.at holes (omega (arith, le, a.0)))
+
+-- ---- marks
+
+-- a token that is no mark with what stands before it
+pub alone : (t : Piece) (ts : List Piece) → ((before : ℕ) → is_joint before (symbol_of t) ≡ false) → IsLone (t ∷ ts)
+alone t ts e docs holes before other =
+    let first = not_over t.at holes in ap (λ l. l ++ kept docs first (symbol_of t) ts) (same first)
+  where
+    same : (first : List Hole) → text_if_kept docs first before t ≡ text_if_kept docs first other t
+    same first = rw (e before, e other) refl
+
+closing : (t : Piece) → symbol_of t ≡ 125 → (before : ℕ) → is_joint before (symbol_of t) ≡ false
+closing t e before = rw e refl
 
 -- ---- braces
 
@@ -51,15 +66,15 @@ behind (Some p) = p.1
 pub record Passed (holes : List Hole) (place : ℕ) (ts us : List Piece) : Type 0 where
   pub after : ComeBehind place us
   pub fewer : length us ≤ length ts
-  pub same : ends_behind us holes ≡ true → (docs : Bool) → kept docs holes us ≡ kept docs holes ts
+  pub same : ends_behind us holes ≡ true → (docs : Bool) (before other : ℕ) → kept docs holes other us ≡ kept docs holes before ts
 
 module _ (h : Hole) (hs : List Hole) where
   before_end : (place : ℕ) (us : List Piece) → ComeBehind place us → ends_behind us (h ∷ hs) ≡ true → place ≤ h.end
   before_end place [] a e = absurd cc
   before_end place (u ∷ us) a e = omega (arith, a.0, leb-true u.at h.end e)
 
-  inside : (docs : Bool) (t : Piece) (ts : List Piece) → h.start ≤ t.at → t.at < h.end → kept docs (h ∷ hs) ts ≡ kept docs (h ∷ hs) (t ∷ ts)
-  inside docs t ts from to =
+  inside : (docs : Bool) (before : ℕ) (t : Piece) (ts : List Piece) → h.start ≤ t.at → t.at < h.end → kept docs (h ∷ hs) (symbol_of t) ts ≡ kept docs (h ∷ hs) before (t ∷ ts)
+  inside docs before t ts from to =
       let over : nat_le h.end t.at ≡ false = grind (arith, nat_tests) in
       let begun : nat_le h.start t.at ≡ true = grind (arith, nat_tests) in
       when (counts docs t) (λ c. rw (over, begun, c) refl) (λ c. rw (over, begun, c) refl)
@@ -69,14 +84,14 @@ module _ (h : Hole) (hs : List Hole) where
   passed d d' place (t ∷ ts) us from a e =
       when (d.braces == 1 && symbol_of t == 125)
       (λ c. let here : to_outer d (t ∷ ts) ≡ Some (d, t ∷ ts) = rw c refl in
-      subst (Passed (h ∷ hs) place (t ∷ ts)) (ap behind (sym here ∙ e)) (record { after = a; fewer = omega arith; same = λ _ docs. refl }))
+      subst (Passed (h ∷ hs) place (t ∷ ts)) (ap behind (sym here ∙ e)) (record { after = a; fewer = omega arith; same = λ _ docs before other. alone t ts (closing t (eqb-true _ _ (both_true _ _ c).1)) docs (h ∷ hs) other before }))
       (λ c. let on : to_outer d (t ∷ ts) ≡ to_outer (depth_behind d (symbol_of t)) ts = rw c refl in
       let next = t.at + length t.text in
       let p = passed (depth_behind d (symbol_of t)) d' next ts us (omega (arith, from, a.0)) a.1.1 (sym on ∙ e) in
       record {
         after = sooner place next us (omega (arith, a.0)) p.after;
         fewer = omega (arith, p.fewer);
-        same = λ ends docs. p.same ends docs ∙ inside docs t ts (omega (arith, from, a.0)) (omega (arith, before_end next us p.after ends, a.1.0));
+        same = λ ends docs before other. p.same ends docs (symbol_of t) other ∙ inside docs before t ts (omega (arith, from, a.0)) (omega (arith, before_end next us p.after ends, a.1.0));
       })
 
 -- up to the `}` that closes what is around, which comes next

@@ -7,11 +7,12 @@ use Rattle.item_changes.specs.Matches.{match_map}
 use Rattle.rust_lexer.specs.Piece.{Piece}
 use Rattle.source_rows.specs.declared.kept.Hole.{Hole}
 use Rattle.source_rows.specs.declared.kept.Kept.{Kept}
+use Rattle.source_rows.specs.declared.kept.Told.{Told}
 use Rattle.source_rows.specs.declared.compare.Row as code_row
 use Rattle.source_rows.specs.declared.compare.Change as code_change
 use Rattle.source_rows.specs.Changes.{TextRow, RowChange}
 use Rattle.source_rows.specs.ChangeViews.{row_change_view, text_row_view}
-use Rattle.source_rows.specs.Skeletons.{kept}
+use Rattle.source_rows.specs.Skeletons.{kept, without_returns}
 
 abbrev pub with_label : TextRow → List ℕ × TextRow
 with_label r = (r.label, r)
@@ -38,7 +39,15 @@ ends_behind _ _ = false
 
 -- the texts of the tokens that are taken of what is left
 abbrev pub left_texts : Kept → List (List ℕ)
-left_texts left = kept left.has_docs left.holes.now left.lexer
+left_texts left = kept left.has_docs left.holes.now left.before left.lexer
+
+-- what tells a token
+abbrev pub told_text : Told → List ℕ
+told_text t = (if t.is_joint then 1 else 0) ∷ without_returns t.text.now
+
+-- whatever stands before these, it is no mark with the first of them
+abbrev pub IsLone : List Piece → Type 0
+IsLone ts = (has_docs : Bool) (holes : List Hole) (before other : ℕ) → kept has_docs holes before ts ≡ kept has_docs holes other ts
 
 -- a text in front of others, if it is taken
 abbrev pub text_first : Bool → List ℕ → List (List ℕ) → List (List ℕ)
@@ -52,4 +61,4 @@ IsBefore place (h ∷ hs) = (place ≤ h.start) × (place ≤ h.end)
 -- some parts and others leave out the same of tokens that begin before a place
 abbrev pub AreSameUntil : ℕ → List Hole → List Hole → Type 0
 AreSameUntil place holes others =
-    (has_docs : Bool) (front : List Piece) → All (λ t. t.at < place) front → kept has_docs holes front ≡ kept has_docs others front
+    (has_docs : Bool) (before : ℕ) (front : List Piece) → All (λ t. t.at < place) front → kept has_docs holes before front ≡ kept has_docs others before front

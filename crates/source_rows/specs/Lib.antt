@@ -1,5 +1,6 @@
 pub mod Labels
 pub mod Headers
+pub mod Bodies
 pub mod Parts
 pub mod Rows
 pub mod Sources

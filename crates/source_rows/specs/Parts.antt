@@ -12,6 +12,7 @@ use Rattle.rust_members.specs.Members.{MemberRead}
 use Rattle.rust_members.specs.Lists.{members}
 use Rattle.source_rows.specs.Labels.{item_word, has_members, member_word, text_at, text_at_some, Outer, modules_path, label}
 use Rattle.source_rows.specs.Headers.{header}
+use Rattle.source_rows.specs.Bodies.{hole_of}
 
 -- a part: what it is called, where it is told, where it stands, the name that counts among the tokens around it, and the braces whose tokens do not count
 pub record Part : Type 0 where
@@ -43,7 +44,7 @@ member_part text path m = record {
   at = part_told_at m.range m.name;
   range = m.range;
   kept = kept_name m.kind m.name;
-  body = m.body;
+  body = hole_of text m.range m.body;
 }
 
 -- the members of an item of this kind in this body, if it may have some, with their conditions alone: no list asks for other attributes
@@ -71,13 +72,13 @@ abbrev pub fn_body : AstIdKind → Option TextRange → Option TextRange
 fn_body kind.Fn body = body
 fn_body _ body = None
 
-abbrev pub part_of_item : List ℕ → ItemPlace → Part
-part_of_item path s = record {
+abbrev pub part_of_item : List ℕ → List ℕ → ItemPlace → Part
+part_of_item text path s = record {
   label = label (item_word s.id.kind) path;
   at = part_told_at s.range s.name;
   range = s.range;
   kept = None;
-  body = fn_body s.id.kind s.body;
+  body = hole_of text s.range (fn_body s.id.kind s.body);
 }
 
 abbrev pub part_path : EditionYear → List ℕ → List Outer → ItemPlace → List ℕ
@@ -85,7 +86,7 @@ part_path edition text around s = modules_path around ++ part_name edition text 
 
 -- an item, and behind it its members
 abbrev pub parts_of : EditionYear → List ℕ → List Outer → ItemPlace → List Part
-parts_of edition text around s = part_of_item (part_path edition text around s) s ∷ member_parts edition text (part_path edition text around s) s
+parts_of edition text around s = part_of_item text (part_path edition text around s) s ∷ member_parts edition text (part_path edition text around s) s
 
 -- the modules that end behind a place
 abbrev pub still_open : ℕ → List Outer → List Outer

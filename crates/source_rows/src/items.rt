@@ -7,6 +7,7 @@ ghost use Rattle.source_rows.specs.Parts as spec;
 ghost use Rattle.source_rows.specs.Views.{outer_view, part_view};
 
 use crate::headers::header;
+use crate::inside::hole_of;
 use crate::labels::{ROOM, kind_texts, member_word, push_label, text_at, text_at_some};
 use hir_input::{AstIdKind, EditionYear};
 use rust_items::ItemPlace;
@@ -82,7 +83,7 @@ fn member_part(alloc: Global, text: &str, path: &str, member: &Member) -> Result
         at: told_at(member.range, member.name),
         range: member.range,
         kept: kept_name(member.kind, member.name),
-        body: member.body,
+        body: hole_of(text, member.range, member.body),
     })
 }
 
@@ -199,8 +200,9 @@ fn fn_body(kind: AstIdKind, body: Option<TextRange>) -> Option<TextRange>
     }
 }
 
-fn item_part(alloc: Global, path: &str, item: &ItemPlace) -> Result<Part, AllocError>
-    ensures { IfOk result (λ part. part_view part ≡ spec.part_of_item path.now item.now) }
+fn item_part(alloc: Global, text: &str, path: &str, item: &ItemPlace) -> Result<Part, AllocError>
+    ensures { IfOk result (λ part. part_view part
+        ≡ spec.part_of_item text.now path.now item.now) }
 {
     let mut label = String::with_capacity(alloc, ROOM)?;
     push_label(&mut label, kind_texts(item.id.kind).word, path)?;
@@ -209,7 +211,7 @@ fn item_part(alloc: Global, path: &str, item: &ItemPlace) -> Result<Part, AllocE
         at: told_at(item.range, item.name),
         range: item.range,
         kept: None,
-        body: fn_body(item.id.kind, item.body),
+        body: hole_of(text, item.range, fn_body(item.id.kind, item.body)),
     })
 }
 
@@ -226,7 +228,7 @@ fn push_item(
         OnOk result (map part_view parts.new.items ≡ map part_view parts.old.items ++ more) }
 {
     let path = item_path(alloc, text, edition, around, item)?;
-    let part = item_part(alloc, &path, item)?;
+    let part = item_part(alloc, text, &path, item)?;
     parts.push(part)?;
     let members = members_in(alloc, item.id.kind, text, item.body, edition)?;
     push_members(alloc, text, &path, &members, parts)

@@ -1,6 +1,6 @@
 //! The tokens of a text that count, without those that stand in some parts of it.
 
-ghost use Rattle.std.specs.Prelude.{◌≡◌, ◌↔◌, ◌+◌, ◌≤◌, ◌<◌, ℕ, Bool, List, [], ◌∷◌, IfSome, IsTrue, MatchOption, length};
+ghost use Rattle.std.specs.Prelude.{◌≡◌, ◌↔◌, ◌+◌, ◌≤◌, ◌<◌, ℕ, Bool, false, List, [], ◌∷◌, IfSome, IsTrue, MatchOption, length};
 ghost use Rattle.source_rows.specs.Inner as inner;
 ghost use Rattle.source_rows.specs.Skeletons as spec;
 ghost use Rattle.source_rows.specs.ChangeViews.{skeleton_view};
@@ -70,23 +70,26 @@ fn ends_behind(lexer: &Lexer<'_>, holes: &[Hole]) -> bool
     }
 }
 
-/// Passes over what stands in braces behind a token, if the token opens them and all of that stands in the first of some parts.
-fn pass_hole(token: &Token<'_>, holes: &[Hole], lexer: &mut Lexer<'_>)
+/// Passes over what stands in braces behind a token, if the token opens them and all of that stands in the first of some parts. Where
+/// that is tried in vain, it is not tried again: braces that are not closed are looked for up to the end of the text.
+fn pass_hole(token: &Token<'_>, holes: &[Hole], may_pass: &mut bool, lexer: &mut Lexer<'_>)
     requires { inner.ComeBehind (token.now.at + length token.now.text) lexer.old }
-    ensures same { (has_docs : Bool) → spec.kept has_docs holes.now lexer.new
-        ≡ spec.kept has_docs holes.now lexer.old }
+    ensures same { (has_docs : Bool) (before : ℕ) → spec.kept has_docs holes.now before lexer.new
+        ≡ spec.kept has_docs holes.now before lexer.old }
     ensures after { inner.ComeBehind (token.now.at + length token.now.text) lexer.new }
     ensures fewer { length lexer.new ≤ length lexer.old }
 {
-    if token.symbol() != b'{' || !is_begun(token.end(), holes) {
+    if !*may_pass || token.symbol() != b'{' || !is_begun(token.end(), holes) {
         return;
     }
+    *may_pass = false;
     let mut ahead = lexer.copy();
     let Some(_around) = ahead.pass_braces(INSIDE) else {
         return;
     };
     if ends_behind(&ahead, holes) {
         *lexer = ahead;
+        *may_pass = true;
     }
 }
 
@@ -94,51 +97,153 @@ fn pass_hole(token: &Token<'_>, holes: &[Hole], lexer: &mut Lexer<'_>)
 #[derive(Drop)]
 struct Kept<'a> {
     lexer: Lexer<'a>,
+    /// The symbol of the token before, whether or not that was taken.
+    before: u8,
     holes: &'a [Hole],
     has_docs: bool,
+    may_pass: bool,
 }
 
 /// Whether a token is taken that comes in front of what is left. What need not be looked at behind it is passed over.
 fn is_taken(token: &Token<'_>, left: &mut Kept<'_>) -> bool
     requires { inner.ComeBehind (token.now.at + length token.now.text) left.old.lexer }
-    ensures same { spec.kept left.old.has_docs left.old.holes.now (token.now ∷ left.old.lexer)
-        ≡ inner.text_first result token.now.text (inner.left_texts left.new) }
+    ensures same { spec.kept left.old.has_docs left.old.holes.now left.old.before (token.now ∷ left.old.lexer)
+        ≡ inner.text_first result (spec.token_text left.old.before token.now) (inner.left_texts left.new) }
     ensures after { inner.ComeBehind 0 left.new.lexer }
     ensures fewer { length left.new.lexer ≤ length left.old.lexer }
 {
+    left.before = token.symbol();
     if !counts(token, left.has_docs) {
         return false;
     }
     left.holes = not_over(token.at(), left.holes);
-    pass_hole(token, left.holes, &mut left.lexer);
+    pass_hole(token, left.holes, &mut left.may_pass, &mut left.lexer);
     !is_begun(token.at(), left.holes)
 }
 
-/// The text of the next token that is taken.
-fn next_taken<'a>(left: &mut Kept<'a>) -> Option<&'a str>
+/// What tells a token.
+#[derive(Clone, Copy)]
+struct Told<'a> {
+    /// Whether it is one mark with the token before it.
+    is_joint: bool,
+    text: &'a str,
+}
+
+/// What can stand before a `=` with which it is one mark.
+fn is_operator(symbol: u8) -> bool
+    ensures { result ≡ spec.is_operator symbol }
+{
+    matches!(
+        symbol,
+        b'=' | b'!' | b'<' | b'+' | b'-' | b'*' | b'/' | b'%' | b'^' | b'&' | b'|' | b'.'
+    )
+}
+
+/// Whether a symbol directly behind another is one mark with it.
+fn is_joint(before: u8, symbol: u8) -> bool
+    ensures { result ≡ spec.is_joint before symbol }
+{
+    match symbol {
+        b'>' => before == b'=' || before == b'-',
+        b'=' => is_operator(before),
+        b':' | b'.' => symbol == before,
+        _ => false,
+    }
+}
+
+/// The next token that is taken.
+fn next_taken<'a>(left: &mut Kept<'a>) -> Option<Told<'a>>
     requires { inner.ComeBehind 0 left.old.lexer }
     ensures taken { MatchOption result (inner.left_texts left.old ≡ [])
-        (λ t. inner.left_texts left.old ≡ t.now ∷ inner.left_texts left.new) }
+        (λ t. inner.left_texts left.old ≡ inner.told_text t ∷ inner.left_texts left.new) }
     ensures after { inner.ComeBehind 0 left.new.lexer }
     ensures fewer { IfSome result (λ t. length left.new.lexer < length left.old.lexer) }
 {
     'tokens: while let Some(token) = left.lexer.next() {
+        let is_joint = is_joint(left.before, token.symbol());
         if is_taken(&token, left) {
-            return Some(token.text());
+            return Some(Told {
+                is_joint,
+                text: token.text(),
+            });
         }
     }
     None
 }
 
-/// Whether the next token that is taken has this text.
-fn is_next(one: &str, left: &mut Kept<'_>) -> bool
+/// The next byte of a text, but for a carriage return at the end of a line.
+fn next_byte(left: &mut &[u8]) -> Option<u8>
+    ensures taken { MatchOption result (spec.without_returns left.old.now ≡ [])
+        (λ b. spec.without_returns left.old.now ≡ b ∷ spec.without_returns left.new.now) }
+    ensures fewer { IfSome result (λ b. length left.new.now < length left.old.now) }
+{
+    'bytes: while let [byte, behind @ ..] = *left {
+        *left = behind;
+        if *byte != b'\r' || !ends_line(behind) {
+            return Some(*byte);
+        }
+    }
+    None
+}
+
+/// Whether a line ends here.
+fn ends_line(behind: &[u8]) -> bool
+    ensures { result ≡ spec.ends_line behind.now }
+{
+    match behind {
+        [first, ..] => *first == b'\n',
+        [] => true,
+    }
+}
+
+/// Whether a byte comes next in a text without carriage returns at the ends of lines.
+fn is_next_byte(byte: u8, left: &mut &[u8]) -> bool
+    ensures { (more : List ℕ) → (byte ∷ more ≡ spec.without_returns left.old.now)
+        ↔ (IsTrue result × (more ≡ spec.without_returns left.new.now)) }
+{
+    match next_byte(left) {
+        Some(other) => byte == other,
+        None => false,
+    }
+}
+
+fn are_same_lines(ours: &[u8], theirs: &[u8]) -> bool
+    ensures { IsTrue result ↔ (spec.without_returns ours.now ≡ spec.without_returns theirs.now) }
+{
+    let (mut ours, mut theirs) = (ours, theirs);
+    'bytes: while let Some(byte) = next_byte(&mut ours) {
+        if !is_next_byte(byte, &mut theirs) {
+            return false;
+        }
+    }
+    next_byte(&mut theirs).is_none()
+}
+
+/// Whether two texts are the same but for carriage returns at the ends of lines.
+fn is_same_text(ours: &str, theirs: &str) -> bool
+    ensures { IsTrue result ↔ (spec.without_returns ours.now ≡ spec.without_returns theirs.now) }
+{
+    ours == theirs || are_same_lines(ours.as_bytes(), theirs.as_bytes())
+}
+
+fn is_same_token(one: Told<'_>, other: Told<'_>) -> bool
+    ensures { IsTrue result ↔ (inner.told_text one.entry ≡ inner.told_text other.entry) }
+{
+    if one.is_joint != other.is_joint {
+        return false;
+    }
+    is_same_text(one.text, other.text)
+}
+
+/// Whether the next token that is taken is told so.
+fn is_next(one: Told<'_>, left: &mut Kept<'_>) -> bool
     requires { inner.ComeBehind 0 left.old.lexer }
-    ensures next { (more : List (List ℕ)) → (one.now ∷ more ≡ inner.left_texts left.old)
+    ensures next { (more : List (List ℕ)) → (inner.told_text one.entry ∷ more ≡ inner.left_texts left.old)
         ↔ (IsTrue result × (more ≡ inner.left_texts left.new)) }
     ensures after { inner.ComeBehind 0 left.new.lexer }
 {
     match next_taken(left) {
-        Some(other) => one == other,
+        Some(other) => is_same_token(one, other),
         None => false,
     }
 }
@@ -171,6 +276,22 @@ fn same_until(ours: &[Hole], theirs: &[Hole]) -> usize
     beginning(ours).min(beginning(theirs))
 }
 
+/// Whether what comes first is no mark with what stands before it, whatever that is.
+fn is_lone(lexer: &Lexer<'_>) -> bool
+    ensures { IsTrue result → inner.IsLone lexer.now }
+{
+    match lexer.copy().next() {
+        Some(next) => !matches!(next.symbol(), b'>' | b'=' | b':' | b'.'),
+        None => true,
+    }
+}
+
+fn are_lone(ours: &Lexer<'_>, theirs: &Lexer<'_>) -> bool
+    ensures { IsTrue result → inner.IsLone ours.now × inner.IsLone theirs.now }
+{
+    is_lone(ours) && is_lone(theirs)
+}
+
 /// Passes over tokens with which two texts go on alike.
 fn pass_same(ours: &mut Kept<'_>, theirs: &mut Kept<'_>)
     requires ours { inner.ComeBehind 0 ours.old.lexer }
@@ -183,8 +304,18 @@ fn pass_same(ours: &mut Kept<'_>, theirs: &mut Kept<'_>)
     if ours.has_docs != theirs.has_docs {
         return;
     }
+    if ours.before != theirs.before {
+        return;
+    }
     let place = same_until(ours.holes, theirs.holes);
-    ours.lexer.pass_same(&mut theirs.lexer, place);
+    let mut our_rest = ours.lexer.copy();
+    let mut their_rest = theirs.lexer.copy();
+    our_rest.pass_same(&mut their_rest, place);
+    if !are_lone(&our_rest, &their_rest) {
+        return;
+    }
+    ours.lexer = our_rest;
+    theirs.lexer = their_rest;
 }
 
 /// Whether the same tokens are taken of two texts.
@@ -229,7 +360,7 @@ pub struct Skeleton<'a> {
 }
 
 #[tactic(auto, using(crate::proofs::Texts::text_told))]
-fn is_same_text(old: &str, new: &str) -> bool
+fn is_same_whole(old: &str, new: &str) -> bool
     ensures { IsTrue result ↔ (old.now ≡ new.now) }
 {
     old == new
@@ -245,7 +376,7 @@ impl<'a> Skeleton<'a> {
     fn is_written_as(self, other: Skeleton<'_>) -> bool
         ensures { IsTrue result → skeleton_view self.entry ≡ skeleton_view other.entry }
     {
-        if self.has_docs != other.has_docs || !is_same_text(self.text, other.text) {
+        if self.has_docs != other.has_docs || !is_same_whole(self.text, other.text) {
             return false;
         }
         are_same_holes(self.holes, other.holes)
@@ -257,6 +388,8 @@ impl<'a> Skeleton<'a> {
     {
         Kept {
             lexer: Lexer::new(self.text),
+            before: 0,
+            may_pass: true,
             holes: self.holes,
             has_docs: self.has_docs,
         }

@@ -5,6 +5,7 @@
 mod compare;
 mod enabled;
 mod headers;
+mod inside;
 mod items;
 mod kept;
 mod labelled;
