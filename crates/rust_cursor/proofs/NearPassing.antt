@@ -78,5 +78,6 @@ near_parting b = record {
   closed = behind_closed_near b;
   tree = behind_tree_near b;
   angles = behind_angles_near b;
+  field = reached_near b reaches.Field;
   passed = beyond_near b;
 }

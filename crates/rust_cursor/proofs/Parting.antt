@@ -1,8 +1,8 @@
 -- Readers of two texts that look alike: they read alike, until one goes past where the texts part.
 use Rattle.std.proofs.Common.{◌≡◌, ℕ, zero, suc, ◌-◌, Bool, true, false, List, [], ◌∷◌, ◌++◌, refl, ap, ◌∙◌, sym, subst, if◌then◌else◌, bytes_eq}
-use Rattle.rust_cursor.proofs.Common.{behind_angles, behind_closed, behind_tree, beyond, turns_from, turns, elements, one, tree_text, Reader, Tokens, symbol, at, bumped, taken_if, eat, eat_word, is_pair, eat_pair, is_at_end}
+use Rattle.rust_cursor.proofs.Common.{behind_angles, behind_closed, behind_tree, beyond, turns_from, turns, elements, one, tree_text, Reader, Tokens, symbol, at, bumped, taken_if, eat, eat_word, is_pair, eat_pair, is_at_end, behind_field}
 use Rattle.rust_cursor.specs.Reader.{◌>>=◌}
-use Rattle.rust_cursor.proofs.Leads.{LeadsTo, through, Forwards, when, bumped_leads, behind_closed_leads, behind_tree_leads, behind_angles_leads, beyond_leads, turns_from_leads, taken_leads_on}
+use Rattle.rust_cursor.proofs.Leads.{LeadsTo, through, Forwards, when, bumped_leads, behind_closed_leads, behind_tree_leads, behind_angles_leads, beyond_leads, turns_from_leads, taken_leads_on, reached_leads}
 use Rattle.rust_cursor.proofs.Twins.{Twins, is_edge, symbol_test, word_test, end_same, after_word, after_symbol, pair_same, after_pair}
 
 -- one went past where they part, or both look alike
@@ -31,6 +31,7 @@ pub record Parting : Type 1 where
   pub closed : (bracket : ℕ) (ts us : Tokens) → twins.are ts us → Onward twins.are lost (behind_closed bracket ts) (behind_closed bracket us)
   pub tree : (ts us : Tokens) → twins.are ts us → Onward twins.are lost (behind_tree ts) (behind_tree us)
   pub angles : (ts us : Tokens) → twins.are ts us → Onward twins.are lost (behind_angles ts) (behind_angles us)
+  pub field : (ts us : Tokens) → twins.are ts us → Onward twins.are lost (behind_field ts) (behind_field us)
   pub passed : (ts us ts' us' : Tokens) → twins.are ts us → twins.are ts' us' → Onward twins.are lost (beyond ts.past ts') (beyond us.past us')
 
 abbrev pub Until : {A : Type 0} → Parting → A × Tokens → A × Tokens → Type 0
@@ -187,6 +188,7 @@ module _ (b : Parting) (l : Levels b) (a a' : ℕ) where
     closed = λ c ts us h. level_on ts us _ _ h (behind_closed_leads c ts) (b.closed c ts us (l.are a a' ts us h));
     tree = λ ts us h. level_on ts us _ _ h (behind_tree_leads ts) (b.tree ts us (l.are a a' ts us h));
     angles = λ ts us h. level_on ts us _ _ h (behind_angles_leads ts) (b.angles ts us (l.are a a' ts us h));
+    field = λ ts us h. level_on ts us _ _ h (reached_leads _ ts) (b.field ts us (l.are a a' ts us h));
     passed = λ ts us ts' us' h k. level_on ts' us' _ _ k (beyond_leads ts.past ts') (b.passed ts us ts' us' (l.are a a' ts us h) (l.are a a' ts' us' k));
   }
 

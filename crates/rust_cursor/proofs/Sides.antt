@@ -4,7 +4,7 @@ use Rattle.rust_cursor.proofs.Alike as stands
 use Rattle.rust_cursor.proofs.Level.{Level, level_beside, level_here, level_next, level_on, start_level, end_level}
 use Rattle.rust_cursor.proofs.Local as local
 use Rattle.rust_cursor.proofs.Parting.{Onward, into, on, UntilBy, gone, kept, Same, Parting, UpTo, by_kept, Entering, Levels}
-use Rattle.rust_cursor.proofs.Passing.{behind_angles_beside, behind_closed_beside, behind_tree_beside, beyond_beside}
+use Rattle.rust_cursor.proofs.Passing.{behind_angles_beside, behind_field_beside, behind_closed_beside, behind_tree_beside, beyond_beside}
 use Rattle.rust_cursor.proofs.Places.{SamePlace, at_place}
 use Rattle.rust_cursor.proofs.TreeTexts.{tree_text_until}
 use Rattle.rust_cursor.proofs.Until as until
@@ -19,6 +19,7 @@ alongside b = record {
   closed = λ c ts us h. on (behind_closed_beside b c ts us h);
   tree = λ ts us h. on (behind_tree_beside b ts us h);
   angles = λ ts us h. on (behind_angles_beside b ts us h);
+  field = λ ts us h. on (behind_field_beside b ts us h);
   passed = λ ts us ts' us' h k. on (beyond_beside b ts us ts' us' h k);
 }
 
@@ -38,6 +39,7 @@ into_braces b = record {
   closed = λ c ts us h. on (behind_closed_beside b c ts us h);
   tree = λ ts us h. on (behind_tree_beside b ts us h);
   angles = λ ts us h. on (behind_angles_beside b ts us h);
+  field = λ ts us h. on (behind_field_beside b ts us h);
   passed = λ ts us ts' us' h k. on (beyond_beside b ts us ts' us' h k);
 }
 

@@ -41,8 +41,8 @@ pub use Rattle.rust_cursor.specs.Tokens.{Tokens, end_of, last_unended, place_if_
 unfoldable pub use Rattle.rust_cursor.specs.Tokens.{tokens_of}
 pub use Rattle.rust_cursor.specs.Words.{by_first, eat_colons, rest, word_by}
 unfoldable pub use Rattle.rust_cursor.specs.Words.{at, bumped, eat, eat_pair, eat_word, is_at_doc, is_at_end, is_at_identifier, is_at_open, is_empty, is_glued, is_pair, kind, symbol, text, word}
-pub use Rattle.rust_edits.specs.Edits.{ArePartsAbout, BeginFrom, HasPlaces, ItemsAreInOrder, MayEdit, MayStandInside, PlacesAreKept, ReadsMoved, Shifts, TellsLoose, begins_bare, body_about, edited, has_item, has_place, has_problem, has_range, has_some_range, last_begun, shifted_item, shifted_place, shifted_problem}
-pub use Rattle.rust_edits.specs.Inner.{AreCut, EndsFit, IsShift, IsUncut, LacksByte, begins_plain, brackets_view, closes_last, in_braces, is_alone, loose_inside, or_kept, same_loose}
+pub use Rattle.rust_edits.specs.Edits.{ArePartsAbout, BeginFrom, HasPlaces, ItemsAreInOrder, MayEdit, MayStandInside, PlacesAreKept, ReadsMoved, Shifts, TellsLoose, begins_bare, body_about, edited, has_item, has_place, has_problem, has_range, has_some_range, last_begun, or_kept, shifted_item, shifted_place, shifted_problem}
+pub use Rattle.rust_edits.specs.Inner.{AreCut, EndsFit, IsShift, IsUncut, LacksByte, begins_plain, brackets_view, closes_last, in_braces, is_alone, loose_inside, same_loose}
 pub use Rattle.rust_edits.specs.Ranges.Inside.{FollowsAt, HoldsAt, InsideBetween, InsideJoin, IsBetweenAt, ModuleReads, OpensModule, TopHolds, as_first_at, behind_items_at, read_at}
 pub use Rattle.rust_edits.specs.Ranges.Joined.{BeginsAnew, BothHold, FileTells, Follows, FrontHolds, FrontIdsStay, HoldsItems, IdsStay, IsBare, IsBetween, ItemsJoin, ItemsStand, ItemsTold, PartTold, RestHolds, StandsBetween, TopKeysStay, TypingItems, as_first, behind_items, each_item, file_attrs, file_ids, file_items, found_on, is_told_up_to, text_attrs}
 pub use Rattle.rust_edits.specs.Ranges.Laws.{Bytes, EndsOwn, IsAtTop, RangeAlone, at_top, bytes_of, ends_items, further_on, is_unfinished, is_unfinished_at, item_count, items_count, range_text, without_ids}
@@ -79,9 +79,9 @@ pub use Rattle.rust_leaves.proofs.Beside.{LeafAlike, SameRange, fields_of, named
 pub use Rattle.rust_leaves.specs.Fronts.{FrontRead}
 unfoldable pub use Rattle.rust_leaves.specs.Fronts.{front, front_behind}
 pub use Rattle.rust_leaves.specs.Heads.{behind_head, behind_modifiers_from}
-unfoldable pub use Rattle.rust_leaves.specs.Heads.{behind_abi, behind_modifier, behind_modifiers, head, head_by, is_modifier, is_modifier_before}
-pub use Rattle.rust_leaves.specs.Kinds.{block_item, call_behind, called, leaf_by, leaf_read, named_node, node, plain_end, plain_read, some_read, told_at, use_read}
-unfoldable pub use Rattle.rust_leaves.specs.Kinds.{constant, crate_item, enumeration, function, implementation, invocation, is_called, leaf, macro_def, macro_definition, static_value, structure, trait_item, type_alias, union_item, use_declaration}
+unfoldable pub use Rattle.rust_leaves.specs.Heads.{behind_abi, behind_modifier, behind_modifiers, head, head_by, is_called, is_modifier, is_modifier_before, is_weak_before}
+pub use Rattle.rust_leaves.specs.Kinds.{block_item, call_behind, called, leaf_by, leaf_read, named_node, node, plain_end, plain_read, some_read, told_at, use_read, attributed_item}
+unfoldable pub use Rattle.rust_leaves.specs.Kinds.{constant, crate_item, enumeration, function, implementation, invocation, leaf, macro_def, macro_definition, static_value, structure, trait_item, type_alias, union_item, use_declaration}
 pub use Rattle.rust_leaves.specs.Leaves.{LeafRead, NameRead, RestRead, are_over, bare_end, crate_alias_if, fields_at, is_before, name_read, next_range, no_name, range_to, rename_of, rest_read, semicolon_end, symbol_within}
 unfoldable pub use Rattle.rust_leaves.specs.Leaves.{block_attributes, call_end, crate_alias, fields, has_trait, header_field, impl_end, item_end, macro_end, named, named_or, renamed, struct_fields, value_end}
 pub use Rattle.rust_leaves.specs.Texts.{last_text_from}

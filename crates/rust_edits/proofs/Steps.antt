@@ -38,11 +38,14 @@ all_moved has move (x ∷ xs) e =
     ap (λ y. y ∷ map (or_kept has move) xs) first ∙ ap (λ ys. move x ∷ ys) (all_moved has move xs both.1)
 
 -- when all of a list is gone through
-pub moved_all : {A : Type 0} (has : A → Bool) (move : A → A) (i : ℕ) (done xs : List A) → length done ≤ i → take i done ++ map (or_kept has move) (drop i done) ≡ map (or_kept has move) xs → list_all has xs ≡ true → done ≡ map move xs
-moved_all has move i done xs over e all =
+pub moved_each : {A : Type 0} (has : A → Bool) (move : A → A) (i : ℕ) (done xs : List A) → length done ≤ i → take i done ++ map (or_kept has move) (drop i done) ≡ map (or_kept has move) xs → done ≡ map (or_kept has move) xs
+moved_each has move i done xs over e =
     let taken : take i done ++ map (or_kept has move) (drop i done) ≡ done =
     ap (λ ys. take i done ++ map (or_kept has move) ys) (drop_all i done over) ∙ append-nil (take i done) ∙ take_all i done over in
-    sym taken ∙ e ∙ all_moved has move xs all
+    sym taken ∙ e
+
+pub moved_all : {A : Type 0} (has : A → Bool) (move : A → A) (done xs : List A) → done ≡ map (or_kept has move) xs → list_all has xs ≡ true → done ≡ map move xs
+moved_all has move done xs e all = e ∙ all_moved has move xs all
 
 pub same_is : (l m : Loose) → same_loose l m ≡ true → m ≡ l
 same_is l m e = grind (arith, nat_tests)

@@ -78,6 +78,10 @@ has_item s p = has_range s p.range && (has_some_range s p.name && has_some_range
 abbrev pub has_problem : Shift → Problem → Bool
 has_problem s p = has_place s p.at
 
+-- what has a place there is moved, and the rest stays
+abbrev pub or_kept : {A : Type 0} → (A → Bool) → (A → A) → A → A
+or_kept has move a = if has a then move a else a
+
 -- all places of what was read of a text are in the new one
 pub record HasPlaces (shift : Shift) (read : FileView) : Type 0 where
   pub items : list_all (has_item shift) read.places ≡ true

@@ -42,10 +42,6 @@ loose_inside w = loose_from none_loose (tokens w)
 abbrev pub same_loose : Loose → Loose → Bool
 same_loose l m = l.closing == m.closing && l.opening == m.opening
 
--- what has a place is moved, and the rest stays
-abbrev pub or_kept : {A : Type 0} → (A → Bool) → (A → A) → A → A
-or_kept has move a = if has a then move a else a
-
 -- these are the parts of a text about a range in these braces
 pub record AreCut (text : List ℕ) (body range : TextRange) (p : Parts) : Type 0 where
   pub about : ArePartsAbout text body range p.before.now p.front.now p.replaced.now p.back.now p.behind.now

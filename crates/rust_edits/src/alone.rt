@@ -10,7 +10,7 @@ ghost use Rattle.rust_edits.specs.Inner as spec;
 
 use hir_input::EditionYear;
 use rust_cursor::Cursor;
-use rust_items::line_ends::with_feeds;
+use rust_items::line_ends::{has_return, with_feeds};
 use rust_lexer::{DocStyle, Lexer, TokenKind};
 use std::alloc::{AllocError, Global};
 
@@ -90,6 +90,18 @@ fn begins_plain(text: &str) -> bool
     cursor.symbol() != b'['
 }
 
+/// The brackets that are loose in a text, if no inner attribute stands in the braces that it begins with, and it ends with these.
+fn loose_if_plain(text: &str) -> Option<Brackets>
+    ensures test { is_some result ≡ spec.is_alone text.now }
+    ensures loose { IfSome result
+        (λ loose. spec.brackets_view loose ≡ spec.loose_inside text.now) }
+{
+    if begins_plain(text) {
+        return loose_if_closed(text);
+    }
+    None
+}
+
 /// Three texts one behind the other, in braces.
 fn in_braces(alloc: Global, front: &str, typed: &str, back: &str) -> Result<String, AllocError>
     ensures { IfOk result (λ text. string_bytes text
@@ -117,9 +129,9 @@ pub(crate) fn loose_if_alone(
         ≡ spec.loose_inside (with_feeds (spec.in_braces (front.now ++ (typed.now ++ back.now)))))) }
 {
     let text = in_braces(alloc, front, typed, back)?;
-    let (feeds, _ends) = with_feeds(alloc, &text)?;
-    if begins_plain(&feeds) {
-        return Ok(loose_if_closed(&feeds));
+    if !has_return(&text) {
+        return Ok(loose_if_plain(&text));
     }
-    Ok(None)
+    let (feeds, _ends) = with_feeds(alloc, &text)?;
+    Ok(loose_if_plain(&feeds))
 }

@@ -74,10 +74,10 @@ fn shift_of(body: TextRange, range: TextRange, typed: &str, back: &str) -> Optio
 /// where the answer says; so do the problems, if it says that they are kept. It takes as long as the body is long, and a search among
 /// the items.
 ///
-/// It says `None` if the range is not in the braces of a body, if what stood or stands between these does not stand alone (its braces
-/// match, no token of it takes the `}`, and no inner attribute begins it), and of a text that begins with a byte order mark, `-`, an
-/// end of a line, or a `#` before anything but an attribute. Else it answers, if the items are in the order in which they begin; those
-/// that are read of a text are.
+/// It says `None` if the range is not in the braces of a body or cuts a character, if what stood or stands between these does not stand
+/// alone (its braces match, no token of it takes the `}`, and no inner attribute begins it), and of a text that begins with the byte
+/// 0xEF, as a byte order mark does, with `-`, with an end of a line, or with a `#` that neither `[` nor `![` follows at once. Else it
+/// answers, if the items are in the order in which they begin; those that are read of a text are.
 ///
 /// # Errors
 ///

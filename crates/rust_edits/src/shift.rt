@@ -3,8 +3,7 @@
 ghost use Rattle.std.specs.Prelude.{◌≡◌, IfSome, is_some, map, option_map, true};
 ghost use Rattle.std.specs.List.{list_all};
 ghost use Rattle.rust_items.specs.LineEnds.{moved_range};
-ghost use Rattle.rust_edits.specs.Edits.{shifted_place, shifted_item, shifted_problem, has_place, has_range, has_some_range, has_item, has_problem};
-ghost use Rattle.rust_edits.specs.Inner.{or_kept};
+ghost use Rattle.rust_edits.specs.Edits.{shifted_place, shifted_item, shifted_problem, has_place, has_range, has_some_range, has_item, has_problem, or_kept};
 
 use rust_items::{ItemPlace, Problem, TextRange};
 
@@ -88,30 +87,35 @@ impl Shift {
         }
     }
 
-    /// Moves the items of the old text to where they stand in the new one; the ids stay.
+    /// Moves the items of the old text to where they stand in the new one; the ids stay, and so does an item with a place that is not
+    /// in the new text.
     pub fn move_items(&self, items: &mut [ItemPlace])
-        ensures { list_all (has_item self.now) items.old ≡ true
+        ensures all { list_all (has_item self.now) items.old ≡ true
             → items.new ≡ map (shifted_item self.now) items.old }
+        ensures each { items.new ≡ map (or_kept (has_item self.now) (shifted_item self.now)) items.old }
     {
         for item in items.iter_mut() {
             self.move_item(item);
         }
     }
 
-    /// Moves the first bytes of the use trees of the old text to those in the new one.
+    /// Moves the first bytes of the use trees of the old text to those in the new one; one that is not in the new text stays.
     pub fn move_use_trees(&self, starts: &mut [usize])
-        ensures { list_all (has_place self.now) starts.old ≡ true
+        ensures all { list_all (has_place self.now) starts.old ≡ true
             → starts.new ≡ map (shifted_place self.now) starts.old }
+        ensures each { starts.new ≡ map (or_kept (has_place self.now) (shifted_place self.now)) starts.old }
     {
         for start in starts.iter_mut() {
             self.move_place(start);
         }
     }
 
-    /// Moves the problems of the old text to where they stand in the new one, if the edit keeps them.
+    /// Moves the problems of the old text to where they stand in the new one, if the edit keeps them; one whose place is not in the new
+    /// text stays.
     pub fn move_problems(&self, problems: &mut [Problem])
-        ensures { list_all (has_problem self.now) problems.old ≡ true
+        ensures all { list_all (has_problem self.now) problems.old ≡ true
             → problems.new ≡ map (shifted_problem self.now) problems.old }
+        ensures each { problems.new ≡ map (or_kept (has_problem self.now) (shifted_problem self.now)) problems.old }
     {
         for problem in problems.iter_mut() {
             self.move_problem(problem);

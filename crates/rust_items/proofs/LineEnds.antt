@@ -1,9 +1,11 @@
 -- Texts with line feeds alone.
-use Rattle.std.proofs.Common.{◌≡◌, ◌≢◌, ◌<◌, ◌≤◌, ◌+◌, ◌-◌, ◌==◌, ◌++◌, ℕ, zero, suc, Bool, true, false, List, [], ◌∷◌, map, length, get_or, take, drop, if◌then◌else◌, Option, Some, None, refl, sym, ap, ◌∙◌, arith, append_assoc, append-nil, length-append, lit<, ⊎_elim, nat_le, nat_lt, option_map, slice_range}
+use Rattle.std.proofs.Common.{◌≡◌, ◌≢◌, ◌<◌, ◌≤◌, ◌+◌, ◌-◌, ◌==◌, ◌++◌, ℕ, zero, suc, Bool, true, false, List, [], ◌∷◌, map, length, get_or, take, drop, if◌then◌else◌, Option, Some, None, refl, sym, ap, ◌∙◌, arith, append_assoc, append-nil, length-append, lit<, ⊎_elim, nat_le, nat_lt, option_map, slice_range, subst}
 use Rattle.rust_items.proofs.Common.{prefix_len, list_any, IsPartitionPoint, split_parts, ne_eqb, cases_Bool, and_parts, eqb-true, nat_tests, ItemViews, TextRange, ItemPlace, is_return, with_feeds, returns_from, place_by, place_in, moved_range, Telling, name_of, IsBodyIn, IsNameIn, IsPlace, ArePlaces, nothing, placed}
 use Rattle.std.specs.Str.Pattern.{FindsChar}
 use Rattle.std.proofs.Math.Nat.{eq-or-lt_of_le}
 use Rattle.memchr.specs.Find.{IsFirstByte, is_byte}
+use Rattle.std.proofs.lemmas.Grind.{get_or_default_zero}
+use Rattle.std.proofs.lemmas.List.Folds.{list_any_at, list_any_none}
 
 -- ---- where no return stands
 
@@ -76,6 +78,13 @@ no_return text h = split_parts 13 text None h (lit< tt)
 -- where the search for the byte of one finds none
 pub none_found : (text bytes : List ℕ) → bytes ≡ text → IsFirstByte (is_byte 13) bytes None → (i : ℕ) → i < length text → get_or text i 0 ≢ 13
 none_found text bytes same h i lt e = h i (omega arith) (omega (arith, lt, ap length same)) (rw (same, e) refl)
+
+-- and where it finds one
+pub one_found : (text bytes : List ℕ) (k : ℕ) → bytes ≡ text → IsFirstByte (is_byte 13) bytes (Some k) → list_any (λ b. b == 13) text ≡ true
+one_found text bytes k same h = list_any_at (λ b. b == 13) text k 0 (omega (arith, h.0.high, ap length same)) (rw (sym same) h.1)
+
+pub none_stands : (text : List ℕ) → ((i : ℕ) → i < length text → get_or text i 0 ≢ 13) → list_any (λ b. b == 13) text ≡ false
+none_stands text h = list_any_none (λ b. b == 13) text (λ i d lt. subst (λ n. (n == 13) ≡ false) (sym (get_or_default_zero text i d lt)) (ne_eqb (get_or text i 0) 13 (h i lt)))
 
 -- behind the last return
 pub ended : (text left feeds returns : List ℕ) (at : ℕ) → ((i : ℕ) → i < length left → get_or left i 0 ≢ 13) → feeds ++ with_feeds left ≡ with_feeds text → returns ++ returns_from at left ≡ returns_from 0 text

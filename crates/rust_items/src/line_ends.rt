@@ -1,6 +1,7 @@
 //! Line ends. The reader has a text with line feeds alone; the places that it tells are those of the text as it is.
 
-ghost use Rattle.std.specs.Prelude.{◌≡◌, ◌<◌, ◌+◌, ◌^◌, ◌++◌, [], ◌∷◌, if◌then◌else◌, false, IfOk, OnOk, length, map, option_map, string_bytes};
+ghost use Rattle.std.specs.Prelude.{◌≡◌, ◌<◌, ◌+◌, ◌^◌, ◌++◌, ◌==◌, [], ◌∷◌, if◌then◌else◌, false, IfOk, OnOk, length, map, option_map, string_bytes};
+ghost use Rattle.std.specs.List.{list_any};
 ghost use Rattle.std.specs.List.Sorted.{IsNonDecreasing};
 ghost use Rattle.rust_items.specs.LineEnds as spec;
 
@@ -20,8 +21,9 @@ pub struct LineEnds {
     ghost fits: { len + length returns.items < 2 ^ 64 },
 }
 
-/// Whether a carriage return stands in a text.
+/// Whether a carriage return stands in a text, before a line feed or not.
 pub fn has_return(text: &str) -> bool
+    ensures stands { result ≡ list_any (λ b. b == 13) text.now }
     ensures text { result ≡ false → spec.with_feeds text.now ≡ text.now }
     ensures returns { result ≡ false → spec.returns_from 0 text.now ≡ [] }
 {

@@ -1,10 +1,10 @@
 -- Names, paths and visibilities of tokens that look alike are the same, until one goes past where the texts part.
 use Rattle.std.proofs.Common.{◌≡◌, ◌==◌, ℕ, zero, suc, Bool, true, false, Option, Some, None, List, ◌∷◌, refl, ap, ◌∙◌, arith, codes, option_map, is_some, not, bytes_eq}
-use Rattle.rust_paths.proofs.Common.{nat_tests, and_parts, PathNode, Visibility, name_word, behind_closed, Reader, pure, Tokens, symbol, word, kind, text, bumped, eat_colons, Forwards, through, when, behind_closed_leads, Parting, Until, UpTo, kept, cond_until, with_rest, map_until, pass_until, then_until, bind_until, eat_pair_until, is_edge, symbol_same, word_same, kind_same, text_same, edge_word, edge_test, edge_identifier, identifier_same, word_test, symbol_test, after_word, after_symbol, pair_same, after_pair, path_node, name_text, has_name, as_name, next_name, taken_with, name, is_raw, is_dollar_crate, is_segment, named_word, other_segment, segment, is_colons, is_joint, is_last_self, is_path_colons, has_more, and_path_word, more_from, more_segments, front_of_path, written_path, is_path_start, path_in, path, use_path, in_path, scope_path, is_path_part, behind_parts_from, behind_parts, is_bare_path, plain_scope, scope_of, scope, is_in, scoped, visibility}
+use Rattle.rust_paths.proofs.Common.{nat_tests, and_parts, PathNode, Visibility, name_word, Reader, pure, Tokens, symbol, word, kind, text, bumped, eat_colons, Forwards, through, when, Parting, Until, UpTo, kept, cond_until, with_rest, map_until, pass_until, then_until, bind_until, eat_pair_until, is_edge, symbol_same, word_same, kind_same, text_same, edge_word, edge_test, edge_identifier, identifier_same, word_test, symbol_test, after_word, after_symbol, pair_same, after_pair, path_node, name_text, has_name, as_name, next_name, taken_with, name, is_raw, is_dollar_crate, is_segment, named_word, other_segment, segment, is_colons, is_joint, is_last_self, is_path_colons, has_more, and_path_word, more_from, more_segments, front_of_path, written_path, is_path_start, path_in, path, use_path, in_path, scope_path, is_path_part, behind_parts_from, behind_parts, is_bare_path, plain_scope, scope_of, scope, is_in, scoped, visibility, behind_scope, Onward, onward_leads, into, on, eat_until, by_kept, eat_leads}
 use Rattle.rust_cursor.specs.Elements.{most}
 use Rattle.rust_cursor.specs.Reader.{◌>>=◌}
 use Rattle.rust_paths.proofs.Around.{name_symbol, raw_symbol}
-use Rattle.rust_paths.proofs.Leads.{segment_leads, more_from_leads, more_segments_leads}
+use Rattle.rust_paths.proofs.Leads.{segment_leads, more_from_leads, more_segments_leads, behind_scope_leads}
 
 -- ---- names
 
@@ -201,8 +201,12 @@ scope_next b v ts us n s =
     after_symbol b.twins 41 (bumped (bumped ts)) (bumped (bumped us)) refl (b.twins.next (bumped ts) (bumped us) n other) (scope_closed v ts s)
 
 -- a path, and the bracket that closes behind it
+behind_scope_onward : (b : Parting) (ts us : Tokens) → b.twins.are ts us → Onward b.twins.are b.lost (behind_scope ts) (behind_scope us)
+behind_scope_onward b ts us h =
+    onward_leads b (b.field ts us h) (eat_leads 41 _) (eat_leads 41 _) (λ k. by_kept (eat_until b 41 refl _ _ k) (λ g. into g) (λ e. on e.rest))
+
 scope_path_until : (b : Parting) → UpTo b scope_path scope_path
-scope_path_until b ts us h = pass_until b (behind_closed 40) (behind_closed_leads 40) (b.closed 40) (map_until in_path (path_until b ts us h))
+scope_path_until b ts us h = pass_until b behind_scope behind_scope_leads (behind_scope_onward b) (map_until in_path (path_until b ts us h))
 
 part_no_edge : (ts : Tokens) → is_path_part ts ≡ true → is_edge (symbol ts) ≡ false
 part_no_edge ts e =

@@ -6,9 +6,9 @@ pub use Rattle.hir_input.specs.declared.ast.PathNode.{PathNode}
 pub use Rattle.hir_input.specs.declared.ast.PathNode.TheVariants.{Readable, Unreadable}
 pub use Rattle.hir_input.specs.declared.ast.Visibility.{Visibility}
 pub use Rattle.hir_input.specs.declared.edition.EditionYear.{EditionYear}
-pub use Rattle.rust_cursor.proofs.Leads.{Forwards, LeadsTo, behind_angles_leads, behind_closed_leads, behind_tree_leads, bumped_leads, eat_pair_leads, eat_word_leads, further, here, only_if_leads, through, turns_leads, when}
+pub use Rattle.rust_cursor.proofs.Leads.{Forwards, LeadsTo, behind_angles_leads, behind_closed_leads, behind_tree_leads, bumped_leads, eat_pair_leads, eat_word_leads, further, here, only_if_leads, through, turns_leads, when, eat_leads, reached_leads}
 pub use Rattle.rust_cursor.proofs.Local.{Local, both_true}
-pub use Rattle.rust_cursor.proofs.Parting.{Entering, Onward, Parting, Until, UntilBy, UpTo, bind_until, by_kept, by_next, cond_onward, cond_until, eat_pair_until, eat_word_until, gone, kept, map_until, on, onward_leads, pass_until, then_until, turns_by, with_rest}
+pub use Rattle.rust_cursor.proofs.Parting.{Entering, Onward, Parting, Until, UntilBy, UpTo, bind_until, by_kept, by_next, cond_onward, cond_until, eat_pair_until, eat_word_until, gone, kept, map_until, on, onward_leads, pass_until, then_until, turns_by, with_rest, eat_until, into}
 pub use Rattle.rust_cursor.proofs.Places.{AreAlike, IsAlike, SamePlace, alike_join, alike_or, both, neither, no_more, one_more}
 pub use Rattle.rust_cursor.proofs.Sides.{alongside, braces_enter, into_braces, is_local, went_until}
 pub use Rattle.rust_cursor.proofs.Twins.{after_pair, after_symbol, after_word, edge_identifier, edge_test, edge_word, end_same, identifier_same, is_edge, kind_same, pair_same, symbol_same, symbol_test, text_same, word_same, word_test}
@@ -29,7 +29,7 @@ pub use Rattle.rust_paths.specs.Paths.{and_path_word, front_of_path, has_more, i
 unfoldable pub use Rattle.rust_paths.specs.Paths.{is_colons, is_dollar_crate, is_joint, is_last_self, is_path_colons, is_path_start, is_segment, more_segments, other_segment, path, segment, use_path}
 pub use Rattle.rust_paths.specs.UseTrees.{FoundInUse, alias_if, all_found, all_starts, bare_tree, begun_list, begun_trees, element_with, first_too_deep, no_list, renamed_tree, self_in_list, self_path, self_tree, some_list, star_or_list, tree_behind, tree_comma_from, tree_with, tree_with_list, trees, values, with_bare, with_list, with_self}
 unfoldable pub use Rattle.rust_paths.specs.UseTrees.{alias, element, list, rename, tree_at, tree_behind_comma, use_tree}
-pub use Rattle.rust_paths.specs.Visibilities.{behind_parts_from, in_path, is_path_part, plain_scope, scope_path}
+pub use Rattle.rust_paths.specs.Visibilities.{behind_parts_from, in_path, is_path_part, plain_scope, scope_path, behind_scope}
 unfoldable pub use Rattle.rust_paths.specs.Visibilities.{behind_parts, is_bare_path, is_in, scope, scope_of, scoped, visibility}
 pub use Rattle.std.proofs.lemmas.Bool.{and_parts, ne_eqb}
 pub use Rattle.std.proofs.lemmas.Bool.Decides.{nat_tests}

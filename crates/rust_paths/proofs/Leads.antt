@@ -1,6 +1,6 @@
 -- What is left behind names, paths, visibilities and use trees is left of the tokens before them.
 use Rattle.std.proofs.Common.{◌≡◌, ◌==◌, ◌||◌, ℕ, zero, suc, Bool, true, false, Option, Some, None, List, [], ◌∷◌, refl, sym, ap, codes, is_none, bytes_eq}
-use Rattle.rust_paths.proofs.Common.{PathNode, Visibility, UseTreeView, Piece, Tokens, Reader, symbol, word, kind, at, by_first, is_empty, bumped, is_at_end, one, LeadsTo, here, further, only_if_leads, through, Forwards, when, bumped_leads, eat_word_leads, eat_pair_leads, behind_closed_leads, behind_tree_leads, behind_angles_leads, turns_leads, Placed, placed_if, taken_with, next_name, name, placed_name, is_raw, is_dollar_crate, named_word, other_segment, segment, is_last_self, has_more, more_from, more_segments, written_path, is_path_start, path_in, path, use_path, scope_path, plain_scope, scope, is_bare_path, is_in, scoped, visibility, FoundInUse, alias, alias_if, rename, star_or_list, renamed_tree, tree_behind, tree_with, tree_comma_from, tree_behind_comma, element_with, list, tree_at, use_tree}
+use Rattle.rust_paths.proofs.Common.{PathNode, Visibility, UseTreeView, Piece, Tokens, Reader, symbol, word, kind, at, by_first, is_empty, bumped, is_at_end, one, LeadsTo, here, further, only_if_leads, through, Forwards, when, bumped_leads, eat_word_leads, eat_pair_leads, behind_closed_leads, behind_tree_leads, behind_angles_leads, turns_leads, Placed, placed_if, taken_with, next_name, name, placed_name, is_raw, is_dollar_crate, named_word, other_segment, segment, is_last_self, has_more, more_from, more_segments, written_path, is_path_start, path_in, path, use_path, scope_path, plain_scope, scope, is_bare_path, is_in, scoped, visibility, FoundInUse, alias, alias_if, rename, star_or_list, renamed_tree, tree_behind, tree_with, tree_comma_from, tree_behind_comma, element_with, list, tree_at, use_tree, behind_scope, reached_leads, eat_leads}
 
 -- ---- names
 
@@ -96,8 +96,11 @@ use_path_leads ts = path_in_leads true ts
 
 -- ---- visibilities
 
+pub behind_scope_leads : (ts : Tokens) → LeadsTo ts (behind_scope ts)
+behind_scope_leads ts = through (reached_leads _ ts) (eat_leads 41 _)
+
 scope_path_leads : Forwards scope_path
-scope_path_leads ts = through (path_leads ts) (behind_closed_leads _ _)
+scope_path_leads ts = through (path_leads ts) (behind_scope_leads _)
 
 plain_scope_leads : (v : Option Visibility) → Forwards (plain_scope v)
 plain_scope_leads None ts = when (is_bare_path ts) (λ e. rw e (further (scope_path_leads (bumped ts)))) (λ e. rw e here)

@@ -9,8 +9,8 @@ use Rattle.hir_input.specs.declared.ast.Visibility.{Visibility}
 use Rattle.hir_input.specs.declared.ast.Visibility.TheVariants.{Pub, PubCrate, PubSuper, PubSelf, InPath}
 use Rattle.rust_cursor.specs.Tokens.{Tokens}
 use Rattle.rust_cursor.specs.Reader.{Reader, ◌>>=◌, pure, pass}
-use Rattle.rust_cursor.specs.Words.{symbol, word, is_at_identifier, bumped}
-use Rattle.rust_cursor.specs.Brackets.{behind_closed}
+use Rattle.rust_cursor.specs.Words.{symbol, word, is_at_identifier, eat, bumped}
+use Rattle.rust_cursor.specs.Angles.{behind_field}
 use Rattle.rust_cursor.specs.Elements.{most}
 use Rattle.rust_paths.specs.Paths as paths
 
@@ -41,11 +41,15 @@ scope_of word =
 unfoldable pub scope : Tokens → Option Visibility
 scope ts = if symbol (bumped (bumped ts)) == 41 then scope_of (word (bumped ts)) else None
 
--- a path, up to the bracket that closes
+-- behind the bracket that closes; before a comma or what begins an item, where one comes first
+abbrev pub behind_scope : Tokens → Tokens
+behind_scope ts = (eat 41 (behind_field ts)).1
+
+-- a path, up to there
 abbrev pub scope_path : Reader Visibility
 scope_path = do
   p ← paths.path
-  _ ← pass (behind_closed 40)
+  _ ← pass behind_scope
   pure (in_path p)
 
 -- a word or a colon comes next

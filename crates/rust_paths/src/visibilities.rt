@@ -73,12 +73,13 @@ fn is_in(cursor: &Cursor<'_>) -> bool
     ahead.word() == "in"
 }
 
-/// Takes a path, up to the bracket that closes.
+/// Takes a path, up to the bracket that closes; before a comma or what begins an item, where one comes first.
 fn scope_path(alloc: Global, cursor: &mut Cursor<'_>) -> Result<Visibility, AllocError>
     ensures { Gives (λ v. v) (spec.scope_path cursor.old) result cursor.new }
 {
     let path = path(alloc, cursor)?;
-    cursor.pass_closed(b'(');
+    cursor.pass_field();
+    cursor.eat(b')');
     Ok(in_path(path))
 }
 

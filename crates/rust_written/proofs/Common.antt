@@ -1,5 +1,5 @@
 -- The names that most proofs here cite, passed on from one place. Declares nothing.
-pub use Rattle.hir_input.specs.Syntax.{FieldsView, ItemView, ItemViews, PlainKind, ast_kind, const_item, fn_kind, impl_item, item_and, items_from, listed_module, module_from, no_fields, plain_item, record_fields, source_file, static_kind, struct_item, tuple_fields, type_alias_kind, use_item}
+pub use Rattle.hir_input.specs.Syntax.{FieldsView, ItemView, ItemViews, PlainKind, ast_kind, const_item, fn_kind, impl_item, item_and, items_from, listed_module, module_from, no_fields, plain_item, record_fields, source_file, static_kind, struct_item, tuple_fields, type_alias_kind, use_item, trait_kind}
 pub use Rattle.hir_input.specs.UseTreeView.{UseTreeView, tree_from}
 pub use Rattle.hir_input.specs.declared.ast.Visibility.{Visibility}
 pub use Rattle.hir_input.specs.declared.ids.AstIdKind.{AstIdKind}
@@ -32,8 +32,8 @@ unfoldable pub use Rattle.rust_items.specs.LineEnds.{place_in}
 pub use Rattle.rust_leaves.specs.Fronts.{FrontRead}
 unfoldable pub use Rattle.rust_leaves.specs.Fronts.{front, front_behind}
 pub use Rattle.rust_leaves.specs.Heads.{behind_modifiers_from}
-unfoldable pub use Rattle.rust_leaves.specs.Heads.{behind_abi, behind_modifier, behind_modifiers, follows_async, follows_default, follows_extern, follows_safe, follows_unsafe, head, head_by, is_modifier, is_modifier_before, may_follow_const, union_head}
-pub use Rattle.rust_leaves.specs.Kinds.{block_item, leaf_read, named_node, node, plain_read, use_read}
+unfoldable pub use Rattle.rust_leaves.specs.Heads.{behind_abi, behind_modifier, behind_modifiers, follows_async, follows_default, follows_extern, follows_safe, follows_unsafe, head, head_by, is_modifier, is_modifier_before, may_follow_const, union_head, is_weak_before}
+pub use Rattle.rust_leaves.specs.Kinds.{block_item, leaf_read, named_node, node, plain_read, use_read, attributed_item}
 unfoldable pub use Rattle.rust_leaves.specs.Kinds.{constant, enumeration, function, implementation, leaf, static_value, trait_item, type_alias, union_item, use_declaration}
 pub use Rattle.rust_leaves.specs.Leaves.{LeafRead, NameRead, RestRead, are_over, fields_at, is_before, no_name, rest_read}
 unfoldable pub use Rattle.rust_leaves.specs.Leaves.{block_attributes, fields, has_trait, header_field, impl_end, item_end, named, struct_fields, value_end}
@@ -62,10 +62,10 @@ pub use Rattle.rust_written.specs.Laws.{IsRead, ReadAgain, TypingBetween, Writab
 pub use Rattle.rust_written.specs.Round.{IsPlain, TokensAgain}
 pub use Rattle.rust_written.specs.Spelled.{are_standing, is_ascii_word, is_closing_symbol, is_mark_before, is_opening, lead, spell, spelled_text, stands_by}
 pub use Rattle.rust_written.specs.Standing.{IsAsciiWord, MarksStand, WordsStand, ends_word, is_plain_letter, is_plain_mark, is_plain_word_byte}
-pub use Rattle.rust_written.specs.Trees.{AreTrees, Bracket, GoesBehind, GoesOn, GoesOnType, HoldsWithin, IsTree, MayStand, StaysIn, Tree, Trees, Unless, and_word, and_words, angles_behind_all, angles_behind_word, before_behind_word, behind_group, close_mark, close_of, curly, first_of, group, is_bracket, is_free, joined_mark, linked_at, mark, no_trees, open_mark, open_of, round, single, spaced, tree_and, tree_words, trees_words, word_spelled}
+pub use Rattle.rust_written.specs.Trees.{AreTrees, Bracket, GoesBehind, GoesOn, GoesOnType, HoldsWithin, IsTree, MayStand, StaysIn, Tree, Trees, Unless, and_word, and_words, angles_behind_all, angles_behind_word, before_behind_word, behind_group, close_mark, close_of, curly, first_of, group, is_bracket, is_free, joined_mark, linked_at, mark, no_trees, open_mark, open_of, round, single, spaced, tree_and, tree_words, trees_words, word_spelled, square, second_of}
 pub use Rattle.rust_written.specs.UseTrees.{Alias, AreSegments, AreUses, IsAlias, IsPath, IsPlainName, IsPrefix, IsSegment, IsUse, Segment, UseTree, UseTrees, WrittenPath, alias_view, alias_words, as_name, as_nothing, colons, comma_words, crate_segment, list_tree, list_words, more_words, no_alias, no_uses, path_front_words, path_tree, path_view, path_words, prefix_words, segment_meaning, segment_word, self_segment, star_tree, use_and, use_view, use_views, use_words}
 pub use Rattle.rust_written.specs.Words.{AreTokens, BeginsAt, FitsLink, IsBoundary, IsCutOff, Link, Spells, Stands, Word, apart, free, joined}
-pub use Rattle.rust_written.specs.Written.{AreFields, AreItems, AreModifiers, BeginsType, BlockKind, Field, Front, IsField, IsItem, IsNamed, IsOfKind, IsPlainBlock, IsShape, IsStruct, IsValue, Item, Items, Scope, Shape, ValueKind, aliases, also, block_kind, block_word, blocked, braced, constants, ended, enums, everywhere, field_visibility, fields_trees, file_module, first_modifier, front_visibility, front_words, functions, impl_front, implemented, in_crate, item_outline, item_rows, item_view, item_words, modifies, module_of, named_by, no_more, outline, outline_field, outline_shape, record_shape, rows, scope_trees, scope_view, scope_words, shape_end, shape_trees, shape_view, statics, struct_trees, struct_words, structure, traits, tuple_shape, unions, unit_shape, unwritten, used, value_id, value_item, value_word, valued, views, words, written_row}
+pub use Rattle.rust_written.specs.Written.{AreFields, AreItems, AreModifiers, BeginsType, BlockKind, Field, Front, IsField, IsItem, IsNamed, IsOfKind, IsPlainBlock, IsShape, IsStruct, IsValue, Item, Items, Scope, Shape, ValueKind, aliases, also, block_kind, block_word, blocked, braced, constants, ended, enums, everywhere, field_visibility, fields_trees, file_module, first_modifier, front_visibility, front_words, functions, impl_front, implemented, in_crate, is_weak_word, item_outline, item_rows, item_view, item_words, modifies, modifies_weakly, module_of, named_by, no_more, outline, outline_field, outline_shape, record_shape, rows, scope_trees, scope_view, scope_words, shape_end, shape_trees, shape_view, statics, struct_trees, struct_words, structure, traits, tuple_shape, unions, unit_shape, unwritten, used, value_id, value_item, value_word, valued, views, words, written_row}
 pub use Rattle.std.proofs.lemmas.Bool.{and_parts, and_right, eq-eqb, not-true, or_parts}
 pub use Rattle.std.proofs.lemmas.Bool.Decides.{nat_tests}
 pub use Rattle.std.proofs.lemmas.Slice.Eq.{bytes_eq-Decides}

@@ -106,7 +106,7 @@ all_well =
       refl,
       (refl, tt),
     ) in
-    let uses_is : IsItem 128 uses = (((tt, (y, tt)), (((tt, tt), y), ((y, tt), ((tt, (((y, (y, tt)), tt), tt)), tt)))), tt) in
+    let uses_is : IsItem 128 uses = (((tt, (y, tt)), (((tt, tt), y, refl), ((y, tt), ((tt, (((y, (y, tt)), tt, refl), tt)), tt)))), tt) in
     (function_is, (holder_is, ((x, tt), (pair_is, (implements_is, (uses_is, tt))))))
 
 pub all_write : WritesItems all (spelled_text all)

@@ -104,13 +104,16 @@ generics_passed g ts h is b =
 
 -- ---- the types of fields
 
-field_bar : (brace ends comma : Bool) → brace ≡ false → ends ≡ false → comma ≡ false → ((brace || ends) || comma) ≡ false
-field_bar brace ends comma e f g = rw (e, f, g) refl
+comma_bars : (brace ends item comma : Bool) → comma ≡ true → ((brace || ends) || (item || comma)) ≡ true
+comma_bars true ends item comma e = refl
+comma_bars false true item comma e = refl
+comma_bars false false true comma e = refl
+comma_bars false false false comma e = e
 
 before_field : (a b : ℕ) (ts : Tokens) → is_at_end ts ≡ false → (a == 0 && symbol ts == 44) ≡ false → IsBefore reaches.Field a b ts
 unfolding is_closed
 before_field a b ts end comma = record {
-  barred = λ before e f. field_bar (symbol ts == 125) (is_at_end ts) (a == 0 && symbol ts == 44) e end comma;
+  barred = λ before e f. angles_bar (symbol ts == 125) (is_at_end ts) (begins (nest 0 0 0 0 a before) ts) (a == 0 && symbol ts == 44) e end f comma;
   unclosed = λ before. refl;
 }
 
@@ -134,7 +137,7 @@ all_before_comma (tree_and (group k is') is) before a end more ts h g o b =
 
 comma_reached : (before : Before) (ts : Tokens) → Shows (mark 44) ts → is_reached reaches.Field (nest 0 0 0 0 0 before) ts ≡ true
 unfolding is_reached
-comma_reached before ts s = rw (s.some, s.symbol_is, s.end_is) refl
+comma_reached before ts s = rw s.some (comma_bars (symbol ts == 125) (is_at_end ts) (begins (nest 0 0 0 0 0 before) ts) (symbol ts == 44) (rw s.symbol_is refl))
 
 -- up to the comma behind it
 pub field_type_passed : (t : Trees) (more : List Word) (ts : Tokens) → AreTrees t → IsFieldType t → Begins (trees_words t ++ mark 44 ∷ more) ts → behind_field ts ≡ behind (trees_words t) ts

@@ -9,7 +9,7 @@ use Rattle.rust_written.specs.Trees as trees
 use Rattle.rust_written.proofs.Begins.{Shows, Begins, behind, behind_append, begins_left, begins_right, some_behind, eaten}
 use Rattle.rust_written.proofs.Same.{shows_first}
 use Rattle.rust_written.proofs.Uses.{fewer_left, beyond_none, past_more}
-use Rattle.rust_written.proofs.Fronts.{inner_none, first_shows, block_head, block_heads, value_head, value_heads, struct_heads, impl_heads, use_heads, module_heads, Heads, front_at, front_reads, named_at, named_reads}
+use Rattle.rust_written.proofs.Fronts.{inner_none, first_shows, block_head, block_heads, value_head, value_heads, struct_heads, impl_heads, use_heads, module_heads, Heads, IsOwnWord, front_at, front_reads, named_at, named_reads}
 use Rattle.rust_written.proofs.Leaves.{Reads, blocked_reads, value_reads, structure_reads, impl_reads, used_reads}
 
 -- ---- what is read in a turn
@@ -93,17 +93,17 @@ next_stops (also i is) ts b e = let first = item_first i (words is) ts b in rw f
 -- ---- items without items
 
 -- what stands behind the front of an item without attributes
-front_of : (v : Front) (h : Head) (w : List ℕ) (more : List Word) (ts : Tokens) → length ts.left ≤ most → bytes_eq w (codes "pub") ≡ false → AreModifiers v.modifiers w → Begins (front_words v ++ trees.word_spelled w ∷ more) ts → Heads h (behind (front_words v) ts)
+front_of : (v : Front) (h : Head) (w : List ℕ) (more : List Word) (ts : Tokens) → length ts.left ≤ most → IsOwnWord w → AreModifiers v.modifiers w → Begins (front_words v ++ trees.word_spelled w ∷ more) ts → Heads h (behind (front_words v) ts)
     → (is_at_end ts ≡ false) × (front ts ≡ (front_at (at ts) v h, bumped (behind (front_words v) ts)))
 front_of v h w more ts few e a b is = ((first_shows v w more ts b).1.end_is, front_reads v w h more ts few e a b is)
 
-block_front : (k : BlockKind) → (bytes_eq (block_word k) (codes "pub") ≡ false) × IsLeafHead (block_head k)
-block_front functions = (refl, tt)
-block_front _ = (refl, tt)
+block_front : (k : BlockKind) → IsOwnWord (block_word k) × IsLeafHead (block_head k)
+block_front functions = ((refl, refl), tt)
+block_front _ = ((refl, refl), tt)
 
-value_front : (k : ValueKind) → (bytes_eq (value_word k) (codes "pub") ≡ false) × IsLeafHead (value_head k)
-value_front statics = (refl, tt)
-value_front _ = (refl, tt)
+value_front : (k : ValueKind) → IsOwnWord (value_word k) × IsLeafHead (value_head k)
+value_front statics = ((refl, refl), tt)
+value_front _ = ((refl, refl), tt)
 
 -- behind a visibility, a word and a name
 behind_name : (v : Front) (w n : List ℕ) (ws : List Word) (ts : Tokens) → behind (front_words v ++ trees.word_spelled w ∷ trees.word_spelled n ∷ ws) ts ≡ behind ws (bumped (bumped (behind (front_words v) ts)))
@@ -139,7 +139,7 @@ structure_turns left v n g z f ts few is begun e =
     let front : length (front_words v) + length us.left ≡ length ts.left = fewer_left (front_words v) ts (begins_left (front_words v) (trees.word_spelled (codes "struct") ∷ trees.word_spelled n ∷ ws) ts begun) in
     let one : length (bumped us).left + 1 ≡ length us.left = shorter us inner.0.some in
     let two : length (bumped (bumped us)).left + 1 ≡ length (bumped us).left = shorter (bumped us) inner.1.0.some in
-    let fronts = front_of v heads.Struct (codes "struct") (trees.word_spelled n ∷ ws) ts few refl is.2 begun (struct_heads us inner.0) in
+    let fronts = front_of v heads.Struct (codes "struct") (trees.word_spelled n ∷ ws) ts few (refl, refl) is.2 begun (struct_heads us inner.0) in
     let next : goes_on (behind ws (bumped (bumped us))) ≡ false = ap goes_on (sym (behind_name v (codes "struct") n ws ts)) ∙ e in
     leaf_turns left v heads.Struct (codes "struct") n (item_view (structure v n g z)) kind.Struct (trees.word_spelled n ∷ ws) f ts tt fronts.0 fronts.1
     (structure_reads v n g z (at ts) (bumped us) (omega (arith, few, front, one, two)) is.0 is.1 inner.1.0 inner.1.1 next)
@@ -152,7 +152,7 @@ impl_turns left ms h b f ts few is begun e =
     let us = behind (front_words v) ts in
     let ws = trees_words (header_trees h) ++ braced b in
     let inner = begins_right (front_words v) (trees.word_spelled (codes "impl") ∷ ws) ts begun in
-    let fronts = front_of v heads.Impl (codes "impl") ws ts few refl is.4 begun (impl_heads us inner.0) in
+    let fronts = front_of v heads.Impl (codes "impl") ws ts few (refl, refl) is.4 begun (impl_heads us inner.0) in
     let next : goes_on (behind ws (bumped us)) ≡ false = ap goes_on (sym (behind_append (front_words v) (trees.word_spelled (codes "impl") ∷ ws) ts)) ∙ e in
     leaf_turns left v heads.Impl (codes "impl") [] (item_view (implemented ms h b)) kind.Impl ws f ts tt fronts.0 fronts.1
     (impl_reads ms h b (at ts) (bumped us) is.0 is.1 is.2 is.3 inner.1 next)
@@ -165,7 +165,7 @@ used_turns left v t f ts few is begun =
     let inner = begins_right (front_words v) (trees.word_spelled (codes "use") ∷ ws) ts begun in
     let front : length (front_words v) + length us.left ≡ length ts.left = fewer_left (front_words v) ts (begins_left (front_words v) (trees.word_spelled (codes "use") ∷ ws) ts begun) in
     let one : length (bumped us).left + 1 ≡ length us.left = shorter us inner.0.some in
-    let fronts = front_of v heads.Use (codes "use") ws ts few refl is.1 begun (use_heads us inner.0) in
+    let fronts = front_of v heads.Use (codes "use") ws ts few (refl, refl) is.1 begun (use_heads us inner.0) in
     leaf_turns left v heads.Use (codes "use") [] (item_view (used v t)) kind.Use ws f ts tt fronts.0 fronts.1
     (used_reads v t (at ts) (bumped us) is.0 (omega (arith, front, one, few)) inner.1)
 
@@ -200,7 +200,7 @@ module_turn : (left : ℕ) (v : Front) (n : List ℕ) (more : List Word) (semico
 module_turn left v n more semicolon b inner f ts vs rest few m a begun g h =
     let us = behind (front_words v) ts in
     let shown = begins_right (front_words v) (trees.word_spelled (codes "mod") ∷ trees.word_spelled n ∷ more) ts begun in
-    let fronts = front_of v heads.Module (codes "mod") (trees.word_spelled n ∷ more) ts few refl a begun (module_heads us shown.0) in
+    let fronts = front_of v heads.Module (codes "mod") (trees.word_spelled n ∷ more) ts few (refl, refl) a begun (module_heads us shown.0) in
     turn_behind left (front_at (at ts) v heads.Module) f ts (bumped us) fronts.0 fronts.1
     ∙ module_parts left (at ts) v (named_at n (bumped us)) semicolon b inner f (bumped us) (bumped (bumped us)) vs rest (named_reads n (bumped us) m shown.1.0) g h
 

@@ -1,6 +1,6 @@
 -- Items that hold no items.
 use Rattle.std.proofs.Common.{◌≤◌, length, ◌≡◌, ℕ, ◌==◌, Bool, true, false, Option, Some, None, List, [], ◌∷◌, ◌++◌, codes, refl, ap, ◌∙◌, sym, arith, ◌&&◌, is_none, is_some, bytes_eq}
-use Rattle.rust_written.proofs.Common.{or_parts, AstIdKind, Visibility, ItemView, PlainKind, fn_kind, static_kind, type_alias_kind, ast_kind, plain_item, const_item, struct_item, impl_item, FieldsView, use_item, plain_name, is_keyword, is_path_keyword, TextRange, Tokens, Reader, bumped, documents, eat_word, eat, ExcerptRead, excerpt, goes_on, item_rest, Head, NameRead, RestRead, rest_read, no_name, named, has_trait, impl_end, item_end, value_end, block_attributes, struct_fields, named_node, plain_read, leaf_read, function, block_item, union_item, enumeration, trait_item, type_alias, static_value, constant, implementation, leaf, node, use_read, use_declaration, UseTreeView, most, needs_name, UseTree, use_words, use_view, IsUse, Word, Trees, mark, curly, open_of, close_of, first_of, trees_words, AreTrees, GoesOn, spaced, ImplHeader, header_trees, IsImplHeader, Front, impl_front, front_visibility, BlockKind, functions, block_kind, ValueKind, statics, aliases, constants, value_item, value_id, braced, ended, Shape, record_shape, struct_trees, struct_words, shape_view, IsStruct, named_by, IsNamed, IsPlainBlock, IsOfKind, IsValue, item_rest_taking, impl_rest_taking, value_rest_taking, use_tree}
+use Rattle.rust_written.proofs.Common.{AstIdKind, Visibility, ItemView, PlainKind, fn_kind, static_kind, type_alias_kind, ast_kind, plain_item, const_item, struct_item, impl_item, FieldsView, use_item, plain_name, is_keyword, is_path_keyword, TextRange, Tokens, Reader, bumped, eat_word, eat, ExcerptRead, excerpt, goes_on, item_rest, Head, NameRead, RestRead, rest_read, no_name, named, has_trait, impl_end, item_end, value_end, block_attributes, struct_fields, named_node, plain_read, leaf_read, function, block_item, union_item, enumeration, trait_item, type_alias, static_value, constant, implementation, leaf, node, use_read, use_declaration, UseTreeView, most, needs_name, UseTree, use_words, use_view, IsUse, Word, Trees, mark, curly, open_of, close_of, first_of, trees_words, AreTrees, GoesOn, spaced, ImplHeader, header_trees, IsImplHeader, Front, impl_front, front_visibility, BlockKind, functions, block_kind, ValueKind, statics, aliases, constants, value_item, value_id, braced, ended, Shape, record_shape, struct_trees, struct_words, shape_view, IsStruct, named_by, IsNamed, IsPlainBlock, IsOfKind, IsValue, item_rest_taking, impl_rest_taking, value_rest_taking, use_tree, traits, trait_kind, attributed_item}
 use Rattle.hir_input.specs.declared.ids.AstIdKind.TheVariants as kind
 use Rattle.rust_cursor.specs.declared.cursor.nest.Before.TheVariants as befores
 use Rattle.rust_leaves.specs.declared.head.Head.TheVariants as heads
@@ -13,7 +13,7 @@ use Rattle.rust_written.proofs.Same.{shows_first}
 use Rattle.rust_written.proofs.Ends.{semicolon_taken, block_from}
 use Rattle.rust_written.proofs.Impls.{impl_header_read}
 use Rattle.rust_written.proofs.Structs.{struct_read}
-use Rattle.rust_written.proofs.Fronts.{inner_none, named_at, named_reads, front_at, block_head, value_head}
+use Rattle.rust_written.proofs.Fronts.{named_at, named_reads, front_at, block_head, value_head, plain_inner}
 
 -- ---- ends
 
@@ -57,15 +57,11 @@ no_inner : (h b : Trees) (ts : Tokens) → IsPlainBlock b → Begins (trees_word
 unfolding block_attributes
 no_inner h b ts p begun =
     let us = behind (trees_words h) ts in
-    let inside : Begins (trees_words b ++ close_of curly ∷ []) (bumped us) = (begins_right (trees_words h) (braced b) ts begun).1 in
-    let first : Shows (first_of b (close_of curly)) (bumped us) = shows_first b (close_of curly) [] (bumped us) inside in
-    let plain = or_parts (trees.symbol_of_word (first_of b (close_of curly)) == 35) (documents (first_of b (close_of curly)).kind) p in
-    ap (λ r. r.0) (inner_none (first_of b (close_of curly)) (bumped us) first plain.1 plain.0)
+    ap (λ r. r.0) (plain_inner b (bumped us) p (begins_right (trees_words h) (braced b) ts begun).1)
 
-function_reads : (v : Option Visibility) (n : NameRead) (block : Option Tokens) (ws : List Word) (ts us : Tokens) → named ts ≡ (n, us) → block_attributes block ≡ [] → (e : Ends item_end block ws us)
-    → function [] v ts ≡ (plain_read fn_kind [] v n (rest_is block ws us), behind ws us)
-unfolding function
-function_reads v n block ws ts us m i e = rw (m, e, i) refl
+attributed_reads : (k : PlainKind) (v : Option Visibility) (n : NameRead) (block : Option Tokens) (ws : List Word) (ts us : Tokens) → named ts ≡ (n, us) → block_attributes block ≡ [] → (e : Ends item_end block ws us)
+    → attributed_item k [] v ts ≡ (plain_read k [] v n (rest_is block ws us), behind ws us)
+attributed_reads k v n block ws ts us m i e = rw (m, e, i) refl
 
 block_reads : (k : PlainKind) (v : Option Visibility) (n : NameRead) (block : Option Tokens) (ws : List Word) (ts us : Tokens) → named ts ≡ (n, us) → (e : Ends item_end block ws us)
     → block_item k [] v ts ≡ (plain_read k [] v n (rest_is block ws us), behind ws us)
@@ -74,7 +70,7 @@ block_reads k v n block ws ts us m e = rw (m, e) refl
 pub blocked_reads : (k : BlockKind) (v : Front) (n : List ℕ) (h b : Trees) (start : ℕ) (ts : Tokens) → IsNamed n → AreTrees h → AreTrees b → GoesOn false h (open_of curly) → IsOfKind k b
     → Shows (trees.word_spelled n) ts → Begins (trees_words h ++ braced b) (bumped ts) → goes_on (behind (trees_words h ++ braced b) (bumped ts)) ≡ false
     → Reads (block_head k) v start (plain_item (block_kind k) (named_by v n (trees_words h ++ braced b))) (ast_kind (block_kind k)) n (trees.word_spelled n ∷ (trees_words h ++ braced b)) ts
-unfolding leaf union_item enumeration trait_item
+unfolding leaf function union_item enumeration trait_item
 blocked_reads functions v n h b start ts m i j g f s begun e =
     let ws = trees_words h ++ braced b in
     let block = block_behind h (bumped ts) in
@@ -83,7 +79,17 @@ blocked_reads functions v n h b start ts m i j g f s begun e =
       (rest_is block ws (bumped ts)).braces,
       [],
       refl,
-      ap (λ r. (Some r.0, r.1)) (function_reads (front_visibility v) (named_at n ts) block ws ts (bumped ts) (named_reads n ts m s) (no_inner h b (bumped ts) f begun) ends),
+      ap (λ r. (Some r.0, r.1)) (attributed_reads fn_kind (front_visibility v) (named_at n ts) block ws ts (bumped ts) (named_reads n ts m s) (no_inner h b (bumped ts) f begun) ends),
+    )
+blocked_reads traits v n h b start ts m i j g f s begun e =
+    let ws = trees_words h ++ braced b in
+    let block = block_behind h (bumped ts) in
+    let ends = block_ends h b (bumped ts) i j g begun e in (
+      (named_at n ts).range,
+      (rest_is block ws (bumped ts)).braces,
+      [],
+      refl,
+      ap (λ r. (Some r.0, r.1)) (attributed_reads trait_kind (front_visibility v) (named_at n ts) block ws ts (bumped ts) (named_reads n ts m s) (no_inner h b (bumped ts) f begun) ends),
     )
 blocked_reads k v n h b start ts m i j g f s begun e =
     let ws = trees_words h ++ braced b in

@@ -31,11 +31,6 @@ angles_remain false false true false end x semicolon e = refl
 angles_remain false false false item end x semicolon e = refl
 angles_remain _ _ _ _ end x semicolon e = absurd cc
 
-field_remains : (deep brace free item end comma : Bool) → Remains deep brace free item → ((brace || (deep && end)) || (deep && comma)) ≡ false
-field_remains true brace free item end comma e = absurd cc
-field_remains false true free item end comma e = absurd cc
-field_remains false false free item end comma e = refl
-
 header_remains : (deep brace free item x end : Bool) → Remains deep brace free item → (brace || ((if deep then x else free && item) || (deep && end))) ≡ false
 header_remains false false true false x end e = refl
 header_remains false false false item x end e = refl
@@ -49,7 +44,8 @@ by_braces false barred stay e f = refl
 stays_barred : (r : Reach) (n : Nest) (ts : Tokens) → Remains (n.others == 0) (symbol ts == 125) (n.free == 0) (begins_within ts) → is_barred r n ts ≡ false
 stays_barred reaches.Angles n ts e =
     angles_remain (n.others == 0) (symbol ts == 125) (n.free == 0) (begins_within ts) (is_at_end ts) (begins_item ts || begins_behind n.before ts) (symbol ts == 59) e
-stays_barred reaches.Field n ts e = field_remains (n.others == 0) (symbol ts == 125) (n.free == 0) (begins_within ts) (is_at_end ts) (n.angles == 0 && symbol ts == 44) e
+stays_barred reaches.Field n ts e =
+    angles_remain (n.others == 0) (symbol ts == 125) (n.free == 0) (begins_within ts) (is_at_end ts) (begins_item ts || begins_behind n.before ts) (n.angles == 0 && symbol ts == 44) e
 stays_barred reaches.Header n ts e = header_remains (n.others == 0) (symbol ts == 125) (n.free == 0) (begins_within ts) (begins_item ts || begins_behind n.before ts) (is_header_end n ts) e
 
 reached_by : (r : Reach) (n : Nest) (ts : Tokens) → is_empty ts ≡ false → is_reached r n ts ≡ (if n.braces == 0 then is_barred r n ts else false)

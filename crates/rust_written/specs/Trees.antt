@@ -99,6 +99,11 @@ abbrev pub first_of : Trees → Word → Word
 first_of no_trees behind = behind
 first_of (tree_and t ts) behind = first_of_tree t
 
+-- the one behind the first tree
+abbrev pub second_of : Trees → Word → Word
+second_of no_trees behind = behind
+second_of (tree_and t ts) behind = first_of ts behind
+
 -- ---- what a word is for the one behind it
 
 -- where a token so linked may begin behind what ends at 0

@@ -1,5 +1,5 @@
 -- Items, the words that write them, and what they are read as.
-use Rattle.std.specs.Prelude.{◌≡◌, ℕ, zero, suc, ◌==◌, ◌||◌, Bool, true, false, Option, Some, None, is_some, option_map, List, [], ◌∷◌, ◌++◌, map, codes, if◌then◌else◌, bytes_eq}
+use Rattle.std.specs.Prelude.{◌≡◌, ℕ, zero, suc, ◌==◌, ◌||◌, Bool, true, false, Option, Some, None, is_some, option_map, List, [], ◌∷◌, ◌++◌, map, codes, if◌then◌else◌, bytes_eq, ◌&&◌}
 use Rattle.hir_input.specs.declared.edition.EditionYear.TheVariants as year
 use Rattle.hir_input.specs.declared.ids.AstIdKind.{AstIdKind}
 use Rattle.hir_input.specs.declared.ids.AstIdKind.TheVariants as kind
@@ -13,10 +13,13 @@ use Rattle.rust_ids.specs.Row.{Row}
 use Rattle.rust_leaves.specs.Heads.{may_follow_const, follows_async, follows_unsafe, follows_safe, follows_default, follows_extern}
 use Rattle.rust_leaves.specs.Kinds.{node, named_node}
 use Rattle.rust_leaves.specs.Texts.{bare}
+use Rattle.rust_lexer.specs.declared.kind.DocStyle.TheVariants.{Inner}
+use Rattle.rust_metas.specs.Attributes.{is_style}
+use Rattle.rust_metas.specs.Literals.{style_by}
 use Rattle.rust_written.specs.Words.{Word}
 use Rattle.rust_written.specs.Impls.{trees_append, where_part, generics, HasGenerics, IsFieldType, ImplHeader, header_trees, IsImplHeader}
 use Rattle.rust_written.specs.UseTrees.{UseTree, use_words, use_view, IsUse}
-use Rattle.rust_written.specs.Trees.{word_spelled, mark, open_mark, close_mark, symbol_of_word, word_text, round, curly, open_of, close_of, single, group, Trees, no_trees, tree_and, tree_words, trees_words, AreTrees, first_of, GoesOn, spaced}
+use Rattle.rust_written.specs.Trees.{word_spelled, mark, open_mark, close_mark, symbol_of_word, word_text, round, curly, open_of, close_of, single, group, Trees, no_trees, tree_and, tree_words, trees_words, AreTrees, first_of, GoesOn, spaced, second_of}
 
 -- ---- visibilities
 
@@ -47,17 +50,27 @@ scope_view in_self = Some PubSelf
 
 -- ---- modifiers
 
+-- a modifier that is a name elsewhere stands before this word
+abbrev pub modifies_weakly : List ℕ → List ℕ → Bool
+modifies_weakly m next =
+    if bytes_eq m (codes "async") then follows_async next || bytes_eq next (codes "gen")
+    else (if bytes_eq m (codes "gen") then follows_async next
+    else (if bytes_eq m (codes "auto") then bytes_eq next (codes "trait") else false))
+
+-- such a modifier may stand behind `const`, too
+abbrev pub is_weak_word : List ℕ → Bool
+is_weak_word w = bytes_eq w (codes "async") || bytes_eq w (codes "gen")
+
 -- a modifier stands before this word
 abbrev pub modifies : List ℕ → List ℕ → Bool
 modifies m next =
-    if bytes_eq m (codes "const") then may_follow_const next
-    else (if bytes_eq m (codes "async") then follows_async next
+    if bytes_eq m (codes "const") then may_follow_const next || is_weak_word next
     else (if bytes_eq m (codes "unsafe") then follows_unsafe next
     else (if bytes_eq m (codes "safe") then follows_safe next
-    else (if bytes_eq m (codes "default") then follows_default next
-    else (if bytes_eq m (codes "gen") then bytes_eq next (codes "fn")
-    else (if bytes_eq m (codes "auto") then bytes_eq next (codes "trait")
-    else (if bytes_eq m (codes "extern") then follows_extern next else false)))))))
+    else (if bytes_eq m (codes "default") || bytes_eq m (codes "final") then follows_default next
+    else (if bytes_eq m (codes "extern") then follows_extern next
+    else (if bytes_eq m (codes "type") then bytes_eq next (codes "const")
+    else (if bytes_eq m (codes "reuse") then bytes_eq next (codes "impl") else modifies_weakly m next))))))
 
 -- the first of modifiers, or the word behind them
 abbrev pub first_modifier : List (List ℕ) → List ℕ → List ℕ
@@ -267,12 +280,14 @@ pub record IsNamed (n : List ℕ) : Type 0 where
   pub name : is_name n ≡ true
   pub bare : bare n ≡ n
 
--- a block begins with no attribute and no documentation
+-- a block begins with no inner attribute and no inner documentation
 abbrev pub IsPlainBlock : Trees → Type 0
-IsPlainBlock b = (symbol_of_word (first_of b (close_of curly)) == 35 || documents (first_of b (close_of curly)).kind) ≡ false
+IsPlainBlock b =
+    (is_style Inner (style_by (Some (first_of b (close_of curly)).kind)) || (symbol_of_word (first_of b (close_of curly)) == 35 && symbol_of_word (second_of b (close_of curly)) == 33)) ≡ false
 
 abbrev pub IsOfKind : BlockKind → Trees → Type 0
 IsOfKind functions b = IsPlainBlock b
+IsOfKind traits b = IsPlainBlock b
 IsOfKind _ b = Unit {0}
 
 -- a `_` behind a constant's name would be read with it

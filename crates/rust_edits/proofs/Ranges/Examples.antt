@@ -1,6 +1,6 @@
 -- Small examples, by computing: a text that ends with its own token, which items are at the top, and a text that holds a whole item.
 use Rattle.std.proofs.Common.{◌≡◌, ◌<◌, ◌==◌, ℕ, true, false, Option, None, List, [], ◌∷◌, ◌++◌, codes, length, refl, ap, ◌∙◌, arith, ◌||◌, zero, suc, Bool, Some, sym}
-use Rattle.rust_edits.proofs.Common.{option_to_list, slice_index, EditionYear, MetaView, NodeView, ItemView, listed_extern_block, bare_extern_block, no_items, item_and, Inner, semicolon, closing, is_continuation, is_wide_start, is_wide_continue, first_cut, Piece, has_mark, tokens, most, goes_on, Tokens, tokens_of, symbol, word, text, kind, at, is_empty, is_at_end, bumped, eat, plain_name, is_keyword, is_path_keyword, next_name, name, placed_name, is_behind, is_doc, is_attribute, inner_attributes, is_modifier, is_modifier_before, head, head_by, FrontRead, front, named, ItemPlace, Found, nothing_found, and_problem_at, items, module_with, by_head, inside, turn, depth_of, behind_attributes, found_in, read_of, IsBare, HoldsItems, BeginsAnew, behind_items, StandsBetween, at_top, EndsOwn, module_from, BlockRead, is_list_end, turn_with, finding, finding_from, block_of, and_parent, some_item, named_node, read_at, HoldsAt, OpensModule, tokens_at, tokens_laid, through, inner_attributes_leads, items_found}
+use Rattle.rust_edits.proofs.Common.{option_to_list, slice_index, EditionYear, MetaView, NodeView, ItemView, listed_extern_block, bare_extern_block, no_items, item_and, Inner, semicolon, closing, is_continuation, is_wide_start, is_wide_continue, first_cut, Piece, has_mark, tokens, most, goes_on, Tokens, tokens_of, symbol, word, text, kind, at, is_empty, is_at_end, bumped, eat, plain_name, is_keyword, is_path_keyword, next_name, name, placed_name, is_behind, is_doc, is_attribute, inner_attributes, is_modifier, is_modifier_before, is_weak_before, head, head_by, FrontRead, front, named, ItemPlace, Found, nothing_found, and_problem_at, items, module_with, by_head, inside, turn, depth_of, behind_attributes, found_in, read_of, IsBare, HoldsItems, BeginsAnew, behind_items, StandsBetween, at_top, EndsOwn, module_from, BlockRead, is_list_end, turn_with, finding, finding_from, block_of, and_parent, some_item, named_node, read_at, HoldsAt, OpensModule, tokens_at, tokens_laid, through, inner_attributes_leads, items_found}
 use Rattle.rust_edits.proofs.Ranges.Alone.{one_item}
 use Rattle.rust_edits.proofs.Ranges.Inner.{front_bare, no_inner}
 use Rattle.rust_edits.proofs.Typing.ProblemsIn.{unended_kept}
@@ -54,7 +54,7 @@ module _ (y : EditionYear) (left : List Piece) where
   not_inner = refl
 
   pub front_is : front all ≡ (is_module, behind)
-  unfolding all mod_word behind is_behind is_doc is_attribute is_modifier is_modifier_before symbol kind word bumped at head head_by
+  unfolding all mod_word behind is_behind is_doc is_attribute is_modifier is_modifier_before is_weak_before symbol kind word bumped at head head_by
   front_is = front_bare all refl refl refl
 
   pub not_ended : is_at_end all ≡ false

@@ -1,7 +1,7 @@
 -- Items that hold none are the same in a text that ends with a `;` or a `}` and in a longer one, where they end there or before.
 use Rattle.std.specs.Option.{option_or}
 use Rattle.std.proofs.Common.{◌≡◌, ◌≤◌, ◌<◌, ◌+◌, ◌==◌, ◌&&◌, ℕ, zero, suc, Bool, true, false, Option, Some, None, List, [], ◌++◌, length, refl, sym, ap, ◌∙◌, arith, codes}
-use Rattle.rust_edits.proofs.Common.{option_map, is_some, nat_lt, bytes_eq, Visibility, AstIdKind, MetaView, PlainKind, ItemView, FieldsView, fn_kind, union_kind, enum_kind, trait_kind, macro_def_kind, type_alias_kind, static_kind, ast_kind, plain_item, const_item, struct_item, impl_item, extern_crate, use_item, macro_rules, behind_angles, behind_header, is_trait_impl, most, ExcerptRead, ends, tree_body, Reader, Tokens, symbol, word, text, bumped, eat, eat_word, is_at_open, TextRange, Placed, as_name, path, use_tree, inner_attributes, NameRead, RestRead, LeafRead, no_name, name_read, named, next_range, named_or, crate_alias, crate_alias_if, renamed, rename_of, range_to, rest_read, bare_end, item_end, impl_end, macro_end, value_end, semicolon_end, call_end, block_attributes, has_trait, node, named_node, leaf_read, plain_read, function, block_item, macro_def, type_alias, static_value, constant, structure, implementation, told_at, crate_item, use_read, use_declaration, macro_definition, union_item, enumeration, trait_item, is_called, called, call_behind, some_read, invocation, leaf_by, leaf, Head, FrontRead, nat_tests, and_parts, and_right, eq-eqb, IsSound, sound_on, IsLaid, behind, LeadsTo, here, further, through, Forwards, when, bumped_leads, eat_leads, eat_word_leads, reached_leads, behind_angles_leads, taken_leads_on, Ending, Near, Gone, nothing, bumped_onward, fewer, enough_left, more_left, at_same, past_same, taken_same, near_twins, behind_angles_near, reached_near, near_parting, UntilBy, Kept, AtEnd, is_still, Outcome, lost, stays, comes, untaken, map_outcome, then_outcome, eat_outcome, eat_fewer, gone, kept, by_next, onward_leads, by_kept, cond_until, then_until, eat_word_until, symbol_same, word_same, text_same, after_symbol, BlockNear, no_block, block, SameText, item_so, macro_so, value_so, tree_so, taken_outcome, taken_until, taken_fewer, next_past, near_enters, near_levels, path_until, path_leads, inner_attributes_until, inner_attributes_leads, fields_of, named_leads, alias_if_leads, renamed_leads, item_end_leads, impl_end_leads, macro_end_leads, value_end_leads, call_end_leads, use_tree_until, inner_some, bare, last_text_from, last_text}
+use Rattle.rust_edits.proofs.Common.{option_map, is_some, nat_lt, bytes_eq, Visibility, AstIdKind, MetaView, PlainKind, ItemView, FieldsView, fn_kind, union_kind, enum_kind, trait_kind, macro_def_kind, type_alias_kind, static_kind, ast_kind, plain_item, const_item, struct_item, impl_item, extern_crate, use_item, macro_rules, behind_angles, behind_header, is_trait_impl, most, ExcerptRead, ends, tree_body, Reader, Tokens, symbol, word, text, bumped, eat, eat_word, is_at_open, TextRange, Placed, as_name, path, use_tree, inner_attributes, NameRead, RestRead, LeafRead, no_name, name_read, named, next_range, named_or, crate_alias, crate_alias_if, renamed, rename_of, range_to, rest_read, bare_end, item_end, impl_end, macro_end, value_end, semicolon_end, call_end, block_attributes, has_trait, node, named_node, leaf_read, plain_read, function, block_item, macro_def, type_alias, static_value, constant, structure, implementation, told_at, crate_item, use_read, use_declaration, macro_definition, union_item, enumeration, trait_item, is_called, called, call_behind, some_read, invocation, leaf_by, leaf, Head, FrontRead, nat_tests, and_parts, and_right, eq-eqb, IsSound, sound_on, IsLaid, behind, LeadsTo, here, further, through, Forwards, when, bumped_leads, eat_leads, eat_word_leads, reached_leads, behind_angles_leads, taken_leads_on, Ending, Near, Gone, nothing, bumped_onward, fewer, enough_left, more_left, at_same, past_same, taken_same, near_twins, behind_angles_near, reached_near, near_parting, UntilBy, Kept, AtEnd, is_still, Outcome, lost, stays, comes, untaken, map_outcome, then_outcome, eat_outcome, eat_fewer, gone, kept, by_next, onward_leads, by_kept, cond_until, then_until, eat_word_until, symbol_same, word_same, text_same, after_symbol, BlockNear, no_block, block, SameText, item_so, macro_so, value_so, tree_so, taken_outcome, taken_until, taken_fewer, next_past, near_enters, near_levels, path_until, path_leads, inner_attributes_until, inner_attributes_leads, fields_of, named_leads, alias_if_leads, renamed_leads, item_end_leads, impl_end_leads, macro_end_leads, value_end_leads, call_end_leads, use_tree_until, inner_some, bare, last_text_from, last_text, attributed_item}
 use Rattle.hir_input.specs.declared.ids.AstIdKind.TheVariants as kind
 use Rattle.rust_cursor.specs.declared.cursor.generics.Reach.TheVariants as reaches
 use Rattle.rust_cursor.proofs.Enclosed.{item_enclosed, impl_enclosed}
@@ -226,12 +226,19 @@ unfolding impl_end
 impl_attributes {m = m} b ts us g r = attributes_same b _ _ r.block (λ a e. inner_some m us (impl_end us).1 a g.short (impl_enclosed us a e))
 
 module _ (b : Ending) (attrs : List MetaView) (v : Option Visibility) where
+  attributed_outcome : {n m : ℕ} (k : PlainKind) (ts us : Tokens) → Given n m ts us → Near b ts us → LeafOutcome b (attributed_item k attrs v ts) (attributed_item k attrs v us)
+  attributed_outcome kind ts us g h =
+      by_kept (named_until b ts us h) (λ o. lost_by o (item_end_leads _) (item_end_leads _) (item_end_fewer _) (item_end_fewer _))
+      (λ k. map_outcome (λ r. plain_read kind (attrs ++ block_attributes r.block) v (named ts).0 r) (λ r. plain_read kind (attrs ++ block_attributes r.block) v (named us).0 r)
+      (λ r. plain_near b kind _ _ v _ _ _ _ (ap (λ l. attrs ++ l) (item_attributes b _ _ (given_on g (named_leads ts) (named_leads us)) r)) k.value r) (λ e. e) (λ e. e) (item_end_outcome b _ _ k.rest))
+
   function_outcome : {n m : ℕ} (ts us : Tokens) → Given n m ts us → Near b ts us → LeafOutcome b (function attrs v ts) (function attrs v us)
   unfolding function
-  function_outcome ts us g h =
-      by_kept (named_until b ts us h) (λ o. lost_by o (item_end_leads _) (item_end_leads _) (item_end_fewer _) (item_end_fewer _))
-      (λ k. map_outcome (λ r. plain_read fn_kind (attrs ++ block_attributes r.block) v (named ts).0 r) (λ r. plain_read fn_kind (attrs ++ block_attributes r.block) v (named us).0 r)
-      (λ r. plain_near b fn_kind _ _ v _ _ _ _ (ap (λ l. attrs ++ l) (item_attributes b _ _ (given_on g (named_leads ts) (named_leads us)) r)) k.value r) (λ e. e) (λ e. e) (item_end_outcome b _ _ k.rest))
+  function_outcome = attributed_outcome fn_kind
+
+  trait_outcome : {n m : ℕ} (ts us : Tokens) → Given n m ts us → Near b ts us → LeafOutcome b (trait_item attrs v ts) (trait_item attrs v us)
+  unfolding trait_item
+  trait_outcome = attributed_outcome trait_kind
 
   block_item_outcome : (k : PlainKind) (ts us : Tokens) → Near b ts us → LeafOutcome b (block_item k attrs v ts) (block_item k attrs v us)
   block_item_outcome k ts us h =
@@ -245,10 +252,6 @@ module _ (b : Ending) (attrs : List MetaView) (v : Option Visibility) where
   enum_outcome : (ts us : Tokens) → Near b ts us → LeafOutcome b (enumeration attrs v ts) (enumeration attrs v us)
   unfolding enumeration
   enum_outcome = block_item_outcome enum_kind
-
-  trait_outcome : (ts us : Tokens) → Near b ts us → LeafOutcome b (trait_item attrs v ts) (trait_item attrs v us)
-  unfolding trait_item
-  trait_outcome = block_item_outcome trait_kind
 
   macro_def_outcome : (ts us : Tokens) → Near b ts us → LeafOutcome b (macro_def attrs v ts) (macro_def attrs v us)
   unfolding macro_def
@@ -496,7 +499,7 @@ leaf_ends b f g k ts us given h = rw (k.head, k.attrs, k.visibility) (by f.head)
     by heads.ExternCrate = some_ends (crate_item_outcome b f.attrs f.visibility ts us h)
     by heads.Fn = some_ends (function_outcome b f.attrs f.visibility ts us given h)
     by heads.Impl = some_ends (implementation_outcome b f.attrs ts us given h)
-    by heads.Trait = some_ends (trait_outcome b f.attrs f.visibility ts us h)
+    by heads.Trait = some_ends (trait_outcome b f.attrs f.visibility ts us given h)
     by heads.Struct = some_ends (structure_outcome b f.attrs f.visibility ts us given h)
     by heads.Union = some_ends (union_outcome b f.attrs f.visibility ts us h)
     by heads.Enum = some_ends (enum_outcome b f.attrs f.visibility ts us h)

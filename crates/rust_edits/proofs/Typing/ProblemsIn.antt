@@ -1,6 +1,6 @@
 -- Problems stand in the text.
 use Rattle.std.proofs.Common.{◌≡◌, ◌≤◌, ◌+◌, ◌&&◌, ℕ, true, Option, Some, None, List, [], ◌∷◌, ◌++◌, length, refl, ap, sym, subst, ◌∙◌, arith, length-append, map}
-use Rattle.rust_edits.proofs.Common.{is_some, Visibility, EditionYear, MetaView, Piece, is_terminated, tokens, text_of, AreInPlace, behind_closed, behind_tree, behind_angles, beyond, tree_text, Tokens, end_of, last_unended, tokens_of, at, by_first, is_glued, bumped, use_tree, path, inner_attributes, Head, FrontRead, LeafRead, is_called, leaf_by, leaf, function, union_item, enumeration, trait_item, macro_def, type_alias, static_value, constant, structure, implementation, crate_item, use_declaration, macro_definition, invocation, Problem, nothing_found, found_in, read_of, All, with_feeds, place_in, moved_problem, AreLaid, IsLaid, behind, tokens_laid, LeadsTo, here, further, through, when, bumped_leads, behind_closed_leads, behind_tree_leads, behind_angles_leads, beyond_leads, taken_leads_on, on, gone, kept, Parting, Entering, IsAlike, neither, both, inner_attributes_leads, items_found, All-nil, All-cons, place_le, place_rises_in, place_within, tokens_lossless, tokens_placed, SameFound, use_tree_until}
+use Rattle.rust_edits.proofs.Common.{is_some, Visibility, EditionYear, MetaView, Piece, is_terminated, tokens, text_of, AreInPlace, behind_closed, behind_tree, behind_angles, beyond, tree_text, Tokens, end_of, last_unended, tokens_of, at, by_first, is_glued, bumped, use_tree, path, inner_attributes, Head, FrontRead, LeafRead, is_called, leaf_by, leaf, function, union_item, enumeration, trait_item, macro_def, type_alias, static_value, constant, structure, implementation, crate_item, use_declaration, macro_definition, invocation, Problem, nothing_found, found_in, read_of, All, with_feeds, place_in, moved_problem, AreLaid, IsLaid, behind, tokens_laid, LeadsTo, here, further, through, when, bumped_leads, behind_closed_leads, behind_tree_leads, behind_angles_leads, beyond_leads, taken_leads_on, on, gone, kept, Parting, Entering, IsAlike, neither, both, inner_attributes_leads, items_found, All-nil, All-cons, place_le, place_rises_in, place_within, tokens_lossless, tokens_placed, SameFound, use_tree_until, behind_field, reached_leads}
 use Rattle.rust_cursor.proofs.Parting.{UntilBy}
 use Rattle.rust_edits.proofs.Adding.{IfPlace, IfLeaf, Keeping, maybe, items_keeps}
 use Rattle.rust_edits.specs.Typing.Problems.{ProblemsStand}
@@ -48,6 +48,7 @@ module _ (end : ℕ) where
     closed = λ c ts us h. on (itself_on (behind_closed c) (behind_closed_leads c) ts us h);
     tree = λ ts us h. on (itself_on behind_tree behind_tree_leads ts us h);
     angles = λ ts us h. on (itself_on behind_angles behind_angles_leads ts us h);
+    field = λ ts us h. on (itself_on behind_field (reached_leads _) ts us h);
     passed = λ ts us ts' us' h k. on (ap (λ (t : Tokens). beyond t.past us') h.0 ∙ ap (beyond ts.past) k.0, (behind end (beyond_leads ts.past ts') k.1).laid);
   }
 
