@@ -66,6 +66,11 @@ def answered(number, shows, told=None):
     return written({'id': told, 'number': number, 'shows': shows})
 
 
+def unset(**place):
+    """What is answered where a show is of a file or a block at which nothing is set."""
+    return {'error': dict(sorted({**place, 'kind': 'not set'}.items()))}
+
+
 def refused(number, error, told=None):
     return written({'id': told, 'number': number, 'error': error})
 
@@ -74,7 +79,7 @@ def refused(number, error, told=None):
 EXPECTED_LINE = {
     'a list': 'crates skipped edits shows reserved cfg attrs stmts files', 'an object': 'edition syntax', 'two byte places': 'range',
     'a number below 2^32': 'file block root', 'a number below 2^64': 'start since', 'the number of a crate': 'crate', 'a string': 'text',
-    'a name or path': 'name', 'a kind of edit': 'edit', 'a kind of show': 'show', 'text or json': 'as', '2015, 2018, 2021 or 2024': 'year',
+    'a name or path': 'name', 'a kind of edit': 'edit', 'a kind of show': 'show', 'text or json, of tree, imports or changed': 'as', '2015, 2018, 2021 or 2024': 'year',
     'a value without a float': 'id',
 }
 EXPECTED_SYNTAX = {
@@ -419,8 +424,9 @@ def wrong_show(value, crates):
     krate, file, block = ('crate', number_up_to(crates - 1), True), ('file', wrong_u32, True), ('block', wrong_u32, True)
     place = file if isinstance(value, dict) and value.get('file') is not None else block
     return wrong_kind(value, 'show', {
-        **{kind: [krate, place, AS] for kind in ('page', 'tree', 'imports')}, 'changed': [('since', wrong_u64, True), AS],
-        'outline': [krate, file], 'import_places': [krate, file], 'problems': [file], 'find': [('name', wrong_asked_path, True)]})
+        **{kind: [krate, place, AS] for kind in ('tree', 'imports')}, 'page': [krate, place, ('as', one_of('text'), False)],
+        'changed': [('since', wrong_u64, True), AS], 'outline': [krate, file, NO_AS], 'import_places': [krate, file, NO_AS],
+        'problems': [file, NO_AS], 'find': [('name', wrong_asked_path, True), NO_AS]})
 
 
 def wrong_files(value):
@@ -448,7 +454,7 @@ PATHS = {'plain': [wrong_name], 'super': [wrong_u32], 'crate': [], 'abs': [], 'd
 CFGS = {'key': [('key', wrong_name, True), ('value', wrong_string, True)], 'all': [('all', list_of(wrong_cfg), True)],
         'any': [('any', list_of(wrong_cfg), True)], 'not': [('not', wrong_cfg, False)]}
 NAME, VIS, PATH, CTXT = ('name', wrong_name, False), ('vis', wrong_vis, False), ('path', wrong_path, False), ('ctxt', wrong_ctxt, False)
-AS = ('as', one_of('text', 'json'), False)
+AS, NO_AS = ('as', one_of('text', 'json'), False), ('as', lambda value: [], False)
 ATTRS, ITEM_LIST, CFG = ('attrs', list_of(wrong_meta), False), ('items', list_of(wrong_item), False), ('cfg', wrong_cfg, False)
 METAS = {
     'path': [PATH, CTXT],
@@ -494,6 +500,8 @@ FUNCTION = {'is': 'fn', 'name': 'f', 'hash': 48783}
 SET = {'edit': 'set_file', 'file': 1, 'syntax': {'root': 'source_file', 'items': [FUNCTION]}}
 PAGE = {'show': 'page', 'crate': 0, 'file': 1}
 REQUESTED = [PAGE, {**PAGE, 'show': 'tree'}, {**PAGE, 'show': 'imports'}, {'show': 'changed', 'since': 0}]
+OWN = [{'show': 'outline', 'crate': 0, 'file': 1}, {'show': 'import_places', 'crate': 0, 'file': 1}, {'show': 'problems', 'file': 1},
+       {'show': 'find', 'name': 'f'}]
 PAGED = '// AstId: Fn[BE8F, 0]\npub(self) fn f;\n'
 FAR = {'edit': 'set_file', 'file': 1, 'syntax': {'root': 'source_file', 'items': [
     {'is': 'use', 'tree': {'path': ['super', 2**32 - 1], 'list': [{'path': ['super', 1, 'x']}]}}]}}
@@ -695,6 +703,10 @@ WRONG_SHOWS = [
         'a::r#', '1', 'a-b', ' a', 'a ', '$crate::a')),
     *(({**show, 'as': word}, '/as') for show in REQUESTED for word in ('', 'xml', 'JSON', 0, True, ['json'], {})),
     ({'show': 'changed', 'since': '', 'as': ''}, '/since'), ({'show': 'tree', 'crate': 0, 'as': 0}, '/block'),
+    ({**PAGE, 'as': 'json'}, '/as'), ({'show': 'page', 'crate': 0, 'block': 0, 'as': 'json'}, '/as'),
+    *(({**show, 'as': word}, '/as') for show in OWN for word in ('text', 'json', '', 0, False, [])),
+    ({'show': 'outline', 'crate': 0, 'as': 'json'}, '/file'), ({'show': 'find', 'name': '', 'as': 'json'}, '/name'),
+    ({'show': 'problems', 'as': 'json', 'file': -1}, '/file'), ({'show': 'import_places', 'crate': 1, 'as': 'json'}, '/crate'),
 ]
 # Values of right form, each form at least once in every way.
 GOOD_CFGS = [
@@ -746,9 +758,9 @@ GOOD_SHOWS = [
     PAGE, {'show': 'page', 'crate': 0, 'file': None, 'block': 0}, {'show': 'tree', 'crate': 0, 'file': 2**32 - 1, 'block': ''},
     {'show': 'imports', 'crate': 0, 'block': 2**32 - 1}, {'show': 'changed', 'since': LAST, 'crate': 9},
     {'show': 'outline', 'crate': 0, 'file': 0}, {'show': 'import_places', 'crate': 0, 'file': 0, 'block': -1},
-    {'show': 'problems', 'file': 0, 'crate': -1}, {'show': 'outline', 'crate': 0, 'file': 0, 'as': 0},
-    *({**show, 'as': word} for show in REQUESTED for word in ('text', 'json', None)),
-    *({'show': 'find', 'name': name, 'as': ''} for name in (
+    {'show': 'problems', 'file': 0, 'crate': -1}, {'show': 'outline', 'crate': 0, 'file': 0, 'as': None},
+    *({**show, 'as': word} for show in REQUESTED for word in ('text', 'json', None) if (show, word) != (PAGE, 'json')),
+    *({'show': 'find', 'name': name, 'as': None} for name in (
         'f', '_', 'é', 'r#fn', 'fn', 'a::b', '::a', '::a::r#b', 'crate', 'crate::a', 'r#crate::a', 'crate::crate', 'self::a',
         'a::crate::b')),
 ]
@@ -877,7 +889,7 @@ def check_wrong_forms(program):
     later.append(({'edits': [SET] * 10 + [{'edit': 'set_cfg', 'crate': 1}]}, no_request(0, '/edits/10/crate')))
     check_lines(program, 'a first line of wrong form', first + [({**OPENED, 'edits': [SET], 'shows': [PAGE]}, answered(1, [PAGED]))])
     check_lines(program, 'a later line of wrong form', [(OPENED, answered(0, []))] + later + [
-        ({'shows': [PAGE, {'show': 'changed', 'since': 0}]}, answered(0, ['\n', ''])),
+        ({'shows': [PAGE, {'show': 'changed', 'since': 0}]}, answered(0, [unset(file=1), ''])),
         ({'edits': [SET], 'shows': [PAGE]}, answered(1, [PAGED]))])
 
 
@@ -945,7 +957,7 @@ def check_good_forms(program):
         (b' {\t"id" : "\\u00e9\\/" } \r', answered(0, [], 'é/')),
         ({'Id': None, 'noted': None}, answered(0, [])),
         ({'shows': [{'show': 'changed', 'since': 0, 'crate': 'x'}]}, answered(0, [''])),
-        ({'shows': [{'show': 'find', 'name': 'f'}, {'show': 'problems', 'file': 2**32 - 1}]}, answered(0, [[], []])),
+        ({'shows': [{'show': 'find', 'name': 'f'}, {'show': 'problems', 'file': 2**32 - 1}]}, answered(0, [[], unset(file=2**32 - 1)])),
     ]
     check_lines(program, 'a good form', lines)
     check_lines(program, 'every form', [({**OPENED, 'edits': GOOD_EDITS}, answered(len(GOOD_EDITS), []))] + [
@@ -955,7 +967,7 @@ def check_good_forms(program):
     texts = {'edit': 'set_text', 'file': 1, 'text': 'fn f() {}', 'syntax': 0, 'block': 'x'}
     check_lines(program, 'ignored keys', [
         ({**OPENED, 'edits': [texts], 'shows': [{**PAGE, 'block': [], 'since': -1}]}, answered(1, [PAGED])),
-        ({'edits': [{'edit': 'remove_file', 'file': 1, 'text': 0}], 'shows': [PAGE]}, answered(2, ['\n']))])
+        ({'edits': [{'edit': 'remove_file', 'file': 1, 'text': 0}], 'shows': [PAGE]}, answered(2, [unset(file=1)]))])
 
 
 def check_refused_edits(program):
@@ -975,7 +987,7 @@ def check_refused_edits(program):
         ({'id': 5, 'edits': [cleared, SET, FAR, cleared], 'shows': [PAGE]}, refused(2, far, 5)),
         ({'shows': [PAGE]}, answered(2, [PAGED])),
         ({'edits': [FAR]}, refused(2, {**far, 'place': 0})),
-        ({'edits': [cleared], 'shows': [PAGE]}, answered(3, ['\n']))])
+        ({'edits': [cleared], 'shows': [PAGE]}, answered(3, [unset(file=1)]))])
 
 
 def check_errors(options):
@@ -1289,17 +1301,42 @@ def check_values(program):
                 ({'show': 'changed', 'since': 1}, ''.join(lines[:2]), changes[:2]),
                 ({'show': 'changed', 'since': 3}, '', []),
                 ({'show': 'imports', **file}, None, imports), ({'show': 'imports', **other}, 'Use[0000, 0]\n0 a glob\n', globbed),
-                ({'show': 'imports', 'crate': 0, 'file': 9}, '', []),
+                ({'show': 'imports', 'crate': 0, 'file': 9}, unset(file=9), unset(file=9)),
                 ({'show': 'tree', **file}, None, {'change': 3, 'crate': 0, 'file': 1, 'items': items}),
                 ({'show': 'tree', **other}, None, {'block': 2, 'change': 1, 'crate': 0, 'items': [function, used]}),
-                ({'show': 'tree', 'crate': 0, 'file': 9}, 'crate 0 file 9 change 0\n\n', {'change': 0, 'crate': 0, 'file': 9, 'items': []}),
-                ({'show': 'page', 'crate': 0, 'file': 0}, PAGED, PAGED)):
+                ({'show': 'tree', 'crate': 0, 'file': 9}, unset(file=9), unset(file=9)),
+                ({'show': 'tree', 'crate': 0, 'block': 1}, unset(block=1), unset(block=1))):
             shows = [asked, {**asked, 'as': None}, {**asked, 'as': 'text'}, {**asked, 'as': 'json'}]
             got = server.ask({'shows': shows})
             text = json.loads(got)['shows'][0] if by_text is None else by_text
             wanted = answered(3, [text, text, text, by_values])
-            tell(got == wanted and isinstance(text, str), f'the values of {asked}', got, wanted)
+            tell(got == wanted and (isinstance(text, str) or 'error' in text), f'the values of {asked}', got, wanted)
         ends_well(server, 'values')
+
+
+def check_unset(program):
+    """A show of what is not set says so, whether it was never set or is removed again. The other shows of the line are answered."""
+    file, block = {'crate': 0, 'file': 1}, {'crate': 0, 'block': 1}
+    kinds = ('page', 'tree', 'imports')
+    asked = [*OWN[:3], *({'show': kind, **place} for place in (file, block) for kind in kinds), *({'show': kind, **place, 'as': 'json'}
+             for place in (file, block) for kind in kinds[1:]), {'show': 'changed', 'since': 0, 'as': 'json'}, OWN[3]]
+    none = [*[unset(file=1)] * 6, *[unset(block=1)] * 3, *[unset(file=1)] * 2, *[unset(block=1)] * 2, [], []]
+    changed = [{'change': 4, 'crate': 0, 'file': 1}, {'block': 1, 'change': 5, 'crate': 0}]
+    text, statements = {'edit': 'set_text', 'file': 1, 'text': ''}, {'edit': 'set_block', 'block': 1, 'stmts': [{'item': FUNCTION}]}
+    opened = [[], [], [], '\n', 'crate 0 file 1 change 0\n\n', '']
+    function = {'active': True, 'children': [], 'column': None, 'id': 'Fn[BE8F, 0]', 'kind': 'fn', 'line': None, 'name': 'f', 'path': None,
+                'range': None, 'visibility': None}
+    tree = 'crate 0 block 1 change 2\n' + PAGED
+    full = [{'change': 0, 'crate': 0, 'file': 1, 'items': []}, [], {'block': 1, 'change': 2, 'crate': 0, 'items': [function]}, []]
+    check_lines(program, 'shows of what is not set', [
+        ({**OPENED, 'shows': asked}, answered(0, none)),
+        ({'edits': [text, statements], 'shows': asked}, answered(2, [
+            *opened, PAGED, tree, '', *full, [{'block': 1, 'change': 2, 'crate': 0}], [{'block': 1, 'crate': 0, 'id': 'Fn[BE8F, 0]'}]])),
+        ({'edits': [SET, {'edit': 'remove_file', 'file': 1}, {'edit': 'remove_block', 'block': 1}], 'shows': asked},
+         answered(5, [*none[:-2], changed, []])),
+        ({'id': 1, 'shows': [{**OWN[0], 'file': 2}, {'show': 'changed', 'since': 4}, {**OWN[2], 'file': 2**32 - 1}]},
+         answered(5, [unset(file=2), 'crate 0 block 1 change 5\n', unset(file=2**32 - 1)], 1)),
+        ({'edits': [{**SET, 'syntax': {'root': 'error'}}], 'shows': [PAGE, *OWN[:3]]}, answered(6, ['\n', [], [], []]))])
 
 
 # What is expected where a value is of wrong form, by hand: on a first line, and on a later one where that differs.
@@ -1327,7 +1364,7 @@ EXPECTED = [
     ({'edits': [file_of(0)]}, '/edits/0/syntax/items/0', 'an object'), ({'shows': [{'show': 'x'}]}, '/shows/0/show', 'a kind of show'),
     ({'shows': [{'show': 'find', 'name': 'a b'}]}, '/shows/0/name', 'a name or path'),
     ({'shows': [{'show': 'changed', 'since': -1}]}, '/shows/0/since', 'a number below 2^64'),
-    ({'shows': [{'show': 'changed', 'since': 0, 'as': 0}]}, '/shows/0/as', 'text or json'),
+    ({'shows': [{'show': 'changed', 'since': 0, 'as': 0}]}, '/shows/0/as', 'text or json, of tree, imports or changed'),
     ({'shows': [{'show': 'page', 'nam': 0}]}, '/shows/0/nam', 'no such key'),
 ]
 
@@ -1350,7 +1387,7 @@ def check_forgotten(server, request, outlines):
     for edit, outline in zip(request['edits'], outlines):
         file = edit['file']
         asked = told_of(file)[:3]
-        got, wanted = server.ask({'edits': [{'edit': 'remove_file', 'file': file}], 'shows': asked}), answered(number + 1, [[], [], []])
+        got, wanted = server.ask({'edits': [{'edit': 'remove_file', 'file': file}], 'shows': asked}), answered(number + 1, [unset(file=file)] * 3)
         tell(got == wanted, f'file {file} removed', got, wanted)
         got = json.loads(server.ask({'edits': [edit], 'shows': asked}))
         number += 2
@@ -1410,6 +1447,7 @@ def check_places(options):
     check_files(program)
     check_found_paths(program)
     check_values(program)
+    check_unset(program)
     check_editions(program)
     check_skipped(program)
     with tempfile.TemporaryDirectory() as folder:
@@ -1470,7 +1508,7 @@ def check_unchanged(program):
     change = {'edit': 'change_text', 'file': 1, 'range': [0, 0], 'text': 'x'}
     mixed = {'edit': 'set_text', 'file': 1, 'text': MIXED}
     lines = [({'id': 'a', **OPENED, 'edits': [SET, change], 'shows': [PAGE]}, not_changed(0, 'no text', 1, 'a')),
-             ({'shows': [PAGE]}, answered(0, ['\n'])), ({'edits': [change]}, not_changed(0, 'no text')),
+             ({'shows': [PAGE]}, answered(0, [unset(file=1)])), ({'edits': [change]}, not_changed(0, 'no text')),
              ({'edits': [mixed, SET, change]}, not_changed(0, 'no text', 2)), ({'edits': [mixed]}, answered(1, []))]
     for span, cause in UNCHANGED:
         lines.append(({'edits': [SET, mixed, {**change, 'range': span}]}, not_changed(1, cause, 2)))
@@ -1667,7 +1705,17 @@ def tool_texts(tool, case, shows):
     want(done.returncode == 0, f'{tool}: status {done.returncode}', done.stderr)
     text = done.stdout.decode()
     # Without crates nothing changes.
-    return [as_asked(case, show, text) for show, text in zip(shows, text.split(mark)[:-1] if case.crates else [text] * len(shows))]
+    texts = text.split(mark)[:-1] if case.crates else [text] * len(shows)
+    return [unset_of(case, show) or as_asked(case, show, text) for show, text in zip(shows, texts)]
+
+
+def unset_of(case, show):
+    """What is answered in place of the tool's text where nothing is set."""
+    for kind in ('file', 'block'):
+        if kind in show:
+            last = [edit['edit'] for edit in case.made if edit.get(kind) == show[kind] and edit['edit'] != 'set_cfg']
+            return None if last and last[-1].startswith('set') else unset(**{kind: show[kind]})
+    return None
 
 
 def as_asked(case, show, text):

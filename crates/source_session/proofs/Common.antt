@@ -48,7 +48,7 @@ pub use Rattle.source_session.specs.Lines.{Asked, Settings, first_line, later_li
 pub use Rattle.source_session.specs.Refusals.{line_refusal, made_count, outcome_of}
 pub use Rattle.source_session.specs.Replies.{IsCarriedOut, IsOutcome, IsRefusedAs, IsReply, IsReplyOf, IsReplyUnless, IsWanting, Open, Outcome, Replies, Reply, asked_of, id_value, of_opened, of_session, out_of_memory, reply_number, reply_text}
 pub use Rattle.source_session.specs.Sessions.{AreMade, IsEdited, IsStopped, IsUnedited, Session, new_session}
-pub use Rattle.source_session.specs.Shown.{IsShowValue, all_items, change_form, change_with, item_objects, items_member, pathless, shown_tree}
+pub use Rattle.source_session.specs.Shown.{IsPresentValue, IsShowValue, IsValueUnless, all_items, change_form, change_with, item_objects, items_member, pathless, shown_tree, unset_form, unset_place}
 pub use Rattle.source_session.specs.Shows.{IsCrateOf, ShowNamesCrate, line_show}
 pub use Rattle.source_session.specs.Sought.{entry_path, found_scope, is_at, is_sought, own_scope, path_within, scope_at}
 pub use Rattle.source_session.specs.SourceTexts.{places_of_text, text_bytes, text_places, text_problems}

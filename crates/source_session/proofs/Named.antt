@@ -1,6 +1,6 @@
 -- Crates that lines name, and values without floats.
-use Rattle.std.proofs.Common.{◌≡◌, ℕ, ◌+◌, ◌<◌, suc, true, false, ◌||◌, List, [], ◌∷◌, ◌++◌, Option, Some, None, All, length, map, filter, take, get_or, refl, sym, ap, subst, ◌∙◌, arith}
-use Rattle.source_session.proofs.Common.{take_more, AllByRecursion, AllZip, Crate, FileAstId, Edit, Place, File, Block, edit_view, NamesKnown, State, change_number, Knows, Entry, ItemPlace, Table, Outline, TreeItems, ImportPlaces, Changes, Problems, Find, ast_of, found_form, found_value, id_form, in_file, place_by_id, AreUnfloating, Knowing, Session, all_items, change_form, change_with, item_objects, items_member, pathless, shown_tree, IsShowValue, is_sought, text_bytes, text_places, places_of_text, text_problems, Texts, text_of_place, text_in}
+use Rattle.std.proofs.Common.{◌≡◌, ℕ, ◌+◌, ◌<◌, suc, true, false, ◌||◌, List, [], ◌∷◌, ◌++◌, Option, Some, None, is_some, option_map, All, length, map, filter, take, get_or, refl, sym, ap, subst, ◌∙◌, arith}
+use Rattle.source_session.proofs.Common.{take_more, AllByRecursion, AllZip, Crate, FileAstId, Edit, Place, File, Block, edit_view, NamesKnown, State, change_number, Knows, Entry, ItemPlace, Table, Outline, TreeItems, ImportPlaces, Changes, Problems, Find, ast_of, found_form, found_value, id_form, in_file, place_by_id, AreUnfloating, Knowing, Session, all_items, change_form, change_with, item_objects, items_member, pathless, shown_tree, unset_form, unset_place, IsPresentValue, IsShowValue, IsValueUnless, is_sought, text_bytes, text_places, places_of_text, text_problems, Texts, text_of_place, text_in}
 use Rattle.serde_json.specs.Data.{Data}
 use Rattle.serde_json.specs.Written.{has_float}
 use Rattle.hir_input.specs.declared.ids.HirFileId.{HirFileId}
@@ -68,21 +68,34 @@ no_float_items u krate place =
 
 -- ---- shows
 
-no_float_shown : (u : Session) (show : LineShow) (d : Data) → IsShowValue u show d → has_float d ≡ false
-no_float_shown u (Table (OfTree show)) d h = ap has_float h
-no_float_shown u (Table (Changed since)) d h = ap has_float h.2
-no_float_shown u (Outline krate file) d h = ap has_float h ∙ no_float_items u krate (File file)
-no_float_shown u (TreeItems krate place) d h = ap has_float h ∙ no_float_change (item_objects u krate place) (place, krate, change_number u.table place krate.0) (no_float_items u krate place)
-no_float_shown u (ImportPlaces krate place) d h = let t = text_of_place u.texts place in ap has_float h ∙ no_float_in_imports (text_bytes t) u.edition.1 (places_of_text t) (shown_tree u krate place).forest
-no_float_shown u (Changes since) d h = ap has_float h.2 ∙ no_float_in_changes h.0
-no_float_shown u (Problems file) d h = let t = text_in u.texts file.0 in ap has_float h ∙ no_float_in_problems (text_bytes t) (text_problems t)
-no_float_shown u (Find q) d h = ap has_float h.2 ∙ no_float_in_found u.table u.texts (filter (is_sought u.files u.table q) h.0)
+no_float_present : (u : Session) (show : LineShow) (d : Data) → IsPresentValue u show d → has_float d ≡ false
+no_float_present u (Table (OfTree show)) d h = ap has_float h
+no_float_present u (Table (Changed since)) d h = ap has_float h.2
+no_float_present u (Outline krate file) d h = ap has_float h ∙ no_float_items u krate (File file)
+no_float_present u (TreeItems krate place) d h = ap has_float h ∙ no_float_change (item_objects u krate place) (place, krate, change_number u.table place krate.0) (no_float_items u krate place)
+no_float_present u (ImportPlaces krate place) d h = let t = text_of_place u.texts place in ap has_float h ∙ no_float_in_imports (text_bytes t) u.edition.1 (places_of_text t) (shown_tree u krate place).forest
+no_float_present u (Changes since) d h = ap has_float h.2 ∙ no_float_in_changes h.0
+no_float_present u (Problems file) d h = let t = text_in u.texts file.0 in ap has_float h ∙ no_float_in_problems (text_bytes t) (text_problems t)
+no_float_present u (Find q) d h = ap has_float h.2 ∙ no_float_in_found u.table u.texts (filter (is_sought u.files u.table q) h.0)
+
+no_float_unset : (place : Place) → has_float (unset_form place) ≡ false
+no_float_unset (File file) = refl
+no_float_unset (Block block) = refl
+
+no_float_unless : (unset : Option Place) (u : Session) (show : LineShow) (d : Data) → IsValueUnless unset u show d → has_float d ≡ false
+no_float_unless None u show d h = no_float_present u show d h
+no_float_unless (Some place) u show d h = ap has_float h ∙ no_float_unset place
 
 pub no_float_in_shown : (u : Session) (shows : List LineShow) (ds : List Data) → AllZip (IsShowValue u) shows ds → AreUnfloating ds
 no_float_in_shown u [] [] are = refl
 no_float_in_shown u [] (d ∷ ds) are = absurd are
 no_float_in_shown u (x ∷ xs) [] are = absurd are
-no_float_in_shown u (x ∷ xs) (d ∷ ds) are = rw (no_float_shown u x d are.0, no_float_in_shown u xs ds are.1) refl
+no_float_in_shown u (x ∷ xs) (d ∷ ds) are = rw (no_float_unless (unset_place u.table x) u x d are.0, no_float_in_shown u xs ds are.1) refl
+
+-- something is set at a place whose syntax is lent
+pub lent_set : {A B C : Type 0} (o : Option A) (f : A → B) (g : B → C) (p : Option C) → option_map g (option_map f o) ≡ p → is_some o ≡ is_some p
+lent_set None f g p e = ap is_some e
+lent_set (Some a) f g p e = ap is_some e
 
 -- ---- one value more
 

@@ -34,7 +34,7 @@ line_keys =
     ∷ (codes "name" ∷ [], codes "a name or path")
     ∷ (codes "edit" ∷ [], codes "a kind of edit")
     ∷ (codes "show" ∷ [], codes "a kind of show")
-    ∷ (codes "as" ∷ [], codes "text or json")
+    ∷ (codes "as" ∷ [], codes "text or json, of tree, imports or changed")
     ∷ (codes "year" ∷ [], codes "2015, 2018, 2021 or 2024")
     ∷ (codes "id" ∷ [], codes "a value without a float")
     ∷ []

@@ -4,7 +4,7 @@ use Rattle.std.specs.List.{list_any}
 use Rattle.serde_json.specs.Data.{Data, Members, no_members, member}
 use Rattle.serde_json.specs.Find.{as_object}
 use Rattle.hir_input_json.specs.Reading.{Reading, right}
-use Rattle.hir_input_json.specs.Forms.{by_form, unless_null, wrong_at}
+use Rattle.hir_input_json.specs.Forms.{by_form, field, unless_null, wrong_at}
 use Rattle.source_session.specs.declared.keys.LineObject.{LineObject}
 use Rattle.source_session.specs.declared.keys.LineObject.TheVariants.{Whole, OfEdits, OfShows}
 
@@ -26,3 +26,7 @@ unknown_key o (member key d ms) = if is_none (unless_null d) || is_known o key t
 -- the members of an object have its keys alone
 abbrev pub only_known : LineObject → Data → Reading (Unit {0})
 only_known o d = by_form (option_and_then (unknown_key o) (as_object d)) (λ key. wrong_at key) (right tt)
+
+-- no member stands at this key
+abbrev pub none_at : List ℕ → Data → Reading (Unit {0})
+none_at key d = by_form (field key d) (λ _. wrong_at key) (right tt)

@@ -4,10 +4,10 @@ use Rattle.serde_json.specs.Data.{Data}
 use Rattle.item_tree.specs.CrateView.{CrateView}
 use Rattle.hir_input_json.specs.Reading.{Reading, right, ◌>>=◌}
 use Rattle.hir_input_json.specs.Editions.{EditionView, edition_at}
-use Rattle.hir_input_json.specs.Forms.{field, optional_at, by_form, wrong_at, whole_form, identifier_form, list_at}
+use Rattle.hir_input_json.specs.Forms.{field, optional_at, by_form, whole_form, identifier_form, list_at}
 use Rattle.item_tree_request.specs.Edits.{crate_data}
 use Rattle.source_session.specs.declared.keys.LineObject.TheVariants.{Whole}
-use Rattle.source_session.specs.Keys.{only_known}
+use Rattle.source_session.specs.Keys.{none_at, only_known}
 use Rattle.source_session.specs.declared.show.LineShow.{LineShow}
 use Rattle.source_session.specs.Edits.{LineEdit, line_edit}
 use Rattle.source_session.specs.Files.{CrateFiles, crate_files}
@@ -53,10 +53,6 @@ line_asked count d = do
   edits ← list_at (line_edit count) (codes "edits") d
   shows ← list_at (line_show count) (codes "shows") d
   right (record { edits = edits; shows = shows })
-
--- no member stands at this key
-abbrev pub none_at : List ℕ → Data → Reading (Unit {0})
-none_at key d = by_form (field key d) (λ _. wrong_at key) (right tt)
 
 -- nothing that opens a session
 abbrev pub no_settings : Data → Reading (Unit {0})

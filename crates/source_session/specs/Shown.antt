@@ -1,5 +1,5 @@
 -- What is shown of a session.
-use Rattle.std.specs.Prelude.{◌≡◌, ℕ, false, List, [], codes, filter, map, None, flat_map}
+use Rattle.std.specs.Prelude.{◌≡◌, ℕ, false, List, [], codes, filter, if◌then◌else◌, is_some, map, option_and_then, Option, Some, None, flat_map}
 use Rattle.serde_json.specs.Data.{Data, string, array, object, Members, no_members, member}
 use Rattle.serde_json.specs.View.{items_of}
 use Rattle.hir_input.specs.declared.ids.Crate.{Crate}
@@ -8,7 +8,7 @@ use Rattle.item_tree.specs.Node.{Unfolding}
 use Rattle.item_tree_db.specs.declared.place.Place.{Place}
 use Rattle.item_tree_db.specs.declared.place.Place.TheVariants.{File, Block}
 use Rattle.item_tree_db.specs.Since.{Change, IsSince}
-use Rattle.item_tree_db.specs.State.{State, change_number, unfolding_at}
+use Rattle.item_tree_db.specs.State.{State, change_number, present, unfolding_at}
 use Rattle.item_tree_request.specs.Outputs.{table_change_line, printed}
 use Rattle.item_tree_request.specs.declared.request.show.Show.{Show}
 use Rattle.item_tree_request.specs.declared.request.show.Show.TheVariants.{OfTree, Changed}
@@ -95,12 +95,51 @@ abbrev pub IsTextOf : CrateFiles → List (List ℕ) → State → Show → Data
 IsTextOf files reserved s (OfTree show) d = d ≡ string (printed reserved s show)
 IsTextOf files reserved s (Changed since) d = AreChangeLines files s since d
 
+-- the value of a show, if something is set at the place that it is of
+abbrev pub IsPresentValue : Session → LineShow → Data → Type 0
+IsPresentValue u (Table show) d = IsTextOf u.files u.edition.1 u.table show d
+IsPresentValue u (Outline krate file) d = d ≡ outline_form u krate file
+IsPresentValue u (TreeItems krate place) d = d ≡ tree_form u krate place
+IsPresentValue u (ImportPlaces krate place) d = d ≡ imports_form u krate place
+IsPresentValue u (Changes since) d = AreChangeValues u.files u.table since d
+IsPresentValue u (Problems file) d = d ≡ problems_form u file
+IsPresentValue u (Find sought) d = IsFound u.files u.table u.texts sought d
+
+-- ---- places at which nothing is set
+
+-- the place that a show is of, if it is of one
+abbrev pub place_shown : LineShow → Option Place
+place_shown (Table (OfTree show)) = Some show.place
+place_shown (Table (Changed since)) = None
+place_shown (Outline krate file) = Some (File file)
+place_shown (TreeItems krate place) = Some place
+place_shown (ImportPlaces krate place) = Some place
+place_shown (Changes since) = None
+place_shown (Problems file) = Some (File file)
+place_shown (Find sought) = None
+
+-- a place, if nothing is set there
+abbrev pub if_unset : State → Place → Option Place
+if_unset s place = if is_some (present s place) then None else Some place
+
+-- the place that a show is of, if nothing is set there
+abbrev pub unset_place : State → LineShow → Option Place
+unset_place s show = option_and_then (if_unset s) (place_shown show)
+
+-- what tells so: an error with the number of the file or the block
+abbrev pub unset_error : Place → Data
+unset_error (File file) = object (member (codes "file") (count_form file.0) (member (codes "kind") (string (codes "not set")) no_members))
+unset_error (Block block) = object (member (codes "block") (count_form block.0) (member (codes "kind") (string (codes "not set")) no_members))
+
+-- as the one member of the value of a show
+abbrev pub unset_form : Place → Data
+unset_form place = object (member (codes "error") (unset_error place) no_members)
+
+-- what is answered of a place at which nothing is set, and else of the show
+abbrev pub IsValueUnless : Option Place → Session → LineShow → Data → Type 0
+IsValueUnless None u show d = IsPresentValue u show d
+IsValueUnless (Some place) u show d = d ≡ unset_form place
+
 -- the value of a show
 abbrev pub IsShowValue : Session → LineShow → Data → Type 0
-IsShowValue u (Table show) d = IsTextOf u.files u.edition.1 u.table show d
-IsShowValue u (Outline krate file) d = d ≡ outline_form u krate file
-IsShowValue u (TreeItems krate place) d = d ≡ tree_form u krate place
-IsShowValue u (ImportPlaces krate place) d = d ≡ imports_form u krate place
-IsShowValue u (Changes since) d = AreChangeValues u.files u.table since d
-IsShowValue u (Problems file) d = d ≡ problems_form u file
-IsShowValue u (Find sought) d = IsFound u.files u.table u.texts sought d
+IsShowValue u show d = IsValueUnless (unset_place u.table show) u show d

@@ -1,11 +1,11 @@
 -- The shows of a line.
-use Rattle.std.specs.Prelude.{ℕ, ◌^◌, ◌<◌, Bool, true, false, List, [], codes, if◌then◌else◌}
+use Rattle.std.specs.Prelude.{ℕ, ◌^◌, ◌<◌, Bool, true, false, List, [], codes, if◌then◌else◌, Option, Some, None}
 use Rattle.serde_json.specs.Data.{Data}
 use Rattle.serde_json.specs.Written.{has_float}
 use Rattle.hir_input.specs.declared.ids.Crate.{Crate}
 use Rattle.hir_input.specs.declared.ids.HirFileId.{HirFileId}
 use Rattle.hir_input_json.specs.Reading.{Reading, right, wrong, reading_map, here, under, ◌>>=◌}
-use Rattle.hir_input_json.specs.Forms.{required_at, optional_at, on_word, number_form, below, text_form, object_members}
+use Rattle.hir_input_json.specs.Forms.{required_at, optional_at, by_form, wrong_at, on_word, number_form, below, text_form, object_members}
 use Rattle.item_tree_db.specs.declared.place.Place.TheVariants.{File}
 use Rattle.item_tree_request.specs.Named as request
 use Rattle.item_tree_request.specs.Shows as request_shows
@@ -15,7 +15,7 @@ use Rattle.item_tree_request.specs.declared.request.show.ShowKind.{ShowKind}
 use Rattle.item_tree_request.specs.declared.request.show.ShowKind.TheVariants.{Page, Tree, Imports}
 use Rattle.item_tree_request.specs.declared.request.show.TreeShow.{TreeShow}
 use Rattle.source_session.specs.declared.keys.LineObject.TheVariants.{OfShows}
-use Rattle.source_session.specs.Keys.{only_known}
+use Rattle.source_session.specs.Keys.{none_at, only_known}
 use Rattle.source_session.specs.declared.show.LineShow.{LineShow}
 use Rattle.source_session.specs.declared.show.LineShow.TheVariants.{Table, Outline, TreeItems, ImportPlaces, Changes, Problems, Find}
 use Rattle.source_session.specs.Sought.{asked_path_in}
@@ -31,12 +31,27 @@ crate_in count d = do
 abbrev pub file_named : Data → Reading HirFileId
 file_named d = reading_map (λ number. record { 0 = number }) (number_form (codes "file") d)
 
--- a show of a crate's tree of a file
+-- a show of a crate's tree of a file; it is answered in one way alone, as the two that follow are
 abbrev pub line_tree_show : (Crate → HirFileId → LineShow) → ℕ → Data → Reading LineShow
 line_tree_show of count d = do
   krate ← crate_in count d
   file ← file_named d
+  _ ← none_at (codes "as") d
   right (of krate file)
+
+-- of what is wrong with the text of a file
+abbrev pub problems_show : Data → Reading LineShow
+problems_show d = do
+  file ← file_named d
+  _ ← none_at (codes "as") d
+  right (Problems file)
+
+-- of the items that have a path
+abbrev pub find_show : Data → Reading LineShow
+find_show d = do
+  sought ← asked_path_in d
+  _ ← none_at (codes "as") d
+  right (Find sought)
 
 -- the places of imports of a file
 abbrev pub import_places : Crate → HirFileId → LineShow
@@ -58,21 +73,21 @@ abbrev pub as_values : Data → Reading Bool
 as_values = optional_at false (codes "as") wants_values
 
 -- what is answered by values; a page has its text alone
-abbrev pub tree_values : ShowKind → TreeShow → LineShow
-tree_values Page show = Table (OfTree show)
-tree_values Tree show = TreeItems show.krate show.place
-tree_values Imports show = ImportPlaces show.krate show.place
+abbrev pub tree_values : ShowKind → TreeShow → Option LineShow
+tree_values Page show = None
+tree_values Tree show = Some (TreeItems show.krate show.place)
+tree_values Imports show = Some (ImportPlaces show.krate show.place)
 
-abbrev pub answered_by : Bool → Show → LineShow
-answered_by false show = Table show
+abbrev pub answered_by : Bool → Show → Option LineShow
+answered_by false show = Some (Table show)
 answered_by true (OfTree show) = tree_values show.kind show
-answered_by true (Changed since) = Changes since
+answered_by true (Changed since) = Some (Changes since)
 
 abbrev pub request_show : ℕ → Data → Reading LineShow
 request_show count d = do
   show ← request_shows.show count d
   by_values ← as_values d
-  right (answered_by by_values show)
+  by_form (answered_by by_values show) right (wrong_at (codes "as"))
 
 -- ---- shows
 
@@ -81,8 +96,8 @@ abbrev pub line_show_by : ℕ → List ℕ → Data → Reading LineShow
 line_show_by count word d =
     on_word word (codes "outline") (line_tree_show Outline count d)
     (on_word word (codes "import_places") (line_tree_show import_places count d)
-    (on_word word (codes "problems") (reading_map Problems (file_named d))
-    (on_word word (codes "find") (reading_map Find (asked_path_in d))
+    (on_word word (codes "problems") (problems_show d)
+    (on_word word (codes "find") (find_show d)
     (request_show count d))))
 
 -- a show after edits of a table of this many crates, by its word

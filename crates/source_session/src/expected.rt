@@ -45,7 +45,7 @@ fn of_line(key: &str) -> &'static str
         "name" => "a name or path",
         "edit" => "a kind of edit",
         "show" => "a kind of show",
-        "as" => "text or json",
+        "as" => "text or json, of tree, imports or changed",
         "year" => "2015, 2018, 2021 or 2024",
         "id" => "a value without a float",
         _ => OTHER,

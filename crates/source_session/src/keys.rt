@@ -3,9 +3,10 @@ ghost use Rattle.std.specs.Prelude.{◌≡◌, is_none, option_map};
 ghost use Rattle.serde_json.specs.View.{members_view, view};
 ghost use Rattle.hir_input_json.specs.{Forms.unless_null, Held.held, Reads.Reads};
 ghost use Rattle.source_session.specs.Keys as spec;
-ghost use Rattle.source_session.specs.Keys.{only_known};
+ghost use Rattle.source_session.specs.Keys.{none_at, only_known};
 
 use hir_input_json::Fault;
+use hir_input_json::member::field;
 use serde_json::{Map, Value};
 use std::alloc::Global;
 
@@ -77,6 +78,18 @@ pub(crate) fn only_known(alloc: Global, members: &Members, object: LineObject) -
 {
     match unknown_key(object, members) {
         Some(key) => Err(Fault::at(alloc, key)),
+        None => Ok(()),
+    }
+}
+
+/// No member at this key.
+///
+/// `WrongForm` comes only where there is one, and tells it.
+pub(crate) fn none_in(alloc: Global, members: &Members, key: &str) -> Result<(), Fault>
+    ensures { Reads (λ _. tt) result (none_at key.now (held members.now)) }
+{
+    match field(members, key) {
+        Some(_) => Err(Fault::at(alloc, key)),
         None => Ok(()),
     }
 }

@@ -7,13 +7,12 @@ ghost use Rattle.hir_input_json.specs.Held.{held, without};
 ghost use Rattle.hir_input_json.specs.Reads.{Reads};
 ghost use Rattle.source_session.specs.Edits.{line_edit_view, line_edit, IsUsable};
 ghost use Rattle.source_session.specs.Lines as spec;
-ghost use Rattle.source_session.specs.Lines.{none_at};
 ghost use Rattle.source_session.specs.LineViews.{asked_view, first_view, settings_view, IsOwn};
 ghost use Rattle.source_session.specs.Shows.{ShowNamesCrate, line_show};
 
 use crate::edit::{LineEdit, edit_of};
 use crate::files::{Files, crate_files_at};
-use crate::keys::{LineObject, Members, only_known};
+use crate::keys::{LineObject, Members, none_in, only_known};
 use crate::list::each_read;
 use crate::show::{LineShow, show_of};
 use hir_input::{Edition, Name};
@@ -122,16 +121,6 @@ fn settings_in(alloc: Global, members: &mut Members) -> Result<Settings, Fault>
         edition,
         start,
     })
-}
-
-// No member at this key.
-fn none_in(alloc: Global, members: &Members, key: &str) -> Result<(), Fault>
-    ensures { Reads (λ _. tt) result (none_at key.now (held members.now)) }
-{
-    match field(members, key) {
-        Some(_) => Err(Fault::at(alloc, key)),
-        None => Ok(()),
-    }
 }
 
 fn no_settings_in(alloc: Global, members: &Members) -> Result<(), Fault>

@@ -1,5 +1,5 @@
 //! Shows of a line, read from their forms.
-ghost use Rattle.std.specs.Prelude.{◌≡◌, ℕ, IfOk};
+ghost use Rattle.std.specs.Prelude.{◌≡◌, ℕ, IfOk, IfSome};
 ghost use Rattle.serde_json.specs.View.{view};
 ghost use Rattle.hir_input_json.specs.Held.{held};
 ghost use Rattle.hir_input_json.specs.Reads.{Reads};
@@ -8,7 +8,7 @@ ghost use Rattle.source_session.specs.Sought.{asked_path_in};
 ghost use Rattle.source_session.specs.Shows as spec;
 ghost use Rattle.source_session.specs.Shows.{ShowNamesCrate, IsCrateOf};
 
-use crate::keys::{LineObject, Members, only_known};
+use crate::keys::{LineObject, Members, none_in, only_known};
 use crate::sought::{SoughtItem, sought_of};
 use hir_input::{Crate, HirFileId};
 use hir_input_json::float::has_float;
@@ -93,28 +93,30 @@ fn as_values(alloc: Global, members: &Members) -> Result<bool, Fault>
 }
 
 // What a show of a tree is answered by, if by values.
-fn tree_values(show: TreeShow) -> LineShow
+fn tree_values(show: TreeShow) -> Option<LineShow>
     ensures shown { result ≡ spec.tree_values show.kind show }
-    ensures known { (count : ℕ) → IsCrateOf count show.krate → ShowNamesCrate count result }
+    ensures known { (count : ℕ) → IsCrateOf count show.krate
+        → IfSome result (ShowNamesCrate count) }
 {
     let (krate, place) = (show.krate, show.place);
     match show.kind {
-        ShowKind::Page => LineShow::Table(Show::OfTree(show)),
-        ShowKind::Tree => LineShow::TreeItems { krate, place },
-        ShowKind::Imports => LineShow::ImportPlaces { krate, place },
+        ShowKind::Page => None,
+        ShowKind::Tree => Some(LineShow::TreeItems { krate, place }),
+        ShowKind::Imports => Some(LineShow::ImportPlaces { krate, place }),
     }
 }
 
-fn answered_by(by_values: bool, show: Show) -> LineShow
+fn answered_by(by_values: bool, show: Show) -> Option<LineShow>
     ensures shown { result ≡ spec.answered_by by_values show }
-    ensures known { (count : ℕ) → request.NamesCrate count show → ShowNamesCrate count result }
+    ensures known { (count : ℕ) → request.NamesCrate count show
+        → IfSome result (ShowNamesCrate count) }
 {
     if !by_values {
-        return LineShow::Table(show);
+        return Some(LineShow::Table(show));
     }
     match show {
         Show::OfTree(show) => tree_values(show),
-        Show::Changed { since } => LineShow::Changes { since },
+        Show::Changed { since } => Some(LineShow::Changes { since }),
     }
 }
 
@@ -124,7 +126,10 @@ fn request_show(alloc: Global, members: &Members, count: usize) -> Result<LineSh
 {
     let show = show_in(alloc, members, count)?;
     let by_values = as_values(alloc, members)?;
-    Ok(answered_by(by_values, show))
+    match answered_by(by_values, show) {
+        Some(show) => Ok(show),
+        None => Err(Fault::at(alloc, "as")),
+    }
 }
 
 // ---- shows
@@ -139,19 +144,25 @@ fn members_show(alloc: Global, members: &Members, count: usize) -> Result<LineSh
         "outline" => {
             let krate = crate_at(alloc, members, count)?;
             let file = file_at(alloc, members)?;
+            none_in(alloc, members, "as")?;
             Ok(LineShow::Outline { krate, file })
         }
         "import_places" => {
             let krate = crate_at(alloc, members, count)?;
             let place = Place::File(file_at(alloc, members)?);
+            none_in(alloc, members, "as")?;
             Ok(LineShow::ImportPlaces { krate, place })
         }
-        "problems" => Ok(LineShow::Problems {
-            file: file_at(alloc, members)?,
-        }),
-        "find" => Ok(LineShow::Find {
-            sought: sought_at(alloc, members)?,
-        }),
+        "problems" => {
+            let file = file_at(alloc, members)?;
+            none_in(alloc, members, "as")?;
+            Ok(LineShow::Problems { file })
+        }
+        "find" => {
+            let sought = sought_at(alloc, members)?;
+            none_in(alloc, members, "as")?;
+            Ok(LineShow::Find { sought })
+        }
         _ => request_show(alloc, members, count),
     }
 }

@@ -1,14 +1,15 @@
 //! The values of shows.
-ghost use Rattle.std.specs.Prelude.{◌≡◌, ◌++◌, All, IfOk, OnOk, filter, map, string_bytes};
+ghost use Rattle.std.specs.Prelude.{◌≡◌, ◌++◌, All, IfOk, OnOk, filter, is_some, map, string_bytes};
 ghost use Rattle.std.specs.List.{AllZip, flat_map};
 ghost use Rattle.serde_json.specs.Data.{string};
 ghost use Rattle.serde_json.specs.View.{view};
-ghost use Rattle.item_tree_db.specs.State.{IsKnown};
+ghost use Rattle.item_tree_db.specs.State.{IsKnown, present};
 ghost use Rattle.item_tree_request.specs.Outputs.{Knows, table_change_line, printed};
 ghost use Rattle.source_session.specs.Files.{is_change_in};
 ghost use Rattle.source_session.specs.Found.{IsFound};
+ghost use Rattle.source_session.specs.Shown as spec;
 ghost use Rattle.source_session.specs.Shows.{IsCrateOf, ShowNamesCrate};
-ghost use Rattle.source_session.specs.Shown.{AreChangeLines, AreChangeValues, AreOwnChanges, IsShowValue, IsTextOf, change_form, change_with, imports_form, item_objects, items_member, outline_form, problems_form, tree_form};
+ghost use Rattle.source_session.specs.Shown.{AreChangeLines, AreChangeValues, AreOwnChanges, IsPresentValue, IsShowValue, IsTextOf, change_form, change_with, imports_form, item_objects, items_member, outline_form, place_shown, problems_form, tree_form, unset_form};
 
 use crate::files::{Files, is_in_crate};
 use crate::found::found_values;
@@ -183,6 +184,57 @@ fn table_value(
     }
 }
 
+// ---- places at which nothing is set
+
+fn place_of(show: &LineShow) -> Option<Place>
+    ensures { result ≡ place_shown show.now }
+{
+    match show {
+        LineShow::Table(Show::OfTree(show)) => Some(show.place),
+        LineShow::TreeItems { place, .. } | LineShow::ImportPlaces { place, .. } => Some(*place),
+        LineShow::Outline { file, .. } | LineShow::Problems { file } => Some(Place::File(*file)),
+        LineShow::Table(Show::Changed { .. }) | LineShow::Changes { .. } | LineShow::Find { .. } =>
+            { None }
+    }
+}
+
+#[tactic(auto, using(crate::proofs::Named::lent_set))]
+fn is_set(sources: &Sources, place: Place) -> bool
+    ensures { result ≡ is_some (present sources.now place) }
+{
+    match place {
+        Place::File(file) => sources.file_syntax(file).is_some(),
+        Place::Block(block) => sources.block_syntax(block).is_some(),
+    }
+}
+
+// The place that a show is of, if nothing is set there.
+fn unset_place(sources: &Sources, show: &LineShow) -> Option<Place>
+    ensures { result ≡ spec.unset_place sources.now show.now }
+{
+    let place = place_of(show)?;
+    if is_set(sources, place) {
+        return None;
+    }
+    Some(place)
+}
+
+// What tells that nothing is set at a place.
+fn unset_value(alloc: Global, place: Place) -> Result<Value, AllocError>
+    ensures { IfOk result (λ value. view value ≡ unset_form place) }
+{
+    match place {
+        Place::File(file) => {
+            let file = file.0;
+            json!(in alloc; {"error": {"file": file, "kind": "not set"}})
+        }
+        Place::Block(block) => {
+            let block = block.0;
+            json!(in alloc; {"error": {"block": block, "kind": "not set"}})
+        }
+    }
+}
+
 // ---- a session's
 
 impl Session {
@@ -291,10 +343,10 @@ impl Session {
         Ok(Value::Array(values))
     }
 
-    // The value of a show.
-    fn show(&mut self, alloc: Global, show: &LineShow) -> Result<Value, AllocError>
+    // The value of a show, if something is set at the place that it is of.
+    fn present_value(&mut self, alloc: Global, show: &LineShow) -> Result<Value, AllocError>
         requires { ShowNamesCrate self.old.count show.now }
-        ensures shown { IfOk result (λ value. IsShowValue self.old show.now (view value)) }
+        ensures shown { IfOk result (λ value. IsPresentValue self.old show.now (view value)) }
         ensures same { self.new ≡ self.old }
     {
         match show {
@@ -307,6 +359,18 @@ impl Session {
             LineShow::Changes { since } => self.changes(alloc, *since),
             LineShow::Problems { file } => self.problems(alloc, *file),
             LineShow::Find { sought } => self.find(alloc, sought),
+        }
+    }
+
+    // The value of a show.
+    fn show(&mut self, alloc: Global, show: &LineShow) -> Result<Value, AllocError>
+        requires { ShowNamesCrate self.old.count show.now }
+        ensures shown { IfOk result (λ value. IsShowValue self.old show.now (view value)) }
+        ensures same { self.new ≡ self.old }
+    {
+        match unset_place(&self.sources, show) {
+            Some(place) => unset_value(alloc, place),
+            None => self.present_value(alloc, show),
         }
     }
 

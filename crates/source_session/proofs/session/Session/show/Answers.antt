@@ -1,41 +1,18 @@
-use Rattle.std.proofs.Common.{◌≡◌, IfOk, sym, subst, rules}
+use Rattle.std.proofs.Common.{◌≡◌, None, Some, IfOk, ap, sym, ◌∙◌, subst}
 use Rattle.serde_json.specs.View.{view}
-use Rattle.source_session.proofs.Common.{Table, Outline, TreeItems, ImportPlaces, IsShowValue, ShowNamesCrate}
-use Rattle.source_session.proofs.Named.{show_known}
+use Rattle.source_session.proofs.Common.{IsValueUnless, Session, unset_place}
 use Rattle.source_session.proofs.session.Session.show.Goals as goal
 
-pub table_value-requires : goal.table_value-requires
-table_value-requires c =
-    let is : c.args.show.now ≡ Table c.in-Table.show = search rules in
-    let named = subst (ShowNamesCrate c.args.self.now.count) is c.requires in
-    show_known c.self.inside.count c.self.inside.sources c.self.invariant.known c.in-Table.show (subst (λ s. ShowNamesCrate s.count (Table c.in-Table.show)) (sym c.self.view_is) named)
+pub returns-in-Some-clause-shown : goal.returns-in-Some-clause-shown
+returns-in-Some-clause-shown c =
+    let u = c.args.self.now in
+    let show = c.args.show.now in
+    let unset : unset_place u.table show ≡ Some c.in-Some.place = ap (λ (s : Session). unset_place s.table show) (sym c.self.view_is) ∙ sym c.unset_place.ensures ∙ c.in-Some.is in
+    subst (λ o. IfOk c.unset_value.result (λ value. IsValueUnless o u show (view value))) (sym unset) c.unset_value.ensures
 
-pub outline-requires : goal.outline-requires
-outline-requires c =
-    let is : c.args.show.now ≡ Outline c.in-Outline.krate c.in-Outline.file = search rules in
-    subst (ShowNamesCrate c.args.self.now.count) is c.requires
-
-pub tree_items-requires : goal.tree_items-requires
-tree_items-requires c =
-    let is : c.args.show.now ≡ TreeItems c.in-TreeItems.krate c.in-TreeItems.place = search rules in
-    subst (ShowNamesCrate c.args.self.now.count) is c.requires
-
-pub import_places-requires : goal.import_places-requires
-import_places-requires c =
-    let is : c.args.show.now ≡ ImportPlaces c.in-ImportPlaces.krate c.in-ImportPlaces.place = search rules in
-    subst (ShowNamesCrate c.args.self.now.count) is c.requires
-
-pub returns-in-Outline-clause-shown : goal.returns-in-Outline-clause-shown
-returns-in-Outline-clause-shown c =
-    let is : c.args.show.now ≡ Outline c.in-Outline.krate c.in-Outline.file = search rules in
-    subst (λ show. IfOk c.outline.result (λ value. IsShowValue c.args.self.now show (view value))) (sym is) c.outline.ensures
-
-pub returns-in-TreeItems-clause-shown : goal.returns-in-TreeItems-clause-shown
-returns-in-TreeItems-clause-shown c =
-    let is : c.args.show.now ≡ TreeItems c.in-TreeItems.krate c.in-TreeItems.place = search rules in
-    subst (λ show. IfOk c.tree_items.result (λ value. IsShowValue c.args.self.now show (view value))) (sym is) c.tree_items.ensures
-
-pub returns-in-ImportPlaces-clause-shown : goal.returns-in-ImportPlaces-clause-shown
-returns-in-ImportPlaces-clause-shown c =
-    let is : c.args.show.now ≡ ImportPlaces c.in-ImportPlaces.krate c.in-ImportPlaces.place = search rules in
-    subst (λ show. IfOk c.import_places.result (λ value. IsShowValue c.args.self.now show (view value))) (sym is) c.import_places.ensures
+pub returns-in-None-clause-shown : goal.returns-in-None-clause-shown
+returns-in-None-clause-shown c =
+    let u = c.args.self.now in
+    let show = c.args.show.now in
+    let set : unset_place u.table show ≡ None = ap (λ (s : Session). unset_place s.table show) (sym c.self.view_is) ∙ sym c.unset_place.ensures ∙ c.in-None.is in
+    subst (λ o. IfOk c.present_value.result (λ value. IsValueUnless o u show (view value))) (sym set) c.present_value.ensures.shown

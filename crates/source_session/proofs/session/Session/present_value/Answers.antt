@@ -1,0 +1,41 @@
+use Rattle.std.proofs.Common.{◌≡◌, IfOk, sym, subst, rules}
+use Rattle.serde_json.specs.View.{view}
+use Rattle.source_session.proofs.Common.{Table, Outline, TreeItems, ImportPlaces, IsPresentValue, ShowNamesCrate}
+use Rattle.source_session.proofs.Named.{show_known}
+use Rattle.source_session.proofs.session.Session.present_value.Goals as goal
+
+pub table_value-requires : goal.table_value-requires
+table_value-requires c =
+    let is : c.args.show.now ≡ Table c.in-Table.show = search rules in
+    let named = subst (ShowNamesCrate c.args.self.now.count) is c.requires in
+    show_known c.self.inside.count c.self.inside.sources c.self.invariant.known c.in-Table.show (subst (λ s. ShowNamesCrate s.count (Table c.in-Table.show)) (sym c.self.view_is) named)
+
+pub outline-requires : goal.outline-requires
+outline-requires c =
+    let is : c.args.show.now ≡ Outline c.in-Outline.krate c.in-Outline.file = search rules in
+    subst (ShowNamesCrate c.args.self.now.count) is c.requires
+
+pub tree_items-requires : goal.tree_items-requires
+tree_items-requires c =
+    let is : c.args.show.now ≡ TreeItems c.in-TreeItems.krate c.in-TreeItems.place = search rules in
+    subst (ShowNamesCrate c.args.self.now.count) is c.requires
+
+pub import_places-requires : goal.import_places-requires
+import_places-requires c =
+    let is : c.args.show.now ≡ ImportPlaces c.in-ImportPlaces.krate c.in-ImportPlaces.place = search rules in
+    subst (ShowNamesCrate c.args.self.now.count) is c.requires
+
+pub returns-in-Outline-clause-shown : goal.returns-in-Outline-clause-shown
+returns-in-Outline-clause-shown c =
+    let is : c.args.show.now ≡ Outline c.in-Outline.krate c.in-Outline.file = search rules in
+    subst (λ show. IfOk c.outline.result (λ value. IsPresentValue c.args.self.now show (view value))) (sym is) c.outline.ensures
+
+pub returns-in-TreeItems-clause-shown : goal.returns-in-TreeItems-clause-shown
+returns-in-TreeItems-clause-shown c =
+    let is : c.args.show.now ≡ TreeItems c.in-TreeItems.krate c.in-TreeItems.place = search rules in
+    subst (λ show. IfOk c.tree_items.result (λ value. IsPresentValue c.args.self.now show (view value))) (sym is) c.tree_items.ensures
+
+pub returns-in-ImportPlaces-clause-shown : goal.returns-in-ImportPlaces-clause-shown
+returns-in-ImportPlaces-clause-shown c =
+    let is : c.args.show.now ≡ ImportPlaces c.in-ImportPlaces.krate c.in-ImportPlaces.place = search rules in
+    subst (λ show. IfOk c.import_places.result (λ value. IsPresentValue c.args.self.now show (view value))) (sym is) c.import_places.ensures
