@@ -17,6 +17,7 @@ import random
 import re
 import resource
 import shutil
+import signal
 import subprocess
 import sys
 import tempfile
@@ -136,7 +137,7 @@ class Program:
         command, (parts, size) = asked
         seconds, status = self.seconds(command, parts, size)
         name = f'{command} over {parts}'
-        if status not in (0, 1) and seconds < MOST * 0.9:
+        if status not in (0, 1, -signal.SIGXCPU):
             return False, name, f'status {status} after {seconds:.2f} s'
         if seconds <= LITTLE[size]:
             return True, name, ''
