@@ -17,6 +17,7 @@ import random
 import re
 import resource
 import shutil
+import signal
 import subprocess
 import sys
 import tempfile
@@ -61,6 +62,7 @@ TEXTS = [
     ('where A: ',), ('for<',), ('fn f() { impl S {',), ('fn f() { extern ',), ('<<<<<<< ',), ('0x',), ('pub struct S(', ')'),
     ('struct S(pub(in a::b) ', ')'), (';struct S(', ');'), ('mod m { use a::', '}'), ('#[a = "',), ('\u00e9',), ('=> ',), ('m! { = > }',),
     ('m! { /** a */ }',), ('a::crate::',), ('a::', 'crate::'), (';struct S(self ',), ('super::', '$'), ('mod m { fn f() {', '['),
+    ('mod m {', '$'), ('mod m {struct S;',), ('extern "C" {fn f() {',), ('trait T { fn f() {',), ('impl S { fn f() {',), ('const A: u8 = { fn f() {',),
 ]
 passed = failed = 0
 
@@ -135,7 +137,7 @@ class Program:
         command, (parts, size) = asked
         seconds, status = self.seconds(command, parts, size)
         name = f'{command} over {parts}'
-        if status not in (0, 1) and seconds < MOST * 0.9:
+        if status not in (0, 1, -signal.SIGXCPU):
             return False, name, f'status {status} after {seconds:.2f} s'
         if seconds <= LITTLE[size]:
             return True, name, ''
