@@ -7,7 +7,7 @@ use Rattle.serde_json.specs.Written.{has_float}
 use Rattle.item_tree_request.specs.Requests.{IsJsonText}
 use Rattle.line_stream.specs.Lines.{Told, whole, too_long, no_memory, IsToldOf}
 use Rattle.line_stream.specs.Served.{IsServed}
-use Rattle.source_session.specs.Histories.{Says, Exchange, answer_of, AsksNext, AsksFirst, StandAll, StandFirst, Stand, StandOf, OpensNone, IsLedByAnswers}
+use Rattle.source_session.specs.Histories.{Says, Exchange, answer_of, AsksNext, AsksFirst, StandAll, StandFirst, Stand, StandOf, IsLedOn, AreOf, OpensNone, IsLedByAnswers, IsLedOnByAnswers}
 use Rattle.source_session.proofs.Made.{same_length}
 use Rattle.source_session.proofs.Meant.{meant_over}
 
@@ -196,15 +196,6 @@ stand_of_over count edition old new same (x ∷ xs) es cs h = (
 
 -- ---- all lines
 
--- what lines lead a session to
-record IsLedOn (Asks : List ℕ → Asked → Type 0) (s : Session) (xs : List Exchange) (new : Open) : Type 0 where
-  session : Session
-  is_open : new ≡ Some session
-  edits : List EditView
-  changes : List TextChange
-  made : AreMade s edits changes session
-  stand : StandOf Asks s.count s.edition.0 (text_in s.texts) xs edits changes
-
 led_further : (Asks : List ℕ → Asked → Type 0) (s u : Session) (x : Exchange) (xs : List Exchange) (new : Open) → LedOn s u (Asks x.line) x.outcome → IsLedOn (AsksNext u.count) u xs new → IsLedOn Asks s (x ∷ xs) new
 led_further Asks s u x xs new led rest =
     let by_count = subst (λ k. StandOf (AsksNext k) k u.edition.0 (text_in u.texts) xs rest.edits rest.changes) led.made.count rest.stand in
@@ -219,17 +210,13 @@ led_further Asks s u x xs new led rest =
       stand = (led.edits, rest.edits, led.changes, rest.changes, led.stand, by_texts, refl, refl);
     }
 
--- these are the exchanges of the lines and of the text of their answers
-abbrev AreOf : List (List ℕ) → List ℕ → List Exchange → Type 0
-AreOf lines text xs = (lines ≡ map (λ x. x.line) xs) × (text ≡ flat_map answer_of xs)
-
 are_more : (x : Exchange) (xs : List Exchange) (lines : List (List ℕ)) (text later : List ℕ) → text ≡ x.answer ++ 10 ∷ later → AreOf lines later xs → AreOf (x.line ∷ lines) text (x ∷ xs)
 are_more x xs lines text later parts are = (
   ap (λ ls. x.line ∷ ls) are.0,
   parts ∙ sym (append_assoc x.answer (10 ∷ []) later) ∙ ap (λ z. answer_of x ++ z) are.1,
 )
 
-goes_on : (s : Session) (lines : List (List ℕ)) (new : Open) (text : List ℕ) → IsServed Replies (Some s) lines new text → (xs : List Exchange) × AreOf lines text xs × IsLedOn (AsksNext s.count) s xs new
+pub goes_on : (s : Session) (lines : List (List ℕ)) (new : Open) (text : List ℕ) → IsServed Replies (Some s) lines new text → IsLedOnByAnswers s lines text new
 goes_on s [] new text h = ([], (refl, h.1), record { session = s; is_open = h.0; edits = []; changes = []; made = made_none s; stand = (refl, refl) })
 goes_on s (line ∷ lines) new text h =
     let a = goes_line s line h.0 h.1 h.2 h.4 h.5 in
@@ -242,20 +229,18 @@ goes_on s (line ∷ lines) new text h =
 -- behind a line that opens no session
 none_more : (x : Exchange) (lines : List (List ℕ)) (text later : List ℕ) (new : Open) → text ≡ x.answer ++ 10 ∷ later → OpensNone x.outcome → IsLedByAnswers lines later new → IsLedByAnswers (x.line ∷ lines) text new
 none_more x lines text later new parts none rest =
-    let are = are_more x rest.0 lines text later parts (rest.1, rest.2) in
-    (x ∷ rest.0, are.0, are.1, inl (none, rest.3))
+    (x ∷ rest.0, are_more x rest.0 lines text later parts rest.1, inl (none, rest.2))
 
 -- behind the one that opens it
 opened_more : (x : Exchange) (lines : List (List ℕ)) (text later : List ℕ) (next new : Open) → text ≡ x.answer ++ 10 ∷ later → (o : Opens x.line next x.outcome)
-    → (xs : List Exchange) × AreOf lines later xs × IsLedOn (AsksNext o.3.0.count) o.3.0 xs new
+    → IsLedOnByAnswers o.3.0 lines later new
     → IsLedByAnswers (x.line ∷ lines) text new
 opened_more x lines text later next new parts o rest =
-    let are = are_more x rest.0 lines text later parts rest.1 in
     let led = led_further (AsksFirst o.0) (new_session o.0) o.3.0 x rest.0 new o.3.2 rest.2 in
-    (x ∷ rest.0, are.0, are.1, inr (record { settings = o.0; asked = o.1; opens = o.2; edits = led.edits; changes = led.changes; stand = led.stand; session = led.session; is_open = led.is_open; made = led.made }))
+    (x ∷ rest.0, are_more x rest.0 lines text later parts rest.1, inr (record { settings = o.0; asked = o.1; opens = o.2; led = led }))
 
 pub led_by_answers : (lines : List (List ℕ)) (new : Open) (text : List ℕ) → IsServed Replies None lines new text → IsLedByAnswers lines text new
-led_by_answers [] new text h = ([], refl, h.1, h.0)
+led_by_answers [] new text h = ([], (refl, h.1), h.0)
 led_by_answers (line ∷ lines) new text h =
     let a = begins_line line h.0 h.1 h.2 h.4 h.5 in
     elim a.holds as (λ _. IsLedByAnswers (line ∷ lines) text new) [

@@ -13,4 +13,5 @@ pub mod Made
 pub mod Alone
 pub mod Named
 pub mod Histories
+pub mod Feeds
 pub mod Common

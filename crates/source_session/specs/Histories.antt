@@ -81,23 +81,35 @@ OpensNone (Err (NotRequest pointer)) = Unit {0}
 OpensNone (Err TooLong) = Unit {0}
 OpensNone (Err OutOfMemory) = Unit {0}
 
--- a line opens a session, and all edits that stand from there on lead from the new session to this one
+-- all edits that stand lead from a session to this one, where `Asks` tells what the first line asks for
+pub record IsLedOn (Asks : List ℕ → Asked → Type 0) (s : Session) (xs : List Exchange) (new : Open) : Type 0 where
+  pub session : Session
+  pub is_open : new ≡ Some session
+  pub edits : List EditView
+  pub changes : List TextChange
+  pub made : AreMade s edits changes session
+  pub stand : StandOf Asks s.count s.edition.0 (text_in s.texts) xs edits changes
+
+-- a line opens a session, which it and the later lines lead here
 pub record IsOpenedBy (x : Exchange) (later : List Exchange) (new : Open) : Type 0 where
   pub settings : Settings
   pub asked : Asked
   pub opens : AsksFirst settings x.line asked
-  pub edits : List EditView
-  pub changes : List TextChange
-  pub stand : StandOf (AsksFirst settings) (length settings.crates) settings.edition.0 (text_in []) (x ∷ later) edits changes
-  pub session : Session
-  pub is_open : new ≡ Some session
-  pub made : AreMade (new_session settings) edits changes session
+  pub led : IsLedOn (AsksFirst settings) (new_session settings) (x ∷ later) new
 
 -- a new conversation leads here: some lines open no session, and the next one opens it
 abbrev pub IsLedBy : List Exchange → Open → Type 0
 IsLedBy [] new = new ≡ None
 IsLedBy (x ∷ later) new = (OpensNone x.outcome × IsLedBy later new) ⊎ IsOpenedBy x later new
 
--- the same of a conversation of these lines, which this text answers
+-- these are the exchanges of the lines and of the text of their answers
+abbrev pub AreOf : List (List ℕ) → List ℕ → List Exchange → Type 0
+AreOf lines text xs = (lines ≡ map (λ x. x.line) xs) × (text ≡ flat_map answer_of xs)
+
+-- a new conversation of these lines, which this text answers, leads here
 abbrev pub IsLedByAnswers : List (List ℕ) → List ℕ → Open → Type 0
-IsLedByAnswers lines text new = (xs : List Exchange) × (lines ≡ map (λ x. x.line) xs) × (text ≡ flat_map answer_of xs) × IsLedBy xs new
+IsLedByAnswers lines text new = (xs : List Exchange) × AreOf lines text xs × IsLedBy xs new
+
+-- so does one over an open session
+abbrev pub IsLedOnByAnswers : Session → List (List ℕ) → List ℕ → Open → Type 0
+IsLedOnByAnswers s lines text new = (xs : List Exchange) × AreOf lines text xs × IsLedOn (AsksNext s.count) s xs new

@@ -1,17 +1,28 @@
-//! What holds of whole conversations, and that a copy of a fault is its source. The functions do nothing.
-ghost use Rattle.std.specs.Prelude.{ℕ, List, None};
+//! What holds of whole conversations and of answers, and that a copy of a fault is its source. The functions do nothing.
+ghost use Rattle.std.specs.Prelude.{ℕ, List, None, Some};
 ghost use Rattle.hir_input.specs.Equality.{IsCopied};
+ghost use Rattle.line_stream.specs.Lines.{HasNoFeed, Told};
 ghost use Rattle.line_stream.specs.Served.{IsServed};
-ghost use Rattle.source_session.specs.Histories.{IsLedByAnswers};
+ghost use Rattle.source_session.specs.Histories.{IsLedByAnswers, IsLedOnByAnswers};
 ghost use Rattle.source_session.specs.Replies.{Open, Replies};
+ghost use Rattle.source_session.specs.Sessions.{Session};
 
 use crate::splice::ChangeFault;
 
-// A new conversation, whatever its lines, is where the edits lead that stand by its answers.
+// A conversation, whatever its lines, is where the edits lead that stand by its answers: a new one, and one over an open session.
 fn conversations()
     ensures led { (lines : List (List ℕ)) (new : Open) (text : List ℕ)
         → IsServed Replies None lines new text
         → IsLedByAnswers lines text new }
+    ensures led_on { (s : Session) (lines : List (List ℕ)) (new : Open) (text : List ℕ)
+        → IsServed Replies (Some s) lines new text
+        → IsLedOnByAnswers s lines text new }
+{}
+
+// An answer is one line.
+fn answers()
+    ensures { (old new : Open) (told : Told) (text : List ℕ)
+        → Replies old told new text → HasNoFeed text }
 {}
 
 fn faults()
