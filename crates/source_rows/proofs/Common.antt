@@ -4,7 +4,9 @@ pub use Rattle.rust_cursor.specs.Tokens.{Tokens}
 pub use Rattle.rust_members.specs.Views.{member_view}
 pub use Rattle.source_rows.specs.ChangeViews.{row_change_view, text_row_view}
 pub use Rattle.source_rows.specs.Changes.{row_change_of, same_text, same_texts}
-pub use Rattle.source_rows.specs.Headers.{gap_text, is_over, reach_behind, spaced_from, spaced_tokens}
+pub use Rattle.source_rows.specs.Blanks.{first_spacing, gap_text, spacing_behind}
+pub use Rattle.source_rows.specs.declared.blanks.Spacing.{Spacing}
+pub use Rattle.source_rows.specs.Headers.{is_over, spaced_from, spaced_tokens}
 pub use Rattle.source_rows.specs.Inner.{labelled_view, row_match, with_label}
 pub use Rattle.source_rows.specs.Labels.{Outer, modules_path, text_at}
 pub use Rattle.source_rows.specs.Parts.{Part, around_behind, item_parts, item_parts_from, member_part, parts_of, still_open}

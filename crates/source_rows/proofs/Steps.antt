@@ -1,7 +1,7 @@
 -- Steps of what is done in turns.
 use Rattle.std.proofs.Common.{◌≡◌, ◌<◌, ◌≤◌, ◌+◌, ℕ, suc, true, false, List, [], ◌∷◌, ◌++◌, length, map, drop, get_or, refl, ap, sym, ◌∙◌, arith, append_assoc, append-nil, Option, Bool, nat_le, codes}
 use Rattle.std.proofs.Math.Seq.{drop-cons}
-use Rattle.source_rows.proofs.Common.{nat_tests, Tokens, not_first, gap_text, is_over, reach_behind, spaced_tokens, spaced_from, Outer, Part, still_open, parts_of, around_behind, item_parts_from, outside, holes_begun, part_view}
+use Rattle.source_rows.proofs.Common.{nat_tests, Tokens, not_first, Spacing, gap_text, is_over, spacing_behind, spaced_tokens, spaced_from, Outer, Part, still_open, parts_of, around_behind, item_parts_from, outside, holes_begun, part_view}
 use Rattle.hir_input.specs.declared.edition.EditionYear.{EditionYear}
 use Rattle.rust_lexer.specs.Piece.{Piece}
 use Rattle.source_rows.specs.Labels.{label}
@@ -12,22 +12,22 @@ use Rattle.rust_items.specs.declared.source_file.ItemPlace.{ItemPlace}
 
 -- ---- headers
 
-stop_from : (is_cut : Bool) (reach : ℕ) (done : List ℕ) (before : ℕ) (ts : Tokens) (left : List Piece) → is_over is_cut reach done ts ≡ true → spaced_from is_cut reach done before ts left ≡ done
-stop_from is_cut reach done before ts [] e = refl
-stop_from is_cut reach done before ts (t ∷ more) e = rw e refl
+stop_from : (is_cut : Bool) (done : List ℕ) (s : Spacing) (ts : Tokens) (left : List Piece) → is_over is_cut s.reach done ts ≡ true → spaced_from is_cut done s ts left ≡ done
+stop_from is_cut done s ts [] e = refl
+stop_from is_cut done s ts (t ∷ more) e = rw e refl
 
-pub spaced_stop : (is_cut : Bool) (reach : ℕ) (done : List ℕ) (before : ℕ) (ts : Tokens) → is_over is_cut reach done ts ≡ true → spaced_tokens is_cut reach done before ts ≡ done
-spaced_stop is_cut reach done before ts e = stop_from is_cut reach done before ts ts.left e
+pub spaced_stop : (is_cut : Bool) (done : List ℕ) (s : Spacing) (ts : Tokens) → is_over is_cut s.reach done ts ≡ true → spaced_tokens is_cut done s ts ≡ done
+spaced_stop is_cut done s ts e = stop_from is_cut done s ts ts.left e
 
-more_from : (is_cut : Bool) (reach : ℕ) (done : List ℕ) (before past : ℕ) (left : List Piece) (u : Option ℕ) (y : EditionYear) → (let here : Tokens = record { past = past; left = left; unended = u; edition = y } in
-    is_over is_cut reach done here ≡ false → spaced_tokens is_cut reach done before here ≡ spaced_tokens is_cut (reach_behind reach here) (done ++ (gap_text before here ++ text here)) (symbol here) (bumped here))
+more_from : (is_cut : Bool) (done : List ℕ) (s : Spacing) (past : ℕ) (left : List Piece) (u : Option ℕ) (y : EditionYear) → (let here : Tokens = record { past = past; left = left; unended = u; edition = y } in
+    is_over is_cut s.reach done here ≡ false → spaced_tokens is_cut done s here ≡ spaced_tokens is_cut (done ++ (gap_text s here ++ text here)) (spacing_behind s here) (bumped here))
 unfolding is_empty bumped
-more_from is_cut reach done before past [] u y e = absurd cc
-more_from is_cut reach done before past (t ∷ ts) u y e = rw e refl
+more_from is_cut done s past [] u y e = absurd cc
+more_from is_cut done s past (t ∷ ts) u y e = rw e refl
 
-pub spaced_more : (is_cut : Bool) (reach : ℕ) (done : List ℕ) (before : ℕ) (ts : Tokens) → is_over is_cut reach done ts ≡ false
-    → spaced_tokens is_cut reach done before ts ≡ spaced_tokens is_cut (reach_behind reach ts) (done ++ (gap_text before ts ++ text ts)) (symbol ts) (bumped ts)
-spaced_more is_cut reach done before ts e = more_from is_cut reach done before ts.past ts.left ts.unended ts.edition e
+pub spaced_more : (is_cut : Bool) (done : List ℕ) (s : Spacing) (ts : Tokens) → is_over is_cut s.reach done ts ≡ false
+    → spaced_tokens is_cut done s ts ≡ spaced_tokens is_cut (done ++ (gap_text s ts ++ text ts)) (spacing_behind s ts) (bumped ts)
+spaced_more is_cut done s ts e = more_from is_cut done s ts.past ts.left ts.unended ts.edition e
 
 -- a header that is not over has a token
 pub end_some : (is_cut : Bool) (reach : ℕ) (done : List ℕ) (ts : Tokens) → is_over is_cut reach done ts ≡ false → is_empty ts ≡ false

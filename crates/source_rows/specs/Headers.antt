@@ -3,28 +3,13 @@ use Rattle.std.specs.Prelude.{ℕ, Bool, true, false, ◌==◌, ◌&&◌, ◌||�
 use Rattle.hir_input.specs.declared.edition.EditionYear.{EditionYear}
 use Rattle.rust_lexer.specs.Piece.{Piece}
 use Rattle.rust_cursor.specs.Tokens.{Tokens, tokens_of}
-use Rattle.rust_cursor.specs.Words.{symbol, word, text, is_empty, is_at_open, bumped}
-use Rattle.rust_cursor.specs.Brackets.{behind_tree}
+use Rattle.rust_cursor.specs.Words.{symbol, word, text, is_empty, bumped}
 use Rattle.rust_cursor.specs.Angles.{behind_angles}
 use Rattle.rust_leaves.specs.Fronts.{front}
 use Rattle.rust_paths.specs.declared.names.TextRange.{TextRange}
+use Rattle.source_rows.specs.declared.blanks.Spacing.{Spacing}
+use Rattle.source_rows.specs.Blanks.{first_spacing, gap_text, spacing_behind}
 use Rattle.source_rows.specs.Labels.{text_at}
-
--- no blank stands behind `<`, `(`, `[`, `&`, `!` and `:`
-abbrev pub clings_behind : ℕ → Bool
-clings_behind c = c == 60 || (c == 40 || (c == 91 || (c == 38 || (c == 33 || c == 58))))
-
--- nor before `<`, `>`, `)`, `(`, `]`, `,`, `;` and `:`
-abbrev pub clings_before : ℕ → Bool
-clings_before c = c == 60 || (c == 62 || (c == 41 || (c == 40 || (c == 93 || (c == 44 || (c == 59 || c == 58))))))
-
--- the `!` of a macro call comes next
-abbrev pub is_call_mark : Tokens → Bool
-is_call_mark ts = symbol ts == 33 && is_at_open (bumped ts)
-
--- what stands between a token of this symbol and the next
-abbrev pub gap_text : ℕ → Tokens → List ℕ
-gap_text before ts = if clings_behind before || (clings_before (symbol ts) || is_call_mark ts) then [] else 32 ∷ []
 
 -- what can follow a header, of which this is done: `{`, `;`, `=`, and a `!` that is not its first token
 abbrev pub can_follow : List ℕ → ℕ → Bool
@@ -38,23 +23,19 @@ ends_before is_cut done ts = bytes_eq (word ts) (codes "where") || (not is_cut &
 abbrev pub is_over : Bool → ℕ → List ℕ → Tokens → Bool
 is_over is_cut reach done ts = if is_empty ts then true else (if nat_lt ts.past reach then false else ends_before is_cut done ts)
 
--- up to where brackets reach behind the next token
-abbrev pub reach_behind : ℕ → Tokens → ℕ
-reach_behind reach ts = if nat_lt ts.past reach || not (is_at_open ts) then reach else (behind_tree ts).past
+-- the texts of tokens behind others, with blanks; at most as many as a token is in this list
+abbrev pub spaced_from : Bool → List ℕ → Spacing → Tokens → List Piece → List ℕ
+spaced_from is_cut done s ts [] = done
+spaced_from is_cut done s ts (_ ∷ more) =
+    if is_over is_cut s.reach done ts then done
+    else spaced_from is_cut (done ++ (gap_text s ts ++ text ts)) (spacing_behind s ts) (bumped ts) more
 
--- the texts of tokens behind others, the last of which has this symbol; at most as many as a token is in this list
-abbrev pub spaced_from : Bool → ℕ → List ℕ → ℕ → Tokens → List Piece → List ℕ
-spaced_from is_cut reach done before ts [] = done
-spaced_from is_cut reach done before ts (_ ∷ more) =
-    if is_over is_cut reach done ts then done
-    else spaced_from is_cut (reach_behind reach ts) (done ++ (gap_text before ts ++ text ts)) (symbol ts) (bumped ts) more
-
-abbrev pub spaced_tokens : Bool → ℕ → List ℕ → ℕ → Tokens → List ℕ
-spaced_tokens is_cut reach done before ts = spaced_from is_cut reach done before ts ts.left
+abbrev pub spaced_tokens : Bool → List ℕ → Spacing → Tokens → List ℕ
+spaced_tokens is_cut done s ts = spaced_from is_cut done s ts ts.left
 
 -- the header of an item, which this is the text of, or what of it stands before its braces
 unfoldable pub header_in : Bool → EditionYear → List ℕ → List ℕ
-header_in is_cut edition item = spaced_tokens is_cut 0 [] 60 (behind_angles (front (tokens_of edition item)).1)
+header_in is_cut edition item = spaced_tokens is_cut [] first_spacing (behind_angles (front (tokens_of edition item)).1)
 
 -- the header of an item that stands there in a text; if it is an impl whose braces are known, they are these
 abbrev pub header : EditionYear → List ℕ → TextRange → Option TextRange → List ℕ

@@ -1,4 +1,5 @@
 pub mod Labels
+pub mod Blanks
 pub mod Headers
 pub mod Bodies
 pub mod Parts

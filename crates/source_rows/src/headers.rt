@@ -2,8 +2,11 @@
 
 ghost use Rattle.std.specs.Prelude.{◌≡◌, ◌++◌, [], IfOk, OnOk, string_bytes};
 ghost use Rattle.rust_cursor.specs.Words.{text};
+ghost use Rattle.source_rows.specs.Blanks.{gap_text};
+ghost use Rattle.source_rows.specs.Blanks as blanks;
 ghost use Rattle.source_rows.specs.Headers as spec;
 
+use crate::blanks::{Spacing, first_spacing, spacing_behind, stands_close};
 use crate::labels::{ROOM, text_at};
 use hir_input::EditionYear;
 use rust_cursor::Cursor;
@@ -11,39 +14,12 @@ use rust_leaves::{Wanted, WantedMetas, wanted_front};
 use rust_members::TextRange;
 use std::alloc::{AllocError, Global};
 
-fn clings_behind(symbol: u8) -> bool
-    ensures { result ≡ spec.clings_behind symbol }
-{
-    matches!(symbol, b'<' | b'(' | b'[' | b'&' | b'!' | b':')
-}
-
-fn clings_before(symbol: u8) -> bool
-    ensures { result ≡ spec.clings_before symbol }
-{
-    matches!(
-        symbol,
-        b'<' | b'>' | b')' | b'(' | b']' | b',' | b';' | b':'
-    )
-}
-
-/// Whether the `!` of a macro call comes next.
-fn is_call(cursor: &Cursor<'_>) -> bool
-    ensures { result ≡ spec.is_call_mark cursor.now }
-{
-    if cursor.symbol() != b'!' {
-        return false;
-    }
-    let mut behind = cursor.ahead();
-    behind.bump();
-    behind.is_at_open()
-}
-
-/// Adds the text of the next token, behind one of this symbol.
-fn push_token(out: &mut String, before: u8, cursor: &Cursor<'_>) -> Result<(), AllocError>
+/// Adds the text of the next token, which stands there.
+fn push_token(out: &mut String, spacing: Spacing, cursor: &Cursor<'_>) -> Result<(), AllocError>
     ensures { OnOk result (string_bytes out.new ≡ string_bytes out.old
-        ++ (spec.gap_text before cursor.now ++ text cursor.now)) }
+        ++ (gap_text spacing cursor.now ++ text cursor.now)) }
 {
-    if clings_behind(before) || clings_before(cursor.symbol()) || is_call(cursor) {
+    if stands_close(spacing, cursor) {
         return out.push_str(cursor.text());
     }
     out.push_str(" ")?;
@@ -80,29 +56,15 @@ fn is_over(is_cut: bool, reach: usize, out: &str, cursor: &Cursor<'_>) -> bool
     cursor.past() >= reach && ends_before(is_cut, out, cursor)
 }
 
-/// Up to where brackets reach behind the next token.
-fn reach_behind(reach: usize, cursor: &Cursor<'_>) -> usize
-    ensures { result ≡ spec.reach_behind reach cursor.now }
-{
-    if cursor.past() < reach || !cursor.is_at_open() {
-        return reach;
-    }
-    let mut behind = cursor.ahead();
-    behind.pass_tree();
-    behind.past()
-}
-
 #[tactic(auto, using(crate::proofs::Steps::spaced_stop, crate::proofs::Steps::spaced_more))]
 fn spaced(alloc: Global, is_cut: bool, cursor: &mut Cursor<'_>) -> Result<String, AllocError>
-    ensures { IfOk result (λ out. string_bytes out ≡ spec.spaced_tokens is_cut 0 [] 60 cursor.old) }
+    ensures { IfOk result (λ out. string_bytes out ≡ spec.spaced_tokens is_cut [] blanks.first_spacing cursor.old) }
 {
     let mut out = String::with_capacity(alloc, ROOM)?;
-    let mut before = b'<';
-    let mut reach = 0;
-    'tokens: while !is_over(is_cut, reach, &out, cursor) {
-        push_token(&mut out, before, cursor)?;
-        before = cursor.symbol();
-        reach = reach_behind(reach, cursor);
+    let mut spacing = first_spacing();
+    'tokens: while !is_over(is_cut, spacing.reach, &out, cursor) {
+        push_token(&mut out, spacing, cursor)?;
+        spacing = spacing_behind(spacing, cursor);
         cursor.bump();
     }
     Ok(out)

@@ -10,11 +10,16 @@ ghost use Rattle.source_rows.specs.Enabled.{any_disables};
 
 use crate::compare::{Change, Row};
 use crate::kept::{Hole, Skeleton};
+use crate::labels::KindTexts;
 use crate::reading::Reading;
 use crate::source::Source;
 
 fn readings()
     ensures { IsCopied ⟦<Reading<'static> as Clone>⟧.is_clone }
+{}
+
+fn kinds()
+    ensures { IsCopied ⟦<KindTexts as Clone>⟧.is_clone }
 {}
 
 fn sources()

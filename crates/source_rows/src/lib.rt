@@ -2,6 +2,7 @@
 //! another text; and what lists tell of items beside the tree, as the type and the trait of an impl, and members that have a name.
 #![tactic(auto)]
 
+mod blanks;
 mod compare;
 mod enabled;
 mod headers;
