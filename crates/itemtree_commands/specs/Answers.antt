@@ -1,5 +1,5 @@
 -- What the commands answer, from the text of a file on.
-use Rattle.std.specs.Prelude.{◌≡◌, ◌↔◌, ℕ, Bool, IsTrue, if◌then◌else◌, Option, Some, None, List, ◌++◌, length, string_bytes}
+use Rattle.std.specs.Prelude.{◌≡◌, ◌↔◌, ℕ, Bool, IsTrue, if◌then◌else◌, Option, Some, None, List, length, string_bytes}
 use Rattle.hir_input.specs.Cfg.{AtomView}
 use Rattle.item_tree.specs.Page.{page}
 use Rattle.tree_walk.specs.Rows.{rows}
