@@ -3,3 +3,4 @@ pub mod Refused
 pub mod BareTrees
 pub mod Common
 pub mod RowTrees
+pub mod Checks

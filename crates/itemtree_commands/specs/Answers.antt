@@ -1,5 +1,5 @@
 -- What the commands answer, from the text of a file on.
-use Rattle.std.specs.Prelude.{◌≡◌, ◌↔◌, ℕ, Bool, IsTrue, if◌then◌else◌, Option, Some, None, List, ◌++◌, length, string_bytes}
+use Rattle.std.specs.Prelude.{◌≡◌, ◌↔◌, ℕ, Bool, IsTrue, if◌then◌else◌, Option, Some, None, List, length, string_bytes}
 use Rattle.hir_input.specs.Cfg.{AtomView}
 use Rattle.item_tree.specs.Page.{page}
 use Rattle.tree_walk.specs.Rows.{rows}
@@ -16,8 +16,7 @@ use Rattle.source_listing.specs.Uses.{FilePlaces, placed}
 use Rattle.source_listing.specs.Search.{Query, found_lines}
 use Rattle.source_listing.specs.Tags.{tags}
 use Rattle.source_problems.specs.Texts.{source_problems}
-use Rattle.rust_items.specs.declared.source_file.SourceFile.{SourceFile}
-use Rattle.rust_items.specs.SourceFiles.{IsSourceFile}
+use Rattle.rust_items.specs.SourceFiles.{FileView, IsFileView}
 use Rattle.itemtree_commands.specs.declared.trees.SourceTree.{SourceTree}
 use Rattle.itemtree_commands.specs.declared.trees.SourceError.{SourceError}
 use Rattle.itemtree_commands.specs.Trees.{IsTreeRefused, IsTreeOf}
@@ -93,7 +92,7 @@ IsPage o has_ids text out = (t : SourceTree) × HasTree o text t × (out ≡ if_
 -- the lines of what is wrong with what is read of the text, and whether there are any
 abbrev pub IsCheck : Options → Source → Checked → Type 0
 IsCheck o s c =
-    (file : SourceFile) × IsSourceFile o.edition.year s.text file × (string_bytes c.text ≡ problem_lines s (source_problems s.text file))
+    (file : FileView) × IsFileView o.edition.year s.text file × (string_bytes c.text ≡ problem_lines s (source_problems s.text file))
     × (IsTrue c.is_clean ↔ (length (source_problems s.text file) ≡ 0))
 
 -- the command has no answer: the text has no tree, or memory runs out

@@ -17,8 +17,8 @@ use source_listing::{Choice, Look, Query, Side, Source, without_ids};
 use source_problems::source_problems;
 use source_rows::Reading;
 use std::alloc::{AllocError, Global};
-use trees::row_tree;
-pub use trees::{SourceError, SourceTree, source_file, source_tree};
+use trees::{checked_source, row_tree};
+pub use trees::{SourceError, SourceTree, source_tree};
 
 /// What trees are made and written under.
 #[derive(Debug, Drop)]
@@ -372,13 +372,13 @@ pub fn changed(
 ///
 /// # Errors
 ///
-/// Those of `source_file`: it needs no tree.
+/// `TooLong` exactly where the text has more than 2^32 bytes, and `OutOfMemory`: it needs no tree.
 #[tactic(auto, using(crate::proofs::Refused::no_memory_to_read))]
 pub fn check(alloc: Global, source: Source<'_>, options: &Options) -> Result<Checked, SourceError>
     ensures checked { IfOk result (spec.IsCheck options.now (source_view source.entry)) }
     ensures refused { IfErr result (IsTextUnread source.entry.text.now) }
 {
-    let file = source_file(alloc, source.text, options.edition.year)?;
+    let file = checked_source(alloc, source.text, options.edition.year)?;
     let problems = source_problems(alloc, source.text, &file)?;
     Ok(Checked {
         text: source_listing::problem_lines(alloc, source, &problems)?,

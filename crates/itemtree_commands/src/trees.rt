@@ -4,17 +4,15 @@ ghost use Rattle.std.specs.Prelude.{◌≡◌, ◌≢◌, ◌≤◌, ◌^◌, co
 ghost use Rattle.hir_input.specs.Name.{is_among};
 ghost use Rattle.hir_input.specs.Syntax.{syntax_view};
 ghost use Rattle.item_tree.specs.Lowered.{IsTooLargeIn, kept_in};
-ghost use Rattle.rust_items.specs.SourceFiles.{IsClippedFile, IsSourceFile, file_view};
+ghost use Rattle.rust_items.specs.SourceFiles.{IsClippedFile, file_view};
 ghost use Rattle.item_tree.specs.declared.fault.LowerError.TheVariants.{OutOfMemory};
 ghost use Rattle.itemtree_commands.specs.declared.trees.SourceError.TheVariants.{Lower};
-ghost use Rattle.itemtree_commands.specs.Inner.{HasRowsOf};
+ghost use Rattle.itemtree_commands.specs.Inner.{HasRowsOf, checked_wanted};
 ghost use Rattle.itemtree_commands.specs.Trees.{HasOwnIds, IsTreeRefused, IsTreeOf, IsTextUnread, metas_under, wanted_under};
 
 use hir_input::{EditionYear, Name};
 use item_tree::{CrateData, ItemTree, LowerError, lower_syntax};
-use rust_items::{
-    ItemPlace, Problem, SourceFile, Wanted, WantedMetas, read_source_file, read_wanted,
-};
+use rust_items::{ItemPlace, Problem, SourceFile, Wanted, WantedMetas, read_wanted};
 use std::alloc::{AllocError, Global};
 use thiserror::Error;
 
@@ -88,28 +86,6 @@ fn tree_of(
     })
 }
 
-/// Reads a text of an edition.
-///
-/// # Errors
-///
-/// `TooLong` exactly where the text has more than 2^32 bytes, and `OutOfMemory`.
-pub fn source_file(
-    alloc: Global,
-    text: &str,
-    edition: EditionYear,
-) -> Result<SourceFile, SourceError>
-    ensures file { IfOk result (IsSourceFile edition text.now) }
-    ensures ids { IfOk result (λ file. AllPairs (λ p q. p.id ≢ q.id) file.places.items) }
-    ensures short { OnOk result (length text.now ≤ 2 ^ 32) }
-    ensures refused { IfErr result (IsTextUnread text.now) }
-{
-    if text.len() > MOST_BYTES {
-        return Err(SourceError::TooLong);
-    }
-    let file = read_source_file(alloc, text, edition)?;
-    Ok(file)
-}
-
 /// Whether documentation is left out.
 fn skips_docs(skipped: &[Name]) -> bool
     ensures { result ≡ is_among skipped.now (codes "doc") }
@@ -145,6 +121,24 @@ fn wanted_source(
     }
     let file = read_wanted(alloc, text, wanted, edition)?;
     Ok(file)
+}
+
+/// Reads what may be wrong with a text of an edition: no texts of bodies, and no documentation.
+pub(crate) fn checked_source(
+    alloc: Global,
+    text: &str,
+    edition: EditionYear,
+) -> Result<SourceFile, SourceError>
+    ensures file { IfOk result
+        (λ file. IsClippedFile checked_wanted edition text.now (file_view file)) }
+    ensures short { OnOk result (length text.now ≤ 2 ^ 32) }
+    ensures refused { IfErr result (IsTextUnread text.now) }
+{
+    let wanted = Wanted {
+        bodies: false,
+        metas: WantedMetas::Undocumented,
+    };
+    wanted_source(alloc, text, wanted, edition)
 }
 
 /// Reads a text of an edition and makes its tree in a crate: the items that are kept, with the attributes that their metas

@@ -1,5 +1,9 @@
 -- Places by their ids.
 use Rattle.source_listing.proofs.Common.{◌≡◌, ◌≢◌, ℕ, suc, ◌<◌, ◌+◌, ◌-◌, ◌==◌, true, false, if◌then◌else◌, List, [], ◌∷◌, ◌++◌, length, length-append, take, take-append-drop, refl, ap, sym, ◌∙◌, subst, Some, arith, append_assoc, ⊎_elim, slice_index_or, nat_tests, FileAstId, ItemPlace, IsEndOf, drop-append_seam, cases_Bool, AreDistinct, is_id, place_of}
+use Rattle.std.proofs.Common.{rules}
+use Rattle.std.proofs.lemmas.Bool.Decides.{same_from_decides}
+use Rattle.hir_input.specs.Equality.{DecidesEq}
+use Rattle.hir_input.specs.contracts.ids.FileAstIdPartialEq.TheImpl as ids
 use Rattle.hir_input.specs.declared.ids.AstIdKind.{AstIdKind}
 use Rattle.hir_input.specs.declared.ids.AstIdKind.TheVariants as kind
 use Rattle.rust_ids.specs.Ids.{kind_place}
@@ -48,6 +52,17 @@ is_one a b t =
     let hashes : a.hash ≡ b.hash = grind (arith, nat_tests) in
     let numbers : a.number ≡ b.number = grind (arith, nat_tests) in
     id_is a b (sym (kind_back a.kind) ∙ ap kind_of places ∙ kind_back b.kind) hashes numbers
+
+-- and one id passes it
+one_is : (a b : FileAstId) → a ≡ b → is_id a b ≡ true
+one_is a b e = subst (λ x. is_id a x ≡ true) e (let same : is_id a a ≡ true = grind (arith, nat_tests) in same)
+
+ids_decide : DecidesEq ids.ghosts.eq
+ids_decide a b = search rules
+
+-- it is that of `==`
+pub same_id : (a b : FileAstId) → ids.ghosts.eq a b ≡ is_id a b
+same_id a b = same_from_decides (ids.ghosts.eq a b) (is_id a b) (ids_decide a b) (is_one a b, one_is a b)
 
 -- ---- distinct places
 

@@ -105,6 +105,7 @@ message problem.DeepAttribute = codes "an attribute here is nested too deep to b
 message problem.VisibilityPath = codes "the path of a visibility here cannot be read"
 message problem.UsePath = codes "a path of this use cannot be read"
 message problem.MacroPath = codes "the path of this macro call cannot be read"
+message problem.ConflictMarker = codes "a merge left this conflict marker"
 
 abbrev pub problem_line : Source → SourceProblem → List ℕ
 problem_line s p = place_at s p.at ++ message p.kind ++ codes "\n"

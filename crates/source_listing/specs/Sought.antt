@@ -1,8 +1,9 @@
 -- How a path of names that is looked for is written.
-use Rattle.std.specs.Prelude.{ℕ, Bool, true, false, ◌==◌, nat_eq, if◌then◌else◌, List, [], ◌∷◌, ◌++◌, codes, length, drop, Option, Some, None, option_map, unwrap_or}
+use Rattle.std.specs.Prelude.{ℕ, Bool, true, false, ◌==◌, ◌&&◌, not, nat_eq, if◌then◌else◌, List, [], ◌∷◌, ◌++◌, codes, length, drop, Option, Some, None, option_map, unwrap_or}
 use Rattle.std.specs.List.{slice_split, starts_with}
 use Rattle.std.specs.Option.{option_or}
 use Rattle.rust_lexer.specs.Identifier.{is_identifier}
+use Rattle.rust_paths.specs.Names.{is_path_keyword}
 use Rattle.source_listing.specs.Search.{bare_segment}
 
 -- a path that is looked for: names with two colons before each, from the top on or anywhere
@@ -21,9 +22,13 @@ text_behind front text = if starts_with nat_eq text front then Some (drop (lengt
 abbrev pub without_raw : List ℕ → List ℕ
 without_raw word = unwrap_or (text_behind (codes "r#") word) word
 
+-- an identifier that something can be called
+abbrev pub can_be_name : List ℕ → Bool
+can_be_name word = is_identifier word && not (is_path_keyword word)
+
 -- the name that a word is, also with `r#`
 abbrev pub sought_name : List ℕ → Option (List ℕ)
-sought_name word = if is_identifier (without_raw word) then Some (without_raw word) else None
+sought_name word = if can_be_name (without_raw word) then Some (without_raw word) else None
 
 -- the same of a word before a colon, if there is nothing between that and the next colon
 abbrev pub name_before : List ℕ → List ℕ → Option (List ℕ)

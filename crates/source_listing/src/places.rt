@@ -15,10 +15,11 @@ pub(crate) struct Places<'a> {
     ghost left_is: { IsEndOf left.now all.now },
 }
 
+#[tactic(auto, using(crate::proofs::Found::same_id))]
 pub(crate) fn is_id(id: FileAstId, other: FileAstId) -> bool
     ensures { result ≡ spec.is_id id other }
 {
-    id.kind as u8 == other.kind as u8 && id.hash == other.hash && id.number == other.number
+    id == other
 }
 
 /// The first place of an id, and the places behind it.

@@ -31,6 +31,7 @@ fn message(kind: SourceProblemKind) -> &'static str
         SourceProblemKind::VisibilityPath => "the path of a visibility here cannot be read",
         SourceProblemKind::UsePath => "a path of this use cannot be read",
         SourceProblemKind::MacroPath => "the path of this macro call cannot be read",
+        SourceProblemKind::ConflictMarker => "a merge left this conflict marker",
     }
 }
 

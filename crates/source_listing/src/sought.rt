@@ -1,6 +1,7 @@
 //! Paths of names that are looked for, as they are written.
 ghost use Rattle.std.specs.Prelude.{◌≡◌, ◌==◌, IfOk, map, option_map, string_bytes};
 ghost use Rattle.std.specs.List.{slice_split};
+ghost use Rattle.rust_paths.specs.Names.{is_path_keyword};
 ghost use Rattle.source_listing.specs.Sought as spec;
 ghost use Rattle.source_listing.specs.Views.{sought_view};
 
@@ -44,12 +45,20 @@ fn without_raw(word: &str) -> &str
     }
 }
 
+/// Whether nothing can have this name.
+#[tactic(auto, unfolding(rust_paths::specs::Names::is_path_keyword))]
+fn is_path_keyword(name: &str) -> bool
+    ensures { result ≡ is_path_keyword name.now }
+{
+    matches!(name, "crate" | "self" | "super" | "Self")
+}
+
 /// The name that a word is.
 fn sought_name(word: &str) -> Option<&str>
     ensures { option_map (λ name. name.now) result ≡ spec.sought_name word.now }
 {
     let name = without_raw(word);
-    if !is_identifier(name) {
+    if !is_identifier(name) || is_path_keyword(name) {
         return None;
     }
     Some(name)
@@ -129,7 +138,7 @@ fn sought_from(
 }
 
 /// The path that a text is: names, also with `r#`, with two colons between each two, from the top on behind `::` or `crate::`,
-/// and else anywhere.
+/// and else anywhere. `crate`, `self`, `super` and `Self` are no names.
 ///
 /// # Errors
 ///

@@ -1,3 +1,4 @@
 pub mod Views
 pub mod Feeds
 pub mod Walked
+pub mod Marks

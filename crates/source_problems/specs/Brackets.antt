@@ -1,4 +1,4 @@
--- What is wrong with the brackets and the quotes of a text. As the reader of items has it, a `}` also ends what was opened in its braces and
+-- What is wrong with the brackets and the quotes of a text, and its conflict markers. As the reader of items has it, a `}` also ends what was opened in its braces and
 -- is not closed, and another bracket closes the last one that is open in the innermost braces.
 use Rattle.std.specs.Prelude.{◌≡◌, ℕ, ◌==◌, if◌then◌else◌, List, [], ◌∷◌, ◌++◌}
 use Rattle.rust_lexer.specs.declared.kind.TokenKind.{TokenKind}
@@ -11,6 +11,7 @@ use Rattle.source_problems.specs.declared.problem.SourceProblem.{SourceProblem}
 use Rattle.source_problems.specs.declared.problem.SourceProblemKind.TheVariants as kind
 use Rattle.source_problems.specs.declared.brackets.OpenBracket.{OpenBracket}
 use Rattle.source_problems.specs.Problems.{problem}
+use Rattle.source_problems.specs.Markers.{marker_behind, marker_problems}
 
 -- what is wrong, and the brackets that are open, the last first
 abbrev pub Step : Type 0
@@ -57,10 +58,14 @@ abbrev pub unclosed_brackets : List OpenBracket → List SourceProblem
 unclosed_brackets [] = []
 unclosed_brackets (o ∷ opened) = problem kind.Unclosed o.at ∷ unclosed_brackets opened
 
--- what is wrong with tokens, by what is open before them
+-- what is wrong with tokens, by what is open before them; they begin no line
 abbrev pub problems_from : List Piece → List OpenBracket → List SourceProblem
 problems_from [] opened = unclosed_brackets opened
-problems_from (t ∷ ts) opened = (bracket_taken t opened).0 ++ problems_from ts (bracket_taken t opened).1
+problems_from (t ∷ ts) opened = (bracket_taken t opened).0 ++ (marker_behind t ts ++ problems_from ts (bracket_taken t opened).1)
+
+-- what is wrong with the tokens of a text, beside its items
+abbrev pub token_problems : List Piece → List SourceProblem
+token_problems ts = marker_problems ts ++ problems_from ts none
 
 -- behind these problems come those of a step, and its brackets are open
 abbrev pub AddsProblems : Step → List SourceProblem → Step → Type 0

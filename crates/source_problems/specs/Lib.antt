@@ -1,4 +1,5 @@
 pub mod Problems
+pub mod Markers
 pub mod Brackets
 pub mod Metas
 pub mod Items

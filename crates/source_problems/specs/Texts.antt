@@ -2,28 +2,25 @@
 use Rattle.std.specs.Prelude.{ℕ, List, [], ◌∷◌, ◌++◌, map}
 use Rattle.std.specs.BTreeSet.{insert_key}
 use Rattle.std.specs.List.Sorted.{IsStrictlySortedBy}
-use Rattle.hir_input.specs.Syntax.{SyntaxView, syntax_view}
 use Rattle.rust_lexer.specs.Tokens.{tokens}
-use Rattle.rust_items.specs.declared.log.Problem.{Problem}
-use Rattle.rust_items.specs.declared.source_file.ItemPlace.{ItemPlace}
-use Rattle.rust_items.specs.declared.source_file.SourceFile.{SourceFile}
 use Rattle.rust_items.specs.LineEnds.{with_feeds, place_in}
+use Rattle.rust_items.specs.SourceFiles.{FileView}
 use Rattle.source_problems.specs.declared.problem.SourceProblem.{SourceProblem}
 use Rattle.source_problems.specs.contracts.problem.SourceProblemOrd.TheImpl as ord
 use Rattle.source_problems.specs.Problems.{problem, told}
-use Rattle.source_problems.specs.Brackets.{none, problems_from}
+use Rattle.source_problems.specs.Brackets.{token_problems}
 use Rattle.source_problems.specs.Items.{syntax_problems}
 
 abbrev pub problem_moved_by : (ℕ → ℕ) → SourceProblem → SourceProblem
 problem_moved_by place p = problem p.kind (place p.at)
 
--- what is wrong with the brackets and the quotes of a text, at their places in the text as it is
+-- what is wrong with the brackets and the quotes of a text, and its conflict markers, at their places in the text as it is
 abbrev pub bracket_problems : List ℕ → List SourceProblem
-bracket_problems text = map (problem_moved_by (place_in text)) (problems_from (tokens (with_feeds text)) none)
+bracket_problems text = map (problem_moved_by (place_in text)) (token_problems (tokens (with_feeds text)))
 
 -- all that is wrong with a text of which this was read
-abbrev pub all_problems : List ℕ → SourceFile → List SourceProblem
-all_problems text file = bracket_problems text ++ (map told file.problems.items ++ syntax_problems (syntax_view file.syntax) file.places.items)
+abbrev pub all_problems : List ℕ → FileView → List SourceProblem
+all_problems text file = bracket_problems text ++ (map told file.problems ++ syntax_problems file.syntax file.places)
 
 -- each in its place in the order of these, unless it is among them
 abbrev pub put_all : List SourceProblem → List SourceProblem → List SourceProblem
@@ -35,7 +32,7 @@ abbrev pub in_order : List SourceProblem → List SourceProblem
 in_order ps = put_all [] ps
 
 -- all that is wrong with a text of which this was read, in order
-abbrev pub source_problems : List ℕ → SourceFile → List SourceProblem
+abbrev pub source_problems : List ℕ → FileView → List SourceProblem
 source_problems text file = in_order (all_problems text file)
 
 -- each stands before those behind it, by its place, or at one place by its kind

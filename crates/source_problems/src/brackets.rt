@@ -1,10 +1,11 @@
-//! Brackets and quotes.
+//! Brackets, quotes and conflict markers.
 
 ghost use Rattle.std.specs.Prelude.{◌≡◌, ◌++◌, IfOk, OnOk};
 ghost use Rattle.rust_cursor.specs.Matched.{closer};
 ghost use Rattle.rust_lexer.specs.Tokens.{tokens};
 ghost use Rattle.source_problems.specs.Brackets as spec;
 
+use crate::markers::{push_marker, push_marker_behind};
 use crate::problem::{SourceProblem, SourceProblemKind, push};
 use rust_lexer::{Lexer, Token, TokenKind};
 use std::alloc::{AllocError, Global};
@@ -116,15 +117,17 @@ fn push_unclosed(
     Ok(())
 }
 
-/// What is wrong with the brackets and the quotes of a text.
+/// What is wrong with the brackets and the quotes of a text, and its conflict markers.
 pub(crate) fn bracket_problems(alloc: Global, text: &str) -> Result<Vec<SourceProblem>, AllocError>
-    ensures { IfOk result (λ v. v.items ≡ spec.problems_from (tokens text.now) spec.none) }
+    ensures { IfOk result (λ v. v.items ≡ spec.token_problems (tokens text.now)) }
 {
     let mut problems = Vec::new(alloc);
     let mut opened = VecDeque::new(alloc);
     let mut lexer = Lexer::new(text);
+    push_marker(&lexer, &mut problems)?;
     'tokens: while let Some(token) = lexer.next() {
         take(&token, &mut opened, &mut problems)?;
+        push_marker_behind(&token, &lexer, &mut problems)?;
     }
     push_unclosed(opened, &mut problems)?;
     Ok(problems)

@@ -1,10 +1,11 @@
-//! All that is wrong with Rust source text, as far as its items, its brackets and its quotes are read.
+//! All that is wrong with Rust source text, as far as its items, its brackets and its quotes are read; and conflict markers.
 #![tactic(auto)]
 
 mod brackets;
 mod conditions;
 mod items;
 mod laws;
+mod markers;
 mod metas;
 mod problem;
 mod text;

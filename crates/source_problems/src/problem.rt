@@ -37,6 +37,8 @@ pub enum SourceProblemKind {
     UsePath,
     /// A macro call whose path has no meaning.
     MacroPath,
+    /// A line that a merge left to tell two sides apart.
+    ConflictMarker,
 }
 
 /// Something wrong, and its byte place in the text. One comes before another where its place does, or else its kind.

@@ -1,8 +1,8 @@
 //! All that is wrong with a text.
 
 ghost use Rattle.std.specs.Prelude.{◌≡◌, ◌++◌, IfOk, OnOk, map};
-ghost use Rattle.hir_input.specs.Syntax.{syntax_view};
 ghost use Rattle.rust_items.specs.LineEnds.{place_by};
+ghost use Rattle.rust_items.specs.SourceFiles.{file_view};
 ghost use Rattle.rust_lexer.specs.Tokens.{tokens};
 ghost use Rattle.source_problems.specs.Brackets as brackets;
 ghost use Rattle.source_problems.specs.Problems as found;
@@ -35,14 +35,14 @@ fn placed(
     Ok(moved)
 }
 
-/// What is wrong with the brackets and the quotes of a text with line feeds alone, at the places of the text as it is.
+/// What is wrong with the brackets, the quotes and the lines of a text with line feeds alone, at the places of the text as it is.
 fn feed_problems(
     alloc: Global,
     feeds: &str,
     ends: &LineEnds,
 ) -> Result<Vec<SourceProblem>, AllocError>
     ensures { IfOk result (λ v. v.items
-        ≡ map (spec.problem_moved_by (place_by ends.now.len ends.now.returns.items)) (brackets.problems_from (tokens feeds.now) brackets.none)) }
+        ≡ map (spec.problem_moved_by (place_by ends.now.len ends.now.returns.items)) (brackets.token_problems (tokens feeds.now))) }
 {
     let problems = bracket_problems(alloc, feeds)?;
     placed(alloc, &problems, ends)
@@ -96,8 +96,11 @@ fn in_order(alloc: Global, problems: &[SourceProblem]) -> Result<Vec<SourceProbl
 }
 
 /// All that is wrong with a text of which this was read, in the order of places, each once: what the reader of items tells; brackets
-/// that do not match; literals and comments without their ends, also those behind which the text goes on; and the paths
-/// without a meaning and the attributes that are too deep, at the items that have them, or at the beginning of the file.
+/// that do not match; literals and comments without their ends, also those behind which the text goes on; conflict markers at the
+/// beginning of lines; and the paths without a meaning and the attributes that are too deep, at the items that have them, or at the
+/// beginning of the file.
+///
+/// Nothing is wrong with the texts of bodies, nor with documentation: what was read may be without both.
 ///
 /// # Errors
 ///
@@ -107,7 +110,7 @@ pub fn source_problems(
     text: &str,
     file: &SourceFile,
 ) -> Result<Vec<SourceProblem>, AllocError>
-    ensures all { IfOk result (λ v. v.items ≡ spec.source_problems text.now file.now) }
+    ensures all { IfOk result (λ v. v.items ≡ spec.source_problems text.now (file_view file.now)) }
     ensures ordered { IfOk result (λ v. spec.AreInOrder v.items) }
 {
     let mut problems = line_problems(alloc, text)?;

@@ -5,7 +5,7 @@ use Rattle.source_rows.proofs.Common.{nat_tests, Tokens, not_first, Spacing, gap
 use Rattle.hir_input.specs.declared.edition.EditionYear.{EditionYear}
 use Rattle.rust_lexer.specs.Piece.{Piece}
 use Rattle.source_rows.specs.Labels.{label}
-use Rattle.rust_cursor.specs.Words.{symbol, text, is_empty, bumped}
+use Rattle.rust_cursor.specs.Words.{text, is_empty, bumped}
 use Rattle.source_rows.specs.declared.kept.Hole.{Hole}
 use Rattle.source_rows.specs.declared.items.Part as code_part
 use Rattle.rust_items.specs.declared.source_file.ItemPlace.{ItemPlace}

@@ -1,5 +1,5 @@
 -- The blanks between the tokens of a header: those that rustfmt writes, told by the tokens alone.
-use Rattle.std.specs.Prelude.{ℕ, Bool, true, false, ◌==◌, ◌&&◌, ◌||◌, not, if◌then◌else◌, List, [], ◌∷◌, codes, nat_lt, Option, Some, bytes_eq}
+use Rattle.std.specs.Prelude.{ℕ, Bool, true, false, ◌==◌, ◌&&◌, ◌||◌, not, if◌then◌else◌, List, [], ◌∷◌, codes, nat_lt, bytes_eq}
 use Rattle.std.specs.List.{list_any}
 use Rattle.rust_cursor.specs.Tokens.{Tokens}
 use Rattle.rust_cursor.specs.Words.{symbol, word, kind, is_at_open, is_pair, bumped}
