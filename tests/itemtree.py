@@ -8,6 +8,7 @@ import resource
 import shlex
 import shutil
 import signal
+import socket
 import subprocess
 import sys
 import tempfile
@@ -64,15 +65,18 @@ def check_long_line(folder):
 
 
 def check_closed_pipe(folder):
-    """Nobody reads past the first line: no complaint."""
+    """Nobody reads past the first line: no complaint, and the status that stood by then."""
     got = run('itemtree outline long.rs | head -1', folder)
     tell(got == 'long.rs:1:4: fn a\n', 'a closed pipe', got, 'long.rs:1:4: fn a\n')
-    for words in (['outline'], ['page'], ['imports'], ['tags', '-o', '-'], ['find', 'area'], ['request'], ['changed', 'known.rs'], ['--help']):
+    absent = b'itemtree: absent: No such file or directory (os error 2)\n'
+    for words, status, said in ((['outline'], 0, b''), (['page'], 0, b''), (['imports'], 0, b''), (['tags', '-o', '-'], 0, b''), (['find', 'area'], 0, b''),
+                                (['request'], 0, b''), (['changed', 'known.rs'], 1, b''), (['--help'], 0, b''), (['check', 'broken.rs'], 1, b''),
+                                (['outline', 'absent'], 2, absent), (['check', 'absent', 'broken.rs'], 2, absent)):
         read, write = os.pipe()
         os.close(read)
         done = subprocess.run([PROGRAM, *words, 'shapes.rs'], cwd=folder, timeout=60, stdout=write, stderr=subprocess.PIPE)
         os.close(write)
-        tell((done.returncode, done.stderr) == (0, b''), f'{words} where nobody reads', (done.returncode, done.stderr))
+        tell((done.returncode, done.stderr) == (status, said), f'{words} where nobody reads', (done.returncode, done.stderr), (status, said))
 
 
 def entries(text):
@@ -115,7 +119,7 @@ def check_documents(offered):
     tell(re.findall(r'^\| (\d) \|', page, re.M) == STATUSES, 'the statuses of docs/ITEMTREE.md')
     told = dict(re.findall(r'^\| `--([\w-]+).*?` \| (.*?) \|', page, re.M))
     wanted = {option: offered[option] for option in told}
-    tell(len(told) == 7 and {option: named(words) for option, words in told.items()} == wanted, 'the options of docs/ITEMTREE.md', told, wanted)
+    tell(len(told) == 9 and {option: named(words) for option, words in told.items()} == wanted, 'the options of docs/ITEMTREE.md', told, wanted)
 
 
 def named(words):
@@ -187,60 +191,228 @@ def write_files(folder, files):
 def check_unread(folder):
     """What cannot be read below a folder is told by its whole path, and the others are done."""
     write_files(folder, {'odd/good.rs': b'fn good() {}', b'odd/bad\xff.rs': b'', b'odd/note\xff.txt': b'', 'odd/sub/ok.rs': b'fn ok() {}',
-                         b'odd/sub/.\xff.rs': b'', 'odd/locked/in.rs': b'fn no() {}', 'odd/sub/shut.rs': b'fn no() {}'})
+                         b'odd/sub/.\xff.rs': b'', 'odd/locked/in.rs': b'fn no() {}', 'odd/sub/shut.rs': b'fn no() {}',
+                         b'odd/sub/dir\xff/in.rs': b'fn no() {}'})
     os.chmod(os.path.join(folder, 'odd/locked'), 0)
     os.chmod(os.path.join(folder, 'odd/sub/shut.rs'), 0)
-    unread = 'itemtree: odd/bad\ufffd.rs: this name is not UTF-8\nitemtree: odd/locked: Permission denied (os error 13)\n'
-    shut = 'itemtree: odd/sub/shut.rs: Permission denied (os error 13)\n'
+    bad, denied = 'this name is not UTF-8\n', 'Permission denied (os error 13)\n'
+    inner = f'itemtree: odd/sub/dir\ufffd: {bad}'
+    unread = f'itemtree: odd/bad\ufffd.rs: {bad}itemtree: odd/locked: {denied}{inner}'
+    shut = f'itemtree: odd/sub/shut.rs: {denied}'
     lines = 'odd/good.rs:1:4: fn good\nodd/sub/ok.rs:1:4: fn ok\n'
     for words, wanted in ((['outline', 'odd'], (2, lines, unread + shut)),
                           (['find', 'none', 'odd'], (2, '', unread + shut)),
                           (['request', 'odd'], (2, '', unread)),
                           (['changed', 'odd', 'odd'], (2, '', unread * 2 + shut * 2)),
-                          (['outline', '--exclude', 'bad*', '--exclude', 'locked', 'odd/'], (2, lines, shut)),
-                          (['outline', '--exclude', 'bad?.rs', '--exclude', 'locked', '--exclude', 'shut.rs', 'odd'], (0, lines, '')),
-                          (['outline', 'odd/locked'], (2, '', 'itemtree: odd/locked: Permission denied (os error 13)\n'))):
+                          (['outline', 'odd', 'odd/sub', './odd'], (2, lines, unread + unread.replace('odd/', './odd/') + shut)),
+                          (['outline', '--exclude', 'bad*', '--exclude', 'locked', 'odd/'], (2, lines, inner + shut)),
+                          (['outline', '--exclude', 'bad?.rs', '--exclude', 'locked', '--exclude', 'shut.rs', '--exclude', 'dir?', 'odd'], (0, lines, '')),
+                          (['outline', 'odd/locked'], (2, '', f'itemtree: odd/locked: {denied}'))):
         got = run_program(words, folder)
         tell(got == wanted, f'{words} of what cannot be read', got, wanted)
 
 
+def check_one_sided(folder):
+    """What could not be read or was left out below one of two folders is neither removed nor added."""
+    write_files(folder, {f'{side}/{name}.rs': b'fn f() {}' for side in ('was', 'now') for name in ('in/a', 'shut/b', 'sh/c', 'same')})
+    write_files(folder, {'was/in/gone.rs': b'', 'now/in/come.rs': b''})
+    os.chmod(os.path.join(folder, 'now/shut'), 0)
+    shutil.rmtree(os.path.join(folder, 'now/sh'))
+    os.symlink('../was/sh', os.path.join(folder, 'now/sh'))
+    os.symlink('nowhere', os.path.join(folder, 'was/dead.rs'))
+    write_files(folder, {'now/dead.rs': b''})
+    denied = 'itemtree: now/shut: Permission denied (os error 13)\n'
+    dead = 'itemtree: was/dead.rs: this link leads nowhere\n'
+    left = 'itemtree: now/sh: a link to a folder, left out without --follow\n'
+    lines = 'now/in/come.rs: added file\nwas/in/gone.rs: removed file\n'
+    for words, said in ((['was', 'now'], dead + left + denied), (['was/', './now/'], (dead + left + denied).replace('now/', './now/')),
+                        (['--follow', 'was', 'now'], dead + denied)):
+        got = run_program(['changed', *words], folder)
+        wanted = 2, lines.replace('now/', './now/') if './now/' in words else lines, said
+        tell(got == wanted, f'changed {words} with what cannot be read', got, wanted)
+
+
+def check_entries(folder):
+    """Below a folder only regular files are read, and links to them; links to folders are followed if that is asked, each folder once."""
+    write_files(folder, {'kinds/real.rs': b'fn real() {}', 'kinds/sub/in.rs': b'fn inner() {}', 'beside/more/a.rs': b'fn a() {}', 'beside/b.rs': b'fn b() {}'})
+    place = os.path.join(folder, 'kinds')
+    os.mkfifo(os.path.join(place, 'pipe.rs'))
+    for name, target in (('folder.rs', 'sub'), ('dev.rs', '/dev/zero'), ('fifo.rs', 'pipe.rs'), ('link.rs', 'real.rs'), ('dead.txt', 'nowhere'), ('up', '..'),
+                         ('again', 'sub'), ('far', '../beside'), ('near', '../beside/more')):
+        os.symlink(target, os.path.join(place, name))
+    with socket.socket(socket.AF_UNIX) as server:
+        server.bind(os.path.join(place, 'socket.rs'))
+    lines = 'kinds/link.rs:1:4: fn real\nkinds/real.rs:1:4: fn real\nkinds/sub/in.rs:1:4: fn inner\n'
+    left = 'itemtree: kinds/again and 4 more: links to folders, left out without --follow\n'
+    got = run_program(['outline', 'kinds'], folder)
+    tell(got == (0, lines, left), 'what is no regular file', got, (0, lines, left))
+    followed = 'kinds/far/b.rs:1:4: fn b\nkinds/far/more/a.rs:1:4: fn a\n' + lines
+    got = run_program(['outline', '--follow', '--exclude', 'up', 'kinds'], folder)
+    tell(got == (0, followed, ''), 'links that are followed', got, (0, followed, ''))
+    write_files(folder, {'loop/a/b.rs': b'fn b() {}'})
+    os.symlink('..', os.path.join(folder, 'loop/a/up'))
+    os.symlink('self.rs', os.path.join(folder, 'loop/self.rs'))
+    wanted = 2, 'loop/a/b.rs:1:4: fn b\n', 'itemtree: loop/self.rs: this link leads nowhere\n'
+    got = run_program(['outline', '--follow', 'loop'], folder)
+    tell(got == wanted, 'links that lead round', got, wanted)
+    got = run('{ sleep 0.2; echo "fn late() {}"; } > kinds/pipe.rs & itemtree outline kinds/pipe.rs; wait', folder)
+    tell(got == 'kinds/pipe.rs:1:4: fn late\n', 'a pipe that is named', got)
+
+
+def check_escapes(folder):
+    """Lists and messages show control characters and backslashes in paths as `ls -b` does; JSON has them as they are."""
+    name = 'wei\trd\n/etc\x1b[31m\x7f\u009b\\é.rs'
+    write_files(folder, {f'esc/{name}': b'fn f() {}\nfn f() {}\nuse a; use a;\n)', 'plain.rs': b'fn f(a: u8) {}'})
+    shown = 'esc/wei\\trd\\n/etc\\033[31m\\177\\302\\233\\\\é.rs'
+    for words, wanted in ((['find', 'f'], f'{shown}:1:4: fn f\n{shown}:2:4: fn f\n'), (['imports'], f'{shown}:3:5: a\n{shown}:3:12: a\n'),
+                          (['imports', '--duplicates'], f'{shown}:3:12: a (again, first at {shown}:3:5)\n'), (['check'], f'{shown}:4:1: this bracket closes nothing\n')):
+        got = run_program([*words, 'esc'], folder)[1]
+        tell(got == wanted, f'{words} of an odd path', got, wanted)
+    got = run_program(['outline', '--json', 'esc'], folder)[1]
+    tell(json.loads(got)['path'] == f'esc/{name}', 'an odd path in JSON', got)
+    got = run_program(['changed', 'plain.rs', f'esc/{name}'], folder)[1]
+    tell(got.startswith(f'{shown}:') and got.count('\x1b') == 0, 'an odd path of a change', got, shown)
+    os.mkdir(os.path.join(folder, 'none'))
+    got = run_program(['changed', 'esc', 'none'], folder)
+    wanted = 1, f'{shown}: removed file\n', 'itemtree: none: no Rust file is below this folder\n'
+    tell(got == wanted, 'an odd path that was removed', got, wanted)
+    os.chmod(os.path.join(folder, f'esc/{name}'), 0)
+    for words in (['outline'], ['tags'], ['request'], ['outline', '--json']):
+        got = run_program([*words, 'esc'], folder)[2]
+        wanted = f'itemtree: {shown}: Permission denied (os error 13)\n'
+        tell(got.startswith(wanted), f'{words} of an odd path that cannot be read', got, wanted)
+    shutil.rmtree(os.path.join(folder, 'esc'))
+
+
+TAGS_HEAD = '!_TAG_FILE_FORMAT\t2\t//\n'
+
+
+def is_killed(is_fatal):
+    """Lets no file grow past 100 bytes: a write fails there, or ends the program."""
+    resource.setrlimit(resource.RLIMIT_CORE, (0, 0))
+    resource.setrlimit(resource.RLIMIT_FSIZE, (100, 100))
+    signal.signal(signal.SIGXFSZ, signal.SIG_DFL if is_fatal else signal.SIG_IGN)
+
+
+def place_of(folder, name, files):
+    """A folder in which nobody in particular may write, with these files."""
+    place = os.path.join(folder, name)
+    os.mkdir(place)
+    os.chmod(place, 0o777)
+    write_files(place, files)
+    return place
+
+
 def check_tags_kept(folder):
     """A tags file stays as it is, or is the new one as a whole."""
-    place = os.path.join(folder, 'kept')
-    os.mkdir(place, 0o777)
-    os.chmod(place, 0o777)
+    place = place_of(folder, 'kept', {'tags': TAGS_HEAD.encode(), 'good.rs': b'fn good() {}', 'bad.rs': b'\xff', 'empty/none.txt': b''})
     tags, link = os.path.join(place, 'tags'), os.path.join(place, 'link')
-    write_files(place, {'tags': b'as before', 'good.rs': b'fn good() {}', 'bad.rs': b'\xff'})
     os.chmod(tags, 0o666)
-
-    def limit(is_fatal):
-        resource.setrlimit(resource.RLIMIT_CORE, (0, 0))
-        resource.setrlimit(resource.RLIMIT_FSIZE, (100, 100))
-        signal.signal(signal.SIGXFSZ, signal.SIG_DFL if is_fatal else signal.SIG_IGN)
+    if os.geteuid() == 0:
+        os.chown(tags, 65534, 65534)
 
     def is_kept(words, status, said, left, **more):
         got = run_program(['tags', '-o', 'kept/tags', *words], folder, **more)
         there = sorted(os.listdir(place)), open(tags, encoding='utf-8').read()
-        wanted = sorted(['bad.rs', 'good.rs', 'tags', *left]), 'as before'
+        wanted = sorted(['bad.rs', 'empty', 'good.rs', 'tags', *left]), TAGS_HEAD
         tell(got == (status, '', said) and there == wanted, f'tags {words} {more}', (got, there), ((status, '', said), wanted))
 
     unread = 'not UTF-8 at line 1, column 1\n'
-    is_kept(['absent'], 2, 'itemtree: absent: No such file or directory (os error 2)\n'
-            'itemtree: kept/tags: not written, because nothing could be read\n', [])
-    is_kept(['kept/bad.rs'], 2, f'itemtree: kept/bad.rs: {unread}itemtree: kept/tags: not written, because nothing could be read\n', [])
-    is_kept(['kept/good.rs'], 2, 'itemtree: kept/tags: File too large (os error 27)\n', [], preexec_fn=lambda: limit(False))
-    is_kept(['kept/good.rs'], -signal.SIGXFSZ, '', ['tags.new0'], preexec_fn=lambda: limit(True))
-    os.chmod(place, 0o555)
-    is_kept(['kept/good.rs'], 2, 'itemtree: kept/tags: Permission denied (os error 13)\n', ['tags.new0'])
-    os.chmod(place, 0o777)
+    none = 'itemtree: kept/tags: not written, because nothing could be read\n'
+    is_kept(['absent'], 2, f'itemtree: absent: No such file or directory (os error 2)\n{none}', [])
+    is_kept(['kept/bad.rs'], 2, f'itemtree: kept/bad.rs: {unread}{none}', [])
+    for words in (['kept/empty'], ['--exclude', '*.rs', 'kept'], ['-a', 'kept/empty']):
+        is_kept(words, 2, f'itemtree: {words[-1]}: no Rust file is below this folder\n{none}', [])
+    is_kept(['-L', os.devnull], 2, f'itemtree: {os.devnull}: this list names no file\n{none}', [])
+    is_kept(['kept/good.rs'], 2, 'itemtree: kept/tags: File too large (os error 27)\n', [], preexec_fn=lambda: is_killed(False))
+    for _turn in range(2):
+        is_kept(['kept/good.rs'], -signal.SIGXFSZ, '', ['tags.new'], preexec_fn=lambda: is_killed(True))
+    os.chmod(tags, 0o444)
+    is_kept(['kept/good.rs'], 2, 'itemtree: kept/tags: this file is read-only\n', ['tags.new'])
     os.chmod(tags, 0o642)
     os.symlink('tags', link)
     got = run_program(['tags', '-o', 'kept/link', 'kept'], folder)
     wanted = 2, '', f'itemtree: kept/bad.rs: {unread}itemtree: kept/link: written without what could not be read\n'
     text = open(tags, encoding='utf-8').read()
     there = sorted(os.listdir(place)), os.path.islink(link), os.stat(tags).st_mode & 0o777
-    tell(got == wanted and there == (['bad.rs', 'good.rs', 'link', 'tags', 'tags.new0'], True, 0o642)
+    tell(got == wanted and there == (['bad.rs', 'empty', 'good.rs', 'link', 'tags'], True, 0o642)
          and text.endswith('\ngood\tkept/good.rs\t1;"\tf\n') and text.startswith('!_TAG'), 'tags behind a link', (got, there, text), wanted)
+
+
+def check_tags_in_place(folder):
+    """Where no new file can stand for an old one, that is written itself; what is in the way of the new one is named."""
+    place = place_of(folder, 'same', {'tags': TAGS_HEAD.encode(), 'good.rs': b'fn good() {}', 'other/tags': b''})
+    tags = os.path.join(place, 'tags')
+    os.chmod(tags, 0o666)
+    os.chmod(os.path.join(place, 'other/tags'), 0o666)
+    os.chmod(os.path.join(place, 'other'), 0o555)
+    os.link(tags, os.path.join(place, 'hard'))
+    line = 'good\tsame/good.rs\t1;"\tf\n'
+    for name in ('tags', 'other/tags'):
+        path = os.path.join(place, name)
+        before = os.stat(path)
+        got = run_program(['tags', '-o', f'same/{name}', 'same/good.rs'], folder)
+        after, text = os.stat(path), open(path, encoding='utf-8').read()
+        tell(got == (0, '', '') and text.endswith(line) and before.st_ino == after.st_ino
+             and os.listdir(os.path.dirname(path)).count(os.path.basename(path) + '.new') == 0, f'{name} is written itself', (got, text))
+    for make in (os.mkdir, os.mkfifo, lambda path: os.symlink('good.rs', path)):
+        target = os.path.join(place, 'made')
+        make(target + '.new')
+        got = run_program(['tags', '-o', 'same/made', 'same/good.rs'], folder)
+        wanted = 2, '', 'itemtree: same/made.new: this is in the way: the new file is written here first\n'
+        tell(got == wanted and not os.path.exists(target), 'what is in the way', got, wanted)
+        (os.rmdir if make is os.mkdir else os.remove)(target + '.new')
+    write_files(place, {'made.new': b'left by a run that was ended'})
+    os.chmod(os.path.join(place, 'made.new'), 0o666)
+    got = run_program(['tags', '-o', 'same/made', 'same/good.rs'], folder)
+    text = open(os.path.join(place, 'made'), encoding='utf-8').read()
+    tell(got == (0, '', '') and text.startswith('!_TAG') and text.endswith(line) and not os.path.exists(os.path.join(place, 'made.new')),
+         'what an ended run has left', (got, text))
+    got = run('for at in $(seq 12); do itemtree tags -o same/many same & done; wait; ls same | grep many; tail -1 same/many', folder)
+    tell(got == 'many\n' + line, 'twelve runs at once', got)
+
+
+def check_tags_refused(folder):
+    """Only a tags file, an empty one or none is replaced; pipes, devices and what is open are written to."""
+    place = place_of(folder, 'guard', {'a.rs': b'fn a() {}', 'b.rs': b'fn b() {}', 'empty': b'', 'line': b'x\ta.rs\t/^fn x/;"\tf\n', 'number': b'x\ta.rs\t12\n',
+                                       'notes': b'int a;\t// comment\n', 'define': b'#define\tb\t3\n', 'blank': b'\n', 'half': b'x\ta;\t12\n', 'etags': b'\x0c\n'})
+    for name, is_taken in (('a.rs', False), ('notes', False), ('define', False), ('blank', False), ('half', False), ('etags', False),
+                           ('empty', True), ('line', True), ('number', True), ('none', True)):
+        path = os.path.join(place, name)
+        before = open(path, 'rb').read() if os.path.exists(path) else b''
+        got = run(f'cd guard; itemtree tags -o {name} b.rs; echo $?', folder)
+        text = open(path, 'rb').read()
+        wanted = '0\n' if is_taken else f'itemtree: {name}: this is no tags file, and stays as it is\n2\n'
+        is_right = text.endswith(b'\nb\tb.rs\t1;"\tf\n') if is_taken else text == before
+        tell(got == wanted and is_right, f'tags -o {name}', (got, text), wanted)
+    lines = run('itemtree tags -o - guard/a.rs', folder)
+    for command, wanted in (('echo hi > out; itemtree tags -o /dev/stdout a.rs >> out; cat out', f'hi\n{lines}'),
+                            ('{ itemtree tags -o /dev/stdout a.rs; echo more; } > out; cat out', f'{lines}more\n'),
+                            ('ln -s /dev/stdout way; itemtree tags -o way a.rs > out; cat out', lines),
+                            ('{ itemtree tags -o /dev/stderr a.rs; echo more >&2; } 2> out; cat out', f'{lines}more\n'),
+                            ('echo hi > out; itemtree tags -o /dev/fd/3 a.rs 3>> out; cat out', f'hi\n{lines}'),
+                            ('itemtree tags -o /dev/stdout a.rs | cat', lines),
+                            ('itemtree tags -o >(cat > sub) a.rs; sleep 0.3; cat sub', lines),
+                            ('mkfifo pipe; cat pipe > through & itemtree tags -o pipe a.rs; wait; cat through; test -p pipe',
+                             f'itemtree: pipe: a pipe, which is waited for until something reads it\n{lines}'),
+                            ('mkfifo tags; itemtree tags a.rs; echo $?; test -p tags && rm tags', 'itemtree: tags: this is a pipe: -o names one that is to be written\n2\n'),
+                            ('ln -s later link; itemtree tags -o link a.rs; test -L link; cat later', lines)):
+        got = run(f'cd guard; {command}', folder, 10)
+        tell(got == wanted.replace('guard/', ''), command, got, wanted)
+
+
+def check_tags_joined(folder):
+    """Equal lines stand once; `-a` keeps the lines of the old file, and `-L` reads many at once."""
+    write_files(folder, {f'joined/{at}.rs': b'fn f() {}' for at in range(5)})
+    whole = run("cd joined; itemtree tags -o - [0-4].rs | grep -v '^!_TAG'", folder)
+    tell(whole.count('\n') == 5, 'the tags of five files', whole)
+    for command in ('ls *.rs | xargs -n 2 itemtree tags -a', 'ls *.rs | itemtree tags -L -', 'ls *.rs | xargs -n 2 itemtree tags --append',
+                    'itemtree tags *.rs ./1.rs . 2.rs', 'itemtree tags .', "printf 'f\\t4.rs\\t1;\"\\tf\\n' > tags; itemtree tags -a [0-3].rs"):
+        got = run(f"cd joined; {command}; grep -v '^!_TAG' tags; grep -c '^!_TAG' tags; head -1 tags | cut -f1; rm tags", folder)
+        tell(got == whole + '3\n!_TAG_FILE_FORMAT\n', command, got, whole)
+    got = run('cd joined; itemtree tags -a -o - 1.rs; echo $?; itemtree tags -a -o 1.rs 2.rs; echo $?', folder)
+    wanted = 'itemtree: --append: standard output keeps nothing\n2\nitemtree: 1.rs: this is no tags file, and stays as it is\n2\n'
+    tell(got == wanted, 'tags -a where nothing is kept', got, wanted)
 
 
 def check_unwritten(folder):
@@ -264,9 +436,9 @@ def check_arguments(folder):
         got = run_program(words, folder)
         wanted = 2, '', f'itemtree: argument {at} is not UTF-8: {shown}\n'
         tell(got == wanted, 'an argument that is not UTF-8', got, wanted)
-    name = 'b' * 200
-    got = run_program(['outline', *[f'{"./" * 200}{name}.rs'] * 2], folder)
-    tell(got[0] == 2 and got[2].count(f'/{name}.rs: No such file') == 2, 'long arguments', got)
+    names = 'b' * 200, 'c' * 200
+    got = run_program(['outline', *[f'{"./" * 200}{name}.rs' for name in names]], folder)
+    tell(got[0] == 2 and all(f'/{name}.rs: No such file' in got[2] for name in names), 'long arguments', got)
 
 
 def check_not_text(folder):
@@ -335,9 +507,10 @@ def check_progress(folder):
     write_files(folder, {f'many/{at}.rs': b'fn f() {}' if at != 3 else b'\xff' for at in (1, 3, 4)})
     slow = os.path.join(folder, 'many/2.rs')
     os.mkfifo(slow)
+    files = [f'many/{at}.rs' for at in (1, 2, 3, 4)]
     for words, is_slow in ((['outline'], True), (['tags', '-o', os.devnull], True), (['outline'], False)):
         shown, other = pty.openpty()
-        child = subprocess.Popen([PROGRAM, *words, 'many'], cwd=folder, stdout=subprocess.DEVNULL, stderr=other)
+        child = subprocess.Popen([PROGRAM, *words, *files], cwd=folder, stdout=subprocess.DEVNULL, stderr=other)
         os.close(other)
         with open(slow, 'w', encoding='utf-8') as file:
             time.sleep(1.2 if is_slow else 0)
@@ -373,7 +546,13 @@ def main():
         check_documents(check_help(folder))
         check_tools(folder)
         check_unread(folder)
+        check_one_sided(folder)
+        check_entries(folder)
+        check_escapes(folder)
         check_tags_kept(folder)
+        check_tags_in_place(folder)
+        check_tags_refused(folder)
+        check_tags_joined(folder)
         check_unwritten(folder)
         check_arguments(folder)
         check_not_text(folder)

@@ -1,9 +1,11 @@
 //! What became of a file in another, or of the files below a folder in those below another.
-use crate::commands::{FAILED, Failure, NOT_SO};
-use crate::files::{Found, Room, STDIN, files_of_folder, is_a_folder, with_slash};
+use crate::commands::{FAILED, Failure, NOT_SO, or_closed};
+use crate::escapes::Shown;
+use crate::files::{Room, STDIN, is_a_folder};
 use crate::output::{Progress, complain, complain_of, write_out};
+use crate::walk::{Found, files_of_folder, with_slash};
 use itemtree_commands::{CompareError, Options, changed};
-use itemtree_options::{Asked, Filter};
+use itemtree_options::Asked;
 use source_listing::Source;
 use std::alloc::{AllocError, Global};
 use std::cmp::Ordering;
@@ -33,7 +35,7 @@ impl Comparison<'_> {
         write_out(self.rt, text)
     }
 
-    fn complain(&mut self, path: &str, error: impl Display + Drop) {
+    fn complain(&mut self, path: impl Display + Drop, error: impl Display + Drop) {
         self.status = FAILED;
         self.progress.clear();
         complain(self.rt, path, error);
@@ -70,16 +72,8 @@ impl Comparison<'_> {
 
     /// Lists the changes of what others can see of two files.
     fn compare_seen(&mut self, old: Source<'_>, new: Source<'_>) -> Result<(), Failure> {
-        let olds = source_changes::Source {
-            path: old.path,
-            text: old.text,
-        };
-        let news = source_changes::Source {
-            path: new.path,
-            text: new.text,
-        };
         let year = self.options.edition.year;
-        match source_changes::compare(self.rt.alloc(), olds, news, year, self.has_docs) {
+        match source_changes::compare(self.rt.alloc(), old, new, year, self.has_docs) {
             Ok(compared) => self.tell(old.path, new.path, &compared.text, compared.is_same)?,
             Err(_) => self.give_up(old.path, new.path),
         }
@@ -90,7 +84,7 @@ impl Comparison<'_> {
         match room.read(self.rt, path) {
             Ok(text) => Some(text),
             Err(error) => {
-                self.complain(path, error);
+                self.complain(Shown(path), error);
                 None
             }
         }
@@ -112,12 +106,14 @@ impl Comparison<'_> {
         if !self.is_of_trees && old == new {
             return Ok(());
         }
+        let old_path = Shown(old_path).text(self.rt.alloc())?;
+        let new_path = Shown(new_path).text(self.rt.alloc())?;
         let olds = Source {
-            path: old_path,
+            path: &old_path,
             text: old,
         };
         let news = Source {
-            path: new_path,
+            path: &new_path,
             text: new,
         };
         if self.is_of_trees {
@@ -129,46 +125,48 @@ impl Comparison<'_> {
 
     /// Tells of a file that only one of two folders has.
     fn tell_single(&mut self, path: &str, what: &str) -> Result<(), Failure> {
+        let path = Shown(path);
         let line = format!(in self.rt.alloc(); "{path}: {what} file\n")?;
         self.write(&line)
     }
 
-    fn found_in(&mut self, folder: &str, filter: &Filter<'_>) -> Result<Found, AllocError> {
-        let found = files_of_folder(self.rt, folder, filter)?;
+    fn side(&mut self, folder: &str, asked: &Asked<'_>) -> Result<Side, AllocError> {
+        let found = files_of_folder(self.rt, folder, asked)?;
         if !found.faults.is_empty() {
             self.status = FAILED;
             complain_of(self.rt, &found.faults);
         }
-        Ok(found)
+        let top = with_slash(self.rt.alloc(), folder)?;
+        Ok(Side { top, found })
     }
 
     fn compare_pair(
         &mut self,
         pair: Pair<'_>,
-        old_room: &mut Room,
-        new_room: &mut Room,
+        (olds, news): (&Side, &Side),
+        (old_room, new_room): (&mut Room, &mut Room),
     ) -> Result<(), Failure> {
+        let alloc = self.rt.alloc();
         match pair {
             (Some(old), Some(new)) => self.compare_files(old, new, old_room, new_room),
-            (Some(old), None) => self.tell_single(old, "removed"),
-            (None, Some(new)) => self.tell_single(new, "added"),
-            (None, None) => Ok(()),
+            (Some(old), None) if !news.may_have(alloc, olds.below(old))? => {
+                self.tell_single(old, "removed")
+            }
+            (None, Some(new)) if !olds.may_have(alloc, news.below(new))? => {
+                self.tell_single(new, "added")
+            }
+            _ => Ok(()),
         }
     }
 
-    fn compare_folders(
-        &mut self,
-        old: &str,
-        new: &str,
-        filter: &Filter<'_>,
-    ) -> Result<(), Failure> {
+    fn compare_folders(&mut self, old: &str, new: &str, asked: &Asked<'_>) -> Result<(), Failure> {
         let alloc = self.rt.alloc();
-        let (olds, news) = (self.found_in(old, filter)?, self.found_in(new, filter)?);
-        let (old_top, new_top) = (with_slash(alloc, old)?, with_slash(alloc, new)?);
-        let pairs = pairs(alloc, &old_top, &olds.files, &new_top, &news.files)?;
+        let (olds, news) = (self.side(old, asked)?, self.side(new, asked)?);
+        let pairs = pairs(alloc, &olds, &news)?;
         let (mut old_room, mut new_room) = (Room::new(alloc), Room::new(alloc));
         for (before, pair) in pairs.iter().enumerate() {
-            self.compare_pair(*pair, &mut old_room, &mut new_room)?;
+            let rooms = (&mut old_room, &mut new_room);
+            self.compare_pair(*pair, (&olds, &news), rooms)?;
             self.progress.tell(before + 1, pairs.len());
         }
         self.progress.clear();
@@ -176,12 +174,41 @@ impl Comparison<'_> {
     }
 }
 
+/// One of two folders.
+#[derive(Drop)]
+struct Side {
+    /// Its path, with a slash behind it.
+    top: String,
+    found: Found,
+}
+
+/// Whether a path is another, or leads below it.
+fn is_at_or_below(path: &str, other: &str) -> bool {
+    let Some(rest) = path.strip_prefix(other) else {
+        return false;
+    };
+    rest.is_empty() || rest.starts_with("/")
+}
+
+impl Side {
+    fn below<'a>(&self, file: &'a str) -> &'a str {
+        file.strip_prefix(self.top.as_str()).unwrap_or(file)
+    }
+
+    /// Whether a file may stand at this path in the folder, where something could not be read or was left out.
+    fn may_have(&self, alloc: Global, below: &str) -> Result<bool, AllocError> {
+        let top = &self.top;
+        let path = format!(in alloc; "{top}{below}")?;
+        let is_unread = |unread: &str| is_at_or_below(&path, unread);
+        Ok(
+            self.found.faults.iter().any(|fault| is_unread(&fault.path))
+                || self.found.links.iter().any(|link| is_unread(link)),
+        )
+    }
+}
+
 /// The files of two folders that have the same path there, or one that only one of them has.
 type Pair<'a> = (Option<&'a str>, Option<&'a str>);
-
-fn below<'a>(file: &'a str, top: &str) -> &'a str {
-    file.strip_prefix(top).unwrap_or(file)
-}
 
 /// Takes the first file if it is wanted.
 fn take_first<'a>(files: &mut &'a [String], is_wanted: bool) -> Option<&'a str> {
@@ -195,34 +222,41 @@ fn take_first<'a>(files: &mut &'a [String], is_wanted: bool) -> Option<&'a str> 
 }
 
 /// The sorted files of two folders, in the order of their paths there.
-fn pairs<'a>(
-    alloc: Global,
-    old_top: &str,
-    mut olds: &'a [String],
-    new_top: &str,
-    mut news: &'a [String],
-) -> Result<Vec<Pair<'a>>, AllocError> {
+fn pairs<'a>(alloc: Global, old: &'a Side, new: &'a Side) -> Result<Vec<Pair<'a>>, AllocError> {
+    let mut olds = old.found.files.as_slice();
+    let mut news = new.found.files.as_slice();
     let mut pairs = Vec::new(alloc);
     for _turn in 0..usize::MAX {
         let order = match (olds.first(), news.first()) {
             (None, None) => break,
             (Some(_), None) => Ordering::Less,
             (None, Some(_)) => Ordering::Greater,
-            (Some(old), Some(new)) => below(old, old_top).cmp(below(new, new_top)),
+            (Some(one), Some(other)) => old.below(one).cmp(new.below(other)),
         };
-        let old = take_first(&mut olds, order != Ordering::Greater);
-        let new = take_first(&mut news, order != Ordering::Less);
-        pairs.push((old, new))?;
+        let one = take_first(&mut olds, order != Ordering::Greater);
+        let other = take_first(&mut news, order != Ordering::Less);
+        pairs.push((one, other))?;
     }
     Ok(pairs)
 }
 
 /// A folder cannot be compared with what is none.
-fn refused(alloc: Global, folder: &str, other: &str) -> Result<u8, Failure> {
+fn no_folder(alloc: Global, folder: &str, other: &str) -> Result<Failure, AllocError> {
+    let (folder, other) = (Shown(folder), Shown(other));
     let message = format!(in alloc;
         "{folder} is a folder, and {other} is none: compare two files or two folders"
     )?;
-    Err(Failure::Usage(message))
+    Ok(Failure::Usage(message))
+}
+
+/// Whether the two arguments can be read.
+fn refuse_wrong(alloc: Global, old: &str, new: &str) -> Result<(), Failure> {
+    let message = match (old, new) {
+        (STDIN, STDIN) => "standard input is read once: only one of the two files can be -",
+        ("", _) | (_, "") => "an empty path names no file",
+        _ => return Ok(()),
+    };
+    Err(Failure::Usage(String::from_str(alloc, message)?))
 }
 
 /// Lists the changes between two files, or between those of two folders, and gives the status to end with.
@@ -235,10 +269,7 @@ pub(crate) fn compare(
     is_of_trees: bool,
 ) -> Result<u8, Failure> {
     let alloc = rt.alloc();
-    if old == STDIN && new == STDIN {
-        let message = "standard input is read once: only one of the two files can be -";
-        return Err(Failure::Usage(String::from_str(alloc, message)?));
-    }
+    refuse_wrong(alloc, old, new)?;
     let mut comparison = Comparison {
         rt,
         options,
@@ -247,14 +278,14 @@ pub(crate) fn compare(
         status: 0,
         progress: Progress::new(rt),
     };
-    match (is_a_folder(rt, old), is_a_folder(rt, new)) {
+    let done = match (is_a_folder(rt, old), is_a_folder(rt, new)) {
         (false, false) => {
             let (mut old_room, mut new_room) = (Room::new(alloc), Room::new(alloc));
-            comparison.compare_files(old, new, &mut old_room, &mut new_room)?;
+            comparison.compare_files(old, new, &mut old_room, &mut new_room)
         }
-        (true, true) => comparison.compare_folders(old, new, &asked.filter)?,
-        (true, false) => return refused(alloc, old, new),
-        (false, true) => return refused(alloc, new, old),
-    }
-    Ok(comparison.status)
+        (true, true) => comparison.compare_folders(old, new, asked),
+        (true, false) => Err(no_folder(alloc, old, new)?),
+        (false, true) => Err(no_folder(alloc, new, old)?),
+    };
+    or_closed(done, comparison.status)
 }

@@ -1,11 +1,13 @@
 //! The commands, file by file.
 use crate::changed::compare;
-use crate::files::{Room, STDIN, files_of};
-use crate::options::read_options;
-use crate::output::{Progress, STDOUT, complain, complain_of, is_colored, write_out};
+use crate::escapes::Shown;
+use crate::files::{Room, STDIN};
+use crate::options::{atoms_of, options_of, request_options};
+use crate::output::{Progress, complain, complain_of, is_colored, write_out};
 use crate::request::write_request;
 use crate::serve::answer_lines;
-use crate::tags::write_tags;
+use crate::sources::files_of;
+use crate::tags::{TagsFile, write_tags};
 use itemtree_commands::{
     Options, SourceError, check, duplicates, find, imports, outline, outline_json, page, tags,
 };
@@ -26,7 +28,7 @@ pub(crate) const FAILED: u8 = 2;
 pub(crate) enum Failure {
     /// Nobody reads what is written.
     Closed,
-    /// The command line is wrong.
+    /// The command line is wrong, or names what cannot be written.
     Usage(String),
     /// This cannot be written.
     Unwritten { path: String, error: io::Error },
@@ -47,6 +49,12 @@ impl From<AllocError> for Failure {
     fn from(error: AllocError) -> Failure {
         Failure::Other(io::Error::from(error))
     }
+}
+
+/// Why a file is not written.
+pub(crate) fn refusal(alloc: Global, path: &str, reason: &str) -> Result<Failure, AllocError> {
+    let path = Shown(path);
+    Ok(Failure::Usage(format!(in alloc; "{path}: {reason}")?))
 }
 
 /// A command over files.
@@ -132,7 +140,7 @@ impl Run<'_> {
     fn complain(&mut self, path: &str, error: impl Display + Drop) {
         self.status = FAILED;
         self.progress.clear();
-        complain(self.rt, path, error);
+        complain(self.rt, Shown(path), error);
     }
 
     fn write(&mut self, text: &str, is_good: bool) -> Result<(), Failure> {
@@ -148,8 +156,21 @@ impl Run<'_> {
         write_out(self.rt, text)
     }
 
+    /// How a path is written: lists are for people, and show what terminals can.
+    fn path_of<'p>(&self, path: &'p str, shown: &'p str) -> &'p str {
+        match self.asked.command {
+            Command::Outline { is_json: true, .. } => path,
+            Command::Tags { .. } => path.strip_prefix("./").unwrap_or(path),
+            _ => shown,
+        }
+    }
+
     fn do_text(&mut self, path: &str, text: &str) -> Result<(), Failure> {
-        let source = Source { path, text };
+        let shown = Shown(path).text(self.rt.alloc())?;
+        let source = Source {
+            path: self.path_of(path, &shown),
+            text,
+        };
         match self.answer(source) {
             Ok((text, is_good)) => self.write(&text, is_good)?,
             Err(error) => self.complain(path, error),
@@ -168,7 +189,7 @@ impl Run<'_> {
     }
 
     fn do_all(&mut self) -> Result<(), Failure> {
-        let found = files_of(self.rt, &self.asked.files, &self.asked.filter)?;
+        let found = files_of(self.rt, self.asked)?;
         if !found.faults.is_empty() {
             self.status = FAILED;
             complain_of(self.rt, &found.faults);
@@ -200,19 +221,20 @@ fn sought_of(alloc: Global, command: Command<'_>) -> Result<Option<SoughtPath>, 
 /// Writes the tags. If nothing could be read, those that stand are better than none.
 fn finish_tags(
     rt: &HostRuntime,
-    path: &str,
-    lines: &str,
+    file: TagsFile<'_>,
+    lines: String,
     status: u8,
     has_done: bool,
 ) -> Result<u8, Failure> {
-    let shown = if path == STDIN { STDOUT } else { path };
-    if status == FAILED && !has_done {
-        complain(rt, shown, "not written, because nothing could be read");
-        return Ok(status);
+    if !has_done {
+        let reason = "not written, because nothing could be read";
+        complain(rt, Shown(file.name()), reason);
+        return Ok(FAILED);
     }
-    write_tags(rt, path, lines)?;
+    or_closed(write_tags(rt, file, lines), status)?;
     if status == FAILED {
-        complain(rt, shown, "written without what could not be read");
+        let reason = "written without what could not be read";
+        complain(rt, Shown(file.name()), reason);
     }
     Ok(status)
 }
@@ -229,7 +251,18 @@ fn finish(run: Run<'_>) -> Result<u8, Failure> {
         ..
     } = run;
     match asked.command {
-        Command::Tags { output } => finish_tags(rt, output, &tags, status, has_done),
+        Command::Tags {
+            output,
+            is_named,
+            is_appended,
+        } => {
+            let file = TagsFile {
+                path: output,
+                is_named,
+                is_appended,
+            };
+            finish_tags(rt, file, tags, status, has_done)
+        }
         Command::Find { .. } if !has_written => Ok(status.max(NOT_SO)),
         _ => Ok(status),
     }
@@ -237,19 +270,43 @@ fn finish(run: Run<'_>) -> Result<u8, Failure> {
 
 /// The word after `--cfg` is none; a shell takes quotes away that stand in no others.
 fn no_cfg(alloc: Global, word: &str) -> Result<Failure, AllocError> {
-    let message = match word.split_once('=') {
-        Some((key, value)) if !key.trim().is_empty() => {
-            let value = value.trim_matches('"');
-            format!(in alloc;
-                "--cfg {word}: this is neither NAME nor KEY=\"VALUE\"; in a shell, write --cfg '{key}=\"{value}\"'"
-            )?
-        }
-        _ => format!(in alloc; "--cfg {word}: this is neither NAME nor KEY=\"VALUE\"")?,
+    let (key, value) = word.split_once('=').unwrap_or(("", ""));
+    let value = value.trim_matches('"');
+    let has_hint = !key.trim().is_empty() && !value.contains('"') && !value.contains('\\');
+    let message = if has_hint {
+        format!(in alloc;
+            "--cfg {word}: this is neither NAME nor KEY=\"VALUE\"; in a shell, write --cfg '{key}=\"{value}\"'"
+        )?
+    } else {
+        format!(in alloc; "--cfg {word}: this is neither NAME nor KEY=\"VALUE\"")?
     };
     Ok(Failure::Usage(message))
 }
 
+/// The status of a run. Where nobody reads on, it ends with that which stands.
+pub(crate) fn or_closed(done: Result<(), Failure>, status: u8) -> Result<u8, Failure> {
+    match done {
+        Ok(()) | Err(Failure::Closed) => Ok(status),
+        Err(failure) => Err(failure),
+    }
+}
+
+/// Whether the tags file can be one.
+fn refuse_output(alloc: Global, command: Command<'_>) -> Result<(), Failure> {
+    let message = match command {
+        Command::Tags { output: "", .. } => "--output: an empty path names no file",
+        Command::Tags {
+            output: STDIN,
+            is_appended: true,
+            ..
+        } => "--append: standard output keeps nothing",
+        _ => return Ok(()),
+    };
+    Err(Failure::Usage(String::from_str(alloc, message)?))
+}
+
 fn run_files(rt: &HostRuntime, options: &Options, asked: &Asked<'_>) -> Result<u8, Failure> {
+    refuse_output(rt.alloc(), asked.command)?;
     let mut run = Run {
         rt,
         asked,
@@ -262,8 +319,10 @@ fn run_files(rt: &HostRuntime, options: &Options, asked: &Asked<'_>) -> Result<u
         has_written: false,
         progress: Progress::new(rt),
     };
-    run.do_all()?;
-    finish(run)
+    match run.do_all() {
+        Ok(()) => finish(run),
+        closed => or_closed(closed, run.status),
+    }
 }
 
 /// Does what a command line asks, and gives the status to end with.
@@ -271,17 +330,21 @@ pub(crate) fn run_command(rt: &HostRuntime, asked: &Asked<'_>) -> Result<u8, Fai
     if let Command::Serve = asked.command {
         return answer_lines(rt);
     }
-    let options = match read_options(rt.alloc(), asked)? {
-        Ok(options) => options,
+    let atoms = match atoms_of(rt.alloc(), &asked.cfgs)? {
+        Ok(atoms) => atoms,
         Err(word) => return Err(no_cfg(rt.alloc(), word)?),
     };
+    if let Command::Request { has_bodies } = asked.command {
+        let options = request_options(rt.alloc(), asked, atoms, has_bodies)?;
+        return write_request(rt, &options, asked);
+    }
+    let options = options_of(rt.alloc(), asked, atoms)?;
     match asked.command {
         Command::Changed {
             old,
             new,
             is_of_trees,
         } => compare(rt, &options, asked, old, new, is_of_trees),
-        Command::Request { has_bodies } => write_request(rt, options, asked, has_bodies),
         _ => run_files(rt, &options, asked),
     }
 }

@@ -5,17 +5,22 @@
 mod arguments;
 mod changed;
 mod commands;
+mod escapes;
 mod files;
 mod options;
 mod output;
+mod replacing;
 mod request;
 mod serve;
+mod sources;
 mod tags;
+mod walk;
 mod words;
 
 use crate::arguments::words;
 use crate::commands::{FAILED, Failure, run_command};
-use crate::output::write_out;
+use crate::escapes::Shown;
+use crate::output::{complain, write_out};
 use itemtree_options::{CommandLine, read_command_line};
 use std::fmt::Display;
 use std::process::ExitCode;
@@ -47,7 +52,7 @@ fn main(rt: HostRuntime) -> ExitCode {
         Err(Failure::Closed) => ExitCode::SUCCESS,
         Err(Failure::Usage(message)) => failed(&rt, message),
         Err(Failure::Unwritten { path, error }) => {
-            let _ = eprintln!(rt; "itemtree: {path}: {error}");
+            complain(&rt, Shown(&path), error);
             ExitCode::from(FAILED)
         }
         Err(Failure::Other(error)) => failed(&rt, error),

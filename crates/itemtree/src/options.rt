@@ -4,28 +4,50 @@ use hir_input::{CfgAtom, CfgOptions, EditionYear, HirFileId, Name};
 use item_tree::CrateData;
 use itemtree_commands::Options;
 use itemtree_options::Asked;
+use request_writer::RequestOptions;
+use rust_lexer::is_identifier;
 use std::alloc::{AllocError, Global};
 
-/// `KEY="VALUE"`, as rustc takes it, or the name of a flag.
-fn atom(alloc: Global, spec: &str) -> Result<Option<CfgAtom>, AllocError> {
-    let Some((key, value)) = spec.split_once('=') else {
-        let name = String::from_str(alloc, spec.trim())?;
-        return Ok(Name::new(name).map(CfgAtom::Flag));
-    };
-    let Some(value) = value
-        .trim()
-        .strip_prefix('"')
-        .and_then(|rest| rest.strip_suffix('"'))
-    else {
+/// What a cfg is called: an identifier, also behind `r#`. (`r#true` and `r#false` are not `true` and `false`.)
+fn key(alloc: Global, text: &str) -> Result<Option<Name>, AllocError> {
+    let bare = text.strip_prefix("r#").unwrap_or(text);
+    if bare == "_" || !is_identifier(bare) {
         return Ok(None);
+    }
+    let name = match bare {
+        "true" | "false" => text,
+        _ => bare,
     };
-    let key = String::from_str(alloc, key.trim())?;
-    let value = String::from_str(alloc, value)?;
-    Ok(Name::new(key).map(|key| CfgAtom::KeyValue { key, value }))
+    Ok(Name::new(String::from_str(alloc, name)?))
 }
 
-/// The atoms of these words, or the word that is none.
-fn atoms<'a>(
+/// The value in quotes, or in those of a raw string.
+fn value(text: &str) -> Option<&str> {
+    if let Some(raw) = text.strip_prefix("r") {
+        let quoted = raw.trim_start_matches('#');
+        let marks = raw.strip_suffix(quoted)?;
+        let inner = quoted.strip_suffix(marks)?;
+        return inner.strip_prefix('"')?.strip_suffix('"');
+    }
+    let inner = text.strip_prefix('"')?.strip_suffix('"')?;
+    let is_plain = !inner.contains('"') && !inner.contains('\\');
+    is_plain.then_some(inner)
+}
+
+/// `KEY="VALUE"`, as rustc takes it but for escapes, or the name of a flag.
+fn atom(alloc: Global, spec: &str) -> Result<Option<CfgAtom>, AllocError> {
+    let Some((left, right)) = spec.split_once('=') else {
+        return Ok(key(alloc, spec.trim())?.map(CfgAtom::Flag));
+    };
+    let Some(value) = value(right.trim()) else {
+        return Ok(None);
+    };
+    let value = String::from_str(alloc, value)?;
+    Ok(key(alloc, left.trim())?.map(|key| CfgAtom::KeyValue { key, value }))
+}
+
+/// The atoms of the words after `--cfg`, or the word that is none.
+pub(crate) fn atoms_of<'a>(
     alloc: Global,
     specs: &[&'a str],
 ) -> Result<Result<Vec<CfgAtom>, &'a str>, AllocError> {
@@ -37,14 +59,6 @@ fn atoms<'a>(
         }
     }
     Ok(Ok(atoms))
-}
-
-/// The cfgs of a command line; none, if one of its words is none.
-pub(crate) fn atoms_of(alloc: Global, asked: &Asked<'_>) -> Result<Vec<CfgAtom>, AllocError> {
-    match atoms(alloc, &asked.cfgs)? {
-        Ok(atoms) => Ok(atoms),
-        Err(_word) => Ok(Vec::new(alloc)),
-    }
 }
 
 fn year(edition: u16) -> EditionYear {
@@ -65,24 +79,36 @@ fn skipped_names(alloc: Global, asked: &Asked<'_>) -> Result<Vec<Name>, AllocErr
     Ok(names)
 }
 
-/// The options of a command line, or the word after `--cfg` that is none.
-pub(crate) fn read_options<'a>(
+/// The options of a command line with these cfgs.
+pub(crate) fn options_of(
     alloc: Global,
-    asked: &Asked<'a>,
-) -> Result<Result<Options, &'a str>, AllocError> {
-    let atoms = match atoms(alloc, &asked.cfgs)? {
-        Ok(atoms) => atoms,
-        Err(word) => return Ok(Err(word)),
-    };
+    asked: &Asked<'_>,
+    atoms: Vec<CfgAtom>,
+) -> Result<Options, AllocError> {
     let krate = CrateData {
         root: HirFileId(0),
         cfg: CfgOptions::new(atoms),
         attrs: Vec::new(alloc),
     };
-    Ok(Ok(Options {
+    Ok(Options {
         krate,
         skipped: skipped_names(alloc, asked)?,
         edition: edition(alloc, year(asked.edition))?,
         only_active: asked.only_active,
-    }))
+    })
+}
+
+/// Those of a request.
+pub(crate) fn request_options(
+    alloc: Global,
+    asked: &Asked<'_>,
+    atoms: Vec<CfgAtom>,
+    has_bodies: bool,
+) -> Result<RequestOptions, AllocError> {
+    Ok(RequestOptions {
+        bodies: has_bodies,
+        skipped: skipped_names(alloc, asked)?,
+        edition: edition(alloc, year(asked.edition))?,
+        cfg: atoms,
+    })
 }

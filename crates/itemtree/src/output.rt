@@ -1,5 +1,7 @@
 //! What is written on standard output, and told on standard error.
 use crate::commands::Failure;
+use crate::escapes::Shown;
+use crate::walk::Fault;
 use itemtree_options::Command;
 use std::alloc::Global;
 use std::env::FillError;
@@ -64,14 +66,14 @@ pub(crate) fn is_colored(rt: &HostRuntime, command: Command<'_>) -> bool {
 }
 
 /// Tells on standard error what there is to say of a file.
-pub(crate) fn complain(rt: &HostRuntime, path: &str, what: impl Display + Drop) {
+pub(crate) fn complain(rt: &HostRuntime, path: impl Display + Drop, what: impl Display + Drop) {
     let _ = eprintln!(rt; "itemtree: {path}: {what}");
 }
 
 /// Tells on standard error of each fault.
-pub(crate) fn complain_of(rt: &HostRuntime, faults: &[String]) {
+pub(crate) fn complain_of(rt: &HostRuntime, faults: &[Fault]) {
     for fault in faults {
-        let _ = eprintln!(rt; "itemtree: {fault}");
+        complain(rt, Shown(&fault.path), fault.reason.as_str());
     }
 }
 

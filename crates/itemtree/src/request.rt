@@ -1,12 +1,12 @@
 //! The request in JSON that `item_tree_tool` reads.
 use crate::commands::{FAILED, Failure};
-use crate::files::{Room, files_of};
-use crate::options::atoms_of;
+use crate::escapes::Shown;
+use crate::files::Room;
 use crate::output::{complain, complain_of, write_out};
+use crate::sources::files_of;
 use hir_input::{Crate, HirFileId};
 use item_tree_db::Place;
 use item_tree_request::request::show::{Show, ShowKind, TreeShow};
-use itemtree_commands::Options;
 use itemtree_options::Asked;
 use request_writer::{RequestOptions, source_request};
 use std::alloc::{AllocError, Global};
@@ -38,8 +38,8 @@ fn shows_of(alloc: Global, words: &[&str], count: usize) -> Result<Vec<Show>, Al
 }
 
 /// The texts of the files, and of those below folders; nothing if one of them cannot be read, which is told on standard error.
-fn texts_of(rt: &HostRuntime, asked: &Asked<'_>) -> Result<Option<Vec<String>>, AllocError> {
-    let found = files_of(rt, &asked.files, &asked.filter)?;
+fn texts_of(rt: &HostRuntime, asked: &Asked<'_>) -> Result<Option<Vec<String>>, Failure> {
+    let found = files_of(rt, asked)?;
     if !found.faults.is_empty() {
         complain_of(rt, &found.faults);
         return Ok(None);
@@ -48,9 +48,11 @@ fn texts_of(rt: &HostRuntime, asked: &Asked<'_>) -> Result<Option<Vec<String>>, 
     let mut texts = Vec::new(rt.alloc());
     for file in &found.files {
         match room.read(rt, file) {
-            Ok(text) => texts.push(String::from_str(rt.alloc(), text)?)?,
+            Ok(text) => texts
+                .push(String::from_str(rt.alloc(), text)?)
+                .map_err(AllocError::from)?,
             Err(error) => {
-                complain(rt, file, error);
+                complain(rt, Shown(file), error);
                 return Ok(None);
             }
         }
@@ -61,22 +63,15 @@ fn texts_of(rt: &HostRuntime, asked: &Asked<'_>) -> Result<Option<Vec<String>>, 
 /// Writes the request. Where a file cannot be read, or the request cannot be written, nothing is.
 pub(crate) fn write_request(
     rt: &HostRuntime,
-    options: Options,
+    options: &RequestOptions,
     asked: &Asked<'_>,
-    has_bodies: bool,
 ) -> Result<u8, Failure> {
     let alloc = rt.alloc();
     let Some(texts) = texts_of(rt, asked)? else {
         return Ok(FAILED);
     };
     let shows = shows_of(alloc, &asked.shows, texts.len())?;
-    let written = RequestOptions {
-        bodies: has_bodies,
-        skipped: options.skipped,
-        edition: options.edition,
-        cfg: atoms_of(alloc, asked)?,
-    };
-    match source_request(alloc, &texts, &written, &shows) {
+    match source_request(alloc, &texts, options, &shows) {
         Ok(request) => {
             write_out(rt, &request)?;
             write_out(rt, "\n")?;

@@ -27,15 +27,25 @@ without_first_slash path = if starts_with nat_eq path (codes "/") then drop 1 pa
 abbrev pub is_match : List ℕ → List ℕ → Bool
 is_match glob text = matches (chars glob) (chars text)
 
--- whether a glob is one of an entry: of its name, or of its path with or without the slash
-unfoldable pub is_glob_of : List ℕ → List ℕ → List ℕ → Bool
-is_glob_of name path glob =
-    is_match (without_last_slash glob) name || (is_match (without_last_slash glob) (without_first_slash path) || is_match (without_last_slash glob) path)
+-- what stands in a path or a glob behind the `./` that it may begin with
+abbrev pub without_first_dot : List ℕ → List ℕ
+without_first_dot path = if starts_with nat_eq path (codes "./") then drop 2 path else path
 
--- whether an entry is left out, by its name and its path
-abbrev pub excludes : Filtering → List ℕ → List ℕ → Bool
-excludes f name path = (not f.has_hidden && is_hidden name) || list_any (is_glob_of name path) f.excluded
+-- whether a glob stands for a path: below the folder that was named, with or without the slash, or from the working directory on
+unfoldable pub is_glob_of_path : List ℕ → List ℕ → List ℕ → Bool
+is_glob_of_path path whole glob =
+    is_match glob (without_first_slash path) || (is_match glob path || is_match glob (without_first_dot whole))
 
--- whether a folder of this name is entered, if it is not left out
-abbrev pub enters : Filtering → List ℕ → Bool
-enters f name = f.has_hidden || not (bytes_eq name (codes "target"))
+-- whether a glob is one of an entry: of its path or, if it does not begin with `./`, of its name
+unfoldable pub is_glob_of : List ℕ → List ℕ → List ℕ → List ℕ → Bool
+is_glob_of name path whole glob =
+    (not (starts_with nat_eq glob (codes "./")) && is_match (without_last_slash glob) name)
+    || is_glob_of_path path whole (without_first_dot (without_last_slash glob))
+
+-- whether an entry is left out, by its name, its path below the folder that was named, and its whole path
+abbrev pub excludes : Filtering → List ℕ → List ℕ → List ℕ → Bool
+excludes f name path whole = (not f.has_hidden && is_hidden name) || list_any (is_glob_of name path whole) f.excluded
+
+-- whether a folder of this name is left out where cargo builds in it
+abbrev pub excludes_built : Filtering → List ℕ → Bool
+excludes_built f name = not f.has_hidden && bytes_eq name (codes "target")

@@ -1,13 +1,14 @@
 //! The command line, as clap takes it.
-use crate::table::{Argument, Description, Form, STATUSES, descriptions};
+use crate::table::{Argument, Description, Form, LIST, STATUSES, descriptions};
 use clap::{Arg, Command};
 use std::alloc::{AllocError, Global};
 
-fn placed<'a>(arg: Arg<'a>, argument: &Argument) -> Arg<'a> {
+fn placed<'a>(arg: Arg<'a>, argument: &Argument) -> Result<Arg<'a>, AllocError> {
     match argument.form {
-        Form::Long => arg.long(argument.id),
-        Form::Short(letter) => arg.long(argument.id).short(letter),
-        Form::Word => arg.required(true),
+        Form::Long => Ok(arg.long(argument.id)),
+        Form::Short(letter) => Ok(arg.long(argument.id).short(letter)),
+        Form::Word => Ok(arg.required(true)),
+        Form::Unlisted => arg.required_unless_present(LIST),
     }
 }
 
@@ -22,7 +23,7 @@ fn arg<'a>(alloc: Global, argument: &Argument) -> Result<Arg<'a>, AllocError> {
     let arg = Arg::new(alloc, argument.id)
         .action(argument.action)
         .help(argument.help);
-    let arg = valued(placed(arg, argument), argument);
+    let arg = valued(placed(arg, argument)?, argument);
     if argument.needs_tree {
         arg.requires_arg("tree")
     } else {

@@ -10,9 +10,12 @@ use std::marker::Model;
 /// The folders that cargo builds in.
 const BUILT: &str = "target";
 
+/// What a path from the working directory on may begin with.
+const HERE: &str = "./";
+
 /// What of folders is taken. Files that are named are.
 pub struct Filter<'a> {
-    /// Whether hidden entries are, and folders called `target`.
+    /// Whether hidden entries are, and folders that cargo builds in.
     pub(crate) has_hidden: bool,
     /// What is not.
     pub(crate) excluded: Vec<&'a str>,
@@ -48,25 +51,32 @@ impl<'a> Filter<'a> {
         }
     }
 
-    /// Whether an entry is left out, by its name and its path, which begins with a slash for the folder that was named.
+    /// Whether an entry is left out, by its name, its path below the folder that was named, which begins with a slash, and its
+    /// whole path.
     ///
     /// # Errors
     ///
     /// If there is no memory.
-    pub fn excludes(&self, alloc: Global, name: &str, path: &str) -> Result<bool, AllocError>
-        ensures { IfOk result (λ is. is ≡ spec.excludes self.now name.now path.now) }
+    pub fn excludes(
+        &self,
+        alloc: Global,
+        name: &str,
+        path: &str,
+        whole: &str,
+    ) -> Result<bool, AllocError>
+        ensures { IfOk result (λ is. is ≡ spec.excludes self.now name.now path.now whole.now) }
     {
         if !self.has_hidden && is_hidden(name) {
             return Ok(true);
         }
-        is_excluded(alloc, &self.excluded, name, path)
+        is_excluded(alloc, &self.excluded, name, path, whole)
     }
 
-    /// Whether a folder of this name is entered, if it is not left out.
-    pub fn enters(&self, name: &str) -> bool
-        ensures { result ≡ spec.enters self.now name.now }
+    /// Whether a folder of this name is left out where cargo builds in it.
+    pub fn excludes_built(&self, name: &str) -> bool
+        ensures { result ≡ spec.excludes_built self.now name.now }
     {
-        self.has_hidden || name != BUILT
+        !self.has_hidden && name == BUILT
     }
 }
 
@@ -77,12 +87,18 @@ fn is_hidden(name: &str) -> bool
 }
 
 /// Whether one of some globs is one of an entry.
-fn is_excluded(alloc: Global, globs: &[&str], name: &str, path: &str) -> Result<bool, AllocError>
+fn is_excluded(
+    alloc: Global,
+    globs: &[&str],
+    name: &str,
+    path: &str,
+    whole: &str,
+) -> Result<bool, AllocError>
     ensures { IfOk result (λ is. is
-        ≡ list_any (spec.is_glob_of name.now path.now) (map (λ g. g.now) globs.now)) }
+        ≡ list_any (spec.is_glob_of name.now path.now whole.now) (map (λ g. g.now) globs.now)) }
 {
     for glob in globs {
-        if is_glob_of(alloc, glob, name, path)? {
+        if is_glob_of(alloc, glob, name, path, whole)? {
             return Ok(true);
         }
     }
@@ -109,17 +125,45 @@ fn without_first_slash(path: &str) -> &str
     }
 }
 
-/// Whether a glob is one of an entry: of its name, or of its path with or without the slash.
-#[tactic(auto, unfolding(crate::specs::Filters::is_glob_of))]
-fn is_glob_of(alloc: Global, glob: &str, name: &str, path: &str) -> Result<bool, AllocError>
-    ensures { IfOk result (λ is. is ≡ spec.is_glob_of name.now path.now glob.now) }
+/// What stands in a path or a glob behind the `./` that it may begin with.
+fn without_first_dot(path: &str) -> &str
+    ensures { result.now ≡ spec.without_first_dot path.now }
 {
-    let glob = without_last_slash(glob);
-    if is_match(alloc, glob, name)? {
-        return Ok(true);
+    match path.strip_prefix(HERE) {
+        Some(below) => below,
+        None => path,
     }
+}
+
+/// Whether a glob stands for a path: below the folder that was named, with or without the slash, or from the working
+/// directory on.
+#[tactic(auto, unfolding(crate::specs::Filters::is_glob_of_path))]
+fn is_glob_of_path(alloc: Global, glob: &str, path: &str, whole: &str) -> Result<bool, AllocError>
+    ensures { IfOk result (λ is. is ≡ spec.is_glob_of_path path.now whole.now glob.now) }
+{
     if is_match(alloc, glob, without_first_slash(path))? {
         return Ok(true);
     }
-    is_match(alloc, glob, path)
+    if is_match(alloc, glob, path)? {
+        return Ok(true);
+    }
+    is_match(alloc, glob, without_first_dot(whole))
+}
+
+/// Whether a glob is one of an entry: of its path or, if it does not begin with `./`, of its name.
+#[tactic(auto, unfolding(crate::specs::Filters::is_glob_of))]
+fn is_glob_of(
+    alloc: Global,
+    glob: &str,
+    name: &str,
+    path: &str,
+    whole: &str,
+) -> Result<bool, AllocError>
+    ensures { IfOk result (λ is. is ≡ spec.is_glob_of name.now path.now whole.now glob.now) }
+{
+    let plain = without_last_slash(glob);
+    if !glob.starts_with(HERE) && is_match(alloc, plain, name)? {
+        return Ok(true);
+    }
+    is_glob_of_path(alloc, without_first_dot(plain), path, whole)
 }

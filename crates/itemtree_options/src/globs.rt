@@ -119,6 +119,32 @@ fn chars_of(alloc: Global, text: &str) -> Result<Vec<char>, AllocError>
     text.chars().collect(alloc)
 }
 
+/// Whether a character means something in other globs than these.
+fn is_foreign(c: char) -> bool {
+    matches!(c, '[' | ']' | '{' | '}' | '\\')
+}
+
+/// What a glob names below a folder.
+fn bare(glob: &str) -> &str {
+    let path = glob.strip_suffix("/").unwrap_or(glob);
+    match path.strip_prefix("./") {
+        Some(below) => below,
+        None => path.strip_prefix("/").unwrap_or(path),
+    }
+}
+
+/// Why a glob can stand for no path, or does not mean what it seems to.
+pub(crate) fn glob_fault(glob: &str) -> Option<&'static str> {
+    if glob.starts_with("!") || glob.chars().any(is_foreign) {
+        return Some("only *, ** and ? mean something in a glob; ? stands for any other mark too");
+    }
+    let is_void = |part: &str| part.is_empty() || part == ".";
+    if glob == "./" || bare(glob).split('/').any(is_void) {
+        return Some("no file has such a name or path");
+    }
+    None
+}
+
 /// Whether a glob stands for a whole path.
 ///
 /// `*` stands for any characters but `/`, also for none; `**` for any characters; `?` for any one but `/`; and each other

@@ -4,6 +4,7 @@
 mod building;
 mod folders;
 mod globs;
+mod laws;
 mod reading;
 mod table;
 

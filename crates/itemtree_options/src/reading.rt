@@ -1,7 +1,10 @@
 //! What is asked on a command line.
 use crate::building::command;
 use crate::folders::Filter;
+use crate::globs::glob_fault;
+use crate::table::LIST;
 use clap::error::ErrorKind;
+use clap::parser::ValueSource;
 use clap::{ArgMatches, Error};
 use std::alloc::{AllocError, Global};
 
@@ -29,6 +32,10 @@ pub enum Command<'a> {
     Tags {
         /// The file to write.
         output: &'a str,
+        /// Whether the command line names that.
+        is_named: bool,
+        /// Whether what stands in it is kept.
+        is_appended: bool,
     },
     Changed {
         old: &'a str,
@@ -49,8 +56,12 @@ pub struct Asked<'a> {
     pub command: Command<'a>,
     /// The files and folders.
     pub files: Vec<&'a str>,
+    /// The files that list more of them.
+    pub lists: Vec<&'a str>,
     /// What of folders is taken.
     pub filter: Filter<'a>,
+    /// Whether links to folders are followed.
+    pub follows_links: bool,
     /// The year of the edition: 2015, 2018, 2021 or 2024.
     pub edition: u16,
     /// The words after `--cfg`.
@@ -73,7 +84,9 @@ impl Drop for Asked<'_> {
         let Asked {
             command: _,
             files: _,
+            lists: _,
             filter: _,
+            follows_links: _,
             edition: _,
             cfgs: _,
             only_active: _,
@@ -164,6 +177,8 @@ fn command_of<'a>(name: &str, matches: &ArgMatches<'a>) -> Command<'a> {
         },
         "tags" => Command::Tags {
             output: word(matches, "output"),
+            is_named: matches.value_source("output") == Some(ValueSource::CommandLine),
+            is_appended: matches.get_flag("append"),
         },
         "changed" => changed(matches),
         "request" => request(matches),
@@ -177,7 +192,9 @@ fn begun<'a>(alloc: Global, name: &str, matches: &ArgMatches<'a>) -> Asked<'a> {
     Asked {
         command: command_of(name, matches),
         files: Vec::new(alloc),
+        lists: Vec::new(alloc),
         filter: Filter::new(alloc, matches.get_flag("hidden")),
+        follows_links: matches.get_flag("follow"),
         edition: matches.get_one::<u16>("edition").unwrap_or(2024),
         cfgs: Vec::new(alloc),
         only_active: matches.get_flag("active"),
@@ -190,6 +207,7 @@ fn begun<'a>(alloc: Global, name: &str, matches: &ArgMatches<'a>) -> Asked<'a> {
 
 fn push_lists<'a>(matches: &ArgMatches<'a>, asked: &mut Asked<'a>) -> Result<(), AllocError> {
     push_words(matches, "files", &mut asked.files)?;
+    push_words(matches, LIST, &mut asked.lists)?;
     push_words(matches, "exclude", &mut asked.filter.excluded)?;
     push_words(matches, "cfg", &mut asked.cfgs)?;
     push_words(matches, "skip", &mut asked.skipped)?;
@@ -206,10 +224,25 @@ fn asked_of<'a>(
     Ok(asked)
 }
 
+/// What is wrong with the first of these globs that is none.
+fn wrong_glob(alloc: Global, globs: &[&str]) -> Result<Option<String>, AllocError> {
+    for glob in globs {
+        if let Some(fault) = glob_fault(glob) {
+            let text = format!(in alloc; "itemtree: --exclude '{glob}': {fault}\n")?;
+            return Ok(Some(text));
+        }
+    }
+    Ok(None)
+}
+
 fn line_of<'a>(alloc: Global, matches: &ArgMatches<'a>) -> Result<CommandLine<'a>, AllocError> {
-    match matches.subcommand() {
-        Some((name, inner)) => Ok(CommandLine::Asked(asked_of(alloc, name, inner)?)),
-        None => Ok(CommandLine::Wrong(String::new(alloc))),
+    let Some((name, inner)) = matches.subcommand() else {
+        return Ok(CommandLine::Wrong(String::new(alloc)));
+    };
+    let asked = asked_of(alloc, name, inner)?;
+    match wrong_glob(alloc, &asked.filter.excluded)? {
+        Some(text) => Ok(CommandLine::Wrong(text)),
+        None => Ok(CommandLine::Asked(asked)),
     }
 }
 

@@ -11,7 +11,12 @@ pub(crate) enum Form {
     Short(char),
     /// At its place, where it has to be.
     Word,
+    /// At its place, where it has to be if no file lists others.
+    Unlisted,
 }
+
+/// The argument that lists files.
+pub(crate) const LIST: &str = "files-from";
 
 /// An argument of a command.
 pub(crate) struct Argument {
@@ -57,18 +62,24 @@ const SEVERAL: Argument = argument!(ONE action: ArgAction::Append; "");
 const WORD: Argument = argument!(ONE form: Form::Word; "");
 
 const FILES: Argument =
-    argument!(WORD id: "files", value: "FILE", action: ArgAction::Append, most: usize::MAX;
+    argument!(SEVERAL id: "files", form: Form::Unlisted, value: "FILE", most: usize::MAX;
     "Rust files; a folder stands for its .rs files at every depth, and - for standard input");
+
+const FILES_FROM: Argument = argument!(SEVERAL id: LIST, form: Form::Short('L'), value: "LIST";
+    "Read the files and folders that this file names too, one on each line; - for standard input");
 
 const EDITION: Argument = argument!(ONE id: "edition", value: "YEAR",
     parser: ValueParser::Names(&["2015", "2018", "2021", "2024"]), default: &["2024"];
     "The edition of the files: its keywords cannot be names, and are written as r#NAME");
 
 const HIDDEN: Argument = argument!(FLAG id: "hidden";
-    "Of folders, take hidden entries and folders called target too");
+    "Of folders, take hidden entries and the target folders of cargo too");
+
+const FOLLOW: Argument = argument!(FLAG id: "follow";
+    "Of folders, go through the folders that links there lead to, each once");
 
 const EXCLUDE: Argument = argument!(SEVERAL id: "exclude", value: "GLOB";
-    "Of folders, leave out what has such a name, or such a path below the folder");
+    "Of folders, leave out what has such a name or path: a/b below the folder, or as it is listed");
 
 const CFG: Argument = argument!(SEVERAL id: "cfg", value: "SPEC";
     "A cfg that is set: NAME or KEY=\"VALUE\"; may be given several times");
@@ -106,7 +117,10 @@ const NAME: Argument = argument!(WORD id: "name", value: "NAME";
 
 const OUTPUT: Argument =
     argument!(ONE id: "output", form: Form::Short('o'), value: "FILE", default: &["tags"];
-    "Where to write them; - for standard output");
+    "The tags file; - for standard output");
+
+const APPEND: Argument = argument!(FLAG id: "append", form: Form::Short('a');
+    "Keep what stands in the tags file");
 
 const DOCS_TOO: Argument = argument!(DOCS id: "docs";
     "Compare documentation too; with --tree, if --skip is not given");
@@ -151,7 +165,8 @@ static OUTLINE: Description = Description {
 
 Status: 0, or 2 at an error",
     arguments: &[
-        EDITION, HIDDEN, EXCLUDE, CFG, ACTIVE, NO_MEMBERS, DEPTH, COLOR, JSON, FILES,
+        EDITION, HIDDEN, FOLLOW, EXCLUDE, CFG, ACTIVE, NO_MEMBERS, DEPTH, COLOR, JSON, FILES_FROM,
+        FILES,
     ],
 };
 
@@ -161,7 +176,9 @@ static PAGE: Description = Description {
     after: "Example: itemtree page --ids off src/lib.rs
 
 Status: 0, or 2 at an error",
-    arguments: &[EDITION, HIDDEN, EXCLUDE, CFG, SKIP, DOCS, IDS, FILES],
+    arguments: &[
+        EDITION, HIDDEN, FOLLOW, EXCLUDE, CFG, SKIP, DOCS, IDS, FILES_FROM, FILES,
+    ],
 };
 
 static IMPORTS: Description = Description {
@@ -170,7 +187,9 @@ static IMPORTS: Description = Description {
     after: "Example: itemtree imports --duplicates src
 
 Status: 0, or 2 at an error",
-    arguments: &[EDITION, HIDDEN, EXCLUDE, DUPLICATES, FILES],
+    arguments: &[
+        EDITION, HIDDEN, FOLLOW, EXCLUDE, DUPLICATES, FILES_FROM, FILES,
+    ],
 };
 
 static FIND: Description = Description {
@@ -180,7 +199,7 @@ static FIND: Description = Description {
 
 Status: 0 if something is found, 1 if nothing is, 2 at an error",
     arguments: &[
-        EDITION, HIDDEN, EXCLUDE, CFG, ACTIVE, NO_MEMBERS, NAME, FILES,
+        EDITION, HIDDEN, FOLLOW, EXCLUDE, CFG, ACTIVE, NO_MEMBERS, FILES_FROM, NAME, FILES,
     ],
 };
 
@@ -189,9 +208,12 @@ static TAGS: Description = Description {
     about: "Writes a tags file, by which editors jump to names",
     after: "Example: itemtree tags src
 
-Status: 0, or 2 at an error",
+An old tags file is replaced where anything could be read. What is no tags file is left as it is.
+
+Status: 0, or 2 at an error, or where nothing could be read",
     arguments: &[
-        EDITION, HIDDEN, EXCLUDE, CFG, ACTIVE, NO_MEMBERS, OUTPUT, FILES,
+        EDITION, HIDDEN, FOLLOW, EXCLUDE, CFG, ACTIVE, NO_MEMBERS, OUTPUT, APPEND, FILES_FROM,
+        FILES,
     ],
 };
 
@@ -207,6 +229,7 @@ Status: 0 if nothing differs, 1 if something does, 2 at an error",
     arguments: &[
         EDITION,
         HIDDEN,
+        FOLLOW,
         EXCLUDE,
         DOCS_TOO,
         TREE,
@@ -224,7 +247,7 @@ static REQUEST: Description = Description {
 
 Status: 0, or 2 at an error; then nothing is written",
     arguments: &[
-        EDITION, HIDDEN, EXCLUDE, CFG, SKIP, DOCS, SHOW, NO_BODIES, FILES,
+        EDITION, HIDDEN, FOLLOW, EXCLUDE, CFG, SKIP, DOCS, SHOW, NO_BODIES, FILES_FROM, FILES,
     ],
 };
 
@@ -246,7 +269,7 @@ This is no syntax check. It sees words that begin no item, items without an end 
 that do not pair, and paths and attributes that cannot be read; not what else signatures, types and bodies hold.
 
 Status: 0 if nothing is wrong, 1 if something is, 2 at an error",
-    arguments: &[EDITION, HIDDEN, EXCLUDE, FILES],
+    arguments: &[EDITION, HIDDEN, FOLLOW, EXCLUDE, FILES_FROM, FILES],
 };
 
 /// The commands, as help lists them.
