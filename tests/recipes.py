@@ -11,23 +11,6 @@ import tempfile
 
 TOP = os.path.dirname(os.path.dirname(os.path.realpath(__file__)))
 PAGE = os.path.join(TOP, 'docs/ITEMTREE.md')
-# By a word of each: what is run where the page does not show it yet.
-RECIPES = {
-    'difftool': """git difftool -y -x 'itemtree changed --' -- '*.rs'
-git difftool -y -x 'itemtree changed --' HEAD~1 HEAD -- '*.rs'
-""",
-    'worktree': """git worktree add -q --detach ../before HEAD~1
-itemtree changed ../before/src src
-""",
-    'textconv': """git config diff.items.textconv 'itemtree page --ids off --'
-""",
-    'checkout-index': """#!/bin/sh
-staged=$(mktemp -d) && trap 'rm -rf "$staged"' EXIT || exit
-git diff --cached --name-only --diff-filter=d -z -- '*.rs' | git checkout-index -z --stdin --prefix="$staged/" || exit
-cd "$staged" || exit
-[ -z "$(ls -A)" ] || itemtree check --hidden .
-""",
-}
 GOOD, BROKEN = 'pub fn f() {}\n', 'pub fn f() {}\n) fn g() {}\n'
 passed = failed = 0
 
@@ -44,7 +27,7 @@ def tell(is_right, name, got='', wanted=''):
 def recipe(word):
     """The block of the page with this word."""
     blocks = re.findall(r'^```sh\n(.*?)^```$', open(PAGE, encoding='utf-8').read(), re.M | re.S)
-    return next((block for block in blocks if word in block), RECIPES[word])
+    return next(block for block in blocks if word in block)
 
 
 class Repository:
