@@ -133,14 +133,15 @@ fn push_one(
 
 // The lines of each use of a tree, also in its modules, in order.
 #[tactic(auto, using(item_tree::proofs::Walking::ids_contained, crate::proofs::ImportLists::top_lines))]
-pub(crate) fn push_imports(
+pub(crate) fn imports_text(
     alloc: Global,
     tree: &ItemTree,
     edition: &Edition,
-    text: &mut String,
-) -> Result<(), AllocError>
+) -> Result<String, AllocError>
     ensures { let lines = import_lines edition.now.reserved.items tree.now.forest in
-        OnOk result (string_bytes text.new ≡ string_bytes text.old ++ lines) }
+        IfOk result (λ text. string_bytes text ≡ lines) }
 {
-    push_all(alloc, tree, edition, tree.top_level_items(), text)
+    let mut text = String::new(alloc);
+    push_all(alloc, tree, edition, tree.top_level_items(), &mut text)?;
+    Ok(text)
 }

@@ -1,38 +1,17 @@
 //! The texts of shows: pages and imports, and the lines of what changed.
-ghost use Rattle.std.specs.Prelude.{◌≡◌, ◌++◌, OnOk, string_bytes, flat_map};
-ghost use Rattle.item_tree.specs.Page.{page};
+ghost use Rattle.std.specs.Prelude.{◌≡◌, ◌++◌, IfOk, OnErr, OnOk, string_bytes, flat_map};
 ghost use Rattle.item_tree_db.specs.State.{IsKnown};
 ghost use Rattle.item_tree_request.specs.Outputs.{AreChanges, IsAdded, table_change_line, printed, IsPrinted};
 
-use crate::imports::push_imports;
+use crate::imports::imports_text;
 use crate::request::show::{Show, ShowKind, TreeShow};
 use crate::show_writer::ShowWriter;
 use hir_input::{Crate, Edition};
-use item_tree::ItemTree;
 use item_tree_db::{ChangedSince, Place, Sources};
 use std::alloc::{AllocError, Global};
 
-fn push_page(
-    alloc: Global,
-    tree: &ItemTree,
-    edition: &Edition,
-    text: &mut String,
-) -> Result<(), AllocError>
-    ensures { OnOk result (string_bytes text.new ≡ string_bytes text.old
-        ++ page edition.now.reserved.items tree.now) }
-{
-    let lines = tree.pretty_print(alloc, edition)?;
-    text.push_str(&lines)?;
-    Ok(())
-}
-
-/// Adds the line on a place and a crate, with a change number.
-///
-/// # Errors
-///
-/// Only if memory runs out.
 #[tactic(auto, unfolding(crate::specs::Outputs::table_change_line))]
-pub fn push_change(
+fn write_change(
     place: Place,
     krate: Crate,
     changed: u64,
@@ -54,7 +33,82 @@ pub fn push_change(
     }
 }
 
+/// Adds the line on a place and a crate, with a change number.
+///
+/// # Errors
+///
+/// Only if memory runs out. Then the text stays as it was.
+pub fn push_change(
+    alloc: Global,
+    place: Place,
+    krate: Crate,
+    changed: u64,
+    text: &mut String,
+) -> Result<(), AllocError>
+    ensures line { OnOk result (string_bytes text.new ≡ string_bytes text.old
+        ++ table_change_line (place, krate, changed)) }
+    ensures same { OnErr result (string_bytes text.new ≡ string_bytes text.old) }
+{
+    let mut line = String::new(alloc);
+    write_change(place, krate, changed, &mut line)?;
+    text.push_str(&line)
+}
+
 #[tactic(auto, unfolding(crate::specs::Outputs::page_text, crate::specs::Outputs::imports_text))]
+fn tree_text(
+    alloc: Global,
+    sources: &Sources,
+    edition: &Edition,
+    show: TreeShow,
+) -> Result<String, AllocError>
+    requires { IsKnown sources.now show.krate }
+    ensures { IfOk result (λ text. string_bytes text
+        ≡ printed edition.now.reserved.items sources.now show) }
+{
+    let tree = sources.tree(show.place, show.krate);
+    match show.kind {
+        ShowKind::Page => tree.pretty_print(alloc, edition),
+        ShowKind::Tree => {
+            let changed = sources.changed(show.place, show.krate);
+            let mut text = String::new(alloc);
+            write_change(show.place, show.krate, changed, &mut text)?;
+            text.push_str(&tree.pretty_print(alloc, edition)?)?;
+            Ok(text)
+        }
+        ShowKind::Imports => imports_text(alloc, tree, edition),
+    }
+}
+
+// A line for each change.
+fn change_lines(alloc: Global, changes: ChangedSince<'_>) -> Result<String, AllocError>
+    ensures { IfOk result (λ text. string_bytes text ≡ flat_map table_change_line changes.entry) }
+{
+    let mut text = String::new(alloc);
+    for (place, krate, changed) in changes {
+        write_change(place, krate, changed, &mut text)?;
+    }
+    Ok(text)
+}
+
+/// Adds the lines of what changed since a number.
+///
+/// # Errors
+///
+/// Only if memory runs out. Then the text stays as it was.
+pub fn push_changes(
+    alloc: Global,
+    sources: &Sources,
+    since: u64,
+    text: &mut String,
+) -> Result<(), AllocError>
+    ensures lines { OnOk result (IsAdded (AreChanges sources.now since) (string_bytes text.old)
+        (string_bytes text.new)) }
+    ensures same { OnErr result (string_bytes text.new ≡ string_bytes text.old) }
+{
+    let lines = change_lines(alloc, sources.changed_since(since))?;
+    text.push_str(&lines)
+}
+
 fn push_tree(
     alloc: Global,
     sources: &Sources,
@@ -63,42 +117,12 @@ fn push_tree(
     text: &mut String,
 ) -> Result<(), AllocError>
     requires { IsKnown sources.now show.krate }
-    ensures { OnOk result (string_bytes text.new ≡ string_bytes text.old
+    ensures added { OnOk result (string_bytes text.new ≡ string_bytes text.old
         ++ printed edition.now.reserved.items sources.now show) }
+    ensures same { OnErr result (string_bytes text.new ≡ string_bytes text.old) }
 {
-    let tree = sources.tree(show.place, show.krate);
-    match show.kind {
-        ShowKind::Page => push_page(alloc, tree, edition, text),
-        ShowKind::Tree => {
-            let changed = sources.changed(show.place, show.krate);
-            push_change(show.place, show.krate, changed, text)?;
-            push_page(alloc, tree, edition, text)
-        }
-        ShowKind::Imports => push_imports(alloc, tree, edition, text),
-    }
-}
-
-// A line for each change.
-fn push_lines(changes: ChangedSince<'_>, text: &mut String) -> Result<(), AllocError>
-    ensures { OnOk result (string_bytes text.new ≡ string_bytes text.old
-        ++ flat_map table_change_line changes.entry) }
-{
-    for (place, krate, changed) in changes {
-        push_change(place, krate, changed, text)?;
-    }
-    Ok(())
-}
-
-/// Adds the lines of what changed since a number.
-///
-/// # Errors
-///
-/// Only if memory runs out.
-pub fn push_changes(sources: &Sources, since: u64, text: &mut String) -> Result<(), AllocError>
-    ensures { OnOk result (IsAdded (AreChanges sources.now since) (string_bytes text.old)
-        (string_bytes text.new)) }
-{
-    push_lines(sources.changed_since(since), text)
+    let shown = tree_text(alloc, sources, edition, show)?;
+    text.push_str(&shown)
 }
 
 /// The page of a tree, or the imports of its uses.
@@ -118,7 +142,7 @@ impl ShowWriter for Pages {
     ) -> Result<(), AllocError> {
         match show {
             Show::OfTree(show) => push_tree(alloc, sources, edition, show, text),
-            Show::Changed { since } => push_changes(sources, since, text),
+            Show::Changed { since } => push_changes(alloc, sources, since, text),
         }
     }
 

@@ -9,7 +9,7 @@ use std::alloc::{AllocError, Global};
 
 /// What a program writes of shows.
 pub trait ShowWriter {
-    ghost use Rattle.std.specs.Prelude.{OnOk};
+    ghost use Rattle.std.specs.Prelude.{◌≡◌, OnErr, OnOk};
     ghost use Rattle.item_tree_request.specs.Outputs.{AreFixed, IsAdded, ShowText};
 
     // Under reserved words, over a table, this text of a show.
@@ -19,7 +19,7 @@ pub trait ShowWriter {
     ///
     /// # Errors
     ///
-    /// Only if memory runs out.
+    /// Only if memory runs out. Then the text stays as it was.
     fn push_show(
         &self,
         alloc: Global,
@@ -29,8 +29,9 @@ pub trait ShowWriter {
         text: &mut String,
     ) -> Result<(), AllocError>
         requires { Knows sources.now show }
-        ensures { let IsText = is_text edition.now.reserved.items sources.now show in
-            OnOk result (IsAdded IsText (string_bytes text.old) (string_bytes text.new)) };
+        ensures added { let IsText = is_text edition.now.reserved.items sources.now show in
+            OnOk result (IsAdded IsText (string_bytes text.old) (string_bytes text.new)) }
+        ensures same { OnErr result (string_bytes text.new ≡ string_bytes text.old) };
 
     /// Two tables that the same edits lead to have the same texts; it does nothing.
     fn are_fixed()

@@ -1,5 +1,5 @@
 //! The texts of shows: outlines, and the lines of what changed.
-ghost use Rattle.std.specs.Prelude.{◌≡◌, ◌++◌, OnOk, string_bytes};
+ghost use Rattle.std.specs.Prelude.{◌≡◌, ◌++◌, IfOk, OnErr, OnOk, string_bytes};
 ghost use Rattle.item_tree_db.specs.State.{IsKnown};
 ghost use Rattle.outline_tool.specs.Outlines.{outlined, IsOutlined};
 
@@ -9,9 +9,26 @@ use item_tree_request::request::show::{Show, ShowKind, TreeShow};
 use item_tree_request::show::{push_change, push_changes};
 use item_tree_request::show_writer::ShowWriter;
 use std::alloc::{AllocError, Global};
-use tree_walk::push_outline;
+use tree_walk::{outline_text, push_outline};
 
 #[tactic(auto, unfolding(crate::specs::Outlines::outline_of))]
+fn tree_text(alloc: Global, sources: &Sources, show: TreeShow) -> Result<String, AllocError>
+    requires { IsKnown sources.now show.krate }
+    ensures { IfOk result (λ text. string_bytes text ≡ outlined sources.now show) }
+{
+    let tree = sources.tree(show.place, show.krate);
+    match show.kind {
+        ShowKind::Tree => {
+            let changed = sources.changed(show.place, show.krate);
+            let mut text = String::new(alloc);
+            push_change(alloc, show.place, show.krate, changed, &mut text)?;
+            push_outline(alloc, tree, &mut text)?;
+            Ok(text)
+        }
+        ShowKind::Page | ShowKind::Imports => outline_text(alloc, tree),
+    }
+}
+
 fn push_tree(
     alloc: Global,
     sources: &Sources,
@@ -19,18 +36,12 @@ fn push_tree(
     text: &mut String,
 ) -> Result<(), AllocError>
     requires { IsKnown sources.now show.krate }
-    ensures { OnOk result (string_bytes text.new ≡ string_bytes text.old
+    ensures added { OnOk result (string_bytes text.new ≡ string_bytes text.old
         ++ outlined sources.now show) }
+    ensures same { OnErr result (string_bytes text.new ≡ string_bytes text.old) }
 {
-    let tree = sources.tree(show.place, show.krate);
-    match show.kind {
-        ShowKind::Tree => {
-            let changed = sources.changed(show.place, show.krate);
-            push_change(show.place, show.krate, changed, text)?;
-            push_outline(alloc, tree, text)
-        }
-        ShowKind::Page | ShowKind::Imports => push_outline(alloc, tree, text),
-    }
+    let outline = tree_text(alloc, sources, show)?;
+    text.push_str(&outline)
 }
 
 /// The outline of a tree, and the lines of what changed as in `Pages`.
@@ -49,7 +60,7 @@ impl ShowWriter for Outlines {
     ) -> Result<(), AllocError> {
         match show {
             Show::OfTree(show) => push_tree(alloc, sources, show, text),
-            Show::Changed { since } => push_changes(sources, since, text),
+            Show::Changed { since } => push_changes(alloc, sources, since, text),
         }
     }
 

@@ -100,12 +100,16 @@ fn changes_value(
     Ok(Value::Array(values))
 }
 
-fn push_changes(changes: &[(Place, Crate, u64)], text: &mut String) -> Result<(), AllocError>
+fn push_changes(
+    alloc: Global,
+    changes: &[(Place, Crate, u64)],
+    text: &mut String,
+) -> Result<(), AllocError>
     ensures { OnOk result (string_bytes text.new ≡ string_bytes text.old
         ++ flat_map table_change_line changes.now) }
 {
     for (place, krate, change) in changes {
-        push_change(*place, *krate, *change, text)?;
+        push_change(alloc, *place, *krate, *change, text)?;
     }
     Ok(())
 }
@@ -121,7 +125,7 @@ fn changes_text(
 {
     let changes = changes_since(alloc, files, sources, since)?;
     let mut text = String::new(alloc);
-    push_changes(&changes, &mut text)?;
+    push_changes(alloc, &changes, &mut text)?;
     Ok(Value::String(text))
 }
 

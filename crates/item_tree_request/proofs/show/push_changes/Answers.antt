@@ -1,8 +1,10 @@
-use Rattle.std.proofs.Common.{refl, flat_map}
+use Rattle.std.proofs.Common.{refl, rules, string_bytes, flat_map, ◌≡◌, ◌++◌, OnOk}
 use Rattle.item_tree_request.proofs.Common.{on_ok_weaker, table_change_line}
 use Rattle.item_tree_request.proofs.show.push_changes.Goals as goal
 
-pub returns : goal.returns
-returns c =
+pub returns-clause-lines : goal.returns-clause-lines
+returns-clause-lines c =
     let changes = c.changed_since.result in
-    on_ok_weaker c.push_lines.result (λ e. (flat_map table_change_line changes, (changes, c.changed_since.ensures.since, refl), e)) c.push_lines.ensures
+    let lines = flat_map table_change_line changes in
+    let added : OnOk c.push_str.result (string_bytes c.push_str.new.self ≡ string_bytes c.args.text.now ++ lines) = search rules in
+    on_ok_weaker c.push_str.result (λ e. (lines, (changes, c.changed_since.ensures.since, refl), e)) added

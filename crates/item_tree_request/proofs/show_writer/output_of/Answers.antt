@@ -9,7 +9,7 @@ loop-show-init g c = ([], tt, search rules)
 pub loop-show-preserved : goal.loop-show-preserved
 loop-show-preserved g c =
     let IsText = g.T.ShowWriter.is_text c.args.edition.now.reserved.items c.args.sources.now in
-    joined-more IsText c.args.shows.now c.loop-show.show-index _ _ _ c.loop-show-test.true c.loop-show.invariant c.in_ok-push_show.ensures
+    joined-more IsText c.args.shows.now c.loop-show.show-index _ _ _ c.loop-show-test.true c.loop-show.invariant c.in_ok-push_show.ensures.added
 
 pub returns : goal.returns
 returns g c =

@@ -1,7 +1,7 @@
 -- what is written and the lines of what is left are the lines of all
 use Rattle.std.proofs.Common.{◌≡◌, ◌++◌, string_bytes, flat_map}
 use Rattle.item_tree_request.proofs.Common.{table_change_line}
-use Rattle.item_tree_request.proofs.show.push_lines.Given as goal
+use Rattle.item_tree_request.proofs.show.change_lines.Given as goal
 
 abbrev pub invariant-loop-place : goal.invariant-loop-place
-invariant-loop-place l = string_bytes l.text ++ flat_map table_change_line l.place-iterator ≡ string_bytes l.initial.text ++ flat_map table_change_line l.fn.changes
+invariant-loop-place l = string_bytes l.text ++ flat_map table_change_line l.place-iterator ≡ flat_map table_change_line l.fn.changes
