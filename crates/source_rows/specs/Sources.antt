@@ -1,5 +1,5 @@
 -- Files, and their places as compilers write them.
-use Rattle.std.specs.Prelude.{ℕ, List, ◌++◌, codes, decimal}
+use Rattle.std.specs.Prelude.{◌≡◌, ℕ, List, ◌++◌, codes, decimal}
 use Rattle.line_index.specs.declared.Position.{Position}
 use Rattle.line_index.specs.Positions.{position_of}
 
@@ -15,3 +15,7 @@ place_text path p = path ++ codes ":" ++ decimal p.line ++ codes ":" ++ decimal 
 -- the same of a byte of the text
 abbrev pub place_at : Source → ℕ → List ℕ
 place_at s at = place_text s.path (position_of s.text at)
+
+-- a text that begins with another
+abbrev pub BeginsWith : List ℕ → List ℕ → Type 0
+BeginsWith front text = (rest : List ℕ) × (text ≡ front ++ rest)

@@ -1,7 +1,7 @@
 //! A file, and its places as compilers write them.
 
 ghost use Rattle.std.specs.Prelude.{◌≡◌, ◌++◌, OnOk, string_bytes};
-ghost use Rattle.source_rows.specs.Sources.{place_text};
+ghost use Rattle.source_rows.specs.Sources.{BeginsWith, place_text};
 
 use itoa::Buffer;
 use line_index::Position;
@@ -18,10 +18,12 @@ pub struct Source<'a> {
 ///
 /// # Errors
 ///
-/// Only if memory runs out.
+/// Only if memory runs out. A part of them may then be added.
+#[tactic(auto, using(crate::proofs::Longer::longer, crate::proofs::Longer::itself))]
 pub fn push_place(path: &str, position: Position, out: &mut String) -> Result<(), AllocError>
-    ensures { OnOk result (string_bytes out.new ≡ string_bytes out.old
+    ensures text { OnOk result (string_bytes out.new ≡ string_bytes out.old
         ++ place_text path.now position) }
+    ensures longer { BeginsWith (string_bytes out.old) (string_bytes out.new) }
 {
     out.push_str(path)?;
     out.push_str(":")?;
