@@ -31,7 +31,7 @@ fn counts(token: &Token<'_>, has_docs: bool) -> bool
 }
 
 /// Those of some parts that do not end before a place.
-fn not_over(place: usize, holes: &[Hole]) -> &[Hole]
+pub(crate) fn not_over(place: usize, holes: &[Hole]) -> &[Hole]
     ensures { result.now ≡ spec.not_over place holes.now }
 {
     let mut left = holes;
@@ -44,7 +44,7 @@ fn not_over(place: usize, holes: &[Hole]) -> &[Hole]
     left
 }
 
-fn is_begun(place: usize, holes: &[Hole]) -> bool
+pub(crate) fn is_begun(place: usize, holes: &[Hole]) -> bool
     ensures { result ≡ spec.is_begun place holes.now }
 {
     match holes {
