@@ -39,8 +39,8 @@ abbrev pub part_told : EditionYear → List ℕ → Option ℕ → Option Part
 part_told edition text None = None
 part_told edition text (Some at) = Some (outside_part edition text at)
 
-abbrev pub outside : EditionYear → List ℕ → List Part → Option Part
-outside edition text ps = part_told edition text (first_kept (told_elsewhere edition text ps) (tokens text))
+abbrev pub outside_of : EditionYear → List ℕ → List Part → Option Part
+outside_of edition text ps = part_told edition text (first_kept (told_elsewhere edition text ps) (tokens text))
 
 -- the row of that part, in which these stand
 abbrev pub row_of : Bool → List ℕ → List Part → Option Part → List TextRow
@@ -48,4 +48,4 @@ row_of has_docs text ps None = []
 row_of has_docs text ps (Some p) = part_row has_docs text p ps ∷ []
 
 abbrev pub outside_rows : Bool → EditionYear → List ℕ → List Part → List TextRow
-outside_rows has_docs edition text ps = row_of has_docs text ps (outside edition text ps)
+outside_rows has_docs edition text ps = row_of has_docs text ps (outside_of edition text ps)

@@ -141,7 +141,7 @@ fn is_operator(symbol: u8) -> bool
 
 /// Whether a symbol directly behind another is one mark with it.
 fn is_joint(before: u8, symbol: u8) -> bool
-    ensures { result ≡ spec.is_joint before symbol }
+    ensures { result ≡ spec.is_one_mark before symbol }
 {
     match symbol {
         b'>' => before == b'=' || before == b'-',

@@ -53,7 +53,7 @@ pub fn outside(
     parts: &[Part],
 ) -> Result<Option<Part>, AllocError>
     ensures { IfOk result (λ part. option_map part_view part
-        ≡ spec.outside edition text.now (map part_view parts.now)) }
+        ≡ spec.outside_of edition text.now (map part_view parts.now)) }
 {
     let start = attributes_end(alloc, text, edition)?;
     let mut holes = Vec::new(alloc);
