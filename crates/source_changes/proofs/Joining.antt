@@ -14,8 +14,8 @@ pub are_parts : {w : _} (edition : EditionYear) (text : List ℕ) (file : Source
 are_parts edition text file items ps is same e = (is.read, is.is_read, e ∙ ap (item_parts edition text) (same ∙ ap (λ (f : FileView). f.places) is.clipped))
 
 pub compared : (edition : EditionYear) (d : Bool) (old new : Source) (c : Compared) (olds news olds_a news_a olds_b news_b : List Part) → AreParts edition old.text olds → AreParts edition new.text news → olds_a ≡ olds → news_a ≡ news → olds_b ≡ olds → news_b ≡ news
-    → (IsTrue c.is_same ↔ (seen_texts d old.text olds_a ≡ seen_texts d new.text news_a)) → string_bytes c.text ≡ compared_lines c.is_same d old new olds_b news_b → IsCompared edition d old new c
+    → (IsTrue c.is_same ↔ (seen_texts d old.text olds_a ≡ seen_texts d new.text news_a)) → string_bytes c.text ≡ compared_lines edition c.is_same d old new olds_b news_b → IsCompared edition d old new c
 compared edition d old new c olds news olds_a news_a olds_b news_b a b p q r s same text =
     let before : seen_texts d old.text olds_a ≡ seen_texts d old.text olds = ap (seen_texts d old.text) p in
     let after : seen_texts d new.text news_a ≡ seen_texts d new.text news = ap (seen_texts d new.text) q in
-    (olds, news, a, b, ((λ h. sym before ∙ same.0 h ∙ after), (λ h. same.1 (before ∙ h ∙ sym after))), text ∙ (λ k. compared_lines c.is_same d old new (r k) (s k)))
+    (olds, news, a, b, ((λ h. sym before ∙ same.0 h ∙ after), (λ h. same.1 (before ∙ h ∙ sym after))), text ∙ (λ k. compared_lines edition c.is_same d old new (r k) (s k)))

@@ -1,11 +1,12 @@
 -- What others can see of a file became another, and the lines that tell it.
-use Rattle.std.specs.Prelude.{◌≡◌, ◌↔◌, ℕ, Bool, IsTrue, if◌then◌else◌, List, [], ◌++◌, codes, string_bytes, flat_map}
+use Rattle.std.specs.Prelude.{◌≡◌, ◌↔◌, ℕ, Bool, IsTrue, if◌then◌else◌, List, [], ◌∷◌, ◌++◌, codes, string_bytes, flat_map}
 use Rattle.hir_input.specs.declared.edition.EditionYear.{EditionYear}
 use Rattle.rust_items.specs.SourceFiles.{FileView, IsFileView}
 use Rattle.item_changes.specs.ChangeWords.{change_word, side_of}
 use Rattle.source_rows.specs.Changes.{RowChange, row_changes}
 use Rattle.source_rows.specs.Skeletons.{skeleton}
 use Rattle.source_rows.specs.Parts.{Part, item_parts}
+use Rattle.source_rows.specs.Outside.{outside_rows}
 use Rattle.source_rows.specs.Rows.{bodies, part_rows}
 use Rattle.source_rows.specs.Sources.{Source, place_at}
 use Rattle.source_changes.specs.declared.Compared.{Compared}
@@ -33,17 +34,25 @@ row_lines old new cs = flat_map (row_line_between old new) cs
 
 -- ---- two files
 
-abbrev pub lines_between : Bool → Source → Source → List Part → List Part → List ℕ
-lines_between has_docs old new olds news = row_lines old new (row_changes (part_rows has_docs old.text olds) (part_rows has_docs new.text news))
+-- these changes, or others where there are none
+abbrev pub or_else : List RowChange → List RowChange → List RowChange
+or_else [] others = others
+or_else (c ∷ cs) others = c ∷ cs
+
+-- what became of items and members, and where nothing did, of what stands in none of these
+abbrev pub lines_between : EditionYear → Bool → Source → Source → List Part → List Part → List ℕ
+lines_between edition has_docs old new olds news =
+    let items = row_changes (part_rows has_docs old.text olds) (part_rows has_docs new.text news) in
+    row_lines old new (or_else items (row_changes (outside_rows has_docs edition old.text olds) (outside_rows has_docs edition new.text news)))
 
 -- no line where nothing differs
-abbrev pub compared_lines : Bool → Bool → Source → Source → List Part → List Part → List ℕ
-compared_lines is_same has_docs old new olds news =
-    if is_same then [] else lines_between has_docs old new olds news
+abbrev pub compared_lines : EditionYear → Bool → Bool → Source → Source → List Part → List Part → List ℕ
+compared_lines edition is_same has_docs old new olds news =
+    if is_same then [] else lines_between edition has_docs old new olds news
 
 -- whether others see the same of two files of an edition, and the lines of what became of the parts
 abbrev pub IsCompared : EditionYear → Bool → Source → Source → Compared → Type 0
 IsCompared edition has_docs old new c =
     (olds news : List Part) × AreParts edition old.text olds × AreParts edition new.text news
     × (IsTrue c.is_same ↔ (seen_texts has_docs old.text olds ≡ seen_texts has_docs new.text news))
-    × (string_bytes c.text ≡ compared_lines c.is_same has_docs old new olds news)
+    × (string_bytes c.text ≡ compared_lines edition c.is_same has_docs old new olds news)

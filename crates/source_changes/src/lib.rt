@@ -4,6 +4,8 @@
 ghost use Rattle.std.specs.Prelude.{◌≡◌, ◌++◌, ◌↔◌, IfOk, IsTrue, OnOk, map, string_bytes};
 ghost use Rattle.source_rows.specs.Views.{part_view, source_view};
 ghost use Rattle.source_rows.specs.ChangeViews.{row_change_view};
+ghost use Rattle.source_rows.specs.Changes.{row_changes};
+ghost use Rattle.source_rows.specs.Outside.{outside_rows};
 ghost use Rattle.source_changes.specs.Changes as spec;
 ghost use Rattle.source_changes.specs.Views.{lined_view};
 
@@ -12,7 +14,9 @@ use item_changes::{ChangeKind, change_word};
 use line_index::LineIndex;
 use rust_items::{Wanted, WantedMetas, read_wanted};
 pub use source_rows::Source;
-use source_rows::{Change, Part, Skeleton, bodies, changes, parts, push_place, rows};
+use source_rows::{
+    Change, Part, Skeleton, bodies, changes, outside, parts, push_place, row_around, rows,
+};
 use std::alloc::{AllocError, Global};
 
 /// What became of a file in another.
@@ -132,34 +136,59 @@ fn is_same(
     Ok(before.is_same(after))
 }
 
-/// The lines of what became of the parts of a file in another; none where others see the same of both.
-fn text_of(
-    alloc: Global,
-    is_same: bool,
-    old: Source<'_>,
-    new: Source<'_>,
-    olds: &[Part],
-    news: &[Part],
+/// Two files of an edition and their parts.
+#[derive(Clone, Copy)]
+struct Pair<'a> {
+    old: Source<'a>,
+    new: Source<'a>,
+    olds: &'a [Part],
+    news: &'a [Part],
+    edition: EditionYear,
     has_docs: bool,
-) -> Result<String, AllocError>
-    ensures { let lines = spec.compared_lines is_same has_docs (source_view old.entry)
-        (source_view new.entry) (map part_view olds.now) (map part_view news.now) in
+}
+
+/// The lines of what became of what stands in none of the parts.
+fn outside_lines(alloc: Global, pair: Pair<'_>) -> Result<String, AllocError>
+    ensures { let p = pair.entry in
+        let before = outside_rows p.has_docs p.edition p.old.text.now (map part_view p.olds.now) in
+        let after = outside_rows p.has_docs p.edition p.new.text.now (map part_view p.news.now) in
+        let lines = spec.row_lines (source_view p.old) (source_view p.new) (row_changes before after) in
+        IfOk result (λ text. string_bytes text ≡ lines) }
+{
+    let before = outside(alloc, pair.old.text, pair.edition, pair.olds)?;
+    let after = outside(alloc, pair.new.text, pair.edition, pair.news)?;
+    let old_rows = row_around(alloc, pair.old.text, &before, pair.olds, pair.has_docs)?;
+    let new_rows = row_around(alloc, pair.new.text, &after, pair.news, pair.has_docs)?;
+    let changes = changes(alloc, &old_rows, &new_rows)?;
+    lines(alloc, pair.old, pair.new, &changes)
+}
+
+/// The lines of what became of the parts of a file in another, or else of what stands in none; no line where others see the same
+/// of both.
+fn text_of(alloc: Global, is_same: bool, pair: Pair<'_>) -> Result<String, AllocError>
+    ensures { let p = pair.entry in
+        let lines = spec.compared_lines p.edition is_same p.has_docs (source_view p.old)
+        (source_view p.new) (map part_view p.olds.now) (map part_view p.news.now) in
         IfOk result (λ text. string_bytes text ≡ lines) }
 {
     if is_same {
         return Ok(String::new(alloc));
     }
-    let old_rows = rows(alloc, old.text, olds, has_docs)?;
-    let new_rows = rows(alloc, new.text, news, has_docs)?;
+    let old_rows = rows(alloc, pair.old.text, pair.olds, pair.has_docs)?;
+    let new_rows = rows(alloc, pair.new.text, pair.news, pair.has_docs)?;
     let changes = changes(alloc, &old_rows, &new_rows)?;
-    lines(alloc, old, new, &changes)
+    if changes.is_empty() {
+        return outside_lines(alloc, pair);
+    }
+    lines(alloc, pair.old, pair.new, &changes)
 }
 
 /// Compares what others can see of two files of an edition: every token but those between the braces of functions and comments, and
 /// documentation only where that is asked.
 ///
 /// It tells in a line what was removed of the old file's items and of their members, and then what was added or changed. Where
-/// nothing of that became another, the files differ in the order of these or in what stands in none of them.
+/// nothing of that became another, a line tells what stands in none of these; without one the files differ in the order of items or in
+/// the attributes of the file.
 ///
 /// # Errors
 ///
@@ -177,6 +206,14 @@ pub fn compare(
     let olds = parts_of(alloc, old.text, edition)?;
     let news = parts_of(alloc, new.text, edition)?;
     let is_same = is_same(alloc, old.text, &olds, new.text, &news, has_docs)?;
-    let text = text_of(alloc, is_same, old, new, &olds, &news, has_docs)?;
+    let pair = Pair {
+        old,
+        new,
+        olds: &olds,
+        news: &news,
+        edition,
+        has_docs,
+    };
+    let text = text_of(alloc, is_same, pair)?;
     Ok(Compared { text, is_same })
 }

@@ -10,7 +10,7 @@ use Rattle.rust_lexer.specs.declared.depth.Depth.{Depth}
 use Rattle.rust_cursor.proofs.Local.{both_true}
 use Rattle.rust_lexer.proofs.Counted.{when}
 use Rattle.source_rows.specs.Inner.{ComeBehind, IsLone, ends_behind}
-use Rattle.source_rows.specs.Skeletons.{counts, is_begun, is_joint, kept, not_over, text_if_kept}
+use Rattle.source_rows.specs.Skeletons.{counts, is_begun, is_one_mark, kept, not_over, text_if_kept}
 use Rattle.source_rows.specs.declared.kept.Hole.{Hole}
 use Rattle.source_rows.proofs.Common.{nat_tests}
 
@@ -46,14 +46,14 @@ kept_later docs place behind holes before (t ∷ ts) le a =
 -- ---- marks
 
 -- a token that is no mark with what stands before it
-pub alone : (t : Piece) (ts : List Piece) → ((before : ℕ) → is_joint before (symbol_of t) ≡ false) → IsLone (t ∷ ts)
+pub alone : (t : Piece) (ts : List Piece) → ((before : ℕ) → is_one_mark before (symbol_of t) ≡ false) → IsLone (t ∷ ts)
 alone t ts e docs holes before other =
     let first = not_over t.at holes in ap (λ l. l ++ kept docs first (symbol_of t) ts) (same first)
   where
     same : (first : List Hole) → text_if_kept docs first before t ≡ text_if_kept docs first other t
     same first = rw (e before, e other) refl
 
-closing : (t : Piece) → symbol_of t ≡ 125 → (before : ℕ) → is_joint before (symbol_of t) ≡ false
+closing : (t : Piece) → symbol_of t ≡ 125 → (before : ℕ) → is_one_mark before (symbol_of t) ≡ false
 closing t e before = rw e refl
 
 -- ---- braces

@@ -11,7 +11,7 @@ use Rattle.rust_lexer.specs.declared.kind.TokenKind.TheVariants as kinds
 use Rattle.rust_lexer.specs.declared.lexer.Front.TheVariants as fronts
 use Rattle.rust_lexer.proofs.Counted.{when}
 use Rattle.rust_lexer.proofs.Laws.{lossless}
-use Rattle.source_rows.specs.Bodies.{has_const_fn, has_word, is_word}
+use Rattle.source_rows.specs.Bodies.{has_const_fn, has_word, is_this_word}
 
 abbrev Absent : List ℕ → List ℕ → Type 0
 Absent w z = (k : ℕ) → OccursAt z w k → ⊥
@@ -28,9 +28,9 @@ word_first : (k : TokenKind) (text z : List ℕ) → OccursAt (text ++ z) (word_
 word_first kinds.Ident text z = record { fits = omega (arith, length-append text z); reads = λ j h. ap (slice_index (text ++ z)) (omega arith) ∙ get_or_append_left text z 0 j h }
 word_first _ text z = record { fits = omega arith; reads = λ j h. absurd (omega (arith, h)) }
 
-absent_first : (w : List ℕ) (t : Piece) (z : List ℕ) → Absent w (t.text ++ z) → is_word w t ≡ false
+absent_first : (w : List ℕ) (t : Piece) (z : List ℕ) → Absent w (t.text ++ z) → is_this_word w t ≡ false
 absent_first w t z a =
-    when (is_word w t)
+    when (is_this_word w t)
     (λ e. absurd (a 0 (subst (λ v. OccursAt (t.text ++ z) v 0) ((bytes_eq-Decides (word_by t.kind t.text) w).0 e) (word_first t.kind t.text z))))
     (λ e. e)
 
@@ -50,7 +50,7 @@ absent_word w z r f e = absent_from w (tokens z) (subst (Absent w) (sym (lossles
 
 pub no_const_fn : (ts : List Piece) → has_word ts (codes "const") ≡ false → has_const_fn false ts ≡ false
 no_const_fn [] e = refl
-no_const_fn (t ∷ ts) e = when (is_word (codes "const") t) (λ c. absurd cc) (λ c. rw c (no_const_fn ts (left c)))
+no_const_fn (t ∷ ts) e = when (is_this_word (codes "const") t) (λ c. absurd cc) (λ c. rw c (no_const_fn ts (left c)))
   where
-    left : is_word (codes "const") t ≡ false → has_word ts (codes "const") ≡ false
+    left : is_this_word (codes "const") t ≡ false → has_word ts (codes "const") ≡ false
     left c = subst (λ b. (b || has_word ts (codes "const")) ≡ false) c e

@@ -14,3 +14,4 @@ pub mod Skeletons
 pub mod Changes
 pub mod Inner
 pub mod ChangeViews
+pub mod Outside

@@ -44,14 +44,14 @@ is_operator c =
 
 -- A symbol directly behind another is one mark with it, as in `=>`, `->`, `::`, `..` and `+=`. What generics, references and closures may end
 -- or begin with is written apart or not: `>>`, `>=`, `<<`, `<-`, `&&` and `||` are two marks each.
-abbrev pub is_joint : ℕ → ℕ → Bool
-is_joint before c =
+abbrev pub is_one_mark : ℕ → ℕ → Bool
+is_one_mark before c =
     if c == 62 then before == 61 || before == 45
     else (if c == 61 then is_operator before else (c == 58 || c == 46) && c == before)
 
 -- what tells a token behind one of this symbol: its text, and in front of that a 1 if both are one mark, else a 0
 abbrev pub token_text : ℕ → Piece → List ℕ
-token_text before t = (if is_joint before (symbol_of t) then 1 else 0) ∷ without_returns t.text
+token_text before t = (if is_one_mark before (symbol_of t) then 1 else 0) ∷ without_returns t.text
 
 -- that of a token that counts, unless it stands in the first of some parts that do not end before it
 abbrev pub text_if_kept : Bool → List Hole → ℕ → Piece → List (List ℕ)

@@ -100,8 +100,8 @@ fn is_run_early(front: &str) -> bool
 
 /// Whether a function with this in front of its body, and this in its braces, is neither a `const fn` nor a macro, and no word in them
 /// reaches out.
-fn is_hidden(front: &str, inside: &str) -> bool
-    ensures { result ≡ spec.is_hidden (tokens front.now) (tokens inside.now) }
+fn is_unseen(front: &str, inside: &str) -> bool
+    ensures { result ≡ spec.is_unseen (tokens front.now) (tokens inside.now) }
 {
     !is_run_early(front) && !has_any(inside, &OUTER_WORDS)
 }
@@ -116,7 +116,7 @@ fn is_hole(text: &str, item: TextRange, body: TextRange) -> bool
     };
     let front = text_at(text, range);
     let inside = text_at(text, body);
-    is_hidden(front, inside)
+    is_unseen(front, inside)
 }
 
 /// The braces of a function, if they are a hole.

@@ -31,7 +31,7 @@ fn counts(token: &Token<'_>, has_docs: bool) -> bool
 }
 
 /// Those of some parts that do not end before a place.
-fn not_over(place: usize, holes: &[Hole]) -> &[Hole]
+pub(crate) fn not_over(place: usize, holes: &[Hole]) -> &[Hole]
     ensures { result.now ≡ spec.not_over place holes.now }
 {
     let mut left = holes;
@@ -44,7 +44,7 @@ fn not_over(place: usize, holes: &[Hole]) -> &[Hole]
     left
 }
 
-fn is_begun(place: usize, holes: &[Hole]) -> bool
+pub(crate) fn is_begun(place: usize, holes: &[Hole]) -> bool
     ensures { result ≡ spec.is_begun place holes.now }
 {
     match holes {
@@ -141,7 +141,7 @@ fn is_operator(symbol: u8) -> bool
 
 /// Whether a symbol directly behind another is one mark with it.
 fn is_joint(before: u8, symbol: u8) -> bool
-    ensures { result ≡ spec.is_joint before symbol }
+    ensures { result ≡ spec.is_one_mark before symbol }
 {
     match symbol {
         b'>' => before == b'=' || before == b'-',

@@ -15,6 +15,7 @@ mod laws;
 mod listed;
 mod reading;
 mod source;
+mod strays;
 mod tokens;
 mod types;
 
@@ -27,4 +28,5 @@ pub use labels::{KindTexts, item_word, kind_texts, member_word, text_at};
 pub use listed::ListedMember;
 pub use reading::Reading;
 pub use source::{Source, push_place};
+pub use strays::{outside, row_around};
 pub use tokens::{bodies, rows};

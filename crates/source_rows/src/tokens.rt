@@ -67,7 +67,11 @@ fn push_outside(
 
 /// Adds the same of those of some parts, in preorder, that begin before a place.
 #[tactic(auto, using(crate::proofs::Steps::begun_more, crate::proofs::Steps::begun_stop))]
-fn push_begun(place: usize, parts: &[Part], holes: &mut Vec<Hole>) -> Result<(), AllocError>
+pub(crate) fn push_begun(
+    place: usize,
+    parts: &[Part],
+    holes: &mut Vec<Hole>,
+) -> Result<(), AllocError>
     ensures { OnOk result (holes.new.items ≡ holes.old.items
         ++ spec.holes_begun place (map part_view parts.now)) }
 {
