@@ -38,8 +38,8 @@ without_returns [] = []
 without_returns (b ∷ z) = if b == 13 && ends_line z then without_returns z else b ∷ without_returns z
 
 -- what can stand before a `=` with which it is one mark: one of `= ! < + - * / % ^ & | .`
-abbrev pub is_operator : ℕ → Bool
-is_operator c =
+abbrev pub stands_before_equals : ℕ → Bool
+stands_before_equals c =
     c == 61 || (c == 33 || (c == 60 || (c == 43 || (c == 45 || (c == 42 || (c == 47 || (c == 37 || (c == 94 || (c == 38 || (c == 124 || c == 46))))))))))
 
 -- A symbol directly behind another is one mark with it, as in `=>`, `->`, `::`, `..` and `+=`. What generics, references and closures may end
@@ -47,7 +47,7 @@ is_operator c =
 abbrev pub is_one_mark : ℕ → ℕ → Bool
 is_one_mark before c =
     if c == 62 then before == 61 || before == 45
-    else (if c == 61 then is_operator before else (c == 58 || c == 46) && c == before)
+    else (if c == 61 then stands_before_equals before else (c == 58 || c == 46) && c == before)
 
 -- what tells a token behind one of this symbol: its text, and in front of that a 1 if both are one mark, else a 0
 abbrev pub token_text : ℕ → Piece → List ℕ

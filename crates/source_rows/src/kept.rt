@@ -130,8 +130,8 @@ struct Told<'a> {
 }
 
 /// What can stand before a `=` with which it is one mark.
-fn is_operator(symbol: u8) -> bool
-    ensures { result ≡ spec.is_operator symbol }
+fn stands_before_equals(symbol: u8) -> bool
+    ensures { result ≡ spec.stands_before_equals symbol }
 {
     matches!(
         symbol,
@@ -145,7 +145,7 @@ fn is_joint(before: u8, symbol: u8) -> bool
 {
     match symbol {
         b'>' => before == b'=' || before == b'-',
-        b'=' => is_operator(before),
+        b'=' => stands_before_equals(before),
         b':' | b'.' => symbol == before,
         _ => false,
     }
