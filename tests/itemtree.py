@@ -214,21 +214,21 @@ def check_unread(folder):
 
 def check_one_sided(folder):
     """What could not be read or was left out below one of two folders is neither removed nor added."""
-    write_files(folder, {f'{side}/{name}.rs': b'fn f() {}' for side in ('was', 'now') for name in ('in/a', 'shut/b', 'sh/c', 'same')})
-    write_files(folder, {'was/in/gone.rs': b'', 'now/in/come.rs': b''})
-    os.chmod(os.path.join(folder, 'now/shut'), 0)
-    shutil.rmtree(os.path.join(folder, 'now/sh'))
-    os.symlink('../was/sh', os.path.join(folder, 'now/sh'))
-    os.symlink('nowhere', os.path.join(folder, 'was/dead.rs'))
-    write_files(folder, {'now/dead.rs': b''})
-    denied = 'itemtree: now/shut: Permission denied (os error 13)\n'
-    dead = 'itemtree: was/dead.rs: this link leads nowhere\n'
-    left = 'itemtree: now/sh: a link to a folder, left out without --follow\n'
-    lines = 'now/in/come.rs: added file\nwas/in/gone.rs: removed file\n'
-    for words, said in ((['was', 'now'], dead + left + denied), (['was/', './now/'], (dead + left + denied).replace('now/', './now/')),
-                        (['--follow', 'was', 'now'], dead + denied)):
+    write_files(folder, {f'{side}/{name}.rs': b'fn f() {}' for side in ('elder', 'newer') for name in ('in/a', 'shut/b', 'sh/c', 'same')})
+    write_files(folder, {'elder/in/gone.rs': b'', 'newer/in/come.rs': b''})
+    os.chmod(os.path.join(folder, 'newer/shut'), 0)
+    shutil.rmtree(os.path.join(folder, 'newer/sh'))
+    os.symlink('../elder/sh', os.path.join(folder, 'newer/sh'))
+    os.symlink('nowhere', os.path.join(folder, 'elder/dead.rs'))
+    write_files(folder, {'newer/dead.rs': b''})
+    denied = 'itemtree: newer/shut: Permission denied (os error 13)\n'
+    dead = 'itemtree: elder/dead.rs: this link leads nowhere\n'
+    left = 'itemtree: newer/sh: a link to a folder, left out without --follow\n'
+    lines = 'newer/in/come.rs: added file\nelder/in/gone.rs: removed file\n'
+    for words, said in ((['elder', 'newer'], dead + left + denied), (['elder/', './newer/'], (dead + left + denied).replace('newer/', './newer/')),
+                        (['--follow', 'elder', 'newer'], dead + denied)):
         got = run_program(['changed', *words], folder)
-        wanted = 2, lines.replace('now/', './now/') if './now/' in words else lines, said
+        wanted = 2, lines.replace('newer/', './newer/') if './newer/' in words else lines, said
         tell(got == wanted, f'changed {words} with what cannot be read', got, wanted)
 
 
