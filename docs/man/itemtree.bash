@@ -13,15 +13,15 @@ _itemtree() {
     fi
     [[ $word = -* ]] || return
     case $command in
-        outline) mapfile -t COMPREPLY < <(compgen -W '--edition --hidden --exclude --cfg --active --no-members --depth --color --json -h --help' -- "$word") ;;
-        page) mapfile -t COMPREPLY < <(compgen -W '--edition --hidden --exclude --cfg --skip --docs --ids -h --help' -- "$word") ;;
-        imports) mapfile -t COMPREPLY < <(compgen -W '--edition --hidden --exclude --duplicates -h --help' -- "$word") ;;
-        find) mapfile -t COMPREPLY < <(compgen -W '--edition --hidden --exclude --cfg --active --no-members -h --help' -- "$word") ;;
-        tags) mapfile -t COMPREPLY < <(compgen -W '--edition --hidden --exclude --cfg --active --no-members -o --output -h --help' -- "$word") ;;
-        changed) mapfile -t COMPREPLY < <(compgen -W '--edition --hidden --exclude --docs --tree --cfg --skip -h --help' -- "$word") ;;
-        request) mapfile -t COMPREPLY < <(compgen -W '--edition --hidden --exclude --cfg --skip --docs --show --no-bodies -h --help' -- "$word") ;;
+        outline) mapfile -t COMPREPLY < <(compgen -W '--edition --hidden --follow --exclude --cfg --active --no-members --depth --color --json -L --files-from -h --help' -- "$word") ;;
+        page) mapfile -t COMPREPLY < <(compgen -W '--edition --hidden --follow --exclude --cfg --skip --docs --ids -L --files-from -h --help' -- "$word") ;;
+        imports) mapfile -t COMPREPLY < <(compgen -W '--edition --hidden --follow --exclude --duplicates -L --files-from -h --help' -- "$word") ;;
+        find) mapfile -t COMPREPLY < <(compgen -W '--edition --hidden --follow --exclude --cfg --active --no-members -L --files-from -h --help' -- "$word") ;;
+        tags) mapfile -t COMPREPLY < <(compgen -W '--edition --hidden --follow --exclude --cfg --active --no-members -o --output -a --append -L --files-from -h --help' -- "$word") ;;
+        changed) mapfile -t COMPREPLY < <(compgen -W '--edition --hidden --follow --exclude --docs --tree --cfg --skip -h --help' -- "$word") ;;
+        request) mapfile -t COMPREPLY < <(compgen -W '--edition --hidden --follow --exclude --cfg --skip --docs --show --no-bodies -L --files-from -h --help' -- "$word") ;;
         serve) mapfile -t COMPREPLY < <(compgen -W '-h --help' -- "$word") ;;
-        check) mapfile -t COMPREPLY < <(compgen -W '--edition --hidden --exclude -h --help' -- "$word") ;;
+        check) mapfile -t COMPREPLY < <(compgen -W '--edition --hidden --follow --exclude -L --files-from -h --help' -- "$word") ;;
     esac
 }
 complete -o default -F _itemtree itemtree
