@@ -54,7 +54,7 @@ class Help:
             yield names, value and value[1], values[1].split(", ") if values else [], re.sub(r" *\[[^\]]*: [^\]]*\]", "", about)
 
     def takes_files(self):
-        return any(re.search(r"<(FILE|OLD|NEW)\b", term) for term, _ in self.entries["Arguments"])
+        return any(re.search(r"[<\[](FILE|OLD|NEW)\b", term) for term, _ in self.entries["Arguments"])
 
 
 def roff(text):
