@@ -219,6 +219,8 @@ impl Walk<'_, '_, '_, '_> {
         }
         let kind = match kind_of(self.rt, &path) {
             Ok(kind) => kind,
+            // (it is gone since the folder was read)
+            Err(error) if error.kind() == io::ErrorKind::NotFound => return Ok(()),
             Err(error) => return self.found.push_fault(alloc, &path, error),
         };
         if matches!(kind, Kind::Folder | Kind::Link) && self.is_built(folder, name, &path)? {
