@@ -302,8 +302,9 @@ def wrong_name(value):
 
 
 def is_word(word):
-    """Whether a word is an identifier or a keyword, also behind `r#`. Python's identifiers are those of Rust."""
-    return word.removeprefix('r#').isidentifier()
+    """Whether something can be called so: an identifier or another keyword, also behind `r#`. Python's identifiers are those of Rust."""
+    name = word.removeprefix('r#')
+    return name.isidentifier() and name not in ('crate', 'self', 'super', 'Self')
 
 
 def wrong_asked_path(value):
@@ -700,7 +701,7 @@ WRONG_SHOWS = [
     ({'show': 'find', 'name': ''}, '/name'), ({'show': 'find', 'name': 'a\nb'}, '/name'), ({'show': 'find', 'name': 'r#'}, '/name'),
     *(({'show': 'find', 'name': name}, '/name') for name in (
         'r#\n', 'a b', '"', '#f', 'r#r#f', 'R#f', '::', 'a::', 'crate::', '::crate::', 'a:b', 'a:::b', 'a::::b', ':::a', 'a::b c', 'a<b>',
-        'a::r#', '1', 'a-b', ' a', 'a ', '$crate::a')),
+        'a::r#', '1', 'a-b', ' a', 'a ', '$crate::a', 'crate', 'r#crate::a', 'crate::crate', 'self::a', 'a::crate::b', 'super::a', 'a::Self')),
     *(({**show, 'as': word}, '/as') for show in REQUESTED for word in ('', 'xml', 'JSON', 0, True, ['json'], {})),
     ({'show': 'changed', 'since': '', 'as': ''}, '/since'), ({'show': 'tree', 'crate': 0, 'as': 0}, '/block'),
     ({**PAGE, 'as': 'json'}, '/as'), ({'show': 'page', 'crate': 0, 'block': 0, 'as': 'json'}, '/as'),
@@ -761,8 +762,7 @@ GOOD_SHOWS = [
     {'show': 'problems', 'file': 0, 'crate': -1}, {'show': 'outline', 'crate': 0, 'file': 0, 'as': None},
     *({**show, 'as': word} for show in REQUESTED for word in ('text', 'json', None) if (show, word) != (PAGE, 'json')),
     *({'show': 'find', 'name': name, 'as': None} for name in (
-        'f', '_', 'é', 'r#fn', 'fn', 'a::b', '::a', '::a::r#b', 'crate', 'crate::a', 'r#crate::a', 'crate::crate', 'self::a',
-        'a::crate::b')),
+        'f', '_', 'é', 'r#fn', 'fn', 'a::b', '::a', '::a::r#b', 'crate::a')),
 ]
 GOOD_OPENING = {
     'crates': [{'root': 0, 'noted': {}, 'files': [2**32 - 1, 0, 1, 0]},
@@ -1267,7 +1267,7 @@ def check_found_paths(program):
               '::a::f': [f[0]], 'crate::a::f': [f[0]], 'b::a::f': [f[2]], '::b::a::f': [f[2]], 'crate::r#b::a::f': [f[2]],
               '::xa::f': [f[3]], 'xa::f': [f[3]],
               'a::g': [{'crate': 0, 'file': 2, 'id': 'Fn[BE8F, 0]'}], '::g': [], 'b::f': [], 'c::b::a::f': [],
-              'crate::crate::f': [], 'a::a::f': [], 'f::f': []}
+              'a::a::f': [], 'f::f': []}
     check_lines(program, 'find by paths', [
         ({**OPENED, 'edits': edits, 'shows': [{'show': 'find', 'name': name} for name in wanted]}, answered(5, list(wanted.values()))),
         ({'edits': [{**edits[0], 'text': 'mod b { mod a { fn f() {} } }'}, {**edits[2], 'file': 1}],
