@@ -1,0 +1,10 @@
+pub mod Walked
+pub mod Matching
+pub mod Whole
+pub mod Order
+pub mod Places
+pub mod Puts
+pub mod PutPlaces
+pub mod Lossless
+pub mod Back
+pub mod Behind

@@ -1,0 +1,4 @@
+pub mod Marks
+pub mod Mended
+pub mod Texts
+pub mod Steps

@@ -1,0 +1,122 @@
+-- The mended text of a text, and places in it.
+use Rattle.std.specs.Prelude.{ℕ, suc, ◌+◌, ◌-◌, ◌^◌, ◌==◌, min, Bool, true, false, if◌then◌else◌, nat_le, nat_lt, List, [], ◌∷◌, ◌++◌, drop, flat_map, slice_range}
+use Rattle.std.specs.List.{filter, prefix_len}
+use Rattle.rust_lexer.specs.Piece.{Piece}
+use Rattle.rust_lexer.specs.Symbol.{symbol_of}
+use Rattle.rust_lexer.specs.Tokens.{tokens}
+use Rattle.rust_mended.specs.declared.bracket.Bracket.{Bracket}
+use Rattle.rust_mended.specs.declared.bracket.Bracket.TheVariants as bracket
+use Rattle.rust_mended.specs.declared.edit.Edit.{Edit}
+use Rattle.rust_mended.specs.declared.edit.EditKind.{EditKind}
+use Rattle.rust_mended.specs.declared.edit.EditKind.TheVariants as edit
+use Rattle.rust_mended.specs.Marks.{bracket_of, is_closing_symbol, is_opening_symbol, last, marks}
+use Rattle.rust_mended.specs.Mended.{Written, kept, put, left, closed, is_closer_of, matches_last, none_left, all_written}
+
+-- ---- edits
+
+abbrev pub mending_edit : Written → List Edit
+mending_edit (kept t) = []
+mending_edit (put at b) = record { at = at; kind = edit.Put b } ∷ []
+mending_edit (left t) = record { at = t.at; kind = edit.Leave } ∷ []
+mending_edit (closed t b) = if is_closer_of b t.kind then [] else record { at = t.at; kind = edit.Turn b } ∷ []
+
+-- the edits that mend a text, in the order of their places
+unfoldable pub edits : List ℕ → List Edit
+edits text = flat_map mending_edit (all_written (last text) (marks text))
+
+-- The brackets of tokens match behind these: each closer closes the last open bracket, which is of its kind, and none is open at the end.
+abbrev pub matched_symbol : ℕ → (List Bracket → Bool) → List Bracket → Bool
+matched_symbol c rest os = if is_opening_symbol c then rest (bracket_of c ∷ os) else (if is_closing_symbol c then matches_last (bracket_of c) rest os else rest os)
+
+abbrev pub tokens_match : List Piece → List Bracket → Bool
+tokens_match [] os = none_left os
+tokens_match (t ∷ ts) os = matched_symbol (symbol_of t) (tokens_match ts) os
+
+-- all brackets of a text match
+unfoldable pub is_matched : List ℕ → Bool
+is_matched text = tokens_match (tokens text) []
+
+-- ---- the text
+
+abbrev pub close_byte : Bracket → ℕ
+close_byte bracket.Brace = 125
+close_byte bracket.Round = 41
+close_byte bracket.Square = 93
+
+-- the byte that an edit writes
+abbrev pub sign : EditKind → ℕ
+sign (edit.Put b) = close_byte b
+sign edit.Leave = 32
+sign (edit.Turn b) = close_byte b
+
+-- the place behind what it replaces
+abbrev pub past_by : EditKind → ℕ → ℕ
+past_by (edit.Put b) at = at
+past_by edit.Leave at = at + 1
+past_by (edit.Turn b) at = at + 1
+
+abbrev pub past_edit : Edit → ℕ
+past_edit e = past_by e.kind e.at
+
+-- a text from a place on, with these edits
+abbrev pub with_edits : List ℕ → ℕ → List Edit → List ℕ
+with_edits text at [] = drop at text
+with_edits text at (e ∷ es) = slice_range text at e.at ++ (sign e.kind ∷ with_edits text (past_edit e) es)
+
+-- the mended text of a text
+unfoldable pub mended_text : List ℕ → List ℕ
+mended_text text = with_edits text 0 (edits text)
+
+-- ---- places
+
+-- The places of the closers that are put, in the mended text. The number counts those before.
+abbrev pub put_by : EditKind → ℕ → ℕ → (ℕ → List ℕ) → List ℕ
+put_by (edit.Put b) at n rest = (at + n) ∷ rest (suc n)
+put_by edit.Leave at n rest = rest n
+put_by (edit.Turn b) at n rest = rest n
+
+abbrev pub puts_from : ℕ → List Edit → List ℕ
+puts_from n [] = []
+puts_from n (e ∷ es) = put_by e.kind e.at n (λ m. puts_from m es)
+
+unfoldable pub puts : List ℕ → List ℕ
+puts text = puts_from 0 (edits text)
+
+-- the place in a text of what stands here in the mended text, by where closers were put in that
+abbrev pub place_back_by : List ℕ → ℕ → ℕ
+place_back_by places at = at - prefix_len (λ q. nat_lt q at) places
+
+-- the same of a text: a closer that was put stands where it was put
+unfoldable pub place_back : List ℕ → ℕ → ℕ
+place_back text at = place_back_by (puts text) at
+
+-- the place in a text where a closer is put
+abbrev pub put_place : EditKind → ℕ → List ℕ
+put_place (edit.Put b) at = at ∷ []
+put_place edit.Leave at = []
+put_place (edit.Turn b) at = []
+
+abbrev pub put_places : List Edit → List ℕ
+put_places es = flat_map (λ e. put_place e.kind e.at) es
+
+-- the place in the mended text of what stands here in the text, behind what is put there, by where closers are put in the text
+abbrev pub forward_by : List ℕ → ℕ → ℕ
+forward_by places at = min (at + prefix_len (λ p. nat_le p at) places) (2 ^ 64 - 1)
+
+-- ---- what a mended text has of its text
+
+-- bytes without those at these places, the first byte being at this one
+abbrev pub without_bytes_at : ℕ → List ℕ → List ℕ → List ℕ
+without_bytes_at at places [] = []
+without_bytes_at at [] (b ∷ z) = b ∷ z
+without_bytes_at at (p ∷ places) (b ∷ z) = if at == p then without_bytes_at (at + 1) places z else b ∷ without_bytes_at (at + 1) (p ∷ places) z
+
+-- replaces a byte
+abbrev pub is_turn : EditKind → Bool
+is_turn (edit.Put b) = false
+is_turn edit.Leave = true
+is_turn (edit.Turn b) = true
+
+-- a text with the edits alone that replace a byte
+unfoldable pub turned_text : List ℕ → List ℕ
+turned_text text = with_edits text 0 (filter (λ e. is_turn e.kind) (edits text))

@@ -1,0 +1,74 @@
+//! What holds of the mended text of every text. The functions do nothing.
+ghost use Rattle.std.specs.Prelude.{ℕ, ◌≡◌, ◌≤◌, ◌++◌, Decides, List, [], ◌∷◌, true, IsUtf8, flat_map, length};
+ghost use Rattle.rust_mended.specs.Marks.{last, marks};
+ghost use Rattle.rust_mended.specs.Mended.{all_match, mended, closers_reaching, source_by, all_written};
+ghost use Rattle.rust_mended.specs.Texts.{mending_edit, edits, is_matched, mended_text, place_back, puts, turned_text, without_bytes_at};
+ghost use Rattle.rust_mended.specs.declared.mark.Mark.{Mark};
+ghost use Rattle.rust_mended.specs.declared.mark.MarkKind.TheVariants as mark;
+
+use crate::bracket::Bracket;
+use crate::edit::{Edit, EditKind};
+
+// Where all brackets match, nothing is mended, and places are what they are.
+#[tactic(auto, using(crate::proofs::Whole::text_edits, crate::proofs::Whole::text_stays, crate::proofs::Whole::places_stay))]
+fn matched_texts_stay()
+    ensures edits { (text : List ℕ) → is_matched text ≡ true → edits text ≡ [] }
+    ensures text { (text : List ℕ) → is_matched text ≡ true → mended_text text ≡ text }
+    ensures places { (text : List ℕ) (at : ℕ) → is_matched text ≡ true → place_back text at ≡ at }
+{}
+
+// All brackets of the mended marks match, whatever the text is.
+#[tactic(auto, using(crate::proofs::Matching::mended_match))]
+fn mended_brackets_match()
+    ensures { (text : List ℕ) → all_match (mended (last text) (marks text)) ≡ true }
+{}
+
+// Each mark is written, in its order: none is lost, and none is added but for the closers that are put.
+#[tactic(auto, using(crate::proofs::Matching::written_sources))]
+fn no_mark_is_lost()
+    ensures { (text : List ℕ) → flat_map source_by (all_written (last text) (marks text)) ≡ marks text }
+{}
+
+// What stands behind marks that match is mended by itself.
+#[tactic(auto, using(crate::proofs::Whole::edits_behind_matched))]
+fn matched_marks_before_stay()
+    ensures { (at : ℕ) (front behind : List Mark) → all_match front ≡ true
+        → flat_map mending_edit (all_written at (front ++ behind)) ≡ flat_map mending_edit (all_written at behind) }
+{}
+
+// But for the closers that were put, the mended text is the text with single bytes replaced: closers that were left out or turned.
+#[tactic(auto, using(crate::proofs::Lossless::text_lossless, crate::proofs::Lossless::text_length))]
+fn no_byte_is_lost()
+    ensures bytes { (text : List ℕ) → IsUtf8 text → without_bytes_at 0 (puts text) (mended_text text) ≡ turned_text text }
+    ensures len { (text : List ℕ) → IsUtf8 text → length (turned_text text) ≡ length text }
+{}
+
+// Places lead back in their order, and into the text.
+#[tactic(auto, using(crate::proofs::Back::places_rise, crate::proofs::Back::places_within))]
+fn places_lead_back()
+    ensures rising { (text : List ℕ) (m n : ℕ) → IsUtf8 text → m ≤ n → place_back text m ≤ place_back text n }
+    ensures within { (text : List ℕ) (at : ℕ) → IsUtf8 text → at ≤ length (mended_text text)
+        → place_back text at ≤ length text }
+{}
+
+// An item at the beginning of a line of column 0 is mended by itself, whatever stands before it, if no closer behind it is too much:
+// what is open before it ends before it.
+#[tactic(auto, using(crate::proofs::Behind::written_behind))]
+fn items_behind_stay()
+    ensures { (at : ℕ) (front : List Mark) (item : Mark) (behind : List Mark) → item.kind ≡ mark.Item
+        → item.indent ≡ 0 → closers_reaching (item ∷ behind) ≡ []
+        → all_written at (front ++ (item ∷ behind)) ≡ all_written item.behind front ++ all_written at (item ∷ behind) }
+{}
+
+// `==` decides whether two values are one, and a copy is its source: the derives are held to it.
+fn equal_edits()
+    ensures brackets { (a b : Bracket) → Decides (⟦<Bracket as PartialEq>⟧.eq a b) (a ≡ b) }
+    ensures kinds { (a b : EditKind) → Decides (⟦<EditKind as PartialEq>⟧.eq a b) (a ≡ b) }
+    ensures edits { (a b : Edit) → Decides (⟦<Edit as PartialEq>⟧.eq a b) (a ≡ b) }
+{}
+
+fn copied_edits()
+    ensures brackets { (source copy : Bracket) → ⟦<Bracket as Clone>⟧.is_clone source copy → copy ≡ source }
+    ensures kinds { (source copy : EditKind) → ⟦<EditKind as Clone>⟧.is_clone source copy → copy ≡ source }
+    ensures edits { (source copy : Edit) → ⟦<Edit as Clone>⟧.is_clone source copy → copy ≡ source }
+{}

@@ -1,0 +1,16 @@
+//! Mends the brackets of Rust source text, as far as its lines tell where they end.
+#![tactic(auto)]
+
+mod bracket;
+mod edit;
+mod ends;
+mod laws;
+mod line;
+mod mark;
+mod reached;
+mod replaced;
+mod text;
+
+pub use bracket::Bracket;
+pub use edit::{Edit, EditKind};
+pub use text::{Mended, mend};

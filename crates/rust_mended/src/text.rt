@@ -1,0 +1,104 @@
+//! Mended texts.
+
+ghost use Rattle.std.specs.Prelude.{◌≡◌, ◌<◌, [], IfOk, MatchOption, string_bytes, vec_len};
+ghost use Rattle.std.specs.List.Sorted.{IsNonDecreasing};
+ghost use Rattle.rust_mended.specs.Texts as spec;
+
+use crate::edit::{Edit, EditKind};
+use crate::ends::{end_all, take};
+use crate::line::read_marks;
+use crate::reached::with_closers;
+use crate::replaced::replaced;
+use std::alloc::{AllocError, Global};
+use std::collections::VecDeque;
+
+/// The edits that mend a text.
+#[tactic(auto, using(crate::proofs::Walked::walked_whole), unfolding(crate::specs::Texts::edits))]
+fn edits(alloc: Global, text: &str) -> Result<Vec<Edit>, AllocError>
+    ensures { IfOk result (λ v. v.items ≡ spec.edits text.now) }
+{
+    let marks = read_marks(alloc, text)?;
+    let mut marked = with_closers(alloc, &marks.items)?;
+    let mut opened = VecDeque::new(alloc);
+    let mut edits = Vec::new(alloc);
+    'marks: while let Some(next) = marked.pop_front() {
+        take(next, &mut opened, &mut edits)?;
+    }
+    end_all(marks.last, opened, &mut edits)?;
+    Ok(edits)
+}
+
+/// The places in a text where closers are put.
+fn put_places(alloc: Global, edits: &[Edit]) -> Result<Vec<usize>, AllocError>
+    ensures { IfOk result (λ v. v.items ≡ spec.put_places edits.now) }
+{
+    let mut places = Vec::new(alloc);
+    for edit in edits {
+        if let EditKind::Put(_) = edit.kind {
+            places.push(edit.at)?;
+        }
+    }
+    Ok(places)
+}
+
+/// The mended text of a text, and the ways between them.
+#[derive(Drop)]
+pub struct Mended {
+    pub text: String,
+    /// What was done to the text, in the order of the places.
+    pub edits: Vec<Edit>,
+    /// The places in the mended text of the closers that were put.
+    pub puts: Vec<usize>,
+    /// And those in the text.
+    pub places: Vec<usize>,
+    ghost rising: { IsNonDecreasing puts.items },
+    ghost places_rise: { IsNonDecreasing places.items },
+}
+
+/// Mends the brackets of a text: each is closed where its line tells, and a closer that closes nothing is left out. Lines stay. It is
+/// `None` where nothing has to be done, as where all brackets match. Where a text ends in a literal that nothing closes, the closers
+/// that are put at its end fall into that.
+///
+/// # Errors
+///
+/// Only if memory runs out.
+#[tactic(auto, unfolding(crate::specs::Texts::mended_text, crate::specs::Texts::puts), using(crate::proofs::Puts::text_edits_fit))]
+pub fn mend(alloc: Global, text: &str) -> Result<Option<Mended>, AllocError>
+    ensures text { IfOk result (λ found. MatchOption found (spec.mended_text text.now ≡ text.now)
+        (λ m. string_bytes m.text ≡ spec.mended_text text.now)) }
+    ensures edits { IfOk result (λ found. MatchOption found (spec.edits text.now ≡ [])
+        (λ m. (m.edits.items ≡ spec.edits text.now) × (0 < vec_len m.edits))) }
+    ensures puts { IfOk result (λ found. MatchOption found (spec.puts text.now ≡ [])
+        (λ m. m.puts.items ≡ spec.puts text.now)) }
+    ensures places { IfOk result (λ found. MatchOption found (spec.put_places (spec.edits text.now) ≡ [])
+        (λ m. m.places.items ≡ spec.put_places (spec.edits text.now))) }
+{
+    let edits = edits(alloc, text)?;
+    if edits.is_empty() {
+        return Ok(None);
+    }
+    let (mended, puts) = replaced(alloc, text, &edits)?;
+    let places = put_places(alloc, &edits)?;
+    Ok(Some(Mended {
+        text: mended,
+        edits,
+        puts,
+        places,
+    }))
+}
+
+impl Mended {
+    /// The place in the text of what stands here in the mended one. A closer that was put stands where it was put.
+    pub fn place(&self, at: usize) -> usize
+        ensures { result ≡ spec.place_back_by self.now.puts.items at }
+    {
+        at.saturating_sub(self.puts.partition_point(|put| *put < at))
+    }
+
+    /// The place in the mended text of what stands here in the text, behind what is put there.
+    pub fn forward(&self, at: usize) -> usize
+        ensures { result ≡ spec.forward_by self.now.places.items at }
+    {
+        at.saturating_add(self.places.partition_point(|place| *place <= at))
+    }
+}
