@@ -1,19 +1,28 @@
 -- What is asked of tokens that look alike: where an item begins, where a walk goes on, and where it ends.
 use Rattle.std.proofs.Common.{◌≡◌, ◌≢◌, ℕ, ◌==◌, Bool, true, false, List, refl, ap, ◌∙◌, sym, arith, codes, bytes_eq}
-use Rattle.rust_cursor.proofs.Common.{nat_tests, Reach, Before, Nest, Extent, begins_binder, is_lone_for, is_header_end, is_barred, is_reached, is_closing, begins, begins_item, follows_const, begins_impl_or_const, begins_behind, begins_within, stops, ends, goes_on, more, has_blank, is_joined, leads_item, nest_behind, Tokens, symbol, word, bumped}
+use Rattle.rust_cursor.proofs.Common.{nat_tests, Reach, Before, Nest, Extent, begins_binder, is_lone_for, is_header_end, is_barred, is_reached, is_closing, begins, begins_item, follows_const, follows_extern, follows_union, begins_impl_or_const, begins_with_attribute, begins_behind, begins_within, stops, ends, goes_on, more, has_blank, is_joined, leads_item, nest_behind, Tokens, symbol, word, bumped}
 use Rattle.rust_cursor.specs.declared.cursor.generics.Reach.TheVariants as reaches
 use Rattle.rust_cursor.specs.declared.cursor.nest.Before.TheVariants as befores
 use Rattle.rust_cursor.specs.declared.cursor.texts.Extent.TheVariants as extents
 use Rattle.rust_cursor.proofs.Begins.{no_item, none_leads}
 use Rattle.rust_cursor.proofs.Leads.{when}
-use Rattle.rust_cursor.proofs.Twins.{Twins, is_edge, symbol_same, word_same, kind_same, text_same, empty_same, end_same, identifier_same, doc_same, edge_word, edge_identifier, edge_test, after_word, after_symbol, pair_same}
+use Rattle.rust_cursor.proofs.Twins.{Twins, is_edge, symbol_same, word_same, kind_same, text_same, empty_same, end_same, identifier_same, doc_same, edge_word, edge_identifier, edge_doc, edge_literal, edge_test, after_word, after_symbol, pair_same}
 
 -- ---- where an item begins
+
+union_same : (b : Twins) (ts us : Tokens) → b.are ts us → follows_union us ≡ follows_union ts
+union_same b ts us h = rw (identifier_same b ts us h, word_same b ts us h) refl
+
+extern_same : (b : Twins) (ts us : Tokens) → b.are ts us → follows_extern us ≡ follows_extern ts
+extern_same b ts us h =
+    when (is_edge (symbol ts))
+    (λ e. let f = edge_test b ts us h e in rw (word_same b ts us h, symbol_same b ts us h, edge_literal ts e, edge_literal us f) refl)
+    (λ e. rw (word_same b ts us h, symbol_same b ts us h, kind_same b ts us h, symbol_same b (bumped ts) (bumped us) (b.next ts us h e)) refl)
 
 item_same : (b : Twins) (ts us : Tokens) → b.are ts us → b.are (bumped ts) (bumped us) → begins_item us ≡ begins_item ts
 unfolding begins_item
 item_same b ts us h n =
-    rw (word_same b ts us h, symbol_same b (bumped ts) (bumped us) n, identifier_same b (bumped ts) (bumped us) n, word_same b (bumped ts) (bumped us) n) refl
+    rw (union_same b (bumped ts) (bumped us) n, extern_same b (bumped ts) (bumped us) n, word_same b ts us h, symbol_same b (bumped ts) (bumped us) n, identifier_same b (bumped ts) (bumped us) n, word_same b (bumped ts) (bumped us) n) refl
 
 const_same : (b : Twins) (ts us : Tokens) → b.are ts us → follows_const us ≡ follows_const ts
 const_same b ts us h =
@@ -26,8 +35,12 @@ impl_same : (b : Twins) (ts us : Tokens) → b.are ts us → b.are (bumped ts) (
 unfolding begins_impl_or_const
 impl_same b ts us h n = rw (const_same b (bumped ts) (bumped us) n, word_same b ts us h, word_same b (bumped ts) (bumped us) n) refl
 
+attribute_same : (b : Twins) (ts us : Tokens) → b.are ts us → b.are (bumped ts) (bumped us) → begins_with_attribute us ≡ begins_with_attribute ts
+attribute_same b ts us h n = rw (symbol_same b ts us h, symbol_same b (bumped ts) (bumped us) n, impl_same b ts us h n) refl
+
 behind_same : (b : Twins) (before : Before) (ts us : Tokens) → b.are ts us → b.are (bumped ts) (bumped us) → begins_behind before us ≡ begins_behind before ts
-behind_same b befores.End ts us h n = rw (symbol_same b ts us h, symbol_same b (bumped ts) (bumped us) n, impl_same b ts us h n) refl
+behind_same b befores.End ts us h n = attribute_same b ts us h n
+behind_same b befores.Block ts us h n = attribute_same b ts us h n
 behind_same b befores.Angle ts us h n = impl_same b ts us h n
 behind_same b _ ts us h n = refl
 
@@ -38,12 +51,12 @@ within_same b ts us h n = rw (word_same b ts us h, identifier_same b (bumped ts)
 edge_begins : (n : Nest) (ts : Tokens) → is_edge (symbol ts) ≡ true → begins n ts ≡ false
 edge_begins n ts e =
     let other : symbol ts ≢ 35 = grind (arith, nat_tests) in
-    sym (none_leads n ts (ap leads_item (edge_word ts e)) other)
+    sym (none_leads n ts (ap leads_item (edge_word ts e)) other (edge_doc ts e))
 
 pub begins_same : (b : Twins) (n : Nest) (ts us : Tokens) → b.are ts us → begins n us ≡ begins n ts
 begins_same b n ts us h =
     when (is_edge (symbol ts)) (λ e. edge_begins n us (edge_test b ts us h e) ∙ sym (edge_begins n ts e))
-    (λ e. let k = b.next ts us h e in rw (item_same b ts us h k, behind_same b n.before ts us h k, within_same b ts us h k) refl)
+    (λ e. let k = b.next ts us h e in rw (item_same b ts us h k, behind_same b n.before ts us h k, within_same b ts us h k, doc_same b ts us h) refl)
 
 pub begins_item_same : (b : Twins) (ts us : Tokens) → b.are ts us → begins_item us ≡ begins_item ts
 begins_item_same b ts us h =

@@ -2,6 +2,7 @@
 use Rattle.std.proofs.Common.{◌≡◌, ℕ, ◌==◌, ◌||◌, ◌&&◌, Bool, true, false, None, Some, List, [], ◌∷◌, refl, ap, arith, bytes_eq}
 use Rattle.rust_cursor.proofs.Common.{and_parts, nat_tests, TokenKind, moved, Piece, symbol_of, Tokens, is_open, is_close, word_by, identifies, documents, by_first, symbol, word, kind, text, is_empty, is_at_open, is_at_end, is_at_identifier, is_at_doc, bumped, is_glued, is_pair}
 use Rattle.rust_lexer.specs.declared.kind.TokenKind.TheVariants as kinds
+use Rattle.rust_cursor.specs.Nests.{is_literal_kind}
 use Rattle.rust_cursor.proofs.Leads.{when}
 
 -- texts may part at such a symbol
@@ -84,6 +85,27 @@ no_identifier _ z e = refl
 pub edge_identifier : (ts : Tokens) → is_edge (symbol ts) ≡ true → is_at_identifier ts ≡ false
 unfolding symbol is_at_identifier
 edge_identifier ts e = at_edge false (λ k z. identifies k) no_identifier ts.left e
+
+no_documents : (k : TokenKind) (z : List ℕ) → is_edge (symbol_of (record { kind = k; text = z; at = 0 })) ≡ true → documents k ≡ false
+no_documents (kinds.LineComment _) z e = absurd cc
+no_documents (kinds.BlockComment _) z e = absurd cc
+no_documents _ z e = refl
+
+pub edge_doc : (ts : Tokens) → is_edge (symbol ts) ≡ true → is_at_doc ts ≡ false
+unfolding symbol is_at_doc
+edge_doc ts e = at_edge false (λ k z. documents k) no_documents ts.left e
+
+no_literal : (k : TokenKind) (z : List ℕ) → is_edge (symbol_of (record { kind = k; text = z; at = 0 })) ≡ true → is_literal_kind (Some k) ≡ false
+no_literal (kinds.Literal _) z e = absurd cc
+no_literal _ z e = refl
+
+first_literal : (left : List Piece) → is_edge (by_first 0 symbol_of left) ≡ true → is_literal_kind (by_first None (λ t. Some t.kind) left) ≡ false
+first_literal [] e = refl
+first_literal (t ∷ left) e = no_literal t.kind t.text e
+
+pub edge_literal : (ts : Tokens) → is_edge (symbol ts) ≡ true → is_literal_kind (kind ts) ≡ false
+unfolding symbol kind
+edge_literal ts e = first_literal ts.left e
 
 pub edge_test : (b : Twins) (ts us : Tokens) → b.are ts us → is_edge (symbol ts) ≡ true → is_edge (symbol us) ≡ true
 edge_test b ts us h e = rw (symbol_same b ts us h) e

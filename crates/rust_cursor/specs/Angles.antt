@@ -2,13 +2,15 @@
 use Rattle.std.specs.Prelude.{ℕ, ◌==◌, nat_lt, Bool, true, false, not, ◌&&◌, ◌||◌, if◌then◌else◌, Option, Some, codes, bytes_eq}
 use Rattle.rust_lexer.specs.declared.kind.TokenKind.{TokenKind}
 use Rattle.rust_lexer.specs.declared.kind.TokenKind.TheVariants as kinds
+use Rattle.rust_cursor.specs.declared.cursor.nest.Before.{Before}
+use Rattle.rust_cursor.specs.declared.cursor.nest.Before.TheVariants as befores
 use Rattle.rust_cursor.specs.declared.cursor.nest.Nest.{Nest}
 use Rattle.rust_cursor.specs.declared.cursor.generics.Reach.{Reach}
 use Rattle.rust_cursor.specs.declared.cursor.generics.Reach.TheVariants as reaches
 use Rattle.rust_cursor.specs.Tokens.{Tokens}
 use Rattle.rust_cursor.specs.Words.{symbol, word, kind, is_empty, is_at_end, bumped}
 use Rattle.rust_cursor.specs.Nests.{begun, is_flat, is_mark, passing_from}
-use Rattle.rust_cursor.specs.Extents.{begins}
+use Rattle.rust_cursor.specs.Extents.{begins, goes_on}
 
 abbrev pub is_lifetime : Option TokenKind → Bool
 is_lifetime (Some kinds.Lifetime) = true
@@ -31,15 +33,23 @@ closes_around nest ts = symbol ts == 125 || (nest.others == 0 && is_at_end ts)
 abbrev pub is_block : Nest → Tokens → Bool
 is_block nest ts = symbol ts == 123 && not (is_mark nest.before)
 
+abbrev pub is_after_block : Before → Bool
+is_after_block befores.Block = true
+is_after_block _ = false
+
+-- in no bracket but angle brackets, behind a block that an item ends with: neither `>` nor `,` follows it
+abbrev pub is_behind_item : Nest → Tokens → Bool
+is_behind_item nest ts = is_after_block nest.before && not (goes_on ts)
+
 -- an impl's header is over, in no bracket but angle brackets
 abbrev pub is_header_end : Nest → Tokens → Bool
 is_header_end nest ts =
     if symbol ts == 59 then true
-    else (if nest.angles == 0 then is_block nest ts || (bytes_eq (word ts) (codes "where") || is_lone_for ts) else false)
+    else (if nest.angles == 0 then is_block nest ts || (bytes_eq (word ts) (codes "where") || is_lone_for ts) else is_behind_item nest ts)
 
 -- nothing more is passed over from here on, in no brace
 abbrev pub is_barred : Reach → Nest → Tokens → Bool
-is_barred reaches.Angles nest ts = closes_around nest ts || (begins nest ts || (nest.others == 0 && symbol ts == 59))
+is_barred reaches.Angles nest ts = closes_around nest ts || (begins nest ts || (nest.others == 0 && (symbol ts == 59 || is_behind_item nest ts)))
 is_barred reaches.Field nest ts = closes_around nest ts || (begins nest ts || (nest.others == 0 && (nest.angles == 0 && symbol ts == 44)))
 is_barred reaches.Header nest ts = symbol ts == 125 || (begins nest ts || (nest.others == 0 && is_header_end nest ts))
 
@@ -58,7 +68,8 @@ reaching reach nest ts = passing_from (is_reached reach) (is_closed reach) nest 
 unfoldable pub reached : Reach → Tokens → Tokens
 reached reach ts = reaching reach begun ts
 
--- What is left behind the `>` that closes a `<`, if that comes next; before a semicolon, a bracket that closes or what begins an item where none does.
+-- What is left behind the `>` that closes a `<`, if that comes next; where none does, before a semicolon, a bracket that closes or what begins an
+-- item, and behind a block that an item ends with.
 unfoldable pub behind_angles : Tokens → Tokens
 behind_angles ts = if symbol ts == 60 then reached reaches.Angles ts else ts
 

@@ -1,5 +1,6 @@
 -- The texts of what is taken: what stands in brackets, and what is left of an item.
 use Rattle.std.specs.Prelude.{◌≡◌, ◌≤◌, ◌+◌, ℕ, ◌==◌, Bool, true, false, not, ◌&&◌, ◌||◌, if◌then◌else◌, Option, Some, None, List, [], ◌∷◌, ◌++◌, length, string_bytes, codes, bytes_eq}
+use Rattle.std.specs.List.{list_any}
 use Rattle.hir_input.specs.declared.edition.EditionYear.{EditionYear}
 use Rattle.rust_lexer.specs.Piece.{Piece}
 use Rattle.rust_cursor.specs.declared.cursor.nest.Before.{Before}
@@ -10,8 +11,8 @@ use Rattle.rust_cursor.specs.declared.cursor.texts.Extent.{Extent}
 use Rattle.rust_cursor.specs.declared.cursor.texts.Extent.TheVariants as extents
 use Rattle.rust_cursor.specs.Tokens.{Tokens}
 use Rattle.rust_cursor.specs.Reader.{Reader, ◌>>=◌, pure}
-use Rattle.rust_cursor.specs.Words.{symbol, word, text, is_empty, is_at_identifier, is_at_doc, is_glued, is_pair, bumped}
-use Rattle.rust_cursor.specs.Nests.{opens_other, closes_other, flat_behind, is_flat, is_mark, is_whole, nest_behind}
+use Rattle.rust_cursor.specs.Words.{symbol, word, kind, text, is_empty, is_at_identifier, is_at_doc, is_glued, is_pair, bumped}
+use Rattle.rust_cursor.specs.Nests.{opens_other, closes_other, is_literal_kind, flat_behind, is_flat, is_mark, is_whole, nest_behind}
 
 -- ---- what begins an item
 
@@ -28,15 +29,25 @@ follows_use ts = is_at_identifier ts || (symbol ts == 58 || (symbol ts == 42 || 
 abbrev pub follows_static : Tokens → Bool
 follows_static ts = is_at_identifier ts && not (bytes_eq (word ts) (codes "move") || (bytes_eq (word ts) (codes "use") || bytes_eq (word ts) (codes "async")))
 
+-- behind `union`: a name; a value, a type or a pattern goes on with one of these words
+abbrev pub follows_union : Tokens → Bool
+follows_union ts =
+    is_at_identifier ts && not (list_any (bytes_eq (word ts)) (codes "as" ∷ codes "else" ∷ codes "for" ∷ codes "if" ∷ codes "in" ∷ codes "where" ∷ []))
+
+-- behind `extern`: a crate, or the braces of a block, with its ABI in front or without
+abbrev pub follows_extern : Tokens → Bool
+follows_extern ts = bytes_eq (word ts) (codes "crate") || (symbol ts == 123 || (is_literal_kind (kind ts) && symbol (bumped ts) == 123))
+
 -- A word comes next that can begin an item only: here an item ends that was not ended.
 unfoldable pub begins_item : Tokens → Bool
 begins_item ts =
     if is_item_word (word ts) then true
     else (if bytes_eq (word ts) (codes "use") then follows_use (bumped ts)
     else (if bytes_eq (word ts) (codes "static") then follows_static (bumped ts)
-    else (if bytes_eq (word ts) (codes "fn") || bytes_eq (word ts) (codes "type") then is_at_identifier (bumped ts)
+    else (if bytes_eq (word ts) (codes "fn") || (bytes_eq (word ts) (codes "type") || bytes_eq (word ts) (codes "macro")) then is_at_identifier (bumped ts)
+    else (if bytes_eq (word ts) (codes "union") then follows_union (bumped ts)
     else (if bytes_eq (word ts) (codes "macro_rules") then symbol (bumped ts) == 33
-    else (if bytes_eq (word ts) (codes "extern") then bytes_eq (word (bumped ts)) (codes "crate") else false)))))
+    else (if bytes_eq (word ts) (codes "extern") then follows_extern (bumped ts) else false))))))
 
 -- behind `const`: a function, or a name or `_` with a colon
 abbrev pub follows_const : Tokens → Bool
@@ -51,9 +62,14 @@ begins_impl_or_const ts =
     else (if bytes_eq (word ts) (codes "unsafe") then bytes_eq (word (bumped ts)) (codes "impl")
     else (if bytes_eq (word ts) (codes "const") then follows_const (bumped ts) else false))
 
+-- an attribute, or one of these
+abbrev pub begins_with_attribute : Tokens → Bool
+begins_with_attribute ts = if symbol ts == 35 then symbol (bumped ts) == 91 else begins_impl_or_const ts
+
 -- an item begins behind what can end a type or a value; an attribute may also stand behind a `>` that compares
 abbrev pub begins_behind : Before → Tokens → Bool
-begins_behind befores.End ts = if symbol ts == 35 then symbol (bumped ts) == 91 else begins_impl_or_const ts
+begins_behind befores.End ts = begins_with_attribute ts
+begins_behind befores.Block ts = begins_with_attribute ts
 begins_behind befores.Angle ts = begins_impl_or_const ts
 begins_behind _ ts = false
 
@@ -63,9 +79,14 @@ begins_within ts =
     if bytes_eq (word ts) (codes "pub") then false
     else (if bytes_eq (word ts) (codes "use") then is_at_identifier (bumped ts) else begins_item ts)
 
+-- documentation of an item comes next: in angle brackets it may be that of a parameter
+abbrev pub documents_item : Nest → Tokens → Bool
+documents_item nest ts = is_at_doc ts && nest.angles == 0
+
 -- An item begins, in no brace.
 abbrev pub begins : Nest → Tokens → Bool
-begins nest ts = if nest.others == 0 then begins_item ts || begins_behind nest.before ts else nest.free == 0 && begins_within ts
+begins nest ts =
+    if nest.others == 0 then begins_item ts || (begins_behind nest.before ts || documents_item nest ts) else nest.free == 0 && begins_within ts
 
 -- ---- how far it goes
 

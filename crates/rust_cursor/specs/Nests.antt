@@ -92,6 +92,7 @@ can_end ts = if is_at_identifier ts then not (leads_on (word ts)) else is_litera
 -- a `!` is a macro call's behind a name, and an inner attribute's behind `#`
 abbrev pub mark_behind : Before → Before
 mark_behind befores.End = befores.Mark
+mark_behind befores.Block = befores.Mark
 mark_behind befores.Hash = befores.Hash
 mark_behind _ = befores.Other
 
@@ -117,9 +118,14 @@ before_outside nest ts =
     if symbol ts == 123 || not (free_behind nest (symbol ts) == 0) then nest.before
     else (if nest.free == 0 then before_behind nest.before ts else behind_free nest.before)
 
+-- behind braces: they are a block, unless they are a macro call's
+abbrev pub behind_block : Before → Before
+behind_block befores.Mark = befores.End
+behind_block _ = befores.Block
+
 -- behind the last brace that closes
 abbrev pub behind_braces : Nest → Before
-behind_braces nest = if nest.free == 0 then befores.End else nest.before
+behind_braces nest = if nest.free == 0 then behind_block nest.before else nest.before
 
 -- ---- nests
 

@@ -74,14 +74,14 @@ pub use Rattle.rust_items.specs.declared.log.Problem.{Problem}
 pub use Rattle.rust_items.specs.declared.log.ProblemKind.{ProblemKind}
 pub use Rattle.rust_items.specs.declared.source_file.ItemPlace.{ItemPlace}
 pub use Rattle.rust_items.specs.declared.source_file.SourceFile.{SourceFile}
-pub use Rattle.rust_leaves.proofs.AlikeFronts.{behind_others_onward, head_until, modifiers_alike, no_word_head, nothing_before}
+pub use Rattle.rust_leaves.proofs.AlikeFronts.{begins_call_same, behind_others_onward, head_until, modifiers_alike, no_word_head, nothing_before}
 pub use Rattle.rust_leaves.proofs.Beside.{LeafAlike, SameRange, fields_of, named_local, named_or_local}
 pub use Rattle.rust_leaves.specs.Fronts.{FrontRead}
 unfoldable pub use Rattle.rust_leaves.specs.Fronts.{front, front_behind}
 pub use Rattle.rust_leaves.specs.Heads.{behind_head, behind_modifiers_from}
-unfoldable pub use Rattle.rust_leaves.specs.Heads.{behind_abi, behind_modifier, behind_modifiers, head, head_by, is_called, is_modifier, is_modifier_before, is_weak_before}
+unfoldable pub use Rattle.rust_leaves.specs.Heads.{behind_abi, behind_modifier, behind_modifiers, head, head_by, is_called, begins_call, is_modifier, is_modifier_before, is_weak_before}
 pub use Rattle.rust_leaves.specs.Kinds.{block_item, call_behind, called, leaf_by, leaf_read, named_node, node, plain_end, plain_read, some_read, told_at, use_read, attributed_item}
-unfoldable pub use Rattle.rust_leaves.specs.Kinds.{constant, crate_item, enumeration, function, implementation, invocation, leaf, macro_def, macro_definition, static_value, structure, trait_item, type_alias, union_item, use_declaration}
+unfoldable pub use Rattle.rust_leaves.specs.Kinds.{constant, crate_item, enumeration, function, implementation, invocation, item_call, leaf, macro_def, macro_definition, static_value, structure, trait_item, type_alias, union_item, use_declaration}
 pub use Rattle.rust_leaves.specs.Leaves.{LeafRead, NameRead, RestRead, are_over, bare_end, crate_alias_if, fields_at, is_before, name_read, next_range, no_name, range_to, rename_of, rest_read, semicolon_end, symbol_within}
 unfoldable pub use Rattle.rust_leaves.specs.Leaves.{block_attributes, call_end, crate_alias, fields, has_trait, header_field, impl_end, item_end, macro_end, named, named_or, renamed, struct_fields, value_end}
 pub use Rattle.rust_leaves.specs.Texts.{last_text_from}

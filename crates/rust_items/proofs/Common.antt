@@ -57,9 +57,9 @@ unfoldable pub use Rattle.rust_leaves.specs.Clipped.{clipped_front, clipped_leaf
 pub use Rattle.rust_leaves.specs.Fronts.{FrontRead}
 unfoldable pub use Rattle.rust_leaves.specs.Fronts.{front, front_behind}
 pub use Rattle.rust_leaves.specs.Heads.{behind_head, behind_modifiers_from}
-unfoldable pub use Rattle.rust_leaves.specs.Heads.{behind_abi, behind_modifier, behind_modifiers, behind_others, head, head_by, is_called, is_modifier}
+unfoldable pub use Rattle.rust_leaves.specs.Heads.{behind_abi, behind_modifier, behind_modifiers, behind_others, head, head_by, is_called, begins_call, is_modifier}
 pub use Rattle.rust_leaves.specs.Kinds.{block_item, call_behind, called, leaf_by, named_node, node, some_read, told_at, use_read, attributed_item}
-unfoldable pub use Rattle.rust_leaves.specs.Kinds.{constant, crate_item, enumeration, function, implementation, invocation, leaf, macro_def, macro_definition, static_value, structure, trait_item, type_alias, union_item, use_declaration}
+unfoldable pub use Rattle.rust_leaves.specs.Kinds.{constant, crate_item, enumeration, function, implementation, invocation, item_call, leaf, macro_def, macro_definition, static_value, structure, trait_item, type_alias, union_item, use_declaration}
 pub use Rattle.rust_leaves.specs.Leaves.{LeafRead, NameRead, are_over, crate_alias_if, fields_at, is_before, name_read, no_name, range_to, semicolon_end, symbol_within}
 unfoldable pub use Rattle.rust_leaves.specs.Leaves.{block_attributes, call_end, crate_alias, fields, header_field, impl_end, item_end, macro_end, named, named_or, renamed, struct_fields, value_end}
 pub use Rattle.rust_leaves.specs.declared.head.Head.{Head}

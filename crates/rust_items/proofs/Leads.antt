@@ -1,6 +1,6 @@
 -- What is left behind items that hold none is left of the tokens before them, and what they are.
 use Rattle.std.proofs.Common.{◌≡◌, ◌==◌, ◌&&◌, ℕ, zero, suc, Bool, true, false, Option, Some, None, List, [], codes, refl, ap, ◌∙◌, arith, is_some, bytes_eq}
-use Rattle.rust_items.proofs.Common.{AllZip, and_parts, AstIdKind, FileAstId, Visibility, MetaView, PlainKind, union_kind, enum_kind, trait_kind, no_items, Tokens, symbol, word, kind, text, at, eat, eat_word, is_empty, is_at_open, bumped, is_at_end, ExcerptRead, tree_body, LeadsTo, here, further, through, Forwards, when, bumped_leads, eat_leads, eat_word_leads, behind_tree_leads, taken_leads_on, Takes, takes, takes_leads, takes_behind, takes_before, symbol_some, word_none, HasBlock, no_block, block, taken_block, TextRange, Placed, placed_name, path, use_tree, placed_name_leads, placed_next, path_leads, visibility_leads, use_tree_leads, outer_attributes_leads, Head, LeafRead, range_to, name_read, named, named_or, crate_alias, crate_alias_if, renamed, impl_end, item_end, macro_end, value_end, semicolon_end, call_end, function, block_item, union_item, enumeration, trait_item, macro_def, type_alias, static_value, constant, structure, implementation, told_at, crate_item, use_declaration, macro_definition, is_called, invocation, leaf_by, leaf, FrontRead, front_behind, front, id_of, name_of, items_held, trees_in, written_trees, behind_abi, is_modifier, behind_modifier, behind_modifiers_from, behind_modifiers, head_by, behind_head, head, behind_others, fn_kind, attributed_item}
+use Rattle.rust_items.proofs.Common.{AllZip, and_parts, AstIdKind, FileAstId, Visibility, MetaView, PlainKind, union_kind, enum_kind, trait_kind, no_items, Tokens, symbol, word, kind, text, at, eat, eat_word, is_empty, is_at_open, bumped, is_at_end, ExcerptRead, tree_body, LeadsTo, here, further, through, Forwards, when, bumped_leads, eat_leads, eat_word_leads, behind_tree_leads, taken_leads_on, Takes, takes, takes_leads, takes_behind, takes_before, symbol_some, word_none, HasBlock, no_block, block, taken_block, TextRange, Placed, placed_name, path, use_tree, placed_name_leads, placed_next, path_leads, visibility_leads, use_tree_leads, outer_attributes_leads, Head, LeafRead, range_to, name_read, named, named_or, crate_alias, crate_alias_if, renamed, impl_end, item_end, macro_end, value_end, semicolon_end, call_end, function, block_item, union_item, enumeration, trait_item, macro_def, type_alias, static_value, constant, structure, implementation, told_at, crate_item, use_declaration, macro_definition, is_called, begins_call, invocation, item_call, leaf_by, leaf, FrontRead, front_behind, front, id_of, name_of, items_held, trees_in, written_trees, behind_abi, is_modifier, behind_modifier, behind_modifiers_from, behind_modifiers, head_by, behind_head, head, behind_others, fn_kind, attributed_item}
 use Rattle.std.specs.Option.{option_or}
 use Rattle.hir_input.specs.declared.ids.AstIdKind.TheVariants as ast
 use Rattle.rust_leaves.specs.declared.head.Head.TheVariants as heads
@@ -307,6 +307,10 @@ invocation_found attrs ts us p =
     }))
     (λ e. rw e p)
 
+item_call_found : (attrs : List MetaView) (ts us : Tokens) → LeadsTo ts us → LeafFound ts (item_call attrs us).1 (item_call attrs us).0
+unfolding item_call
+item_call_found attrs ts us p = when (begins_call us) (λ e. rw e (invocation_found attrs ts us p)) (λ e. rw e p)
+
 -- the same of the item's own parts
 abbrev pub LeafAt : Tokens → Tokens → Option LeafRead → Type 0
 LeafAt ts us None = LeadsTo ts us
@@ -335,14 +339,14 @@ leaf_by_at heads.Static attrs v ts = static_leaf attrs v ts
 leaf_by_at heads.TypeAlias attrs v ts = type_alias_leaf attrs v ts
 leaf_by_at heads.MacroDef attrs v ts = macro_def_leaf attrs v ts
 leaf_by_at heads.MacroRules attrs v ts = macro_rules_leaf attrs v ts
-leaf_by_at _ attrs v ts = alone_at ts (invocation attrs ts).1 (invocation attrs ts).0 (invocation_found attrs ts ts here)
+leaf_by_at _ attrs v ts = alone_at ts (item_call attrs ts).1 (item_call attrs ts).0 (item_call_found attrs ts ts here)
 
 pub leaf_at : (h : FrontRead) (ts : Tokens) → LeafAt ts (leaf h ts).1 (leaf h ts).0
 unfolding leaf
 leaf_at h ts = leaf_by_at h.head h.attrs h.visibility ts
 
 leaf_by_found : (h : Head) (attrs : List MetaView) (v : Option Visibility) (ts us : Tokens) → TakesBy h ts us → LeafFound ts (leaf_by h attrs v us).1 (leaf_by h attrs v us).0
-leaf_by_found heads.Other attrs v ts us t = invocation_found attrs ts us t.leads
+leaf_by_found heads.Other attrs v ts us t = item_call_found attrs ts us t.leads
 leaf_by_found h attrs v ts us t = taken_at ts us (leaf_by h attrs v us).1 (leaf_by h attrs v us).0 (t.word (λ e. absurd cc)) (leaf_by_at h attrs v us)
 
 -- behind what stands in front of an item

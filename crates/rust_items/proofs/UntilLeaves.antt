@@ -1,6 +1,6 @@
 -- Items that hold none, of tokens beside, are the same but for body texts, until one goes into the braces.
 use Rattle.std.proofs.Common.{◌≡◌, ◌≤◌, ◌+◌, ◌&&◌, ℕ, suc, true, false, Option, Some, None, List, [], ◌∷◌, ◌++◌, map, refl, ap, sym, subst, ◌∙◌, arith, is_some}
-use Rattle.rust_items.proofs.Common.{and_parts, PathNode, Visibility, MetaView, item_without_bodies, use_item, union_kind, enum_kind, trait_kind, UseTreeView, Piece, Tokens, end_of, at, is_empty, bumped, eat, Bodies, Beside, ahead, behind, LeadsTo, through, Forwards, when, bumped_leads, eat_leads, HasBlock, no_block, block, taken_block, IsLaid, at_behind, taken_behind, before_at, behind_at, next_ahead, next_behind, BothBeside, Kept, eat_local, Gone, gone_on, by_kept, KeptBy, UntilBy, went, stayed, by_stayed, IsAlike, no_more, SamePlace, at_place, TextRange, path, use_tree, visibility, path_local, visibility_local, path_leads, visibility_leads, outer_attributes, inner_attributes, IsSound, sound_on, outer_attributes_until, inner_attributes_until, Head, FrontRead, front_behind, front, LeafRead, named, impl_end, item_end, call_end, block_attributes, range_to, node, function, union_item, enumeration, trait_item, structure, implementation, use_read, use_declaration, is_called, called, call_behind, some_read, invocation, leaf_by, leaf, modifiers_beside, head_local, named_local, item_end_local, impl_end_local, call_end_local, NameAlike, RestAlike, LeafAlike, block_item_local, macro_def_local, type_alias_local, static_local, constant_local, fields_of, structure_local, implementation_local, macro_definition_local, behind_modifiers, PlainKind, fn_kind, attributed_item, attributed_local}
+use Rattle.rust_items.proofs.Common.{and_parts, PathNode, Visibility, MetaView, item_without_bodies, use_item, union_kind, enum_kind, trait_kind, UseTreeView, Piece, Tokens, end_of, at, is_empty, bumped, eat, Bodies, Beside, ahead, behind, LeadsTo, through, Forwards, when, bumped_leads, eat_leads, HasBlock, no_block, block, taken_block, IsLaid, at_behind, taken_behind, before_at, behind_at, next_ahead, next_behind, BothBeside, Kept, eat_local, Gone, gone_on, by_kept, KeptBy, UntilBy, went, stayed, by_stayed, IsAlike, no_more, SamePlace, at_place, TextRange, path, use_tree, visibility, path_local, visibility_local, path_leads, visibility_leads, outer_attributes, inner_attributes, IsSound, sound_on, outer_attributes_until, inner_attributes_until, Head, FrontRead, front_behind, front, LeafRead, named, impl_end, item_end, call_end, block_attributes, range_to, node, function, union_item, enumeration, trait_item, structure, implementation, use_read, use_declaration, is_called, begins_call, called, call_behind, some_read, invocation, item_call, leaf_by, leaf, modifiers_beside, head_local, named_local, item_end_local, impl_end_local, call_end_local, NameAlike, RestAlike, LeafAlike, block_item_local, macro_def_local, type_alias_local, static_local, constant_local, fields_of, structure_local, implementation_local, macro_definition_local, behind_modifiers, PlainKind, fn_kind, attributed_item, attributed_local}
 use Rattle.rust_lexer.specs.Alone.{moved}
 use Rattle.rust_cursor.proofs.Laid as laid
 use Rattle.rust_cursor.proofs.Braced.{tokens_at}
@@ -11,6 +11,7 @@ use Rattle.rust_cursor.proofs.Enclosed.{item_enclosed, impl_enclosed}
 use Rattle.rust_metas.proofs.Around.{inner_within}
 use Rattle.rust_leaves.specs.declared.head.Head.TheVariants as heads
 use Rattle.rust_leaves.specs.Texts.{bare, last_text}
+use Rattle.rust_leaves.proofs.Fronts.{begins_call_beside}
 use Rattle.rust_leaves.proofs.Crates.{crate_item_local, is_called_same, called_next, SameLast, beyond_braces, same_text, last_same}
 use Rattle.rust_items.proofs.UntilFields.{NewBehind, SameFields, header_gone, fields_same, struct_fields_same, item_gone}
 use Rattle.rust_items.proofs.Leads.{LeafAt, leaf_at, named_leads, behind_modifiers_leads, head_takes, call_end_leads, call_end_braced, IsBraced, braced}
@@ -235,6 +236,12 @@ module _ (b : Bodies) (plain : BeginPlain b) (end : ℕ) (attrs : List MetaView)
             use_trees = no_more;
           })) c.rest
 
+  item_call_until : LeafUntil b (item_call attrs ts) (item_call attrs us)
+  unfolding item_call
+  item_call_until =
+      let same = begins_call_beside b ts us h in
+      when (begins_call ts) (λ e. rw (same, e) invocation_until) (λ e. rw (same, e) (leaf_same places.neither h))
+
 -- ---- all kinds
 
 leaf_by_until : (b : Bodies) → BeginPlain b → (end : ℕ) (k : Head) (attrs : List MetaView) (v : Option Visibility) (ts us : Tokens) → IsSound end ts → Beside b ts us → LeafUntil b (leaf_by k attrs v ts) (leaf_by k attrs v us)
@@ -252,7 +259,7 @@ leaf_by_until b plain end heads.Static attrs v ts us l h = some_alike (static_lo
 leaf_by_until b plain end heads.TypeAlias attrs v ts us l h = some_alike (type_alias_local b attrs v ts us h)
 leaf_by_until b plain end heads.MacroDef attrs v ts us l h = some_alike (macro_def_local b attrs v ts us h)
 leaf_by_until b plain end heads.MacroRules attrs v ts us l h = some_alike (macro_definition_local b attrs ts us h)
-leaf_by_until b plain end _ attrs v ts us l h = invocation_until b plain end attrs v ts us l h
+leaf_by_until b plain end _ attrs v ts us l h = item_call_until b plain end attrs v ts us l h
 
 pub leaf_until : (b : Bodies) → BeginPlain b → (end : ℕ) (f g : FrontRead) (ts us : Tokens) → FrontAlike b f g → IsSound end ts → Beside b ts us → LeafUntil b (leaf f ts) (leaf g us)
 unfolding leaf

@@ -1,6 +1,6 @@
 -- What stands before an item's own parts is the same of tokens that look alike, until one goes past where the texts part.
 use Rattle.std.proofs.Common.{◌≡◌, ◌==◌, ℕ, zero, suc, Bool, true, false, List, [], refl, sym, ap, subst, ◌∙◌, codes, if◌then◌else◌, bytes_eq, ◌&&◌}
-use Rattle.rust_leaves.proofs.Common.{and_parts, behind_tree, is_segment, Tokens, symbol, word, kind, is_at_identifier, is_pair, bumped, LeadsTo, here, through, when, behind_tree_leads, bumped_leads, has_name, Head, behind_abi, is_modifier_before, is_modifier, behind_modifier, behind_modifiers_from, behind_modifiers, extern_head, macro_rules_head, union_head, head_by, behind_head, head, is_union, is_path_word, begins_path, behind_segments_from, behind_segments, is_called, is_called_here, is_at_first, may_begin, is_behind_others, behind_other, behind_others_from, behind_others, follows_async, is_gen_modifier, is_weak_before, is_weak_modifier}
+use Rattle.rust_leaves.proofs.Common.{and_parts, behind_tree, is_segment, Tokens, symbol, word, kind, is_at_identifier, is_pair, eat, eat_pair, bumped, LeadsTo, here, through, when, behind_tree_leads, bumped_leads, has_name, Head, behind_abi, is_modifier_before, is_modifier, behind_modifier, behind_modifiers_from, behind_modifiers, extern_head, macro_rules_head, union_head, head_by, behind_head, head, is_union, is_path_word, begins_path, behind_segments_from, behind_segments, is_called, is_called_here, begins_call, is_at_first, may_begin, is_behind_others, behind_other, behind_others_from, behind_others, follows_async, is_gen_modifier, is_weak_before, is_weak_modifier}
 use Rattle.rust_cursor.proofs.Parting.{Onward, on, kept, Parting, Until, UpTo, onward_leads, cond_onward}
 use Rattle.rust_cursor.proofs.Twins.{is_edge, symbol_same, word_same, kind_same, identifier_same, open_same, end_same, doc_same, pair_same, edge_word, edge_identifier, edge_test, after_word, after_symbol, after_pair}
 use Rattle.rust_cursor.proofs.Tests.{begins_item_same}
@@ -196,6 +196,20 @@ called_same b ts us h =
     when (is_path_word (behind_segments ts))
     (λ e. rw (path_word_same b (behind_segments ts) (behind_segments us) k, called_alike b (bumped (behind_segments ts)) (bumped (behind_segments us)) (path_word_next b (behind_segments ts) (behind_segments us) k e)) refl)
     (λ e. rw (path_word_same b (behind_segments ts) (behind_segments us) k, e) refl)
+
+colons_called_same : (b : Parting) (ts us : Tokens) → b.twins.are ts us → is_called_here (eat_pair 58 58 us).1 ≡ is_called_here (eat_pair 58 58 ts).1
+unfolding eat_pair
+colons_called_same b ts us h =
+    when (is_pair 58 58 ts)
+    (λ e. rw (pair_same b.twins 58 58 ts us refl h, e) (called_same b (bumped (bumped ts)) (bumped (bumped us)) (after_pair b.twins 58 58 ts us refl refl h e)))
+    (λ e. rw (pair_same b.twins 58 58 ts us refl h, e) (called_same b ts us h))
+
+pub begins_call_same : (b : Parting) (ts us : Tokens) → b.twins.are ts us → begins_call us ≡ begins_call ts
+unfolding begins_call eat
+begins_call_same b ts us h =
+    when (symbol ts == 36)
+    (λ e. rw (symbol_same b.twins ts us h, e) (colons_called_same b (bumped ts) (bumped us) (after_symbol b.twins 36 ts us refl h e)))
+    (λ e. rw (symbol_same b.twins ts us h, e) (colons_called_same b ts us h))
 
 is_union_same : (b : Parting) (ts us : Tokens) → b.twins.are ts us → is_union us ≡ is_union ts
 is_union_same b ts us h =

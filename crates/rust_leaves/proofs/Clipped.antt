@@ -2,7 +2,7 @@
 use Rattle.std.proofs.Common.{◌≡◌, ◌==◌, ◌&&◌, ℕ, Bool, true, false, Option, Some, None, List, [], ◌++◌, refl, sym, ap, ◌∙◌, append-nil, if◌then◌else◌, is_some, codes}
 use Rattle.hir_input.specs.declared.ids.AstIdKind.TheVariants as kind
 use Rattle.hir_input.specs.declared.ast.PathNode.{PathNode}
-use Rattle.rust_leaves.proofs.Common.{Visibility, MetaView, fn_kind, trait_kind, const_item, struct_item, impl_item, macro_rules, Tokens, Reader, symbol, at, eat_word, bumped, is_at_open, clipped, kept_text, item_rest, impl_rest, macro_rest, value_rest, tree_body, Head, RestRead, LeafRead, no_name, named, named_or, rest_read, bare_end, semicolon_end, item_end, impl_end, macro_end, value_end, call_end, block_attributes, struct_fields, has_trait, node, named_node, leaf_read, plain_read, plain_kind, plain_end, plain_leaf, function, union_item, enumeration, trait_item, macro_def, type_alias, static_value, constant, structure, implementation, macro_definition, crate_item, use_declaration, is_called, called, call_behind, some_read, invocation, leaf_by, leaf, bare, last_text}
+use Rattle.rust_leaves.proofs.Common.{Visibility, MetaView, fn_kind, trait_kind, const_item, struct_item, impl_item, macro_rules, Tokens, Reader, when, symbol, at, eat_word, bumped, is_at_open, clipped, kept_text, item_rest, impl_rest, macro_rest, value_rest, tree_body, Head, RestRead, LeafRead, no_name, named, named_or, rest_read, bare_end, semicolon_end, item_end, impl_end, macro_end, value_end, call_end, block_attributes, struct_fields, has_trait, node, named_node, leaf_read, plain_read, plain_kind, plain_end, plain_leaf, function, union_item, enumeration, trait_item, macro_def, type_alias, static_value, constant, structure, implementation, macro_definition, crate_item, use_declaration, begins_call, is_called, called, call_behind, some_read, invocation, item_call, leaf_by, leaf, bare, last_text}
 use Rattle.rust_paths.specs.Paths.{path}
 use Rattle.rust_metas.specs.Attributes.{outer_attributes}
 use Rattle.rust_metas.specs.Docs.{kept_metas}
@@ -149,9 +149,9 @@ wanted_by w head.Struct attrs v ts = some_read (with_value (wanted_leaf w attrs)
 wanted_by w head.Const attrs v ts = some_read (with_value (wanted_leaf w attrs) (constant [] v ts))
 wanted_by w head.Static attrs v ts = some_read (with_value (wanted_leaf w attrs) (static_value [] v ts))
 wanted_by w head.MacroRules attrs v ts = some_read (with_value (wanted_leaf w attrs) (macro_definition [] ts))
-wanted_by w head.Module attrs v ts = with_value (wanted_leaf_if w attrs) (invocation [] ts)
-wanted_by w head.ExternBlock attrs v ts = with_value (wanted_leaf_if w attrs) (invocation [] ts)
-wanted_by w head.Other attrs v ts = with_value (wanted_leaf_if w attrs) (invocation [] ts)
+wanted_by w head.Module attrs v ts = with_value (wanted_leaf_if w attrs) (item_call [] ts)
+wanted_by w head.ExternBlock attrs v ts = with_value (wanted_leaf_if w attrs) (item_call [] ts)
+wanted_by w head.Other attrs v ts = with_value (wanted_leaf_if w attrs) (item_call [] ts)
 wanted_by w h attrs v ts = some_read (with_value (wanted_leaf w attrs) (plain_leaf h [] v ts))
 
 by_clipped : (w : Wanted) (h : Head) (attrs : List MetaView) (v : Option Visibility) (ts : Tokens) → with_value (wanted_leaf_if w attrs) (leaf_by h [] v ts) ≡ wanted_by w h attrs v ts
@@ -174,6 +174,10 @@ invocation_front w attrs ts =
     ∙ ap (λ r. if is_some (path ts).0 && is_called (path ts).1 then some_read r else (None, ts)) (sym (call_clipped w (kept_metas w.metas attrs) (path ts).0 last (bumped (path ts).1)))
     ∙ sym (invocation_clipped w (kept_metas w.metas attrs) ts)
 
+item_call_front : (w : Wanted) (attrs : List MetaView) (ts : Tokens) → with_value (clipped_leaf_if w) (item_call attrs ts) ≡ with_value (wanted_leaf_if w (kept_metas w.metas attrs)) (item_call [] ts)
+unfolding with_value clipped_leaf_if wanted_leaf_if item_call
+item_call_front w attrs ts = when (begins_call ts) (λ e. rw e (invocation_front w attrs ts)) (λ e. rw e refl)
+
 -- those that begin an item stand before its inner ones, if it has any
 by_front : (w : Wanted) (h : Head) (attrs : List MetaView) (v : Option Visibility) (ts : Tokens) → with_value (clipped_leaf_if w) (leaf_by h attrs v ts) ≡ with_value (wanted_leaf_if w (kept_metas w.metas attrs)) (leaf_by h [] v ts)
 unfolding with_value clipped_rest clipped_leaf clipped_leaf_if wanted_leaf wanted_leaf_if wanted_item kept_metas function implementation use_declaration crate_item trait_item union_item enumeration macro_def type_alias static_value constant structure macro_definition
@@ -183,9 +187,9 @@ by_front w head.Trait attrs v ts =
     let n = named ts in let r = up_to w.bodies item_end n.1 in ap (λ a. (Some (plain_read trait_kind a v n.0 r.0), r.1)) (kept_append w.metas attrs (block_attributes (item_end n.1).0.block))
 by_front w head.Impl attrs v ts =
     let r = up_to w.bodies impl_end ts in ap (λ a. (Some (leaf_read (impl_item (node a r.0.body) (has_trait r.1.past ts)) kind.Impl no_name r.0), r.1)) (kept_append w.metas attrs (block_attributes (impl_end ts).0.block))
-by_front w head.Module attrs v ts = invocation_front w attrs ts
-by_front w head.ExternBlock attrs v ts = invocation_front w attrs ts
-by_front w head.Other attrs v ts = invocation_front w attrs ts
+by_front w head.Module attrs v ts = item_call_front w attrs ts
+by_front w head.ExternBlock attrs v ts = item_call_front w attrs ts
+by_front w head.Other attrs v ts = item_call_front w attrs ts
 by_front w h attrs v ts = sym (at_none w (kept_metas w.metas attrs) (λ a. textless w.bodies (leaf_by h a v ts)))
 
 -- an item with what is wanted of it stands behind what is wanted of what stands before it

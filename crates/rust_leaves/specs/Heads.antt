@@ -4,7 +4,7 @@ use Rattle.std.specs.List.{list_any}
 use Rattle.rust_cursor.specs.Nests.{is_literal_kind}
 use Rattle.rust_cursor.specs.Tokens.{Tokens}
 use Rattle.rust_cursor.specs.Reader.{Reader}
-use Rattle.rust_cursor.specs.Words.{symbol, word, kind, is_at_identifier, is_at_doc, is_at_end, is_at_open, is_pair, bumped}
+use Rattle.rust_cursor.specs.Words.{symbol, word, kind, is_at_identifier, is_at_doc, is_at_end, is_at_open, is_pair, eat, eat_colons, bumped}
 use Rattle.rust_cursor.specs.Brackets.{behind_tree}
 use Rattle.rust_cursor.specs.Elements.{most}
 use Rattle.rust_cursor.specs.Extents.{begins_item}
@@ -165,8 +165,13 @@ behind_segments ts = behind_segments_from most ts
 unfoldable pub is_called : Tokens → Bool
 is_called ts = symbol ts == 33 && is_at_open (bumped ts)
 
+-- the path of a macro call comes next, and its `!`
 abbrev pub is_called_here : Tokens → Bool
 is_called_here ts = is_path_word (behind_segments ts) && is_called (bumped (behind_segments ts))
+
+-- The same, maybe with `$` or `::` before the path. No generic arguments stand in the path of an item's macro: none is looked for behind a `<`.
+unfoldable pub begins_call : Tokens → Bool
+begins_call ts = is_called_here (eat_colons (eat 36 ts).1).1
 
 -- a word comes next that may begin an item; in front of `::` it is a segment of a path
 abbrev pub is_at_first : Tokens → Bool

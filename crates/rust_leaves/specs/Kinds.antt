@@ -1,5 +1,5 @@
 -- The items that hold no items, kind by kind. Each begins behind its attributes, its visibility, its modifiers and its word.
-use Rattle.std.specs.Prelude.{ℕ, Bool, ◌==◌, ◌&&◌, if◌then◌else◌, Option, Some, None, is_some, List, [], ◌++◌, codes}
+use Rattle.std.specs.Prelude.{ℕ, Bool, ◌&&◌, if◌then◌else◌, Option, Some, None, is_some, List, [], ◌++◌, codes}
 use Rattle.std.specs.Option.{option_or}
 use Rattle.hir_input.specs.declared.ids.AstIdKind.{AstIdKind}
 use Rattle.hir_input.specs.declared.ids.AstIdKind.TheVariants as kind
@@ -13,14 +13,14 @@ use Rattle.hir_input.specs.UseTreeView.{UseTreeView}
 use Rattle.hir_input.specs.Syntax.{NodeView, NamedView, PlainKind, fn_kind, union_kind, enum_kind, static_kind, trait_kind, type_alias_kind, macro_def_kind, ast_kind, ItemView, plain_item, const_item, struct_item, use_item, extern_crate, impl_item, macro_call, macro_rules}
 use Rattle.rust_cursor.specs.Tokens.{Tokens}
 use Rattle.rust_cursor.specs.Reader.{Reader, ◌>>=◌, pure, look}
-use Rattle.rust_cursor.specs.Words.{symbol, eat, eat_word, bumped, is_at_open}
+use Rattle.rust_cursor.specs.Words.{eat, eat_word, bumped}
 use Rattle.rust_paths.specs.declared.names.TextRange.{TextRange}
 use Rattle.rust_paths.specs.Paths.{path}
 use Rattle.rust_paths.specs.UseTrees.{FoundInUse, use_tree}
 use Rattle.rust_leaves.specs.declared.head.Head.{Head}
 use Rattle.rust_leaves.specs.declared.head.Head.TheVariants as head
 use Rattle.rust_leaves.specs.Fronts.{FrontRead}
-use Rattle.rust_leaves.specs.Heads.{is_called}
+use Rattle.rust_leaves.specs.Heads.{begins_call, is_called}
 use Rattle.rust_leaves.specs.Texts.{bare, last_text}
 use Rattle.rust_leaves.specs.Leaves.{NameRead, RestRead, LeafRead, no_name, named, named_or, renamed, rename_of, past, bare_end, impl_end, item_end, macro_end, value_end, call_end, block_attributes, struct_fields, has_trait}
 
@@ -203,6 +203,10 @@ invocation attrs ts =
     then some_read (call_behind attrs (path ts).0 (bare (last_text (path ts).1.past ts)) (bumped (path ts).1))
     else (None, ts)
 
+-- the same in the place of an item
+unfoldable pub item_call : List MetaView → Reader (Option LeafRead)
+item_call attrs ts = if begins_call ts then invocation attrs ts else (None, ts)
+
 -- an item that holds no items, by its word, if one is written
 abbrev pub leaf_by : Head → List MetaView → Option Visibility → Reader (Option LeafRead)
 leaf_by head.Use attrs v ts = some_read (use_declaration attrs v ts)
@@ -218,7 +222,7 @@ leaf_by head.Static attrs v ts = some_read (static_value attrs v ts)
 leaf_by head.TypeAlias attrs v ts = some_read (type_alias attrs v ts)
 leaf_by head.MacroDef attrs v ts = some_read (macro_def attrs v ts)
 leaf_by head.MacroRules attrs v ts = some_read (macro_definition attrs ts)
-leaf_by _ attrs v ts = invocation attrs ts
+leaf_by _ attrs v ts = item_call attrs ts
 
 -- an item that holds no items, behind what stands in front of it
 unfoldable pub leaf : FrontRead → Reader (Option LeafRead)

@@ -7,7 +7,7 @@ ghost use Rattle.rust_leaves.specs.Clipped.{wanted_leaf, wanted_leaf_if, with_va
 ghost use Rattle.rust_leaves.specs.Kinds as spec;
 ghost use Rattle.rust_leaves.specs.Views.{callee_view, leaf_view};
 
-use crate::head::is_called;
+use crate::head::{begins_call, is_called};
 use crate::leaf::{Leaf, read_leaf};
 use crate::named::{call_end, item_name_or};
 use crate::texts::{bare, last_text};
@@ -97,9 +97,9 @@ fn call_behind<'t>(
     Ok(read_leaf!(alloc, MacroCall, item, name, None, rest))
 }
 
-/// Takes a macro call, or nothing where none is written.
-#[tactic(auto, using(crate::proofs::Callees::invocation_taken))]
-pub(crate) fn invocation<'t>(
+/// Takes a macro call that is an item, or nothing where none is written.
+#[tactic(auto, using(crate::proofs::Callees::item_call_taken))]
+pub(crate) fn item_call<'t>(
     alloc: Global,
     cursor: &mut Cursor<'t>,
     wanted: Wanted,
@@ -107,8 +107,11 @@ pub(crate) fn invocation<'t>(
 ) -> Result<Option<Leaf<'t>>, AllocError>
     ensures { Gives (option_map leaf_view)
         (with_value (wanted_leaf_if wanted (map meta_view attrs.items))
-        (spec.invocation [] cursor.old)) result cursor.new }
+        (spec.item_call [] cursor.old)) result cursor.new }
 {
+    if !begins_call(cursor) {
+        return Ok(None);
+    }
     match take_callee(alloc, cursor)? {
         Some(Callee { path, name }) => { call_behind(alloc, cursor, wanted, attrs, path, name) }
         None => Ok(None),

@@ -328,6 +328,17 @@ fn is_called_here(cursor: &Cursor<'_>) -> bool
     is_called(&behind)
 }
 
+/// Whether a macro call comes next that is an item. In its path no generic arguments stand: none is looked for behind a `<`.
+#[tactic(auto, unfolding(crate::specs::Heads::begins_call))]
+pub(crate) fn begins_call(cursor: &Cursor<'_>) -> bool
+    ensures { result ≡ spec.begins_call cursor.now }
+{
+    let mut ahead = cursor.ahead();
+    ahead.eat(b'$');
+    ahead.eat_colons();
+    is_called_here(&ahead)
+}
+
 /// Whether a word comes next that may begin an item; in front of `::` it is a segment of a path.
 fn is_at_first(cursor: &Cursor<'_>) -> bool
     ensures { result ≡ spec.is_at_first cursor.now }

@@ -7,7 +7,7 @@ ghost use Rattle.rust_leaves.specs.Clipped.{clipped_rest, leaf_behind, wanted_le
 ghost use Rattle.rust_leaves.specs.Kinds as spec;
 ghost use Rattle.rust_leaves.specs.Views.{front_view, leaf_view, name_view, rest_view};
 
-use crate::calls::{invocation, macro_definition};
+use crate::calls::{item_call, macro_definition};
 use crate::front::Front;
 use crate::head::Head;
 use crate::named::{Named, Rest, item_name, plain_end, with_inner};
@@ -248,6 +248,6 @@ pub fn take_leaf<'t>(
         Head::TypeAlias => plain_leaf(alloc, cursor, wanted, Head::TypeAlias, attrs, visibility),
         Head::MacroDef => plain_leaf(alloc, cursor, wanted, Head::MacroDef, attrs, visibility),
         Head::MacroRules => macro_definition(alloc, cursor, wanted, attrs),
-        Head::Module | Head::ExternBlock | Head::Other => invocation(alloc, cursor, wanted, attrs),
+        Head::Module | Head::ExternBlock | Head::Other => item_call(alloc, cursor, wanted, attrs),
     }
 }

@@ -5,7 +5,7 @@ ghost use Rattle.rust_cursor.specs.declared.cursor.generics.Reach.TheVariants as
 ghost use Rattle.rust_cursor.specs.Angles as spec;
 
 use crate::cursor::Cursor;
-use crate::cursor::nest::{Nest, is_mark};
+use crate::cursor::nest::{Before, Nest, is_mark};
 use rust_lexer::TokenKind;
 
 /// How far tokens are passed over.
@@ -65,7 +65,7 @@ impl<'t> Cursor<'t> {
         if self.closes_around(nest) || self.begins(nest) {
             return true;
         }
-        nest.others == 0 && self.symbol() == b';'
+        nest.others == 0 && (self.symbol() == b';' || self.is_behind_item(nest))
     }
 
     #[inline(always)]
@@ -96,6 +96,13 @@ impl<'t> Cursor<'t> {
     }
 
     #[inline(always)]
+    fn is_behind_item(&self, nest: &Nest) -> bool
+        ensures { result ≡ spec.is_behind_item nest.now self.now }
+    {
+        is_after_block(nest.before) && !self.goes_on()
+    }
+
+    #[inline(always)]
     fn is_header_end(&self, nest: &Nest) -> bool
         ensures { result ≡ spec.is_header_end nest.now self.now }
     {
@@ -103,7 +110,7 @@ impl<'t> Cursor<'t> {
             return true;
         }
         if nest.angles != 0 {
-            return false;
+            return self.is_behind_item(nest);
         }
         self.is_block(nest) || self.word() == "where" || self.is_lone_for()
     }
@@ -139,7 +146,8 @@ impl<'t> Cursor<'t> {
 
     /// Passes over what stands in angle brackets, if it comes next.
     ///
-    /// Where no `>` closes it, it ends before a semicolon, a bracket that closes, or a word that can begin an item only.
+    /// Where no `>` closes it, it ends before a semicolon, a bracket that closes, or a word that can begin an item only, and behind
+    /// a block that neither `>` nor `,` follows.
     #[tactic(auto, unfolding(crate::specs::Angles::behind_angles))]
     pub fn pass_angles(&mut self)
         ensures { self.new ≡ spec.behind_angles self.old }
@@ -165,6 +173,12 @@ impl<'t> Cursor<'t> {
         ahead.pass_reach(Reach::Header);
         ahead.word() == "for" && ahead.past() < end
     }
+}
+
+fn is_after_block(before: Before) -> bool
+    ensures { result ≡ spec.is_after_block before }
+{
+    matches!(before, Before::Block)
 }
 
 fn is_lifetime(kind: Option<TokenKind>) -> bool

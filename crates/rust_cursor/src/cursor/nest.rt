@@ -21,6 +21,8 @@ pub enum Before {
     Angle,
     /// A type or a value can end with it.
     End,
+    /// A `}`: the same, and not behind a macro call.
+    Block,
     Other,
 }
 
@@ -284,7 +286,7 @@ fn mark_behind(before: Before) -> Before
     ensures { result ≡ spec.mark_behind before }
 {
     match before {
-        Before::End => Before::Mark,
+        Before::End | Before::Block => Before::Mark,
         Before::Hash => Before::Hash,
         Before::Dash | Before::Mark | Before::Angle | Before::Other => Before::Other,
     }
@@ -295,7 +297,18 @@ fn behind_free(before: Before) -> Before
 {
     match before {
         Before::Hash => Before::Other,
-        Before::Dash | Before::Mark | Before::Angle | Before::End | Before::Other => Before::End,
+        Before::Dash | Before::Mark | Before::Angle | Before::End | Before::Block | Before::Other =>
+            Before::End,
+    }
+}
+
+fn behind_block(before: Before) -> Before
+    ensures { result ≡ spec.behind_block before }
+{
+    match before {
+        Before::Mark => Before::End,
+        Before::Dash | Before::Hash | Before::Angle | Before::End | Before::Block | Before::Other =>
+            Before::Block,
     }
 }
 
@@ -303,13 +316,13 @@ fn behind_braces(nest: Nest) -> Before
     ensures { result ≡ spec.behind_braces nest }
 {
     if nest.free == 0 {
-        Before::End
+        behind_block(nest.before)
     } else {
         nest.before
     }
 }
 
-fn is_literal_kind(kind: Option<TokenKind>) -> bool
+pub(crate) fn is_literal_kind(kind: Option<TokenKind>) -> bool
     ensures { result ≡ spec.is_literal_kind kind }
 {
     matches!(kind, Some(TokenKind::Literal(_)))

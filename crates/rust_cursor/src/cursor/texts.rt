@@ -8,8 +8,8 @@ ghost use Rattle.rust_cursor.specs.Reader.{Gives};
 ghost use Rattle.rust_cursor.specs.Tokens.{Tokens, last_unended, left_of};
 ghost use Rattle.rust_cursor.specs.Words.{bumped, is_empty, symbol};
 
-use crate::among::{first_byte, has_length};
-use crate::cursor::nest::{Before, Nest, count_inside, is_mark};
+use crate::among::{first_byte, has_length, is_among};
+use crate::cursor::nest::{Before, Nest, count_inside, is_literal_kind, is_mark};
 use crate::cursor::{Cursor, note_last};
 use rust_lexer::{Depth, Lexer, Token};
 use std::alloc::{AllocError, Global};
@@ -50,9 +50,10 @@ impl<'t> Cursor<'t> {
             "pub" | "mod" | "struct" | "enum" | "trait" => true,
             "use" => self.second().follows_use(),
             "static" => self.second().follows_static(),
-            "fn" | "type" => self.second().is_at_identifier(),
+            "fn" | "type" | "macro" => self.second().is_at_identifier(),
+            "union" => self.second().follows_union(),
             "macro_rules" => self.second().symbol() == b'!',
-            "extern" => self.second().word() == "crate",
+            "extern" => self.second().follows_extern(),
             _ => false,
         }
     }
@@ -67,6 +68,22 @@ impl<'t> Cursor<'t> {
         ensures { result ≡ spec.follows_static self.now }
     {
         self.is_at_identifier() && !matches!(self.word(), "move" | "use" | "async")
+    }
+
+    fn follows_union(&self) -> bool
+        ensures { result ≡ spec.follows_union self.now }
+    {
+        self.is_at_identifier()
+            && !is_among(self.word(), &["as", "else", "for", "if", "in", "where"])
+    }
+
+    fn follows_extern(&self) -> bool
+        ensures { result ≡ spec.follows_extern self.now }
+    {
+        if self.word() == "crate" || self.symbol() == b'{' {
+            return true;
+        }
+        is_literal_kind(self.kind()) && self.second().symbol() == b'{'
     }
 
     fn follows_const(&self) -> bool
@@ -98,7 +115,7 @@ impl<'t> Cursor<'t> {
         ensures { result ≡ spec.begins_behind before self.now }
     {
         match before {
-            Before::End => {
+            Before::End | Before::Block => {
                 if self.symbol() == b'#' {
                     return self.second().symbol() == b'[';
                 }
@@ -126,7 +143,7 @@ impl<'t> Cursor<'t> {
         ensures { result ≡ spec.begins nest.now self.now }
     {
         // Most words begin none, and are told by their length and their first byte.
-        if !leads_item(self.word()) && self.symbol() != b'#' {
+        if !leads_item(self.word()) && self.symbol() != b'#' && !self.is_at_doc() {
             return false;
         }
         self.begins_with(nest)
@@ -138,9 +155,17 @@ impl<'t> Cursor<'t> {
         ensures { result ≡ spec.begins nest.now self.now }
     {
         if nest.others == 0 {
-            return self.begins_item() || self.begins_behind(nest.before);
+            return self.begins_item()
+                || self.begins_behind(nest.before)
+                || self.documents_item(nest);
         }
         nest.free == 0 && self.begins_within()
+    }
+
+    fn documents_item(&self, nest: &Nest) -> bool
+        ensures { result ≡ spec.documents_item nest.now self.now }
+    {
+        self.is_at_doc() && nest.angles == 0
     }
 
     #[inline(always)]
@@ -169,7 +194,7 @@ impl<'t> Cursor<'t> {
         self.stops_outside(extent, nest)
     }
 
-    fn goes_on(&self) -> bool
+    pub(crate) fn goes_on(&self) -> bool
         ensures { result ≡ spec.goes_on self.now }
     {
         matches!(self.symbol(), b'>' | b',')
@@ -535,8 +560,8 @@ fn push_token(text: &mut String, token: &str) -> Result<(), AllocError>
 
 /// The lengths of the words that can begin an item, by their first byte.
 static ITEMS: [u16; 32] = [
-    0, 0, 0, 32, 0, 80, 4, 0, 0, 16, 0, 0, 0, 2056, 0, 0, 8, 0, 0, 64, 48, 72, 0, 0, 0, 0, 0, 0, 0,
-    0, 0, 0,
+    0, 0, 0, 32, 0, 80, 4, 0, 0, 16, 0, 0, 0, 2088, 0, 0, 8, 0, 0, 64, 48, 104, 0, 0, 0, 0, 0, 0,
+    0, 0, 0, 0,
 ];
 
 /// Whether a word may begin an item, by its length and its first byte.

@@ -1,12 +1,13 @@
 -- What is read from a token on does not tell where the token before it ends.
 use Rattle.std.proofs.Common.{◌≡◌, ◌<◌, ◌≤◌, ◌==◌, ◌&&◌, ℕ, suc, Bool, true, false, Option, Some, None, List, [], ◌∷◌, length, refl, sym, ap, ◌∙◌, subst, arith, codes, if◌then◌else◌}
-use Rattle.rust_edits.proofs.Common.{is_some, option_map, bytes_eq, Visibility, EditionYear, MetaView, Outer, Piece, is_reached, is_closed, reaching, reached, behind_angles, most, beyond, turns_from, turns, one, begins_item, begins_impl_or_const, begins_within, begun, nest_behind, leads_on, Reader, Tokens, end_of, symbol, word, kind, text, at, is_empty, is_at_end, is_at_identifier, is_at_doc, bumped, is_glued, is_pair, eat_pair, eat_colons, as_name, next_name, name_text, has_name, taken_with, name, is_raw, is_dollar_crate, is_segment, named_word, other_segment, segment, is_colons, is_path_colons, more_from, more_segments, written_path, is_path_start, path, visibility, is_doc, is_attribute, is_behind, one_attribute, attribute, attributes, outer_attributes, documentation, Head, FrontRead, front_behind, front, behind_abi, is_modifier, behind_modifier, behind_modifiers_from, behind_modifiers, behind_head, head_by, head, is_called, some_read, call_behind, invocation, leaf, LeafRead, Found, Finder, BlockRead, unmatched, leaf_found, leaf_turn, by_head, turn_with, inside, depth_of, turn, nat_tests, eq-eqb, IsLaid, behind, LeadsTo, here, Forwards, through, when, bumped_leads, reaching_leads, turns_from_leads, segment_leads, more_from_leads, more_segments_leads, scoped_leads, visibility_leads, bracketed_leads, behind_attribute_leads, attribute_leads, behind_abi_leads, modifiers_leads, behind_modifiers_leads, head_takes, bare, last_text_from, last_text}
+use Rattle.rust_edits.proofs.Common.{is_some, option_map, bytes_eq, Visibility, EditionYear, MetaView, Outer, Piece, is_reached, is_closed, reaching, reached, behind_angles, most, beyond, turns_from, turns, one, begins_item, begins_impl_or_const, begins_within, begun, nest_behind, leads_on, Reader, Tokens, end_of, symbol, word, kind, text, at, is_empty, is_at_end, is_at_identifier, is_at_doc, bumped, is_glued, is_pair, eat, eat_pair, eat_colons, as_name, next_name, name_text, has_name, taken_with, name, is_raw, is_dollar_crate, is_segment, named_word, other_segment, segment, is_colons, is_path_colons, more_from, more_segments, written_path, is_path_start, path, visibility, is_doc, is_attribute, is_behind, one_attribute, attribute, attributes, outer_attributes, documentation, Head, FrontRead, front_behind, front, behind_abi, is_modifier, behind_modifier, behind_modifiers_from, behind_modifiers, behind_head, head_by, head, is_called, begins_call, some_read, call_behind, invocation, item_call, leaf, LeafRead, Found, Finder, BlockRead, unmatched, leaf_found, leaf_turn, by_head, turn_with, inside, depth_of, turn, nat_tests, eq-eqb, IsLaid, behind, LeadsTo, here, Forwards, through, when, bumped_leads, reaching_leads, turns_from_leads, segment_leads, more_from_leads, more_segments_leads, scoped_leads, visibility_leads, bracketed_leads, behind_attribute_leads, attribute_leads, behind_abi_leads, modifiers_leads, behind_modifiers_leads, head_takes, bare, last_text_from, last_text}
 use Rattle.hir_input.specs.declared.ast.PathNode.{PathNode}
 use Rattle.hir_input.specs.Words.{PathWord, name_word}
 use Rattle.rust_cursor.specs.declared.cursor.generics.Reach.TheVariants as reaches
 use Rattle.rust_paths.specs.Meaning.{path_node}
 use Rattle.rust_paths.specs.Paths as paths
 use Rattle.rust_metas.specs.Metas.{doc}
+use Rattle.rust_leaves.specs.Heads.{is_path_word, begins_path, behind_segments_from, behind_segments, is_called_here}
 use Rattle.rust_leaves.specs.declared.head.Head.TheVariants as heads
 
 -- What is read from the first tokens and from the second: the same, behind their first token, or the same and nothing was taken.
@@ -134,7 +135,7 @@ module _ (past past' : ℕ) (t : Piece) (l : List Piece) (u : Option ℕ) (y : E
   colons_alike = when (is_pair 58 58 a) (λ e. rw (pair_same 58 58, e) (next_two true)) (λ e. rw (pair_same 58 58, e) (stood false tt))
 
   reached_same : is_reached reaches.Angles begun a' ≡ is_reached reaches.Angles begun a
-  unfolding is_reached is_empty is_at_end symbol word kind is_at_identifier is_pair is_glued at bumped begins_item begins_impl_or_const begins_within
+  unfolding is_reached is_empty is_at_end symbol word kind is_at_identifier is_pair is_glued at bumped begins_item begins_impl_or_const begins_within is_at_doc
   reached_same = refl
 
   nest_same : nest_behind begun a' ≡ nest_behind begun a
@@ -203,9 +204,13 @@ module _ (past past' : ℕ) (t : Piece) (l : List Piece) (u : Option ℕ) (y : E
   unfolding more_segments
   segments_alike = rw most_more (more_alike 18446744073709551614)
 
+  segment_same : is_segment a' ≡ is_segment a
+  unfolding is_segment
+  segment_same = rw (words.of_word, words.of_kind, has_same, dollar_same) refl
+
   start_same : is_path_start false a' ≡ is_path_start false a
-  unfolding is_path_start is_segment
-  start_same = rw (path_colons_same, words.of_word, words.of_kind, has_same, dollar_same) refl
+  unfolding is_path_start
+  start_same = rw (path_colons_same, segment_same) refl
 
   written_alike : Same Any (written_path false)
   written_alike =
@@ -358,9 +363,39 @@ module _ (past past' : ℕ) (t : Piece) (l : List Piece) (u : Option ℕ) (y : E
     unfolding invocation
     invocation_same attrs some = call_same attrs path_alike some
 
+    path_word_same : is_path_word a' ≡ is_path_word a
+    unfolding is_at_identifier
+    path_word_same = ap (λ s. is_at_identifier a && s) segment_same
+
+    begins_path_same : begins_path a' ≡ begins_path a
+    begins_path_same = rw (path_word_same, words.of_bumped) refl
+
+    abbrev called_behind : Tokens → Bool
+    called_behind ts = is_path_word ts && is_called (bumped ts)
+
+    call_behind_same : (n : ℕ) → called_behind (behind_segments_from (suc n) a') ≡ called_behind (behind_segments_from (suc n) a)
+    call_behind_same n =
+        when (begins_path a) (λ e. rw (begins_path_same, e, words.of_bumped) refl) (λ e. rw (begins_path_same, e, path_word_same, words.of_bumped) refl)
+
+    colons_call_same : is_called_here (eat_pair 58 58 a').1 ≡ is_called_here (eat_pair 58 58 a).1
+    unfolding behind_segments eat_pair
+    colons_call_same =
+        when (is_pair 58 58 a)
+        (λ e. rw (pair_same 58 58, e, words.of_bumped) refl)
+        (λ e. rw (pair_same 58 58, e, most_more) (call_behind_same 18446744073709551614))
+
+    begins_call_same : begins_call a' ≡ begins_call a
+    unfolding begins_call eat
+    begins_call_same = when (symbol a == 36) (λ e. rw (words.of_symbol, e, words.of_bumped) refl) (λ e. rw (words.of_symbol, e) colons_call_same)
+
+    item_call_same : (attrs : List MetaView) → is_some (item_call attrs a).0 ≡ true → item_call attrs a' ≡ item_call attrs a
+    unfolding item_call
+    item_call_same attrs some =
+        when (begins_call a) (λ e. rw (begins_call_same, e) (invocation_same attrs (rw e at some))) (λ e. absurd (let no = rw e at some in cc))
+
     leaf_same : (h : FrontRead) → h.head ≡ heads.Other → is_some (leaf h a).0 ≡ true → leaf h a' ≡ leaf h a
     unfolding leaf
-    leaf_same h e some = rw e (invocation_same h.attrs (rw e at some))
+    leaf_same h e some = rw e (item_call_same h.attrs (rw e at some))
 
     -- ---- items
 

@@ -1,6 +1,6 @@
 -- No item begins at an inner attribute or at inner documentation.
 use Rattle.std.proofs.Common.{◌≡◌, ◌==◌, ◌&&◌, ℕ, Bool, true, false, Option, Some, None, List, [], codes, refl, ap, ◌∙◌, arith}
-use Rattle.rust_edits.proofs.Common.{is_some, bytes_eq, Head, EditionYear, Outer, Inner, TokenKind, Piece, symbol_of, most, turns, turns_from, one, Tokens, by_first, word_by, symbol, word, kind, text, at, bumped, is_pair, is_at_end, is_path_keyword, name_text, has_name, is_raw, is_dollar_crate, is_segment, is_colons, is_path_colons, is_path_start, path, visibility, is_doc, is_style, is_attribute, is_behind, attribute, attributes, outer_attributes, inner_attributes, style_by, FrontRead, front, front_behind, is_modifier, is_modifier_before, behind_modifiers, behind_modifiers_from, head, invocation, leaf, Found, leaf_turn, turn, nat_tests, eqb-true, and_parts, when, no_word_head, nothing_before, turns_stop, doc_symbol}
+use Rattle.rust_edits.proofs.Common.{is_some, bytes_eq, Head, EditionYear, Outer, Inner, TokenKind, Piece, symbol_of, most, turns, turns_from, one, Tokens, by_first, word_by, symbol, word, kind, text, at, bumped, is_pair, is_at_end, is_path_keyword, name_text, has_name, is_raw, is_dollar_crate, is_segment, is_colons, is_path_colons, is_path_start, path, visibility, is_doc, is_style, is_attribute, is_behind, attribute, attributes, outer_attributes, inner_attributes, style_by, FrontRead, front, front_behind, is_modifier, is_modifier_before, behind_modifiers, behind_modifiers_from, head, invocation, item_call, begins_call, leaf, Found, leaf_turn, turn, nat_tests, eqb-true, and_parts, when, no_word_head, nothing_before, turns_stop, doc_symbol}
 use Rattle.rust_lexer.specs.declared.kind.DocStyle.{DocStyle}
 use Rattle.rust_lexer.specs.declared.kind.TokenKind.TheVariants as kinds
 use Rattle.rust_leaves.specs.declared.head.Head.TheVariants as heads
@@ -126,8 +126,8 @@ unfolding path is_path_start is_path_colons is_colons is_pair is_segment is_doll
 path_mute us m = rw (m.colon, m.quiet.word, m.quiet.raw, m.quiet.name, m.dollar) refl
 
 leaf_mute : (us : Tokens) → IsMute us → leaf (nothing_front us) us ≡ (None, us)
-unfolding leaf invocation
-leaf_mute us m = rw (path_mute us m) refl
+unfolding leaf item_call invocation
+leaf_mute us m = when (begins_call us) (λ e. rw (e, path_mute us m) refl) (λ e. rw e refl)
 
 -- no item begins there
 pub item_none : (left : ℕ) (f : Found) (us : Tokens) → IsMute us → (turn left f us).0 ≡ None

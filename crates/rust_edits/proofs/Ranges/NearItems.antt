@@ -1,6 +1,6 @@
 -- Items are the same in a text that ends with a `;` or a `}` and in a longer one, where they end there or before.
 use Rattle.std.proofs.Common.{◌≡◌, ◌≤◌, ◌<◌, ◌+◌, ◌==◌, ◌&&◌, ℕ, zero, suc, Bool, true, false, Option, Some, None, List, [], ◌∷◌, ◌++◌, length, refl, sym, ap, ◌∙◌, subst, arith, map, append_assoc, codes}
-use Rattle.rust_edits.proofs.Common.{option_map, option_to_list, is_some, is_none, not, list_any, AstIdKind, MetaView, ItemView, Row, most, beyond, Tokens, symbol, at, eat, eat_word, bumped, is_at_end, TextRange, path, use_tree, inner_attributes, Head, FrontRead, front, function, trait_item, enumeration, union_item, macro_def, type_alias, static_value, constant, structure, implementation, crate_item, use_declaration, macro_definition, is_called, invocation, leaf_by, leaf, LeafRead, named, named_or, renamed, Problem, ProblemKind, Found, Finder, nothing_found, and_problem, and_problem_at, and_all, span_of, and_flaw, and_item, and_leaf, leaf_found, leaf_turn, finding_from, finding, is_list_end, BlockRead, block_of, as_extern, extern_kept, extern_found, unmatched, extern_turn, extern_inside, inside, turn, moved_span, moved_problem, is_unfinished, common_steps, map-append, not-true, and_right, IsLaid, behind, LeadsTo, here, further, through, when, bumped_leads, beyond_leads, eat_leads, eat_word_leads, Ending, Near, fewer, nothing, bumped_onward, at_same, past_same, near_twins, beyond_near, near_parting, near_enters, near_levels, Kept, AtEnd, is_still, Outcome, lost, stays, comes, untaken, eat_outcome, eat_fewer, Same, by_next, by_kept, symbol_same, empty_same, end_same, path_leads, use_tree_leads, inner_attributes_leads, inner_attributes_until, behind_others_onward, named_leads, named_or_leads, renamed_leads, behind_others_leads, front_takes, LeafAt, leaf_at, Finds, extern_turn_found, or_left, or_right, list_any-append, list_from}
+use Rattle.rust_edits.proofs.Common.{option_map, option_to_list, is_some, is_none, not, list_any, AstIdKind, MetaView, ItemView, Row, most, beyond, Tokens, symbol, at, eat, eat_word, bumped, is_at_end, TextRange, path, use_tree, inner_attributes, Head, FrontRead, front, function, trait_item, enumeration, union_item, macro_def, type_alias, static_value, constant, structure, implementation, crate_item, use_declaration, macro_definition, is_called, begins_call, invocation, item_call, leaf_by, leaf, LeafRead, named, named_or, renamed, Problem, ProblemKind, Found, Finder, nothing_found, and_problem, and_problem_at, and_all, span_of, and_flaw, and_item, and_leaf, leaf_found, leaf_turn, finding_from, finding, is_list_end, BlockRead, block_of, as_extern, extern_kept, extern_found, unmatched, extern_turn, extern_inside, inside, turn, moved_span, moved_problem, is_unfinished, common_steps, map-append, not-true, and_right, IsLaid, behind, LeadsTo, here, further, through, when, bumped_leads, beyond_leads, eat_leads, eat_word_leads, Ending, Near, fewer, nothing, bumped_onward, at_same, past_same, near_twins, beyond_near, near_parting, near_enters, near_levels, Kept, AtEnd, is_still, Outcome, lost, stays, comes, untaken, eat_outcome, eat_fewer, Same, by_next, by_kept, symbol_same, empty_same, end_same, path_leads, use_tree_leads, inner_attributes_leads, inner_attributes_until, behind_others_onward, named_leads, named_or_leads, renamed_leads, behind_others_leads, front_takes, LeafAt, leaf_at, Finds, extern_turn_found, or_left, or_right, list_any-append, list_from}
 use Rattle.rust_leaves.specs.declared.head.Head.TheVariants as heads
 use Rattle.rust_items.specs.declared.log.ProblemKind.TheVariants as problem
 use Rattle.rust_edits.proofs.Ranges.Tops.{Keeps, extern_turn_keeps}
@@ -394,11 +394,20 @@ extern_inside_ends b depth n m before f g ts us given h a =
 -- ---- what is ended takes a token
 
 pub leaf_fewer : (h : FrontRead) (ts : Tokens) → leaf_ended (leaf h ts).0 ≡ true → length (leaf h ts).1.left < length ts.left
-unfolding leaf invocation function trait_item enumeration union_item macro_def type_alias static_value constant structure implementation crate_item use_declaration macro_definition
+unfolding leaf item_call invocation function trait_item enumeration union_item macro_def type_alias static_value constant structure implementation crate_item use_declaration macro_definition
 leaf_fewer h ts = by h.head
   where
     named_first : length (named ts).1.left ≤ length ts.left
     named_first = fewer (named_leads ts)
+
+    called : leaf_ended (invocation h.attrs ts).0 ≡ true → length (invocation h.attrs ts).1.left < length ts.left
+    called e =
+        when (is_some (path ts).0 && is_called (path ts).1)
+        (λ f. rw f
+        (let first = fewer (path_leads ts) in
+        let second = fewer (bumped_leads (path ts).1) in
+        let strict = call_end_fewer (bumped (path ts).1) (rw f at e) in omega arith))
+        (λ f. absurd (let no = rw f at e in cc))
 
     by : (w : Head) → leaf_ended (leaf_by w h.attrs h.visibility ts).0 ≡ true → length (leaf_by w h.attrs h.visibility ts).1.left < length ts.left
     by heads.Use e = let first = fewer (use_tree_leads ts) in let strict = eat_fewer 59 (use_tree ts).1 (omega arith) e in omega arith
@@ -424,13 +433,7 @@ leaf_fewer h ts = by h.head
     by heads.MacroDef e = let strict = macro_end_fewer (named ts).1 e in omega (arith, named_first)
     by heads.MacroRules e =
         let first = fewer (named_or_leads (codes "try") ts) in let strict = call_end_fewer (named_or (codes "try") ts).1 e in omega arith
-    by _ e =
-        when (is_some (path ts).0 && is_called (path ts).1)
-        (λ f. rw f
-        (let first = fewer (path_leads ts) in
-        let second = fewer (bumped_leads (path ts).1) in
-        let strict = call_end_fewer (bumped (path ts).1) (rw f at e) in omega arith))
-        (λ f. absurd (let no = rw f at e in cc))
+    by _ e = when (begins_call ts) (λ f. rw f (called (rw f at e))) (λ f. absurd (let no = rw f at e in cc))
 
 pub leaf_turn_fewer : (depth : ℕ) (h : FrontRead) (f : Found) (ts : Tokens) → is_sound h.start ((leaf_turn depth h f ts).0, (leaf_turn depth h f ts).1.0) ≡ true → length (leaf_turn depth h f ts).1.1.left < length ts.left
 unfolding leaf_turn

@@ -1,9 +1,10 @@
 -- What is left of an item is ended in both of two texts or in neither, where as many brackets are loose between the braces of each.
 use Rattle.std.proofs.Common.{◌≡◌, ◌≢◌, ◌<◌, ℕ, zero, suc, ◌+◌, ◌-◌, ◌==◌, ◌||◌, ◌&&◌, Bool, true, false, Option, Some, None, List, [], ◌∷◌, ◌++◌, length, refl, ap, ◌∙◌, sym, subst, arith, map, length-append, ◌⊎◌, inl, inr, codes, if◌then◌else◌}
-use Rattle.rust_edits.proofs.Common.{nat_lt, EditionYear, Piece, symbol_of, moved, braces_from, Tokens, end_of, symbol, bumped, braces_behind, count_behind, closes_none, behind_braces, flat_behind, is_mark, nest_inside, nest_behind, ExcerptRead, stops, ends, opened_behind, taking, taken, Bodies, AreOpen, Beside, ahead, Loose, none_loose, loose_behind, loose_from, is_some, bytes_eq, Visibility, MetaView, word, is_at_open, eat, eat_word, tree_body, path, use_tree, Head, FrontRead, is_called, leaf_by, leaf, function, union_item, enumeration, trait_item, macro_def, type_alias, static_value, constant, structure, implementation, crate_item, use_read, use_declaration, macro_definition, invocation, LeafRead, named, crate_alias, crate_alias_if, renamed, impl_end, item_end, macro_end, value_end, call_end, nat_tests, when, stops_empty, shorter, beside_twins, next_ahead, next_behind, tokens_at, symbol_at, some_at, bumped_at, inside_is, enters, and_parts, IsSound, eat_leads, IsAlike, neither, SamePlace, open_same, LeafAlike, named_local, named_or_local, FrontAlike, BeginPlain, LeafUntil, leaf_lost, leaf_same, leaf_until, LeafLost, by_stayed, word_test, after_word, eat_local, eat_word_local, taken_both, gone_on}
+use Rattle.rust_edits.proofs.Common.{nat_lt, EditionYear, Piece, symbol_of, moved, braces_from, Tokens, end_of, symbol, bumped, braces_behind, count_behind, closes_none, behind_braces, flat_behind, is_mark, nest_inside, nest_behind, ExcerptRead, stops, ends, opened_behind, taking, taken, Bodies, AreOpen, Beside, ahead, Loose, none_loose, loose_behind, loose_from, is_some, bytes_eq, Visibility, MetaView, word, is_at_open, eat, eat_word, tree_body, path, use_tree, Head, FrontRead, is_called, begins_call, leaf_by, leaf, function, union_item, enumeration, trait_item, macro_def, type_alias, static_value, constant, structure, implementation, crate_item, use_read, use_declaration, macro_definition, invocation, item_call, LeafRead, named, crate_alias, crate_alias_if, renamed, impl_end, item_end, macro_end, value_end, call_end, nat_tests, when, stops_empty, shorter, beside_twins, next_ahead, next_behind, tokens_at, symbol_at, some_at, bumped_at, inside_is, enters, and_parts, IsSound, eat_leads, IsAlike, neither, SamePlace, open_same, LeafAlike, named_local, named_or_local, FrontAlike, BeginPlain, LeafUntil, leaf_lost, leaf_same, leaf_until, LeafLost, by_stayed, word_test, after_word, eat_local, eat_word_local, taken_both, gone_on}
 use Rattle.rust_cursor.specs.declared.cursor.nest.Before.{Before}
 use Rattle.rust_cursor.specs.declared.cursor.nest.Nest.{Nest}
 use Rattle.rust_cursor.specs.Beside.{behind}
+use Rattle.rust_leaves.proofs.Fronts.{begins_call_beside}
 use Rattle.rust_cursor.proofs.Scans.{taking_stop, taking_end, taking_more}
 use Rattle.rust_cursor.proofs.Views.{symbol_same}
 use Rattle.rust_cursor.proofs.Tests.{nest_same, stops_same, ends_same}
@@ -282,6 +283,12 @@ module _ (b : Bodies) (same : SameLoose b) where
       }))
       (λ e. rw (tests, e) (record { ended = refl; deep = neither }))
 
+  item_call_ended : (attrs : List MetaView) (ts us : Tokens) → Beside b ts us → SameFlaws b (item_call attrs ts).0 (item_call attrs us).0
+  unfolding item_call
+  item_call_ended attrs ts us h =
+      let calls = begins_call_beside b ts us h in
+      when (begins_call ts) (λ e. rw (calls, e) (invocation_ended attrs ts us h)) (λ e. rw (calls, e) (record { ended = refl; deep = neither }))
+
   named_beside : (ts us : Tokens) → Beside b ts us → Beside b (named ts).1 (named us).1
   named_beside ts us h = (named_local b ts us h).rest
 
@@ -299,9 +306,9 @@ module _ (b : Bodies) (same : SameLoose b) where
   flaws_until heads.TypeAlias attrs v ts us h = inr (record { ended = taken_ended b same _ _ _ _ (named_beside ts us h); deep = neither })
   flaws_until heads.MacroDef attrs v ts us h = inr (record { ended = taken_ended b same _ _ _ _ (named_beside ts us h); deep = neither })
   flaws_until heads.MacroRules attrs v ts us h = inr (record { ended = call_ended _ _ (named_or_local b (codes "try") refl ts us h).rest; deep = neither })
-  flaws_until heads.ExternBlock attrs v ts us h = inr (invocation_ended attrs ts us h)
-  flaws_until heads.Module attrs v ts us h = inr (invocation_ended attrs ts us h)
-  flaws_until heads.Other attrs v ts us h = inr (invocation_ended attrs ts us h)
+  flaws_until heads.ExternBlock attrs v ts us h = inr (item_call_ended attrs ts us h)
+  flaws_until heads.Module attrs v ts us h = inr (item_call_ended attrs ts us h)
+  flaws_until heads.Other attrs v ts us h = inr (item_call_ended attrs ts us h)
   flaws_until _ attrs v ts us h = inr (record { ended = taken_ended b same _ _ _ _ (named_beside ts us h); deep = neither })
 
 -- ---- what is read of both
