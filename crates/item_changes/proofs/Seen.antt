@@ -3,7 +3,7 @@ use Rattle.std.proofs.Common.{◌≡◌, ℕ, zero, suc, ◌+◌, Bool, true, fa
 use Rattle.std.specs.{Prelude.option_map, Prelude.slice_get, List.count_by, List.filter, List.flat_map}
 use Rattle.std.proofs.lemmas.List.{map-append, Elements.filter-append, Sums.length-filter, Sums.sum_by-cons}
 use Rattle.item_changes.specs.declared.matching.{Keyed.Keyed, Match.Match, Match.TheVariants.Gone, Match.TheVariants.Stays}
-use Rattle.item_changes.specs.Matches.{partner, partners_behind, partners, gone_if, came_if, gone_of, match_of, matched, match_map, match_now, same_keys}
+use Rattle.item_changes.specs.Matches.{partner, partners_behind, partners, gone_if, came_if, gone_of, match_of, matched, ranks, ranks_behind, match_map, match_now, same_keys}
 
 -- ---- matches seen as others
 
@@ -53,6 +53,15 @@ module _ {A B : Type 0} (f : A → B) where
   came_seen x None = refl
   came_seen x (Some y) = refl
 
+  -- how many like each of a list stand before it
+  ranks_seen_behind : (like : B → B → Bool) (before xs : List A) → ranks_behind (λ x y. like (f x) (f y)) before xs ≡ ranks_behind like (map f before) (map f xs)
+  ranks_seen_behind like before [] = refl
+  ranks_seen_behind like before (x ∷ xs) =
+      λ i. count_seen (like (f x)) before i ∷ (ranks_seen_behind like (before ++ x ∷ []) xs ∙ ap (λ b. ranks_behind like b (map f xs)) (map-append f before (x ∷ []))) i
+
+  pub ranks_seen : (like : B → B → Bool) (xs : List A) → ranks (λ x y. like (f x) (f y)) xs ≡ ranks like (map f xs)
+  ranks_seen like xs = ranks_seen_behind like [] xs
+
   module _ (like : B → B → Bool) where
     abbrev seen_like : A → A → Bool
     seen_like x y = like (f x) (f y)
@@ -80,14 +89,22 @@ module _ {A B : Type 0} (f : A → B) where
 abbrev keyed_by : {B C : Type 0} → (B → C) → B → C × B
 keyed_by key b = (key b, b)
 
--- what is the same by keys in code is the same by what they are keys of
+-- what is the same by keys in code is the same by what these are, of pairs of keys and things
+pub matched_pairs : {K T B C : Type 0} (equal : K → K → Bool) (same : C → C → Bool) (view : Keyed K T → C × B) → ((a b : Keyed K T) → equal a.key b.key ≡ same (view a).0 (view b).0) → (xs ys : List (Keyed K T)) (us ws : List (C × B))
+    → map view xs ≡ us → map view ys ≡ ws → (found : List (Match (Bor (Keyed K T)))) → map match_now found ≡ matched (same_keys equal) xs ys
+    → map (match_map (λ k. (view k.now).1)) found ≡ map (match_map (λ (p : C × B). p.1)) (matched (λ p q. same p.0 q.0) us ws)
+matched_pairs {K} {T} {B} {C} equal same view h xs ys us ws e g found is =
+    map_twice (λ (k : Bor (Keyed K T)). k.now) (λ k. (view k).1) found ∙ ap (map (match_map (λ k. (view k).1))) (is ∙ (λ i. matched (λ a b. h a b i) xs ys))
+    ∙ map_twice view (λ (p : C × B). p.1) (matched (λ a b. same (view a).0 (view b).0) xs ys)
+    ∙ ap (map (match_map (λ (p : C × B). p.1))) (matched_seen view (λ p q. same p.0 q.0) xs ys ∙ (λ i. matched (λ p q. same p.0 q.0) (e i) (g i)))
+
+-- and by what they are keys of
 pub matched_as : {K T B C : Type 0} (equal : K → K → Bool) (same : C → C → Bool) (view : Keyed K T → C × B) (key : B → C) → ((a b : Keyed K T) → equal a.key b.key ≡ same (view a).0 (view b).0) → (xs ys : List (Keyed K T)) (us ws : List B)
     → map view xs ≡ map (λ b. (key b, b)) us → map view ys ≡ map (λ b. (key b, b)) ws → (found : List (Match (Bor (Keyed K T)))) → map match_now found ≡ matched (same_keys equal) xs ys
     → map (match_map (λ k. (view k.now).1)) found ≡ matched (λ b c. same (key b) (key c)) us ws
 matched_as {K} {T} {B} {C} equal same view key h xs ys us ws e g found is =
-    map_twice (λ (k : Bor (Keyed K T)). k.now) (λ k. (view k).1) found ∙ ap (map (match_map (λ k. (view k).1))) (is ∙ (λ i. matched (λ a b. h a b i) xs ys))
-    ∙ map_twice view (λ (p : C × B). p.1) (matched (λ a b. same (view a).0 (view b).0) xs ys)
-    ∙ ap (map (match_map (λ (p : C × B). p.1))) (matched_seen view (λ p q. same p.0 q.0) xs ys ∙ (λ i. matched (λ p q. same p.0 q.0) (e i) (g i)) ∙ sym (matched_seen (keyed_by key) (λ p q. same p.0 q.0) us ws))
+    matched_pairs equal same view h xs ys (map (λ b. (key b, b)) us) (map (λ b. (key b, b)) ws) e g found is
+    ∙ ap (map (match_map (λ (p : C × B). p.1))) (sym (matched_seen (keyed_by key) (λ p q. same p.0 q.0) us ws))
     ∙ sym (map_twice (keyed_by key) (λ (p : C × B). p.1) (matched (λ b c. same (key b) (key c)) us ws)) ∙ map_same (matched (λ b c. same (key b) (key c)) us ws)
 
 -- ---- a list and itself

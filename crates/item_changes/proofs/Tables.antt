@@ -5,7 +5,7 @@ use Rattle.std.specs.{Cmp.IsEquivalence, HashMap.get, HashMap.get_by}
 use Rattle.std.proofs.lemmas.{Bool.cases_Bool, Bool.Decides.nat_tests, List.map-append, List.take_more, List.Elements.filter-append}
 use Rattle.std.proofs.lemmas.List.Sums.{count_by-le-length, length-filter, sum_by-append}
 use Rattle.item_changes.specs.declared.matching.Keyed.{Keyed}
-use Rattle.item_changes.specs.Matches.{partner, partners_behind, partners, pair_now, key_count, CountsKey, same_keys, CountsAll, FindsAll}
+use Rattle.item_changes.specs.Matches.{partner, partners_behind, partners, ranks_behind, ranks, pair_now, key_count, CountsKey, same_keys, CountsAll, FindsAll}
 
 pub count_more : {A : Type 0} (p : A → Bool) (xs : List A) (x : A) → count_by p (xs ++ x ∷ []) ≡ count_by p xs + cond (p x) 1 0
 count_more p xs x = let one : 0 + cond (p x) 1 0 ≡ cond (p x) 1 0 = omega arith in sum_by-append (λ y. cond (p y) 1 0) xs (x ∷ []) ∙ ap (λ n. count_by p xs + n) one
@@ -40,6 +40,15 @@ partners_more like others before (y ∷ ys) x =
 pub pairs_more : {A : Type 0} (like : A → A → Bool) (others xs : List A) (x : A) (pairs pushed : List (Bor A × Option (Bor A))) (p : Bor A × Option (Bor A))
     → pushed ≡ pairs ++ p ∷ [] → pair_now p ≡ (x, partner like others xs x) → map pair_now pairs ≡ partners like others xs → map pair_now pushed ≡ partners like others (xs ++ x ∷ [])
 pairs_more like others xs x pairs pushed p e v inv = ap (map pair_now) e ∙ map-append pair_now pairs (p ∷ []) ∙ (λ i. inv i ++ v i ∷ []) ∙ sym (partners_more like others [] xs x)
+
+ranks_behind_more : {A : Type 0} (like : A → A → Bool) (before xs : List A) (x : A) → ranks_behind like before (xs ++ x ∷ []) ≡ ranks_behind like before xs ++ count_by (like x) (before ++ xs) ∷ []
+ranks_behind_more like before [] x = ap (λ b. count_by (like x) b ∷ []) (sym (append-nil before))
+ranks_behind_more like before (y ∷ ys) x =
+    ap (λ ns. count_by (like y) before ∷ ns)
+    (ranks_behind_more like (before ++ y ∷ []) ys x ∙ ap (λ b. ranks_behind like (before ++ y ∷ []) ys ++ count_by (like x) b ∷ []) (append_assoc before (y ∷ []) ys))
+
+pub ranks_more : {A : Type 0} (like : A → A → Bool) (xs : List A) (x : A) (done pushed : List ℕ) (n : ℕ) → pushed ≡ done ++ n ∷ [] → n ≡ count_by (like x) xs → done ≡ ranks like xs → pushed ≡ ranks like (xs ++ x ∷ [])
+ranks_more like xs x done pushed n e v inv = e ∙ (λ i. inv i ++ v i ∷ []) ∙ sym (ranks_behind_more like [] xs x)
 
 module _ {K : Type 0} {same : K → K → Bool} (laws : IsEquivalence same) where
   -- equal keys have one count

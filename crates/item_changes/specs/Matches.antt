@@ -31,6 +31,15 @@ gone_of p = gone_if p.0 p.1
 abbrev pub match_of : {A : Type 0} → A × Option A → Match A
 match_of p = came_if p.0 p.1
 
+-- of each of a list behind some, how many of those like it stand before it
+abbrev pub ranks_behind : {A : Type 0} → (A → A → Bool) → List A → List A → List ℕ
+ranks_behind like before [] = []
+ranks_behind like before (x ∷ xs) = count_by (like x) before ∷ ranks_behind like (before ++ x ∷ []) xs
+
+-- of each of a list, how many of those like it stand before it
+abbrev pub ranks : {A : Type 0} → (A → A → Bool) → List A → List ℕ
+ranks like xs = ranks_behind like [] xs
+
 -- what the old ones alone are, and then what the new ones are
 abbrev pub matched : {A : Type 0} → (A → A → Bool) → List A → List A → List (Match A)
 matched like olds news = flat_map gone_of (partners like news olds) ++ map match_of (partners like olds news)

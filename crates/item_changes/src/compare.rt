@@ -120,7 +120,7 @@ fn changes_in<'tree>(
 /// Two items are the same item where both are the n-th of their kind and name in modules of the same names, at the same
 /// depth. It changed where the trees keep other data of it by itself, which is not its id, nor the items in it. So an
 /// item that was renamed, or moved into another module, was removed and added, and trees that differ in the order of
-/// their items alone may have no changes.
+/// their items, or in the attributes of the file, alone may have no changes.
 ///
 /// # Errors
 ///

@@ -12,5 +12,5 @@ mod own_item;
 mod words;
 
 pub use compare::{Change, ChangeKind, changes};
-pub use matching::{Keyed, Match, matched};
+pub use matching::{Keyed, Match, matched, ranks};
 pub use words::change_word;

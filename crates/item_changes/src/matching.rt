@@ -45,6 +45,25 @@ fn count_one<K: Eq + Hash + Drop>(
     Ok(count)
 }
 
+/// Of each thing of a list, how many of its key stand before it.
+///
+/// # Errors
+///
+/// Only if memory runs out.
+pub fn ranks<K: Eq + Hash + Copy + Drop, T>(
+    alloc: Global,
+    list: &[Keyed<K, T>],
+) -> Result<Vec<usize>, AllocError>
+    ensures { IfOk result (λ v. v.items ≡ spec.ranks (same_keys K.eq) list.now) }
+{
+    let (mut ranks, mut counts) = (Vec::new(alloc), HashMap::new(alloc));
+    for one in list {
+        let rank = count_one(&mut counts, one.key)?;
+        ranks.push(rank)?;
+    }
+    Ok(ranks)
+}
+
 /// Each thing of a list, by its key and how many like it stand before it.
 fn table<'a, K: Eq + Hash + Copy + Drop, T>(
     alloc: Global,

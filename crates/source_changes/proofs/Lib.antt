@@ -1,1 +1,6 @@
 pub mod Joining
+pub mod Typed
+pub mod Moving
+pub mod Unseen
+pub mod Plain
+pub mod Examples

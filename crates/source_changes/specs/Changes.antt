@@ -7,6 +7,7 @@ use Rattle.source_rows.specs.Changes.{RowChange, row_changes}
 use Rattle.source_rows.specs.Skeletons.{skeleton}
 use Rattle.source_rows.specs.Parts.{Part, item_parts}
 use Rattle.source_rows.specs.Outside.{outside_rows}
+use Rattle.source_rows.specs.Moves.{StandingRow, row_moves, standing_rows}
 use Rattle.source_rows.specs.Rows.{bodies, part_rows}
 use Rattle.source_rows.specs.Sources.{Source, place_at}
 use Rattle.source_changes.specs.declared.Compared.{Compared}
@@ -39,11 +40,21 @@ abbrev pub or_else : List RowChange → List RowChange → List RowChange
 or_else [] others = others
 or_else (c ∷ cs) others = c ∷ cs
 
--- what became of items and members, and where nothing did, of what stands in none of these
+-- the rows of a text with these parts, each with the part that it stands in
+abbrev pub rows_standing : Bool → List ℕ → List Part → List StandingRow
+rows_standing has_docs text ps = standing_rows ps (part_rows has_docs text ps)
+
+-- what moved from a part to another of its label, and where nothing did, what became of what stands in no part
+abbrev pub changes_beside : EditionYear → Bool → Source → Source → List Part → List Part → List RowChange
+changes_beside edition has_docs old new olds news =
+    or_else (row_moves (rows_standing has_docs old.text olds) (rows_standing has_docs new.text news))
+    (row_changes (outside_rows has_docs edition old.text olds) (outside_rows has_docs edition new.text news))
+
+-- what became of items and members, and where nothing did by their labels, all else
 abbrev pub lines_between : EditionYear → Bool → Source → Source → List Part → List Part → List ℕ
 lines_between edition has_docs old new olds news =
     let items = row_changes (part_rows has_docs old.text olds) (part_rows has_docs new.text news) in
-    row_lines old new (or_else items (row_changes (outside_rows has_docs edition old.text olds) (outside_rows has_docs edition new.text news)))
+    row_lines old new (or_else items (changes_beside edition has_docs old new olds news))
 
 -- no line where nothing differs
 abbrev pub compared_lines : EditionYear → Bool → Bool → Source → Source → List Part → List Part → List ℕ

@@ -1,6 +1,8 @@
 //! What others can see of a file became another.
 #![tactic(auto)]
 
+mod laws;
+
 ghost use Rattle.std.specs.Prelude.{◌≡◌, ◌++◌, ◌↔◌, IfOk, IsTrue, OnOk, map, string_bytes};
 ghost use Rattle.source_rows.specs.Views.{part_view, source_view};
 ghost use Rattle.source_rows.specs.ChangeViews.{row_change_view};
@@ -15,7 +17,7 @@ use line_index::LineIndex;
 use rust_items::{Wanted, WantedMetas, read_wanted};
 pub use source_rows::Source;
 use source_rows::{
-    Change, Part, Skeleton, bodies, changes, outside, parts, push_place, row_around, rows,
+    Change, Part, Skeleton, bodies, changes, moves, outside, parts, push_place, row_around, rows,
 };
 use std::alloc::{AllocError, Global};
 
@@ -163,8 +165,8 @@ fn outside_lines(alloc: Global, pair: Pair<'_>) -> Result<String, AllocError>
     lines(alloc, pair.old, pair.new, &changes)
 }
 
-/// The lines of what became of the parts of a file in another, or else of what stands in none; no line where others see the same
-/// of both.
+/// The lines of what became of the parts of a file in another, or else of what moved from a part to another of its label, or else of
+/// what stands in none; no line where others see the same of both.
 fn text_of(alloc: Global, is_same: bool, pair: Pair<'_>) -> Result<String, AllocError>
     ensures { let p = pair.entry in
         let lines = spec.compared_lines p.edition is_same p.has_docs (source_view p.old)
@@ -177,18 +179,23 @@ fn text_of(alloc: Global, is_same: bool, pair: Pair<'_>) -> Result<String, Alloc
     let old_rows = rows(alloc, pair.old.text, pair.olds, pair.has_docs)?;
     let new_rows = rows(alloc, pair.new.text, pair.news, pair.has_docs)?;
     let changes = changes(alloc, &old_rows, &new_rows)?;
-    if changes.is_empty() {
-        return outside_lines(alloc, pair);
+    if !changes.is_empty() {
+        return lines(alloc, pair.old, pair.new, &changes);
     }
-    lines(alloc, pair.old, pair.new, &changes)
+    let moves = moves(alloc, &old_rows, &new_rows)?;
+    if !moves.is_empty() {
+        return lines(alloc, pair.old, pair.new, &moves);
+    }
+    outside_lines(alloc, pair)
 }
 
 /// Compares what others can see of two files of an edition: every token but those between the braces of functions and comments, and
 /// documentation only where that is asked.
 ///
 /// It tells in a line what was removed of the old file's items and of their members, and then what was added or changed. Where
-/// nothing of that became another, a line tells what stands in none of these; without one the files differ in the order of items or in
-/// the attributes of the file.
+/// nothing of that became another, lines tell what moved from an item to another of the same kind and path: it was removed and added.
+/// Where nothing did, a line tells what stands in none of these; without one the files differ in the order of items or in the
+/// attributes of the file.
 ///
 /// # Errors
 ///

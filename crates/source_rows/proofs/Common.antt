@@ -2,7 +2,7 @@
 pub use Rattle.rust_cursor.proofs.Nesting.{not_first, shorter}
 pub use Rattle.rust_cursor.specs.Tokens.{Tokens}
 pub use Rattle.rust_members.specs.Views.{member_view}
-pub use Rattle.source_rows.specs.ChangeViews.{row_change_view, text_row_view}
+pub use Rattle.source_rows.specs.ChangeViews.{row_change_view, row_part, text_row_view}
 pub use Rattle.source_rows.specs.Changes.{row_change_of, same_text, same_texts}
 pub use Rattle.source_rows.specs.Blanks.{first_spacing, gap_text, spacing_behind}
 pub use Rattle.source_rows.specs.declared.blanks.Spacing.{Spacing}

@@ -4,6 +4,7 @@ use Rattle.source_rows.specs.declared.compare.Row as code_row
 use Rattle.source_rows.specs.declared.compare.Change as code_change
 use Rattle.source_rows.specs.declared.kept.Skeleton as code_skeleton
 use Rattle.source_rows.specs.Changes.{TextRow, RowChange}
+use Rattle.source_rows.specs.Parts.{Part}
 use Rattle.source_rows.specs.Rows.{part_row}
 use Rattle.source_rows.specs.Skeletons.{skeleton}
 use Rattle.source_rows.specs.Views.{part_view}
@@ -15,6 +16,10 @@ skeleton_view s = skeleton s.has_docs s.holes.now s.text.now
 -- a row as plain data
 abbrev pub text_row_view : code_row.Row → TextRow
 text_row_view r = part_row r.has_docs r.text.now (part_view r.part.now) (map part_view r.behind.now)
+
+-- the part of a row as plain data
+abbrev pub row_part : code_row.Row → Part
+row_part r = part_view r.part.now
 
 -- a change as plain data
 abbrev pub row_change_view : code_change.Change → RowChange

@@ -10,8 +10,11 @@ use Rattle.source_rows.specs.declared.kept.Kept.{Kept}
 use Rattle.source_rows.specs.declared.kept.Told.{Told}
 use Rattle.source_rows.specs.declared.compare.Row as code_row
 use Rattle.source_rows.specs.declared.compare.Change as code_change
+use Rattle.source_rows.specs.declared.moved.Frame as code_frame
+use Rattle.source_rows.specs.declared.moved.Standing as code_standing
 use Rattle.source_rows.specs.Changes.{TextRow, RowChange}
 use Rattle.source_rows.specs.ChangeViews.{row_change_view, text_row_view}
+use Rattle.source_rows.specs.Moves.{Frame, Standing, StandingRow}
 use Rattle.source_rows.specs.Skeletons.{kept, without_returns}
 
 abbrev pub with_label : TextRow → List ℕ × TextRow
@@ -20,8 +23,17 @@ with_label r = (r.label, r)
 abbrev pub labelled_view : Keyed (Bor (List ℕ)) code_row.Row → List ℕ × TextRow
 labelled_view k = (k.key.now, text_row_view k.item)
 
-abbrev pub row_match : Match (Bor (Keyed (Bor (List ℕ)) code_row.Row)) → Match TextRow
+abbrev pub row_match : {K : Type 0} → Match (Bor (Keyed K code_row.Row)) → Match TextRow
 row_match m = match_map (λ k. text_row_view k.now.item) m
+
+abbrev pub frame_view : code_frame.Frame → Frame
+frame_view f = record { end = f.end; label = f.label.now; rank = f.rank }
+
+abbrev pub standing_view : code_standing.Standing → Standing
+standing_view s = record { label = s.label.now; around = s.around.now; rank = s.rank }
+
+abbrev pub standing_row_view : Keyed code_standing.Standing code_row.Row → StandingRow
+standing_row_view k = (standing_view k.key, text_row_view k.item)
 
 abbrev pub found_row_change : Option code_change.Change → List RowChange
 found_row_change None = []

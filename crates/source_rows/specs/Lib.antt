@@ -15,3 +15,4 @@ pub mod Changes
 pub mod Inner
 pub mod ChangeViews
 pub mod Outside
+pub mod Moves

@@ -1,5 +1,5 @@
 -- What lists tell of items beside their tree: the headers of impls, and members.
-use Rattle.std.specs.Prelude.{ℕ, Bool, not, ◌&&◌, List, [], Option, Some, None, filter_map}
+use Rattle.std.specs.Prelude.{ℕ, Bool, not, ◌&&◌, List, [], Option, Some, None, option_map, filter_map}
 use Rattle.hir_input.specs.declared.edition.EditionYear.{EditionYear}
 use Rattle.hir_input.specs.declared.ids.AstIdKind.{AstIdKind}
 use Rattle.hir_input.specs.declared.ids.AstIdKind.TheVariants as kind
@@ -7,10 +7,12 @@ use Rattle.hir_input.specs.Attr.{metas_from}
 use Rattle.hir_input.specs.Cfg.{AtomView}
 use Rattle.item_tree.specs.declared.visibility.RawVisibility.{RawVisibility}
 use Rattle.item_tree.specs.Visibility.{read_visibility}
+use Rattle.rust_mended.specs.Texts.{forward_by, place_back_by}
 use Rattle.rust_cursor.specs.Tokens.{tokens_of}
 use Rattle.rust_paths.specs.Names.{name}
 use Rattle.rust_paths.specs.declared.names.TextRange.{TextRange}
 use Rattle.rust_items.specs.declared.source_file.ItemPlace.{ItemPlace}
+use Rattle.rust_items.specs.LineEnds.{moved_range}
 use Rattle.rust_members.specs.declared.member.MemberKind.{MemberKind}
 use Rattle.rust_members.specs.Members.{MemberRead}
 use Rattle.source_rows.specs.Headers.{header}
@@ -19,9 +21,15 @@ use Rattle.source_rows.specs.Parts.{body_members}
 use Rattle.source_rows.specs.Enabled.{any_disables}
 use Rattle.source_rows.specs.Types.{type_name}
 
--- a text of an edition, and the cfgs that are set, where members are asked for
+-- Where closers were put in the text that is read of a file: their places in that text, and in the file's.
+pub record Closers : Type 0 where
+  pub puts : List ℕ
+  pub places : List ℕ
+
+-- a text of an edition, where closers were put in it if it is a mended one, and the cfgs that are set, where members are asked for
 pub record MemberReading : Type 0 where
   pub text : List ℕ
+  pub closers : Option Closers
   pub edition : EditionYear
   pub options : Option (List AtomView)
 
@@ -34,51 +42,72 @@ pub record Listed : Type 0 where
   pub range : TextRange
   pub is_active : Bool
 
+-- in the text that is read, an item that stands there in the file
+abbrev pub moved_item : (ℕ → ℕ) → ItemPlace → ItemPlace
+moved_item place p = record { id = p.id; range = moved_range place p.range; name = option_map (moved_range place) p.name; body = option_map (moved_range place) p.body }
+
+abbrev pub read_place : Option Closers → Option ItemPlace → Option ItemPlace
+read_place None p = p
+read_place (Some c) p = option_map (moved_item (forward_by c.places)) p
+
+-- in the file, a place of the text that is read
+abbrev pub told_place : Option Closers → ℕ → ℕ
+told_place None at = at
+told_place (Some c) at = place_back_by c.puts at
+
+abbrev pub told_range : Option Closers → TextRange → TextRange
+told_range None r = r
+told_range (Some c) r = moved_range (place_back_by c.puts) r
+
+abbrev pub told_item : Option Closers → ItemPlace → ItemPlace
+told_item None p = p
+told_item (Some c) p = moved_item (place_back_by c.puts) p
+
 -- the name that stands in a range of a text
 abbrev pub name_at : EditionYear → List ℕ → TextRange → Option (List ℕ)
 name_at edition text range = (name (tokens_of edition (text_at text range))).0
 
-abbrev pub member_told : List AtomView → Bool → MemberRead → ℕ → Option (List ℕ) → Option Listed
-member_told options is_active m at None = None
-member_told options is_active m at (Some name) = Some (record {
+abbrev pub member_told : Option Closers → List AtomView → Bool → MemberRead → ℕ → Option (List ℕ) → Option Listed
+member_told closers options is_active m at None = None
+member_told closers options is_active m at (Some name) = Some (record {
   kind = m.kind;
   name = name;
   visibility = read_visibility m.visibility;
-  at = at;
-  range = m.range;
+  at = told_place closers at;
+  range = told_range closers m.range;
   is_active = is_active && not (any_disables options (metas_from m.attrs));
 })
 
-abbrev pub told_by : EditionYear → List AtomView → List ℕ → Bool → MemberRead → Option TextRange → Option Listed
-told_by edition options text is_active m None = None
-told_by edition options text is_active m (Some range) = member_told options is_active m range.start (name_at edition text range)
+abbrev pub told_by : Option Closers → EditionYear → List AtomView → List ℕ → Bool → MemberRead → Option TextRange → Option Listed
+told_by closers edition options text is_active m None = None
+told_by closers edition options text is_active m (Some range) = member_told closers options is_active m range.start (name_at edition text range)
 
 -- a member without a name is not told
-abbrev pub listed : EditionYear → List AtomView → List ℕ → Bool → MemberRead → Option Listed
-listed edition options text is_active m = told_by edition options text is_active m m.name
+abbrev pub listed : Option Closers → EditionYear → List AtomView → List ℕ → Bool → MemberRead → Option Listed
+listed closers edition options text is_active m = told_by closers edition options text is_active m m.name
 
 -- the members of an item that stands there, which a cfg disables or not
-abbrev pub listed_members : EditionYear → List AtomView → List ℕ → ItemPlace → Bool → List Listed
-listed_members edition options text p is_active =
-    filter_map (listed edition options text is_active) (body_members edition p.id.kind text (has_members p.id.kind) p.body)
+abbrev pub listed_members : Option Closers → EditionYear → List AtomView → List ℕ → ItemPlace → Bool → List Listed
+listed_members closers edition options text p is_active =
+    filter_map (listed closers edition options text is_active) (body_members edition p.id.kind text (has_members p.id.kind) p.body)
 
 -- those of an item whose place is known, where they are asked for
-abbrev pub members_by : Option (List AtomView) → EditionYear → List ℕ → Option ItemPlace → Bool → List Listed
-members_by (Some options) edition text (Some p) is_active = listed_members edition options text p is_active
-members_by _ edition text _ is_active = []
+abbrev pub members_by : Option (List AtomView) → Option Closers → EditionYear → List ℕ → Option ItemPlace → Bool → List Listed
+members_by (Some options) closers edition text (Some p) is_active = listed_members closers edition options text p is_active
+members_by _ closers edition text _ is_active = []
 
--- the members of the item at this place
+-- the members of the item that stands there in the file
 abbrev pub members_of : MemberReading → Option ItemPlace → Bool → List Listed
-members_of x p is_active = members_by x.options x.edition x.text p is_active
+members_of x p is_active = members_by x.options x.closers x.edition x.text (read_place x.closers p) is_active
 
 -- what an impl is told by: the type, or the trait and the type
 abbrev pub impl_header : EditionYear → List ℕ → AstIdKind → Option ItemPlace → List ℕ
 impl_header edition text kind.Impl (Some p) = header edition text p.range p.body
 impl_header edition text _ _ = []
 
--- the header of an impl at this place
+-- the header of an impl that stands there in the file
 abbrev pub header_of : MemberReading → AstIdKind → Option ItemPlace → List ℕ
-header_of x k p = impl_header x.edition x.text k p
+header_of x k p = impl_header x.edition x.text k (read_place x.closers p)
 
 -- the name of the type that an impl is of
 abbrev pub impl_type : EditionYear → List ℕ → AstIdKind → Option ItemPlace → Option (List ℕ)
@@ -87,4 +116,4 @@ impl_type edition text _ _ = None
 
 -- the name of an impl's type
 abbrev pub type_name_of : MemberReading → AstIdKind → Option ItemPlace → Option (List ℕ)
-type_name_of x k p = impl_type x.edition x.text k p
+type_name_of x k p = impl_type x.edition x.text k (read_place x.closers p)

@@ -9,10 +9,10 @@ ghost use Rattle.source_rows.specs.Skeletons.{skeleton};
 
 use crate::items::Part;
 use crate::kept::{Hole, Skeleton};
-use crate::labelled::{Labelled, labelled};
+use crate::labelled::labelled;
 use crate::labels::text_at;
 use crate::tokens::own_holes;
-use item_changes::{ChangeKind, Match, matched};
+use item_changes::{ChangeKind, Keyed, Match, matched};
 use std::alloc::{AllocError, Global};
 
 /// A part of a text that is told by itself.
@@ -71,9 +71,9 @@ fn changed<'r>(kind: ChangeKind, row: Row<'r>) -> Change<'r>
 }
 
 /// What became of a row; none where both texts have the same tokens of it.
-fn change_of<'r>(
+fn change_of<'r, K>(
     alloc: Global,
-    found: &Match<&Labelled<'r>>,
+    found: &Match<&Keyed<K, Row<'r>>>,
 ) -> Result<Option<Change<'r>>, AllocError>
     ensures { IfOk result
         (λ change. found_row_change change ≡ spec.row_change_of (row_match found.now)) }
@@ -104,9 +104,10 @@ fn push_change<'r>(
     Ok(())
 }
 
-fn changes_of<'r>(
+/// What became of rows that are the same, or in one text alone.
+pub(crate) fn changes_of<'r, K>(
     alloc: Global,
-    found: &[Match<&Labelled<'r>>],
+    found: &[Match<&Keyed<K, Row<'r>>>],
 ) -> Result<Vec<Change<'r>>, AllocError>
     ensures { IfOk result (λ v. map row_change_view v.items
         ≡ flat_map spec.row_change_of (map row_match found.now)) }

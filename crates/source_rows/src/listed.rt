@@ -1,17 +1,19 @@
 //! Members as lists tell them.
-ghost use Rattle.std.specs.Prelude.{◌≡◌, ◌++◌, Some, IfOk, OnOk, map, option_to_list};
+ghost use Rattle.std.specs.Prelude.{◌≡◌, ◌++◌, Some, IfOk, OnOk, map, option_copied, option_map, option_to_list};
 ghost use Rattle.rust_members.specs.Views.{member_view};
 ghost use Rattle.source_rows.specs.Listed as spec;
-ghost use Rattle.source_rows.specs.ListedViews.{listed_view};
+ghost use Rattle.source_rows.specs.ListedViews.{closers_view, listed_view};
 
 use crate::enabled::any_disables;
 use crate::items::members_in;
 use crate::labels::text_at;
+use crate::mended::{told_place, told_range};
 use hir_input::{CfgOptions, EditionYear, Name};
 use item_tree::{RawVisibility, visibility_from_ast};
 use rust_cursor::Cursor;
 use rust_items::ItemPlace;
 use rust_members::{Member, MemberKind, TextRange};
+use rust_mended::Mended;
 use rust_paths::name;
 use std::alloc::{AllocError, Global};
 
@@ -34,6 +36,8 @@ pub struct ListedMember {
 #[derive(Clone, Copy)]
 pub(crate) struct Around<'a> {
     pub(crate) text: &'a str,
+    /// The mended text, if that is read.
+    pub(crate) mended: Option<&'a Mended>,
     pub(crate) edition: EditionYear,
     pub(crate) options: &'a CfgOptions,
     /// Whether no cfg disables the item, nor what it stands in.
@@ -61,7 +65,8 @@ fn told(
     name: Name,
     at: usize,
 ) -> Result<ListedMember, AllocError>
-    ensures { let told = spec.member_told around.entry.options.now around.entry.is_active
+    ensures { let closers = option_map closers_view (option_copied around.entry.mended) in
+        let told = spec.member_told closers around.entry.options.now around.entry.is_active
         (member_view member.now) at (Some name) in
         IfOk result (λ m. Some (listed_view m) ≡ told) }
 {
@@ -69,8 +74,8 @@ fn told(
         kind: member.kind,
         name,
         visibility: visibility_from_ast(alloc, member.visibility.as_ref())?,
-        at,
-        range: member.range,
+        at: told_place(around.mended, at),
+        range: told_range(around.mended, member.range),
         is_active: around.is_active && !any_disables(&member.attrs, around.options),
     })
 }
@@ -82,7 +87,8 @@ fn push_listed(
     out: &mut Vec<ListedMember>,
 ) -> Result<(), AllocError>
     ensures { let a = around.entry in
-        let listed = spec.listed a.edition a.options.now a.text.now a.is_active (member_view member.now) in
+        let closers = option_map closers_view (option_copied a.mended) in
+        let listed = spec.listed closers a.edition a.options.now a.text.now a.is_active (member_view member.now) in
         OnOk result (map listed_view out.new.items ≡ map listed_view out.old.items ++ option_to_list listed) }
 {
     let Some(range) = member.name else {
@@ -103,7 +109,8 @@ pub(crate) fn listed_members(
     item: &ItemPlace,
 ) -> Result<Vec<ListedMember>, AllocError>
     ensures { let a = around.entry in
-        let members = spec.listed_members a.edition a.options.now a.text.now item.now a.is_active in
+        let closers = option_map closers_view (option_copied a.mended) in
+        let members = spec.listed_members closers a.edition a.options.now a.text.now item.now a.is_active in
         IfOk result (λ v. map listed_view v.items ≡ members) }
 {
     let members = members_in(alloc, item.id.kind, around.text, item.body, around.edition)?;

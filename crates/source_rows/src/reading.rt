@@ -6,17 +6,44 @@ ghost use Rattle.source_rows.specs.ListedViews.{listed_view, reading_view};
 use crate::headers::header;
 use crate::labels::text_at;
 use crate::listed::{Around, ListedMember, listed_members};
+use crate::mended::read_item;
 use crate::types::type_name;
 use hir_input::{AstIdKind, CfgOptions, EditionYear, Name};
 use rust_items::ItemPlace;
+use rust_mended::Mended;
 use std::alloc::{AllocError, Global};
 
-/// A text of an edition, and the cfgs that are set, where members are asked for.
+/// A text of an edition, the mended text where that is read in its place, and the cfgs that are set, where members are asked for.
+///
+/// Places are those of the text as it is, whichever is read.
 #[derive(Clone, Copy)]
 pub struct Reading<'a> {
     pub text: &'a str,
+    pub mended: Option<&'a Mended>,
     pub edition: EditionYear,
     pub options: Option<&'a CfgOptions>,
+}
+
+impl<'a> Reading<'a> {
+    /// The text that is read.
+    fn read(self) -> &'a str
+        ensures { result.now ≡ (reading_view self.entry).text }
+    {
+        match self.mended {
+            Some(mended) => mended.text.as_str(),
+            None => self.text,
+        }
+    }
+
+    /// In the text that is read, an item that stands there in the text as it is.
+    fn place(self, place: Option<ItemPlace>) -> Option<ItemPlace>
+        ensures { result ≡ spec.read_place (reading_view self.entry).closers place }
+    {
+        match (self.mended, place) {
+            (Some(mended), Some(place)) => Some(read_item(mended, place)),
+            (_, place) => place,
+        }
+    }
 }
 
 impl Reading<'_> {
@@ -35,9 +62,9 @@ impl Reading<'_> {
         ensures { IfOk result (λ text. string_bytes text
             ≡ spec.header_of (reading_view self.entry) kind place) }
     {
-        match (kind, place) {
+        match (kind, self.place(place)) {
             (AstIdKind::Impl, Some(place)) => {
-                header(alloc, self.text, self.edition, place.range, place.body)
+                header(alloc, self.read(), self.edition, place.range, place.body)
             }
             _ => Ok(String::new(alloc)),
         }
@@ -59,9 +86,9 @@ impl Reading<'_> {
         ensures { IfOk result (λ name. name
             ≡ spec.type_name_of (reading_view self.entry) kind place) }
     {
-        match (kind, place) {
+        match (kind, self.place(place)) {
             (AstIdKind::Impl, Some(place)) => {
-                type_name(alloc, text_at(self.text, place.range), self.edition)
+                type_name(alloc, text_at(self.read(), place.range), self.edition)
             }
             _ => Ok(None),
         }
@@ -86,10 +113,11 @@ impl Reading<'_> {
         ensures { let members = spec.members_of (reading_view self.entry) place is_active in
             IfOk result (λ v. map listed_view v.items ≡ members) }
     {
-        match (self.options, place) {
+        match (self.options, self.place(place)) {
             (Some(options), Some(place)) => {
                 let around = Around {
-                    text: self.text,
+                    text: self.read(),
+                    mended: self.mended,
                     edition: self.edition,
                     options,
                     is_active,

@@ -1,7 +1,7 @@
 //! The parts of a text as rows, each with its own tokens.
 
 ghost use Rattle.std.specs.Prelude.{◌≡◌, ◌++◌, IfOk, OnOk, map, flat_map};
-ghost use Rattle.source_rows.specs.ChangeViews.{text_row_view};
+ghost use Rattle.source_rows.specs.ChangeViews.{row_part, text_row_view};
 ghost use Rattle.source_rows.specs.Rows as spec;
 ghost use Rattle.source_rows.specs.Views.{part_view};
 
@@ -128,8 +128,9 @@ pub fn rows<'a>(
     parts: &'a [Part],
     has_docs: bool,
 ) -> Result<Vec<Row<'a>>, AllocError>
-    ensures { IfOk result (λ v. map text_row_view v.items
+    ensures rows { IfOk result (λ v. map text_row_view v.items
         ≡ spec.part_rows has_docs text.now (map part_view parts.now)) }
+    ensures parts { IfOk result (λ v. map row_part v.items ≡ map part_view parts.now) }
 {
     let mut rows = Vec::with_capacity(alloc, parts.len())?;
     let mut left = parts;

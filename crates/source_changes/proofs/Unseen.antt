@@ -1,0 +1,158 @@
+-- Whatever is typed in a hole, others see the same.
+use Rattle.std.proofs.Common.{◌≡◌, ◌≤◌, ◌<◌, ◌+◌, ◌++◌, ℕ, zero, suc, Bool, true, false, List, [], ◌∷◌, length, refl, sym, ap, ◌∙◌, subst, arith, map, flat_map, append-nil, All, slice_index}
+use Rattle.std.specs.List.{Contains, list_any}
+use Rattle.std.proofs.lemmas.List.Elements.{All-cons, All-map, All-nil}
+use Rattle.hir_input.specs.declared.edition.EditionYear.{EditionYear}
+use Rattle.rust_lexer.specs.Alone.{EndsAlone, StandsAlone, moved, opening, tokens_in_front}
+use Rattle.rust_lexer.specs.Bytes.{is_continuation, is_wide_start}
+use Rattle.rust_lexer.specs.Cut.{first_cut}
+use Rattle.rust_lexer.specs.Piece.{Piece}
+use Rattle.rust_lexer.specs.Symbol.{symbol_of}
+use Rattle.rust_lexer.specs.Tokens.{piece, tokens, tokens_from, whole}
+use Rattle.rust_lexer.proofs.Apart.{apart, front_same}
+use Rattle.rust_lexer.proofs.Laws.{tokens_not_empty, tokens_placed}
+use Rattle.rust_lexer.proofs.Whole.{open_at}
+use Rattle.rust_items.specs.declared.source_file.ItemPlace.{ItemPlace}
+use Rattle.rust_items.specs.SourceFiles.{FileView, IsFileView, places}
+use Rattle.rust_items.proofs.FilePlaces.{view_placed}
+use Rattle.rust_edits.specs.Typing.Laws.{with_body, OpensAt}
+use Rattle.rust_edits.specs.Typing.Moved.{close_at, moved_place, shifted_by}
+use Rattle.rust_edits.proofs.Ranges.Behind.{plain_back, plain_on, plain_tokens}
+use Rattle.rust_edits.proofs.Typing.Moved.{places_move}
+use Rattle.rust_edits.proofs.Typing.Typing.{same_ids}
+use Rattle.source_rows.specs.Inner.{ComeBehind}
+use Rattle.source_rows.specs.Parts.{Part}
+use Rattle.source_rows.specs.Rows.{bodies, hole}
+use Rattle.source_rows.specs.Skeletons.{kept, skeleton}
+use Rattle.source_rows.proofs.Beside.{AreInside, holes_about, typed_alike}
+use Rattle.source_rows.proofs.Holes.{after_all}
+use Rattle.source_rows.proofs.ItemHoles.{holes_from, place_holes}
+use Rattle.source_rows.proofs.Rising.{AreRising, all_rise}
+use Rattle.source_rows.specs.declared.kept.Hole.{Hole}
+use Rattle.source_rows.proofs.Parted.{Parted, all_parted, may_hold}
+use Rattle.source_changes.specs.Changes.{AreParts, seen_texts}
+use Rattle.source_changes.specs.Typing.{AreBraces, HolesAreUnseen, IsTypedInHole, MovedHolesAreUnseen, TypingIsSame, braces, has_hole, moved_hole}
+use Rattle.source_changes.proofs.Moving.{HolesBeside, holes_move}
+use Rattle.source_changes.proofs.Typed.{function_is, holes_typed}
+
+-- ---- tokens
+
+-- those that begin in a text begin from its place on, and before its end
+begin_in : (P : ℕ → Type 0) (left at : ℕ) (x w : List ℕ) → ((k : ℕ) → at ≤ k → k < at + length x → P k) → All (λ t. P t.at) (tokens_in_front left at x w)
+begin_in P left at [] w h = All-nil (λ t. P t.at)
+begin_in P (suc left) at (b ∷ x) w h = begin_in P left (suc at) x w (λ k low high. h k (omega (arith, low)) (omega (arith, high)))
+begin_in P zero at (b ∷ x) w h =
+    let c = first_cut b (x ++ w) in
+    All-cons (λ t. P t.at) (piece c at b (x ++ w)) _ (h at (omega arith) (omega arith)) (begin_in P (whole c (x ++ w)) (suc at) x w (λ k low high. h k (omega (arith, low)) (omega (arith, high))))
+
+-- from the `}` on
+abbrev rest : List ℕ → List Piece
+rest s = tokens_from 0 0 (125 ∷ s)
+
+-- between the braces
+abbrev inside : List ℕ → List ℕ → List Piece
+inside q m = map (moved (suc (length q))) (tokens_in_front 0 0 m (125 ∷ []))
+
+-- the tokens of a text with braces in it
+abbrev all_tokens : List ℕ → List ℕ → List ℕ → List Piece
+all_tokens q m s = tokens_in_front 0 0 q (123 ∷ []) ++ open_at (length q) ∷ (inside q m ++ map (moved (close_at q m)) (rest s))
+
+are_inside : (q m : List ℕ) → AreInside (length q) (close_at q m) (inside q m)
+are_inside q m =
+    All-map (λ (t : Piece). (suc (length q) ≤ t.at) × (t.at < close_at q m)) (moved (suc (length q))) (tokens_in_front 0 0 m (125 ∷ []))
+    (begin_in (λ k. (suc (length q) ≤ k + suc (length q)) × (k + suc (length q) < close_at q m)) 0 0 m (125 ∷ []) (λ k low high. (omega arith, omega (arith, high))))
+
+close_symbol : (s : List ℕ) → symbol_of (piece (first_cut 125 s) 0 125 s) ≡ 125
+unfolding first_cut is_wide_start
+close_symbol s = refl
+
+uncut : (m s : List ℕ) → StandsAlone m → is_continuation (slice_index (m ++ 125 ∷ s) 0) ≡ false
+uncut [] s h = refl
+uncut (b ∷ m) s h = h.begins
+
+tokens_are : (q m m' s : List ℕ) → OpensAt q (m ++ 125 ∷ s) → StandsAlone m → StandsAlone m' → tokens (with_body q m' s) ≡ all_tokens q m' s
+tokens_are q m m' s o h h' =
+    let ends : EndsAlone q opening = record { full = o.full; ends = (front_same opening 0 0 q (m ++ 125 ∷ s) [] o.full o.one).0 } in
+    let short = plain_back q opening (m ++ 125 ∷ s) ends (uncut m s h) (record { mark = o.plain; shebang = o.bare; fence = o.unfenced }) in
+    plain_tokens (with_body q m' s) (plain_on q opening (m' ++ 125 ∷ s) ends (uncut m' s h') short) ∙ apart q m m' s o.full o.one h'
+
+come_in_order : (text : List ℕ) → ComeBehind 0 (tokens text)
+come_in_order text = after_all 0 (tokens text) (tokens_placed text) (tokens_not_empty text)
+
+-- the same of both texts is kept
+same_seen : (docs : Bool) (q m m' s : List ℕ) (olds news : List Hole) → AreBraces q m m' s → HolesBeside (length q) (close_at q m) (close_at q m') olds news → skeleton docs olds (with_body q m s) ≡ skeleton docs news (with_body q m' s)
+same_seen docs q m m' s olds news t h =
+    let old = with_body q m s in
+    let new = with_body q m' s in
+    let ours = tokens_are q m m s t.opens t.alone t.alone in
+    let theirs = tokens_are q m m' s t.opens t.alone t.alone_new in
+    ap (λ hs. skeleton docs hs old) h.old ∙ ap (kept docs (holes_about (length q) (close_at q m) h.before h.behind) 0) ours
+    ∙ typed_alike docs (length q) (close_at q m) (close_at q m') h.before h.behind h.end (omega arith) (omega arith) 0 0 (tokens_in_front 0 0 q (123 ∷ [])) (open_at (length q)) (piece (first_cut 125 s) 0 125 s) (inside q m) (inside q m') _
+    (begin_in (λ k. k < length q) 0 0 q (123 ∷ []) (λ k low high. omega (arith, high))) refl (close_symbol s) refl (are_inside q m) (are_inside q m')
+    (subst (ComeBehind 0) ours (come_in_order old)) (subst (ComeBehind 0) theirs (come_in_order new))
+    ∙ sym (ap (kept docs (holes_about (length q) (close_at q m') h.before h.behind) 0) theirs) ∙ sym (ap (λ hs. skeleton docs hs new) h.new)
+
+-- ---- parts
+
+-- the places of what is read of a text are the same each time
+same_places : (edition : EditionYear) (text : List ℕ) (read again : FileView) → IsFileView edition text read → IsFileView edition text again → read.places ≡ again.places
+same_places edition text read again f g = f.places ∙ ap (λ ids. places ids _) (sym (same_ids edition _ _ _ _ read again f g refl)) ∙ sym g.places
+
+module _ (edition : EditionYear) (q m m' s : List ℕ) (olds news : List Part) (t : IsTypedInHole edition q m m' s) (before : AreParts edition (with_body q m s) olds) (after : AreParts edition (with_body q m' s) news) where
+  abbrev old : List ℕ
+  old = with_body q m s
+
+  abbrev new : List ℕ
+  new = with_body q m' s
+
+  abbrev mv : ItemPlace → ItemPlace
+  mv = moved_place (shifted_by q m m')
+
+  moved_all : after.0.places ≡ map mv before.0.places
+  moved_all = (places_move edition q m m' s before.0 after.0 t.typed before.1 after.1).places
+
+  has : list_any (has_hole old (braces q m)) before.0.places ≡ true
+  has = ap (list_any (has_hole old (braces q m))) (sym (same_places edition old t.hole.read before.0 t.hole.is_read before.1)) ∙ t.hole.has_one
+
+  has_new : list_any (has_hole new (braces q m')) (map mv before.0.places) ≡ true
+  has_new =
+      ap (list_any (has_hole new (braces q m'))) (sym moved_all ∙ sym (same_places edition new t.hole_new.read after.0 t.hole_new.is_read after.1)) ∙ t.hole_new.has_one
+
+  no_holder : (p : ItemPlace) → has_hole old (braces q m) p ≡ true → may_hold p.id.kind ≡ false
+  no_holder p e = ap may_hold (function_is old (braces q m) p e).is_fn
+
+  -- the items around the function
+  parted : Parted (braces q m) (has_hole old (braces q m)) no_holder (λ p e. (function_is old (braces q m) p e).is_body) 0 (length old) before.0.places []
+  parted = all_parted (braces q m) (has_hole old (braces q m)) no_holder (λ p e. (function_is old (braces q m) p e).is_body) (view_placed edition old before.0 before.1) has
+
+  pub holes : Contains (bodies olds) (hole (suc (length q)) (close_at q m)) × (bodies news ≡ map (moved_hole (shifted_by q m m')) (bodies olds))
+  holes = by parted
+    where
+      by : Parted (braces q m) (has_hole old (braces q m)) no_holder (λ p e. (function_is old (braces q m) p e).is_body) 0 (length old) before.0.places []
+          → Contains (bodies olds) (hole (suc (length q)) (close_at q m)) × (bodies news ≡ map (moved_hole (shifted_by q m m')) (bodies olds))
+      by p =
+          let list = p.before ++ p.one ∷ p.behind in
+          let is : before.0.places ≡ list = p.is ∙ ap (λ l. p.before ++ p.one ∷ l) (append-nil p.behind) in
+          let both = holes_typed edition q m m' s (length old) p.before p.behind p.one p.are_before p.are_behind p.has_it (ap (λ l. list_any (has_hole new (braces q m')) (map mv l)) (sym is) ∙ has_new) in
+          let ours = ap bodies before.2 ∙ holes_from edition old [] before.0.places ∙ ap (flat_map (place_holes edition old)) is in
+          let theirs = ap bodies after.2 ∙ holes_from edition new [] after.0.places ∙ ap (flat_map (place_holes edition new)) (moved_all ∙ ap (map mv) is) in
+          (subst (λ hs. Contains hs (hole (suc (length q)) (close_at q m))) (sym ours) both.0, theirs ∙ both.1 ∙ sym (ap (map (moved_hole (shifted_by q m m'))) ours))
+
+-- ---- the laws
+
+pub moved_holes_are_unseen : MovedHolesAreUnseen
+moved_holes_are_unseen edition docs q m m' s olds news t a one moved =
+    let old = with_body q m s in
+    let are = ap bodies a.2 ∙ holes_from edition old [] a.0.places in
+    let rise : AreRising 0 (length old) (bodies olds) = subst (AreRising 0 (length old)) (sym are) (all_rise edition old (view_placed edition old a.0 a.1)) in
+    let beside = (holes_move (length q) (close_at q m) (close_at q m') (omega arith) 0 (length old) (bodies olds) rise one).0 in
+    same_seen docs q m m' s (bodies olds) (bodies news) t (subst (HolesBeside (length q) (close_at q m) (close_at q m') (bodies olds)) (sym moved) beside)
+
+pub holes_are_unseen : HolesAreUnseen
+holes_are_unseen edition docs q m m' s olds news t a b = let h = holes edition q m m' s olds news t a b in moved_holes_are_unseen edition docs q m m' s olds news t.stand a h.0 h.1
+
+pub typing_is_same : TypingIsSame
+typing_is_same edition docs q m m' s _ _ c t e f k =
+    let before : AreParts edition (with_body q m s) k.0 = subst (λ x. AreParts edition x k.0) e k.2 in
+    let after : AreParts edition (with_body q m' s) k.1 = subst (λ x. AreParts edition x k.1) f k.3 in
+    k.4.1 (ap (λ x. seen_texts docs x k.0) e ∙ holes_are_unseen edition docs q m m' s k.0 k.1 t before after ∙ sym (ap (λ x. seen_texts docs x k.1) f))
