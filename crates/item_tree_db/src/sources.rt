@@ -334,9 +334,10 @@ impl Sources {
 
     /// The change numbers above `n` and above `start`, of known crates at all places, in the order of places and
     /// then of crates: what an index that was made at number `n` has to read again. A tree that changed and changed
-    /// back is given too. Takes memory for the places, and looks at these alone; where memory runs out, or did at an edit
-    /// after `n`, it passes over the table.
-    /// A tree that is not given at 0 is empty.
+    /// back is given too. A tree that is not given at 0 is empty.
+    ///
+    /// It takes memory for the places and looks at these alone, which no clause says; where memory runs out, or did at an
+    /// edit after `n`, it passes over the table.
     pub fn changed_since(&self, n: u64) -> ChangedSince<'_>
         ensures since { IsSince self.now n result }
         ensures grounded { IsGrounded self.now }
@@ -344,7 +345,8 @@ impl Sources {
         self.places.late(n.max(self.start))
     }
 
-    /// Those of `changed_since` that are of some places. Takes no memory, and looks at these places alone.
+    /// Those of `changed_since` that are of some places. It takes no memory and looks at these places alone, which no
+    /// clause says.
     pub fn changed_among<'a>(&'a self, n: u64, places: &'a BTreeSet<Place>) -> ChangedSince<'a>
         ensures among { IsSinceAmong self.now n places.now.keys result }
         ensures grounded { IsGrounded self.now }

@@ -1,4 +1,5 @@
 pub mod Typed
+pub mod ListedTrees
 pub mod Refused
 pub mod BareTrees
 pub mod Common

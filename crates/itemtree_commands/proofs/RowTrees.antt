@@ -153,11 +153,12 @@ rows_kept krate skipped edition text file t b tree places use_trees problems = r
   };
   rows = ap rows (tree ∙ ap (λ (f : FileView). kept_in krate false skipped f.syntax) b.clipped) ∙ same_rows krate skipped b.read.syntax _ _ b.is_read.syntax;
   places = refl;
+  problems = refl;
 }
 
 -- a text's tree has its own rows
 pub own_rows : (krate : CrateData) (skipped : List (List ℕ)) (edition : EditionYear) (text : List ℕ) (t : SourceTree) → IsTreeOf krate skipped edition text t → HasRowsOf krate skipped edition text t
-own_rows krate skipped edition text t h = record { whole = t; is_tree = h; rows = refl; places = refl }
+own_rows krate skipped edition text t h = record { whole = t; is_tree = h; rows = refl; places = refl; problems = refl }
 
 -- a list of the rows and the places is that of the text's tree
 pub same_list : {A : Type 0} {krate : CrateData} {skipped : List (List ℕ)} {edition : EditionYear} {text : List ℕ} {t : SourceTree} (h : HasRowsOf krate skipped edition text t) (list : List ItemPlace → List RowView → A)

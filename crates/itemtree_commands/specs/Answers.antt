@@ -1,14 +1,14 @@
 -- What the commands answer, from the text of a file on.
-use Rattle.std.specs.Prelude.{◌≡◌, ◌↔◌, ℕ, Bool, IsTrue, if◌then◌else◌, Option, Some, None, List, length, string_bytes}
+use Rattle.std.specs.Prelude.{◌≡◌, ◌↔◌, ◌⊎◌, ℕ, Bool, IsTrue, if◌then◌else◌, Option, Some, None, List, length, string_bytes}
 use Rattle.hir_input.specs.Cfg.{AtomView}
 use Rattle.item_tree.specs.Page.{page}
 use Rattle.tree_walk.specs.Rows.{rows}
 use Rattle.item_changes.specs.Changes.{changes}
-use Rattle.source_rows.specs.Listed.{MemberReading}
+use Rattle.source_rows.specs.Listed.{Closers, MemberReading}
 use Rattle.source_listing.specs.Changed.{Side, change_lines}
 use Rattle.source_listing.specs.Imports.{import_lines}
 use Rattle.source_listing.specs.Lines.{Choice, Source, problem_lines}
-use Rattle.source_listing.specs.Outlines.{Look, outline_text, reading}
+use Rattle.source_listing.specs.Outlines.{Look, outline_text}
 use Rattle.source_listing.specs.Objects.{json_line}
 use Rattle.source_listing.specs.Pages.{lines_without_ids}
 use Rattle.source_listing.specs.Repeated.{repeated_lines}
@@ -17,9 +17,10 @@ use Rattle.source_listing.specs.Search.{Query, found_lines}
 use Rattle.source_listing.specs.Tags.{tags}
 use Rattle.source_problems.specs.Texts.{source_problems}
 use Rattle.rust_items.specs.SourceFiles.{FileView, IsFileView}
+use Rattle.rust_mended.specs.Texts.{mended_text}
 use Rattle.itemtree_commands.specs.declared.trees.SourceTree.{SourceTree}
 use Rattle.itemtree_commands.specs.declared.trees.SourceError.{SourceError}
-use Rattle.itemtree_commands.specs.Trees.{IsTreeRefused, IsTreeOf}
+use Rattle.itemtree_commands.specs.Trees.{IsListedTree, IsTreeRefused, IsTreeOf, listed_text}
 use Rattle.itemtree_commands.specs.declared.Options.{Options}
 use Rattle.itemtree_commands.specs.declared.Checked.{Checked}
 use Rattle.itemtree_commands.specs.declared.Compared.{Compared}
@@ -42,20 +43,25 @@ look_of o depth is_colored = record { choice = choice o depth; is_colored = is_c
 abbrev pub if_members : Options → Bool → Option (List AtomView)
 if_members o has_members = if has_members then Some o.krate.cfg else None
 
-abbrev pub reading_in : Options → Bool → Source → MemberReading
-reading_in o has_members s = reading s o.edition.year (if_members o has_members)
+-- what headers and members are read of: the text that was read for the list
+abbrev pub reading_in : Options → Bool → Source → Option Closers → MemberReading
+reading_in o has_members s c = record { text = listed_text s.text c; closers = c; edition = o.edition.year; options = if_members o has_members }
+
+-- the tree that lists tell of a text under the options
+abbrev pub HasListed : Options → List ℕ → Option Closers → SourceTree → Type 0
+HasListed o = IsListedTree o.krate o.skipped.items o.edition.year
 
 -- the lines of the listed items, with or without those of their listed members, and with or without colours
 abbrev pub IsOutline : Options → Option ℕ → Bool → Bool → Source → List ℕ → Type 0
 IsOutline o depth has_members is_colored s out =
-    (t : SourceTree) × HasTree o s.text t
-    × (out ≡ outline_text s (reading_in o has_members s) o.edition.reserved.items t.places.items (look_of o depth is_colored) (rows t.tree))
+    (c : Option Closers) × (t : SourceTree) × HasListed o s.text c t
+    × (out ≡ outline_text s (reading_in o has_members s c) o.edition.reserved.items t.places.items (look_of o depth is_colored) (rows t.tree))
 
 -- their objects, on one line
 abbrev pub IsJson : Options → Option ℕ → Bool → Source → List ℕ → Type 0
 IsJson o depth has_members s out =
-    (t : SourceTree) × HasTree o s.text t
-    × (out ≡ json_line s (reading_in o has_members s) o.edition.reserved.items t.places.items (choice o depth) t.tree)
+    (c : Option Closers) × (t : SourceTree) × HasListed o s.text c t
+    × (out ≡ json_line s (reading_in o has_members s c) o.edition.reserved.items t.places.items (choice o depth) t.tree)
 
 -- the places of the items and of the use trees
 abbrev pub all_places : SourceTree → FilePlaces
@@ -63,23 +69,23 @@ all_places t = placed t.places.items t.use_trees.items
 
 -- the lines of the imports
 abbrev pub AreImports : Options → Source → List ℕ → Type 0
-AreImports o s out = (t : SourceTree) × HasTree o s.text t × (out ≡ import_lines s o.edition.reserved.items (all_places t) t.tree.forest)
+AreImports o s out = (c : Option Closers) × (t : SourceTree) × HasListed o s.text c t × (out ≡ import_lines s o.edition.reserved.items (all_places t) t.tree.forest)
 
 -- the lines of those that repeat an earlier one
 abbrev pub AreRepeated : Options → Source → List ℕ → Type 0
-AreRepeated o s out = (t : SourceTree) × HasTree o s.text t × (out ≡ repeated_lines s o.edition.reserved.items (all_places t) t.tree.forest)
+AreRepeated o s out = (c : Option Closers) × (t : SourceTree) × HasListed o s.text c t × (out ≡ repeated_lines s o.edition.reserved.items (all_places t) t.tree.forest)
 
 -- the lines of the items that are looked for, and of their members
 abbrev pub AreFound : Options → Bool → Query → Source → List ℕ → Type 0
 AreFound o has_members q s out =
-    (t : SourceTree) × HasTree o s.text t
-    × (out ≡ found_lines s (reading_in o has_members s) o.edition.reserved.items t.places.items q (rows t.tree))
+    (c : Option Closers) × (t : SourceTree) × HasListed o s.text c t
+    × (out ≡ found_lines s (reading_in o has_members s c) o.edition.reserved.items t.places.items q (rows t.tree))
 
 -- the tags
 abbrev pub AreTags : Options → Bool → Source → List ℕ → Type 0
 AreTags o has_members s out =
-    (t : SourceTree) × HasTree o s.text t
-    × (out ≡ tags s.path (reading_in o has_members s) t.places.items (choice o None) (rows t.tree))
+    (c : Option Closers) × (t : SourceTree) × HasListed o s.text c t
+    × (out ≡ tags s (reading_in o has_members s c) t.places.items (choice o None) (rows t.tree))
 
 -- the debug page, with or without the lines of ids
 abbrev pub if_ids : Bool → List ℕ → List ℕ
@@ -98,6 +104,10 @@ IsCheck o s c =
 -- the command has no answer: the text has no tree, or memory runs out
 abbrev pub HasNoTree : Options → List ℕ → SourceError → Type 0
 HasNoTree o = IsTreeRefused o.krate o.skipped.items o.edition.year
+
+-- a list has no answer: the text has no tree, or its mended text has none, or memory runs out
+abbrev pub HasNoList : Options → List ℕ → SourceError → Type 0
+HasNoList o text e = HasNoTree o text e ⊎ HasNoTree o (mended_text text) e
 
 -- a file, and where its items stand
 abbrev pub side : Source → SourceTree → Side

@@ -1,14 +1,18 @@
 -- What a Rust text's tree is.
-use Rattle.std.specs.Prelude.{◌≡◌, ◌≢◌, ◌<◌, ◌≤◌, ◌^◌, ◌⊎◌, ℕ, Bool, true, false, List, length, AllPairs, codes}
+use Rattle.std.specs.Prelude.{◌≡◌, ◌≢◌, ◌<◌, ◌≤◌, ◌^◌, ◌⊎◌, ℕ, Bool, true, false, Option, Some, None, List, [], ◌∷◌, length, map, AllPairs, codes}
 use Rattle.hir_input.specs.declared.edition.EditionYear.{EditionYear}
 use Rattle.hir_input.specs.Name.{is_among}
 use Rattle.item_tree.specs.declared.crate_data.CrateData.{CrateData}
 use Rattle.item_tree.specs.declared.fault.LowerError.TheVariants.{OutOfMemory}
 use Rattle.item_tree.specs.Lowered.{IsTooLargeIn, kept_in}
+use Rattle.rust_mended.specs.declared.edit.Edit.{Edit}
+use Rattle.rust_mended.specs.Texts.{edits, mended_text, put_places, puts}
 use Rattle.rust_metas.specs.declared.wanted.WantedMetas.{WantedMetas}
 use Rattle.rust_metas.specs.declared.wanted.WantedMetas.TheVariants as wanted
 use Rattle.rust_leaves.specs.declared.wanted.Wanted.{Wanted}
+use Rattle.rust_items.specs.declared.log.Problem.{Problem}
 use Rattle.rust_items.specs.SourceFiles.{FileView, IsFileView}
+use Rattle.source_rows.specs.Listed.{Closers, told_place, told_item}
 use Rattle.itemtree_commands.specs.declared.trees.SourceTree.{SourceTree}
 use Rattle.itemtree_commands.specs.declared.trees.SourceError.{SourceError}
 use Rattle.itemtree_commands.specs.declared.trees.SourceError.TheVariants.{TooLong, Lower}
@@ -21,6 +25,36 @@ pub record IsTreeOf (krate : CrateData) (skipped : List (List ℕ)) (edition : E
   pub places : t.places.items ≡ file.places
   pub use_trees : t.use_trees.items ≡ file.use_trees
   pub problems : t.problems.items ≡ file.problems
+
+-- where closers are put in the mended text of a text, if it is another
+abbrev pub closers_by : List Edit → List ℕ → Option Closers
+closers_by [] at = None
+closers_by (e ∷ es) at = Some (record { puts = at; places = put_places (e ∷ es) })
+
+abbrev pub closers_of : List ℕ → Option Closers
+closers_of text = closers_by (edits text) (puts text)
+
+-- the same of a text of which the reader tells these problems; where it tells none, the text is not mended
+abbrev pub listed_closers : List ℕ → List Problem → Option Closers
+listed_closers text [] = None
+listed_closers text (p ∷ ps) = closers_of text
+
+-- the text that is read for lists, by where closers were put in it
+abbrev pub listed_text : List ℕ → Option Closers → List ℕ
+listed_text text None = text
+listed_text text (Some c) = mended_text text
+
+-- The tree that lists tell of a text: where its reader tells problems, that of its mended text. Places are those of the text itself.
+pub record IsListedTree (krate : CrateData) (skipped : List (List ℕ)) (edition : EditionYear) (text : List ℕ) (closers : Option Closers) (t : SourceTree) : Type 0 where
+  pub own : SourceTree
+  pub is_own : IsTreeOf krate skipped edition text own
+  pub is_mended : closers ≡ listed_closers text own.problems.items
+  pub read : SourceTree
+  pub is_read : IsTreeOf krate skipped edition (listed_text text closers) read
+  pub tree : t.tree ≡ read.tree
+  pub places : t.places.items ≡ map (told_item closers) read.places.items
+  pub use_trees : t.use_trees.items ≡ map (told_place closers) read.use_trees.items
+  pub problems : t.problems.items ≡ own.problems.items
 
 -- no two items have one id
 abbrev pub HasOwnIds : SourceTree → Type 0

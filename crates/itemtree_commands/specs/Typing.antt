@@ -1,14 +1,8 @@
--- Texts that differ in what is typed inside items.
+-- Texts that differ in what is typed inside a body.
 use Rattle.std.specs.Prelude.{◌≡◌, ℕ, Bool, List, IsTrue}
 use Rattle.hir_input.specs.declared.edition.EditionYear.{EditionYear}
 use Rattle.rust_items.specs.LineEnds.{with_feeds}
 use Rattle.rust_edits.specs.Typing.Laws.{with_body, IsTyped}
-use Rattle.rust_written.specs.Written.{Items, outline}
-use Rattle.rust_written.specs.Laws.{WritesItems}
-
--- the answer is yes, where the texts write items that have the same outline
-abbrev pub IsSameWhereTyped : List ℕ → List ℕ → Bool → Type 0
-IsSameWhereTyped old new same = (before after : Items) → WritesItems before old → WritesItems after new → outline before ≡ outline after → IsTrue same
 
 -- the answer is yes, where what stands in a body was typed anew
 abbrev pub IsSameInBody : EditionYear → List ℕ → List ℕ → Bool → Type 0

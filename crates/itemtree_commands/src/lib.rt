@@ -2,20 +2,22 @@
 #![tactic(auto)]
 
 mod laws;
+mod listed;
 mod trees;
 
 ghost use Rattle.std.specs.Prelude.{◌≡◌, ◌≤◌, ◌^◌, length, map, IfOk, IfErr, OnOk, option_copied, string_bytes};
 ghost use Rattle.itemtree_commands.specs.Answers as spec;
-ghost use Rattle.itemtree_commands.specs.Inner.{HasRowsOf};
-ghost use Rattle.itemtree_commands.specs.Typing.{IsSameInBody, IsSameWhereTyped};
-ghost use Rattle.source_listing.specs.Views.{choice_view, look_view, query_view, source_view};
+ghost use Rattle.itemtree_commands.specs.Inner.{HasRowsOf, reading_by};
+ghost use Rattle.itemtree_commands.specs.Typing.{IsSameInBody};
+ghost use Rattle.source_listing.specs.Views.{choice_view, look_view, query_view, reading_view, source_view};
 ghost use Rattle.itemtree_commands.specs.Trees.{HasOwnIds, IsTextUnread};
 
 use hir_input::{CfgOptions, Edition, Name};
 use item_tree::CrateData;
-use source_listing::{Choice, Look, Query, Side, Source, without_ids};
+use listed::{listed, listed_rows};
+use rust_mended::Mended;
+use source_listing::{Choice, Look, Query, Reading, Side, Source, without_ids};
 use source_problems::source_problems;
-use source_rows::Reading;
 use std::alloc::{AllocError, Global};
 use trees::{checked_source, row_tree};
 pub use trees::{SourceError, SourceTree, source_tree};
@@ -58,6 +60,23 @@ impl Options {
             Some(&self.krate.cfg)
         } else {
             None
+        }
+    }
+
+    /// How headers and members are read.
+    fn reading<'a>(
+        &'a self,
+        text: &'a str,
+        mended: &'a Option<Mended>,
+        has_members: bool,
+    ) -> Reading<'a>
+        ensures { reading_view result ≡ reading_by self.now has_members text.now mended.now }
+    {
+        Reading {
+            text,
+            mended: mended.as_ref(),
+            edition: self.edition.year,
+            options: self.members(has_members),
         }
     }
 }
@@ -130,7 +149,7 @@ fn read_rows(alloc: Global, text: &str, options: &Options) -> Result<SourceTree,
 /// # Errors
 ///
 /// Those of `source_tree`.
-#[tactic(auto, using(crate::proofs::Refused::no_memory))]
+#[tactic(auto, using(crate::proofs::Refused::no_memory, crate::proofs::Refused::no_list))]
 pub fn outline(
     alloc: Global,
     source: Source<'_>,
@@ -142,14 +161,14 @@ pub fn outline(
     ensures text { let outline = spec.IsOutline options.now depth has_members is_colored
         (source_view source.entry) in
         IfOk result (λ out. outline (string_bytes out)) }
-    ensures refused { IfErr result (spec.HasNoTree options.now source.entry.text.now) }
+    ensures refused { IfErr result (spec.HasNoList options.now source.entry.text.now) }
 {
-    let file = read_rows(alloc, source.text, options)?;
+    let file = listed_rows(alloc, source.text, options)?;
     let look = options.look(depth, is_colored);
-    let members = options.members(has_members);
+    let reading = options.reading(source.text, &file.mended, has_members);
     let edition = &options.edition;
-    let (places, tree) = (&file.places, &file.tree);
-    let text = source_listing::outline(alloc, source, places, tree, edition, members, look)?;
+    let (places, tree) = (&file.source.places, &file.source.tree);
+    let text = source_listing::outline(alloc, source, places, tree, edition, reading, look)?;
     Ok(text)
 }
 
@@ -159,7 +178,7 @@ pub fn outline(
 /// # Errors
 ///
 /// Those of `source_tree`.
-#[tactic(auto, using(crate::proofs::Refused::no_memory))]
+#[tactic(auto, using(crate::proofs::Refused::no_memory, crate::proofs::Refused::no_list))]
 pub fn outline_json(
     alloc: Global,
     source: Source<'_>,
@@ -170,14 +189,14 @@ pub fn outline_json(
     ensures text { let json = spec.IsJson options.now depth has_members
         (source_view source.entry) in
         IfOk result (λ out. json (string_bytes out)) }
-    ensures refused { IfErr result (spec.HasNoTree options.now source.entry.text.now) }
+    ensures refused { IfErr result (spec.HasNoList options.now source.entry.text.now) }
 {
-    let file = read(alloc, source.text, options)?;
+    let file = listed(alloc, source.text, options)?;
     let choice = options.choice(depth);
-    let members = options.members(has_members);
+    let reading = options.reading(source.text, &file.mended, has_members);
     let edition = &options.edition;
-    let (places, tree) = (&file.places, &file.tree);
-    let text = source_listing::outline_json(alloc, source, places, tree, edition, members, choice)?;
+    let (places, tree) = (&file.source.places, &file.source.tree);
+    let text = source_listing::outline_json(alloc, source, places, tree, edition, reading, choice)?;
     Ok(text)
 }
 
@@ -219,7 +238,7 @@ pub fn page(
 /// # Errors
 ///
 /// Those of `source_tree`.
-#[tactic(auto, using(crate::proofs::Refused::no_memory))]
+#[tactic(auto, using(crate::proofs::Refused::no_memory, crate::proofs::Refused::no_list))]
 pub fn find(
     alloc: Global,
     source: Source<'_>,
@@ -230,13 +249,13 @@ pub fn find(
     ensures text { let found = spec.AreFound options.now has_members (query_view query.entry)
         (source_view source.entry) in
         IfOk result (λ out. found (string_bytes out)) }
-    ensures refused { IfErr result (spec.HasNoTree options.now source.entry.text.now) }
+    ensures refused { IfErr result (spec.HasNoList options.now source.entry.text.now) }
 {
-    let file = read_rows(alloc, source.text, options)?;
-    let members = options.members(has_members);
+    let file = listed_rows(alloc, source.text, options)?;
+    let reading = options.reading(source.text, &file.mended, has_members);
     let edition = &options.edition;
-    let (places, tree) = (&file.places, &file.tree);
-    let text = source_listing::found_lines(alloc, source, places, tree, edition, members, query)?;
+    let (places, tree) = (&file.source.places, &file.source.tree);
+    let text = source_listing::found_lines(alloc, source, places, tree, edition, reading, query)?;
     Ok(text)
 }
 
@@ -245,20 +264,20 @@ pub fn find(
 /// # Errors
 ///
 /// Those of `source_tree`.
-#[tactic(auto, using(crate::proofs::Refused::no_memory))]
+#[tactic(auto, using(crate::proofs::Refused::no_memory, crate::proofs::Refused::no_list))]
 pub fn imports(alloc: Global, source: Source<'_>, options: &Options) -> Result<String, SourceError>
     ensures text { IfOk result
         (λ out. spec.AreImports options.now (source_view source.entry) (string_bytes out)) }
-    ensures refused { IfErr result (spec.HasNoTree options.now source.entry.text.now) }
+    ensures refused { IfErr result (spec.HasNoList options.now source.entry.text.now) }
 {
-    let file = read(alloc, source.text, options)?;
+    let file = listed(alloc, source.text, options)?;
     let edition = &options.edition;
     let text = source_listing::import_lines(
         alloc,
         source,
-        &file.places,
-        &file.use_trees,
-        &file.tree,
+        &file.source.places,
+        &file.source.use_trees,
+        &file.source.tree,
         edition,
     )?;
     Ok(text)
@@ -269,7 +288,7 @@ pub fn imports(alloc: Global, source: Source<'_>, options: &Options) -> Result<S
 /// # Errors
 ///
 /// Those of `source_tree`.
-#[tactic(auto, using(crate::proofs::Refused::no_memory))]
+#[tactic(auto, using(crate::proofs::Refused::no_memory, crate::proofs::Refused::no_list))]
 pub fn duplicates(
     alloc: Global,
     source: Source<'_>,
@@ -277,16 +296,16 @@ pub fn duplicates(
 ) -> Result<String, SourceError>
     ensures text { IfOk result
         (λ out. spec.AreRepeated options.now (source_view source.entry) (string_bytes out)) }
-    ensures refused { IfErr result (spec.HasNoTree options.now source.entry.text.now) }
+    ensures refused { IfErr result (spec.HasNoList options.now source.entry.text.now) }
 {
-    let file = read(alloc, source.text, options)?;
+    let file = listed(alloc, source.text, options)?;
     let edition = &options.edition;
     let text = source_listing::repeated_lines(
         alloc,
         source,
-        &file.places,
-        &file.use_trees,
-        &file.tree,
+        &file.source.places,
+        &file.source.use_trees,
+        &file.source.tree,
         edition,
     )?;
     Ok(text)
@@ -297,7 +316,7 @@ pub fn duplicates(
 /// # Errors
 ///
 /// Those of `source_tree`.
-#[tactic(auto, using(crate::proofs::Refused::no_memory))]
+#[tactic(auto, using(crate::proofs::Refused::no_memory, crate::proofs::Refused::no_list))]
 pub fn tags(
     alloc: Global,
     source: Source<'_>,
@@ -306,17 +325,13 @@ pub fn tags(
 ) -> Result<String, SourceError>
     ensures text { let tags = spec.AreTags options.now has_members (source_view source.entry) in
         IfOk result (λ out. tags (string_bytes out)) }
-    ensures refused { IfErr result (spec.HasNoTree options.now source.entry.text.now) }
+    ensures refused { IfErr result (spec.HasNoList options.now source.entry.text.now) }
 {
-    let file = read_rows(alloc, source.text, options)?;
+    let file = listed_rows(alloc, source.text, options)?;
     let choice = options.choice(None);
-    let reading = Reading {
-        text: source.text,
-        edition: options.edition.year,
-        options: options.members(has_members),
-    };
-    let (places, tree) = (&file.places, &file.tree);
-    let text = source_listing::tag_lines(alloc, source.path, reading, places, tree, choice)?;
+    let reading = options.reading(source.text, &file.mended, has_members);
+    let (places, tree) = (&file.source.places, &file.source.tree);
+    let text = source_listing::tag_lines(alloc, source, places, tree, reading, choice)?;
     Ok(text)
 }
 
@@ -333,8 +348,6 @@ pub fn changed(
     ensures compared { let compared = spec.AreCompared options.now (source_view old.entry)
         (source_view new.entry) in
         IfOk result compared }
-    ensures typing { IfOk result
-        (λ c. IsSameWhereTyped old.entry.text.now new.entry.text.now c.is_same) }
     ensures typed { let same = IsSameInBody options.now.edition.year old.entry.text.now
         new.entry.text.now in
         IfOk result (λ c. same c.is_same) }

@@ -1,5 +1,5 @@
 -- The lines of an outline.
-use Rattle.std.specs.Prelude.{ℕ, Bool, ◌+◌, List, [], ◌∷◌, ◌++◌, codes, filter, Option, Some, flat_map}
+use Rattle.std.specs.Prelude.{ℕ, Bool, ◌+◌, List, [], ◌∷◌, ◌++◌, codes, filter, Option, Some, None, flat_map}
 use Rattle.hir_input.specs.declared.edition.EditionYear.{EditionYear}
 use Rattle.hir_input.specs.Cfg.{AtomView}
 use Rattle.tree_walk.specs.Rows.{RowView, Subject, no_subject}
@@ -12,7 +12,7 @@ use Rattle.source_listing.specs.Places.{place_of}
 
 -- where the headers and the members of a file are read
 abbrev pub reading : Source → EditionYear → Option (List AtomView) → MemberReading
-reading s year options = record { text = s.text; edition = year; options = options }
+reading s year options = record { text = s.text; closers = None; edition = year; options = options }
 
 -- which items have lines, and whether these are in colour
 pub record Look : Type 0 where

@@ -8,7 +8,7 @@ use Rattle.source_rows.specs.Listed.{Listed, MemberReading, members_of}
 use Rattle.rust_items.specs.declared.source_file.ItemPlace.{ItemPlace}
 use Rattle.rust_members.specs.declared.member.MemberKind.{MemberKind}
 use Rattle.rust_members.specs.declared.member.MemberKind.TheVariants as member
-use Rattle.source_listing.specs.Lines.{Choice, is_chosen, is_listed}
+use Rattle.source_listing.specs.Lines.{Choice, Source, is_chosen, is_listed}
 use Rattle.source_listing.specs.Places.{place_of, stands_at}
 use Rattle.source_listing.specs.Search.{holder, bare_segment}
 
@@ -92,5 +92,5 @@ abbrev pub tags_under : List ℕ → List ℕ → MemberReading → List ItemPla
 tags_under path text x places c rs = flat_map (whole_tags path text x places c) (filter (is_listed c) rs)
 
 -- those of a file
-abbrev pub tags : List ℕ → MemberReading → List ItemPlace → Choice → List RowView → List ℕ
-tags path x places c rs = tags_under (tag_path path) x.text x places c rs
+abbrev pub tags : Source → MemberReading → List ItemPlace → Choice → List RowView → List ℕ
+tags s x places c rs = tags_under (tag_path s.path) s.text x places c rs

@@ -1,6 +1,7 @@
 -- What the code holds, as plain data.
 use Rattle.std.specs.Prelude.{string_bytes}
 pub use Rattle.source_rows.specs.Views.{source_view}
+pub use Rattle.source_rows.specs.ListedViews.{reading_view}
 use Rattle.source_listing.specs.declared.lines.Choice as code_choice
 use Rattle.source_listing.specs.declared.search.Query as code_query
 use Rattle.source_listing.specs.declared.sought.SoughtPath as code_sought

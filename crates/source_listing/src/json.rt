@@ -10,7 +10,6 @@ ghost use Rattle.source_rows.specs.Listed.{header_of, members_of};
 ghost use Rattle.source_rows.specs.ListedViews.{listed_view, reading_view};
 ghost use Rattle.source_listing.specs.Inner.{IsSameFile, entry_members, file_of, item_at, shown_item_view, objects_at, placed_members, places_of, reserved_of, stand_members};
 ghost use Rattle.source_listing.specs.Objects as spec;
-ghost use Rattle.source_listing.specs.Outlines.{reading};
 ghost use Rattle.source_listing.specs.Places.{AreDistinct, place_of, spot_at};
 ghost use Rattle.source_listing.specs.Views.{choice_view, source_view};
 
@@ -19,7 +18,7 @@ use crate::lines::{Choice, push_visible_in};
 use crate::printer::Printer;
 use crate::subjects::push_short_tree;
 use def_collector::{name_at, visibility_at};
-use hir_input::{CfgOptions, Edition, FileAstId, Name};
+use hir_input::{Edition, FileAstId, Name};
 use item_tree::{ItemTree, ModItemId, RawVisibility, VisibilityExplicitness};
 use json_object::{Members, of_text, with};
 use rust_items::ItemPlace;
@@ -442,19 +441,14 @@ pub fn outline_items(
     places: &[ItemPlace],
     tree: &ItemTree,
     edition: &Edition,
-    members: Option<&CfgOptions>,
+    reading: Reading<'_>,
     choice: Choice,
 ) -> Result<Vec<Value>, AllocError>
     requires { AreDistinct places.now }
     ensures { let s = source_view source.entry in
-        let objects = spec.tree_objects s (reading s edition.now.year (option_copied members.entry)) edition.now.reserved.items places.now in
+        let objects = spec.tree_objects s (reading_view reading.entry) edition.now.reserved.items places.now in
         IfOk result (λ items. map view items.items ≡ objects (choice_view choice) tree.now) }
 {
-    let reading = Reading {
-        text: source.text,
-        edition: edition.year,
-        options: members,
-    };
     let listing = Listing {
         tree,
         reading,
@@ -491,15 +485,15 @@ pub fn outline_json(
     places: &[ItemPlace],
     tree: &ItemTree,
     edition: &Edition,
-    members: Option<&CfgOptions>,
+    reading: Reading<'_>,
     choice: Choice,
 ) -> Result<String, AllocError>
     requires { AreDistinct places.now }
     ensures { let s = source_view source.entry in
-        let line = spec.json_line s (reading s edition.now.year (option_copied members.entry)) edition.now.reserved.items places.now in
+        let line = spec.json_line s (reading_view reading.entry) edition.now.reserved.items places.now in
         IfOk result (λ text. string_bytes text ≡ line (choice_view choice) tree.now) }
 {
-    let items = outline_items(alloc, source, places, tree, edition, members, choice)?;
+    let items = outline_items(alloc, source, places, tree, edition, reading, choice)?;
     let file = file_value(alloc, source.path, items)?;
     line_of(alloc, &file)
 }

@@ -33,5 +33,5 @@ pub use problems::{problem_items, problem_lines};
 pub use repeated::repeated_lines;
 pub use search::{Query, found_lines};
 pub use sought::{SoughtPath, sought_path};
-pub use source_rows::Source;
+pub use source_rows::{Reading, Source};
 pub use tags::tag_lines;

@@ -16,7 +16,7 @@ use crate::finder::stand_of;
 use crate::lines::{Choice, push_end, push_indent, push_visibility};
 use crate::printer::Printer;
 use crate::subjects::push_subject;
-use hir_input::{CfgOptions, Edition, Name};
+use hir_input::{Edition, Name};
 use item_tree::ItemTree;
 use rust_items::ItemPlace;
 use source_rows::{ListedMember, Reading, Source, item_word, member_word};
@@ -192,20 +192,14 @@ pub fn outline(
     places: &[ItemPlace],
     tree: &ItemTree,
     edition: &Edition,
-    members: Option<&CfgOptions>,
+    reading: Reading<'_>,
     look: Look,
 ) -> Result<String, AllocError>
     requires { AreDistinct places.now }
     ensures { let s = source_view source.entry in
-        let reading = spec.reading s edition.now.year (option_copied members.entry) in
-        let lines = spec.outline_text s reading edition.now.reserved.items places.now in
+        let lines = spec.outline_text s (reading_view reading.entry) edition.now.reserved.items places.now in
         IfOk result (λ text. string_bytes text ≡ lines (look_view look) (rows.rows tree.now)) }
 {
-    let reading = Reading {
-        text: source.text,
-        edition: edition.year,
-        options: members,
-    };
     let mut printer = Printer::new(source, places, edition);
     // Most outlines take less room than a quarter of their texts.
     let mut out = String::with_capacity(alloc, source.text.len() / 4)?;

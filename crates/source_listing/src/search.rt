@@ -5,14 +5,13 @@ ghost use Rattle.tree_walk.specs.Views.{row_view};
 ghost use Rattle.tree_walk.specs.Rows as rows;
 ghost use Rattle.source_rows.specs.ListedViews.{listed_view, reading_view};
 ghost use Rattle.source_listing.specs.Inner.{IsSameFile, file_of, places_of, reserved_of};
-ghost use Rattle.source_listing.specs.Outlines.{reading};
 ghost use Rattle.source_listing.specs.Search as spec;
 ghost use Rattle.source_listing.specs.Places.{AreDistinct};
 ghost use Rattle.source_listing.specs.Views.{query_view, source_view};
 
 use crate::finder::stand_of;
 use crate::printer::Printer;
-use hir_input::{CfgOptions, Edition, Name};
+use hir_input::{Edition, Name};
 use item_tree::ItemTree;
 use rust_items::ItemPlace;
 use source_rows::{ListedMember, Reading, Source, item_word, member_word};
@@ -266,20 +265,14 @@ pub fn found_lines(
     places: &[ItemPlace],
     tree: &ItemTree,
     edition: &Edition,
-    members: Option<&CfgOptions>,
+    reading: Reading<'_>,
     query: Query<'_>,
 ) -> Result<String, AllocError>
     requires { AreDistinct places.now }
     ensures { let s = source_view source.entry in
-        let reading = reading s edition.now.year (option_copied members.entry) in
-        let lines = spec.found_lines s reading edition.now.reserved.items places.now in
+        let lines = spec.found_lines s (reading_view reading.entry) edition.now.reserved.items places.now in
         IfOk result (λ text. string_bytes text ≡ lines (query_view query.entry) (rows.rows tree.now)) }
 {
-    let reading = Reading {
-        text: source.text,
-        edition: edition.year,
-        options: members,
-    };
     let mut printer = Printer::new(source, places, edition);
     let mut out = String::new(alloc);
     let rows = item_rows(alloc, tree)?;

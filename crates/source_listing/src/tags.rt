@@ -8,7 +8,7 @@ ghost use Rattle.source_rows.specs.ListedViews.{listed_view, reading_view};
 ghost use Rattle.source_listing.specs.Inner.{IsSameFinder};
 ghost use Rattle.source_listing.specs.Places.{AreDistinct};
 ghost use Rattle.source_listing.specs.Tags as spec;
-ghost use Rattle.source_listing.specs.Views.{choice_view};
+ghost use Rattle.source_listing.specs.Views.{choice_view, source_view};
 
 use crate::finder::{Finder, stands_at};
 use crate::lines::Choice;
@@ -18,7 +18,7 @@ use item_tree::ItemTree;
 use itoa::Buffer;
 use rust_items::ItemPlace;
 use rust_members::MemberKind;
-use source_rows::{ListedMember, Reading, kind_texts};
+use source_rows::{ListedMember, Reading, Source, kind_texts};
 use std::alloc::{AllocError, Global};
 use tree_walk::Row;
 
@@ -274,19 +274,19 @@ fn push_whole(
 /// Only if memory runs out.
 pub fn tag_lines(
     alloc: Global,
-    path: &str,
-    reading: Reading<'_>,
+    source: Source<'_>,
     places: &[ItemPlace],
     tree: &ItemTree,
+    reading: Reading<'_>,
     choice: Choice,
 ) -> Result<String, AllocError>
     requires { AreDistinct places.now }
-    ensures { let tags = spec.tags path.now (reading_view reading.entry) places.now
+    ensures { let tags = spec.tags (source_view source.entry) (reading_view reading.entry) places.now
         (choice_view choice) in
         IfOk result (λ text. string_bytes text ≡ tags (rows.rows tree.now)) }
 {
-    let mut finder = Finder::new(reading.text, places);
-    let written = written_path(alloc, path)?;
+    let mut finder = Finder::new(source.text, places);
+    let written = written_path(alloc, source.path)?;
     let rows = choice.rows(alloc, tree)?;
     let mut out = String::new(alloc);
     for row in &rows {

@@ -1,15 +1,17 @@
 //! The values of shows.
-ghost use Rattle.std.specs.Prelude.{◌≡◌, ◌++◌, All, IfOk, OnOk, filter, is_some, map, string_bytes};
+ghost use Rattle.std.specs.Prelude.{◌≡◌, ◌++◌, None, All, IfOk, OnOk, filter, is_some, map, string_bytes};
 ghost use Rattle.std.specs.List.{AllZip, flat_map};
 ghost use Rattle.serde_json.specs.Data.{string};
 ghost use Rattle.serde_json.specs.View.{view};
+ghost use Rattle.source_listing.specs.Outlines.{reading};
+ghost use Rattle.source_listing.specs.Views.{reading_view};
 ghost use Rattle.item_tree_db.specs.State.{IsKnown, present};
 ghost use Rattle.item_tree_request.specs.Outputs.{Knows, table_change_line, printed};
 ghost use Rattle.source_session.specs.Files.{is_change_in};
 ghost use Rattle.source_session.specs.Found.{IsFound};
 ghost use Rattle.source_session.specs.Shown as spec;
 ghost use Rattle.source_session.specs.Shows.{IsCrateOf, ShowNamesCrate};
-ghost use Rattle.source_session.specs.Shown.{AreChangeLines, AreChangeValues, AreOwnChanges, IsPresentValue, IsShowValue, IsTextOf, change_form, change_with, imports_form, item_objects, items_member, outline_form, place_shown, problems_form, tree_form, unset_form};
+ghost use Rattle.source_session.specs.Shown.{AreChangeLines, AreChangeValues, AreOwnChanges, IsPresentValue, IsShowValue, IsTextOf, change_form, change_with, imports_form, item_objects, items_member, outline_form, pathless, place_shown, problems_form, tree_form, unset_form};
 
 use crate::files::{Files, is_in_crate};
 use crate::found::found_values;
@@ -24,7 +26,7 @@ use item_tree_request::request::show::{Show, TreeShow};
 use item_tree_request::show::{Pages, push_change};
 use item_tree_request::show_writer::ShowWriter;
 use serde_json::{Value, json};
-use source_listing::{Choice, Source, import_items, outline_items, problem_items};
+use source_listing::{Choice, Reading, Source, import_items, outline_items, problem_items};
 use std::alloc::{AllocError, Global};
 
 // ---- changes
@@ -258,20 +260,34 @@ impl Session {
                     path: "",
                     text: text.text.as_str(),
                 };
+                let reading = self.reading(source.text);
                 outline_items(
                     alloc,
                     source,
                     &text.places,
                     tree,
                     &self.edition,
-                    None,
+                    reading,
                     choice,
                 )
             }
             None => {
                 let source = Source { path: "", text: "" };
-                outline_items(alloc, source, &[], tree, &self.edition, None, choice)
+                let reading = self.reading("");
+                outline_items(alloc, source, &[], tree, &self.edition, reading, choice)
             }
+        }
+    }
+
+    /// A text as it is read, without members.
+    fn reading<'a>(&self, text: &'a str) -> Reading<'a>
+        ensures { reading_view result ≡ reading (pathless text.now) self.now.edition.0 None }
+    {
+        Reading {
+            text,
+            mended: None,
+            edition: self.edition.year,
+            options: None,
         }
     }
 

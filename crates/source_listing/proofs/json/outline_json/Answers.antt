@@ -1,4 +1,4 @@
-use Rattle.source_listing.proofs.Common.{◌≡◌, ◌++◌, codes, ap, subst, ◌∙◌, string_bytes, IfOk, option_copied, items_of, file_form, reading, choice_view, source_view}
+use Rattle.source_listing.proofs.Common.{◌≡◌, ◌++◌, codes, ap, subst, ◌∙◌, string_bytes, IfOk, items_of, file_form, reading_view, choice_view, source_view}
 use Rattle.serde_json.specs.Written.{compact_text, has_float}
 use Rattle.source_listing.proofs.NoFloats.{file_none}
 use Rattle.source_listing.proofs.json.outline_json.Goals as goal
@@ -8,7 +8,7 @@ line_of-requires c =
     let s = source_view c.args.source in
     let edition = c.args.edition.now in
     ap has_float (c.in_ok-file.ensures ∙ ap (λ ds. file_form s.path (items_of ds)) c.in_ok-items.ensures)
-    ∙ file_none s (reading s edition.year (option_copied c.args.members)) edition.reserved.items c.args.places.now (choice_view c.args.choice) c.args.tree.now
+    ∙ file_none s (reading_view c.args.reading) edition.reserved.items c.args.places.now (choice_view c.args.choice) c.args.tree.now
 
 pub returns : goal.returns
 returns c =
