@@ -62,6 +62,7 @@ TEXTS = [
     ('where A: ',), ('for<',), ('fn f() { impl S {',), ('fn f() { extern ',), ('<<<<<<< ',), ('0x',), ('pub struct S(', ')'),
     ('struct S(pub(in a::b) ', ')'), (';struct S(', ');'), ('mod m { use a::', '}'), ('#[a = "',), ('\u00e9',), ('=> ',), ('m! { = > }',),
     ('m! { /** a */ }',), ('a::crate::',), ('a::', 'crate::'), (';struct S(self ',), ('super::', '$'), ('mod m { fn f() {', '['),
+    ('a::<b!()',), ('a::<#[a]',), ('::<b!()',), ('impl<{}+',), ('impl A<{}+',),
     ('mod m {', '$'), ('mod m {struct S;',), ('extern "C" {fn f() {',), ('extern { ;m! {',), ('trait T { fn f() {',), ('impl S { fn f() {',), ('const A: u8 = { fn f() {',),
 ]
 passed = failed = 0

@@ -68,18 +68,24 @@ try_request() {
 
 # A command of itemtree, in one word, on a small file, which FILE in it stands for too.
 try_command() {
-    local request command
+    local request command file=${file:-$here/itemtree/shapes.rs}
     read -ra command <<< "$2"
-    command=("${command[@]/#FILE/"$here/itemtree/shapes.rs"}")
-    "$1" "${command[@]}" "$here/itemtree/shapes.rs" > "$own/whole" 2> "$own/err"
+    command=("${command[@]/#FILE/"$file"}")
+    "$1" "${command[@]}" "$file" > "$own/whole" 2> "$own/err"
     for ((request = 1; ; request++)); do
-        refuse "$request" "$1" "${command[@]}" "$here/itemtree/shapes.rs"
+        refuse "$request" "$1" "${command[@]}" "$file"
         [ "$made" -ge "$request" ] || break
         if [ "$status" = 2 ]; then ! grep -qv '^!_TAG' "$own/out" && grep -q 'out of memory$' "$own/err"; else [ "$status" = 0 ] && cmp -s "$own/out" "$own/whole"; fi
         judge $? "itemtree $2: status $status with request $request for memory refused"
     done
     [ "$status" = 0 ]
     judge $? "itemtree $2: status $status with no request for memory refused"
+}
+
+# The same on a file whose brackets have to be mended.
+try_damaged() {
+    printf '#[derive(\nstruct A;\nimpl A {\n    fn a(x: u8\n\n    fn b() {}\n}\nuse a::b;\n' > "$own/damaged.rs"
+    file=$own/damaged.rs try_command "$1" "$2"
 }
 
 # Whether that run answered each line, at most one of them with want of memory, and went on: the last two lines ask the same, and set
@@ -132,7 +138,7 @@ try() {
     "$@"
     echo "counts: $1 $passed $failed"
 }
-export -f refuse ended_out_of_memory answered judge try_request try_command went_on try_session try_test try_marked try
+export -f refuse ended_out_of_memory answered judge try_request try_command try_damaged went_on try_session try_test try_marked try
 
 # Each subject is three words, ended by a null byte each, since a path may hold any other.
 subjects() {
@@ -141,6 +147,7 @@ subjects() {
     for name in requests/*/*.out; do printf '%s\0' try_request "$program" "${name%.out}"; done
     for name in outlines/*/*.out; do printf '%s\0' try_request "$outlines" "${name%.out}"; done
     for name in outline page imports 'find area' 'imports --duplicates' 'outline --json' 'page --ids off' 'tags -o -' 'changed FILE' 'request --show page' check; do printf '%s\0' try_command "$itemtree" "$name"; done
+    for name in outline imports 'find A::b' 'outline --json' 'tags -o -'; do printf '%s\0' try_damaged "$itemtree" "$name"; done
     printf '%s\0' try_session "$itemtree" session
     for binary in "${binaries[@]}"; do
         while IFS= read -r name; do
@@ -159,6 +166,7 @@ awk '/^counts: / { passed += $3; failed += $4; subjects[$2]++; refused[$2] += $3
      END {
          printf "%d requests of the programs: %d times memory was refused\n", subjects["try_request"], refused["try_request"]
          printf "%d commands of itemtree: %d times memory was refused\n", subjects["try_command"], refused["try_command"]
+         printf "%d of damaged texts: %d times memory was refused\n", subjects["try_damaged"], refused["try_damaged"]
          printf "%d sessions of itemtree: %d times memory was refused\n", subjects["try_session"], refused["try_session"]
          printf "%d tests: %d times memory was refused\n", subjects["try_test"], refused["try_test"]
          printf "%d tests: no memory was left\n", subjects["try_marked"]
