@@ -1,6 +1,6 @@
 -- What is asked of tokens that look alike: where an item begins, where a walk goes on, and where it ends.
 use Rattle.std.proofs.Common.{◌≡◌, ◌≢◌, ℕ, ◌==◌, Bool, true, false, List, refl, ap, ◌∙◌, sym, arith, codes, bytes_eq}
-use Rattle.rust_cursor.proofs.Common.{nat_tests, Reach, Before, Nest, Extent, begins_binder, is_lone_for, is_header_end, is_barred, is_reached, is_closing, begins, begins_item, follows_const, follows_extern, follows_union, begins_impl_or_const, begins_with_attribute, begins_behind, begins_within, stops, ends, goes_on, more, has_blank, is_joined, leads_item, nest_behind, Tokens, symbol, word, bumped}
+use Rattle.rust_cursor.proofs.Common.{eqb-true, nat_tests, Reach, Before, Nest, Extent, begins_binder, is_lone_for, is_header_end, is_barred, is_reached, is_closing, begins, begins_item, follows_const, follows_extern, follows_macro_rules, follows_union, begins_const, begins_impl_or_const, begins_with_attribute, begins_behind, begins_within, stops, ends, goes_on, more, has_blank, is_joined, leads_item, nest_behind, Tokens, symbol, word, bumped}
 use Rattle.rust_cursor.specs.declared.cursor.generics.Reach.TheVariants as reaches
 use Rattle.rust_cursor.specs.declared.cursor.nest.Before.TheVariants as befores
 use Rattle.rust_cursor.specs.declared.cursor.texts.Extent.TheVariants as extents
@@ -19,10 +19,16 @@ extern_same b ts us h =
     (λ e. let f = edge_test b ts us h e in rw (word_same b ts us h, symbol_same b ts us h, edge_literal ts e, edge_literal us f) refl)
     (λ e. rw (word_same b ts us h, symbol_same b ts us h, kind_same b ts us h, symbol_same b (bumped ts) (bumped us) (b.next ts us h e)) refl)
 
+rules_same : (b : Twins) (ts us : Tokens) → b.are ts us → follows_macro_rules us ≡ follows_macro_rules ts
+rules_same b ts us h =
+    when (symbol ts == 33)
+    (λ e. rw (symbol_same b ts us h, identifier_same b (bumped ts) (bumped us) (b.next ts us h (ap is_edge (eqb-true (symbol ts) 33 e)))) refl)
+    (λ e. rw (symbol_same b ts us h, e) refl)
+
 item_same : (b : Twins) (ts us : Tokens) → b.are ts us → b.are (bumped ts) (bumped us) → begins_item us ≡ begins_item ts
 unfolding begins_item
 item_same b ts us h n =
-    rw (union_same b (bumped ts) (bumped us) n, extern_same b (bumped ts) (bumped us) n, word_same b ts us h, symbol_same b (bumped ts) (bumped us) n, identifier_same b (bumped ts) (bumped us) n, word_same b (bumped ts) (bumped us) n) refl
+    rw (union_same b (bumped ts) (bumped us) n, extern_same b (bumped ts) (bumped us) n, rules_same b (bumped ts) (bumped us) n, word_same b ts us h, symbol_same b (bumped ts) (bumped us) n, identifier_same b (bumped ts) (bumped us) n, word_same b (bumped ts) (bumped us) n) refl
 
 const_same : (b : Twins) (ts us : Tokens) → b.are ts us → follows_const us ≡ follows_const ts
 const_same b ts us h =
@@ -44,6 +50,9 @@ behind_same b befores.Block ts us h n = attribute_same b ts us h n
 behind_same b befores.Angle ts us h n = impl_same b ts us h n
 behind_same b _ ts us h n = refl
 
+named_same : (b : Twins) (n : Nest) (ts us : Tokens) → b.are ts us → b.are (bumped ts) (bumped us) → begins_const n us ≡ begins_const n ts
+named_same b n ts us h k = rw (word_same b ts us h, const_same b (bumped ts) (bumped us) k) refl
+
 within_same : (b : Twins) (ts us : Tokens) → b.are ts us → b.are (bumped ts) (bumped us) → begins_within us ≡ begins_within ts
 unfolding begins_within
 within_same b ts us h n = rw (word_same b ts us h, identifier_same b (bumped ts) (bumped us) n, item_same b ts us h n) refl
@@ -56,7 +65,7 @@ edge_begins n ts e =
 pub begins_same : (b : Twins) (n : Nest) (ts us : Tokens) → b.are ts us → begins n us ≡ begins n ts
 begins_same b n ts us h =
     when (is_edge (symbol ts)) (λ e. edge_begins n us (edge_test b ts us h e) ∙ sym (edge_begins n ts e))
-    (λ e. let k = b.next ts us h e in rw (item_same b ts us h k, behind_same b n.before ts us h k, within_same b ts us h k, doc_same b ts us h) refl)
+    (λ e. let k = b.next ts us h e in rw (item_same b ts us h k, behind_same b n.before ts us h k, within_same b ts us h k, doc_same b ts us h, named_same b n ts us h k) refl)
 
 pub begins_item_same : (b : Twins) (ts us : Tokens) → b.are ts us → begins_item us ≡ begins_item ts
 begins_item_same b ts us h =

@@ -12,7 +12,7 @@ use Rattle.rust_cursor.specs.declared.cursor.texts.Extent.TheVariants as extents
 use Rattle.rust_cursor.specs.Tokens.{Tokens}
 use Rattle.rust_cursor.specs.Reader.{Reader, ◌>>=◌, pure}
 use Rattle.rust_cursor.specs.Words.{symbol, word, kind, text, is_empty, is_at_identifier, is_at_doc, is_glued, is_pair, bumped}
-use Rattle.rust_cursor.specs.Nests.{opens_other, closes_other, is_literal_kind, flat_behind, is_flat, is_mark, is_whole, nest_behind}
+use Rattle.rust_cursor.specs.Nests.{opens_other, closes_other, is_literal_kind, flat_behind, is_flat, is_mark, is_star, is_whole, nest_behind}
 
 -- ---- what begins an item
 
@@ -38,6 +38,10 @@ follows_union ts =
 abbrev pub follows_extern : Tokens → Bool
 follows_extern ts = bytes_eq (word ts) (codes "crate") || (symbol ts == 123 || (is_literal_kind (kind ts) && symbol (bumped ts) == 123))
 
+-- behind `macro_rules`: a `!`, and the name of the macro
+abbrev pub follows_macro_rules : Tokens → Bool
+follows_macro_rules ts = symbol ts == 33 && is_at_identifier (bumped ts)
+
 -- A word comes next that can begin an item only: here an item ends that was not ended.
 unfoldable pub begins_item : Tokens → Bool
 begins_item ts =
@@ -46,7 +50,7 @@ begins_item ts =
     else (if bytes_eq (word ts) (codes "static") then follows_static (bumped ts)
     else (if bytes_eq (word ts) (codes "fn") || (bytes_eq (word ts) (codes "type") || bytes_eq (word ts) (codes "macro")) then is_at_identifier (bumped ts)
     else (if bytes_eq (word ts) (codes "union") then follows_union (bumped ts)
-    else (if bytes_eq (word ts) (codes "macro_rules") then symbol (bumped ts) == 33
+    else (if bytes_eq (word ts) (codes "macro_rules") then follows_macro_rules (bumped ts)
     else (if bytes_eq (word ts) (codes "extern") then follows_extern (bumped ts) else false))))))
 
 -- behind `const`: a function, or a name or `_` with a colon
@@ -83,10 +87,14 @@ begins_within ts =
 abbrev pub documents_item : Nest → Tokens → Bool
 documents_item nest ts = is_at_doc ts && nest.angles == 0
 
+-- a constant with a name comes next, in no angle brackets, where it would be a parameter, and behind no `*`, where it would be that of a pointer
+abbrev pub begins_const : Nest → Tokens → Bool
+begins_const nest ts = bytes_eq (word ts) (codes "const") && (nest.angles == 0 && (not (is_star nest.before) && follows_const (bumped ts)))
+
 -- An item begins, in no brace.
 abbrev pub begins : Nest → Tokens → Bool
 begins nest ts =
-    if nest.others == 0 then begins_item ts || (begins_behind nest.before ts || documents_item nest ts) else nest.free == 0 && begins_within ts
+    if nest.others == 0 then begins_item ts || (begins_behind nest.before ts || (documents_item nest ts || begins_const nest ts)) else nest.free == 0 && begins_within ts
 
 -- ---- how far it goes
 

@@ -39,6 +39,10 @@ abbrev pub is_mark : Before → Bool
 is_mark befores.Mark = true
 is_mark _ = false
 
+abbrev pub is_star : Before → Bool
+is_star befores.Star = true
+is_star _ = false
+
 -- a bracket that comes next is that of a macro call or an attribute
 abbrev pub lets_any : Before → Bool
 lets_any befores.Mark = true
@@ -101,7 +105,8 @@ symbol_before before ts =
     if symbol ts == 45 || symbol ts == 61 then befores.Dash
     else (if symbol ts == 33 then mark_behind before
     else (if symbol ts == 35 then befores.Hash
-    else (if symbol ts == 62 then (if is_arrow before ts then befores.Other else befores.Angle) else befores.Other)))
+    else (if symbol ts == 42 then befores.Star
+    else (if symbol ts == 62 then (if is_arrow before ts then befores.Other else befores.Angle) else befores.Other))))
 
 -- what the next token is for the one behind it; documentation is nothing
 abbrev pub before_behind : Before → Tokens → Before

@@ -22,7 +22,7 @@ unfoldable pub use Rattle.rust_leaves.specs.Kinds.{constant, crate_item, enumera
 pub use Rattle.rust_leaves.specs.Leaves.{LeafRead, NameRead, RestRead, are_over, bare_end, crate_alias_if, is_before, name_read, next_range, no_name, range_to, rename_of, rest_read, semicolon_end, symbol_within}
 unfoldable pub use Rattle.rust_leaves.specs.Leaves.{block_attributes, call_end, crate_alias, fields, has_trait, header_field, impl_end, item_end, macro_end, named, named_or, renamed, struct_fields, value_end}
 pub use Rattle.rust_leaves.specs.Statements.{behind_else, by_step, is_block_at, is_label_kind, is_use_of, statement_from, statement_up_to}
-unfoldable pub use Rattle.rust_leaves.specs.Statements.{behind_block, behind_block_word, behind_label, block_start, is_block_word, part_step, plain_step, statement, statement_step}
+unfoldable pub use Rattle.rust_leaves.specs.Statements.{behind_own_block, behind_block_word, behind_label, block_start, is_block_word, part_step, plain_step, statement, statement_step}
 pub use Rattle.rust_leaves.specs.Texts.{last_text_from}
 unfoldable pub use Rattle.rust_leaves.specs.Texts.{bare, last_text}
 pub use Rattle.rust_leaves.specs.Views.{field_view}

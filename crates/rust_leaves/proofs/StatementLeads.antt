@@ -1,6 +1,6 @@
 -- What is left behind a statement is left of the tokens before it.
 use Rattle.std.proofs.Common.{◌==◌, ◌||◌, ℕ, zero, suc, Bool, codes, bytes_eq}
-use Rattle.rust_leaves.proofs.Common.{Tokens, Reader, symbol, word, kind, is_at_end, is_pair, begins_item, LeadsTo, here, further, through, Forwards, when, bumped_leads, behind_tree_leads, Scan, Step, is_block_word, is_label_kind, behind_label, behind_block_word, block_start, is_block_at, is_use_of, behind_else, behind_block, plain_step, part_step, statement_step, by_step, statement_from, statement}
+use Rattle.rust_leaves.proofs.Common.{Tokens, Reader, symbol, word, kind, is_at_end, is_pair, begins_item, LeadsTo, here, further, through, Forwards, when, bumped_leads, behind_tree_leads, Scan, Step, is_block_word, is_label_kind, behind_label, behind_block_word, block_start, is_block_at, is_use_of, behind_else, behind_own_block, plain_step, part_step, statement_step, by_step, statement_from, statement}
 use Rattle.rust_leaves.specs.declared.statements.Scan.TheVariants as scans
 use Rattle.rust_leaves.specs.declared.statements.Step.TheVariants as steps
 
@@ -23,8 +23,8 @@ plain_step_leads s ts = when (is_use_of ts) (λ e. rw e (further (bumped_leads _
 else_leads : (blocks : ℕ) → Forwards (behind_else blocks)
 else_leads blocks ts = when (bytes_eq (word ts) (codes "if")) (λ e. rw e (bumped_leads ts)) (λ e. rw e here)
 
-block_leads : (blocks : ℕ) → Forwards (behind_block blocks)
-unfolding behind_block
+block_leads : (blocks : ℕ) → Forwards (behind_own_block blocks)
+unfolding behind_own_block
 block_leads blocks ts = when (bytes_eq (word ts) (codes "else")) (λ e. rw e (further (else_leads blocks _))) (λ e. rw e here)
 
 part_step_leads : (s : Scan) → Forwards (part_step s)

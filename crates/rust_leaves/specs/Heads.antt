@@ -37,8 +37,8 @@ follows_default w =
     list_any (bytes_eq w) (codes "fn" ∷ codes "unsafe" ∷ codes "const" ∷ codes "type" ∷ codes "impl" ∷ codes "async" ∷ codes "extern" ∷ codes "gen"
     ∷ codes "safe" ∷ [])
 
-unfoldable pub follows_extern : List ℕ → Bool
-follows_extern w = list_any (bytes_eq w) (codes "fn" ∷ codes "unsafe" ∷ [])
+unfoldable pub follows_extern_modifier : List ℕ → Bool
+follows_extern_modifier w = list_any (bytes_eq w) (codes "fn" ∷ codes "unsafe" ∷ [])
 
 -- behind `extern`: the name of an interface stands there, as `"C"`
 unfoldable pub behind_abi : Tokens → Tokens
@@ -68,7 +68,7 @@ is_modifier_before w behind =
     else (if bytes_eq w (codes "unsafe") then follows_unsafe (word behind) || is_weak_modifier behind
     else (if bytes_eq w (codes "safe") then follows_safe (word behind)
     else (if bytes_eq w (codes "default") || bytes_eq w (codes "final") then follows_default (word behind)
-    else (if bytes_eq w (codes "extern") then follows_extern (word_behind_abi behind)
+    else (if bytes_eq w (codes "extern") then follows_extern_modifier (word_behind_abi behind)
     else (if bytes_eq w (codes "type") then bytes_eq (word behind) (codes "const")
     else (if bytes_eq w (codes "reuse") then bytes_eq (word behind) (codes "impl") else is_weak_before w behind))))))
 

@@ -125,8 +125,8 @@ abbrev pub behind_else : ℕ → Reader Step
 behind_else blocks ts = if bytes_eq (word ts) (codes "if") then (steps.On (scans.Inside blocks), bumped ts) else (steps.On (scans.Header blocks), ts)
 
 -- how it goes on behind a block: with `else` there is another in place of it
-unfoldable pub behind_block : ℕ → Reader Step
-behind_block blocks ts = if bytes_eq (word ts) (codes "else") then behind_else blocks (bumped ts) else (step_behind_block blocks ts, ts)
+unfoldable pub behind_own_block : ℕ → Reader Step
+behind_own_block blocks ts = if bytes_eq (word ts) (codes "else") then behind_else blocks (bumped ts) else (step_behind_block blocks ts, ts)
 
 -- `.use` of an expression
 abbrev pub is_use_of : Tokens → Bool
@@ -139,7 +139,7 @@ plain_step s ts = (steps.On (scan_behind s ts), if is_use_of ts then bumped (bum
 -- the same; the `=` of `..=` ends no pattern
 unfoldable pub part_step : Scan → Reader Step
 part_step (scans.Let blocks) ts = if is_pair 46 61 ts then (steps.On (scans.Let blocks), bumped (bumped ts)) else plain_step (scans.Let blocks) ts
-part_step (scans.Header blocks) ts = if symbol ts == 123 then behind_block blocks (behind_tree ts) else plain_step (scans.Header blocks) ts
+part_step (scans.Header blocks) ts = if symbol ts == 123 then behind_own_block blocks (behind_tree ts) else plain_step (scans.Header blocks) ts
 part_step s ts = plain_step s ts
 
 -- A step of a statement: it ends with a semicolon, and before a bracket that closes or a word that can begin an item only.

@@ -133,7 +133,7 @@ fn is_unsafe_modifier(behind: &Cursor<'_>) -> bool
 }
 
 /// Whether a modifier comes next. Only behind a word that can be one a token is cut.
-#[tactic(auto, unfolding(crate::specs::Heads::is_modifier, crate::specs::Heads::is_modifier_before, crate::specs::Heads::follows_safe, crate::specs::Heads::follows_default, crate::specs::Heads::follows_extern))]
+#[tactic(auto, unfolding(crate::specs::Heads::is_modifier, crate::specs::Heads::is_modifier_before, crate::specs::Heads::follows_safe, crate::specs::Heads::follows_default, crate::specs::Heads::follows_extern_modifier))]
 pub(crate) fn is_modifier(cursor: &Cursor<'_>) -> bool
     ensures { result ≡ spec.is_modifier cursor.now }
 {

@@ -241,9 +241,9 @@ fn pass_else(cursor: &mut Cursor<'_>, blocks: u8) -> Step
 }
 
 /// Takes `else` behind a block, if it comes next, and an `if` behind it.
-#[tactic(auto, unfolding(crate::specs::Statements::behind_block))]
+#[tactic(auto, unfolding(crate::specs::Statements::behind_own_block))]
 fn pass_behind_block(cursor: &mut Cursor<'_>, blocks: u8) -> Step
-    ensures { spec.behind_block blocks cursor.old ≡ (result, cursor.new) }
+    ensures { spec.behind_own_block blocks cursor.old ≡ (result, cursor.new) }
 {
     if cursor.word() == "else" {
         cursor.bump();

@@ -17,6 +17,8 @@ pub enum Before {
     Mark,
     /// The `#` of an attribute, or `#!`: what stands in a bracket behind it is the attribute's.
     Hash,
+    /// A `*`: a `const` right behind it is that of a pointer.
+    Star,
     /// A `>` that is not that of `->` or `=>`.
     Angle,
     /// A type or a value can end with it.
@@ -132,6 +134,7 @@ impl<'t> Cursor<'t> {
             b'-' | b'=' => Before::Dash,
             b'!' => mark_behind(before),
             b'#' => Before::Hash,
+            b'*' => Before::Star,
             b'>' => {
                 if self.is_arrow(before) {
                     Before::Other
@@ -276,6 +279,12 @@ pub(crate) fn is_mark(before: Before) -> bool
     matches!(before, Before::Mark)
 }
 
+pub(crate) fn is_star(before: Before) -> bool
+    ensures { result ≡ spec.is_star before }
+{
+    matches!(before, Before::Star)
+}
+
 fn lets_any(before: Before) -> bool
     ensures { result ≡ spec.lets_any before }
 {
@@ -288,7 +297,7 @@ fn mark_behind(before: Before) -> Before
     match before {
         Before::End | Before::Block => Before::Mark,
         Before::Hash => Before::Hash,
-        Before::Dash | Before::Mark | Before::Angle | Before::Other => Before::Other,
+        Before::Dash | Before::Mark | Before::Star | Before::Angle | Before::Other => Before::Other,
     }
 }
 
@@ -297,8 +306,13 @@ fn behind_free(before: Before) -> Before
 {
     match before {
         Before::Hash => Before::Other,
-        Before::Dash | Before::Mark | Before::Angle | Before::End | Before::Block | Before::Other =>
-            Before::End,
+        Before::Dash
+        | Before::Mark
+        | Before::Star
+        | Before::Angle
+        | Before::End
+        | Before::Block
+        | Before::Other => Before::End,
     }
 }
 
@@ -307,8 +321,13 @@ fn behind_block(before: Before) -> Before
 {
     match before {
         Before::Mark => Before::End,
-        Before::Dash | Before::Hash | Before::Angle | Before::End | Before::Block | Before::Other =>
-            Before::Block,
+        Before::Dash
+        | Before::Hash
+        | Before::Star
+        | Before::Angle
+        | Before::End
+        | Before::Block
+        | Before::Other => Before::Block,
     }
 }
 

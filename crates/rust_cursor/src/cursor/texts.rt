@@ -9,7 +9,7 @@ ghost use Rattle.rust_cursor.specs.Tokens.{Tokens, last_unended, left_of};
 ghost use Rattle.rust_cursor.specs.Words.{bumped, is_empty, symbol};
 
 use crate::among::{first_byte, has_length, is_among};
-use crate::cursor::nest::{Before, Nest, count_inside, is_literal_kind, is_mark};
+use crate::cursor::nest::{Before, Nest, count_inside, is_literal_kind, is_mark, is_star};
 use crate::cursor::{Cursor, note_last};
 use rust_lexer::{Depth, Lexer, Token};
 use std::alloc::{AllocError, Global};
@@ -52,7 +52,7 @@ impl<'t> Cursor<'t> {
             "static" => self.second().follows_static(),
             "fn" | "type" | "macro" => self.second().is_at_identifier(),
             "union" => self.second().follows_union(),
-            "macro_rules" => self.second().symbol() == b'!',
+            "macro_rules" => self.second().follows_macro_rules(),
             "extern" => self.second().follows_extern(),
             _ => false,
         }
@@ -84,6 +84,12 @@ impl<'t> Cursor<'t> {
             return true;
         }
         is_literal_kind(self.kind()) && self.second().symbol() == b'{'
+    }
+
+    fn follows_macro_rules(&self) -> bool
+        ensures { result ≡ spec.follows_macro_rules self.now }
+    {
+        self.symbol() == b'!' && self.second().is_at_identifier()
     }
 
     fn follows_const(&self) -> bool
@@ -122,7 +128,7 @@ impl<'t> Cursor<'t> {
                 self.begins_impl_or_const()
             }
             Before::Angle => self.begins_impl_or_const(),
-            Before::Dash | Before::Mark | Before::Hash | Before::Other => false,
+            Before::Dash | Before::Mark | Before::Hash | Before::Star | Before::Other => false,
         }
     }
 
@@ -157,7 +163,8 @@ impl<'t> Cursor<'t> {
         if nest.others == 0 {
             return self.begins_item()
                 || self.begins_behind(nest.before)
-                || self.documents_item(nest);
+                || self.documents_item(nest)
+                || self.begins_const(nest);
         }
         nest.free == 0 && self.begins_within()
     }
@@ -166,6 +173,16 @@ impl<'t> Cursor<'t> {
         ensures { result ≡ spec.documents_item nest.now self.now }
     {
         self.is_at_doc() && nest.angles == 0
+    }
+
+    /// Whether a constant with a name comes next, which is neither a parameter nor a pointer.
+    fn begins_const(&self, nest: &Nest) -> bool
+        ensures { result ≡ spec.begins_const nest.now self.now }
+    {
+        self.word() == "const"
+            && nest.angles == 0
+            && !is_star(nest.before)
+            && self.second().follows_const()
     }
 
     #[inline(always)]
