@@ -8,3 +8,4 @@ pub mod PutPlaces
 pub mod Lossless
 pub mod Back
 pub mod Behind
+pub mod Told

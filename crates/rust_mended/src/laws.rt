@@ -1,20 +1,28 @@
 //! What holds of the mended text of every text. The functions do nothing.
 ghost use Rattle.std.specs.Prelude.{ℕ, ◌≡◌, ◌≤◌, ◌++◌, Decides, List, [], ◌∷◌, true, IsUtf8, flat_map, length};
+ghost use Rattle.std.specs.List.{AllByRecursion, list_any};
 ghost use Rattle.rust_mended.specs.Marks.{last, marks};
 ghost use Rattle.rust_mended.specs.Mended.{all_match, mended, closers_reaching, source_by, all_written};
-ghost use Rattle.rust_mended.specs.Texts.{mending_edit, edits, is_matched, mended_text, place_back, puts, turned_text, without_bytes_at};
+ghost use Rattle.rust_mended.specs.Texts.{mending_edit, edits, is_matched, mended_text, place_back, puts, tells, turned_text, without_bytes_at};
 ghost use Rattle.rust_mended.specs.declared.mark.Mark.{Mark};
 ghost use Rattle.rust_mended.specs.declared.mark.MarkKind.TheVariants as mark;
 
 use crate::bracket::Bracket;
 use crate::edit::{Edit, EditKind};
 
-// Where all brackets match, nothing is mended, and places are what they are.
-#[tactic(auto, using(crate::proofs::Whole::text_edits, crate::proofs::Whole::text_stays, crate::proofs::Whole::places_stay))]
+// Where all brackets match, the text stays, and places are what they are.
+#[tactic(auto, using(crate::proofs::Whole::text_stays, crate::proofs::Whole::places_stay))]
 fn matched_texts_stay()
-    ensures edits { (text : List ℕ) → is_matched text ≡ true → edits text ≡ [] }
     ensures text { (text : List ℕ) → is_matched text ≡ true → mended_text text ≡ text }
     ensures places { (text : List ℕ) (at : ℕ) → is_matched text ≡ true → place_back text at ≡ at }
+{}
+
+// Nothing is told exactly where all brackets match, and what is told is told of a bracket of the text: of one that nothing closes, of a
+// closer that closes nothing, or of one that closes a bracket of another kind.
+#[tactic(auto, using(crate::proofs::Told::nothing_told, crate::proofs::Told::told_at_marks))]
+fn brackets_are_told()
+    ensures nothing { (text : List ℕ) → Decides (is_matched text) (edits text ≡ []) }
+    ensures marks { (text : List ℕ) → AllByRecursion (λ e. list_any (tells e) (marks text) ≡ true) (edits text) }
 {}
 
 // All brackets of the mended marks match, whatever the text is.
