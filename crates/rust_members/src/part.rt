@@ -32,7 +32,7 @@ enum Stand {
 }
 
 fn second<'t>(cursor: &Cursor<'t>) -> Cursor<'t>
-    ensures { result.now ≡ bumped cursor.now }
+    ensures { result ≡ bumped cursor.now }
 {
     let mut second = cursor.ahead();
     second.bump();
