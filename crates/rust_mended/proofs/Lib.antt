@@ -14,3 +14,4 @@ pub mod Seam
 pub mod Further
 pub mod Joins
 pub mod AtStops
+pub mod Inside
