@@ -21,25 +21,37 @@ use Rattle.rust_mended.proofs.Whole.{no_truth, own_edit, same_place}
 
 -- ---- marks, and those behind them
 
--- what is written of these
-abbrev pub front_written : List Mark → List Mark → List Opened → List Written
-front_written [] cs os = []
-front_written (t ∷ ts) cs os =
-    (taken_step t.kind t (closer_by t.kind (closers_before ts cs)) os).0 ++ front_written ts cs (taken_step t.kind t (closer_by t.kind (closers_before ts cs)) os).1
+-- what is written of these, and then the rest
+abbrev pub upto : List Mark → List Mark → (List Opened → List Written) → List Opened → List Written
+upto [] cs rest os = rest os
+upto (t ∷ ts) cs rest os = mark_taken t.kind t (closer_by t.kind (closers_before ts cs)) (upto ts cs rest) os
 
-reaching_before : (q r : List Mark) → closers_reaching (q ++ r) ≡ closers_before q (closers_reaching r)
+abbrev pub no_rest : List Opened → List Written
+no_rest os = []
+
+pub reaching_before : (q r : List Mark) → closers_reaching (q ++ r) ≡ closers_before q (closers_reaching r)
 reaching_before [] r = refl
 reaching_before (t ∷ q) r = ap (closers_reached t.kind t) (reaching_before q r)
 
-pub front_is : (at : ℕ) (q r : List Mark) (os : List Opened) → written_from at (q ++ r) os ≡ front_written q (closers_reaching r) os ++ written_from at r (open_behind q (closers_reaching r) os)
-front_is at [] r os = refl
-front_is at (t ∷ q) r os =
-    let cs : List Mark = closers_reaching r in
-    let s : MendingStep = taken_step t.kind t (closer_by t.kind (closers_before q cs)) os in
+upto_whole : (at : ℕ) (q r : List Mark) (os : List Opened) → written_from at (q ++ r) os ≡ upto q (closers_reaching r) (written_from at r) os
+upto_whole at [] r os = refl
+upto_whole at (t ∷ q) r os =
+    let c : Option Mark = closer_by t.kind (closers_before q (closers_reaching r)) in
+    let s : MendingStep = taken_step t.kind t c os in
     ap (λ xs. mark_taken t.kind t (closer_by t.kind xs) (written_from at (q ++ r)) os) (reaching_before q r)
-    ∙ taken_is t.kind t (closer_by t.kind (closers_before q cs)) os (written_from at (q ++ r))
-    ∙ ap (λ ws. s.0 ++ ws) (front_is at q r s.1)
-    ∙ sym (append_assoc s.0 (front_written q cs s.1) (written_from at r (open_behind q cs s.1)))
+    ∙ taken_is t.kind t c os (written_from at (q ++ r)) ∙ ap (λ ws. s.0 ++ ws) (upto_whole at q r s.1) ∙ sym (taken_is t.kind t c os (upto q (closers_reaching r) (written_from at r)))
+
+upto_parts : (q cs : List Mark) (rest : List Opened → List Written) (os : List Opened) → upto q cs rest os ≡ upto q cs no_rest os ++ rest (open_behind q cs os)
+upto_parts [] cs rest os = refl
+upto_parts (t ∷ q) cs rest os =
+    let c : Option Mark = closer_by t.kind (closers_before q cs) in
+    let s : MendingStep = taken_step t.kind t c os in
+    taken_is t.kind t c os (upto q cs rest) ∙ ap (λ ws. s.0 ++ ws) (upto_parts q cs rest s.1)
+    ∙ sym (append_assoc s.0 (upto q cs no_rest s.1) (rest (open_behind q cs s.1)))
+    ∙ ap (λ ws. ws ++ rest (open_behind q cs s.1)) (sym (taken_is t.kind t c os (upto q cs no_rest)))
+
+pub front_is : (at : ℕ) (q r : List Mark) (os : List Opened) → written_from at (q ++ r) os ≡ upto q (closers_reaching r) no_rest os ++ written_from at r (open_behind q (closers_reaching r) os)
+front_is at q r os = upto_whole at q r os ∙ upto_parts q (closers_reaching r) (written_from at r) os
 
 -- ---- the closers of what stands in braces come before the `}`
 
@@ -305,7 +317,7 @@ module _ (o c : Mark) (os : List Opened) where
 module _ (at : ℕ) (front : List Mark) (o : Mark) (inner : List Mark) (c : Mark) (behind : List Mark) (h : KeepEachOther front o inner c behind) where
   -- the edits before the braces, and behind them
   abbrev pub edits_in_front : List Edit
-  edits_in_front = flat_map mending_edit (front_written front (closers_reaching behind) [])
+  edits_in_front = flat_map mending_edit (upto front (closers_reaching behind) no_rest [])
 
   abbrev pub edits_in_behind : List Edit
   edits_in_behind = flat_map mending_edit (written_from at behind (open_behind front (closers_reaching behind) []))
@@ -330,14 +342,14 @@ module _ (at : ℕ) (front : List Mark) (o : Mark) (inner : List Mark) (c : Mark
   edits_inside =
       let r : List Mark = o ∷ (inner ++ (c ∷ behind)) in
       let cs : closers_reaching r ≡ closers_reaching behind = reached o.kind h.opens in
-      ap (flat_map mending_edit) (front_is at front r [] ∙ ap (λ xs. front_written front xs [] ++ written_from at r (open_behind front xs [])) cs)
-      ∙ flat_map-append mending_edit (front_written front (closers_reaching behind) []) (written_from at r around)
+      ap (flat_map mending_edit) (front_is at front r [] ∙ ap (λ xs. upto front xs no_rest [] ++ written_from at r (open_behind front xs [])) cs)
+      ∙ flat_map-append mending_edit (upto front (closers_reaching behind) no_rest []) (written_from at r around)
       ∙ ap (λ es. edits_in_front ++ es) (opened o.kind (written_from at (inner ++ (c ∷ behind))) around h.opens h.kept
       ∙ inside_from o c around at inner behind zero h.closes h.matched h.apart [] tt)
 
   pub edits_without : flat_map mending_edit (all_written at (front ++ behind)) ≡ edits_in_front ++ edits_in_behind
   edits_without =
-      ap (flat_map mending_edit) (front_is at front behind []) ∙ flat_map-append mending_edit (front_written front (closers_reaching behind) []) (written_from at behind around)
+      ap (flat_map mending_edit) (front_is at front behind []) ∙ flat_map-append mending_edit (upto front (closers_reaching behind) no_rest []) (written_from at behind around)
 
   pub inside_stays : IsMendedAround at front o inner c behind
   inside_stays = record { before = edits_in_front; after = edits_in_behind; whole = edits_inside; without = edits_without }

@@ -15,3 +15,6 @@ pub mod Further
 pub mod Joins
 pub mod AtStops
 pub mod Inside
+pub mod Around
+pub mod Bodies
+pub mod BodyTexts
