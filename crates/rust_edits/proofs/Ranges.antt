@@ -1,4 +1,4 @@
--- An item's text alone.
+-- Items in front of others, and behind them.
 pub mod NearFronts
 pub mod NearFields
 pub mod NearLeaves
@@ -6,20 +6,9 @@ pub mod NearItems
 pub mod NearTurns
 pub mod Inner
 pub mod Alone
-pub mod Feeds
-pub mod Seats
-pub mod Fresh
-pub mod Plain
 pub mod Tops
 pub mod Turning
 pub mod Onward
 pub mod Behind
-pub mod Ranges
 pub mod Joins
-pub mod Typed
-pub mod Modules
-pub mod Files
-pub mod Fronts
-pub mod Holds
-pub mod TopIds
 pub mod Examples

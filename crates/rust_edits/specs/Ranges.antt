@@ -1,4 +1,2 @@
--- The text of an item's range, read alone.
-pub mod Laws
+-- Items in front of others, and behind them.
 pub mod Joined
-pub mod Inside

@@ -8,9 +8,7 @@ ghost use Rattle.rust_edits.specs.Typing.Loose.{ProblemsMove};
 ghost use Rattle.rust_edits.specs.Typing.Moved.{BodyIsTold, IsReadAnew, PlacesMove};
 ghost use Rattle.rust_edits.specs.Typing.Opened.{BodyOpens};
 ghost use Rattle.rust_edits.specs.Typing.Problems.{ProblemsStand};
-ghost use Rattle.rust_edits.specs.Ranges.Inside.{InsideBetween, InsideJoin, ModuleReads, TopHolds};
-ghost use Rattle.rust_edits.specs.Ranges.Joined.{BothHold, FileTells, FrontHolds, FrontIdsStay, IdsStay, ItemsJoin, ItemsStand, ItemsTold, RestHolds, TopKeysStay, TypingItems};
-ghost use Rattle.rust_edits.specs.Ranges.Laws.{RangeAlone};
+ghost use Rattle.rust_edits.specs.Ranges.Joined.{InsideJoin, ItemsJoin};
 
 use crate::edit::BodyEdit;
 use crate::shift::Shift;
@@ -34,22 +32,8 @@ fn typing()
     ensures problems_move { ProblemsMove }
 {}
 
-// What is read of whole items alone, behind each other and between braces.
+// What is read of whole items, and of what is behind them.
 fn ranges()
-    ensures range_alone { RangeAlone }
     ensures items_join { ItemsJoin }
-    ensures typing_items { TypingItems }
-    ensures file_tells { FileTells }
-    ensures items_stand { ItemsStand }
-    ensures items_told { ItemsTold }
-    ensures front_holds { FrontHolds }
-    ensures both_hold { BothHold }
-    ensures rest_holds { RestHolds }
-    ensures top_keys_stay { TopKeysStay }
-    ensures front_ids_stay { FrontIdsStay }
-    ensures ids_stay { IdsStay }
     ensures inside_join { InsideJoin }
-    ensures module_reads { ModuleReads }
-    ensures inside_between { InsideBetween }
-    ensures top_holds { TopHolds }
 {}

@@ -1,20 +1,23 @@
 -- Whole items and what is behind them are read one after the other.
 use Rattle.std.proofs.Common.{◌≡◌, Bool, ◌<◌, ◌+◌, ◌==◌, ◌||◌, ℕ, suc, true, false, Option, Some, None, List, [], ◌∷◌, ◌++◌, length, refl, sym, ap, ◌∙◌, subst, arith, map, append_assoc, append-nil, length-append}
-use Rattle.rust_edits.proofs.Common.{option_map, not, slice_index, filter, list_any, EditionYear, MetaView, ItemView, Row, Stop, stop, EndsAlone, moved, is_continuation, Piece, symbol_of, is_significant, tokens, most, Tokens, tokens_of, last_unended, by_first, symbol, TextRange, inner_attributes, Problem, Found, nothing_found, and_problem_at, and_all, finding, items, moved_range, moved_span, moved_problem, behind_attributes, found_in, read_of, ends_items, read_at, HoldsAt, InsideJoin, TopHolds, IsBare, found_on, BeginsAnew, common_steps, nat_tests, tokens_sound, behind, tokens_laid, LeadsTo, through, by_kept, inner_attributes_until, inner_attributes_leads, Span, items_found, Ending, Near, near, fewer, near_parting, near_enters, near_levels, is_still, tokens_short}
+use Rattle.rust_edits.proofs.Common.{option_map, not, slice_index, filter, list_any, EditionYear, MetaView, ItemView, Row, Stop, stop, EndsAlone, moved, is_continuation, Piece, symbol_of, is_significant, tokens, most, Tokens, tokens_of, last_unended, by_first, symbol, TextRange, inner_attributes, Problem, Found, nothing_found, and_problem_at, and_all, finding, items, moved_range, moved_span, moved_problem, behind_attributes, found_in, read_of, ends_items, read_at, HoldsAt, HoldsItems, InsideJoin, ItemsJoin, IsBare, found_on, BeginsAnew, common_steps, nat_tests, tokens_sound, behind, tokens_laid, LeadsTo, here, further, bumped, through, by_kept, inner_attributes_until, inner_attributes_leads, Span, items_found, Ending, Near, near, fewer, near_parting, near_enters, near_levels, is_still, tokens_short}
 use Rattle.rust_items.specs.declared.log.ProblemKind.TheVariants as problem
 use Rattle.rust_cursor.proofs.Parting as parting
 use Rattle.rust_edits.proofs.Ranges.NearLeaves.{Given, given_on}
 use Rattle.rust_edits.proofs.Ranges.NearItems.{top_end, FoundNear, is_quiet}
-use Rattle.rust_edits.proofs.Ranges.Alone.{part_in, part_near, part_ended, start_near, ended, IsPart, tokens_behind}
+use Rattle.rust_edits.proofs.Ranges.Alone.{last_is, part_in, part_near, part_ended, start_near, ended, IsPart, tokens_behind}
 use Rattle.rust_edits.proofs.Ranges.Behind.{plain_on, behind_moved, first_moved, unended_behind, past_whole, plain_tokens}
 use Rattle.rust_edits.proofs.Ranges.Inner.{no_inner}
 use Rattle.rust_edits.proofs.Ranges.Onward.{IsRead, read_on}
-use Rattle.rust_edits.proofs.Ranges.Ranges.{last_is}
-use Rattle.rust_edits.proofs.Ranges.Seats.{edition_stays}
 use Rattle.rust_edits.proofs.Ranges.Tops.{found_keeps}
 use Rattle.rust_edits.proofs.Ranges.Turning.{run, run_stop, run_none, run_ended, top_is}
 use Rattle.rust_edits.proofs.Ranges.NearFields.{empty_left}
 use Rattle.rust_edits.proofs.Typing.ProblemsIn.{unended_kept}
+
+edition_stays : {ts us : Tokens} → LeadsTo ts us → us.edition ≡ ts.edition
+unfolding bumped
+edition_stays here = refl
+edition_stays (further p) = edition_stays p
 
 pub items_top : (is_top : Bool) (left : ℕ) (f : Found) (ts : Tokens) → items is_top (suc left) f ts ≡ run is_top left most [] f ts
 unfolding finding
@@ -295,7 +298,8 @@ joined_whole is_top left edition p y h b short =
 
 -- ---- the laws
 
-pub top_holds : TopHolds
+-- whole items hold such at the top
+pub top_holds : (edition : EditionYear) (text : List ℕ) → HoldsItems edition text → length text < most → HoldsAt true 128 edition text
 top_holds edition text h short = record {
   bare = h.bare;
   ends = h.ends;
@@ -308,3 +312,17 @@ top_holds edition text h short = record {
 
 pub inside_join : InsideJoin
 inside_join is_top left edition p y h b short = let j = joined_whole is_top left edition p y h b short in record { items = j.items; found = j.found }
+
+found_joined : (edition : EditionYear) (text x y : List ℕ) (d : ℕ) → Joined true 127 edition text x y d → (found_in edition x).problems ≡ [] → found_in edition text ≡ and_all (found_on d (found_in edition y)) (found_in edition x)
+unfolding found_in
+found_joined edition text x y d j sound =
+    ap (λ u. and_problem_at problem.Unterminated u (read_of edition text).1.0) j.unended
+    ∙ ap (and_problem_at problem.Unterminated (option_map (λ n. n + d) (read_of edition y).1.1.unended)) j.found
+    ∙ unended_join d (read_of edition y).1.1.unended (read_of edition x).1.0 (read_of edition y).1.0
+    ∙ ap (and_all (found_on d (and_problem_at problem.Unterminated (read_of edition y).1.1.unended (read_of edition y).1.0))) (sym (found_quiet edition x sound))
+
+pub items_join : ItemsJoin
+items_join edition x y h b short =
+    let sizes = length-append x y in
+    let j = joined_whole true 127 edition x y (top_holds edition x h (omega (arith, short))) b short in
+    record { attrs = j.attrs; items = j.items; found = found_joined edition (x ++ y) x y (length x) j h.sound }

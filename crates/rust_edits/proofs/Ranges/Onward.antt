@@ -5,9 +5,11 @@ use Rattle.rust_cursor.proofs.Near.{left_behind}
 use Rattle.rust_edits.proofs.Ranges.NearLeaves.{Given, given_on, Ends, passes, before_end, at_end}
 use Rattle.rust_edits.proofs.Ranges.NearItems.{top_end, FoundNear, FoundAlike, is_quiet, quiet_before, turn_whole, list_keeps, flat, is_sound}
 use Rattle.rust_edits.proofs.Ranges.NearTurns.{turn_ends}
-use Rattle.rust_edits.proofs.Ranges.Plain.{true_false}
 use Rattle.rust_edits.proofs.Ranges.Tops.{turn_keeps}
 use Rattle.rust_edits.proofs.Ranges.Turning.{run, run_none, run_same, none_end, next_leads, next_fewer, beyond_none, turn_far}
+
+true_false : {t : Bool} → t ≡ true → t ≡ false → ⊥
+true_false e f = absurd (let no : true ≡ false = sym e ∙ f in cc)
 
 -- what was read of the short text, and in the long one: the same items, and then what stands behind them is read, whatever number of turns is allowed
 pub record IsRead (is_top : Bool) (left : ℕ) (b : Ending) (before : Found) (done done' : List ItemView) (f : Found) (ts : Tokens) (r : List ItemView × (Found × Tokens)) : Type 0 where
