@@ -9,6 +9,7 @@ ghost use Rattle.rust_edits.specs.Typing.Moved.{BodyIsTold, IsReadAnew, PlacesMo
 ghost use Rattle.rust_edits.specs.Typing.Opened.{BodyOpens};
 ghost use Rattle.rust_edits.specs.Typing.Problems.{ProblemsStand};
 ghost use Rattle.rust_edits.specs.Ranges.Joined.{InsideJoin, ItemsJoin};
+ghost use Rattle.rust_edits.specs.Ranges.Mended.{ItemsBefore};
 
 use crate::edit::BodyEdit;
 use crate::shift::Shift;
