@@ -12,4 +12,5 @@ pub mod Turning
 pub mod Onward
 pub mod Behind
 pub mod Joins
+pub mod Damaged
 pub mod Examples

@@ -1,6 +1,6 @@
 -- The path of a macro call that may be an item ends before its `!`.
-use Rattle.std.proofs.Common.{◌≡◌, ◌==◌, ◌&&◌, ◌≤◌, ℕ, zero, suc, Bool, true, false, Option, Some, None, List, [], ◌∷◌, codes, refl, sym, ap, ◌∙◌, subst, arith, bytes_eq}
-use Rattle.rust_edits.proofs.Common.{is_some, Tokens, symbol, word, kind, bumped, eat, is_pair, is_at_identifier, by_first, path, begins_call, is_called, most, LeadsTo, here, further, through, when, bumped_leads, eat_leads, and_parts, nothing, eqb-true, Piece, symbol_of, TokenKind, next_name, name, taken_with}
+use Rattle.std.proofs.Common.{◌≡◌, ◌==◌, ◌≤◌, ℕ, zero, suc, true, false, Option, Some, None, List, [], ◌∷◌, codes, refl, arith, bytes_eq}
+use Rattle.rust_edits.proofs.Common.{Tokens, symbol, word, kind, bumped, eat, is_pair, is_at_identifier, by_first, path, begins_call, is_called, most, LeadsTo, here, further, through, when, bumped_leads, eat_leads, and_parts, nothing, eqb-true, Piece, symbol_of, TokenKind, next_name, name, taken_with}
 use Rattle.rust_lexer.specs.declared.kind.TokenKind.TheVariants as kinds
 use Rattle.rust_cursor.specs.Words.{eat_pair, identifies}
 use Rattle.rust_cursor.proofs.Leads.{eat_pair_leads}

@@ -1,6 +1,6 @@
 -- An item that ends with the last token of a text is the same in a longer text.
-use Rattle.std.proofs.Common.{length-append, ◌≤◌, ◌≡◌, ◌<◌, ◌+◌, ◌==◌, ◌||◌, ◌&&◌, ℕ, zero, suc, Bool, true, false, Option, Some, None, List, [], ◌++◌, length, refl, sym, ap, ◌∙◌, subst, arith}
-use Rattle.rust_edits.proofs.Common.{is_none, and_row, and_flaw, span_of, Gone, AstIdKind, MetaView, ItemView, extern_block_from, module_from, behind_tree, Tokens, symbol, at, eat, bumped, is_at_end, Head, FrontRead, front, named_node, node, leaf, NameRead, named, no_name, Found, Finder, nothing_found, and_problem, and_item, leaf_turn, BlockRead, deep_block, unmatched, extern_inside, and_parent, extern_block, depth_of, inside_unless, module_with, some_item, by_head, turn_with, inside, turn, common_steps, nat_tests, and_parts, IsLaid, behind, LeadsTo, through, when, eat_leads, Ending, Near, fewer, nothing, bumped_onward, at_same, past_same, near_twins, behind_tree_near, Step, at_last, next, step, untaken, eat_fewer, by_next, by_kept, symbol_same, end_same, named_leads, front_start, Finds, FindsIn, turn_with_found, inside_found, extern_inside_found, unless_found}
+use Rattle.std.proofs.Common.{length-append, ◌≤◌, ◌≡◌, ◌<◌, ◌+◌, ◌==◌, ◌||◌, ◌&&◌, ℕ, zero, suc, Bool, true, false, Option, Some, None, List, [], ◌++◌, refl, sym, ap, ◌∙◌, subst, arith}
+use Rattle.rust_edits.proofs.Common.{is_none, and_row, and_flaw, span_of, AstIdKind, MetaView, ItemView, extern_block_from, module_from, behind_tree, Tokens, symbol, at, eat, bumped, is_at_end, Head, FrontRead, front, named_node, node, leaf, NameRead, named, no_name, Found, Finder, nothing_found, and_problem, and_item, leaf_turn, BlockRead, deep_block, unmatched, extern_inside, and_parent, extern_block, depth_of, inside_unless, module_with, some_item, by_head, turn_with, inside, turn, nat_tests, IsLaid, behind, LeadsTo, through, when, eat_leads, Ending, Near, fewer, nothing, bumped_onward, at_same, past_same, near_twins, behind_tree_near, Step, at_last, next, step, untaken, eat_fewer, by_next, by_kept, symbol_same, end_same, named_leads, FindsIn, turn_with_found, inside_found, extern_inside_found, unless_found}
 use Rattle.hir_input.specs.declared.ids.AstIdKind.TheVariants as ast
 use Rattle.rust_leaves.specs.declared.head.Head.TheVariants as heads
 use Rattle.rust_items.specs.declared.log.ProblemKind.TheVariants as problem

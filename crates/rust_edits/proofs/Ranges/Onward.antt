@@ -1,6 +1,6 @@
 -- A text of whole items in a longer one: the longer one is read on from its end.
 use Rattle.std.proofs.Common.{◌≤◌, ◌≡◌, ◌<◌, ◌+◌, ◌==◌, ℕ, zero, suc, Bool, true, false, Option, List, [], ◌++◌, length, sym, ap, ◌∙◌, subst, arith, append_assoc, append-nil}
-use Rattle.rust_edits.proofs.Common.{nothing, beyond_leads, option_to_list, ItemView, beyond, Tokens, at, Found, is_list_end, turn, nat_tests, IsLaid, behind, LeadsTo, here, through, when, by_next, Ending, Near, Gone, more_left, past_same, beyond_near, AtEnd, is_still}
+use Rattle.rust_edits.proofs.Common.{nothing, beyond_leads, option_to_list, ItemView, beyond, Tokens, Found, is_list_end, turn, nat_tests, IsLaid, behind, LeadsTo, here, through, when, by_next, Ending, Near, Gone, more_left, past_same, beyond_near, AtEnd, is_still}
 use Rattle.rust_cursor.proofs.Near.{left_behind}
 use Rattle.rust_edits.proofs.Ranges.NearLeaves.{Given, given_on, passes, before_end, at_end}
 use Rattle.rust_edits.proofs.Ranges.NearItems.{top_end, FoundNear, told, TurnEnds}

@@ -1,6 +1,6 @@
 -- What a turn finds: problems that were told stay, and an item has a byte at least.
-use Rattle.std.proofs.Common.{arith, ◌≤◌, length-append, ◌≡◌, ◌<◌, ℕ, Bool, false, Option, Some, None, List, [], ◌∷◌, ◌++◌, map, refl, sym, ap, ◌∙◌, subst, append_assoc}
-use Rattle.rust_edits.proofs.Common.{option_to_list, list_any, EditionYear, AstIdKind, ItemView, no_items, item_and, items_from, Tokens, at, is_at_end, TextRange, Head, FrontRead, front, leaf, LeafRead, NameRead, named, no_name, Problem, ItemPlace, Found, Finder, BlockRead, span_of, and_parent, leaf_found, leaf_turn, extern_turn, extern_block, by_head, turn_with, inside, depth_of, turn, Telling, ArePlaces, placed, found_in, read_of, append_cancel_left, IsLaid, behind, when, front_start, Span, place_span, adds_use_trees, adds_problem_at, adds_item, turn_found, or_parts, list_any-append}
+use Rattle.std.proofs.Common.{arith, ◌≤◌, length-append, ◌≡◌, ◌<◌, ℕ, Bool, Option, Some, None, List, [], ◌∷◌, ◌++◌, map, refl, sym, ap, ◌∙◌, subst, append_assoc}
+use Rattle.rust_edits.proofs.Common.{option_to_list, AstIdKind, ItemView, no_items, item_and, items_from, Tokens, at, is_at_end, TextRange, Head, FrontRead, front, leaf, LeafRead, NameRead, named, no_name, ItemPlace, Found, Finder, BlockRead, span_of, and_parent, leaf_found, leaf_turn, extern_block, by_head, inside, depth_of, turn, Telling, ArePlaces, placed, append_cancel_left, IsLaid, behind, when, front_start, Span, place_span, adds_use_trees, adds_problem_at, adds_item, turn_found}
 use Rattle.hir_input.specs.declared.ids.AstIdKind.TheVariants as kind
 use Rattle.rust_leaves.specs.declared.head.Head.TheVariants as heads
 use Rattle.rust_items.specs.declared.log.ProblemKind.TheVariants as problem
