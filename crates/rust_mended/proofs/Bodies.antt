@@ -78,10 +78,6 @@ within most at (t ∷ ts) h s l =
     let more = end_from (at + length t.text) ts in
     ((omega (arith, e, more, l), (omega (arith, e, more, l), (some, λ _. omega (arith, e, more, l, some)))), within most (at + length t.text) ts h.1 (some_rest t ts s) l)
 
-pub fit_any : (ts : List Piece) → AreSome ts → TokensFit (λ _. Unit {0}) ts
-fit_any [] s = tt
-fit_any (t ∷ ts) s = ((tt, (tt, (some_first t ts s, λ _. tt))), fit_any ts (some_rest t ts s))
-
 -- ---- places of marks
 
 and_bounded : (most : ℕ) (k : Option MarkKind) (l : Line) (t : Piece) (ms : List Mark) → t.at ≤ most → l.behind ≤ most → AllByRecursion (λ t. (t.at ≤ most) × (t.behind ≤ most)) ms

@@ -27,7 +27,7 @@ use Rattle.rust_mended.specs.Steps.{EditsFit}
 use Rattle.rust_mended.specs.Texts.{edits, mended_text, mending_edit, past_by, past_edit, sign, with_edits}
 use Rattle.rust_mended.proofs.Around.{Any, all_changed_written, changed, changed_edit, edits_stay, fits_any, front_changed, grown, grown_high, grown_same, marks_stay, upto_fits, upto_told}
 use Rattle.rust_mended.proofs.Bodies as body
-use Rattle.rust_mended.proofs.Bodies.{behind_marks, behind_tokens, bounded, closed_line, closer, fit_any, inner_line, inner_marks, inner_tokens, place_moved, some_unmoved}
+use Rattle.rust_mended.proofs.Bodies.{behind_marks, behind_tokens, bounded, closed_line, closer, inner_line, inner_marks, inner_tokens, place_moved, some_unmoved}
 use Rattle.rust_mended.proofs.Further.{EndAt, IsSome, are_behind, reaching_on, same_on}
 use Rattle.rust_mended.proofs.Inside.{edits_inside, front_is, no_rest, upto}
 use Rattle.rust_mended.proofs.Joins.{edits_both, edits_over_one, on}

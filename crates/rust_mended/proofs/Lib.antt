@@ -18,3 +18,4 @@ pub mod Inside
 pub mod Around
 pub mod Bodies
 pub mod BodyTexts
+mod Examples
