@@ -144,26 +144,26 @@ joined_if false x y u v Z h g = g refl
 end_before_joined : (t : Mark) (os : List Opened) (K L : List Opened → List Written) (Z : List Written) (cs : List Mark) → Joined K L Z cs → Comes os cs → end_before t os K ≡ end_before t os L ++ Z
 end_before_joined t [] K L Z cs h s = h [] tt
 end_before_joined t (o ∷ os) K L Z cs h s =
-    joined_if (ends_before_item t o) (put t.behind o.bracket ∷ end_before t os K) (K (o ∷ os)) (put t.behind o.bracket ∷ end_before t os L) (L (o ∷ os)) Z
-    (λ e. ap (λ ws. put t.behind o.bracket ∷ ws) (end_before_joined t os K L Z cs h (comes_around o os cs s))) (λ e. h (o ∷ os) s)
+    joined_if (ends_before_item t o) (put t.behind o ∷ end_before t os K) (K (o ∷ os)) (put t.behind o ∷ end_before t os L) (L (o ∷ os)) Z
+    (λ e. ap (λ ws. put t.behind o ∷ ws) (end_before_joined t os K L Z cs h (comes_around o os cs s))) (λ e. h (o ∷ os) s)
 
 close_own_joined : (t : Mark) (os : List Opened) (K L : List Opened → List Written) (Z : List Written) (cs : List Mark) → Joined K L Z cs → Comes os (t ∷ cs) → close_own t os K ≡ close_own t os L ++ Z
 close_own_joined t [] K L Z cs h s = ap (λ ws. left t ∷ ws) (h [] tt)
 close_own_joined t (o ∷ os) K L Z cs h s =
-    joined_if o.is_closed (closed t o.bracket ∷ K os) (put t.behind o.bracket ∷ close_own t os K) (closed t o.bracket ∷ L os) (put t.behind o.bracket ∷ close_own t os L) Z
+    joined_if o.is_closed (closed t o.bracket ∷ K os) (put t.behind o ∷ close_own t os K) (closed t o.bracket ∷ L os) (put t.behind o ∷ close_own t os L) Z
     (λ e. ap (λ ws. closed t o.bracket ∷ ws) (h os (own_below_by o.is_closed o.owed (owed os) (Comes os) (comes_grows os) t cs e s)))
-    (λ e. ap (λ ws. put t.behind o.bracket ∷ ws) (close_own_joined t os K L Z cs h (own_around_by o.is_closed o.owed (owed os) (Comes os) (t ∷ cs) e s)))
+    (λ e. ap (λ ws. put t.behind o ∷ ws) (close_own_joined t os K L Z cs h (own_around_by o.is_closed o.owed (owed os) (Comes os) (t ∷ cs) e s)))
 
 close_far_joined : (t : Mark) (os : List Opened) (K L : List Opened → List Written) (Z : List Written) (cs : List Mark) → Joined K L Z cs → Comes os cs → close_far t os K ≡ close_far t os L ++ Z
 close_far_joined t [] K L Z cs h s = ap (λ ws. left t ∷ ws) (h [] tt)
 close_far_joined t (o ∷ os) K L Z cs h s =
     let around : Comes os cs = comes_around o os cs s in
-    joined_if o.is_closed (left t ∷ K (o ∷ os)) (if fits_closer t o then closed t o.bracket ∷ K os else put t.behind o.bracket ∷ close_far t os K)
-    (left t ∷ L (o ∷ os)) (if fits_closer t o then closed t o.bracket ∷ L os else put t.behind o.bracket ∷ close_far t os L) Z
+    joined_if o.is_closed (left t ∷ K (o ∷ os)) (if fits_closer t o then closed t o.bracket ∷ K os else put t.behind o ∷ close_far t os K)
+    (left t ∷ L (o ∷ os)) (if fits_closer t o then closed t o.bracket ∷ L os else put t.behind o ∷ close_far t os L) Z
     (λ e. ap (λ ws. left t ∷ ws) (h (o ∷ os) s))
-    (λ e. joined_if (fits_closer t o) (closed t o.bracket ∷ K os) (put t.behind o.bracket ∷ close_far t os K) (closed t o.bracket ∷ L os) (put t.behind o.bracket ∷ close_far t os L) Z
+    (λ e. joined_if (fits_closer t o) (closed t o.bracket ∷ K os) (put t.behind o ∷ close_far t os K) (closed t o.bracket ∷ L os) (put t.behind o ∷ close_far t os L) Z
     (λ e. ap (λ ws. closed t o.bracket ∷ ws) (h os around))
-    (λ e. ap (λ ws. put t.behind o.bracket ∷ ws) (close_far_joined t os K L Z cs h around)))
+    (λ e. ap (λ ws. put t.behind o ∷ ws) (close_far_joined t os K L Z cs h around)))
 
 taken_joined : (k : MarkKind) (t : Mark) (os : List Opened) (K L : List Opened → List Written) (Z : List Written) (cs : List Mark) → Joined K L Z cs → Comes os (closers_reached k t cs)
     → mark_taken k t (closer_by k cs) K os ≡ mark_taken k t (closer_by k cs) L os ++ Z
@@ -194,8 +194,8 @@ first_column n m e = ap (λ k. nat_le k m) e ∙ leb-zero m
 end_before_item : (t : Mark) (os : List Opened) (K : List Opened → List Written) → t.indent ≡ 0 → AllUnclosed os → end_before t os K ≡ all_ended t.behind os ++ K []
 end_before_item t [] K c un = refl
 end_before_item t (o ∷ os) K c un =
-    end_here o.is_closed (nat_le t.indent o.indent) (put t.behind o.bracket ∷ end_before t os K) (K (o ∷ os)) un.0 (first_column t.indent o.indent c)
-    ∙ ap (λ ws. put t.behind o.bracket ∷ ws) (end_before_item t os K c un.1)
+    end_here o.is_closed (nat_le t.indent o.indent) (put t.behind o ∷ end_before t os K) (K (o ∷ os)) un.0 (first_column t.indent o.indent c)
+    ∙ ap (λ ws. put t.behind o ∷ ws) (end_before_item t os K c un.1)
 
 item_joined : (at : ℕ) (t : Mark) (s : List Mark) (k : MarkKind) (c : Option Mark) → k ≡ mark.Item → t.indent ≡ 0 → (os : List Opened) → AllUnclosed os
     → mark_taken k t c (written_from at s) os ≡ all_ended t.behind os ++ mark_taken k t c (written_from at s) []

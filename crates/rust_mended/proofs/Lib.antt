@@ -8,3 +8,9 @@ pub mod PutPlaces
 pub mod Lossless
 pub mod Back
 pub mod Behind
+pub mod Told
+pub mod Blanks
+pub mod Seam
+pub mod Further
+pub mod Joins
+pub mod AtStops

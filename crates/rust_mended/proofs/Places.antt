@@ -103,10 +103,10 @@ byte_at : (x t y : List ℕ) → 0 < length t → slice_index (x ++ (t ++ y)) (l
 byte_at x [] y l = absurd (omega arith)
 byte_at x (b ∷ t) y l = get_or-append_seam x b (t ++ y) 0
 
-some_first : (t : Piece) (ts : List Piece) → AreSome (t ∷ ts) → 0 < length t.text
+pub some_first : (t : Piece) (ts : List Piece) → AreSome (t ∷ ts) → 0 < length t.text
 some_first t ts h = h 0 t (omega arith)
 
-some_rest : (t : Piece) (ts : List Piece) → AreSome (t ∷ ts) → AreSome ts
+pub some_rest : (t : Piece) (ts : List Piece) → AreSome (t ∷ ts) → AreSome ts
 some_rest t ts h = λ i d l. h (suc i) d (omega arith)
 
 start_fits : (text x : List ℕ) (ts : List Piece) → text ≡ x ++ text_of ts → Leads ts → AreSome ts → IsCharBoundary text (length x)

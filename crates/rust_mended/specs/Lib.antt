@@ -1,4 +1,5 @@
 pub mod Marks
 pub mod Mended
 pub mod Texts
+pub mod Apart
 pub mod Steps
