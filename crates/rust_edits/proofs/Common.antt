@@ -43,7 +43,8 @@ pub use Rattle.rust_cursor.specs.Words.{by_first, rest}
 unfoldable pub use Rattle.rust_cursor.specs.Words.{at, bumped, eat, eat_word, is_at_doc, is_at_end, is_at_identifier, is_at_open, is_empty, is_glued, is_pair, kind, symbol, text, word}
 pub use Rattle.rust_edits.specs.Edits.{ArePartsAbout, BeginFrom, HasPlaces, ItemsAreInOrder, MayEdit, MayStandInside, PlacesAreKept, ReadsMoved, Shifts, TellsLoose, begins_bare, body_about, edited, has_item, has_place, has_problem, has_range, has_some_range, last_begun, or_kept, shifted_item, shifted_place, shifted_problem}
 pub use Rattle.rust_edits.specs.Inner.{AreCut, EndsFit, IsShift, IsUncut, LacksByte, begins_plain, brackets_view, closes_last, in_braces, is_alone, loose_inside, same_loose}
-pub use Rattle.rust_edits.specs.Ranges.Joined.{BeginsAnew, EndsOwn, HoldsAt, HoldsItems, InsideJoin, IsBare, ItemsJoin, ends_items, found_on, read_at}
+pub use Rattle.rust_edits.specs.Ranges.Joined.{BeginsAnew, EndsOwn, EndsWhole, InsideJoin, IsBare, ItemsJoin, ReadsBoth, ends_items, found_on, read_at}
+pub use Rattle.rust_edits.specs.Ranges.Mended.{ItemsBefore, ItemsBehind, ReadsBothIn}
 pub use Rattle.rust_edits.specs.Typing.Laws.{BeginsPlain, IsBody, IsTyped, OpensAt, TypingInside, first_plain, with_body}
 pub use Rattle.rust_edits.specs.Typing.Loose.{Loose, ProblemsMove, loose_behind, loose_from, loose_in, none_loose}
 pub use Rattle.rust_edits.specs.Typing.Moved.{AreMoved, BodyIsTold, IsReadAnew, PlacesMove, close_at, moved_place, shifted, shifted_by}
@@ -112,7 +113,7 @@ unfoldable pub use Rattle.rust_paths.specs.Paths.{path}
 unfoldable pub use Rattle.rust_paths.specs.UseTrees.{use_tree}
 unfoldable pub use Rattle.rust_paths.specs.Visibilities.{visibility}
 pub use Rattle.rust_paths.specs.declared.names.TextRange.{TextRange}
-pub use Rattle.std.proofs.lemmas.Bool.{and_from, and_parts, and_right, eq-eqb, eqb-true, false≢true, le-leb, leb-true, lt-leb, lt-ltb, ltb-false, ltb-true, ne_eqb, not-true, or_left, or_parts, or_right}
+pub use Rattle.std.proofs.lemmas.Bool.{and_from, and_parts, and_right, eq-eqb, eqb-true, false≢true, le-leb, leb-true, lt-leb, lt-ltb, ltb-true, ne_eqb, not-true, or_left, or_parts, or_right}
 pub use Rattle.std.proofs.lemmas.Bool.Decides.{nat_tests}
 pub use Rattle.std.proofs.lemmas.Grind.{common_steps}
 pub use Rattle.std.proofs.lemmas.List.{append_cancel_left, drop_all, drop_at, map-append, take_all, take_at}

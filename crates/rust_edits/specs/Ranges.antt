@@ -1,2 +1,3 @@
 -- Items in front of others, and behind them.
 pub mod Joined
+pub mod Mended

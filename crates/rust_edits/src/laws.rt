@@ -9,6 +9,7 @@ ghost use Rattle.rust_edits.specs.Typing.Moved.{BodyIsTold, IsReadAnew, PlacesMo
 ghost use Rattle.rust_edits.specs.Typing.Opened.{BodyOpens};
 ghost use Rattle.rust_edits.specs.Typing.Problems.{ProblemsStand};
 ghost use Rattle.rust_edits.specs.Ranges.Joined.{InsideJoin, ItemsJoin};
+ghost use Rattle.rust_edits.specs.Ranges.Mended.{ItemsBefore, ItemsBehind};
 
 use crate::edit::BodyEdit;
 use crate::shift::Shift;
@@ -32,8 +33,10 @@ fn typing()
     ensures problems_move { ProblemsMove }
 {}
 
-// What is read of whole items, and of what is behind them.
+// What is read of a text that ends with a whole item and of what is behind it, also where brackets are mended.
 fn ranges()
     ensures items_join { ItemsJoin }
     ensures inside_join { InsideJoin }
+    ensures items_before { ItemsBefore }
+    ensures items_behind { ItemsBehind }
 {}

@@ -1,12 +1,9 @@
--- Small examples, by computing: a text that ends with its own token, and one that holds a whole item.
-use Rattle.std.proofs.Common.{◌≡◌, ◌==◌, ℕ, true, false, Option, None, List, [], ◌∷◌, codes, length, refl, ap, ◌∙◌, suc}
-use Rattle.rust_edits.proofs.Common.{option_to_list, beyond, slice_index, EditionYear, MetaView, ItemView, Inner, semicolon, closing, is_continuation, is_wide_start, is_wide_continue, first_cut, Piece, tokens, most, goes_on, Tokens, tokens_of, symbol, word, text, kind, at, is_empty, is_at_end, bumped, eat, plain_name, is_keyword, is_path_keyword, next_name, name, placed_name, is_behind, is_doc, is_attribute, inner_attributes, is_modifier, is_modifier_before, is_weak_before, head, head_by, FrontRead, front, named, Found, nothing_found, and_problem_at, items, module_with, by_head, inside, turn, depth_of, behind_attributes, found_in, read_of, IsBare, HoldsItems, BeginsAnew, EndsOwn, is_list_end, finding, finding_from, tokens_at, tokens_laid, through, inner_attributes_leads, items_found}
+-- Small examples, by computing: a text that ends with its own token, and one that ends with a whole item.
+use Rattle.std.proofs.Common.{◌≡◌, ◌==◌, ℕ, true, false, Option, None, List, [], ◌∷◌, codes, refl, sym, ap, ◌∙◌, suc}
+use Rattle.rust_edits.proofs.Common.{option_to_list, beyond, slice_index, EditionYear, MetaView, ItemView, Inner, semicolon, closing, is_continuation, is_wide_start, is_wide_continue, first_cut, Piece, tokens, most, goes_on, Tokens, tokens_of, symbol, word, text, kind, at, is_empty, is_at_end, bumped, eat, plain_name, is_keyword, is_path_keyword, next_name, name, placed_name, is_behind, is_doc, is_attribute, inner_attributes, is_modifier, is_modifier_before, is_weak_before, head, head_by, FrontRead, front, named, Found, nothing_found, items, by_head, inside, turn, depth_of, behind_attributes, read_of, IsBare, EndsWhole, BeginsAnew, EndsOwn, is_list_end, finding, finding_from, tokens_at}
 use Rattle.rust_edits.proofs.Ranges.Inner.{front_bare, no_inner}
-use Rattle.rust_edits.proofs.Typing.ProblemsIn.{unended_kept}
 use Rattle.rust_lexer.specs.declared.kind.TokenKind.TheVariants as kinds
-use Rattle.rust_cursor.proofs.Laid as laid
 use Rattle.rust_leaves.specs.declared.head.Head.TheVariants as heads
-use Rattle.rust_items.specs.declared.log.ProblemKind.TheVariants as problem
 
 -- the `;` of `mod b;` is its own
 module_ends : EndsOwn (codes "mod b;")
@@ -34,7 +31,7 @@ one_item : (f : Found) (us : Tokens) → is_empty us ≡ false → (turn 128 f u
 unfolding finding
 one_item f us some none far = ap (λ k. finding_from (is_list_end true) (turn 128) k [] f us) most_is ∙ one_from 18446744073709551613 f us some none far
 
--- ---- a text that holds whole items, and may stand behind others
+-- ---- a text that ends with a whole item, and may stand behind another
 
 pub mod_b : List ℕ
 mod_b = codes "mod b;"
@@ -111,31 +108,20 @@ module _ (y : EditionYear) where
       ∙ one_item nothing_found module_b (some_left y name_and_end) (ap (λ (r : Option ItemView × (Found × Tokens)). r.1.1.left) is_turn ∙ spent.0)
       (ap (λ (r : Option ItemView × (Found × Tokens)). r.1.1.past == module_b.past) is_turn ∙ ap (λ n. (read (is_module, behind_mod)).1.1.past == n) (starts y name_and_end) ∙ spent.1.0)
 
-  ended : (tokens_of y mod_b).unended ≡ None
+  some_there : (behind_attributes y mod_b).left ≡ [] → ⊥
   unfolding all
-  ended = ap (λ (t : Tokens). t.unended) toks
+  some_there e = absurd (let same = ap (λ (p : List MetaView × Tokens). p.1.left) (sym (ap inner_attributes toks ∙ no_inner module_b (not_inner y name_and_end))) ∙ e in cc)
 
-  read_ended : (read_of y mod_b).1.1.unended ≡ None
-  read_ended =
-      let whole = (laid.behind (length mod_b) (inner_attributes_leads (tokens_of y mod_b)) (tokens_laid y mod_b)).laid in
-      unended_kept (through (inner_attributes_leads (tokens_of y mod_b)) (items_found (length mod_b) true 128 nothing_found (behind_attributes y mod_b) whole).leads) ∙ ended
-
-  no_problem : (found_in y mod_b).problems ≡ []
-  unfolding found_in
-  no_problem =
-      ap (λ (u : Option ℕ). (and_problem_at problem.Unterminated u (read_of y mod_b).1.0).problems) read_ended
-      ∙ ap (λ (r : List ItemView × (Found × Tokens)). r.1.0.problems) all_read ∙ ap (λ (r : Option ItemView × (Found × Tokens)). r.1.0.problems) is_turn ∙ spent.1.1
-
-  -- `mod b;` holds a whole item
-  pub holds : HoldsItems y mod_b
+  -- `mod b;` is a whole item
+  pub holds : EndsWhole true 128 y mod_b
   unfolding mod_b
   holds = record {
     bare = bare;
     ends = module_ends;
-    first = (module_with (inside 128) (depth_of 128) is_module nothing_found behind_mod).0;
-    more = [];
-    items = ap (λ (r : List ItemView × (Found × Tokens)). r.0) all_read ∙ ap (λ (r : Option ItemView × (Found × Tokens)). option_to_list r.0) is_turn;
-    sound = no_problem;
+    turns = 0;
+    some = some_there;
+    sound = ap (λ (r : List ItemView × (Found × Tokens)). r.1.0.problems) all_read ∙ ap (λ (r : Option ItemView × (Found × Tokens)). r.1.0.problems) is_turn ∙ spent.1.1;
+    spent = ap (λ (r : List ItemView × (Found × Tokens)). r.1.1.left) all_read ∙ ap (λ (r : Option ItemView × (Found × Tokens)). r.1.1.left) is_turn ∙ spent.0;
   }
 
   first_uncut : is_continuation (slice_index mod_b 0) ≡ false

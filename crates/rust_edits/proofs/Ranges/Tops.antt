@@ -1,40 +1,32 @@
 -- What a turn finds: problems that were told stay, and an item has a byte at least.
-use Rattle.std.proofs.Common.{◌≡◌, ◌<◌, ℕ, Bool, false, Option, Some, None, List, [], ◌∷◌, ◌++◌, map, refl, sym, ap, ◌∙◌, subst, append_assoc}
-use Rattle.rust_edits.proofs.Common.{option_to_list, list_any, EditionYear, AstIdKind, ItemView, no_items, item_and, items_from, Tokens, at, is_at_end, TextRange, Head, FrontRead, front, leaf, LeafRead, NameRead, named, no_name, Problem, ItemPlace, Found, Finder, BlockRead, span_of, and_parent, leaf_found, leaf_turn, extern_turn, extern_block, by_head, turn_with, inside, depth_of, turn, Telling, ArePlaces, placed, found_in, read_of, append_cancel_left, IsLaid, behind, when, front_start, Span, place_span, adds_use_trees, adds_problem_at, adds_item, turn_found, or_parts, list_any-append}
+use Rattle.std.proofs.Common.{arith, ◌≤◌, length-append, ◌≡◌, ◌<◌, ℕ, Bool, Option, Some, None, List, [], ◌∷◌, ◌++◌, map, refl, sym, ap, ◌∙◌, subst, append_assoc}
+use Rattle.rust_edits.proofs.Common.{option_to_list, AstIdKind, ItemView, no_items, item_and, items_from, Tokens, at, is_at_end, TextRange, Head, FrontRead, front, leaf, LeafRead, NameRead, named, no_name, ItemPlace, Found, Finder, BlockRead, span_of, and_parent, leaf_found, leaf_turn, extern_block, by_head, inside, depth_of, turn, Telling, ArePlaces, placed, append_cancel_left, IsLaid, behind, when, front_start, Span, place_span, adds_use_trees, adds_problem_at, adds_item, turn_found}
 use Rattle.hir_input.specs.declared.ids.AstIdKind.TheVariants as kind
 use Rattle.rust_leaves.specs.declared.head.Head.TheVariants as heads
 use Rattle.rust_items.specs.declared.log.ProblemKind.TheVariants as problem
-use Rattle.rust_edits.proofs.Adding.{IfLeaf, any_place, Keeping, maybe, next_keeps}
+use Rattle.rust_edits.proofs.Adding.{IfLeaf, any_place, Keeping}
 use Rattle.rust_edits.proofs.Adding as adding
+use Rattle.rust_edits.proofs.Ranges.NearItems.{told, told_problem}
 
 -- ---- problems stay
-
--- what no problem there is, none here is
-pub record Keeps (f g : Found) : Type 0 where
-  pub all : (test : Problem → Bool) → list_any test g.problems ≡ false → list_any test f.problems ≡ false
-
-keeps_same : (f : Found) → Keeps f f
-keeps_same f = record { all = λ test e. e }
-
-any_fewer : (test : Problem → Bool) (ps qs : List Problem) → list_any test (ps ++ qs) ≡ false → list_any test ps ≡ false
-any_fewer test ps qs e = (or_parts (list_any test ps) (list_any test qs) (sym (list_any-append test ps qs) ∙ e)).0
 
 any_leaf : (o : Option LeafRead) → IfLeaf (λ _. Unit {0}) (λ _. Unit {0}) o
 any_leaf None = tt
 any_leaf (Some l) = (tt, any_place l.too_deep)
 
+-- no fewer problems are told
 abbrev keeping : Keeping 0
 keeping = record {
-  keeps = Keeps;
+  keeps = λ f g. told f ≤ told g;
   place = λ n. Unit {0};
   body = λ o. Unit {0};
   reached = λ ts. Unit {0};
-  same = keeps_same;
-  joined = λ f g h i j. record { all = λ test e. i.all test (j.all test e) };
-  told = λ f g k n s h. record { all = λ test e. h.all test (any_fewer test g.problems (record { kind = k; at = n } ∷ []) e) };
-  row = λ f g r s b h. record { all = h.all };
-  uses = λ f g ns h. record { all = h.all };
-  held = λ f g more i h. record { all = λ test e. h.all test (any_fewer test g.problems more.problems e) };
+  same = λ f. omega arith;
+  joined = λ f g h i j. omega arith;
+  told = λ f g k n s h. let more = told_problem k n g in omega arith;
+  row = λ f g r s b h. h;
+  uses = λ f g ns h. h;
+  held = λ f g more i h. let sum = length-append g.problems more.problems in omega arith;
   none = tt;
   on = λ ts us q l. tt;
   behind = λ each finds f ts l. tt;
@@ -42,14 +34,8 @@ keeping = record {
   leaves = λ h ts l. any_leaf (leaf h ts).0;
 }
 
-pub turn_with_keeps : (left : ℕ) (f : Found) (ts : Tokens) → Keeps f (turn_with (inside left) (depth_of left) f ts).1.0
-turn_with_keeps left f ts = next_keeps 0 keeping left f ts tt
-
-pub turn_keeps : (left : ℕ) (f : Found) (ts : Tokens) → Keeps f (turn left f ts).1.0
+pub turn_keeps : (left : ℕ) (f : Found) (ts : Tokens) → told f ≤ told (turn left f ts).1.0
 turn_keeps left f ts = adding.turn_keeps 0 keeping left f ts tt
-
-pub extern_turn_keeps : (depth : ℕ) (f : Found) (ts : Tokens) → Keeps f (extern_turn depth f ts).1.0
-extern_turn_keeps depth f ts = adding.extern_turn_keeps 0 keeping depth f ts tt
 
 -- ---- the range of an item
 
@@ -110,9 +96,3 @@ turn_strict end left f ts i laid e =
     let same : r.span ∷ r.more ≡ map place_span a.places = append_cancel_left f.spans (r.span ∷ r.more) (map place_span a.places) (sym r.spans ∙ a.adds.spans) in
     let less = strict_by (turn left f ts).0 i e a.are r.span r.more same in
     subst (λ (t : TextRange). t.start < t.end) r.range less
-
--- ---- of a whole text
-
-pub found_keeps : (edition : EditionYear) (x : List ℕ) → Keeps (read_of edition x).1.0 (found_in edition x)
-unfolding found_in
-found_keeps edition x = let r = (read_of edition x).1 in maybe 0 keeping r.0 r.0 problem.Unterminated r.1.unended (any_place r.1.unended) (keeps_same r.0)

@@ -1,5 +1,5 @@
 -- Texts one behind another.
-use Rattle.std.specs.Prelude.{◌≡◌, ◌<◌, ℕ, suc, ◌+◌, Bool, true, false, List, [], ◌∷◌, ◌++◌, length, map, slice_index}
+use Rattle.std.specs.Prelude.{◌≡◌, ◌≢◌, ◌<◌, ℕ, suc, ◌+◌, Bool, true, false, List, [], ◌∷◌, ◌++◌, length, map, slice_index}
 use Rattle.hir_input.specs.declared.edition.EditionYear.{EditionYear}
 use Rattle.hir_input.specs.Syntax.{ItemView}
 use Rattle.hir_input.specs.Attr.{MetaView}
@@ -12,11 +12,11 @@ use Rattle.rust_cursor.specs.Extents.{goes_on}
 use Rattle.rust_cursor.specs.Tokens.{Tokens, tokens_of}
 use Rattle.rust_metas.specs.Attributes.{inner_attributes, is_behind}
 use Rattle.rust_items.specs.Found.{Found, nothing_found, and_all}
-use Rattle.rust_items.specs.Items.{items}
+use Rattle.rust_items.specs.Items.{finding_from, is_list_end, items, turn}
 use Rattle.rust_items.specs.LineEnds.{moved_span, moved_problem}
 use Rattle.rust_items.specs.SourceFiles.{behind_attributes, found_in, read_of}
 
--- ---- what holds whole items
+-- ---- a text, and what may stand behind it
 
 -- a `;` or a `}`
 abbrev pub ends_items : Stop → Bool
@@ -37,22 +37,31 @@ pub record IsBare (text : List ℕ) : Type 0 where
   pub shebang : is_shebang (tokens_from 0 0 text) ≡ false
   pub fence : is_fence text ≡ false
 
--- A text of whole items: it ends with its own `;` or `}`, an item is read of it, and no problem is told.
-pub record HoldsItems (edition : EditionYear) (text : List ℕ) : Type 0 where
-  pub bare : IsBare text
-  pub ends : EndsOwn text
-  pub first : ItemView
-  pub more : List ItemView
-  pub items : (read_of edition text).0 ≡ first ∷ more
-  pub sound : (found_in edition text).problems ≡ []
-
--- What may stand behind whole items: it begins with no inner attribute or inner documentation, and with no `>` or `,`, at which a block
+-- What may stand behind a whole item: it begins with no inner attribute or inner documentation, and with no `>` or `,`, at which a block
 -- in angle brackets would not have been the end.
 pub record BeginsAnew (edition : EditionYear) (text : List ℕ) : Type 0 where
   pub bare : IsBare text
   pub uncut : is_continuation (slice_index text 0) ≡ false
   pub outer : is_behind Inner (tokens_of edition text) ≡ true
   pub still : goes_on (tokens_of edition text) ≡ false
+
+-- What is read of a text at the top, or as what stands between braces up to a `}`, where so many modules more may stand in one another.
+abbrev pub read_at : Bool → ℕ → EditionYear → List ℕ → List ItemView × (Found × Tokens)
+read_at is_top left edition text = items is_top left nothing_found (behind_attributes edition text)
+
+-- the same in so many turns at most, and what is left then
+abbrev pub read_so_far : ℕ → Bool → ℕ → EditionYear → List ℕ → List ItemView × (Found × Tokens)
+read_so_far turns is_top left edition text = finding_from (is_list_end is_top) (turn left) turns [] nothing_found (behind_attributes edition text)
+
+-- A text ends there with a whole item: with its own `;` or `}`. Behind so many turns something is left, and no problem more is told. What
+-- stands before may be damaged; a text without problems is one behind none.
+pub record EndsWhole (is_top : Bool) (left : ℕ) (edition : EditionYear) (text : List ℕ) : Type 0 where
+  pub bare : IsBare text
+  pub ends : EndsOwn text
+  pub turns : ℕ
+  pub some : (read_so_far turns is_top left edition text).1.1.left ≢ []
+  pub sound : (read_at is_top left edition text).1.0.problems ≡ (read_so_far turns is_top left edition text).1.0.problems
+  pub spent : (read_at is_top left edition text).1.1.left ≡ []
 
 -- ---- what is read of two texts
 
@@ -71,32 +80,18 @@ pub record ReadsBoth (edition : EditionYear) (text x y : List ℕ) : Type 0 wher
   pub items : (read_of edition text).0 ≡ (read_of edition x).0 ++ (read_of edition y).0
   pub found : found_in edition text ≡ and_all (found_on (length x) (found_in edition y)) (found_in edition x)
 
--- Whole items and any text that begins anew behind them are read one after the other, each as it is read alone.
+-- A text that ends with a whole item at the top and any text that begins anew behind it are read one after the other, each as it is read alone.
 abbrev pub ItemsJoin : Type 0
-ItemsJoin = (edition : EditionYear) (x y : List ℕ) → HoldsItems edition x → BeginsAnew edition y → length (x ++ y) < most → ReadsBoth edition (x ++ y) x y
+ItemsJoin = (edition : EditionYear) (x y : List ℕ) → EndsWhole true 128 edition x → BeginsAnew edition y → length (x ++ y) < most → ReadsBoth edition (x ++ y) x y
 
 -- ---- between braces
-
--- What is read of a text at the top, or as what stands between braces up to a `}`, where so many modules more may stand in one another.
-abbrev pub read_at : Bool → ℕ → EditionYear → List ℕ → List ItemView × (Found × Tokens)
-read_at is_top left edition text = items is_top left nothing_found (behind_attributes edition text)
-
--- a text of whole items that stand there
-pub record HoldsAt (is_top : Bool) (left : ℕ) (edition : EditionYear) (text : List ℕ) : Type 0 where
-  pub bare : IsBare text
-  pub ends : EndsOwn text
-  pub first : ItemView
-  pub more : List ItemView
-  pub items : (read_at is_top left edition text).0 ≡ first ∷ more
-  pub sound : (read_at is_top left edition text).1.0.problems ≡ []
-  pub spent : (read_at is_top left edition text).1.1.left ≡ []
 
 -- what is read there of two texts, one behind the other
 pub record ReadsBothAt (is_top : Bool) (left : ℕ) (edition : EditionYear) (x y : List ℕ) : Type 0 where
   pub items : (read_at is_top left edition (x ++ y)).0 ≡ (read_at is_top left edition x).0 ++ (read_at is_top left edition y).0
   pub found : (read_at is_top left edition (x ++ y)).1.0 ≡ and_all (found_on (length x) (read_at is_top left edition y).1.0) (read_at is_top left edition x).1.0
 
--- Between braces too, whole items and any text that begins anew behind them are read one after the other.
+-- Between braces too they are read one after the other.
 abbrev pub InsideJoin : Type 0
-InsideJoin = (is_top : Bool) (left : ℕ) (edition : EditionYear) (x y : List ℕ) → HoldsAt is_top (suc left) edition x → BeginsAnew edition y → length (x ++ y) < most
+InsideJoin = (is_top : Bool) (left : ℕ) (edition : EditionYear) (x y : List ℕ) → EndsWhole is_top (suc left) edition x → BeginsAnew edition y → length (x ++ y) < most
     → ReadsBothAt is_top (suc left) edition x y
