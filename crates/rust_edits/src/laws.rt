@@ -9,7 +9,7 @@ ghost use Rattle.rust_edits.specs.Typing.Moved.{BodyIsTold, IsReadAnew, PlacesMo
 ghost use Rattle.rust_edits.specs.Typing.Opened.{BodyOpens};
 ghost use Rattle.rust_edits.specs.Typing.Problems.{ProblemsStand};
 ghost use Rattle.rust_edits.specs.Ranges.Joined.{InsideJoin, ItemsJoin};
-ghost use Rattle.rust_edits.specs.Ranges.Mended.{ItemsBefore, ItemsBehind};
+ghost use Rattle.rust_edits.specs.Ranges.Mended.{ItemsBefore, ItemsBehind, ListsBefore};
 
 use crate::edit::BodyEdit;
 use crate::shift::Shift;
@@ -39,4 +39,5 @@ fn ranges()
     ensures inside_join { InsideJoin }
     ensures items_before { ItemsBefore }
     ensures items_behind { ItemsBehind }
+    ensures lists_before { ListsBefore }
 {}

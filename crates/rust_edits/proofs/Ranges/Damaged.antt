@@ -1,9 +1,12 @@
 -- Items in front of a text whose brackets are mended, and behind one.
-use Rattle.std.proofs.Common.{◌≡◌, ◌<◌, ◌==◌, ◌&&◌, ◌++◌, ℕ, Bool, true, false, List, [], ◌∷◌, length, refl, sym, ap, ◌∙◌, subst, arith, not}
-use Rattle.rust_edits.proofs.Common.{EditionYear, Stop, opening, stop, is_return, with_feeds, EndsWhole, BeginsAnew, ReadsBoth, ItemsBefore, ItemsBehind, ReadsBothIn, most, nat_tests, when}
+use Rattle.std.proofs.Common.{◌≡◌, ◌<◌, ◌+◌, ◌==◌, ◌&&◌, ◌++◌, ℕ, map, length-append, Bool, true, false, List, [], ◌∷◌, length, refl, sym, ap, ◌∙◌, subst, arith, not}
+use Rattle.rust_edits.proofs.Common.{eqb-true, Found, Problem, found_in, moved_problem, EditionYear, Stop, opening, stop, is_return, with_feeds, EndsWhole, BeginsAnew, ReadsBoth, ItemsBefore, ItemsBehind, ReadsBothIn, most, nat_tests, when}
+use Rattle.std.proofs.lemmas.List.{length-map}
 use Rattle.rust_mended.specs.Texts.{mended_text}
 use Rattle.rust_mended.proofs.Joins.{item_text, matched_text}
 use Rattle.rust_mended.proofs.Whole.{text_stays}
+use Rattle.rust_mended.proofs.AtStops.{blanks_text}
+use Rattle.rust_edits.specs.Ranges.Mended.{ListsBefore, is_told, text_for_lists}
 use Rattle.rust_edits.proofs.Ranges.Joins.{items_join}
 
 -- ---- texts with carriage returns
@@ -66,3 +69,49 @@ pub items_behind : ItemsBehind
 items_behind edition q z s h utf8 item none =
     let y = z ++ 10 ∷ mended_text s in
     subst (λ (t : List ℕ). ReadsBothIn edition t (mended_text q) y) (sym (item_text q z s h.apart utf8 item none)) (join_in edition (mended_text q) y h.whole h.anew h.short)
+
+-- ---- what lists tell
+
+none_told : (n : ℕ) → not (n == 0) ≡ false → n ≡ 0
+none_told n e = when (n == 0) (λ f. eqb-true n 0 f) (λ f. absurd (let no = rw f at e in cc))
+
+pub lists_before : ListsBefore
+lists_before edition q z s h = record { text = text; read = subst (λ (t : List ℕ). ReadsBothIn edition t q (text_for_lists edition y)) (sym text) read }
+  where
+    y : List ℕ
+    y = z ++ 10 ∷ s
+
+    whole : EndsWhole true 128 edition (with_feeds q)
+    whole = subst (λ (t : List ℕ). EndsWhole true 128 edition (with_feeds t)) (text_stays q h.matched) h.front.whole
+
+    plain : ReadsBothIn edition (q ++ y) q y
+    plain = join_in edition q y whole h.anew h.short
+
+    mended : mended_text y ≡ z ++ 10 ∷ mended_text s
+    mended = blanks_text z s h.front.apart.blanks h.plain h.front.apart.bare h.front.apart.uncut
+
+    own : List Problem
+    own = (found_in edition (with_feeds q)).problems
+
+    rest : List Problem
+    rest = (found_in edition (with_feeds y)).problems
+
+    same : is_told edition (q ++ y) ≡ is_told edition y
+    same =
+        let none : length own ≡ 0 = none_told (length own) h.sound in
+        let further = map (moved_problem (λ n. n + length (with_feeds q))) rest in
+        let sum : length (own ++ further) ≡ length own + length further = length-append own further in
+        let many : length further ≡ length rest = length-map rest (moved_problem (λ n. n + length (with_feeds q))) in
+        ap (λ (f : Found). not (length f.problems == 0)) plain.found ∙ ap (λ (n : ℕ). not (n == 0)) (omega arith)
+
+    text : text_for_lists edition (q ++ y) ≡ q ++ text_for_lists edition y
+    text =
+        when (is_told edition y) (λ e. rw (same ∙ e, e) (matched_text q z s h.front.apart h.matched ∙ ap (λ t. q ++ t) (sym mended)))
+        (λ e. rw (same ∙ e, e) refl)
+
+    read : ReadsBothIn edition (q ++ text_for_lists edition y) q (text_for_lists edition y)
+    read =
+        when (is_told edition y)
+        (λ e. rw (e, mended)
+        (subst (λ (t : List ℕ). ReadsBothIn edition t q (z ++ 10 ∷ mended_text s)) (matched_text q z s h.front.apart h.matched) (items_before edition q z s h.front h.matched)))
+        (λ e. rw e plain)

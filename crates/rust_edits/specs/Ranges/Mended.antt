@@ -1,6 +1,7 @@
 -- Texts one behind another, of which the brackets are mended.
-use Rattle.std.specs.Prelude.{◌≡◌, ◌<◌, ℕ, ◌==◌, Bool, true, not, if◌then◌else◌, List, [], ◌∷◌, ◌++◌, length, IsUtf8}
+use Rattle.std.specs.Prelude.{◌≡◌, ◌<◌, ℕ, ◌==◌, Bool, true, false, not, if◌then◌else◌, List, [], ◌∷◌, ◌++◌, length, IsUtf8}
 use Rattle.hir_input.specs.declared.edition.EditionYear.{EditionYear}
+use Rattle.rust_lexer.specs.Tokens.{tokens, tokens_from}
 use Rattle.rust_cursor.specs.Elements.{most}
 use Rattle.rust_mended.specs.Apart.{StandApart, begin_with_item}
 use Rattle.rust_mended.specs.Marks.{marks}
@@ -37,3 +38,23 @@ ItemsBefore = (edition : EditionYear) (q z s : List ℕ) → StandsInFront editi
 abbrev pub ItemsBehind : Type 0
 ItemsBehind = (edition : EditionYear) (q z s : List ℕ) → StandsInFront edition q z s → IsUtf8 q → begin_with_item (marks s) ≡ true → closers_reaching (marks s) ≡ []
     → ReadsBothIn edition (mended_text (q ++ (z ++ 10 ∷ s))) (mended_text q) (z ++ 10 ∷ mended_text s)
+
+-- ---- what lists tell
+
+-- The same of a text of which no problem is told, in front of any text.
+pub record StandsSound (edition : EditionYear) (q z s : List ℕ) : Type 0 where
+  pub front : StandsInFront edition q z s
+  pub matched : is_matched q ≡ true
+  pub sound : is_told edition q ≡ false
+  pub plain : tokens (z ++ 10 ∷ s) ≡ tokens_from 0 0 (z ++ 10 ∷ s)
+  pub anew : BeginsAnew edition (with_feeds (z ++ 10 ∷ s))
+  pub short : length (with_feeds (q ++ (z ++ 10 ∷ s))) < most
+
+-- what lists are read from is a text and what they are read from of another; both are read as alone
+pub record ListsBoth (edition : EditionYear) (q y : List ℕ) : Type 0 where
+  pub text : text_for_lists edition (q ++ y) ≡ q ++ text_for_lists edition y
+  pub read : ReadsBothIn edition (text_for_lists edition (q ++ y)) q (text_for_lists edition y)
+
+-- So lists tell of such a text what they tell of it alone, whether the text behind it is mended or not.
+abbrev pub ListsBefore : Type 0
+ListsBefore = (edition : EditionYear) (q z s : List ℕ) → StandsSound edition q z s → ListsBoth edition q (z ++ 10 ∷ s)

@@ -1,5 +1,5 @@
 use Rattle.rust_edits.proofs.Ranges.Joins.{items_join, inside_join}
-use Rattle.rust_edits.proofs.Ranges.Damaged.{items_before, items_behind}
+use Rattle.rust_edits.proofs.Ranges.Damaged.{items_before, items_behind, lists_before}
 use Rattle.rust_edits.proofs.laws.ranges.Goals as goal
 
 pub returns : goal.returns
@@ -8,4 +8,5 @@ returns c = record {
   inside_join = inside_join;
   items_before = items_before;
   items_behind = items_behind;
+  lists_before = lists_before;
 }
