@@ -121,7 +121,7 @@ module _ (y : EditionYear) where
     turns = 0;
     some = some_there;
     sound = ap (λ (r : List ItemView × (Found × Tokens)). r.1.0.problems) all_read ∙ ap (λ (r : Option ItemView × (Found × Tokens)). r.1.0.problems) is_turn ∙ spent.1.1;
-    spent = ap (λ (r : List ItemView × (Found × Tokens)). r.1.1.left) all_read ∙ ap (λ (r : Option ItemView × (Found × Tokens)). r.1.1.left) is_turn ∙ spent.0;
+    spent = λ e. absurd cc;
   }
 
   first_uncut : is_continuation (slice_index mod_b 0) ≡ false

@@ -24,15 +24,16 @@ unfolding finding
 items_top is_top left f ts = refl
 
 -- at the top nothing is left
-pub top_spent : (edition : EditionYear) (text : List ℕ) → length text < most → (read_of edition text).1.1.left ≡ []
-top_spent edition text short =
+all_spent : (is_top : Bool) (left : ℕ) (edition : EditionYear) (text : List ℕ) → length text < most → (is_top ≡ false → (read_at is_top (suc left) edition text).1.1.left ≡ []) → (read_at is_top (suc left) edition text).1.1.left ≡ []
+all_spent false left edition text short h = h refl
+all_spent true left edition text short h =
     let ts = tokens_of edition text in
     let us = (inner_attributes ts).1 in
     let laid = (behind (length text) (inner_attributes_leads ts) (tokens_laid edition text)).laid in
     let few = tokens_short edition text in
     let less = fewer (inner_attributes_leads ts) in
-    let ended = run_ended true 127 (length text) most [] nothing_found us laid (omega (arith, short)) in
-    ap (λ (r : List ItemView × (Found × Tokens)). r.1.1.left) (items_top true 127 nothing_found us) ∙ empty_left (run true 127 most [] nothing_found us).1.1 (sym (top_is (run true 127 most [] nothing_found us).1.1) ∙ ended)
+    let ended = run_ended true left (length text) most [] nothing_found us laid (omega (arith, short)) in
+    ap (λ (r : List ItemView × (Found × Tokens)). r.1.1.left) (items_top true left nothing_found us) ∙ empty_left (run true left most [] nothing_found us).1.1 (sym (top_is (run true left most [] nothing_found us).1.1) ∙ ended)
 
 -- ---- what is found, moved by nothing
 
@@ -72,9 +73,6 @@ found_first b f g e n =
 
 pub found_both : (b : Ending) (before f g : Found) → FoundNear b before f g → f ≡ and_all (found_on b.by g) before
 found_both b before f g n = found_same f.rows _ f.spans _ f.use_trees _ f.problems _ n.rows n.spans n.use_trees n.problems
-
-pub found_still : (f : Found) → f ≡ and_all (found_on 0 f) nothing_found
-found_still f = sym (found_same f.rows f.rows _ f.spans _ f.use_trees _ f.problems refl (map_still _ span_still f.spans) (map_still _ number_still f.use_trees) (map_still _ problem_still f.problems))
 
 -- with the problem that a token is not ended
 pub unended_join : (d : ℕ) (o : Option ℕ) (f g : Found) → and_problem_at problem.Unterminated (option_map (λ n. n + d) o) (and_all (found_on d g) f) ≡ and_all (found_on d (and_problem_at problem.Unterminated o g)) f
@@ -132,9 +130,6 @@ pub record Joined (is_top : Bool) (left : ℕ) (edition : EditionYear) (text x y
   pub items : (read_at is_top (suc left) edition text).0 ≡ (read_at is_top (suc left) edition x).0 ++ (read_at is_top (suc left) edition y).0
   pub found : (read_at is_top (suc left) edition text).1.0 ≡ and_all (found_on d (read_at is_top (suc left) edition y).1.0) (read_at is_top (suc left) edition x).1.0
   pub unended : (read_at is_top (suc left) edition text).1.1.unended ≡ option_map (λ n. n + d) (read_at is_top (suc left) edition y).1.1.unended
-
-nothing_more : (i : ItemView) (is : List ItemView) → i ∷ is ≡ [] → ⊥
-nothing_more i is e = absurd cc
 
 module _ (is_top : Bool) (left : ℕ) (edition : EditionYear) (w : List ℕ) (o : Stop) (y : List ℕ) (alone : EndsAlone w o) (last : ends_items o ≡ true) (plain : IsBare (ended w o)) (plain' : IsBare y) (begins : BeginsAnew edition y) (short : length (w ++ stop o ∷ y) < most) where
   abbrev x : List ℕ
@@ -279,11 +274,12 @@ module _ (is_top : Bool) (left : ℕ) (edition : EditionYear) (w : List ℕ) (o 
       let few = tokens_short edition x in
       let less = fewer (inner_attributes_leads us) in
       let sum = sizes in
+      let spent = all_spent is_top left edition x (omega (arith, short)) h.spent in
       let quiet : told (run is_top left most [] nothing_found us').1.0 ≡ told (run is_top left h.turns [] nothing_found us').1.0 = ap (λ (r : List ItemView × (Found × Tokens)). told r.1.0) (sym first) ∙ ap length h.sound in
       let calms : Calm is_top left most [] nothing_found us' =
-      calm_by is_top left (length x) h.turns most [] [] nothing_found us' laid (omega (arith, short)) h.some (omega arith) (ap (λ (r : List ItemView × (Found × Tokens)). r.1.1.left) (sym first) ∙ h.spent) in
+      calm_by is_top left (length x) h.turns most [] [] nothing_found us' laid (omega (arith, short)) h.some (omega arith) (ap (λ (r : List ItemView × (Found × Tokens)). r.1.1.left) (sym first) ∙ spent) in
       by_kept (inner_attributes_until (near_parting (part_in edition ts.unended [] w o y)) (near_enters (part_in edition ts.unended [] w o y)) (near_levels (part_in edition ts.unended [] w o y)) ts us first_near)
-      (λ g. absurd (calm_left calms g.none)) (λ k. joins calms h.spent k)
+      (λ g. absurd (calm_left calms g.none)) (λ k. joins calms spent k)
 
 joined_whole : (is_top : Bool) (left : ℕ) (edition : EditionYear) (p y : List ℕ) → EndsWhole is_top (suc left) edition p → BeginsAnew edition y → length (p ++ y) < most → Joined is_top left edition (p ++ y) p y (length p)
 joined_whole is_top left edition p y h b short =

@@ -61,7 +61,8 @@ pub record EndsWhole (is_top : Bool) (left : ℕ) (edition : EditionYear) (text 
   pub turns : ℕ
   pub some : (read_so_far turns is_top left edition text).1.1.left ≢ []
   pub sound : (read_at is_top left edition text).1.0.problems ≡ (read_so_far turns is_top left edition text).1.0.problems
-  pub spent : (read_at is_top left edition text).1.1.left ≡ []
+  -- all of the text is read, as it is at the top
+  pub spent : is_top ≡ false → (read_at is_top left edition text).1.1.left ≡ []
 
 -- ---- what is read of two texts
 
