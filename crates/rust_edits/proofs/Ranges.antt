@@ -12,5 +12,7 @@ pub mod Turning
 pub mod Onward
 pub mod Behind
 pub mod Joins
+pub mod Open
+pub mod OpenJoin
 pub mod Damaged
 pub mod Examples

@@ -1,3 +1,4 @@
 -- Items in front of others, and behind them.
 pub mod Joined
+pub mod Open
 pub mod Mended

@@ -9,6 +9,7 @@ ghost use Rattle.rust_edits.specs.Typing.Moved.{BodyIsTold, IsReadAnew, PlacesMo
 ghost use Rattle.rust_edits.specs.Typing.Opened.{BodyOpens};
 ghost use Rattle.rust_edits.specs.Typing.Problems.{ProblemsStand};
 ghost use Rattle.rust_edits.specs.Ranges.Joined.{InsideJoin, ItemsJoin};
+ghost use Rattle.rust_edits.specs.Ranges.Open.{OpenItemEnds};
 ghost use Rattle.rust_edits.specs.Ranges.Mended.{ItemsBefore, ItemsBehind, ListsBefore};
 
 use crate::edit::BodyEdit;
@@ -37,6 +38,7 @@ fn typing()
 fn ranges()
     ensures items_join { ItemsJoin }
     ensures inside_join { InsideJoin }
+    ensures open_item_ends { OpenItemEnds }
     ensures items_before { ItemsBefore }
     ensures items_behind { ItemsBehind }
     ensures lists_before { ListsBefore }

@@ -46,7 +46,7 @@ pub first_moved : (d : ℕ) (l : List Piece) → by_first 0 symbol_of (map (move
 first_moved d [] = refl
 first_moved d (t ∷ l) = refl
 
-last_moved : (d : ℕ) (last : Option ℕ) (ts : List Piece) → last_unended (option_map (λ n. n + d) last) (map (moved d) ts) ≡ option_map (λ n. n + d) (last_unended last ts)
+pub last_moved : (d : ℕ) (last : Option ℕ) (ts : List Piece) → last_unended (option_map (λ n. n + d) last) (map (moved d) ts) ≡ option_map (λ n. n + d) (last_unended last ts)
 last_moved d last [] = refl
 last_moved d last (t ∷ ts) = ap (λ l. last_unended l (map (moved d) ts)) (place (is_terminated t) t.at) ∙ last_moved d (place_if_open t) ts
   where

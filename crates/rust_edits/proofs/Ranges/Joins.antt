@@ -14,7 +14,7 @@ use Rattle.rust_edits.proofs.Ranges.NearFields.{empty_left}
 use Rattle.rust_edits.proofs.Typing.ProblemsIn.{unended_kept}
 use Rattle.rust_edits.proofs.Typing.Unended.{last_append}
 
-edition_stays : {ts us : Tokens} → LeadsTo ts us → us.edition ≡ ts.edition
+pub edition_stays : {ts us : Tokens} → LeadsTo ts us → us.edition ≡ ts.edition
 unfolding bumped
 edition_stays here = refl
 edition_stays (further p) = edition_stays p

@@ -1,3 +1,4 @@
+use Rattle.rust_edits.proofs.Ranges.OpenJoin.{open_item_ends}
 use Rattle.rust_edits.proofs.Ranges.Joins.{items_join, inside_join}
 use Rattle.rust_edits.proofs.Ranges.Damaged.{items_before, items_behind, lists_before}
 use Rattle.rust_edits.proofs.laws.ranges.Goals as goal
@@ -6,6 +7,7 @@ pub returns : goal.returns
 returns c = record {
   items_join = items_join;
   inside_join = inside_join;
+  open_item_ends = open_item_ends;
   items_before = items_before;
   items_behind = items_behind;
   lists_before = lists_before;
