@@ -10,7 +10,7 @@ ghost use Rattle.rust_edits.specs.Typing.Opened.{BodyOpens};
 ghost use Rattle.rust_edits.specs.Typing.Problems.{ProblemsStand};
 ghost use Rattle.rust_edits.specs.Ranges.Joined.{InsideJoin, ItemsJoin};
 ghost use Rattle.rust_edits.specs.Ranges.Open.{OpenItemEnds};
-ghost use Rattle.rust_edits.specs.Ranges.Mended.{ItemsBefore, ItemsBehind, ListsBefore};
+ghost use Rattle.rust_edits.specs.Ranges.Mended.{ItemsBefore, ItemsBehind, ListsBefore, OpenBehind};
 
 use crate::edit::BodyEdit;
 use crate::shift::Shift;
@@ -41,5 +41,6 @@ fn ranges()
     ensures open_item_ends { OpenItemEnds }
     ensures items_before { ItemsBefore }
     ensures items_behind { ItemsBehind }
+    ensures open_behind { OpenBehind }
     ensures lists_before { ListsBefore }
 {}

@@ -6,7 +6,9 @@ use Rattle.rust_mended.specs.Texts.{mended_text}
 use Rattle.rust_mended.proofs.Joins.{item_text, matched_text}
 use Rattle.rust_mended.proofs.Whole.{text_stays}
 use Rattle.rust_mended.proofs.AtStops.{blanks_text}
-use Rattle.rust_edits.specs.Ranges.Mended.{ListsBefore, is_told, text_for_lists}
+use Rattle.rust_edits.specs.Ranges.Open.{ReadsOn}
+use Rattle.rust_edits.proofs.Ranges.OpenJoin.{open_item_ends}
+use Rattle.rust_edits.specs.Ranges.Mended.{ListsBefore, OpenBehind, is_told, text_for_lists}
 use Rattle.rust_edits.proofs.Ranges.Joins.{items_join}
 
 -- ---- texts with carriage returns
@@ -69,6 +71,12 @@ pub items_behind : ItemsBehind
 items_behind edition q z s h utf8 item none =
     let y = z ++ 10 ∷ mended_text s in
     subst (λ (t : List ℕ). ReadsBothIn edition t (mended_text q) y) (sym (item_text q z s h.apart utf8 item none)) (join_in edition (mended_text q) y h.whole h.anew h.short)
+
+pub open_behind : OpenBehind
+open_behind edition q z s o utf8 item none =
+    let y = with_feeds (z ++ 10 ∷ mended_text s) in
+    subst (λ (t : List ℕ). ReadsOn edition t (length o.before + length o.item) y) (sym (ap with_feeds (item_text q z s o.apart utf8 item none) ∙ o.parts))
+    (open_item_ends edition o.before o.item y o.follows o.is_open o.short)
 
 -- ---- what lists tell
 

@@ -1,6 +1,6 @@
 -- What is read of an item without its end, and of the text that begins with an item behind it.
-use Rattle.std.proofs.Common.{◌≡◌, ◌<◌, ◌≤◌, ◌+◌, ◌==◌, ◌||◌, ◌&&◌, ℕ, zero, suc, Bool, true, false, Option, Some, None, List, [], ◌∷◌, ◌++◌, length, map, refl, sym, ap, ◌∙◌, subst, arith, length-append}
-use Rattle.rust_edits.proofs.Common.{Ending, word, EditionYear, MetaView, ItemView, Piece, Found, Head, FrontRead, LeafRead, Tokens, tokens_of, tokens, filter, is_significant, last_unended, option_map, option_to_list, is_some, by_first, rest, end_of, symbol, is_empty, is_at_end, bumped, beyond, begins_item, taken, taking, most, moved, front, leaf, leaf_turn, leaf_found, by_head, inside, depth_of, turn, nothing_found, and_all, and_problem_at, found_on, items, read_of, found_in, behind_attributes, inner_attributes, is_list_end, LeadsTo, here, further, through, when, bumped_leads, eat_word_leads, inner_attributes_leads, named_leads, fewer, IsLaid, behind, at_behind, tokens_laid, tokens_sound, tokens_short, ne_eqb, filter-append, filter_moved, near_twins, Near, BlockRead, Finder, TokenKind, IsFileView, items_found}
+use Rattle.std.proofs.Common.{◌≡◌, ◌<◌, ◌≤◌, ◌+◌, ◌==◌, ◌||◌, ◌&&◌, ℕ, zero, suc, Bool, true, false, Option, Some, None, List, [], ◌∷◌, ◌++◌, length, map, refl, sym, ap, ◌∙◌, subst, arith, length-append, append_assoc}
+use Rattle.rust_edits.proofs.Common.{Row, Span, Problem, TextRange, moved_range, moved_span, moved_problem, map-append, Ending, word, EditionYear, MetaView, ItemView, Piece, Found, Head, FrontRead, LeafRead, Tokens, tokens_of, tokens, filter, is_significant, last_unended, option_map, option_to_list, is_some, by_first, rest, end_of, symbol, is_empty, is_at_end, bumped, beyond, begins_item, taken, taking, most, moved, front, leaf, leaf_turn, leaf_found, by_head, inside, depth_of, turn, nothing_found, and_all, and_problem_at, found_on, items, read_of, found_in, behind_attributes, inner_attributes, is_list_end, LeadsTo, here, further, through, when, bumped_leads, eat_word_leads, inner_attributes_leads, named_leads, fewer, IsLaid, behind, at_behind, tokens_laid, tokens_sound, tokens_short, ne_eqb, filter-append, filter_moved, near_twins, Near, BlockRead, Finder, TokenKind, IsFileView, items_found}
 use Rattle.rust_items.specs.declared.log.ProblemKind.TheVariants as problem
 use Rattle.rust_leaves.specs.declared.head.Head.TheVariants as heads
 use Rattle.rust_cursor.specs.declared.cursor.nest.Nest.{Nest}
@@ -8,11 +8,11 @@ use Rattle.rust_cursor.specs.Extents.{begins}
 use Rattle.rust_cursor.specs.Nests.{flat_behind}
 use Rattle.rust_cursor.specs.Words.{eat_word}
 use Rattle.rust_cursor.proofs.Tests.{begins_item_same}
-use Rattle.rust_edits.specs.Ranges.Open.{IsOpenItem, OpenItemEnds, ReadsOn, takes_rest, behind_name, end_behind}
+use Rattle.rust_edits.specs.Ranges.Open.{IsOpenItem, OpenItemEnds, ReadsOn, StandsBefore, nothing_before, whole_before, takes_rest, behind_name, end_behind}
 use Rattle.rust_edits.proofs.Ranges.Alone.{start_near}
 use Rattle.rust_edits.proofs.Ranges.Behind.{last_moved}
 use Rattle.rust_edits.proofs.Ranges.Inner.{no_inner}
-use Rattle.rust_edits.proofs.Ranges.Joins.{edition_stays, found_both, items_top, level_at, level_near, unended_join}
+use Rattle.rust_edits.proofs.Ranges.Joins.{edition_stays, found_both, items_join, items_top, level_at, level_near, unended_join}
 use Rattle.rust_edits.proofs.Ranges.NearItems.{top_end, front_leads}
 use Rattle.rust_edits.proofs.Ranges.NearLeaves.{Given}
 use Rattle.rust_edits.proofs.Ranges.Onward.{IsRead, read_on}
@@ -227,7 +227,7 @@ module _ (edition : EditionYear) (x y : List ℕ) (h : IsOpenItem edition x y) (
   reads_on : ReadsOn edition text d y
   unfolding found_in
   reads_on = record {
-    item = one.item;
+    first = one.item ∷ [];
     items = ap (λ (q : List ItemView × (Found × Tokens)). q.0) read ∙ ap (λ l. one.item ∷ l) (sym (ap (λ (q : List ItemView × (Found × Tokens)). q.0) second_read ∙ two.list));
     before = r.1.0;
     found =
@@ -235,5 +235,53 @@ module _ (edition : EditionYear) (x y : List ℕ) (h : IsOpenItem edition x y) (
         ∙ unended_join d (read_of edition y).1.1.unended r.1.0 (read_of edition y).1.0;
   }
 
+-- ---- behind other items
+
+ranges_on : (m n : ℕ) (r : TextRange) → moved_range (λ k. k + m) (moved_range (λ k. k + n) r) ≡ moved_range (λ k. k + (m + n)) r
+ranges_on m n r = let s : r.start + n + m ≡ r.start + (m + n) = omega arith in let e : r.end + n + m ≡ r.end + (m + n) = omega arith in rw (s, e) refl
+
+some_on : (m n : ℕ) (o : Option TextRange) → option_map (moved_range (λ k. k + m)) (option_map (moved_range (λ k. k + n)) o) ≡ option_map (moved_range (λ k. k + (m + n))) o
+some_on m n None = refl
+some_on m n (Some r) = ap Some (ranges_on m n r)
+
+spans_on : (m n : ℕ) (s : Span) → moved_span (λ k. k + m) (moved_span (λ k. k + n) s) ≡ moved_span (λ k. k + (m + n)) s
+spans_on m n s = rw (ranges_on m n s.range, some_on m n s.name, some_on m n s.body) refl
+
+places_on : (m n k : ℕ) → k + n + m ≡ k + (m + n)
+places_on m n k = omega arith
+
+problems_on : (m n : ℕ) (p : Problem) → moved_problem (λ k. k + m) (moved_problem (λ k. k + n) p) ≡ moved_problem (λ k. k + (m + n)) p
+problems_on m n p = let e = places_on m n p.at in rw e refl
+
+both_on : {A : Type 0} (f g h : A → A) → ((a : A) → f (g a) ≡ h a) → (l : List A) → map f (map g l) ≡ map h l
+both_on f g h e [] = refl
+both_on f g h e (a ∷ l) = ap (λ b. b ∷ map f (map g l)) (e a) ∙ ap (λ m. h a ∷ m) (both_on f g h e l)
+
+joined_on : {A : Type 0} (f g h : A → A) → ((a : A) → f (g a) ≡ h a) → (p q l : List A) → p ++ map f (q ++ map g l) ≡ (p ++ map f q) ++ map h l
+joined_on f g h e p q l = ap (λ m. p ++ m) (map-append f q (map g l) ∙ ap (λ m. map f q ++ m) (both_on f g h e l)) ∙ sym (append_assoc p (map f q) (map h l))
+
+found_of : (rows rows' : List Row) (spans spans' : List Span) (trees trees' : List ℕ) (problems problems' : List Problem) → rows ≡ rows' → spans ≡ spans' → trees ≡ trees' → problems ≡ problems'
+    → ◌≡◌ {A = Found} (record { rows = rows; spans = spans; use_trees = trees; problems = problems }) (record { rows = rows'; spans = spans'; use_trees = trees'; problems = problems' })
+found_of rows rows' spans spans' trees trees' problems problems' a b c d = rw (a, b, c, d) refl
+
+-- what is found of three texts
+found_three : (m n : ℕ) (f g h : Found) → and_all (found_on m (and_all (found_on n h) g)) f ≡ and_all (found_on (m + n) h) (and_all (found_on m g) f)
+found_three m n f g h =
+    found_of _ _ _ _ _ _ _ _ (sym (append_assoc f.rows g.rows h.rows)) (joined_on _ _ _ (spans_on m n) f.spans g.spans h.spans)
+    (joined_on _ _ _ (places_on m n) f.use_trees g.use_trees h.use_trees) (joined_on _ _ _ (problems_on m n) f.problems g.problems h.problems)
+
+open_ends : (edition : EditionYear) (p x y : List ℕ) → IsOpenItem edition x y → length (p ++ (x ++ y)) < most → StandsBefore edition p (x ++ y) → ReadsOn edition (p ++ (x ++ y)) (length p + length x) y
+open_ends edition _ x y h short (nothing_before _) = subst (λ (d : ℕ). ReadsOn edition (x ++ y) d y) (let none : length x ≡ 0 + length x = omega arith in none) (reads_on edition x y h short)
+open_ends edition _ x y h short (whole_before p _ holds anew) =
+    let sum = length-append p (x ++ y) in
+    let on = reads_on edition x y h (omega (arith, short)) in
+    let j = items_join edition p (x ++ y) holds anew short in
+    record {
+      first = (read_of edition p).0 ++ on.first;
+      items = j.items ∙ ap (λ l. (read_of edition p).0 ++ l) on.items ∙ sym (append_assoc (read_of edition p).0 on.first (read_of edition y).0);
+      before = and_all (found_on (length p) on.before) (found_in edition p);
+      found = j.found ∙ ap (λ (f : Found). and_all (found_on (length p) f) (found_in edition p)) on.found ∙ found_three (length p) (length x) (found_in edition p) on.before (found_in edition y);
+    }
+
 pub open_item_ends : OpenItemEnds
-open_item_ends edition x y h short = reads_on edition x y h short
+open_item_ends edition p x y before h short = open_ends edition p x y h short before

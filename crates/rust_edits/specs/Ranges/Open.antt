@@ -1,5 +1,5 @@
 -- An item that goes on up to the end of a text, and the item that begins behind it.
-use Rattle.std.specs.Prelude.{◌≡◌, ◌<◌, ℕ, ◌==◌, Bool, true, false, not, ◌&&◌, ◌||◌, List, [], ◌∷◌, ◌++◌, length, map, codes, bytes_eq}
+use Rattle.std.specs.Prelude.{◌≡◌, ◌<◌, ℕ, ◌+◌, ◌==◌, Bool, true, false, not, ◌&&◌, ◌||◌, List, [], ◌∷◌, ◌++◌, length, map, codes, bytes_eq}
 use Rattle.hir_input.specs.declared.edition.EditionYear.{EditionYear}
 use Rattle.hir_input.specs.Syntax.{ItemView}
 use Rattle.rust_lexer.specs.declared.kind.DocStyle.TheVariants.{Inner}
@@ -19,7 +19,7 @@ use Rattle.rust_leaves.specs.Fronts.{front}
 use Rattle.rust_leaves.specs.Leaves.{named}
 use Rattle.rust_items.specs.Found.{Found, and_all}
 use Rattle.rust_items.specs.SourceFiles.{found_in, read_of}
-use Rattle.rust_edits.specs.Ranges.Joined.{IsBare, found_on}
+use Rattle.rust_edits.specs.Ranges.Joined.{EndsWhole, BeginsAnew, found_on}
 
 -- ---- tokens of an item behind its name
 
@@ -90,11 +90,16 @@ pub record IsOpenItem (edition : EditionYear) (text y : List ℕ) : Type 0 where
 
 -- What is read of a text ends with what is read of another, which stands so much further on.
 pub record ReadsOn (edition : EditionYear) (text : List ℕ) (d : ℕ) (y : List ℕ) : Type 0 where
-  pub item : ItemView
-  pub items : (read_of edition text).0 ≡ item ∷ (read_of edition y).0
+  pub first : List ItemView
+  pub items : (read_of edition text).0 ≡ first ++ (read_of edition y).0
   pub before : Found
   pub found : found_in edition text ≡ and_all (found_on d (found_in edition y)) before
 
+-- nothing, or a text that ends with a whole item, in front of another
+pub data StandsBefore (edition : EditionYear) : List ℕ → List ℕ → Type 0 where
+  nothing_before : (text : List ℕ) → StandsBefore edition [] text
+  whole_before : (p text : List ℕ) → EndsWhole true 128 edition p → BeginsAnew edition text → StandsBefore edition p text
+
 -- So an item ends before the word that begins the next one, which is read as alone.
 abbrev pub OpenItemEnds : Type 0
-OpenItemEnds = (edition : EditionYear) (x y : List ℕ) → IsOpenItem edition x y → length (x ++ y) < most → ReadsOn edition (x ++ y) (length x) y
+OpenItemEnds = (edition : EditionYear) (p x y : List ℕ) → StandsBefore edition p (x ++ y) → IsOpenItem edition x y → length (p ++ (x ++ y)) < most → ReadsOn edition (p ++ (x ++ y)) (length p + length x) y

@@ -1,6 +1,6 @@
 use Rattle.rust_edits.proofs.Ranges.OpenJoin.{open_item_ends}
 use Rattle.rust_edits.proofs.Ranges.Joins.{items_join, inside_join}
-use Rattle.rust_edits.proofs.Ranges.Damaged.{items_before, items_behind, lists_before}
+use Rattle.rust_edits.proofs.Ranges.Damaged.{items_before, items_behind, open_behind, lists_before}
 use Rattle.rust_edits.proofs.laws.ranges.Goals as goal
 
 pub returns : goal.returns
@@ -10,5 +10,6 @@ returns c = record {
   open_item_ends = open_item_ends;
   items_before = items_before;
   items_behind = items_behind;
+  open_behind = open_behind;
   lists_before = lists_before;
 }
