@@ -1,17 +1,17 @@
 -- An item without its end goes on up to the word that begins the next one.
 use Rattle.std.proofs.Common.{◌≡◌, ◌<◌, ◌+◌, ◌==◌, ◌&&◌, ◌||◌, ℕ, zero, suc, Bool, true, false, Option, Some, None, List, [], ◌∷◌, ◌++◌, length, map, refl, sym, ap, ◌∙◌, subst, arith, codes, bytes_eq, not, if◌then◌else◌}
-use Rattle.rust_edits.proofs.Common.{is_some, Tokens, symbol, word, bumped, is_empty, is_at_doc, by_first, rest, Piece, symbol_of, LeadsTo, here, further, through, when, bumped_leads, and_parts, or_parts, eqb-true, nat_tests, Head, FrontRead, front, leaf, LeafRead, begins_item, begins_within, begins_impl_or_const, stops, ends, taking, taken, nest_behind, some_read, function, trait_item, structure, union_item, enumeration, constant, static_value, type_alias, implementation, item_end, impl_end, value_end, leaf_by}
+use Rattle.rust_edits.proofs.Common.{is_nil, eat, use_tree, named_or, renamed, use_declaration, crate_item, is_some, Tokens, symbol, word, bumped, is_empty, is_at_doc, by_first, rest, Piece, symbol_of, LeadsTo, here, further, through, when, bumped_leads, and_parts, or_parts, eqb-true, nat_tests, Head, FrontRead, front, leaf, LeafRead, begins_item, begins_within, begins_impl_or_const, stops, ends, taking, taken, nest_behind, some_read, function, trait_item, structure, union_item, enumeration, constant, static_value, type_alias, implementation, item_end, impl_end, value_end, leaf_by}
 use Rattle.rust_cursor.specs.declared.cursor.nest.Before.{Before}
 use Rattle.rust_cursor.specs.declared.cursor.nest.Before.TheVariants as befores
 use Rattle.rust_cursor.specs.declared.cursor.nest.Nest.{Nest}
 use Rattle.rust_cursor.specs.Extents.{begins, begins_behind, is_item_word}
 use Rattle.rust_cursor.specs.Nests.{count_behind, flat_behind, is_mark}
 use Rattle.rust_cursor.specs.Words.{documents, word_by}
-use Rattle.rust_cursor.proofs.Around.{others_of}
+use Rattle.rust_cursor.proofs.Around.{others_of, word_symbol}
 use Rattle.rust_cursor.proofs.Passing.{braces_of}
 use Rattle.rust_cursor.proofs.Scans.{taking_stop, taking_more}
 use Rattle.rust_leaves.specs.declared.head.Head.TheVariants as heads
-use Rattle.rust_edits.specs.Ranges.Open.{is_first, is_first_outside, is_border, is_inner, are_inner, takes_rest, behind_name}
+use Rattle.rust_edits.specs.Ranges.Open.{is_first, is_first_outside, is_border, is_inner, are_inner, reaches_end, behind_name}
 
 not-false : {t : Bool} → not t ≡ true → t ≡ false
 not-false {t = false} e = refl
@@ -164,15 +164,68 @@ flat_ends is_call nest ts z e f = when (nest.braces == 0 && nest.others == 0) (�
 flat_value : (nest : Nest) (ts : Tokens) → (symbol ts == 59) ≡ false → (if nest.braces == 0 && nest.others == 0 then symbol ts == 59 else false) ≡ false
 flat_value nest ts e = when (nest.braces == 0 && nest.others == 0) (λ g. rw (g, e) refl) (λ g. rw g refl)
 
-pub leaf_open : (Y : List Piece) (h : FrontRead) (ts : Tokens) (w : Head) → h.head ≡ w → takes_rest w ≡ true → TakesTo Y (behind_name w ts) → TakesUp Y (leaf h ts)
-unfolding leaf function trait_item structure union_item enumeration constant static_value type_alias implementation item_end impl_end value_end stops ends
-leaf_open Y h ts heads.Fn e t all = rw e (record { some = refl; left = all _ _ (λ n ts. refl) (λ c n ts. flat_ends c n ts _) })
-leaf_open Y h ts heads.Impl e t all = rw e (record { some = refl; left = all _ _ (λ n ts. refl) (λ c n ts. flat_ends c n ts _) })
-leaf_open Y h ts heads.Trait e t all = rw e (record { some = refl; left = all _ _ (λ n ts. refl) (λ c n ts. flat_ends c n ts _) })
-leaf_open Y h ts heads.Struct e t all = rw e (record { some = refl; left = all _ _ (λ n ts. refl) (λ c n ts. flat_ends c n ts _) })
-leaf_open Y h ts heads.Union e t all = rw e (record { some = refl; left = all _ _ (λ n ts. refl) (λ c n ts. flat_ends c n ts _) })
-leaf_open Y h ts heads.Enum e t all = rw e (record { some = refl; left = all _ _ (λ n ts. refl) (λ c n ts. flat_ends c n ts _) })
-leaf_open Y h ts heads.Const e t all = rw e (record { some = refl; left = all _ _ (λ n ts. refl) (λ c n ts a b. flat_value n ts a) })
-leaf_open Y h ts heads.Static e t all = rw e (record { some = refl; left = all _ _ (λ n ts. refl) (λ c n ts a b. flat_value n ts a) })
-leaf_open Y h ts heads.TypeAlias e t all = rw e (record { some = refl; left = all _ _ (λ n ts. refl) (λ c n ts a b. flat_value n ts a) })
-leaf_open Y h ts _ e t all = absurd cc
+nil_none : (xs : List Piece) → is_nil xs ≡ true → xs ≡ []
+nil_none [] e = refl
+nil_none (t ∷ xs) e = absurd cc
+
+-- no `;` is taken there
+eat_none : (Y : List Piece) (ts : Tokens) → ts.left ≡ Y → (symbol ts == 59) ≡ false → (eat 59 ts).1.left ≡ Y
+unfolding eat
+eat_none Y ts e f = rw f e
+
+-- what is known behind its name
+pub record Reaches (Y xs : List Piece) (ts : Tokens) : Type 0 where
+  pub inner : are_inner 0 xs ≡ true → TakesTo Y ts
+  pub left : ts.left ≡ xs ++ Y
+  pub plain : xs ≡ [] → symbol ts ≡ 0
+
+module _ (Y xs : List Piece) (ts : Tokens) (r : Reaches Y xs ts) (none : is_nil xs ≡ true) where
+  pub nil_left : ts.left ≡ Y
+  nil_left = r.left ∙ ap (λ l. l ++ Y) (nil_none xs none)
+
+  pub nil_symbol : symbol ts ≡ 0
+  nil_symbol = r.plain (nil_none xs none)
+
+  nil_eat : (eat 59 ts).1.left ≡ Y
+  nil_eat = let plain = nil_symbol in eat_none Y ts nil_left (rw plain refl)
+
+pub leaf_open : (Y xs : List Piece) (h : FrontRead) (ts : Tokens) (w : Head) → (w ≡ heads.Module → ⊥) → h.head ≡ w → reaches_end w xs ≡ true → Reaches Y xs (behind_name w ts) → TakesUp Y (leaf h ts)
+unfolding leaf function trait_item structure union_item enumeration constant static_value type_alias implementation use_declaration crate_item item_end impl_end value_end stops ends
+leaf_open Y xs h ts heads.Use n e t r = rw e (record { some = refl; left = nil_eat Y xs (use_tree ts).1 r t })
+leaf_open Y xs h ts heads.ExternCrate n e t r = rw e (record { some = refl; left = nil_eat Y xs (renamed (named_or (codes "self") ts).1).1 r t })
+leaf_open Y xs h ts heads.Module n e t r = absurd (n refl)
+leaf_open Y xs h ts heads.Fn n e t r = rw e (record { some = refl; left = r.inner t _ _ (λ n ts. refl) (λ c n ts. flat_ends c n ts _) })
+leaf_open Y xs h ts heads.Impl n e t r = rw e (record { some = refl; left = r.inner t _ _ (λ n ts. refl) (λ c n ts. flat_ends c n ts _) })
+leaf_open Y xs h ts heads.Trait n e t r = rw e (record { some = refl; left = r.inner t _ _ (λ n ts. refl) (λ c n ts. flat_ends c n ts _) })
+leaf_open Y xs h ts heads.Struct n e t r = rw e (record { some = refl; left = r.inner t _ _ (λ n ts. refl) (λ c n ts. flat_ends c n ts _) })
+leaf_open Y xs h ts heads.Union n e t r = rw e (record { some = refl; left = r.inner t _ _ (λ n ts. refl) (λ c n ts. flat_ends c n ts _) })
+leaf_open Y xs h ts heads.Enum n e t r = rw e (record { some = refl; left = r.inner t _ _ (λ n ts. refl) (λ c n ts. flat_ends c n ts _) })
+leaf_open Y xs h ts heads.Const n e t r = rw e (record { some = refl; left = r.inner t _ _ (λ n ts. refl) (λ c n ts a b. flat_value n ts a) })
+leaf_open Y xs h ts heads.Static n e t r = rw e (record { some = refl; left = r.inner t _ _ (λ n ts. refl) (λ c n ts a b. flat_value n ts a) })
+leaf_open Y xs h ts heads.TypeAlias n e t r = rw e (record { some = refl; left = r.inner t _ _ (λ n ts. refl) (λ c n ts a b. flat_value n ts a) })
+leaf_open Y xs h ts _ n e t r = absurd cc
+
+-- ---- the word that begins an item
+
+word_plain : (ts : Tokens) → is_item_word (word ts) ≡ true → symbol ts ≡ 0
+word_plain ts e =
+    when (bytes_eq (word ts) (codes "pub")) (λ f. word_symbol (codes "pub") ts refl f)
+    (λ f. when (bytes_eq (word ts) (codes "mod")) (λ g. word_symbol (codes "mod") ts refl g)
+    (λ g. when (bytes_eq (word ts) (codes "struct")) (λ h. word_symbol (codes "struct") ts refl h)
+    (λ h. when (bytes_eq (word ts) (codes "enum")) (λ i. word_symbol (codes "enum") ts refl i)
+    (λ i. word_symbol (codes "trait") ts refl (rw (f, g, h, i) at e)))))
+
+-- it has no symbol
+pub item_plain : (ts : Tokens) → begins_item ts ≡ true → symbol ts ≡ 0
+unfolding begins_item
+item_plain ts e =
+    when (is_item_word (word ts)) (λ a. word_plain ts a)
+    (λ a. when (bytes_eq (word ts) (codes "use")) (λ b. word_symbol (codes "use") ts refl b)
+    (λ b. when (bytes_eq (word ts) (codes "static")) (λ c. word_symbol (codes "static") ts refl c)
+    (λ c. when (bytes_eq (word ts) (codes "fn")) (λ d. word_symbol (codes "fn") ts refl d)
+    (λ d. when (bytes_eq (word ts) (codes "type")) (λ f. word_symbol (codes "type") ts refl f)
+    (λ f. when (bytes_eq (word ts) (codes "macro")) (λ g. word_symbol (codes "macro") ts refl g)
+    (λ g. when (bytes_eq (word ts) (codes "union")) (λ h. word_symbol (codes "union") ts refl h)
+    (λ h. when (bytes_eq (word ts) (codes "macro_rules")) (λ i. word_symbol (codes "macro_rules") ts refl i)
+    (λ i. when (bytes_eq (word ts) (codes "extern")) (λ j. word_symbol (codes "extern") ts refl j)
+    (λ j. absurd (let no = rw (a, b, c, d, f, g, h, i, j) at e in cc))))))))))

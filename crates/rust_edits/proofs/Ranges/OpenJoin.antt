@@ -1,14 +1,15 @@
 -- What is read of an item without its end, and of the text that begins with an item behind it.
 use Rattle.std.proofs.Common.{◌≡◌, ◌<◌, ◌≤◌, ◌+◌, ◌==◌, ◌||◌, ◌&&◌, ℕ, zero, suc, Bool, true, false, Option, Some, None, List, [], ◌∷◌, ◌++◌, length, map, refl, sym, ap, ◌∙◌, subst, arith, length-append, append_assoc}
-use Rattle.rust_edits.proofs.Common.{Row, Span, Problem, TextRange, moved_range, moved_span, moved_problem, map-append, Ending, word, EditionYear, MetaView, ItemView, Piece, Found, Head, FrontRead, LeafRead, Tokens, tokens_of, tokens, filter, is_significant, last_unended, option_map, option_to_list, is_some, by_first, rest, end_of, symbol, is_empty, is_at_end, bumped, beyond, begins_item, taken, taking, most, moved, front, leaf, leaf_turn, leaf_found, by_head, inside, depth_of, turn, nothing_found, and_all, and_problem_at, found_on, items, read_of, found_in, behind_attributes, inner_attributes, is_list_end, LeadsTo, here, further, through, when, bumped_leads, eat_word_leads, inner_attributes_leads, named_leads, fewer, IsLaid, behind, at_behind, tokens_laid, tokens_sound, tokens_short, ne_eqb, filter-append, filter_moved, near_twins, Near, BlockRead, Finder, TokenKind, IsFileView, items_found}
+use Rattle.rust_edits.proofs.Common.{is_nil, eat, module_with, some_item, named, named_or_leads, renamed_leads, use_tree_leads, Row, Span, Problem, TextRange, moved_range, moved_span, moved_problem, map-append, Ending, word, EditionYear, MetaView, ItemView, Piece, Found, Head, FrontRead, LeafRead, Tokens, tokens_of, tokens, filter, is_significant, last_unended, option_map, option_to_list, is_some, by_first, rest, end_of, symbol, is_empty, is_at_end, bumped, beyond, begins_item, taken, taking, most, moved, front, leaf, leaf_turn, leaf_found, by_head, inside, depth_of, turn, nothing_found, and_all, and_problem_at, found_on, items, read_of, found_in, behind_attributes, inner_attributes, is_list_end, LeadsTo, here, further, through, when, bumped_leads, eat_word_leads, inner_attributes_leads, named_leads, fewer, IsLaid, behind, at_behind, tokens_laid, tokens_sound, tokens_short, ne_eqb, filter-append, filter_moved, near_twins, Near, BlockRead, Finder, TokenKind, IsFileView, items_found}
 use Rattle.rust_items.specs.declared.log.ProblemKind.TheVariants as problem
 use Rattle.rust_leaves.specs.declared.head.Head.TheVariants as heads
 use Rattle.rust_cursor.specs.declared.cursor.nest.Nest.{Nest}
 use Rattle.rust_cursor.specs.Extents.{begins}
 use Rattle.rust_cursor.specs.Nests.{flat_behind}
+use Rattle.rust_items.specs.Items.{no_block}
 use Rattle.rust_cursor.specs.Words.{eat_word}
 use Rattle.rust_cursor.proofs.Tests.{begins_item_same}
-use Rattle.rust_edits.specs.Ranges.Open.{IsOpenItem, OpenItemEnds, ReadsOn, StandsBefore, nothing_before, whole_before, takes_rest, behind_name, end_behind}
+use Rattle.rust_edits.specs.Ranges.Open.{IsOpenItem, OpenItemEnds, ReadsOn, StandsBefore, nothing_before, whole_before, reaches_end, behind_name, end_behind}
 use Rattle.rust_edits.proofs.Ranges.Alone.{start_near}
 use Rattle.rust_edits.proofs.Ranges.Behind.{last_moved}
 use Rattle.rust_edits.proofs.Ranges.Inner.{no_inner}
@@ -16,7 +17,7 @@ use Rattle.rust_edits.proofs.Ranges.Joins.{edition_stays, found_both, items_join
 use Rattle.rust_edits.proofs.Ranges.NearItems.{top_end, front_leads}
 use Rattle.rust_edits.proofs.Ranges.NearLeaves.{Given}
 use Rattle.rust_edits.proofs.Ranges.Onward.{IsRead, read_on}
-use Rattle.rust_edits.proofs.Ranges.Open.{TakesTo, TakesUp, rest_stops, taking_open, leaf_open}
+use Rattle.rust_edits.proofs.Ranges.Open.{Reaches, TakesUp, rest_stops, taking_open, leaf_open, item_plain, nil_left, nil_symbol}
 use Rattle.rust_edits.proofs.Ranges.Tops.{turn_strict}
 use Rattle.rust_edits.proofs.Ranges.NearFields.{empty_left}
 use Rattle.std.proofs.lemmas.List.{length-map}
@@ -40,15 +41,17 @@ behind_past {ts} (further p) (t ∷ xs) Y some e f =
     behind_past p xs Y some (ap rest e) f ∙ ap (λ n. end_behind n xs) (ap (by_first ts.past end_of) e)
 
 name_leads : (w : Head) (ts : Tokens) → LeadsTo ts (behind_name w ts)
+name_leads heads.Use ts = use_tree_leads ts
+name_leads heads.ExternCrate ts = through (named_or_leads _ ts) (renamed_leads _)
 name_leads heads.Impl ts = here
 name_leads heads.Static ts = through (eat_word_leads _ ts) (named_leads _)
 name_leads heads.Const ts = through (named_leads ts) (eat_word_leads _ _)
 name_leads _ ts = named_leads ts
 
-head_leaf : (w : Head) → takes_rest w ≡ true → (inside : Finder BlockRead) (depth : ℕ) (h : FrontRead) (f : Found) (ts : Tokens) → by_head inside depth w h f ts ≡ leaf_turn depth h f ts
-head_leaf heads.Module e inside depth h f ts = absurd cc
-head_leaf heads.ExternBlock e inside depth h f ts = absurd cc
-head_leaf _ e inside depth h f ts = refl
+head_leaf : (w : Head) (xs : List Piece) → (w ≡ heads.Module → ⊥) → reaches_end w xs ≡ true → (inside : Finder BlockRead) (depth : ℕ) (h : FrontRead) (f : Found) (ts : Tokens) → by_head inside depth w h f ts ≡ leaf_turn depth h f ts
+head_leaf heads.Module xs n e inside depth h f ts = absurd (n refl)
+head_leaf heads.ExternBlock xs n e inside depth h f ts = absurd cc
+head_leaf _ xs n e inside depth h f ts = refl
 
 -- an item that takes all up to there
 record TurnsTo (Y : List Piece) (r : Option ItemView × (Found × Tokens)) : Type 0 where
@@ -59,6 +62,22 @@ record TurnsTo (Y : List Piece) (r : Option ItemView × (Found × Tokens)) : Typ
 found_to : (Y : List Piece) (depth start : ℕ) (o : Option LeafRead) (f : Found) (ts : Tokens) → is_some o ≡ true → ts.left ≡ Y → TurnsTo Y (leaf_found depth start o f ts)
 found_to Y depth start None f ts e l = absurd cc
 found_to Y depth start (Some m) f ts e l = record { item = m.item; is = refl; left = l }
+
+-- neither a `;` nor a block is taken there
+no_semicolon : (us : Tokens) → symbol us ≡ 0 → eat 59 us ≡ (false, us)
+unfolding eat
+no_semicolon us plain = let other : (symbol us == 59) ≡ false = rw plain refl in rw other refl
+
+no_inside : (left : ℕ) (f : Found) (us : Tokens) → symbol us ≡ 0 → inside (suc left) f us ≡ (no_block, (f, us))
+unfolding inside
+no_inside left f us plain = let other : (symbol us == 123) ≡ false = rw plain refl in rw other refl
+
+-- so a module ends behind its name
+module_to : (Y : List Piece) (h : FrontRead) (f : Found) (ts : Tokens) → (named ts).1.left ≡ Y → symbol (named ts).1 ≡ 0 → TurnsTo Y (some_item (module_with (inside 128) (depth_of 128) h f ts))
+module_to Y h f ts left plain =
+    let semi = no_semicolon (named ts).1 plain in
+    let block = no_inside 127 nothing_found (named ts).1 plain in
+    record { item = (module_with (inside 128) (depth_of 128) h f ts).0; is = refl; left = rw (semi, block) left }
 
 last_any : (a b : Option ℕ) (l : List Piece) → 0 < length l → last_unended a l ≡ last_unended b l
 last_any a b [] some = absurd (omega arith)
@@ -123,9 +142,12 @@ module _ (edition : EditionYear) (x y : List ℕ) (h : IsOpenItem edition x y) (
   unfolding tokens_of
   level us to e = level_near d 0 vs.left ts.unended vs.unended edition us (there us to e ∙ (let none : d ≡ 0 + d = omega arith in none)) e (unended_kept to) (edition_stays to)
 
+  begins_there : (us : Tokens) → LeadsTo ts us → us.left ≡ Y → begins_item us ≡ true
+  begins_there us to e = sym (begins_item_same (near_twins b) us vs (level us to e)) ∙ h.begins
+
   stops_there : (us : Tokens) (nest : Nest) → LeadsTo ts us → us.left ≡ Y → nest.braces ≡ 0 → nest.others ≡ 0 → rest_stops nest us ≡ true
   stops_there us nest to e z o =
-      let item : begins_item us ≡ true = sym (begins_item_same (near_twins b) us vs (level us to e)) ∙ h.begins in
+      let item = begins_there us to e in
       when (is_empty us) (λ f. rw f refl) (λ f. rw (f, z, o, item) (either (symbol us == 125)))
     where
       either : (t : Bool) → (t || true) ≡ true
@@ -141,15 +163,29 @@ module _ (edition : EditionYear) (x y : List ℕ) (h : IsOpenItem edition x y) (
   to_name : LeadsTo ts (behind_name fr.head ts1)
   to_name = through (front_leads ts) (name_leads fr.head ts1)
 
-  takes_to : TakesTo Y (behind_name fr.head ts1)
+  reaches : Reaches Y h.rest (behind_name fr.head ts1)
   unfolding taken
-  takes_to before e s n = taking_open Y e s n ts stops_there h.rest 0 [] 0 None (flat_behind before) (behind_name fr.head ts1) to_name h.left h.inner refl refl
+  reaches = record {
+    inner = λ i before e s n. taking_open Y e s n ts stops_there h.rest 0 [] 0 None (flat_behind before) (behind_name fr.head ts1) to_name h.left i refl refl;
+    left = h.left;
+    plain = λ e. item_plain (behind_name fr.head ts1) (begins_there (behind_name fr.head ts1) to_name (h.left ∙ ap (λ l. l ++ Y) e));
+  }
+
+  by_word : (w : Head) → fr.head ≡ w → (f : Found) → TurnsTo Y (by_head (inside 128) (depth_of 128) w fr f ts1)
+  unfolding leaf_turn
+  by_word heads.Module e f =
+      let there : Reaches Y h.rest (named ts1).1 = subst (λ (w : Head). Reaches Y h.rest (behind_name w ts1)) e reaches in
+      let none : is_nil h.rest ≡ true = subst (λ (w : Head). reaches_end w h.rest ≡ true) e h.reaches in
+      module_to Y fr f ts1 (nil_left Y h.rest (named ts1).1 there none) (nil_symbol Y h.rest (named ts1).1 there none)
+  by_word w e f =
+      let all : reaches_end w h.rest ≡ true = subst (λ (w : Head). reaches_end w h.rest ≡ true) e h.reaches in
+      let there : Reaches Y h.rest (behind_name w ts1) = subst (λ (w : Head). Reaches Y h.rest (behind_name w ts1)) e reaches in
+      let leaf_to : TakesUp Y (leaf fr ts1) = leaf_open Y h.rest fr ts1 w (λ m. absurd cc) e all there in
+      rw (head_leaf w h.rest (λ m. absurd cc) all (inside 128) (depth_of 128) fr f ts1) (found_to Y (depth_of 128) fr.start (leaf fr ts1).0 f (leaf fr ts1).1 leaf_to.some leaf_to.left)
 
   turned : (f : Found) → TurnsTo Y (turn 128 f ts)
-  unfolding turn leaf_turn
-  turned f =
-      let leaf_to : TakesUp Y (leaf fr ts1) = leaf_open Y fr ts1 fr.head refl h.takes takes_to in
-      rw (h.item, head_leaf fr.head h.takes (inside 128) (depth_of 128) fr f ts1) (found_to Y (depth_of 128) fr.start (leaf fr ts1).0 f (leaf fr ts1).1 leaf_to.some leaf_to.left)
+  unfolding turn
+  turned f = rw h.item (by_word fr.head refl f)
 
   abbrev r : Option ItemView × (Found × Tokens)
   r = turn 128 nothing_found ts

@@ -6,17 +6,18 @@ use Rattle.rust_lexer.specs.declared.kind.DocStyle.TheVariants.{Inner}
 use Rattle.rust_lexer.specs.Alone.{moved}
 use Rattle.rust_lexer.specs.Piece.{Piece}
 use Rattle.rust_lexer.specs.Symbol.{symbol_of}
-use Rattle.rust_lexer.specs.Tokens.{tokens}
+use Rattle.rust_lexer.specs.Tokens.{is_nil, tokens}
 use Rattle.rust_cursor.specs.Elements.{most}
 use Rattle.rust_cursor.specs.Extents.{begins_item, is_item_word}
 use Rattle.rust_cursor.specs.Nests.{count_behind}
 use Rattle.rust_cursor.specs.Tokens.{Tokens, end_of, tokens_of}
 use Rattle.rust_cursor.specs.Words.{documents, eat_word, is_at_end, word_by}
+use Rattle.rust_paths.specs.UseTrees.{use_tree}
 use Rattle.rust_metas.specs.Attributes.{is_behind}
 use Rattle.rust_leaves.specs.declared.head.Head.{Head}
 use Rattle.rust_leaves.specs.declared.head.Head.TheVariants as heads
 use Rattle.rust_leaves.specs.Fronts.{front}
-use Rattle.rust_leaves.specs.Leaves.{named}
+use Rattle.rust_leaves.specs.Leaves.{named, named_or, renamed}
 use Rattle.rust_items.specs.Found.{Found, and_all}
 use Rattle.rust_items.specs.SourceFiles.{found_in, read_of}
 use Rattle.rust_edits.specs.Ranges.Joined.{EndsWhole, BeginsAnew, found_on}
@@ -49,25 +50,30 @@ are_inner depth (t ∷ ts) = is_inner depth t && are_inner (count_behind depth (
 
 -- ---- an item of which the end is not written
 
--- it is told by its words and its name, and takes what is left up to a `;` or a block
-abbrev pub takes_rest : Head → Bool
-takes_rest heads.Fn = true
-takes_rest heads.Impl = true
-takes_rest heads.Trait = true
-takes_rest heads.Struct = true
-takes_rest heads.Union = true
-takes_rest heads.Enum = true
-takes_rest heads.Const = true
-takes_rest heads.Static = true
-takes_rest heads.TypeAlias = true
-takes_rest _ = false
-
--- what is left behind its name
+-- what is left behind its name, or behind its use tree
 abbrev pub behind_name : Head → Tokens → Tokens
+behind_name heads.Use ts = (use_tree ts).1
+behind_name heads.ExternCrate ts = (renamed (named_or (codes "self") ts).1).1
 behind_name heads.Impl ts = ts
 behind_name heads.Static ts = (named (eat_word (codes "mut") ts).1).1
 behind_name heads.Const ts = (eat_word (codes "_") (named ts).1).1
 behind_name _ ts = (named ts).1
+
+-- it goes on to the end of the text with these tokens
+abbrev pub reaches_end : Head → List Piece → Bool
+reaches_end heads.Use ts = is_nil ts
+reaches_end heads.ExternCrate ts = is_nil ts
+reaches_end heads.Module ts = is_nil ts
+reaches_end heads.Fn ts = are_inner 0 ts
+reaches_end heads.Impl ts = are_inner 0 ts
+reaches_end heads.Trait ts = are_inner 0 ts
+reaches_end heads.Struct ts = are_inner 0 ts
+reaches_end heads.Union ts = are_inner 0 ts
+reaches_end heads.Enum ts = are_inner 0 ts
+reaches_end heads.Const ts = are_inner 0 ts
+reaches_end heads.Static ts = are_inner 0 ts
+reaches_end heads.TypeAlias ts = are_inner 0 ts
+reaches_end _ ts = false
 
 -- the place behind the last of these tokens, or this one
 abbrev pub end_behind : ℕ → List Piece → ℕ
@@ -83,10 +89,9 @@ pub record IsOpenItem (edition : EditionYear) (text y : List ℕ) : Type 0 where
   pub outer : is_behind Inner (tokens_of edition (text ++ y)) ≡ true
   pub outer_behind : is_behind Inner (tokens_of edition y) ≡ true
   pub item : is_at_end (tokens_of edition (text ++ y)) ≡ false
-  pub takes : takes_rest (front (tokens_of edition (text ++ y))).0.head ≡ true
   pub rest : List Piece
   pub left : (behind_name (front (tokens_of edition (text ++ y))).0.head (front (tokens_of edition (text ++ y))).1).left ≡ rest ++ map (moved (length text)) (tokens_of edition y).left
-  pub inner : are_inner 0 rest ≡ true
+  pub reaches : reaches_end (front (tokens_of edition (text ++ y))).0.head rest ≡ true
 
 -- What is read of a text ends with what is read of another, which stands so much further on.
 pub record ReadsOn (edition : EditionYear) (text : List ℕ) (d : ℕ) (y : List ℕ) : Type 0 where
