@@ -78,7 +78,7 @@ pub use Rattle.rust_leaves.specs.Fronts.{FrontRead}
 unfoldable pub use Rattle.rust_leaves.specs.Fronts.{front, front_behind}
 pub use Rattle.rust_leaves.specs.Heads.{behind_modifiers_from}
 unfoldable pub use Rattle.rust_leaves.specs.Heads.{behind_modifiers, head, head_by, is_called, begins_call, is_modifier, is_modifier_before, is_weak_before}
-pub use Rattle.rust_leaves.specs.Kinds.{block_item, call_behind, called, leaf_by, leaf_read, named_node, node, plain_read, some_read, told_at, use_read, attributed_item}
+pub use Rattle.rust_leaves.specs.Kinds.{block_item, called, leaf_by, leaf_read, named_node, node, plain_read, some_read, told_at, use_read, attributed_item}
 unfoldable pub use Rattle.rust_leaves.specs.Kinds.{constant, crate_item, enumeration, function, implementation, invocation, item_call, leaf, macro_def, macro_definition, static_value, structure, trait_item, type_alias, union_item, use_declaration}
 pub use Rattle.rust_leaves.specs.Leaves.{LeafRead, NameRead, RestRead, are_over, bare_end, crate_alias_if, fields_at, is_before, name_read, next_range, no_name, range_to, rename_of, rest_read, semicolon_end, symbol_within}
 unfoldable pub use Rattle.rust_leaves.specs.Leaves.{block_attributes, call_end, crate_alias, fields, has_trait, header_field, impl_end, item_end, macro_end, named, named_or, renamed, struct_fields, value_end}
@@ -89,7 +89,7 @@ pub use Rattle.rust_lexer.proofs.Apart.{apart, front_same, own, stop_at, tokens_
 pub use Rattle.rust_lexer.proofs.Laws.{tokens_lossless, tokens_placed}
 pub use Rattle.rust_lexer.proofs.Whole.{body_matched, close_symbol, counted_apart, filter_moved, open_at, plain_is}
 unfoldable pub use Rattle.rust_lexer.proofs.Whole.{body, close_of, front_of, inside_of, left_of}
-pub use Rattle.rust_lexer.specs.Alone.{EndsAlone, StandsAlone, Stop, behind_lead, braces_from, closing, is_fence, is_full, moved, opening, overhang, semicolon, stop, tokens_in_front}
+pub use Rattle.rust_lexer.specs.Alone.{EndsAlone, StandsAlone, Stop, braces_from, closing, is_fence, is_full, moved, opening, overhang, semicolon, stop, tokens_in_front}
 pub use Rattle.rust_lexer.specs.Bytes.{is_continuation}
 unfoldable pub use Rattle.rust_lexer.specs.Bytes.{is_wide_continue, is_wide_start}
 unfoldable pub use Rattle.rust_lexer.specs.Cut.{first_cut}
@@ -113,14 +113,13 @@ unfoldable pub use Rattle.rust_paths.specs.Paths.{path}
 unfoldable pub use Rattle.rust_paths.specs.UseTrees.{use_tree}
 unfoldable pub use Rattle.rust_paths.specs.Visibilities.{visibility}
 pub use Rattle.rust_paths.specs.declared.names.TextRange.{TextRange}
-pub use Rattle.std.proofs.lemmas.Bool.{and_from, and_parts, and_right, eq-eqb, eqb-true, false≢true, le-leb, leb-true, lt-leb, lt-ltb, ltb-true, ne_eqb, not-true, or_left, or_parts, or_right}
+pub use Rattle.std.proofs.lemmas.Bool.{and_from, and_parts, and_right, eq-eqb, eqb-true, false≢true, le-leb, leb-true, lt-leb, lt-ltb, ltb-true, ne_eqb, not-true, or_parts}
 pub use Rattle.std.proofs.lemmas.Bool.Decides.{nat_tests}
 pub use Rattle.std.proofs.lemmas.Grind.{common_steps}
 pub use Rattle.std.proofs.lemmas.List.{append_cancel_left, drop_all, drop_at, map-append, take_all, take_at}
 pub use Rattle.std.proofs.lemmas.List.Elements.{All-append, All-cons, All-head, All-nil, All-tail, All-weaker, filter-append}
-pub use Rattle.std.proofs.lemmas.List.Folds.{list_any-append}
 pub use Rattle.std.proofs.lemmas.Option.{same_Some, slice_get-get_or}
 pub use Rattle.std.proofs.lemmas.Str.{IsCharBoundary-after_ascii, IsCharBoundary-from_take, IsUtf8-append}
-pub use Rattle.std.specs.List.{filter, list_all, list_any}
+pub use Rattle.std.specs.List.{filter, list_all}
 pub use Rattle.std.specs.Prelude.{All, IfNone, IsCharBoundary, IsSome, is_none, is_some, nat_le, nat_lt, not, option_and_then, option_map, option_to_list, slice_get, slice_index}
 pub use Rattle.std.specs.Str.{bytes_eq}

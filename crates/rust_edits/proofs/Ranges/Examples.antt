@@ -1,6 +1,7 @@
--- Small examples, by computing: a text that ends with its own token, and one that ends with a whole item.
-use Rattle.std.proofs.Common.{◌≡◌, ◌==◌, ℕ, true, false, Option, None, List, [], ◌∷◌, codes, refl, sym, ap, ◌∙◌, suc}
-use Rattle.rust_edits.proofs.Common.{option_to_list, beyond, slice_index, EditionYear, MetaView, ItemView, Inner, semicolon, closing, is_continuation, is_wide_start, is_wide_continue, first_cut, Piece, tokens, most, goes_on, Tokens, tokens_of, symbol, word, text, kind, at, is_empty, is_at_end, bumped, eat, plain_name, is_keyword, is_path_keyword, next_name, name, placed_name, is_behind, is_doc, is_attribute, inner_attributes, is_modifier, is_modifier_before, is_weak_before, head, head_by, FrontRead, front, named, Found, nothing_found, items, by_head, inside, turn, depth_of, behind_attributes, read_of, IsBare, EndsWhole, BeginsAnew, EndsOwn, is_list_end, finding, finding_from, tokens_at}
+-- Small examples, by computing: a text that ends with its own token, one that ends with a whole item, and one that ends with an item without its end.
+use Rattle.std.proofs.Common.{length, map, ◌++◌, ◌≡◌, ◌==◌, ℕ, true, false, Option, None, List, [], ◌∷◌, codes, refl, sym, ap, ◌∙◌, suc}
+use Rattle.rust_edits.proofs.Common.{moved, begins_item, option_to_list, beyond, slice_index, EditionYear, MetaView, ItemView, Inner, semicolon, closing, is_continuation, is_wide_start, is_wide_continue, first_cut, Piece, tokens, most, goes_on, Tokens, tokens_of, symbol, word, text, kind, at, is_empty, is_at_end, bumped, eat, plain_name, is_keyword, is_path_keyword, next_name, name, placed_name, is_behind, is_doc, is_attribute, inner_attributes, is_modifier, is_modifier_before, is_weak_before, head, head_by, FrontRead, front, named, Found, nothing_found, items, by_head, inside, turn, depth_of, behind_attributes, read_of, IsBare, EndsWhole, BeginsAnew, EndsOwn, is_list_end, finding, finding_from, tokens_at}
+use Rattle.rust_edits.specs.Ranges.Open.{IsOpenItem, behind_name, end_behind, reaches_end}
 use Rattle.rust_edits.proofs.Ranges.Inner.{front_bare, no_inner}
 use Rattle.rust_lexer.specs.declared.kind.TokenKind.TheVariants as kinds
 use Rattle.rust_leaves.specs.declared.head.Head.TheVariants as heads
@@ -135,3 +136,75 @@ module _ (y : EditionYear) where
   -- and may stand behind others
   pub begins : BeginsAnew y mod_b
   begins = record { bare = bare; uncut = first_uncut; outer = ap (is_behind Inner) toks ∙ not_inner y name_and_end; still = ap goes_on toks ∙ not_on }
+
+-- ---- an item without its end, in front of a module
+
+pub fn_f : List ℕ
+fn_f = codes "fn f()"
+
+pub behind_line : List ℕ
+behind_line = codes "\nmod b;"
+
+-- `f()`, and the module behind it
+unfoldable f_and_module : List Piece
+f_and_module =
+    record { kind = kinds.Ident; text = codes "f"; at = 3 } ∷ record { kind = kinds.OpenDelim; text = codes "("; at = 4 } ∷ record { kind = kinds.CloseDelim; text = codes ")"; at = 5 }
+    ∷ record { kind = kinds.Ident; text = codes "mod"; at = 7 } ∷ record { kind = kinds.Ident; text = codes "b"; at = 11 } ∷ record { kind = kinds.Punct; text = codes ";"; at = 12 } ∷ []
+
+module _ (y : EditionYear) where
+  unfoldable from_fn : Tokens
+  from_fn = tokens_at y 0 (record { kind = kinds.Ident; text = codes "fn"; at = 0 } ∷ f_and_module) None
+
+  unfoldable from_f : Tokens
+  from_f = tokens_at y 2 f_and_module None
+
+  both_are : tokens_of y (fn_f ++ behind_line) ≡ from_fn
+  unfolding from_fn f_and_module fn_f behind_line tokens_of tokens first_cut is_wide_start is_wide_continue
+  both_are = refl
+
+  front_fn : front from_fn ≡ (record { start = 0; attrs = []; visibility = None; head = heads.Fn }, from_f)
+  unfolding from_fn from_f is_behind is_doc is_attribute is_modifier is_modifier_before is_weak_before symbol kind word bumped at head head_by
+  front_fn = front_bare from_fn refl refl refl
+
+  parted : tokens (fn_f ++ behind_line) ≡ tokens fn_f ++ map (moved (length fn_f)) (tokens behind_line)
+  unfolding fn_f behind_line tokens first_cut is_wide_start is_wide_continue
+  parted = refl
+
+  ends_there : end_behind 0 (tokens_of y fn_f).left ≡ length fn_f
+  unfolding fn_f tokens_of tokens first_cut is_wide_start is_wide_continue
+  ends_there = refl
+
+  module_begins : begins_item (tokens_of y behind_line) ≡ true
+  unfolding behind_line tokens_of tokens first_cut is_wide_start is_wide_continue begins_item word
+  module_begins = refl
+
+  module_outer : is_behind Inner (tokens_of y behind_line) ≡ true
+  unfolding behind_line tokens_of tokens first_cut is_wide_start is_wide_continue is_behind is_doc is_attribute symbol kind
+  module_outer = refl
+
+  fn_outer : is_behind Inner from_fn ≡ true
+  unfolding from_fn is_behind is_doc is_attribute symbol kind
+  fn_outer = refl
+
+  fn_item : is_at_end from_fn ≡ false
+  unfolding from_fn is_at_end
+  fn_item = refl
+
+  behind_f : (named from_f).1.left ≡ record { kind = kinds.OpenDelim; text = codes "("; at = 4 } ∷ record { kind = kinds.CloseDelim; text = codes ")"; at = 5 } ∷ map (moved (length fn_f)) (tokens_of y behind_line).left
+  unfolding from_f f_and_module fn_f behind_line tokens_of tokens first_cut is_wide_start is_wide_continue named placed_name name next_name plain_name is_keyword is_path_keyword kind text at bumped
+  behind_f = refl
+
+  -- `fn f()` goes on to the end of its line
+  pub is_open : IsOpenItem y fn_f behind_line
+  is_open = record {
+    parted = parted;
+    ends = ends_there;
+    begins = module_begins;
+    outer = ap (is_behind Inner) both_are ∙ fn_outer;
+    outer_behind = module_outer;
+    item = ap is_at_end both_are ∙ fn_item;
+    rest = record { kind = kinds.OpenDelim; text = codes "("; at = 4 } ∷ record { kind = kinds.CloseDelim; text = codes ")"; at = 5 } ∷ [];
+    left = ap (λ (t : Tokens). (behind_name (front t).0.head (front t).1).left) both_are ∙ ap (λ (r : FrontRead × Tokens). (behind_name r.0.head r.1).left) front_fn ∙ behind_f;
+    reaches = ap (λ (t : Tokens). reaches_end (front t).0.head (record { kind = kinds.OpenDelim; text = codes "("; at = 4 } ∷ record { kind = kinds.CloseDelim; text = codes ")"; at = 5 } ∷ [])) both_are
+        ∙ ap (λ (r : FrontRead × Tokens). reaches_end r.0.head (record { kind = kinds.OpenDelim; text = codes "("; at = 4 } ∷ record { kind = kinds.CloseDelim; text = codes ")"; at = 5 } ∷ [])) front_fn;
+  }

@@ -1,11 +1,11 @@
 -- An item without its end goes on up to the word that begins the next one.
-use Rattle.std.proofs.Common.{◌≡◌, ◌<◌, ◌+◌, ◌==◌, ◌&&◌, ◌||◌, ℕ, zero, suc, Bool, true, false, Option, Some, None, List, [], ◌∷◌, ◌++◌, length, map, refl, sym, ap, ◌∙◌, subst, arith, codes, bytes_eq, not, if◌then◌else◌}
-use Rattle.rust_edits.proofs.Common.{is_nil, eat, use_tree, named_or, renamed, use_declaration, crate_item, is_some, Tokens, symbol, word, bumped, is_empty, is_at_doc, by_first, rest, Piece, symbol_of, LeadsTo, here, further, through, when, bumped_leads, and_parts, or_parts, eqb-true, nat_tests, Head, FrontRead, front, leaf, LeafRead, begins_item, begins_within, begins_impl_or_const, stops, ends, taking, taken, nest_behind, some_read, function, trait_item, structure, union_item, enumeration, constant, static_value, type_alias, implementation, item_end, impl_end, value_end, leaf_by}
+use Rattle.std.proofs.Common.{◌≡◌, ◌==◌, ◌&&◌, ◌||◌, ℕ, Bool, true, false, Option, List, [], ◌∷◌, ◌++◌, refl, sym, ap, ◌∙◌, codes, bytes_eq, not, if◌then◌else◌}
+use Rattle.rust_edits.proofs.Common.{is_nil, eat, use_tree, named_or, renamed, use_declaration, crate_item, is_some, Tokens, symbol, word, bumped, is_empty, is_at_doc, by_first, rest, Piece, symbol_of, LeadsTo, through, when, bumped_leads, and_parts, or_parts, eqb-true, Head, FrontRead, leaf, LeafRead, begins_item, begins_within, begins_impl_or_const, stops, ends, taking, taken, nest_behind, function, trait_item, structure, union_item, enumeration, constant, static_value, type_alias, implementation, item_end, impl_end, value_end}
 use Rattle.rust_cursor.specs.declared.cursor.nest.Before.{Before}
 use Rattle.rust_cursor.specs.declared.cursor.nest.Before.TheVariants as befores
 use Rattle.rust_cursor.specs.declared.cursor.nest.Nest.{Nest}
 use Rattle.rust_cursor.specs.Extents.{begins, begins_behind, is_item_word}
-use Rattle.rust_cursor.specs.Nests.{count_behind, flat_behind, is_mark}
+use Rattle.rust_cursor.specs.Nests.{count_behind, is_mark}
 use Rattle.rust_cursor.specs.Words.{documents, word_by}
 use Rattle.rust_cursor.proofs.Around.{others_of, word_symbol}
 use Rattle.rust_cursor.proofs.Passing.{braces_of}

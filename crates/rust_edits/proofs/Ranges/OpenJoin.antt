@@ -1,13 +1,12 @@
 -- What is read of an item without its end, and of the text that begins with an item behind it.
-use Rattle.std.proofs.Common.{◌≡◌, ◌<◌, ◌≤◌, ◌+◌, ◌==◌, ◌||◌, ◌&&◌, ℕ, zero, suc, Bool, true, false, Option, Some, None, List, [], ◌∷◌, ◌++◌, length, map, refl, sym, ap, ◌∙◌, subst, arith, length-append, append_assoc}
-use Rattle.rust_edits.proofs.Common.{is_nil, eat, module_with, some_item, named, named_or_leads, renamed_leads, use_tree_leads, Row, Span, Problem, TextRange, moved_range, moved_span, moved_problem, map-append, Ending, word, EditionYear, MetaView, ItemView, Piece, Found, Head, FrontRead, LeafRead, Tokens, tokens_of, tokens, filter, is_significant, last_unended, option_map, option_to_list, is_some, by_first, rest, end_of, symbol, is_empty, is_at_end, bumped, beyond, begins_item, taken, taking, most, moved, front, leaf, leaf_turn, leaf_found, by_head, inside, depth_of, turn, nothing_found, and_all, and_problem_at, found_on, items, read_of, found_in, behind_attributes, inner_attributes, is_list_end, LeadsTo, here, further, through, when, bumped_leads, eat_word_leads, inner_attributes_leads, named_leads, fewer, IsLaid, behind, at_behind, tokens_laid, tokens_sound, tokens_short, ne_eqb, filter-append, filter_moved, near_twins, Near, BlockRead, Finder, TokenKind, IsFileView, items_found}
+use Rattle.std.proofs.Common.{◌≡◌, ◌<◌, ◌+◌, ◌==◌, ◌||◌, ℕ, zero, suc, Bool, true, false, Option, Some, None, List, [], ◌∷◌, ◌++◌, length, map, refl, sym, ap, ◌∙◌, subst, arith, length-append, append_assoc}
+use Rattle.rust_edits.proofs.Common.{is_nil, eat, module_with, some_item, named, named_or_leads, renamed_leads, use_tree_leads, Row, Span, Problem, TextRange, moved_range, moved_span, moved_problem, map-append, Ending, word, EditionYear, MetaView, ItemView, Piece, Found, Head, FrontRead, LeafRead, Tokens, tokens_of, tokens, filter, is_significant, last_unended, option_map, is_some, by_first, rest, end_of, symbol, is_empty, bumped, beyond, begins_item, taken, most, moved, front, leaf, leaf_turn, leaf_found, by_head, inside, depth_of, turn, nothing_found, and_all, and_problem_at, found_on, items, read_of, found_in, behind_attributes, is_list_end, LeadsTo, here, further, through, when, eat_word_leads, inner_attributes_leads, named_leads, fewer, IsLaid, behind, at_behind, tokens_laid, tokens_sound, tokens_short, ne_eqb, filter-append, filter_moved, near_twins, Near, BlockRead, Finder, items_found}
 use Rattle.rust_items.specs.declared.log.ProblemKind.TheVariants as problem
 use Rattle.rust_leaves.specs.declared.head.Head.TheVariants as heads
 use Rattle.rust_cursor.specs.declared.cursor.nest.Nest.{Nest}
 use Rattle.rust_cursor.specs.Extents.{begins}
 use Rattle.rust_cursor.specs.Nests.{flat_behind}
 use Rattle.rust_items.specs.Items.{no_block}
-use Rattle.rust_cursor.specs.Words.{eat_word}
 use Rattle.rust_cursor.proofs.Tests.{begins_item_same}
 use Rattle.rust_edits.specs.Ranges.Open.{IsOpenItem, OpenItemEnds, ReadsOn, StandsBefore, nothing_before, whole_before, reaches_end, behind_name, end_behind}
 use Rattle.rust_edits.proofs.Ranges.Alone.{start_near}
