@@ -63,6 +63,9 @@ TEXTS = [
     ('struct S(pub(in a::b) ', ')'), (';struct S(', ');'), ('mod m { use a::', '}'), ('#[a = "',), ('\u00e9',), ('=> ',), ('m! { = > }',),
     ('m! { /** a */ }',), ('a::crate::',), ('a::', 'crate::'), (';struct S(self ',), ('super::', '$'), ('mod m { fn f() {', '['),
     ('a::<b!()',), ('a::<#[a]',), ('::<b!()',), ('impl<{}+',), ('impl A<{}+',),
+    ('{\n',), ('(\n',), ('}\n',), ('[', ')'), ('{(', ']'), ('[(',), ('#[\n',), ('pub(\n',), ('struct S\n',), ('pub\n#[a]\n',), ('unsafe async const ',),
+    ('fn f() {\n',), ('#[a(\nfn f()\n',), ('    mod m {\n', '}\n'), ('  mod m {\n      { x\n }\n',), ('fn f() {\n    }\n', '}\n'),
+    ('mod m {\n', '    }\n', '}\n'), ('mod m {\n', '    /// a\n'), ('{\n', ' }\n', '    }\n}\n'), (' impl X {\n  impl X {\n   impl X {\n', '  }\n }\n}\n'),
     ('mod m {', '$'), ('mod m {struct S;',), ('extern "C" {fn f() {',), ('extern { ;m! {',), ('trait T { fn f() {',), ('impl S { fn f() {',), ('const A: u8 = { fn f() {',),
 ]
 passed = failed = 0

@@ -1,25 +1,18 @@
--- An item's text alone.
+-- Items in front of others, and behind them.
 pub mod NearFronts
 pub mod NearFields
+pub mod Calls
 pub mod NearLeaves
 pub mod NearItems
 pub mod NearTurns
+pub mod Tops
 pub mod Inner
 pub mod Alone
-pub mod Feeds
-pub mod Seats
-pub mod Fresh
-pub mod Plain
-pub mod Tops
 pub mod Turning
 pub mod Onward
 pub mod Behind
-pub mod Ranges
 pub mod Joins
-pub mod Typed
-pub mod Modules
-pub mod Files
-pub mod Fronts
-pub mod Holds
-pub mod TopIds
+pub mod Open
+pub mod OpenJoin
+pub mod Damaged
 pub mod Examples

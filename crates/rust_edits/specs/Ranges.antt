@@ -1,4 +1,4 @@
--- The text of an item's range, read alone.
-pub mod Laws
+-- Items in front of others, and behind them.
 pub mod Joined
-pub mod Inside
+pub mod Open
+pub mod Mended

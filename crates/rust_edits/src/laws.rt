@@ -8,9 +8,9 @@ ghost use Rattle.rust_edits.specs.Typing.Loose.{ProblemsMove};
 ghost use Rattle.rust_edits.specs.Typing.Moved.{BodyIsTold, IsReadAnew, PlacesMove};
 ghost use Rattle.rust_edits.specs.Typing.Opened.{BodyOpens};
 ghost use Rattle.rust_edits.specs.Typing.Problems.{ProblemsStand};
-ghost use Rattle.rust_edits.specs.Ranges.Inside.{InsideBetween, InsideJoin, ModuleReads, TopHolds};
-ghost use Rattle.rust_edits.specs.Ranges.Joined.{BothHold, FileTells, FrontHolds, FrontIdsStay, IdsStay, ItemsJoin, ItemsStand, ItemsTold, RestHolds, TopKeysStay, TypingItems};
-ghost use Rattle.rust_edits.specs.Ranges.Laws.{RangeAlone};
+ghost use Rattle.rust_edits.specs.Ranges.Joined.{InsideJoin, ItemsJoin};
+ghost use Rattle.rust_edits.specs.Ranges.Open.{OpenItemEnds};
+ghost use Rattle.rust_edits.specs.Ranges.Mended.{ItemsBefore, ItemsBehind, ListsBefore, OpenBehind};
 
 use crate::edit::BodyEdit;
 use crate::shift::Shift;
@@ -34,22 +34,13 @@ fn typing()
     ensures problems_move { ProblemsMove }
 {}
 
-// What is read of whole items alone, behind each other and between braces.
+// What is read of a text that ends with a whole item and of what is behind it, also where brackets are mended.
 fn ranges()
-    ensures range_alone { RangeAlone }
     ensures items_join { ItemsJoin }
-    ensures typing_items { TypingItems }
-    ensures file_tells { FileTells }
-    ensures items_stand { ItemsStand }
-    ensures items_told { ItemsTold }
-    ensures front_holds { FrontHolds }
-    ensures both_hold { BothHold }
-    ensures rest_holds { RestHolds }
-    ensures top_keys_stay { TopKeysStay }
-    ensures front_ids_stay { FrontIdsStay }
-    ensures ids_stay { IdsStay }
     ensures inside_join { InsideJoin }
-    ensures module_reads { ModuleReads }
-    ensures inside_between { InsideBetween }
-    ensures top_holds { TopHolds }
+    ensures open_item_ends { OpenItemEnds }
+    ensures items_before { ItemsBefore }
+    ensures items_behind { ItemsBehind }
+    ensures open_behind { OpenBehind }
+    ensures lists_before { ListsBefore }
 {}

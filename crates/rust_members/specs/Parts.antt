@@ -5,7 +5,7 @@ use Rattle.hir_input.specs.Attr.{MetaView}
 use Rattle.hir_input.specs.Syntax.{CallView, ItemView, NamedView, plain_item, fn_kind, type_alias_kind, const_item, macro_call}
 use Rattle.rust_cursor.specs.Tokens.{Tokens}
 use Rattle.rust_cursor.specs.Reader.{Reader, ◌>>=◌, pure, look, pass}
-use Rattle.rust_cursor.specs.Words.{symbol, word, at, is_at_end, is_at_open, is_pair, eat, eat_word, bumped}
+use Rattle.rust_cursor.specs.Words.{symbol, word, at, is_at_doc, is_at_end, is_at_identifier, is_at_open, is_pair, eat, eat_word, bumped}
 use Rattle.rust_cursor.specs.Nests.{can_end}
 use Rattle.rust_cursor.specs.Brackets.{behind_tree}
 use Rattle.rust_cursor.specs.Elements.{most}
@@ -83,6 +83,24 @@ member_behind_front metas h ts = leaf_member (told_with metas) h.start (leaf h t
 unfoldable pub associated : WantedMetas → Reader (Option MemberRead)
 associated metas ts = if is_at_end ts then (None, bumped ts) else member_behind_front metas (front ts).0 (front ts).1
 
+-- ---- the part behind a missing comma
+
+-- documentation, an attribute or `pub`: neither a type nor a value goes on with it
+abbrev pub begins_marked_part : Tokens → Bool
+begins_marked_part ts = is_at_doc ts || ((symbol ts == 35 && symbol (bumped ts) == 91) || bytes_eq (word ts) (codes "pub"))
+
+-- a name and its colon
+abbrev pub is_name_with_colon : Tokens → Bool
+is_name_with_colon ts = is_at_identifier ts && (symbol (bumped ts) == 58 && not (is_pair 58 58 (bumped ts)))
+
+-- such, or a name and its colon: no type goes on with it
+abbrev pub begins_field : Tokens → Bool
+begins_field ts = begins_marked_part ts || is_name_with_colon ts
+
+-- such, or a name: no operand goes on with it
+abbrev pub begins_part : Tokens → Bool
+begins_part ts = begins_marked_part ts || (is_at_identifier ts && can_end ts)
+
 -- ---- values
 
 -- In a value `<` opens generics where an operand begins, behind `::`, and in the type behind `as` or `->`; elsewhere it compares or shifts.
@@ -146,9 +164,9 @@ abbrev pub is_parameters : Stand → Bool
 is_parameters stands.Parameters = true
 is_parameters _ = false
 
--- the comma or the bracket that closes that ends a variant or a field
+-- the comma or the bracket that closes that ends a variant or a field, or without a comma the next one
 abbrev pub is_part_end : Stand → Tokens → Bool
-is_part_end stand ts = is_at_end ts || (symbol ts == 44 && not (is_parameters stand))
+is_part_end stand ts = is_at_end ts || ((symbol ts == 44 && not (is_parameters stand)) || (has_ended stand && begins_part ts))
 
 abbrev pub behind_operands : ℕ → Stand → Tokens → Tokens
 behind_operands zero stand ts = ts
@@ -161,9 +179,9 @@ behind_value ts = behind_operands most stands.Ended ts
 
 -- ---- types
 
--- a field's type ends before its value, too
+-- a field's type ends before its value, too, and before the next field
 abbrev pub is_type_end : Tokens → Bool
-is_type_end ts = is_at_end ts || (symbol ts == 44 || symbol ts == 61)
+is_type_end ts = is_at_end ts || ((symbol ts == 44 || symbol ts == 61) || begins_field ts)
 
 abbrev pub behind_type_part : Tokens → Tokens
 behind_type_part ts = if symbol ts == 60 then behind_angles ts else behind_tree ts

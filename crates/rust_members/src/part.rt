@@ -3,6 +3,7 @@
 ghost use Rattle.std.specs.Prelude.{◌≡◌, map, option_map};
 ghost use Rattle.hir_input.specs.Attr.{meta_view};
 ghost use Rattle.rust_cursor.specs.Reader.{Gives};
+ghost use Rattle.rust_cursor.specs.Words.{bumped};
 ghost use Rattle.rust_members.specs.Parts as spec;
 ghost use Rattle.rust_members.specs.Views.{member_view};
 
@@ -28,6 +29,48 @@ enum Stand {
     Type,
     /// It may have ended.
     TypeEnded,
+}
+
+fn second<'t>(cursor: &Cursor<'t>) -> Cursor<'t>
+    ensures { result ≡ bumped cursor.now }
+{
+    let mut second = cursor.ahead();
+    second.bump();
+    second
+}
+
+/// Whether documentation, an attribute or `pub` comes next.
+fn begins_marked_part(cursor: &Cursor<'_>) -> bool
+    ensures { result ≡ spec.begins_marked_part cursor.now }
+{
+    cursor.is_at_doc()
+        || cursor.symbol() == b'#' && second(cursor).symbol() == b'['
+        || cursor.word() == "pub"
+}
+
+/// Whether a name and its colon come next.
+fn is_name_with_colon(cursor: &Cursor<'_>) -> bool
+    ensures { result ≡ spec.is_name_with_colon cursor.now }
+{
+    if !cursor.is_at_identifier() {
+        return false;
+    }
+    let behind = second(cursor);
+    behind.symbol() == b':' && !behind.is_pair(b':', b':')
+}
+
+/// Whether a field begins where a type may go on.
+fn begins_field(cursor: &Cursor<'_>) -> bool
+    ensures { result ≡ spec.begins_field cursor.now }
+{
+    begins_marked_part(cursor) || is_name_with_colon(cursor)
+}
+
+/// Whether a variant or a field begins where an operand has ended.
+fn begins_part(cursor: &Cursor<'_>) -> bool
+    ensures { result ≡ spec.begins_part cursor.now }
+{
+    begins_marked_part(cursor) || cursor.is_at_identifier() && cursor.can_end()
 }
 
 fn opens_generics(cursor: &Cursor<'_>, stand: Stand) -> bool
@@ -160,7 +203,7 @@ fn is_part_end(cursor: &Cursor<'_>, stand: Stand) -> bool
     if cursor.is_at_end() {
         return true;
     }
-    cursor.symbol() == b',' && !is_parameters(stand)
+    cursor.symbol() == b',' && !is_parameters(stand) || has_ended(stand) && begins_part(cursor)
 }
 
 /// Passes over what is left of a variant or a field, behind its name or its type.
@@ -183,7 +226,7 @@ fn pass_value(cursor: &mut Cursor<'_>)
 fn is_type_end(cursor: &Cursor<'_>) -> bool
     ensures { result ≡ spec.is_type_end cursor.now }
 {
-    cursor.is_at_end() || matches!(cursor.symbol(), b',' | b'=')
+    cursor.is_at_end() || matches!(cursor.symbol(), b',' | b'=') || begins_field(cursor)
 }
 
 fn pass_type_part(cursor: &mut Cursor<'_>)

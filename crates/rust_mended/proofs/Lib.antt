@@ -8,3 +8,14 @@ pub mod PutPlaces
 pub mod Lossless
 pub mod Back
 pub mod Behind
+pub mod Told
+pub mod Blanks
+pub mod Seam
+pub mod Further
+pub mod Joins
+pub mod AtStops
+pub mod Inside
+pub mod Around
+pub mod Bodies
+pub mod BodyTexts
+mod Examples

@@ -33,36 +33,36 @@ closes_same bracket.Round rest os = refl
 closes_same bracket.Square rest os = refl
 
 -- a closer of the last bracket
-put_match : (at : ℕ) (b : Bracket) (ws : List Written) (st : List Bracket) → Matches ws st → Matches (put at b ∷ ws) (b ∷ st)
-put_match at b ws st h = closes_same b (match_from (flat_map mark_by ws)) st ∙ h
+put_match : (at : ℕ) (o : Opened) (ws : List Written) (st : List Bracket) → Matches ws st → Matches (put at o ∷ ws) (o.bracket ∷ st)
+put_match at o ws st h = closes_same o.bracket (match_from (flat_map mark_by ws)) st ∙ h
 
 closed_match : (t : Mark) (b : Bracket) (ws : List Written) (st : List Bracket) → Matches ws st → Matches (closed t b ∷ ws) (b ∷ st)
 closed_match t b ws st h = closes_same b (match_from (flat_map mark_by ws)) st ∙ h
 
 ends_match : (at : ℕ) → Fits (all_ended at)
 ends_match at [] = refl
-ends_match at (o ∷ os) = put_match at o.bracket (all_ended at os) (brackets os) (ends_match at os)
+ends_match at (o ∷ os) = put_match at o (all_ended at os) (brackets os) (ends_match at os)
 
 end_before_match : (t : Mark) (os : List Opened) (K : List Opened → List Written) → Fits K → Matches (end_before t os K) (brackets os)
 end_before_match t [] K h = h []
 end_before_match t (o ∷ os) K h =
-    if_match (ends_before_item t o) (put t.behind o.bracket ∷ end_before t os K) (K (o ∷ os)) (brackets (o ∷ os))
-    (put_match t.behind o.bracket (end_before t os K) (brackets os) (end_before_match t os K h)) (h (o ∷ os))
+    if_match (ends_before_item t o) (put t.behind o ∷ end_before t os K) (K (o ∷ os)) (brackets (o ∷ os))
+    (put_match t.behind o (end_before t os K) (brackets os) (end_before_match t os K h)) (h (o ∷ os))
 
 close_own_match : (t : Mark) (os : List Opened) (K : List Opened → List Written) → Fits K → Matches (close_own t os K) (brackets os)
 close_own_match t [] K h = h []
 close_own_match t (o ∷ os) K h =
-    if_match o.is_closed (closed t o.bracket ∷ K os) (put t.behind o.bracket ∷ close_own t os K) (brackets (o ∷ os))
-    (closed_match t o.bracket (K os) (brackets os) (h os)) (put_match t.behind o.bracket (close_own t os K) (brackets os) (close_own_match t os K h))
+    if_match o.is_closed (closed t o.bracket ∷ K os) (put t.behind o ∷ close_own t os K) (brackets (o ∷ os))
+    (closed_match t o.bracket (K os) (brackets os) (h os)) (put_match t.behind o (close_own t os K) (brackets os) (close_own_match t os K h))
 
 close_far_match : (t : Mark) (os : List Opened) (K : List Opened → List Written) → Fits K → Matches (close_far t os K) (brackets os)
 close_far_match t [] K h = h []
 close_far_match t (o ∷ os) K h =
     let one : List Written = closed t o.bracket ∷ K os in
-    let two : List Written = put t.behind o.bracket ∷ close_far t os K in
+    let two : List Written = put t.behind o ∷ close_far t os K in
     if_match o.is_closed (left t ∷ K (o ∷ os)) (if fits_closer t o then one else two) (brackets (o ∷ os)) (h (o ∷ os))
     (if_match (fits_closer t o) one two (brackets (o ∷ os))
-    (closed_match t o.bracket (K os) (brackets os) (h os)) (put_match t.behind o.bracket (close_far t os K) (brackets os) (close_far_match t os K h)))
+    (closed_match t o.bracket (K os) (brackets os) (h os)) (put_match t.behind o (close_far t os K) (brackets os) (close_far_match t os K h)))
 
 taken_match : (k : MarkKind) (t : Mark) → t.kind ≡ k → (c : Option Mark) (K : List Opened → List Written) → Fits K → Fits (mark_taken k t c K)
 taken_match (mark.Open b) t p c K h os =
@@ -103,18 +103,18 @@ ends_tell at (o ∷ os) = ends_tell at os
 end_before_tells : (t : Mark) (ts : List Mark) (os : List Opened) (K : List Opened → List Written) → Tells ts K → flat_map source_by (end_before t os K) ≡ ts
 end_before_tells t ts [] K h = h []
 end_before_tells t ts (o ∷ os) K h =
-    if_tells (ends_before_item t o) (put t.behind o.bracket ∷ end_before t os K) (K (o ∷ os)) ts (end_before_tells t ts os K h) (h (o ∷ os))
+    if_tells (ends_before_item t o) (put t.behind o ∷ end_before t os K) (K (o ∷ os)) ts (end_before_tells t ts os K h) (h (o ∷ os))
 
 close_own_tells : (t : Mark) (ts : List Mark) (os : List Opened) (K : List Opened → List Written) → Tells ts K → flat_map source_by (close_own t os K) ≡ t ∷ ts
 close_own_tells t ts [] K h = ap (λ xs. t ∷ xs) (h [])
 close_own_tells t ts (o ∷ os) K h =
-    if_tells o.is_closed (closed t o.bracket ∷ K os) (put t.behind o.bracket ∷ close_own t os K) (t ∷ ts) (ap (λ xs. t ∷ xs) (h os)) (close_own_tells t ts os K h)
+    if_tells o.is_closed (closed t o.bracket ∷ K os) (put t.behind o ∷ close_own t os K) (t ∷ ts) (ap (λ xs. t ∷ xs) (h os)) (close_own_tells t ts os K h)
 
 close_far_tells : (t : Mark) (ts : List Mark) (os : List Opened) (K : List Opened → List Written) → Tells ts K → flat_map source_by (close_far t os K) ≡ t ∷ ts
 close_far_tells t ts [] K h = ap (λ xs. t ∷ xs) (h [])
 close_far_tells t ts (o ∷ os) K h =
     let one : List Written = closed t o.bracket ∷ K os in
-    let two : List Written = put t.behind o.bracket ∷ close_far t os K in
+    let two : List Written = put t.behind o ∷ close_far t os K in
     if_tells o.is_closed (left t ∷ K (o ∷ os)) (if fits_closer t o then one else two) (t ∷ ts) (ap (λ xs. t ∷ xs) (h (o ∷ os)))
     (if_tells (fits_closer t o) one two (t ∷ ts) (ap (λ xs. t ∷ xs) (h os)) (close_far_tells t ts os K h))
 

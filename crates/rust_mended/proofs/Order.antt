@@ -31,7 +31,7 @@ MarksFit P last at (t ∷ ts) = (at ≤ t.behind) × (P t.behind × (CloserFits 
 abbrev Fits : (ℕ → Type 0) → ℕ → List Written → Type 0
 Fits P at ws = EditsFit P at (flat_map mending_edit ws)
 
-abbrev Follows : (ℕ → Type 0) → ℕ → (List Opened → List Written) → Type 0
+abbrev pub Follows : (ℕ → Type 0) → ℕ → (List Opened → List Written) → Type 0
 Follows P at K = (us : List Opened) → Fits P at (K us)
 
 pub before_fits : (P : ℕ → Type 0) (n at : ℕ) (es : List Edit) → n ≤ at → EditsFit P at es → EditsFit P n es
@@ -42,8 +42,8 @@ if_fits : (P : ℕ → Type 0) (n : ℕ) (b : Bool) (x y : List Written) → Fit
 if_fits P n true x y hx hy = hx
 if_fits P n false x y hx hy = hy
 
-put_fits : (P : ℕ → Type 0) (n at : ℕ) (b : Bracket) (ws : List Written) → n ≤ at → P at → Fits P at ws → Fits P n (put at b ∷ ws)
-put_fits P n at b ws l p h = (l, (p, (p, h)))
+put_fits : (P : ℕ → Type 0) (n at : ℕ) (o : Opened) (ws : List Written) → n ≤ at → P at → Fits P at ws → Fits P n (put at o ∷ ws)
+put_fits P n at o ws l p h = (l, (p, (p, h)))
 
 left_fits : (P : ℕ → Type 0) (n : ℕ) (t : Mark) (ws : List Written) → n ≤ t.at → P t.at → P (t.at + 1) → Fits P (t.at + 1) ws → Fits P n (left t ∷ ws)
 left_fits P n t ws l p q h = (l, (p, (q, h)))
@@ -57,13 +57,13 @@ closed_fits P n t b ws l p q h = by_kind (is_closer_of b t.kind) refl
 
 ends_fit : (P : ℕ → Type 0) (n at : ℕ) (os : List Opened) → n ≤ at → P at → Fits P n (all_ended at os)
 ends_fit P n at [] l p = tt
-ends_fit P n at (o ∷ os) l p = put_fits P n at o.bracket (all_ended at os) l p (ends_fit P at at os (omega arith) p)
+ends_fit P n at (o ∷ os) l p = put_fits P n at o (all_ended at os) l p (ends_fit P at at os (omega arith) p)
 
 end_before_fits : (P : ℕ → Type 0) (n : ℕ) (t : Mark) (os : List Opened) (K : List Opened → List Written) → n ≤ t.behind → P t.behind → Follows P t.behind K → Fits P n (end_before t os K)
 end_before_fits P n t [] K l p h = before_fits P n t.behind (flat_map mending_edit (K [])) l (h [])
 end_before_fits P n t (o ∷ os) K l p h =
-    if_fits P n (ends_before_item t o) (put t.behind o.bracket ∷ end_before t os K) (K (o ∷ os))
-    (put_fits P n t.behind o.bracket (end_before t os K) l p (end_before_fits P t.behind t os K (omega arith) p h))
+    if_fits P n (ends_before_item t o) (put t.behind o ∷ end_before t os K) (K (o ∷ os))
+    (put_fits P n t.behind o (end_before t os K) l p (end_before_fits P t.behind t os K (omega arith) p h))
     (before_fits P n t.behind (flat_map mending_edit (K (o ∷ os))) l (h (o ∷ os)))
 
 close_own_fits : (P : ℕ → Type 0) (n : ℕ) (t : Mark) (os : List Opened) (K : List Opened → List Written) → n ≤ t.behind → P t.behind → (t.behind ≤ t.at) × (P t.at × P (t.at + 1)) → Follows P (t.at + 1) K
@@ -71,9 +71,9 @@ close_own_fits : (P : ℕ → Type 0) (n : ℕ) (t : Mark) (os : List Opened) (K
 close_own_fits P n t [] K l p c h = let at : t.behind ≤ t.at = c.0 in left_fits P n t (K []) (omega arith) c.1.0 c.1.1 (h [])
 close_own_fits P n t (o ∷ os) K l p c h =
     let at : t.behind ≤ t.at = c.0 in
-    if_fits P n o.is_closed (closed t o.bracket ∷ K os) (put t.behind o.bracket ∷ close_own t os K)
+    if_fits P n o.is_closed (closed t o.bracket ∷ K os) (put t.behind o ∷ close_own t os K)
     (closed_fits P n t o.bracket (K os) (omega arith) c.1.0 c.1.1 (h os))
-    (put_fits P n t.behind o.bracket (close_own t os K) l p (close_own_fits P t.behind t os K (omega arith) p c h))
+    (put_fits P n t.behind o (close_own t os K) l p (close_own_fits P t.behind t os K (omega arith) p c h))
 
 close_far_fits : (P : ℕ → Type 0) (n : ℕ) (t : Mark) (os : List Opened) (K : List Opened → List Written) → n ≤ t.behind → P t.behind → (t.behind ≤ t.at) × (P t.at × P (t.at + 1)) → Follows P (t.at + 1) K
     → Fits P n (close_far t os K)
@@ -81,14 +81,14 @@ close_far_fits P n t [] K l p c h = let at : t.behind ≤ t.at = c.0 in left_fit
 close_far_fits P n t (o ∷ os) K l p c h =
     let at : t.behind ≤ t.at = c.0 in
     let one : List Written = closed t o.bracket ∷ K os in
-    let two : List Written = put t.behind o.bracket ∷ close_far t os K in
+    let two : List Written = put t.behind o ∷ close_far t os K in
     if_fits P n o.is_closed (left t ∷ K (o ∷ os)) (if fits_closer t o then one else two)
     (left_fits P n t (K (o ∷ os)) (omega arith) c.1.0 c.1.1 (h (o ∷ os)))
     (if_fits P n (fits_closer t o) one two
     (closed_fits P n t o.bracket (K os) (omega arith) c.1.0 c.1.1 (h os))
-    (put_fits P n t.behind o.bracket (close_far t os K) l p (close_far_fits P t.behind t os K (omega arith) p c h)))
+    (put_fits P n t.behind o (close_far t os K) l p (close_far_fits P t.behind t os K (omega arith) p c h)))
 
-taken_fits : (P : ℕ → Type 0) (n : ℕ) (k : MarkKind) (t : Mark) (c : Option Mark) (os : List Opened) (K : List Opened → List Written) → n ≤ t.behind → P t.behind → CloserFits P k t → Follows P (past_mark k t) K
+pub taken_fits : (P : ℕ → Type 0) (n : ℕ) (k : MarkKind) (t : Mark) (c : Option Mark) (os : List Opened) (K : List Opened → List Written) → n ≤ t.behind → P t.behind → CloserFits P k t → Follows P (past_mark k t) K
     → Fits P n (mark_taken k t c K os)
 taken_fits P n (mark.Open b) t c os K l p f h =
     let us : List Opened = opened_by b t (keeps b t os c) os ∷ os in before_fits P n t.behind (flat_map mending_edit (K us)) l (h us)
@@ -99,7 +99,7 @@ taken_fits P n (mark.Close b) t c os K l p f h =
     (if_fits P n (is_brace b) (close_far t os K) (left t ∷ K os) (close_far_fits P n t os K l p f h) (left_fits P n t (K os) (omega arith) f.1.0 f.1.1 (h os)))
 taken_fits P n mark.Item t c os K l p f h = end_before_fits P n t os (λ us. kept t ∷ K us) l p h
 
-written_from_fits : (P : ℕ → Type 0) (last n : ℕ) (ts : List Mark) → MarksFit P last n ts → Follows P n (written_from last ts)
+pub written_from_fits : (P : ℕ → Type 0) (last n : ℕ) (ts : List Mark) → MarksFit P last n ts → Follows P n (written_from last ts)
 written_from_fits P last n [] h os = ends_fit P n last os h.0 h.1
 written_from_fits P last n (t ∷ ts) h os =
     taken_fits P n t.kind t (closer_by t.kind (closers_reaching ts)) os (written_from last ts) h.0 h.1.0 h.1.1.0 (written_from_fits P last (past_mark t.kind t) ts h.1.1.1)

@@ -1,5 +1,5 @@
 -- The places in a text where closers are put rise.
-use Rattle.std.proofs.Common.{◌≡◌, ℕ, zero, suc, ◌≤◌, ◌<◌, ◌+◌, ◌++◌, List, [], ◌∷◌, length, get_or, arith, IsCharBoundary}
+use Rattle.std.proofs.Common.{◌≡◌, ℕ, zero, suc, ◌≤◌, ◌+◌, ◌++◌, List, [], ◌∷◌, get_or, arith, IsCharBoundary}
 use Rattle.std.specs.List.Sorted.{IsNonDecreasing}
 use Rattle.std.specs.Str.{IsUtf8}
 use Rattle.rust_mended.specs.declared.edit.Edit.{Edit}

@@ -45,26 +45,26 @@ step_if false x y s r K h g = g
 end_before_is : (t : Mark) (os : List Opened) (K : List Opened → List Written) → spec.end_before t os K ≡ (end_before_step t os).0 ++ K (end_before_step t os).1
 end_before_is t [] K = refl
 end_before_is t (o ∷ os) K =
-    step_if (spec.ends_before_item t o) (put t.behind o.bracket ∷ spec.end_before t os K) (K (o ∷ os)) (before_step (put t.behind o.bracket) (end_before_step t os)) ([], o ∷ os) K
-    (ap (λ ws. put t.behind o.bracket ∷ ws) (end_before_is t os K)) refl
+    step_if (spec.ends_before_item t o) (put t.behind o ∷ spec.end_before t os K) (K (o ∷ os)) (before_step (put t.behind o) (end_before_step t os)) ([], o ∷ os) K
+    (ap (λ ws. put t.behind o ∷ ws) (end_before_is t os K)) refl
 
 close_own_is : (t : Mark) (os : List Opened) (K : List Opened → List Written) → spec.close_own t os K ≡ (close_own_step t os).0 ++ K (close_own_step t os).1
 close_own_is t [] K = refl
 close_own_is t (o ∷ os) K =
-    step_if o.is_closed (closed t o.bracket ∷ K os) (put t.behind o.bracket ∷ spec.close_own t os K) (closed t o.bracket ∷ [], os) (before_step (put t.behind o.bracket) (close_own_step t os)) K
-    refl (ap (λ ws. put t.behind o.bracket ∷ ws) (close_own_is t os K))
+    step_if o.is_closed (closed t o.bracket ∷ K os) (put t.behind o ∷ spec.close_own t os K) (closed t o.bracket ∷ [], os) (before_step (put t.behind o) (close_own_step t os)) K
+    refl (ap (λ ws. put t.behind o ∷ ws) (close_own_is t os K))
 
 close_far_is : (t : Mark) (os : List Opened) (K : List Opened → List Written) → spec.close_far t os K ≡ (close_far_step t os).0 ++ K (close_far_step t os).1
 close_far_is t [] K = refl
 close_far_is t (o ∷ os) K =
     let one : List Written = closed t o.bracket ∷ K os in
-    let two : List Written = put t.behind o.bracket ∷ spec.close_far t os K in
+    let two : List Written = put t.behind o ∷ spec.close_far t os K in
     let first : MendingStep = (closed t o.bracket ∷ [], os) in
-    let second : MendingStep = before_step (put t.behind o.bracket) (close_far_step t os) in
+    let second : MendingStep = before_step (put t.behind o) (close_far_step t os) in
     step_if o.is_closed (left t ∷ K (o ∷ os)) (if spec.fits_closer t o then one else two) (left t ∷ [], o ∷ os) (if spec.fits_closer t o then first else second) K
-    refl (step_if (spec.fits_closer t o) one two first second K refl (ap (λ ws. put t.behind o.bracket ∷ ws) (close_far_is t os K)))
+    refl (step_if (spec.fits_closer t o) one two first second K refl (ap (λ ws. put t.behind o ∷ ws) (close_far_is t os K)))
 
-taken_is : (k : MarkKind) (t : Mark) (c : Option Mark) (os : List Opened) (K : List Opened → List Written) → spec.mark_taken k t c K os ≡ (taken_step k t c os).0 ++ K (taken_step k t c os).1
+pub taken_is : (k : MarkKind) (t : Mark) (c : Option Mark) (os : List Opened) (K : List Opened → List Written) → spec.mark_taken k t c K os ≡ (taken_step k t c os).0 ++ K (taken_step k t c os).1
 taken_is (mark.Open b) t c os K = refl
 taken_is (mark.Close b) t c os K =
     let other : MendingStep = if spec.is_brace b then close_far_step t os else (left t ∷ [], os) in

@@ -27,7 +27,7 @@ no_truth e = subst TrueFalse (sym e) tt
 pub same_place : (n : ℕ) → nat_eq n n ≡ true
 same_place n = true_from_ne_false (nat_eq n n) (λ e. eqb-false n n e refl)
 
-same_is : (a b : Bracket) → is_same a b ≡ true → a ≡ b
+pub same_is : (a b : Bracket) → is_same a b ≡ true → a ≡ b
 same_is bracket.Brace bracket.Brace e = refl
 same_is bracket.Round bracket.Round e = refl
 same_is bracket.Square bracket.Square e = refl
@@ -97,7 +97,7 @@ stays_open false x a b e = absurd (no_truth e)
 
 end_before_closed : (t : Mark) (os : List Opened) (K : List Opened → List Written) (cs S : List Mark) → Owes os cs S → end_before t os K ≡ K os
 end_before_closed t [] K cs S h = refl
-end_before_closed t (o ∷ os) K cs S h = stays_open o.is_closed (nat_le t.indent o.indent) (put t.behind o.bracket ∷ end_before t os K) (K (o ∷ os)) (owes_closed o os cs S h)
+end_before_closed t (o ∷ os) K cs S h = stays_open o.is_closed (nat_le t.indent o.indent) (put t.behind o ∷ end_before t os K) (K (o ∷ os)) (owes_closed o os cs S h)
 
 -- a bracket in a closed one keeps its closer
 not_lost : (b x y : Bool) (c : Option Mark) → x ≡ true → kept_if (b && (not x && y)) c ≡ c
@@ -129,7 +129,7 @@ abbrev Joins : (List Opened → List Written) → (List Bracket → Bool) → Li
 Joins K rest R S ws = (us : List Opened) → Owes us R S → rest (brackets us) ≡ true → flat_map mending_edit (K us) ≡ flat_map mending_edit ws
 
 -- a closer of its own kind is no edit
-own_edit : (t : Mark) (b : Bracket) (ws : List Written) → is_closer_of b t.kind ≡ true → flat_map mending_edit (closed t b ∷ ws) ≡ flat_map mending_edit ws
+pub own_edit : (t : Mark) (b : Bracket) (ws : List Written) → is_closer_of b t.kind ≡ true → flat_map mending_edit (closed t b ∷ ws) ≡ flat_map mending_edit ws
 own_edit t b ws e = rw e refl
 
 taken_whole : (k : MarkKind) (t : Mark) → t.kind ≡ k → (R S : List Mark) (K : List Opened → List Written) (rest : List Bracket → Bool) (ws : List Written)
@@ -143,7 +143,7 @@ taken_whole (mark.Close b) t p R S K rest ws r h (o ∷ os) w m =
     let two : (is_same o.bracket b ≡ true) × (rest (brackets os) ≡ true) = both_true (is_same o.bracket b) (rest (brackets os)) m in
     let own : is_owed t (owed (o ∷ os)) ≡ true = ap (is_owed t) w.1.0 ∙ same_place t.at in
     ap (flat_map mending_edit) (first_if (is_owed t (owed (o ∷ os))) (close_own t (o ∷ os) K) (if is_brace b then close_far t (o ∷ os) K else left t ∷ K (o ∷ os)) own
-    ∙ first_if o.is_closed (closed t o.bracket ∷ K os) (put t.behind o.bracket ∷ close_own t os K) w.0)
+    ∙ first_if o.is_closed (closed t o.bracket ∷ K os) (put t.behind o ∷ close_own t os K) w.0)
     ∙ own_edit t o.bracket (K os) (ap (is_closer_of o.bracket) p ∙ two.0)
     ∙ h os w.1.1 two.1
 taken_whole mark.Item t p R S K rest ws r h os w m =
@@ -178,7 +178,7 @@ mark_matches l t ms rest false true may h os = closes_alike (bracket_of (symbol_
 mark_matches l t ms rest false false true h os = h os
 mark_matches l t ms rest false false false h os = h os
 
-marks_match : (l : Line) (ts : List Piece) (os : List Bracket) → match_from (marks_from l ts) os ≡ tokens_match ts os
+pub marks_match : (l : Line) (ts : List Piece) (os : List Bracket) → match_from (marks_from l ts) os ≡ tokens_match ts os
 marks_match l [] os = refl
 marks_match l (t ∷ ts) os =
     mark_matches l t (marks_from (line_behind l t) ts) (tokens_match ts) (is_opening_symbol (symbol_of t)) (is_closing_symbol (symbol_of t)) (l.is_first && may_begin_item t.kind (symbol_of t)) (marks_match (line_behind l t) ts) os

@@ -1,4 +1,6 @@
 pub mod Marks
 pub mod Mended
 pub mod Texts
+pub mod Apart
+pub mod Inside
 pub mod Steps

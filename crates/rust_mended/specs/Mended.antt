@@ -70,17 +70,17 @@ closer_by mark.Item cs = None
 
 -- ---- what becomes of the marks
 
--- a mark that stays, the closer of a bracket that is put at a place, a closer that is left out, and one that closes such a bracket
+-- a mark that stays, the closer of an open bracket that is put at a place, a closer that is left out, and one that closes such a bracket
 pub data Written : Type 0 where
   kept : Mark → Written
-  put : ℕ → Bracket → Written
+  put : ℕ → Opened → Written
   left : Mark → Written
   closed : Mark → Bracket → Written
 
 -- all that is open ends at this place, the last first
 abbrev pub all_ended : ℕ → List Opened → List Written
 all_ended at [] = []
-all_ended at (o ∷ os) = put at o.bracket ∷ all_ended at os
+all_ended at (o ∷ os) = put at o ∷ all_ended at os
 
 -- what nothing closes and is no further out than this item ends before it, the last first; then the rest
 abbrev pub ends_before_item : Mark → Opened → Bool
@@ -88,7 +88,7 @@ ends_before_item t o = not o.is_closed && nat_le t.indent o.indent
 
 abbrev pub end_before : Mark → List Opened → (List Opened → List Written) → List Written
 end_before t [] rest = rest []
-end_before t (o ∷ os) rest = if ends_before_item t o then put t.behind o.bracket ∷ end_before t os rest else rest (o ∷ os)
+end_before t (o ∷ os) rest = if ends_before_item t o then put t.behind o ∷ end_before t os rest else rest (o ∷ os)
 
 -- A brace directly in a bracket that nothing closes does not keep its `}`, if that begins a line further out than the brace's and no
 -- further in than that bracket's.
@@ -112,8 +112,8 @@ owed [] = None
 owed (o ∷ os) = o.owed
 
 abbrev pub opened_by : Bracket → Mark → Option Mark → List Opened → Opened
-opened_by b t None os = record { bracket = b; indent = t.indent; is_closed = false; owed = owed os }
-opened_by b t (Some c) os = record { bracket = b; indent = t.indent; is_closed = true; owed = Some c.at }
+opened_by b t None os = record { bracket = b; at = t.at; indent = t.indent; is_closed = false; owed = owed os }
+opened_by b t (Some c) os = record { bracket = b; at = t.at; indent = t.indent; is_closed = true; owed = Some c.at }
 
 abbrev pub is_owed : Mark → Option ℕ → Bool
 is_owed t None = false
@@ -122,7 +122,7 @@ is_owed t (Some at) = nat_eq at t.at
 -- it closes the last of these that is closed, and what nothing closes behind that ends before
 abbrev pub close_own : Mark → List Opened → (List Opened → List Written) → List Written
 close_own t [] rest = left t ∷ rest []
-close_own t (o ∷ os) rest = if o.is_closed then closed t o.bracket ∷ rest os else put t.behind o.bracket ∷ close_own t os rest
+close_own t (o ∷ os) rest = if o.is_closed then closed t o.bracket ∷ rest os else put t.behind o ∷ close_own t os rest
 
 -- a brace that nothing closes and is no further in than this `}`, which begins a line
 abbrev pub fits_closer : Mark → Opened → Bool
@@ -133,7 +133,7 @@ abbrev pub close_far : Mark → List Opened → (List Opened → List Written) �
 close_far t [] rest = left t ∷ rest []
 close_far t (o ∷ os) rest =
     if o.is_closed then left t ∷ rest (o ∷ os)
-    else (if fits_closer t o then closed t o.bracket ∷ rest os else put t.behind o.bracket ∷ close_far t os rest)
+    else (if fits_closer t o then closed t o.bracket ∷ rest os else put t.behind o ∷ close_far t os rest)
 
 -- a closer closes its own bracket; a `}` that has none closes another, and any other closer is left out
 abbrev pub close_with : Bracket → Mark → List Opened → (List Opened → List Written) → List Written
@@ -163,14 +163,14 @@ closer_for t b = record { kind = mark.Close b; at = t.at; behind = t.behind; ind
 
 abbrev pub mark_by : Written → List Mark
 mark_by (kept t) = t ∷ []
-mark_by (put at b) = put_mark at b ∷ []
+mark_by (put at o) = put_mark at o.bracket ∷ []
 mark_by (left t) = []
 mark_by (closed t b) = closer_for t b ∷ []
 
 -- the mark that it was
 abbrev pub source_by : Written → List Mark
 source_by (kept t) = t ∷ []
-source_by (put at b) = []
+source_by (put at o) = []
 source_by (left t) = t ∷ []
 source_by (closed t b) = t ∷ []
 

@@ -33,17 +33,17 @@ before_step w s = (w ∷ s.0, s.1)
 
 abbrev pub end_before_step : Mark → List Opened → MendingStep
 end_before_step t [] = ([], [])
-end_before_step t (o ∷ os) = if ends_before_item t o then before_step (put t.behind o.bracket) (end_before_step t os) else ([], o ∷ os)
+end_before_step t (o ∷ os) = if ends_before_item t o then before_step (put t.behind o) (end_before_step t os) else ([], o ∷ os)
 
 abbrev pub close_own_step : Mark → List Opened → MendingStep
 close_own_step t [] = (left t ∷ [], [])
-close_own_step t (o ∷ os) = if o.is_closed then (closed t o.bracket ∷ [], os) else before_step (put t.behind o.bracket) (close_own_step t os)
+close_own_step t (o ∷ os) = if o.is_closed then (closed t o.bracket ∷ [], os) else before_step (put t.behind o) (close_own_step t os)
 
 abbrev pub close_far_step : Mark → List Opened → MendingStep
 close_far_step t [] = (left t ∷ [], [])
 close_far_step t (o ∷ os) =
     if o.is_closed then (left t ∷ [], o ∷ os)
-    else (if fits_closer t o then (closed t o.bracket ∷ [], os) else before_step (put t.behind o.bracket) (close_far_step t os))
+    else (if fits_closer t o then (closed t o.bracket ∷ [], os) else before_step (put t.behind o) (close_far_step t os))
 
 abbrev pub close_step : Bracket → Mark → List Opened → MendingStep
 close_step b t os = if is_owed t (owed os) then close_own_step t os else (if is_brace b then close_far_step t os else (left t ∷ [], os))

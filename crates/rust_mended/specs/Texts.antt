@@ -1,5 +1,5 @@
 -- The mended text of a text, and places in it.
-use Rattle.std.specs.Prelude.{ℕ, suc, ◌+◌, ◌-◌, ◌^◌, ◌==◌, min, Bool, true, false, if◌then◌else◌, nat_le, nat_lt, List, [], ◌∷◌, ◌++◌, drop, flat_map, slice_range}
+use Rattle.std.specs.Prelude.{ℕ, suc, ◌+◌, ◌-◌, ◌^◌, ◌==◌, min, Bool, true, false, not, ◌&&◌, if◌then◌else◌, nat_eq, nat_le, nat_lt, List, [], ◌∷◌, ◌++◌, drop, flat_map, slice_range}
 use Rattle.std.specs.List.{filter, prefix_len}
 use Rattle.rust_lexer.specs.Piece.{Piece}
 use Rattle.rust_lexer.specs.Symbol.{symbol_of}
@@ -9,20 +9,34 @@ use Rattle.rust_mended.specs.declared.bracket.Bracket.TheVariants as bracket
 use Rattle.rust_mended.specs.declared.edit.Edit.{Edit}
 use Rattle.rust_mended.specs.declared.edit.EditKind.{EditKind}
 use Rattle.rust_mended.specs.declared.edit.EditKind.TheVariants as edit
+use Rattle.rust_mended.specs.declared.mark.Mark.{Mark}
+use Rattle.rust_mended.specs.declared.mark.MarkKind.{MarkKind}
+use Rattle.rust_mended.specs.declared.mark.MarkKind.TheVariants as mark
 use Rattle.rust_mended.specs.Marks.{bracket_of, is_closing_symbol, is_opening_symbol, last, marks}
-use Rattle.rust_mended.specs.Mended.{Written, kept, put, left, closed, is_closer_of, matches_last, none_left, all_written}
+use Rattle.rust_mended.specs.Mended.{Written, kept, put, left, closed, is_closer_of, is_same, matches_last, none_left, all_written}
 
 -- ---- edits
 
 abbrev pub mending_edit : Written → List Edit
 mending_edit (kept t) = []
-mending_edit (put at b) = record { at = at; kind = edit.Put b } ∷ []
-mending_edit (left t) = record { at = t.at; kind = edit.Leave } ∷ []
-mending_edit (closed t b) = if is_closer_of b t.kind then [] else record { at = t.at; kind = edit.Turn b } ∷ []
+mending_edit (put at o) = record { at = at; told = o.at; kind = edit.Put o.bracket } ∷ []
+mending_edit (left t) = record { at = t.at; told = t.at; kind = edit.Leave } ∷ []
+mending_edit (closed t b) = if is_closer_of b t.kind then [] else record { at = t.at; told = t.at; kind = edit.Turn b } ∷ []
 
--- the edits that mend a text, in the order of their places
+-- the edits that mend a text, in the order of their places: all that is wrong with its brackets
 unfoldable pub edits : List ℕ → List Edit
 edits text = flat_map mending_edit (all_written (last text) (marks text))
+
+-- tells of such a mark: of a bracket that nothing closes, of a closer that closes nothing, or of one that closes a bracket of another kind
+abbrev pub tells_of : EditKind → MarkKind → Bool
+tells_of (edit.Put b) (mark.Open c) = is_same b c
+tells_of edit.Leave (mark.Close c) = true
+tells_of (edit.Turn b) (mark.Close c) = not (is_same b c)
+tells_of _ _ = false
+
+-- what is told is told of this mark
+abbrev pub tells : Edit → Mark → Bool
+tells e t = nat_eq e.told t.at && tells_of e.kind t.kind
 
 -- The brackets of tokens match behind these: each closer closes the last open bracket, which is of its kind, and none is open at the end.
 abbrev pub matched_symbol : ℕ → (List Bracket → Bool) → List Bracket → Bool

@@ -16,10 +16,12 @@ pub enum EditKind {
     Turn(Bracket),
 }
 
-/// An edit of a text.
+/// An edit of a text, and what is wrong there.
 #[derive(Clone, Copy, Debug, PartialEq, Eq)]
 pub struct Edit {
     /// The byte place in the text.
     pub at: usize,
+    /// The place of the bracket that is wrong: of the one that is not closed, or of the closer.
+    pub told: usize,
     pub kind: EditKind,
 }

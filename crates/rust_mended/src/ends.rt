@@ -13,12 +13,13 @@ use std::alloc::AllocError;
 use std::collections::VecDeque;
 
 /// The edit that puts the closer of a bracket at a place.
-fn put(at: usize, bracket: Bracket) -> Edit
-    ensures { texts.mending_edit (spec.put at bracket) ≡ result ∷ [] }
+fn put(at: usize, last: Opened) -> Edit
+    ensures { texts.mending_edit (spec.put at last) ≡ result ∷ [] }
 {
     Edit {
         at,
-        kind: EditKind::Put(bracket),
+        told: last.at,
+        kind: EditKind::Put(last.bracket),
     }
 }
 
@@ -28,6 +29,7 @@ fn leave(mark: Mark, edits: &mut Vec<Edit>) -> Result<(), AllocError>
 {
     edits.push(Edit {
         at: mark.at,
+        told: mark.at,
         kind: EditKind::Leave,
     })?;
     Ok(())
@@ -52,6 +54,7 @@ fn turn(mark: Mark, bracket: Bracket, edits: &mut Vec<Edit>) -> Result<(), Alloc
     }
     edits.push(Edit {
         at: mark.at,
+        told: mark.at,
         kind: EditKind::Turn(bracket),
     })?;
     Ok(())
@@ -71,7 +74,7 @@ fn end_before(
             opened.push_front(last)?;
             return Ok(());
         }
-        edits.push(put(mark.behind, last.bracket))?;
+        edits.push(put(mark.behind, last))?;
     }
     Ok(())
 }
@@ -89,7 +92,7 @@ fn close_own(
         if last.is_closed {
             return turn(mark, last.bracket, edits);
         }
-        edits.push(put(mark.behind, last.bracket))?;
+        edits.push(put(mark.behind, last))?;
     }
     leave(mark, edits)
 }
@@ -118,7 +121,7 @@ fn close_far(
         if fits(mark, last) {
             return turn(mark, last.bracket, edits);
         }
-        edits.push(put(mark.behind, last.bracket))?;
+        edits.push(put(mark.behind, last))?;
     }
     leave(mark, edits)
 }
@@ -199,12 +202,14 @@ fn opened_by(
     match closer {
         Some(closer) => Opened {
             bracket,
+            at: mark.at,
             indent: mark.indent,
             is_closed: true,
             owed: Some(closer.at),
         },
         None => Opened {
             bracket,
+            at: mark.at,
             indent: mark.indent,
             is_closed: false,
             owed: owed(opened),
@@ -242,7 +247,7 @@ pub(crate) fn end_all(
     ensures { OnOk result (edits.new.items ≡ edits.old.items ++ flat_map texts.mending_edit (spec.all_ended at opened.items)) }
 {
     'opened: while let Some(last) = opened.pop_front() {
-        edits.push(put(at, last.bracket))?;
+        edits.push(put(at, last))?;
     }
     Ok(())
 }

@@ -1,20 +1,34 @@
 //! What holds of the mended text of every text. The functions do nothing.
-ghost use Rattle.std.specs.Prelude.{ℕ, ◌≡◌, ◌≤◌, ◌++◌, Decides, List, [], ◌∷◌, true, IsUtf8, flat_map, length};
+ghost use Rattle.std.specs.Prelude.{ℕ, ◌≡◌, ◌≤◌, ◌++◌, Decides, List, [], ◌∷◌, true, IsUtf8, flat_map, length, map, false, slice_index};
+ghost use Rattle.std.specs.List.{AllByRecursion, list_all, list_any};
+ghost use Rattle.rust_lexer.specs.Alone.{EndsAlone, Stop, stop};
+ghost use Rattle.rust_lexer.specs.Bytes.{is_continuation};
+ghost use Rattle.rust_lexer.specs.Inner.{begins_front, is_blank_byte};
+ghost use Rattle.rust_lexer.specs.Tokens.{tokens, tokens_from};
+ghost use Rattle.rust_mended.specs.Apart.{StandApart, begin_with_item, behind_further, edit_further, mark_further};
+ghost use Rattle.rust_mended.specs.Inside.{AreMendedAround, IsMendedAround, KeepEachOther, MayStandIn};
 ghost use Rattle.rust_mended.specs.Marks.{last, marks};
 ghost use Rattle.rust_mended.specs.Mended.{all_match, mended, closers_reaching, source_by, all_written};
-ghost use Rattle.rust_mended.specs.Texts.{mending_edit, edits, is_matched, mended_text, place_back, puts, turned_text, without_bytes_at};
+ghost use Rattle.rust_mended.specs.Texts.{mending_edit, edits, is_matched, mended_text, place_back, puts, tells, turned_text, without_bytes_at};
 ghost use Rattle.rust_mended.specs.declared.mark.Mark.{Mark};
 ghost use Rattle.rust_mended.specs.declared.mark.MarkKind.TheVariants as mark;
 
 use crate::bracket::Bracket;
 use crate::edit::{Edit, EditKind};
 
-// Where all brackets match, nothing is mended, and places are what they are.
-#[tactic(auto, using(crate::proofs::Whole::text_edits, crate::proofs::Whole::text_stays, crate::proofs::Whole::places_stay))]
+// Where all brackets match, the text stays, and places are what they are.
+#[tactic(auto, using(crate::proofs::Whole::text_stays, crate::proofs::Whole::places_stay))]
 fn matched_texts_stay()
-    ensures edits { (text : List ℕ) → is_matched text ≡ true → edits text ≡ [] }
     ensures text { (text : List ℕ) → is_matched text ≡ true → mended_text text ≡ text }
     ensures places { (text : List ℕ) (at : ℕ) → is_matched text ≡ true → place_back text at ≡ at }
+{}
+
+// Nothing is told exactly where all brackets match, and what is told is told of a bracket of the text: of one that nothing closes, of a
+// closer that closes nothing, or of one that closes a bracket of another kind.
+#[tactic(auto, using(crate::proofs::Told::nothing_told, crate::proofs::Told::told_at_marks))]
+fn brackets_are_told()
+    ensures nothing { (text : List ℕ) → Decides (is_matched text) (edits text ≡ []) }
+    ensures marks { (text : List ℕ) → AllByRecursion (λ e. list_any (tells e) (marks text) ≡ true) (edits text) }
 {}
 
 // All brackets of the mended marks match, whatever the text is.
@@ -58,6 +72,56 @@ fn items_behind_stay()
     ensures { (at : ℕ) (front : List Mark) (item : Mark) (behind : List Mark) → item.kind ≡ mark.Item
         → item.indent ≡ 0 → closers_reaching (item ∷ behind) ≡ []
         → all_written at (front ++ (item ∷ behind)) ≡ all_written item.behind front ++ all_written at (item ∷ behind) }
+{}
+
+// The marks of texts that stand apart are those of the first, and those of the second further on.
+#[tactic(auto, using(crate::proofs::Seam::all_marks, crate::proofs::Seam::all_last))]
+fn marks_stand_apart()
+    ensures marks { (q z s : List ℕ) → StandApart q z s
+        → marks (q ++ (z ++ 10 ∷ s)) ≡ marks q ++ map (mark_further q z) (marks s) }
+    ensures last { (q z s : List ℕ) → StandApart q z s → last (q ++ (z ++ 10 ∷ s)) ≡ behind_further q z (last s) }
+{}
+
+// A text that ends with a `{`, a `}` or a `;` as a token stands apart from what is behind the end of its line, as far as no byte order
+// mark, no `#`, no dash and no end of a line begins it.
+#[tactic(auto, using(crate::proofs::AtStops::apart_plain))]
+fn ended_texts_stand_apart()
+    ensures { (b : ℕ) (w : List ℕ) (o : Stop) (z s : List ℕ) → begins_front b ≡ false → EndsAlone (b ∷ w) o
+        → list_all is_blank_byte z ≡ true → tokens s ≡ tokens_from 0 0 s → is_continuation (slice_index s 0) ≡ false
+        → StandApart (b ∷ (w ++ stop o ∷ [])) z s }
+{}
+
+// What stands apart behind a text whose brackets match is mended by itself.
+#[tactic(auto, using(crate::proofs::Joins::matched_edits, crate::proofs::Joins::matched_text))]
+fn texts_before_stay()
+    ensures edits { (q z s : List ℕ) → StandApart q z s → is_matched q ≡ true
+        → edits (q ++ (z ++ 10 ∷ s)) ≡ map (edit_further q z) (edits s) }
+    ensures text { (q z s : List ℕ) → StandApart q z s → is_matched q ≡ true
+        → mended_text (q ++ (z ++ 10 ∷ s)) ≡ q ++ (z ++ 10 ∷ mended_text s) }
+{}
+
+// A text that begins with an item of column 0, and in which no closer is too much, is mended by itself, whatever text it stands apart
+// behind; and so is that.
+#[tactic(auto, using(crate::proofs::Joins::item_edits, crate::proofs::Joins::item_text))]
+fn texts_behind_stay()
+    ensures edits { (q z s : List ℕ) → StandApart q z s → begin_with_item (marks s) ≡ true → closers_reaching (marks s) ≡ []
+        → edits (q ++ (z ++ 10 ∷ s)) ≡ edits q ++ map (edit_further q z) (edits s) }
+    ensures text { (q z s : List ℕ) → IsUtf8 q → StandApart q z s → begin_with_item (marks s) ≡ true
+        → closers_reaching (marks s) ≡ [] → mended_text (q ++ (z ++ 10 ∷ s)) ≡ mended_text q ++ (z ++ 10 ∷ mended_text s) }
+{}
+
+// Marks in braces that keep each other are mended by themselves, and those around as if neither the braces nor these were there.
+#[tactic(auto, using(crate::proofs::Inside::inside_stays))]
+fn marks_inside_stay()
+    ensures { (at : ℕ) (front : List Mark) (o : Mark) (inner : List Mark) (c : Mark) (behind : List Mark)
+        → KeepEachOther front o inner c behind → IsMendedAround at front o inner c behind }
+{}
+
+// What stands in braces that are each other's, and whose `}` begins no line further out than that of the `{`, changes nothing around
+// them: two texts are mended alike but for it.
+#[tactic(auto, using(crate::proofs::BodyTexts::mended_around))]
+fn texts_around_stay()
+    ensures { (q m n s : List ℕ) → MayStandIn q m n s → AreMendedAround q m n s }
 {}
 
 // `==` decides whether two values are one, and a copy is its source: the derives are held to it.

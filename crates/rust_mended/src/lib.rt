@@ -13,4 +13,4 @@ mod text;
 
 pub use bracket::Bracket;
 pub use edit::{Edit, EditKind};
-pub use text::{Mended, mend};
+pub use text::{Mended, edits, mend};

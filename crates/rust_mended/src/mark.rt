@@ -31,6 +31,8 @@ pub(crate) struct Mark {
 #[derive(Clone, Copy, Debug)]
 pub(crate) struct Opened {
     pub bracket: Bracket,
+    /// The place at which it stands.
+    pub at: usize,
     /// How far in its line begins.
     pub indent: usize,
     /// Whether something closes it.

@@ -12,9 +12,13 @@ use crate::replaced::replaced;
 use std::alloc::{AllocError, Global};
 use std::collections::VecDeque;
 
-/// The edits that mend a text.
+/// The edits that mend a text, in the order of their places: all that is wrong with its brackets.
+///
+/// # Errors
+///
+/// Only if memory runs out.
 #[tactic(auto, using(crate::proofs::Walked::walked_whole), unfolding(crate::specs::Texts::edits))]
-fn edits(alloc: Global, text: &str) -> Result<Vec<Edit>, AllocError>
+pub fn edits(alloc: Global, text: &str) -> Result<Vec<Edit>, AllocError>
     ensures { IfOk result (λ v. v.items ≡ spec.edits text.now) }
 {
     let marks = read_marks(alloc, text)?;

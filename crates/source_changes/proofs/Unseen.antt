@@ -20,10 +20,12 @@ use Rattle.rust_edits.specs.Typing.Moved.{close_at, moved_place, shifted_by}
 use Rattle.rust_edits.proofs.Ranges.Behind.{plain_back, plain_on, plain_tokens}
 use Rattle.rust_edits.proofs.Typing.Moved.{places_move}
 use Rattle.rust_edits.proofs.Typing.Typing.{same_ids}
+use Rattle.source_rows.specs.DocAttributes.{docs_as_comments}
 use Rattle.source_rows.specs.Inner.{ComeBehind}
 use Rattle.source_rows.specs.Parts.{Part}
 use Rattle.source_rows.specs.Rows.{bodies, hole}
 use Rattle.source_rows.specs.Skeletons.{kept, skeleton}
+use Rattle.source_rows.proofs.AsComments.{in_braces, placed, still_behind}
 use Rattle.source_rows.proofs.Beside.{AreInside, holes_about, typed_alike}
 use Rattle.source_rows.proofs.Holes.{after_all}
 use Rattle.source_rows.proofs.ItemHoles.{holes_from, place_holes}
@@ -49,6 +51,10 @@ begin_in P zero at (b ∷ x) w h =
 abbrev rest : List ℕ → List Piece
 rest s = tokens_from 0 0 (125 ∷ s)
 
+-- behind it
+abbrev behind : List ℕ → List Piece
+behind s = tokens_from (whole (first_cut 125 s) s) 1 s
+
 -- between the braces
 abbrev inside : List ℕ → List ℕ → List Piece
 inside q m = map (moved (suc (length q))) (tokens_in_front 0 0 m (125 ∷ []))
@@ -61,6 +67,9 @@ are_inside : (q m : List ℕ) → AreInside (length q) (close_at q m) (inside q 
 are_inside q m =
     All-map (λ (t : Piece). (suc (length q) ≤ t.at) × (t.at < close_at q m)) (moved (suc (length q))) (tokens_in_front 0 0 m (125 ∷ []))
     (begin_in (λ k. (suc (length q) ≤ k + suc (length q)) × (k + suc (length q) < close_at q m)) 0 0 m (125 ∷ []) (λ k low high. (omega arith, omega (arith, high))))
+
+still_inside : (docs : Bool) (q m : List ℕ) → AreInside (length q) (close_at q m) (docs_as_comments docs 0 (inside q m))
+still_inside docs q m = placed (λ k. (suc (length q) ≤ k) × (k < close_at q m)) docs 0 (inside q m) (are_inside q m)
 
 close_symbol : (s : List ℕ) → symbol_of (piece (first_cut 125 s) 0 125 s) ≡ 125
 unfolding first_cut is_wide_start
@@ -76,20 +85,26 @@ tokens_are q m m' s o h h' =
     let short = plain_back q opening (m ++ 125 ∷ s) ends (uncut m s h) (record { mark = o.plain; shebang = o.bare; fence = o.unfenced }) in
     plain_tokens (with_body q m' s) (plain_on q opening (m' ++ 125 ∷ s) ends (uncut m' s h') short) ∙ apart q m m' s o.full o.one h'
 
-come_in_order : (text : List ℕ) → ComeBehind 0 (tokens text)
-come_in_order text = after_all 0 (tokens text) (tokens_placed text) (tokens_not_empty text)
+come_in_order : (docs : Bool) (text : List ℕ) → ComeBehind 0 (docs_as_comments docs 0 (tokens text))
+come_in_order docs text = still_behind docs 0 0 (tokens text) (after_all 0 (tokens text) (tokens_placed text) (tokens_not_empty text))
+
+-- the same, where attributes that document are told as comments
+seen_are : (docs : Bool) (q m m' s : List ℕ) → OpensAt q (m ++ 125 ∷ s) → StandsAlone m → StandsAlone m' → docs_as_comments docs 0 (tokens (with_body q m' s))
+    ≡ docs_as_comments docs 0 (tokens_in_front 0 0 q (123 ∷ [])) ++ open_at (length q) ∷ (docs_as_comments docs 0 (inside q m') ++ map (moved (close_at q m')) (piece (first_cut 125 s) 0 125 s ∷ docs_as_comments docs 0 (behind s)))
+seen_are docs q m m' s o h h' = ap (docs_as_comments docs 0) (tokens_are q m m' s o h h') ∙ in_braces docs (close_at q m') (tokens_in_front 0 0 q (123 ∷ [])) (inside q m') (open_at (length q)) (piece (first_cut 125 s) 0 125 s) (behind s) refl (close_symbol s)
 
 -- the same of both texts is kept
 same_seen : (docs : Bool) (q m m' s : List ℕ) (olds news : List Hole) → AreBraces q m m' s → HolesBeside (length q) (close_at q m) (close_at q m') olds news → skeleton docs olds (with_body q m s) ≡ skeleton docs news (with_body q m' s)
 same_seen docs q m m' s olds news t h =
     let old = with_body q m s in
     let new = with_body q m' s in
-    let ours = tokens_are q m m s t.opens t.alone t.alone in
-    let theirs = tokens_are q m m' s t.opens t.alone t.alone_new in
+    let seen = docs_as_comments docs 0 in
+    let ours = seen_are docs q m m s t.opens t.alone t.alone in
+    let theirs = seen_are docs q m m' s t.opens t.alone t.alone_new in
     ap (λ hs. skeleton docs hs old) h.old ∙ ap (kept docs (holes_about (length q) (close_at q m) h.before h.behind) 0) ours
-    ∙ typed_alike docs (length q) (close_at q m) (close_at q m') h.before h.behind h.end (omega arith) (omega arith) 0 0 (tokens_in_front 0 0 q (123 ∷ [])) (open_at (length q)) (piece (first_cut 125 s) 0 125 s) (inside q m) (inside q m') _
-    (begin_in (λ k. k < length q) 0 0 q (123 ∷ []) (λ k low high. omega (arith, high))) refl (close_symbol s) refl (are_inside q m) (are_inside q m')
-    (subst (ComeBehind 0) ours (come_in_order old)) (subst (ComeBehind 0) theirs (come_in_order new))
+    ∙ typed_alike docs (length q) (close_at q m) (close_at q m') h.before h.behind h.end (omega arith) (omega arith) 0 0 (seen (tokens_in_front 0 0 q (123 ∷ []))) (open_at (length q)) (piece (first_cut 125 s) 0 125 s) (seen (inside q m)) (seen (inside q m')) (seen (behind s))
+    (placed (λ k. k < length q) docs 0 (tokens_in_front 0 0 q (123 ∷ [])) (begin_in (λ k. k < length q) 0 0 q (123 ∷ []) (λ k low high. omega (arith, high)))) refl (close_symbol s) refl (still_inside docs q m) (still_inside docs q m')
+    (subst (ComeBehind 0) ours (come_in_order docs old)) (subst (ComeBehind 0) theirs (come_in_order docs new))
     ∙ sym (ap (kept docs (holes_about (length q) (close_at q m') h.before h.behind) 0) theirs) ∙ sym (ap (λ hs. skeleton docs hs new) h.new)
 
 -- ---- parts

@@ -8,19 +8,20 @@ use Rattle.rust_items.specs.SourceFiles.{FileView}
 use Rattle.source_problems.specs.declared.problem.SourceProblem.{SourceProblem}
 use Rattle.source_problems.specs.contracts.problem.SourceProblemOrd.TheImpl as ord
 use Rattle.source_problems.specs.Problems.{problem, told}
-use Rattle.source_problems.specs.Brackets.{token_problems}
+use Rattle.source_problems.specs.Brackets.{bracket_problems}
+use Rattle.source_problems.specs.Quotes.{token_problems}
 use Rattle.source_problems.specs.Items.{syntax_problems}
 
 abbrev pub problem_moved_by : (ℕ → ℕ) → SourceProblem → SourceProblem
 problem_moved_by place p = problem p.kind (place p.at)
 
--- what is wrong with the brackets and the quotes of a text, and its conflict markers, at their places in the text as it is
-abbrev pub bracket_problems : List ℕ → List SourceProblem
-bracket_problems text = map (problem_moved_by (place_in text)) (token_problems (tokens (with_feeds text)))
+-- what is wrong with the quotes of a text, and its conflict markers, at their places in the text as it is
+abbrev pub quote_problems : List ℕ → List SourceProblem
+quote_problems text = map (problem_moved_by (place_in text)) (token_problems (tokens (with_feeds text)))
 
 -- all that is wrong with a text of which this was read
 abbrev pub all_problems : List ℕ → FileView → List SourceProblem
-all_problems text file = bracket_problems text ++ (map told file.problems ++ syntax_problems file.syntax file.places)
+all_problems text file = bracket_problems text ++ (quote_problems text ++ (map told file.problems ++ syntax_problems file.syntax file.places))
 
 -- each in its place in the order of these, unless it is among them
 abbrev pub put_all : List SourceProblem → List SourceProblem → List SourceProblem

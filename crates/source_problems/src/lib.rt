@@ -8,6 +8,7 @@ mod laws;
 mod markers;
 mod metas;
 mod problem;
+mod quotes;
 mod text;
 mod use_trees;
 

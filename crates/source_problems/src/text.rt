@@ -4,13 +4,14 @@ ghost use Rattle.std.specs.Prelude.{◌≡◌, ◌++◌, IfOk, OnOk, map};
 ghost use Rattle.rust_items.specs.LineEnds.{place_by};
 ghost use Rattle.rust_items.specs.SourceFiles.{file_view};
 ghost use Rattle.rust_lexer.specs.Tokens.{tokens};
-ghost use Rattle.source_problems.specs.Brackets as brackets;
 ghost use Rattle.source_problems.specs.Problems as found;
+ghost use Rattle.source_problems.specs.Quotes as quotes;
 ghost use Rattle.source_problems.specs.Texts as spec;
 
 use crate::brackets::bracket_problems;
 use crate::items::push_syntax;
 use crate::problem::{Found, SourceProblem, told};
+use crate::quotes::quote_problems;
 use rust_items::line_ends::{LineEnds, has_return, with_feeds};
 use rust_items::{Problem, SourceFile};
 use std::alloc::{AllocError, Global};
@@ -35,23 +36,23 @@ fn placed(
     Ok(moved)
 }
 
-/// What is wrong with the brackets, the quotes and the lines of a text with line feeds alone, at the places of the text as it is.
+/// What is wrong with the quotes and the lines of a text with line feeds alone, at the places of the text as it is.
 fn feed_problems(
     alloc: Global,
     feeds: &str,
     ends: &LineEnds,
 ) -> Result<Vec<SourceProblem>, AllocError>
     ensures { IfOk result (λ v. v.items
-        ≡ map (spec.problem_moved_by (place_by ends.now.len ends.now.returns.items)) (brackets.token_problems (tokens feeds.now))) }
+        ≡ map (spec.problem_moved_by (place_by ends.now.len ends.now.returns.items)) (quotes.token_problems (tokens feeds.now))) }
 {
-    let problems = bracket_problems(alloc, feeds)?;
+    let problems = quote_problems(alloc, feeds)?;
     placed(alloc, &problems, ends)
 }
 
 /// The same of a text, whichever line ends it has.
 #[tactic(auto, using(crate::proofs::Feeds::same_problems))]
 fn line_problems(alloc: Global, text: &str) -> Result<Vec<SourceProblem>, AllocError>
-    ensures { IfOk result (λ v. v.items ≡ spec.bracket_problems text.now) }
+    ensures { IfOk result (λ v. v.items ≡ spec.quote_problems text.now) }
 {
     if !has_return(text) {
         let ends = LineEnds::none(alloc, text);
@@ -59,6 +60,18 @@ fn line_problems(alloc: Global, text: &str) -> Result<Vec<SourceProblem>, AllocE
     }
     let (feeds, ends) = with_feeds(alloc, text)?;
     feed_problems(alloc, &feeds, &ends)
+}
+
+/// Adds what is wrong with the quotes and the lines of a text.
+fn push_lines(
+    alloc: Global,
+    text: &str,
+    problems: &mut Vec<SourceProblem>,
+) -> Result<(), AllocError>
+    ensures { OnOk result (problems.new.items ≡ problems.old.items ++ spec.quote_problems text.now) }
+{
+    let mut lines = line_problems(alloc, text)?;
+    problems.append(&mut lines)
 }
 
 /// Adds what the reader of items tells.
@@ -96,7 +109,7 @@ fn in_order(alloc: Global, problems: &[SourceProblem]) -> Result<Vec<SourceProbl
 }
 
 /// All that is wrong with a text of which this was read, in the order of places, each once: what the reader of items tells; brackets
-/// that do not match; literals and comments without their ends, also those behind which the text goes on; conflict markers at the
+/// that have to be mended, each where its line tells that it is wrong; literals and comments without their ends, also those behind which the text goes on; conflict markers at the
 /// beginning of lines; and the paths without a meaning and the attributes that are too deep, at the items that have them, or at the
 /// beginning of the file.
 ///
@@ -113,7 +126,8 @@ pub fn source_problems(
     ensures all { IfOk result (λ v. v.items ≡ spec.source_problems text.now (file_view file.now)) }
     ensures ordered { IfOk result (λ v. spec.AreInOrder v.items) }
 {
-    let mut problems = line_problems(alloc, text)?;
+    let mut problems = bracket_problems(alloc, text)?;
+    push_lines(alloc, text, &mut problems)?;
     push_told(&file.problems, &mut problems)?;
     let mut found = Found { at: 0, problems };
     push_syntax(&file.syntax, &file.places, &mut found)?;

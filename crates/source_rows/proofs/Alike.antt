@@ -1,5 +1,5 @@
 -- What two texts go on with alike counts alike.
-use Rattle.std.proofs.Common.{◌≡◌, ◌↔◌, ◌≤◌, ◌<◌, ◌+◌, ◌-◌, ◌++◌, ℕ, Bool, false, List, [], ◌∷◌, length, All, refl, sym, ap, ◌∙◌, arith, nat_le, append_assoc, drop, get_or, not, subst, take, true}
+use Rattle.std.proofs.Common.{◌≡◌, ◌↔◌, ◌≤◌, ◌<◌, ◌+◌, ◌-◌, ◌++◌, ◌||◌, ℕ, Bool, false, List, [], ◌∷◌, length, All, refl, sym, ap, ◌∙◌, arith, nat_le, append_assoc, drop, get_or, not, subst, take, true}
 use Rattle.std.specs.Bool.{beq}
 use Rattle.std.proofs.lemmas.List.{append_cancel_left, take_rest}
 use Rattle.std.proofs.lemmas.List.Elements.{All-head, All-tail}
@@ -7,12 +7,14 @@ use Rattle.rust_lexer.specs.Piece.{Piece}
 use Rattle.rust_lexer.specs.Symbol.{symbol_of}
 use Rattle.rust_lexer.specs.Tokens.{ArePassed}
 use Rattle.rust_lexer.proofs.Counted.{when}
-use Rattle.source_rows.specs.Inner.{AreSameUntil, ComeBehind, IsBefore, IsLone}
-use Rattle.source_rows.specs.Skeletons.{kept, not_over, text_if_kept}
+use Rattle.source_rows.specs.DocAttributes.{docs_as_comments, inner_doc_list}
+use Rattle.source_rows.specs.Inner.{AreSameUntil, ComeBehind, IsBefore, IsLone, are_apart}
+use Rattle.source_rows.specs.Skeletons.{is_one_mark, kept, not_over, text_if_kept}
 use Rattle.source_rows.specs.declared.kept.Hole.{Hole}
 use Rattle.source_rows.proofs.Common.{nat_tests}
 use Rattle.source_rows.proofs.Texts.{hole_told, is_hole}
-use Rattle.source_rows.proofs.Holes.{kept_later, sooner}
+use Rattle.source_rows.proofs.AsComments.{in_parts, placed, still_behind}
+use Rattle.source_rows.proofs.Holes.{come_behind, docs_alone, kept_later}
 
 -- ---- parts
 
@@ -51,10 +53,6 @@ same_turn place (h ∷ hs) (k ∷ ks) none differ some some' is e same =
 
 -- ---- tokens
 
-pub come_behind : (place : ℕ) (front ts : List Piece) → ComeBehind place (front ++ ts) → ComeBehind place ts
-come_behind place [] ts b = b
-come_behind place (t ∷ front) ts b = sooner place (t.at + length t.text) ts (omega (arith, b.0)) (come_behind (t.at + length t.text) front ts b.1.1)
-
 -- the symbol of the last of these, behind this one
 abbrev last_symbol : ℕ → List Piece → ℕ
 last_symbol before [] = before
@@ -70,21 +68,51 @@ kept_append docs holes before place (t ∷ front) ts b =
     ∙ ap (λ l. kept docs left (symbol_of t) front ++ l) (kept_later docs t.at next holes last ts (omega arith) (come_behind next front ts b.1.1)))
     ∙ sym (append_assoc (text_if_kept docs left before t) (kept docs left (symbol_of t) front) (kept docs holes last ts))
 
+-- of these tokens and of those behind them, which are told alike whatever stands before them
+parted : (docs : Bool) (holes : List Hole) (before other : ℕ) (front ts us : List Piece) → ts ≡ front ++ us → ComeBehind 0 ts → IsLone docs us
+    → kept docs holes before (docs_as_comments docs 0 ts) ≡ kept docs holes before (docs_as_comments docs 0 front) ++ kept docs holes other (docs_as_comments docs 0 us)
+parted docs holes before other front ts us is b lone =
+    let first = docs_as_comments docs 0 front in
+    let rest = docs_as_comments docs 0 us in
+    let parts : docs_as_comments docs 0 ts ≡ first ++ rest = ap (docs_as_comments docs 0) is ∙ lone.apart front in
+    ap (kept docs holes before) parts
+    ∙ kept_append docs holes before 0 first rest (subst (ComeBehind 0) parts (still_behind docs 0 0 ts b))
+    ∙ ap (λ l. kept docs holes before first ++ l) (lone.no_mark holes (last_symbol before first) other)
+
 -- the same is left of both where the same is passed
-pub left_alike : (docs docs' : Bool) (before before' place : ℕ) (holes others : List Hole) (ts copy us ts' copy' us' : List Piece) → docs ≡ docs' → before ≡ before' → AreSameUntil place holes others → ComeBehind 0 ts → ComeBehind 0 ts' → IsLone us → IsLone us' → copy ≡ ts → copy' ≡ ts' → ArePassed place copy us copy' us'
-    → (kept docs holes before us ≡ kept docs' others before' us') ↔ (kept docs holes before ts ≡ kept docs' others before' ts')
+pub left_alike : (docs docs' : Bool) (before before' place : ℕ) (holes others : List Hole) (ts copy us ts' copy' us' : List Piece) → docs ≡ docs' → before ≡ before' → AreSameUntil place holes others → ComeBehind 0 ts → ComeBehind 0 ts' → IsLone docs us → IsLone docs us' → copy ≡ ts → copy' ≡ ts' → ArePassed place copy us copy' us'
+    → (kept docs holes before (docs_as_comments docs 0 us) ≡ kept docs' others before' (docs_as_comments docs' 0 us')) ↔ (kept docs holes before (docs_as_comments docs 0 ts) ≡ kept docs' others before' (docs_as_comments docs' 0 ts'))
 left_alike docs docs' before before' place holes others ts copy us ts' copy' us' e e' same b b' lone lone' is is' p =
-    let first = sym is ∙ p.1 in
-    let second = sym is' ∙ p.2 in
-    let front = kept docs holes before p.0 in
-    let last = last_symbol before p.0 in
-    let last' = last_symbol before' p.0 in
-    let ours : kept docs holes before ts ≡ front ++ kept docs holes before us =
-    ap (kept docs holes before) first ∙ kept_append docs holes before 0 p.0 us (subst (ComeBehind 0) first b) ∙ ap (λ l. front ++ l) (lone docs holes last before) in
-    let theirs : kept docs' others before' ts' ≡ front ++ kept docs' others before' us' =
-    ap (kept docs' others before') second ∙ kept_append docs' others before' 0 p.0 us' (subst (ComeBehind 0) second b') ∙ ap (λ l. kept docs' others before' p.0 ++ l) (lone' docs' others last' before')
-    ∙ ap (λ d. kept d others before' p.0 ++ kept docs' others before' us') (sym e) ∙ ap (λ c. kept docs others c p.0 ++ kept docs' others before' us') (sym e') ∙ ap (λ l. l ++ kept docs' others before' us') (sym (same docs before p.0 p.3)) in
-    (λ k. ours ∙ ap (λ l. front ++ l) k ∙ sym theirs, λ k. append_cancel_left front _ _ (sym ours ∙ k ∙ theirs))
+    subst (λ d. (kept docs holes before (docs_as_comments docs 0 us) ≡ kept d others before' (docs_as_comments d 0 us')) ↔ (kept docs holes before (docs_as_comments docs 0 ts) ≡ kept d others before' (docs_as_comments d 0 ts'))) e
+    (subst (λ c. (kept docs holes before (docs_as_comments docs 0 us) ≡ kept docs others c (docs_as_comments docs 0 us')) ↔ (kept docs holes before (docs_as_comments docs 0 ts) ≡ kept docs others c (docs_as_comments docs 0 ts'))) e' both)
+  where
+    first : List (List ℕ)
+    first = kept docs holes before (docs_as_comments docs 0 p.0)
+
+    ours : kept docs holes before (docs_as_comments docs 0 ts) ≡ first ++ kept docs holes before (docs_as_comments docs 0 us)
+    ours = parted docs holes before before p.0 ts us (sym is ∙ p.1) b lone
+
+    theirs : kept docs others before (docs_as_comments docs 0 ts') ≡ first ++ kept docs others before (docs_as_comments docs 0 us')
+    theirs =
+        parted docs others before before p.0 ts' us' (sym is' ∙ p.2) b' lone'
+        ∙ ap (λ l. l ++ kept docs others before (docs_as_comments docs 0 us')) (sym (same docs before (docs_as_comments docs 0 p.0) (placed (λ k. k < place) docs 0 p.0 p.3)))
+
+    both : (kept docs holes before (docs_as_comments docs 0 us) ≡ kept docs others before (docs_as_comments docs 0 us')) ↔ (kept docs holes before (docs_as_comments docs 0 ts) ≡ kept docs others before (docs_as_comments docs 0 ts'))
+    both = (λ k. ours ∙ ap (λ l. first ++ l) k ∙ sym theirs, λ k. append_cancel_left first _ _ (sym ours ∙ k ∙ theirs))
+
+-- what begins with no mark, and ends no attribute, stands alone
+pub stands_alone : (docs : Bool) (symbol : ℕ) (t : Piece) (ts us : List Piece) → us ≡ t ∷ ts → symbol ≡ symbol_of t → ((before : ℕ) → is_one_mark before symbol ≡ false) → docs || are_apart inner_doc_list us ≡ true → IsLone docs us
+stands_alone docs symbol t ts us is e m a = subst (IsLone docs) (sym is) (record {
+  no_mark = λ holes before other. docs_alone t ts (λ b. ap (is_one_mark b) (sym e) ∙ m b) docs holes before other;
+  apart = λ front. in_parts docs front (t ∷ ts) (ap (λ l. docs || are_apart inner_doc_list l) (sym is) ∙ a);
+})
+
+pub none_alone : (docs : Bool) → IsLone docs []
+none_alone docs = record { no_mark = λ holes before other. refl; apart = λ front. in_parts docs front [] (none docs) }
+  where
+    none : (docs : Bool) → docs || are_apart inner_doc_list [] ≡ true
+    none true = refl
+    none false = refl
 
 pub same_docs : (d d' : Bool) → not (beq d d') ≡ false → d ≡ d'
 same_docs true true e = refl

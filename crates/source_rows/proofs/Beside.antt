@@ -7,10 +7,9 @@ use Rattle.rust_lexer.specs.Symbol.{symbol_of}
 use Rattle.rust_lexer.proofs.Counted.{when}
 use Rattle.std.proofs.lemmas.Bool.Decides.{nat_tests}
 use Rattle.source_rows.specs.Inner.{ComeBehind, IsBefore}
-use Rattle.source_rows.specs.Skeletons.{counts, is_begun, kept, not_over, text_if_kept}
+use Rattle.source_rows.specs.Skeletons.{is_begun, kept, not_over, text_if_kept}
 use Rattle.source_rows.specs.declared.kept.Hole.{Hole}
-use Rattle.source_rows.proofs.Alike.{come_behind}
-use Rattle.source_rows.proofs.Holes.{kept_later}
+use Rattle.source_rows.proofs.Holes.{KeepsAlike, come_behind, inside_left, kept_step}
 
 -- a part in a text with so many bytes in front
 abbrev pub moved_on : ℕ → Hole → Hole
@@ -19,16 +18,6 @@ moved_on by h = record { start = h.start + by; end = h.end + by }
 -- at two places either both stand in the first of some parts that do not end before, or neither does
 abbrev pub LeavesAlike : ℕ → List Hole → ℕ → List Hole → Type 0
 LeavesAlike at holes at' holes' = is_begun at (not_over at holes) ≡ is_begun at' (not_over at' holes')
-
--- tokens as they come in the text
-kept_step : (docs : Bool) (holes : List Hole) (before place : ℕ) (t : Piece) (ts : List Piece) → ComeBehind place (t ∷ ts)
-    → kept docs holes before (t ∷ ts) ≡ text_if_kept docs (not_over t.at holes) before t ++ kept docs holes (symbol_of t) ts
-kept_step docs holes before place t ts a =
-    ap (λ l. text_if_kept docs (not_over t.at holes) before t ++ l) (kept_later docs t.at (t.at + length t.text) holes (symbol_of t) ts (omega arith) a.1.1)
-
--- whatever stands before these, in both texts, the same of them is kept
-abbrev pub KeepsAlike : Bool → List Hole → List Piece → List Hole → List Piece → Type 0
-KeepsAlike docs holes ts holes' ts' = (before before' : ℕ) → kept docs holes before ts ≡ kept docs holes' before' ts'
 
 -- the same tokens, each text's so many bytes further on
 moved_alike : (docs : Bool) (holes holes' : List Hole) (d d' before place place' : ℕ) (ts : List Piece) → ((at : ℕ) → LeavesAlike (at + d) holes (at + d') holes') → ComeBehind place (map (moved d) ts) → ComeBehind place' (map (moved d') ts)
@@ -53,18 +42,6 @@ front_alike docs holes holes' before place from from' (t ∷ front) ts ts' same 
     ∙ ap (λ l. l ++ kept docs holes (symbol_of t) (front ++ ts)) here
     ∙ ap (λ l. text_if_kept docs (not_over t.at holes') before t ++ l) (front_alike docs holes holes' (symbol_of t) place next next front ts ts' same (All-tail (λ t. t.at < place) t front low) a.1.1 a'.1.1 rest)
     ∙ sym (kept_step docs holes' before from' t (front ++ ts') a')
-
--- tokens in a part that is left out count for none in front of one that is no mark with any
-pub inside_left : (docs : Bool) (holes : List Hole) (before before' from to place : ℕ) (inside ts : List Piece) → ((at : ℕ) → from ≤ at → at < to → is_begun at (not_over at holes) ≡ true) → All (λ t. (from ≤ t.at) × (t.at < to)) inside
-    → ComeBehind place (inside ++ ts) → KeepsAlike docs holes ts holes ts → kept docs holes before (inside ++ ts) ≡ kept docs holes before' ts
-inside_left docs holes before before' from to place [] ts left within a rest = rest before before'
-inside_left docs holes before before' from to place (t ∷ inside) ts left within a rest =
-    let in_part = All-head (λ t. (from ≤ t.at) × (t.at < to)) t inside within in
-    let begun = left t.at in_part.0 in_part.1 in
-    let none : text_if_kept docs (not_over t.at holes) before t ≡ [] = when (counts docs t) (λ c. rw (c, begun) refl) (λ c. rw c refl) in
-    kept_step docs holes before place t (inside ++ ts) a
-    ∙ ap (λ l. l ++ kept docs holes (symbol_of t) (inside ++ ts)) none
-    ∙ inside_left docs holes (symbol_of t) before' from to (t.at + length t.text) inside ts left (All-tail (λ t. (from ≤ t.at) × (t.at < to)) t inside within) a.1.1 rest
 
 -- ---- which parts leave out what
 

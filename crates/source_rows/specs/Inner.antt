@@ -1,10 +1,12 @@
 -- For the crate's own functions: rows with their labels as keys, and what of a text is passed over.
-use Rattle.std.specs.Prelude.{◌≡◌, ◌≤◌, ◌<◌, ℕ, ◌+◌, All, Bool, false, nat_le, length, if◌then◌else◌, List, [], ◌∷◌, Option, Some, None}
+use Rattle.std.specs.Prelude.{◌≡◌, ◌≤◌, ◌<◌, ℕ, ◌+◌, ◌++◌, All, Bool, true, false, not, ◌&&◌, is_some, nat_le, length, if◌then◌else◌, List, [], ◌∷◌, Option, Some, None}
 use Rattle.std.specs.Borrow.{Bor}
 use Rattle.item_changes.specs.declared.matching.Keyed.{Keyed}
 use Rattle.item_changes.specs.declared.matching.Match.{Match}
 use Rattle.item_changes.specs.Matches.{match_map}
 use Rattle.rust_lexer.specs.Piece.{Piece}
+use Rattle.source_rows.specs.declared.doc_attributes.Sign.{Sign}
+use Rattle.source_rows.specs.declared.doc_attributes.Sign.TheVariants as signs
 use Rattle.source_rows.specs.declared.kept.Hole.{Hole}
 use Rattle.source_rows.specs.declared.kept.Kept.{Kept}
 use Rattle.source_rows.specs.declared.kept.Told.{Told}
@@ -14,6 +16,7 @@ use Rattle.source_rows.specs.declared.moved.Frame as code_frame
 use Rattle.source_rows.specs.declared.moved.Standing as code_standing
 use Rattle.source_rows.specs.Changes.{TextRow, RowChange}
 use Rattle.source_rows.specs.ChangeViews.{row_change_view, text_row_view}
+use Rattle.source_rows.specs.DocAttributes.{behind_tests, docs_as_comments, is_bare_string, is_doc_name, is_symbol}
 use Rattle.source_rows.specs.Moves.{Frame, Standing, StandingRow}
 use Rattle.source_rows.specs.Skeletons.{kept, without_returns}
 
@@ -51,15 +54,30 @@ ends_behind _ _ = false
 
 -- the texts of the tokens that are taken of what is left
 abbrev pub left_texts : Kept → List (List ℕ)
-left_texts left = kept left.has_docs left.holes.now left.before left.lexer
+left_texts left = kept left.has_docs left.holes.now left.before (docs_as_comments left.has_docs 0 left.lexer)
 
 -- what tells a token
 abbrev pub told_text : Told → List ℕ
 told_text t = (if t.is_joint then 1 else 0) ∷ without_returns t.text.now
 
--- whatever stands before these, it is no mark with the first of them
-abbrev pub IsLone : List Piece → Type 0
-IsLone ts = (has_docs : Bool) (holes : List Hole) (before other : ℕ) → kept has_docs holes before ts ≡ kept has_docs holes other ts
+-- the test that such a token of an attribute passes
+abbrev pub sign_test : Sign → Piece → Bool
+sign_test signs.Bang = is_symbol 33
+sign_test signs.Open = is_symbol 91
+sign_test signs.Name = is_doc_name
+sign_test signs.Equals = is_symbol 61
+sign_test signs.Text = is_bare_string
+sign_test signs.Close = is_symbol 93
+
+-- these do not begin with what passes the last of some tests in turn
+abbrev pub are_apart : List (Piece → Bool) → List Piece → Bool
+are_apart [] ts = true
+are_apart (p ∷ ps) ts = not (is_some (behind_tests (p ∷ ps) ts)) && are_apart ps ts
+
+-- whatever stands before these, it is no mark with the first of them, and none of its attributes that document ends in them
+pub record IsLone (has_docs : Bool) (ts : List Piece) : Type 0 where
+  pub no_mark : (holes : List Hole) (before other : ℕ) → kept has_docs holes before (docs_as_comments has_docs 0 ts) ≡ kept has_docs holes other (docs_as_comments has_docs 0 ts)
+  pub apart : (front : List Piece) → docs_as_comments has_docs 0 (front ++ ts) ≡ docs_as_comments has_docs 0 front ++ docs_as_comments has_docs 0 ts
 
 -- a text in front of others, if it is taken
 abbrev pub text_first : Bool → List ℕ → List (List ℕ) → List (List ℕ)

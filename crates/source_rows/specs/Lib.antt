@@ -10,6 +10,7 @@ pub mod Enabled
 pub mod Types
 pub mod Listed
 pub mod ListedViews
+pub mod DocAttributes
 pub mod Skeletons
 pub mod Changes
 pub mod Inner

@@ -6,6 +6,7 @@ use Rattle.rust_lexer.specs.Piece.{Piece}
 use Rattle.rust_lexer.specs.Symbol.{symbol_of}
 use Rattle.rust_lexer.specs.Tokens.{tokens, is_significant}
 use Rattle.source_rows.specs.declared.kept.Hole.{Hole}
+use Rattle.source_rows.specs.DocAttributes.{docs_as_comments}
 
 -- a comment that documents something
 abbrev pub is_documentation : TokenKind → Bool
@@ -62,6 +63,6 @@ abbrev pub kept : Bool → List Hole → ℕ → List Piece → List (List ℕ)
 kept has_docs holes before [] = []
 kept has_docs holes before (t ∷ ts) = text_if_kept has_docs (not_over t.at holes) before t ++ kept has_docs (not_over t.at holes) (symbol_of t) ts
 
--- the same of a text
+-- the same of a text, in which attributes that document count as comments that do
 abbrev pub skeleton : Bool → List Hole → List ℕ → List (List ℕ)
-skeleton has_docs holes text = kept has_docs holes 0 (tokens text)
+skeleton has_docs holes text = kept has_docs holes 0 (docs_as_comments has_docs 0 (tokens text))

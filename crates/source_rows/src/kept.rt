@@ -1,10 +1,12 @@
 //! The tokens of a text that count, without those that stand in some parts of it.
 
 ghost use Rattle.std.specs.Prelude.{◌≡◌, ◌↔◌, ◌+◌, ◌≤◌, ◌<◌, ℕ, Bool, false, List, [], ◌∷◌, IfSome, IsTrue, MatchOption, length};
+ghost use Rattle.source_rows.specs.DocAttributes.{docs_as_comments};
 ghost use Rattle.source_rows.specs.Inner as inner;
 ghost use Rattle.source_rows.specs.Skeletons as spec;
 ghost use Rattle.source_rows.specs.ChangeViews.{skeleton_view};
 
+use crate::doc_attributes::{is_apart, pass_doc_attribute};
 use rust_lexer::{Depth, Lexer, Token, TokenKind};
 
 /// A part of a text, in bytes.
@@ -74,8 +76,9 @@ fn ends_behind(lexer: &Lexer<'_>, holes: &[Hole]) -> bool
 /// that is tried in vain, it is not tried again: braces that are not closed are looked for up to the end of the text.
 fn pass_hole(token: &Token<'_>, holes: &[Hole], may_pass: &mut bool, lexer: &mut Lexer<'_>)
     requires { inner.ComeBehind (token.now.at + length token.now.text) lexer.old }
-    ensures same { (has_docs : Bool) (before : ℕ) → spec.kept has_docs holes.now before lexer.new
-        ≡ spec.kept has_docs holes.now before lexer.old }
+    ensures same { (has_docs : Bool) (before : ℕ) →
+        spec.kept has_docs holes.now before (docs_as_comments has_docs 0 lexer.new)
+        ≡ spec.kept has_docs holes.now before (docs_as_comments has_docs 0 lexer.old) }
     ensures after { inner.ComeBehind (token.now.at + length token.now.text) lexer.new }
     ensures fewer { length lexer.new ≤ length lexer.old }
 {
@@ -97,7 +100,7 @@ fn pass_hole(token: &Token<'_>, holes: &[Hole], may_pass: &mut bool, lexer: &mut
 #[derive(Drop)]
 struct Kept<'a> {
     lexer: Lexer<'a>,
-    /// The symbol of the token before, whether or not that was taken.
+    /// The symbol of the token before, whether or not that was taken, and 0 behind an attribute that documents as behind a comment.
     before: u8,
     holes: &'a [Hole],
     has_docs: bool,
@@ -107,11 +110,16 @@ struct Kept<'a> {
 /// Whether a token is taken that comes in front of what is left. What need not be looked at behind it is passed over.
 fn is_taken(token: &Token<'_>, left: &mut Kept<'_>) -> bool
     requires { inner.ComeBehind (token.now.at + length token.now.text) left.old.lexer }
-    ensures same { spec.kept left.old.has_docs left.old.holes.now left.old.before (token.now ∷ left.old.lexer)
+    ensures same { let seen = docs_as_comments left.old.has_docs 0 (token.now ∷ left.old.lexer) in
+        spec.kept left.old.has_docs left.old.holes.now left.old.before seen
         ≡ inner.text_first result (spec.token_text left.old.before token.now) (inner.left_texts left.new) }
     ensures after { inner.ComeBehind 0 left.new.lexer }
     ensures fewer { length left.new.lexer ≤ length left.old.lexer }
 {
+    if pass_doc_attribute(token, left.has_docs, &mut left.lexer) {
+        left.before = 0;
+        return false;
+    }
     left.before = token.symbol();
     if !counts(token, left.has_docs) {
         return false;
@@ -276,20 +284,27 @@ fn same_until(ours: &[Hole], theirs: &[Hole]) -> usize
     beginning(ours).min(beginning(theirs))
 }
 
-/// Whether what comes first is no mark with what stands before it, whatever that is.
-fn is_lone(lexer: &Lexer<'_>) -> bool
-    ensures { IsTrue result → inner.IsLone lexer.now }
+/// Whether a symbol is one mark with none that stands before it.
+fn is_apart_mark(symbol: u8) -> bool
+    ensures { IsTrue result → (before : ℕ) → spec.is_one_mark before symbol ≡ false }
+{
+    !matches!(symbol, b'>' | b'=' | b':' | b'.')
+}
+
+/// Whether what comes first is no mark with what stands before it, whatever that is, and ends no attribute that documents.
+fn is_lone(lexer: &Lexer<'_>, has_docs: bool) -> bool
+    ensures { IsTrue result → inner.IsLone has_docs lexer.now }
 {
     match lexer.copy().next() {
-        Some(next) => !matches!(next.symbol(), b'>' | b'=' | b':' | b'.'),
+        Some(next) => is_apart_mark(next.symbol()) && (has_docs || is_apart(lexer)),
         None => true,
     }
 }
 
-fn are_lone(ours: &Lexer<'_>, theirs: &Lexer<'_>) -> bool
-    ensures { IsTrue result → inner.IsLone ours.now × inner.IsLone theirs.now }
+fn are_lone(ours: &Lexer<'_>, theirs: &Lexer<'_>, has_docs: bool) -> bool
+    ensures { IsTrue result → inner.IsLone has_docs ours.now × inner.IsLone has_docs theirs.now }
 {
-    is_lone(ours) && is_lone(theirs)
+    is_lone(ours, has_docs) && is_lone(theirs, has_docs)
 }
 
 /// Passes over tokens with which two texts go on alike.
@@ -311,7 +326,7 @@ fn pass_same(ours: &mut Kept<'_>, theirs: &mut Kept<'_>)
     let mut our_rest = ours.lexer.copy();
     let mut their_rest = theirs.lexer.copy();
     our_rest.pass_same(&mut their_rest, place);
-    if !are_lone(&our_rest, &their_rest) {
+    if !are_lone(&our_rest, &their_rest, ours.has_docs) {
         return;
     }
     ours.lexer = our_rest;

@@ -4,6 +4,7 @@
 
 mod blanks;
 mod compare;
+mod doc_attributes;
 mod enabled;
 mod headers;
 mod inside;

@@ -1,6 +1,6 @@
 -- A text that ends with a `;` or a `}` of its own, and what stands behind it: what is in front stays, and the tokens behind are those of the other text, moved.
-use Rattle.std.proofs.Common.{◌≡◌, ◌≤◌, ◌+◌, ℕ, suc, Bool, true, false, Option, Some, None, List, [], ◌∷◌, ◌++◌, length, refl, sym, ap, ◌∙◌, arith, map, append_assoc, length-append, zero, if◌then◌else◌}
-use Rattle.rust_edits.proofs.Common.{IsBare, nat_le, slice_index, option_map, filter, EditionYear, Stop, stop, behind_lead, EndsAlone, is_fence, is_full, overhang, tokens_in_front, moved, first_cut, is_continuation, Piece, symbol_of, is_terminated, has_mark, is_shebang, is_significant, tokens, tokens_from, whole, Tokens, end_of, tokens_of, place_if_open, last_unended, by_first, rest, bumped, and_from, and_parts, filter-append, nat_tests, own, stop_at, tokens_moved, plain_is, filter_moved, LeadsTo, here, further}
+use Rattle.std.proofs.Common.{◌≡◌, ◌+◌, ℕ, suc, Bool, true, false, Option, Some, None, List, [], ◌∷◌, ◌++◌, length, refl, sym, ap, ◌∙◌, arith, map, if◌then◌else◌}
+use Rattle.rust_edits.proofs.Common.{IsBare, slice_index, option_map, filter, EditionYear, Stop, stop, EndsAlone, is_fence, tokens_in_front, moved, is_continuation, Piece, symbol_of, is_terminated, has_mark, is_shebang, is_significant, tokens, tokens_from, Tokens, end_of, tokens_of, place_if_open, last_unended, by_first, rest, bumped, filter-append, nat_tests, own, stop_at, tokens_moved, plain_is, filter_moved, LeadsTo, here, further}
 use Rattle.rust_lexer.proofs.Same.{by_stop}
 use Rattle.rust_edits.proofs.Ranges.Alone.{last_counts, ended}
 use Rattle.rust_edits.proofs.Typing.Unended.{fence_by, mark_by, shebang_on, last_append}
@@ -33,30 +33,6 @@ plain_back w o y alone clean p = record {
   fence = fence_on o w y [] ∙ p.fence;
 }
 
--- ---- texts one behind the other
-
-le_more : (i m n : ℕ) → nat_le i m ≡ true → m ≤ n → nat_le i n ≡ true
-le_more i m n e l = grind (arith, nat_tests)
-
-pub full_both : (x z : List ℕ) → is_full x ≡ true → is_full z ≡ true → is_full (x ++ z) ≡ true
-full_both [] z e f = f
-full_both (b ∷ x) z e f =
-    let parts = and_parts (nat_le (behind_lead b) (length x)) (is_full x) e in
-    let sizes = length-append x z in
-    and_from (nat_le (behind_lead b) (length (x ++ z))) (is_full (x ++ z)) (le_more (behind_lead b) (length x) (length (x ++ z)) parts.0 (omega arith)) (full_both x z parts.1 f)
-
-pub full_stop : (o : Stop) (z : List ℕ) → is_full z ≡ true → is_full (stop o ∷ z) ≡ true
-full_stop o z e = by_stop (λ s. is_full (s ∷ z) ≡ true) (first 123 refl) (first 125 refl) (first 59 refl) o
-  where
-    first : (s : ℕ) → behind_lead s ≡ 0 → is_full (s ∷ z) ≡ true
-    first s f = let l : nat_le (behind_lead s) (length z) ≡ true = grind (arith, nat_tests) in and_from (nat_le (behind_lead s) (length z)) (is_full z) l e
-
-pub over_both : (left : ℕ) (x z u : List ℕ) → overhang left (x ++ z) u ≡ overhang (overhang left x (z ++ u)) z u
-over_both left [] z u = refl
-over_both (suc left) (b ∷ x) z u = over_both left x z u
-over_both zero (b ∷ x) z u =
-    ap (λ (y : List ℕ). overhang (whole (first_cut b y) y) (x ++ z) u) (append_assoc x z u) ∙ over_both (whole (first_cut b (x ++ (z ++ u))) (x ++ (z ++ u))) x z u
-
 -- ---- tokens behind
 
 pub plain_tokens : (z : List ℕ) → IsBare z → tokens z ≡ tokens_from 0 0 z
@@ -70,7 +46,7 @@ pub first_moved : (d : ℕ) (l : List Piece) → by_first 0 symbol_of (map (move
 first_moved d [] = refl
 first_moved d (t ∷ l) = refl
 
-last_moved : (d : ℕ) (last : Option ℕ) (ts : List Piece) → last_unended (option_map (λ n. n + d) last) (map (moved d) ts) ≡ option_map (λ n. n + d) (last_unended last ts)
+pub last_moved : (d : ℕ) (last : Option ℕ) (ts : List Piece) → last_unended (option_map (λ n. n + d) last) (map (moved d) ts) ≡ option_map (λ n. n + d) (last_unended last ts)
 last_moved d last [] = refl
 last_moved d last (t ∷ ts) = ap (λ l. last_unended l (map (moved d) ts)) (place (is_terminated t) t.at) ∙ last_moved d (place_if_open t) ts
   where

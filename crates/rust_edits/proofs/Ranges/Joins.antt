@@ -1,35 +1,39 @@
 -- Whole items and what is behind them are read one after the other.
-use Rattle.std.proofs.Common.{◌≡◌, Bool, ◌<◌, ◌+◌, ◌==◌, ◌||◌, ℕ, suc, true, false, Option, Some, None, List, [], ◌∷◌, ◌++◌, length, refl, sym, ap, ◌∙◌, subst, arith, map, append_assoc, append-nil, length-append}
-use Rattle.rust_edits.proofs.Common.{option_map, not, slice_index, filter, list_any, EditionYear, MetaView, ItemView, Row, Stop, stop, EndsAlone, moved, is_continuation, Piece, symbol_of, is_significant, tokens, most, Tokens, tokens_of, last_unended, by_first, symbol, TextRange, inner_attributes, Problem, Found, nothing_found, and_problem_at, and_all, finding, items, moved_range, moved_span, moved_problem, behind_attributes, found_in, read_of, ends_items, read_at, HoldsAt, InsideJoin, TopHolds, IsBare, found_on, BeginsAnew, common_steps, nat_tests, tokens_sound, behind, tokens_laid, LeadsTo, through, by_kept, inner_attributes_until, inner_attributes_leads, Span, items_found, Ending, Near, near, fewer, near_parting, near_enters, near_levels, is_still, tokens_short}
+use Rattle.std.proofs.Common.{◌≡◌, Bool, ◌<◌, ◌+◌, ◌==◌, ◌||◌, ℕ, suc, true, false, Option, None, List, [], ◌∷◌, ◌++◌, length, refl, sym, ap, ◌∙◌, subst, arith, map, append_assoc, append-nil, length-append}
+use Rattle.rust_edits.proofs.Common.{own, stop_at, tokens_in_front, option_map, not, slice_index, filter, EditionYear, MetaView, ItemView, Row, Stop, stop, EndsAlone, moved, is_continuation, Piece, symbol_of, is_significant, tokens, most, Tokens, tokens_of, last_unended, by_first, symbol, TextRange, inner_attributes, Problem, Found, nothing_found, and_problem_at, and_all, finding, items, moved_range, moved_span, moved_problem, behind_attributes, found_in, read_of, ends_items, read_at, EndsWhole, InsideJoin, ItemsJoin, IsBare, found_on, BeginsAnew, common_steps, nat_tests, tokens_sound, behind, tokens_laid, LeadsTo, here, further, bumped, through, by_kept, inner_attributes_until, inner_attributes_leads, Span, items_found, Ending, Near, near, fewer, near_parting, near_enters, near_levels, is_still, tokens_short}
 use Rattle.rust_items.specs.declared.log.ProblemKind.TheVariants as problem
 use Rattle.rust_cursor.proofs.Parting as parting
 use Rattle.rust_edits.proofs.Ranges.NearLeaves.{Given, given_on}
-use Rattle.rust_edits.proofs.Ranges.NearItems.{top_end, FoundNear, is_quiet}
-use Rattle.rust_edits.proofs.Ranges.Alone.{part_in, part_near, part_ended, start_near, ended, IsPart, tokens_behind}
-use Rattle.rust_edits.proofs.Ranges.Behind.{plain_on, behind_moved, first_moved, unended_behind, past_whole, plain_tokens}
+use Rattle.rust_edits.proofs.Ranges.NearItems.{top_end, FoundNear, told}
+use Rattle.rust_edits.proofs.Ranges.Alone.{last_is, part_in, part_near, part_ended, start_near, ended, IsPart, tokens_behind}
+use Rattle.rust_edits.proofs.Ranges.Behind.{last_stop, plain_on, behind_moved, first_moved, unended_behind, past_whole, plain_tokens}
 use Rattle.rust_edits.proofs.Ranges.Inner.{no_inner}
 use Rattle.rust_edits.proofs.Ranges.Onward.{IsRead, read_on}
-use Rattle.rust_edits.proofs.Ranges.Ranges.{last_is}
-use Rattle.rust_edits.proofs.Ranges.Seats.{edition_stays}
-use Rattle.rust_edits.proofs.Ranges.Tops.{found_keeps}
-use Rattle.rust_edits.proofs.Ranges.Turning.{run, run_stop, run_none, run_ended, top_is}
+use Rattle.rust_edits.proofs.Ranges.Turning.{run, run_stop, run_ended, top_is, Calm, calm_left, calm_by}
 use Rattle.rust_edits.proofs.Ranges.NearFields.{empty_left}
 use Rattle.rust_edits.proofs.Typing.ProblemsIn.{unended_kept}
+use Rattle.rust_edits.proofs.Typing.Unended.{last_append}
+
+pub edition_stays : {ts us : Tokens} → LeadsTo ts us → us.edition ≡ ts.edition
+unfolding bumped
+edition_stays here = refl
+edition_stays (further p) = edition_stays p
 
 pub items_top : (is_top : Bool) (left : ℕ) (f : Found) (ts : Tokens) → items is_top (suc left) f ts ≡ run is_top left most [] f ts
 unfolding finding
 items_top is_top left f ts = refl
 
 -- at the top nothing is left
-pub top_spent : (edition : EditionYear) (text : List ℕ) → length text < most → (read_of edition text).1.1.left ≡ []
-top_spent edition text short =
+all_spent : (is_top : Bool) (left : ℕ) (edition : EditionYear) (text : List ℕ) → length text < most → (is_top ≡ false → (read_at is_top (suc left) edition text).1.1.left ≡ []) → (read_at is_top (suc left) edition text).1.1.left ≡ []
+all_spent false left edition text short h = h refl
+all_spent true left edition text short h =
     let ts = tokens_of edition text in
     let us = (inner_attributes ts).1 in
     let laid = (behind (length text) (inner_attributes_leads ts) (tokens_laid edition text)).laid in
     let few = tokens_short edition text in
     let less = fewer (inner_attributes_leads ts) in
-    let ended = run_ended true 127 (length text) most [] nothing_found us laid (omega (arith, short)) in
-    ap (λ (r : List ItemView × (Found × Tokens)). r.1.1.left) (items_top true 127 nothing_found us) ∙ empty_left (run true 127 most [] nothing_found us).1.1 (sym (top_is (run true 127 most [] nothing_found us).1.1) ∙ ended)
+    let ended = run_ended true left (length text) most [] nothing_found us laid (omega (arith, short)) in
+    ap (λ (r : List ItemView × (Found × Tokens)). r.1.1.left) (items_top true left nothing_found us) ∙ empty_left (run true left most [] nothing_found us).1.1 (sym (top_is (run true left most [] nothing_found us).1.1) ∙ ended)
 
 -- ---- what is found, moved by nothing
 
@@ -70,28 +74,24 @@ found_first b f g e n =
 pub found_both : (b : Ending) (before f g : Found) → FoundNear b before f g → f ≡ and_all (found_on b.by g) before
 found_both b before f g n = found_same f.rows _ f.spans _ f.use_trees _ f.problems _ n.rows n.spans n.use_trees n.problems
 
-pub found_still : (f : Found) → f ≡ and_all (found_on 0 f) nothing_found
-found_still f = sym (found_same f.rows f.rows _ f.spans _ f.use_trees _ f.problems refl (map_still _ span_still f.spans) (map_still _ number_still f.use_trees) (map_still _ problem_still f.problems))
-
 -- with the problem that a token is not ended
 pub unended_join : (d : ℕ) (o : Option ℕ) (f g : Found) → and_problem_at problem.Unterminated (option_map (λ n. n + d) o) (and_all (found_on d g) f) ≡ and_all (found_on d (and_problem_at problem.Unterminated o g)) f
 unended_join d o f g = grind (arith, common_steps)
 
--- where no problem is told, none was found
-pub none_told : (edition : EditionYear) (text : List ℕ) → (found_in edition text).problems ≡ [] → is_quiet (read_of edition text).1.0 ≡ true
-none_told edition text e = let none = (found_keeps edition text).all (λ _. true) (ap (list_any (λ _. true)) e) in ap not none
+-- a text that ends with such a token ends no other token's
+open_none : (edition : EditionYear) (w : List ℕ) (o : Stop) → EndsAlone w o → IsBare (ended w o) → (tokens_of edition (ended w o)).unended ≡ None
+unfolding tokens_of
+open_none edition w o alone p =
+    let xs = tokens_in_front 0 0 w (stop o ∷ []) in
+    ap (last_unended None) (plain_tokens (ended w o) p ∙ own o 0 w [] alone refl) ∙ last_append None xs (stop_at o (0 + length w) ∷ []) ∙ last_stop o (0 + length w) (last_unended None xs) []
 
-none_unended : (o : Option ℕ) (f : Found) → (and_problem_at problem.Unterminated o f).problems ≡ [] → and_problem_at problem.Unterminated o f ≡ f
-none_unended None f e = refl
-none_unended (Some at) f e = absurd (no _ f.problems e)
-  where
-    no : (p : Problem) (ps : List Problem) → ps ++ p ∷ [] ≡ [] → ⊥
-    no p [] e = absurd cc
-    no p (q ∷ ps) e = absurd cc
-
-pub found_quiet : (edition : EditionYear) (text : List ℕ) → (found_in edition text).problems ≡ [] → found_in edition text ≡ (read_of edition text).1.0
+found_whole : (edition : EditionYear) (w : List ℕ) (o : Stop) → EndsAlone w o → IsBare (ended w o) → found_in edition (ended w o) ≡ (read_of edition (ended w o)).1.0
 unfolding found_in
-found_quiet edition text e = none_unended (read_of edition text).1.1.unended (read_of edition text).1.0 e
+found_whole edition w o alone p =
+    let x = ended w o in
+    let laid = (behind (length x) (inner_attributes_leads (tokens_of edition x)) (tokens_laid edition x)).laid in
+    let kept = unended_kept (through (inner_attributes_leads (tokens_of edition x)) (items_found (length x) true 128 nothing_found (behind_attributes edition x) laid).leads) in
+    ap (λ u. and_problem_at problem.Unterminated u (read_of edition x).1.0) (kept ∙ open_none edition w o alone p)
 
 -- ---- the two texts
 
@@ -130,9 +130,6 @@ pub record Joined (is_top : Bool) (left : ℕ) (edition : EditionYear) (text x y
   pub items : (read_at is_top (suc left) edition text).0 ≡ (read_at is_top (suc left) edition x).0 ++ (read_at is_top (suc left) edition y).0
   pub found : (read_at is_top (suc left) edition text).1.0 ≡ and_all (found_on d (read_at is_top (suc left) edition y).1.0) (read_at is_top (suc left) edition x).1.0
   pub unended : (read_at is_top (suc left) edition text).1.1.unended ≡ option_map (λ n. n + d) (read_at is_top (suc left) edition y).1.1.unended
-
-nothing_more : (i : ItemView) (is : List ItemView) → i ∷ is ≡ [] → ⊥
-nothing_more i is e = absurd cc
 
 module _ (is_top : Bool) (left : ℕ) (edition : EditionYear) (w : List ℕ) (o : Stop) (y : List ℕ) (alone : EndsAlone w o) (last : ends_items o ≡ true) (plain : IsBare (ended w o)) (plain' : IsBare y) (begins : BeginsAnew edition y) (short : length (w ++ stop o ∷ y) < most) where
   abbrev x : List ℕ
@@ -188,7 +185,7 @@ module _ (is_top : Bool) (left : ℕ) (edition : EditionYear) (w : List ℕ) (o 
   second_read : read_at is_top (suc left) edition y ≡ run is_top left most [] nothing_found vs
   second_read = ap (λ (p : List MetaView × Tokens). items is_top (suc left) nothing_found p.1) no_attrs ∙ items_top is_top left nothing_found vs
 
-  module _ (quiet : is_quiet (read_at is_top (suc left) edition x).1.0 ≡ true) (spent : (read_at is_top (suc left) edition x).1.1.left ≡ []) (k : parting.Kept parting.Same (Near first) (inner_attributes ts) (inner_attributes us)) where
+  module _ (calms : Calm is_top left most [] nothing_found (inner_attributes us).1) (spent : (read_at is_top (suc left) edition x).1.1.left ≡ []) (k : parting.Kept parting.Same (Near first) (inner_attributes ts) (inner_attributes us)) where
     abbrev ts' : Tokens
     ts' = (inner_attributes ts).1
 
@@ -207,7 +204,7 @@ module _ (is_top : Bool) (left : ℕ) (edition : EditionYear) (w : List ℕ) (o 
         let less = fewer (inner_attributes_leads us) in
         let sum = sizes in
         read_on is_top left first (length text) (length x) most nothing_found [] [] nothing_found nothing_found ts' us' (given_on first_given (inner_attributes_leads ts) (inner_attributes_leads us)) k.rest
-        (record { rows = refl; spans = refl; use_trees = refl; problems = refl }) (omega (arith, short)) (λ _. (first_still, (ap (λ (r : List ItemView × (Found × Tokens)). is_quiet r.1.0) (sym first_read) ∙ quiet, ap (λ (r : List ItemView × (Found × Tokens)). r.1.1.left) (sym first_read) ∙ spent)))
+        (record { rows = refl; spans = refl; use_trees = refl; problems = refl }) (omega (arith, short)) (λ _. (first_still, (calms, ap (λ (r : List ItemView × (Found × Tokens)). r.1.1.left) (sym first_read) ∙ spent)))
 
     to_left : LeadsTo ts one.rest
     to_left = through (inner_attributes_leads ts) one.leads
@@ -269,42 +266,49 @@ module _ (is_top : Bool) (left : ℕ) (edition : EditionYear) (w : List ℕ) (o 
           ∙ ap (option_map (λ n. n + by)) (sym y_unended);
     }
 
-  pub joined : (i : ItemView) (is : List ItemView) → (read_at is_top (suc left) edition x).0 ≡ i ∷ is → is_quiet (read_at is_top (suc left) edition x).1.0 ≡ true → (read_at is_top (suc left) edition x).1.1.left ≡ [] → Joined is_top left edition text x y by
-  joined i is some quiet spent =
-      by_kept (inner_attributes_until (near_parting first) (near_enters first) (near_levels first) ts us first_near)
-      (λ g. absurd (nothing_more i is (sym some ∙ ap (λ (r : List ItemView × (Found × Tokens)). r.0) (items_top is_top left nothing_found (inner_attributes us).1 ∙ run_none is_top left most [] nothing_found (inner_attributes us).1 g.none))))
-      (λ k. joins quiet spent k)
+  joined : EndsWhole is_top (suc left) edition x → Joined is_top left edition text x y by
+  joined h =
+      let us' = (inner_attributes us).1 in
+      let first = items_top is_top left nothing_found us' in
+      let laid = (behind (length x) (inner_attributes_leads us) (tokens_laid edition x)).laid in
+      let few = tokens_short edition x in
+      let less = fewer (inner_attributes_leads us) in
+      let sum = sizes in
+      let spent = all_spent is_top left edition x (omega (arith, short)) h.spent in
+      let quiet : told (run is_top left most [] nothing_found us').1.0 ≡ told (run is_top left h.turns [] nothing_found us').1.0 = ap (λ (r : List ItemView × (Found × Tokens)). told r.1.0) (sym first) ∙ ap length h.sound in
+      let calms : Calm is_top left most [] nothing_found us' =
+      calm_by is_top left (length x) h.turns most [] [] nothing_found us' laid (omega (arith, short)) h.some (omega arith) (ap (λ (r : List ItemView × (Found × Tokens)). r.1.1.left) (sym first) ∙ spent) in
+      by_kept (inner_attributes_until (near_parting (part_in edition ts.unended [] w o y)) (near_enters (part_in edition ts.unended [] w o y)) (near_levels (part_in edition ts.unended [] w o y)) ts us first_near)
+      (λ g. absurd (calm_left calms g.none)) (λ k. joins calms spent k)
 
-pub quiet_none : (f : Found) → f.problems ≡ [] → is_quiet f ≡ true
-quiet_none f e = ap (λ (ps : List Problem). not (list_any (λ _. true) ps)) e
-
-pub joined_whole : (is_top : Bool) (left : ℕ) (edition : EditionYear) (p y : List ℕ) → HoldsAt is_top (suc left) edition p → BeginsAnew edition y → length (p ++ y) < most → Joined is_top left edition (p ++ y) p y (length p)
+joined_whole : (is_top : Bool) (left : ℕ) (edition : EditionYear) (p y : List ℕ) → EndsWhole is_top (suc left) edition p → BeginsAnew edition y → length (p ++ y) < most → Joined is_top left edition (p ++ y) p y (length p)
 joined_whole is_top left edition p y h b short =
     let w = h.ends.before in
     let o = h.ends.last in
     let text_is : p ++ y ≡ w ++ stop o ∷ y = ap (λ z. z ++ y) h.ends.bytes ∙ append_assoc w (stop o ∷ []) y in
     let size : length p ≡ suc (length w) = ap length h.ends.bytes ∙ length-append w (stop o ∷ []) ∙ omega arith in
-    let back = sym h.ends.bytes in
     subst (λ (z : List ℕ). Joined is_top left edition z p y (length p)) (sym text_is)
     (subst (λ (d : ℕ). Joined is_top left edition (w ++ stop o ∷ y) p y d) (sym size)
-    (subst (λ (z : List ℕ). Joined is_top left edition (w ++ stop o ∷ y) z y (suc (length w))) back
-    (joined is_top left edition w o y h.ends.alone h.ends.ends (subst IsBare h.ends.bytes h.bare) b.bare b (subst (λ (z : List ℕ). length z < most) text_is short) h.first h.more
-    (ap (λ (z : List ℕ). (read_at is_top (suc left) edition z).0) back ∙ h.items)
-    (ap (λ (z : List ℕ). is_quiet (read_at is_top (suc left) edition z).1.0) back ∙ quiet_none (read_at is_top (suc left) edition p).1.0 h.sound)
-    (ap (λ (z : List ℕ). (read_at is_top (suc left) edition z).1.1.left) back ∙ h.spent))))
+    (subst (λ (z : List ℕ). Joined is_top left edition (w ++ stop o ∷ y) z y (suc (length w))) (sym h.ends.bytes)
+    (joined is_top left edition w o y h.ends.alone h.ends.ends (subst IsBare h.ends.bytes h.bare) b.bare b (subst (λ (z : List ℕ). length z < most) text_is short)
+    (subst (EndsWhole is_top (suc left) edition) h.ends.bytes h))))
 
 -- ---- the laws
 
-pub top_holds : TopHolds
-top_holds edition text h short = record {
-  bare = h.bare;
-  ends = h.ends;
-  first = h.first;
-  more = h.more;
-  items = h.items;
-  sound = ap (λ (f : Found). f.problems) (sym (found_quiet edition text h.sound)) ∙ h.sound;
-  spent = top_spent edition text short;
-}
-
 pub inside_join : InsideJoin
 inside_join is_top left edition p y h b short = let j = joined_whole is_top left edition p y h b short in record { items = j.items; found = j.found }
+
+found_joined : (edition : EditionYear) (text x y : List ℕ) (d : ℕ) → Joined true 127 edition text x y d → found_in edition x ≡ (read_of edition x).1.0 → found_in edition text ≡ and_all (found_on d (found_in edition y)) (found_in edition x)
+unfolding found_in
+found_joined edition text x y d j whole =
+    ap (λ u. and_problem_at problem.Unterminated u (read_of edition text).1.0) j.unended
+    ∙ ap (and_problem_at problem.Unterminated (option_map (λ n. n + d) (read_of edition y).1.1.unended)) j.found
+    ∙ unended_join d (read_of edition y).1.1.unended (read_of edition x).1.0 (read_of edition y).1.0
+    ∙ ap (and_all (found_on d (and_problem_at problem.Unterminated (read_of edition y).1.1.unended (read_of edition y).1.0))) (sym whole)
+
+pub items_join : ItemsJoin
+items_join edition x y h b short =
+    let j = joined_whole true 127 edition x y h b short in
+    let whole : found_in edition x ≡ (read_of edition x).1.0 =
+    subst (λ (z : List ℕ). found_in edition z ≡ (read_of edition z).1.0) (sym h.ends.bytes) (found_whole edition h.ends.before h.ends.last h.ends.alone (subst IsBare h.ends.bytes h.bare)) in
+    record { attrs = j.attrs; items = j.items; found = found_joined edition (x ++ y) x y (length x) j whole }

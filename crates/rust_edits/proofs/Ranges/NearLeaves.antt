@@ -1,7 +1,7 @@
 -- Items that hold none are the same in a text that ends with a `;` or a `}` and in a longer one, where they end there or before.
 use Rattle.std.specs.Option.{option_or}
 use Rattle.std.proofs.Common.{◌≡◌, ◌≤◌, ◌<◌, ◌+◌, ◌==◌, ◌&&◌, ℕ, zero, suc, Bool, true, false, Option, Some, None, List, [], ◌++◌, length, refl, sym, ap, ◌∙◌, arith, codes}
-use Rattle.rust_edits.proofs.Common.{option_map, is_some, nat_lt, bytes_eq, Visibility, AstIdKind, MetaView, PlainKind, ItemView, FieldsView, fn_kind, union_kind, enum_kind, trait_kind, macro_def_kind, type_alias_kind, static_kind, ast_kind, plain_item, const_item, struct_item, impl_item, extern_crate, use_item, macro_rules, behind_angles, behind_header, is_trait_impl, most, ExcerptRead, ends, tree_body, Reader, Tokens, symbol, word, text, bumped, eat, eat_word, is_at_open, TextRange, Placed, as_name, path, use_tree, inner_attributes, NameRead, RestRead, LeafRead, no_name, name_read, named, next_range, named_or, crate_alias, crate_alias_if, renamed, rename_of, range_to, rest_read, bare_end, item_end, impl_end, macro_end, value_end, semicolon_end, call_end, block_attributes, has_trait, node, named_node, leaf_read, plain_read, function, block_item, macro_def, type_alias, static_value, constant, structure, implementation, told_at, crate_item, use_read, use_declaration, macro_definition, union_item, enumeration, trait_item, is_called, begins_call, begins_call_same, called, call_behind, some_read, invocation, item_call, leaf_by, leaf, Head, FrontRead, nat_tests, and_parts, and_right, eq-eqb, IsSound, sound_on, IsLaid, behind, LeadsTo, here, further, through, Forwards, when, bumped_leads, eat_leads, eat_word_leads, reached_leads, behind_angles_leads, taken_leads_on, Ending, Near, Gone, nothing, bumped_onward, fewer, enough_left, more_left, at_same, past_same, taken_same, near_twins, behind_angles_near, reached_near, near_parting, UntilBy, Kept, AtEnd, is_still, Outcome, lost, stays, comes, untaken, map_outcome, then_outcome, eat_outcome, eat_fewer, gone, kept, by_next, onward_leads, by_kept, cond_until, then_until, eat_word_until, symbol_same, word_same, text_same, after_symbol, BlockNear, no_block, block, SameText, item_so, macro_so, value_so, tree_so, taken_outcome, taken_until, taken_fewer, next_past, near_enters, near_levels, path_until, path_leads, inner_attributes_until, inner_attributes_leads, fields_of, named_leads, alias_if_leads, renamed_leads, item_end_leads, impl_end_leads, macro_end_leads, value_end_leads, call_end_leads, use_tree_until, inner_some, bare, last_text_from, last_text, attributed_item}
+use Rattle.rust_edits.proofs.Common.{option_map, is_some, nat_lt, bytes_eq, Visibility, AstIdKind, MetaView, PlainKind, ItemView, FieldsView, fn_kind, union_kind, enum_kind, trait_kind, macro_def_kind, type_alias_kind, static_kind, ast_kind, plain_item, const_item, struct_item, impl_item, extern_crate, use_item, macro_rules, behind_angles, behind_header, is_trait_impl, most, ExcerptRead, ends, tree_body, Reader, Tokens, symbol, word, text, bumped, eat, eat_word, is_at_open, TextRange, Placed, as_name, path, use_tree, inner_attributes, NameRead, RestRead, LeafRead, no_name, name_read, named, next_range, named_or, crate_alias, crate_alias_if, renamed, rename_of, range_to, rest_read, bare_end, item_end, impl_end, macro_end, value_end, semicolon_end, call_end, block_attributes, has_trait, node, named_node, leaf_read, plain_read, function, block_item, macro_def, type_alias, static_value, constant, structure, implementation, told_at, crate_item, use_read, use_declaration, macro_definition, union_item, enumeration, trait_item, is_called, begins_call, begins_call_same, called, some_read, invocation, item_call, leaf_by, leaf, Head, FrontRead, nat_tests, and_parts, and_right, eq-eqb, IsSound, sound_on, IsLaid, behind, LeadsTo, here, further, through, Forwards, when, eat_leads, eat_word_leads, reached_leads, behind_angles_leads, taken_leads_on, Ending, Near, Gone, nothing, bumped_onward, fewer, enough_left, more_left, at_same, past_same, taken_same, near_twins, behind_angles_near, reached_near, near_parting, UntilBy, Kept, AtEnd, is_still, Outcome, lost, stays, comes, untaken, map_outcome, then_outcome, eat_outcome, eat_fewer, gone, kept, by_next, onward_leads, by_kept, cond_until, then_until, eat_word_until, symbol_same, word_same, text_same, after_symbol, BlockNear, no_block, block, SameText, item_so, macro_so, value_so, tree_so, taken_outcome, taken_until, taken_fewer, next_past, near_enters, near_levels, path_until, path_leads, inner_attributes_until, inner_attributes_leads, fields_of, named_leads, alias_if_leads, renamed_leads, item_end_leads, impl_end_leads, macro_end_leads, value_end_leads, call_end_leads, use_tree_until, inner_some, bare, last_text_from, last_text, attributed_item}
 use Rattle.hir_input.specs.declared.ids.AstIdKind.TheVariants as kind
 use Rattle.rust_cursor.specs.declared.cursor.generics.Reach.TheVariants as reaches
 use Rattle.rust_cursor.proofs.Enclosed.{item_enclosed, impl_enclosed}
@@ -9,6 +9,7 @@ use Rattle.rust_cursor.proofs.Near.{gone_on}
 use Rattle.rust_cursor.proofs.Twins.{open_same, word_test, after_word}
 use Rattle.rust_leaves.specs.declared.head.Head.TheVariants as heads
 use Rattle.rust_edits.proofs.Ranges.NearFronts.{FrontNear, PlacedNear, no_place, placed_near, placed_name_until, further_on, are_further, is_further}
+use Rattle.rust_edits.proofs.Ranges.Calls.{call_left}
 use Rattle.rust_edits.proofs.Ranges.NearFields.{in_order, lt_by, struct_fields_near}
 
 -- ---- places
@@ -398,11 +399,11 @@ structure_outcome b attrs v ts us g h =
 
 -- ---- macro calls
 
--- The longer text went past the end, further where what it read is ended, and what is read of the shorter one is not whole; or as above.
-pub data Ends {A : Type 0} (alike : A → A → Type 0) (ended whole : A → Bool) (b : Ending) : A × Tokens → A × Tokens → Type 0 where
-  passes : {p q : A × Tokens} → length p.1.left ≤ length b.behind → b.level ≡ false → (ended p.0 ≡ true → length p.1.left < length b.behind) → (is_still b ≡ true → whole q.0 ≡ false) → Ends alike ended whole b p q
-  before_end : {p q : A × Tokens} → Kept alike b p q → Ends alike ended whole b p q
-  at_end : {p q : A × Tokens} → alike p.0 q.0 → AtEnd b p.1 q.1 → Ends alike ended whole b p q
+-- The longer text went past the end, of the shorter one nothing is left, and what was read of it has a flaw; or as above.
+pub data Ends {A : Type 0} (alike : A → A → Type 0) (Flawed : A → Type 0) (b : Ending) : A × Tokens → A × Tokens → Type 0 where
+  passes : {p q : A × Tokens} → length p.1.left ≤ length b.behind → b.level ≡ false → q.1.left ≡ [] → (is_still b ≡ true → Flawed q.0) → Ends alike Flawed b p q
+  before_end : {p q : A × Tokens} → Kept alike b p q → Ends alike Flawed b p q
+  at_end : {p q : A × Tokens} → alike p.0 q.0 → AtEnd b p.1 q.1 → Ends alike Flawed b p q
 
 pub data SomeLeaf (b : Ending) : Option LeafRead → Option LeafRead → Type 0 where
   no_leaf : SomeLeaf b None None
@@ -413,17 +414,17 @@ leaf_ended None = false
 leaf_ended (Some l) = l.is_ended
 
 abbrev pub LeafEnds : Ending → Option LeafRead × Tokens → Option LeafRead × Tokens → Type 0
-LeafEnds b p q = Ends (SomeLeaf b) leaf_ended leaf_ended b p q
+LeafEnds b p q = Ends (SomeLeaf b) (λ o. leaf_ended o ≡ false) b p q
 
 leaf_by_outcome : {A : Type 0} {alike : A → A → Type 0} {ended : A → Bool} {b : Ending} {p q : A × Tokens} (f f' : A → LeafRead)
-    → (alike p.0 q.0 → LeafNear b (f p.0) (f' q.0)) → ((f p.0).is_ended ≡ true → ended p.0 ≡ true) → (ended q.0 ≡ false → (f' q.0).is_ended ≡ false) → Outcome alike ended b p q
+    → (alike p.0 q.0 → LeafNear b (f p.0) (f' q.0)) → (ended q.0 ≡ false → (f' q.0).is_ended ≡ false) → Outcome alike ended b p q
     → LeafEnds b (Some (f p.0), p.1) (Some (f' q.0), q.1)
-leaf_by_outcome f f' same tells untold (lost g strict never) = passes g.few g.uneven (λ e. strict (tells e)) (λ s. untold (never s))
-leaf_by_outcome f f' same tells untold (stays k) = before_end (record { value = one_leaf (same k.value); rest = k.rest })
-leaf_by_outcome f f' same tells untold (comes t a) = at_end (one_leaf (same t)) a
+leaf_by_outcome f f' same untold (lost g strict never) = passes g.few g.uneven g.none (λ s. untold (never s))
+leaf_by_outcome f f' same untold (stays k) = before_end (record { value = one_leaf (same k.value); rest = k.rest })
+leaf_by_outcome f f' same untold (comes t a) = at_end (one_leaf (same t)) a
 
 some_ends : {b : Ending} {p q : LeafRead × Tokens} → LeafOutcome b p q → LeafEnds b (some_read p) (some_read q)
-some_ends o = leaf_by_outcome (λ l. l) (λ l. l) (λ k. k) (λ e. e) (λ e. e) o
+some_ends o = leaf_by_outcome (λ l. l) (λ l. l) (λ k. k) (λ e. e) o
 
 -- what leads to tokens before the end is before it
 before_near : (b : Ending) (ts us vs ws : Tokens) → Near b ts us → Near b vs ws → (ts.past == vs.past) ≡ false → LeadsTo ts vs → Near b (bumped ts) (bumped us) × LeadsTo (bumped ts) vs
@@ -437,10 +438,6 @@ last_text_near b vs ws n (suc k) last ts us h p =
     let test : (us.past == ws.past) ≡ (ts.past == vs.past) = taken_same b vs ws ts us n h in
     when (ts.past == vs.past) (λ e. rw (test, e) refl)
     (λ e. let next = before_near b ts us vs ws h n e p in rw (test, e, text_same (near_twins b) ts us h) (last_text_near b vs ws n k (text ts) (bumped ts) (bumped us) next.0 next.1))
-
-no_call : (ts : Tokens) → ts.left ≡ [] → is_called ts ≡ false
-unfolding is_called symbol
-no_call ts e = rw e refl
 
 called_same : (b : Ending) (ts us : Tokens) → Near b ts us → is_called us ≡ is_called ts
 unfolding is_called
@@ -466,33 +463,25 @@ call_near b attrs p p' z z' r s e f k =
       use_trees = refl;
     }
 
-invocation_ends : (b : Ending) (attrs : List MetaView) (ts us : Tokens) → Near b ts us → LeafEnds b (invocation attrs ts) (invocation attrs us)
+invocation_ends : (b : Ending) (attrs : List MetaView) (ts us : Tokens) → Near b ts us → begins_call us ≡ true → LeafEnds b (invocation attrs ts) (invocation attrs us)
 unfolding invocation last_text
-invocation_ends b attrs ts us h =
+invocation_ends b attrs ts us h begins =
     by_kept (path_until (near_parting b) ts us h)
-    (λ o. let none : (is_some (path us).0 && is_called (path us).1) ≡ false = ap (λ t. is_some (path us).0 && t) (no_call (path us).1 o.none) ∙ and_right (is_some (path us).0) false refl in
-    let few = o.few in
-    when (is_some (path ts).0 && is_called (path ts).1)
-    (λ e. rw (e, none)
-    (let behind_it : LeadsTo (path ts).1 (call_end (bumped (path ts).1)).1 = further (call_end_leads (bumped (path ts).1)) in
-    let less = fewer behind_it in
-    let one = fewer (bumped_leads (path ts).1) in
-    passes {p = some_read (call_behind attrs (path ts).0 (bare (last_text_from most (path ts).1.past [] ts)) (bumped (path ts).1))} {q = (None, us)} (omega arith) o.uneven (λ f. let strict = call_end_fewer (bumped (path ts).1) f in omega arith) (λ s. refl)))
-    (λ e. rw (e, none) (before_end (record { value = no_leaf; rest = h }))))
+    (λ o. absurd (call_left us begins o.none))
     (λ k. let test : (is_some (path us).0 && is_called (path us).1) ≡ (is_some (path ts).0 && is_called (path ts).1) =
     ap (λ q. is_some q && is_called (path us).1) k.value ∙ ap (λ t. is_some (path ts).0 && t) (called_same b (path ts).1 (path us).1 k.rest) in
     when (is_some (path ts).0 && is_called (path ts).1)
     (λ e. let next = called_next b (path ts).1 (path us).1 k.rest (and_parts (is_some (path ts).0) (is_called (path ts).1) e).1 in
     rw (test, e)
     (leaf_by_outcome (called attrs (path ts).0 (bare (last_text_from most (path ts).1.past [] ts))) (called attrs (path us).0 (bare (last_text_from most (path us).1.past [] us)))
-    (λ r. call_near b attrs _ _ _ _ _ _ k.value (ap bare (last_text_near b (path ts).1 (path us).1 k.rest _ [] ts us h (path_leads ts))) r) (λ e. e) (λ e. e) (call_end_outcome b _ _ next)))
+    (λ r. call_near b attrs _ _ _ _ _ _ k.value (ap bare (last_text_near b (path ts).1 (path us).1 k.rest _ [] ts us h (path_leads ts))) r) (λ e. e) (call_end_outcome b _ _ next)))
     (λ e. rw (test, e) (before_end (record { value = no_leaf; rest = h }))))
 
 item_call_ends : (b : Ending) (attrs : List MetaView) (ts us : Tokens) → Near b ts us → LeafEnds b (item_call attrs ts) (item_call attrs us)
 unfolding item_call
 item_call_ends b attrs ts us h =
     let same = begins_call_same (near_parting b) ts us h in
-    when (begins_call ts) (λ e. rw (same, e) (invocation_ends b attrs ts us h)) (λ e. rw (same, e) (before_end (record { value = no_leaf; rest = h })))
+    when (begins_call ts) (λ e. rw (same, e) (invocation_ends b attrs ts us h (same ∙ e))) (λ e. rw (same, e) (before_end (record { value = no_leaf; rest = h })))
 
 -- ---- by the word
 

@@ -1,13 +1,11 @@
 -- A text of whole items in a longer one: the longer one is read on from its end.
-use Rattle.std.proofs.Common.{◌≡◌, ◌<◌, ◌+◌, ◌==◌, ℕ, zero, suc, Bool, true, false, Option, List, [], ◌++◌, length, sym, ap, ◌∙◌, subst, arith, append_assoc, append-nil}
-use Rattle.rust_edits.proofs.Common.{option_to_list, ItemView, beyond, Tokens, at, Found, is_list_end, turn, nat_tests, IsLaid, behind, LeadsTo, here, through, when, by_next, Ending, Near, Gone, more_left, past_same, beyond_near, AtEnd, is_still}
+use Rattle.std.proofs.Common.{◌≤◌, ◌≡◌, ◌<◌, ◌+◌, ◌==◌, ℕ, zero, suc, Bool, true, false, Option, List, [], ◌++◌, length, sym, ap, ◌∙◌, subst, arith, append_assoc, append-nil}
+use Rattle.rust_edits.proofs.Common.{nothing, beyond_leads, option_to_list, ItemView, beyond, Tokens, Found, is_list_end, turn, nat_tests, IsLaid, behind, LeadsTo, here, through, when, by_next, Ending, Near, Gone, more_left, past_same, beyond_near, AtEnd, is_still}
 use Rattle.rust_cursor.proofs.Near.{left_behind}
-use Rattle.rust_edits.proofs.Ranges.NearLeaves.{Given, given_on, Ends, passes, before_end, at_end}
-use Rattle.rust_edits.proofs.Ranges.NearItems.{top_end, FoundNear, FoundAlike, is_quiet, quiet_before, turn_whole, list_keeps, flat, is_sound}
+use Rattle.rust_edits.proofs.Ranges.NearLeaves.{Given, given_on, passes, before_end, at_end}
+use Rattle.rust_edits.proofs.Ranges.NearItems.{top_end, FoundNear, told, TurnEnds}
 use Rattle.rust_edits.proofs.Ranges.NearTurns.{turn_ends}
-use Rattle.rust_edits.proofs.Ranges.Plain.{true_false}
-use Rattle.rust_edits.proofs.Ranges.Tops.{turn_keeps}
-use Rattle.rust_edits.proofs.Ranges.Turning.{run, run_none, run_same, none_end, next_leads, next_fewer, beyond_none, turn_far}
+use Rattle.rust_edits.proofs.Ranges.Turning.{run, run_none, run_same, run_keeps, none_end, next_leads, next_fewer, beyond_none, turn_far, true_false, Calm, calm, later, calm_left, calm_next}
 
 -- what was read of the short text, and in the long one: the same items, and then what stands behind them is read, whatever number of turns is allowed
 pub record IsRead (is_top : Bool) (left : ℕ) (b : Ending) (before : Found) (done done' : List ItemView) (f : Found) (ts : Tokens) (r : List ItemView × (Found × Tokens)) : Type 0 where
@@ -67,81 +65,92 @@ module _ (is_top : Bool) (left : ℕ) (b : Ending) (n m : ℕ) where
 by_same : (i j d : ℕ) → (i == j) ≡ false → (i + d == j + d) ≡ false
 by_same i j d e = grind (arith, nat_tests)
 
+near_some : (b : Ending) (ts us : Tokens) → Near b ts us → b.level ≡ false → us.left ≡ [] → ⊥
+near_some b ts us h l none = let more = more_left b ts us l h in let same = ap length (left_behind b ts us h none) in absurd (omega arith)
+
 -- what is known of the short text where the long one goes on behind it
-abbrev IsCalm : Ending → List ItemView × (Found × Tokens) → Type 0
-IsCalm b r = b.level ≡ false → (is_still b ≡ true) × ((is_quiet r.1.0 ≡ true) × (r.1.1.left ≡ []))
+abbrev IsCalm : Bool → ℕ → Ending → ℕ → List ItemView → Found → Tokens → Type 0
+IsCalm is_top left b k done f us = b.level ≡ false → (is_still b ≡ true) × (Calm is_top left k done f us × ((run is_top left k done f us).1.1.left ≡ []))
 
 -- it is read on with so many turns at most
 abbrev ReadsOnward : Bool → ℕ → Ending → ℕ → ℕ → ℕ → Type 0
 ReadsOnward is_top left b n m k =
-    (before : Found) (done done' : List ItemView) (f g : Found) (ts us : Tokens) → Given n m ts us → Near b ts us → FoundNear b before f g → length us.left < k → IsCalm b (run is_top left k done' g us)
+    (before : Found) (done done' : List ItemView) (f g : Found) (ts us : Tokens) → Given n m ts us → Near b ts us → FoundNear b before f g → length us.left < k → IsCalm is_top left b k done' g us
     → IsRead is_top left b before done done' f ts (run is_top left k done' g us)
 
 -- with one turn more
-module _ (is_top : Bool) (left : ℕ) (b : Ending) (n m k : ℕ) (more : ReadsOnward is_top left b n m k) (before : Found) (done done' : List ItemView) (f g : Found) (ts us : Tokens) (given : Given n m ts us) (h : Near b ts us) (few : length us.left < suc k) where
+module _ (is_top : Bool) (left : ℕ) (b : Ending) (n m k : ℕ) (more : ReadsOnward is_top left b n m k) (before : Found) (done done' : List ItemView) (f g : Found) (ts us : Tokens) (given : Given n m ts us) (h : Near b ts us) (few : length us.left < suc k)
+    (going : is_list_end is_top us ≡ false) (calms : IsCalm is_top left b (suc k) done' g us) where
   abbrev next : Tokens
   next = beyond ts.past (turn (suc left) f ts).1.1
 
   abbrev next' : Tokens
   next' = beyond us.past (turn (suc left) g us).1.1
 
+  abbrev all' : List ItemView
+  all' = done' ++ option_to_list (turn (suc left) g us).0
+
   abbrev rest : List ItemView × (Found × Tokens)
-  rest = run is_top left k (done' ++ option_to_list (turn (suc left) g us).0) (turn (suc left) g us).1.0 next'
+  rest = run is_top left k all' (turn (suc left) g us).1.0 next'
 
-  some : is_list_end is_top us ≡ false → is_list_end is_top ts ≡ false
-  some e = sym (top_end is_top b ts us h) ∙ e
+  some : is_list_end is_top ts ≡ false
+  some = sym (top_end is_top b ts us h) ∙ going
 
-  -- no problem was told by the turn
-  quiet : is_quiet rest.1.0 ≡ true → is_quiet (turn (suc left) g us).1.0 ≡ true
-  quiet q =
-      when (is_quiet (turn (suc left) g us).1.0) (λ e. e)
-      (λ e. absurd (true_false q (quiet_before (list_keeps (is_list_end is_top) (turn (suc left)) (turn_keeps (suc left)) k (done' ++ option_to_list (turn (suc left) g us).0) (turn (suc left) g us).1.0 next') e)))
+  -- where nothing is left behind the turn, no problem was told by it
+  last_quiet : Calm is_top left (suc k) done' g us → next'.left ≡ [] → told rest.1.0 ≤ told g
+  last_quiet (later e c) none = absurd (calm_left c none)
+  last_quiet (calm first quiet) none = rw going at quiet
+
+  none_next : (turn (suc left) g us).1.1.left ≡ [] → next'.left ≡ []
+  none_next none = nothing (beyond_leads us.past (turn (suc left) g us).1.1) none
+
+  turn_quiet : told rest.1.0 ≤ told g → told (turn (suc left) g us).1.0 ≤ told g
+  turn_quiet quiet = let keeps = run_keeps is_top left k all' (turn (suc left) g us).1.0 next' in omega arith
 
   -- so it took a token
-  taken' : is_quiet rest.1.0 ≡ true → next' ≡ (turn (suc left) g us).1.1
-  taken' q = beyond_none us.past (turn (suc left) g us).1.1 (turn_far (suc left) m g us given.short.laid (quiet q))
+  taken' : told rest.1.0 ≤ told g → next' ≡ (turn (suc left) g us).1.1
+  taken' q = beyond_none us.past (turn (suc left) g us).1.1 (turn_far (suc left) m g us given.short.laid (turn_quiet q))
 
-  taken : (turn (suc left) f ts).1.1.past ≡ (turn (suc left) g us).1.1.past + b.by → is_quiet rest.1.0 ≡ true → next ≡ (turn (suc left) f ts).1.1
+  taken : (turn (suc left) f ts).1.1.past ≡ (turn (suc left) g us).1.1.past + b.by → told rest.1.0 ≤ told g → next ≡ (turn (suc left) f ts).1.1
   taken e q =
       beyond_none ts.past (turn (suc left) f ts).1.1
       (ap (λ z. z == ts.past) e ∙ ap (λ z. (turn (suc left) g us).1.1.past + b.by == z) (past_same b ts us h)
-      ∙ by_same (turn (suc left) g us).1.1.past us.past b.by (turn_far (suc left) m g us given.short.laid (quiet q)))
+      ∙ by_same (turn (suc left) g us).1.1.past us.past b.by (turn_far (suc left) m g us given.short.laid (turn_quiet q)))
 
-  not_into : (w : Near b (turn (suc left) f ts).1.1 (turn (suc left) g us).1.1) → is_quiet rest.1.0 ≡ true → Gone b next next' → ⊥
-  not_into w q o =
-      let less = o.few in
-      let more_there = more_left b (turn (suc left) f ts).1.1 (turn (suc left) g us).1.1 o.uneven w in
-      let whole : length next.left ≡ length (turn (suc left) f ts).1.1.left = ap (λ (t : Tokens). length t.left) (taken (past_same b _ _ w) q) in
-      absurd (omega arith)
+  not_into : Near b (turn (suc left) f ts).1.1 (turn (suc left) g us).1.1 → Gone b next next' → ⊥
+  not_into w o = let q = last_quiet (calms o.uneven).1.0 o.none in near_some b _ _ w o.uneven (ap (λ (t : Tokens). t.left) (sym (taken' q)) ∙ o.none)
 
-  stepped : is_list_end is_top us ≡ false → IsCalm b rest → Ends (FoundAlike b before) (is_sound (at ts)) turn_whole b (flat (turn (suc left) f ts)) (flat (turn (suc left) g us)) → IsRead is_top left b before done done' f ts rest
-  stepped e calm (passes short uneven strict never) = let c = calm uneven in absurd (true_false (quiet c.1.0) (never c.0))
-  stepped e calm (before_end w) =
+  still_calm : Near b next next' → IsCalm is_top left b k all' (turn (suc left) g us).1.0 next'
+  still_calm close l = let c = calms l in (c.0, (calm_next is_top left m k done' g us going (near_some b next next' close l) c.1.0, rw going at c.1.1))
+
+  stepped : TurnEnds b before g (turn (suc left) f ts) (turn (suc left) g us) → IsRead is_top left b before done done' f ts rest
+  stepped (passes short uneven none never) =
+      let c = calms uneven in let q = turn_quiet (last_quiet c.1.0 (none_next none)) in let more_told : told g < told (turn (suc left) g us).1.0 = never c.0 in absurd (omega arith)
+  stepped (before_end w) =
       by_next (beyond_near b ts us (turn (suc left) f ts).1.1 (turn (suc left) g us).1.1 h w.rest)
-      (λ o. absurd (not_into w.rest (calm o.uneven).1.0 o))
-      (λ near. let less = next_fewer is_top left m g us given.short.laid e in
-      one_more is_top left b n m before done done' f g ts (turn (suc left) g us).0 rest given.laid (some e) w.value.value
-      (more before (done ++ option_to_list (turn (suc left) f ts).0) (done' ++ option_to_list (turn (suc left) g us).0) (turn (suc left) f ts).1.0 (turn (suc left) g us).1.0 next next'
-      (given_on given (next_leads is_top left n f ts given.laid) (next_leads is_top left m g us given.short.laid)) near w.value.found (omega arith) calm))
-  stepped e calm (at_end t a) =
-      let c = (calm a.uneven).1.0 in
-      let next_is = taken a.past c in
-      let next_is' = taken' c in
-      let none : next'.left ≡ [] = ap (λ (t : Tokens). t.left) next_is' ∙ a.none in
+      (λ o. absurd (not_into w.rest o))
+      (λ near. let less = next_fewer is_top left m g us given.short.laid going in
+      one_more is_top left b n m before done done' f g ts (turn (suc left) g us).0 rest given.laid some w.value.value
+      (more before (done ++ option_to_list (turn (suc left) f ts).0) all' (turn (suc left) f ts).1.0 (turn (suc left) g us).1.0 next next'
+      (given_on given (next_leads is_top left n f ts given.laid) (next_leads is_top left m g us given.short.laid)) near w.value.found (omega arith) (still_calm near)))
+  stepped (at_end t a) =
+      let q = last_quiet (calms a.uneven).1.0 (none_next a.none) in
+      let next_is = taken a.past q in
+      let next_is' = taken' q in
+      let none = none_next a.none in
       let laid = (behind n (next_leads is_top left n f ts given.laid) given.laid).laid in
       let spent : AtEnd b next next' = record { behind = ap (λ (t : Tokens). t.left) next_is ∙ a.behind; none = none; past = ap (λ (t : Tokens). t.past) next_is ∙ a.past ∙ ap (λ (t : Tokens). t.past + b.by) (sym next_is'); uneven = a.uneven } in
-      one_more is_top left b n m before done done' f g ts (turn (suc left) g us).0 rest given.laid (some e) t.value
-      (subst (λ (z : List ItemView × (Found × Tokens)). IsRead is_top left b before (done ++ option_to_list (turn (suc left) f ts).0) (done' ++ option_to_list (turn (suc left) g us).0) (turn (suc left) f ts).1.0 next z)
-      (sym (run_none is_top left k (done' ++ option_to_list (turn (suc left) g us).0) (turn (suc left) g us).1.0 next' none))
-      (ended_here is_top left b n m before (done ++ option_to_list (turn (suc left) f ts).0) (done' ++ option_to_list (turn (suc left) g us).0) (turn (suc left) f ts).1.0 (turn (suc left) g us).1.0 next next' laid t.found
+      one_more is_top left b n m before done done' f g ts (turn (suc left) g us).0 rest given.laid some t.value
+      (subst (λ (z : List ItemView × (Found × Tokens)). IsRead is_top left b before (done ++ option_to_list (turn (suc left) f ts).0) all' (turn (suc left) f ts).1.0 next z)
+      (sym (run_none is_top left k all' (turn (suc left) g us).1.0 next' none))
+      (ended_here is_top left b n m before (done ++ option_to_list (turn (suc left) f ts).0) all' (turn (suc left) f ts).1.0 (turn (suc left) g us).1.0 next next' laid t.found
       (none_end is_top next' none) (λ l. spent) (λ l. absurd (true_false l a.uneven))))
 
 pub read_on : (is_top : Bool) (left : ℕ) (b : Ending) (n m k : ℕ) → ReadsOnward is_top left b n m k
-read_on is_top left b n m zero before done done' f g ts us given h a few calm = absurd (omega arith)
-read_on is_top left b n m (suc k) before done done' f g ts us given h a few calm =
+read_on is_top left b n m zero before done done' f g ts us given h a few calms = absurd (omega arith)
+read_on is_top left b n m (suc k) before done done' f g ts us given h a few calms =
     when (is_list_end is_top us)
     (λ e. rw e
     (ended_here is_top left b n m before done done' f g ts us given.laid a e
-    (λ l. let none : us.left ≡ [] = rw e at (calm l).1.1 in record { behind = left_behind b ts us h none; none = none; past = past_same b ts us h; uneven = l }) (λ l. h)))
-    (λ e. rw e
-    (stepped is_top left b n m k (read_on is_top left b n m k) before done done' f g ts us given h few e (λ l. ((calm l).0, (rw e at (calm l).1.0, rw e at (calm l).1.1))) (turn_ends n m left b before f g ts us given h a)))
+    (λ l. let c = calms l in let none : us.left ≡ [] = rw e at c.1.1 in absurd (calm_left c.1.0 none)) (λ l. h)))
+    (λ e. rw e (stepped is_top left b n m k (read_on is_top left b n m k) before done done' f g ts us given h few e calms (turn_ends n m left b before f g ts us given h a)))

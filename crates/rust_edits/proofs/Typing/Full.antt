@@ -1,8 +1,8 @@
 -- No character of a text of UTF-8 is cut off, with returns or without them.
-use Rattle.rust_edits.proofs.Common.{nat_le, nat_lt, slice_index, behind_lead, is_full, is_continuation, is_return, with_feeds, common_steps, and_parts, nat_tests, when, ltb-true, ltb-false}
-use lib.Utf8.{scalars, scalar, next, encode, encodes, scalar_cases}
+use Rattle.rust_edits.proofs.Common.{nat_lt, slice_index, is_full, is_continuation, is_return, with_feeds, common_steps, and_parts, nat_tests, when, ltb-true}
+use lib.Utf8.{scalars, scalar, next, encode, encodes}
 use Rattle.rust_lexer.proofs.Full.{below, full_char, full_low}
-use Rattle.std.proofs.Common.{◌≡◌, ◌⊎◌, ◌+◌, ◌/◌, ◌<◌, ◌≤◌, ◌==◌, ℕ, true, false, List, [], ◌∷◌, ◌++◌, length, IsUtf8, refl, sym, ap, ◌∙◌, subst, arith}
+use Rattle.std.proofs.Common.{◌≡◌, ◌+◌, ◌/◌, ◌<◌, ◌≤◌, ◌==◌, ℕ, true, false, List, [], ◌∷◌, ◌++◌, IsUtf8, refl, sym, ap, ◌∙◌, subst, arith}
 
 -- ---- one character
 

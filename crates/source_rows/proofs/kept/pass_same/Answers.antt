@@ -1,6 +1,7 @@
 use Rattle.std.proofs.Common.{◌∙◌, subst, sym}
 use Rattle.source_rows.specs.Inner.{ComeBehind}
-use Rattle.source_rows.proofs.Alike.{come_behind, left_alike, same_docs}
+use Rattle.source_rows.proofs.Alike.{left_alike, same_docs}
+use Rattle.source_rows.proofs.Holes.{come_behind}
 use Rattle.source_rows.proofs.kept.pass_same.Goals as goal
 
 pub returns-clause-same : goal.returns-clause-same

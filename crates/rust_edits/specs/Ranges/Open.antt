@@ -1,0 +1,110 @@
+-- An item that goes on up to the end of a text, and the item that begins behind it.
+use Rattle.std.specs.Prelude.{◌≡◌, ◌<◌, ℕ, ◌+◌, ◌==◌, Bool, true, false, not, ◌&&◌, ◌||◌, List, [], ◌∷◌, ◌++◌, length, map, codes, bytes_eq}
+use Rattle.hir_input.specs.declared.edition.EditionYear.{EditionYear}
+use Rattle.hir_input.specs.Syntax.{ItemView}
+use Rattle.rust_lexer.specs.declared.kind.DocStyle.TheVariants.{Inner}
+use Rattle.rust_lexer.specs.Alone.{moved}
+use Rattle.rust_lexer.specs.Piece.{Piece}
+use Rattle.rust_lexer.specs.Symbol.{symbol_of}
+use Rattle.rust_lexer.specs.Tokens.{is_nil, tokens}
+use Rattle.rust_cursor.specs.Elements.{most}
+use Rattle.rust_cursor.specs.Extents.{begins_item, is_item_word}
+use Rattle.rust_cursor.specs.Nests.{count_behind}
+use Rattle.rust_cursor.specs.Tokens.{Tokens, end_of, tokens_of}
+use Rattle.rust_cursor.specs.Words.{documents, eat_word, is_at_end, word_by}
+use Rattle.rust_paths.specs.UseTrees.{use_tree}
+use Rattle.rust_metas.specs.Attributes.{is_behind}
+use Rattle.rust_leaves.specs.declared.head.Head.{Head}
+use Rattle.rust_leaves.specs.declared.head.Head.TheVariants as heads
+use Rattle.rust_leaves.specs.Fronts.{front}
+use Rattle.rust_leaves.specs.Leaves.{named, named_or, renamed}
+use Rattle.rust_items.specs.Found.{Found, and_all}
+use Rattle.rust_items.specs.SourceFiles.{found_in, read_of}
+use Rattle.rust_edits.specs.Ranges.Joined.{EndsWhole, BeginsAnew, found_on}
+
+-- ---- tokens of an item behind its name
+
+-- a word with which an item may begin
+abbrev pub is_first : List ℕ → Bool
+is_first w =
+    is_item_word w || (bytes_eq w (codes "use") || (bytes_eq w (codes "static") || (bytes_eq w (codes "fn") || (bytes_eq w (codes "type") || (bytes_eq w (codes "macro")
+    || (bytes_eq w (codes "union") || (bytes_eq w (codes "macro_rules") || bytes_eq w (codes "extern"))))))))
+
+-- one with which an item may begin in no bracket
+abbrev pub is_first_outside : List ℕ → Bool
+is_first_outside w = bytes_eq w (codes "impl") || (bytes_eq w (codes "unsafe") || bytes_eq w (codes "const"))
+
+-- `#`, `;` and braces
+abbrev pub is_border : ℕ → Bool
+is_border c = c == 35 || (c == 59 || (c == 123 || c == 125))
+
+-- in so many brackets no item begins or ends with this token, whatever stands behind it
+abbrev pub is_inner : ℕ → Piece → Bool
+is_inner depth t =
+    not (documents t.kind) && (not (is_border (symbol_of t)) && (not (is_first (word_by t.kind t.text)) && not (depth == 0 && is_first_outside (word_by t.kind t.text))))
+
+-- nor with any of these, which close as many brackets as they depth
+abbrev pub are_inner : ℕ → List Piece → Bool
+are_inner depth [] = depth == 0
+are_inner depth (t ∷ ts) = is_inner depth t && are_inner (count_behind depth (symbol_of t)) ts
+
+-- ---- an item of which the end is not written
+
+-- what is left behind its name, or behind its use tree
+abbrev pub behind_name : Head → Tokens → Tokens
+behind_name heads.Use ts = (use_tree ts).1
+behind_name heads.ExternCrate ts = (renamed (named_or (codes "self") ts).1).1
+behind_name heads.Impl ts = ts
+behind_name heads.Static ts = (named (eat_word (codes "mut") ts).1).1
+behind_name heads.Const ts = (eat_word (codes "_") (named ts).1).1
+behind_name _ ts = (named ts).1
+
+-- it goes on to the end of the text with these tokens
+abbrev pub reaches_end : Head → List Piece → Bool
+reaches_end heads.Use ts = is_nil ts
+reaches_end heads.ExternCrate ts = is_nil ts
+reaches_end heads.Module ts = is_nil ts
+reaches_end heads.Fn ts = are_inner 0 ts
+reaches_end heads.Impl ts = are_inner 0 ts
+reaches_end heads.Trait ts = are_inner 0 ts
+reaches_end heads.Struct ts = are_inner 0 ts
+reaches_end heads.Union ts = are_inner 0 ts
+reaches_end heads.Enum ts = are_inner 0 ts
+reaches_end heads.Const ts = are_inner 0 ts
+reaches_end heads.Static ts = are_inner 0 ts
+reaches_end heads.TypeAlias ts = are_inner 0 ts
+reaches_end _ ts = false
+
+-- the place behind the last of these tokens, or this one
+abbrev pub end_behind : ℕ → List Piece → ℕ
+end_behind past [] = past
+end_behind past (t ∷ ts) = end_behind (end_of t) ts
+
+-- A text is such an item, of which the end is not written, and another begins with a word that begins an item: no token reaches from the first
+-- into the second, and the first ends with a token.
+pub record IsOpenItem (edition : EditionYear) (text y : List ℕ) : Type 0 where
+  pub parted : tokens (text ++ y) ≡ tokens text ++ map (moved (length text)) (tokens y)
+  pub ends : end_behind 0 (tokens_of edition text).left ≡ length text
+  pub begins : begins_item (tokens_of edition y) ≡ true
+  pub outer : is_behind Inner (tokens_of edition (text ++ y)) ≡ true
+  pub outer_behind : is_behind Inner (tokens_of edition y) ≡ true
+  pub item : is_at_end (tokens_of edition (text ++ y)) ≡ false
+  pub rest : List Piece
+  pub left : (behind_name (front (tokens_of edition (text ++ y))).0.head (front (tokens_of edition (text ++ y))).1).left ≡ rest ++ map (moved (length text)) (tokens_of edition y).left
+  pub reaches : reaches_end (front (tokens_of edition (text ++ y))).0.head rest ≡ true
+
+-- What is read of a text ends with what is read of another, which stands so much further on.
+pub record ReadsOn (edition : EditionYear) (text : List ℕ) (d : ℕ) (y : List ℕ) : Type 0 where
+  pub first : List ItemView
+  pub items : (read_of edition text).0 ≡ first ++ (read_of edition y).0
+  pub before : Found
+  pub found : found_in edition text ≡ and_all (found_on d (found_in edition y)) before
+
+-- nothing, or a text that ends with a whole item, in front of another
+pub data StandsBefore (edition : EditionYear) : List ℕ → List ℕ → Type 0 where
+  nothing_before : (text : List ℕ) → StandsBefore edition [] text
+  whole_before : (p text : List ℕ) → EndsWhole true 128 edition p → BeginsAnew edition text → StandsBefore edition p text
+
+-- So an item ends before the word that begins the next one, which is read as alone.
+abbrev pub OpenItemEnds : Type 0
+OpenItemEnds = (edition : EditionYear) (p x y : List ℕ) → StandsBefore edition p (x ++ y) → IsOpenItem edition x y → length (p ++ (x ++ y)) < most → ReadsOn edition (p ++ (x ++ y)) (length p + length x) y
