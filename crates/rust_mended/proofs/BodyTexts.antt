@@ -20,7 +20,7 @@ use Rattle.rust_mended.specs.declared.mark.Mark.{Mark}
 use Rattle.rust_mended.specs.declared.mark.MarkKind.{MarkKind}
 use Rattle.rust_mended.specs.declared.mark.MarkKind.TheVariants as mark
 use Rattle.rust_mended.specs.declared.mark.Opened.{Opened}
-use Rattle.rust_mended.specs.Inside.{AreMendedAround, HasEdits, KeepEachOther, MayStandIn, before_opener, braced, closer_line, is_further_out, open_behind, opener, opener_line, place_grown}
+use Rattle.rust_mended.specs.Inside.{AreMendedAround, KeepEachOther, MayStandIn, before_opener, braced, closer_line, is_further_out, open_behind, opener, opener_line, place_grown}
 use Rattle.rust_mended.specs.Marks.{last, line_behind_all, marks, marks_from, text_begin}
 use Rattle.rust_mended.specs.Mended.{all_written, closers_reaching, keeps, kept_if, written_from}
 use Rattle.rust_mended.specs.Steps.{EditsFit}
@@ -303,7 +303,7 @@ module _ (q s : List ℕ) (indent : ℕ) where
         ∙ ap (λ ts. flat_map mending_edit (all_written (end_inside + from) ts)) (all_on from (inner_marks q m))
         ∙ all_changed_written (λ k. k + from) (same_on from) end_inside (inner_marks q m)
 
-    text_edits : edits text ≡ edits_before ++ (map (on from) edits_inner ++ map grow_edit edits_after)
+    pub text_edits : edits text ≡ edits_before ++ (map (on from) edits_inner ++ map grow_edit edits_after)
     unfolding edits
     text_edits =
         ap (λ ts. flat_map mending_edit (all_written (last text) ts)) marks_are
@@ -334,16 +334,11 @@ module _ (q s : List ℕ) (indent : ℕ) where
         ∙ edits_over_one q 123 (m ++ 125 ∷ s) at behind_edits l
         ∙ ap (λ z. drop at q ++ 123 ∷ z) from_inside
 
-    text_is : mended_text text ≡ braced (with_edits q 0 edits_before) (with_edits m 0 edits_inner) (with_edits s 0 after)
+    pub text_is : mended_text text ≡ braced (with_edits q 0 edits_before) (with_edits m 0 edits_inner) (with_edits s 0 after)
     unfolding mended_text
     text_is =
         ap (with_edits text 0) text_edits
         ∙ edits_both (λ p. p ≤ length q) q (123 ∷ (m ++ 125 ∷ s)) (123 ∷ (with_edits m 0 edits_inner ++ 125 ∷ with_edits s 0 after)) (map (on from) edits_inner ++ map grow_edit edits_after) (λ p l. l) from_opener 0 edits_before (omega arith) before_fit
-
-    pub has_edits : HasEdits q m s edits_before edits_inner edits_after
-    has_edits =
-        let far_on : suc from ≡ length q + 2 = omega arith in
-        record { told = text_edits; text = text_is ∙ ap (λ k. braced (with_edits q 0 edits_before) (with_edits m 0 edits_inner) (with_edits s 0 (map (back k) edits_after))) far_on }
 
 -- ---- two texts
 
@@ -358,7 +353,10 @@ mended_around q m n s h =
       before = edits_before q s i;
       inside = edits_inner q s i m stood h.stood refl h.within;
       inside_then = edits_inner q s i n stands h.stands (sym h.indent) near;
+      after = after q s i;
       behind = edits_after q s i;
-      stood = has_edits q s i m stood h.stood refl h.within;
-      stands = has_edits q s i n stands h.stands (sym h.indent) near;
+      told = text_edits q s i m stood h.stood refl h.within;
+      told_then = text_edits q s i n stands h.stands (sym h.indent) near;
+      stood = text_is q s i m stood h.stood refl h.within;
+      stands = text_is q s i n stands h.stands (sym h.indent) near;
     }

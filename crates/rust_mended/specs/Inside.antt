@@ -1,5 +1,5 @@
 -- What stands in braces that keep each other.
-use Rattle.std.specs.Prelude.{◌≡◌, ℕ, zero, suc, Bool, true, false, ◌+◌, ◌-◌, ◌&&◌, if◌then◌else◌, List, [], ◌∷◌, ◌++◌, length, map, Some, flat_map, nat_eq, nat_lt}
+use Rattle.std.specs.Prelude.{◌≡◌, ℕ, zero, suc, Bool, true, false, ◌+◌, ◌&&◌, if◌then◌else◌, List, [], ◌∷◌, ◌++◌, length, map, Some, flat_map, nat_eq, nat_lt}
 use Rattle.rust_lexer.specs.declared.kind.TokenKind.TheVariants as kind
 use Rattle.rust_lexer.specs.Alone.{StandsAlone, is_full, moved, overhang, tokens_in_front}
 use Rattle.rust_lexer.specs.Piece.{Piece}
@@ -102,17 +102,20 @@ pub record MayStandIn (q m n s : List ℕ) : Type 0 where
 abbrev pub place_grown : ℕ → ℕ → ℕ → ℕ
 place_grown from n at = if nat_lt at from then at else at + n
 
--- The edits of a text in braces are those before the `{`, those in the braces, by places in what stands there, and those behind the `}`, by
--- places in the text with nothing in the braces.
-pub record HasEdits (q m s : List ℕ) (before inside behind : List Edit) : Type 0 where
-  pub told : edits (braced q m s) ≡ before ++ (map (edit_moved (λ at. at + suc (length q))) inside ++ map (edit_moved (place_grown (suc (length q)) (length m))) behind)
-  pub text : mended_text (braced q m s) ≡ braced (with_edits q 0 before) (with_edits m 0 inside) (with_edits s 0 (map (edit_moved (λ at. at - (length q + 2))) behind))
+-- Of a text in braces these are the edits: those before the `{`, those in the braces, by places in what stands there, and those behind the
+-- `}`, by places in the text with nothing in the braces.
+abbrev pub HasEdits : List ℕ → List ℕ → List ℕ → List Edit → List Edit → List Edit → Type 0
+HasEdits q m s before inside behind =
+    edits (braced q m s) ≡ before ++ (map (edit_moved (λ at. at + suc (length q))) inside ++ map (edit_moved (place_grown (suc (length q)) (length m))) behind)
 
--- both have the same edits around the braces
+-- Both are mended alike but for what stands in the braces, and what is told around them is the same.
 pub record AreMendedAround (q m n s : List ℕ) : Type 0 where
   pub before : List Edit
   pub inside : List Edit
   pub inside_then : List Edit
+  pub after : List Edit
   pub behind : List Edit
-  pub stood : HasEdits q m s before inside behind
-  pub stands : HasEdits q n s before inside_then behind
+  pub told : HasEdits q m s before inside behind
+  pub told_then : HasEdits q n s before inside_then behind
+  pub stood : mended_text (braced q m s) ≡ braced (with_edits q 0 before) (with_edits m 0 inside) (with_edits s 0 after)
+  pub stands : mended_text (braced q n s) ≡ braced (with_edits q 0 before) (with_edits n 0 inside_then) (with_edits s 0 after)
