@@ -56,10 +56,10 @@ map_still : {A : Type 0} (on : A → A) → ((a : A) → on a ≡ a) → (l : Li
 map_still on e [] = refl
 map_still on e (a ∷ l) = ap (λ b. b ∷ map on l) (e a) ∙ ap (λ m. a ∷ m) (map_still on e l)
 
-abbrev found : List Row → List Span → List ℕ → List Problem → Found
+abbrev pub found : List Row → List Span → List ℕ → List Problem → Found
 found rows spans use_trees problems = record { rows = rows; spans = spans; use_trees = use_trees; problems = problems }
 
-found_same : (rows rows' : List Row) (spans spans' : List Span) (trees trees' : List ℕ) (problems problems' : List Problem) → rows ≡ rows' → spans ≡ spans' → trees ≡ trees' → problems ≡ problems'
+pub found_same : (rows rows' : List Row) (spans spans' : List Span) (trees trees' : List ℕ) (problems problems' : List Problem) → rows ≡ rows' → spans ≡ spans' → trees ≡ trees' → problems ≡ problems'
     → found rows spans trees problems ≡ found rows' spans' trees' problems'
 found_same rows rows' spans spans' trees trees' problems problems' a b c d = rw (a, b, c, d) refl
 

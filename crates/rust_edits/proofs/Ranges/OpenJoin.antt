@@ -12,7 +12,7 @@ use Rattle.rust_edits.specs.Ranges.Open.{IsOpenItem, OpenItemEnds, ReadsOn, Stan
 use Rattle.rust_edits.proofs.Ranges.Alone.{start_near}
 use Rattle.rust_edits.proofs.Ranges.Behind.{last_moved}
 use Rattle.rust_edits.proofs.Ranges.Inner.{no_inner}
-use Rattle.rust_edits.proofs.Ranges.Joins.{edition_stays, found_both, items_join, items_top, level_at, level_near, unended_join}
+use Rattle.rust_edits.proofs.Ranges.Joins.{edition_stays, found_same, found_both, items_join, items_top, level_at, level_near, unended_join}
 use Rattle.rust_edits.proofs.Ranges.NearItems.{top_end, front_leads}
 use Rattle.rust_edits.proofs.Ranges.NearLeaves.{Given}
 use Rattle.rust_edits.proofs.Ranges.Onward.{IsRead, read_on}
@@ -295,14 +295,10 @@ both_on f g h e (a ∷ l) = ap (λ b. b ∷ map f (map g l)) (e a) ∙ ap (λ m.
 joined_on : {A : Type 0} (f g h : A → A) → ((a : A) → f (g a) ≡ h a) → (p q l : List A) → p ++ map f (q ++ map g l) ≡ (p ++ map f q) ++ map h l
 joined_on f g h e p q l = ap (λ m. p ++ m) (map-append f q (map g l) ∙ ap (λ m. map f q ++ m) (both_on f g h e l)) ∙ sym (append_assoc p (map f q) (map h l))
 
-found_of : (rows rows' : List Row) (spans spans' : List Span) (trees trees' : List ℕ) (problems problems' : List Problem) → rows ≡ rows' → spans ≡ spans' → trees ≡ trees' → problems ≡ problems'
-    → ◌≡◌ {A = Found} (record { rows = rows; spans = spans; use_trees = trees; problems = problems }) (record { rows = rows'; spans = spans'; use_trees = trees'; problems = problems' })
-found_of rows rows' spans spans' trees trees' problems problems' a b c d = rw (a, b, c, d) refl
-
 -- what is found of three texts
 found_three : (m n : ℕ) (f g h : Found) → and_all (found_on m (and_all (found_on n h) g)) f ≡ and_all (found_on (m + n) h) (and_all (found_on m g) f)
 found_three m n f g h =
-    found_of _ _ _ _ _ _ _ _ (sym (append_assoc f.rows g.rows h.rows)) (joined_on _ _ _ (spans_on m n) f.spans g.spans h.spans)
+    found_same _ _ _ _ _ _ _ _ (sym (append_assoc f.rows g.rows h.rows)) (joined_on _ _ _ (spans_on m n) f.spans g.spans h.spans)
     (joined_on _ _ _ (places_on m n) f.use_trees g.use_trees h.use_trees) (joined_on _ _ _ (problems_on m n) f.problems g.problems h.problems)
 
 open_ends : (edition : EditionYear) (p x y : List ℕ) → IsOpenItem edition x y → length (p ++ (x ++ y)) < most → StandsBefore edition p (x ++ y) → ReadsOn edition (p ++ (x ++ y)) (length p + length x) y
