@@ -9,8 +9,8 @@ use Rattle.rust_mended.specs.Mended.{closers_reaching}
 use Rattle.rust_mended.specs.Texts.{is_matched, mended_text}
 use Rattle.rust_items.specs.LineEnds.{with_feeds}
 use Rattle.rust_items.specs.SourceFiles.{found_in}
-use Rattle.rust_edits.specs.Ranges.Joined.{EndsWhole, BeginsAnew, ReadsBoth}
-use Rattle.rust_edits.specs.Ranges.Open.{IsOpenItem, ReadsOn, StandsBefore}
+use Rattle.rust_edits.specs.Beside.Joined.{EndsWhole, BeginsAnew, ReadsBoth}
+use Rattle.rust_edits.specs.Beside.Open.{IsOpenItem, ReadsOn, StandsBefore}
 
 -- a problem is told of a text
 abbrev pub is_told : EditionYear → List ℕ → Bool

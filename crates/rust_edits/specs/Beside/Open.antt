@@ -20,7 +20,7 @@ use Rattle.rust_leaves.specs.Fronts.{front}
 use Rattle.rust_leaves.specs.Leaves.{named, named_or, renamed}
 use Rattle.rust_items.specs.Found.{Found, and_all}
 use Rattle.rust_items.specs.SourceFiles.{found_in, read_of}
-use Rattle.rust_edits.specs.Ranges.Joined.{EndsWhole, BeginsAnew, found_on}
+use Rattle.rust_edits.specs.Beside.Joined.{EndsWhole, BeginsAnew, found_on}
 
 -- ---- tokens of an item behind its name
 

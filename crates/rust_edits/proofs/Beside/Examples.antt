@@ -3,9 +3,9 @@ use Rattle.std.proofs.Common.{◌<◌, subst, arith, length, map, ◌++◌, ◌�
 use Rattle.rust_edits.proofs.Common.{with_feeds, moved, begins_item, option_to_list, beyond, slice_index, EditionYear, MetaView, ItemView, Inner, semicolon, closing, is_continuation, is_wide_start, is_wide_continue, first_cut, Piece, tokens, most, goes_on, Tokens, tokens_of, symbol, word, text, kind, at, is_empty, is_at_end, bumped, eat, plain_name, is_keyword, is_path_keyword, next_name, name, placed_name, is_behind, is_doc, is_attribute, inner_attributes, is_modifier, is_modifier_before, is_weak_before, head, head_by, FrontRead, front, named, Found, nothing_found, items, by_head, inside, turn, depth_of, behind_attributes, read_of, IsBare, EndsWhole, BeginsAnew, EndsOwn, is_list_end, finding, finding_from, tokens_at}
 use Rattle.rust_mended.specs.Apart.{StandApart}
 use Rattle.rust_mended.specs.Texts.{edits, is_matched, mended_text}
-use Rattle.rust_edits.specs.Ranges.Mended.{StandsInFront, StandsOpen}
-use Rattle.rust_edits.specs.Ranges.Open.{nothing_before, IsOpenItem, behind_name, end_behind, reaches_end}
-use Rattle.rust_edits.proofs.Ranges.Inner.{front_bare, no_inner}
+use Rattle.rust_edits.specs.Beside.Mended.{StandsInFront, StandsOpen}
+use Rattle.rust_edits.specs.Beside.Open.{nothing_before, IsOpenItem, behind_name, end_behind, reaches_end}
+use Rattle.rust_edits.proofs.Beside.Inner.{front_bare, no_inner}
 use Rattle.rust_lexer.specs.declared.kind.TokenKind.TheVariants as kinds
 use Rattle.rust_leaves.specs.declared.head.Head.TheVariants as heads
 

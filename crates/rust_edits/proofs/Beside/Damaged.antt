@@ -6,10 +6,10 @@ use Rattle.rust_mended.specs.Texts.{mended_text}
 use Rattle.rust_mended.proofs.Joins.{item_text, matched_text}
 use Rattle.rust_mended.proofs.Whole.{text_stays}
 use Rattle.rust_mended.proofs.AtStops.{blanks_text}
-use Rattle.rust_edits.specs.Ranges.Open.{ReadsOn}
-use Rattle.rust_edits.proofs.Ranges.OpenJoin.{open_item_ends}
-use Rattle.rust_edits.specs.Ranges.Mended.{ListsBefore, OpenBehind, is_told, text_for_lists}
-use Rattle.rust_edits.proofs.Ranges.Joins.{items_join}
+use Rattle.rust_edits.specs.Beside.Open.{ReadsOn}
+use Rattle.rust_edits.proofs.Beside.OpenJoin.{open_item_ends}
+use Rattle.rust_edits.specs.Beside.Mended.{ListsBefore, OpenBehind, is_told, text_for_lists}
+use Rattle.rust_edits.proofs.Beside.Joins.{items_join}
 
 -- ---- texts with carriage returns
 

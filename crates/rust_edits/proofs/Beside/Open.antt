@@ -11,7 +11,7 @@ use Rattle.rust_cursor.proofs.Around.{others_of, word_symbol}
 use Rattle.rust_cursor.proofs.Passing.{braces_of}
 use Rattle.rust_cursor.proofs.Scans.{taking_stop, taking_more}
 use Rattle.rust_leaves.specs.declared.head.Head.TheVariants as heads
-use Rattle.rust_edits.specs.Ranges.Open.{is_first, is_first_outside, is_border, is_inner, are_inner, reaches_end, behind_name}
+use Rattle.rust_edits.specs.Beside.Open.{is_first, is_first_outside, is_border, is_inner, are_inner, reaches_end, behind_name}
 
 not-false : {t : Bool} → not t ≡ true → t ≡ false
 not-false {t = false} e = refl

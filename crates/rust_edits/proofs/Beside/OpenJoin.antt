@@ -1,6 +1,6 @@
 -- What is read of an item without its end, and of the text that begins with an item behind it.
 use Rattle.std.proofs.Common.{◌≡◌, ◌<◌, ◌+◌, ◌==◌, ◌||◌, ℕ, zero, suc, Bool, true, false, Option, Some, None, List, [], ◌∷◌, ◌++◌, length, map, refl, sym, ap, ◌∙◌, subst, arith, length-append, append_assoc}
-use Rattle.rust_edits.proofs.Common.{is_nil, eat, module_with, some_item, named, named_or_leads, renamed_leads, use_tree_leads, Row, Span, Problem, TextRange, moved_range, moved_span, moved_problem, map-append, Ending, word, EditionYear, MetaView, ItemView, Piece, Found, Head, FrontRead, LeafRead, Tokens, tokens_of, tokens, filter, is_significant, last_unended, option_map, is_some, by_first, rest, end_of, symbol, is_empty, bumped, beyond, begins_item, taken, most, moved, front, leaf, leaf_turn, leaf_found, by_head, inside, depth_of, turn, nothing_found, and_all, and_problem_at, found_on, items, read_of, found_in, behind_attributes, is_list_end, LeadsTo, here, further, through, when, eat_word_leads, inner_attributes_leads, named_leads, fewer, IsLaid, behind, at_behind, tokens_laid, tokens_sound, tokens_short, ne_eqb, filter-append, filter_moved, near_twins, Near, BlockRead, Finder, items_found}
+use Rattle.rust_edits.proofs.Common.{is_nil, eat, module_with, some_item, named, named_or_leads, renamed_leads, use_tree_leads, Span, Problem, TextRange, moved_range, moved_span, moved_problem, map-append, Ending, word, EditionYear, MetaView, ItemView, Piece, Found, Head, FrontRead, LeafRead, Tokens, tokens_of, tokens, filter, is_significant, last_unended, option_map, is_some, by_first, rest, end_of, symbol, is_empty, bumped, beyond, begins_item, taken, most, moved, front, leaf, leaf_turn, leaf_found, by_head, inside, depth_of, turn, nothing_found, and_all, and_problem_at, found_on, items, read_of, found_in, behind_attributes, is_list_end, LeadsTo, here, further, through, when, eat_word_leads, inner_attributes_leads, named_leads, fewer, IsLaid, behind, at_behind, tokens_laid, tokens_sound, tokens_short, ne_eqb, filter-append, filter_moved, near_twins, Near, BlockRead, Finder, items_found}
 use Rattle.rust_items.specs.declared.log.ProblemKind.TheVariants as problem
 use Rattle.rust_leaves.specs.declared.head.Head.TheVariants as heads
 use Rattle.rust_cursor.specs.declared.cursor.nest.Nest.{Nest}
@@ -8,19 +8,19 @@ use Rattle.rust_cursor.specs.Extents.{begins}
 use Rattle.rust_cursor.specs.Nests.{flat_behind}
 use Rattle.rust_items.specs.Items.{no_block}
 use Rattle.rust_cursor.proofs.Tests.{begins_item_same}
-use Rattle.rust_edits.specs.Ranges.Open.{IsOpenItem, OpenItemEnds, ReadsOn, StandsBefore, nothing_before, whole_before, reaches_end, behind_name, end_behind}
-use Rattle.rust_edits.proofs.Ranges.Alone.{start_near}
-use Rattle.rust_edits.proofs.Ranges.Behind.{last_moved}
-use Rattle.rust_edits.proofs.Ranges.Inner.{no_inner}
-use Rattle.rust_edits.proofs.Ranges.Joins.{edition_stays, found_same, found_both, items_join, items_top, level_at, level_near, unended_join}
-use Rattle.rust_edits.proofs.Ranges.NearItems.{top_end, front_leads}
-use Rattle.rust_edits.proofs.Ranges.NearLeaves.{Given}
-use Rattle.rust_edits.proofs.Ranges.Onward.{IsRead, read_on}
-use Rattle.rust_edits.proofs.Ranges.Open.{Reaches, TakesUp, rest_stops, taking_open, leaf_open, item_plain, nil_left, nil_symbol}
-use Rattle.rust_edits.proofs.Ranges.Tops.{turn_strict}
-use Rattle.rust_edits.proofs.Ranges.NearFields.{empty_left}
+use Rattle.rust_edits.specs.Beside.Open.{IsOpenItem, OpenItemEnds, ReadsOn, StandsBefore, nothing_before, whole_before, reaches_end, behind_name, end_behind}
+use Rattle.rust_edits.proofs.Beside.Alone.{start_near}
+use Rattle.rust_edits.proofs.Beside.Behind.{last_moved}
+use Rattle.rust_edits.proofs.Beside.Inner.{no_inner}
+use Rattle.rust_edits.proofs.Beside.Joins.{edition_stays, found_same, found_both, items_join, items_top, level_at, level_near, unended_join}
+use Rattle.rust_edits.proofs.Beside.NearItems.{top_end, front_leads}
+use Rattle.rust_edits.proofs.Beside.NearLeaves.{Given}
+use Rattle.rust_edits.proofs.Beside.Onward.{IsRead, read_on}
+use Rattle.rust_edits.proofs.Beside.Open.{Reaches, TakesUp, rest_stops, taking_open, leaf_open, item_plain, nil_left, nil_symbol}
+use Rattle.rust_edits.proofs.Beside.Tops.{turn_strict}
+use Rattle.rust_edits.proofs.Beside.NearFields.{empty_left}
 use Rattle.std.proofs.lemmas.List.{length-map}
-use Rattle.rust_edits.proofs.Ranges.Turning.{top_is, turn_leads, run, run_stop, next_fewer, beyond_none}
+use Rattle.rust_edits.proofs.Beside.Turning.{top_is, turn_leads, run, run_stop, next_fewer, beyond_none}
 use Rattle.rust_edits.proofs.Typing.ProblemsIn.{unended_kept}
 use Rattle.rust_edits.proofs.Typing.Unended.{last_append}
 
