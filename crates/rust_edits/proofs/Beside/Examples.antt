@@ -1,10 +1,12 @@
 -- Small examples, by computing: a text that ends with its own token, one that ends with a whole item, and one that ends with an item without its end.
-use Rattle.std.proofs.Common.{◌<◌, subst, arith, length, map, ◌++◌, ◌≡◌, ◌==◌, ℕ, true, false, Option, None, List, [], ◌∷◌, codes, refl, sym, ap, ◌∙◌, suc}
-use Rattle.rust_edits.proofs.Common.{with_feeds, moved, begins_item, option_to_list, beyond, slice_index, EditionYear, MetaView, ItemView, Inner, semicolon, closing, is_continuation, is_wide_start, is_wide_continue, first_cut, Piece, tokens, most, goes_on, Tokens, tokens_of, symbol, word, text, kind, at, is_empty, is_at_end, bumped, eat, plain_name, is_keyword, is_path_keyword, next_name, name, placed_name, is_behind, is_doc, is_attribute, inner_attributes, is_modifier, is_modifier_before, is_weak_before, head, head_by, FrontRead, front, named, Found, nothing_found, items, by_head, inside, turn, depth_of, behind_attributes, read_of, IsBare, EndsWhole, BeginsAnew, EndsOwn, is_list_end, finding, finding_from, tokens_at}
+use Rattle.std.proofs.Common.{◌||◌, ◌<◌, subst, arith, length, map, ◌++◌, ◌≡◌, ◌==◌, ℕ, true, false, Option, None, List, [], ◌∷◌, codes, refl, sym, ap, ◌∙◌, suc}
+use Rattle.rust_edits.proofs.Common.{nest_behind, with_feeds, moved, begins_item, option_to_list, beyond, slice_index, EditionYear, MetaView, ItemView, Inner, semicolon, closing, is_continuation, is_wide_start, is_wide_continue, first_cut, Piece, tokens, most, goes_on, Tokens, tokens_of, symbol, word, text, kind, at, is_empty, is_at_end, bumped, eat, plain_name, is_keyword, is_path_keyword, next_name, name, placed_name, is_behind, is_doc, is_attribute, inner_attributes, is_modifier, is_modifier_before, is_weak_before, head, head_by, FrontRead, front, named, Found, nothing_found, items, by_head, inside, turn, depth_of, behind_attributes, read_of, IsBare, EndsWhole, BeginsAnew, EndsOwn, is_list_end, finding, finding_from, tokens_at}
+use Rattle.rust_cursor.specs.Extents.{begins}
+use Rattle.rust_cursor.specs.Nests.{flat_behind}
 use Rattle.rust_mended.specs.Apart.{StandApart}
 use Rattle.rust_mended.specs.Texts.{edits, is_matched, mended_text}
 use Rattle.rust_edits.specs.Beside.Mended.{StandsInFront, StandsOpen}
-use Rattle.rust_edits.specs.Beside.Open.{nothing_before, IsOpenItem, behind_name, end_behind, reaches_end}
+use Rattle.rust_edits.specs.Beside.Open.{nothing_before, IsOpenItem, before_rest, end_behind, nest_through}
 use Rattle.rust_edits.proofs.Beside.Inner.{front_bare, no_inner}
 use Rattle.rust_lexer.specs.declared.kind.TokenKind.TheVariants as kinds
 use Rattle.rust_leaves.specs.declared.head.Head.TheVariants as heads
@@ -137,8 +139,8 @@ module _ (y : EditionYear) where
   not_on = refl
 
   -- and may stand behind others
-  pub begins : BeginsAnew y mod_b
-  begins = record { bare = bare; uncut = first_uncut; outer = ap (is_behind Inner) toks ∙ not_inner y name_and_end; still = ap goes_on toks ∙ not_on }
+  pub anew : BeginsAnew y mod_b
+  anew = record { bare = bare; uncut = first_uncut; outer = ap (is_behind Inner) toks ∙ not_inner y name_and_end; still = ap goes_on toks ∙ not_on }
 
 -- ---- an item without its end, in front of a module
 
@@ -177,10 +179,6 @@ module _ (y : EditionYear) where
   unfolding fn_f tokens_of tokens first_cut is_wide_start is_wide_continue
   ends_there = refl
 
-  module_begins : begins_item (tokens_of y behind_line) ≡ true
-  unfolding behind_line tokens_of tokens first_cut is_wide_start is_wide_continue begins_item word
-  module_begins = refl
-
   module_outer : is_behind Inner (tokens_of y behind_line) ≡ true
   unfolding behind_line tokens_of tokens first_cut is_wide_start is_wide_continue is_behind is_doc is_attribute symbol kind
   module_outer = refl
@@ -197,19 +195,36 @@ module _ (y : EditionYear) where
   unfolding from_f f_and_module fn_f behind_line tokens_of tokens first_cut is_wide_start is_wide_continue named placed_name name next_name plain_name is_keyword is_path_keyword kind text at bumped
   behind_f = refl
 
+  module_some : is_empty (tokens_of y behind_line) ≡ false
+  unfolding behind_line tokens_of tokens first_cut is_wide_start is_wide_continue is_empty
+  module_some = refl
+
+  module_plain : (symbol (tokens_of y behind_line) == 59 || symbol (tokens_of y behind_line) == 123) ≡ false
+  unfolding behind_line tokens_of tokens first_cut is_wide_start is_wide_continue symbol
+  module_plain = refl
+
+  -- behind its brackets the module begins
+  module_begins : begins (nest_through 2 (flat_behind (before_rest heads.Fn)) (named from_f).1) (tokens_of y behind_line) ≡ true
+  unfolding from_f f_and_module behind_line tokens_of tokens first_cut is_wide_start is_wide_continue named placed_name name next_name plain_name is_keyword is_path_keyword kind text at bumped nest_behind begins_item word symbol
+  module_begins = refl
+
   -- `fn f()` goes on to the end of its line
   pub is_open : IsOpenItem y fn_f behind_line
   is_open = record {
     parted = parted;
     ends = ends_there;
-    begins = module_begins;
     outer = ap (is_behind Inner) both_are ∙ fn_outer;
-    outer_behind = module_outer;
     item = ap is_at_end both_are ∙ fn_item;
+    head = heads.Fn;
+    is_head = ap (λ (t : Tokens). (front t).0.head) both_are ∙ ap (λ (r : FrontRead × Tokens). r.0.head) front_fn;
     rest = record { kind = kinds.OpenDelim; text = codes "("; at = 4 } ∷ record { kind = kinds.CloseDelim; text = codes ")"; at = 5 } ∷ [];
-    left = ap (λ (t : Tokens). (behind_name (front t).0.head (front t).1).left) both_are ∙ ap (λ (r : FrontRead × Tokens). (behind_name r.0.head r.1).left) front_fn ∙ behind_f;
-    reaches = ap (λ (t : Tokens). reaches_end (front t).0.head (record { kind = kinds.OpenDelim; text = codes "("; at = 4 } ∷ record { kind = kinds.CloseDelim; text = codes ")"; at = 5 } ∷ [])) both_are
-        ∙ ap (λ (r : FrontRead × Tokens). reaches_end r.0.head (record { kind = kinds.OpenDelim; text = codes "("; at = 4 } ∷ record { kind = kinds.CloseDelim; text = codes ")"; at = 5 } ∷ [])) front_fn;
+    left = ap (λ (t : Tokens). (named (front t).1).1.left) both_are ∙ ap (λ (r : FrontRead × Tokens). (named r.1).1.left) front_fn ∙ behind_f;
+    reaches = refl;
+    some = module_some;
+    begins = ap (λ (t : Tokens). begins (nest_through 2 (flat_behind (before_rest heads.Fn)) (named (front t).1).1) (tokens_of y behind_line)) both_are
+        ∙ ap (λ (r : FrontRead × Tokens). begins (nest_through 2 (flat_behind (before_rest heads.Fn)) (named r.1).1) (tokens_of y behind_line)) front_fn ∙ module_begins;
+    outer_behind = module_outer;
+    plain = module_plain;
   }
 
 -- ---- texts whose brackets are mended

@@ -1,14 +1,15 @@
 -- What is read of an item without its end, and of the text that begins with an item behind it.
-use Rattle.std.proofs.Common.{◌≡◌, ◌<◌, ◌+◌, ◌==◌, ◌||◌, ℕ, zero, suc, Bool, true, false, Option, Some, None, List, [], ◌∷◌, ◌++◌, length, map, refl, sym, ap, ◌∙◌, subst, arith, length-append, append_assoc}
-use Rattle.rust_edits.proofs.Common.{is_nil, eat, module_with, some_item, named, named_or_leads, renamed_leads, use_tree_leads, Span, Problem, TextRange, moved_range, moved_span, moved_problem, map-append, Ending, word, EditionYear, MetaView, ItemView, Piece, Found, Head, FrontRead, LeafRead, Tokens, tokens_of, tokens, filter, is_significant, last_unended, option_map, is_some, by_first, rest, end_of, symbol, is_empty, bumped, beyond, begins_item, taken, most, moved, front, leaf, leaf_turn, leaf_found, by_head, inside, depth_of, turn, nothing_found, and_all, and_problem_at, found_on, items, read_of, found_in, behind_attributes, is_list_end, LeadsTo, here, further, through, when, eat_word_leads, inner_attributes_leads, named_leads, fewer, IsLaid, behind, at_behind, tokens_laid, tokens_sound, tokens_short, ne_eqb, filter-append, filter_moved, near_twins, Near, BlockRead, Finder, items_found}
+use Rattle.std.proofs.Common.{◌≡◌, ◌<◌, ◌+◌, ◌==◌, ◌||◌, ℕ, zero, suc, true, false, Option, Some, None, List, [], ◌∷◌, ◌++◌, length, map, refl, sym, ap, ◌∙◌, subst, arith, length-append, append_assoc}
+use Rattle.rust_edits.proofs.Common.{symbol_same, is_nil, eat, module_with, some_item, named, named_or_leads, renamed_leads, use_tree_leads, Span, Problem, TextRange, moved_range, moved_span, moved_problem, map-append, Ending, EditionYear, MetaView, ItemView, Piece, Found, Head, FrontRead, LeafRead, Tokens, tokens_of, tokens, filter, is_significant, last_unended, option_map, is_some, by_first, rest, end_of, symbol, is_empty, bumped, beyond, taken, most, moved, front, leaf, leaf_turn, leaf_found, by_head, inside, depth_of, turn, nothing_found, and_all, and_problem_at, found_on, items, read_of, found_in, behind_attributes, is_list_end, LeadsTo, here, further, through, when, eat_word_leads, inner_attributes_leads, named_leads, fewer, IsLaid, behind, at_behind, tokens_laid, tokens_sound, tokens_short, ne_eqb, filter-append, filter_moved, near_twins, Near, BlockRead, Finder, items_found}
 use Rattle.rust_items.specs.declared.log.ProblemKind.TheVariants as problem
 use Rattle.rust_leaves.specs.declared.head.Head.TheVariants as heads
 use Rattle.rust_cursor.specs.declared.cursor.nest.Nest.{Nest}
 use Rattle.rust_cursor.specs.Extents.{begins}
 use Rattle.rust_cursor.specs.Nests.{flat_behind}
 use Rattle.rust_items.specs.Items.{no_block}
-use Rattle.rust_cursor.proofs.Tests.{begins_item_same}
-use Rattle.rust_edits.specs.Beside.Open.{IsOpenItem, OpenItemEnds, ReadsOn, StandsBefore, nothing_before, whole_before, reaches_end, behind_name, end_behind}
+use Rattle.rust_cursor.specs.declared.cursor.nest.Before.TheVariants as befores
+use Rattle.rust_cursor.proofs.Tests.{begins_same}
+use Rattle.rust_edits.specs.Beside.Open.{IsOpenItem, OpenItemEnds, ReadsOn, StandsBefore, nothing_before, whole_before, reaches_end, before_rest, nest_through, behind_name, end_behind}
 use Rattle.rust_edits.proofs.Beside.Alone.{start_near}
 use Rattle.rust_edits.proofs.Beside.Behind.{last_moved}
 use Rattle.rust_edits.proofs.Beside.Inner.{no_inner}
@@ -16,7 +17,7 @@ use Rattle.rust_edits.proofs.Beside.Joins.{edition_stays, found_same, found_both
 use Rattle.rust_edits.proofs.Beside.NearItems.{top_end, front_leads}
 use Rattle.rust_edits.proofs.Beside.NearLeaves.{Given}
 use Rattle.rust_edits.proofs.Beside.Onward.{IsRead, read_on}
-use Rattle.rust_edits.proofs.Beside.Open.{Reaches, TakesUp, rest_stops, taking_open, leaf_open, item_plain, nil_left, nil_symbol}
+use Rattle.rust_edits.proofs.Beside.Open.{Reaches, TakesUp, taking_open, leaf_open, nil_left, nil_plain}
 use Rattle.rust_edits.proofs.Beside.Tops.{turn_strict}
 use Rattle.rust_edits.proofs.Beside.NearFields.{empty_left}
 use Rattle.std.proofs.lemmas.List.{length-map}
@@ -63,19 +64,19 @@ found_to Y depth start None f ts e l = absurd cc
 found_to Y depth start (Some m) f ts e l = record { item = m.item; is = refl; left = l }
 
 -- neither a `;` nor a block is taken there
-no_semicolon : (us : Tokens) → symbol us ≡ 0 → eat 59 us ≡ (false, us)
+no_semicolon : (us : Tokens) → (symbol us == 59) ≡ false → eat 59 us ≡ (false, us)
 unfolding eat
-no_semicolon us plain = let other : (symbol us == 59) ≡ false = rw plain refl in rw other refl
+no_semicolon us other = rw other refl
 
-no_inside : (left : ℕ) (f : Found) (us : Tokens) → symbol us ≡ 0 → inside (suc left) f us ≡ (no_block, (f, us))
+no_inside : (left : ℕ) (f : Found) (us : Tokens) → (symbol us == 123) ≡ false → inside (suc left) f us ≡ (no_block, (f, us))
 unfolding inside
-no_inside left f us plain = let other : (symbol us == 123) ≡ false = rw plain refl in rw other refl
+no_inside left f us other = rw other refl
 
 -- so a module ends behind its name
-module_to : (Y : List Piece) (h : FrontRead) (f : Found) (ts : Tokens) → (named ts).1.left ≡ Y → symbol (named ts).1 ≡ 0 → TurnsTo Y (some_item (module_with (inside 128) (depth_of 128) h f ts))
-module_to Y h f ts left plain =
-    let semi = no_semicolon (named ts).1 plain in
-    let block = no_inside 127 nothing_found (named ts).1 plain in
+module_to : (Y : List Piece) (h : FrontRead) (f : Found) (ts : Tokens) → (named ts).1.left ≡ Y → (symbol (named ts).1 == 59) ≡ false → (symbol (named ts).1 == 123) ≡ false → TurnsTo Y (some_item (module_with (inside 128) (depth_of 128) h f ts))
+module_to Y h f ts left no_end no_open =
+    let semi = no_semicolon (named ts).1 no_end in
+    let block = no_inside 127 nothing_found (named ts).1 no_open in
     record { item = (module_with (inside 128) (depth_of 128) h f ts).0; is = refl; left = rw (semi, block) left }
 
 last_any : (a b : Option ℕ) (l : List Piece) → 0 < length l → last_unended a l ≡ last_unended b l
@@ -86,15 +87,12 @@ filter_some : (l : List Piece) → 0 < length (filter is_significant l) → 0 < 
 filter_some [] some = some
 filter_some (t ∷ l) some = omega arith
 
-empty_begins : (us : Tokens) → us.left ≡ [] → begins_item us ≡ false
-unfolding begins_item word
-empty_begins us e = rw e refl
-
-some_left : (us : Tokens) → begins_item us ≡ true → 0 < length us.left
-some_left us begins = by us.left refl
+some_left : (us : Tokens) → is_empty us ≡ false → 0 < length us.left
+unfolding is_empty
+some_left us some = by us.left some
   where
-    by : (l : List Piece) → us.left ≡ l → 0 < length l
-    by [] e = absurd (let no : true ≡ false = sym begins ∙ empty_begins us e in cc)
+    by : (l : List Piece) → by_first true (λ _. false) l ≡ false → 0 < length l
+    by [] e = absurd cc
     by (t ∷ l) e = omega arith
 
 module _ (edition : EditionYear) (x y : List ℕ) (h : IsOpenItem edition x y) (short : length (x ++ y) < most) where
@@ -128,7 +126,7 @@ module _ (edition : EditionYear) (x y : List ℕ) (h : IsOpenItem edition x y) (
   starts = refl
 
   some_second : 0 < length vs.left
-  some_second = some_left vs h.begins
+  some_second = some_left vs h.some
 
   some_there : 0 < length Y
   some_there = let n = length-map vs.left (moved d) in let some = some_second in omega arith
@@ -141,50 +139,51 @@ module _ (edition : EditionYear) (x y : List ℕ) (h : IsOpenItem edition x y) (
   unfolding tokens_of
   level us to e = level_near d 0 vs.left ts.unended vs.unended edition us (there us to e ∙ (let none : d ≡ 0 + d = omega arith in none)) e (unended_kept to) (edition_stays to)
 
-  begins_there : (us : Tokens) → LeadsTo ts us → us.left ≡ Y → begins_item us ≡ true
-  begins_there us to e = sym (begins_item_same (near_twins b) us vs (level us to e)) ∙ h.begins
-
-  stops_there : (us : Tokens) (nest : Nest) → LeadsTo ts us → us.left ≡ Y → nest.braces ≡ 0 → nest.others ≡ 0 → rest_stops nest us ≡ true
-  stops_there us nest to e z o =
-      let item = begins_there us to e in
-      when (is_empty us) (λ f. rw f refl) (λ f. rw (f, z, o, item) (either (symbol us == 125)))
-    where
-      either : (t : Bool) → (t || true) ≡ true
-      either true = refl
-      either false = refl
-
   abbrev fr : FrontRead
   fr = (front ts).0
 
   abbrev ts1 : Tokens
   ts1 = (front ts).1
 
-  to_name : LeadsTo ts (behind_name fr.head ts1)
-  to_name = through (front_leads ts) (name_leads fr.head ts1)
+  abbrev named_at : Tokens
+  named_at = behind_name h.head ts1
 
-  reaches : Reaches Y h.rest (behind_name fr.head ts1)
+  abbrev last_nest : Nest
+  last_nest = nest_through (length h.rest) (flat_behind (before_rest h.head)) named_at
+
+  to_name : LeadsTo ts named_at
+  to_name = through (front_leads ts) (name_leads h.head ts1)
+
+  begins_there : (us : Tokens) → LeadsTo ts us → us.left ≡ Y → begins last_nest us ≡ true
+  begins_there us to e = sym (begins_same (near_twins b) last_nest us vs (level us to e)) ∙ h.begins
+
+  plain_there : (us : Tokens) → LeadsTo ts us → us.left ≡ Y → (symbol us == 59 || symbol us == 123) ≡ false
+  plain_there us to e = ap (λ c. c == 59 || c == 123) (sym (symbol_same (near_twins b) us vs (level us to e))) ∙ h.plain
+
+  reaches : Reaches Y h.rest (before_rest h.head) named_at
   unfolding taken
   reaches = record {
-    inner = λ i before e s n. taking_open Y e s n ts stops_there h.rest 0 [] 0 None (flat_behind before) (behind_name fr.head ts1) to_name h.left i refl refl;
+    inner = λ i e s n. taking_open Y e s n ts last_nest begins_there h.rest 0 [] 0 None (flat_behind (before_rest h.head)) named_at to_name h.left i refl refl refl;
     left = h.left;
-    plain = λ e. item_plain (behind_name fr.head ts1) (begins_there (behind_name fr.head ts1) to_name (h.left ∙ ap (λ l. l ++ Y) e));
+    plain = λ e. plain_there named_at to_name (h.left ∙ ap (λ l. l ++ Y) e);
   }
 
-  by_word : (w : Head) → fr.head ≡ w → (f : Found) → TurnsTo Y (by_head (inside 128) (depth_of 128) w fr f ts1)
+  by_word : (w : Head) → h.head ≡ w → (f : Found) → TurnsTo Y (by_head (inside 128) (depth_of 128) w fr f ts1)
   unfolding leaf_turn
   by_word heads.Module e f =
-      let there : Reaches Y h.rest (named ts1).1 = subst (λ (w : Head). Reaches Y h.rest (behind_name w ts1)) e reaches in
+      let there : Reaches Y h.rest befores.End (named ts1).1 = subst (λ (w : Head). Reaches Y h.rest (before_rest w) (behind_name w ts1)) e reaches in
       let none : is_nil h.rest ≡ true = subst (λ (w : Head). reaches_end w h.rest ≡ true) e h.reaches in
-      module_to Y fr f ts1 (nil_left Y h.rest (named ts1).1 there none) (nil_symbol Y h.rest (named ts1).1 there none)
+      let plain = nil_plain Y h.rest befores.End (named ts1).1 there none in
+      module_to Y fr f ts1 (nil_left Y h.rest befores.End (named ts1).1 there none) plain.0 plain.1
   by_word w e f =
       let all : reaches_end w h.rest ≡ true = subst (λ (w : Head). reaches_end w h.rest ≡ true) e h.reaches in
-      let there : Reaches Y h.rest (behind_name w ts1) = subst (λ (w : Head). Reaches Y h.rest (behind_name w ts1)) e reaches in
-      let leaf_to : TakesUp Y (leaf fr ts1) = leaf_open Y h.rest fr ts1 w (λ m. absurd cc) e all there in
+      let there : Reaches Y h.rest (before_rest w) (behind_name w ts1) = subst (λ (w : Head). Reaches Y h.rest (before_rest w) (behind_name w ts1)) e reaches in
+      let leaf_to : TakesUp Y (leaf fr ts1) = leaf_open Y h.rest fr ts1 w (λ m. absurd cc) (h.is_head ∙ e) all there in
       rw (head_leaf w h.rest (λ m. absurd cc) all (inside 128) (depth_of 128) fr f ts1) (found_to Y (depth_of 128) fr.start (leaf fr ts1).0 f (leaf fr ts1).1 leaf_to.some leaf_to.left)
 
   turned : (f : Found) → TurnsTo Y (turn 128 f ts)
   unfolding turn
-  turned f = rw h.item (by_word fr.head refl f)
+  turned f = rw (h.item, h.is_head) (by_word h.head refl f)
 
   abbrev r : Option ItemView × (Found × Tokens)
   r = turn 128 nothing_found ts
