@@ -9,7 +9,7 @@ ghost use Rattle.rust_edits.specs.Typing.Moved.{BodyIsTold, IsReadAnew, PlacesMo
 ghost use Rattle.rust_edits.specs.Typing.Opened.{BodyOpens};
 ghost use Rattle.rust_edits.specs.Typing.Problems.{ProblemsStand};
 ghost use Rattle.rust_edits.specs.Beside.Joined.{InsideJoin, ItemsJoin};
-ghost use Rattle.rust_edits.specs.Beside.Open.{OpenItemEnds};
+ghost use Rattle.rust_edits.specs.Beside.Open.{OpenItemsEnd};
 ghost use Rattle.rust_edits.specs.Beside.Mended.{ItemsBefore, ItemsBehind, ListsBefore, OpenBehind};
 
 use crate::edit::BodyEdit;
@@ -38,7 +38,7 @@ fn typing()
 fn beside()
     ensures items_join { ItemsJoin }
     ensures inside_join { InsideJoin }
-    ensures open_item_ends { OpenItemEnds }
+    ensures open_items_end { OpenItemsEnd }
     ensures items_before { ItemsBefore }
     ensures items_behind { ItemsBehind }
     ensures open_behind { OpenBehind }

@@ -6,7 +6,7 @@ use Rattle.rust_cursor.specs.Nests.{flat_behind}
 use Rattle.rust_mended.specs.Apart.{StandApart}
 use Rattle.rust_mended.specs.Texts.{edits, is_matched, mended_text}
 use Rattle.rust_edits.specs.Beside.Mended.{StandsInFront, StandsOpen}
-use Rattle.rust_edits.specs.Beside.Open.{nothing_before, IsOpenItem, before_rest, end_behind, nest_through}
+use Rattle.rust_edits.specs.Beside.Open.{StandsBefore, nothing_before, open_before, IsOpenItem, before_rest, end_behind, nest_through}
 use Rattle.rust_edits.proofs.Beside.Inner.{front_bare, no_inner}
 use Rattle.rust_lexer.specs.declared.kind.TokenKind.TheVariants as kinds
 use Rattle.rust_leaves.specs.declared.head.Head.TheVariants as heads
@@ -282,22 +282,26 @@ module _ (y : EditionYear) where
   unfolding behind_line mod_b mended_text edits tokens first_cut is_wide_start is_wide_continue
   line_is = refl
 
-  open_parts : with_feeds (mended_text cut_off ++ ([] ++ 10 ∷ mended_text mod_b)) ≡ fn_f ++ with_feeds ([] ++ 10 ∷ mended_text mod_b)
-  unfolding cut_off fn_f mod_b mended_text edits tokens first_cut is_wide_start is_wide_continue
-  open_parts = refl
+  open_feeds : with_feeds (mended_text cut_off ++ ([] ++ 10 ∷ mended_text mod_b)) ≡ with_feeds (mended_text cut_off) ++ with_feeds ([] ++ 10 ∷ mended_text mod_b)
+  unfolding cut_off mod_b mended_text edits tokens first_cut is_wide_start is_wide_continue
+  open_feeds = refl
 
-  open_short : length ([] ++ (fn_f ++ with_feeds ([] ++ 10 ∷ mended_text mod_b))) < most
-  unfolding fn_f mod_b mended_text edits tokens first_cut is_wide_start is_wide_continue most
+  item_is : with_feeds (mended_text cut_off) ≡ fn_f
+  unfolding cut_off fn_f mended_text edits tokens first_cut is_wide_start is_wide_continue
+  item_is = refl
+
+  open_short : length (with_feeds (mended_text cut_off ++ ([] ++ 10 ∷ mended_text mod_b))) < most
+  unfolding cut_off mod_b mended_text edits tokens first_cut is_wide_start is_wide_continue most
   open_short = omega arith
+
+  alone_before : StandsBefore y fn_f behind_line
+  alone_before = open_before [] fn_f behind_line (nothing_before (fn_f ++ behind_line)) (is_open y)
 
   -- and behind a function of which the parameters are not closed
   pub behind_it : StandsOpen y cut_off [] mod_b
   behind_it = record {
     apart = behind_damage;
-    before = [];
-    item = fn_f;
-    parts = open_parts;
-    follows = nothing_before (fn_f ++ with_feeds ([] ++ 10 ∷ mended_text mod_b));
-    is_open = subst (IsOpenItem y fn_f) (sym line_is) (is_open y);
+    feeds = open_feeds;
+    before = subst (λ (t : List ℕ). StandsBefore y t (with_feeds ([] ++ 10 ∷ mended_text mod_b))) (sym item_is) (subst (StandsBefore y fn_f) (sym line_is) alone_before);
     short = open_short;
   }

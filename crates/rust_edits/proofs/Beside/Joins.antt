@@ -74,6 +74,9 @@ found_first b f g e n =
 pub found_both : (b : Ending) (before f g : Found) → FoundNear b before f g → f ≡ and_all (found_on b.by g) before
 found_both b before f g n = found_same f.rows _ f.spans _ f.use_trees _ f.problems _ n.rows n.spans n.use_trees n.problems
 
+pub found_still : (f : Found) → f ≡ and_all (found_on 0 f) nothing_found
+found_still f = sym (found_same f.rows f.rows _ f.spans _ f.use_trees _ f.problems refl (map_still _ span_still f.spans) (map_still _ number_still f.use_trees) (map_still _ problem_still f.problems))
+
 -- with the problem that a token is not ended
 pub unended_join : (d : ℕ) (o : Option ℕ) (f g : Found) → and_problem_at problem.Unterminated (option_map (λ n. n + d) o) (and_all (found_on d g) f) ≡ and_all (found_on d (and_problem_at problem.Unterminated o g)) f
 unended_join d o f g = grind (arith, common_steps)

@@ -9,11 +9,11 @@ use Rattle.rust_cursor.specs.Nests.{flat_behind}
 use Rattle.rust_items.specs.Items.{no_block}
 use Rattle.rust_cursor.specs.declared.cursor.nest.Before.TheVariants as befores
 use Rattle.rust_cursor.proofs.Tests.{begins_same}
-use Rattle.rust_edits.specs.Beside.Open.{IsOpenItem, OpenItemEnds, ReadsOn, StandsBefore, nothing_before, whole_before, reaches_end, before_rest, nest_through, behind_name, end_behind}
+use Rattle.rust_edits.specs.Beside.Open.{IsOpenItem, OpenItemsEnd, ReadsOn, StandsBefore, nothing_before, whole_before, open_before, reaches_end, before_rest, nest_through, behind_name, end_behind}
 use Rattle.rust_edits.proofs.Beside.Alone.{start_near}
 use Rattle.rust_edits.proofs.Beside.Behind.{last_moved}
 use Rattle.rust_edits.proofs.Beside.Inner.{no_inner}
-use Rattle.rust_edits.proofs.Beside.Joins.{edition_stays, found_same, found_both, items_join, items_top, level_at, level_near, unended_join}
+use Rattle.rust_edits.proofs.Beside.Joins.{edition_stays, found_same, found_still, found_both, items_join, items_top, level_at, level_near, unended_join}
 use Rattle.rust_edits.proofs.Beside.NearItems.{top_end, front_leads}
 use Rattle.rust_edits.proofs.Beside.NearLeaves.{Given}
 use Rattle.rust_edits.proofs.Beside.Onward.{IsRead, read_on}
@@ -300,18 +300,27 @@ found_three m n f g h =
     found_same _ _ _ _ _ _ _ _ (sym (append_assoc f.rows g.rows h.rows)) (joined_on _ _ _ (spans_on m n) f.spans g.spans h.spans)
     (joined_on _ _ _ (places_on m n) f.use_trees g.use_trees h.use_trees) (joined_on _ _ _ (problems_on m n) f.problems g.problems h.problems)
 
-open_ends : (edition : EditionYear) (p x y : List ℕ) → IsOpenItem edition x y → length (p ++ (x ++ y)) < most → StandsBefore edition p (x ++ y) → ReadsOn edition (p ++ (x ++ y)) (length p + length x) y
-open_ends edition _ x y h short (nothing_before _) = subst (λ (d : ℕ). ReadsOn edition (x ++ y) d y) (let none : length x ≡ 0 + length x = omega arith in none) (reads_on edition x y h short)
-open_ends edition _ x y h short (whole_before p _ holds anew) =
-    let sum = length-append p (x ++ y) in
-    let on = reads_on edition x y h (omega (arith, short)) in
-    let j = items_join edition p (x ++ y) holds anew short in
-    record {
-      first = (read_of edition p).0 ++ on.first;
-      items = j.items ∙ ap (λ l. (read_of edition p).0 ++ l) on.items ∙ sym (append_assoc (read_of edition p).0 on.first (read_of edition y).0);
-      before = and_all (found_on (length p) on.before) (found_in edition p);
-      found = j.found ∙ ap (λ (f : Found). and_all (found_on (length p) f) (found_in edition p)) on.found ∙ found_three (length p) (length x) (found_in edition p) on.before (found_in edition y);
-    }
+-- what goes on behind what goes on
+reads_through : (edition : EditionYear) (text : List ℕ) (m n : ℕ) (x y : List ℕ) → ReadsOn edition text m x → ReadsOn edition x n y → ReadsOn edition text (m + n) y
+reads_through edition text m n x y one two = record {
+  first = one.first ++ two.first;
+  items = one.items ∙ ap (λ l. one.first ++ l) two.items ∙ sym (append_assoc one.first two.first (read_of edition y).0);
+  before = and_all (found_on m two.before) one.before;
+  found = one.found ∙ ap (λ (f : Found). and_all (found_on m f) one.before) two.found ∙ found_three m n one.before two.before (found_in edition y);
+}
 
-pub open_item_ends : OpenItemEnds
-open_item_ends edition p x y before h short = open_ends edition p x y h short before
+pub open_items_end : OpenItemsEnd
+open_items_end edition p y before short = by p y before short
+  where
+    by : (p y : List ℕ) → StandsBefore edition p y → length (p ++ y) < most → ReadsOn edition (p ++ y) (length p) y
+    by _ _ (nothing_before y) short = record { first = []; items = refl; before = nothing_found; found = found_still (found_in edition y) }
+    by _ _ (whole_before p y holds anew) short =
+        let j = items_join edition p y holds anew short in record { first = (read_of edition p).0; items = j.items; before = found_in edition p; found = j.found }
+    by _ _ (open_before p x y outer h) short =
+        let all : (p ++ x) ++ y ≡ p ++ (x ++ y) = append_assoc p x y in
+        let less : length (p ++ (x ++ y)) < most = subst (λ (t : List ℕ). length t < most) all short in
+        let sum = length-append p (x ++ y) in
+        let one = by p (x ++ y) outer less in
+        let two = reads_on edition x y h (omega (arith, less)) in
+        subst (λ (t : List ℕ). ReadsOn edition t (length (p ++ x)) y) (sym all)
+        (subst (λ (d : ℕ). ReadsOn edition (p ++ (x ++ y)) d y) (sym (length-append p x)) (reads_through edition (p ++ (x ++ y)) (length p) (length x) (x ++ y) y one two))

@@ -1,5 +1,5 @@
 -- An item that goes on up to the end of a text, and the item that begins behind it.
-use Rattle.std.specs.Prelude.{◌≡◌, ◌<◌, ℕ, zero, suc, ◌+◌, ◌==◌, Bool, true, false, not, ◌&&◌, ◌||◌, List, [], ◌∷◌, ◌++◌, length, map, codes, bytes_eq}
+use Rattle.std.specs.Prelude.{◌≡◌, ◌<◌, ℕ, zero, suc, ◌==◌, Bool, true, false, not, ◌&&◌, ◌||◌, List, [], ◌∷◌, ◌++◌, length, map, codes, bytes_eq}
 use Rattle.hir_input.specs.declared.edition.EditionYear.{EditionYear}
 use Rattle.hir_input.specs.Syntax.{ItemView}
 use Rattle.rust_lexer.specs.declared.kind.DocStyle.TheVariants.{Inner}
@@ -46,9 +46,9 @@ abbrev pub is_inner : ℕ → Piece → Bool
 is_inner depth t =
     not (documents t.kind) && (not (is_border (symbol_of t)) && (not (is_first (word_by t.kind t.text)) && not (depth == 0 && is_first_outside (word_by t.kind t.text))))
 
--- nor with any of these, which close as many brackets as they depth
+-- nor with any of these
 abbrev pub are_inner : ℕ → List Piece → Bool
-are_inner depth [] = depth == 0
+are_inner depth [] = true
 are_inner depth (t ∷ ts) = is_inner depth t && are_inner (count_behind depth (symbol_of t)) ts
 
 -- ---- an item of which the end is not written
@@ -93,11 +93,12 @@ abbrev pub end_behind : ℕ → List Piece → ℕ
 end_behind past [] = past
 end_behind past (t ∷ ts) = end_behind (end_of t) ts
 
--- A text is such an item, of which the end is not written, and another begins with an item: no token reaches from the first into the second,
--- and the first ends with a token.
+-- A text is such an item, of which the end is not written, in front of another text.
 pub record IsOpenItem (edition : EditionYear) (text y : List ℕ) : Type 0 where
+  -- no token reaches from the first into the second, and the first ends with a token
   pub parted : tokens (text ++ y) ≡ tokens text ++ map (moved (length text)) (tokens y)
   pub ends : end_behind 0 (tokens_of edition text).left ≡ length text
+  -- an item begins, with these words and a name; behind them it goes on with these tokens
   pub outer : is_behind Inner (tokens_of edition (text ++ y)) ≡ true
   pub item : is_at_end (tokens_of edition (text ++ y)) ≡ false
   pub head : Head
@@ -105,6 +106,7 @@ pub record IsOpenItem (edition : EditionYear) (text y : List ℕ) : Type 0 where
   pub rest : List Piece
   pub left : (behind_name head (front (tokens_of edition (text ++ y))).1).left ≡ rest ++ map (moved (length text)) (tokens_of edition y).left
   pub reaches : reaches_end head rest ≡ true
+  -- there the next one begins
   pub some : is_empty (tokens_of edition y) ≡ false
   pub begins : begins (nest_through (length rest) (flat_behind (before_rest head)) (behind_name head (front (tokens_of edition (text ++ y))).1)) (tokens_of edition y) ≡ true
   pub outer_behind : is_behind Inner (tokens_of edition y) ≡ true
@@ -117,11 +119,12 @@ pub record ReadsOn (edition : EditionYear) (text : List ℕ) (d : ℕ) (y : List
   pub before : Found
   pub found : found_in edition text ≡ and_all (found_on d (found_in edition y)) before
 
--- nothing, or a text that ends with a whole item, in front of another
+-- In front of a text stands nothing, or a text that ends with a whole item, and then items without their ends, one after the other.
 pub data StandsBefore (edition : EditionYear) : List ℕ → List ℕ → Type 0 where
-  nothing_before : (text : List ℕ) → StandsBefore edition [] text
-  whole_before : (p text : List ℕ) → EndsWhole true 128 edition p → BeginsAnew edition text → StandsBefore edition p text
+  nothing_before : (y : List ℕ) → StandsBefore edition [] y
+  whole_before : (p y : List ℕ) → EndsWhole true 128 edition p → BeginsAnew edition y → StandsBefore edition p y
+  open_before : (p x y : List ℕ) → StandsBefore edition p (x ++ y) → IsOpenItem edition x y → StandsBefore edition (p ++ x) y
 
 -- So an item ends before the next one, which is read as alone.
-abbrev pub OpenItemEnds : Type 0
-OpenItemEnds = (edition : EditionYear) (p x y : List ℕ) → StandsBefore edition p (x ++ y) → IsOpenItem edition x y → length (p ++ (x ++ y)) < most → ReadsOn edition (p ++ (x ++ y)) (length p + length x) y
+abbrev pub OpenItemsEnd : Type 0
+OpenItemsEnd = (edition : EditionYear) (p y : List ℕ) → StandsBefore edition p y → length (p ++ y) < most → ReadsOn edition (p ++ y) (length p) y
