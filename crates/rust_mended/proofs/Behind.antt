@@ -17,12 +17,12 @@ abbrev Behind : Option ℕ → (List Mark → Type 0) → List Mark → Type 0
 Behind at below [] = ⊥
 Behind at below (d ∷ ds) = ((at ≡ Some d.at) × below ds) ⊎ Behind at below ds
 
-abbrev ComesBy : Bool → Option ℕ → Option ℕ → (List Mark → Type 0) → List Mark → Type 0
+abbrev pub ComesBy : Bool → Option ℕ → Option ℕ → (List Mark → Type 0) → List Mark → Type 0
 ComesBy false at around below cs = (at ≡ around) × below cs
 ComesBy true at around below cs = Behind at below cs
 
 -- the closers that open brackets keep come among these, in their order
-abbrev Comes : List Opened → List Mark → Type 0
+abbrev pub Comes : List Opened → List Mark → Type 0
 Comes [] cs = Unit {0}
 Comes (o ∷ os) cs = ComesBy o.is_closed o.owed (owed os) (Comes os) cs
 
@@ -34,7 +34,7 @@ grows_by : (k : Bool) (at around : Option ℕ) (B : List Mark → Type 0) → Gr
 grows_by false at around B g d ds h = (h.0, g d ds h.1)
 grows_by true at around B g d ds h = inr h
 
-comes_grows : (os : List Opened) → Grows (Comes os)
+pub comes_grows : (os : List Opened) → Grows (Comes os)
 comes_grows [] d ds h = tt
 comes_grows (o ∷ os) d ds h = grows_by o.is_closed o.owed (owed os) (Comes os) (comes_grows os) d ds h
 
@@ -48,7 +48,7 @@ below_all false at around B g cs h = h.1
 below_all true at around B g cs h = behind_all at B g cs h
 
 -- what stands around the last bracket
-comes_around : (o : Opened) (os : List Opened) (cs : List Mark) → Comes (o ∷ os) cs → Comes os cs
+pub comes_around : (o : Opened) (os : List Opened) (cs : List Mark) → Comes (o ∷ os) cs → Comes os cs
 comes_around o os cs h = below_all o.is_closed o.owed (owed os) (Comes os) (comes_grows os) cs h
 
 -- ---- opening
@@ -93,7 +93,7 @@ found_comes : (b : Bracket) (t : Mark) (os : List Opened) (m : Option Mark) (cs 
 found_comes b t os None cs h = (refl, h)
 found_comes b t os (Some c) cs h = h
 
-opened_comes : (b : Bracket) (t : Mark) (os : List Opened) (cs : List Mark) → Comes os (closers_past b cs) → Comes (opened_by b t (keeps b t os (closer_of b cs)) os ∷ os) cs
+pub opened_comes : (b : Bracket) (t : Mark) (os : List Opened) (cs : List Mark) → Comes os (closers_past b cs) → Comes (opened_by b t (keeps b t os (closer_of b cs)) os ∷ os) cs
 opened_comes b t os cs h =
     found_comes b t os (keeps b t os (closer_of b cs)) cs (keeps_comes b t os (closer_of b cs) cs (closer_comes b (Comes os) (comes_grows os) cs h))
 
@@ -104,22 +104,22 @@ not_own_by false at around B t ds f e h = (h.0, f (ap (is_owed t) (sym h.0) ∙ 
 not_own_by true at around B t ds f e (inl h) = absurd (no_truth (sym e ∙ ap (is_owed t) h.0 ∙ same_place t.at))
 not_own_by true at around B t ds f e (inr h) = h
 
-comes_not_own : (os : List Opened) (t : Mark) (ds : List Mark) → is_owed t (owed os) ≡ false → Comes os (t ∷ ds) → Comes os ds
+pub comes_not_own : (os : List Opened) (t : Mark) (ds : List Mark) → is_owed t (owed os) ≡ false → Comes os (t ∷ ds) → Comes os ds
 comes_not_own [] t ds e h = tt
 comes_not_own (o ∷ os) t ds e h = not_own_by o.is_closed o.owed (owed os) (Comes os) t ds (comes_not_own os t ds) e h
 
-own_below_by : (k : Bool) (at around : Option ℕ) (B : List Mark → Type 0) → Grows B → (t : Mark) (ds : List Mark) → k ≡ true → ComesBy k at around B (t ∷ ds) → B ds
+pub own_below_by : (k : Bool) (at around : Option ℕ) (B : List Mark → Type 0) → Grows B → (t : Mark) (ds : List Mark) → k ≡ true → ComesBy k at around B (t ∷ ds) → B ds
 own_below_by false at around B g t ds e h = absurd (no_truth e)
 own_below_by true at around B g t ds e (inl h) = h.1
 own_below_by true at around B g t ds e (inr h) = behind_all at B g ds h
 
-own_around_by : (k : Bool) (at around : Option ℕ) (B : List Mark → Type 0) (ds : List Mark) → k ≡ false → ComesBy k at around B ds → B ds
+pub own_around_by : (k : Bool) (at around : Option ℕ) (B : List Mark → Type 0) (ds : List Mark) → k ≡ false → ComesBy k at around B ds → B ds
 own_around_by false at around B ds e h = h.1
 own_around_by true at around B ds e h = absurd (no_truth (sym e))
 
 -- ---- at the end
 
-abbrev AllUnclosed : List Opened → Type 0
+abbrev pub AllUnclosed : List Opened → Type 0
 AllUnclosed [] = Unit {0}
 AllUnclosed (o ∷ os) = (o.is_closed ≡ false) × AllUnclosed os
 
@@ -127,7 +127,7 @@ unclosed_by : (k : Bool) (at around : Option ℕ) (B : List Mark → Type 0) →
 unclosed_by false at around B h = (refl, h.1)
 unclosed_by true at around B h = absurd h
 
-comes_end : (os : List Opened) → Comes os [] → AllUnclosed os
+pub comes_end : (os : List Opened) → Comes os [] → AllUnclosed os
 comes_end [] h = tt
 comes_end (o ∷ os) h =
     let two : (o.is_closed ≡ false) × Comes os [] = unclosed_by o.is_closed o.owed (owed os) (Comes os) h in (two.0, comes_end os two.1)

@@ -1,5 +1,5 @@
 -- Texts that stand apart are mended apart, where the first matches or the second begins with an item.
-use Rattle.std.proofs.Common.{◌≡◌, refl, ◌∙◌, ap, sym, subst, ℕ, ◌≤◌, ◌+◌, ◌-◌, ◌==◌, true, List, [], ◌∷◌, ◌++◌, length, map, take, drop, arith, append_assoc, length-append, length-drop, slice_range, IsCharBoundary, IsUtf8}
+use Rattle.std.proofs.Common.{◌≡◌, refl, ◌∙◌, ap, sym, subst, ℕ, suc, ◌≤◌, ◌+◌, ◌-◌, ◌==◌, true, List, [], ◌∷◌, ◌++◌, length, map, take, drop, arith, append_assoc, length-append, length-drop, slice_range, IsCharBoundary, IsUtf8}
 use Rattle.std.proofs.Math.Seq.{drop-append-add, take-append-add}
 use Rattle.std.proofs.lemmas.Grind.{flat_map-append}
 use Rattle.std.proofs.lemmas.Bool.Decides.{nat_tests}
@@ -17,9 +17,9 @@ use Rattle.rust_mended.specs.Apart.{StandApart, begin_with_item, behind_further,
 use Rattle.rust_mended.specs.Marks.{last, marks, text_begin}
 use Rattle.rust_mended.specs.Mended.{all_written, closers_reaching}
 use Rattle.rust_mended.specs.Steps.{EditsFit}
-use Rattle.rust_mended.specs.Texts.{edits, is_matched, mended_text, mending_edit, past_by, past_edit, sign, with_edits}
+use Rattle.rust_mended.specs.Texts.{edit_moved, edits, is_matched, mended_text, mending_edit, past_by, past_edit, sign, with_edits}
 use Rattle.rust_mended.proofs.Behind.{written_behind}
-use Rattle.rust_mended.proofs.Further.{edits_further, reaching_on}
+use Rattle.rust_mended.proofs.Further.{edits_further, reaching_on, same_on, behind_on, IsSome}
 use Rattle.rust_mended.proofs.Puts.{text_edits_fit}
 use Rattle.rust_mended.proofs.Seam.{all_last, all_marks}
 use Rattle.rust_mended.proofs.Whole.{edits_behind_matched, marks_match, text_edits, text_stays}
@@ -27,8 +27,8 @@ use Rattle.rust_mended.proofs.Whole.{edits_behind_matched, marks_match, text_edi
 -- ---- edits of two texts
 
 -- an edit so many bytes further on
-abbrev on : ℕ → Edit → Edit
-on n e = record { at = e.at + n; told = e.told + n; kind = e.kind }
+abbrev pub on : ℕ → Edit → Edit
+on n = edit_moved (λ at. at + n)
 
 past_on : (n : ℕ) (k : EditKind) (at : ℕ) → past_by k (at + n) ≡ past_by k at + n
 past_on n (edit.Put b) at = refl
@@ -72,13 +72,24 @@ slice_first q y at to l m =
     let long = length-drop at q in
     ap (take (to - at)) (drop-append-le at q y (omega arith)) ∙ take-append-le (to - at) (drop at q) y (omega (arith, long, l, m))
 
-edits_both : (q y rest : List ℕ) (gs : List Edit) → ((at : ℕ) → at ≤ length q → with_edits (q ++ y) at gs ≡ drop at q ++ rest)
-    → (at : ℕ) (es : List Edit) → at ≤ length q → EditsFit (IsCharBoundary q) at es → with_edits (q ++ y) at (es ++ gs) ≡ with_edits q at es ++ rest
-edits_both q y rest gs f at [] l h = f at l
-edits_both q y rest gs f at (e ∷ es) l h =
-    ap (λ l. l ++ (sign e.kind ∷ with_edits (q ++ y) (past_edit e) (es ++ gs))) (slice_first q y at e.at h.0 h.1.0.0)
-    ∙ ap (λ l. slice_range q at e.at ++ (sign e.kind ∷ l)) (edits_both q y rest gs f (past_edit e) es h.1.1.0.0 h.1.1.1)
+pub edits_both : (P : ℕ → Type 0) (q y rest : List ℕ) (gs : List Edit) → ((n : ℕ) → P n → n ≤ length q) → ((at : ℕ) → at ≤ length q → with_edits (q ++ y) at gs ≡ drop at q ++ rest)
+    → (at : ℕ) (es : List Edit) → at ≤ length q → EditsFit P at es → with_edits (q ++ y) at (es ++ gs) ≡ with_edits q at es ++ rest
+edits_both P q y rest gs most f at [] l h = f at l
+edits_both P q y rest gs most f at (e ∷ es) l h =
+    ap (λ l. l ++ (sign e.kind ∷ with_edits (q ++ y) (past_edit e) (es ++ gs))) (slice_first q y at e.at h.0 (most e.at h.1.0))
+    ∙ ap (λ l. slice_range q at e.at ++ (sign e.kind ∷ l)) (edits_both P q y rest gs most f (past_edit e) es (most (past_edit e) h.1.1.0) h.1.1.1)
     ∙ sym (append_assoc (slice_range q at e.at) (sign e.kind ∷ with_edits q (past_edit e) es) rest)
+
+-- at a byte between both
+pub edits_over_one : (x : List ℕ) (b : ℕ) (y : List ℕ) (at : ℕ) (es : List Edit) → at ≤ length x → with_edits (x ++ b ∷ y) at (map (on (suc (length x))) es) ≡ drop at x ++ (b ∷ with_edits y 0 es)
+edits_over_one x b y at es l =
+    let long = length-append x (b ∷ []) in
+    let same : suc (length x) ≡ length (x ++ b ∷ []) = omega (arith, long) in
+    ap (λ z. with_edits z at (map (on (suc (length x))) es)) (sym (append_assoc x (b ∷ []) y))
+    ∙ ap (λ n. with_edits ((x ++ b ∷ []) ++ y) at (map (on n) es)) same
+    ∙ edits_over (x ++ b ∷ []) y at es (omega (arith, long, l))
+    ∙ ap (λ z. z ++ with_edits y 0 es) (drop-append-le at x (b ∷ []) l)
+    ∙ append_assoc (drop at x) (b ∷ []) (with_edits y 0 es)
 
 module _ (q z s : List ℕ) where
   abbrev all : List ℕ
@@ -107,7 +118,7 @@ module _ (q z s : List ℕ) where
   unfolding mended_text
   text_both h e =
       ap (with_edits all 0) e
-      ∙ edits_both q (z ++ 10 ∷ s) (z ++ 10 ∷ with_edits s 0 (edits s)) (map (edit_further q z) (edits s)) (over (edits s)) 0 (edits q) (omega arith) h
+      ∙ edits_both (IsCharBoundary q) q (z ++ 10 ∷ s) (z ++ 10 ∷ with_edits s 0 (edits s)) (map (edit_further q z) (edits s)) (λ n h. h.0) (over (edits s)) 0 (edits q) (omega arith) h
 
   module _ (h : StandApart q z s) where
     all_edits : edits all ≡ flat_map mending_edit (all_written (behind_further q z (last s)) (marks q ++ map (mark_further q z) (marks s)))
@@ -146,12 +157,15 @@ module _ (q z s : List ℕ) where
         (λ b. absurd cc))
         (λ a. absurd cc)
 
+    further_reaching : (ts : List Mark) → closers_reaching (map (mark_further q z) ts) ≡ map (mark_further q z) (closers_reaching ts)
+    further_reaching ts = reaching_on (λ n. n + seam q z) (behind_further q z) IsSome (same_on (seam q z)) (behind_on q z) ts
+
     behind_item : (ts : List Mark) → begin_with_item ts ≡ true → closers_reaching ts ≡ []
         → all_written (behind_further q z (last s)) (marks q ++ map (mark_further q z) ts) ≡ all_written (last q) (marks q) ++ all_written (behind_further q z (last s)) (map (mark_further q z) ts)
     behind_item [] e r = absurd cc
     behind_item (t ∷ ts) e r =
         let i = item_of t ts e in
-        let none : closers_reaching (map (mark_further q z) (t ∷ ts)) ≡ [] = reaching_on q z (t ∷ ts) ∙ ap (map (mark_further q z)) r in
+        let none : closers_reaching (map (mark_further q z) (t ∷ ts)) ≡ [] = further_reaching (t ∷ ts) ∙ ap (map (mark_further q z)) r in
         let place : behind_further q z t.behind ≡ last q = ap (behind_further q z) i.1.1 in
         written_behind (behind_further q z (last s)) (marks q) (mark_further q z t) (map (mark_further q z) ts) i.0 i.1.0 none
         ∙ ap (λ n. all_written n (marks q) ++ all_written (behind_further q z (last s)) (map (mark_further q z) (t ∷ ts))) place

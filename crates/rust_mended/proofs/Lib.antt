@@ -14,3 +14,8 @@ pub mod Seam
 pub mod Further
 pub mod Joins
 pub mod AtStops
+pub mod Inside
+pub mod Around
+pub mod Bodies
+pub mod BodyTexts
+mod Examples

@@ -31,7 +31,7 @@ MarksFit P last at (t ∷ ts) = (at ≤ t.behind) × (P t.behind × (CloserFits 
 abbrev Fits : (ℕ → Type 0) → ℕ → List Written → Type 0
 Fits P at ws = EditsFit P at (flat_map mending_edit ws)
 
-abbrev Follows : (ℕ → Type 0) → ℕ → (List Opened → List Written) → Type 0
+abbrev pub Follows : (ℕ → Type 0) → ℕ → (List Opened → List Written) → Type 0
 Follows P at K = (us : List Opened) → Fits P at (K us)
 
 pub before_fits : (P : ℕ → Type 0) (n at : ℕ) (es : List Edit) → n ≤ at → EditsFit P at es → EditsFit P n es
@@ -88,7 +88,7 @@ close_far_fits P n t (o ∷ os) K l p c h =
     (closed_fits P n t o.bracket (K os) (omega arith) c.1.0 c.1.1 (h os))
     (put_fits P n t.behind o (close_far t os K) l p (close_far_fits P t.behind t os K (omega arith) p c h)))
 
-taken_fits : (P : ℕ → Type 0) (n : ℕ) (k : MarkKind) (t : Mark) (c : Option Mark) (os : List Opened) (K : List Opened → List Written) → n ≤ t.behind → P t.behind → CloserFits P k t → Follows P (past_mark k t) K
+pub taken_fits : (P : ℕ → Type 0) (n : ℕ) (k : MarkKind) (t : Mark) (c : Option Mark) (os : List Opened) (K : List Opened → List Written) → n ≤ t.behind → P t.behind → CloserFits P k t → Follows P (past_mark k t) K
     → Fits P n (mark_taken k t c K os)
 taken_fits P n (mark.Open b) t c os K l p f h =
     let us : List Opened = opened_by b t (keeps b t os c) os ∷ os in before_fits P n t.behind (flat_map mending_edit (K us)) l (h us)
@@ -99,7 +99,7 @@ taken_fits P n (mark.Close b) t c os K l p f h =
     (if_fits P n (is_brace b) (close_far t os K) (left t ∷ K os) (close_far_fits P n t os K l p f h) (left_fits P n t (K os) (omega arith) f.1.0 f.1.1 (h os)))
 taken_fits P n mark.Item t c os K l p f h = end_before_fits P n t os (λ us. kept t ∷ K us) l p h
 
-written_from_fits : (P : ℕ → Type 0) (last n : ℕ) (ts : List Mark) → MarksFit P last n ts → Follows P n (written_from last ts)
+pub written_from_fits : (P : ℕ → Type 0) (last n : ℕ) (ts : List Mark) → MarksFit P last n ts → Follows P n (written_from last ts)
 written_from_fits P last n [] h os = ends_fit P n last os h.0 h.1
 written_from_fits P last n (t ∷ ts) h os =
     taken_fits P n t.kind t (closer_by t.kind (closers_reaching ts)) os (written_from last ts) h.0 h.1.0 h.1.1.0 (written_from_fits P last (past_mark t.kind t) ts h.1.1.1)

@@ -67,10 +67,10 @@ lead_first (b ∷ z) u h = (IsCharBoundary-start (b ∷ z) u).1 (omega arith) h
 -- ---- tokens stand at such places
 
 -- it begins and ends at such places, and so does its first byte, if it is a closer
-abbrev TokenFits : (ℕ → Type 0) → Piece → Type 0
+abbrev pub TokenFits : (ℕ → Type 0) → Piece → Type 0
 TokenFits P t = P t.at × (P (t.at + length t.text) × ((0 < length t.text) × (is_closing_symbol (symbol_of t) ≡ true → P (t.at + 1))))
 
-abbrev TokensFit : (ℕ → Type 0) → List Piece → Type 0
+abbrev pub TokensFit : (ℕ → Type 0) → List Piece → Type 0
 TokensFit P [] = Unit {0}
 TokensFit P (t ∷ ts) = TokenFits P t × TokensFit P ts
 
@@ -145,11 +145,11 @@ tokens_fit text x q (t ∷ ts) u e n p h s =
 -- ---- and so do marks
 
 -- the place behind a token is not before that
-behind_more : (l : Line) (t : Piece) (q : ℕ) → l.behind ≤ q → t.at ≡ q → (l.behind ≤ place_behind l t) × (place_behind l t ≤ q + length t.text)
+pub behind_more : (l : Line) (t : Piece) (q : ℕ) → l.behind ≤ q → t.at ≡ q → (l.behind ≤ place_behind l t) × (place_behind l t ≤ q + length t.text)
 behind_more l t q h e =
     cond_both (is_between t.kind) l.behind (t.at + length t.text) (λ n. (l.behind ≤ n) × (n ≤ q + length t.text)) (λ _. (omega arith, omega arith)) (λ _. (omega arith, omega arith))
 
-behind_fits : (P : ℕ → Type 0) (l : Line) (t : Piece) → P l.behind → P (t.at + length t.text) → P (place_behind l t)
+pub behind_fits : (P : ℕ → Type 0) (l : Line) (t : Piece) → P l.behind → P (t.at + length t.text) → P (place_behind l t)
 behind_fits P l t h g = cond_both (is_between t.kind) l.behind (t.at + length t.text) P (λ _. h) (λ _. g)
 
 -- the place behind a closer
@@ -165,7 +165,7 @@ and_marks_fit P last n l t ms false true may c h p at f rest more =
 and_marks_fit P last n l t ms false false true c h p at f rest more = (h, (p, (tt, rest l.behind more)))
 and_marks_fit P last n l t ms false false false c h p at f rest more = rest n (omega arith)
 
-marks_from_fit : (P : ℕ → Type 0) (l : Line) (q : ℕ) (ts : List Piece) → l.behind ≤ q → P l.behind → AreInPlace q ts → TokensFit P ts
+pub marks_from_fit : (P : ℕ → Type 0) (l : Line) (q : ℕ) (ts : List Piece) → l.behind ≤ q → P l.behind → AreInPlace q ts → TokensFit P ts
     → (n : ℕ) → n ≤ l.behind → MarksFit P (line_behind_all l ts).behind n (marks_from l ts)
 marks_from_fit P l q [] b p i f n h = (h, p)
 marks_from_fit P l q (t ∷ ts) b p i f n h =

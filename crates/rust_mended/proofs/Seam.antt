@@ -1,5 +1,5 @@
 -- The marks of texts that stand apart are those of the first, and those of the second further on.
-use Rattle.std.proofs.Common.{◌≡◌, refl, ◌∙◌, ap, sym, ℕ, ◌+◌, ◌<◌, ◌==◌, false, List, [], ◌∷◌, ◌++◌, length, map, Option, Some, None, arith}
+use Rattle.std.proofs.Common.{◌≡◌, refl, ◌∙◌, ap, sym, ℕ, ◌+◌, ◌<◌, ◌==◌, false, if◌then◌else◌, List, [], ◌∷◌, ◌++◌, length, map, Option, Some, None, arith}
 use Rattle.std.proofs.lemmas.Bool.{ne_eqb}
 use Rattle.rust_lexer.specs.declared.kind.TokenKind.{TokenKind}
 use Rattle.rust_lexer.specs.declared.kind.TokenKind.TheVariants as kind
@@ -23,58 +23,66 @@ and_marks_join : (k : Option MarkKind) (l : Line) (t : Piece) (ms ns : List Mark
 and_marks_join None l t ms ns = refl
 and_marks_join (Some k) l t ms ns = refl
 
-marks_join : (l : Line) (ts us : List Piece) → marks_from l (ts ++ us) ≡ marks_from l ts ++ marks_from (line_behind_all l ts) us
+pub marks_join : (l : Line) (ts us : List Piece) → marks_from l (ts ++ us) ≡ marks_from l ts ++ marks_from (line_behind_all l ts) us
 marks_join l [] us = refl
 marks_join l (t ∷ ts) us =
     ap (and_marks (mark_kind_of l t) l t) (marks_join (line_behind l t) ts us)
     ∙ and_marks_join (mark_kind_of l t) l t (marks_from (line_behind l t) ts) (marks_from (line_behind_all (line_behind l t) ts) us)
 
-lines_join : (l : Line) (ts us : List Piece) → line_behind_all l (ts ++ us) ≡ line_behind_all (line_behind_all l ts) us
+pub lines_join : (l : Line) (ts us : List Piece) → line_behind_all l (ts ++ us) ≡ line_behind_all (line_behind_all l ts) us
 lines_join l [] us = refl
 lines_join l (t ∷ ts) us = lines_join (line_behind l t) ts us
 
 -- ---- further on
 
-abbrev line_further : List ℕ → List ℕ → Line → Line
-line_further q z l = record { indent = l.indent; is_first = l.is_first; behind = behind_further q z l.behind }
+-- Tokens that stand so many bytes further on, where the place behind the token before them is this one.
+module _ (from d : ℕ) where
+  abbrev pub behind_by : ℕ → ℕ
+  behind_by at = if at == 0 then from else at + d
 
-blank_further : (q z : List ℕ) (l : Line) (b : ℕ) → blank_behind (line_further q z l) b ≡ line_further q z (blank_behind l b)
-blank_further q z l b = when (b == 10) (λ e. rw e refl) (λ e. when l.is_first (λ f. rw (e, f) refl) (λ f. rw (e, f) refl))
+  abbrev pub line_by_places : Line → Line
+  line_by_places l = record { indent = l.indent; is_first = l.is_first; behind = behind_by l.behind }
 
-blanks_further : (q z : List ℕ) (l : Line) (x : List ℕ) → blanks_behind (line_further q z l) x ≡ line_further q z (blanks_behind l x)
-blanks_further q z l [] = refl
-blanks_further q z l (b ∷ x) = ap (λ m. blanks_behind m x) (blank_further q z l b) ∙ blanks_further q z (blank_behind l b) x
+  abbrev pub mark_by_places : Mark → Mark
+  mark_by_places t = record { kind = t.kind; at = t.at + d; behind = behind_by t.behind; indent = t.indent; begins_line = t.begins_line }
 
-by_further : (q z : List ℕ) (k : TokenKind) (l : Line) (x : List ℕ) → line_by k (line_further q z l) x ≡ line_further q z (line_by k l x)
-by_further q z kind.Whitespace l x = blanks_further q z l x
-by_further q z _ l x = refl
+  blank_on : (l : Line) (b : ℕ) → blank_behind (line_by_places l) b ≡ line_by_places (blank_behind l b)
+  blank_on l b = when (b == 10) (λ e. rw e refl) (λ e. when l.is_first (λ f. rw (e, f) refl) (λ f. rw (e, f) refl))
 
-place_further : (q z : List ℕ) (l : Line) (t : Piece) → 0 < length t.text → place_behind (line_further q z l) (moved (seam q z) t) ≡ behind_further q z (place_behind l t)
-place_further q z l t some =
-    let other : (t.at + length t.text == 0) ≡ false = ne_eqb (t.at + length t.text) 0 (omega arith) in
-    let on : t.at + seam q z + length t.text ≡ t.at + length t.text + seam q z = omega arith in
-    when (is_between t.kind) (λ e. rw e refl) (λ e. rw (e, other) on)
+  blanks_on : (l : Line) (x : List ℕ) → blanks_behind (line_by_places l) x ≡ line_by_places (blanks_behind l x)
+  blanks_on l [] = refl
+  blanks_on l (b ∷ x) = ap (λ m. blanks_behind m x) (blank_on l b) ∙ blanks_on (blank_behind l b) x
 
-token_further : (q z : List ℕ) (l : Line) (t : Piece) → 0 < length t.text → line_behind (line_further q z l) (moved (seam q z) t) ≡ line_further q z (line_behind l t)
-token_further q z l t some =
-    ap (λ m. with_behind (place_behind (line_further q z l) (moved (seam q z) t)) m) (by_further q z t.kind l t.text)
-    ∙ ap (λ n. with_behind n (line_by t.kind l t.text)) (place_further q z l t some)
+  kind_on : (k : TokenKind) (l : Line) (x : List ℕ) → line_by k (line_by_places l) x ≡ line_by_places (line_by k l x)
+  kind_on kind.Whitespace l x = blanks_on l x
+  kind_on _ l x = refl
 
-and_marks_further : (q z : List ℕ) (k : Option MarkKind) (l : Line) (t : Piece) (ms : List Mark) → and_marks k (line_further q z l) (moved (seam q z) t) (map (mark_further q z) ms) ≡ map (mark_further q z) (and_marks k l t ms)
-and_marks_further q z None l t ms = refl
-and_marks_further q z (Some k) l t ms = refl
+  place_on : (l : Line) (t : Piece) → 0 < length t.text → place_behind (line_by_places l) (moved d t) ≡ behind_by (place_behind l t)
+  place_on l t some =
+      let other : (t.at + length t.text == 0) ≡ false = ne_eqb (t.at + length t.text) 0 (omega arith) in
+      let on : t.at + d + length t.text ≡ t.at + length t.text + d = omega arith in
+      when (is_between t.kind) (λ e. rw e refl) (λ e. rw (e, other) on)
 
-marks_further : (q z : List ℕ) (l : Line) (ts : List Piece) → AreSome ts → marks_from (line_further q z l) (map (moved (seam q z)) ts) ≡ map (mark_further q z) (marks_from l ts)
-marks_further q z l [] s = refl
-marks_further q z l (t ∷ ts) s =
-    ap (λ m. and_marks (mark_kind_of l t) (line_further q z l) (moved (seam q z) t) (marks_from m (map (moved (seam q z)) ts))) (token_further q z l t (some_first t ts s))
-    ∙ ap (and_marks (mark_kind_of l t) (line_further q z l) (moved (seam q z) t)) (marks_further q z (line_behind l t) ts (some_rest t ts s))
-    ∙ and_marks_further q z (mark_kind_of l t) l t (marks_from (line_behind l t) ts)
+  pub token_on : (l : Line) (t : Piece) → 0 < length t.text → line_behind (line_by_places l) (moved d t) ≡ line_by_places (line_behind l t)
+  token_on l t some =
+      ap (λ m. with_behind (place_behind (line_by_places l) (moved d t)) m) (kind_on t.kind l t.text)
+      ∙ ap (λ n. with_behind n (line_by t.kind l t.text)) (place_on l t some)
 
-lines_further : (q z : List ℕ) (l : Line) (ts : List Piece) → AreSome ts → line_behind_all (line_further q z l) (map (moved (seam q z)) ts) ≡ line_further q z (line_behind_all l ts)
-lines_further q z l [] s = refl
-lines_further q z l (t ∷ ts) s =
-    ap (λ m. line_behind_all m (map (moved (seam q z)) ts)) (token_further q z l t (some_first t ts s)) ∙ lines_further q z (line_behind l t) ts (some_rest t ts s)
+  and_marks_on : (k : Option MarkKind) (l : Line) (t : Piece) (ms : List Mark) → and_marks k (line_by_places l) (moved d t) (map mark_by_places ms) ≡ map mark_by_places (and_marks k l t ms)
+  and_marks_on None l t ms = refl
+  and_marks_on (Some k) l t ms = refl
+
+  pub marks_on : (l : Line) (ts : List Piece) → AreSome ts → marks_from (line_by_places l) (map (moved d) ts) ≡ map mark_by_places (marks_from l ts)
+  marks_on l [] s = refl
+  marks_on l (t ∷ ts) s =
+      ap (λ m. and_marks (mark_kind_of l t) (line_by_places l) (moved d t) (marks_from m (map (moved d) ts))) (token_on l t (some_first t ts s))
+      ∙ ap (and_marks (mark_kind_of l t) (line_by_places l) (moved d t)) (marks_on (line_behind l t) ts (some_rest t ts s))
+      ∙ and_marks_on (mark_kind_of l t) l t (marks_from (line_behind l t) ts)
+
+  pub lines_on : (l : Line) (ts : List Piece) → AreSome ts → line_behind_all (line_by_places l) (map (moved d) ts) ≡ line_by_places (line_behind_all l ts)
+  lines_on l [] s = refl
+  lines_on l (t ∷ ts) s =
+      ap (λ m. line_behind_all m (map (moved d) ts)) (token_on l t (some_first t ts s)) ∙ lines_on (line_behind l t) ts (some_rest t ts s)
 
 -- ---- both
 
@@ -103,10 +111,10 @@ module _ (q z s : List ℕ) (h : StandApart q z s) where
   all_marks =
       ap (marks_from text_begin) all_tokens
       ∙ marks_join text_begin (tokens q) (tokens_from 0 (length q) (z ++ 10 ∷ s))
-      ∙ ap (λ ms. marks q ++ ms) (alike.0 ∙ ap (marks_from (line_begin (last q))) second_tokens ∙ marks_further q z text_begin (tokens s) (tokens_not_empty s))
+      ∙ ap (λ ms. marks q ++ ms) (alike.0 ∙ ap (marks_from (line_begin (last q))) second_tokens ∙ marks_on (last q) (seam q z) text_begin (tokens s) (tokens_not_empty s))
 
   pub all_last : last all ≡ behind_further q z (last s)
   all_last =
       ap (λ (l : Line). l.behind) (ap (line_behind_all text_begin) all_tokens
       ∙ lines_join text_begin (tokens q) (tokens_from 0 (length q) (z ++ 10 ∷ s))
-      ∙ alike.1 ∙ ap (line_behind_all (line_begin (last q))) second_tokens ∙ lines_further q z text_begin (tokens s) (tokens_not_empty s))
+      ∙ alike.1 ∙ ap (line_behind_all (line_begin (last q))) second_tokens ∙ lines_on (last q) (seam q z) text_begin (tokens s) (tokens_not_empty s))

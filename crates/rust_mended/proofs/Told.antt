@@ -59,23 +59,23 @@ nothing_told text = (
 -- ---- what is told
 
 -- these edits are of such a kind
-abbrev AllTold : (Edit → Type 0) → List Written → Type 0
+abbrev pub AllTold : (Edit → Type 0) → List Written → Type 0
 AllTold P ws = AllByRecursion P (flat_map mending_edit ws)
 
 -- what is told of an open bracket, wherever it ends
 abbrev Opens : (Edit → Type 0) → Bracket → ℕ → Type 0
 Opens P b at = (end : ℕ) → P (record { at = end; told = at; kind = edit.Put b })
 
-abbrev AllOpens : (Edit → Type 0) → List Opened → Type 0
+abbrev pub AllOpens : (Edit → Type 0) → List Opened → Type 0
 AllOpens P os = AllByRecursion (λ o. Opens P o.bracket o.at) os
 
 -- what is told of a mark
-abbrev Tells : (Edit → Type 0) → MarkKind → ℕ → Type 0
+abbrev pub Tells : (Edit → Type 0) → MarkKind → ℕ → Type 0
 Tells P (mark.Open b) at = Opens P b at
 Tells P (mark.Close c) at = P (record { at = at; told = at; kind = edit.Leave }) × ((b : Bracket) → is_same b c ≡ false → P (record { at = at; told = at; kind = edit.Turn b }))
 Tells P mark.Item at = Unit {0}
 
-abbrev Follows : (Edit → Type 0) → (List Opened → List Written) → Type 0
+abbrev pub Follows : (Edit → Type 0) → (List Opened → List Written) → Type 0
 Follows P K = (us : List Opened) → AllOpens P us → AllTold P (K us)
 
 if_told : (P : Edit → Type 0) (b : Bool) (x y : List Written) → AllTold P x → AllTold P y → AllTold P (if b then x else y)
@@ -112,7 +112,7 @@ close_far_told P t c p g (o ∷ os) K f h =
     if_told P o.is_closed (left t ∷ K (o ∷ os)) (if fits_closer t o then one else two) (g.0, f (o ∷ os) h)
     (if_told P (fits_closer t o) one two (closed_told P t o.bracket (K os) c p g (f os h.1)) (h.0 t.behind, close_far_told P t c p g os K f h.1))
 
-taken_told : (P : Edit → Type 0) (k : MarkKind) (t : Mark) → t.kind ≡ k → Tells P k t.at → (c : Option Mark) (K : List Opened → List Written) → Follows P K → Follows P (mark_taken k t c K)
+pub taken_told : (P : Edit → Type 0) (k : MarkKind) (t : Mark) → t.kind ≡ k → Tells P k t.at → (c : Option Mark) (K : List Opened → List Written) → Follows P K → Follows P (mark_taken k t c K)
 taken_told P (mark.Open b) t p g c K f os h = f (opened_by b t (keeps b t os c) os ∷ os) (by (keeps b t os c), h)
   where
     by : (m : Option Mark) → Opens P (opened_by b t m os).bracket (opened_by b t m os).at
@@ -123,7 +123,7 @@ taken_told P (mark.Close b) t p g c K f os h =
     (if_told P (is_brace b) (close_far t os K) (left t ∷ K os) (close_far_told P t b p g os K f h) (g.0, f os h))
 taken_told P mark.Item t p g c K f os h = end_before_told P t os (λ us. kept t ∷ K us) f h
 
-abbrev AllMarks : (Edit → Type 0) → List Mark → Type 0
+abbrev pub AllMarks : (Edit → Type 0) → List Mark → Type 0
 AllMarks P ts = AllByRecursion (λ t. Tells P t.kind t.at) ts
 
 written_told : (P : Edit → Type 0) (at : ℕ) (ts : List Mark) → AllMarks P ts → Follows P (written_from at ts)

@@ -64,7 +64,7 @@ close_far_is t (o ∷ os) K =
     step_if o.is_closed (left t ∷ K (o ∷ os)) (if spec.fits_closer t o then one else two) (left t ∷ [], o ∷ os) (if spec.fits_closer t o then first else second) K
     refl (step_if (spec.fits_closer t o) one two first second K refl (ap (λ ws. put t.behind o ∷ ws) (close_far_is t os K)))
 
-taken_is : (k : MarkKind) (t : Mark) (c : Option Mark) (os : List Opened) (K : List Opened → List Written) → spec.mark_taken k t c K os ≡ (taken_step k t c os).0 ++ K (taken_step k t c os).1
+pub taken_is : (k : MarkKind) (t : Mark) (c : Option Mark) (os : List Opened) (K : List Opened → List Written) → spec.mark_taken k t c K os ≡ (taken_step k t c os).0 ++ K (taken_step k t c os).1
 taken_is (mark.Open b) t c os K = refl
 taken_is (mark.Close b) t c os K =
     let other : MendingStep = if spec.is_brace b then close_far_step t os else (left t ∷ [], os) in

@@ -2,4 +2,5 @@ pub mod Marks
 pub mod Mended
 pub mod Texts
 pub mod Apart
+pub mod Inside
 pub mod Steps
