@@ -302,7 +302,7 @@ found_three m n f g h =
 
 -- what goes on behind what goes on
 reads_through : (edition : EditionYear) (text : List ℕ) (m n : ℕ) (x y : List ℕ) → ReadsOn edition text m x → ReadsOn edition x n y → ReadsOn edition text (m + n) y
-reads_through edition text m n x y one two = record {
+reads_through edition z m n x y one two = record {
   first = one.first ++ two.first;
   items = one.items ∙ ap (λ l. one.first ++ l) two.items ∙ sym (append_assoc one.first two.first (read_of edition y).0);
   before = and_all (found_on m two.before) one.before;
