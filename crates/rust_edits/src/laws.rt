@@ -3,6 +3,7 @@
 
 ghost use Rattle.hir_input.specs.Equality.{DecidesEq, IsCopied};
 ghost use Rattle.rust_edits.specs.Edits.{ItemsAreInOrder};
+ghost use Rattle.rust_edits.specs.Typing.Damaged.{TypingDamaged};
 ghost use Rattle.rust_edits.specs.Typing.Laws.{TypingInside};
 ghost use Rattle.rust_edits.specs.Typing.Loose.{ProblemsMove};
 ghost use Rattle.rust_edits.specs.Typing.Moved.{BodyIsTold, IsReadAnew, PlacesMove};
@@ -32,6 +33,7 @@ fn typing()
     ensures body_opens { BodyOpens }
     ensures problems_stand { ProblemsStand }
     ensures problems_move { ProblemsMove }
+    ensures typing_damaged { TypingDamaged }
 {}
 
 // What is read of a text that ends with a whole item and of what is behind it, also where brackets are mended.
