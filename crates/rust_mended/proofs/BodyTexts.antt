@@ -20,12 +20,12 @@ use Rattle.rust_mended.specs.declared.mark.Mark.{Mark}
 use Rattle.rust_mended.specs.declared.mark.MarkKind.{MarkKind}
 use Rattle.rust_mended.specs.declared.mark.MarkKind.TheVariants as mark
 use Rattle.rust_mended.specs.declared.mark.Opened.{Opened}
-use Rattle.rust_mended.specs.Inside.{AreMendedAround, KeepEachOther, MayStandIn, before_opener, braced, closer_line, is_further_out, open_behind, opener, opener_line}
+use Rattle.rust_mended.specs.Inside.{AreMendedAround, KeepEachOther, MayStandIn, before_opener, braced, closer_line, is_further_out, open_behind, opener, opener_line, place_grown}
 use Rattle.rust_mended.specs.Marks.{last, line_behind_all, marks, marks_from, text_begin}
 use Rattle.rust_mended.specs.Mended.{all_written, closers_reaching, keeps, kept_if, written_from}
 use Rattle.rust_mended.specs.Steps.{EditsFit}
-use Rattle.rust_mended.specs.Texts.{edits, mended_text, mending_edit, past_by, past_edit, sign, with_edits}
-use Rattle.rust_mended.proofs.Around.{Any, all_changed_written, changed, changed_edit, edits_stay, fits_any, front_changed, grown, grown_high, grown_same, marks_stay, upto_fits, upto_told}
+use Rattle.rust_mended.specs.Texts.{edit_moved, edits, mended_text, mending_edit, past_by, past_edit, sign, with_edits}
+use Rattle.rust_mended.proofs.Around.{Any, all_changed_written, changed, edits_stay, fits_any, front_changed, grown_high, grown_same, marks_stay, upto_fits, upto_told}
 use Rattle.rust_mended.proofs.Bodies as body
 use Rattle.rust_mended.proofs.Bodies.{behind_marks, behind_tokens, bounded, closed_line, closer, inner_line, inner_marks, inner_tokens, place_moved, some_unmoved}
 use Rattle.rust_mended.proofs.Further.{EndAt, IsSome, are_behind, reaching_on, same_on}
@@ -63,16 +63,16 @@ all_on n (t ∷ ts) =
     ap (λ k. record { kind = t.kind; at = t.at + n; behind = k; indent = t.indent; begins_line = t.begins_line } ∷ map (mark_by_places n n) ts) (by_all n t.behind)
     ∙ ap (λ us. changed (λ k. k + n) (same_on n) t ∷ us) (all_on n ts)
 
-grown_on : (from n k : ℕ) → grown from n (k + from) ≡ k + (from + n)
+grown_on : (from n k : ℕ) → place_grown from n (k + from) ≡ k + (from + n)
 grown_on from n k = grown_high from n (k + from) (omega arith) ∙ (let e : k + from + n ≡ k + (from + n) = omega arith in e)
 
-rest_grown : (from n at : ℕ) (ts : List Mark) → EndAt IsSome at ts → map (changed (grown from n) (grown_same from n)) (map (mark_by_places 0 from) ts) ≡ map (mark_by_places 0 (from + n)) ts
+rest_grown : (from n at : ℕ) (ts : List Mark) → EndAt IsSome at ts → map (changed (place_grown from n) (grown_same from n)) (map (mark_by_places 0 from) ts) ≡ map (mark_by_places 0 (from + n)) ts
 rest_grown from n at [] h = refl
 rest_grown from n at (t ∷ ts) h =
-    let place : grown from n (behind_by 0 from t.behind) ≡ behind_by 0 (from + n) t.behind =
-    ap (grown from n) (by_some from t.behind h.0) ∙ grown_on from n t.behind ∙ sym (by_some (from + n) t.behind h.0) in
-    ap (λ k. record { kind = t.kind; at = k; behind = grown from n (behind_by 0 from t.behind); indent = t.indent; begins_line = t.begins_line } ∷ map (changed (grown from n) (grown_same from n)) (map (mark_by_places 0 from) ts)) (grown_on from n t.at)
-    ∙ ap (λ k. record { kind = t.kind; at = t.at + (from + n); behind = k; indent = t.indent; begins_line = t.begins_line } ∷ map (changed (grown from n) (grown_same from n)) (map (mark_by_places 0 from) ts)) place
+    let place : place_grown from n (behind_by 0 from t.behind) ≡ behind_by 0 (from + n) t.behind =
+    ap (place_grown from n) (by_some from t.behind h.0) ∙ grown_on from n t.behind ∙ sym (by_some (from + n) t.behind h.0) in
+    ap (λ k. record { kind = t.kind; at = k; behind = place_grown from n (behind_by 0 from t.behind); indent = t.indent; begins_line = t.begins_line } ∷ map (changed (place_grown from n) (grown_same from n)) (map (mark_by_places 0 from) ts)) (grown_on from n t.at)
+    ∙ ap (λ k. record { kind = t.kind; at = t.at + (from + n); behind = k; indent = t.indent; begins_line = t.begins_line } ∷ map (changed (place_grown from n) (grown_same from n)) (map (mark_by_places 0 from) ts)) place
     ∙ ap (λ us. mark_by_places 0 (from + n) t ∷ us) (rest_grown from n at ts h.1)
 
 fits_weaker : (P R : ℕ → Type 0) → ((n : ℕ) → P n → R n) → (at : ℕ) (es : List Edit) → EditsFit P at es → EditsFit R at es
@@ -105,15 +105,15 @@ alike_edits text at es fs e = plain_same text at es ∙ ap (with_edits text at) 
 
 -- so many bytes before
 abbrev back : ℕ → Edit → Edit
-back n e = record { at = e.at - n; told = e.told - n; kind = e.kind }
+back n = edit_moved (λ at. at - n)
 
 rest_plain : (from n : ℕ) (es : List Edit) → AllByRecursion (λ e. suc from ≤ e.at) es
-    → map plain (map (changed_edit (grown from n) (grown_same from n)) es) ≡ map plain (map (on from) (map (on (suc n)) (map (back (suc from)) es)))
+    → map plain (map (edit_moved (place_grown from n)) es) ≡ map plain (map (on from) (map (on (suc n)) (map (back (suc from)) es)))
 rest_plain from n [] h = refl
 rest_plain from n (e ∷ es) h =
     let some : suc from ≤ e.at = h.0 in
-    let place : grown from n e.at ≡ (e.at - suc from) + suc n + from = grown_high from n e.at (omega (arith, some)) ∙ (let f : e.at + n ≡ (e.at - suc from) + suc n + from = omega (arith, some) in f) in
-    ap (λ k. record { at = k; told = 0; kind = e.kind } ∷ map plain (map (changed_edit (grown from n) (grown_same from n)) es)) place
+    let place : place_grown from n e.at ≡ (e.at - suc from) + suc n + from = grown_high from n e.at (omega (arith, some)) ∙ (let f : e.at + n ≡ (e.at - suc from) + suc n + from = omega (arith, some) in f) in
+    ap (λ k. record { at = k; told = 0; kind = e.kind } ∷ map plain (map (edit_moved (place_grown from n)) es)) place
     ∙ ap (λ fs. record { at = (e.at - suc from) + suc n + from; told = 0; kind = e.kind } ∷ fs) (rest_plain from n es h.1)
 
 -- ---- one text
@@ -171,10 +171,10 @@ module _ (q s : List ℕ) (indent : ℕ) where
     far = map (mark_by_places 0 (from + n)) (behind_marks indent s)
 
     abbrev grow : Mark → Mark
-    grow = changed (grown from n) (grown_same from n)
+    grow = changed (place_grown from n) (grown_same from n)
 
     abbrev grow_edit : Edit → Edit
-    grow_edit = changed_edit (grown from n) (grown_same from n)
+    grow_edit = edit_moved (place_grown from n)
 
     -- ---- bounds
 
@@ -247,7 +247,7 @@ module _ (q s : List ℕ) (indent : ℕ) where
     marks_are : marks text ≡ front ++ (o ∷ (inside ++ (c ∷ far)))
     marks_are = body.body_marks q m s is ∙ ap (λ i. front ++ (o ∷ (inside ++ (c ∷ map (mark_by_places 0 (from + n)) (behind_marks i s))))) same
 
-    last_is : last text ≡ grown from n (end + from)
+    last_is : last text ≡ place_grown from n (end + from)
     last_is =
         body.body_last q m s is
         ∙ ap (λ i. behind_by 0 (from + n) (line_behind_all (closed_line i s) (behind_tokens s)).behind) same
@@ -260,7 +260,7 @@ module _ (q s : List ℕ) (indent : ℕ) where
     front_is_still = marks_stay from n front (front_low front front_bounded)
 
     far_reaching : closers_reaching far ≡ map grow (closers_reaching behind)
-    far_reaching = ap closers_reaching (sym far_is) ∙ reaching_on (grown from n) (grown from n) Any (grown_same from n) (fits_any (grown from n) (grown_same from n)) behind
+    far_reaching = ap closers_reaching (sym far_is) ∙ reaching_on (place_grown from n) (place_grown from n) Any (grown_same from n) (fits_any (place_grown from n) (grown_same from n)) behind
 
     keep : KeepEachOther front o inside c far
     keep = record {
@@ -278,13 +278,13 @@ module _ (q s : List ℕ) (indent : ℕ) where
     before_are =
         ap (λ xs. flat_map mending_edit (upto front xs no_rest [])) far_reaching
         ∙ ap (λ ts. flat_map mending_edit (upto ts (map grow (closers_reaching behind)) no_rest [])) (sym front_is_still)
-        ∙ front_changed (grown from n) (grown_same from n) front (closers_reaching behind) ∙ before_stay
+        ∙ front_changed (place_grown from n) (grown_same from n) front (closers_reaching behind) ∙ before_stay
 
     both_are : flat_map mending_edit (all_written (last text) (front ++ far)) ≡ edits_before ++ map grow_edit edits_after
     both_are =
         ap (λ k. flat_map mending_edit (all_written k (front ++ far))) last_is
-        ∙ ap (λ ts. flat_map mending_edit (all_written (grown from n (end + from)) ts)) (ap (λ ts. ts ++ far) (sym front_is_still) ∙ ap (λ ts. map grow front ++ ts) (sym far_is) ∙ sym (map-append grow front behind))
-        ∙ all_changed_written (grown from n) (grown_same from n) (end + from) (front ++ behind)
+        ∙ ap (λ ts. flat_map mending_edit (all_written (place_grown from n (end + from)) ts)) (ap (λ ts. ts ++ far) (sym front_is_still) ∙ ap (λ ts. map grow front ++ ts) (sym far_is) ∙ sym (map-append grow front behind))
+        ∙ all_changed_written (place_grown from n) (grown_same from n) (end + from) (front ++ behind)
         ∙ ap (map grow_edit) around
         ∙ map-append grow_edit edits_before edits_after
         ∙ ap (λ es. es ++ map grow_edit edits_after) before_stay
@@ -303,7 +303,7 @@ module _ (q s : List ℕ) (indent : ℕ) where
         ∙ ap (λ ts. flat_map mending_edit (all_written (end_inside + from) ts)) (all_on from (inner_marks q m))
         ∙ all_changed_written (λ k. k + from) (same_on from) end_inside (inner_marks q m)
 
-    text_edits : edits text ≡ edits_before ++ (map (on from) edits_inner ++ map grow_edit edits_after)
+    pub text_edits : edits text ≡ edits_before ++ (map (on from) edits_inner ++ map grow_edit edits_after)
     unfolding edits
     text_edits =
         ap (λ ts. flat_map mending_edit (all_written (last text) ts)) marks_are
@@ -354,6 +354,9 @@ mended_around q m n s h =
       inside = edits_inner q s i m stood h.stood refl h.within;
       inside_then = edits_inner q s i n stands h.stands (sym h.indent) near;
       after = after q s i;
+      behind = edits_after q s i;
+      told = text_edits q s i m stood h.stood refl h.within;
+      told_then = text_edits q s i n stands h.stands (sym h.indent) near;
       stood = text_is q s i m stood h.stood refl h.within;
       stands = text_is q s i n stands h.stands (sym h.indent) near;
     }

@@ -1,15 +1,14 @@
 -- Small texts, by computing.
-use Rattle.std.proofs.Common.{◌≡◌, ℕ, true, false, List, [], ◌∷◌, ◌++◌, refl}
+use Rattle.std.proofs.Common.{◌≡◌, ℕ, true, List, [], ◌∷◌, ◌++◌, refl}
 use Rattle.rust_lexer.specs.Bytes.{is_wide_continue, is_wide_start}
 use Rattle.rust_lexer.specs.Cut.{first_cut}
-use Rattle.rust_lexer.specs.Number.{past_digits}
 use Rattle.rust_lexer.specs.Tokens.{tokens}
 use Rattle.rust_mended.specs.declared.bracket.Bracket.TheVariants as bracket
 use Rattle.rust_mended.specs.declared.edit.EditKind.TheVariants as edit
 use Rattle.rust_mended.specs.Apart.{StandApart, begin_with_item}
 use Rattle.rust_mended.specs.Inside.{MayStandIn, braced}
 use Rattle.rust_mended.specs.Marks.{marks}
-use Rattle.rust_mended.specs.Texts.{edits, is_matched, mended_text}
+use Rattle.rust_mended.specs.Texts.{edits, mended_text}
 
 -- `a(`, blank, and `b{}`
 front : List ℕ

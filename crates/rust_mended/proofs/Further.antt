@@ -12,7 +12,6 @@ use Rattle.rust_lexer.proofs.Counted.{when}
 use Rattle.rust_lexer.proofs.Laws.{AreSome, tokens_not_empty}
 use Rattle.rust_mended.specs.declared.bracket.Bracket.{Bracket}
 use Rattle.rust_mended.specs.declared.bracket.Bracket.TheVariants as bracket
-use Rattle.rust_mended.specs.declared.edit.Edit.{Edit}
 use Rattle.rust_mended.specs.declared.edit.EditKind.TheVariants as edit
 use Rattle.rust_mended.specs.declared.line.Line.{Line}
 use Rattle.rust_mended.specs.declared.mark.Mark.{Mark}
@@ -22,7 +21,7 @@ use Rattle.rust_mended.specs.declared.mark.Opened.{Opened}
 use Rattle.rust_mended.specs.Apart.{behind_further, edit_further, mark_further, seam}
 use Rattle.rust_mended.specs.Marks.{bracket_of, is_between, is_closing_symbol, is_opening_symbol, last, line_behind, line_behind_all, and_marks, marks, marks_from, may_begin_item, place_behind, text_begin}
 use Rattle.rust_mended.specs.Mended.{Written, kept, put, left, closed, is_brace, is_closer_of, closes_brace, first_brace, closers_behind_brace, first_other, closers_behind_other, closer_of, closers_past, closers_reached, closer_by, closers_reaching, all_ended, ends_before_item, end_before, is_owed, owed, is_lost, close_own, fits_closer, close_far, keeps, opened_by, mark_taken, written_from, all_written}
-use Rattle.rust_mended.specs.Texts.{mending_edit, edits}
+use Rattle.rust_mended.specs.Texts.{edit_moved, edits, mending_edit}
 use Rattle.rust_mended.proofs.Places.{some_first, some_rest}
 use Rattle.rust_mended.proofs.Whole.{no_truth}
 
@@ -91,9 +90,6 @@ module _ (place behind : ℕ → ℕ) (P : ℕ → Type 0) (same : (m n : ℕ) �
   abbrev pub on : Mark → Mark
   on t = record { kind = t.kind; at = place t.at; behind = behind t.behind; indent = t.indent; begins_line = t.begins_line }
 
-  abbrev pub edit_on : Edit → Edit
-  edit_on e = record { at = place e.at; told = place e.told; kind = e.kind }
-
   abbrev pub opened_on : Opened → Opened
   opened_on o = record { bracket = o.bracket; at = place o.at; indent = o.indent; is_closed = o.is_closed; owed = option_map place o.owed }
 
@@ -102,7 +98,7 @@ module _ (place behind : ℕ → ℕ) (P : ℕ → Type 0) (same : (m n : ℕ) �
 
   -- the edits are those, further on
   abbrev pub Further : List Written → List Written → Type 0
-  Further ws us = flat_map mending_edit us ≡ map (edit_on) (flat_map mending_edit ws)
+  Further ws us = flat_map mending_edit us ≡ map (edit_moved place) (flat_map mending_edit ws)
 
   first_brace_on : (cs : List Mark) → first_brace (map on cs) ≡ option_map on (first_brace cs)
   first_brace_on [] = refl

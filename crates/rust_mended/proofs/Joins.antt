@@ -17,7 +17,7 @@ use Rattle.rust_mended.specs.Apart.{StandApart, begin_with_item, behind_further,
 use Rattle.rust_mended.specs.Marks.{last, marks, text_begin}
 use Rattle.rust_mended.specs.Mended.{all_written, closers_reaching}
 use Rattle.rust_mended.specs.Steps.{EditsFit}
-use Rattle.rust_mended.specs.Texts.{edits, is_matched, mended_text, mending_edit, past_by, past_edit, sign, with_edits}
+use Rattle.rust_mended.specs.Texts.{edit_moved, edits, is_matched, mended_text, mending_edit, past_by, past_edit, sign, with_edits}
 use Rattle.rust_mended.proofs.Behind.{written_behind}
 use Rattle.rust_mended.proofs.Further.{edits_further, reaching_on, same_on, behind_on, IsSome}
 use Rattle.rust_mended.proofs.Puts.{text_edits_fit}
@@ -28,7 +28,7 @@ use Rattle.rust_mended.proofs.Whole.{edits_behind_matched, marks_match, text_edi
 
 -- an edit so many bytes further on
 abbrev pub on : ℕ → Edit → Edit
-on n e = record { at = e.at + n; told = e.told + n; kind = e.kind }
+on n = edit_moved (λ at. at + n)
 
 past_on : (n : ℕ) (k : EditKind) (at : ℕ) → past_by k (at + n) ≡ past_by k at + n
 past_on n (edit.Put b) at = refl

@@ -10,6 +10,7 @@ use Rattle.rust_mended.specs.declared.mark.Mark.{Mark}
 use Rattle.rust_mended.specs.declared.mark.MarkKind.{MarkKind}
 use Rattle.rust_mended.specs.declared.mark.MarkKind.TheVariants as mark
 use Rattle.rust_mended.specs.Marks.{last}
+use Rattle.rust_mended.specs.Texts.{edit_moved}
 
 -- Behind a text come blanks up to the end of a line, and another text. A token of the first ends before the blanks, whatever it is alone and
 -- here. The second begins with a whole character, and with neither a byte order mark, a shebang line nor frontmatter.
@@ -33,7 +34,7 @@ mark_further q z t = record { kind = t.kind; at = t.at + seam q z; behind = behi
 
 -- an edit of the second, in the whole
 abbrev pub edit_further : List ℕ → List ℕ → Edit → Edit
-edit_further q z e = record { at = e.at + seam q z; told = e.told + seam q z; kind = e.kind }
+edit_further q z = edit_moved (λ at. at + seam q z)
 
 abbrev pub is_item_mark : MarkKind → Bool
 is_item_mark mark.Item = true

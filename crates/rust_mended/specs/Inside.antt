@@ -1,5 +1,5 @@
 -- What stands in braces that keep each other.
-use Rattle.std.specs.Prelude.{◌≡◌, ℕ, zero, suc, Bool, true, false, ◌&&◌, List, [], ◌∷◌, ◌++◌, length, map, Some, flat_map, nat_eq, nat_lt}
+use Rattle.std.specs.Prelude.{◌≡◌, ℕ, zero, suc, Bool, true, false, ◌+◌, ◌&&◌, if◌then◌else◌, List, [], ◌∷◌, ◌++◌, length, map, Some, flat_map, nat_eq, nat_lt}
 use Rattle.rust_lexer.specs.declared.kind.TokenKind.TheVariants as kind
 use Rattle.rust_lexer.specs.Alone.{StandsAlone, is_full, moved, overhang, tokens_in_front}
 use Rattle.rust_lexer.specs.Piece.{Piece}
@@ -14,7 +14,7 @@ use Rattle.rust_mended.specs.declared.mark.Opened.{Opened}
 use Rattle.rust_mended.specs.Marks.{line_behind_all, text_begin}
 use Rattle.rust_mended.specs.Mended.{all_written, closer_by, closers_reached, closers_reaching, keeps}
 use Rattle.rust_mended.specs.Steps.{taken_step}
-use Rattle.rust_mended.specs.Texts.{mended_text, mending_edit, with_edits}
+use Rattle.rust_mended.specs.Texts.{edit_moved, edits, mended_text, mending_edit, with_edits}
 
 -- the closers of marks that close what stands before them, where these come behind
 abbrev pub closers_before : List Mark → List Mark → List Mark
@@ -98,11 +98,24 @@ pub record MayStandIn (q m n s : List ℕ) : Type 0 where
   pub begins : (closer_line q m).is_first ≡ (closer_line q n).is_first
   pub within : is_further_out (closer_line q m) (opener_line q) ≡ false
 
--- Both are mended alike but for what stands in the braces.
+-- a place, where so many bytes more stand before those from a place on
+abbrev pub place_grown : ℕ → ℕ → ℕ → ℕ
+place_grown from n at = if nat_lt at from then at else at + n
+
+-- Of a text in braces these are the edits: those before the `{`, those in the braces, by places in what stands there, and those behind the
+-- `}`, by places in the text with nothing in the braces.
+abbrev pub HasEdits : List ℕ → List ℕ → List ℕ → List Edit → List Edit → List Edit → Type 0
+HasEdits q m s before inside behind =
+    edits (braced q m s) ≡ before ++ (map (edit_moved (λ at. at + suc (length q))) inside ++ map (edit_moved (place_grown (suc (length q)) (length m))) behind)
+
+-- Both are mended alike but for what stands in the braces, and what is told around them is the same.
 pub record AreMendedAround (q m n s : List ℕ) : Type 0 where
   pub before : List Edit
   pub inside : List Edit
   pub inside_then : List Edit
   pub after : List Edit
+  pub behind : List Edit
+  pub told : HasEdits q m s before inside behind
+  pub told_then : HasEdits q n s before inside_then behind
   pub stood : mended_text (braced q m s) ≡ braced (with_edits q 0 before) (with_edits m 0 inside) (with_edits s 0 after)
   pub stands : mended_text (braced q n s) ≡ braced (with_edits q 0 before) (with_edits n 0 inside_then) (with_edits s 0 after)

@@ -27,6 +27,10 @@ mending_edit (closed t b) = if is_closer_of b t.kind then [] else record { at = 
 unfoldable pub edits : List ℕ → List Edit
 edits text = flat_map mending_edit (all_written (last text) (marks text))
 
+-- an edit, its places changed so
+abbrev pub edit_moved : (ℕ → ℕ) → Edit → Edit
+edit_moved place e = record { at = place e.at; told = place e.told; kind = e.kind }
+
 -- tells of such a mark: of a bracket that nothing closes, of a closer that closes nothing, or of one that closes a bracket of another kind
 abbrev pub tells_of : EditKind → MarkKind → Bool
 tells_of (edit.Put b) (mark.Open c) = is_same b c

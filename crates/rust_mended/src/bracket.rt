@@ -16,7 +16,7 @@ pub enum Bracket {
 }
 
 /// The kind of a bracket that begins with this byte.
-pub(crate) fn bracket_of(symbol: u8) -> Bracket
+pub fn bracket_of(symbol: u8) -> Bracket
     ensures { result ≡ marks.bracket_of symbol }
 {
     match symbol {
@@ -37,7 +37,7 @@ pub(crate) fn is_brace(bracket: Bracket) -> bool
 }
 
 /// Whether these are of one kind.
-pub(crate) fn is_same(left: Bracket, right: Bracket) -> bool
+pub fn is_same(left: Bracket, right: Bracket) -> bool
     ensures { result ≡ spec.is_same left right }
 {
     match left {

@@ -11,6 +11,6 @@ mod reached;
 mod replaced;
 mod text;
 
-pub use bracket::Bracket;
+pub use bracket::{Bracket, bracket_of, is_same};
 pub use edit::{Edit, EditKind};
 pub use text::{Mended, edits, mend};

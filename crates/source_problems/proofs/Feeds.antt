@@ -1,7 +1,10 @@
--- Texts with line feeds alone.
-use Rattle.std.proofs.Common.{◌≡◌, ℕ, List, length, map, subst}
+-- Texts with line feeds alone, and texts whose brackets match.
+use Rattle.std.proofs.Common.{◌≡◌, ℕ, true, List, [], ap, length, map, subst}
 use Rattle.rust_lexer.specs.Tokens.{tokens}
 use Rattle.rust_items.specs.LineEnds.{with_feeds, place_by, place_in, returns_from}
+use Rattle.rust_mended.proofs.Told.{nothing_told}
+use Rattle.rust_mended.specs.Texts.{is_matched, tokens_match}
+use Rattle.source_problems.specs.Brackets.{mended_problem, bracket_problems}
 use Rattle.source_problems.specs.declared.problem.SourceProblem.{SourceProblem}
 use Rattle.source_problems.specs.Quotes.{token_problems}
 use Rattle.source_problems.specs.Texts.{problem_moved_by, quote_problems}
@@ -13,3 +16,8 @@ unfolding place_in
 same_problems text feeds len returns ps f l r is =
     subst (λ (p : List ℕ × (ℕ × List ℕ)). ps ≡ map (problem_moved_by (place_by p.1.0 p.1.1)) (token_problems (tokens p.0)))
     (let e : (feeds, (len, returns)) ≡ (with_feeds text, (length (with_feeds text), returns_from 0 text)) = cc in e) is
+
+-- where all brackets match, none is wrong
+pub none_told : (text : List ℕ) → tokens_match (tokens text) [] ≡ true → bracket_problems text ≡ []
+unfolding is_matched
+none_told text h = ap (map mended_problem) ((nothing_told text).0 h)

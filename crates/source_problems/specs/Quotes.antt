@@ -1,5 +1,5 @@
 -- What is wrong with the quotes of a text, and its conflict markers.
-use Rattle.std.specs.Prelude.{ℕ, if◌then◌else◌, List, [], ◌∷◌, ◌++◌}
+use Rattle.std.specs.Prelude.{if◌then◌else◌, List, [], ◌∷◌, ◌++◌}
 use Rattle.rust_lexer.specs.Piece.{Piece}
 use Rattle.rust_lexer.specs.Terminated.{is_terminated}
 use Rattle.source_problems.specs.declared.problem.SourceProblem.{SourceProblem}

@@ -1,13 +1,16 @@
 //! Quotes and conflict markers.
 
-ghost use Rattle.std.specs.Prelude.{◌≡◌, ◌++◌, IfOk, OnOk};
+ghost use Rattle.std.specs.Prelude.{◌≡◌, [], ◌++◌, IfOk, OnOk};
 ghost use Rattle.rust_lexer.specs.Tokens.{tokens};
+ghost use Rattle.rust_mended.specs.Texts.{tokens_match};
 ghost use Rattle.source_problems.specs.Quotes as spec;
 
+use crate::brackets::take_bracket;
 use crate::markers::{push_marker, push_marker_behind};
 use crate::problem::{SourceProblem, SourceProblemKind, push};
 use rust_lexer::{Lexer, Token};
 use std::alloc::{AllocError, Global};
+use std::collections::VecDeque;
 
 /// Adds a problem where a token is not ended.
 fn push_unended(token: &Token<'_>, problems: &mut Vec<SourceProblem>) -> Result<(), AllocError>
@@ -19,16 +22,32 @@ fn push_unended(token: &Token<'_>, problems: &mut Vec<SourceProblem>) -> Result<
     push(problems, token.at(), SourceProblemKind::Unterminated)
 }
 
-/// What is wrong with the quotes of a text, and its conflict markers.
-pub(crate) fn quote_problems(alloc: Global, text: &str) -> Result<Vec<SourceProblem>, AllocError>
-    ensures { IfOk result (λ v. v.items ≡ spec.token_problems (tokens text.now)) }
+/// What a walk over the tokens of a text finds.
+#[derive(Drop)]
+pub(crate) struct Lines {
+    /// What is wrong with quotes, and conflict markers.
+    pub problems: Vec<SourceProblem>,
+    /// Whether all brackets match.
+    pub is_matched: bool,
+}
+
+/// What is wrong with the quotes of a text, its conflict markers, and whether its brackets match.
+pub(crate) fn read_lines(alloc: Global, text: &str) -> Result<Lines, AllocError>
+    ensures problems { IfOk result (λ l. l.problems.items ≡ spec.token_problems (tokens text.now)) }
+    ensures matched { IfOk result (λ l. l.is_matched ≡ tokens_match (tokens text.now) []) }
 {
     let mut problems = Vec::new(alloc);
+    let mut opened = VecDeque::new(alloc);
+    let mut is_matched = true;
     let mut lexer = Lexer::new(text);
     push_marker(&lexer, &mut problems)?;
     'tokens: while let Some(token) = lexer.next() {
         push_unended(&token, &mut problems)?;
         push_marker_behind(&token, &lexer, &mut problems)?;
+        is_matched = is_matched && take_bracket(token.symbol(), &mut opened)?;
     }
-    Ok(problems)
+    Ok(Lines {
+        problems,
+        is_matched: is_matched && opened.is_empty(),
+    })
 }

@@ -1,9 +1,11 @@
 //! All that is wrong with a text.
 
-ghost use Rattle.std.specs.Prelude.{◌≡◌, ◌++◌, IfOk, OnOk, map};
+ghost use Rattle.std.specs.Prelude.{◌≡◌, [], ◌++◌, IfOk, OnOk, map};
 ghost use Rattle.rust_items.specs.LineEnds.{place_by};
 ghost use Rattle.rust_items.specs.SourceFiles.{file_view};
 ghost use Rattle.rust_lexer.specs.Tokens.{tokens};
+ghost use Rattle.rust_mended.specs.Texts.{tokens_match};
+ghost use Rattle.source_problems.specs.Brackets as brackets;
 ghost use Rattle.source_problems.specs.Problems as found;
 ghost use Rattle.source_problems.specs.Quotes as quotes;
 ghost use Rattle.source_problems.specs.Texts as spec;
@@ -11,7 +13,7 @@ ghost use Rattle.source_problems.specs.Texts as spec;
 use crate::brackets::bracket_problems;
 use crate::items::push_syntax;
 use crate::problem::{Found, SourceProblem, told};
-use crate::quotes::quote_problems;
+use crate::quotes::{Lines, read_lines};
 use rust_items::line_ends::{LineEnds, has_return, with_feeds};
 use rust_items::{Problem, SourceFile};
 use std::alloc::{AllocError, Global};
@@ -37,41 +39,48 @@ fn placed(
 }
 
 /// What is wrong with the quotes and the lines of a text with line feeds alone, at the places of the text as it is.
-fn feed_problems(
-    alloc: Global,
-    feeds: &str,
-    ends: &LineEnds,
-) -> Result<Vec<SourceProblem>, AllocError>
-    ensures { IfOk result (λ v. v.items
+fn placed_lines(alloc: Global, feeds: &str, ends: &LineEnds) -> Result<Lines, AllocError>
+    ensures problems { IfOk result (λ l. l.problems.items
         ≡ map (spec.problem_moved_by (place_by ends.now.len ends.now.returns.items)) (quotes.token_problems (tokens feeds.now))) }
+    ensures matched { IfOk result (λ l. l.is_matched ≡ tokens_match (tokens feeds.now) []) }
 {
-    let problems = quote_problems(alloc, feeds)?;
-    placed(alloc, &problems, ends)
+    let lines = read_lines(alloc, feeds)?;
+    Ok(Lines {
+        problems: placed(alloc, &lines.problems, ends)?,
+        is_matched: lines.is_matched,
+    })
 }
 
-/// The same of a text, whichever line ends it has.
-#[tactic(auto, using(crate::proofs::Feeds::same_problems))]
+/// What is wrong with the brackets of a text, and behind it what is wrong with its lines.
+fn with_brackets(
+    alloc: Global,
+    text: &str,
+    mut lines: Vec<SourceProblem>,
+) -> Result<Vec<SourceProblem>, AllocError>
+    ensures { IfOk result (λ v. v.items ≡ brackets.bracket_problems text.now ++ lines.items) }
+{
+    let mut problems = bracket_problems(alloc, text)?;
+    problems.append(&mut lines)?;
+    Ok(problems)
+}
+
+/// What is wrong with the brackets, the quotes and the lines of a text.
+#[tactic(auto, using(crate::proofs::Feeds::same_problems, crate::proofs::Feeds::none_told))]
 fn line_problems(alloc: Global, text: &str) -> Result<Vec<SourceProblem>, AllocError>
-    ensures { IfOk result (λ v. v.items ≡ spec.quote_problems text.now) }
+    ensures { IfOk result (λ v. v.items
+        ≡ brackets.bracket_problems text.now ++ spec.quote_problems text.now) }
 {
     if !has_return(text) {
         let ends = LineEnds::none(alloc, text);
-        return feed_problems(alloc, text, &ends);
+        let lines = placed_lines(alloc, text, &ends)?;
+        if lines.is_matched {
+            return Ok(lines.problems);
+        }
+        return with_brackets(alloc, text, lines.problems);
     }
     let (feeds, ends) = with_feeds(alloc, text)?;
-    feed_problems(alloc, &feeds, &ends)
-}
-
-/// Adds what is wrong with the quotes and the lines of a text.
-fn push_lines(
-    alloc: Global,
-    text: &str,
-    problems: &mut Vec<SourceProblem>,
-) -> Result<(), AllocError>
-    ensures { OnOk result (problems.new.items ≡ problems.old.items ++ spec.quote_problems text.now) }
-{
-    let mut lines = line_problems(alloc, text)?;
-    problems.append(&mut lines)
+    let lines = placed_lines(alloc, &feeds, &ends)?;
+    with_brackets(alloc, text, lines.problems)
 }
 
 /// Adds what the reader of items tells.
@@ -126,8 +135,7 @@ pub fn source_problems(
     ensures all { IfOk result (λ v. v.items ≡ spec.source_problems text.now (file_view file.now)) }
     ensures ordered { IfOk result (λ v. spec.AreInOrder v.items) }
 {
-    let mut problems = bracket_problems(alloc, text)?;
-    push_lines(alloc, text, &mut problems)?;
+    let mut problems = line_problems(alloc, text)?;
     push_told(&file.problems, &mut problems)?;
     let mut found = Found { at: 0, problems };
     push_syntax(&file.syntax, &file.places, &mut found)?;

@@ -5,9 +5,9 @@ use Rattle.hir_input.specs.declared.ids.AstIdKind.TheVariants as ast
 use Rattle.rust_leaves.specs.declared.head.Head.TheVariants as heads
 use Rattle.rust_items.specs.declared.log.ProblemKind.TheVariants as problem
 use Rattle.rust_items.specs.Items.{needs_name, no_block, one_more}
-use Rattle.rust_edits.proofs.Ranges.NearFronts.{FrontNear, front_until}
-use Rattle.rust_edits.proofs.Ranges.NearLeaves.{NameNear, named_until, Given, given_on, Ends, passes, before_end, at_end}
-use Rattle.rust_edits.proofs.Ranges.NearItems.{FoundNear, problem_near, item_near, all_near, flat, FoundAlike, told, TellsMore, told_problem, found_told, ends_long, TurnLong, TurnEnds, BlockEnds, IsOpen, is_open, is_told, block_ends, leaf_leads, leaf_fewer, found_leads, leaf_turn_ends, extern_unended, extern_inside_ends, front_leads}
+use Rattle.rust_edits.proofs.Beside.NearFronts.{FrontNear, front_until}
+use Rattle.rust_edits.proofs.Beside.NearLeaves.{NameNear, named_until, Given, given_on, Ends, passes, before_end, at_end}
+use Rattle.rust_edits.proofs.Beside.NearItems.{FoundNear, problem_near, item_near, all_near, flat, FoundAlike, told, TellsMore, told_problem, found_told, ends_long, TurnLong, TurnEnds, BlockEnds, IsOpen, is_open, is_told, block_ends, leaf_leads, leaf_fewer, found_leads, leaf_turn_ends, extern_unended, extern_inside_ends, front_leads}
 
 -- ---- items that hold others
 

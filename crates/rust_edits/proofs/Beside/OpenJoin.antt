@@ -1,26 +1,27 @@
 -- What is read of an item without its end, and of the text that begins with an item behind it.
-use Rattle.std.proofs.Common.{◌≡◌, ◌<◌, ◌+◌, ◌==◌, ◌||◌, ℕ, zero, suc, Bool, true, false, Option, Some, None, List, [], ◌∷◌, ◌++◌, length, map, refl, sym, ap, ◌∙◌, subst, arith, length-append, append_assoc}
-use Rattle.rust_edits.proofs.Common.{is_nil, eat, module_with, some_item, named, named_or_leads, renamed_leads, use_tree_leads, Row, Span, Problem, TextRange, moved_range, moved_span, moved_problem, map-append, Ending, word, EditionYear, MetaView, ItemView, Piece, Found, Head, FrontRead, LeafRead, Tokens, tokens_of, tokens, filter, is_significant, last_unended, option_map, is_some, by_first, rest, end_of, symbol, is_empty, bumped, beyond, begins_item, taken, most, moved, front, leaf, leaf_turn, leaf_found, by_head, inside, depth_of, turn, nothing_found, and_all, and_problem_at, found_on, items, read_of, found_in, behind_attributes, is_list_end, LeadsTo, here, further, through, when, eat_word_leads, inner_attributes_leads, named_leads, fewer, IsLaid, behind, at_behind, tokens_laid, tokens_sound, tokens_short, ne_eqb, filter-append, filter_moved, near_twins, Near, BlockRead, Finder, items_found}
+use Rattle.std.proofs.Common.{◌≡◌, ◌<◌, ◌+◌, ◌==◌, ◌||◌, ℕ, zero, suc, true, false, Option, Some, None, List, [], ◌∷◌, ◌++◌, length, map, refl, sym, ap, ◌∙◌, subst, arith, length-append, append_assoc}
+use Rattle.rust_edits.proofs.Common.{symbol_same, is_nil, eat, module_with, some_item, named, named_or_leads, renamed_leads, use_tree_leads, Span, Problem, TextRange, moved_range, moved_span, moved_problem, map-append, Ending, EditionYear, MetaView, ItemView, Piece, Found, Head, FrontRead, LeafRead, Tokens, tokens_of, tokens, filter, is_significant, last_unended, option_map, is_some, by_first, rest, end_of, symbol, is_empty, bumped, beyond, taken, most, moved, front, leaf, leaf_turn, leaf_found, by_head, inside, depth_of, turn, nothing_found, and_all, and_problem_at, found_on, items, read_of, found_in, behind_attributes, is_list_end, LeadsTo, here, further, through, when, eat_word_leads, inner_attributes_leads, named_leads, fewer, IsLaid, behind, at_behind, tokens_laid, tokens_sound, tokens_short, ne_eqb, filter-append, filter_moved, near_twins, Near, BlockRead, Finder, items_found}
 use Rattle.rust_items.specs.declared.log.ProblemKind.TheVariants as problem
 use Rattle.rust_leaves.specs.declared.head.Head.TheVariants as heads
 use Rattle.rust_cursor.specs.declared.cursor.nest.Nest.{Nest}
 use Rattle.rust_cursor.specs.Extents.{begins}
 use Rattle.rust_cursor.specs.Nests.{flat_behind}
 use Rattle.rust_items.specs.Items.{no_block}
-use Rattle.rust_cursor.proofs.Tests.{begins_item_same}
-use Rattle.rust_edits.specs.Ranges.Open.{IsOpenItem, OpenItemEnds, ReadsOn, StandsBefore, nothing_before, whole_before, reaches_end, behind_name, end_behind}
-use Rattle.rust_edits.proofs.Ranges.Alone.{start_near}
-use Rattle.rust_edits.proofs.Ranges.Behind.{last_moved}
-use Rattle.rust_edits.proofs.Ranges.Inner.{no_inner}
-use Rattle.rust_edits.proofs.Ranges.Joins.{edition_stays, found_both, items_join, items_top, level_at, level_near, unended_join}
-use Rattle.rust_edits.proofs.Ranges.NearItems.{top_end, front_leads}
-use Rattle.rust_edits.proofs.Ranges.NearLeaves.{Given}
-use Rattle.rust_edits.proofs.Ranges.Onward.{IsRead, read_on}
-use Rattle.rust_edits.proofs.Ranges.Open.{Reaches, TakesUp, rest_stops, taking_open, leaf_open, item_plain, nil_left, nil_symbol}
-use Rattle.rust_edits.proofs.Ranges.Tops.{turn_strict}
-use Rattle.rust_edits.proofs.Ranges.NearFields.{empty_left}
+use Rattle.rust_cursor.specs.declared.cursor.nest.Before.TheVariants as befores
+use Rattle.rust_cursor.proofs.Tests.{begins_same}
+use Rattle.rust_edits.specs.Beside.Open.{IsOpenItem, OpenItemsEnd, ReadsOn, StandsBefore, nothing_before, whole_before, open_before, reaches_end, before_rest, nest_through, behind_name, end_behind}
+use Rattle.rust_edits.proofs.Beside.Alone.{start_near}
+use Rattle.rust_edits.proofs.Beside.Behind.{last_moved}
+use Rattle.rust_edits.proofs.Beside.Inner.{no_inner}
+use Rattle.rust_edits.proofs.Beside.Joins.{edition_stays, found_same, found_still, found_both, items_join, items_top, level_at, level_near, unended_join}
+use Rattle.rust_edits.proofs.Beside.NearItems.{top_end, front_leads}
+use Rattle.rust_edits.proofs.Beside.NearLeaves.{Given}
+use Rattle.rust_edits.proofs.Beside.Onward.{IsRead, read_on}
+use Rattle.rust_edits.proofs.Beside.Open.{Reaches, TakesUp, taking_open, leaf_open, nil_left, nil_plain}
+use Rattle.rust_edits.proofs.Beside.Tops.{turn_strict}
+use Rattle.rust_edits.proofs.Beside.NearFields.{empty_left}
 use Rattle.std.proofs.lemmas.List.{length-map}
-use Rattle.rust_edits.proofs.Ranges.Turning.{top_is, turn_leads, run, run_stop, next_fewer, beyond_none}
+use Rattle.rust_edits.proofs.Beside.Turning.{top_is, turn_leads, run, run_stop, next_fewer, beyond_none}
 use Rattle.rust_edits.proofs.Typing.ProblemsIn.{unended_kept}
 use Rattle.rust_edits.proofs.Typing.Unended.{last_append}
 
@@ -63,19 +64,19 @@ found_to Y depth start None f ts e l = absurd cc
 found_to Y depth start (Some m) f ts e l = record { item = m.item; is = refl; left = l }
 
 -- neither a `;` nor a block is taken there
-no_semicolon : (us : Tokens) → symbol us ≡ 0 → eat 59 us ≡ (false, us)
+no_semicolon : (us : Tokens) → (symbol us == 59) ≡ false → eat 59 us ≡ (false, us)
 unfolding eat
-no_semicolon us plain = let other : (symbol us == 59) ≡ false = rw plain refl in rw other refl
+no_semicolon us other = rw other refl
 
-no_inside : (left : ℕ) (f : Found) (us : Tokens) → symbol us ≡ 0 → inside (suc left) f us ≡ (no_block, (f, us))
+no_inside : (left : ℕ) (f : Found) (us : Tokens) → (symbol us == 123) ≡ false → inside (suc left) f us ≡ (no_block, (f, us))
 unfolding inside
-no_inside left f us plain = let other : (symbol us == 123) ≡ false = rw plain refl in rw other refl
+no_inside left f us other = rw other refl
 
 -- so a module ends behind its name
-module_to : (Y : List Piece) (h : FrontRead) (f : Found) (ts : Tokens) → (named ts).1.left ≡ Y → symbol (named ts).1 ≡ 0 → TurnsTo Y (some_item (module_with (inside 128) (depth_of 128) h f ts))
-module_to Y h f ts left plain =
-    let semi = no_semicolon (named ts).1 plain in
-    let block = no_inside 127 nothing_found (named ts).1 plain in
+module_to : (Y : List Piece) (h : FrontRead) (f : Found) (ts : Tokens) → (named ts).1.left ≡ Y → (symbol (named ts).1 == 59) ≡ false → (symbol (named ts).1 == 123) ≡ false → TurnsTo Y (some_item (module_with (inside 128) (depth_of 128) h f ts))
+module_to Y h f ts left no_end no_open =
+    let semi = no_semicolon (named ts).1 no_end in
+    let block = no_inside 127 nothing_found (named ts).1 no_open in
     record { item = (module_with (inside 128) (depth_of 128) h f ts).0; is = refl; left = rw (semi, block) left }
 
 last_any : (a b : Option ℕ) (l : List Piece) → 0 < length l → last_unended a l ≡ last_unended b l
@@ -86,15 +87,12 @@ filter_some : (l : List Piece) → 0 < length (filter is_significant l) → 0 < 
 filter_some [] some = some
 filter_some (t ∷ l) some = omega arith
 
-empty_begins : (us : Tokens) → us.left ≡ [] → begins_item us ≡ false
-unfolding begins_item word
-empty_begins us e = rw e refl
-
-some_left : (us : Tokens) → begins_item us ≡ true → 0 < length us.left
-some_left us begins = by us.left refl
+some_left : (us : Tokens) → is_empty us ≡ false → 0 < length us.left
+unfolding is_empty
+some_left us some = by us.left some
   where
-    by : (l : List Piece) → us.left ≡ l → 0 < length l
-    by [] e = absurd (let no : true ≡ false = sym begins ∙ empty_begins us e in cc)
+    by : (l : List Piece) → by_first true (λ _. false) l ≡ false → 0 < length l
+    by [] e = absurd cc
     by (t ∷ l) e = omega arith
 
 module _ (edition : EditionYear) (x y : List ℕ) (h : IsOpenItem edition x y) (short : length (x ++ y) < most) where
@@ -128,7 +126,7 @@ module _ (edition : EditionYear) (x y : List ℕ) (h : IsOpenItem edition x y) (
   starts = refl
 
   some_second : 0 < length vs.left
-  some_second = some_left vs h.begins
+  some_second = some_left vs h.some
 
   some_there : 0 < length Y
   some_there = let n = length-map vs.left (moved d) in let some = some_second in omega arith
@@ -141,50 +139,51 @@ module _ (edition : EditionYear) (x y : List ℕ) (h : IsOpenItem edition x y) (
   unfolding tokens_of
   level us to e = level_near d 0 vs.left ts.unended vs.unended edition us (there us to e ∙ (let none : d ≡ 0 + d = omega arith in none)) e (unended_kept to) (edition_stays to)
 
-  begins_there : (us : Tokens) → LeadsTo ts us → us.left ≡ Y → begins_item us ≡ true
-  begins_there us to e = sym (begins_item_same (near_twins b) us vs (level us to e)) ∙ h.begins
-
-  stops_there : (us : Tokens) (nest : Nest) → LeadsTo ts us → us.left ≡ Y → nest.braces ≡ 0 → nest.others ≡ 0 → rest_stops nest us ≡ true
-  stops_there us nest to e z o =
-      let item = begins_there us to e in
-      when (is_empty us) (λ f. rw f refl) (λ f. rw (f, z, o, item) (either (symbol us == 125)))
-    where
-      either : (t : Bool) → (t || true) ≡ true
-      either true = refl
-      either false = refl
-
   abbrev fr : FrontRead
   fr = (front ts).0
 
   abbrev ts1 : Tokens
   ts1 = (front ts).1
 
-  to_name : LeadsTo ts (behind_name fr.head ts1)
-  to_name = through (front_leads ts) (name_leads fr.head ts1)
+  abbrev named_at : Tokens
+  named_at = behind_name h.head ts1
 
-  reaches : Reaches Y h.rest (behind_name fr.head ts1)
+  abbrev last_nest : Nest
+  last_nest = nest_through (length h.rest) (flat_behind (before_rest h.head)) named_at
+
+  to_name : LeadsTo ts named_at
+  to_name = through (front_leads ts) (name_leads h.head ts1)
+
+  begins_there : (us : Tokens) → LeadsTo ts us → us.left ≡ Y → begins last_nest us ≡ true
+  begins_there us to e = sym (begins_same (near_twins b) last_nest us vs (level us to e)) ∙ h.begins
+
+  plain_there : (us : Tokens) → LeadsTo ts us → us.left ≡ Y → (symbol us == 59 || symbol us == 123) ≡ false
+  plain_there us to e = ap (λ c. c == 59 || c == 123) (sym (symbol_same (near_twins b) us vs (level us to e))) ∙ h.plain
+
+  reaches : Reaches Y h.rest (before_rest h.head) named_at
   unfolding taken
   reaches = record {
-    inner = λ i before e s n. taking_open Y e s n ts stops_there h.rest 0 [] 0 None (flat_behind before) (behind_name fr.head ts1) to_name h.left i refl refl;
+    inner = λ i e s n. taking_open Y e s n ts last_nest begins_there h.rest 0 [] 0 None (flat_behind (before_rest h.head)) named_at to_name h.left i refl refl refl;
     left = h.left;
-    plain = λ e. item_plain (behind_name fr.head ts1) (begins_there (behind_name fr.head ts1) to_name (h.left ∙ ap (λ l. l ++ Y) e));
+    plain = λ e. plain_there named_at to_name (h.left ∙ ap (λ l. l ++ Y) e);
   }
 
-  by_word : (w : Head) → fr.head ≡ w → (f : Found) → TurnsTo Y (by_head (inside 128) (depth_of 128) w fr f ts1)
+  by_word : (w : Head) → h.head ≡ w → (f : Found) → TurnsTo Y (by_head (inside 128) (depth_of 128) w fr f ts1)
   unfolding leaf_turn
   by_word heads.Module e f =
-      let there : Reaches Y h.rest (named ts1).1 = subst (λ (w : Head). Reaches Y h.rest (behind_name w ts1)) e reaches in
+      let there : Reaches Y h.rest befores.End (named ts1).1 = subst (λ (w : Head). Reaches Y h.rest (before_rest w) (behind_name w ts1)) e reaches in
       let none : is_nil h.rest ≡ true = subst (λ (w : Head). reaches_end w h.rest ≡ true) e h.reaches in
-      module_to Y fr f ts1 (nil_left Y h.rest (named ts1).1 there none) (nil_symbol Y h.rest (named ts1).1 there none)
+      let plain = nil_plain Y h.rest befores.End (named ts1).1 there none in
+      module_to Y fr f ts1 (nil_left Y h.rest befores.End (named ts1).1 there none) plain.0 plain.1
   by_word w e f =
       let all : reaches_end w h.rest ≡ true = subst (λ (w : Head). reaches_end w h.rest ≡ true) e h.reaches in
-      let there : Reaches Y h.rest (behind_name w ts1) = subst (λ (w : Head). Reaches Y h.rest (behind_name w ts1)) e reaches in
-      let leaf_to : TakesUp Y (leaf fr ts1) = leaf_open Y h.rest fr ts1 w (λ m. absurd cc) e all there in
+      let there : Reaches Y h.rest (before_rest w) (behind_name w ts1) = subst (λ (w : Head). Reaches Y h.rest (before_rest w) (behind_name w ts1)) e reaches in
+      let leaf_to : TakesUp Y (leaf fr ts1) = leaf_open Y h.rest fr ts1 w (λ m. absurd cc) (h.is_head ∙ e) all there in
       rw (head_leaf w h.rest (λ m. absurd cc) all (inside 128) (depth_of 128) fr f ts1) (found_to Y (depth_of 128) fr.start (leaf fr ts1).0 f (leaf fr ts1).1 leaf_to.some leaf_to.left)
 
   turned : (f : Found) → TurnsTo Y (turn 128 f ts)
   unfolding turn
-  turned f = rw h.item (by_word fr.head refl f)
+  turned f = rw (h.item, h.is_head) (by_word h.head refl f)
 
   abbrev r : Option ItemView × (Found × Tokens)
   r = turn 128 nothing_found ts
@@ -295,28 +294,33 @@ both_on f g h e (a ∷ l) = ap (λ b. b ∷ map f (map g l)) (e a) ∙ ap (λ m.
 joined_on : {A : Type 0} (f g h : A → A) → ((a : A) → f (g a) ≡ h a) → (p q l : List A) → p ++ map f (q ++ map g l) ≡ (p ++ map f q) ++ map h l
 joined_on f g h e p q l = ap (λ m. p ++ m) (map-append f q (map g l) ∙ ap (λ m. map f q ++ m) (both_on f g h e l)) ∙ sym (append_assoc p (map f q) (map h l))
 
-found_of : (rows rows' : List Row) (spans spans' : List Span) (trees trees' : List ℕ) (problems problems' : List Problem) → rows ≡ rows' → spans ≡ spans' → trees ≡ trees' → problems ≡ problems'
-    → ◌≡◌ {A = Found} (record { rows = rows; spans = spans; use_trees = trees; problems = problems }) (record { rows = rows'; spans = spans'; use_trees = trees'; problems = problems' })
-found_of rows rows' spans spans' trees trees' problems problems' a b c d = rw (a, b, c, d) refl
-
 -- what is found of three texts
 found_three : (m n : ℕ) (f g h : Found) → and_all (found_on m (and_all (found_on n h) g)) f ≡ and_all (found_on (m + n) h) (and_all (found_on m g) f)
 found_three m n f g h =
-    found_of _ _ _ _ _ _ _ _ (sym (append_assoc f.rows g.rows h.rows)) (joined_on _ _ _ (spans_on m n) f.spans g.spans h.spans)
+    found_same _ _ _ _ _ _ _ _ (sym (append_assoc f.rows g.rows h.rows)) (joined_on _ _ _ (spans_on m n) f.spans g.spans h.spans)
     (joined_on _ _ _ (places_on m n) f.use_trees g.use_trees h.use_trees) (joined_on _ _ _ (problems_on m n) f.problems g.problems h.problems)
 
-open_ends : (edition : EditionYear) (p x y : List ℕ) → IsOpenItem edition x y → length (p ++ (x ++ y)) < most → StandsBefore edition p (x ++ y) → ReadsOn edition (p ++ (x ++ y)) (length p + length x) y
-open_ends edition _ x y h short (nothing_before _) = subst (λ (d : ℕ). ReadsOn edition (x ++ y) d y) (let none : length x ≡ 0 + length x = omega arith in none) (reads_on edition x y h short)
-open_ends edition _ x y h short (whole_before p _ holds anew) =
-    let sum = length-append p (x ++ y) in
-    let on = reads_on edition x y h (omega (arith, short)) in
-    let j = items_join edition p (x ++ y) holds anew short in
-    record {
-      first = (read_of edition p).0 ++ on.first;
-      items = j.items ∙ ap (λ l. (read_of edition p).0 ++ l) on.items ∙ sym (append_assoc (read_of edition p).0 on.first (read_of edition y).0);
-      before = and_all (found_on (length p) on.before) (found_in edition p);
-      found = j.found ∙ ap (λ (f : Found). and_all (found_on (length p) f) (found_in edition p)) on.found ∙ found_three (length p) (length x) (found_in edition p) on.before (found_in edition y);
-    }
+-- what goes on behind what goes on
+reads_through : (edition : EditionYear) (text : List ℕ) (m n : ℕ) (x y : List ℕ) → ReadsOn edition text m x → ReadsOn edition x n y → ReadsOn edition text (m + n) y
+reads_through edition z m n x y one two = record {
+  first = one.first ++ two.first;
+  items = one.items ∙ ap (λ l. one.first ++ l) two.items ∙ sym (append_assoc one.first two.first (read_of edition y).0);
+  before = and_all (found_on m two.before) one.before;
+  found = one.found ∙ ap (λ (f : Found). and_all (found_on m f) one.before) two.found ∙ found_three m n one.before two.before (found_in edition y);
+}
 
-pub open_item_ends : OpenItemEnds
-open_item_ends edition p x y before h short = open_ends edition p x y h short before
+pub open_items_end : OpenItemsEnd
+open_items_end edition p y before short = by p y before short
+  where
+    by : (p y : List ℕ) → StandsBefore edition p y → length (p ++ y) < most → ReadsOn edition (p ++ y) (length p) y
+    by _ _ (nothing_before y) short = record { first = []; items = refl; before = nothing_found; found = found_still (found_in edition y) }
+    by _ _ (whole_before p y holds anew) short =
+        let j = items_join edition p y holds anew short in record { first = (read_of edition p).0; items = j.items; before = found_in edition p; found = j.found }
+    by _ _ (open_before p x y outer h) short =
+        let all : (p ++ x) ++ y ≡ p ++ (x ++ y) = append_assoc p x y in
+        let less : length (p ++ (x ++ y)) < most = subst (λ (t : List ℕ). length t < most) all short in
+        let sum = length-append p (x ++ y) in
+        let one = by p (x ++ y) outer less in
+        let two = reads_on edition x y h (omega (arith, less)) in
+        subst (λ (t : List ℕ). ReadsOn edition t (length (p ++ x)) y) (sym all)
+        (subst (λ (d : ℕ). ReadsOn edition (p ++ (x ++ y)) d y) (sym (length-append p x)) (reads_through edition (p ++ (x ++ y)) (length p) (length x) (x ++ y) y one two))

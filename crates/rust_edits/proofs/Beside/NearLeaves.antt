@@ -8,9 +8,9 @@ use Rattle.rust_cursor.proofs.Enclosed.{item_enclosed, impl_enclosed}
 use Rattle.rust_cursor.proofs.Near.{gone_on}
 use Rattle.rust_cursor.proofs.Twins.{open_same, word_test, after_word}
 use Rattle.rust_leaves.specs.declared.head.Head.TheVariants as heads
-use Rattle.rust_edits.proofs.Ranges.NearFronts.{FrontNear, PlacedNear, no_place, placed_near, placed_name_until, further_on, are_further, is_further}
-use Rattle.rust_edits.proofs.Ranges.Calls.{call_left}
-use Rattle.rust_edits.proofs.Ranges.NearFields.{in_order, lt_by, struct_fields_near}
+use Rattle.rust_edits.proofs.Beside.NearFronts.{FrontNear, PlacedNear, no_place, placed_near, placed_name_until, further_on, are_further, is_further}
+use Rattle.rust_edits.proofs.Beside.Calls.{call_left}
+use Rattle.rust_edits.proofs.Beside.NearFields.{in_order, lt_by, struct_fields_near}
 
 -- ---- places
 

@@ -2,10 +2,10 @@
 use Rattle.std.proofs.Common.{◌≤◌, ◌≡◌, ◌<◌, ◌+◌, ◌==◌, ℕ, zero, suc, Bool, true, false, Option, List, [], ◌++◌, length, sym, ap, ◌∙◌, subst, arith, append_assoc, append-nil}
 use Rattle.rust_edits.proofs.Common.{nothing, beyond_leads, option_to_list, ItemView, beyond, Tokens, Found, is_list_end, turn, nat_tests, IsLaid, behind, LeadsTo, here, through, when, by_next, Ending, Near, Gone, more_left, past_same, beyond_near, AtEnd, is_still}
 use Rattle.rust_cursor.proofs.Near.{left_behind}
-use Rattle.rust_edits.proofs.Ranges.NearLeaves.{Given, given_on, passes, before_end, at_end}
-use Rattle.rust_edits.proofs.Ranges.NearItems.{top_end, FoundNear, told, TurnEnds}
-use Rattle.rust_edits.proofs.Ranges.NearTurns.{turn_ends}
-use Rattle.rust_edits.proofs.Ranges.Turning.{run, run_none, run_same, run_keeps, none_end, next_leads, next_fewer, beyond_none, turn_far, true_false, Calm, calm, later, calm_left, calm_next}
+use Rattle.rust_edits.proofs.Beside.NearLeaves.{Given, given_on, passes, before_end, at_end}
+use Rattle.rust_edits.proofs.Beside.NearItems.{top_end, FoundNear, told, TurnEnds}
+use Rattle.rust_edits.proofs.Beside.NearTurns.{turn_ends}
+use Rattle.rust_edits.proofs.Beside.Turning.{run, run_none, run_same, run_keeps, none_end, next_leads, next_fewer, beyond_none, turn_far, true_false, Calm, calm, later, calm_left, calm_next}
 
 -- what was read of the short text, and in the long one: the same items, and then what stands behind them is read, whatever number of turns is allowed
 pub record IsRead (is_top : Bool) (left : ℕ) (b : Ending) (before : Found) (done done' : List ItemView) (f : Found) (ts : Tokens) (r : List ItemView × (Found × Tokens)) : Type 0 where

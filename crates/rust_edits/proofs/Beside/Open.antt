@@ -1,17 +1,17 @@
 -- An item without its end goes on up to the word that begins the next one.
-use Rattle.std.proofs.Common.{◌≡◌, ◌==◌, ◌&&◌, ◌||◌, ℕ, Bool, true, false, Option, List, [], ◌∷◌, ◌++◌, refl, sym, ap, ◌∙◌, codes, bytes_eq, not, if◌then◌else◌}
-use Rattle.rust_edits.proofs.Common.{is_nil, eat, use_tree, named_or, renamed, use_declaration, crate_item, is_some, Tokens, symbol, word, bumped, is_empty, is_at_doc, by_first, rest, Piece, symbol_of, LeadsTo, through, when, bumped_leads, and_parts, or_parts, eqb-true, Head, FrontRead, leaf, LeafRead, begins_item, begins_within, begins_impl_or_const, stops, ends, taking, taken, nest_behind, function, trait_item, structure, union_item, enumeration, constant, static_value, type_alias, implementation, item_end, impl_end, value_end}
+use Rattle.std.proofs.Common.{length, ◌≡◌, ◌==◌, ◌&&◌, ◌||◌, ℕ, Bool, true, false, Option, List, [], ◌∷◌, ◌++◌, refl, sym, ap, ◌∙◌, codes, bytes_eq, not, if◌then◌else◌}
+use Rattle.rust_edits.proofs.Common.{is_nil, eat, use_tree, named_or, renamed, use_declaration, crate_item, is_some, Tokens, symbol, word, bumped, is_empty, is_at_doc, by_first, rest, Piece, symbol_of, LeadsTo, through, when, bumped_leads, and_parts, or_parts, Head, FrontRead, leaf, LeafRead, begins_item, begins_within, begins_impl_or_const, stops, ends, taking, taken, nest_behind, function, trait_item, structure, union_item, enumeration, constant, static_value, type_alias, implementation, item_end, impl_end, value_end}
 use Rattle.rust_cursor.specs.declared.cursor.nest.Before.{Before}
 use Rattle.rust_cursor.specs.declared.cursor.nest.Before.TheVariants as befores
 use Rattle.rust_cursor.specs.declared.cursor.nest.Nest.{Nest}
 use Rattle.rust_cursor.specs.Extents.{begins, begins_behind, is_item_word}
 use Rattle.rust_cursor.specs.Nests.{count_behind, is_mark}
 use Rattle.rust_cursor.specs.Words.{documents, word_by}
-use Rattle.rust_cursor.proofs.Around.{others_of, word_symbol}
+use Rattle.rust_cursor.proofs.Around.{others_of}
 use Rattle.rust_cursor.proofs.Passing.{braces_of}
 use Rattle.rust_cursor.proofs.Scans.{taking_stop, taking_more}
 use Rattle.rust_leaves.specs.declared.head.Head.TheVariants as heads
-use Rattle.rust_edits.specs.Ranges.Open.{is_first, is_first_outside, is_border, is_inner, are_inner, reaches_end, behind_name}
+use Rattle.rust_edits.specs.Beside.Open.{is_first, is_first_outside, is_border, is_inner, are_inner, before_rest, nest_through, reaches_end, behind_name}
 
 not-false : {t : Bool} → not t ≡ true → t ≡ false
 not-false {t = false} e = refl
@@ -128,22 +128,29 @@ goes_past depth nest ts i b o = rw (i.some, b, no_close depth ts i, none_begins 
 -- an item, or a value, up to there: at no other symbol it ends
 module _ (Y : List Piece) (e : _) (stops_is : (nest : Nest) (ts : Tokens) → stops e nest ts ≡ rest_stops nest ts)
     (not_ended : (is_call : Bool) (nest : Nest) (ts : Tokens) → (symbol ts == 59) ≡ false → (symbol ts == 125) ≡ false → ends e is_call nest ts ≡ false)
-    (top : Tokens) (stop_there : (ts : Tokens) (nest : Nest) → LeadsTo top ts → ts.left ≡ Y → nest.braces ≡ 0 → nest.others ≡ 0 → rest_stops nest ts ≡ true) where
-  pub taking_open : (xs : List Piece) (depth : ℕ) (done : List ℕ) (last : ℕ) (o : Option Tokens) (nest : Nest) (ts : Tokens) → LeadsTo top ts → ts.left ≡ xs ++ Y → are_inner depth xs ≡ true → nest.braces ≡ 0 → nest.others ≡ depth
-      → (taking e done last o nest ts).1.left ≡ Y
-  taking_open [] depth done last o nest ts to left inner b c =
-      let none = eqb-true depth 0 inner in
-      ap (λ r. r.1.left) (taking_stop e done last o nest ts (stops_is nest ts ∙ stop_there ts nest to left b (c ∙ none))) ∙ left
-  taking_open (t ∷ xs) depth done last o nest ts to left inner b c =
+    (top : Tokens) (last : Nest) (stop_there : (ts : Tokens) → LeadsTo top ts → ts.left ≡ Y → begins last ts ≡ true) where
+  stopped : (ts : Tokens) (nest : Nest) → LeadsTo top ts → ts.left ≡ Y → nest ≡ last → nest.braces ≡ 0 → rest_stops nest ts ≡ true
+  stopped ts nest to left is z =
+      let there : begins nest ts ≡ true = ap (λ n. begins n ts) is ∙ stop_there ts to left in
+      when (is_empty ts) (λ f. rw f refl) (λ f. rw (f, z, there) (either (symbol ts == 125)))
+    where
+      either : (t : Bool) → (t || true) ≡ true
+      either true = refl
+      either false = refl
+
+  pub taking_open : (xs : List Piece) (depth : ℕ) (done : List ℕ) (byte : ℕ) (o : Option Tokens) (nest : Nest) (ts : Tokens) → LeadsTo top ts → ts.left ≡ xs ++ Y → are_inner depth xs ≡ true → nest.braces ≡ 0 → nest.others ≡ depth
+      → nest_through (length xs) nest ts ≡ last → (taking e done byte o nest ts).1.left ≡ Y
+  taking_open [] depth done byte o nest ts to left inner b c is = ap (λ r. r.1.left) (taking_stop e done byte o nest ts (stops_is nest ts ∙ stopped ts nest to left is b)) ∙ left
+  taking_open (t ∷ xs) depth done byte o nest ts to left inner b c is =
       let both = and_parts (is_inner depth t) (are_inner (count_behind depth (symbol_of t)) xs) inner in
       let i = inner_of depth ts t (xs ++ Y) left both.0 in
-      let is : symbol ts ≡ symbol_of t = symbol_is ts t (xs ++ Y) left in
+      let same : symbol ts ≡ symbol_of t = symbol_is ts t (xs ++ Y) left in
       let go = stops_is nest ts ∙ goes_past depth nest ts i b c in
       let on = not_ended (is_mark nest.before) (nest_behind nest ts) ts (no_end depth ts i) (no_close depth ts i) in
       let braces : (nest_behind nest ts).braces ≡ 0 = braces_of nest ts ∙ rw (b, no_open depth ts i, no_close depth ts i) refl in
-      let others : (nest_behind nest ts).others ≡ count_behind depth (symbol_of t) = others_of nest ts ∙ rw (b, c, no_close depth ts i, sym is) refl in
-      ap (λ r. r.1.left) (taking_more e done last o nest ts go on)
-      ∙ taking_open xs (count_behind depth (symbol_of t)) _ _ _ (nest_behind nest ts) (bumped ts) (through to (bumped_leads ts)) (rest_is ts t (xs ++ Y) left) both.1 braces others
+      let others : (nest_behind nest ts).others ≡ count_behind depth (symbol_of t) = others_of nest ts ∙ rw (b, c, no_close depth ts i, sym same) refl in
+      ap (λ r. r.1.left) (taking_more e done byte o nest ts go on)
+      ∙ taking_open xs (count_behind depth (symbol_of t)) _ _ _ (nest_behind nest ts) (bumped ts) (through to (bumped_leads ts)) (rest_is ts t (xs ++ Y) left) both.1 braces others is
 
 -- ---- an item
 
@@ -153,9 +160,9 @@ pub record TakesUp (Y : List Piece) (r : Option LeafRead × Tokens) : Type 0 whe
   pub left : r.1.left ≡ Y
 
 -- what is known of how far it goes
-abbrev pub TakesTo : List Piece → Tokens → Type 0
-TakesTo Y ts =
-    (before : Before) (e : _) → ((nest : Nest) (ts : Tokens) → stops e nest ts ≡ rest_stops nest ts)
+abbrev pub TakesTo : List Piece → Before → Tokens → Type 0
+TakesTo Y before ts =
+    (e : _) → ((nest : Nest) (ts : Tokens) → stops e nest ts ≡ rest_stops nest ts)
     → ((is_call : Bool) (nest : Nest) (ts : Tokens) → (symbol ts == 59) ≡ false → (symbol ts == 125) ≡ false → ends e is_call nest ts ≡ false) → (taken before e ts).1.left ≡ Y
 
 flat_ends : (is_call : Bool) (nest : Nest) (ts : Tokens) (z : Bool) → (symbol ts == 59) ≡ false → (symbol ts == 125) ≡ false → (if nest.braces == 0 && nest.others == 0 then symbol ts == 59 || (symbol ts == 125 && z) else false) ≡ false
@@ -174,58 +181,33 @@ unfolding eat
 eat_none Y ts e f = rw f e
 
 -- what is known behind its name
-pub record Reaches (Y xs : List Piece) (ts : Tokens) : Type 0 where
-  pub inner : are_inner 0 xs ≡ true → TakesTo Y ts
+pub record Reaches (Y xs : List Piece) (before : Before) (ts : Tokens) : Type 0 where
+  pub inner : are_inner 0 xs ≡ true → TakesTo Y before ts
   pub left : ts.left ≡ xs ++ Y
-  pub plain : xs ≡ [] → symbol ts ≡ 0
+  pub plain : xs ≡ [] → (symbol ts == 59 || symbol ts == 123) ≡ false
 
-module _ (Y xs : List Piece) (ts : Tokens) (r : Reaches Y xs ts) (none : is_nil xs ≡ true) where
+module _ (Y xs : List Piece) (before : Before) (ts : Tokens) (r : Reaches Y xs before ts) (none : is_nil xs ≡ true) where
   pub nil_left : ts.left ≡ Y
   nil_left = r.left ∙ ap (λ l. l ++ Y) (nil_none xs none)
 
-  pub nil_symbol : symbol ts ≡ 0
-  nil_symbol = r.plain (nil_none xs none)
+  pub nil_plain : ((symbol ts == 59) ≡ false) × ((symbol ts == 123) ≡ false)
+  nil_plain = or_parts (symbol ts == 59) (symbol ts == 123) (r.plain (nil_none xs none))
 
   nil_eat : (eat 59 ts).1.left ≡ Y
-  nil_eat = let plain = nil_symbol in eat_none Y ts nil_left (rw plain refl)
+  nil_eat = eat_none Y ts nil_left nil_plain.0
 
-pub leaf_open : (Y xs : List Piece) (h : FrontRead) (ts : Tokens) (w : Head) → (w ≡ heads.Module → ⊥) → h.head ≡ w → reaches_end w xs ≡ true → Reaches Y xs (behind_name w ts) → TakesUp Y (leaf h ts)
+pub leaf_open : (Y xs : List Piece) (h : FrontRead) (ts : Tokens) (w : Head) → (w ≡ heads.Module → ⊥) → h.head ≡ w → reaches_end w xs ≡ true → Reaches Y xs (before_rest w) (behind_name w ts) → TakesUp Y (leaf h ts)
 unfolding leaf function trait_item structure union_item enumeration constant static_value type_alias implementation use_declaration crate_item item_end impl_end value_end stops ends
-leaf_open Y xs h ts heads.Use n e t r = rw e (record { some = refl; left = nil_eat Y xs (use_tree ts).1 r t })
-leaf_open Y xs h ts heads.ExternCrate n e t r = rw e (record { some = refl; left = nil_eat Y xs (renamed (named_or (codes "self") ts).1).1 r t })
+leaf_open Y xs h ts heads.Use n e t r = rw e (record { some = refl; left = nil_eat Y xs befores.End (use_tree ts).1 r t })
+leaf_open Y xs h ts heads.ExternCrate n e t r = rw e (record { some = refl; left = nil_eat Y xs befores.End (renamed (named_or (codes "self") ts).1).1 r t })
 leaf_open Y xs h ts heads.Module n e t r = absurd (n refl)
-leaf_open Y xs h ts heads.Fn n e t r = rw e (record { some = refl; left = r.inner t _ _ (λ n ts. refl) (λ c n ts. flat_ends c n ts _) })
-leaf_open Y xs h ts heads.Impl n e t r = rw e (record { some = refl; left = r.inner t _ _ (λ n ts. refl) (λ c n ts. flat_ends c n ts _) })
-leaf_open Y xs h ts heads.Trait n e t r = rw e (record { some = refl; left = r.inner t _ _ (λ n ts. refl) (λ c n ts. flat_ends c n ts _) })
-leaf_open Y xs h ts heads.Struct n e t r = rw e (record { some = refl; left = r.inner t _ _ (λ n ts. refl) (λ c n ts. flat_ends c n ts _) })
-leaf_open Y xs h ts heads.Union n e t r = rw e (record { some = refl; left = r.inner t _ _ (λ n ts. refl) (λ c n ts. flat_ends c n ts _) })
-leaf_open Y xs h ts heads.Enum n e t r = rw e (record { some = refl; left = r.inner t _ _ (λ n ts. refl) (λ c n ts. flat_ends c n ts _) })
-leaf_open Y xs h ts heads.Const n e t r = rw e (record { some = refl; left = r.inner t _ _ (λ n ts. refl) (λ c n ts a b. flat_value n ts a) })
-leaf_open Y xs h ts heads.Static n e t r = rw e (record { some = refl; left = r.inner t _ _ (λ n ts. refl) (λ c n ts a b. flat_value n ts a) })
-leaf_open Y xs h ts heads.TypeAlias n e t r = rw e (record { some = refl; left = r.inner t _ _ (λ n ts. refl) (λ c n ts a b. flat_value n ts a) })
+leaf_open Y xs h ts heads.Fn n e t r = rw e (record { some = refl; left = r.inner t _ (λ n ts. refl) (λ c n ts. flat_ends c n ts _) })
+leaf_open Y xs h ts heads.Impl n e t r = rw e (record { some = refl; left = r.inner t _ (λ n ts. refl) (λ c n ts. flat_ends c n ts _) })
+leaf_open Y xs h ts heads.Trait n e t r = rw e (record { some = refl; left = r.inner t _ (λ n ts. refl) (λ c n ts. flat_ends c n ts _) })
+leaf_open Y xs h ts heads.Struct n e t r = rw e (record { some = refl; left = r.inner t _ (λ n ts. refl) (λ c n ts. flat_ends c n ts _) })
+leaf_open Y xs h ts heads.Union n e t r = rw e (record { some = refl; left = r.inner t _ (λ n ts. refl) (λ c n ts. flat_ends c n ts _) })
+leaf_open Y xs h ts heads.Enum n e t r = rw e (record { some = refl; left = r.inner t _ (λ n ts. refl) (λ c n ts. flat_ends c n ts _) })
+leaf_open Y xs h ts heads.Const n e t r = rw e (record { some = refl; left = r.inner t _ (λ n ts. refl) (λ c n ts a b. flat_value n ts a) })
+leaf_open Y xs h ts heads.Static n e t r = rw e (record { some = refl; left = r.inner t _ (λ n ts. refl) (λ c n ts a b. flat_value n ts a) })
+leaf_open Y xs h ts heads.TypeAlias n e t r = rw e (record { some = refl; left = r.inner t _ (λ n ts. refl) (λ c n ts a b. flat_value n ts a) })
 leaf_open Y xs h ts _ n e t r = absurd cc
-
--- ---- the word that begins an item
-
-word_plain : (ts : Tokens) → is_item_word (word ts) ≡ true → symbol ts ≡ 0
-word_plain ts e =
-    when (bytes_eq (word ts) (codes "pub")) (λ f. word_symbol (codes "pub") ts refl f)
-    (λ f. when (bytes_eq (word ts) (codes "mod")) (λ g. word_symbol (codes "mod") ts refl g)
-    (λ g. when (bytes_eq (word ts) (codes "struct")) (λ h. word_symbol (codes "struct") ts refl h)
-    (λ h. when (bytes_eq (word ts) (codes "enum")) (λ i. word_symbol (codes "enum") ts refl i)
-    (λ i. word_symbol (codes "trait") ts refl (rw (f, g, h, i) at e)))))
-
--- it has no symbol
-pub item_plain : (ts : Tokens) → begins_item ts ≡ true → symbol ts ≡ 0
-unfolding begins_item
-item_plain ts e =
-    when (is_item_word (word ts)) (λ a. word_plain ts a)
-    (λ a. when (bytes_eq (word ts) (codes "use")) (λ b. word_symbol (codes "use") ts refl b)
-    (λ b. when (bytes_eq (word ts) (codes "static")) (λ c. word_symbol (codes "static") ts refl c)
-    (λ c. when (bytes_eq (word ts) (codes "fn")) (λ d. word_symbol (codes "fn") ts refl d)
-    (λ d. when (bytes_eq (word ts) (codes "type")) (λ f. word_symbol (codes "type") ts refl f)
-    (λ f. when (bytes_eq (word ts) (codes "macro")) (λ g. word_symbol (codes "macro") ts refl g)
-    (λ g. when (bytes_eq (word ts) (codes "union")) (λ h. word_symbol (codes "union") ts refl h)
-    (λ h. when (bytes_eq (word ts) (codes "macro_rules")) (λ i. word_symbol (codes "macro_rules") ts refl i)
-    (λ i. when (bytes_eq (word ts) (codes "extern")) (λ j. word_symbol (codes "extern") ts refl j)
-    (λ j. absurd (let no = rw (a, b, c, d, f, g, h, i, j) at e in cc))))))))))

@@ -3,8 +3,8 @@ use Rattle.std.proofs.Common.{◌≡◌, ◌≤◌, length-append, ◌<◌, ◌+
 use Rattle.rust_edits.proofs.Common.{option_map, option_to_list, is_some, is_none, AstIdKind, MetaView, ItemView, Row, most, beyond, Tokens, symbol, at, eat_word, bumped, is_at_end, TextRange, path, use_tree, inner_attributes, Head, FrontRead, front, function, trait_item, enumeration, union_item, macro_def, type_alias, static_value, constant, structure, implementation, crate_item, use_declaration, macro_definition, is_called, begins_call, invocation, item_call, leaf_by, leaf, LeafRead, named, named_or, renamed, ProblemKind, Found, Finder, nothing_found, and_problem, and_problem_at, and_all, span_of, and_flaw, and_item, and_leaf, leaf_found, leaf_turn, finding_from, finding, is_list_end, BlockRead, block_of, as_extern, extern_kept, extern_found, unmatched, extern_turn, extern_inside, inside, turn, moved_span, moved_problem, map-append, IsLaid, behind, LeadsTo, here, further, through, when, bumped_leads, beyond_leads, eat_leads, eat_word_leads, Ending, Near, fewer, nothing, bumped_onward, at_same, past_same, near_twins, beyond_near, near_parting, near_enters, near_levels, Kept, AtEnd, is_still, Outcome, lost, stays, comes, untaken, eat_outcome, eat_fewer, Same, by_next, by_kept, symbol_same, empty_same, end_same, path_leads, use_tree_leads, inner_attributes_leads, inner_attributes_until, behind_others_onward, named_leads, named_or_leads, renamed_leads, behind_others_leads, front_takes, LeafAt, leaf_at, Finds, extern_turn_found, list_from}
 use Rattle.rust_leaves.specs.declared.head.Head.TheVariants as heads
 use Rattle.rust_items.specs.declared.log.ProblemKind.TheVariants as problem
-use Rattle.rust_edits.proofs.Ranges.NearFronts.{FrontNear, front_until, further_on}
-use Rattle.rust_edits.proofs.Ranges.NearLeaves.{some_on, LeafNear, Given, given_on, Ends, passes, before_end, at_end, SomeLeaf, no_leaf, one_leaf, leaf_ended, LeafEnds, leaf_ends, item_end_fewer, impl_end_fewer, macro_end_fewer, value_end_fewer, call_end_fewer}
+use Rattle.rust_edits.proofs.Beside.NearFronts.{FrontNear, front_until, further_on}
+use Rattle.rust_edits.proofs.Beside.NearLeaves.{some_on, LeafNear, Given, given_on, Ends, passes, before_end, at_end, SomeLeaf, no_leaf, one_leaf, leaf_ended, LeafEnds, leaf_ends, item_end_fewer, impl_end_fewer, macro_end_fewer, value_end_fewer, call_end_fewer}
 
 -- ---- what is found
 

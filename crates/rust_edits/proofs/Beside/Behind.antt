@@ -2,7 +2,8 @@
 use Rattle.std.proofs.Common.{◌≡◌, ◌+◌, ℕ, suc, Bool, true, false, Option, Some, None, List, [], ◌∷◌, ◌++◌, length, refl, sym, ap, ◌∙◌, arith, map, if◌then◌else◌}
 use Rattle.rust_edits.proofs.Common.{IsBare, slice_index, option_map, filter, EditionYear, Stop, stop, EndsAlone, is_fence, tokens_in_front, moved, is_continuation, Piece, symbol_of, is_terminated, has_mark, is_shebang, is_significant, tokens, tokens_from, Tokens, end_of, tokens_of, place_if_open, last_unended, by_first, rest, bumped, filter-append, nat_tests, own, stop_at, tokens_moved, plain_is, filter_moved, LeadsTo, here, further}
 use Rattle.rust_lexer.proofs.Same.{by_stop}
-use Rattle.rust_edits.proofs.Ranges.Alone.{last_counts, ended}
+use Rattle.rust_edits.specs.Beside.Open.{end_behind}
+use Rattle.rust_edits.proofs.Beside.Alone.{last_counts, ended}
 use Rattle.rust_edits.proofs.Typing.Unended.{fence_by, mark_by, shebang_on, last_append}
 
 -- ---- what may stand in front of a text
@@ -73,33 +74,29 @@ unended_behind edition w o y alone clean p q =
 
 -- ---- where the last token ends
 
-abbrev end_from : ℕ → List Piece → ℕ
-end_from past [] = past
-end_from past (t ∷ ts) = end_from (end_of t) ts
-
-end_rest : (past : ℕ) (left : List Piece) → end_from (by_first past end_of left) (rest left) ≡ end_from past left
+end_rest : (past : ℕ) (left : List Piece) → end_behind (by_first past end_of left) (rest left) ≡ end_behind past left
 end_rest past left = grind (arith, nat_tests)
 
-end_on : {ts us : Tokens} → LeadsTo ts us → end_from us.past us.left ≡ end_from ts.past ts.left
+end_on : {ts us : Tokens} → LeadsTo ts us → end_behind us.past us.left ≡ end_behind ts.past ts.left
 unfolding bumped
 end_on here = refl
 end_on {ts} (further p) = end_on p ∙ end_rest ts.past ts.left
 
-end_last : (past : ℕ) (xs : List Piece) (t : Piece) → end_from past (xs ++ t ∷ []) ≡ end_of t
+end_last : (past : ℕ) (xs : List Piece) (t : Piece) → end_behind past (xs ++ t ∷ []) ≡ end_of t
 end_last past [] t = refl
 end_last past (x ∷ xs) t = end_last (end_of x) xs t
 
-end_whole : (edition : EditionYear) (w : List ℕ) (o : Stop) → EndsAlone w o → IsBare (ended w o) → end_from (tokens_of edition (ended w o)).past (tokens_of edition (ended w o)).left ≡ suc (length w)
+end_whole : (edition : EditionYear) (w : List ℕ) (o : Stop) → EndsAlone w o → IsBare (ended w o) → end_behind (tokens_of edition (ended w o)).past (tokens_of edition (ended w o)).left ≡ suc (length w)
 unfolding tokens_of
 end_whole edition w o alone p =
     let xs = tokens_in_front 0 0 w (stop o ∷ []) in
     let t = stop_at o (0 + length w) in
     let counted : filter is_significant (t ∷ []) ≡ t ∷ [] = rw (last_counts o (0 + length w)) refl in
     let place : end_of t ≡ suc (length w) = omega arith in
-    ap (λ (l : List Piece). end_from 0 (filter is_significant l)) (plain_tokens (ended w o) p ∙ own o 0 w [] alone refl)
-    ∙ ap (end_from 0) (filter-append is_significant xs (t ∷ []) ∙ ap (λ l. filter is_significant xs ++ l) counted)
+    ap (λ (l : List Piece). end_behind 0 (filter is_significant l)) (plain_tokens (ended w o) p ∙ own o 0 w [] alone refl)
+    ∙ ap (end_behind 0) (filter-append is_significant xs (t ∷ []) ∙ ap (λ l. filter is_significant xs ++ l) counted)
     ∙ end_last 0 (filter is_significant xs) t ∙ place
 
 -- where all tokens of such a text were taken
 pub past_whole : (edition : EditionYear) (w : List ℕ) (o : Stop) (us : Tokens) → EndsAlone w o → IsBare (ended w o) → LeadsTo (tokens_of edition (ended w o)) us → us.left ≡ [] → us.past ≡ suc (length w)
-past_whole edition w o us alone p leads none = sym (ap (end_from us.past) none) ∙ end_on leads ∙ end_whole edition w o alone p
+past_whole edition w o us alone p leads none = sym (ap (end_behind us.past) none) ∙ end_on leads ∙ end_whole edition w o alone p

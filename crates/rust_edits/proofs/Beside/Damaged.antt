@@ -6,10 +6,10 @@ use Rattle.rust_mended.specs.Texts.{mended_text}
 use Rattle.rust_mended.proofs.Joins.{item_text, matched_text}
 use Rattle.rust_mended.proofs.Whole.{text_stays}
 use Rattle.rust_mended.proofs.AtStops.{blanks_text}
-use Rattle.rust_edits.specs.Ranges.Open.{ReadsOn}
-use Rattle.rust_edits.proofs.Ranges.OpenJoin.{open_item_ends}
-use Rattle.rust_edits.specs.Ranges.Mended.{ListsBefore, OpenBehind, is_told, text_for_lists}
-use Rattle.rust_edits.proofs.Ranges.Joins.{items_join}
+use Rattle.rust_edits.specs.Beside.Open.{ReadsOn}
+use Rattle.rust_edits.proofs.Beside.OpenJoin.{open_items_end}
+use Rattle.rust_edits.specs.Beside.Mended.{ListsBefore, OpenBehind, is_told, text_for_lists}
+use Rattle.rust_edits.proofs.Beside.Joins.{items_join}
 
 -- ---- texts with carriage returns
 
@@ -75,8 +75,8 @@ items_behind edition q z s h utf8 item none =
 pub open_behind : OpenBehind
 open_behind edition q z s o utf8 item none =
     let y = with_feeds (z ++ 10 ∷ mended_text s) in
-    subst (λ (t : List ℕ). ReadsOn edition t (length o.before + length o.item) y) (sym (ap with_feeds (item_text q z s o.apart utf8 item none) ∙ o.parts))
-    (open_item_ends edition o.before o.item y o.follows o.is_open o.short)
+    subst (λ (t : List ℕ). ReadsOn edition t (length (with_feeds (mended_text q))) y) (sym (ap with_feeds (item_text q z s o.apart utf8 item none) ∙ o.feeds))
+    (open_items_end edition (with_feeds (mended_text q)) y o.before (subst (λ (t : List ℕ). length t < most) o.feeds o.short))
 
 -- ---- what lists tell
 

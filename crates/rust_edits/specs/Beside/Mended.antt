@@ -1,5 +1,5 @@
 -- Texts one behind another, of which the brackets are mended.
-use Rattle.std.specs.Prelude.{◌≡◌, ◌<◌, ℕ, ◌+◌, ◌==◌, Bool, true, false, not, if◌then◌else◌, List, [], ◌∷◌, ◌++◌, length, IsUtf8}
+use Rattle.std.specs.Prelude.{◌≡◌, ◌<◌, ℕ, ◌==◌, Bool, true, false, not, if◌then◌else◌, List, [], ◌∷◌, ◌++◌, length, IsUtf8}
 use Rattle.hir_input.specs.declared.edition.EditionYear.{EditionYear}
 use Rattle.rust_lexer.specs.Tokens.{tokens, tokens_from}
 use Rattle.rust_cursor.specs.Elements.{most}
@@ -9,8 +9,8 @@ use Rattle.rust_mended.specs.Mended.{closers_reaching}
 use Rattle.rust_mended.specs.Texts.{is_matched, mended_text}
 use Rattle.rust_items.specs.LineEnds.{with_feeds}
 use Rattle.rust_items.specs.SourceFiles.{found_in}
-use Rattle.rust_edits.specs.Ranges.Joined.{EndsWhole, BeginsAnew, ReadsBoth}
-use Rattle.rust_edits.specs.Ranges.Open.{IsOpenItem, ReadsOn, StandsBefore}
+use Rattle.rust_edits.specs.Beside.Joined.{EndsWhole, BeginsAnew, ReadsBoth}
+use Rattle.rust_edits.specs.Beside.Open.{ReadsOn, StandsBefore}
 
 -- a problem is told of a text
 abbrev pub is_told : EditionYear → List ℕ → Bool
@@ -40,22 +40,19 @@ abbrev pub ItemsBehind : Type 0
 ItemsBehind = (edition : EditionYear) (q z s : List ℕ) → StandsInFront edition q z s → IsUtf8 q → begin_with_item (marks s) ≡ true → closers_reaching (marks s) ≡ []
     → ReadsBothIn edition (mended_text (q ++ (z ++ 10 ∷ s))) (mended_text q) (z ++ 10 ∷ mended_text s)
 
--- ---- behind an item without its end
+-- ---- behind items without their ends
 
--- A text that ends with such an item when its brackets are mended.
+-- A text that may end with such items when its brackets are mended, and with no carriage return.
 pub record StandsOpen (edition : EditionYear) (q z s : List ℕ) : Type 0 where
   pub apart : StandApart q z s
-  pub before : List ℕ
-  pub item : List ℕ
-  pub parts : with_feeds (mended_text q ++ (z ++ 10 ∷ mended_text s)) ≡ before ++ (item ++ with_feeds (z ++ 10 ∷ mended_text s))
-  pub follows : StandsBefore edition before (item ++ with_feeds (z ++ 10 ∷ mended_text s))
-  pub is_open : IsOpenItem edition item (with_feeds (z ++ 10 ∷ mended_text s))
-  pub short : length (before ++ (item ++ with_feeds (z ++ 10 ∷ mended_text s))) < most
+  pub feeds : with_feeds (mended_text q ++ (z ++ 10 ∷ mended_text s)) ≡ with_feeds (mended_text q) ++ with_feeds (z ++ 10 ∷ mended_text s)
+  pub before : StandsBefore edition (with_feeds (mended_text q)) (with_feeds (z ++ 10 ∷ mended_text s))
+  pub short : length (with_feeds (mended_text q ++ (z ++ 10 ∷ mended_text s))) < most
 
 -- Where an item comes next at the beginning of a line, and no closer behind it is too much, what is read ends with what is read from there on.
 abbrev pub OpenBehind : Type 0
-OpenBehind = (edition : EditionYear) (q z s : List ℕ) → (o : StandsOpen edition q z s) → IsUtf8 q → begin_with_item (marks s) ≡ true → closers_reaching (marks s) ≡ []
-    → ReadsOn edition (with_feeds (mended_text (q ++ (z ++ 10 ∷ s)))) (length o.before + length o.item) (with_feeds (z ++ 10 ∷ mended_text s))
+OpenBehind = (edition : EditionYear) (q z s : List ℕ) → StandsOpen edition q z s → IsUtf8 q → begin_with_item (marks s) ≡ true → closers_reaching (marks s) ≡ []
+    → ReadsOn edition (with_feeds (mended_text (q ++ (z ++ 10 ∷ s)))) (length (with_feeds (mended_text q))) (with_feeds (z ++ 10 ∷ mended_text s))
 
 -- ---- what lists tell
 

@@ -3,14 +3,14 @@ use Rattle.std.proofs.Common.{◌≡◌, Bool, ◌<◌, ◌+◌, ◌==◌, ◌||
 use Rattle.rust_edits.proofs.Common.{own, stop_at, tokens_in_front, option_map, not, slice_index, filter, EditionYear, MetaView, ItemView, Row, Stop, stop, EndsAlone, moved, is_continuation, Piece, symbol_of, is_significant, tokens, most, Tokens, tokens_of, last_unended, by_first, symbol, TextRange, inner_attributes, Problem, Found, nothing_found, and_problem_at, and_all, finding, items, moved_range, moved_span, moved_problem, behind_attributes, found_in, read_of, ends_items, read_at, EndsWhole, InsideJoin, ItemsJoin, IsBare, found_on, BeginsAnew, common_steps, nat_tests, tokens_sound, behind, tokens_laid, LeadsTo, here, further, bumped, through, by_kept, inner_attributes_until, inner_attributes_leads, Span, items_found, Ending, Near, near, fewer, near_parting, near_enters, near_levels, is_still, tokens_short}
 use Rattle.rust_items.specs.declared.log.ProblemKind.TheVariants as problem
 use Rattle.rust_cursor.proofs.Parting as parting
-use Rattle.rust_edits.proofs.Ranges.NearLeaves.{Given, given_on}
-use Rattle.rust_edits.proofs.Ranges.NearItems.{top_end, FoundNear, told}
-use Rattle.rust_edits.proofs.Ranges.Alone.{last_is, part_in, part_near, part_ended, start_near, ended, IsPart, tokens_behind}
-use Rattle.rust_edits.proofs.Ranges.Behind.{last_stop, plain_on, behind_moved, first_moved, unended_behind, past_whole, plain_tokens}
-use Rattle.rust_edits.proofs.Ranges.Inner.{no_inner}
-use Rattle.rust_edits.proofs.Ranges.Onward.{IsRead, read_on}
-use Rattle.rust_edits.proofs.Ranges.Turning.{run, run_stop, run_ended, top_is, Calm, calm_left, calm_by}
-use Rattle.rust_edits.proofs.Ranges.NearFields.{empty_left}
+use Rattle.rust_edits.proofs.Beside.NearLeaves.{Given, given_on}
+use Rattle.rust_edits.proofs.Beside.NearItems.{top_end, FoundNear, told}
+use Rattle.rust_edits.proofs.Beside.Alone.{last_is, part_in, part_near, part_ended, start_near, ended, IsPart, tokens_behind}
+use Rattle.rust_edits.proofs.Beside.Behind.{last_stop, plain_on, behind_moved, first_moved, unended_behind, past_whole, plain_tokens}
+use Rattle.rust_edits.proofs.Beside.Inner.{no_inner}
+use Rattle.rust_edits.proofs.Beside.Onward.{IsRead, read_on}
+use Rattle.rust_edits.proofs.Beside.Turning.{run, run_stop, run_ended, top_is, Calm, calm_left, calm_by}
+use Rattle.rust_edits.proofs.Beside.NearFields.{empty_left}
 use Rattle.rust_edits.proofs.Typing.ProblemsIn.{unended_kept}
 use Rattle.rust_edits.proofs.Typing.Unended.{last_append}
 
@@ -56,10 +56,10 @@ map_still : {A : Type 0} (on : A → A) → ((a : A) → on a ≡ a) → (l : Li
 map_still on e [] = refl
 map_still on e (a ∷ l) = ap (λ b. b ∷ map on l) (e a) ∙ ap (λ m. a ∷ m) (map_still on e l)
 
-abbrev found : List Row → List Span → List ℕ → List Problem → Found
+abbrev pub found : List Row → List Span → List ℕ → List Problem → Found
 found rows spans use_trees problems = record { rows = rows; spans = spans; use_trees = use_trees; problems = problems }
 
-found_same : (rows rows' : List Row) (spans spans' : List Span) (trees trees' : List ℕ) (problems problems' : List Problem) → rows ≡ rows' → spans ≡ spans' → trees ≡ trees' → problems ≡ problems'
+pub found_same : (rows rows' : List Row) (spans spans' : List Span) (trees trees' : List ℕ) (problems problems' : List Problem) → rows ≡ rows' → spans ≡ spans' → trees ≡ trees' → problems ≡ problems'
     → found rows spans trees problems ≡ found rows' spans' trees' problems'
 found_same rows rows' spans spans' trees trees' problems problems' a b c d = rw (a, b, c, d) refl
 
@@ -73,6 +73,9 @@ found_first b f g e n =
 
 pub found_both : (b : Ending) (before f g : Found) → FoundNear b before f g → f ≡ and_all (found_on b.by g) before
 found_both b before f g n = found_same f.rows _ f.spans _ f.use_trees _ f.problems _ n.rows n.spans n.use_trees n.problems
+
+pub found_still : (f : Found) → f ≡ and_all (found_on 0 f) nothing_found
+found_still f = sym (found_same f.rows f.rows _ f.spans _ f.use_trees _ f.problems refl (map_still _ span_still f.spans) (map_still _ number_still f.use_trees) (map_still _ problem_still f.problems))
 
 -- with the problem that a token is not ended
 pub unended_join : (d : ℕ) (o : Option ℕ) (f g : Found) → and_problem_at problem.Unterminated (option_map (λ n. n + d) o) (and_all (found_on d g) f) ≡ and_all (found_on d (and_problem_at problem.Unterminated o g)) f

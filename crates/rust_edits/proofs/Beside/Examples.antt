@@ -1,8 +1,13 @@
 -- Small examples, by computing: a text that ends with its own token, one that ends with a whole item, and one that ends with an item without its end.
-use Rattle.std.proofs.Common.{length, map, ◌++◌, ◌≡◌, ◌==◌, ℕ, true, false, Option, None, List, [], ◌∷◌, codes, refl, sym, ap, ◌∙◌, suc}
-use Rattle.rust_edits.proofs.Common.{moved, begins_item, option_to_list, beyond, slice_index, EditionYear, MetaView, ItemView, Inner, semicolon, closing, is_continuation, is_wide_start, is_wide_continue, first_cut, Piece, tokens, most, goes_on, Tokens, tokens_of, symbol, word, text, kind, at, is_empty, is_at_end, bumped, eat, plain_name, is_keyword, is_path_keyword, next_name, name, placed_name, is_behind, is_doc, is_attribute, inner_attributes, is_modifier, is_modifier_before, is_weak_before, head, head_by, FrontRead, front, named, Found, nothing_found, items, by_head, inside, turn, depth_of, behind_attributes, read_of, IsBare, EndsWhole, BeginsAnew, EndsOwn, is_list_end, finding, finding_from, tokens_at}
-use Rattle.rust_edits.specs.Ranges.Open.{IsOpenItem, behind_name, end_behind, reaches_end}
-use Rattle.rust_edits.proofs.Ranges.Inner.{front_bare, no_inner}
+use Rattle.std.proofs.Common.{◌||◌, ◌<◌, subst, arith, length, map, ◌++◌, ◌≡◌, ◌==◌, ℕ, true, false, Option, None, List, [], ◌∷◌, codes, refl, sym, ap, ◌∙◌, suc}
+use Rattle.rust_edits.proofs.Common.{nest_behind, with_feeds, moved, begins_item, option_to_list, beyond, slice_index, EditionYear, MetaView, ItemView, Inner, semicolon, closing, is_continuation, is_wide_start, is_wide_continue, first_cut, Piece, tokens, most, goes_on, Tokens, tokens_of, symbol, word, text, kind, at, is_empty, is_at_end, bumped, eat, plain_name, is_keyword, is_path_keyword, next_name, name, placed_name, is_behind, is_doc, is_attribute, inner_attributes, is_modifier, is_modifier_before, is_weak_before, head, head_by, FrontRead, front, named, Found, nothing_found, items, by_head, inside, turn, depth_of, behind_attributes, read_of, IsBare, EndsWhole, BeginsAnew, EndsOwn, is_list_end, finding, finding_from, tokens_at}
+use Rattle.rust_cursor.specs.Extents.{begins}
+use Rattle.rust_cursor.specs.Nests.{flat_behind}
+use Rattle.rust_mended.specs.Apart.{StandApart}
+use Rattle.rust_mended.specs.Texts.{edits, is_matched, mended_text}
+use Rattle.rust_edits.specs.Beside.Mended.{StandsInFront, StandsOpen}
+use Rattle.rust_edits.specs.Beside.Open.{StandsBefore, nothing_before, open_before, IsOpenItem, before_rest, end_behind, nest_through}
+use Rattle.rust_edits.proofs.Beside.Inner.{front_bare, no_inner}
 use Rattle.rust_lexer.specs.declared.kind.TokenKind.TheVariants as kinds
 use Rattle.rust_leaves.specs.declared.head.Head.TheVariants as heads
 
@@ -134,8 +139,8 @@ module _ (y : EditionYear) where
   not_on = refl
 
   -- and may stand behind others
-  pub begins : BeginsAnew y mod_b
-  begins = record { bare = bare; uncut = first_uncut; outer = ap (is_behind Inner) toks ∙ not_inner y name_and_end; still = ap goes_on toks ∙ not_on }
+  pub anew : BeginsAnew y mod_b
+  anew = record { bare = bare; uncut = first_uncut; outer = ap (is_behind Inner) toks ∙ not_inner y name_and_end; still = ap goes_on toks ∙ not_on }
 
 -- ---- an item without its end, in front of a module
 
@@ -174,10 +179,6 @@ module _ (y : EditionYear) where
   unfolding fn_f tokens_of tokens first_cut is_wide_start is_wide_continue
   ends_there = refl
 
-  module_begins : begins_item (tokens_of y behind_line) ≡ true
-  unfolding behind_line tokens_of tokens first_cut is_wide_start is_wide_continue begins_item word
-  module_begins = refl
-
   module_outer : is_behind Inner (tokens_of y behind_line) ≡ true
   unfolding behind_line tokens_of tokens first_cut is_wide_start is_wide_continue is_behind is_doc is_attribute symbol kind
   module_outer = refl
@@ -194,17 +195,113 @@ module _ (y : EditionYear) where
   unfolding from_f f_and_module fn_f behind_line tokens_of tokens first_cut is_wide_start is_wide_continue named placed_name name next_name plain_name is_keyword is_path_keyword kind text at bumped
   behind_f = refl
 
+  module_some : is_empty (tokens_of y behind_line) ≡ false
+  unfolding behind_line tokens_of tokens first_cut is_wide_start is_wide_continue is_empty
+  module_some = refl
+
+  module_plain : (symbol (tokens_of y behind_line) == 59 || symbol (tokens_of y behind_line) == 123) ≡ false
+  unfolding behind_line tokens_of tokens first_cut is_wide_start is_wide_continue symbol
+  module_plain = refl
+
+  -- behind its brackets the module begins
+  module_begins : begins (nest_through 2 (flat_behind (before_rest heads.Fn)) (named from_f).1) (tokens_of y behind_line) ≡ true
+  unfolding from_f f_and_module behind_line tokens_of tokens first_cut is_wide_start is_wide_continue named placed_name name next_name plain_name is_keyword is_path_keyword kind text at bumped nest_behind begins_item word symbol
+  module_begins = refl
+
   -- `fn f()` goes on to the end of its line
   pub is_open : IsOpenItem y fn_f behind_line
   is_open = record {
     parted = parted;
     ends = ends_there;
-    begins = module_begins;
     outer = ap (is_behind Inner) both_are ∙ fn_outer;
-    outer_behind = module_outer;
     item = ap is_at_end both_are ∙ fn_item;
+    head = heads.Fn;
+    is_head = ap (λ (t : Tokens). (front t).0.head) both_are ∙ ap (λ (r : FrontRead × Tokens). r.0.head) front_fn;
     rest = record { kind = kinds.OpenDelim; text = codes "("; at = 4 } ∷ record { kind = kinds.CloseDelim; text = codes ")"; at = 5 } ∷ [];
-    left = ap (λ (t : Tokens). (behind_name (front t).0.head (front t).1).left) both_are ∙ ap (λ (r : FrontRead × Tokens). (behind_name r.0.head r.1).left) front_fn ∙ behind_f;
-    reaches = ap (λ (t : Tokens). reaches_end (front t).0.head (record { kind = kinds.OpenDelim; text = codes "("; at = 4 } ∷ record { kind = kinds.CloseDelim; text = codes ")"; at = 5 } ∷ [])) both_are
-        ∙ ap (λ (r : FrontRead × Tokens). reaches_end r.0.head (record { kind = kinds.OpenDelim; text = codes "("; at = 4 } ∷ record { kind = kinds.CloseDelim; text = codes ")"; at = 5 } ∷ [])) front_fn;
+    left = ap (λ (t : Tokens). (named (front t).1).1.left) both_are ∙ ap (λ (r : FrontRead × Tokens). (named r.1).1.left) front_fn ∙ behind_f;
+    reaches = refl;
+    some = module_some;
+    begins = ap (λ (t : Tokens). begins (nest_through 2 (flat_behind (before_rest heads.Fn)) (named (front t).1).1) (tokens_of y behind_line)) both_are
+        ∙ ap (λ (r : FrontRead × Tokens). begins (nest_through 2 (flat_behind (before_rest heads.Fn)) (named r.1).1) (tokens_of y behind_line)) front_fn ∙ module_begins;
+    outer_behind = module_outer;
+    plain = module_plain;
+  }
+
+-- ---- texts whose brackets are mended
+
+-- a function that is not closed
+pub damaged : List ℕ
+damaged = codes "fn f() {"
+
+damaged_mended : mended_text damaged ≡ codes "fn f() {}"
+unfolding damaged mended_text edits tokens first_cut is_wide_start is_wide_continue
+damaged_mended = refl
+
+matched : is_matched mod_b ≡ true
+unfolding mod_b is_matched tokens first_cut is_wide_start is_wide_continue
+matched = refl
+
+before_damage : StandApart mod_b [] damaged
+unfolding mod_b damaged tokens first_cut is_wide_start is_wide_continue
+before_damage = record { blanks = refl; ends = refl; bare = refl; uncut = refl }
+
+-- parameters that are not closed
+pub cut_off : List ℕ
+cut_off = codes "fn f("
+
+cut_mended : mended_text cut_off ≡ fn_f
+unfolding cut_off fn_f mended_text edits tokens first_cut is_wide_start is_wide_continue
+cut_mended = refl
+
+behind_damage : StandApart cut_off [] mod_b
+unfolding cut_off mod_b tokens first_cut is_wide_start is_wide_continue
+behind_damage = record { blanks = refl; ends = refl; bare = refl; uncut = refl }
+
+module _ (y : EditionYear) where
+  mod_feeds : with_feeds (mended_text mod_b) ≡ mod_b
+  unfolding mod_b mended_text edits tokens first_cut is_wide_start is_wide_continue
+  mod_feeds = refl
+
+  line_feeds : with_feeds ([] ++ 10 ∷ mended_text damaged) ≡ codes "\nfn f() {}"
+  unfolding damaged mended_text edits tokens first_cut is_wide_start is_wide_continue
+  line_feeds = refl
+
+  line_anew : BeginsAnew y (codes "\nfn f() {}")
+  unfolding tokens_of tokens first_cut is_wide_start is_wide_continue is_behind is_doc is_attribute symbol kind
+  line_anew = record { bare = record { mark = refl; shebang = refl; fence = refl }; uncut = refl; outer = refl; still = refl }
+
+  in_front_short : length (with_feeds (mended_text mod_b ++ ([] ++ 10 ∷ mended_text damaged))) < most
+  unfolding mod_b damaged mended_text edits tokens first_cut is_wide_start is_wide_continue most
+  in_front_short = omega arith
+
+  -- `mod b;` stands in front of the damage
+  pub in_front : StandsInFront y mod_b [] damaged
+  in_front = record { apart = before_damage; whole = subst (EndsWhole true 128 y) (sym mod_feeds) (holds y); anew = subst (BeginsAnew y) (sym line_feeds) line_anew; short = in_front_short }
+
+  line_is : with_feeds ([] ++ 10 ∷ mended_text mod_b) ≡ behind_line
+  unfolding behind_line mod_b mended_text edits tokens first_cut is_wide_start is_wide_continue
+  line_is = refl
+
+  open_feeds : with_feeds (mended_text cut_off ++ ([] ++ 10 ∷ mended_text mod_b)) ≡ with_feeds (mended_text cut_off) ++ with_feeds ([] ++ 10 ∷ mended_text mod_b)
+  unfolding cut_off mod_b mended_text edits tokens first_cut is_wide_start is_wide_continue
+  open_feeds = refl
+
+  item_is : with_feeds (mended_text cut_off) ≡ fn_f
+  unfolding cut_off fn_f mended_text edits tokens first_cut is_wide_start is_wide_continue
+  item_is = refl
+
+  open_short : length (with_feeds (mended_text cut_off ++ ([] ++ 10 ∷ mended_text mod_b))) < most
+  unfolding cut_off mod_b mended_text edits tokens first_cut is_wide_start is_wide_continue most
+  open_short = omega arith
+
+  alone_before : StandsBefore y fn_f behind_line
+  alone_before = open_before [] fn_f behind_line (nothing_before (fn_f ++ behind_line)) (is_open y)
+
+  -- and behind a function of which the parameters are not closed
+  pub behind_it : StandsOpen y cut_off [] mod_b
+  behind_it = record {
+    apart = behind_damage;
+    feeds = open_feeds;
+    before = subst (λ (t : List ℕ). StandsBefore y t (with_feeds ([] ++ 10 ∷ mended_text mod_b))) (sym item_is) (subst (StandsBefore y fn_f) (sym line_is) alone_before);
+    short = open_short;
   }
