@@ -11,6 +11,8 @@ PROGRAM is itemtree, and TOOL is item_tree_tool. The parts, all of them where no
 - lines: lines that are empty, cut, long or in pieces, and streams that fail
 - places: what is told of texts, beside what `itemtree outline`, `imports`, `check` and `find` print of the same ones
 - typed: texts that are changed in ranges, beside the same texts set whole
+- mended: texts whose brackets are damaged, beside what `itemtree outline`, `imports` and `find` print of the same ones, and beside the
+  same texts set whole in a new session
 - random: random sessions, beside TOOL run anew on the edits so far, and beside a new session that is given them at once
 - damaged: edits, shows and first lines that are damaged at random, beside the forms in Python
 - noise: random bytes between good lines
@@ -1091,6 +1093,13 @@ SNIPPETS = [
 ]
 
 
+# What stands behind the damage is told again from the next item on that begins a line.
+LONG_ONES = [
+    'mod a {\n    fn f() {\n        g(1, [2]);\n    }\n\n    impl S {\n        fn a(&self) {}\n    }\n}\n\nuse a::{b, f as g};\n\nfn b() {\n    1\n}\n',
+    'use a::b;\n\nfn f() {\n    if b {\n        c();\n    }\n}\n\nstruct S {\n    a: u8,\n}\n\nimpl Clone for S {\n    fn f() {}\n}\n\nenum a {\n    A(u8),\n}\n',
+]
+
+
 def texts():
     """The Rust texts of the tests."""
     found = list(SNIPPETS)
@@ -1115,6 +1124,11 @@ def request_of(program, found, folder, *more):
         with open(paths[-1], 'w', encoding='utf-8', newline='') as file:
             file.write(text)
     return json.loads(output(program, 'request', *more, *paths)), paths
+
+
+def has_wrong_bracket(program, path):
+    """Whether lists mend a file: `itemtree page` and `request` do not."""
+    return any('bracket' in line.split(': ')[-1] for line in output(program, 'check', path).splitlines())
 
 
 def import_line(path, told):
@@ -1160,7 +1174,7 @@ def check_text(server, program, path, file, cfg):
     is_sorted = all(list(told) == ['column', 'line', 'message'] for told in problems)
     tell(lines == wanted and is_sorted, f'the problems of {path}', lines, wanted)
     wanted = output(program, 'page', *cfg, path)
-    tell(page == wanted, f'the page of {path}', page, wanted)
+    tell(page == wanted or has_wrong_bracket(program, path), f'the page of {path}', page, wanted)
     return outline
 
 
@@ -1381,10 +1395,12 @@ def check_expected(program):
         check_lines(program, 'what is expected', lines)
 
 
-def check_forgotten(server, request, outlines):
+def check_forgotten(server, program, request, outlines, paths):
     """All is gone where a file is removed, and places and problems where it is set without a text."""
     number = json.loads(server.ask({}))['number']
-    for edit, outline in zip(request['edits'], outlines):
+    for edit, outline, path in zip(request['edits'], outlines, paths):
+        if has_wrong_bracket(program, path):
+            continue
         file = edit['file']
         asked = told_of(file)[:3]
         got, wanted = server.ask({'edits': [{'edit': 'remove_file', 'file': file}], 'shows': asked}), answered(number + 1, [unset(file=file)] * 3)
@@ -1462,7 +1478,7 @@ def check_places(options):
                 outlines = [check_text(server, program, path, file, cfg) for file, path in enumerate(paths)]
                 check_names(server, program, outlines, paths)
                 check_kept(server, request, len(found))
-                check_forgotten(server, request, outlines)
+                check_forgotten(server, options.program, request, outlines, paths)
                 ends_well(server, 'places')
 
 
@@ -1523,6 +1539,59 @@ def check_unchanged(program):
     lines += [({'shows': [PAGE]}, answered(7, ['\n'])), ({'edits': [{**change, 'range': [0, 1]}]}, not_changed(7, 'range not in the text')),
               ({'edits': [{**change, 'text': 'fn f() {}'}], 'shows': [PAGE]}, answered(8, [PAGED]))]
     check_lines(program, 'a text that cannot be changed', lines)
+
+
+# ---- texts with damaged brackets
+
+def damaged_text(chance, text):
+    """A text that has lost a bracket, or has one too many."""
+    places = [at for at, sign in enumerate(text) if sign in '(){}[]']
+    if places and chance.random() < 0.6:
+        at = chance.choice(places)
+        return text[:at] + text[at + 1:]
+    at = chance.randrange(len(text) + 1)
+    return text[:at] + chance.choice('{{}([)]') + text[at:]
+
+
+def check_mended_text(server, program, path, text):
+    """What is told of file 0, beside the commands and a new session. The commands read what lists read."""
+    with open(path, 'w', encoding='utf-8', newline='') as file:
+        file.write(text)
+    finds = [{'show': 'find', 'name': name} for name in NAMES]
+    shows = told_of(0) + [{'show': 'imports', 'crate': 0, 'file': 0}, *finds]
+    got = json.loads(server.ask({'shows': shows}))['shows']
+    items = json.loads(output(program, 'outline', '--json', '--no-members', path))['items']
+    tell(got[0] == items, f'the outline of {text!r}', written(got[0]), written(items))
+    lines, wanted = ''.join(import_line(path, told) for told in got[1]), output(program, 'imports', path)
+    tell(lines == wanted, f'the imports of {text!r}', lines, wanted)
+    for name, found in zip(NAMES, got[5:]):
+        places = sorted(f'{path}:{told["line"]}:{told["column"]}' for told in found)
+        wanted = sorted(line.split(': ')[0] for line in output(program, 'find', '--no-members', name, path).splitlines())
+        tell(places == wanted, f'find {name} in {text!r}', places, wanted)
+    with Server(program) as other:
+        wanted = json.loads(other.ask({**OPENED, 'edits': [{'edit': 'set_text', 'file': 0, 'text': text}], 'shows': shows}))['shows']
+    tell(got == wanted, f'a new session over {text!r}', written(got), written(wanted))
+
+
+def check_mended(options):
+    chance = random.Random(f'{options.seed} mended')
+    found = [text for text in texts() + LONG_ONES if len(text) < 5000]
+    with tempfile.TemporaryDirectory() as folder, Server(options.program) as server:
+        server.ask(OPENED)
+        old, count = None, 0
+        for number in range(200):
+            text = chance.choice(found) if old is None or chance.random() < 0.3 else old
+            for _ in range(chance.randrange(3)):
+                text = damaged_text(chance, text)
+            edit = {'edit': 'set_text', 'file': 0, 'text': text} if old is None or chance.random() < 0.3 else changing(chance, 0, old, text)
+            got = server.ask({'edits': [edit]})
+            tell(got == answered(number + 1, []), f'{text!r} is set', got)
+            path = os.path.join(folder, f'{number}.rs')
+            check_mended_text(server, options.program, path, text)
+            count += has_wrong_bracket(options.program, path)
+            old = text
+        ends_well(server, 'mended')
+    tell(count > 100, 'most of the texts are damaged', count)
 
 
 # ---- random sessions
@@ -1821,10 +1890,17 @@ def read_in(program, found, year):
     return [edit['syntax'] for edit in request['edits']]
 
 
+def without_wrong_brackets(program, found):
+    """Those texts that lists do not mend."""
+    with tempfile.TemporaryDirectory() as folder:
+        _, paths = request_of(program, found, folder)
+        return [text for text, path in zip(found, paths) if not has_wrong_bracket(program, path)]
+
+
 def check_random(options):
     global passed, failed
     syntaxes, blocks = stored_edits()
-    found = texts()
+    found = without_wrong_brackets(options.program, texts())
     material = Material(syntaxes, blocks, found, {year: read_in(options.program, found, year) for year in (2015, 2024)})
     step = len(os.sched_getaffinity(0))
     with multiprocessing.Pool(step) as pool:
@@ -2043,7 +2119,8 @@ def edit_of(number):
     if kind == 8:
         return {'edit': 'remove_file', 'file': file}
     name = 'other' if kind == 5 else 'f'
-    return {'edit': 'set_text', 'file': file, 'text': f'{others}fn {name}() {{ {number % 100_000:05} }}\n) use a::b;\n'}
+    stray = ')' if file == 0 else ''
+    return {'edit': 'set_text', 'file': file, 'text': f'{others}fn {name}() {{ {number % 100_000:05} }}\n{stray} use a::b;\n'}
 
 
 def marks_of(program):
@@ -2099,7 +2176,7 @@ def check_many(options):
 
 
 PARTS = {'examples': check_examples, 'errors': check_errors, 'lines': check_line_forms, 'places': check_places, 'typed': check_typed,
-         'random': check_random,
+         'mended': check_mended, 'random': check_random,
          'damaged': check_random_wrong_forms, 'noise': check_noise, 'unread': check_unread, 'many': check_many}
 
 

@@ -24,8 +24,8 @@ import tempfile
 
 PLACES = ('top', 'module', 'impl', 'body')
 DAMAGES = ('typed', 'deleted', 'added')
-# The bounds of the gate: of items behind found, and of texts in which all are lost, in per cent.
-LEAST_FOUND, MOST_LOST = 99, 1
+# The bounds: of items behind found, of texts in which all are lost, and of silent ones, in per cent.
+LEAST_FOUND, MOST_LOST, MOST_SILENT = 99, 0.2, 0.1
 MOST_BYTES, MOST_TOKENS, CHUNK = 60_000, 120, 400
 TOKEN = re.compile(r'''//[^\n]*|/\*.*?\*/|b?r(?P<h>\#*)".*?"(?P=h)|b?"(?:\\.|[^"\\])*"|b?'(?:\\.[^']*|[^'\\])'|'\w+|\w+|\s+|.''', re.S)
 
@@ -306,6 +306,7 @@ def main():
                 figures, files = measure(options.program, made, folder, options.show)
                 is_fit = made and per_cent(figures['found'], figures['behind']) >= LEAST_FOUND
                 is_fit = is_fit and per_cent(figures['lost'], len(made)) <= MOST_LOST and not figures['before']
+                is_fit = is_fit and per_cent(figures['silent'], len(made)) <= MOST_SILENT
                 passed, failed = passed + bool(is_fit), failed + (not is_fit)
                 if options.folders or not is_fit or options.show:
                     print(line_of(f'{place}, {damage}', len(made), figures))

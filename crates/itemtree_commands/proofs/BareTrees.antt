@@ -4,7 +4,7 @@ use Rattle.std.specs.Option.{option_and_then, option_map_or}
 use Rattle.std.proofs.lemmas.Slice.Eq.{bytes_eq-Decides}
 use Rattle.hir_input.specs.declared.ast.PathNode.{PathNode}
 use Rattle.hir_input.specs.declared.ast.PathNode.TheVariants.{Readable, Unreadable}
-use Rattle.itemtree_commands.proofs.Common.{EditionYear, NodeView, NamedView, ItemView, ItemViews, plain_item, const_item, struct_item, bare_module, listed_module, use_item, extern_crate, bare_extern_block, listed_extern_block, impl_item, macro_call, macro_rules, asm_item, no_items, item_and, SyntaxView, source_file, syntax_view, CrateData, crate_view, shape_of, readable, module_node, head_of, kept, kept_all, IsTooLargeIn, kept_in, Lower, SourceTree, IsTreeRefused, IsTreeOf, metas_under, wanted_under}
+use Rattle.itemtree_commands.proofs.Common.{EditionYear, NodeView, NamedView, ItemView, ItemViews, plain_item, const_item, struct_item, bare_module, listed_module, use_item, extern_crate, bare_extern_block, listed_extern_block, impl_item, macro_call, macro_rules, asm_item, no_items, item_and, SyntaxView, source_file, syntax_view, CrateData, crate_view, shape_of, readable, module_node, head_of, kept, kept_all, IsTooLargeIn, kept_in, Lower, SourceTree, IsTreeIn, IsTreeRefused, IsTreeOf, metas_under, wanted_under}
 use Rattle.hir_input.specs.Attr.{MetaView, path_meta, key_value_meta, token_tree_meta, cfg_meta, cfg_attr_meta, unsafe_meta}
 use Rattle.hir_input.specs.Cfg.{AtomView}
 use Rattle.hir_input.specs.Name.{is_among}
@@ -23,7 +23,7 @@ use Rattle.rust_metas.specs.declared.wanted.WantedMetas.TheVariants as wanted
 use Rattle.rust_leaves.specs.declared.wanted.Wanted.{Wanted}
 use Rattle.rust_leaves.specs.Clipped.{clipped_node, clipped_item, clipped_list}
 use Rattle.rust_items.specs.declared.source_file.SourceFile.{SourceFile}
-use Rattle.rust_items.specs.SourceFiles.{FileView, file_view, clipped_syntax, IsClippedFile}
+use Rattle.rust_items.specs.SourceFiles.{FileView, file_view, clipped_file, clipped_syntax, IsClippedFile}
 
 -- ---- attributes
 
@@ -127,23 +127,25 @@ same_sizes krate skipped s attrs is e =
 
 -- ---- trees
 
--- the tree of what is read with what is wanted is that of the text
-pub bare_tree : (krate : CrateData) (skipped : List (List ℕ)) (edition : EditionYear) (text : List ℕ) (file : SourceFile) (t : SourceTree) → IsClippedFile (wanted_under skipped) edition text (file_view file)
-    → t.tree ≡ kept_in krate false skipped (syntax_view file.syntax) → t.places.items ≡ file.places.items → t.use_trees.items ≡ file.use_trees.items → t.problems.items ≡ file.problems.items
-    → IsTreeOf krate skipped edition text t
-bare_tree krate skipped edition text file t b tree places use_trees problems = record {
-  file = b.read;
-  is_read = b.is_read;
-  tree = tree ∙ ap (λ (f : FileView). kept_in krate false skipped f.syntax) b.clipped ∙ same_kept krate skipped b.read.syntax _ _ b.is_read.syntax;
-  places = places ∙ ap (λ (f : FileView). f.places) b.clipped;
-  use_trees = use_trees ∙ ap (λ (f : FileView). f.use_trees) b.clipped;
-  problems = problems ∙ ap (λ (f : FileView). f.problems) b.clipped;
-}
+module _ (krate : CrateData) (skipped : List (List ℕ)) (read file : FileView) (attrs : List MetaView) (is : ItemViews) (source : read.syntax ≡ source_file attrs is) (clipped : file ≡ clipped_file (wanted_under skipped) read) where
+  -- the tree of what is wanted of what was read is that of what was read
+  pub tree_whole : (t : SourceTree) → IsTreeIn krate skipped file t → IsTreeIn krate skipped read t
+  tree_whole t h = record {
+    tree = h.tree ∙ ap (λ (f : FileView). kept_in krate false skipped f.syntax) clipped ∙ same_kept krate skipped read.syntax attrs is source;
+    places = h.places ∙ ap (λ (f : FileView). f.places) clipped;
+    use_trees = h.use_trees ∙ ap (λ (f : FileView). f.use_trees) clipped;
+    problems = h.problems ∙ ap (λ (f : FileView). f.problems) clipped;
+  }
 
--- what is read with what is wanted passes a size as the text does
-pub too_large : (krate : CrateData) (skipped : List (List ℕ)) (edition : EditionYear) (text : List ℕ) (file : SourceFile) (e : LowerError) →
-    length text ≤ 2 ^ 32 → IsClippedFile (wanted_under skipped) edition text (file_view file) → IsTooLargeIn krate false skipped (syntax_view file.syntax) e → IsTreeRefused krate skipped edition text (Lower e)
-too_large krate skipped edition text file e short b large =
-    let clipped : IsTooLargeIn krate false skipped (clipped_syntax (wanted_under skipped) b.read.syntax) e = subst (λ (f : FileView). IsTooLargeIn krate false skipped f.syntax e) b.clipped large in
-    let whole : IsTooLargeIn krate false skipped b.read.syntax e = subst (λ (z : Sizes). IsPassed z e) (same_sizes krate skipped b.read.syntax _ _ b.is_read.syntax) clipped in
-    (short, inr (b.read, b.is_read, whole))
+  -- and passes a size as that does
+  pub large_whole : (e : LowerError) → IsTooLargeIn krate false skipped file.syntax e → IsTooLargeIn krate false skipped read.syntax e
+  large_whole e h = subst (λ (z : Sizes). IsPassed z e) (same_sizes krate skipped read.syntax attrs is source) (subst (λ (f : FileView). IsTooLargeIn krate false skipped f.syntax e) clipped h)
+
+module _ (krate : CrateData) (skipped : List (List ℕ)) (edition : EditionYear) (text : List ℕ) where
+  -- the tree of what is read with what is wanted is that of the text
+  pub bare_tree : (file : SourceFile) (t : SourceTree) → IsClippedFile (wanted_under skipped) edition text (file_view file) → IsTreeIn krate skipped (file_view file) t → IsTreeOf krate skipped edition text t
+  bare_tree file t b h = record { file = b.read; is_read = b.is_read; is_tree = tree_whole krate skipped b.read (file_view file) _ _ b.is_read.syntax b.clipped t h }
+
+  -- what is read with what is wanted passes a size as the text does
+  pub too_large : (file : SourceFile) (e : LowerError) → length text ≤ 2 ^ 32 → IsClippedFile (wanted_under skipped) edition text (file_view file) → IsTooLargeIn krate false skipped (syntax_view file.syntax) e → IsTreeRefused krate skipped edition text (Lower e)
+  too_large file e short b large = (short, inr (b.read, b.is_read, large_whole krate skipped b.read (file_view file) _ _ b.is_read.syntax b.clipped e large))

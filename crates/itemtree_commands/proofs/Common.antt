@@ -5,6 +5,6 @@ pub use Rattle.item_tree.specs.CrateView.{crate_view}
 pub use Rattle.item_tree.specs.Kept.{head_of, kept, kept_all, kept_syntax, module_node, readable, shape_of}
 pub use Rattle.item_tree.specs.Lowered.{IsTooLargeIn, kept_in}
 pub use Rattle.item_tree.specs.declared.crate_data.CrateData.{CrateData}
-pub use Rattle.itemtree_commands.specs.Trees.{IsTextUnread, IsTreeOf, IsTreeRefused, metas_under, wanted_under}
+pub use Rattle.itemtree_commands.specs.Trees.{IsTextUnread, IsTreeIn, IsTreeOf, IsTreeRefused, metas_under, wanted_under}
 pub use Rattle.itemtree_commands.specs.declared.trees.SourceError.TheVariants.{Lower}
 pub use Rattle.itemtree_commands.specs.declared.trees.SourceTree.{SourceTree}

@@ -6,7 +6,7 @@ use Rattle.std.proofs.lemmas.List.Elements.{filter_map-append}
 use Rattle.hir_input.specs.declared.ast.PathNode.{PathNode}
 use Rattle.hir_input.specs.declared.attr.AttrInput.{AttrInput}
 use Rattle.hir_input.specs.declared.ids.SyntaxContext.{SyntaxContext}
-use Rattle.itemtree_commands.proofs.Common.{EditionYear, NodeView, ItemView, ItemViews, plain_item, const_item, struct_item, bare_module, listed_module, use_item, extern_crate, bare_extern_block, listed_extern_block, impl_item, macro_call, macro_rules, asm_item, no_items, item_and, SyntaxView, source_file, syntax_view, CrateData, crate_view, shape_of, readable, module_node, head_of, kept, kept_all, kept_in, SourceTree, IsTreeOf}
+use Rattle.itemtree_commands.proofs.Common.{EditionYear, NodeView, ItemView, ItemViews, plain_item, const_item, struct_item, bare_module, listed_module, use_item, extern_crate, bare_extern_block, listed_extern_block, impl_item, macro_call, macro_rules, asm_item, no_items, item_and, SyntaxView, source_file, CrateData, crate_view, shape_of, readable, module_node, head_of, kept, kept_all, kept_in}
 use Rattle.hir_input.specs.Attr.{MetaView, path_meta, key_value_meta, token_tree_meta, cfg_meta, cfg_attr_meta, unsafe_meta}
 use Rattle.hir_input.specs.Cfg.{AtomView, CfgView}
 use Rattle.either.specs.Either.{right}
@@ -22,9 +22,11 @@ use Rattle.rust_metas.specs.declared.wanted.WantedMetas.TheVariants.{Conditions}
 use Rattle.rust_metas.specs.Docs.{is_condition_meta, kept_metas}
 use Rattle.rust_leaves.specs.Clipped.{clipped_node, clipped_item, clipped_list}
 use Rattle.rust_items.specs.declared.source_file.ItemPlace.{ItemPlace}
-use Rattle.rust_items.specs.declared.source_file.SourceFile.{SourceFile}
-use Rattle.rust_items.specs.SourceFiles.{FileView, file_view, clipped_syntax, IsClippedFile}
-use Rattle.itemtree_commands.specs.Inner.{HasRowsOf, row_wanted}
+use Rattle.rust_items.specs.SourceFiles.{FileView, clipped_syntax}
+use Rattle.source_reading.specs.ListedFiles.{closers_in}
+use Rattle.itemtree_commands.specs.declared.listed.ListedTree.{ListedTree}
+use Rattle.itemtree_commands.specs.Inner.{HasListedRows, IsClippedTree, row_wanted}
+use Rattle.itemtree_commands.specs.Trees.{IsListedTree}
 
 -- ---- attributes
 
@@ -137,30 +139,33 @@ same_rows krate skipped s attrs is e =
     subst (λ z. rows (kept_in krate false skipped (clipped_syntax row_wanted z)) ≡ rows (kept_in krate false skipped z)) (sym e)
     (λ j. list_rows options skipped is (around (same_false options skipped attrs j)) j)
 
--- the tree of what is read for rows has the rows of the text's tree
-pub rows_kept : (krate : CrateData) (skipped : List (List ℕ)) (edition : EditionYear) (text : List ℕ) (file : SourceFile) (t : SourceTree) → IsClippedFile row_wanted edition text (file_view file)
-    → t.tree ≡ kept_in krate false skipped (syntax_view file.syntax) → t.places.items ≡ file.places.items → t.use_trees.items ≡ file.use_trees.items → t.problems.items ≡ file.problems.items
-    → HasRowsOf krate skipped edition text t
-rows_kept krate skipped edition text file t b tree places use_trees problems = record {
-  whole = record t { tree = kept_in krate false skipped b.read.syntax };
-  is_tree = record {
-    file = b.read;
-    is_read = b.is_read;
-    tree = refl;
-    places = places ∙ ap (λ (f : FileView). f.places) b.clipped;
-    use_trees = use_trees ∙ ap (λ (f : FileView). f.use_trees) b.clipped;
-    problems = problems ∙ ap (λ (f : FileView). f.problems) b.clipped;
-  };
-  rows = ap rows (tree ∙ ap (λ (f : FileView). kept_in krate false skipped f.syntax) b.clipped) ∙ same_rows krate skipped b.read.syntax _ _ b.is_read.syntax;
-  places = refl;
-  problems = refl;
-}
+-- the tree of what is read for rows has the rows of the tree that lists tell
+pub rows_kept : (krate : CrateData) (skipped : List (List ℕ)) (edition : EditionYear) (text : List ℕ) (x : ListedTree) → IsClippedTree row_wanted krate skipped edition text x → HasListedRows krate skipped edition text x
+rows_kept krate skipped edition text x b =
+    let read = b.is_clipped.read in
+    let clipped = b.is_clipped.clipped in
+    let source = ap (λ (f : FileView). f.syntax) b.is_clipped.is_read.told ∙ b.is_clipped.is_read.is_read.syntax in
+    record {
+      whole = record x.source { tree = kept_in krate false skipped read.syntax };
+      is_listed = record {
+        file = read;
+        is_listed = b.is_clipped.is_read;
+        is_tree = record {
+          tree = refl;
+          places = b.is_tree.places ∙ ap (λ (f : FileView). f.places) clipped;
+          use_trees = b.is_tree.use_trees ∙ ap (λ (f : FileView). f.use_trees) clipped;
+          problems = b.is_tree.problems ∙ ap (λ (f : FileView). f.problems) clipped;
+        };
+      };
+      rows = ap rows (b.is_tree.tree ∙ ap (λ (f : FileView). kept_in krate false skipped f.syntax) clipped) ∙ same_rows krate skipped read.syntax _ _ source;
+      places = refl;
+    }
 
--- a text's tree has its own rows
-pub own_rows : (krate : CrateData) (skipped : List (List ℕ)) (edition : EditionYear) (text : List ℕ) (t : SourceTree) → IsTreeOf krate skipped edition text t → HasRowsOf krate skipped edition text t
-own_rows krate skipped edition text t h = record { whole = t; is_tree = h; rows = refl; places = refl; problems = refl }
+-- a tree that lists tell has its own rows
+pub own_rows : (krate : CrateData) (skipped : List (List ℕ)) (edition : EditionYear) (text : List ℕ) (x : ListedTree) → IsListedTree krate skipped edition text (closers_in x.mended) x.source → HasListedRows krate skipped edition text x
+own_rows krate skipped edition text x h = record { whole = x.source; is_listed = h; rows = refl; places = refl }
 
--- a list of the rows and the places is that of the text's tree
-pub same_list : {A : Type 0} {krate : CrateData} {skipped : List (List ℕ)} {edition : EditionYear} {text : List ℕ} {t : SourceTree} (h : HasRowsOf krate skipped edition text t) (list : List ItemPlace → List RowView → A)
-    → list t.places.items (rows t.tree) ≡ list h.whole.places.items (rows h.whole.tree)
-same_list h list = λ j. list (h.places j) (h.rows j)
+-- a list of the rows and the places is that of the tree that is listed
+pub same_listed : {A : Type 0} {krate : CrateData} {skipped : List (List ℕ)} {edition : EditionYear} {text : List ℕ} {x : ListedTree} (h : HasListedRows krate skipped edition text x) (list : List ItemPlace → List RowView → A)
+    → list x.source.places.items (rows x.source.tree) ≡ list h.whole.places.items (rows h.whole.tree)
+same_listed h list = λ j. list (h.places j) (h.rows j)

@@ -13,4 +13,4 @@ kept_alike krate skipped s t e =
 pub same_in_body : (krate : CrateData) (skipped : List (List ℕ)) (edition : EditionYear) (old new : List ℕ) (t u : SourceTree) (same : Bool) → IsTreeOf krate skipped edition old t → IsTreeOf krate skipped edition new u → (IsTrue same ↔ (t.tree ≡ u.tree))
     → IsSameInBody edition old new same
 same_in_body krate skipped edition old new t u same l r d q m m' s e e' h =
-    d.1 (l.tree ∙ kept_alike krate skipped l.file.syntax r.file.syntax (typing_inside edition q m m' s old new l.file r.file e e' h l.is_read r.is_read) ∙ sym r.tree)
+    d.1 (l.is_tree.tree ∙ kept_alike krate skipped l.file.syntax r.file.syntax (typing_inside edition q m m' s old new l.file r.file e e' h l.is_read r.is_read) ∙ sym r.is_tree.tree)

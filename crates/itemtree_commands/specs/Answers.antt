@@ -1,5 +1,5 @@
 -- What the commands answer, from the text of a file on.
-use Rattle.std.specs.Prelude.{◌≡◌, ◌↔◌, ◌⊎◌, ℕ, Bool, IsTrue, if◌then◌else◌, Option, Some, None, List, length, string_bytes}
+use Rattle.std.specs.Prelude.{◌≡◌, ◌↔◌, ℕ, Bool, IsTrue, if◌then◌else◌, Option, Some, None, List, length, string_bytes}
 use Rattle.hir_input.specs.Cfg.{AtomView}
 use Rattle.item_tree.specs.Page.{page}
 use Rattle.tree_walk.specs.Rows.{rows}
@@ -16,11 +16,11 @@ use Rattle.source_listing.specs.Uses.{FilePlaces, placed}
 use Rattle.source_listing.specs.Search.{Query, found_lines}
 use Rattle.source_listing.specs.Tags.{tags}
 use Rattle.source_problems.specs.Texts.{source_problems}
+use Rattle.source_reading.specs.ListedFiles.{listed_text}
 use Rattle.rust_items.specs.SourceFiles.{FileView, IsFileView}
-use Rattle.rust_mended.specs.Texts.{mended_text}
 use Rattle.itemtree_commands.specs.declared.trees.SourceTree.{SourceTree}
 use Rattle.itemtree_commands.specs.declared.trees.SourceError.{SourceError}
-use Rattle.itemtree_commands.specs.Trees.{IsListedTree, IsTreeRefused, IsTreeOf, listed_text}
+use Rattle.itemtree_commands.specs.Trees.{IsListedTree, IsListRefused, IsTreeRefused, IsTreeOf}
 use Rattle.itemtree_commands.specs.declared.Options.{Options}
 use Rattle.itemtree_commands.specs.declared.Checked.{Checked}
 use Rattle.itemtree_commands.specs.declared.Compared.{Compared}
@@ -105,9 +105,9 @@ IsCheck o s c =
 abbrev pub HasNoTree : Options → List ℕ → SourceError → Type 0
 HasNoTree o = IsTreeRefused o.krate o.skipped.items o.edition.year
 
--- a list has no answer: the text has no tree, or its mended text has none, or memory runs out
+-- a list has no answer: what lists read of the text has no tree, or memory runs out
 abbrev pub HasNoList : Options → List ℕ → SourceError → Type 0
-HasNoList o text e = HasNoTree o text e ⊎ HasNoTree o (mended_text text) e
+HasNoList o = IsListRefused o.krate o.skipped.items o.edition.year
 
 -- a file, and where its items stand
 abbrev pub side : Source → SourceTree → Side

@@ -7,7 +7,7 @@ mod trees;
 
 ghost use Rattle.std.specs.Prelude.{◌≡◌, ◌≤◌, ◌^◌, length, map, IfOk, IfErr, OnOk, option_copied, string_bytes};
 ghost use Rattle.itemtree_commands.specs.Answers as spec;
-ghost use Rattle.itemtree_commands.specs.Inner.{HasRowsOf, reading_by};
+ghost use Rattle.itemtree_commands.specs.Inner.{reading_by};
 ghost use Rattle.itemtree_commands.specs.Typing.{IsSameInBody};
 ghost use Rattle.source_listing.specs.Views.{choice_view, look_view, query_view, reading_view, source_view};
 ghost use Rattle.itemtree_commands.specs.Trees.{HasOwnIds, IsTextUnread};
@@ -19,7 +19,7 @@ use rust_mended::Mended;
 use source_listing::{Choice, Look, Query, Reading, Side, Source, without_ids};
 use source_problems::source_problems;
 use std::alloc::{AllocError, Global};
-use trees::{checked_source, row_tree};
+use trees::checked_source;
 pub use trees::{SourceError, SourceTree, source_tree};
 
 /// What trees are made and written under.
@@ -126,30 +126,13 @@ fn read(alloc: Global, text: &str, options: &Options) -> Result<SourceTree, Sour
     )
 }
 
-/// A tree of a text under the options that has the rows of the text's tree.
-fn read_rows(alloc: Global, text: &str, options: &Options) -> Result<SourceTree, SourceError>
-    ensures tree { IfOk result
-        (HasRowsOf options.now.krate options.now.skipped.items options.now.edition.year text.now) }
-    ensures ids { IfOk result HasOwnIds }
-    ensures short { OnOk result (length text.now ≤ 2 ^ 32) }
-    ensures refused { IfErr result (spec.HasNoTree options.now text.now) }
-{
-    row_tree(
-        alloc,
-        text,
-        options.edition.year,
-        &options.krate,
-        &options.skipped,
-    )
-}
-
 /// `itemtree outline`: a line for each item and each member of one, or for those in fewer than so many items; with or
 /// without members, and with or without colours.
 ///
 /// # Errors
 ///
 /// Those of `source_tree`.
-#[tactic(auto, using(crate::proofs::Refused::no_memory, crate::proofs::Refused::no_list))]
+#[tactic(auto, using(crate::proofs::Refused::no_list))]
 pub fn outline(
     alloc: Global,
     source: Source<'_>,
@@ -178,7 +161,7 @@ pub fn outline(
 /// # Errors
 ///
 /// Those of `source_tree`.
-#[tactic(auto, using(crate::proofs::Refused::no_memory, crate::proofs::Refused::no_list))]
+#[tactic(auto, using(crate::proofs::Refused::no_list))]
 pub fn outline_json(
     alloc: Global,
     source: Source<'_>,
@@ -238,7 +221,7 @@ pub fn page(
 /// # Errors
 ///
 /// Those of `source_tree`.
-#[tactic(auto, using(crate::proofs::Refused::no_memory, crate::proofs::Refused::no_list))]
+#[tactic(auto, using(crate::proofs::Refused::no_list))]
 pub fn find(
     alloc: Global,
     source: Source<'_>,
@@ -264,7 +247,7 @@ pub fn find(
 /// # Errors
 ///
 /// Those of `source_tree`.
-#[tactic(auto, using(crate::proofs::Refused::no_memory, crate::proofs::Refused::no_list))]
+#[tactic(auto, using(crate::proofs::Refused::no_list))]
 pub fn imports(alloc: Global, source: Source<'_>, options: &Options) -> Result<String, SourceError>
     ensures text { IfOk result
         (λ out. spec.AreImports options.now (source_view source.entry) (string_bytes out)) }
@@ -288,7 +271,7 @@ pub fn imports(alloc: Global, source: Source<'_>, options: &Options) -> Result<S
 /// # Errors
 ///
 /// Those of `source_tree`.
-#[tactic(auto, using(crate::proofs::Refused::no_memory, crate::proofs::Refused::no_list))]
+#[tactic(auto, using(crate::proofs::Refused::no_list))]
 pub fn duplicates(
     alloc: Global,
     source: Source<'_>,
@@ -316,7 +299,7 @@ pub fn duplicates(
 /// # Errors
 ///
 /// Those of `source_tree`.
-#[tactic(auto, using(crate::proofs::Refused::no_memory, crate::proofs::Refused::no_list))]
+#[tactic(auto, using(crate::proofs::Refused::no_list))]
 pub fn tags(
     alloc: Global,
     source: Source<'_>,

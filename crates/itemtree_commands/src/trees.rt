@@ -7,12 +7,13 @@ ghost use Rattle.item_tree.specs.Lowered.{IsTooLargeIn, kept_in};
 ghost use Rattle.rust_items.specs.SourceFiles.{IsClippedFile, file_view};
 ghost use Rattle.item_tree.specs.declared.fault.LowerError.TheVariants.{OutOfMemory};
 ghost use Rattle.itemtree_commands.specs.declared.trees.SourceError.TheVariants.{Lower};
-ghost use Rattle.itemtree_commands.specs.Inner.{HasRowsOf, checked_wanted};
-ghost use Rattle.itemtree_commands.specs.Trees.{HasOwnIds, IsTreeRefused, IsTreeOf, IsTextUnread, metas_under, wanted_under};
+ghost use Rattle.itemtree_commands.specs.Inner.{checked_wanted};
+ghost use Rattle.itemtree_commands.specs.Trees.{HasOwnIds, IsTreeIn, IsTreeRefused, IsTreeOf, IsTextUnread, metas_under, wanted_under};
 
 use hir_input::{EditionYear, Name};
 use item_tree::{CrateData, ItemTree, LowerError, lower_syntax};
-use rust_items::{ItemPlace, Problem, SourceFile, Wanted, WantedMetas, read_wanted};
+use rust_items::{ItemPlace, Problem, SourceFile, Wanted, WantedMetas};
+use source_reading::{ReadError, read_text};
 use std::alloc::{AllocError, Global};
 use thiserror::Error;
 
@@ -50,6 +51,20 @@ impl From<AllocError> for SourceError {
     }
 }
 
+impl From<ReadError> for SourceError {
+    ghost use Rattle.std.specs.Prelude.{◌≡◌};
+    ghost use Rattle.itemtree_commands.specs.Inner.{error_told};
+
+    ghost from_gives = { λ reason e. e ≡ error_told reason };
+
+    fn from(error: ReadError) -> SourceError {
+        match error {
+            ReadError::TooLong => SourceError::TooLong,
+            ReadError::OutOfMemory => SourceError::Lower(LowerError::OutOfMemory),
+        }
+    }
+}
+
 impl From<LowerError> for SourceError {
     ghost use Rattle.std.specs.Prelude.{◌≡◌};
     ghost use Rattle.itemtree_commands.specs.declared.trees.SourceError.TheVariants.{Lower};
@@ -61,19 +76,14 @@ impl From<LowerError> for SourceError {
     }
 }
 
-const MOST_BYTES: usize = 0x1_0000_0000;
-
-fn tree_of(
+/// The tree of what was read of a text.
+pub(crate) fn tree_of(
     alloc: Global,
     file: SourceFile,
     krate: &CrateData,
     skipped: &[Name],
 ) -> Result<SourceTree, LowerError>
-    ensures tree { IfOk result
-        (λ t. t.tree ≡ kept_in krate.now false skipped.now (syntax_view file.syntax)) }
-    ensures places { IfOk result (λ t. t.places.items ≡ file.places.items) }
-    ensures use_trees { IfOk result (λ t. t.use_trees.items ≡ file.use_trees.items) }
-    ensures problems { IfOk result (λ t. t.problems.items ≡ file.problems.items) }
+    ensures tree { IfOk result (IsTreeIn krate.now skipped.now (file_view file)) }
     ensures too_large { IfErr result
         (IsTooLargeIn krate.now false skipped.now (syntax_view file.syntax)) }
 {
@@ -103,7 +113,18 @@ fn metas_under(skips_docs: bool) -> WantedMetas
     }
 }
 
+/// What is wanted of a text for its tree.
+pub(crate) fn wanted_under(skipped: &[Name]) -> Wanted
+    ensures { result ≡ wanted_under skipped.now }
+{
+    Wanted {
+        bodies: false,
+        metas: metas_under(skips_docs(skipped)),
+    }
+}
+
 /// Reads what is wanted of a text of an edition.
+#[tactic(auto, using(crate::proofs::Refused::unread_told))]
 fn wanted_source(
     alloc: Global,
     text: &str,
@@ -116,10 +137,7 @@ fn wanted_source(
     ensures short { OnOk result (length text.now ≤ 2 ^ 32) }
     ensures refused { IfErr result (IsTextUnread text.now) }
 {
-    if text.len() > MOST_BYTES {
-        return Err(SourceError::TooLong);
-    }
-    let file = read_wanted(alloc, text, wanted, edition)?;
+    let file = read_text(alloc, text, wanted, edition)?;
     Ok(file)
 }
 
@@ -160,57 +178,7 @@ pub fn source_tree(
     ensures short { OnOk result (length text.now ≤ 2 ^ 32) }
     ensures refused { IfErr result (IsTreeRefused krate.now skipped.now edition text.now) }
 {
-    let wanted = Wanted {
-        bodies: false,
-        metas: metas_under(skips_docs(skipped)),
-    };
-    let file = wanted_source(alloc, text, wanted, edition)?;
+    let file = wanted_source(alloc, text, wanted_under(skipped), edition)?;
     let tree = tree_of(alloc, file, krate, skipped)?;
     Ok(tree)
-}
-
-/// Reads a text of an edition without attributes, but for conditions, and makes the tree of that.
-fn bare_row_tree(
-    alloc: Global,
-    text: &str,
-    edition: EditionYear,
-    krate: &CrateData,
-    skipped: &[Name],
-) -> Result<SourceTree, SourceError>
-    ensures tree { IfOk result (HasRowsOf krate.now skipped.now edition text.now) }
-    ensures ids { IfOk result HasOwnIds }
-    ensures short { OnOk result (length text.now ≤ 2 ^ 32) }
-    ensures no_memory { IfErr result (λ e. e ≡ Lower OutOfMemory → length text.now ≤ 2 ^ 32) }
-{
-    let wanted = Wanted {
-        bodies: false,
-        metas: WantedMetas::Conditions,
-    };
-    let file = wanted_source(alloc, text, wanted, edition)?;
-    let tree = tree_of(alloc, file, krate, skipped)?;
-    Ok(tree)
-}
-
-/// Reads a text of an edition and makes a tree that has the rows of the text's tree, with conditions alone as its attributes. Where
-/// that passes a size, the text's tree tells whether it does.
-#[tactic(auto, using(crate::proofs::Refused::no_memory, crate::proofs::RowTrees::own_rows))]
-pub(crate) fn row_tree(
-    alloc: Global,
-    text: &str,
-    edition: EditionYear,
-    krate: &CrateData,
-    skipped: &[Name],
-) -> Result<SourceTree, SourceError>
-    ensures tree { IfOk result (HasRowsOf krate.now skipped.now edition text.now) }
-    ensures ids { IfOk result HasOwnIds }
-    ensures short { OnOk result (length text.now ≤ 2 ^ 32) }
-    ensures refused { IfErr result (IsTreeRefused krate.now skipped.now edition text.now) }
-{
-    match bare_row_tree(alloc, text, edition, krate, skipped) {
-        Ok(tree) => Ok(tree),
-        Err(SourceError::Lower(LowerError::OutOfMemory)) => {
-            Err(SourceError::Lower(LowerError::OutOfMemory))
-        }
-        Err(_) => source_tree(alloc, text, edition, krate, skipped),
-    }
 }

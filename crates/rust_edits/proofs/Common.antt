@@ -43,8 +43,8 @@ pub use Rattle.rust_cursor.specs.Words.{by_first, rest}
 unfoldable pub use Rattle.rust_cursor.specs.Words.{at, bumped, eat, eat_word, is_at_doc, is_at_end, is_at_identifier, is_at_open, is_empty, is_glued, is_pair, kind, symbol, text, word}
 pub use Rattle.rust_edits.specs.Edits.{ArePartsAbout, BeginFrom, HasPlaces, ItemsAreInOrder, MayEdit, MayStandInside, PlacesAreKept, ReadsMoved, Shifts, TellsLoose, begins_bare, body_about, edited, has_item, has_place, has_problem, has_range, has_some_range, last_begun, or_kept, shifted_item, shifted_place, shifted_problem}
 pub use Rattle.rust_edits.specs.Inner.{AreCut, EndsFit, IsShift, IsUncut, LacksByte, begins_plain, brackets_view, closes_last, in_braces, is_alone, loose_inside, same_loose}
-pub use Rattle.rust_edits.specs.Ranges.Joined.{BeginsAnew, EndsOwn, EndsWhole, InsideJoin, IsBare, ItemsJoin, ReadsBoth, ends_items, found_on, read_at}
-pub use Rattle.rust_edits.specs.Ranges.Mended.{ItemsBefore, ItemsBehind, ReadsBothIn}
+pub use Rattle.rust_edits.specs.Beside.Joined.{BeginsAnew, EndsOwn, EndsWhole, InsideJoin, IsBare, ItemsJoin, ReadsBoth, ends_items, found_on, read_at}
+pub use Rattle.rust_edits.specs.Beside.Mended.{ItemsBefore, ItemsBehind, ReadsBothIn}
 pub use Rattle.rust_edits.specs.Typing.Laws.{BeginsPlain, IsBody, IsTyped, OpensAt, TypingInside, first_plain, with_body}
 pub use Rattle.rust_edits.specs.Typing.Loose.{Loose, ProblemsMove, loose_behind, loose_from, loose_in, none_loose}
 pub use Rattle.rust_edits.specs.Typing.Moved.{AreMoved, BodyIsTold, IsReadAnew, PlacesMove, close_at, moved_place, shifted, shifted_by}

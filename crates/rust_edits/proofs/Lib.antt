@@ -5,5 +5,5 @@ pub mod Adding
 pub mod Order
 pub mod Told
 pub mod Typing
-pub mod Ranges
+pub mod Beside
 pub mod Common

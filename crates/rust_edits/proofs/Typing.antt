@@ -11,3 +11,4 @@ pub mod Ended
 pub mod ProblemsAlike
 pub mod Unended
 pub mod Loose
+pub mod Damaged

@@ -3,14 +3,15 @@
 
 ghost use Rattle.hir_input.specs.Equality.{DecidesEq, IsCopied};
 ghost use Rattle.rust_edits.specs.Edits.{ItemsAreInOrder};
+ghost use Rattle.rust_edits.specs.Typing.Damaged.{TypingDamaged};
 ghost use Rattle.rust_edits.specs.Typing.Laws.{TypingInside};
 ghost use Rattle.rust_edits.specs.Typing.Loose.{ProblemsMove};
 ghost use Rattle.rust_edits.specs.Typing.Moved.{BodyIsTold, IsReadAnew, PlacesMove};
 ghost use Rattle.rust_edits.specs.Typing.Opened.{BodyOpens};
 ghost use Rattle.rust_edits.specs.Typing.Problems.{ProblemsStand};
-ghost use Rattle.rust_edits.specs.Ranges.Joined.{InsideJoin, ItemsJoin};
-ghost use Rattle.rust_edits.specs.Ranges.Open.{OpenItemEnds};
-ghost use Rattle.rust_edits.specs.Ranges.Mended.{ItemsBefore, ItemsBehind, ListsBefore, OpenBehind};
+ghost use Rattle.rust_edits.specs.Beside.Joined.{InsideJoin, ItemsJoin};
+ghost use Rattle.rust_edits.specs.Beside.Open.{OpenItemsEnd};
+ghost use Rattle.rust_edits.specs.Beside.Mended.{ItemsBefore, ItemsBehind, ListsBefore, OpenBehind};
 
 use crate::edit::BodyEdit;
 use crate::shift::Shift;
@@ -32,13 +33,14 @@ fn typing()
     ensures body_opens { BodyOpens }
     ensures problems_stand { ProblemsStand }
     ensures problems_move { ProblemsMove }
+    ensures typing_damaged { TypingDamaged }
 {}
 
 // What is read of a text that ends with a whole item and of what is behind it, also where brackets are mended.
-fn ranges()
+fn beside()
     ensures items_join { ItemsJoin }
     ensures inside_join { InsideJoin }
-    ensures open_item_ends { OpenItemEnds }
+    ensures open_items_end { OpenItemsEnd }
     ensures items_before { ItemsBefore }
     ensures items_behind { ItemsBehind }
     ensures open_behind { OpenBehind }

@@ -18,7 +18,7 @@ use Rattle.rust_items.proofs.FilePlaces.{view_placed}
 use Rattle.rust_edits.specs.Typing.Laws.{with_body, IsTyped, OpensAt}
 use Rattle.rust_items.specs.LineEnds.{with_feeds}
 use Rattle.rust_edits.specs.Typing.Moved.{close_at, moved_place, shifted_by}
-use Rattle.rust_edits.proofs.Ranges.Behind.{plain_back, plain_on, plain_tokens}
+use Rattle.rust_edits.proofs.Beside.Behind.{plain_back, plain_on, plain_tokens}
 use Rattle.rust_edits.proofs.Typing.Moved.{places_move}
 use Rattle.rust_edits.proofs.Typing.Typing.{same_ids}
 use Rattle.source_rows.specs.DocAttributes.{docs_as_comments}

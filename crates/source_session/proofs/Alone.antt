@@ -1,12 +1,14 @@
 -- Edits inside bodies.
 use Rattle.std.proofs.Common.{◌≡◌, ◌≢◌, ℕ, zero, suc, ◌+◌, ◌<◌, ◌≤◌, ◌==◌, Bool, true, false, if◌then◌else◌, List, [], ◌∷◌, Option, Some, None, IfSome, IfNone, OnSome, is_some, Result, Ok, Err, All, slice_get, length, map, take, drop, refl, sym, ap, subst, ◌∙◌, append_assoc, arith, IsCharBoundary, nat_le, string_bytes}
-use Rattle.source_session.proofs.Common.{list_all, and_parts, nat_tests, get_or-map, length-map, EditionYear, Place, File, IsSetAgain, EditView, set, IsFooting, FitsAfter, last_number, State, present, ItemPlace, FileView, IsBareFile, IsFileView, bare_file, HasPlaces, IsReadMoved, edited, has_item, has_place, has_problem, shifted_item, shifted_place, shifted_problem, is_cut, TextRange, AreDistinct, IndexView, ChangeFault, SourceText, LineEdit, set_text, change_text, CrateFiles, AreSetTo, AreTogether, IsPlaced, IsSetTo, LeavesPlaced, session_of, CanReplace, HasRoom, IsInside, IsMadeAlone, IsMadeOrNot, IsRetyped, IsRetypedIf, MakesAlone, IsEdited, TextChange, IsKeptWith, IsReading, Texts, bytes_kept, change_fault, changed_text, spliced, text_after, text_in, unless_fault, Touched, IsAfter, AreMeant}
+use Rattle.source_session.proofs.Common.{list_all, and_parts, nat_tests, get_or-map, length-map, EditionYear, Place, File, IsSetAgain, EditView, set, IsFooting, FitsAfter, last_number, State, present, ItemPlace, FileView, IsFileView, bare_file, HasPlaces, IsReadMoved, edited, has_item, has_place, shifted_item, shifted_place, shifted_problem, HasTextOf, IsListedFile, closers_in, is_cut, TextRange, AreDistinct, IndexView, ChangeFault, SourceText, LineEdit, set_text, change_text, CrateFiles, AreSetTo, AreTogether, IsPlaced, IsSetTo, LeavesPlaced, session_of, CanReplace, HasRoom, IsInside, IsMadeAlone, IsMadeOrNot, IsRetyped, IsRetypedIf, MakesAlone, IsEdited, TextChange, IsKept, IsReading, Texts, bytes_kept, change_fault, changed_text, spliced, text_after, text_in, unless_fault, Touched, IsAfter, AreMeant}
 use Rattle.std.specs.String.{string_capacity, string_len}
 use Rattle.std.specs.String.Boundary.{IsSplitPoint}
 use Rattle.std.specs.declared.alloc.AllocError.{AllocError}
 use Rattle.std.specs.declared.alloc.Global.{Global}
 use Rattle.std.specs.declared.string.String.{String}
 use Rattle.rust_edits.specs.declared.shift.Shift.{Shift}
+use Rattle.rust_mended.specs.declared.text.Mended.{Mended}
+use Rattle.source_reading.proofs.ListedTexts.{listed_whole, no_problems, whole_listed}
 use Rattle.source_session.specs.declared.inside.Inside.{Inside}
 use Rattle.source_session.proofs.Kept.{text_step}
 use Rattle.source_session.proofs.Made.{together_after}
@@ -50,6 +52,11 @@ alone_by edition s u old new asked edit change place meant after again footing f
 
 -- ---- the text of a file that is changed inside a body
 
+-- where no closer was put, no mended text was read
+unmended_text : (text : List ℕ) (mended : Option Mended) → closers_in mended ≡ None → HasTextOf text mended
+unmended_text text None e = tt
+unmended_text text (Some m) e = absurd cc
+
 module _ (edition : EditionYear) (s u : State) (old new : Texts) (file : ℕ) (range : TextRange) (typed : List ℕ) (text after : SourceText) (inside : Inside)
     (had : text_in old file ≡ Some text) (has : text_in new file ≡ Some after) (others : (f : ℕ) → f ≢ file → text_in new f ≡ text_in old f)
     (is : IsInside text range typed inside) (retyped : IsRetyped range typed inside.edit.shift text after) (again : IsSetAgain s (File (record { 0 = file })) u)
@@ -61,34 +68,55 @@ module _ (edition : EditionYear) (s u : State) (old new : Texts) (file : ℕ) (r
   shift = inside.edit.shift
 
   abbrev full : FileView
-  full = read.is_read.read
+  full = read.is_kept.is_read.read
 
   bare_is : read.read ≡ bare_file full
-  bare_is = read.is_read.bare
+  bare_is = read.is_kept.is_read.bare
 
   places_are : full.places ≡ text.places.items
-  places_are = ap (λ (f : FileView). f.places) (sym bare_is) ∙ sym read.rest.places
+  places_are = ap (λ (f : FileView). f.places) (sym bare_is) ∙ sym read.is_kept.places
 
   uses_are : full.use_trees ≡ text.use_trees.items
-  uses_are = ap (λ (f : FileView). f.use_trees) (sym bare_is) ∙ sym read.rest.use_trees
+  uses_are = ap (λ (f : FileView). f.use_trees) (sym bare_is) ∙ sym read.is_kept.use_trees
 
   problems_are : full.problems ≡ text.problems.items
-  problems_are = ap (λ (f : FileView). f.problems) (sym bare_is) ∙ sym read.rest.problems
+  problems_are = ap (λ (f : FileView). f.problems) (sym bare_is) ∙ sym read.is_kept.problems
+
+  -- there is no problem, so the text itself was read
+  none_before : full.problems ≡ []
+  none_before = problems_are ∙ no_problems text.problems.items is.faultless
+
+  own : (closers_in text.mended ≡ None) × IsFileView edition bytes full
+  own = listed_whole edition bytes (closers_in text.mended) full read.is_kept.is_read.is_read none_before
 
   moved : IsReadMoved inside.edit edition (edited bytes range typed) full
-  moved = is.reads edition full places_are read.is_read.is_read
+  moved = is.reads edition full places_are own.1
 
   all : HasPlaces shift full
-  all = is.places edition full places_are read.is_read.is_read
+  all = is.places edition full places_are own.1
 
   abbrev now : FileView
   now = bare_file moved.again
 
-  rest : IsKeptWith now after
-  rest = record {
+  -- nor is there one then
+  none_behind : moved.again.problems ≡ []
+  none_behind = moved.moved.problems is.keeps ∙ ap (map (shifted_problem shift)) none_before
+
+  unmended : closers_in after.mended ≡ None
+  unmended = ap closers_in retyped.mended ∙ own.0
+
+  listed : IsListedFile edition (spliced bytes range typed) (closers_in after.mended) moved.again
+  listed = subst (λ c. IsListedFile edition (spliced bytes range typed) c moved.again) (sym unmended)
+      (whole_listed edition (spliced bytes range typed) moved.again (subst (λ x. IsFileView edition x moved.again) (sym (append_assoc (take range.start bytes) typed (drop range.end bytes))) moved.is_read) none_behind)
+
+  kept_after : IsKept edition (spliced bytes range typed) now after
+  kept_after = record {
+    text_is = retyped.text;
+    is_read = record { read = moved.again; is_read = listed; bare = refl };
+    mended = unmended_text (spliced bytes range typed) after.mended unmended;
     places = retyped.places (ap (list_all (has_item shift)) (sym places_are) ∙ all.items) ∙ ap (map (shifted_item shift)) (sym places_are) ∙ sym moved.moved.items;
     use_trees = retyped.use_trees (ap (list_all (has_place shift)) (sym uses_are) ∙ all.use_trees) ∙ ap (map (shifted_place shift)) (sym uses_are) ∙ sym moved.moved.use_trees;
-    problems = retyped.problems (ap (list_all (has_problem shift)) (sym problems_are) ∙ all.problems) ∙ ap (map (shifted_problem shift)) (sym problems_are) ∙ sym (moved.moved.problems is.keeps);
+    problems = retyped.problems ∙ no_problems text.problems.items is.faultless ∙ sym none_behind;
   }
 
   abbrev edit : EditView
@@ -103,12 +131,10 @@ module _ (edition : EditionYear) (s u : State) (old new : Texts) (file : ℕ) (r
   reading : IsReading edition file (spliced bytes range typed) edit change
   reading = record {
     read = now;
-    is_read = record { read = moved.again; is_read = subst (λ x. IsFileView edition x moved.again) (sym (append_assoc (take range.start bytes) typed (drop range.end bytes))) moved.is_read; bare = refl };
     edit_is = ap (set (File (record { 0 = file }))) syntax_is;
     kept = after;
     change_is = refl;
-    text_is = retyped.text;
-    rest = rest;
+    is_kept = kept_after;
   }
 
   changed : changed_text (bytes_kept (text_in old file)) range typed ≡ Ok (spliced bytes range typed)
@@ -163,12 +189,10 @@ same_alone edition s u old file text made had is again footing number read disti
     let place = File (record { 0 = file }) in
     let reading : IsReading edition file made (set place again.syntax) (Some (file, Some text)) = record {
       read = read.read;
-      is_read = subst (λ x. IsBareFile edition x read.read) (sym is) read.is_read;
       edit_is = ap (set place) (some_same again.syntax read.read.syntax (sym again.had ∙ read.syntax_is));
       kept = text;
       change_is = refl;
-      text_is = sym is;
-      rest = read.rest;
+      is_kept = subst (λ x. IsKept edition x read.read text) (sym is) read.is_kept;
     } in
     alone_by edition s u old old (set_text file made ∷ []) (set place again.syntax) (Some (file, Some text)) place (reading, tt) again.after again footing again.fits number distinct (still old file text had)
 

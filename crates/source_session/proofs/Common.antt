@@ -29,13 +29,14 @@ pub use Rattle.item_tree_db.specs.declared.place.Place.TheVariants.{Block, File}
 pub use Rattle.item_tree_request.specs.Named.{EditNamesCrate}
 pub use Rattle.item_tree_request.specs.Outputs.{Knows}
 unfoldable pub use Rattle.item_tree_request.specs.Outputs.{table_change_line}
-pub use Rattle.rust_edits.specs.Edits.{HasPlaces, IsReadMoved, PlacesAreKept, ReadsMoved, edited, has_item, has_place, has_problem, shifted_item, shifted_place, shifted_problem}
-pub use Rattle.rust_items.specs.SourceFiles.{FileView, IsBareFile, IsFileView, bare_file, file_view}
+pub use Rattle.rust_edits.specs.Edits.{HasPlaces, IsReadMoved, PlacesAreKept, ReadsMoved, edited, has_item, has_place, shifted_item, shifted_place, shifted_problem}
+pub use Rattle.rust_items.specs.SourceFiles.{FileView, IsFileView, bare_file, file_view}
 pub use Rattle.rust_items.specs.declared.source_file.ItemPlace.{ItemPlace}
 pub use Rattle.rust_members.specs.Lists.{is_boundary, is_cut}
 pub use Rattle.rust_paths.specs.declared.names.TextRange.{TextRange}
 pub use Rattle.source_listing.specs.Places.{AreDistinct, place_of, stands_at}
 pub use Rattle.source_listing.specs.Search.{bare_segment}
+pub use Rattle.source_reading.specs.ListedFiles.{HasTextOf, IsListedBare, IsListedFile, closers_in}
 pub use Rattle.source_session.specs.Edits.{IsShort, IsUsable, LineEdit, change_text, line_edit, line_edit_view, of_table, range_in, set_text}
 pub use Rattle.source_session.specs.Files.{CrateFiles, crate_files, is_change_in, is_in_crate}
 pub use Rattle.source_session.specs.Finders.{HaveDistinctIds, IsFinder, declared_scope, found_with, head_place, head_scope}
@@ -51,8 +52,8 @@ pub use Rattle.source_session.specs.Sessions.{AreMade, IsEdited, IsStopped, IsUn
 pub use Rattle.source_session.specs.Shown.{IsPresentValue, IsShowValue, IsValueUnless, all_items, change_form, change_with, item_objects, items_member, pathless, shown_tree, unset_form, unset_place}
 pub use Rattle.source_session.specs.Shows.{IsCrateOf, ShowNamesCrate, line_show}
 pub use Rattle.source_session.specs.Sought.{entry_path, found_scope, is_at, is_sought, own_scope, path_within, scope_at}
-pub use Rattle.source_session.specs.SourceTexts.{places_of_text, text_bytes, text_places, text_problems}
-pub use Rattle.source_session.specs.Texts.{AreMeant, Fails, FailsAt, FileTexts, IsKeptWith, IsReading, Means, TextChange, Texts, bytes_kept, change_fault, changed_text, forgets, is_long, is_outside, left_text, slot_in, spliced, text_after, text_in, text_of_place, unless_fault}
+pub use Rattle.source_session.specs.SourceTexts.{places_of_text, text_bytes, text_places, text_problems, text_reading}
+pub use Rattle.source_session.specs.Texts.{AreMeant, Fails, FailsAt, FileTexts, IsKept, IsReading, Means, TextChange, Texts, bytes_kept, change_fault, changed_text, forgets, is_long, is_outside, left_text, slot_in, spliced, text_after, text_in, text_of_place, unless_fault}
 pub use Rattle.source_session.specs.Touched.{AreTouched, IsBehindBy, Touched, touched_keys}
 pub use Rattle.source_session.specs.declared.error.LineError.{LineError}
 pub use Rattle.source_session.specs.declared.error.LineError.TheVariants.{NotChanged, NotJson, NotRequest, OutOfMemory, Refused, TooLong}

@@ -1,6 +1,6 @@
 -- What edits leave of the syntax and of the text of a file: both are of one reading.
 use Rattle.std.proofs.Common.{◌≡◌, ℕ, zero, suc, ◌==◌, Bool, true, false, if◌then◌else◌, List, [], ◌∷◌, Option, Some, None, IfSome, take, refl, sym, subst}
-use Rattle.source_session.proofs.Common.{option_or, unwrap_or, EditionYear, File, Block, EditView, set, remove, set_cfg, IsAfter, last_some, sets, State, present, IsBareFile, SourceText, LineEdit, of_table, set_text, change_text, AreSetTo, IsSetTo, AreMeant, TextChange, FileTexts, IsReading, Means, Texts, forgets, left_text, text_after, text_in}
+use Rattle.source_session.proofs.Common.{option_or, unwrap_or, EditionYear, File, Block, EditView, set, remove, set_cfg, IsAfter, last_some, sets, State, present, SourceText, LineEdit, of_table, set_text, change_text, AreSetTo, IsSetTo, AreMeant, TextChange, FileTexts, IsKept, IsReading, Means, Texts, forgets, left_text, text_after, text_in}
 use Rattle.hir_input.specs.Syntax.{SyntaxView}
 
 -- what is left of the syntax of a file, and of its text, if anything is
@@ -30,7 +30,7 @@ one_forgotten edition (set_cfg krate options) file = tt
 one_read : (edition : EditionYear) (at : ℕ) (text : List ℕ) (e : EditView) (c : TextChange) (file : ℕ) → IsReading edition at text e c → AreOfOne edition (sets (File (record { 0 = file })) e) (left_text file c)
 one_read edition at text e c file r =
     let kept = r.kept in
-    let is : IsSetTo edition (Some r.read.syntax) kept = record { read = r.read; is_read = subst (λ x. IsBareFile edition x r.read) (sym r.text_is) r.is_read; rest = r.rest; syntax_is = refl } in
+    let is : IsSetTo edition (Some r.read.syntax) kept = record { read = r.read; is_kept = subst (λ x. IsKept edition x r.read kept) (sym r.is_kept.text_is) r.is_kept; syntax_is = refl } in
     subst (λ d. AreOfOne edition (sets (File (record { 0 = file })) e) (left_text file d)) (sym r.change_is)
     (subst (λ f. AreOfOne edition (sets (File (record { 0 = file })) f) (left_text file (Some (at, Some kept)))) (sym r.edit_is)
     (one_if edition (at == file) (Some r.read.syntax) (Some kept) is))

@@ -11,7 +11,7 @@ use Rattle.hir_input.specs.Syntax.{SyntaxView}
 use Rattle.hir_input_json.specs.Editions.{EditionView}
 use Rattle.item_tree_db.specs.declared.place.Place.TheVariants.{File}
 use Rattle.item_tree_db.specs.State.{State, present}
-use Rattle.rust_items.specs.SourceFiles.{FileView, IsBareFile}
+use Rattle.rust_items.specs.SourceFiles.{FileView}
 use Rattle.source_listing.specs.Places.{AreDistinct}
 use Rattle.decl_index.specs.declared.entry.Entry.{Entry}
 use Rattle.decl_index.specs.Entries.{IndexView}
@@ -29,7 +29,7 @@ use Rattle.source_session.specs.declared.reply.Reply as reply
 use Rattle.source_session.specs.Replies.{Outcome, Reply}
 use Rattle.source_session.specs.Sessions.{Session, IsEdited, IsUnedited}
 use Rattle.source_session.specs.Touched.{Touched, IsBehindBy}
-use Rattle.source_session.specs.Texts.{Texts, TextChange, FileTexts, IsKeptWith, slot_in, text_in, Fails}
+use Rattle.source_session.specs.Texts.{Texts, TextChange, FileTexts, IsKept, slot_in, text_in, Fails}
 
 -- something is kept for a file
 abbrev pub HasSlot : Texts → ℕ → Type 0
@@ -80,11 +80,10 @@ LeadsBy count edition s old asked u new result =
     (files : CrateFiles) (reserved : List (List ℕ)) → let over = session_of count files (edition, reserved) in
     MatchResult result (λ _. IsEdited (over s old) asked (over u new)) (IsUnedited (over s old) asked (over u new))
 
--- the syntax of a file with this text is that which is read of it in an edition, without the texts of bodies
+-- the syntax of a file with this text is that which lists read of it in an edition, without the texts of bodies
 pub record IsSetTo (edition : EditionYear) (syntax : Option SyntaxView) (text : SourceText) : Type 0 where
   pub read : FileView
-  pub is_read : IsBareFile edition (string_bytes text.text) read
-  pub rest : IsKeptWith read text
+  pub is_kept : IsKept edition (string_bytes text.text) read text
   pub syntax_is : syntax ≡ Some read.syntax
 
 -- so is that of each file that has a text

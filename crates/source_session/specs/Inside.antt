@@ -13,7 +13,7 @@ use Rattle.item_tree_db.specs.History.{IsAfter, IsFooting}
 use Rattle.item_tree_db.specs.Refusal.{FitsAfter, last_number}
 use Rattle.item_tree_db.specs.State.{State}
 use Rattle.rust_edits.specs.declared.shift.Shift.{Shift}
-use Rattle.rust_edits.specs.Edits.{PlacesAreKept, ReadsMoved, has_item, has_place, has_problem, shifted_item, shifted_place, shifted_problem}
+use Rattle.rust_edits.specs.Edits.{PlacesAreKept, ReadsMoved, has_item, has_place, shifted_item, shifted_place}
 use Rattle.rust_paths.specs.declared.names.TextRange.{TextRange}
 use Rattle.source_session.specs.declared.inside.Inside.{Inside}
 use Rattle.source_session.specs.declared.texts.SourceText.{SourceText}
@@ -35,12 +35,13 @@ pub record CanReplace (text : String Global) (range : TextRange) (typed : List �
   pub end : IsCharBoundary (string_bytes text) range.end
   pub room : HasRoom text range typed made
 
--- a range of a text was replaced, and what was read of it was moved, if that has places in the new text
+-- a range of a text was replaced, and what was read of it was moved, if that has places in the new text; its problems and its mended text stay
 pub record IsRetyped (range : TextRange) (typed : List ℕ) (shift : Shift) (old new : SourceText) : Type 0 where
   pub text : string_bytes new.text ≡ spliced (string_bytes old.text) range typed
   pub places : list_all (has_item shift) old.places.items ≡ true → new.places.items ≡ map (shifted_item shift) old.places.items
   pub use_trees : list_all (has_place shift) old.use_trees.items ≡ true → new.use_trees.items ≡ map (shifted_place shift) old.use_trees.items
-  pub problems : list_all (has_problem shift) old.problems.items ≡ true → new.problems.items ≡ map (shifted_problem shift) old.problems.items
+  pub problems : new.problems.items ≡ old.problems.items
+  pub mended : new.mended ≡ old.mended
 
 -- so was the text of a file, if it has one
 abbrev pub IsRetypedIf : TextRange → List ℕ → Shift → Option SourceText → Option SourceText → Type 0
@@ -50,8 +51,9 @@ IsRetypedIf range typed shift (Some old) (Some new) = IsRetyped range typed shif
 
 -- ---- an edit
 
--- the edit lies inside a body of the text, keeps its problems, and there is room for it
+-- the text has no problem, the edit lies inside a body of it and brings none, and there is room for it
 pub record IsInside (text : SourceText) (range : TextRange) (typed : List ℕ) (inside : Inside) : Type 0 where
+  pub faultless : length text.problems.items ≡ 0
   pub fits : change_fault (string_bytes text.text) range typed ≡ None
   pub keeps : inside.edit.keeps_problems ≡ true
   pub reads : ReadsMoved text.places.items (string_bytes text.text) range typed inside.edit

@@ -15,13 +15,12 @@ use Rattle.item_tree_request.specs.declared.request.show.Show.TheVariants.{OfTre
 use Rattle.source_listing.specs.ImportObjects.{import_objects}
 use Rattle.source_listing.specs.Lines.{Choice, Source}
 use Rattle.source_listing.specs.Objects.{count_form, tree_objects, problem_objects}
-use Rattle.source_listing.specs.Outlines.{reading}
 use Rattle.source_session.specs.declared.show.LineShow.{LineShow}
 use Rattle.source_session.specs.declared.show.LineShow.TheVariants.{Table, Outline, TreeItems, ImportPlaces, Changes, Problems, Find}
 use Rattle.source_session.specs.Files.{CrateFiles, is_change_in}
 use Rattle.source_session.specs.Found.{IsFound}
 use Rattle.source_session.specs.Sessions.{Session}
-use Rattle.source_session.specs.SourceTexts.{text_bytes, text_places, places_of_text, text_problems}
+use Rattle.source_session.specs.SourceTexts.{text_bytes, text_places, places_of_text, text_problems, text_reading}
 use Rattle.source_session.specs.Texts.{text_of_place, text_in}
 
 -- ---- trees
@@ -43,7 +42,7 @@ abbrev pub item_objects : Session → Crate → Place → List Data
 item_objects u krate place =
     let t = text_of_place u.texts place in
     let s = pathless (text_bytes t) in
-    tree_objects s (reading s u.edition.0 None) u.edition.1 (text_places t) all_items (shown_tree u krate place)
+    tree_objects s (text_reading u.edition.0 t) u.edition.1 (text_places t) all_items (shown_tree u krate place)
 
 -- those of a file
 abbrev pub outline_form : Session → Crate → HirFileId → Data

@@ -1,9 +1,14 @@
 -- The text of a file with what was read of it, empty where it has none.
-use Rattle.std.specs.Prelude.{ℕ, List, [], string_bytes, Option}
+use Rattle.std.specs.Prelude.{ℕ, List, [], string_bytes, Option, None, option_and_then}
 use Rattle.std.specs.Option.{option_map_or}
+use Rattle.hir_input.specs.declared.edition.EditionYear.{EditionYear}
+use Rattle.rust_mended.specs.declared.text.Mended.{Mended}
 use Rattle.rust_items.specs.declared.source_file.ItemPlace.{ItemPlace}
 use Rattle.rust_items.specs.declared.log.Problem.{Problem}
 use Rattle.source_listing.specs.Uses.{FilePlaces, placed}
+use Rattle.source_reading.specs.ListedFiles.{closers_in}
+use Rattle.source_rows.specs.Listed.{MemberReading}
+use Rattle.source_rows.specs.ListedViews.{text_read}
 use Rattle.source_session.specs.declared.texts.SourceText.{SourceText}
 
 abbrev pub text_bytes : Option SourceText → List ℕ
@@ -21,3 +26,11 @@ places_of_text t = placed (text_places t) (text_use_trees t)
 
 abbrev pub text_problems : Option SourceText → List Problem
 text_problems t = option_map_or (λ x. x.problems.items) t []
+
+-- the mended text, if that was read
+abbrev pub text_mended : Option SourceText → Option Mended
+text_mended t = option_and_then (λ x. x.mended) t
+
+-- what headers are read of: the text that was read; members are not asked for
+abbrev pub text_reading : EditionYear → Option SourceText → MemberReading
+text_reading year t = record { text = text_read (text_bytes t) (text_mended t); closers = closers_in (text_mended t); edition = year; options = None }

@@ -8,9 +8,10 @@ use Rattle.item_tree_db.specs.declared.place.Place.{Place}
 use Rattle.item_tree_db.specs.declared.place.Place.TheVariants.{File, Block}
 use Rattle.item_tree_db.specs.Edits.{EditView, set, remove, set_cfg}
 use Rattle.item_tree_db.specs.History.{last_some}
-use Rattle.rust_items.specs.SourceFiles.{FileView, IsBareFile}
+use Rattle.rust_items.specs.SourceFiles.{FileView}
 use Rattle.rust_members.specs.Lists.{is_cut}
 use Rattle.rust_paths.specs.declared.names.TextRange.{TextRange}
+use Rattle.source_reading.specs.ListedFiles.{HasTextOf, IsListedBare, closers_in}
 use Rattle.source_session.specs.declared.splice.ChangeFault.{ChangeFault}
 use Rattle.source_session.specs.declared.splice.ChangeFault.TheVariants.{NoText, OutsideText, CutsCharacter, TooLong}
 use Rattle.source_session.specs.declared.texts.SourceText.{SourceText}
@@ -94,21 +95,22 @@ bytes_kept text = option_map (λ t. string_bytes t.text) text
 
 -- ---- what edits of a line mean
 
--- a text is kept with what was read of it beside its syntax: its places, those of its use trees, and its problems
-pub record IsKeptWith (read : FileView) (kept : SourceText) : Type 0 where
+-- this is what lists read of a text in an edition, without the texts of bodies, and the text is kept with it: with the mended text, if that was read, the places of items and use trees, and the problems
+pub record IsKept (edition : EditionYear) (text : List ℕ) (read : FileView) (kept : SourceText) : Type 0 where
+  pub text_is : string_bytes kept.text ≡ text
+  pub is_read : IsListedBare edition text (closers_in kept.mended) read
+  pub mended : HasTextOf text kept.mended
   pub places : kept.places.items ≡ read.places
   pub use_trees : kept.use_trees.items ≡ read.use_trees
   pub problems : kept.problems.items ≡ read.problems
 
--- the file is set to what is read of the text in an edition, without the texts of bodies, and the text is kept
+-- the file is set to what lists read of the text in an edition, and the text is kept
 pub record IsReading (edition : EditionYear) (file : ℕ) (text : List ℕ) (edit : EditView) (change : TextChange) : Type 0 where
   pub read : FileView
-  pub is_read : IsBareFile edition text read
   pub edit_is : edit ≡ set (File (record { 0 = file })) read.syntax
   pub kept : SourceText
   pub change_is : change ≡ Some (file, Some kept)
-  pub text_is : string_bytes kept.text ≡ text
-  pub rest : IsKeptWith read kept
+  pub is_kept : IsKept edition text read kept
 
 -- an edit of a line over these texts means this edit of the table, and leaves this of a text; a change is the setting of the changed text
 abbrev pub Means : EditionYear → FileTexts → LineEdit → EditView → TextChange → Type 0

@@ -9,6 +9,7 @@ use crate::splice::ChangeFault;
 use hir_input_json::{Fault, Pointer};
 use item_tree::{EditFault, LowerError};
 use serde_json::{Value, json};
+use source_reading::ReadError;
 use std::alloc::{AllocError, AllocFailed, Global};
 
 /// Why a line is answered with an error.
@@ -25,7 +26,7 @@ pub enum LineError {
     Refused { place: usize, cause: EditFault },
     /// It is longer than the longest line.
     TooLong,
-    /// The allocator refused memory.
+    /// The allocator refused memory, or the mended text of a text would have more than 2^32 bytes.
     OutOfMemory,
 }
 
@@ -41,6 +42,14 @@ impl<T: Drop> From<AllocFailed<T>> for LineError {
     ghost from_gives = { λ _ e. e ≡ OutOfMemory };
 
     fn from(_failed: AllocFailed<T>) -> LineError {
+        LineError::OutOfMemory
+    }
+}
+
+impl From<ReadError> for LineError {
+    ghost from_gives = { λ _ e. e ≡ OutOfMemory };
+
+    fn from(_error: ReadError) -> LineError {
         LineError::OutOfMemory
     }
 }

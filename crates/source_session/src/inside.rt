@@ -23,7 +23,7 @@ pub(crate) struct Inside {
     pub(crate) made: Option<String>,
 }
 
-// What an edit leaves of a text, if it lies inside a body and keeps the problems.
+// What an edit leaves of a text, if there are no problems before it and behind it, and it lies inside a body.
 #[tactic(auto, using(crate::proofs::Spliced::fault_none))]
 fn inside_of(
     alloc: Global,
@@ -33,6 +33,9 @@ fn inside_of(
 ) -> Result<Option<Inside>, AllocError>
     ensures { IfOk result (λ found. IfSome found (IsInside text.now range typed.now)) }
 {
+    if !text.problems.is_empty() {
+        return Ok(None);
+    }
     if fault(&text.text, range, typed).is_some() {
         return Ok(None);
     }

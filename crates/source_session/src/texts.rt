@@ -1,23 +1,44 @@
 //! The texts of files, with what was read of them.
-ghost use Rattle.std.specs.Prelude.{◌≡◌, ℕ, ◌==◌, ◌∷◌, List, All, IfSome, OnOk, if◌then◌else◌, take, option_copied, option_map};
+ghost use Rattle.std.specs.Prelude.{◌≡◌, ℕ, ◌==◌, ◌∷◌, List, All, Some, IfSome, OnOk, if◌then◌else◌, take, option_copied, option_map};
 ghost use Rattle.source_session.specs.Inner.{HasSlot, HasSlotFor};
+ghost use Rattle.source_listing.specs.Views.{reading_view};
+ghost use Rattle.source_session.specs.SourceTexts.{text_reading};
 ghost use Rattle.source_session.specs.Texts.{TextChange as ChangeView, left_text, text_after, text_of_place, text_in};
 
+use hir_input::EditionYear;
 use item_tree_db::Place;
 use rust_items::{ItemPlace, Problem};
+use rust_mended::Mended;
+use source_listing::Reading;
 use std::alloc::AllocError;
 use std::collections::BTreeMap;
 
-/// A text, with what was read of it beside its syntax.
-#[derive(Debug, Drop)]
+/// A text, with what lists read of it beside its syntax. Places are those of the text itself.
+#[derive(Drop)]
 pub struct SourceText {
     pub text: String,
+    /// The mended text, if that was read.
+    pub mended: Option<Mended>,
     /// The places of the items, in preorder.
     pub places: Vec<ItemPlace>,
     /// Where the use trees of the uses begin, as the reader tells it.
     pub use_trees: Vec<usize>,
     /// What is wrong with the text, in order.
     pub problems: Vec<Problem>,
+}
+
+impl SourceText {
+    /// How headers are read of it. Members are not asked for.
+    pub(crate) fn reading(&self, edition: EditionYear) -> Reading<'_>
+        ensures { reading_view result ≡ text_reading edition (Some self.now) }
+    {
+        Reading {
+            text: self.text.as_str(),
+            mended: self.mended.as_ref(),
+            edition,
+            options: None,
+        }
+    }
 }
 
 /// What is kept for files: of one that was ever set to a text, the text that it is set to now.

@@ -1,6 +1,6 @@
 use Rattle.std.proofs.Common.{rules}
-use Rattle.itemtree_commands.specs.Inner.{closers_in}
+use Rattle.source_reading.specs.ListedFiles.{closers_in}
 use Rattle.itemtree_commands.proofs.duplicates.Goals as goal
 
 pub returns-clause-text : goal.returns-clause-text
-returns-clause-text c = (closers_in c.in_ok-file.file, c.in_ok-file.file.source, c.in_ok-file.ensures.tree, search rules)
+returns-clause-text c = (closers_in c.in_ok-file.file.mended, c.in_ok-file.file.source, c.in_ok-file.ensures.tree, search rules)

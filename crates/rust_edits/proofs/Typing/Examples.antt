@@ -7,7 +7,7 @@ use Rattle.rust_lexer.specs.Number.{past_digits}
 use Rattle.rust_cursor.proofs.Laid as laid
 use Rattle.rust_leaves.specs.declared.head.Head.TheVariants as heads
 use Rattle.rust_items.specs.declared.log.ProblemKind.TheVariants as problem
-use Rattle.rust_edits.proofs.Ranges.Inner.{front_bare, no_inner}
+use Rattle.rust_edits.proofs.Beside.Inner.{front_bare, no_inner}
 
 -- ` 1 `
 one : List ℕ

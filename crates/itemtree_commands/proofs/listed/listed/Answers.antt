@@ -1,19 +1,20 @@
-use Rattle.std.proofs.Common.{◌≡◌, ◌<◌, arith, length}
-use Rattle.std.proofs.lemmas.Bool.Decides.{nat_tests}
-use Rattle.std.proofs.lemmas.Result.{IfOk-weaker}
-use Rattle.itemtree_commands.proofs.ListedTrees.{made_listed, whole_listed}
+use Rattle.std.proofs.Common.{◌≡◌, ◌∙◌, ap, subst}
+use Rattle.std.proofs.lemmas.Result.{IfErr-weaker, IfOk-weaker}
+use Rattle.itemtree_commands.specs.Inner.{IsClippedRefused, IsClippedTree}
+use Rattle.itemtree_commands.specs.Trees.{wanted_under}
+use Rattle.itemtree_commands.proofs.ListedTrees.{refused_listed, tree_listed}
 use Rattle.itemtree_commands.proofs.listed.listed.Goals as goal
-
-pub returns-then-is_empty-clause-tree : goal.returns-then-is_empty-clause-tree
-returns-then-is_empty-clause-tree c =
-    let o = c.args.options.now in
-    let own = c.in_ok-own.own in
-    let none : length own.problems.items ≡ 0 = grind (arith, nat_tests, c.is_empty.ensures, c.if-is_empty.true, own.problems.ok.0) in
-    whole_listed o.krate o.skipped.items o.edition.year c.args.text.now own c.in_ok-own.ensures.tree none
 
 pub returns-clause-tree : goal.returns-clause-tree
 returns-clause-tree c =
     let o = c.args.options.now in
-    let own = c.in_ok-own.own in
-    let some : 0 < length own.problems.items = grind (arith, nat_tests, c.is_empty.ensures, c.if-is_empty.false, own.problems.ok.0) in
-    IfOk-weaker c.mended_tree.result _ _ (λ x h. made_listed o.krate o.skipped.items o.edition.year c.args.text.now own x.mended x.source c.in_ok-own.ensures.tree some h) c.mended_tree.ensures.tree
+    let text = c.args.text.now in
+    let is : c.wanted_under.result ≡ wanted_under o.skipped.items = c.wanted_under.ensures ∙ ap wanted_under c.deref.ensures.value in
+    IfOk-weaker c.clipped.result _ _ (λ x h. tree_listed o.krate o.skipped.items o.edition.year text x (subst (λ w. IsClippedTree w o.krate o.skipped.items o.edition.year text x) is h)) c.clipped.ensures.tree
+
+pub returns-clause-refused : goal.returns-clause-refused
+returns-clause-refused c =
+    let o = c.args.options.now in
+    let text = c.args.text.now in
+    let is : c.wanted_under.result ≡ wanted_under o.skipped.items = c.wanted_under.ensures ∙ ap wanted_under c.deref.ensures.value in
+    IfErr-weaker c.clipped.result _ _ (λ e h. refused_listed o.krate o.skipped.items o.edition.year text e (subst (λ w. IsClippedRefused w o.krate o.skipped.items o.edition.year text e) is h)) c.clipped.ensures.refused

@@ -4,6 +4,7 @@ use Rattle.rust_edits.proofs.Typing.Moved.{places_move, is_read_anew, body_is_to
 use Rattle.rust_edits.proofs.Typing.BodyStarts.{body_opens}
 use Rattle.rust_edits.proofs.Typing.ProblemsIn.{problems_stand}
 use Rattle.rust_edits.proofs.Typing.Loose.{problems_move}
+use Rattle.rust_edits.proofs.Typing.Damaged.{typing_damaged}
 use Rattle.rust_edits.proofs.laws.typing.Goals as goal
 
 pub returns : goal.returns
@@ -16,4 +17,5 @@ returns c = record {
   body_opens = body_opens;
   problems_stand = problems_stand;
   problems_move = problems_move;
+  typing_damaged = typing_damaged;
 }

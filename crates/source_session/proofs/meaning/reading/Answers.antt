@@ -1,14 +1,24 @@
 use Rattle.std.proofs.Common.{refl, subst}
-use Rattle.source_session.proofs.Common.{IsBareFile, file_view}
+use Rattle.source_session.proofs.Common.{HasTextOf, IsListedBare, closers_in, file_view}
+use Rattle.source_reading.proofs.ListedTexts.{bare_listed}
 use Rattle.source_session.proofs.meaning.reading.Goals as goal
 
 pub returns-clause-means : goal.returns-clause-means
-returns-clause-means c = record {
-  read = file_view c.in_ok-read.read;
-  is_read = subst (λ text. IsBareFile c.args.edition text (file_view c.in_ok-read.read)) c.deref.ensures c.in_ok-read.ensures.file;
-  edit_is = refl;
-  kept = record { text = c.args.text; places = c.in_ok-read.read.places; use_trees = c.in_ok-read.read.use_trees; problems = c.in_ok-read.read.problems };
-  change_is = refl;
-  text_is = refl;
-  rest = record { places = refl; use_trees = refl; problems = refl };
-}
+returns-clause-means c =
+    let file = c.in_ok-read.read.file in
+    let mended = c.in_ok-read.read.mended in
+    let found = c.in_ok-read.ensures in
+    record {
+      read = file_view file;
+      edit_is = refl;
+      kept = record { text = c.args.text; mended = mended; places = file.places; use_trees = file.use_trees; problems = file.problems };
+      change_is = refl;
+      is_kept = record {
+        text_is = refl;
+        is_read = subst (λ text. IsListedBare c.args.edition text (closers_in mended) (file_view file)) c.deref.ensures (bare_listed c.args.edition c.deref.result.now (closers_in mended) (file_view file) found.file);
+        mended = subst (λ text. HasTextOf text mended) c.deref.ensures found.text;
+        places = refl;
+        use_trees = refl;
+        problems = refl;
+      };
+    }
