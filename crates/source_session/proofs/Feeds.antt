@@ -1,8 +1,8 @@
 -- No answer holds a line feed.
 use Rattle.std.proofs.Common.{◌≡◌, ◌≢◌, ℕ, zero, suc, ◌+◌, ◌/◌, ◌%◌, ◌==◌, Bool, true, false, not, cond, ◌&&◌, ◌||◌, if◌then◌else◌, nat_lt, List, [], ◌∷◌, ◌++◌, Option, Some, None, Ok, Err, is_some, decimal, codes, refl, ap, ◌∙◌, arith, ⊎_elim, pos, negsuc}
-use Rattle.std.specs.Fmt.{digits, digits_onto, digit_glyph, signed_decimal}
+use Rattle.std.specs.Fmt.{digits, digits_onto, digit_glyph}
 use Rattle.std.specs.Char.{digit_char}
-use Rattle.source_session.proofs.Common.{All-cons, All-nil, and_parts, cases_Bool, nat_tests, Open, Outcome, Replies, Reply, reply_number, reply_text}
+use Rattle.source_session.proofs.Common.{All-cons, All-nil, and_parts, cases_Bool, nat_tests, Open, Outcome, Replies, reply_number, reply_text}
 use Rattle.json.specs.Print.{escape_letter, escape_byte, escape, quoted}
 use Rattle.serde_json.specs.Data.{Num, unsigned, negative, float, Data, null, boolean, number, string, array, object, Items, no_items, item, Members, no_members, member}
 use Rattle.serde_json.specs.View.{items_of}

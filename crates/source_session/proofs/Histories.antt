@@ -1,5 +1,5 @@
 -- Edits of two goes, and whole conversations.
-use Rattle.std.proofs.Common.{◌≡◌, ◌⊎◌, ℕ, inl, inr, List, [], ◌∷◌, ◌++◌, Bool, true, false, Option, Some, None, Ok, Err, codes, length, map, take, refl, sym, ap, subst, ◌∙◌, append_assoc, arith, flat_map}
+use Rattle.std.proofs.Common.{◌≡◌, ◌⊎◌, ℕ, inl, inr, List, [], ◌∷◌, ◌++◌, Bool, true, false, Option, Some, None, Ok, Err, codes, length, take, refl, sym, ap, subst, ◌∙◌, append_assoc, arith}
 use Rattle.source_session.proofs.Common.{take_all, unwrap_or, EditionYear, EditionView, Reading, right, wrong, pointer_behind, EditView, last_some, after_join, after_none, last_append, or_else, LineError, NotJson, NotRequest, NotChanged, Refused, TooLong, OutOfMemory, Settings, Asked, first_line, later_line, Open, Outcome, Reply, Replies, IsCarriedOut, IsOutcome, IsRefusedAs, IsReplyUnless, IsReplyOf, IsReply, asked_of, of_session, of_opened, id_value, reply_number, reply_text, out_of_memory, Session, new_session, AreMade, IsUnedited, TextChange, FileTexts, text_in, text_after, left_text, AreMeant}
 use Rattle.serde_json.specs.Data.{Data, Members}
 use Rattle.serde_json.specs.Find.{as_object}

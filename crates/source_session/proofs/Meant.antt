@@ -1,6 +1,6 @@
 -- What edits of a line mean, one more at a time.
 use Rattle.std.proofs.Common.{◌≡◌, ℕ, suc, List, [], ◌∷◌, ◌++◌, Ok, Err, length, refl, sym, ap, subst, ◌∙◌}
-use Rattle.source_session.proofs.Common.{unwrap_or, EditionYear, EditView, last_some, or_else, LineError, NotJson, NotRequest, NotChanged, Refused, TooLong, OutOfMemory, ChangeFault, LineEdit, of_table, set_text, change_text, IsFailing, TellsFault, TextChange, FileTexts, left_text, text_after, bytes_kept, changed_text, Means, AreMeant, Fails, FailsAt}
+use Rattle.source_session.proofs.Common.{unwrap_or, EditionYear, EditView, last_some, or_else, LineError, NotChanged, ChangeFault, LineEdit, of_table, set_text, change_text, IsFailing, TellsFault, TextChange, FileTexts, left_text, text_after, bytes_kept, changed_text, Means, AreMeant, Fails, FailsAt}
 
 -- ---- over texts that are the same
 

@@ -1,6 +1,6 @@
 -- A text with what stands in a range of it replaced.
-use Rattle.std.proofs.Common.{◌≡◌, ℕ, ◌≤◌, ◌+◌, ◌-◌, ◌^◌, ◌&&◌, ◌++◌, Bool, true, false, if◌then◌else◌, List, Option, Some, None, Ok, length, take, drop, refl, sym, ap, subst, ◌∙◌, append_assoc, arith, IsCharBoundary, is_some, nat_le, nat_lt, option_map}
-use Rattle.source_session.proofs.Common.{and_parts, nat_tests, length-append, length-drop, length-take-le, drop-drop, is_boundary, is_cut, TextRange, IsShort, spliced, is_outside, is_long, change_fault, unless_fault, changed_text}
+use Rattle.std.proofs.Common.{◌≡◌, ℕ, ◌≤◌, ◌+◌, ◌-◌, ◌^◌, ◌&&◌, ◌++◌, Bool, true, false, if◌then◌else◌, List, Option, Some, None, length, take, drop, refl, sym, ap, ◌∙◌, append_assoc, arith, IsCharBoundary, is_some, nat_le, nat_lt, option_map}
+use Rattle.source_session.proofs.Common.{and_parts, length-append, length-drop, length-take-le, drop-drop, is_boundary, is_cut, TextRange, spliced, is_outside, is_long, change_fault}
 use Rattle.rust_members.proofs.Moving.{boundary_is}
 use Rattle.source_session.specs.declared.splice.ChangeFault.TheVariants.{OutsideText, CutsCharacter, TooLong}
 
@@ -55,16 +55,3 @@ cut_by false false c e = absurd cc
 -- the range is cut out
 pub fault_none : (text : List ℕ) (range : TextRange) (new : List ℕ) → change_fault text range new ≡ None → is_cut text range ≡ true
 fault_none text range new e = cut_by (is_outside text range) (is_cut text range) (is_long (spliced text range new)) e
-
-short_by : (a b c : Bool) (made text : List ℕ) → is_long made ≡ c → unless_fault (if a then Some OutsideText else (if b then (if c then Some TooLong else None) else Some CutsCharacter)) made ≡ Ok text → IsShort text
-short_by true b c made text l e = absurd cc
-short_by false false c made text l e = absurd cc
-short_by false true true made text l e = absurd cc
-short_by false true false made text l e =
-    let same : made ≡ text = cc in
-    subst IsShort same (grind (arith, nat_tests))
-
--- and the text is short
-pub changed_short : (old : Option (List ℕ)) (range : TextRange) (new text : List ℕ) → changed_text old range new ≡ Ok text → IsShort text
-changed_short None range new text e = absurd cc
-changed_short (Some old) range new text e = short_by (is_outside old range) (is_cut old range) (is_long (spliced old range new)) (spliced old range new) text refl e
