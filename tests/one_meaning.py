@@ -12,7 +12,7 @@ import re
 import sys
 
 # How many there were when this was last lowered. A change that brings one more gives it another name, or takes the word that stands.
-MOST = 3
+MOST = 1
 DEFINED = re.compile(r"(?: *(?:abbrev|unfoldable) pub|pub(?: data| record)?) +([^\s:(){}=]+)")
 
 

@@ -8,7 +8,7 @@ use Rattle.rust_items.specs.SourceFiles.{file_view}
 use Rattle.source_rows.specs.Listed.{Closers}
 use Rattle.source_reading.specs.declared.read.ReadError.{ReadError}
 use Rattle.source_reading.specs.declared.read.ReadError.TheVariants as read
-use Rattle.source_reading.specs.ListedFiles.{IsListedClipped, IsUnlisted, IsUnread}
+use Rattle.source_reading.specs.ListedFiles.{IsListedClipped, IsUnlisted, IsUnreadText}
 use Rattle.itemtree_commands.specs.Inner.{IsClippedRefused, error_told}
 use Rattle.itemtree_commands.specs.declared.trees.SourceError.{SourceError}
 use Rattle.itemtree_commands.specs.declared.trees.SourceError.TheVariants.{TooLong}
@@ -25,7 +25,7 @@ pub no_memory_to_read : (text : List ℕ) → length text ≤ 2 ^ 32 → IsTextU
 no_memory_to_read text short = (short, refl)
 
 -- a text is not read
-pub unread_told : (text : List ℕ) (e : ReadError) → IsUnread text e → IsTextUnread text (error_told e)
+pub unread_told : (text : List ℕ) (e : ReadError) → IsUnreadText text e → IsTextUnread text (error_told e)
 unread_told text read.TooLong h = h
 unread_told text read.OutOfMemory h = (h, refl)
 

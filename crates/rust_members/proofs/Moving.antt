@@ -1,5 +1,5 @@
 -- Members in a text with bytes in front.
-use Rattle.std.proofs.Common.{◌≡◌, ◌<◌, ◌≤◌, ◌+◌, ◌-◌, ◌^◌, ◌&&◌, ◌++◌, ◌∙◌, ℕ, Bool, true, false, Option, Some, None, List, [], ◌∷◌, map, length, drop, get_or, ap, sym, arith, ⊎_elim, append_assoc, IsTrue, ◌↔◌, IsCharBoundary, nat_le, option_map, slice_range}
+use Rattle.std.proofs.Common.{◌≡◌, ◌<◌, ◌≤◌, ◌+◌, ◌-◌, ◌^◌, ◌&&◌, ◌++◌, ◌∙◌, ℕ, Bool, true, false, Option, Some, None, List, [], ◌∷◌, map, length, drop, get_or, ap, arith, ⊎_elim, append_assoc, IsTrue, ◌↔◌, IsCharBoundary, nat_le, option_map, slice_range}
 use Rattle.std.proofs.lemmas.Bool.{and_parts, cases_Bool, leb-true}
 use Rattle.std.proofs.lemmas.Bool.Decides.{nat_tests, same_from_decides}
 use Rattle.std.proofs.lemmas.List.{length-drop, length-take-le, map-append}

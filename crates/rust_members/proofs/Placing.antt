@@ -53,7 +53,7 @@ found_more end ts us vs ws xs ys laid p a b =
     }
 
 -- a list that was found behind members
-record IsListed (ts : Tokens) (done : List MemberRead) (r : List MemberRead × Tokens) : Type 0 where
+pub record IsListed (ts : Tokens) (done : List MemberRead) (r : List MemberRead × Tokens) : Type 0 where
   pub new : List MemberRead
   pub list : r.0 ≡ done ++ new
   pub found : AreFound ts r.1 new
@@ -69,7 +69,7 @@ module _ (end : ℕ) (ends : Tokens → Bool) (reader : Reader (Option MemberRea
     found = found_more end ts _ _ _ (option_to_list (reader ts).0) rest.new laid (beyond_leads ts.past (reader ts).1) (f ts laid) rest.found;
   }
 
-  list_from : (n : ℕ) (done : List MemberRead) (ts : Tokens) → IsLaid end ts → IsListed ts done (turns_from ends (perhaps reader) n done ts)
+  pub list_from : (n : ℕ) (done : List MemberRead) (ts : Tokens) → IsLaid end ts → IsListed ts done (turns_from ends (perhaps reader) n done ts)
   list_from zero done ts laid = list_end done ts
   list_from (suc n) done ts laid =
       let first = behind end (f ts laid).leads laid in
@@ -77,7 +77,7 @@ module _ (end : ℕ) (ends : Tokens → Bool) (reader : Reader (Option MemberRea
       let rest = list_from n (done ++ option_to_list (reader ts).0) (beyond ts.past (reader ts).1) next.laid in
       when (ends ts) (λ e. rw e (list_end done ts)) (λ e. rw e (list_more done ts _ laid rest))
 
-  list_found : (ts : Tokens) → IsLaid end ts → AreFound ts (turns ends (perhaps reader) ts).1 (turns ends (perhaps reader) ts).0
+  pub list_found : (ts : Tokens) → IsLaid end ts → AreFound ts (turns ends (perhaps reader) ts).1 (turns ends (perhaps reader) ts).0
   unfolding turns
   list_found ts laid = let l = list_from most [] ts laid in rw l.list l.found
 
@@ -125,7 +125,7 @@ leaf_kept_found : (end : ℕ) (ts us : Tokens) (told : ItemView → Option Membe
 leaf_kept_found end ts us told None laid p = none_found (through p (behind_others_leads us))
 leaf_kept_found end ts us told (Some l) laid t = kept_found end ts us l (told l.item) laid t
 
-associated_found : (end : ℕ) (w : WantedMetas) → Finds end (associated w)
+pub associated_found : (end : ℕ) (w : WantedMetas) → Finds end (associated w)
 unfolding associated
 associated_found end w ts laid =
     when (is_at_end ts) (λ e. rw e (none_found (bumped_leads ts)))

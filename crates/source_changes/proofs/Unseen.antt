@@ -1,5 +1,5 @@
 -- Whatever is typed in a hole, others see the same.
-use Rattle.std.proofs.Common.{◌≡◌, ◌≤◌, ◌<◌, ◌+◌, ◌++◌, ℕ, zero, suc, Bool, true, false, List, [], ◌∷◌, length, refl, sym, ap, ◌∙◌, subst, arith, map, flat_map, append-nil, All, slice_index}
+use Rattle.std.proofs.Common.{◌≡◌, ◌≤◌, ◌<◌, ◌+◌, ◌++◌, ℕ, zero, suc, Bool, true, false, Some, IsTrue, List, [], ◌∷◌, length, refl, sym, ap, ◌∙◌, subst, arith, map, flat_map, append-nil, All, slice_index}
 use Rattle.std.specs.List.{Contains, list_any}
 use Rattle.std.proofs.lemmas.List.Elements.{All-cons, All-map, All-nil}
 use Rattle.hir_input.specs.declared.edition.EditionYear.{EditionYear}
@@ -15,7 +15,8 @@ use Rattle.rust_lexer.proofs.Whole.{open_at}
 use Rattle.rust_items.specs.declared.source_file.ItemPlace.{ItemPlace}
 use Rattle.rust_items.specs.SourceFiles.{FileView, IsFileView, places}
 use Rattle.rust_items.proofs.FilePlaces.{view_placed}
-use Rattle.rust_edits.specs.Typing.Laws.{with_body, OpensAt}
+use Rattle.rust_edits.specs.Typing.Laws.{with_body, IsTyped, OpensAt}
+use Rattle.rust_items.specs.LineEnds.{with_feeds}
 use Rattle.rust_edits.specs.Typing.Moved.{close_at, moved_place, shifted_by}
 use Rattle.rust_edits.proofs.Beside.Behind.{plain_back, plain_on, plain_tokens}
 use Rattle.rust_edits.proofs.Typing.Moved.{places_move}
@@ -31,11 +32,14 @@ use Rattle.source_rows.proofs.Holes.{after_all}
 use Rattle.source_rows.proofs.ItemHoles.{holes_from, place_holes}
 use Rattle.source_rows.proofs.Rising.{AreRising, all_rise}
 use Rattle.source_rows.specs.declared.kept.Hole.{Hole}
-use Rattle.source_rows.proofs.Parted.{Parted, all_parted, may_hold}
-use Rattle.source_changes.specs.Changes.{AreParts, seen_texts}
-use Rattle.source_changes.specs.Typing.{AreBraces, HolesAreUnseen, IsTypedInHole, MovedHolesAreUnseen, TypingIsSame, braces, has_hole, moved_hole}
+use Rattle.source_rows.proofs.Parted.{AllStand, AreBefore, Parted, all_parted, may_hold}
+use Rattle.source_rows.specs.Sources.{Source}
+use Rattle.source_changes.specs.Changes.{AreParts, IsCompared, seen_texts}
+use Rattle.source_changes.specs.declared.Compared.{Compared}
+use Rattle.source_changes.specs.Typing.{AreBraces, HolesAreUnseen, MemberHolesAreUnseen, MovedHolesAreUnseen, TypingInMemberIsSame, TypingIsSame, braces, has_hole, has_member_hole, moved_hole}
 use Rattle.source_changes.proofs.Moving.{HolesBeside, holes_move}
-use Rattle.source_changes.proofs.Typed.{function_is, holes_typed}
+use Rattle.source_changes.proofs.Typed.{fn_holds_none, function_is, holes_typed}
+use Rattle.source_changes.proofs.TypedMembers.{has_body, holds_none, items_typed, text_is}
 
 -- ---- tokens
 
@@ -113,7 +117,10 @@ same_seen docs q m m' s olds news t h =
 same_places : (edition : EditionYear) (text : List ℕ) (read again : FileView) → IsFileView edition text read → IsFileView edition text again → read.places ≡ again.places
 same_places edition text read again f g = f.places ∙ ap (λ ids. places ids _) (sym (same_ids edition _ _ _ _ read again f g refl)) ∙ sym g.places
 
-module _ (edition : EditionYear) (q m m' s : List ℕ) (olds news : List Part) (t : IsTypedInHole edition q m m' s) (before : AreParts edition (with_body q m s) olds) (after : AreParts edition (with_body q m' s) news) where
+-- an item that passes a test has the braces, in each text; what follows for its holes holds of all
+module _ (edition : EditionYear) (q m m' s : List ℕ) (olds news : List Part) (typed : IsTyped edition (with_feeds q) (with_feeds m) (with_feeds m') (with_feeds s))
+    (before : AreParts edition (with_body q m s) olds) (after : AreParts edition (with_body q m' s) news)
+    (has has_new : ItemPlace → Bool) (no_holder : (p : ItemPlace) → has p ≡ true → may_hold p.id.kind ≡ false) (is_body : (p : ItemPlace) → has p ≡ true → p.body ≡ Some (braces q m)) where
   abbrev old : List ℕ
   old = with_body q m s
 
@@ -124,34 +131,32 @@ module _ (edition : EditionYear) (q m m' s : List ℕ) (olds news : List Part) (
   mv = moved_place (shifted_by q m m')
 
   moved_all : after.0.places ≡ map mv before.0.places
-  moved_all = (places_move edition q m m' s before.0 after.0 t.typed before.1 after.1).places
+  moved_all = (places_move edition q m m' s before.0 after.0 typed before.1 after.1).places
 
-  has : list_any (has_hole old (braces q m)) before.0.places ≡ true
-  has = ap (list_any (has_hole old (braces q m))) (sym (same_places edition old t.hole.read before.0 t.hole.is_read before.1)) ∙ t.hole.has_one
+  -- the hole is there, and the holes are moved
+  abbrev Holes : Hole → (ℕ → ℕ) → List Hole → List Hole → Type 0
+  Holes h place hs ks = Contains hs h × (ks ≡ map (moved_hole place) hs)
 
-  has_new : list_any (has_hole new (braces q m')) (map mv before.0.places) ≡ true
-  has_new =
-      ap (list_any (has_hole new (braces q m'))) (sym moved_all ∙ sym (same_places edition new t.hole_new.read after.0 t.hole_new.is_read after.1)) ∙ t.hole_new.has_one
-
-  no_holder : (p : ItemPlace) → has_hole old (braces q m) p ≡ true → may_hold p.id.kind ≡ false
-  no_holder p e = ap may_hold (function_is old (braces q m) p e).is_fn
-
-  -- the items around the function
-  parted : Parted (braces q m) (has_hole old (braces q m)) no_holder (λ p e. (function_is old (braces q m) p e).is_body) 0 (length old) before.0.places []
-  parted = all_parted (braces q m) (has_hole old (braces q m)) no_holder (λ p e. (function_is old (braces q m) p e).is_body) (view_placed edition old before.0 before.1) has
-
-  pub holes : Contains (bodies olds) (hole (suc (length q)) (close_at q m)) × (bodies news ≡ map (moved_hole (shifted_by q m m')) (bodies olds))
-  holes = by parted
+  pub holes : (h : Hole) (place : ℕ → ℕ) (read again : FileView) → IsFileView edition old read → list_any has read.places ≡ true → IsFileView edition new again → list_any has_new again.places ≡ true
+      → ((before behind : List ItemPlace) (one : ItemPlace) → AreBefore (length q) before → AllStand (suc (close_at q m)) (length old) behind → has one ≡ true → list_any has_new (map mv (before ++ one ∷ behind)) ≡ true
+      → Holes h place (flat_map (place_holes edition old) (before ++ one ∷ behind)) (flat_map (place_holes edition new) (map mv (before ++ one ∷ behind))))
+      → Holes h place (bodies olds) (bodies news)
+  holes h place read again f has_one g has_one_new each = by (all_parted (braces q m) has no_holder is_body (view_placed edition old before.0 before.1) some)
     where
-      by : Parted (braces q m) (has_hole old (braces q m)) no_holder (λ p e. (function_is old (braces q m) p e).is_body) 0 (length old) before.0.places []
-          → Contains (bodies olds) (hole (suc (length q)) (close_at q m)) × (bodies news ≡ map (moved_hole (shifted_by q m m')) (bodies olds))
+      some : list_any has before.0.places ≡ true
+      some = ap (list_any has) (sym (same_places edition old read before.0 f before.1)) ∙ has_one
+
+      some_new : list_any has_new (map mv before.0.places) ≡ true
+      some_new = ap (list_any has_new) (sym moved_all ∙ sym (same_places edition new again after.0 g after.1)) ∙ has_one_new
+
+      by : Parted (braces q m) has no_holder is_body 0 (length old) before.0.places [] → Holes h place (bodies olds) (bodies news)
       by p =
           let list = p.before ++ p.one ∷ p.behind in
           let is : before.0.places ≡ list = p.is ∙ ap (λ l. p.before ++ p.one ∷ l) (append-nil p.behind) in
-          let both = holes_typed edition q m m' s (length old) p.before p.behind p.one p.are_before p.are_behind p.has_it (ap (λ l. list_any (has_hole new (braces q m')) (map mv l)) (sym is) ∙ has_new) in
+          let both = each p.before p.behind p.one p.are_before p.are_behind p.has_it (ap (λ l. list_any has_new (map mv l)) (sym is) ∙ some_new) in
           let ours = ap bodies before.2 ∙ holes_from edition old [] before.0.places ∙ ap (flat_map (place_holes edition old)) is in
           let theirs = ap bodies after.2 ∙ holes_from edition new [] after.0.places ∙ ap (flat_map (place_holes edition new)) (moved_all ∙ ap (map mv) is) in
-          (subst (λ hs. Contains hs (hole (suc (length q)) (close_at q m))) (sym ours) both.0, theirs ∙ both.1 ∙ sym (ap (map (moved_hole (shifted_by q m m'))) ours))
+          (subst (λ hs. Contains hs h) (sym ours) both.0, theirs ∙ both.1 ∙ sym (ap (map (moved_hole place)) ours))
 
 -- ---- the laws
 
@@ -164,10 +169,40 @@ moved_holes_are_unseen edition docs q m m' s olds news t a one moved =
     same_seen docs q m m' s (bodies olds) (bodies news) t (subst (HolesBeside (length q) (close_at q m) (close_at q m') (bodies olds)) (sym moved) beside)
 
 pub holes_are_unseen : HolesAreUnseen
-holes_are_unseen edition docs q m m' s olds news t a b = let h = holes edition q m m' s olds news t a b in moved_holes_are_unseen edition docs q m m' s olds news t.stand a h.0 h.1
+holes_are_unseen edition docs q m m' s olds news t a b =
+    let has = λ (m : List ℕ). has_hole (with_body q m s) (braces q m) in
+    let h = holes edition q m m' s olds news t.typed a b (has m) (has m') (λ p e. fn_holds_none (with_body q m s) (braces q m) p e) (λ p e. (function_is (with_body q m s) (braces q m) p e).is_body)
+    (hole (suc (length q)) (close_at q m)) (shifted_by q m m') t.hole.read t.hole_new.read t.hole.is_read t.hole.has_one t.hole_new.is_read t.hole_new.has_one
+    (λ before behind one x y e e'. holes_typed edition q m m' s (length (with_body q m s)) before behind one x y e e') in
+    moved_holes_are_unseen edition docs q m m' s olds news t.stand a h.0 h.1
+
+pub member_holes_are_unseen : MemberHolesAreUnseen
+member_holes_are_unseen edition docs q p m m' r s olds news t a b =
+    let x = with_body p m r in
+    let x' = with_body p m' r in
+    let front = q ++ 123 ∷ p in
+    let has = λ (m : List ℕ). has_member_hole edition (with_body q (with_body p m r) s) (braces q (with_body p m r)) (braces front m) in
+    let old = text_is q p m r s in
+    let new = text_is q p m' r s in
+    let h = holes edition q x x' s olds news t.typed a b (has m) (has m') (holds_none edition q p m m' r s t.within t.begins t.begins_new m) (has_body edition q p m m' r s t.within t.begins t.begins_new m)
+    (hole (suc (length front)) (close_at front m)) (shifted_by front m m') t.hole.read t.hole_new.read t.hole.is_read t.hole.has_one t.hole_new.is_read t.hole_new.has_one
+    (λ before behind one x y e e'. items_typed edition q p m m' r s t.within t.begins t.begins_new (length (with_body q (with_body p m r) s)) before behind one x y e e') in
+    ap (λ z. seen_texts docs z olds) old
+    ∙ moved_holes_are_unseen edition docs front m m' (r ++ 125 ∷ s) olds news t.stand (subst (λ z. AreParts edition z olds) old a) h.0 h.1
+    ∙ sym (ap (λ z. seen_texts docs z news) new)
+
+-- where others see the same of two texts, the answer is yes
+told_same : (edition : EditionYear) (docs : Bool) (x x' : List ℕ) (old new : Source) (c : Compared) → old.text ≡ x → new.text ≡ x' → IsCompared edition docs old new c
+    → ((olds news : List Part) → AreParts edition x olds → AreParts edition x' news → seen_texts docs x olds ≡ seen_texts docs x' news) → IsTrue c.is_same
+told_same edition docs x x' _ _ c e f k same =
+    let before : AreParts edition x k.0 = subst (λ x. AreParts edition x k.0) e k.2 in
+    let after : AreParts edition x' k.1 = subst (λ x. AreParts edition x k.1) f k.3 in
+    k.4.1 (ap (λ x. seen_texts docs x k.0) e ∙ same k.0 k.1 before after ∙ sym (ap (λ x. seen_texts docs x k.1) f))
 
 pub typing_is_same : TypingIsSame
-typing_is_same edition docs q m m' s _ _ c t e f k =
-    let before : AreParts edition (with_body q m s) k.0 = subst (λ x. AreParts edition x k.0) e k.2 in
-    let after : AreParts edition (with_body q m' s) k.1 = subst (λ x. AreParts edition x k.1) f k.3 in
-    k.4.1 (ap (λ x. seen_texts docs x k.0) e ∙ holes_are_unseen edition docs q m m' s k.0 k.1 t before after ∙ sym (ap (λ x. seen_texts docs x k.1) f))
+typing_is_same edition docs q m m' s old new c t e f k =
+    told_same edition docs (with_body q m s) (with_body q m' s) old new c e f k (λ olds news a b. holes_are_unseen edition docs q m m' s olds news t a b)
+
+pub typing_in_member_is_same : TypingInMemberIsSame
+typing_in_member_is_same edition docs q p m m' r s old new c t e f k =
+    told_same edition docs (with_body q (with_body p m r) s) (with_body q (with_body p m' r) s) old new c e f k (λ olds news a b. member_holes_are_unseen edition docs q p m m' r s olds news t a b)

@@ -1,5 +1,5 @@
 -- What is typed in a hole of a text, others do not see.
-use Rattle.std.specs.Prelude.{◌≡◌, ℕ, suc, ◌-◌, Bool, true, false, ◌==◌, ◌&&◌, IsTrue, Option, Some, None, List, ◌∷◌, ◌++◌, map, length}
+use Rattle.std.specs.Prelude.{◌≡◌, ℕ, suc, ◌-◌, Bool, true, false, ◌==◌, ◌&&◌, IsTrue, Option, Some, None, List, [], ◌∷◌, ◌++◌, map, length}
 use Rattle.std.specs.List.{Contains, list_any}
 use Rattle.hir_input.specs.declared.edition.EditionYear.{EditionYear}
 use Rattle.rust_lexer.specs.Alone.{StandsAlone}
@@ -7,10 +7,12 @@ use Rattle.rust_paths.specs.declared.names.TextRange.{TextRange}
 use Rattle.rust_items.specs.declared.source_file.ItemPlace.{ItemPlace}
 use Rattle.rust_items.specs.LineEnds.{with_feeds}
 use Rattle.rust_items.specs.SourceFiles.{FileView, IsFileView}
-use Rattle.rust_edits.specs.Typing.Laws.{with_body, OpensAt, IsTyped}
+use Rattle.rust_edits.specs.Typing.Laws.{with_body, BeginsPlain, OpensAt, IsTyped}
 use Rattle.rust_edits.specs.Typing.Moved.{close_at, shifted_by}
+use Rattle.rust_members.specs.Members.{MemberRead}
 use Rattle.source_rows.specs.Bodies.{hole_of}
-use Rattle.source_rows.specs.Parts.{Part, fn_body}
+use Rattle.source_rows.specs.Labels.{has_members}
+use Rattle.source_rows.specs.Parts.{Part, body_members, fn_body}
 use Rattle.source_rows.specs.Rows.{bodies, hole}
 use Rattle.source_rows.specs.Sources.{Source}
 use Rattle.source_rows.specs.declared.kept.Hole.{Hole}
@@ -80,3 +82,39 @@ abbrev pub MovedHolesAreUnseen : Type 0
 MovedHolesAreUnseen = (edition : EditionYear) (has_docs : Bool) (q m m' s : List ℕ) (olds news : List Part) → AreBraces q m m' s → AreParts edition (with_body q m s) olds
     → Contains (bodies olds) (hole (suc (length q)) (close_at q m)) → bodies news ≡ map (moved_hole (shifted_by q m m')) (bodies olds)
     → seen_texts has_docs (with_body q m s) olds ≡ seen_texts has_docs (with_body q m' s) news
+
+-- a member of a text is a function with this body, which is a hole
+abbrev pub is_member_hole : List ℕ → TextRange → MemberRead → Bool
+is_member_hole text body m = is_range body (hole_of text m.range m.body)
+
+-- an item of a text, in these braces, has such a member
+abbrev pub has_member_hole : EditionYear → List ℕ → TextRange → TextRange → ItemPlace → Bool
+has_member_hole edition text item body s = is_range item s.body && list_any (is_member_hole text body) (body_members edition s.id.kind text (has_members s.id.kind) s.body)
+
+-- such an item is read of the text
+pub record IsMemberHoleIn (edition : EditionYear) (text : List ℕ) (item body : TextRange) : Type 0 where
+  pub read : FileView
+  pub is_read : IsFileView edition text read
+  pub has_one : list_any (has_member_hole edition text item body) read.places ≡ true
+
+-- A text `q { p { m } r } s` of which what stands in a member's hole was typed anew, and there is a hole still. Members are read of the braces of
+-- their item, as a text of its own: something is asked of the braces `{ p { m } r }`, too.
+pub record IsTypedInMember (edition : EditionYear) (q p m m' r s : List ℕ) : Type 0 where
+  pub typed : IsTyped edition (with_feeds q) (with_feeds (with_body p m r)) (with_feeds (with_body p m' r)) (with_feeds s)
+  pub stand : AreBraces (q ++ 123 ∷ p) m m' (r ++ 125 ∷ s)
+  pub within : AreBraces (123 ∷ p) m m' (r ++ 125 ∷ [])
+  pub begins : BeginsPlain m
+  pub begins_new : BeginsPlain m'
+  pub hole : IsMemberHoleIn edition (with_body q (with_body p m r) s) (braces q (with_body p m r)) (braces (q ++ 123 ∷ p) m)
+  pub hole_new : IsMemberHoleIn edition (with_body q (with_body p m' r) s) (braces q (with_body p m' r)) (braces (q ++ 123 ∷ p) m')
+
+-- Whatever is typed in a member's hole, others see the same of the text.
+abbrev pub MemberHolesAreUnseen : Type 0
+MemberHolesAreUnseen = (edition : EditionYear) (has_docs : Bool) (q p m m' r s : List ℕ) (olds news : List Part) → IsTypedInMember edition q p m m' r s
+    → AreParts edition (with_body q (with_body p m r) s) olds → AreParts edition (with_body q (with_body p m' r) s) news
+    → seen_texts has_docs (with_body q (with_body p m r) s) olds ≡ seen_texts has_docs (with_body q (with_body p m' r) s) news
+
+-- So the answer of a comparison is yes.
+abbrev pub TypingInMemberIsSame : Type 0
+TypingInMemberIsSame = (edition : EditionYear) (has_docs : Bool) (q p m m' r s : List ℕ) (old new : Source) (c : Compared) → IsTypedInMember edition q p m m' r s
+    → old.text ≡ with_body q (with_body p m r) s → new.text ≡ with_body q (with_body p m' r) s → IsCompared edition has_docs old new c → IsTrue c.is_same

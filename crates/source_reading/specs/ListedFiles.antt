@@ -71,9 +71,9 @@ abbrev pub HasFileIds : SourceFile → Type 0
 HasFileIds file = AllPairs (λ p q. p.id ≢ q.id) file.places.items
 
 -- a text that is not read is too long, or memory runs out
-abbrev pub IsUnread : List ℕ → ReadError → Type 0
-IsUnread text TooLong = 2 ^ 32 < length text
-IsUnread text OutOfMemory = length text ≤ 2 ^ 32
+abbrev pub IsUnreadText : List ℕ → ReadError → Type 0
+IsUnreadText text TooLong = 2 ^ 32 < length text
+IsUnreadText text OutOfMemory = length text ≤ 2 ^ 32
 
 -- the same where it is read for lists: it is too long, or its mended text is
 abbrev pub IsUnlisted : List ℕ → ReadError → Type 0

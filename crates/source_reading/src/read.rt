@@ -2,7 +2,7 @@
 
 ghost use Rattle.std.specs.Prelude.{◌≤◌, ◌^◌, length, IfOk, IfErr, OnOk};
 ghost use Rattle.rust_items.specs.SourceFiles.{IsClippedFile, file_view};
-ghost use Rattle.source_reading.specs.ListedFiles.{HasFileIds, IsUnread};
+ghost use Rattle.source_reading.specs.ListedFiles.{HasFileIds, IsUnreadText};
 
 use hir_input::EditionYear;
 use rust_items::{SourceFile, Wanted, read_wanted};
@@ -44,7 +44,7 @@ pub fn read_text(
         (λ file. IsClippedFile wanted edition text.now (file_view file)) }
     ensures ids { IfOk result HasFileIds }
     ensures short { OnOk result (length text.now ≤ 2 ^ 32) }
-    ensures refused { IfErr result (IsUnread text.now) }
+    ensures refused { IfErr result (IsUnreadText text.now) }
 {
     if text.len() > MOST_BYTES {
         return Err(ReadError::TooLong);

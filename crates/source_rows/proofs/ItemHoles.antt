@@ -75,15 +75,15 @@ none_held edition _ h text range body = absurd cc
 -- ---- in a text that begins so
 
 -- a body ends before a place
-abbrev EndsBy : ℕ → Option TextRange → Type 0
+abbrev pub EndsBy : ℕ → Option TextRange → Type 0
 EndsBy to None = Unit {0}
 EndsBy to (Some r) = (r.start < r.end) × (r.end ≤ to)
 
-at_front : (x y : List ℕ) (to : ℕ) (range : TextRange) (body : Option TextRange) → to < length x → EndsBy to body → hole_at (x ++ y) range body ≡ hole_at x range body
+pub at_front : (x y : List ℕ) (to : ℕ) (range : TextRange) (body : Option TextRange) → to < length x → EndsBy to body → hole_at (x ++ y) range body ≡ hole_at x range body
 at_front x y to range None low e = refl
 at_front x y to range (Some b) low e = ap hole_inside (hole_front x y range b (omega (arith, e.0)) (omega (arith, e.1, low)))
 
-name_ends : (to : ℕ) (range : TextRange) (o : Option TextRange) → range.end ≤ to → IsNameIn range o → EndsBy to o
+pub name_ends : (to : ℕ) (range : TextRange) (o : Option TextRange) → range.end ≤ to → IsNameIn range o → EndsBy to o
 name_ends to range None le n = tt
 name_ends to range (Some r) le n = (n.1, omega (arith, n.2, le))
 
@@ -132,7 +132,7 @@ inside_behind d (Some r) =
     rw (order, e) ((λ i. record { start = starts i; end = ends i } ∷ [])))
     (λ e. rw (order, e) refl)
 
-at_behind : (x y : List ℕ) (range : TextRange) (body : Option TextRange) → hole_at (x ++ y) (range_moved_by (length x) range) (option_map (range_moved_by (length x)) body) ≡ map (moved_on (length x)) (hole_at y range body)
+pub at_behind : (x y : List ℕ) (range : TextRange) (body : Option TextRange) → hole_at (x ++ y) (range_moved_by (length x) range) (option_map (range_moved_by (length x)) body) ≡ map (moved_on (length x)) (hole_at y range body)
 at_behind x y range body = ap hole_inside (hole_behind x y range body) ∙ inside_behind (length x) (hole_of y range body)
 
 added : (d b : ℕ) (r : TextRange) → range_moved_by (d + b) r ≡ range_moved_by d (range_moved_by b r)

@@ -46,7 +46,7 @@ rising_inside low high (Some r) le n =
     let some : nat_lt r.start r.end ≡ true = let h = n.1 in grind (arith, nat_tests) in
     rw some (omega (arith, n.0), omega (arith, n.1), omega (arith, n.1, n.2))
 
-rising_at : (text : List ℕ) (range : TextRange) (o : Option TextRange) → range.start ≤ range.end → IsNameIn range o → AreRising range.start range.end (hole_at text range o)
+pub rising_at : (text : List ℕ) (range : TextRange) (o : Option TextRange) → range.start ≤ range.end → IsNameIn range o → AreRising range.start range.end (hole_at text range o)
 rising_at text range None le n = le
 rising_at text range (Some r) le n = when (is_hole text range r) (λ h. rw h (rising_inside range.start range.end (Some r) le n)) (λ h. rw h le)
 
@@ -57,7 +57,7 @@ rising_members text from to (m ∷ ms) le a =
     subst (AreRising from to) (sym (flat_map-cons (λ (m : MemberRead). hole_at text m.range m.body) m ms))
     (rising_append from m.range.end to (hole_at text m.range m.body) (member_holes text ms) (rising_within m.range.start m.range.end from m.range.end (hole_at text m.range m.body) a.0.begins (omega arith) here) (rising_members text m.range.end to ms a.0.ends a.1))
 
-as_name : (range : TextRange) (o : Option TextRange) → IsBodyIn range o → IsNameIn range o
+pub as_name : (range : TextRange) (o : Option TextRange) → IsBodyIn range o → IsNameIn range o
 as_name range None b = tt
 as_name range (Some r) b = (b.0, omega (arith, b.1), omega (arith, b.2))
 
