@@ -1,11 +1,12 @@
 -- Metas of tokens that look alike are the same, until one goes past where the texts part. Their spans count from anchors that are as far from both.
 use Rattle.std.proofs.Common.{◌≡◌, ◌&&◌, ◌==◌, ℕ, zero, suc, true, false, Option, Some, List, [], refl, ap, codes, bytes_eq}
-use Rattle.rust_metas.proofs.Common.{and_parts, PathNode, MetaView, key_value_meta, token_tree_meta, cfg_meta, cfg_attr_meta, unsafe_meta, metas_from, CfgView, Reader, Tokens, symbol, word, bumped, is_at_open, Forwards, when, kept, Parting, Until, UpTo, cond_until, map_until, pass_until, bind_until, elements_until, Entering, Counted, is_edge, word_same, kind_same, text_same, open_same, edge_word, edge_test, symbol_test, after_word, after_symbol, path, path_until, tree_behind_comma, condition, is_truth, is_literal, is_ended, root, next_literal, value, assigned, input, plain_meta, is_call, is_at_name, is_named_call, member, conditional, meta_with, meta}
-use Rattle.rust_metas.proofs.Alike.{ended_same, in_brackets_until, condition_until}
+use Rattle.rust_metas.proofs.Common.{and_parts, PathNode, MetaView, key_value_meta, token_tree_meta, cfg_meta, cfg_attr_meta, unsafe_meta, metas_from, CfgView, Reader, Tokens, symbol, word, bumped, is_at_open, Forwards, through, when, behind_closed, behind_closed_leads, by_next, gone, kept, Parting, Until, UpTo, cond_until, map_until, pass_until, bind_until, elements_until, Entering, Counted, is_edge, word_same, kind_same, text_same, open_same, symbol_same, edge_word, edge_test, symbol_test, after_word, after_symbol, path, rule_until, rule_leads, reads, sees, in_brackets, comma, tree_behind_comma, condition, is_truth, is_literal, is_ended, root, next_literal, value, assigned, input, plain_meta, is_call, is_at_name, is_named_call, member, conditional, meta_with, meta}
+use Rattle.rust_cursor.proofs.Looks.{skipped_same}
+use Rattle.rust_cursor.proofs.Rules.{rule_until_in}
+use Rattle.rust_metas.specs.Literals.{ended_skipped}
 use Rattle.rust_metas.proofs.Around.{literal_symbol, named_symbol}
-use Rattle.rust_metas.proofs.Leads.{condition_leads, conditional_leads, input_leads, member_leads, members_leads, meta_leads}
+use Rattle.rust_metas.proofs.Leads.{conditional_leads, input_leads, member_leads, members_leads, meta_leads}
 use Rattle.rust_paths.proofs.AlikeTrees.{behind_comma_onward}
-use Rattle.rust_paths.proofs.Leads.{behind_comma_leads}
 
 -- ---- literals
 
@@ -23,7 +24,7 @@ value_until b a a' count ts us h =
     when (is_literal ts)
     (λ f. let off : is_edge (symbol ts) ≡ false = ap is_edge (literal_symbol ts f) in
     let n = b.twins.next ts us h off in
-    let test : (is_literal us && is_ended (bumped us)) ≡ (is_literal ts && is_ended (bumped ts)) = rw (literal_same b ts us h, ended_same b (bumped ts) (bumped us) n) refl in
+    let test : (is_literal us && sees is_ended (bumped us)) ≡ (is_literal ts && sees is_ended (bumped ts)) = rw (literal_same b ts us h, skipped_same b.twins is_ended 0 ended_skipped (bumped ts) (bumped us) n) refl in
     cond_until test (λ _. kept (record { value = ap Some (next_literal_same b a a' count ts us h off); rest = n })) (λ _. kept (record { value = refl; rest = h })))
     (λ f. rw (literal_same b ts us h, f) (kept (record { value = refl; rest = h })))
 
@@ -40,7 +41,7 @@ input_until b enter a a' count p ts us h =
 
 plain_until : (b : Parting) → Entering b → (a a' : ℕ) → Counted b a a' → UpTo b (plain_meta a) (plain_meta a')
 unfolding plain_meta
-plain_until b enter a a' count = bind_until b path path (input a) (input a') (path_until b) (input_until b enter a a' count) (input_leads a) (input_leads a')
+plain_until b enter a a' count = bind_until b (reads path) (reads path) (input a) (input a') (rule_until b path) (input_until b enter a a' count) (input_leads a) (input_leads a')
 
 -- ---- what stands in brackets behind a word
 
@@ -75,9 +76,15 @@ named_call_next b w ts us empty h e = named_next b w ts us empty h (and_parts (i
 
 -- ---- metas
 
+in_brackets_until : {A B : Type 0} (b : Parting) (enter : Entering b) (f : A → B) (m m' : Reader A) → UpTo b m m' → Forwards m → Forwards m' → UpTo b (in_brackets f m) (in_brackets f m')
+in_brackets_until b enter f m m' each leads leads' ts us h =
+    let c = symbol ts in
+    by_next (enter.onward ts us h) (λ g. gone (b.lost_on _ _ _ _ g (through (leads (bumped ts)) (behind_closed_leads c _)) (through (leads' (bumped us)) (behind_closed_leads (symbol us) _))))
+    (λ n. rw (symbol_same b.twins ts us h) (pass_until b (behind_closed c) (behind_closed_leads c) (b.closed c) (map_until f (each (bumped ts) (bumped us) n))))
+
 module _ (b : Parting) (enter : Entering b) (a a' : ℕ) (count : Counted b a a') (inner inner' : Reader MetaView) (i : UpTo b inner inner') (f : Forwards inner) (f' : Forwards inner') (condition : Reader CfgView) (c : UpTo b condition condition) (d : Forwards condition) where
   member_until : UpTo b (member inner) (member inner')
-  member_until ts us h = pass_until b tree_behind_comma behind_comma_leads (behind_comma_onward b) (i ts us h)
+  member_until ts us h = pass_until b tree_behind_comma (rule_leads comma) (behind_comma_onward b) (i ts us h)
 
   conditional_until : UpTo b (conditional inner condition) (conditional inner' condition)
   conditional_until =
@@ -97,4 +104,4 @@ pub meta_until : (b : Parting) → Entering b → (a a' depth : ℕ) → Counted
 unfolding meta
 meta_until b enter a a' zero count ts us h = kept (record { value = refl; rest = h })
 meta_until b enter a a' (suc depth) count ts us h =
-    meta_with_until b enter a a' count (meta a depth) (meta a' depth) (meta_until b enter a a' depth count) (meta_leads a depth) (meta_leads a' depth) (condition depth) (condition_until b enter depth) (condition_leads depth) ts us h
+    meta_with_until b enter a a' count (meta a depth) (meta a' depth) (meta_until b enter a a' depth count) (meta_leads a depth) (meta_leads a' depth) (reads (condition depth)) (rule_until_in b enter (condition depth)) (rule_leads (condition depth)) ts us h

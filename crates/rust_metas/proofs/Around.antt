@@ -1,6 +1,6 @@
 -- Attributes stay in the brackets that they stand in.
 use Rattle.std.proofs.Common.{◌≡◌, ◌==◌, ◌||◌, ◌&&◌, ℕ, zero, suc, Bool, true, false, Option, Some, None, List, [], ◌∷◌, refl, sym, ◌∙◌, subst, codes, if◌then◌else◌, not, slice_index, bytes_eq}
-use Rattle.rust_metas.proofs.Common.{eqb-true, PathNode, MetaView, CfgView, DocStyle, Outer, Inner, Tokens, Reader, by_first, symbol, word, kind, text, at, is_empty, bumped, is_at_open, is_at_end, behind_closed, behind_tree, elements, one, begins_item, LeadsTo, here, further, through, Forwards, when, bumped_leads, behind_tree_leads, path, path_leads, is_literal_kind, is_truth, is_literal, is_ended, style_by, value, documentation, tree_comma_from, tree_behind_comma, is_word_kind, is_option_word, option_name, pair, named_condition, if_named, ended_condition, condition_with, conditions, condition, input, plain_meta, is_call, is_at_name, is_named_call, member, meta_with, meta, doc, behind_docs_from, behind_docs, behind_attribute, deepest, is_style, is_doc, is_attribute, is_behind, bracketed, past_mark, one_attribute, attribute, attributes, inner_attributes}
+use Rattle.rust_metas.proofs.Common.{eqb-true, PathNode, MetaView, CfgView, DocStyle, Outer, Inner, Tokens, Reader, by_first, symbol, word, kind, text, at, is_empty, bumped, is_at_open, is_at_end, behind_closed, behind_tree, elements, one, begins_item, LeadsTo, here, further, through, Forwards, when, bumped_leads, behind_tree_leads, path, rule_leads, reads, sees, is_literal_kind, is_truth, is_literal, is_ended, style_by, value, documentation, comma_from, comma, tree_behind_comma, is_word_kind, is_option_word, option_name, pair, named_condition, if_named, ended_condition, condition_with, conditions, condition, input, plain_meta, is_call, is_at_name, is_named_call, member, meta_with, meta, doc, behind_docs_from, behind_docs, behind_attribute, deepest, is_style, is_doc, is_attribute, is_behind, bracketed, past_mark, one_attribute, attribute, attributes, inner_attributes}
 use Rattle.rust_lexer.specs.declared.kind.TokenKind.{TokenKind}
 use Rattle.rust_lexer.specs.declared.kind.TokenKind.TheVariants as kinds
 use Rattle.rust_lexer.specs.Piece.{Piece}
@@ -9,31 +9,21 @@ use Rattle.rust_cursor.proofs.Local.{both_true}
 use Rattle.rust_cursor.proofs.Around.{around, Within, same_within, is_plain, IsSound, sound_on, Remains, NoCloser, OpensAt, round, opens_at, opens_no_closer, not_end, plain_of, plain_upto, plain_around, other_around, word_symbol, entered_within, inside_within, tree_within, turns_within, elements_within, tree_text_within, to_around}
 use Rattle.rust_cursor.proofs.Enclosed.{AreEnclosed}
 use Rattle.rust_cursor.proofs.Near.{nothing}
-use Rattle.rust_paths.proofs.Around.{name_around, path_within, raw_symbol}
+use Rattle.rust_cursor.proofs.Looks.{kind_symbol}
+use Rattle.rust_paths.proofs.Segments.{name_within, path_within}
 use Rattle.rust_paths.specs.Names.{behind_hash}
 use Rattle.rust_paths.specs.Paths.{is_raw}
 use Rattle.rust_metas.specs.Metas.{is_text}
-use Rattle.rust_metas.proofs.Leads.{option_name_leads, if_named_leads, condition_with_leads, conditions_leads, condition_leads, member_leads, members_leads, meta_leads, attribute_leads}
+use Rattle.rust_cursor.specs.Grammar.{Grammar, inside}
+use Rattle.rust_metas.proofs.Leads.{member_leads, members_leads, meta_leads, attribute_leads}
 
 -- ---- literals
-
-literal_first : (left : List Piece) → is_literal_kind (by_first None (λ t. Some t.kind) left) ≡ true → by_first 0 symbol_of left ≡ 0
-literal_first [] e = refl
-literal_first (t ∷ left) e = by t.kind t.text e
-  where
-    by : (k : TokenKind) (z : List ℕ) → is_literal_kind (Some k) ≡ true → symbol_of (record { kind = k; text = z; at = 0 }) ≡ 0
-    by (kinds.Literal l) z e = refl
-    by _ z e = absurd cc
-
-pub kind_symbol : (ts : Tokens) → is_literal_kind (kind ts) ≡ true → symbol ts ≡ 0
-unfolding kind symbol
-kind_symbol ts e = literal_first ts.left e
 
 -- a literal has no symbol
 pub literal_symbol : (ts : Tokens) → is_literal ts ≡ true → symbol ts ≡ 0
 unfolding is_literal is_truth
 literal_symbol ts e =
-    when (is_literal_kind (kind ts)) (λ f. kind_symbol ts f)
+    when (is_literal_kind (kind ts)) (λ f. kind_symbol is_literal_kind refl ts f)
     (λ f. let g = rw f at e in
     when (bytes_eq (word ts) (codes "true")) (λ i. word_symbol (codes "true") ts refl i)
     (λ i. let j = rw i at g in word_symbol (codes "false") ts refl j))
@@ -41,12 +31,12 @@ literal_symbol ts e =
 value_around : (c anchor : ℕ) (ts : Tokens) → around c (value anchor ts).1 ≡ around c ts
 unfolding value
 value_around c anchor ts =
-    when (is_literal ts && is_ended (bumped ts))
-    (λ e. rw e (plain_around c ts (literal_symbol ts (both_true (is_literal ts) (is_ended (bumped ts)) e).0))) (λ e. rw e refl)
+    when (is_literal ts && sees is_ended (bumped ts))
+    (λ e. rw e (plain_around c ts (literal_symbol ts (both_true (is_literal ts) (sees is_ended (bumped ts)) e).0))) (λ e. rw e refl)
 
 -- ---- conditions
 
-comma_within : (end c n : ℕ) (ts : Tokens) → IsSound end ts → Within c (tree_comma_from n ts) ts
+comma_within : (end c n : ℕ) (ts : Tokens) → IsSound end ts → Within c (reads (comma_from n) ts).1 ts
 comma_within end c zero ts s = here
 comma_within end c (suc n) ts s =
     when (is_at_end ts) (λ e. rw e here)
@@ -54,7 +44,7 @@ comma_within end c (suc n) ts s =
     (λ f. rw f (through (comma_within end c n (behind_tree ts) (sound_on end (behind_tree_leads ts) s)) (tree_within end c ts s (not_end end ts s e))))))
 
 behind_comma_within : (end c : ℕ) (ts : Tokens) → IsSound end ts → Within c (tree_behind_comma ts) ts
-unfolding tree_behind_comma
+unfolding comma
 behind_comma_within end c ts s = comma_within end c _ ts s
 
 -- an option's word begins with no symbol, or with the `r` of `r#true`
@@ -75,7 +65,7 @@ module _ (P : ℕ → Type 0) (none : P 0) (raw : P 114) where
   option_kind kinds.Punct z e = option_text z e
   option_kind _ z e = none
 
-  pub option_symbol : (ts : Tokens) → is_option_word ts ≡ true → P (symbol ts)
+  pub option_symbol : (ts : Tokens) → sees is_option_word ts ≡ true → P (symbol ts)
   unfolding is_option_word symbol text kind
   option_symbol ts e = first ts.left e
     where
@@ -84,45 +74,48 @@ module _ (P : ℕ → Type 0) (none : P 0) (raw : P 114) where
       first [] e = none
       first (t ∷ left) e = option_kind t.kind t.text e
 
-option_name_around : (c : ℕ) (ts : Tokens) → around c (option_name ts).1 ≡ around c ts
+option_name_within : (end c : ℕ) → Remains end c (reads option_name)
 unfolding option_name
-option_name_around c ts = when (is_option_word ts) (λ e. rw e (plain_upto c ts (plain_of (symbol ts) (option_symbol (λ s. is_plain s ≡ true) refl refl ts e)))) (λ e. rw e (name_around c ts))
+option_name_within end c ts s =
+    when (sees is_option_word ts) (λ e. rw e (same_within c (bumped ts) ts (plain_upto c ts (plain_of (symbol ts) (option_symbol (λ s. is_plain s ≡ true) refl refl ts e)))))
+    (λ e. rw e (name_within end c ts s))
 
-pair_around : (c : ℕ) (key : List ℕ) (ts : Tokens) → (symbol ts == 61) ≡ true → around c (pair key ts).1 ≡ around c ts
+pair_around : (c : ℕ) (key : List ℕ) (ts : Tokens) → around c (reads (pair key) ts).1 ≡ around c ts
 unfolding pair
-pair_around c key ts e =
-    let first = other_around c 61 ts refl e in
-    when (is_literal_kind (kind (bumped ts))) (λ f. rw f (plain_around c (bumped ts) (kind_symbol (bumped ts) f) ∙ first)) (λ f. rw f first)
+pair_around c key ts = when (is_literal_kind (kind ts)) (λ f. rw f (plain_around c ts (kind_symbol is_literal_kind refl ts f))) (λ f. rw f refl)
 
-module _ (end : ℕ) (inside : Reader (Option (List CfgView))) (i : (c : ℕ) → Remains end c inside) (f : Forwards inside) where
-  named_within : (c : ℕ) (w : List ℕ) → Remains end c (named_condition inside w)
+ended_within : (end c : ℕ) (v : CfgView) → Remains end c (reads (ended_condition v))
+unfolding ended_condition
+ended_within end c v ts s = when (sees is_ended ts) (λ e. rw e (behind_comma_within end c ts s)) (λ e. rw e (behind_comma_within end c ts s))
+
+module _ (end : ℕ) (inner : Grammar inside (Option (List CfgView))) (i : (c : ℕ) → Remains end c (reads inner)) where
+  named_within : (c : ℕ) (w : List ℕ) → Remains end c (reads (named_condition inner w))
   named_within c w ts s =
       when (is_at_open ts)
-      (λ e. rw e (inside_within end c ts (inside (bumped ts)).1 s (opens_at end ts s e) (f (bumped ts)) (i (symbol ts) (bumped ts) (sound_on end (bumped_leads ts) s))))
-      (λ e. rw e (when (symbol ts == 61) (λ g. rw g (same_within c _ ts (pair_around c w ts g))) (λ g. rw g here)))
+      (λ e. rw e (inside_within end c ts (reads inner (bumped ts)).1 s (opens_at end ts s e) (rule_leads inner (bumped ts)) (i (symbol ts) (bumped ts) (sound_on end (bumped_leads ts) s))))
+      (λ e. rw e (when (symbol ts == 61) (λ g. rw g (same_within c _ ts (pair_around c w (bumped ts) ∙ other_around c 61 ts refl g))) (λ g. rw g here)))
 
-  if_named_within : (c : ℕ) (o : Option (List ℕ)) → Remains end c (if_named inside o)
+  if_named_within : (c : ℕ) (o : Option (List ℕ)) → Remains end c (reads (if_named inner o))
   if_named_within c None ts s = here
   if_named_within c (Some w) ts s = named_within c w ts s
 
-  condition_with_within : (c : ℕ) → Remains end c (condition_with inside)
-  unfolding ended_condition
+  condition_with_within : (c : ℕ) → Remains end c (reads (condition_with inner))
   condition_with_within c ts s =
-      let first = option_name ts in
-      let second = if_named inside first.0 first.1 in
-      let s1 = sound_on end (option_name_leads ts) s in
-      through (behind_comma_within end c second.1 (sound_on end (if_named_leads inside f first.0 first.1) s1)) (through (if_named_within c first.0 first.1 s1) (same_within c first.1 ts (option_name_around c ts)))
+      let first = reads option_name ts in
+      let second = reads (if_named inner first.0) first.1 in
+      let s1 = sound_on end (rule_leads option_name ts) s in
+      through (ended_within end c second.0 second.1 (sound_on end (rule_leads (if_named inner first.0) first.1) s1)) (through (if_named_within c first.0 first.1 s1) (option_name_within end c ts s))
 
-conditions_within : (end depth c : ℕ) → Remains end c (conditions depth)
+conditions_within : (end depth c : ℕ) → Remains end c (reads (conditions depth))
 unfolding conditions
 conditions_within end zero c ts s = here
 conditions_within end (suc depth) c ts s =
     let inner = condition_with (conditions depth) in
-    elements_within end c (one inner) (condition_with_leads (conditions depth) (conditions_leads depth)) (condition_with_within end (conditions depth) (conditions_within end depth) (conditions_leads depth) c) ts s
+    elements_within end c (one (reads inner)) (λ us. rule_leads inner us) (condition_with_within end (conditions depth) (conditions_within end depth) c) ts s
 
-condition_within : (end depth c : ℕ) → Remains end c (condition depth)
+condition_within : (end depth c : ℕ) → Remains end c (reads (condition depth))
 unfolding condition
-condition_within end depth c ts s = condition_with_within end (conditions depth) (conditions_within end depth) (conditions_leads depth) c ts s
+condition_within end depth c ts s = condition_with_within end (conditions depth) (conditions_within end depth) c ts s
 
 -- ---- metas
 
@@ -134,14 +127,14 @@ input_within end c anchor p ts s =
 
 plain_within : (end c anchor : ℕ) → Remains end c (plain_meta anchor)
 unfolding plain_meta
-plain_within end c anchor ts s = through (input_within end c anchor (path ts).0 (path ts).1 (sound_on end (path_leads ts) s)) (path_within end c ts s)
+plain_within end c anchor ts s = through (input_within end c anchor (reads path ts).0 (reads path ts).1 (sound_on end (rule_leads path ts) s)) (path_within end c ts s)
 
 -- a name has no symbol, written as `r#name` or not
 pub named_symbol : (w : List ℕ) (ts : Tokens) → bytes_eq [] w ≡ false → is_at_name w ts ≡ true → symbol ts ≡ 0
 unfolding is_at_name
 named_symbol w ts empty e =
     when (bytes_eq (word ts) w) (λ f. word_symbol w ts empty f)
-    (λ f. let raw : (is_raw (kind ts) && is_text w (behind_hash (text ts))) ≡ true = rw f at e in raw_symbol ts (both_true (is_raw (kind ts)) (is_text w (behind_hash (text ts))) raw).0)
+    (λ f. let raw : (is_raw (kind ts) && is_text w (behind_hash (text ts))) ≡ true = rw f at e in kind_symbol is_raw refl ts (both_true (is_raw (kind ts)) (is_text w (behind_hash (text ts))) raw).0)
 
 -- behind a token without a symbol and a bracket
 behind_within : (end c : ℕ) (ts us : Tokens) → symbol ts ≡ 0 → IsSound end ts → is_at_open (bumped ts) ≡ true → LeadsTo (bumped (bumped ts)) us → Within (symbol (bumped ts)) us (bumped (bumped ts))
@@ -186,23 +179,14 @@ meta_within : (end anchor depth c : ℕ) → Remains end c (meta anchor depth)
 unfolding meta
 meta_within end anchor zero c ts s = here
 meta_within end anchor (suc depth) c ts s =
-    meta_with_within end (meta anchor depth) (condition depth) (meta_within end anchor depth) (meta_leads anchor depth) (condition_within end depth) (condition_leads depth) anchor c ts s
+    meta_with_within end (meta anchor depth) (reads (condition depth)) (meta_within end anchor depth) (meta_leads anchor depth) (condition_within end depth) (rule_leads (condition depth)) anchor c ts s
 
 -- ---- attributes
 
-doc_first : (style : DocStyle) (left : List Piece) → is_style style (style_by (by_first None (λ t. Some t.kind) left)) ≡ true → by_first 0 symbol_of left ≡ 0
-doc_first style [] e = refl
-doc_first style (t ∷ left) e = by style t.kind t.text e
-  where
-    by : (style : DocStyle) (k : TokenKind) (z : List ℕ) → is_style style (style_by (Some k)) ≡ true → symbol_of (record { kind = k; text = z; at = 0 }) ≡ 0
-    by style (kinds.LineComment o) z e = refl
-    by style (kinds.BlockComment o) z e = refl
-    by Outer _ z e = absurd cc
-    by Inner _ z e = absurd cc
-
 pub doc_symbol : (style : DocStyle) (ts : Tokens) → is_doc style ts ≡ true → symbol ts ≡ 0
-unfolding is_doc kind symbol
-doc_symbol style ts e = doc_first style ts.left e
+unfolding is_doc
+doc_symbol Outer ts e = kind_symbol (λ k. is_style Outer (style_by k)) refl ts e
+doc_symbol Inner ts e = kind_symbol (λ k. is_style Inner (style_by k)) refl ts e
 
 square_opens : (ts : Tokens) → (symbol ts == 91) ≡ true → OpensAt (symbol ts)
 square_opens ts e = let is = eqb-true (symbol ts) 91 e in round (rw is refl) (rw is refl)

@@ -1,57 +1,21 @@
 -- What is left behind attributes is left of the tokens before them.
 use Rattle.std.proofs.Common.{◌==◌, ◌&&◌, ℕ, zero, suc, Option, Some, None, List, codes}
-use Rattle.rust_metas.proofs.Common.{PathNode, MetaView, CfgView, DocStyle, Outer, Inner, Tokens, Reader, symbol, word, kind, bumped, is_at_end, is_at_open, elements, one, begins_item, LeadsTo, here, further, through, Forwards, when, bumped_leads, behind_closed_leads, turns_leads, taken_leads_on, name_leads, path_leads, is_literal_kind, is_literal, is_ended, value, documentation, is_option_word, option_name, pair, in_brackets, composed, named_condition, if_named, ended_condition, condition_with, conditions, condition, input, plain_meta, is_call, is_named_call, member, conditional, unsafe_meta, cfg_meta, cfg_attr_meta, metas_from, meta_with, meta, doc, is_doc, is_behind, behind_bracket, bracketed, past_mark, one_attribute, behind_docs_from, behind_docs, behind_attribute, attribute, attributes, outer_attributes, inner_attributes}
-use Rattle.rust_paths.proofs.Leads.{behind_comma_leads}
+use Rattle.rust_metas.proofs.Common.{PathNode, MetaView, CfgView, DocStyle, Outer, Inner, Tokens, Reader, symbol, bumped, is_at_end, is_at_open, elements, one, begins_item, LeadsTo, here, further, through, Forwards, when, bumped_leads, behind_closed_leads, turns_leads, taken_leads_on, rule_leads, path, comma, is_literal, is_ended, reads, sees, value, documentation, in_brackets, condition, input, plain_meta, is_call, is_named_call, member, conditional, unsafe_meta, cfg_meta, cfg_attr_meta, metas_from, meta_with, meta, doc, is_doc, is_behind, behind_bracket, bracketed, past_mark, one_attribute, behind_docs_from, behind_docs, behind_attribute, attribute, attributes, outer_attributes, inner_attributes}
 
 -- ---- literals
 
 value_leads : (anchor : ℕ) → Forwards (value anchor)
 unfolding value
-value_leads anchor ts = when (is_literal ts && is_ended (bumped ts)) (λ e. rw e (bumped_leads ts)) (λ e. rw e here)
+value_leads anchor ts = when (is_literal ts && sees is_ended (bumped ts)) (λ e. rw e (bumped_leads ts)) (λ e. rw e here)
 
 documentation_leads : (anchor : ℕ) → Forwards (documentation anchor)
 unfolding documentation
 documentation_leads anchor ts = bumped_leads ts
 
--- ---- conditions
-
-pub option_name_leads : Forwards option_name
-unfolding option_name
-option_name_leads ts = when (is_option_word ts) (λ e. rw e (bumped_leads ts)) (λ e. rw e (name_leads ts))
-
-pair_leads : (key : List ℕ) → Forwards (pair key)
-unfolding pair
-pair_leads key ts = when (is_literal_kind (kind (bumped ts))) (λ e. rw e (further (bumped_leads _))) (λ e. rw e (bumped_leads ts))
-
-in_brackets_leads : {A B : Type 0} (f : A → B) (inside : Reader A) → Forwards inside → Forwards (in_brackets f inside)
-in_brackets_leads f inside i ts = further (through (i _) (behind_closed_leads _ _))
-
-pub named_leads : (inside : Reader (Option (List CfgView))) → Forwards inside → (word : List ℕ) → Forwards (named_condition inside word)
-named_leads inside i word ts =
-    when (is_at_open ts) (λ e. rw e (in_brackets_leads (composed word) inside i ts))
-    (λ e. rw e (when (symbol ts == 61) (λ f. rw f (pair_leads word ts)) (λ f. rw f here)))
-
-pub if_named_leads : (inside : Reader (Option (List CfgView))) → Forwards inside → (o : Option (List ℕ)) → Forwards (if_named inside o)
-if_named_leads inside i None ts = here
-if_named_leads inside i (Some word) ts = named_leads inside i word ts
-
-pub ended_leads : (c : CfgView) → Forwards (ended_condition c)
-unfolding ended_condition
-ended_leads c ts = behind_comma_leads ts
-
-pub condition_with_leads : (inside : Reader (Option (List CfgView))) → Forwards inside → Forwards (condition_with inside)
-condition_with_leads inside i ts = through (option_name_leads ts) (through (if_named_leads inside i _ _) (ended_leads _ _))
-
-pub conditions_leads : (depth : ℕ) → Forwards (conditions depth)
-unfolding conditions
-conditions_leads zero ts = here
-conditions_leads (suc depth) ts = turns_leads is_at_end (one (condition_with (conditions depth))) (condition_with_leads (conditions depth) (conditions_leads depth)) ts
-
-pub condition_leads : (depth : ℕ) → Forwards (condition depth)
-unfolding condition
-condition_leads depth ts = condition_with_leads (conditions depth) (conditions_leads depth) ts
-
 -- ---- metas
+
+in_brackets_leads : {A B : Type 0} (f : A → B) (inner : Reader A) → Forwards inner → Forwards (in_brackets f inner)
+in_brackets_leads f inner i ts = further (through (i _) (behind_closed_leads _ _))
 
 pub input_leads : (anchor : ℕ) (path : Option PathNode) → Forwards (input anchor path)
 unfolding input
@@ -61,11 +25,11 @@ input_leads anchor path ts =
 
 plain_leads : (anchor : ℕ) → Forwards (plain_meta anchor)
 unfolding plain_meta
-plain_leads anchor ts = through (path_leads ts) (input_leads anchor _ _)
+plain_leads anchor ts = through (rule_leads path ts) (input_leads anchor _ _)
 
 module _ (inner : Reader MetaView) (condition : Reader CfgView) (i : Forwards inner) (c : Forwards condition) where
   pub member_leads : Forwards (member inner)
-  member_leads ts = through (i ts) (behind_comma_leads _)
+  member_leads ts = through (i ts) (rule_leads comma _)
 
   pub members_leads : Forwards (elements (one (member inner)))
   members_leads = turns_leads is_at_end (one (member inner)) member_leads
@@ -82,7 +46,7 @@ module _ (inner : Reader MetaView) (condition : Reader CfgView) (i : Forwards in
 pub meta_leads : (anchor depth : ℕ) → Forwards (meta anchor depth)
 unfolding meta
 meta_leads anchor zero ts = here
-meta_leads anchor (suc depth) ts = meta_with_leads (meta anchor depth) (condition depth) (meta_leads anchor depth) (condition_leads depth) anchor ts
+meta_leads anchor (suc depth) ts = meta_with_leads (meta anchor depth) (reads (condition depth)) (meta_leads anchor depth) (rule_leads (condition depth)) anchor ts
 
 -- ---- attributes
 

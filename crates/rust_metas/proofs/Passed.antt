@@ -12,7 +12,7 @@ use Rattle.rust_cursor.specs.Nests.{flat}
 use Rattle.rust_cursor.specs.Words.{word_by}
 use Rattle.rust_cursor.proofs.Common.{eat_pair, is_closing, is_pair, to_closing}
 use Rattle.rust_cursor.proofs.Steps.{closing_stop}
-use Rattle.rust_paths.proofs.Common.{eat_colons, has_name, is_colons, is_dollar_crate, is_keyword, is_path_colons, is_path_keyword, is_path_start, is_raw, is_segment, is_underscore, more_from, more_segments, name, next_name, other_segment, plain_name, segment}
+use Rattle.rust_paths.proofs.Common.{eat_colons, has_name, is_colons, is_dollar_crate, is_keyword, is_path_colons, is_path_keyword, is_path_start, is_raw, is_segment, is_underscore, more_from, more_segments, name, next_name, other_segment, plain_name, reads, sees, segment}
 use Rattle.rust_metas.specs.declared.wanted.WantedMetas.TheVariants as wanted
 use Rattle.rust_metas.proofs.Common.{DocStyle, MetaView, Tokens, WantedMetas, and_parts, attribute, at, begins_item, behind_attribute, behind_bracket, behind_closed, behind_unread, bracketed, bumped, by_first, deepest, eqb-true, input, is_at_open, is_call, is_condition_meta, is_at_name, is_named_call, is_doc, is_empty, is_plain_name, is_unread, kept_by, kept_metas, kind, may_condition, meta, one, one_attribute, past_mark, path, plain_bracketed, plain_input, plain_meta, symbol, text, value, when, word}
 use Rattle.rust_metas.proofs.Depths.{meta_at}
@@ -65,17 +65,17 @@ plain_some : (y : EditionYear) (w : List ℕ) → is_some (plain_name y w) ≡ t
 unfolding plain_name
 plain_some y w e = plain_by (is_keyword y w) (is_path_keyword w) (is_underscore w) w e
 
-name_next : (ts : Tokens) → IsWord ts → has_name ts ≡ true → is_name (word ts) ≡ true → next_name ts ≡ Some (word ts)
+name_next : (ts : Tokens) → IsWord ts → sees has_name ts ≡ true → is_name (word ts) ≡ true → next_name ts ≡ Some (word ts)
 unfolding has_name next_name
 name_next ts w h n =
     let some : is_some (plain_name ts.edition (word ts)) ≡ true = rw (w.kind_is, w.text_is) at h in
     rw (w.kind_is, w.text_is, plain_some ts.edition (word ts) some, n) refl
 
-named_segment : (ts : Tokens) → IsWord ts → next_name ts ≡ Some (word ts) → (other_segment ts).1 ≡ bumped ts
-unfolding other_segment is_dollar_crate name
-named_segment ts w n = rw (w.symbol_is, w.kind_is, n) refl
+named_segment : (ts : Tokens) → IsWord ts → next_name ts ≡ Some (word ts) → (reads other_segment ts).1 ≡ bumped ts
+unfolding other_segment is_dollar_crate name next_name
+named_segment ts w n = let m = rw w.kind_is at n in rw (w.symbol_is, w.kind_is, m) refl
 
-segment_taken : (ts : Tokens) → IsWord ts → next_name ts ≡ Some (word ts) → (segment ts).1 ≡ bumped ts
+segment_taken : (ts : Tokens) → IsWord ts → next_name ts ≡ Some (word ts) → (reads segment ts).1 ≡ bumped ts
 unfolding segment
 segment_taken ts w n =
     when (bytes_eq (word ts) (codes "self")) (λ e. rw e refl)
@@ -83,15 +83,15 @@ segment_taken ts w n =
     (λ f. when (bytes_eq (word ts) (codes "crate")) (λ g. rw (e, f, g) refl)
     (λ g. when (bytes_eq (word ts) (codes "Self")) (λ h. rw (e, f, g, h) refl) (λ h. rw (e, f, g, h) (named_segment ts w n)))))
 
-no_colons : (ts : Tokens) → (symbol ts == 58) ≡ false → is_path_colons false ts ≡ false
+no_colons : (ts : Tokens) → (symbol ts == 58) ≡ false → sees (is_path_colons false) ts ≡ false
 unfolding is_path_colons is_colons is_pair
 no_colons ts e = rw e refl
 
-no_more : (n : ℕ) (ts : Tokens) → is_path_colons false ts ≡ false → (more_from false n ts).1 ≡ ts
+no_more : (n : ℕ) (ts : Tokens) → sees (is_path_colons false) ts ≡ false → (reads (more_from false n) ts).1 ≡ ts
 no_more zero ts e = refl
 no_more (suc n) ts e = rw e refl
 
-path_starts : (ts : Tokens) → is_path_colons false ts ≡ false → has_name ts ≡ true → is_path_start false ts ≡ true
+path_starts : (ts : Tokens) → sees (is_path_colons false) ts ≡ false → sees has_name ts ≡ true → sees (is_path_start false) ts ≡ true
 unfolding is_path_start is_segment
 path_starts ts c h =
     when (is_path_keyword (word ts)) (λ e. rw (c, e) refl) (λ e. when (is_raw (kind ts)) (λ f. rw (c, e, f) refl) (λ f. rw (c, e, f, h) refl))
@@ -101,12 +101,12 @@ unfolding eat_pair is_pair
 no_front ts e = rw e refl
 
 -- a name alone is the whole path
-path_taken : (ts : Tokens) → IsWord ts → has_name ts ≡ true → next_name ts ≡ Some (word ts) → (symbol (bumped ts) == 58) ≡ false → (path ts).1 ≡ bumped ts
+path_taken : (ts : Tokens) → IsWord ts → sees has_name ts ≡ true → next_name ts ≡ Some (word ts) → (symbol (bumped ts) == 58) ≡ false → (reads path ts).1 ≡ bumped ts
 unfolding path more_segments
 path_taken ts w h n c =
     let none : (symbol ts == 58) ≡ false = rw w.symbol_is refl in
     rw (path_starts ts (no_colons ts none) h)
-    (ap (λ t. (more_segments false (segment t).1).1) (no_front ts none) ∙ ap (λ t. (more_segments false t).1) (segment_taken ts w n) ∙ no_more _ (bumped ts) (no_colons (bumped ts) c))
+    (ap (λ t. (reads (more_segments false) (reads segment t).1).1) (no_front ts none) ∙ ap (λ t. (reads (more_segments false) t).1) (segment_taken ts w n) ∙ no_more _ (bumped ts) (no_colons (bumped ts) c))
 
 -- ---- its input
 
@@ -132,7 +132,7 @@ input_no_colon ts h =
 -- what a plain name is
 record IsPlainName (ts : Tokens) : Type 0 where
   word_here : IsWord ts
-  named : has_name ts ≡ true
+  named : sees has_name ts ≡ true
   next : next_name ts ≡ Some (word ts)
   no_unsafe : bytes_eq (word ts) (codes "unsafe") ≡ false
   no_cfg : bytes_eq (word ts) (codes "cfg") ≡ false
@@ -152,9 +152,9 @@ not_first true b e = absurd cc
 plain_is : (ts : Tokens) → is_plain_name ts ≡ true → IsPlainName ts
 unfolding is_plain_name
 plain_is ts e =
-    let parts = not_first (may_condition (word ts)) (has_name ts && is_name (word ts)) e in
+    let parts = not_first (may_condition (word ts)) (sees has_name ts && is_name (word ts)) e in
     let none = none_of (bytes_eq (word ts) []) (bytes_eq (word ts) (codes "cfg")) (bytes_eq (word ts) (codes "cfg_attr")) (bytes_eq (word ts) (codes "unsafe")) parts.0 in
-    let both = and_parts (has_name ts) (is_name (word ts)) parts.1 in
+    let both = and_parts (sees has_name ts) (is_name (word ts)) parts.1 in
     let here = word_is ts none.0.0 in
     record { word_here = here; named = both.0; next = name_next ts here both.0 both.1; no_unsafe = none.1.1; no_cfg = none.0.1; no_cfg_attr = none.1.0 }
 
@@ -178,8 +178,8 @@ meta_passed : (anchor : ℕ) (ts : Tokens) → is_plain_name ts ≡ true → (pl
 unfolding plain_meta
 meta_passed anchor ts e h =
     let n = plain_is ts e in
-    let behind : (path ts).1 ≡ bumped ts = path_taken ts n.word_here n.named n.next (input_no_colon (bumped ts) h) in
-    rw (plain_read anchor ts n, behind) (input_passed anchor (path ts).0 (bumped ts) h)
+    let behind : (reads path ts).1 ≡ bumped ts = path_taken ts n.word_here n.named n.next (input_no_colon (bumped ts) h) in
+    rw (plain_read anchor ts n, behind) (input_passed anchor (reads path ts).0 (bumped ts) h)
 
 begins_none : (ts : Tokens) → word ts ≡ [] → begins_item ts ≡ false
 unfolding begins_item

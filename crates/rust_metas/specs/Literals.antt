@@ -1,5 +1,5 @@
 -- Literals and documentation comments. Their spans count from a place in the text, the anchor.
-use Rattle.std.specs.Prelude.{ℕ, Bool, ◌==◌, ◌-◌, ◌&&◌, ◌||◌, min, if◌then◌else◌, Option, Some, None, List, length, take, drop, slice_index, codes, bytes_eq}
+use Rattle.std.specs.Prelude.{◌≡◌, refl, true, ℕ, Bool, ◌==◌, ◌-◌, ◌&&◌, ◌||◌, min, if◌then◌else◌, Option, Some, None, List, length, take, drop, slice_index, codes, bytes_eq}
 use Rattle.hir_input.specs.declared.edition.EditionYear.TheVariants.{E2024}
 use Rattle.hir_input.specs.declared.ids.SyntaxContext.{SyntaxContext}
 use Rattle.hir_input.specs.declared.ids.SyntaxContext.TheVariants.{Root}
@@ -13,7 +13,8 @@ use Rattle.rust_lexer.specs.declared.kind.TokenKind.TheVariants as kinds
 use Rattle.rust_cursor.specs.Nests.{is_literal_kind}
 use Rattle.rust_cursor.specs.Tokens.{Tokens}
 use Rattle.rust_cursor.specs.Reader.{Reader}
-use Rattle.rust_cursor.specs.Words.{symbol, word, kind, text, at, bumped, is_at_end}
+use Rattle.rust_cursor.specs.Words.{word, kind, text, at, bumped}
+use Rattle.rust_cursor.specs.Looks.{Look, at_end, either_seen, may_skip, sees, symbol_is}
 use Rattle.rust_metas.specs.Strings.{as_text, and_text, unescaped, raw_string_bytes, written}
 
 -- where all that is written in a text comes from
@@ -49,8 +50,12 @@ unfoldable pub is_literal : Tokens → Bool
 is_literal ts = is_literal_kind (kind ts) || is_truth ts
 
 -- a comma comes next, a bracket that closes, or nothing
-unfoldable pub is_ended : Tokens → Bool
-is_ended ts = is_at_end ts || symbol ts == 44
+unfoldable pub is_ended : Look
+is_ended = either_seen at_end (symbol_is 44)
+
+pub ended_skipped : may_skip is_ended 0 ≡ true
+unfolding is_ended
+ended_skipped = refl
 
 -- the literal that comes next
 unfoldable pub next_literal : ℕ → Tokens → LiteralView
@@ -58,7 +63,7 @@ next_literal anchor ts = record { rendered = text ts; string = string_by (kind t
 
 -- a literal, if one comes next and nothing stands behind it: any other expression is none
 unfoldable pub value : ℕ → Reader (Option LiteralView)
-value anchor ts = if is_literal ts && is_ended (bumped ts) then (Some (next_literal anchor ts), bumped ts) else (None, ts)
+value anchor ts = if is_literal ts && sees is_ended (bumped ts) then (Some (next_literal anchor ts), bumped ts) else (None, ts)
 
 -- ---- documentation comments
 

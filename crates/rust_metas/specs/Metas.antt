@@ -6,15 +6,17 @@ use Rattle.hir_input.specs.declared.mod_path.PathKind.TheVariants.{Plain}
 use Rattle.hir_input.specs.Attr.{MetaView, path_meta, key_value_meta, token_tree_meta, cfg_meta, cfg_attr_meta, unsafe_meta, metas_from}
 use Rattle.hir_input.specs.Cfg.{CfgView}
 use Rattle.rust_cursor.specs.Tokens.{Tokens}
-use Rattle.rust_cursor.specs.Reader.{Reader, ◌>>=◌, pure, pass}
+use Rattle.rust_cursor.specs.Reader.{Reader, ◌>>=◌, look, pure, pass}
 use Rattle.rust_cursor.specs.Words.{symbol, word, kind, text, bump, bumped, is_at_open}
+use Rattle.rust_cursor.specs.Brackets.{behind_closed}
 use Rattle.rust_cursor.specs.Elements.{elements, one}
 use Rattle.rust_cursor.specs.Extents.{tree_text}
+use Rattle.rust_cursor.specs.Grammar.{reads}
 use Rattle.rust_paths.specs.Names.{behind_hash}
 use Rattle.rust_paths.specs.Paths.{is_raw, path}
 use Rattle.rust_metas.specs.Literals.{root, value, documentation}
 use Rattle.rust_paths.specs.UseTrees.{tree_behind_comma}
-use Rattle.rust_metas.specs.Conditions.{in_brackets, condition}
+use Rattle.rust_metas.specs.Conditions.{condition}
 
 -- ---- a path and its input
 
@@ -35,7 +37,7 @@ input anchor path ts = if symbol ts == 61 then assigned anchor path ts else (if 
 
 unfoldable pub plain_meta : ℕ → Reader MetaView
 plain_meta anchor = do
-  path ← path
+  path ← reads path
   input anchor path
 
 -- ---- `unsafe(..)`, `cfg(..)` and `cfg_attr(..)`
@@ -55,6 +57,15 @@ is_at_name w ts = bytes_eq (word ts) w || (is_raw (kind ts) && is_text w (behind
 -- the name and a bracket
 unfoldable pub is_named_call : List ℕ → Tokens → Bool
 is_named_call w ts = is_at_name w ts && is_at_open (bumped ts)
+
+-- what stands in the bracket that comes next, as this
+abbrev pub in_brackets : {A B : Type 0} → (A → B) → Reader A → Reader B
+in_brackets f inside = do
+  bracket ← look symbol
+  _ ← bump
+  a ← inside
+  _ ← pass (behind_closed bracket)
+  pure (f a)
 
 -- a meta and the comma behind it
 abbrev pub member : Reader MetaView → Reader MetaView
@@ -81,7 +92,7 @@ meta_with anchor inner condition ts =
 -- A meta. The second number bounds how deep metas and conditions stand in one another; a deeper meta is one without a path.
 unfoldable pub meta : ℕ → ℕ → Reader MetaView
 meta anchor zero ts = (path_meta None root, ts)
-meta anchor (suc depth) ts = meta_with anchor (meta anchor depth) (condition depth) ts
+meta anchor (suc depth) ts = meta_with anchor (meta anchor depth) (reads (condition depth)) ts
 
 -- ---- documentation
 

@@ -2,6 +2,7 @@
 
 ghost use Rattle.std.specs.Prelude.{◌≡◌, IfOk, option_map, string_bytes};
 ghost use Rattle.rust_cursor.specs.Nests.{is_literal_kind};
+ghost use Rattle.rust_cursor.specs.Looks.{sees};
 ghost use Rattle.rust_cursor.specs.Reader.{Gives};
 ghost use Rattle.rust_cursor.specs.Words.{bumped};
 ghost use Rattle.rust_metas.specs.Literals as spec;
@@ -102,7 +103,7 @@ pub(crate) fn is_literal(cursor: &Cursor<'_>) -> bool
 /// Whether a comma comes next, a bracket that closes, or nothing.
 #[tactic(auto, unfolding(crate::specs::Literals::is_ended))]
 pub(crate) fn is_ended(cursor: &Cursor<'_>) -> bool
-    ensures { result ≡ spec.is_ended cursor.now }
+    ensures { result ≡ sees spec.is_ended cursor.now }
 {
     cursor.is_at_end() || cursor.symbol() == b','
 }
