@@ -1,7 +1,7 @@
 -- Rules that take no bracket, but for what stands in angle brackets: they stay in the brackets that they stand in.
 use Rattle.std.proofs.Common.{◌≡◌, ℕ, zero, suc, ◌==◌, nat_le, not, Bool, true, false, Option, Some, None, refl, ◌∙◌, if◌then◌else◌, bytes_eq}
 use Rattle.rust_cursor.proofs.Common.{Tokens, symbol, word, bumped, eat, eat_word}
-use Rattle.rust_cursor.specs.Grammar.{taken_with, Side, Grammar, gives, and_then, shows, takes_identifier, on_seen, eats, eats_word, eats_pair, passes_angles, reads}
+use Rattle.rust_cursor.specs.Grammar.{taken_with, Region, Grammar, gives, and_then, shows, takes_identifier, on_seen, eats, eats_word, eats_pair, passes_angles, reads}
 use Rattle.rust_cursor.specs.Looks.{clear_of, sees, skip}
 use Rattle.rust_cursor.proofs.Around.{around, Within, same_within, sound_on, Remains, is_plain, plain_of, plain_upto, plain_around, other_around, word_symbol, eat_pair_around, behind_angles_within}
 use Rattle.rust_cursor.proofs.Leads.{here, through}
@@ -20,7 +20,7 @@ skip_around c zero ts w = refl
 skip_around c (suc n) ts w = skip_around c n (bumped ts) w.1 ∙ plain_upto c ts (plain_of (symbol ts) (plain_if (is_plain (symbol ts)) w.0))
 
 -- it takes no bracket, but for what stands in angle brackets
-abbrev pub Stays : {s : Side} {A : Type 0} → Grammar s A → Type 0
+abbrev pub Stays : {s : Region} {A : Type 0} → Grammar s A → Type 0
 Stays (gives a) = Unit {0}
 Stays (and_then m f) = Stays m × ((a : _) → Stays (f a))
 Stays (shows view) = Unit {0}
@@ -44,7 +44,7 @@ bumped_if : (c : ℕ) (t : Bool) (ts : Tokens) → (t ≡ true → around c (bum
 bumped_if c true ts h = same_within c (bumped ts) ts (h refl)
 bumped_if c false ts h = here
 
-pub rule_within : {s : Side} {A : Type 0} (end c : ℕ) (g : Grammar s A) → Stays g → Remains end c (reads g)
+pub rule_within : {s : Region} {A : Type 0} (end c : ℕ) (g : Grammar s A) → Stays g → Remains end c (reads g)
 unfolding eat eat_word
 rule_within end c (gives a) s ts h = here
 rule_within end c (and_then m f) s ts h = through (rule_within end c (f (reads m ts).0) (s.1 (reads m ts).0) (reads m ts).1 (sound_on end (rule_leads m ts) h)) (rule_within end c m s.0 ts h)

@@ -30,6 +30,7 @@ pub mod Sides
 pub mod Looks
 pub mod Rules
 pub mod InBrackets
+pub mod Anchored
 pub mod Around
 pub mod Near
 pub mod NearPassing

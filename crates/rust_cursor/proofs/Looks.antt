@@ -4,7 +4,7 @@ use Rattle.std.proofs.Math.Nat.{max-eq_left, max-eq_right, min-le_left, min-le_r
 use Rattle.rust_cursor.proofs.Common.{and_parts, eqb-true, nat_tests, not-true, TokenKind, Piece, symbol_of, Tokens, identifies, by_first, symbol, kind, text, bumped, is_at_identifier, is_glued, is_pair}
 use Rattle.rust_lexer.specs.declared.kind.TokenKind.TheVariants as kinds
 use Rattle.rust_cursor.specs.Elements.{most}
-use Rattle.rust_cursor.specs.Looks.{is_edge, View, Look, fixed_look, token_is, kind_is, symbol_is, word_is, word_meets, at_identifier, at_open, at_end, at_item, pair_is, not_seen, both_seen, either_seen, look_by, then_seen, past_seen, skip, past_from, sees, is_flat_kind, clear_of, stays_short, may_skip}
+use Rattle.rust_cursor.specs.Looks.{is_edge, View, Lookahead, fixed_look, token_is, kind_is, symbol_is, word_is, word_meets, at_identifier, at_open, at_end, at_item, pair_is, not_seen, both_seen, either_seen, look_by, then_seen, past_seen, skip, past_from, sees, is_flat_kind, clear_of, stays_short, may_skip}
 use Rattle.rust_cursor.proofs.Around.{word_symbol}
 use Rattle.rust_cursor.proofs.Leads.{when}
 use Rattle.rust_cursor.proofs.Tests.{begins_item_same}
@@ -82,9 +82,9 @@ identifier_first (t ∷ left) e = by t.kind t.text e
     by kinds.RawIdent z e = refl
     by _ z e = absurd cc
 
-identifier_symbol : (ts : Tokens) → is_at_identifier ts ≡ true → symbol ts ≡ 0
+pub at_identifier_symbol : (ts : Tokens) → is_at_identifier ts ≡ true → symbol ts ≡ 0
 unfolding is_at_identifier symbol
-identifier_symbol ts e = identifier_first ts.left e
+at_identifier_symbol ts e = identifier_first ts.left e
 
 pub under : (n m : ℕ) → nat_le n m ≡ true → n ≤ m
 under n m e = grind (arith, nat_tests)
@@ -103,11 +103,11 @@ module _ (bars : ℕ → Bool) (free : bars 0 ≡ false) where
       let p = and_parts (symbol ts == c) (is_glued (bumped ts) && symbol (bumped ts) == d) e in
       two_unless bars (bars c) (bars d) ts (other_symbol c ts p.0) (other_symbol d (bumped ts) (and_parts (is_glued (bumped ts)) (symbol (bumped ts) == d) p.1).1)
 
-  pub seen_clear : (l : Look) (ts : Tokens) → sees l ts ≡ true → AreClear bars (clear_of bars l) ts
+  pub seen_clear : (l : Lookahead) (ts : Tokens) → sees l ts ≡ true → AreClear bars (clear_of bars l) ts
   seen_clear (kind_is f) ts e = one_if bars (is_flat_kind f) ts (λ k. no_symbol ts (kind_symbol f k ts e))
   seen_clear (symbol_is c) ts e = one_unless bars (bars c) ts (other_symbol c ts e)
   seen_clear (word_is w) ts e = one_unless bars (bytes_eq [] w) ts (λ k. no_symbol ts (word_symbol w ts k e))
-  seen_clear at_identifier ts e = (no_symbol ts (identifier_symbol ts e), tt)
+  seen_clear at_identifier ts e = (no_symbol ts (at_identifier_symbol ts e), tt)
   seen_clear (pair_is c d) ts e = pair_clear c d ts e
   seen_clear (both_seen l m) ts e =
       let s = and_parts (sees l ts) (sees m ts) e in
@@ -129,7 +129,7 @@ module _ (bars : ℕ → Bool) (free : bars 0 ≡ false) where
   seen_clear _ ts e = tt
 
   -- the first so many
-  pub first_clear : (l : Look) (n : ℕ) (ts : Tokens) → nat_le n (clear_of bars l) ≡ true → sees l ts ≡ true → AreClear bars n ts
+  pub first_clear : (l : Lookahead) (n : ℕ) (ts : Tokens) → nat_le n (clear_of bars l) ≡ true → sees l ts ≡ true → AreClear bars n ts
   first_clear l n ts u e = clear_fewer bars n (clear_of bars l) ts (under n (clear_of bars l) u) (seen_clear l ts e)
 
 -- ---- the same is seen
@@ -146,7 +146,7 @@ pub token_same : {A : Type 0} (b : Twins) (view : View A) (ts us : Tokens) → b
 token_same b view ts us h =
     ap (λ y. view y (kind us) (text us)) (b.edition ts us h) ∙ ap (λ k. view ts.edition k (text us)) (kind_same b ts us h) ∙ ap (λ z. view ts.edition (kind ts) z) (text_same b ts us h)
 
-past_are : (b : Twins) (test : Tokens → Bool) → ((ts us : Tokens) → b.are ts us → test us ≡ test ts) → ((ts : Tokens) → test ts ≡ true → is_edge (symbol ts) ≡ false)
+pub past_are : (b : Twins) (test : Tokens → Bool) → ((ts us : Tokens) → b.are ts us → test us ≡ test ts) → ((ts : Tokens) → test ts ≡ true → is_edge (symbol ts) ≡ false)
     → (n : ℕ) (ts us : Tokens) → b.are ts us → b.are (past_from test n ts) (past_from test n us)
 past_are b test alike off zero ts us h = h
 past_are b test alike off (suc n) ts us h =
@@ -154,7 +154,7 @@ past_are b test alike off (suc n) ts us h =
     (λ e. rw (alike ts us h, e) (past_are b test alike off n (bumped ts) (bumped us) (b.next ts us h (off ts e))))
     (λ e. rw (alike ts us h, e) h)
 
-pub look_same : (b : Twins) (l : Look) → stays_short l ≡ true → (ts us : Tokens) → b.are ts us → sees l us ≡ sees l ts
+pub look_same : (b : Twins) (l : Lookahead) → stays_short l ≡ true → (ts us : Tokens) → b.are ts us → sees l us ≡ sees l ts
 look_same b (fixed_look t) p ts us h = refl
 look_same b (token_is view) p ts us h = token_same b view ts us h
 look_same b (kind_is f) p ts us h = ap f (kind_same b ts us h)
@@ -189,8 +189,12 @@ look_same b (past_seen l m) p ts us h =
     look_same b m r.1 _ _ (past_are b (sees l) (look_same b l q.0) (λ ts e. (first_clear is_edge refl l 1 ts r.0 e).0) most ts us h)
 
 -- what skips tokens is seen of both, and behind them they look alike too
-pub skipped_same : (b : Twins) (l : Look) (n : ℕ) → may_skip l n ≡ true → (ts us : Tokens) → b.are ts us → sees l us ≡ sees l ts
+pub skipped_same : (b : Twins) (l : Lookahead) (n : ℕ) → may_skip l n ≡ true → (ts us : Tokens) → b.are ts us → sees l us ≡ sees l ts
 skipped_same b l n p = look_same b l (and_parts (stays_short l) (nat_le n (clear_of is_edge l)) p).0
 
-pub skipped_are : (b : Twins) (l : Look) (n : ℕ) (ts us : Tokens) → may_skip l n ≡ true → b.are ts us → sees l ts ≡ true → b.are (skip n ts) (skip n us)
+pub skipped_are : (b : Twins) (l : Lookahead) (n : ℕ) (ts us : Tokens) → may_skip l n ≡ true → b.are ts us → sees l ts ≡ true → b.are (skip n ts) (skip n us)
 skipped_are b l n ts us p h e = skip_are b n ts us h (first_clear is_edge refl l n ts (and_parts (stays_short l) (nat_le n (clear_of is_edge l)) p).1 e)
+
+-- the next token is no edge
+pub seen_no_edge : (l : Lookahead) (ts : Tokens) → may_skip l 1 ≡ true → sees l ts ≡ true → is_edge (symbol ts) ≡ false
+seen_no_edge l ts p e = (first_clear is_edge refl l 1 ts (and_parts (stays_short l) (nat_le 1 (clear_of is_edge l)) p).1 e).0

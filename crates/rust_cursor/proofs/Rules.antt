@@ -2,9 +2,9 @@
 use Rattle.std.proofs.Common.{◌≡◌, ℕ, zero, suc, Bool, true, false, Option, Some, None, List, [], ◌∷◌, refl, ap, if◌then◌else◌}
 use Rattle.rust_cursor.proofs.Common.{EditionYear, TokenKind, Piece, symbol_of, Bodies, behind_closed, one, Reader, Tokens, by_first, symbol, kind, text, bumped}
 use Rattle.rust_lexer.specs.declared.kind.TokenKind.TheVariants as kinds
-use Rattle.rust_cursor.specs.Grammar.{Identifier, by_identifier, taken_with, Side, outside, inside, Grammar, gives, and_then, shows, takes_identifier, on_seen, eats, eats_word, eats_pair, passes_closed, passes_tree, passes_angles, passes_field, repeats, from_outside, takes_any, takes_text, in_bracket, reads}
-use Rattle.rust_cursor.specs.Looks.{is_edge, sees, skip}
-use Rattle.rust_cursor.proofs.Leads.{LeadsTo, here, further, through, Forwards, bumped_leads, eat_leads, eat_word_leads, eat_pair_leads, behind_closed_leads, behind_tree_leads, behind_angles_leads, reached_leads, turns_leads, taken_leads_on}
+use Rattle.rust_cursor.specs.Grammar.{Identifier, by_identifier, taken_with, Region, outside, inside, Grammar, gives, and_then, shows, takes_identifier, on_seen, eats, eats_word, eats_pair, passes_closed, passes_tree, passes_angles, passes_field, repeats, from_outside, takes_any, takes_text, in_bracket, reads}
+use Rattle.rust_cursor.specs.Looks.{is_edge, past_from, sees, skip}
+use Rattle.rust_cursor.proofs.Leads.{LeadsTo, here, further, through, Forwards, when, bumped_leads, eat_leads, eat_word_leads, eat_pair_leads, behind_closed_leads, behind_tree_leads, behind_angles_leads, reached_leads, turns_leads, taken_leads_on}
 use Rattle.rust_cursor.proofs.Local.{Local}
 use Rattle.rust_cursor.proofs.Looks.{look_same, skipped_are, skipped_same, token_same}
 use Rattle.rust_cursor.proofs.Parting.{Parting, Until, UpTo, Entering, gone, kept, by_kept, by_next, with_rest, then_until, cond_until, eat_until, eat_word_until, eat_pair_until, turns_until}
@@ -17,15 +17,19 @@ pub skip_leads : (n : ℕ) (ts : Tokens) → LeadsTo ts (skip n ts)
 skip_leads zero ts = here
 skip_leads (suc n) ts = further (skip_leads n (bumped ts))
 
+pub past_leads : (test : Tokens → Bool) (n : ℕ) (ts : Tokens) → LeadsTo ts (past_from test n ts)
+past_leads test zero ts = here
+past_leads test (suc n) ts = when (test ts) (λ e. rw e (further (past_leads test n (bumped ts)))) (λ e. rw e here)
+
 taken_leads : {A : Type 0} (o : Option A) → Forwards (taken_with o)
 taken_leads None ts = here
 taken_leads (Some a) ts = bumped_leads ts
 
-by_test : {A : Type 0} (t : Bool) (ts : Tokens) (p q : A × Tokens) → LeadsTo ts p.1 → LeadsTo ts q.1 → LeadsTo ts (if t then p else q).1
+pub by_test : {A : Type 0} (t : Bool) (ts : Tokens) (p q : A × Tokens) → LeadsTo ts p.1 → LeadsTo ts q.1 → LeadsTo ts (if t then p else q).1
 by_test true ts p q h k = h
 by_test false ts p q h k = k
 
-pub rule_leads : {s : Side} {A : Type 0} (g : Grammar s A) → Forwards (reads g)
+pub rule_leads : {s : Region} {A : Type 0} (g : Grammar s A) → Forwards (reads g)
 rule_leads (gives a) ts = here
 rule_leads (and_then m f) ts = through (rule_leads m ts) (rule_leads (f (reads m ts).0) (reads m ts).1)
 rule_leads (shows view) ts = here
@@ -64,13 +68,14 @@ taken_until : {A : Type 0} (b : Parting) (o o' : Option A) (ts us : Tokens) → 
 taken_until b None o' ts us e h next = rw e (kept (record { value = refl; rest = h }))
 taken_until b (Some a) o' ts us e h next = rw e (kept (record { value = refl; rest = next a refl }))
 
--- a rule in a bracket
-inside_until : {A : Type 0} (b : Parting) → Entering b → (m : Reader A) → Forwards m → UpTo b m m → UpTo b (λ ts. ((m (bumped ts)).0, behind_closed (symbol ts) (m (bumped ts)).1)) (λ ts. ((m (bumped ts)).0, behind_closed (symbol ts) (m (bumped ts)).1))
-inside_until b e m f u ts us h =
+-- readers of what stands in a bracket
+pub inside_until : {A : Type 0} (b : Parting) → Entering b → (m m' : Reader A) → Forwards m → Forwards m' → UpTo b m m'
+    → UpTo b (λ ts. ((m (bumped ts)).0, behind_closed (symbol ts) (m (bumped ts)).1)) (λ ts. ((m' (bumped ts)).0, behind_closed (symbol ts) (m' (bumped ts)).1))
+inside_until b e m m' f f' u ts us h =
     let r = m (bumped ts) in
-    let r' = m (bumped us) in
+    let r' = m' (bumped us) in
     by_next (e.onward ts us h)
-    (λ g. gone (b.lost_on (bumped ts) (bumped us) _ _ g (through (f (bumped ts)) (behind_closed_leads (symbol ts) r.1)) (through (f (bumped us)) (behind_closed_leads (symbol us) r'.1))))
+    (λ g. gone (b.lost_on (bumped ts) (bumped us) _ _ g (through (f (bumped ts)) (behind_closed_leads (symbol ts) r.1)) (through (f' (bumped us)) (behind_closed_leads (symbol us) r'.1))))
     (λ n. by_kept (u (bumped ts) (bumped us) n)
     (λ g. gone (b.lost_on r.1 r'.1 _ _ g (behind_closed_leads (symbol ts) r.1) (behind_closed_leads (symbol us) r'.1)))
     (λ k. rw (symbol_same b.twins ts us h) (by_next (b.closed (symbol ts) r.1 r'.1 k.rest) (λ g. gone g) (λ k'. kept (record { value = k.value; rest = k' })))))
@@ -79,7 +84,7 @@ from_outside_none : (b : Parting) → outside ≡ inside → Entering b
 from_outside_none b e = absurd cc
 
 -- a rule reads both alike, until one goes past where the texts part; only one of the inside asks what is known of any token
-rule_until_by : {s : Side} {A : Type 0} (b : Parting) → (s ≡ inside → Entering b) → (g : Grammar s A) → UpTo b (reads g) (reads g)
+pub rule_until_by : {s : Region} {A : Type 0} (b : Parting) → (s ≡ inside → Entering b) → (g : Grammar s A) → UpTo b (reads g) (reads g)
 rule_until_by b e (gives a) ts us h = kept (record { value = refl; rest = h })
 rule_until_by b e (and_then m f) ts us h =
     then_until b (λ a. reads (f a)) (λ a. reads (f a)) (λ a. rule_leads (f a)) (λ a. rule_leads (f a)) (λ a. rule_until_by b e (f a)) (rule_until_by b e m ts us h)
@@ -101,7 +106,7 @@ rule_until_by b e (repeats l p g) ts us h =
 rule_until_by b e (from_outside g) ts us h = rule_until_by b (from_outside_none b) g ts us h
 rule_until_by b e takes_any ts us h = with_rest tt ((e refl).onward ts us h)
 rule_until_by b e takes_text ts us h = (e refl).text ts us h
-rule_until_by b e (in_bracket g) ts us h = inside_until b (e refl) (reads g) (rule_leads g) (rule_until_by b e g) ts us h
+rule_until_by b e (in_bracket g) ts us h = inside_until b (e refl) (reads g) (reads g) (rule_leads g) (rule_leads g) (rule_until_by b e g) ts us h
 
 pub rule_until : {A : Type 0} (b : Parting) (g : Grammar outside A) → UpTo b (reads g) (reads g)
 rule_until b g = rule_until_by b (from_outside_none b) g

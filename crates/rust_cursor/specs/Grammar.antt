@@ -8,7 +8,7 @@ use Rattle.rust_cursor.specs.Brackets.{behind_tree, behind_closed}
 use Rattle.rust_cursor.specs.Angles.{behind_angles, behind_field}
 use Rattle.rust_cursor.specs.Extents.{tree_text}
 use Rattle.rust_cursor.specs.Elements.{turns, one}
-use Rattle.rust_cursor.specs.Looks.{is_edge, View, Look, sees, skip, stays_short, may_skip}
+use Rattle.rust_cursor.specs.Looks.{is_edge, View, Lookahead, sees, skip, stays_short, may_skip}
 
 -- a view of an identifier, which may be raw
 abbrev pub Identifier : Type 0 → Type 0
@@ -26,37 +26,37 @@ taken_with None ts = (None, ts)
 taken_with (Some a) ts = (Some a, bumped ts)
 
 -- Whether a rule may take a token at which texts may part, as the `{` in front of a list.
-pub data Side : Type 0 where
-  outside : Side
-  inside : Side
+pub data Region : Type 0 where
+  outside : Region
+  inside : Region
 
-pub data Grammar : Side → Type 0 → Type 1 where
+pub data Grammar : Region → Type 0 → Type 1 where
   -- nothing is taken
-  gives : {s : Side} {A : Type 0} → A → Grammar s A
+  gives : {s : Region} {A : Type 0} → A → Grammar s A
   -- a rule, and behind it the rule of what it read
-  and_then : {s : Side} {A B : Type 0} → Grammar s A → (A → Grammar s B) → Grammar s B
+  and_then : {s : Region} {A B : Type 0} → Grammar s A → (A → Grammar s B) → Grammar s B
   -- what the next token shows, which stays
-  shows : {s : Side} {A : Type 0} → View A → Grammar s A
+  shows : {s : Region} {A : Type 0} → View A → Grammar s A
   -- what the next token shows, if it is an identifier, which is taken if it shows something
-  takes_identifier : {s : Side} {A : Type 0} → Identifier A → Grammar s (Option A)
+  takes_identifier : {s : Region} {A : Type 0} → Identifier A → Grammar s (Option A)
   -- the first rule behind so many tokens, if this is seen, or else the second
-  on_seen : {s : Side} {A : Type 0} (l : Look) (n : ℕ) → may_skip l n ≡ true → Grammar s A → Grammar s A → Grammar s A
+  on_seen : {s : Region} {A : Type 0} (l : Lookahead) (n : ℕ) → may_skip l n ≡ true → Grammar s A → Grammar s A → Grammar s A
   -- whether this punctuation comes next, which is taken
-  eats : {s : Side} (c : ℕ) → is_edge c ≡ false → Grammar s Bool
+  eats : {s : Region} (c : ℕ) → is_edge c ≡ false → Grammar s Bool
   -- the same of a word
-  eats_word : {s : Side} (w : List ℕ) → bytes_eq [] w ≡ false → Grammar s Bool
+  eats_word : {s : Region} (w : List ℕ) → bytes_eq [] w ≡ false → Grammar s Bool
   -- the same of two symbols with nothing between them
-  eats_pair : {s : Side} (c d : ℕ) → is_edge c ≡ false → is_edge d ≡ false → Grammar s Bool
+  eats_pair : {s : Region} (c d : ℕ) → is_edge c ≡ false → is_edge d ≡ false → Grammar s Bool
   -- up to the bracket that closes one of this symbol, and it
-  passes_closed : {s : Side} → ℕ → Grammar s (Unit {0})
+  passes_closed : {s : Region} → ℕ → Grammar s (Unit {0})
   -- a token, or what stands in brackets
-  passes_tree : {s : Side} → Grammar s (Unit {0})
+  passes_tree : {s : Region} → Grammar s (Unit {0})
   -- what stands in angle brackets, if one comes next
-  passes_angles : {s : Side} → Grammar s (Unit {0})
+  passes_angles : {s : Region} → Grammar s (Unit {0})
   -- up to the end of a field
-  passes_field : {s : Side} → Grammar s (Unit {0})
+  passes_field : {s : Region} → Grammar s (Unit {0})
   -- a rule again and again, up to where this is seen
-  repeats : {s : Side} {A : Type 0} (l : Look) → stays_short l ≡ true → Grammar s A → Grammar s (List A)
+  repeats : {s : Region} {A : Type 0} (l : Lookahead) → stays_short l ≡ true → Grammar s A → Grammar s (List A)
   -- a rule of the other side
   from_outside : {A : Type 0} → Grammar outside A → Grammar inside A
   -- any token
@@ -67,7 +67,7 @@ pub data Grammar : Side → Type 0 → Type 1 where
   in_bracket : {A : Type 0} → Grammar inside A → Grammar inside A
 
 -- what a rule reads
-abbrev pub reads : {s : Side} {A : Type 0} → Grammar s A → Reader A
+abbrev pub reads : {s : Region} {A : Type 0} → Grammar s A → Reader A
 reads (gives a) ts = (a, ts)
 reads (and_then m f) ts = reads (f (reads m ts).0) (reads m ts).1
 reads (shows view) ts = (view ts.edition (kind ts) (text ts), ts)
@@ -87,9 +87,9 @@ reads takes_text ts = tree_text ts
 reads (in_bracket g) ts = ((reads g (bumped ts)).0, behind_closed (symbol ts) (reads g (bumped ts)).1)
 
 infixl 10 ◌>>=◌
-abbrev pub ◌>>=◌ : {s : Side} {A B : Type 0} → Grammar s A → (A → Grammar s B) → Grammar s B
+abbrev pub ◌>>=◌ : {s : Region} {A B : Type 0} → Grammar s A → (A → Grammar s B) → Grammar s B
 ◌>>=◌ m f = and_then m f
 
 -- what is read, as something else
-abbrev pub reads_as : {s : Side} {A B : Type 0} → (A → B) → Grammar s A → Grammar s B
+abbrev pub reads_as : {s : Region} {A B : Type 0} → (A → B) → Grammar s A → Grammar s B
 reads_as f m = and_then m (λ a. gives (f a))

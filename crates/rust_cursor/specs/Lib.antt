@@ -11,3 +11,4 @@ pub mod Beside
 pub mod Inner
 pub mod Looks
 pub mod Grammar
+pub mod Anchored

@@ -1,4 +1,4 @@
--- Looks, as data: what is seen of the next tokens, with none taken.
+-- Lookaheads, as data: what is seen of the next tokens, with none taken.
 use Rattle.std.specs.Prelude.{ℕ, zero, suc, ◌+◌, max, min, Bool, true, not, ◌==◌, ◌&&◌, ◌||◌, nat_le, if◌then◌else◌, Option, Some, None, List, [], bytes_eq}
 use Rattle.hir_input.specs.declared.edition.EditionYear.{EditionYear}
 use Rattle.rust_lexer.specs.declared.kind.TokenKind.{TokenKind}
@@ -16,38 +16,38 @@ is_edge c = c == 123 || (c == 59 || c == 125)
 abbrev pub View : Type 0 → Type 0
 View A = EditionYear → Option TokenKind → List ℕ → A
 
-pub data Look : Type 0 where
+pub data Lookahead : Type 0 where
   -- this, whatever comes next
-  fixed_look : Bool → Look
+  fixed_look : Bool → Lookahead
   -- the next token is such a one
-  token_is : View Bool → Look
+  token_is : View Bool → Lookahead
   -- it is of such a kind
-  kind_is : (Option TokenKind → Bool) → Look
+  kind_is : (Option TokenKind → Bool) → Lookahead
   -- it is this bracket or punctuation
-  symbol_is : ℕ → Look
+  symbol_is : ℕ → Lookahead
   -- it is this keyword or name
-  word_is : List ℕ → Look
+  word_is : List ℕ → Lookahead
   -- its word is such a one
-  word_meets : (List ℕ → Bool) → Look
+  word_meets : (List ℕ → Bool) → Lookahead
   -- an identifier comes next
-  at_identifier : Look
+  at_identifier : Lookahead
   -- an opening bracket comes next
-  at_open : Look
+  at_open : Lookahead
   -- a bracket that closes comes next, or nothing
-  at_end : Look
+  at_end : Lookahead
   -- a word comes next that can begin an item only
-  at_item : Look
+  at_item : Lookahead
   -- these two symbols come next with nothing between them
-  pair_is : ℕ → ℕ → Look
-  not_seen : Look → Look
-  both_seen : Look → Look → Look
-  either_seen : Look → Look → Look
+  pair_is : ℕ → ℕ → Lookahead
+  not_seen : Lookahead → Lookahead
+  both_seen : Lookahead → Lookahead → Lookahead
+  either_seen : Lookahead → Lookahead → Lookahead
   -- where the first is seen the second is, and else the third
-  look_by : Look → Look → Look → Look
+  look_by : Lookahead → Lookahead → Lookahead → Lookahead
   -- the first is seen, and behind so many tokens the second
-  then_seen : Look → ℕ → Look → Look
+  then_seen : Lookahead → ℕ → Lookahead → Lookahead
   -- the second is seen behind all tokens, one after another, of which the first is
-  past_seen : Look → Look → Look
+  past_seen : Lookahead → Lookahead → Lookahead
 
 -- behind so many tokens
 abbrev pub skip : ℕ → Tokens → Tokens
@@ -60,7 +60,7 @@ past_from test zero ts = ts
 past_from test (suc n) ts = if test ts then past_from test n (bumped ts) else ts
 
 -- whether it is seen
-abbrev pub sees : Look → Tokens → Bool
+abbrev pub sees : Lookahead → Tokens → Bool
 sees (fixed_look b) ts = b
 sees (token_is view) ts = view ts.edition (kind ts) (text ts)
 sees (kind_is f) ts = f (kind ts)
@@ -84,7 +84,7 @@ abbrev pub is_flat_kind : (Option TokenKind → Bool) → Bool
 is_flat_kind f = not (f (Some kinds.OpenDelim)) && (not (f (Some kinds.CloseDelim)) && (not (f (Some kinds.Punct)) && not (f None)))
 
 -- of how many tokens, from the next on, it is seen that none has such a symbol
-abbrev pub clear_of : (ℕ → Bool) → Look → ℕ
+abbrev pub clear_of : (ℕ → Bool) → Lookahead → ℕ
 clear_of bars (kind_is f) = if is_flat_kind f then 1 else 0
 clear_of bars (symbol_is c) = if bars c then 0 else 1
 clear_of bars (word_is w) = if bytes_eq [] w then 0 else 1
@@ -97,7 +97,7 @@ clear_of bars (then_seen l n m) = if nat_le n (clear_of bars l) then n + clear_o
 clear_of bars _ = 0
 
 -- It looks behind no token at which texts may part.
-abbrev pub stays_short : Look → Bool
+abbrev pub stays_short : Lookahead → Bool
 stays_short (pair_is c d) = not (is_edge c)
 stays_short (not_seen l) = stays_short l
 stays_short (both_seen l m) = stays_short l && stays_short m
@@ -108,5 +108,5 @@ stays_short (past_seen l m) = stays_short l && (nat_le 1 (clear_of is_edge l) &&
 stays_short _ = true
 
 -- and where it is seen, no texts part at so many tokens
-abbrev pub may_skip : Look → ℕ → Bool
+abbrev pub may_skip : Lookahead → ℕ → Bool
 may_skip l n = stays_short l && nat_le n (clear_of is_edge l)
