@@ -9,7 +9,7 @@ use Rattle.rust_lexer.specs.declared.kind.TokenKind.TheVariants as kinds
 use Rattle.rust_cursor.specs.Tokens.{Tokens}
 use Rattle.rust_cursor.specs.Reader.{Reader}
 use Rattle.rust_cursor.specs.Words.{kind, text, at, has_length}
-use Rattle.rust_cursor.specs.Looks.{Look, token_is, stays_short}
+use Rattle.rust_cursor.specs.Looks.{Lookahead, token_is, stays_short}
 use Rattle.rust_cursor.specs.Grammar.{by_identifier, outside, Grammar, takes_identifier, reads}
 use Rattle.rust_paths.specs.declared.names.TheConstants.{KEYWORD_FIRST, KEYWORD_LAST, KEYWORD_MIDDLE}
 
@@ -91,7 +91,7 @@ name_text edition (Some kinds.RawIdent) text = raw_name text
 name_text edition _ text = None
 
 -- a name of the edition comes next
-unfoldable pub has_name : Look
+unfoldable pub has_name : Lookahead
 has_name = token_is (λ y k z. is_some (name_text y k z))
 
 pub name_short : stays_short has_name ≡ true

@@ -5,7 +5,7 @@ use Rattle.hir_input.specs.Words.{PathWord, self_word, super_word, crate_word, a
 use Rattle.rust_lexer.specs.declared.kind.TokenKind.{TokenKind}
 use Rattle.rust_lexer.specs.declared.kind.TokenKind.TheVariants as kinds
 use Rattle.rust_cursor.specs.Elements.{most}
-use Rattle.rust_cursor.specs.Looks.{Look, fixed_look, kind_is, symbol_is, word_is, word_meets, pair_is, not_seen, both_seen, either_seen, look_by, then_seen, stays_short, may_skip}
+use Rattle.rust_cursor.specs.Looks.{Lookahead, fixed_look, kind_is, symbol_is, word_is, word_meets, pair_is, not_seen, both_seen, either_seen, look_by, then_seen, stays_short, may_skip}
 use Rattle.rust_cursor.specs.Grammar.{by_identifier, outside, Grammar, gives, shows, on_seen, eats_pair, passes_angles, reads_as, ◌>>=◌}
 use Rattle.rust_paths.specs.Meaning.{path_node}
 use Rattle.rust_paths.specs.Names.{is_path_keyword, has_name, identifier_name, name}
@@ -17,7 +17,7 @@ is_raw (Some kinds.RawIdent) = true
 is_raw _ = false
 
 -- `$crate`
-unfoldable pub is_dollar_crate : Look
+unfoldable pub is_dollar_crate : Lookahead
 is_dollar_crate = then_seen (symbol_is 36) 1 (word_is (codes "crate"))
 
 pub dollar_crate_skipped : may_skip is_dollar_crate 2 ≡ true
@@ -25,7 +25,7 @@ unfolding is_dollar_crate
 dollar_crate_skipped = refl
 
 -- a segment comes next
-unfoldable pub is_segment : Look
+unfoldable pub is_segment : Lookahead
 is_segment =
     look_by (word_meets is_path_keyword) (fixed_look true) (look_by (kind_is is_raw) (fixed_look true) (look_by has_name (fixed_look true) is_dollar_crate))
 
@@ -54,19 +54,19 @@ segment =
 -- ---- paths
 
 -- `::`
-unfoldable pub is_colons : Look
+unfoldable pub is_colons : Lookahead
 is_colons = pair_is 58 58
 
 -- the `::` of a use tree in front of `*` or `{`
-unfoldable pub is_joint : Look
+unfoldable pub is_joint : Lookahead
 is_joint = then_seen is_colons 2 (either_seen (symbol_is 42) (symbol_is 123))
 
 -- a `::` that belongs to a path
-unfoldable pub is_path_colons : Bool → Look
+unfoldable pub is_path_colons : Bool → Lookahead
 is_path_colons in_use = look_by (fixed_look in_use) (both_seen is_colons (not_seen is_joint)) is_colons
 
 -- `self` with no `::` behind it
-unfoldable pub is_last_self : Look
+unfoldable pub is_last_self : Lookahead
 is_last_self = then_seen (word_is (codes "self")) 1 (not_seen is_colons)
 
 pub self_skipped : may_skip is_last_self 1 ≡ true
@@ -74,7 +74,7 @@ unfolding is_last_self is_colons
 self_skipped = refl
 
 -- a `::` with another segment behind it; a last `self` is none of the path of a use tree, but stands behind it as in braces
-abbrev pub has_more : Bool → Look
+abbrev pub has_more : Bool → Lookahead
 has_more false = is_path_colons false
 has_more true = then_seen (is_path_colons true) 2 (not_seen is_last_self)
 
@@ -106,7 +106,7 @@ written_path in_use = do
   gives (path_node (front_of_path absolute (first ∷ more)))
 
 -- a path comes next
-unfoldable pub is_path_start : Bool → Look
+unfoldable pub is_path_start : Bool → Lookahead
 is_path_start in_use = look_by (is_path_colons in_use) (fixed_look true) is_segment
 
 pub start_skipped : (in_use : Bool) → may_skip (is_path_start in_use) 0 ≡ true

@@ -10,7 +10,7 @@ use Rattle.hir_input.specs.declared.ast.Visibility.TheVariants.{Pub, PubCrate, P
 use Rattle.rust_cursor.specs.Tokens.{Tokens}
 use Rattle.rust_cursor.specs.Reader.{Reader}
 use Rattle.rust_cursor.specs.Words.{symbol, word, bumped}
-use Rattle.rust_cursor.specs.Looks.{Look, at_identifier, symbol_is, word_is, either_seen, then_seen, past_seen, sees, may_skip}
+use Rattle.rust_cursor.specs.Looks.{Lookahead, at_identifier, symbol_is, word_is, either_seen, then_seen, past_seen, sees, may_skip}
 use Rattle.rust_cursor.specs.Grammar.{outside, Grammar, gives, on_seen, eats, passes_field, reads, reads_as, ◌>>=◌}
 use Rattle.rust_paths.specs.Paths as paths
 
@@ -50,11 +50,11 @@ scope_path = do
   gives (in_path p)
 
 -- a word or a colon comes next
-abbrev pub is_path_part : Look
+abbrev pub is_path_part : Lookahead
 is_path_part = either_seen at_identifier (symbol_is 58)
 
 -- Words and colons come next, and behind them a `)` and a word: so does a path in `pub(a::b) fn f() {}`, and no type in `struct Pair(pub (a::B))`.
-unfoldable pub is_bare_path : Look
+unfoldable pub is_bare_path : Lookahead
 is_bare_path = past_seen is_path_part (then_seen (symbol_is 41) 1 at_identifier)
 
 pub bare_path_skipped : may_skip (then_seen (symbol_is 40) 1 is_bare_path) 1 ≡ true
@@ -62,7 +62,7 @@ unfolding is_bare_path
 bare_path_skipped = refl
 
 -- such a word alone in brackets comes next
-abbrev pub is_scope : List ℕ → Look
+abbrev pub is_scope : List ℕ → Lookahead
 is_scope w = then_seen (symbol_is 40) 1 (then_seen (word_is w) 1 (symbol_is 41))
 
 -- A word in brackets is the visibility that it names, and a path in them is read as behind `in`.
