@@ -11,8 +11,9 @@ unfoldable pub use Rattle.rust_cursor.specs.Brackets.{behind_closed, behind_tree
 pub use Rattle.rust_cursor.specs.Elements.{elements, one, turns_from}
 unfoldable pub use Rattle.rust_cursor.specs.Elements.{beyond, most, turns}
 unfoldable pub use Rattle.rust_cursor.specs.Extents.{begins_item}
+pub use Rattle.rust_cursor.specs.Anchored.{reads_from}
 pub use Rattle.rust_cursor.specs.Grammar.{reads}
-pub use Rattle.rust_cursor.specs.Looks.{sees}
+pub use Rattle.rust_cursor.specs.Looks.{past_from, sees}
 pub use Rattle.rust_cursor.specs.Nests.{is_literal_kind}
 pub use Rattle.rust_cursor.specs.Reader.{Reader, pure}
 pub use Rattle.rust_cursor.specs.Tokens.{Tokens}
@@ -20,7 +21,7 @@ pub use Rattle.rust_cursor.specs.Words.{by_first}
 unfoldable pub use Rattle.rust_cursor.specs.Words.{at, bumped, is_at_end, is_at_open, is_empty, kind, symbol, text, word}
 pub use Rattle.rust_lexer.specs.declared.kind.DocStyle.{DocStyle}
 pub use Rattle.rust_lexer.specs.declared.kind.DocStyle.TheVariants.{Inner, Outer}
-pub use Rattle.rust_metas.specs.Attributes.{behind_attribute, behind_bracket, behind_docs_from, deepest, is_style, past_mark}
+pub use Rattle.rust_metas.specs.Attributes.{behind_attribute, bracket_end, deepest, is_style, past_mark}
 unfoldable pub use Rattle.rust_metas.specs.Attributes.{attribute, attributes, behind_docs, bracketed, inner_attributes, is_attribute, is_behind, is_doc, one_attribute, outer_attributes}
 pub use Rattle.rust_metas.specs.Conditions.{condition_with, if_named, is_word_kind, named_condition}
 unfoldable pub use Rattle.rust_metas.specs.Conditions.{composed, condition, conditions, ended_condition, is_option_word, option_name, pair}
@@ -29,7 +30,7 @@ unfoldable pub use Rattle.rust_metas.specs.Docs.{kept_metas}
 pub use Rattle.rust_metas.specs.Escapes.{blanks, number_from, scalar_of, stands_for}
 pub use Rattle.rust_metas.specs.Literals.{root, style_by}
 unfoldable pub use Rattle.rust_metas.specs.Literals.{documentation, is_ended, is_literal, is_truth, next_literal, value}
-pub use Rattle.rust_metas.specs.Metas.{assigned, conditional, in_brackets, member, meta_with}
+pub use Rattle.rust_metas.specs.Metas.{conditional, member, meta_with}
 unfoldable pub use Rattle.rust_metas.specs.Metas.{doc, input, is_call, is_at_name, is_named_call, meta, plain_meta}
 pub use Rattle.rust_metas.specs.Strings.{beside, ended_string, hashes, prepend, pushed, raw_from, unescaped, written_byte}
 unfoldable pub use Rattle.rust_metas.specs.Strings.{as_text, escaped_character}

@@ -3,7 +3,7 @@ use Rattle.std.specs.Prelude.{◌≡◌, refl, ℕ, zero, suc, Bool, true, false
 use Rattle.rust_lexer.specs.declared.kind.TokenKind.{TokenKind}
 use Rattle.rust_lexer.specs.declared.kind.TokenKind.TheVariants as kinds
 use Rattle.hir_input.specs.Cfg.{CfgView, invalid, atom, all_of, any_of, not_of, cfgs_from, flag_atom, key_value}
-use Rattle.rust_cursor.specs.Looks.{Look, at_end, at_open, kind_is, may_skip, symbol_is, token_is}
+use Rattle.rust_cursor.specs.Looks.{Lookahead, at_end, at_open, kind_is, may_skip, symbol_is, token_is}
 use Rattle.rust_cursor.specs.Grammar.{inside, Grammar, from_outside, gives, in_bracket, on_seen, reads_as, repeats, shows, takes_any, ◌>>=◌}
 use Rattle.rust_cursor.specs.Nests.{is_literal_kind}
 use Rattle.rust_paths.specs.Names.{as_name, name}
@@ -18,7 +18,7 @@ is_word_kind _ = false
 
 -- An option's name comes next as it is written: any word but `_`, keywords too. `r#true` and `r#false` keep their `r#`, since they name
 -- options and are not `true` and `false`.
-unfoldable pub is_option_word : Look
+unfoldable pub is_option_word : Lookahead
 is_option_word = token_is (λ y k z.
     if bytes_eq z (codes "_") then false
     else (if bytes_eq z (codes "r#true") || bytes_eq z (codes "r#false") then true else is_word_kind k))

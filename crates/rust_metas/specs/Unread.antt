@@ -22,7 +22,7 @@ is_plain_name ts = if may_condition (word ts) then false else sees has_name ts &
 -- whether `=` and a literal come next, brackets of the first kind, or the end of the attribute, and what is left behind that
 unfoldable pub plain_input : Reader Bool
 plain_input ts =
-    if symbol ts == 61 then (is_literal (bumped ts) && sees is_ended (bumped (bumped ts)), bumped (bumped ts))
+    if symbol ts == 61 then (sees is_literal (bumped ts) && sees is_ended (bumped (bumped ts)), bumped (bumped ts))
     else (if is_at_open ts then (symbol ts == 40, behind_tree ts) else (symbol ts == 93, ts))
 
 -- the same from the attribute's bracket on, up to the one that closes it, and it
