@@ -97,7 +97,7 @@ pub(crate) fn tree_of(
 }
 
 /// Whether documentation is left out.
-fn skips_docs(skipped: &[Name]) -> bool
+pub(crate) fn skips_docs(skipped: &[Name]) -> bool
     ensures { result ≡ is_among skipped.now (codes "doc") }
 {
     skipped.iter().any(|name| name.text() == "doc")

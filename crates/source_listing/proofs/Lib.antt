@@ -9,7 +9,6 @@ pub mod Tagged
 pub mod Imported
 pub mod Repeats
 pub mod Printers
-pub mod Between
 pub mod Firsts
 pub mod AtStarts
 pub mod Named

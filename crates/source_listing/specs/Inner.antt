@@ -24,7 +24,6 @@ use Rattle.source_listing.specs.declared.repeated.Key as code_key
 use Rattle.source_listing.specs.contracts.repeated.KeyPartialEq.TheImpl as keys
 use Rattle.source_listing.specs.declared.uses.UseTrees as code_trees
 use Rattle.source_listing.specs.declared.uses.TreeFinder.{TreeFinder}
-use Rattle.source_listing.specs.Changed.{Side}
 use Rattle.source_listing.specs.Lines.{Choice, Source}
 use Rattle.source_listing.specs.Objects.{Entry, ItemView, column_form, item_in, line_form, node_objects, range_form}
 use Rattle.source_listing.specs.Places.{AreDistinct}
@@ -41,9 +40,6 @@ places_of p = p.finder.places.all.now
 
 abbrev pub reserved_of : Printer → List (List ℕ)
 reserved_of p = p.edition.now.reserved.items
-
-abbrev pub side_of_printer : Printer → Side
-side_of_printer p = record { source = file_of p; places = places_of p }
 
 -- the places that are found are those of a text
 abbrev pub IsFinderOf : List ℕ → List ItemPlace → Finder → Type 0

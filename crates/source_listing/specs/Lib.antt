@@ -3,7 +3,6 @@ pub mod Places
 pub mod Colors
 pub mod Lines
 pub mod Outlines
-pub mod Changed
 pub mod Objects
 pub mod Uses
 pub mod Told

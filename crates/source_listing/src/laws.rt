@@ -4,7 +4,6 @@ ghost use Rattle.hir_input.specs.Equality.{IsCopied};
 ghost use Rattle.rust_cursor.specs.Tokens.{Tokens};
 ghost use Rattle.source_listing.specs.Told.{AreToldFor};
 
-use crate::changed::Side;
 use crate::lines::Choice;
 use crate::outlines::Look;
 use crate::search::Query;
@@ -19,5 +18,4 @@ fn copies()
     ensures choices { IsCopied ⟦<Choice as Clone>⟧.is_clone }
     ensures looks { IsCopied ⟦<Look as Clone>⟧.is_clone }
     ensures queries { IsCopied ⟦<Query<'static> as Clone>⟧.is_clone }
-    ensures sides { IsCopied ⟦<Side<'static> as Clone>⟧.is_clone }
 {}

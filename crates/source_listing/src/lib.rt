@@ -1,7 +1,6 @@
 //! Lists of the items and of the problems of Rust source, with the line and the column of each.
 #![tactic(auto)]
 
-mod changed;
 mod colors;
 mod finder;
 mod import_objects;
@@ -22,7 +21,6 @@ mod tags;
 mod use_places;
 mod uses;
 
-pub use changed::{Side, change_lines};
 pub use import_objects::import_items;
 pub use imports::import_lines;
 pub use json::{outline_items, outline_json};

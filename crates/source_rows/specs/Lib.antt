@@ -12,6 +12,8 @@ pub mod Listed
 pub mod ListedViews
 pub mod DocAttributes
 pub mod Skeletons
+pub mod Matches
+pub mod ChangeWords
 pub mod Changes
 pub mod Inner
 pub mod ChangeViews

@@ -3,6 +3,7 @@
 #![tactic(auto)]
 
 mod blanks;
+mod change_kind;
 mod compare;
 mod doc_attributes;
 mod enabled;
@@ -14,6 +15,7 @@ mod labelled;
 mod labels;
 mod laws;
 mod listed;
+mod matching;
 mod mended;
 mod moved;
 mod reading;
@@ -22,9 +24,9 @@ mod strays;
 mod tokens;
 mod types;
 
+pub use change_kind::{ChangeKind, change_word};
 pub use compare::{Change, Row, changes};
 pub use headers::header;
-pub use item_changes::ChangeKind;
 pub use items::{Part, members_in, parts};
 pub use kept::{Hole, Skeleton};
 pub use labels::{KindTexts, item_word, kind_texts, member_word, text_at};
