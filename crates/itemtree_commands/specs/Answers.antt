@@ -15,7 +15,7 @@ use Rattle.source_listing.specs.Uses.{FilePlaces, placed}
 use Rattle.source_listing.specs.Search.{Query, found_lines}
 use Rattle.source_listing.specs.Tags.{tags}
 use Rattle.source_problems.specs.Texts.{source_problems}
-use Rattle.source_changes.specs.Changes.{AreChangeLines}
+use Rattle.source_changes.specs.Changes.{AreLinesBetween}
 use Rattle.source_changes.specs.declared.Compared.{Compared}
 use Rattle.source_reading.specs.ListedFiles.{listed_text}
 use Rattle.rust_items.specs.SourceFiles.{FileView, IsFileView}
@@ -112,7 +112,7 @@ HasNoList o = IsListRefused o.krate o.skipped.items o.edition.year
 -- the lines of what became of one file in another, with documentation unless it is skipped; none where the two are the same
 abbrev pub AreLinesUnless : Bool → Options → Source → Source → List ℕ → Type 0
 AreLinesUnless true o old new lines = lines ≡ []
-AreLinesUnless false o old new lines = AreChangeLines o.edition.year (not (is_among o.skipped.items (codes "doc"))) old new lines
+AreLinesUnless false o old new lines = AreLinesBetween o.edition.year (not (is_among o.skipped.items (codes "doc"))) old new lines
 
 -- whether the trees are equal, and the lines of what differs where they are not
 abbrev pub AreCompared : Options → Source → Source → Compared → Type 0

@@ -14,7 +14,7 @@ ghost use Rattle.itemtree_commands.specs.Trees.{HasOwnIds, IsTextUnread};
 
 use hir_input::{CfgOptions, Edition, Name};
 use item_tree::CrateData;
-use listed::{listed, listed_rows};
+use listed::{listed_rows, listed_tree};
 use rust_mended::Mended;
 use source_changes::{Compared, change_lines};
 use source_listing::{Choice, Look, Query, Reading, Source, without_ids};
@@ -147,8 +147,8 @@ pub fn outline(
     Ok(text)
 }
 
-/// `itemtree outline --json`: one JSON object on one line, with an object for each item and each member of one, or for those in
-/// fewer than so many items; with or without members.
+/// `itemtree outline --json`: one JSON object on one line, with an object for each item and each member of one, or for
+/// those in fewer than so many items; with or without members.
 ///
 /// # Errors
 ///
@@ -166,7 +166,7 @@ pub fn outline_json(
         IfOk result (λ out. json (string_bytes out)) }
     ensures refused { IfErr result (spec.HasNoList options.now source.entry.text.now) }
 {
-    let file = listed(alloc, source.text, options)?;
+    let file = listed_tree(alloc, source.text, options)?;
     let choice = options.choice(depth);
     let reading = options.reading(source.text, &file.mended, has_members);
     let edition = &options.edition;
@@ -207,8 +207,8 @@ pub fn page(
     Ok(page)
 }
 
-/// `itemtree find`: a line for each item that is looked for and each member of one, with or without members; empty where there
-/// is none.
+/// `itemtree find`: a line for each item that is looked for and each member of one, with or without members; empty
+/// where there is none.
 ///
 /// # Errors
 ///
@@ -245,7 +245,7 @@ pub fn imports(alloc: Global, source: Source<'_>, options: &Options) -> Result<S
         (λ out. spec.AreImports options.now (source_view source.entry) (string_bytes out)) }
     ensures refused { IfErr result (spec.HasNoList options.now source.entry.text.now) }
 {
-    let file = listed(alloc, source.text, options)?;
+    let file = listed_tree(alloc, source.text, options)?;
     let edition = &options.edition;
     let text = source_listing::import_lines(
         alloc,
@@ -273,7 +273,7 @@ pub fn duplicates(
         (λ out. spec.AreRepeated options.now (source_view source.entry) (string_bytes out)) }
     ensures refused { IfErr result (spec.HasNoList options.now source.entry.text.now) }
 {
-    let file = listed(alloc, source.text, options)?;
+    let file = listed_tree(alloc, source.text, options)?;
     let edition = &options.edition;
     let text = source_listing::repeated_lines(
         alloc,
@@ -329,11 +329,12 @@ fn lines_unless(
     change_lines(alloc, old, new, options.edition.year, has_docs)
 }
 
-/// `itemtree changed --tree`: whether the trees are equal, as where only bodies, comments or layout became others; if they are not, a
-/// line for each item and each member that was removed, added or changed, as `changed` tells it.
+/// `itemtree changed --tree`: whether the trees are equal, as where only bodies, comments or layout became others; if
+/// they are not, a line for each item and each member that was removed, added or changed, as `changed` tells it.
 ///
-/// Trees that differ in the order of their items, in the attributes of the file or in those inside a body alone have no such line.
-pub fn changed(
+/// Trees that differ in the order of their items, in the attributes of the file or in those inside a body alone have no
+/// such line.
+pub fn compare_trees(
     alloc: Global,
     old: Source<'_>,
     new: Source<'_>,

@@ -13,7 +13,7 @@ use Rattle.source_rows.specs.Parts.{Part, item_parts}
 use Rattle.source_rows.specs.Rows.{part_rows}
 use Rattle.source_rows.specs.Sources.{Source}
 use Rattle.source_changes.specs.declared.Compared.{Compared}
-use Rattle.source_changes.specs.Changes.{AreParts, seen_texts, compared_lines, lines_between, or_else, row_lines, rows_standing, IsCompared, AreChangeLines}
+use Rattle.source_changes.specs.Changes.{AreParts, seen_texts, compared_lines, lines_between, or_else, row_lines, rows_standing, IsCompared, AreLinesBetween}
 
 -- the parts of a text with these items: what is wanted of it changes no place
 pub are_parts : {w : _} (edition : EditionYear) (text : List ℕ) (file : SourceFile) (items : List ItemPlace) (ps : List Part) → IsClippedFile w edition text (file_view file) → items ≡ file.places.items → ps ≡ item_parts edition text items → AreParts edition text ps
@@ -28,7 +28,7 @@ compared edition d old new c olds news olds_a news_a olds_b news_b a b p q r s s
 
 -- the lines between two files, by what is found of each
 pub lines_compared : (edition : EditionYear) (d : Bool) (old new : Source) (lines : List ℕ) (olds news olds_a news_a : List Part) → AreParts edition old.text olds → AreParts edition new.text news → olds_a ≡ olds → news_a ≡ news
-    → lines ≡ lines_between edition d old new olds_a news_a → AreChangeLines edition d old new lines
+    → lines ≡ lines_between edition d old new olds_a news_a → AreLinesBetween edition d old new lines
 lines_compared edition d old new lines olds news olds_a news_a a b p q e = (olds, news, a, b, e ∙ (λ k. lines_between edition d old new (p k) (q k)))
 
 -- where nothing differs by its label, lines tell what moved

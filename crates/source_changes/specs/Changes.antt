@@ -57,8 +57,8 @@ lines_between edition has_docs old new olds news =
     row_lines old new (or_else items (changes_beside edition has_docs old new olds news))
 
 -- these are the lines of what became of one file of an edition in another
-abbrev pub AreChangeLines : EditionYear → Bool → Source → Source → List ℕ → Type 0
-AreChangeLines edition has_docs old new lines =
+abbrev pub AreLinesBetween : EditionYear → Bool → Source → Source → List ℕ → Type 0
+AreLinesBetween edition has_docs old new lines =
     (olds news : List Part) × AreParts edition old.text olds × AreParts edition new.text news × (lines ≡ lines_between edition has_docs old new olds news)
 
 -- no line where nothing differs

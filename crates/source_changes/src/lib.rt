@@ -165,8 +165,8 @@ fn outside_lines(alloc: Global, pair: Pair<'_>) -> Result<String, AllocError>
     lines(alloc, pair.old, pair.new, &changes)
 }
 
-/// The lines of what became of the parts of a file in another, or else of what moved from a part to another of its label, or else of
-/// what stands in none.
+/// The lines of what became of the parts of a file in another, or else of what moved from a part to another of its
+/// label, or else of what stands in none.
 fn lines_between(alloc: Global, pair: Pair<'_>) -> Result<String, AllocError>
     ensures { let p = pair.entry in
         let lines = spec.lines_between p.edition p.has_docs (source_view p.old) (source_view p.new)
@@ -199,8 +199,8 @@ fn text_of(alloc: Global, is_same: bool, pair: Pair<'_>) -> Result<String, Alloc
     lines_between(alloc, pair)
 }
 
-/// The lines of what became of a file of an edition in another, whatever makes the two differ: those of `compare` where others see a
-/// difference, and else none.
+/// The lines of what became of a file of an edition in another, whatever makes the two differ: those of `compare` where
+/// others see a difference, and else none.
 ///
 /// # Errors
 ///
@@ -212,7 +212,7 @@ pub fn change_lines(
     edition: EditionYear,
     has_docs: bool,
 ) -> Result<String, AllocError>
-    ensures { let are_lines = spec.AreChangeLines edition has_docs (source_view old.entry)
+    ensures { let are_lines = spec.AreLinesBetween edition has_docs (source_view old.entry)
         (source_view new.entry) in
         IfOk result (λ text. are_lines (string_bytes text)) }
 {
@@ -230,13 +230,13 @@ pub fn change_lines(
     Ok(text)
 }
 
-/// Compares what others can see of two files of an edition: every token but those between the braces of functions and comments, and
-/// documentation only where that is asked.
+/// Compares what others can see of two files of an edition: every token but those between the braces of functions and
+/// comments, and documentation only where that is asked.
 ///
-/// It tells in a line what was removed of the old file's items and of their members, and then what was added or changed. Where
-/// nothing of that became another, lines tell what moved from an item to another of the same kind and path: it was removed and added.
-/// Where nothing did, a line tells what stands in none of these; without one the files differ in the order of items or in the
-/// attributes of the file.
+/// It tells in a line what was removed of the old file's items and of their members, and then what was added or
+/// changed. Where nothing of that became another, lines tell what moved from an item to another of the same kind and
+/// path: it was removed and added. Where nothing did, a line tells what stands in none of these; without one the files
+/// differ in the order of items or in the attributes of the file.
 ///
 /// # Errors
 ///

@@ -1,6 +1,5 @@
 pub mod Common
 pub mod Skips
-pub mod Found
 pub mod Nested
 pub mod NoFloats
 pub mod Pushed

@@ -1,5 +1,3 @@
-pub mod Ends
-pub mod Places
 pub mod Colors
 pub mod Lines
 pub mod Outlines
@@ -10,6 +8,7 @@ pub mod Imports
 pub mod ImportObjects
 pub mod Repeated
 pub mod Pages
+pub mod Paths
 pub mod Search
 pub mod Sought
 pub mod Tags

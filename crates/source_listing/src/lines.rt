@@ -6,16 +6,15 @@ ghost use Rattle.source_rows.specs.Listed.{members_of};
 ghost use Rattle.source_rows.specs.ListedViews.{listed_view, reading_view};
 ghost use Rattle.source_listing.specs.Inner.{IsPrinterOf, IsSameFile, file_of, reserved_of};
 ghost use Rattle.source_listing.specs.Lines as spec;
-ghost use Rattle.source_listing.specs.Places.{item_place};
+ghost use Rattle.source_rows.specs.Places.{item_place};
 ghost use Rattle.source_listing.specs.Views.{choice_view, source_view};
 
-use crate::finder::{Finder, Spot};
 use crate::printer::{Printer, are_keywords};
 use hir_input::{Edition, ModPath, Name, PathKind};
 use item_tree::{ItemTree, RawVisibility, VisibilityExplicitness};
 use rust_items::ItemPlace;
 use rust_paths::may_be_keyword;
-use source_rows::{ListedMember, Reading, Source, push_place};
+use source_rows::{Finder, ListedMember, Reading, Source, Spot, push_place};
 use std::alloc::{AllocError, Global};
 use tree_walk::{Row, item_rows};
 

@@ -1,8 +1,8 @@
--- What of two lists is the same, where the lists are seen as others, and where they are one.
-use Rattle.std.proofs.Common.{◌≡◌, ℕ, zero, suc, ◌+◌, Bool, true, false, List, [], ◌∷◌, ◌++◌, length, map, Option, Some, None, Bor, cond, refl, ap, sym, ◌∙◌, append_assoc}
+-- What of two lists is the same, where the lists are seen as others.
+use Rattle.std.proofs.Common.{◌≡◌, ℕ, zero, suc, ◌+◌, Bool, true, false, List, [], ◌∷◌, ◌++◌, map, Option, Some, None, Bor, cond, refl, ap, sym, ◌∙◌}
 use Rattle.std.specs.{Prelude.option_map, Prelude.slice_get, List.count_by, List.filter, List.flat_map}
-use Rattle.std.proofs.lemmas.List.{map-append, Elements.filter-append, Sums.length-filter, Sums.sum_by-cons}
-use Rattle.source_rows.specs.declared.matching.{Keyed.Keyed, Match.Match, Match.TheVariants.Gone, Match.TheVariants.Stays}
+use Rattle.std.proofs.lemmas.List.{map-append, Sums.sum_by-cons}
+use Rattle.source_rows.specs.declared.matching.{Keyed.Keyed, Match.Match, Match.TheVariants.Gone}
 use Rattle.source_rows.specs.Matches.{partner, partners_behind, partners, gone_if, came_if, gone_of, match_of, matched, ranks, ranks_behind, match_map, match_now, same_keys}
 
 -- ---- matches seen as others
@@ -106,30 +106,3 @@ matched_as {K} {T} {B} {C} equal same view key h xs ys us ws e g found is =
     matched_pairs equal same view h xs ys (map (λ b. (key b, b)) us) (map (λ b. (key b, b)) ws) e g found is
     ∙ ap (map (match_map (λ (p : C × B). p.1))) (sym (matched_seen (keyed_by key) (λ p q. same p.0 q.0) us ws))
     ∙ sym (map_twice (keyed_by key) (λ (p : C × B). p.1) (matched (λ b c. same (key b) (key c)) us ws)) ∙ map_same (matched (λ b c. same (key b) (key c)) us ws)
-
--- ---- a list and itself
-
-module _ {A : Type 0} (like : A → A → Bool) (itself : (x : A) → like x x ≡ true) where
-  get_behind : (ys zs : List A) (x : A) → slice_get (ys ++ x ∷ zs) (length ys) ≡ Some x
-  get_behind [] zs x = refl
-  get_behind (y ∷ ys) zs x = get_behind ys zs x
-
-  partner_itself : (before xs : List A) (x : A) → partner like (before ++ x ∷ xs) before x ≡ Some x
-  partner_itself before xs x =
-      ap (λ ys. slice_get ys (count_by (like x) before)) (filter-append (like x) before (x ∷ xs))
-      ∙ ap (λ t. slice_get (filter (like x) before ++ cond t (x ∷ filter (like x) xs) (filter (like x) xs)) (count_by (like x) before)) (itself x)
-      ∙ ap (slice_get (filter (like x) before ++ x ∷ filter (like x) xs)) (sym (length-filter (like x) before)) ∙ get_behind (filter (like x) before) (filter (like x) xs) x
-
-  none_gone : (others before xs : List A) → others ≡ before ++ xs → flat_map gone_of (partners_behind like others before xs) ≡ []
-  none_gone others before [] e = refl
-  none_gone others before (x ∷ xs) e =
-      (λ i. gone_if x ((ap (λ o. partner like o before x) e ∙ partner_itself before xs x) i) ++ none_gone others (before ++ x ∷ []) xs (e ∙ sym (append_assoc before (x ∷ []) xs)) i)
-
-  all_stay : (others before xs : List A) → others ≡ before ++ xs → map match_of (partners_behind like others before xs) ≡ map (λ x. Stays x x) xs
-  all_stay others before [] e = refl
-  all_stay others before (x ∷ xs) e =
-      (λ i. came_if x ((ap (λ o. partner like o before x) e ∙ partner_itself before xs x) i) ∷ all_stay others (before ++ x ∷ []) xs (e ∙ sym (append_assoc before (x ∷ []) xs)) i)
-
-  -- all of a list stays in it
-  pub matched_itself : (xs : List A) → matched like xs xs ≡ map (λ x. Stays x x) xs
-  matched_itself xs = λ i. none_gone xs [] xs refl i ++ all_stay xs [] xs refl i

@@ -5,6 +5,9 @@ pub mod Bodies
 pub mod Parts
 pub mod Rows
 pub mod Sources
+pub mod Ends
+pub mod Places
+pub mod Finders
 pub mod Views
 pub mod Enabled
 pub mod Types

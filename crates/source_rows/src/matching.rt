@@ -176,8 +176,8 @@ fn take_front<'a, K: Eq, T>(
     Ok(both)
 }
 
-/// What of two lists is the same: first what the old list alone has, in its order, and then what the new list has, in its
-/// order. Two things are the same where both are the n-th of their key.
+/// What of two lists is the same: first what the old list alone has, in its order, and then what the new list has, in
+/// its order. Two things are the same where both are the n-th of their key.
 ///
 /// # Errors
 ///
