@@ -4,4 +4,5 @@ pub mod Refused
 pub mod BareTrees
 pub mod Common
 pub mod RowTrees
+pub mod ListedRows
 pub mod Checks

@@ -3,9 +3,11 @@
 #![tactic(auto)]
 
 mod blanks;
+mod change_kind;
 mod compare;
 mod doc_attributes;
 mod enabled;
+mod finder;
 mod headers;
 mod inside;
 mod items;
@@ -14,23 +16,27 @@ mod labelled;
 mod labels;
 mod laws;
 mod listed;
+mod matching;
 mod mended;
 mod moved;
+mod places;
 mod reading;
 mod source;
 mod strays;
 mod tokens;
 mod types;
 
+pub use change_kind::{ChangeKind, change_word};
 pub use compare::{Change, Row, changes};
+pub use finder::{Finder, Spot, stand_of, stands_at};
 pub use headers::header;
-pub use item_changes::ChangeKind;
 pub use items::{Part, members_in, parts};
 pub use kept::{Hole, Skeleton};
 pub use labels::{KindTexts, item_word, kind_texts, member_word, text_at};
 pub use listed::ListedMember;
 pub use mended::{told_item, told_place};
 pub use moved::moves;
+pub use places::Places;
 pub use reading::Reading;
 pub use source::{Source, push_place};
 pub use strays::{outside, row_around};

@@ -97,8 +97,8 @@ fn set_inside(
     change_inside(alloc, sources, texts, file, range, typed)
 }
 
-/// Makes the edits of a line, if they are one, and it changes a text inside a body or not at all. All memory is asked for before the first
-/// change.
+/// Makes the edits of a line, if they are one, and it changes a text inside a body or not at all. All memory is asked
+/// for before the first change.
 ///
 /// # Errors
 ///
