@@ -161,10 +161,10 @@ behind_part_leads : (k : MemberKind) (ts : Tokens) → LeadsTo ts (behind_part k
 behind_part_leads member.Variant ts = behind_value_leads ts
 behind_part_leads _ ts = through (behind_type_leads ts) (behind_value_leads _)
 
-part_placed : (end : ℕ) (ts us vs ps qs : Tokens) (k : MemberKind) (attrs : List MetaView) (v : Option Visibility) (name : Option TextRange) → IsLaid end ts → LeadsTo ts us → IsNamed us vs name → LeadsTo vs ps → LeadsTo ps qs
-    → ArePlaced ts.past qs.past (option_to_list (part_of k (at ts) attrs v name ps.past))
-part_placed end ts us vs ps qs k attrs v None laid a n b c = tt
-part_placed end ts us vs ps qs k attrs v (Some name) laid a (by_token t before some later) b c =
+part_placed : (end : ℕ) (ts us vs ps qs : Tokens) (k : MemberKind) (attrs : List MetaView) (v : Option Visibility) (identifier : Option (List ℕ)) (name : Option TextRange) → IsLaid end ts → LeadsTo ts us → IsNamed us vs name → LeadsTo vs ps → LeadsTo ps qs
+    → ArePlaced ts.past qs.past (option_to_list (part_of k (at ts) attrs v identifier name ps.past))
+part_placed end ts us vs ps qs k attrs v identifier None laid a n b c = tt
+part_placed end ts us vs ps qs k attrs v identifier (Some name) laid a (by_token t before some later) b c =
     let to_name = behind end (through a before) laid in
     let strict = taken_behind end t to_name.laid some in
     let next = behind end (bumped_leads t) to_name.laid in
@@ -186,7 +186,7 @@ part_found end w k ts laid =
     let comma = eat_leads 44 (behind_part k n.1) in
     record {
       leads = through before (through (named_leads u.1) (through rest comma));
-      placed = part_placed end ts u.1 n.1 (behind_part k n.1) _ k (kept_metas w a.0) v.0 n.0.range laid before (named_named u.1) rest comma;
+      placed = part_placed end ts u.1 n.1 (behind_part k n.1) _ k (kept_metas w a.0) v.0 n.0.name n.0.range laid before (named_named u.1) rest comma;
     }
 
 -- ---- all
@@ -224,6 +224,5 @@ module _ (w : WantedMetas) (edition : EditionYear) (k : AstIdKind) (text part : 
   part_fits fits = members_fit text part range ms fits (sym cut) here_placed
 
   -- where they are moved, they stand in the range
-  pub part_moved : (r : Result (Vec Member Global) AllocError) → IfOk r (λ v. map member_view v.items ≡ map (moved_member range.start) ms) → IfOk r (λ v. ArePlaced range.start range.end (map member_view v.items))
-  part_moved (Ok v) e = rw e (members_moved text part range ms (sym cut) here_placed)
-  part_moved (Err e) h = tt
+  pub part_moved : (moved : List MemberRead) → moved ≡ map (moved_member range.start) ms → ArePlaced range.start range.end moved
+  part_moved moved e = rw e (members_moved text part range ms (sym cut) here_placed)

@@ -275,13 +275,13 @@ module _ (end : ℕ) (w : WantedMetas) where
 
 -- ---- variants and fields have no braces of their own
 
-part_elsewhere : (at start end : ℕ) (k : MemberKind) (attrs : List MetaView) (v : Option Visibility) (o : Option TextRange) → AreElsewhere at (option_to_list (part_of k start attrs v o end))
-part_elsewhere at start end k attrs v None = tt
-part_elsewhere at start end k attrs v (Some name) = (tt, tt)
+part_elsewhere : (at start end : ℕ) (k : MemberKind) (attrs : List MetaView) (v : Option Visibility) (identifier : Option (List ℕ)) (o : Option TextRange) → AreElsewhere at (option_to_list (part_of k start attrs v identifier o end))
+part_elsewhere at start end k attrs v identifier None = tt
+part_elsewhere at start end k attrs v identifier (Some name) = (tt, tt)
 
 member_elsewhere : (at : ℕ) (w : WantedMetas) (k : MemberKind) (ts : Tokens) → AreElsewhere at (option_to_list (part_member w k ts).0)
 unfolding part_member
-member_elsewhere at w k ts = part_elsewhere at _ _ k _ _ _
+member_elsewhere at w k ts = part_elsewhere at _ _ k _ _ _ _
 
 parts_elsewhere : (at : ℕ) (w : WantedMetas) (k : MemberKind) (n : ℕ) (done : List MemberRead) (ts : Tokens) → AreElsewhere at done → AreElsewhere at (turns_from is_list_over (perhaps (part_member w k)) n done ts).0
 parts_elsewhere at w k zero done ts h = h

@@ -5,9 +5,10 @@ use Rattle.hir_input.specs.Attr.{MetaView}
 use Rattle.rust_paths.specs.declared.names.TextRange.{TextRange}
 use Rattle.rust_members.specs.declared.member.MemberKind.{MemberKind}
 
--- a member: where its name, all of it with its attributes, and its body stand in the text that was read
+-- a member: its name, and where that, all of it with its attributes, and its body stand in the text that was read
 pub record MemberRead : Type 0 where
   pub kind : MemberKind
+  pub identifier : Option (List ℕ)
   pub name : Option TextRange
   pub range : TextRange
   pub body : Option TextRange
@@ -22,6 +23,7 @@ range_moved_by by r = record { start = by + r.start; end = by + r.end }
 abbrev pub moved_member : ℕ → MemberRead → MemberRead
 moved_member by m = record {
   kind = m.kind;
+  identifier = m.identifier;
   name = option_map (range_moved_by by) m.name;
   range = range_moved_by by m.range;
   body = option_map (range_moved_by by) m.body;

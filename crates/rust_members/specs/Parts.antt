@@ -30,14 +30,15 @@ use Rattle.rust_members.specs.Members.{MemberRead}
 -- what an item is as a member
 pub record MemberTold : Type 0 where
   pub kind : MemberKind
+  pub identifier : Option (List ℕ)
   pub attrs : List MetaView
   pub visibility : Option Visibility
 
 abbrev pub told_as : MemberKind → NamedView → MemberTold
-told_as kind n = record { kind = kind; attrs = n.node.attrs; visibility = n.visibility }
+told_as kind n = record { kind = kind; identifier = n.name; attrs = n.node.attrs; visibility = n.visibility }
 
 abbrev pub told_call : CallView → MemberTold
-told_call c = record { kind = member.MacroCall; attrs = c.node.attrs; visibility = None }
+told_call c = record { kind = member.MacroCall; identifier = None; attrs = c.node.attrs; visibility = None }
 
 -- what may stand in a trait or an impl
 abbrev pub told_of : ItemView → Option MemberTold
@@ -54,7 +55,7 @@ body_of _ body = None
 
 -- the same with those of its metas that are wanted
 abbrev pub told_keeping : WantedMetas → MemberTold → MemberTold
-told_keeping metas t = record { kind = t.kind; attrs = kept_metas metas t.attrs; visibility = t.visibility }
+told_keeping metas t = record { kind = t.kind; identifier = t.identifier; attrs = kept_metas metas t.attrs; visibility = t.visibility }
 
 abbrev pub told_with : WantedMetas → ItemView → Option MemberTold
 told_with metas i = option_map (told_keeping metas) (told_of i)
@@ -64,6 +65,7 @@ abbrev pub member_kept : ℕ → ℕ → LeafRead → Option MemberTold → Opti
 member_kept start end l None = None
 member_kept start end l (Some t) = Some (record {
   kind = t.kind;
+  identifier = t.identifier;
   name = l.named;
   range = record { start = start; end = end };
   body = body_of t.kind l.body;
@@ -200,10 +202,11 @@ behind_part _ ts = behind_value (behind_type ts)
 -- ---- variants and fields
 
 -- without a name it is none
-abbrev pub part_of : MemberKind → ℕ → List MetaView → Option Visibility → Option TextRange → ℕ → Option MemberRead
-part_of kind start attrs v None end = None
-part_of kind start attrs v (Some name) end = Some (record {
+abbrev pub part_of : MemberKind → ℕ → List MetaView → Option Visibility → Option (List ℕ) → Option TextRange → ℕ → Option MemberRead
+part_of kind start attrs v identifier None end = None
+part_of kind start attrs v identifier (Some name) end = Some (record {
   kind = kind;
+  identifier = identifier;
   name = Some name;
   range = record { start = start; end = end };
   body = None;
@@ -222,4 +225,4 @@ part_member metas kind = do
   _ ← pass (behind_part kind)
   end ← look (λ ts. ts.past)
   _ ← eat 44
-  pure (part_of kind start attrs v n.range end)
+  pure (part_of kind start attrs v n.name n.range end)

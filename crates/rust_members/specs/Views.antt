@@ -8,7 +8,7 @@ use Rattle.rust_members.specs.Parts.{MemberTold}
 
 -- a member as plain data
 abbrev pub member_view : Member → MemberRead
-member_view m = record { kind = m.kind; name = m.name; range = m.range; body = m.body; attrs = map meta_view m.attrs.items; visibility = m.visibility }
+member_view m = record { kind = m.kind; identifier = m.identifier; name = m.name; range = m.range; body = m.body; attrs = map meta_view m.attrs.items; visibility = m.visibility }
 
 abbrev pub told_view : code_told.Told → MemberTold
-told_view t = record { kind = t.kind; attrs = map meta_view t.attrs.items; visibility = t.visibility }
+told_view t = record { kind = t.kind; identifier = t.identifier; attrs = map meta_view t.attrs.items; visibility = t.visibility }

@@ -8,8 +8,8 @@ ghost use Rattle.rust_members.specs.Parts as spec;
 ghost use Rattle.rust_members.specs.Views.{member_view, told_view};
 
 use crate::member::{Member, MemberKind};
-use hir_input::Meta;
 use hir_input::ast::{Item, MacroCall, NamedNode, Visibility};
+use hir_input::{Meta, Name};
 use rust_cursor::Cursor;
 use rust_leaves::{Leaf, Wanted, WantedMetas, pass_others, take_leaf, wanted_front};
 use rust_paths::TextRange;
@@ -19,6 +19,7 @@ use std::alloc::{AllocError, Global};
 #[derive(Drop)]
 struct Told {
     kind: MemberKind,
+    identifier: Option<Name>,
     attrs: Vec<Meta>,
     visibility: Option<Visibility>,
 }
@@ -28,6 +29,7 @@ fn told_as(kind: MemberKind, node: NamedNode) -> Told
 {
     Told {
         kind,
+        identifier: node.name,
         attrs: node.attrs,
         visibility: node.visibility,
     }
@@ -38,6 +40,7 @@ fn told_call(call: MacroCall) -> Told
 {
     Told {
         kind: MemberKind::MacroCall,
+        identifier: None,
         attrs: call.attrs,
         visibility: None,
     }
@@ -78,6 +81,7 @@ fn kept(leaf: Leaf<'_>, start: usize, end: usize) -> Option<Member>
     match told_of(leaf.item) {
         Some(told) => Some(Member {
             kind: told.kind,
+            identifier: told.identifier,
             name,
             range: TextRange { start, end },
             body: body_of(told.kind, body),

@@ -1,7 +1,9 @@
 //! Members.
 
-use hir_input::Meta;
+ghost use Rattle.std.specs.Prelude.{◌≡◌};
+
 use hir_input::ast::Visibility;
+use hir_input::{Meta, Name};
 use rust_paths::TextRange;
 
 /// What a member is.
@@ -25,7 +27,9 @@ pub enum MemberKind {
 #[derive(Debug)]
 pub struct Member {
     pub kind: MemberKind,
-    /// Where its name stands, if it has one.
+    /// Its name, if it has one, without `r#`.
+    pub identifier: Option<Name>,
+    /// Where its name stands.
     pub name: Option<TextRange>,
     /// Where it stands with its attributes, up to the comma of a variant or a field.
     pub range: TextRange,
@@ -36,11 +40,30 @@ pub struct Member {
     pub visibility: Option<Visibility>,
 }
 
+impl Member {
+    /// Its name alone.
+    pub fn into_identifier(self) -> Option<Name>
+        ensures { result ≡ self.identifier }
+    {
+        let Member {
+            kind: _,
+            identifier,
+            name: _,
+            range: _,
+            body: _,
+            attrs: _,
+            visibility: _,
+        } = self;
+        identifier
+    }
+}
+
 // (Written out: what is derived is proved anew, field by field, in each crate that drops one.)
 impl Drop for Member {
     fn drop(self) {
         let Member {
             kind: _,
+            identifier: _,
             name: _,
             range: _,
             body: _,

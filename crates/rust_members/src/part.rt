@@ -11,7 +11,7 @@ use crate::member::{Member, MemberKind};
 use hir_input::Meta;
 use hir_input::ast::Visibility;
 use rust_cursor::Cursor;
-use rust_leaves::item_name;
+use rust_leaves::{Named, item_name};
 use rust_metas::{WantedMetas, kept_outer_attributes};
 use rust_paths::{TextRange, visibility};
 use std::alloc::{AllocError, Global};
@@ -270,14 +270,16 @@ fn part_of(
     range: TextRange,
     attrs: Vec<Meta>,
     visibility: Option<Visibility>,
-    name: Option<TextRange>,
+    named: Named<'_>,
 ) -> Option<Member>
     ensures { option_map member_view result
-        ≡ spec.part_of kind range.start (map meta_view attrs.items) visibility name range.end }
+        ≡ spec.part_of kind range.start (map meta_view attrs.items) visibility named.entry.name
+        named.entry.range range.end }
 {
-    match name {
+    match named.range {
         Some(name) => Some(Member {
             kind,
+            identifier: named.name,
             name: Some(name),
             range,
             body: None,
@@ -308,5 +310,5 @@ pub(crate) fn part(
     let end = cursor.past();
     cursor.eat(b',');
     let range = TextRange { start, end };
-    Ok(part_of(kind, range, attrs, visibility, named.range))
+    Ok(part_of(kind, range, attrs, visibility, named))
 }
