@@ -13,6 +13,7 @@ mod kept;
 mod labelled;
 mod labels;
 mod laws;
+mod line_texts;
 mod listed;
 mod mended;
 mod moved;

@@ -1,6 +1,6 @@
 use Rattle.std.proofs.Common.{◌≡◌, ◌≤◌, length}
 use Rattle.source_rows.specs.Skeletons.{without_returns}
-use Rattle.source_rows.proofs.kept.next_byte.Given as goal
+use Rattle.source_rows.proofs.line_texts.next_byte.Given as goal
 
 abbrev pub invariant-bytes : goal.invariant-bytes
 invariant-bytes l = record {

@@ -1,6 +1,6 @@
 use Rattle.std.proofs.Common.{◌∙◌, refl, sym}
 use Rattle.source_rows.specs.Skeletons.{without_returns}
-use Rattle.source_rows.proofs.kept.are_same_lines.Goals as goal
+use Rattle.source_rows.proofs.line_texts.are_same_lines.Goals as goal
 
 pub returns-then-not-is_next_byte : goal.returns-then-not-is_next_byte
 returns-then-not-is_next_byte c =
