@@ -16,7 +16,7 @@ use Rattle.source_listing.specs.Uses.{FilePlaces, placed}
 use Rattle.source_listing.specs.Search.{Query, found_lines}
 use Rattle.source_listing.specs.Tags.{tags}
 use Rattle.source_problems.specs.Texts.{source_problems}
-use Rattle.source_reading.specs.ListedFiles.{listed_text}
+use Rattle.source_rows.specs.ListedFiles.{listed_text}
 use Rattle.rust_items.specs.SourceFiles.{FileView, IsFileView}
 use Rattle.itemtree_commands.specs.declared.trees.SourceTree.{SourceTree}
 use Rattle.itemtree_commands.specs.declared.trees.SourceError.{SourceError}

@@ -36,7 +36,7 @@ pub use Rattle.rust_members.specs.Lists.{is_boundary, is_cut}
 pub use Rattle.rust_paths.specs.declared.names.TextRange.{TextRange}
 pub use Rattle.source_listing.specs.Places.{AreDistinct, place_of, stands_at}
 pub use Rattle.source_listing.specs.Search.{bare_segment}
-pub use Rattle.source_reading.specs.ListedFiles.{HasTextOf, IsListedBare, IsListedFile, closers_in}
+pub use Rattle.source_rows.specs.ListedFiles.{HasTextOf, IsListedBare, IsListedFile, closers_in}
 pub use Rattle.source_session.specs.Edits.{IsShort, IsUsable, LineEdit, change_text, line_edit, line_edit_view, of_table, range_in, set_text}
 pub use Rattle.source_session.specs.Files.{CrateFiles, crate_files, is_change_in, is_in_crate}
 pub use Rattle.source_session.specs.Finders.{HaveDistinctIds, IsFinder, declared_scope, found_with, head_place, head_scope}

@@ -14,7 +14,7 @@ use hir_input::{EditionYear, HirFileId};
 use item_tree_db::Edit;
 use rust_items::{Wanted, WantedMetas};
 use rust_members::TextRange;
-use source_reading::{ReadError, read_listed};
+use source_rows::{ReadError, read_listed};
 use std::alloc::Global;
 
 /// An edit of the table, and what it leaves of the text of a file.

@@ -3,7 +3,7 @@ use Rattle.tree_walk.specs.Rows.{RowView, rows}
 use Rattle.rust_items.specs.declared.source_file.ItemPlace.{ItemPlace}
 use Rattle.source_rows.specs.Listed.{MemberReading}
 use Rattle.source_listing.specs.Search.{found_lines}
-use Rattle.source_reading.specs.ListedFiles.{closers_in}
+use Rattle.source_rows.specs.ListedFiles.{closers_in}
 use Rattle.source_listing.specs.Views.{query_view, source_view}
 use Rattle.itemtree_commands.specs.Answers.{reading_in}
 use Rattle.itemtree_commands.specs.Inner.{reading_by}

@@ -10,8 +10,8 @@ use Rattle.rust_items.specs.declared.source_file.SourceFile.{SourceFile}
 use Rattle.rust_items.specs.SourceFiles.{FileView, IsFileView, bare_file, clipped_file}
 use Rattle.source_rows.specs.Listed.{Closers, told_place, told_item}
 use Rattle.source_rows.specs.ListedViews.{closers_view}
-use Rattle.source_reading.specs.declared.read.ReadError.{ReadError}
-use Rattle.source_reading.specs.declared.read.ReadError.TheVariants.{TooLong, OutOfMemory}
+use Rattle.source_rows.specs.declared.read_texts.ReadError.{ReadError}
+use Rattle.source_rows.specs.declared.read_texts.ReadError.TheVariants.{TooLong, OutOfMemory}
 
 -- where closers are put in the mended text of a text, if it is another
 abbrev pub closers_by : List Edit → List ℕ → Option Closers

@@ -2,9 +2,9 @@ use Rattle.std.proofs.Common.{◌≡◌, ◌∙◌, Some, refl, subst}
 use Rattle.std.proofs.lemmas.Option.{MatchOption-at_none, MatchOption-at_some}
 use Rattle.rust_items.specs.SourceFiles.{IsClippedFile, file_view}
 use Rattle.source_rows.specs.ListedViews.{closers_view}
-use Rattle.source_reading.specs.ListedFiles.{closers_of}
-use Rattle.source_reading.proofs.ListedTexts.{closers_are, ids_told, mended_clipped, unmended_clipped}
-use Rattle.source_reading.proofs.listed.mended_file.Goals as goal
+use Rattle.source_rows.specs.ListedFiles.{closers_of}
+use Rattle.source_rows.proofs.ListedTexts.{closers_are, ids_told, mended_clipped, unmended_clipped}
+use Rattle.source_rows.proofs.listed_files.mended_file.Goals as goal
 
 pub returns-clause-file : goal.returns-clause-file
 returns-clause-file c =

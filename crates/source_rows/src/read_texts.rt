@@ -2,7 +2,7 @@
 
 ghost use Rattle.std.specs.Prelude.{◌≤◌, ◌^◌, length, IfOk, IfErr, OnOk};
 ghost use Rattle.rust_items.specs.SourceFiles.{IsClippedFile, file_view};
-ghost use Rattle.source_reading.specs.ListedFiles.{HasFileIds, IsUnreadText};
+ghost use Rattle.source_rows.specs.ListedFiles.{HasFileIds, IsUnreadText};
 
 use hir_input::EditionYear;
 use rust_items::{SourceFile, Wanted, read_wanted};
@@ -18,7 +18,7 @@ pub enum ReadError {
 
 impl From<AllocError> for ReadError {
     ghost use Rattle.std.specs.Prelude.{◌≡◌};
-    ghost use Rattle.source_reading.specs.declared.read.ReadError.TheVariants.{OutOfMemory};
+    ghost use Rattle.source_rows.specs.declared.read_texts.ReadError.TheVariants.{OutOfMemory};
 
     ghost from_gives = { λ _ e. e ≡ OutOfMemory };
 

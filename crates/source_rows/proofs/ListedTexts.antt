@@ -16,7 +16,7 @@ use Rattle.rust_items.specs.SourceFiles.{FileView, IsClippedFile, IsFileView, cl
 use Rattle.rust_items.proofs.Bare.{bare, list_bare}
 use Rattle.source_rows.specs.Listed.{Closers, told_place, told_item}
 use Rattle.source_rows.specs.ListedViews.{closers_view}
-use Rattle.source_reading.specs.ListedFiles.{IsListedBare, IsListedClipped, IsListedFile, closers_by, closers_of, listed_closers, told_file}
+use Rattle.source_rows.specs.ListedFiles.{IsListedBare, IsListedClipped, IsListedFile, closers_by, closers_of, listed_closers, told_file}
 
 -- ---- ids
 

@@ -4,13 +4,13 @@ ghost use Rattle.std.specs.Prelude.{◌≡◌, ◌≤◌, ◌<◌, ◌^◌, Some
 ghost use Rattle.rust_items.specs.SourceFiles.{IsClippedFile, file_view};
 ghost use Rattle.source_rows.specs.Listed.{told_place, told_item};
 ghost use Rattle.source_rows.specs.ListedViews.{closers_view};
-ghost use Rattle.source_reading.specs.ListedFiles.{HasFileIds, HasTextOf, IsListedClipped, IsUnlisted, closers_in, told_file};
+ghost use Rattle.source_rows.specs.ListedFiles.{HasFileIds, HasTextOf, IsListedClipped, IsUnlisted, closers_in, told_file};
 
-use crate::read::{ReadError, read_text};
+use crate::mended::{told_item, told_place};
+use crate::read_texts::{ReadError, read_text};
 use hir_input::EditionYear;
 use rust_items::{ItemPlace, Problem, SourceFile, Wanted};
 use rust_mended::{Mended, mend};
-use source_rows::{told_item, told_place};
 use std::alloc::{AllocError, Global};
 
 /// What lists read of a text, with the places and the problems of the text as it is.
@@ -52,7 +52,7 @@ fn told_use_trees(
 }
 
 /// What was read of a mended text, with the places of the text itself and its problems.
-fn told(
+fn unmended_file(
     alloc: Global,
     read: SourceFile,
     problems: Vec<Problem>,
@@ -96,7 +96,7 @@ fn mended_file(
         });
     };
     let read = read_text(alloc, &mended.text, wanted, edition)?;
-    let file = told(alloc, read, own.problems, &mended)?;
+    let file = unmended_file(alloc, read, own.problems, &mended)?;
     Ok(ListedFile {
         file,
         mended: Some(mended),

@@ -1,8 +1,8 @@
 use Rattle.std.proofs.Common.{◌≡◌, ◌<◌, arith, length}
 use Rattle.std.proofs.lemmas.Bool.Decides.{nat_tests}
 use Rattle.rust_items.specs.SourceFiles.{file_view}
-use Rattle.source_reading.proofs.ListedTexts.{whole_clipped}
-use Rattle.source_reading.proofs.listed.read_listed.Goals as goal
+use Rattle.source_rows.proofs.ListedTexts.{whole_clipped}
+use Rattle.source_rows.proofs.listed_files.read_listed.Goals as goal
 
 pub returns-then-is_empty-clause-file : goal.returns-then-is_empty-clause-file
 returns-then-is_empty-clause-file c =
