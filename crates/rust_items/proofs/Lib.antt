@@ -23,3 +23,9 @@ pub mod UntilItems
 pub mod Within
 pub mod Told
 pub mod Moving
+pub mod MemberSteps
+pub mod MemberPlacing
+pub mod MemberCuts
+pub mod MemberMetas
+pub mod UntilMembers
+pub mod MemberCommon

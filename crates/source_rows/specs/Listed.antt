@@ -11,8 +11,8 @@ use Rattle.rust_mended.specs.Texts.{forward_by, place_back_by}
 use Rattle.rust_paths.specs.declared.names.TextRange.{TextRange}
 use Rattle.rust_items.specs.declared.source_file.ItemPlace.{ItemPlace}
 use Rattle.rust_items.specs.LineEnds.{moved_range}
-use Rattle.rust_members.specs.declared.member.MemberKind.{MemberKind}
-use Rattle.rust_members.specs.Members.{MemberRead}
+use Rattle.rust_items.specs.declared.member.MemberKind.{MemberKind}
+use Rattle.rust_items.specs.Members.{MemberRead}
 use Rattle.source_rows.specs.Headers.{header}
 use Rattle.source_rows.specs.Labels.{has_members, text_at}
 use Rattle.source_rows.specs.Parts.{body_members}

@@ -11,7 +11,7 @@ use crate::labels::{ROOM, text_at};
 use hir_input::EditionYear;
 use rust_cursor::Cursor;
 use rust_leaves::{Wanted, WantedMetas, wanted_front};
-use rust_members::TextRange;
+use rust_items::TextRange;
 use std::alloc::{AllocError, Global};
 
 /// Adds the text of the next token, which stands there.

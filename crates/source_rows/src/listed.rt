@@ -1,6 +1,6 @@
 //! Members as lists tell them.
 ghost use Rattle.std.specs.Prelude.{◌≡◌, IfOk, filter_map, map, option_copied, option_map};
-ghost use Rattle.rust_members.specs.Views.{member_view};
+ghost use Rattle.rust_items.specs.MemberViews.{member_view};
 ghost use Rattle.source_rows.specs.Listed as spec;
 ghost use Rattle.source_rows.specs.ListedViews.{closers_view, listed_view};
 
@@ -10,8 +10,7 @@ use crate::mended::{told_place, told_range};
 use hir_input::{CfgOptions, EditionYear, Name};
 use item_tree::{RawVisibility, visibility_from_ast};
 use rust_cursor::push_some;
-use rust_items::ItemPlace;
-use rust_members::{Member, MemberKind, TextRange};
+use rust_items::{ItemPlace, Member, MemberKind, TextRange};
 use rust_mended::Mended;
 use std::alloc::{AllocError, Global};
 

@@ -32,7 +32,7 @@ unfoldable pub use Rattle.item_tree_request.specs.Outputs.{table_change_line}
 pub use Rattle.rust_edits.specs.Edits.{HasPlaces, IsReadMoved, PlacesAreKept, ReadsMoved, edited, has_item, has_place, shifted_item, shifted_place, shifted_problem}
 pub use Rattle.rust_items.specs.SourceFiles.{FileView, IsFileView, bare_file, file_view}
 pub use Rattle.rust_items.specs.declared.source_file.ItemPlace.{ItemPlace}
-pub use Rattle.rust_members.specs.Lists.{is_boundary, is_cut}
+pub use Rattle.rust_items.specs.MemberLists.{is_boundary, is_cut}
 pub use Rattle.rust_paths.specs.declared.names.TextRange.{TextRange}
 pub use Rattle.source_listing.specs.Places.{AreDistinct, place_of, stands_at}
 pub use Rattle.source_listing.specs.Search.{bare_segment}

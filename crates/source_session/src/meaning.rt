@@ -12,8 +12,7 @@ use crate::splice::changed;
 use crate::texts::{Change, SourceText, Texts, text_after};
 use hir_input::{EditionYear, HirFileId};
 use item_tree_db::Edit;
-use rust_items::{Wanted, WantedMetas};
-use rust_members::TextRange;
+use rust_items::{TextRange, Wanted, WantedMetas};
 use source_rows::{ReadError, read_listed};
 use std::alloc::Global;
 

@@ -1,6 +1,6 @@
 use Rattle.std.proofs.Common.{rules, ◌≡◌, ◌∷◌, ◌++◌, List, map, filter_map, ap, sym, ◌∙◌, option_copied, option_map}
 use Rattle.rust_cursor.proofs.Pushed.{pushed_view}
-use Rattle.rust_members.specs.declared.member.Member.{Member}
+use Rattle.rust_items.specs.declared.member.Member.{Member}
 use Rattle.source_rows.specs.Listed as spec
 use Rattle.source_rows.specs.ListedViews.{closers_view, listed_view}
 use Rattle.source_rows.proofs.Common.{member_view}
