@@ -16,6 +16,7 @@ use Rattle.rust_paths.specs.Visibilities.{visibility}
 use Rattle.rust_paths.proofs.Leads.{visibility_leads}
 use Rattle.rust_metas.specs.Attributes.{outer_attributes, inner_attributes}
 use Rattle.rust_metas.proofs.Leads.{outer_attributes_leads, inner_attributes_leads}
+use Rattle.rust_items.proofs.Places.{name_in}
 use Rattle.rust_items.proofs.Leads.{IsBraced, braced, IsNamed, by_token, LeafFound, IsTaken, front_takes, front_start, leaf_found, named_leads, named_named, behind_others_leads}
 use Rattle.rust_items.specs.declared.member.MemberKind.{MemberKind}
 use Rattle.rust_items.specs.declared.member.MemberKind.TheVariants as member
@@ -82,15 +83,6 @@ module _ (end : ℕ) (ends : Tokens → Bool) (reader : Reader (Option MemberRea
   list_found ts laid = let l = list_from most [] ts laid in rw l.list l.found
 
 -- ---- names and bodies
-
-name_in : (end : ℕ) (ts us : Tokens) (name : Option TextRange) → IsLaid end ts → IsNamed ts us name → IsNameIn (record { start = at ts; end = us.past }) name
-name_in end ts us None laid n = tt
-name_in end ts us (Some range) laid (by_token t before some later) =
-    let first = behind end before laid in
-    let strict = taken_behind end t first.laid some in
-    let next = behind end (bumped_leads t) first.laid in
-    let last = behind end later next.laid in
-    (first.place, strict, last.past)
 
 braces_in : (end : ℕ) (ts us : Tokens) (body : Option TextRange) → IsLaid end ts → IsBraced ts us body → IsNameIn (record { start = at ts; end = us.past }) body
 braces_in end ts us None laid n = tt

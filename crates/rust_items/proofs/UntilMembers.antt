@@ -15,6 +15,7 @@ use Rattle.rust_cursor.proofs.Places.{AreAlike, IsAlike, SamePlace, alike_join, 
 use Rattle.rust_cursor.proofs.Until.{Gone, bumped_onward, by_kept, by_next, gone_on}
 use Rattle.rust_cursor.proofs.Views.{behind_at, empty_same, end_same, symbol_same}
 use Rattle.rust_cursor.specs.Beside.{Beside, Bodies}
+use Rattle.rust_items.proofs.FoundRows.{Elsewhere}
 use Rattle.rust_items.proofs.Leads.{behind_others_leads, front_start, front_takes}
 use Rattle.rust_items.proofs.UntilItems.{passed, plain_passed, side}
 use Rattle.rust_items.proofs.UntilLeaves.{BeginPlain, LeafUntil, front_until, leaf_gone, leaf_lost, leaf_same, leaf_until}
@@ -33,12 +34,7 @@ use Rattle.rust_items.proofs.MemberPlacing.{AreFound, Finds, associated_found, l
 
 -- ---- whose braces they are
 
--- these braces do not begin there
-abbrev pub Elsewhere : ℕ → Option TextRange → Type 0
-Elsewhere at None = Unit {0}
-Elsewhere at (Some r) = r.start ≡ at → ⊥
-
--- nor do those of all these members
+-- the braces of these members do not begin there
 abbrev pub AreElsewhere : ℕ → List MemberRead → Type 0
 AreElsewhere at [] = Unit {0}
 AreElsewhere at (m ∷ ms) = Elsewhere at m.body × AreElsewhere at ms

@@ -18,7 +18,8 @@ use Rattle.rust_items.specs.Members.{MemberRead, moved_member, range_moved_by}
 use Rattle.rust_items.specs.MemberPlaces.{ArePlaced}
 use Rattle.rust_items.proofs.MemberCuts.{placed_moved}
 use Rattle.rust_items.proofs.MemberPlacing.{members_placed}
-use Rattle.rust_items.proofs.UntilMembers.{AreElsewhere, Elsewhere, MemberAlike, MembersUntil, alike, members_until, of_none}
+use Rattle.rust_items.proofs.FoundRows.{Elsewhere}
+use Rattle.rust_items.proofs.UntilMembers.{AreElsewhere, MemberAlike, MembersUntil, alike, members_until, of_none}
 use Rattle.rust_edits.proofs.Common.{AreAlike, close_of, close_some, end_of, tokens_of, tokens_sound}
 use Rattle.rust_edits.proofs.Typing.Texts.{IsMoved, are_moved, begin_plain, bodies_at, tokens_beside}
 use Rattle.rust_edits.proofs.Typing.Texts as texts
