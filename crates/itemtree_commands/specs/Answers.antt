@@ -17,7 +17,7 @@ use Rattle.source_listing.specs.Tags.{tags}
 use Rattle.source_problems.specs.Texts.{source_problems}
 use Rattle.source_changes.specs.Changes.{AreLinesBetween}
 use Rattle.source_changes.specs.declared.Compared.{Compared}
-use Rattle.source_reading.specs.ListedFiles.{listed_text}
+use Rattle.source_rows.specs.ListedFiles.{listed_text}
 use Rattle.rust_items.specs.SourceFiles.{FileView, IsFileView}
 use Rattle.itemtree_commands.specs.declared.trees.SourceTree.{SourceTree}
 use Rattle.itemtree_commands.specs.declared.trees.SourceError.{SourceError}

@@ -2,7 +2,7 @@
 
 ghost use Rattle.std.specs.Prelude.{◌≡◌, ◌≤◌, ◌^◌, length, IfOk, IfErr, OnOk};
 ghost use Rattle.item_tree.specs.declared.fault.LowerError.TheVariants.{OutOfMemory};
-ghost use Rattle.source_reading.specs.ListedFiles.{HasTextOf, closers_in};
+ghost use Rattle.source_rows.specs.ListedFiles.{HasTextOf, closers_in};
 ghost use Rattle.itemtree_commands.specs.Answers as spec;
 ghost use Rattle.itemtree_commands.specs.Inner.{HasListedRows, IsClippedRefused, IsClippedTree};
 ghost use Rattle.itemtree_commands.specs.Trees.{HasOwnIds};
@@ -13,7 +13,7 @@ use crate::trees::{SourceError, SourceTree, tree_of, wanted_under};
 use item_tree::LowerError;
 use rust_items::{Wanted, WantedMetas};
 use rust_mended::Mended;
-use source_reading::read_listed;
+use source_rows::read_listed;
 use std::alloc::Global;
 
 /// The tree that lists tell of a text, with the places of the text as it is.

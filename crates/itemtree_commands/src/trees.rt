@@ -14,7 +14,7 @@ ghost use Rattle.itemtree_commands.specs.Trees.{metas_under, wanted_under};
 use hir_input::{EditionYear, Name};
 use item_tree::{CrateData, ItemTree, LowerError, lower_syntax};
 use rust_items::{ItemPlace, Problem, SourceFile, Wanted, WantedMetas};
-use source_reading::{ReadError, read_text};
+use source_rows::{ReadError, read_text};
 use std::alloc::{AllocError, Global};
 use thiserror::Error;
 

@@ -55,8 +55,10 @@ pub use Rattle.rust_ids.specs.Row.{Row}
 pub use Rattle.rust_items.proofs.FilePlaces.{text_found, view_placed}
 pub use Rattle.rust_items.proofs.Leads.{IsBraced, LeafAt, alias_if_leads, behind_modifiers_leads, behind_others_leads, braced, call_end_leads, front_start, front_takes, head_takes, impl_end_leads, item_end_leads, leaf_at, macro_end_leads, named_leads, named_or_leads, renamed_leads, value_end_leads}
 pub use Rattle.rust_items.proofs.LineEnds.{before, below_none, place_le, place_rises_in, place_within, prefix_short, returns_count}
-pub use Rattle.rust_items.proofs.Places.{AreFound, Finds, FindsIn, Span, adds_item, adds_problem_at, adds_use_trees, extern_inside_found, extern_turn_found, inside_found, items_found, list_found, list_from, place_span, turn_found, turn_with_found, unless_found}
-pub use Rattle.rust_items.proofs.UntilItems.{FileUntil, ListAlike, Rows, RowsAlike, SpanAlike, alike, by_rows, file_until, found_rows, of_none, rows_of}
+pub use Rattle.rust_items.proofs.Places.{FindsIn, extern_inside_found, extern_turn_found, inside_found, items_found, turn_found, turn_with_found, unless_found}
+pub use Rattle.rust_items.proofs.FoundItems.{AreFound, Finds, Span, adds_item, adds_problem_at, adds_use_trees, list_found, list_from, place_span}
+pub use Rattle.rust_items.proofs.UntilItems.{FileUntil, alike, file_until, found_rows, of_none}
+pub use Rattle.rust_items.proofs.FoundRows.{ListAlike, Rows, RowsAlike, SpanAlike, by_rows, rows_of}
 pub use Rattle.rust_items.proofs.UntilLeaves.{BeginPlain, FrontAlike, LeafLost, LeafUntil, front_until, leaf_gone, leaf_lost, leaf_same, leaf_until}
 pub use Rattle.rust_items.proofs.Within.{AreIn, IsIn, IsMaybeIn, spans_in}
 pub use Rattle.rust_items.specs.Found.{Finder, Found, and_all, and_problem, and_problem_at, and_row, and_use_trees, nothing_found}

@@ -34,7 +34,7 @@ unfoldable pub use Rattle.rust_items.specs.Blocks.{call_found, found_of, other_r
 pub use Rattle.rust_items.specs.Clipped.{clipped_turn}
 unfoldable pub use Rattle.rust_items.specs.Clipped.{clipped_block, clipped_item_if, clipped_items, wanted_behind, wanted_item_if}
 pub use Rattle.rust_items.specs.Found.{Finder, Finds, Found, and_all, and_problem, and_problem_at, and_problem_if, and_row, and_use_trees, log_view, nothing_found}
-pub use Rattle.rust_items.specs.Ids.{each_with_ids, first_numbers, held_with_ids, item_with_ids, list_with_ids, listed_by, numbered_call, numbered_named, numbered_node, some_with_ids, with_ids}
+pub use Rattle.rust_items.specs.Ids.{each_with_ids, first_numbers, held_with_ids, item_with_ids, list_with_ids, listed_by, numbered_call, numbered_named, numbered_node, with_ids}
 pub use Rattle.rust_items.specs.Items.{BlockRead, and_flaw, and_item, and_leaf, and_parent, and_rest, as_extern, block_of, by_head, deep_block, depth_of, empty_block, extern_by, extern_found, extern_kept, finding_from, inside_unless, items, leaf_found, leaf_kept, module_with, needs_name, one_more, some_item, span_of, turn_with, unmatched}
 unfoldable pub use Rattle.rust_items.specs.Items.{behind_front, extern_block, extern_inside, extern_turn, finding, inside, is_list_end, leaf_turn, module_item, turn}
 pub use Rattle.rust_items.specs.LineEnds.{is_return, moved_problem, moved_range, moved_span, place_by, returns_from, with_feeds}

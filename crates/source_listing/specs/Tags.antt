@@ -6,8 +6,8 @@ use Rattle.line_index.specs.Positions.{position_of}
 use Rattle.source_rows.specs.Labels.{kind_texts}
 use Rattle.source_rows.specs.Listed.{Listed, MemberReading, members_of}
 use Rattle.rust_items.specs.declared.source_file.ItemPlace.{ItemPlace}
-use Rattle.rust_members.specs.declared.member.MemberKind.{MemberKind}
-use Rattle.rust_members.specs.declared.member.MemberKind.TheVariants as member
+use Rattle.rust_items.specs.declared.member.MemberKind.{MemberKind}
+use Rattle.rust_items.specs.declared.member.MemberKind.TheVariants as member
 use Rattle.source_listing.specs.Lines.{Choice, Source, is_chosen, is_listed}
 use Rattle.source_rows.specs.Places.{place_of, stands_at}
 use Rattle.source_listing.specs.Search.{holder}

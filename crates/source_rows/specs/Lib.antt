@@ -22,3 +22,4 @@ pub mod Inner
 pub mod ChangeViews
 pub mod Outside
 pub mod Moves
+pub mod ListedFiles

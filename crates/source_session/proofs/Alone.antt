@@ -8,7 +8,7 @@ use Rattle.std.specs.declared.alloc.Global.{Global}
 use Rattle.std.specs.declared.string.String.{String}
 use Rattle.rust_edits.specs.declared.shift.Shift.{Shift}
 use Rattle.rust_mended.specs.declared.text.Mended.{Mended}
-use Rattle.source_reading.proofs.ListedTexts.{listed_whole, no_problems, whole_listed}
+use Rattle.source_rows.proofs.ListedTexts.{listed_whole, no_problems, whole_listed}
 use Rattle.source_session.specs.declared.inside.Inside.{Inside}
 use Rattle.source_session.proofs.Kept.{text_step}
 use Rattle.source_session.proofs.Made.{together_after}

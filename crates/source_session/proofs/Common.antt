@@ -32,11 +32,11 @@ unfoldable pub use Rattle.item_tree_request.specs.Outputs.{table_change_line}
 pub use Rattle.rust_edits.specs.Edits.{HasPlaces, IsReadMoved, PlacesAreKept, ReadsMoved, edited, has_item, has_place, shifted_item, shifted_place, shifted_problem}
 pub use Rattle.rust_items.specs.SourceFiles.{FileView, IsFileView, bare_file, file_view}
 pub use Rattle.rust_items.specs.declared.source_file.ItemPlace.{ItemPlace}
-pub use Rattle.rust_members.specs.Lists.{is_boundary, is_cut}
+pub use Rattle.rust_items.specs.MemberLists.{is_boundary, is_cut}
 pub use Rattle.rust_paths.specs.declared.names.TextRange.{TextRange}
 pub use Rattle.source_rows.specs.Places.{AreDistinct, place_of, stands_at}
 pub use Rattle.source_listing.specs.Paths.{bare_segment}
-pub use Rattle.source_reading.specs.ListedFiles.{HasTextOf, IsListedBare, IsListedFile, closers_in}
+pub use Rattle.source_rows.specs.ListedFiles.{HasTextOf, IsListedBare, IsListedFile, closers_in}
 pub use Rattle.source_session.specs.Edits.{IsShort, IsUsable, LineEdit, change_text, line_edit, line_edit_view, of_table, range_in, set_text}
 pub use Rattle.source_session.specs.Files.{CrateFiles, crate_files, is_change_in, is_in_crate}
 pub use Rattle.source_session.specs.Finders.{HaveDistinctIds, IsFinder, declared_scope, found_with, head_scope}

@@ -1,7 +1,7 @@
 -- A text with what stands in a range of it replaced.
 use Rattle.std.proofs.Common.{◌≡◌, ℕ, ◌≤◌, ◌+◌, ◌-◌, ◌^◌, ◌&&◌, ◌++◌, Bool, true, false, if◌then◌else◌, List, Option, Some, None, length, take, drop, refl, sym, ap, ◌∙◌, append_assoc, arith, IsCharBoundary, is_some, nat_le, nat_lt, option_map}
 use Rattle.source_session.proofs.Common.{and_parts, length-append, length-drop, length-take-le, drop-drop, is_boundary, is_cut, TextRange, spliced_text, is_outside, is_long, change_fault}
-use Rattle.rust_members.proofs.Moving.{boundary_is}
+use Rattle.rust_items.proofs.MemberCuts.{boundary_is}
 use Rattle.source_session.specs.declared.splice.ChangeFault.TheVariants.{OutsideText, CutsCharacter, TooLong}
 
 -- ---- where a range is cut out

@@ -9,9 +9,9 @@ use Rattle.item_tree_db.specs.declared.place.Place.TheVariants.{File, Block}
 use Rattle.item_tree_db.specs.Edits.{EditView, set, remove, set_cfg}
 use Rattle.item_tree_db.specs.History.{last_some}
 use Rattle.rust_items.specs.SourceFiles.{FileView}
-use Rattle.rust_members.specs.Lists.{is_cut}
+use Rattle.rust_items.specs.MemberLists.{is_cut}
 use Rattle.rust_paths.specs.declared.names.TextRange.{TextRange}
-use Rattle.source_reading.specs.ListedFiles.{HasTextOf, IsListedBare, closers_in}
+use Rattle.source_rows.specs.ListedFiles.{HasTextOf, IsListedBare, closers_in}
 use Rattle.source_session.specs.declared.splice.ChangeFault.{ChangeFault}
 use Rattle.source_session.specs.declared.splice.ChangeFault.TheVariants.{NoText, OutsideText, CutsCharacter, TooLong}
 use Rattle.source_session.specs.declared.texts.SourceText.{SourceText}

@@ -2,7 +2,7 @@
 ghost use Rattle.std.specs.Prelude.{◌≡◌, ◌++◌, IfSome};
 ghost use Rattle.source_session.specs.Texts.{spliced_text};
 
-use rust_members::TextRange;
+use rust_items::TextRange;
 
 // How many bytes two texts begin with in common.
 fn common_start(old: &[u8], new: &[u8]) -> usize {

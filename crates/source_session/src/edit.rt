@@ -14,7 +14,7 @@ use hir_input_json::member::{field, id_at, members_of, taken, word_at};
 use hir_input_json::{Fault, ReadIn};
 use item_tree_db::Edit;
 use item_tree_request::request::edit::edit_in;
-use rust_members::TextRange;
+use rust_items::TextRange;
 use serde_json::Value;
 use std::alloc::Global;
 

@@ -9,7 +9,7 @@ use crate::splice::ChangeFault;
 use hir_input_json::{Fault, Pointer};
 use item_tree::{EditFault, LowerError};
 use serde_json::{Value, json};
-use source_reading::ReadError;
+use source_rows::ReadError;
 use std::alloc::{AllocError, AllocFailed, Global};
 
 /// Why a line is answered with an error.

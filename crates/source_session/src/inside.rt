@@ -12,7 +12,7 @@ use crate::texts::{SourceText, Texts, text_of};
 use hir_input::HirFileId;
 use item_tree_db::Sources;
 use rust_edits::{BodyEdit, edit_inside};
-use rust_members::TextRange;
+use rust_items::TextRange;
 use std::alloc::{AllocError, Global};
 
 /// An edit inside a body of a text.

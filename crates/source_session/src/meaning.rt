@@ -13,9 +13,8 @@ use crate::splice::changed_text;
 use crate::texts::{Change, SourceText, Texts, text_after};
 use hir_input::{EditionYear, HirFileId};
 use item_tree_db::Edit;
-use rust_items::{Wanted, WantedMetas};
-use rust_members::TextRange;
-use source_reading::{ReadError, read_listed};
+use rust_items::{TextRange, Wanted, WantedMetas};
+use source_rows::{ReadError, read_listed};
 use std::alloc::Global;
 
 /// An edit of the table, and what it leaves of the text of a file.

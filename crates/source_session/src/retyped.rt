@@ -1,6 +1,6 @@
 //! Texts that are changed in place, with what was read of them.
 ghost use Rattle.std.specs.Prelude.{◌≡◌, ◌≢◌, ℕ, true, IfOk, IfSome, string_bytes};
-ghost use Rattle.rust_members.specs.Lists.{is_cut};
+ghost use Rattle.rust_items.specs.MemberLists.{is_cut};
 ghost use Rattle.source_session.specs.Inside.{CanReplace, IsRetyped, IsRetypedIf};
 ghost use Rattle.source_session.specs.Texts as spec;
 ghost use Rattle.source_session.specs.Texts.{text_in};
@@ -8,7 +8,7 @@ ghost use Rattle.source_session.specs.Texts.{text_in};
 use crate::splice::spliced_text;
 use crate::texts::{SourceText, Texts};
 use rust_edits::Shift;
-use rust_members::TextRange;
+use rust_items::TextRange;
 use std::alloc::{AllocError, Global};
 
 /// A text with what stands in a range of it replaced, if the text itself has no room for that.

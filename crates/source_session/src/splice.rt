@@ -1,7 +1,7 @@
 //! The text of a file, with what stands in a range of it replaced.
 ghost use Rattle.std.specs.Prelude.{◌≡◌, ◌^◌, ◌+◌, ◌≤◌, true, nat_lt, IfOk, IfErr, Ok, length, option_copied};
 ghost use Rattle.std.specs.Prelude.{string_bytes};
-ghost use Rattle.rust_members.specs.Lists.{is_cut};
+ghost use Rattle.rust_items.specs.MemberLists.{is_cut};
 ghost use Rattle.source_session.specs.Inner.{TellsFault, IsWhyUnchanged};
 ghost use Rattle.source_session.specs.Texts as spec;
 ghost use Rattle.source_session.specs.Texts.{bytes_kept, change_fault, changed_text};
@@ -9,7 +9,7 @@ ghost use Rattle.source_session.specs.Texts.{bytes_kept, change_fault, changed_t
 use crate::edit::MOST_BYTES;
 use crate::error::LineError;
 use crate::texts::SourceText;
-use rust_members::{TextRange, cut_out};
+use rust_items::{TextRange, cut_out};
 use std::alloc::{AllocError, Global};
 
 /// Why a range of the text of a file cannot be replaced.
