@@ -6,3 +6,4 @@ pub mod Common
 pub mod RowTrees
 pub mod ListedRows
 pub mod Checks
+pub mod RequestTexts

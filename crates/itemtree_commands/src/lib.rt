@@ -3,6 +3,7 @@
 
 mod laws;
 mod listed;
+mod request;
 mod trees;
 
 ghost use Rattle.std.specs.Prelude.{◌≡◌, ◌≤◌, ◌^◌, length, map, IfOk, IfErr, OnOk, option_copied, string_bytes};

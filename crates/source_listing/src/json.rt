@@ -19,15 +19,17 @@ use crate::printer::Printer;
 use crate::values::{
     column_value, line_value, name_value, put_text, range_value, subject_value, visibility_value,
 };
-use def_collector::{name_at, visibility_at};
 use hir_input::{Edition, FileAstId, Name};
 use item_tree::{ItemTree, ModItemId, RawVisibility};
-use json_object::{Members, of_text, with};
+use hir_input_json::member::Members;
+use hir_input_json::write::object::{of_text, with};
 use rust_items::ItemPlace;
 use serde_json::{Map, Value, put};
 use source_rows::{ListedMember, Reading, Source, Spot, item_word, member_word};
 use std::alloc::{AllocError, Global};
-use tree_walk::{Subject, children, is_enabled, is_file_enabled, subject_at};
+use tree_walk::{
+    Subject, children, is_enabled, is_file_enabled, name_at, subject_at, visibility_at,
+};
 
 /// An item, and whether no cfg disables it, nor an item that it stands in, nor the file.
 #[derive(Drop)]
