@@ -4,7 +4,7 @@ use Rattle.tree_walk.specs.Rows.{RowView, rows}
 use Rattle.rust_items.specs.declared.source_file.ItemPlace.{ItemPlace}
 use Rattle.source_rows.specs.Listed.{Closers, MemberReading}
 use Rattle.source_listing.specs.Lines.{Source}
-use Rattle.source_reading.specs.ListedFiles.{HasTextOf, closers_in}
+use Rattle.source_rows.specs.ListedFiles.{HasTextOf, closers_in}
 use Rattle.itemtree_commands.specs.Answers.{HasListed, reading_in}
 use Rattle.itemtree_commands.specs.Inner.{HasListedRows, reading_by}
 use Rattle.itemtree_commands.specs.declared.Options.{Options}

@@ -16,6 +16,7 @@ ghost use Rattle.itemtree_commands.specs.Trees.{HasOwnIds, IsTextUnread};
 use hir_input::{CfgOptions, Edition, Name};
 use item_tree::CrateData;
 use listed::{listed_rows, listed_tree};
+pub use request::source_request;
 use rust_mended::Mended;
 use source_changes::{Compared, change_lines};
 use source_listing::{Choice, Look, Query, Reading, Source, without_ids};

@@ -9,7 +9,7 @@ use crate::lines::push_visible_in;
 use crate::subjects::push_short_tree;
 use hir_input::{Edition, Name};
 use item_tree::{RawVisibility, VisibilityExplicitness};
-use json_object::Members;
+use hir_input_json::member::Members;
 use serde_json::{Value, put};
 use source_rows::Spot;
 use std::alloc::{AllocError, Global};

@@ -3,12 +3,12 @@
 //! It goes on from the item that was found last, so that items in the order of the text cost one pass over the tree in
 //! all.
 ghost use Rattle.std.specs.Prelude.{◌≡◌, ◌≢◌, ◌++◌, IfOk, OnOk, map, string_bytes, AllPairs, flat_map};
-ghost use Rattle.def_collector.specs.DeclarationView.{declaration_id};
+ghost use Rattle.tree_walk.specs.DeclarationView.{declaration_id};
 ghost use Rattle.source_listing.specs.Paths.{bare_segment};
 ghost use Rattle.source_session.specs.Finders.{KnowsScopes, declared_scope, head_scope};
 ghost use Rattle.source_session.specs.Sought.{found_scope, scope_by_id};
 
-use def_collector::{Declaration, collect};
+use tree_walk::{Declaration, collect};
 use item_tree::{ItemTree, ModItemId};
 use source_listing::push_scope;
 use std::alloc::{AllocError, Global};
