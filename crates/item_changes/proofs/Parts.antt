@@ -2,9 +2,9 @@
 use Rattle.std.proofs.Common.{◌≡◌, ℕ, Bool, true, false, List, [], Option, Some, None, Bor, refl, ap, sym, ◌∙◌}
 use Rattle.std.specs.{Prelude.IsSome, Prelude.option_copied, Prelude.option_map, Bool.Decides, Option.option_map_or}
 use Rattle.std.proofs.lemmas.Bool.{false≢true, Decides.Decides-like}
-use Rattle.hir_input.specs.{declared.attr.Attr.Attr, declared.ids.AstIdKind.AstIdKind, Cfg.CfgView, Syntax.PlainKind}
+use Rattle.hir_input.specs.declared.ast.PlainKind.TheVariants as plain_kind
+use Rattle.hir_input.specs.{declared.attr.Attr.Attr, declared.ids.AstIdKind.AstIdKind, Cfg.CfgView, declared.ast.PlainKind.PlainKind}
 use Rattle.hir_input.specs.declared.ids.AstIdKind.TheVariants as kind
-use Rattle.hir_input.specs.Syntax as syntax
 use Rattle.item_tree_attrs.specs.Collected.{Collected}
 use Rattle.item_tree.specs.{declared.visibility.RawVisibility.RawVisibility, Column.is_empty_of, Column.some_unless, Column.or_no_attrs, Layout.or_public}
 use Rattle.item_tree.specs.Node.{Ctor, no_ctor, Leaf, plain, constant, struct_item, outline, use_item, extern_crate, impl_item, macro_call, macro_rules, inline, extern_block, Head, Node, leaf, parent, empty, node_head}
@@ -17,13 +17,13 @@ use Rattle.item_changes.specs.Inner.{Rest, named, struct_rest, module_rest, use_
 -- ---- back from the parts
 
 abbrev plain_of : AstIdKind → PlainKind
-plain_of kind.Union = syntax.union_kind
-plain_of kind.Enum = syntax.enum_kind
-plain_of kind.Static = syntax.static_kind
-plain_of kind.Trait = syntax.trait_kind
-plain_of kind.TypeAlias = syntax.type_alias_kind
-plain_of kind.MacroDef = syntax.macro_def_kind
-plain_of _ = syntax.fn_kind
+plain_of kind.Union = plain_kind.Union
+plain_of kind.Enum = plain_kind.Enum
+plain_of kind.Static = plain_kind.Static
+plain_of kind.Trait = plain_kind.Trait
+plain_of kind.TypeAlias = plain_kind.TypeAlias
+plain_of kind.MacroDef = plain_kind.MacroDef
+plain_of _ = plain_kind.Fn
 
 abbrev or_no_name : Option (List ℕ) → List ℕ
 or_no_name None = []
@@ -56,7 +56,7 @@ abbrev attrs_of : Node → Collected
 attrs_of n = (node_head n).attrs
 
 back-own : (n : Node) → back (attrs_of n) (node_visibility n) (node_ctor n) (node_rest n) ≡ own n
-back-own (leaf h (plain syntax.fn_kind n v)) = refl
+back-own (leaf h (plain plain_kind.Fn n v)) = refl
 back-own (parent h (inline n v) f) = refl
 back-own _ = refl
 
