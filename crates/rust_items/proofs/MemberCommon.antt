@@ -1,5 +1,5 @@
 -- The names that most proofs here cite, passed on from one place. Declares nothing.
-pub use Rattle.hir_input.specs.Syntax.{ItemView, fn_kind, plain_item}
+pub use Rattle.hir_input.specs.Syntax.{ItemView, plain_item}
 pub use Rattle.rust_cursor.specs.Elements.{perhaps, turns_from}
 unfoldable pub use Rattle.rust_cursor.specs.Elements.{beyond, most, turns}
 pub use Rattle.rust_cursor.specs.Reader.{Reader}

@@ -1,12 +1,13 @@
 -- What a member is stands neither in metas that are not wanted nor in body texts.
+use Rattle.hir_input.specs.declared.ast.PlainKind.TheVariants as plain_kind
 use Rattle.std.proofs.Common.{◌≡◌, ℕ, false, Option, Some, None, refl, sym, ap, ◌∙◌}
-use Rattle.rust_items.proofs.MemberCommon.{ItemView, plain_item, fn_kind, Tokens, is_at_end, with_value, clipped_front, clipped_item, clipped_leaf, clipped_leaf_if, FrontRead, front, LeafRead, MemberTold, told_of, told_with, member_kept, leaf_member, member_behind_front, associated, MemberRead, Reader, leaf_behind}
+use Rattle.rust_items.proofs.MemberCommon.{ItemView, plain_item, Tokens, is_at_end, with_value, clipped_front, clipped_item, clipped_leaf, clipped_leaf_if, FrontRead, front, LeafRead, MemberTold, told_of, told_with, member_kept, leaf_member, member_behind_front, associated, MemberRead, Reader, leaf_behind}
 use Rattle.rust_leaves.specs.declared.wanted.Wanted.{Wanted}
 use Rattle.rust_leaves.specs.Kinds.{leaf}
 use Rattle.rust_leaves.proofs.Clipped.{leaf_front}
 
 told_wanted : (w : Wanted) (i : ItemView) → told_of (clipped_item w i) ≡ told_with w.metas i
-told_wanted w (plain_item fn_kind n) = refl
+told_wanted w (plain_item plain_kind.Fn n) = refl
 told_wanted w _ = refl
 
 kept_same : (w : Wanted) (start end : ℕ) (l : LeafRead) (t : Option MemberTold) → member_kept start end (clipped_leaf w l) t ≡ member_kept start end l t

@@ -1,8 +1,8 @@
 -- Members of traits and impls, of tokens beside, stand alike until one goes into the braces.
 use Rattle.std.proofs.Common.{◌≡◌, ◌≤◌, ◌<◌, ◌==◌, ℕ, zero, suc, true, false, Option, Some, None, List, [], ◌∷◌, ◌++◌, refl, ap, sym, ◌∙◌, if◌then◌else◌, arith, append_assoc, option_map, option_to_list}
+use Rattle.hir_input.specs.declared.ast.PlainKind.TheVariants as plain_kind
 use Rattle.hir_input.specs.Attr.{MetaView}
 use Rattle.hir_input.specs.Bodies.{item_without_bodies}
-use Rattle.hir_input.specs.Syntax.{type_alias_kind}
 use Rattle.hir_input.specs.declared.ast.Visibility.{Visibility}
 use Rattle.hir_input.specs.declared.ids.AstIdKind.{AstIdKind}
 use Rattle.hir_input.specs.declared.ids.AstIdKind.TheVariants as kind
@@ -26,7 +26,7 @@ use Rattle.rust_metas.proofs.Leads.{inner_attributes_leads}
 use Rattle.rust_metas.proofs.UntilAttributes.{inner_attributes_until}
 use Rattle.rust_metas.specs.Attributes.{inner_attributes}
 use Rattle.rust_metas.specs.declared.wanted.WantedMetas.{WantedMetas}
-use Rattle.rust_items.proofs.MemberCommon.{ItemView, plain_item, fn_kind, Tokens, Reader, symbol, at, is_at_end, bumped, most, beyond, turns_from, turns, perhaps, TextRange, front, LeafRead, IsNameIn, MemberRead, MemberTold, told_of, told_with, body_of, member_kept, leaf_member, associated, part_of, part_member, member_turn, is_list_over, members_from, ArePlaced}
+use Rattle.rust_items.proofs.MemberCommon.{ItemView, plain_item, Tokens, Reader, symbol, at, is_at_end, bumped, most, beyond, turns_from, turns, perhaps, TextRange, front, LeafRead, IsNameIn, MemberRead, MemberTold, told_of, told_with, body_of, member_kept, leaf_member, associated, part_of, part_member, member_turn, is_list_over, members_from, ArePlaced}
 use Rattle.rust_items.specs.MemberParts.{told_keeping}
 use Rattle.rust_items.specs.declared.member.MemberKind.{MemberKind}
 use Rattle.rust_items.specs.declared.member.MemberKind.TheVariants as member
@@ -90,8 +90,8 @@ abbrev kind_of : Option MemberTold → Option MemberKind
 kind_of o = option_map (λ t. t.kind) o
 
 kind_bare : (i : ItemView) → kind_of (told_of (item_without_bodies i)) ≡ kind_of (told_of i)
-kind_bare (plain_item fn_kind n) = refl
-kind_bare (plain_item type_alias_kind n) = refl
+kind_bare (plain_item plain_kind.Fn n) = refl
+kind_bare (plain_item plain_kind.TypeAlias n) = refl
 kind_bare _ = refl
 
 kind_with : (w : WantedMetas) (o : Option MemberTold) → kind_of (option_map (told_keeping w) o) ≡ kind_of o

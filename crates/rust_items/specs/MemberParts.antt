@@ -1,8 +1,9 @@
 -- One member: of a trait or an impl, a variant, or a field.
 use Rattle.std.specs.Prelude.{ℕ, zero, suc, Bool, true, false, not, ◌==◌, ◌&&◌, ◌||◌, if◌then◌else◌, Option, Some, None, List, codes, option_map, bytes_eq}
+use Rattle.hir_input.specs.declared.ast.PlainKind.TheVariants as plain_kind
 use Rattle.hir_input.specs.declared.ast.Visibility.{Visibility}
 use Rattle.hir_input.specs.Attr.{MetaView}
-use Rattle.hir_input.specs.Syntax.{CallView, ItemView, NamedView, plain_item, fn_kind, type_alias_kind, const_item, macro_call}
+use Rattle.hir_input.specs.Syntax.{CallView, ItemView, NamedView, plain_item, const_item, macro_call}
 use Rattle.rust_cursor.specs.Tokens.{Tokens}
 use Rattle.rust_cursor.specs.Reader.{Reader, ◌>>=◌, pure, look, pass}
 use Rattle.rust_cursor.specs.Words.{symbol, word, at, is_at_doc, is_at_end, is_at_identifier, is_at_open, is_pair, eat, eat_word, bumped}
@@ -42,8 +43,8 @@ told_call c = record { kind = member.MacroCall; identifier = None; attrs = c.nod
 
 -- what may stand in a trait or an impl
 abbrev pub told_of : ItemView → Option MemberTold
-told_of (plain_item fn_kind n) = Some (told_as member.Function n)
-told_of (plain_item type_alias_kind n) = Some (told_as member.TypeAlias n)
+told_of (plain_item plain_kind.Fn n) = Some (told_as member.Function n)
+told_of (plain_item plain_kind.TypeAlias n) = Some (told_as member.TypeAlias n)
 told_of (const_item n) = Some (told_as member.Constant n)
 told_of (macro_call c) = Some (told_call c)
 told_of _ = None
