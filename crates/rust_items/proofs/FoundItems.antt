@@ -1,6 +1,6 @@
 -- What readers of items find: the items, with their places.
 use Rattle.std.proofs.Common.{◌≡◌, ◌≤◌, ◌<◌, ◌+◌, ◌-◌, ◌==◌, ◌&&◌, ℕ, zero, suc, Bool, true, false, Option, Some, None, List, [], ◌∷◌, ◌++◌, map, length, refl, sym, subst, ap, ◌∙◌, arith, append_assoc, append-nil, option_to_list, All, is_none}
-use Rattle.rust_items.proofs.Common.{AllZip, All-nil, All-cons, map-append, AstIdKind, Visibility, MetaView, ItemView, ItemViews, plain_item, fn_kind, static_kind, type_alias_kind, macro_call, no_items, item_and, items_from, module_from, extern_block_from, UseTreeView, Tokens, symbol, at, eat, is_empty, is_at_end, bumped, most, beyond, LeadsTo, here, further, through, when, bumped_leads, eat_leads, behind_tree_leads, beyond_leads, Takes, takes_leads, takes_before, IsLaid, at_behind, taken_behind, takes_strict, Row, TextRange, inner_attributes, inner_attributes_leads, Head, ItemSpan, ProblemKind, ItemPlace, Found, Finder, nothing_found, and_problem, and_problem_if, and_problem_at, and_row, and_use_trees, and_all, LeafRead, NameRead, no_name, named, node, named_node, FrontRead, front, BlockRead, span_of, needs_name, and_flaw, and_item, and_leaf, and_parent, leaf_found, leaf_turn, finding_from, finding, is_list_end, block_of, as_extern, extern_kept, extern_found, extern_turn, extern_inside, extern_block, one_more, unmatched, inside_unless, module_with, by_head, turn_with, inside, turn, depth_of, items, Telling, id_of, name_of, items_held, IsNameIn, IsBodyIn, IsPlace, ArePlaces, nothing, placed, trees_in, trees_within}
+use Rattle.rust_items.proofs.Common.{AllZip, All-nil, All-cons, map-append, AstIdKind, Visibility, MetaView, ItemView, ItemViews, plain_item, macro_call, no_items, item_and, items_from, module_from, extern_block_from, UseTreeView, Tokens, symbol, at, eat, is_empty, is_at_end, bumped, most, beyond, LeadsTo, here, further, through, when, bumped_leads, eat_leads, behind_tree_leads, beyond_leads, Takes, takes_leads, takes_before, IsLaid, at_behind, taken_behind, takes_strict, Row, TextRange, inner_attributes, inner_attributes_leads, Head, ItemSpan, ProblemKind, ItemPlace, Found, Finder, nothing_found, and_problem, and_problem_if, and_problem_at, and_row, and_use_trees, and_all, LeafRead, NameRead, no_name, named, node, named_node, FrontRead, front, BlockRead, span_of, needs_name, and_flaw, and_item, and_leaf, and_parent, leaf_found, leaf_turn, finding_from, finding, is_list_end, block_of, as_extern, extern_kept, extern_found, extern_turn, extern_inside, extern_block, one_more, unmatched, inside_unless, module_with, by_head, turn_with, inside, turn, depth_of, items, Telling, id_of, name_of, items_held, IsNameIn, IsBodyIn, IsPlace, ArePlaces, nothing, placed, trees_in, trees_within}
 use Rattle.hir_input.specs.declared.ids.AstIdKind.TheVariants as kind
 use Rattle.rust_cursor.proofs.Laid.{behind}
 use Rattle.rust_leaves.specs.declared.head.Head.TheVariants as heads
