@@ -12,6 +12,7 @@ use Rattle.rust_paths.specs.Names.{has_name}
 use Rattle.rust_paths.specs.Paths.{is_segment}
 use Rattle.rust_leaves.specs.declared.head.Head.{Head}
 use Rattle.rust_leaves.specs.declared.head.Head.TheVariants as heads
+use Rattle.rust_cursor.specs.Looks.{sees}
 
 -- ---- modifiers
 
@@ -101,7 +102,7 @@ macro_rules_head behind = if symbol behind == 33 && is_at_identifier (bumped beh
 
 -- `union`: an item where a name follows
 unfoldable pub union_head : Tokens → Head
-union_head behind = if has_name behind then heads.Union else heads.Other
+union_head behind = if sees has_name behind then heads.Union else heads.Other
 
 -- the kind of item that a word begins
 unfoldable pub head_by : List ℕ → Tokens → Head
@@ -143,11 +144,11 @@ is_first_word w =
 
 -- `union` before a name
 abbrev pub is_union : Tokens → Bool
-is_union ts = bytes_eq (word ts) (codes "union") && has_name (bumped ts)
+is_union ts = bytes_eq (word ts) (codes "union") && sees has_name (bumped ts)
 
 -- a word comes next that can be a segment of a path
 abbrev pub is_path_word : Tokens → Bool
-is_path_word ts = is_at_identifier ts && is_segment ts
+is_path_word ts = is_at_identifier ts && sees is_segment ts
 
 -- such a word with `::` behind it
 abbrev pub begins_path : Tokens → Bool
