@@ -4,14 +4,16 @@ use Rattle.rust_leaves.proofs.Common.{and_parts, behind_tree, is_segment, Tokens
 use Rattle.rust_cursor.proofs.Parting.{Onward, on, kept, Parting, Until, UpTo, onward_leads, cond_onward}
 use Rattle.rust_cursor.proofs.Twins.{is_edge, symbol_same, word_same, kind_same, identifier_same, open_same, end_same, doc_same, pair_same, edge_word, edge_identifier, edge_test, after_word, after_symbol, after_pair}
 use Rattle.rust_cursor.proofs.Tests.{begins_item_same}
-use Rattle.rust_paths.proofs.Alike.{has_name_same, segment_same}
-use Rattle.rust_metas.proofs.Around.{kind_symbol}
+use Rattle.rust_cursor.proofs.Looks.{kind_symbol, look_same}
+use Rattle.rust_paths.specs.Names.{name_short}
+use Rattle.rust_paths.specs.Paths.{segment_short}
 use Rattle.rust_leaves.specs.declared.head.Head.TheVariants as heads
 use Rattle.rust_cursor.specs.Nests.{is_literal_kind}
+use Rattle.rust_cursor.specs.Looks.{sees}
 
 -- a literal is no edge
 literal_no_edge : (ts : Tokens) → is_literal_kind (kind ts) ≡ true → is_edge (symbol ts) ≡ false
-literal_no_edge ts e = ap is_edge (kind_symbol ts e)
+literal_no_edge ts e = ap is_edge (kind_symbol is_literal_kind refl ts e)
 
 abi_alike : (b : Parting) (ts us : Tokens) → b.twins.are ts us → b.twins.are (behind_abi ts) (behind_abi us)
 unfolding behind_abi
@@ -98,7 +100,7 @@ rules_same b ts us h =
 
 by_same : (b : Parting) (w : List ℕ) (ts us : Tokens) → b.twins.are ts us → head_by w us ≡ head_by w ts
 unfolding head_by
-by_same b w ts us h = rw (extern_same b ts us h, rules_same b ts us h, has_name_same b ts us h) refl
+by_same b w ts us h = rw (extern_same b ts us h, rules_same b ts us h, look_same b.twins has_name name_short ts us h) refl
 
 module _ (b : Parting) (ts us : Tokens) (h : b.twins.are ts us) (n : b.twins.are (bumped ts) (bumped us)) where
   abbrev Next : Head → Type 0
@@ -149,11 +151,11 @@ head_until b ts us h =
 -- ---- what is no item
 
 path_word_same : (b : Parting) (ts us : Tokens) → b.twins.are ts us → is_path_word us ≡ is_path_word ts
-path_word_same b ts us h = rw (segment_same b ts us h, identifier_same b.twins ts us h) refl
+path_word_same b ts us h = rw (look_same b.twins is_segment segment_short ts us h, identifier_same b.twins ts us h) refl
 
 path_word_next : (b : Parting) (ts us : Tokens) → b.twins.are ts us → is_path_word ts ≡ true → b.twins.are (bumped ts) (bumped us)
 path_word_next b ts us h e =
-    let found = (and_parts (is_at_identifier ts) (is_segment ts) e).0 in
+    let found = (and_parts (is_at_identifier ts) (sees is_segment ts) e).0 in
     b.twins.next ts us h (when (is_edge (symbol ts)) (λ f. let none = edge_identifier ts f in absurd cc) (λ f. f))
 
 segment_next : (b : Parting) (ts us : Tokens) → b.twins.are ts us → begins_path us ≡ begins_path ts
@@ -207,7 +209,7 @@ is_union_same : (b : Parting) (ts us : Tokens) → b.twins.are ts us → is_unio
 is_union_same b ts us h =
     when (is_edge (symbol ts))
     (λ e. let f = edge_test b.twins ts us h e in rw (edge_word ts e, edge_word us f) refl)
-    (λ e. rw (has_name_same b (bumped ts) (bumped us) (b.twins.next ts us h e), word_same b.twins ts us h) refl)
+    (λ e. rw (look_same b.twins has_name name_short (bumped ts) (bumped us) (b.twins.next ts us h e), word_same b.twins ts us h) refl)
 
 first_same : (b : Parting) (ts us : Tokens) → b.twins.are ts us → is_at_first us ≡ is_at_first ts
 first_same b ts us h = rw (is_union_same b ts us h, segment_next b ts us h, begins_item_same b.twins ts us h, word_same b.twins ts us h) refl

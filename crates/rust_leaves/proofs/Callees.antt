@@ -7,6 +7,7 @@ use Rattle.rust_leaves.specs.declared.wanted.Wanted.{Wanted}
 use Rattle.rust_leaves.specs.Clipped.{with_value, wanted_leaf, wanted_leaf_if}
 use Rattle.rust_leaves.specs.Kinds.{CalleeRead, callee}
 use Rattle.rust_leaves.specs.Statements.{call_tree, statement_call}
+use Rattle.rust_cursor.specs.Grammar.{reads}
 
 -- what is read behind what it is called by, if it is called
 abbrev pub taken_by : {A : Type 0} → (CalleeRead → Reader A) → Option CalleeRead × Tokens → Option A × Tokens
@@ -21,14 +22,14 @@ taken_if more false c ts us = refl
 pub call_taken : (attrs : List MetaView) (ts : Tokens) → statement_call attrs ts ≡ taken_by (λ (c : CalleeRead). call_tree attrs c.path c.name) (callee ts)
 unfolding statement_call callee
 call_taken attrs ts =
-    taken_if (λ (c : CalleeRead). call_tree attrs c.path c.name) (is_some (path ts).0 && is_called (path ts).1) (record { path = (path ts).0; name = bare (last_text (path ts).1.past ts) }) ts (bumped (path ts).1)
+    taken_if (λ (c : CalleeRead). call_tree attrs c.path c.name) (is_some (reads path ts).0 && is_called (reads path ts).1) (record { path = (reads path ts).0; name = bare (last_text (reads path ts).1.past ts) }) ts (bumped (reads path ts).1)
 
 invocation_taken : (w : Wanted) (attrs : List MetaView) (ts : Tokens)
     → with_value (wanted_leaf_if w attrs) (invocation [] ts) ≡ taken_by (λ (c : CalleeRead) us. with_value (wanted_leaf w attrs) (call_behind [] c.path c.name us)) (callee ts)
 unfolding callee
 invocation_taken w attrs ts =
     invocation_clipped w attrs ts
-    ∙ taken_if (λ (c : CalleeRead) us. with_value (wanted_leaf w attrs) (call_behind [] c.path c.name us)) (is_some (path ts).0 && is_called (path ts).1) (record { path = (path ts).0; name = bare (last_text (path ts).1.past ts) }) ts (bumped (path ts).1)
+    ∙ taken_if (λ (c : CalleeRead) us. with_value (wanted_leaf w attrs) (call_behind [] c.path c.name us)) (is_some (reads path ts).0 && is_called (reads path ts).1) (record { path = (reads path ts).0; name = bare (last_text (reads path ts).1.past ts) }) ts (bumped (reads path ts).1)
 
 pub item_call_taken : (w : Wanted) (attrs : List MetaView) (ts : Tokens) → with_value (wanted_leaf_if w attrs) (item_call [] ts)
     ≡ (if begins_call ts then taken_by (λ (c : CalleeRead) us. with_value (wanted_leaf w attrs) (call_behind [] c.path c.name us)) (callee ts) else (None, ts))

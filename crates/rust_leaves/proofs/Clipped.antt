@@ -13,6 +13,7 @@ use Rattle.rust_leaves.specs.declared.head.Head.TheVariants as head
 use Rattle.rust_leaves.specs.declared.wanted.Wanted.{Wanted}
 use Rattle.rust_leaves.specs.Clipped.{with_value, clipped_rest, clipped_front, clipped_leaf, clipped_leaf_if, wanted_item, wanted_leaf, wanted_leaf_if, leaf_behind}
 use Rattle.rust_leaves.specs.Fronts.{FrontRead, front_behind, front}
+use Rattle.rust_cursor.specs.Grammar.{reads}
 
 -- one of two readings
 pub with_if : {A B C : Type 0} (change : A → B) (b : Bool) (x y : A × C) → with_value change (if b then x else y) ≡ (if b then with_value change x else with_value change y)
@@ -90,12 +91,12 @@ unfolding with_value clipped_rest wanted_leaf wanted_item
 call_clipped w attrs p last ts = let r = up_to w.bodies call_end ts in at_none w attrs (λ a. (called a p last r.0, r.1))
 
 pub invocation_clipped : (w : Wanted) (attrs : List MetaView) (ts : Tokens) → with_value (wanted_leaf_if w attrs) (invocation [] ts)
-    ≡ (if is_some (path ts).0 && is_called (path ts).1
-    then some_read (with_value (wanted_leaf w attrs) (call_behind [] (path ts).0 (bare (last_text (path ts).1.past ts)) (bumped (path ts).1)))
+    ≡ (if is_some (reads path ts).0 && is_called (reads path ts).1
+    then some_read (with_value (wanted_leaf w attrs) (call_behind [] (reads path ts).0 (bare (last_text (reads path ts).1.past ts)) (bumped (reads path ts).1)))
     else (None, ts))
 unfolding with_value wanted_leaf_if invocation
 invocation_clipped w attrs ts =
-    with_if (wanted_leaf_if w attrs) (is_some (path ts).0 && is_called (path ts).1) (some_read (call_behind [] (path ts).0 (bare (last_text (path ts).1.past ts)) (bumped (path ts).1))) (None, ts)
+    with_if (wanted_leaf_if w attrs) (is_some (reads path ts).0 && is_called (reads path ts).1) (some_read (call_behind [] (reads path ts).0 (bare (last_text (reads path ts).1.past ts)) (bumped (reads path ts).1))) (None, ts)
 
 -- an item without its body text, if that is not wanted
 abbrev textless : Bool → Option LeafRead × Tokens → Option LeafRead × Tokens
@@ -138,9 +139,9 @@ leaf_clipped w h ts = by_clipped w h.head h.attrs h.visibility ts
 invocation_front : (w : Wanted) (attrs : List MetaView) (ts : Tokens) → with_value (clipped_leaf_if w) (invocation attrs ts) ≡ with_value (wanted_leaf_if w (kept_metas w.metas attrs)) (invocation [] ts)
 unfolding with_value clipped_rest clipped_leaf clipped_leaf_if invocation
 invocation_front w attrs ts =
-    let last = bare (last_text (path ts).1.past ts) in
-    with_if (clipped_leaf_if w) (is_some (path ts).0 && is_called (path ts).1) (some_read (call_behind attrs (path ts).0 last (bumped (path ts).1))) (None, ts)
-    ∙ ap (λ r. if is_some (path ts).0 && is_called (path ts).1 then some_read r else (None, ts)) (sym (call_clipped w (kept_metas w.metas attrs) (path ts).0 last (bumped (path ts).1)))
+    let last = bare (last_text (reads path ts).1.past ts) in
+    with_if (clipped_leaf_if w) (is_some (reads path ts).0 && is_called (reads path ts).1) (some_read (call_behind attrs (reads path ts).0 last (bumped (reads path ts).1))) (None, ts)
+    ∙ ap (λ r. if is_some (reads path ts).0 && is_called (reads path ts).1 then some_read r else (None, ts)) (sym (call_clipped w (kept_metas w.metas attrs) (reads path ts).0 last (bumped (reads path ts).1)))
     ∙ sym (invocation_clipped w (kept_metas w.metas attrs) ts)
 
 item_call_front : (w : Wanted) (attrs : List MetaView) (ts : Tokens) → with_value (clipped_leaf_if w) (item_call attrs ts) ≡ with_value (wanted_leaf_if w (kept_metas w.metas attrs)) (item_call [] ts)

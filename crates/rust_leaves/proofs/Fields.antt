@@ -2,8 +2,9 @@
 use Rattle.std.proofs.Common.{◌≡◌, ◌≤◌, ◌==◌, ◌||◌, ℕ, Bool, true, false, Option, None, refl, arith, if◌then◌else◌, not}
 use Rattle.rust_leaves.proofs.Common.{nat_tests, Visibility, Tokens, symbol, is_at_end, eat, LeadsTo, through, Forwards, when, reached_leads, eat_leads, is_before, header_field, are_over, symbol_within}
 use Rattle.rust_cursor.specs.Angles.{behind_field}
-use Rattle.rust_paths.proofs.Leads.{visibility_leads}
 use Rattle.rust_metas.proofs.Leads.{outer_attributes_leads}
+use Rattle.rust_cursor.proofs.Rules.{rule_leads}
+use Rattle.rust_paths.specs.Visibilities.{visibility}
 
 -- behind its visibility
 pub type_leads : (ts : Tokens) → LeadsTo ts (eat 44 (behind_field ts)).1
@@ -11,7 +12,7 @@ type_leads ts = through (reached_leads _ ts) (eat_leads 44 _)
 
 pub field_leads : (end : ℕ) → Forwards (header_field end)
 unfolding header_field
-field_leads end ts = through (outer_attributes_leads ts) (through (visibility_leads _) (type_leads _))
+field_leads end ts = through (outer_attributes_leads ts) (through (rule_leads visibility _) (type_leads _))
 
 -- ---- behind the end
 

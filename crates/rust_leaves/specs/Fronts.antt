@@ -5,6 +5,7 @@ use Rattle.hir_input.specs.Attr.{MetaView}
 use Rattle.rust_cursor.specs.Reader.{Reader, ◌>>=◌, pure, look, pass}
 use Rattle.rust_cursor.specs.Words.{at}
 use Rattle.rust_paths.specs.Visibilities.{visibility}
+use Rattle.rust_cursor.specs.Grammar.{reads}
 use Rattle.rust_metas.specs.Attributes.{outer_attributes}
 use Rattle.rust_leaves.specs.declared.head.Head.{Head}
 use Rattle.rust_leaves.specs.Heads.{behind_modifiers, head}
@@ -19,7 +20,7 @@ pub record FrontRead : Type 0 where
 -- behind attributes: a visibility, modifiers, and the words that begin an item
 unfoldable pub front_behind : ℕ → List MetaView → Reader FrontRead
 front_behind start attrs = do
-  v ← visibility
+  v ← reads visibility
   _ ← pass behind_modifiers
   h ← head
   pure (record { start = start; attrs = attrs; visibility = v; head = h })

@@ -13,6 +13,7 @@ use Rattle.rust_paths.specs.Names.{has_name}
 use Rattle.rust_paths.specs.Paths.{is_segment}
 use Rattle.rust_leaves.specs.declared.head.Head.{Head}
 use Rattle.rust_leaves.specs.declared.head.Head.TheVariants as heads
+use Rattle.rust_cursor.specs.Looks.{sees}
 
 -- ---- modifiers
 
@@ -114,7 +115,7 @@ head_by w behind =
     else (if bytes_eq w (codes "type") then heads.Plain plain_kind.TypeAlias
     else (if bytes_eq w (codes "mod") then heads.Module
     else (if bytes_eq w (codes "macro") then heads.Plain plain_kind.MacroDef
-    else (if bytes_eq w (codes "union") then (if has_name behind then heads.Plain plain_kind.Union else heads.Other)
+    else (if bytes_eq w (codes "union") then (if sees has_name behind then heads.Plain plain_kind.Union else heads.Other)
     else (if bytes_eq w (codes "macro_rules") then macro_rules_head behind
     else (if bytes_eq w (codes "extern") then extern_head behind else heads.Other)))))))))))))
 
@@ -140,11 +141,11 @@ is_first_word w =
 
 -- `union` before a name
 abbrev pub is_union : Tokens → Bool
-is_union ts = bytes_eq (word ts) (codes "union") && has_name (bumped ts)
+is_union ts = bytes_eq (word ts) (codes "union") && sees has_name (bumped ts)
 
 -- a word comes next that can be a segment of a path
 abbrev pub is_path_word : Tokens → Bool
-is_path_word ts = is_at_identifier ts && is_segment ts
+is_path_word ts = is_at_identifier ts && sees is_segment ts
 
 -- such a word with `::` behind it
 abbrev pub begins_path : Tokens → Bool

@@ -26,6 +26,7 @@ use Rattle.rust_leaves.specs.Fronts.{FrontRead}
 use Rattle.rust_leaves.specs.Heads.{begins_call, is_called}
 use Rattle.rust_leaves.specs.Texts.{bare, last_text}
 use Rattle.rust_leaves.specs.Leaves.{NameRead, RestRead, LeafRead, no_name, named, named_or, renamed, rename_of, past, bare_end, rest_by, call_end, block_attributes, struct_fields, has_trait}
+use Rattle.rust_cursor.specs.Grammar.{reads}
 
 -- the ids are given later
 abbrev pub node : List MetaView → List ℕ → NodeView
@@ -162,15 +163,15 @@ pub record CalleeRead : Type 0 where
 -- the path of a macro and its `!`, if a macro call comes next
 unfoldable pub callee : Reader (Option CalleeRead)
 callee ts =
-    if is_some (path ts).0 && is_called (path ts).1
-    then (Some (record { path = (path ts).0; name = bare (last_text (path ts).1.past ts) }), bumped (path ts).1)
+    if is_some (reads path ts).0 && is_called (reads path ts).1
+    then (Some (record { path = (reads path ts).0; name = bare (last_text (reads path ts).1.past ts) }), bumped (reads path ts).1)
     else (None, ts)
 
 -- MacroInvocationSemi, or nothing, where none is written
 unfoldable pub invocation : List MetaView → Reader (Option LeafRead)
 invocation attrs ts =
-    if is_some (path ts).0 && is_called (path ts).1
-    then some_read (call_behind attrs (path ts).0 (bare (last_text (path ts).1.past ts)) (bumped (path ts).1))
+    if is_some (reads path ts).0 && is_called (reads path ts).1
+    then some_read (call_behind attrs (reads path ts).0 (bare (last_text (reads path ts).1.past ts)) (bumped (reads path ts).1))
     else (None, ts)
 
 -- the same in the place of an item

@@ -14,6 +14,7 @@ use Rattle.rust_cursor.specs.Angles.{behind_angles, behind_field, is_trait_impl}
 use Rattle.rust_paths.specs.declared.names.TextRange.{TextRange}
 use Rattle.rust_paths.specs.Names.{Placed, placed_name, as_name}
 use Rattle.rust_paths.specs.Visibilities.{visibility}
+use Rattle.rust_cursor.specs.Grammar.{reads}
 use Rattle.rust_metas.specs.Attributes.{outer_attributes, inner_attributes}
 use Rattle.rust_leaves.specs.Texts.{bare}
 
@@ -135,7 +136,7 @@ is_before end ts = nat_lt ts.past end
 -- a visibility that ends before this place
 abbrev pub visibility_before : ℕ → Reader (Option Visibility)
 visibility_before end = do
-  v ← visibility
+  v ← reads visibility
   is_in ← look (is_before end)
   pure (if is_in then v else None)
 

@@ -28,6 +28,7 @@ use Rattle.rust_leaves.specs.Heads.{is_modifier, head_by, is_called}
 use Rattle.rust_leaves.specs.Leaves.{range_to}
 use Rattle.rust_leaves.specs.Texts.{bare, last_text}
 use Rattle.rust_leaves.specs.Kinds.{node, some_read}
+use Rattle.rust_cursor.specs.Grammar.{reads}
 
 -- ---- items
 
@@ -182,6 +183,6 @@ call_tree attrs p name ts =
 -- MacroInvocation, up to its bracket, if one is written
 unfoldable pub statement_call : List MetaView → Reader (Option CallRead)
 statement_call attrs ts =
-    if is_some (path ts).0 && is_called (path ts).1
-    then some_read (call_tree attrs (path ts).0 (bare (last_text (path ts).1.past ts)) (bumped (path ts).1))
+    if is_some (reads path ts).0 && is_called (reads path ts).1
+    then some_read (call_tree attrs (reads path ts).0 (bare (last_text (reads path ts).1.past ts)) (bumped (reads path ts).1))
     else (None, ts)
