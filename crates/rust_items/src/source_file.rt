@@ -85,7 +85,7 @@ pub(crate) fn places(
 
 /// The ids of rows. The rows are let go, so that they take no memory while the places are made.
 pub(crate) fn ids_of(alloc: Global, rows: Vec<Node<'_>>) -> Result<Vec<FileAstId>, AllocError>
-    ensures { IfOk result (λ ids. AreIds rows.items ids.items) }
+    ensures { IfOk result (λ ids. AreIds rows.entry.items ids.items) }
 {
     assign(alloc, &rows)
 }
