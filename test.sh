@@ -10,7 +10,6 @@
 set -uo pipefail
 cd "$(dirname "$(realpath "${BASH_SOURCE[0]}")")" || exit 1
 program=crates/item_tree_tool/out/item_tree_tool
-outlines=crates/outline_tool/out/outline_tool
 itemtree=crates/itemtree/out/itemtree
 tests=(crates/item_tree_tests/out/item_tree_tests_tests)
 log=$(mktemp)
@@ -77,7 +76,7 @@ part() {
 # Tries the programs; the parts that take longest come last.
 try_programs() {
     part 'the requests' tests/requests.sh "$program"
-    part 'the outlines' tests/requests.sh "$outlines" outlines
+    part 'the outlines' tests/requests.sh "$program" outlines --outline
     part 'streams' tests/streams.sh "$program"
     part 'the command line' tests/itemtree.py
     part 'the manual page' docs/man/make.py --check "$itemtree" docs/man
@@ -90,7 +89,7 @@ try_programs() {
     part 'texts in the making' tests/typed.py "$itemtree"
     part 'time that grows' tests/growth.py "$itemtree"
     part 'freed memory' tests/freed_memory.py "$itemtree"
-    part 'refused memory' tests/refused_memory.sh "$program" "$outlines" "$itemtree" "${tests[@]}"
+    part 'refused memory' tests/refused_memory.sh "$program" "$itemtree" "${tests[@]}"
 }
 
 [ "$(uname -sm)" = 'Linux x86_64' ] || lack "the tests need Linux on x86-64, and this is $(uname -sm)"
@@ -104,7 +103,7 @@ for needed in "${needed_ones[@]}"; do
     command -v "$needed" > /dev/null || lack "$needed is not on the path, and the tests need it"
 done
 if [ -n "$is_quick" ]; then
-    for built in "$program" "$outlines" "$itemtree"; do
+    for built in "$program" "$itemtree"; do
         [ -x "$built" ] || lack "$built is not built yet: ./run.sh $(basename "$built") builds it"
     done
     mapfile -t tests < <(find "${tests[@]}" -executable 2> /dev/null)

@@ -1,5 +1,5 @@
 #!/usr/bin/env bash
-# Makes proof_seconds.txt anew: the seconds of processor time that each crate of the three programs takes to be proved
+# Makes proof_seconds.txt anew: the seconds of processor time that each crate of the two programs takes to be proved
 # from nothing by one job, the programs with their compilation. run.sh estimates by it how long a first run takes.
 # With names of crates it measures these alone, once the crates below them are proved, and changes their lines.
 #
@@ -19,12 +19,12 @@ mkdir "$room/top"
 cp "$top/crates.txt" "$top/HANDLES" "$room/top/"
 (cd "$top" && find crates -type f -not -path '*/out/*' -print0 | xargs -0 cp --parents -t "$room/top")
 
-# Prints the crates of the three programs, each after those below it.
+# Prints the crates of the two programs, each after those below it.
 in_order() {
     sed 's/#.*//' "$top/crates.txt" | awk -F: '
         NF { name[++count] = $1; sub(/ .*/, "", name[count]); below[count] = $2 }
         END {
-            wanted["itemtree"] = wanted["item_tree_tool"] = wanted["outline_tool"] = 1
+            wanted["itemtree"] = wanted["item_tree_tool"] = 1
             for (at = count; at; at--) if (name[at] in wanted) {
                 split(below[at], word, " ")
                 for (it in word) wanted[word[it]] = 1

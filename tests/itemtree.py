@@ -17,7 +17,6 @@ import time
 TOP = os.path.dirname(os.path.dirname(os.path.realpath(__file__)))
 PROGRAM = os.path.join(TOP, 'crates/itemtree/out/itemtree')
 TOOL = os.path.join(TOP, 'crates/item_tree_tool/out/item_tree_tool')
-OUTLINES = os.path.join(TOP, 'crates/outline_tool/out/outline_tool')
 STATUSES = ['0', '1', '2', '6']
 COMMANDS = ('outline', 'page', 'imports', 'find', 'tags', 'changed', 'request', 'serve', 'check')
 passed = failed = 0
@@ -128,18 +127,18 @@ def named(words):
     return set(COMMANDS) - found if words.startswith('all') else found
 
 
-def check_tools(folder):
-    """The programs over JSON tell what they are; other arguments mean nothing to them."""
-    for program in (TOOL, OUTLINES):
-        name = os.path.basename(program)
-        text = run(f'{shlex.quote(program)} --help < /dev/null; echo $?', folder)
-        tell(text.startswith(name) and f'Usage: {name} < REQUEST\n' in text and text.endswith('\n0\n')
-             and re.findall(r'^  (\d)  ', text, re.M) == ['0', '2', '3', '4', '5', '6'], f'{name} --help', text)
-        tell(run(f'{shlex.quote(program)} -h < /dev/null; echo $?', folder) == text, f'{name} -h')
-        got = run(f'{shlex.quote(program)} --version < /dev/null; echo $?', folder)
-        tell(got == f'{name} 0.2.0\n0\n', f'{name} --version', got)
-        got = run(f'{shlex.quote(program)} more --help < /dev/null; echo $?', folder)
-        tell(got == 'not JSON\n2\n', f'{name} more --help', got)
+def check_tool(folder):
+    """The program over JSON tells what it is; other arguments mean nothing to it."""
+    name = os.path.basename(TOOL)
+    text = run(f'{shlex.quote(TOOL)} --help < /dev/null; echo $?', folder)
+    tell(text.startswith(name) and f'Usage: {name} < REQUEST\n' in text and text.endswith('\n0\n')
+         and re.findall(r'^  (\d)  ', text, re.M) == ['0', '2', '3', '4', '5', '6'], f'{name} --help', text)
+    tell(run(f'{shlex.quote(TOOL)} -h < /dev/null; echo $?', folder) == text, f'{name} -h')
+    got = run(f'{shlex.quote(TOOL)} --version < /dev/null; echo $?', folder)
+    tell(got == f'{name} 0.2.0\n0\n', f'{name} --version', got)
+    for words in ('more --help', '--outline --help'):
+        got = run(f'{shlex.quote(TOOL)} {words} < /dev/null; echo $?', folder)
+        tell(got == 'not JSON\n2\n', f'{name} {words}', got)
 
 
 def check_vim(folder):
@@ -527,7 +526,7 @@ def check_progress(folder):
 
 
 def main():
-    for program in (PROGRAM, TOOL, OUTLINES):
+    for program in (PROGRAM, TOOL):
         if not os.access(program, os.X_OK):
             print(f'no program is at {program}', file=sys.stderr)
             print('itemtree: 0 passed, 1 failed')
@@ -544,7 +543,7 @@ def main():
         check_colors(folder)
         check_request(folder)
         check_documents(check_help(folder))
-        check_tools(folder)
+        check_tool(folder)
         check_unread(folder)
         check_one_sided(folder)
         check_entries(folder)

@@ -2,9 +2,9 @@
 # Refuses each request for memory in turn, one a run, until a run makes no further request; and from a mark on all of them, in
 # tests of what takes no memory. As many subjects are tried at once as there are processors.
 #
-#   refused_memory.sh PROGRAM OUTLINES ITEMTREE [TESTS ..]
+#   refused_memory.sh PROGRAM ITEMTREE [TESTS ..]
 #
-# The program on each request of tests/requests that it answers, and OUTLINES on each of tests/outlines, has to end with status 5,
+# The program on each request of tests/requests that it answers, and with --outline on each of tests/outlines, has to end with status 5,
 # the line `out of memory` and nothing written, or to do without and write all that it writes else. ITEMTREE with each of its commands on a
 # small file has to end with status 2, a line that ends so, and nothing written but the head of a tags file, or to do without as well. ITEMTREE's serve on tests/itemtree/session.jsonl may end so before it
 # reads a line; otherwise it has to answer each line with one, one of them at most with an error of want of memory, and to go on.
@@ -13,13 +13,12 @@
 # which it sees that.
 set -uo pipefail
 program=$(realpath "$1")
-outlines=$(realpath "$2")
-itemtree=$(realpath "$3")
-shift 3
+itemtree=$(realpath "$2")
+shift 2
 binaries=()
 [ $# = 0 ] || mapfile -t binaries < <(realpath "$@")
 here=$(cd "$(dirname "${BASH_SOURCE[0]}")" && pwd)
-for needed in "$program" "$outlines" "$itemtree" "${binaries[@]}" cc; do
+for needed in "$program" "$itemtree" "${binaries[@]}" cc; do
     if ! command -v "$needed" > /dev/null; then
         echo "refused_memory.sh: there is no $needed" >&2
         echo 'refused_memory: 0 passed, 1 failed'
@@ -53,11 +52,11 @@ judge() {
 # Whether that run wrote what is wanted of the request.
 answered() { [ "$status" = 0 ] && cmp -s "$own/out" "$here/$1.out"; }
 
-# A program and a request, by its path in tests without an ending.
+# A program and a request, by its path in tests without an ending, and arguments.
 try_request() {
     local request
     for ((request = 1; ; request++)); do
-        refuse "$request" "$1" < "$here/$2.json"
+        refuse "$request" "$1" "${@:3}" < "$here/$2.json"
         [ "$made" -ge "$request" ] || break
         ended_out_of_memory || answered "$2"
         judge $? "$2: status $status with request $request for memory refused"
@@ -65,6 +64,8 @@ try_request() {
     answered "$2"
     judge $? "$2: status $status with no request for memory refused"
 }
+
+try_outline() { try_request "$1" "$2" --outline; }
 
 # A command of itemtree, in one word, on a small file, which FILE in it stands for too.
 try_command() {
@@ -138,14 +139,14 @@ try() {
     "$@"
     echo "counts: $1 $passed $failed"
 }
-export -f refuse ended_out_of_memory answered judge try_request try_command try_damaged went_on try_session try_test try_marked try
+export -f refuse ended_out_of_memory answered judge try_request try_outline try_command try_damaged went_on try_session try_test try_marked try
 
 # Each subject is three words, ended by a null byte each, since a path may hold any other.
 subjects() {
     local binary name
     cd "$here" || exit 2
     for name in requests/*/*.out; do printf '%s\0' try_request "$program" "${name%.out}"; done
-    for name in outlines/*/*.out; do printf '%s\0' try_request "$outlines" "${name%.out}"; done
+    for name in outlines/*/*.out; do printf '%s\0' try_outline "$program" "${name%.out}"; done
     for name in outline page imports 'find area' 'imports --duplicates' 'outline --json' 'page --ids off' 'tags -o -' 'changed FILE' 'request --show page' check; do printf '%s\0' try_command "$itemtree" "$name"; done
     for name in outline imports 'find A::b' 'outline --json' 'tags -o -'; do printf '%s\0' try_damaged "$itemtree" "$name"; done
     printf '%s\0' try_session "$itemtree" session
@@ -164,7 +165,8 @@ grep -v '^counts: ' "$work/told"
 # The last run of a subject whose requests are refused in turn is one in which nothing was.
 awk '/^counts: / { passed += $3; failed += $4; subjects[$2]++; refused[$2] += $3 + $4 - 1 }
      END {
-         printf "%d requests of the programs: %d times memory was refused\n", subjects["try_request"], refused["try_request"]
+         printf "%d requests: %d times memory was refused\n", subjects["try_request"], refused["try_request"]
+         printf "%d of outlines: %d times memory was refused\n", subjects["try_outline"], refused["try_outline"]
          printf "%d commands of itemtree: %d times memory was refused\n", subjects["try_command"], refused["try_command"]
          printf "%d of damaged texts: %d times memory was refused\n", subjects["try_damaged"], refused["try_damaged"]
          printf "%d sessions of itemtree: %d times memory was refused\n", subjects["try_session"], refused["try_session"]

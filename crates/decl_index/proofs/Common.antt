@@ -3,7 +3,7 @@ pub use Rattle.decl_index.specs.Entries.{AreAsOf, IndexView, IsBehind, IsBehindA
 pub use Rattle.decl_index.specs.EntryOrder.{entry_cmp, entry_cmp_total, name_cmp}
 pub use Rattle.decl_index.specs.Inner.{AreChangedEntries, is_current}
 pub use Rattle.decl_index.specs.declared.entry.Entry.{Entry}
-pub use Rattle.def_collector.specs.Declarations.{node_name}
+pub use Rattle.tree_walk.specs.Declarations.{node_name}
 pub use Rattle.hir_input.specs.declared.ids.Crate.{Crate}
 pub use Rattle.item_tree.proofs.Walking.{each_walked_once, of_id_nothing}
 pub use Rattle.item_tree.specs.IdOrder.{id_cmp_ties}

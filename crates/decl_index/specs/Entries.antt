@@ -9,7 +9,7 @@ use Rattle.item_tree.specs.Walk.{of_id}
 use Rattle.item_tree_db.specs.declared.place.Place.{Place}
 use Rattle.item_tree_db.specs.State.{State, IsKnown, unfolding_at, change_number}
 use Rattle.item_tree_db.specs.Since.{Change, IsSince, HoldLate}
-use Rattle.def_collector.specs.Declarations.{node_name}
+use Rattle.tree_walk.specs.Declarations.{node_name}
 use Rattle.decl_index.specs.declared.entry.Entry.{Entry}
 use Rattle.decl_index.specs.EntryOrder.{entry_cmp}
 

@@ -49,8 +49,8 @@ impl Ord for Entry {
     }
 }
 
-// `==` decides whether two entries are one, and their order is that of its definition: the derive and the impl are held to it
-// by these clauses; the function does nothing.
+// `==` decides whether two entries are one, and their order is that of its definition: the derive and the impl are held
+// to it by these clauses; the function does nothing.
 fn laws()
     ensures equal { DecidesEq ⟦<Entry as PartialEq>⟧.eq }
     ensures ordered { (a b : Entry) → ⟦<Entry as Ord>⟧.cmp a b ≡ entry_cmp a b }

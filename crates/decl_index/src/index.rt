@@ -1,24 +1,25 @@
 //! The index.
-ghost use Rattle.std.specs.Prelude.{◌≡◌, ◌++◌, All, List, None, Some, [], filter, IfOk, OnOk, OnErr, flat_map, unwrap_or};
+ghost use Rattle.std.specs.Prelude.{◌≡◌, ◌++◌, All, List, None, Some, [], filter, IfOk, OnOk, OnErr, flat_map};
+ghost use Rattle.std.specs.Prelude.{unwrap_or};
 ghost use Rattle.std.specs.List.Sorted.{IsPermutation, IsSorted, IsStrictlySortedBy};
 ghost use Rattle.item_tree.specs.Shown.{IsContained};
 ghost use Rattle.item_tree.specs.Walk.{AreContained};
 ghost use Rattle.item_tree_db.specs.Since.{IsGrounded, IsSince};
 ghost use Rattle.item_tree_db.specs.State.{IsKnown};
 ghost use Rattle.decl_index.specs.EntryOrder.{entry_cmp};
-ghost use Rattle.decl_index.specs.Entries.{entries_at, entries_by, entries_of, HasChanged, IsBehind, IsBehindAt, IsIndexOf};
+ghost use Rattle.decl_index.specs.Entries.{entries_at, entries_by, entries_of, HasChanged, IsBehind, IsBehindAt};
+ghost use Rattle.decl_index.specs.Entries.{IsIndexOf};
 ghost use Rattle.decl_index.specs.Inner.{is_current, AreChangedEntries};
 ghost use Rattle.decl_index.specs.Lookup.{entry_has_name};
 
 use crate::entry::Entry;
-use def_collector::name_at;
 use hir_input::{Crate, Name};
 use item_tree::{ItemTree, ModItemId};
 use item_tree_db::{ChangedSince, Place, Sources};
 use std::alloc::{AllocError, Global};
 use std::collections::BTreeSet;
 use std::marker::Model;
-use tree_walk::preorder;
+use tree_walk::{name_at, preorder};
 
 /// An index of the items of a table by their names.
 #[derive(Debug)]
@@ -81,8 +82,8 @@ impl DeclIndex {
         named(&self.entries, name)
     }
 
-    /// Makes this the index of the table as it stands, and gives how many entries the trees have that changed since the last
-    /// refresh: items with a name. It reads no other tree, which no clause says.
+    /// Makes this the index of the table as it stands, and gives how many entries the trees have that changed since the
+    /// last refresh: items with a name. It reads no other tree, which no clause says.
     ///
     /// The table is the one that the index was refreshed from before, if it ever was, after any edits.
     ///
@@ -102,8 +103,8 @@ impl DeclIndex {
         self.renew(sources, since, fresh)
     }
 
-    /// The same, where each tree that changed since the last refresh is of one of these places: it looks at no others, and where
-    /// none changed, at no entry.
+    /// The same, where each tree that changed since the last refresh is of one of these places: it looks at no others,
+    /// and where none changed, at no entry.
     ///
     /// # Errors
     ///

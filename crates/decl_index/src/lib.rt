@@ -1,5 +1,5 @@
-//! An incremental index of the items of a table by their names, by the public calls of the crates below alone: where each name
-//! is declared, read again only for the trees that changed.
+//! An incremental index of the items of a table by their names, by the public calls of the crates below alone: where
+//! each name is declared, read again only for the trees that changed.
 #![tactic(auto)]
 
 mod entry;

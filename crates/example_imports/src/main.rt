@@ -1,12 +1,12 @@
 //! An example of the crates as a library: what the uses of a text import, and which edits of a file change its tree.
 #![tactic(auto)]
 
-use def_collector::list_imports;
 use hir_input::{CfgOptions, Crate, Edition, EditionYear, HirFileId};
 use item_tree::{CrateData, ModItemKind, lower_syntax};
 use item_tree_db::{Edit, Place, Sources};
 use rust_items::read_source_file;
 use std::alloc::Global;
+use tree_walk::list_imports;
 
 /// A crate whose root is file 0, in which no cfg is set.
 fn plain_crate(alloc: Global) -> CrateData {

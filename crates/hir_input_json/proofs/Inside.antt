@@ -128,3 +128,10 @@ depth_listed_in key ms ds h = listed_within (field key (object ms)) (members_dep
 -- a member of another key was there before
 pub field_before : (key other : List ℕ) (d e v : Data) → e ≡ without other d → bytes_eq key other ≡ false → Some v ≡ field key e → Some v ≡ field key d
 field_before key other d e v is apart found = found ∙ ap (field key) is ∙ field_without key other d apart
+
+-- how much less deep what is taken out of an object is
+pub ruleset found_depths = (field_without, depth_found_in)
+
+pub ruleset got_depths = (field_without, depth_found_in, depth_found_get)
+
+pub ruleset listed_depths = (field_without, depth_listed_in)

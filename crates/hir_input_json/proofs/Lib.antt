@@ -8,3 +8,4 @@ pub mod Pointers
 pub mod Spans
 pub mod UseTrees
 pub mod Common
+pub mod Writing

@@ -48,3 +48,5 @@ digit_stays n small = rw (byte_stays (48 + n) (λ e. omega (arith, e, small)) (�
 -- the number of an item
 pub digits_stay : (n : ℕ) → n < 2 ^ 64 → pointer_step (decimal n) ≡ decimal n
 digits_stay = decimal_by_steps (λ n ds. pointer_step ds ≡ ds) digit_stays (λ n ds many h. flat_map-append pointer_byte ds ((48 + n % 10) ∷ []) ∙ ap (λ xs. xs ++ pointer_step ((48 + n % 10) ∷ [])) h ∙ ap (λ xs. ds ++ xs) (digit_stays (n % 10) (omega arith)))
+
+pub ruleset char_steps = (char_stays, slash_step, tilde_step)

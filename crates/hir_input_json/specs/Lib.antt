@@ -12,3 +12,4 @@ pub mod Syntaxes
 pub mod Editions
 pub mod Reads
 pub mod Inner
+pub mod Writing

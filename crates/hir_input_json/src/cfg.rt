@@ -11,7 +11,7 @@ ghost use Rattle.hir_input_json.specs.Reads.{Reads};
 use crate::atom::{atom_of, keyed_atom_of};
 use crate::each_of;
 use crate::fault::{Fault, ReadIn};
-use crate::member::{Members, array_of, members_of, removed, taken};
+use crate::member::{Members, array_of, members_of, remove_member, taken};
 use hir_input::CfgExpr;
 use serde_json::Value;
 use std::alloc::Global;
@@ -41,11 +41,11 @@ fn cfg_in(alloc: Global, value: Value) -> Result<CfgExpr, Fault>
 
 // A condition by the first key that it holds.
 #[cycle(cfgs)]
-#[tactic(auto, using(crate::proofs::Held::field_without, crate::proofs::Inside::depth_found_in, crate::proofs::Inside::depth_found_get, hir_input::proofs::CfgLemmas::cfg_views))]
+#[tactic(auto, using(crate::proofs::Inside::got_depths, hir_input::proofs::CfgLemmas::cfg_views))]
 fn cfg_by(alloc: Global, members: &mut Members) -> Result<CfgExpr, Fault>
     ensures { Reads cfg_view result (cfg_by_form cfg_form (held members.old)) }
 {
-    let inner = removed(members, "not");
+    let inner = remove_member(members, "not");
     if let Some(key) = taken(members, "key") {
         return Ok(CfgExpr::Atom(keyed_atom_of(alloc, key, members)?));
     }
@@ -87,7 +87,7 @@ pub(crate) fn condition_at(alloc: Global, members: &mut Members) -> Result<CfgEx
     ensures reads { Reads cfg_view result (condition_form (held members.old)) }
     ensures left { OnOk result (held members.new ≡ without (codes "cfg") (held members.old)) }
 {
-    match removed(members, "cfg") {
+    match remove_member(members, "cfg") {
         Some(found) => cfg_of(alloc, found).in_member(alloc, "cfg"),
         None => Ok(CfgExpr::Invalid),
     }

@@ -1,7 +1,8 @@
 //! Numbers that are held as floats.
 ghost use Rattle.std.specs.Prelude.{◌≡◌};
 ghost use Rattle.serde_json.specs.View.{view, items_view, members_view};
-ghost use Rattle.serde_json.specs.Written.{has_float as holds_float, items_have_float as items_hold_float, members_have_float as members_hold_float};
+ghost use Rattle.serde_json.specs.Written.{has_float as holds_float, items_have_float as items_hold_float};
+ghost use Rattle.serde_json.specs.Written.{members_have_float as members_hold_float};
 
 use crate::member::Members;
 use serde_json::Value;

@@ -5,7 +5,9 @@ ghost use Rattle.hir_input.specs.Syntax.{asm_item, item_view};
 ghost use Rattle.hir_input_json.specs.Reading.{reading_map};
 ghost use Rattle.hir_input_json.specs.Forms.{each, maybe, list_of};
 ghost use Rattle.hir_input_json.specs.Held.{held};
-ghost use Rattle.hir_input_json.specs.Items.{struct_form, use_form, extern_crate_form, impl_form, macro_call_form, module_form, item as item_form, item_with, named_item as named_item_form, node_form as node_form};
+ghost use Rattle.hir_input_json.specs.Items.{struct_form, use_form, extern_crate_form, impl_form, macro_call_form};
+ghost use Rattle.hir_input_json.specs.Items.{module_form, item as item_form, item_with, named_item as named_item_form};
+ghost use Rattle.hir_input_json.specs.Items.{node_form as node_form};
 ghost use Rattle.hir_input_json.specs.Reads.{Reads};
 
 mod extern_block;
@@ -121,7 +123,7 @@ fn item_in(alloc: Global, members: &mut Members) -> Result<Item, Fault>
 }
 
 #[cycle(items)]
-#[tactic(auto, using(crate::proofs::Held::field_without, crate::proofs::Inside::depth_found_in, hir_input::proofs::SyntaxViews::item_views))]
+#[tactic(auto, using(crate::proofs::Inside::found_depths, hir_input::proofs::SyntaxViews::item_views))]
 fn module_of(alloc: Global, members: &mut Members) -> Result<Item, Fault>
     ensures { Reads item_view result (module_form item_form (held members.old)) }
 {

@@ -3,7 +3,9 @@ ghost use Rattle.std.specs.Prelude.{◌≡◌, ◌^◌, [], None, false, MatchRe
 ghost use Rattle.serde_json.specs.Find.{as_object, get as get_in};
 ghost use Rattle.serde_json.specs.View.{view, items_view};
 ghost use Rattle.hir_input_json.specs.Reading.{right};
-ghost use Rattle.hir_input_json.specs.Forms.{field as field_of, required_at as required_form, optional_at, flag, array_items, text_form, whole_form, number_form as id_form, items_at as items_form};
+ghost use Rattle.hir_input_json.specs.Forms.{field as field_of, required_at as required_form, optional_at, flag};
+ghost use Rattle.hir_input_json.specs.Forms.{array_items, text_form, whole_form, number_form as id_form};
+ghost use Rattle.hir_input_json.specs.Forms.{items_at as items_form};
 ghost use Rattle.hir_input_json.specs.Held.{held, without};
 ghost use Rattle.hir_input_json.specs.Reads.{IsHere, Reads};
 
@@ -85,7 +87,7 @@ pub(crate) fn text_of(alloc: Global, value: Value) -> Result<String, Fault>
     }
 }
 
-fn found<'v>(members: &'v Members, key: &str) -> Option<&'v Value>
+fn member_at<'v>(members: &'v Members, key: &str) -> Option<&'v Value>
     ensures { option_map (λ v. view v.now) result ≡ get_in key.now (held members.now) }
 {
     members.get(key)
@@ -93,7 +95,7 @@ fn found<'v>(members: &'v Members, key: &str) -> Option<&'v Value>
 
 // Takes the member out, also if it is null, and leaves a null.
 #[inline(always)]
-pub(crate) fn removed(members: &mut Members, key: &str) -> Option<Value>
+pub(crate) fn remove_member(members: &mut Members, key: &str) -> Option<Value>
     ensures taken { option_map view result ≡ get_in key.now (held members.old) }
     ensures left { held members.new ≡ without key.now (held members.old) }
 {
@@ -110,7 +112,7 @@ pub(crate) fn removed(members: &mut Members, key: &str) -> Option<Value>
 pub fn field<'v>(members: &'v Members, key: &str) -> Option<&'v Value>
     ensures { option_map (λ v. view v.now) result ≡ field_of key.now (held members.now) }
 {
-    match found(members, key) {
+    match member_at(members, key) {
         Some(Value::Null) | None => None,
         Some(found) => Some(found),
     }
@@ -123,7 +125,7 @@ pub fn taken(members: &mut Members, key: &str) -> Option<Value>
     ensures taken { option_map view result ≡ field_of key.now (held members.old) }
     ensures left { held members.new ≡ without key.now (held members.old) }
 {
-    match removed(members, key) {
+    match remove_member(members, key) {
         Some(Value::Null) | None => None,
         Some(found) => Some(found),
     }

@@ -4,7 +4,8 @@ ghost use Rattle.serde_json.specs.View.{view, items_view};
 ghost use Rattle.hir_input.specs.Attr.{meta_view};
 ghost use Rattle.hir_input_json.specs.Forms.{each};
 ghost use Rattle.hir_input_json.specs.Held.{held, without};
-ghost use Rattle.hir_input_json.specs.Metas.{meta_form as meta_form, meta_form_with, key_value_form, tokens_form, cfg_attr_form, unsafe_form, attrs_form as attrs_form};
+ghost use Rattle.hir_input_json.specs.Metas.{meta_form as meta_form, meta_form_with, key_value_form, tokens_form};
+ghost use Rattle.hir_input_json.specs.Metas.{cfg_attr_form, unsafe_form, attrs_form as attrs_form};
 ghost use Rattle.hir_input_json.specs.Reads.{Reads};
 
 use crate::cfg::condition_at;
@@ -71,7 +72,7 @@ fn meta_in(alloc: Global, members: &mut Members) -> Result<Meta, Fault>
 }
 
 #[cycle(metas)]
-#[tactic(auto, using(crate::proofs::Held::field_without, crate::proofs::Inside::depth_listed_in, hir_input::proofs::MetaLemmas::meta_views))]
+#[tactic(auto, using(crate::proofs::Inside::listed_depths, hir_input::proofs::MetaLemmas::meta_views))]
 fn cfg_attr_of(alloc: Global, members: &mut Members) -> Result<Meta, Fault>
     ensures { Reads meta_view result (cfg_attr_form meta_form (held members.old)) }
 {

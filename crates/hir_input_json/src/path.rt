@@ -3,7 +3,9 @@ ghost use Rattle.std.specs.Prelude.{◌≡◌, ◌≤◌, OnOk, codes};
 ghost use Rattle.std.specs.Vec.Iter.{into_iter_items};
 ghost use Rattle.serde_json.specs.View.{view, items_view};
 ghost use Rattle.hir_input_json.specs.Held.{held, without};
-ghost use Rattle.hir_input_json.specs.Paths.{path_node_form as path_form, path_at as path_at_form, listed_path as listed_form, names_behind, super_path as super_form, dollar_path as dollar_form, path_by as by_word};
+ghost use Rattle.hir_input_json.specs.Paths.{path_node_form as path_form, path_at as path_at_form};
+ghost use Rattle.hir_input_json.specs.Paths.{listed_path as listed_form, names_behind, super_path as super_form};
+ghost use Rattle.hir_input_json.specs.Paths.{dollar_path as dollar_form, path_by as by_word};
 ghost use Rattle.hir_input_json.specs.Reads.{Reads};
 
 use crate::fault::{Fault, ReadIn};

@@ -5,7 +5,8 @@ ghost use Rattle.hir_input_json.specs.Reading.{pointer_behind, pointer_step};
 use std::alloc::{AllocError, Global};
 use std::marker::Model;
 
-/// Where a value stands in another one that it is part of: a JSON Pointer (RFC 6901), which is empty for the other one itself.
+/// Where a value stands in another one that it is part of: a JSON Pointer (RFC 6901), which is empty for the other one
+/// itself.
 #[derive(Debug, Drop)]
 pub struct Pointer {
     text: String,
@@ -20,7 +21,7 @@ impl Model for Pointer {
     ghost view = { λ p. string_bytes p.text };
 }
 
-#[tactic(auto, using(crate::proofs::Pointers::char_stays, crate::proofs::Pointers::slash_step, crate::proofs::Pointers::tilde_step))]
+#[tactic(auto, using(crate::proofs::Pointers::char_steps))]
 fn push_char(c: char, step: &mut String) -> Result<(), AllocError>
     ensures { OnOk result (string_bytes step.new ≡ string_bytes step.old
         ++ pointer_step (encode_utf8 c)) }

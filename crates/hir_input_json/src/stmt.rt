@@ -4,7 +4,8 @@ ghost use Rattle.serde_json.specs.View.{view, items_view};
 ghost use Rattle.hir_input.specs.Syntax.{call_view, stmt_view, stmts_view, tail_view};
 ghost use Rattle.hir_input_json.specs.Forms.{each, list_at as each_at, optional_at, text_form};
 ghost use Rattle.hir_input_json.specs.Held.{held, without};
-ghost use Rattle.hir_input_json.specs.Syntaxes.{call as call_form, stmt as stmt_form, stmt_by, tail as tail_form, tail_at as tail_at_form};
+ghost use Rattle.hir_input_json.specs.Syntaxes.{call as call_form, stmt as stmt_form, stmt_by, tail as tail_form};
+ghost use Rattle.hir_input_json.specs.Syntaxes.{tail_at as tail_at_form};
 ghost use Rattle.hir_input_json.specs.Reads.{Reads};
 
 use crate::each_of;

@@ -3,7 +3,8 @@ ghost use Rattle.std.specs.Prelude.{◌≡◌, OnOk, codes};
 ghost use Rattle.serde_json.specs.View.{view};
 ghost use Rattle.hir_input.specs.Syntax.{syntax_view, block_view};
 ghost use Rattle.hir_input_json.specs.Held.{held, without};
-ghost use Rattle.hir_input_json.specs.Syntaxes.{source_form, macro_items_form, macro_stmts_form, syntax as syntax_form, block_form as block_form};
+ghost use Rattle.hir_input_json.specs.Syntaxes.{source_form, macro_items_form, macro_stmts_form, syntax as syntax_form};
+ghost use Rattle.hir_input_json.specs.Syntaxes.{block_form as block_form};
 ghost use Rattle.hir_input_json.specs.Reads.{Reads};
 
 use crate::fault::{Fault, ReadIn};

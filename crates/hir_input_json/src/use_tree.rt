@@ -5,7 +5,8 @@ ghost use Rattle.hir_input.specs.UseTreeView.{use_tree_view};
 ghost use Rattle.hir_input_json.specs.Forms.{each, list_of, maybe, maybe_at};
 ghost use Rattle.hir_input_json.specs.Held.{held, without};
 ghost use Rattle.hir_input_json.specs.Reads.{Reads};
-ghost use Rattle.hir_input_json.specs.UseTrees.{rename_form as rename_form, use_tree_form as use_tree_form, use_tree_with};
+ghost use Rattle.hir_input_json.specs.UseTrees.{rename_form as rename_form, use_tree_form as use_tree_form};
+ghost use Rattle.hir_input_json.specs.UseTrees.{use_tree_with};
 
 use crate::each_of;
 use crate::fault::{Fault, ReadIn};
@@ -49,7 +50,7 @@ fn use_tree_of(alloc: Global, value: Value) -> Result<UseTree, Fault>
 }
 
 #[cycle(trees)]
-#[tactic(auto, using(crate::proofs::Held::field_without, crate::proofs::Inside::depth_found_in, crate::proofs::UseTrees::use_tree_view_made))]
+#[tactic(auto, using(crate::proofs::Inside::found_depths, crate::proofs::UseTrees::use_tree_view_made))]
 fn use_tree_in(alloc: Global, members: &mut Members) -> Result<UseTree, Fault>
     ensures { Reads use_tree_view result (use_tree_with use_tree_form (held members.old)) }
 {

@@ -9,7 +9,7 @@ use Rattle.item_tree_attrs.specs.Collected.{Collected}
 use Rattle.item_tree.specs.{declared.visibility.RawVisibility.RawVisibility, Column.is_empty_of, Column.some_unless, Column.or_no_attrs, Layout.or_public}
 use Rattle.item_tree.specs.Node.{Ctor, no_ctor, Leaf, plain, constant, struct_item, outline, use_item, extern_crate, impl_item, macro_call, macro_rules, inline, extern_block, Head, Node, leaf, parent, empty, node_head}
 use Rattle.item_tree.specs.Shown.{lent_attrs}
-use Rattle.def_collector.specs.Declarations.{node_visibility}
+use Rattle.tree_walk.specs.Declarations.{node_visibility}
 use Rattle.item_tree.proofs.UseEq.{tells}
 use Rattle.item_changes.specs.Own.{own, node_code, same_node}
 use Rattle.item_changes.specs.Inner.{Rest, named, struct_rest, module_rest, use_rest, crate_rest, block_rest, impl_rest, call_rest, node_rest, node_ctor}

@@ -58,7 +58,6 @@ fn change_of<'r, 'tree>(
 }
 
 fn push_change<'tree>(
-    alloc: Global,
     change: Option<(ChangeKind, &Row<'tree>)>,
     changes: &mut Vec<Change<'tree>>,
 ) -> Result<(), AllocError>
@@ -70,7 +69,7 @@ fn push_change<'tree>(
     };
     let row = Row {
         level: row.level,
-        scope: Vec::from_slice(alloc, &row.scope)?,
+        scope: row.scope.clone()?,
         id: row.id,
         name: row.name,
         subject: row.subject,
@@ -91,7 +90,7 @@ fn changes_of<'tree>(
 {
     let mut changes = Vec::new(alloc);
     for one in found {
-        push_change(alloc, change_of(one), &mut changes)?;
+        push_change(change_of(one), &mut changes)?;
     }
     Ok(changes)
 }

@@ -23,6 +23,6 @@ pub(crate) fn key_of<'r, 'tree>(row: &'r Row<'tree>) -> Key<'r, 'tree>
         kind: row.id.kind as u8,
         level: row.level,
         name: row.name,
-        scope: &row.scope,
+        scope: row.scope.as_slice(),
     }
 }

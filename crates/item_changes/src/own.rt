@@ -6,13 +6,13 @@ ghost use Rattle.item_tree.specs.Shown.{IsContained, ctor_ids, lent};
 ghost use Rattle.item_changes.specs.Inner as spec;
 ghost use Rattle.item_changes.specs.Own.{own_at, same_node};
 
-use def_collector::visibility_at;
 use hir_input::{AstIdKind, Name};
 use item_tree::{
     FieldsShape, ImportAlias, ItemTree, MacroCall, ModItemId, ModItemKind, ModKind, RawVisibility,
     RawVisibilityId, StructValueNsCtor, UseTree,
 };
 use item_tree_attrs::AttrsOrCfg;
+use tree_walk::visibility_at;
 
 /// What an item has besides its attributes and visibilities.
 #[derive(Clone, Copy, PartialEq)]

@@ -8,7 +8,7 @@ use Rattle.item_tree.specs.Tree.{Tree}
 use Rattle.item_tree.specs.Node.{Leaf, plain, constant, struct_item, outline, use_item, extern_crate, impl_item, macro_call, macro_rules, Trunk, inline, extern_block, leaf_kind, file_id, Head, parent, Forest, empty, more, nodes, Unfolding}
 use Rattle.item_tree.specs.Shown.{StandFor, IsLeaf, IsParent}
 use Rattle.item_tree.proofs.Lookup.{leaf_kind-map}
-use Rattle.item_tree.proofs.Walking.{flat_map_of_id, leaf_of_id, parent_of_id}
+use Rattle.item_tree.proofs.Walking.{children_contained, flat_map_of_id, leaf_of_id, parent_counts, parent_of_id}
 use Rattle.item_tree_request.proofs.Common.{use_lines, leaf_lines, node_lines, import_lines, import_lines_at}
 
 abbrev pub is_use : {V : Type 0} → Leaf V → Bool
@@ -65,3 +65,5 @@ module _ (reserved : List (List ℕ)) (u : Unfolding) where
 
   pub module_shows : {i : ℕ} {a : FileAstId} {n : List ℕ} {v : ℕ} {is : List ℕ} → IsParent u i a (inline n v) is → import_lines_at reserved u i ≡ flat_map (import_lines_at reserved u) is
   module_shows {i} {a} {n} {v} {is} p = parent_of_id u [] (node_lines reserved) i a (inline n v) is p ∙ module_lines p.head n v p.item p.below p.visible ∙ sym (top_lines is p.below p.children)
+
+pub ruleset lines_of_items = (use_shows, other_shows, module_shows, parent_counts, children_contained)

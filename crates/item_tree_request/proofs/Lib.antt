@@ -3,3 +3,4 @@ pub mod Made
 pub mod Outputs
 pub mod Served
 pub mod Common
+pub mod Writing

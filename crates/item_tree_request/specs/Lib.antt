@@ -8,3 +8,4 @@ pub mod Streams
 pub mod Runs
 pub mod Status
 pub mod Inner
+pub mod Writing

@@ -64,7 +64,8 @@ fn lines_of_use(
     let mut visit = |index: UseTreeIdx, path: ModPath, kind: ImportKind, alias: Option<ImportAlias>|
         ensures { is_refused.exit ≡ false
             → (is_refused.entry ≡ false)
-            × (string_bytes text.exit ≡ string_bytes text.entry ++ import_line edition.entry.now.reserved.items (import index path kind alias)) }
+            × (string_bytes text.exit ≡ string_bytes text.entry
+            ++ import_line edition.entry.now.reserved.items (import index path kind alias)) }
     {
         if !is_refused {
             is_refused = push_import(
@@ -105,7 +106,7 @@ fn push_all(
 
 // Those of one item.
 #[cycle(imports)]
-#[tactic(auto, using(crate::proofs::ImportLists::use_shows, crate::proofs::ImportLists::other_shows, crate::proofs::ImportLists::module_shows, item_tree::proofs::Walking::parent_counts, item_tree::proofs::Walking::children_contained))]
+#[tactic(auto, using(crate::proofs::ImportLists::lines_of_items))]
 fn push_one(
     alloc: Global,
     tree: &ItemTree,

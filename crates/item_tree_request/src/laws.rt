@@ -1,14 +1,19 @@
-//! What holds of the types here: `==` decides whether two values are one, and a copy is its source. Each derive is held to it
-//! by a clause. And how much is read. The functions do nothing.
+//! What holds of the types here: `==` decides whether two values are one, and a copy is its source. Each derive is held
+//! to it by a clause. And how much is read. The functions do nothing.
 ghost use Rattle.std.specs.Prelude.{◌≡◌, ◌-◌, ◌*◌, ◌^◌};
 ghost use Rattle.item_tree.specs.Items.{IsByValue};
 ghost use Rattle.item_tree_request.specs.Streams.{most_bytes};
 
 use crate::error::RunError;
 use crate::request::show::{Show, ShowKind, TreeShow};
+use crate::write::RequestFault;
 
 fn errors()
     ensures by_value { IsByValue ⟦<RunError as PartialEq>⟧.eq ⟦<RunError as Clone>⟧.is_clone }
+{}
+
+fn faults()
+    ensures by_value { IsByValue ⟦<RequestFault as PartialEq>⟧.eq ⟦<RequestFault as Clone>⟧.is_clone }
 {}
 
 fn shows()

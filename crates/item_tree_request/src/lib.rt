@@ -7,12 +7,12 @@ mod answer;
 mod error;
 mod imports;
 mod laws;
-pub mod program;
 pub mod request;
 mod runner;
 pub mod show;
 pub mod show_writer;
 mod stream;
+pub mod write;
 
 pub use error::RunError;
 pub use runner::{run, run_with};

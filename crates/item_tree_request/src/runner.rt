@@ -12,9 +12,9 @@ use std::io::{Read, Write};
 
 /// Reads a request in JSON up to the reader's end, makes its edits, and writes what `writer` has of its shows.
 ///
-/// After any error but `Write` nothing was written, and after `Write` a beginning of the output was, but not
-/// all of it. At most 16,777,216 reads are made, each with room for 4,096 bytes, and none after one that failed; a reader
-/// that has told no end by then is answered as one that failed. Of the reads the clause says that they gave no more than
+/// After any error but `Write` nothing was written, and after `Write` a beginning of the output was, but not all of it.
+/// At most 16,777,216 reads are made, each with room for 4,096 bytes, and none after one that failed; a reader that has
+/// told no end by then is answered as one that failed. Of the reads the clause says that they gave no more than
 /// 16,777,215 full rooms, and nothing of a reader or a writer that does not tell its bytes.
 pub fn run_with<T: ShowWriter, R: Read, W: Write>(
     alloc: Global,

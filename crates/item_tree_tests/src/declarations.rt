@@ -1,8 +1,8 @@
 //! What the file with an item of each kind declares.
 use crate::lowered::{is_right, tree_of_all_kinds};
-use def_collector::{Declaration, Declares, collect};
 use item_tree::{ItemTree, LowerError};
 use std::alloc::{AllocError, Global};
+use tree_walk::{Declaration, Declares, collect};
 
 const DECLARED: &str = "\
 Module m
@@ -22,7 +22,7 @@ Module o
 ";
 
 fn push_path(text: &mut String, declaration: &Declaration<'_>) -> Result<(), AllocError> {
-    for name in &declaration.path {
+    for name in declaration.path.as_slice() {
         let name = name.text();
         write!(text, "{name}::")?;
     }

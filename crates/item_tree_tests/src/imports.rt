@@ -1,11 +1,11 @@
 //! The imports of `use a::{*, self as b, {c, {d::*}}};`, called for and listed, and those of as many supers as fit.
 use crate::lowered::{first_use, is_right, tree_of_all_kinds, tree_of_use};
 use crate::samples::use_trees::{below, leaf};
-use def_collector::{Listed, list_imports};
 use hir_input::ast::UseTree;
 use hir_input::{ModPath, PathKind};
 use item_tree::{ImportAlias, ImportKind, ItemTree, LowerError, Use, UseTreeIdx};
 use std::alloc::{AllocError, Global};
+use tree_walk::{Listed, list_imports};
 
 const CALLS: &str = "\
 UseTreeIdx(1) ModPath { kind: Plain, segments: [Name { text: \"a\" }] } Glob None

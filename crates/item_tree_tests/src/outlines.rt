@@ -1,9 +1,8 @@
-//! Outlines: as text of the file with an item of each kind, and as JSON of a function.
-use crate::lowered::{is_right, tree_of, tree_of_all_kinds};
-use crate::samples::items::one_function;
+//! The outline of the file with an item of each kind.
+use crate::lowered::{is_right, tree_of_all_kinds};
 use item_tree::LowerError;
 use std::alloc::Global;
-use tree_walk::{outline_json, outline_text};
+use tree_walk::outline_text;
 
 const TEXT: &str = "\
 Module[0001, 0] m
@@ -26,22 +25,13 @@ Use[0011, 0]
 Module[0012, 0] o
 ";
 
-const JSON: &str = "[{\"children\":[],\"id\":\"Fn[BE8F, 0]\",\"kind\":\"Fn\",\"name\":\"f\"}]";
-
 fn is_text_written(alloc: Global) -> Result<bool, LowerError> {
     let tree = tree_of_all_kinds(alloc)?;
     let text = outline_text(alloc, &tree)?;
     Ok(text.as_str() == TEXT)
 }
 
-fn is_json_written(alloc: Global) -> Result<bool, LowerError> {
-    let tree = tree_of(alloc, &one_function(alloc, Vec::new(alloc))?)?;
-    let text = outline_json(alloc, &tree)?.to_string(alloc)?;
-    Ok(text.as_str() == JSON)
-}
-
 #[test]
 fn outlines_are_whole_or_refused_when_memory_is_refused(rt: HostRuntime) {
     assert!(rt; is_right(is_text_written(rt.alloc())));
-    assert!(rt; is_right(is_json_written(rt.alloc())));
 }

@@ -2,9 +2,9 @@
 use crate::words::{edition, push_names, skipped};
 use hir_input::{CfgAtom, CfgOptions, EditionYear, HirFileId, Name};
 use item_tree::CrateData;
+use item_tree_request::write::RequestOptions;
 use itemtree_commands::Options;
 use itemtree_options::Asked;
-use request_writer::RequestOptions;
 use rust_lexer::is_identifier;
 use std::alloc::{AllocError, Global};
 

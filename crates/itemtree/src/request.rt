@@ -7,8 +7,9 @@ use crate::sources::files_of;
 use hir_input::{Crate, HirFileId};
 use item_tree_db::Place;
 use item_tree_request::request::show::{Show, ShowKind, TreeShow};
+use item_tree_request::write::RequestOptions;
+use itemtree_commands::source_request;
 use itemtree_options::Asked;
-use request_writer::{RequestOptions, source_request};
 use std::alloc::{AllocError, Global};
 
 fn show_kind(word: &str) -> ShowKind {

@@ -5,3 +5,4 @@ pub mod BareTrees
 pub mod Common
 pub mod RowTrees
 pub mod Checks
+pub mod RequestTexts

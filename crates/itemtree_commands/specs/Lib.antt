@@ -2,3 +2,4 @@ pub mod Answers
 pub mod Typing
 pub mod Trees
 pub mod Inner
+pub mod RequestTexts

@@ -3,6 +3,7 @@
 
 mod laws;
 mod listed;
+mod request;
 mod trees;
 
 ghost use Rattle.std.specs.Prelude.{◌≡◌, ◌≤◌, ◌^◌, length, map, IfOk, IfErr, OnOk, option_copied, string_bytes};
@@ -15,6 +16,7 @@ ghost use Rattle.itemtree_commands.specs.Trees.{HasOwnIds, IsTextUnread};
 use hir_input::{CfgOptions, Edition, Name};
 use item_tree::CrateData;
 use listed::{listed, listed_rows};
+pub use request::source_request;
 use rust_mended::Mended;
 use source_listing::{Choice, Look, Query, Reading, Side, Source, without_ids};
 use source_problems::source_problems;

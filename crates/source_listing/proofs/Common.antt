@@ -1,7 +1,7 @@
 -- The names that most proofs here cite, passed on from one place. Declares nothing.
-pub use Rattle.def_collector.specs.DeclarationView.{DeclarationView, declaration_id, declaration_view, view_of}
-pub use Rattle.def_collector.specs.Declarations.{Declared, declarations, declared_imports, declared_name}
-pub use Rattle.def_collector.specs.Listed.{listed_import}
+pub use Rattle.tree_walk.specs.DeclarationView.{DeclarationView, declaration_id, declaration_view, view_of}
+pub use Rattle.tree_walk.specs.Declarations.{Declared, declarations, declared_imports, declared_name}
+pub use Rattle.tree_walk.specs.Listed.{listed_import}
 pub use Rattle.hir_input.specs.declared.edition.Edition.{Edition}
 pub use Rattle.hir_input.specs.declared.ids.FileAstId.{FileAstId}
 pub use Rattle.item_changes.specs.Views.{change_view}

@@ -8,8 +8,8 @@ use Rattle.item_tree.specs.declared.use_tree.ImportKind.TheVariants as kind
 use Rattle.item_tree.specs.Imports.{Import}
 use Rattle.item_tree.specs.Node.{Forest, node_ast}
 use Rattle.item_tree.specs.UseText.{shown_rename}
-use Rattle.def_collector.specs.Declarations.{Declared, declared_name, declared_imports, declarations}
-use Rattle.def_collector.specs.DeclarationView.{DeclarationView, view_of}
+use Rattle.tree_walk.specs.Declarations.{Declared, declared_name, declared_imports, declarations}
+use Rattle.tree_walk.specs.DeclarationView.{DeclarationView, view_of}
 use Rattle.source_listing.specs.declared.finder.Spot.{Spot}
 use Rattle.source_listing.specs.Lines.{Source}
 use Rattle.source_listing.specs.Places.{item_place}

@@ -10,7 +10,7 @@ use Rattle.item_tree.specs.declared.visibility.RawVisibility.{RawVisibility}
 use Rattle.item_tree.specs.declared.visibility.RawVisibility.TheVariants.{Module, PubSelf, PubCrate, Public}
 use Rattle.item_tree.specs.declared.visibility.VisibilityExplicitness.TheVariants.{Explicit, Implicit}
 use Rattle.item_tree.specs.Node.{Node, leaf, parent, Forest, empty, more, node_ast, Unfolding}
-use Rattle.def_collector.specs.Declarations.{node_name, node_visibility}
+use Rattle.tree_walk.specs.Declarations.{node_name, node_visibility}
 use Rattle.tree_walk.specs.Rows.{Subject, no_subject, used, called, node_subject, is_enabled, is_file_enabled}
 pub use Rattle.tree_walk.specs.Objects.{name_form}
 use Rattle.line_index.specs.declared.Position.{Position}

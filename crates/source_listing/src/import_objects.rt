@@ -2,8 +2,8 @@
 ghost use Rattle.std.specs.Prelude.{◌≡◌, ◌++◌, IfOk, OnOk, map, option_map, flat_map};
 ghost use Rattle.serde_json.specs.Data.{no_members};
 ghost use Rattle.serde_json.specs.View.{members_view, view};
-ghost use Rattle.def_collector.specs.DeclarationView.{declaration_view};
-ghost use Rattle.def_collector.specs.Listed.{listed_import};
+ghost use Rattle.tree_walk.specs.DeclarationView.{declaration_view};
+ghost use Rattle.tree_walk.specs.Listed.{listed_import};
 ghost use Rattle.item_tree.specs.Shown.{IsContained};
 ghost use Rattle.source_listing.specs.ImportObjects as spec;
 ghost use Rattle.source_listing.specs.Inner.{FindsTrees, IsSameTreeFinder, places_in, finder_text, placed_trees_view};
@@ -13,13 +13,13 @@ ghost use Rattle.source_listing.specs.Uses.{placed, tree_spots};
 use crate::finder::Spot;
 use crate::json::{column_value, line_value, put_text};
 use crate::uses::{TreeFinder, UseTrees};
-use def_collector::{Declaration, Declares, Listed, collect};
 use hir_input::Edition;
+use hir_input_json::member::Members;
 use item_tree::{ImportAlias, ImportKind, ItemTree};
-use json_object::Members;
 use rust_items::ItemPlace;
 use serde_json::{Map, Value, put};
 use std::alloc::{AllocError, Global};
+use tree_walk::{Declaration, Declares, Listed, collect};
 
 /// The word of a kind of import.
 fn import_word(kind: ImportKind) -> &'static str

@@ -1,7 +1,7 @@
 //! Imports as lines of text.
 ghost use Rattle.std.specs.Prelude.{◌≡◌, ◌++◌, ◌∷◌, [], Some, IfOk, OnOk, map, option_map, string_bytes, flat_map};
-ghost use Rattle.def_collector.specs.DeclarationView.{declaration_view};
-ghost use Rattle.def_collector.specs.Listed.{listed_import};
+ghost use Rattle.tree_walk.specs.DeclarationView.{declaration_view};
+ghost use Rattle.tree_walk.specs.Listed.{listed_import};
 ghost use Rattle.item_tree.specs.Shown.{IsContained};
 ghost use Rattle.item_tree.specs.UseText.{shown_rename};
 ghost use Rattle.source_listing.specs.Imports as spec;
@@ -12,12 +12,12 @@ ghost use Rattle.source_listing.specs.Views.{source_view};
 
 use crate::lines::push_spot;
 use crate::uses::{TreeFinder, UseTrees};
-use def_collector::{Declaration, Declares, Listed, collect};
 use hir_input::Edition;
 use item_tree::{ImportAlias, ImportKind, ItemTree};
 use rust_items::ItemPlace;
 use source_rows::Source;
 use std::alloc::{AllocError, Global};
+use tree_walk::{Declaration, Declares, Listed, collect};
 
 pub(crate) fn push_rename(
     edition: &Edition,

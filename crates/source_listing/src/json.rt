@@ -17,15 +17,17 @@ use crate::finder::Spot;
 use crate::lines::{Choice, push_visible_in};
 use crate::printer::Printer;
 use crate::subjects::push_short_tree;
-use def_collector::{name_at, visibility_at};
 use hir_input::{Edition, FileAstId, Name};
+use hir_input_json::member::Members;
+use hir_input_json::write::object::{of_text, with};
 use item_tree::{ItemTree, ModItemId, RawVisibility, VisibilityExplicitness};
-use json_object::{Members, of_text, with};
 use rust_items::ItemPlace;
 use serde_json::{Map, Value, put};
 use source_rows::{ListedMember, Reading, Source, item_word, member_word};
 use std::alloc::{AllocError, Global};
-use tree_walk::{Subject, children, is_enabled, is_file_enabled, subject_at};
+use tree_walk::{
+    Subject, children, is_enabled, is_file_enabled, name_at, subject_at, visibility_at,
+};
 
 /// An item, and whether no cfg disables it, nor an item that it stands in, nor the file.
 #[derive(Drop)]

@@ -5,7 +5,7 @@ ghost use Rattle.source_listing.specs.Lines as spec;
 ghost use Rattle.source_listing.specs.Objects.{problem_at, problem_objects};
 ghost use Rattle.source_listing.specs.Views.{source_view};
 
-use json_object::{of_text, with};
+use hir_input_json::write::object::{of_text, with};
 use line_index::{LineIndex, Position};
 use rust_items::Problem;
 use serde_json::Value;

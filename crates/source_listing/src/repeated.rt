@@ -1,6 +1,6 @@
 //! Imports that repeat an earlier one of their module.
 ghost use Rattle.std.specs.Prelude.{◌≡◌, ◌++◌, [], map, IfOk, OnOk, option_map, string_bytes, flat_map};
-ghost use Rattle.def_collector.specs.Listed.{listed_import};
+ghost use Rattle.tree_walk.specs.Listed.{listed_import};
 ghost use Rattle.item_tree.specs.Shown.{IsContained};
 ghost use Rattle.item_tree.specs.Walk.{AreContained};
 ghost use Rattle.source_listing.specs.Imports.{import_text};
@@ -14,14 +14,13 @@ use crate::finder::Spot;
 use crate::imports::push_import_text;
 use crate::lines::push_spot;
 use crate::uses::{TreeFinder, UseTrees};
-use def_collector::{Listed, list_imports};
 use hir_input::{Edition, FileAstId};
 use item_tree::{ItemTree, ModItemId, ModItemKind};
 use rust_items::ItemPlace;
 use source_rows::Source;
 use std::alloc::{AllocError, Global};
 use std::collections::HashMap;
-use tree_walk::children;
+use tree_walk::{Listed, children, list_imports};
 
 /// An import: the item that its use stands in, its place, and how a use of it alone would be written.
 #[derive(Drop)]

@@ -80,7 +80,7 @@ fn path_of(
         IfOk result (λ path. string_bytes path ≡ path_is) }
 {
     let mut path = String::new(alloc);
-    push_scope(&row.scope, &mut path)?;
+    push_scope(row.scope.as_slice(), &mut path)?;
     push_own_segment(around, &mut path)?;
     push_segment(name.text(), &mut path)?;
     Ok(path)

@@ -169,7 +169,15 @@ fn push_tag(
         return Ok(());
     };
     let line = finder.lines.position(stands_at(place)).line;
-    push_text(name, path, line, letter, "module", &row.scope, out)
+    push_text(
+        name,
+        path,
+        line,
+        letter,
+        "module",
+        row.scope.as_slice(),
+        out,
+    )
 }
 
 /// The modules around an item, and what its members stand in.
@@ -178,11 +186,11 @@ fn names_around<'a>(
     row: &Row<'a>,
     name: Option<&'a Name>,
 ) -> Result<Vec<&'a Name>, AllocError>
-    ensures { let names = map (λ n. n.now) row.now.scope.items
+    ensures { let names = map (λ n. n.now) row.now.scope.value.items
         ++ option_to_list (option_copied name.entry) in
         IfOk result (λ v. map (λ n. n.now) v.items ≡ names) }
 {
-    let mut names = Vec::from_slice(alloc, &row.scope)?;
+    let mut names = Vec::from_slice(alloc, row.scope.as_slice())?;
     if let Some(name) = name {
         names.push(name)?;
     }

@@ -1,8 +1,8 @@
 -- The names that most proofs here cite, passed on from one place. Declares nothing.
 pub use Rattle.decl_index.specs.Entries.{IndexView, IsBehind, IsDeclared}
 pub use Rattle.decl_index.specs.declared.entry.Entry.{Entry}
-pub use Rattle.def_collector.specs.DeclarationView.{DeclarationView, collected_declaration, declaration_id, defined}
-pub use Rattle.def_collector.specs.Declarations.{Declaration, declared_at, node_name}
+pub use Rattle.tree_walk.specs.DeclarationView.{DeclarationView, collected_declaration, declaration_id, defined}
+pub use Rattle.tree_walk.specs.Declarations.{Declaration, declared_at, node_name}
 pub use Rattle.hir_input.specs.declared.edition.EditionYear.{EditionYear}
 pub use Rattle.hir_input.specs.declared.ids.Crate.{Crate}
 pub use Rattle.hir_input.specs.declared.ids.FileAstId.{FileAstId}

@@ -3,7 +3,7 @@ use Rattle.std.proofs.Common.{◌≡◌, ◌≢◌, ℕ, suc, zero, ◌<◌, ◌
 use Rattle.source_session.proofs.Common.{option_map_or, cases_Bool, nat_tests, length-drop, take_all, Crate, FileAstId, Unfolding, Place, File, Block, State, unfolding_at, node_name, declaration_id, Entry, IsDeclared, ItemPlace, AreDistinct, place_of, bare_segment, SourceText, HaveDistinctIds, declared_scope, found_with, head_place, head_scope, found_value, IsPlaced, found_scope, text_bytes, text_places, Texts, text_of_place, text_in}
 use Rattle.item_tree.specs.Layout.{node_at}
 use Rattle.item_tree.specs.Shown.{IsContained}
-use Rattle.def_collector.specs.declared.collector.Declaration as code
+use Rattle.tree_walk.specs.declared.collector.Declaration as code
 use Rattle.source_listing.specs.Ends.{IsEndOf}
 use Rattle.source_listing.proofs.Found.{found_later}
 use Rattle.source_listing.proofs.Pushed.{segments_of}
@@ -59,7 +59,7 @@ pub scope_later : (id k : ℕ) (ds found : List code.Declaration) → AllPairs (
     → head_scope found ≡ found_scope id (map declared_scope ds)
 scope_later id k ds [] once some e = absurd (omega (arith, some))
 scope_later id k ds (d ∷ found) once some e =
-    let s = map (λ name. name.now) d.path.items in
+    let s = map (λ name. name.now) d.path.value.items in
     let is = left_whole k ds in
     sym (later id k (map declared_scope ds) s (subst (AllPairs Differ) (sym (ids_are ds)) once)
     (ap (found_scope id) (sym (ap (map declared_scope) is ∙ drop_scopes k ds)) ∙ sym e))

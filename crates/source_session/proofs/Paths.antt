@@ -1,7 +1,7 @@
 -- Paths that are looked for.
 use Rattle.std.proofs.Common.{◌≡◌, ℕ, ◌+◌, ◌-◌, ◌&&◌, Bool, true, false, if◌then◌else◌, List, [], ◌∷◌, ◌++◌, length, drop, map, filter, refl, sym, ap, append_assoc, ◌∙◌, arith, nat_eq}
 use Rattle.source_session.proofs.Common.{pointwise, pointwise_decides, ends_with, flat_map, and_parts, Decides-eqb, length-append, length-drop, drop-append-add, Unfolding, Declaration, declared_at, DeclarationView, collected_declaration, defined, bare_segment, declared_scope, own_scope, scope_at, path_within, is_at}
-use Rattle.def_collector.specs.declared.collector.Declaration as code
+use Rattle.tree_walk.specs.declared.collector.Declaration as code
 use Rattle.source_listing.specs.Sought.{Sought}
 
 -- ---- how paths end

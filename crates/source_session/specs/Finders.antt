@@ -8,9 +8,9 @@ use Rattle.item_tree.specs.Node.{Unfolding, node_ast}
 use Rattle.item_tree_db.specs.declared.place.Place.{Place}
 use Rattle.item_tree_db.specs.declared.place.Place.TheVariants.{File, Block}
 use Rattle.item_tree_db.specs.State.{State, unfolding_at}
-use Rattle.def_collector.specs.Declarations.{declared_at}
-use Rattle.def_collector.specs.DeclarationView.{declaration_id}
-use Rattle.def_collector.specs.declared.collector.Declaration as code
+use Rattle.tree_walk.specs.Declarations.{declared_at}
+use Rattle.tree_walk.specs.DeclarationView.{declaration_id}
+use Rattle.tree_walk.specs.declared.collector.Declaration as code
 use Rattle.rust_items.specs.declared.source_file.ItemPlace.{ItemPlace}
 use Rattle.source_listing.specs.Places.{AreDistinct, place_of}
 use Rattle.source_session.specs.declared.finder.Scopes.{Scopes}
@@ -25,12 +25,12 @@ use Rattle.source_session.specs.Texts.{Texts, text_of_place}
 
 -- the id of a declared item, and the names of the modules around it
 abbrev pub declared_scope : code.Declaration → ℕ × List (List ℕ)
-declared_scope d = (d.id, map (λ name. name.now) d.path.items)
+declared_scope d = (d.id, map (λ name. name.now) d.path.value.items)
 
 -- the names around the first of some declarations
 abbrev pub head_scope : List code.Declaration → Option (List (List ℕ))
 head_scope [] = None
-head_scope (d ∷ ds) = Some (map (λ name. name.now) d.path.items)
+head_scope (d ∷ ds) = Some (map (λ name. name.now) d.path.value.items)
 
 -- what is around each item of a tree is known, once
 pub record KnowsScopes (u : Unfolding) (x : Scopes) : Type 0 where

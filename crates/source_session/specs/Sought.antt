@@ -6,7 +6,7 @@ use Rattle.hir_input.specs.Name.{name_in}
 use Rattle.hir_input_json.specs.Forms.{required_at, text_form}
 use Rattle.item_tree.specs.Node.{Unfolding}
 use Rattle.item_tree_db.specs.State.{State, unfolding_at}
-use Rattle.def_collector.specs.Declarations.{Declaration, declared_at}
+use Rattle.tree_walk.specs.Declarations.{Declaration, declared_at}
 use Rattle.decl_index.specs.declared.entry.Entry.{Entry}
 use Rattle.decl_index.specs.Lookup.{entry_has_name}
 use Rattle.rust_paths.specs.Names.{behind_hash}

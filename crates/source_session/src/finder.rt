@@ -2,7 +2,7 @@
 //!
 //! Both go on from the item that was found last, so that items in the order of the text cost one pass over it in all.
 ghost use Rattle.std.specs.Prelude.{◌≡◌, ◌≢◌, ◌++◌, IfOk, OnOk, map, option_copied, string_bytes, AllPairs, flat_map};
-ghost use Rattle.def_collector.specs.DeclarationView.{declaration_id};
+ghost use Rattle.tree_walk.specs.DeclarationView.{declaration_id};
 ghost use Rattle.line_index.specs.Positions.{position_of};
 ghost use Rattle.source_listing.specs.Places.{AreDistinct, is_id, place_of, stands_at};
 ghost use Rattle.source_listing.specs.Search.{bare_segment};
@@ -11,12 +11,12 @@ ghost use Rattle.source_session.specs.Sought.{found_scope, scope_by_id};
 ghost use Rattle.source_session.specs.SourceTexts.{text_bytes, text_places};
 
 use crate::texts::SourceText;
-use def_collector::{Declaration, collect};
 use hir_input::{FileAstId, Name};
 use item_tree::{ItemTree, ModItemId};
 use line_index::{LineIndex, Position};
 use rust_items::ItemPlace;
 use std::alloc::{AllocError, Global};
+use tree_walk::{Declaration, collect};
 
 // ---- what is around items
 
@@ -103,7 +103,7 @@ impl<'tree> Scopes<'tree> {
         match declared_from(&self.declarations, self.next, id) {
             [declaration, rest @ ..] => {
                 self.next = self.declarations.len().saturating_sub(rest.len());
-                push_names(&declaration.path, path)
+                push_names(declaration.path.as_slice(), path)
             }
             [] => Ok(()),
         }

@@ -1,3 +1,5 @@
 -- Words that private contracts alone cite.
-pub mod Rows
+pub mod Declared
 pub mod Outlines
+pub mod Rows
+pub mod Steps

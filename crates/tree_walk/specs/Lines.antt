@@ -2,16 +2,16 @@
 use Rattle.std.specs.Prelude.{ℕ, List, [], ◌++◌, codes, Option, Some, None}
 use Rattle.hir_input.specs.{declared.ids.FileAstId.FileAstId, Id.shown_id}
 use Rattle.item_tree.specs.Node.{Node, leaf, parent, Forest, empty, more, node_ast}
-use Rattle.def_collector.specs.Declarations.{node_name}
+use Rattle.tree_walk.specs.Declarations.{node_name}
 
 -- the name of an item, behind a space
 abbrev pub spaced_name : Option (List ℕ) → List ℕ
 spaced_name None = []
 spaced_name (Some name) = codes " " ++ name
 
--- the line of an item
-unfoldable pub line : List ℕ → FileAstId → Option (List ℕ) → List ℕ
-line indent id name = indent ++ shown_id id ++ spaced_name name ++ codes "\n"
+-- the line of an item, behind its indent
+unfoldable pub line : FileAstId → Option (List ℕ) → List ℕ
+line id name = shown_id id ++ spaced_name name ++ codes "\n"
 
 -- what stands in an item is indented by four spaces more
 abbrev pub deeper : List ℕ → List ℕ
@@ -20,8 +20,8 @@ deeper indent = indent ++ codes "    "
 -- the line of each item, before those of the items in it
 abbrev mutual
   pub node_lines : List ℕ → Node → List ℕ
-  node_lines indent (leaf h l) = line indent (node_ast (leaf h l)) (node_name (leaf h l))
-  node_lines indent (parent h t f) = line indent (node_ast (parent h t f)) (node_name (parent h t f)) ++ forest_lines (deeper indent) f
+  node_lines indent (leaf h l) = indent ++ line (node_ast (leaf h l)) (node_name (leaf h l))
+  node_lines indent (parent h t f) = indent ++ line (node_ast (parent h t f)) (node_name (parent h t f)) ++ forest_lines (deeper indent) f
 
   -- the lines of a forest's items, behind this indent
   pub forest_lines : List ℕ → Forest → List ℕ

@@ -5,7 +5,7 @@ use Rattle.hir_input.specs.declared.ids.AstIdKind.TheVariants as kind
 use Rattle.item_tree.specs.{declared.visibility.RawVisibility.RawVisibility, Tree.Tree}
 use Rattle.item_tree_attrs.specs.Collected.{Collected}
 use Rattle.item_tree.specs.Node.{Leaf, use_item, macro_call, Node, leaf, parent, Forest, empty, more, node_ast, node_head, Unfolding}
-use Rattle.def_collector.specs.Declarations.{node_name, node_visibility}
+use Rattle.tree_walk.specs.Declarations.{node_name, node_visibility}
 
 -- what items stand in: how many items, the names of the modules among them from the top on down, and whether no cfg disables these, nor the file
 pub record Around : Type 0 where

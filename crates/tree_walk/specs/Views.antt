@@ -14,4 +14,4 @@ subject_view (Call path) = called path.now
 
 -- a row as plain data
 abbrev pub row_view : code_row.Row → RowView
-row_view r = record { level = r.level; scope = map (λ name. name.now) r.scope.items; id = r.id; name = option_copied r.name; subject = subject_view r.subject; visibility = option_copied r.visibility; is_active = r.is_active }
+row_view r = record { level = r.level; scope = map (λ name. name.now) r.scope.value.items; id = r.id; name = option_copied r.name; subject = subject_view r.subject; visibility = option_copied r.visibility; is_active = r.is_active }

@@ -1,26 +1,38 @@
-//! Walks over an item tree by its public calls alone: the items that stand in an item, all items of a tree, each before those that
-//! stand in it; rows of them, each with what it stands in, from which lists of items are made; and outlines, as text and as JSON.
+//! Walks over an item tree by its public calls alone: the items that stand in an item, all items of a tree, each before
+//! those that stand in it; rows of them, each with what it stands in, from which lists of items are made; outlines; and
+//! what a name resolution collector takes from one tree, which is what each item declares, and in which module, and the
+//! imports of a use.
 #![tactic(auto)]
 
+mod collector;
+mod enabled;
+mod imports;
 mod laws;
 mod lines;
-mod objects;
+mod names;
 mod rows;
+mod steps;
 mod subject;
 
-ghost use Rattle.std.specs.Prelude.{◌≡◌, ◌≢◌, ℕ, ◌↔◌, ◌+◌, ◌++◌, IfOk, OnOk, Some, map, sum_by, flat_map, AllPairs, Contains};
-ghost use Rattle.item_tree.specs.{Layout.node_at, Reach.all_ids, Reach.child_ids, Reach.ids_from, Shown.IsContained, Shown.StandFor, Walk.AreContained, Walk.children_at, Walk.IsWalkedOnce, Walk.count_at};
+ghost use Rattle.std.specs.Prelude.{◌≡◌, ◌≢◌, ℕ, ◌↔◌, ◌+◌, IfOk, Some, map, sum_by, AllPairs, Contains};
+ghost use Rattle.item_tree.specs.{Layout.node_at, Reach.all_ids, Reach.child_ids};
+ghost use Rattle.item_tree.specs.{Shown.IsContained, Shown.StandFor, Walk.AreContained, Walk.children_at};
+ghost use Rattle.item_tree.specs.{Walk.count_at};
 ghost use Rattle.tree_walk.specs.Preorder.{preorder};
 
+pub use collector::{Collected, Declaration, collect};
+pub use enabled::{is_enabled, is_file_enabled};
+pub use imports::{Listed, list_imports};
 use item_tree::{ItemTree, ModItemId, ModItemKind, ModKind};
-pub use lines::{outline_text, push_outline};
-pub use objects::outline_json;
-pub use rows::{Row, is_enabled, is_file_enabled, item_rows};
+pub use lines::outline_text;
+pub use names::{Declares, name_at, visibility_at};
+pub use rows::{Row, item_rows};
 use std::alloc::{AllocError, Global};
+use steps::steps;
 pub use subject::{Subject, subject_at};
 
 /// The ids of the items that stand in an item, none where no item can.
-#[tactic(auto, using(item_tree::proofs::Walking::leaf_counts, item_tree::proofs::Walking::parent_counts, item_tree::proofs::Walking::children_contained, item_tree::proofs::Walking::leaf_childless))]
+#[tactic(auto, using(crate::proofs::StepIds::child_counts))]
 pub fn children(tree: &ItemTree, id: ModItemId) -> &[ModItemId]
     requires { IsContained tree.now id }
     ensures ids { result.now ≡ child_ids tree.now id }
@@ -43,7 +55,6 @@ pub fn children(tree: &ItemTree, id: ModItemId) -> &[ModItemId]
 /// # Errors
 ///
 /// Only if memory runs out.
-#[tactic(auto, using(item_tree::proofs::Walking::ids_contained, crate::proofs::Below::preorder_ids))]
 pub fn preorder(alloc: Global, tree: &ItemTree) -> Result<Vec<ModItemId>, AllocError>
     ensures stand { IfOk result
         (λ ids. map (node_at tree.now.forest) ids.items ≡ map Some (preorder tree.now.forest)) }
@@ -52,32 +63,10 @@ pub fn preorder(alloc: Global, tree: &ItemTree) -> Result<Vec<ModItemId>, AllocE
     ensures all { IfOk result (λ ids. (id : ℕ) → IsContained tree.now id ↔ Contains ids.items id) }
     ensures contained { IfOk result (λ ids. AreContained tree.now ids.items) }
 {
-    let mut found = Vec::new(alloc);
-    add_all(tree, tree.top_level_items(), &mut found)?;
-    Ok(found)
-}
-
-// Items, and all that stand in them.
-#[cycle(add)]
-fn add_all(tree: &ItemTree, ids: &[ModItemId], found: &mut Vec<ModItemId>) -> Result<(), AllocError>
-    requires contained { AreContained tree.now ids.now }
-    requires walk { IsWalkedOnce tree.now }
-    ensures { OnOk result (found.new.items ≡ found.old.items
-        ++ flat_map (ids_from tree.now) ids.now) }
-{
-    for id in ids {
-        add_one(tree, *id, found)?;
+    let steps = steps(alloc, tree)?;
+    let mut found = Vec::with_capacity(alloc, steps.len())?;
+    for step in &steps {
+        found.push(step.id)?;
     }
-    Ok(())
-}
-
-// An item, and all that stand in it.
-#[cycle(add)]
-fn add_one(tree: &ItemTree, id: ModItemId, found: &mut Vec<ModItemId>) -> Result<(), AllocError>
-    requires contained { IsContained tree.now id }
-    requires walk { IsWalkedOnce tree.now }
-    ensures { OnOk result (found.new.items ≡ found.old.items ++ ids_from tree.now id) }
-{
-    found.push(id)?;
-    add_all(tree, children(tree, id), found)
+    Ok(found)
 }

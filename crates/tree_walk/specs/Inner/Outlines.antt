@@ -1,13 +1,12 @@
--- Words that private contracts alone cite: outlines by the ids of items.
-use Rattle.std.specs.Prelude.{ℕ, List, []}
-use Rattle.serde_json.specs.Data.{Data, null}
-use Rattle.item_tree.specs.{Node.Unfolding, Walk.of_id}
-use Rattle.tree_walk.specs.{Lines.node_lines, Objects.node_object}
+-- For the crate's own functions: outlines step by step.
+use Rattle.std.specs.Prelude.{ℕ, ◌*◌, List, [], ◌++◌, replicate}
+use Rattle.item_tree.specs.{Node.Unfolding, Node.node_ast, Walk.of_id}
+use Rattle.tree_walk.specs.{Declarations.node_name, Lines.line, Rows.Around}
 
--- the lines of the item of an id, and of all that stand in it
-abbrev pub outline_lines_at : Unfolding → List ℕ → ℕ → List ℕ
-outline_lines_at u indent i = of_id u [] (node_lines indent) i
+-- the indent of an item that stands in so many
+abbrev pub level_indent : ℕ → List ℕ
+level_indent level = replicate (4 * level) 32
 
--- its object
-abbrev pub object_at : Unfolding → ℕ → Data
-object_at u i = of_id u null node_object i
+-- the line of the item of an id, which stands in these
+abbrev pub step_line : Unfolding → ℕ × Around → List ℕ
+step_line u s = level_indent s.1.level ++ of_id u [] (λ n. line (node_ast n) (node_name n)) s.0

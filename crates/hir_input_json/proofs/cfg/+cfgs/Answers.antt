@@ -9,21 +9,21 @@ use Rattle.hir_input_json.proofs.cfg.+cfgs.Goals as goal
 pub cfg_by-cfgs_in-requires : goal.cfg_by-cfgs_in-requires
 cfg_by-cfgs_in-requires t c =
     let d = held c.args.members.now in
-    let rest = held c.removed-inner.new.members in
+    let rest = held c.remove_member-inner.new.members in
     let list = view c.in-Some-taken.list in
     let with_key = field_before (codes "all") (codes "key") rest (held c.taken.new.members) list c.in_default.ensures.left refl c.in-Some-taken.ensures.taken in
-    let less = depth_field (codes "all") d list (sym (field_before (codes "all") (codes "not") d rest list c.removed-inner.ensures.left refl with_key)) in
+    let less = depth_field (codes "all") d list (sym (field_before (codes "all") (codes "not") d rest list c.remove_member-inner.ensures.left refl with_key)) in
     (omega (arith, less), tt)
 
 pub cfg_by-cfgs_in-requires-in-Some-taken-2 : goal.cfg_by-cfgs_in-requires-in-Some-taken-2
 cfg_by-cfgs_in-requires-in-Some-taken-2 t c =
     let d = held c.args.members.now in
-    let rest = held c.removed-inner.new.members in
+    let rest = held c.remove_member-inner.new.members in
     let later = held c.taken.new.members in
     let list = view c.in-Some-taken-2.list in
     let with_all = field_before (codes "any") (codes "all") later (held c.taken-2.new.members) list c.in_default-taken.ensures.left refl c.in-Some-taken-2.ensures.taken in
     let with_key = field_before (codes "any") (codes "key") rest later list c.in_default.ensures.left refl with_all in
-    let less = depth_field (codes "any") d list (sym (field_before (codes "any") (codes "not") d rest list c.removed-inner.ensures.left refl with_key)) in
+    let less = depth_field (codes "any") d list (sym (field_before (codes "any") (codes "not") d rest list c.remove_member-inner.ensures.left refl with_key)) in
     (omega (arith, less), tt)
 
 pub cfg_by-cfg_of-requires : goal.cfg_by-cfg_of-requires

@@ -1,3 +1,0 @@
-pub mod Lents
-pub mod Below
-pub mod Equal

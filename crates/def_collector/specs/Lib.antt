@@ -1,4 +1,0 @@
-pub mod Declarations
-pub mod DeclarationView
-pub mod Inner
-pub mod Listed

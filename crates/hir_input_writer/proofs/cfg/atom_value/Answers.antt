@@ -1,8 +1,0 @@
--- what is written is read again
-use Rattle.serde_json.specs.View.{view}
-use Rattle.hir_input_writer.proofs.Common.{atom_view}
-use Rattle.hir_input_writer.proofs.CfgLaws.{atom_again}
-use Rattle.hir_input_writer.proofs.cfg.atom_value.Goals as goal
-
-pub returns-clause-reads : goal.returns-clause-reads
-returns-clause-reads c = atom_again (atom_view c.args.atom.now) (view c.in_ok-value.value) c.in_ok-value.ensures

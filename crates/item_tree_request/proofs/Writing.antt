@@ -1,0 +1,5 @@
+pub mod Depths
+pub mod Requests
+pub mod EditLists
+pub mod Texts
+pub mod Common

@@ -1,6 +1,0 @@
-pub mod Depths
-pub mod Requests
-pub mod EditLists
-pub mod Texts
-pub mod More
-pub mod Common

@@ -1,8 +1,0 @@
--- what is to be written is what was made, and behind it what is left
-use Rattle.std.proofs.Common.{map}
-use Rattle.hir_input_writer.proofs.Lists.{HasMade}
-use Rattle.request_writer.proofs.Common.{atom_view, atom_data, each_data}
-use Rattle.request_writer.proofs.parts.atom_values.Given as goal
-
-abbrev pub invariant-loop-atom : goal.invariant-loop-atom
-invariant-loop-atom l = HasMade (λ a. atom_data (atom_view a)) (λ as'. each_data atom_data (map atom_view as')) l.atoms l.values.items l.atom-index

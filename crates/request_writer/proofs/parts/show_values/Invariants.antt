@@ -1,7 +1,0 @@
--- what is to be written is what was made, and behind it what is left
-use Rattle.hir_input_writer.proofs.Lists.{HasMade}
-use Rattle.request_writer.proofs.Common.{each_data, show_data}
-use Rattle.request_writer.proofs.parts.show_values.Given as goal
-
-abbrev pub invariant-loop-show : goal.invariant-loop-show
-invariant-loop-show l = HasMade show_data (each_data show_data) l.shows l.values.items l.show-index

@@ -1,8 +1,0 @@
-use Rattle.std.proofs.Common.{map, take, string_bytes}
-use Rattle.request_writer.proofs.Common.{syntax_view, AreRead}
-use Rattle.request_writer.proofs.rust_texts.syntaxes.Given as goal
-
-abbrev pub invariant-loop-text : goal.invariant-loop-text
-invariant-loop-text l = record {
-  read : AreRead l.edition (map string_bytes (take l.text-index l.fn.texts)) (map syntax_view l.files.items);
-}
