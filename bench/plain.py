@@ -12,7 +12,7 @@ import sys
 
 HERE = pathlib.Path(__file__).resolve().parent
 CRATES = HERE.parent / 'crates'
-NAMES = 'hir_input rust_lexer rust_cursor rust_paths rust_metas rust_leaves rust_ids rust_items rust_members'.split()
+NAMES = 'hir_input rust_lexer rust_cursor rust_paths rust_metas rust_leaves rust_ids rust_items'.split()
 
 MAIN = '''
 mod memchr {
@@ -35,7 +35,7 @@ fn members(text: &str, place: &rust_items::ItemPlace, metas: rust_metas::WantedM
     use hir_input::AstIdKind::*;
     match (place.id.kind, place.body) {
         (Impl | Trait | Enum | Struct | Union, Some(body)) => {
-            rust_members::read_members(plain_std::Global, place.id.kind, text, body, EDITION, metas).unwrap().len()
+            rust_items::read_members(plain_std::Global, place.id.kind, text, body, EDITION, metas).unwrap().len()
         }
         _ => 0,
     }

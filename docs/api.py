@@ -10,8 +10,8 @@ from pathlib import Path
 
 TOP = Path(__file__).resolve().parent.parent
 CRATES = (
-    "hir_input item_tree_attrs item_tree item_tree_db tree_walk decl_index item_changes "
-    "rust_items rust_members itemtree_commands source_problems source_listing rust_edits line_index itemtree_options hir_input_json item_tree_request line_stream"
+    "hir_input item_tree_attrs item_tree item_tree_db tree_walk decl_index "
+    "rust_items itemtree_commands source_problems source_listing rust_edits line_index itemtree_options hir_input_json item_tree_request line_stream"
 ).split()
 ITEM = re.compile(r"pub (?:const fn|fn|struct|enum|trait|type|const|static) (\w+)")
 CLAUSE = re.compile(r"(requires|ensures|ghost)\b")

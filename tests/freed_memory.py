@@ -20,7 +20,7 @@ TOP = os.path.dirname(os.path.dirname(os.path.realpath(__file__)))
 FILES, ROUNDS, OPTIONS = 1000, 10_000, 10_000
 # The types whose drop is written by hand, each with a run that makes many of it, or one that holds many values.
 MADE = {
-    'Asked': 'options', 'Filter': 'options', 'AttrsOwned': 'outline', 'BlockExpr': 'serve', 'CfgOptions': 'serve', 'Change': 'changed --tree',
+    'Asked': 'options', 'Filter': 'options', 'AttrsOwned': 'outline', 'BlockExpr': 'serve', 'CfgOptions': 'serve',
     'Conversation': 'serve', 'DeclIndex': 'serve', 'ItemTree': 'page', 'Member': 'outline', 'ModPath': 'imports', 'Name': 'outline', 'Row': 'outline',
     'SoughtPath': 'serve', 'Sources': 'serve', 'Syntax': 'outline',
 }

@@ -7,6 +7,8 @@ use Rattle.hir_input.specs.declared.ids.SyntaxContext.{SyntaxContext}
 use Rattle.hir_input.specs.declared.expand_to.ExpandTo.{ExpandTo}
 use Rattle.hir_input.specs.declared.attr.Meta.{Meta}
 use Rattle.hir_input.specs.declared.ast.NamedNode.{NamedNode}
+use Rattle.hir_input.specs.declared.ast.PlainKind.{PlainKind}
+use Rattle.hir_input.specs.declared.ast.PlainKind.TheVariants as plain_kind
 use Rattle.hir_input.specs.declared.ast.ExternBlock as ast_extern_block
 use Rattle.hir_input.specs.declared.ast.ExternCrate as ast_extern_crate
 use Rattle.hir_input.specs.declared.ast.Impl as ast_impl
@@ -62,25 +64,15 @@ pub record CallView : Type 0 where
   pub expand_to : ExpandTo
   pub ctxt : SyntaxContext
 
--- the kinds of items that differ in nothing but the kind: each may have a name and a visibility
-pub data PlainKind : Type 0 where
-  fn_kind : PlainKind
-  union_kind : PlainKind
-  enum_kind : PlainKind
-  static_kind : PlainKind
-  trait_kind : PlainKind
-  type_alias_kind : PlainKind
-  macro_def_kind : PlainKind
-
--- the kind of their ids
+-- the kind of the ids of items that differ in nothing but the kind
 abbrev pub ast_kind : PlainKind → AstIdKind
-ast_kind fn_kind = kind.Fn
-ast_kind union_kind = kind.Union
-ast_kind enum_kind = kind.Enum
-ast_kind static_kind = kind.Static
-ast_kind trait_kind = kind.Trait
-ast_kind type_alias_kind = kind.TypeAlias
-ast_kind macro_def_kind = kind.MacroDef
+ast_kind plain_kind.Fn = kind.Fn
+ast_kind plain_kind.Union = kind.Union
+ast_kind plain_kind.Enum = kind.Enum
+ast_kind plain_kind.Static = kind.Static
+ast_kind plain_kind.Trait = kind.Trait
+ast_kind plain_kind.TypeAlias = kind.TypeAlias
+ast_kind plain_kind.MacroDef = kind.MacroDef
 
 -- the fields of a struct; each of a tuple struct may have a visibility
 pub data FieldsView : Type 0 where
@@ -198,10 +190,10 @@ fields_view written.Unit = no_fields
 
 -- an item of an extern block
 abbrev pub extern_item_view : ExternItem → ItemView
-extern_item_view (external.Fn n) = plain_item fn_kind (named_view n)
+extern_item_view (external.Fn n) = plain_item plain_kind.Fn (named_view n)
 extern_item_view (external.MacroCall n) = macro_call (call_view n)
-extern_item_view (external.Static n) = plain_item static_kind (named_view n)
-extern_item_view (external.TypeAlias n) = plain_item type_alias_kind (named_view n)
+extern_item_view (external.Static n) = plain_item plain_kind.Static (named_view n)
+extern_item_view (external.TypeAlias n) = plain_item plain_kind.TypeAlias (named_view n)
 
 abbrev pub extern_block_view : ast_extern_block.ExternBlock → ItemView
 extern_block_view n = extern_block_from (node_from n.hash n.number n.attrs.items n.body) (option_map (λ v. map extern_item_view v.items) n.items)
@@ -213,20 +205,20 @@ module_step m = module_from (named_from m.hash m.number m.attrs.items m.name m.v
 abbrev pub item_step : Item-F ItemView ItemView → ItemView
 item_step (Item-F.AsmExpr n) = asm_item (node_from n.hash n.number n.attrs.items n.body)
 item_step (Item-F.Const n) = const_item (named_view n)
-item_step (Item-F.Enum n) = plain_item enum_kind (named_view n)
+item_step (Item-F.Enum n) = plain_item plain_kind.Enum (named_view n)
 item_step (Item-F.ExternBlock n) = extern_block_view n
 item_step (Item-F.ExternCrate n) = extern_crate (extern_crate_view n) n.rename
-item_step (Item-F.Fn n) = plain_item fn_kind (named_view n)
+item_step (Item-F.Fn n) = plain_item plain_kind.Fn (named_view n)
 item_step (Item-F.Impl n) = impl_item (impl_view n) n.is_trait_impl
 item_step (Item-F.MacroCall n) = macro_call (call_view n)
-item_step (Item-F.MacroDef n) = plain_item macro_def_kind (named_view n)
+item_step (Item-F.MacroDef n) = plain_item plain_kind.MacroDef (named_view n)
 item_step (Item-F.MacroRules n) = macro_rules (macro_rules_view n) n.name
 item_step (Item-F.Module m) = m
-item_step (Item-F.Static n) = plain_item static_kind (named_view n)
+item_step (Item-F.Static n) = plain_item plain_kind.Static (named_view n)
 item_step (Item-F.Struct n) = struct_item (struct_view n) (fields_view n.kind)
-item_step (Item-F.Trait n) = plain_item trait_kind (named_view n)
-item_step (Item-F.TypeAlias n) = plain_item type_alias_kind (named_view n)
-item_step (Item-F.Union n) = plain_item union_kind (named_view n)
+item_step (Item-F.Trait n) = plain_item plain_kind.Trait (named_view n)
+item_step (Item-F.TypeAlias n) = plain_item plain_kind.TypeAlias (named_view n)
+item_step (Item-F.Union n) = plain_item plain_kind.Union (named_view n)
 item_step (Item-F.Use n) = use_item (use_view n)
 
 abbrev pub item_view : Item → ItemView

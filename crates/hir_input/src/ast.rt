@@ -5,6 +5,7 @@
 //! from the node's case; its `attrs`; and the text of its `body`, on which no item tree depends.
 
 mod constructors;
+mod plain;
 
 use crate::attr::Meta;
 use crate::expand_to::ExpandTo;
@@ -129,6 +130,18 @@ pub enum ExternItem {
     Static(Static),
     /// `type N;`
     TypeAlias(TypeAlias),
+}
+
+/// The kinds of items that differ in nothing but the kind: each may have a name and a visibility.
+#[derive(Clone, Copy, Debug)]
+pub enum PlainKind {
+    Enum,
+    Fn,
+    MacroDef,
+    Static,
+    Trait,
+    TypeAlias,
+    Union,
 }
 
 /// The node of an item that may have a name and a visibility, and has nothing else of its own.

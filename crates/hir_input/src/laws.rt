@@ -3,9 +3,9 @@
 ghost use Rattle.hir_input.specs.Attr.{meta_view};
 ghost use Rattle.hir_input.specs.Cfg.{atom_view, cfg_view};
 ghost use Rattle.hir_input.specs.Edition.{edition_view};
-ghost use Rattle.hir_input.specs.Equality.{DecidesEq, IsByValue, IsByValueOf, IsKey};
+ghost use Rattle.hir_input.specs.Equality.{DecidesEq, IsByValue, IsByValueOf, IsCopied, IsKey};
 
-use crate::ast::PathNode;
+use crate::ast::{PathNode, PlainKind};
 use crate::attr::{Attr, AttrId, AttrInput, Literal, Meta, TokenTree};
 use crate::cfg::{CfgAtom, CfgExpr, CfgOptions};
 use crate::edition::{Edition, EditionYear};
@@ -24,6 +24,7 @@ fn ids()
     ensures blocks { IsKey ⟦<BlockId as PartialEq>⟧.eq ⟦<BlockId as Clone>⟧.is_clone ⟦<BlockId as Hash>⟧.hash_input }
     ensures attr_ids { IsByValue ⟦<AttrId as PartialEq>⟧.eq ⟦<AttrId as Clone>⟧.is_clone }
     ensures kinds { IsByValue ⟦<AstIdKind as PartialEq>⟧.eq ⟦<AstIdKind as Clone>⟧.is_clone }
+    ensures plain_kinds { IsCopied ⟦<PlainKind as Clone>⟧.is_clone }
     ensures nodes { IsByValue ⟦<FileAstId as PartialEq>⟧.eq ⟦<FileAstId as Clone>⟧.is_clone }
     ensures years { IsByValue ⟦<EditionYear as PartialEq>⟧.eq ⟦<EditionYear as Clone>⟧.is_clone }
     ensures contexts { IsByValue ⟦<SyntaxContext as PartialEq>⟧.eq ⟦<SyntaxContext as Clone>⟧.is_clone }

@@ -2,10 +2,12 @@
 use Rattle.std.specs.Prelude.{ℕ, ◌^◌, List, [], codes, false, Option}
 use Rattle.serde_json.specs.Data.{Data}
 use Rattle.serde_json.specs.Find.{as_str}
+use Rattle.hir_input.specs.declared.ast.PlainKind.TheVariants as plain_kind
 use Rattle.hir_input.specs.declared.ast.Visibility.{Visibility}
 use Rattle.hir_input.specs.declared.expand_to.ExpandTo.{ExpandTo}
 use Rattle.hir_input.specs.declared.expand_to.ExpandTo.TheVariants.{Statements, Items, Pattern, Ty, Expr}
-use Rattle.hir_input.specs.Syntax.{NodeView, NamedView, PlainKind, fn_kind, union_kind, enum_kind, static_kind, trait_kind, type_alias_kind, macro_def_kind, FieldsView, record_fields, tuple_fields, no_fields, CallView, ItemView, plain_item, const_item, struct_item, module_from, use_item, extern_crate, extern_block_from, impl_item, macro_call, macro_rules, asm_item}
+use Rattle.hir_input.specs.Syntax.{NodeView, NamedView, FieldsView, record_fields, tuple_fields, no_fields, CallView, ItemView, plain_item, const_item, struct_item, module_from, use_item, extern_crate, extern_block_from, impl_item, macro_call, macro_rules, asm_item}
+use Rattle.hir_input.specs.declared.ast.PlainKind.{PlainKind}
 use Rattle.hir_input_json.specs.Reading.{Reading, right, wrong, reading_map, reading_both, ◌>>=◌}
 use Rattle.hir_input_json.specs.Forms.{required_at, optional_at, maybe, maybe_at, by_form, on_word, wrong_at, unless_null, whole_form, text_form, flag, identifier_form, object_by, list_of}
 use Rattle.hir_input_json.specs.Literals.{context_at}
@@ -109,9 +111,9 @@ macro_rules_form d = reading_both macro_rules (node_form d) (maybe_at (codes "na
 -- an item of an extern block, by the word of its kind
 unfoldable pub extern_item : Data → Reading ItemView
 extern_item d = object_by (codes "is") d (λ word.
-    on_word word (codes "fn") (plain_form fn_kind d)
-    (on_word word (codes "static") (plain_form static_kind d)
-    (on_word word (codes "type_alias") (plain_form type_alias_kind d)
+    on_word word (codes "fn") (plain_form plain_kind.Fn d)
+    (on_word word (codes "static") (plain_form plain_kind.Static d)
+    (on_word word (codes "type_alias") (plain_form plain_kind.TypeAlias d)
     (on_word word (codes "macro_call") (macro_call_form d)
     (wrong_at (codes "is"))))))
 
@@ -123,13 +125,13 @@ extern_block_form d = reading_both extern_block_from (node_form d) (maybe_at (co
 unfoldable pub named_item : Data → Reading ItemView
 named_item d = do
   word ← required_at (codes "is") text_form d
-  on_word word (codes "fn") (plain_form fn_kind d)
-      (on_word word (codes "union") (plain_form union_kind d)
-      (on_word word (codes "enum") (plain_form enum_kind d)
-      (on_word word (codes "static") (plain_form static_kind d)
-      (on_word word (codes "trait") (plain_form trait_kind d)
-      (on_word word (codes "type_alias") (plain_form type_alias_kind d)
-      (on_word word (codes "macro_def") (plain_form macro_def_kind d)
+  on_word word (codes "fn") (plain_form plain_kind.Fn d)
+      (on_word word (codes "union") (plain_form plain_kind.Union d)
+      (on_word word (codes "enum") (plain_form plain_kind.Enum d)
+      (on_word word (codes "static") (plain_form plain_kind.Static d)
+      (on_word word (codes "trait") (plain_form plain_kind.Trait d)
+      (on_word word (codes "type_alias") (plain_form plain_kind.TypeAlias d)
+      (on_word word (codes "macro_def") (plain_form plain_kind.MacroDef d)
       (on_word word (codes "const") (reading_map const_item (named_form d))
       (wrong_at (codes "is")))))))))
 

@@ -24,10 +24,7 @@ use crate::item::node::{named_at, named_by, node_at, with_name, with_node};
 use crate::member::{Members, array_of, flag_at, maybe_list_of, members_of, taken, word_at};
 use crate::use_tree::{rename_at, use_tree_at};
 use crate::visibility::visibility_at;
-use hir_input::ast::{
-    AsmExpr, Const, Enum, ExternCrate, Fn, Impl, Item, MacroDef, Module, Static, Struct, Trait,
-    TypeAlias, Union, Use,
-};
+use hir_input::ast::{AsmExpr, ExternCrate, Impl, Item, Module, NamedNode, Struct, Use};
 use serde_json::Value;
 use std::alloc::Global;
 

@@ -4,7 +4,8 @@ pub use Rattle.hir_input.proofs.PathEq.{path_decides}
 pub use Rattle.hir_input.proofs.SyntaxViews.{item_views, module_view-fields}
 pub use Rattle.hir_input.specs.Cfg.{AtomView, CfgView, by_commas}
 pub use Rattle.hir_input.specs.Path.{HasWords, Path, shown_path}
-pub use Rattle.hir_input.specs.Syntax.{FieldsView, ItemView, ItemViews, NamedView, NodeView, PlainKind, StmtView, SyntaxView, TailView, block_expr, block_view, call_stmt, call_tail, error, extern_block_from, extern_block_view, extern_item_view, fields_view, item_and, item_stmt, item_view, items_from, items_of, items_view, listed_extern_block, listed_module, macro_items, macro_stmts, module_from, module_view, named_from, no_fields, no_items, node_from, other_stmt, record_fields, source_file, stmt_items, stmts_view, tail_view, tuple_fields}
+pub use Rattle.hir_input.specs.Syntax.{FieldsView, ItemView, ItemViews, NamedView, NodeView, StmtView, SyntaxView, TailView, block_expr, block_view, call_stmt, call_tail, error, extern_block_from, extern_block_view, extern_item_view, fields_view, item_and, item_stmt, item_view, items_from, items_of, items_view, listed_extern_block, listed_module, macro_items, macro_stmts, module_from, module_view, named_from, no_fields, no_items, node_from, other_stmt, record_fields, source_file, stmt_items, stmts_view, tail_view, tuple_fields}
+pub use Rattle.hir_input.specs.declared.ast.PlainKind.{PlainKind}
 pub use Rattle.hir_input.specs.UseTreeView.{UseNode, UseTreeView, UseTreeViews, all_written_nodes, bare_tree, listed_tree, no_trees, tree_and, use_node, use_tree_view, use_trees_view, written_count, written_nodes}
 pub use Rattle.hir_input.specs.Words.{PathWord, read_words, words}
 pub use Rattle.hir_input.specs.declared.ids.AstIdKind.{AstIdKind}

@@ -6,7 +6,8 @@ use Rattle.hir_input.specs.declared.ids.FileAstId.{FileAstId}
 use Rattle.hir_input.specs.declared.ids.SyntaxContext.{SyntaxContext}
 use Rattle.hir_input.specs.declared.expand_to.ExpandTo.{ExpandTo}
 use Rattle.hir_input.specs.Path.{Path}
-use Rattle.hir_input.specs.Syntax.{PlainKind, ast_kind}
+use Rattle.hir_input.specs.Syntax.{ast_kind}
+use Rattle.hir_input.specs.declared.ast.PlainKind.{PlainKind}
 use Rattle.item_tree_attrs.specs.Collected.{Collected, nothing_collected as no_attrs}
 use Rattle.item_tree.specs.declared.visibility.RawVisibility.{RawVisibility}
 use Rattle.item_tree.specs.declared.items.FieldsShape.{FieldsShape}

@@ -1,6 +1,7 @@
 -- The page of a tree.
 use Rattle.std.specs.Prelude.{ℕ, ◌+◌, List, [], ◌∷◌, ◌++◌, codes, Option, Some, None}
 use Rattle.std.specs.List.{join_by, flat_map}
+use Rattle.hir_input.specs.declared.ast.PlainKind.TheVariants as plain_kind
 use Rattle.hir_input.specs.declared.attr.Attr.{Attr}
 use Rattle.hir_input.specs.declared.attr.AttrInput.{AttrInput}
 use Rattle.hir_input.specs.declared.attr.AttrInput.TheVariants.{Literal, TokenTree}
@@ -11,7 +12,7 @@ use Rattle.hir_input.specs.declared.expand_to.ExpandTo.{ExpandTo}
 use Rattle.hir_input.specs.Id.{shown_id, shown_context, shown_expand_to}
 use Rattle.hir_input.specs.Name.{shown_name}
 use Rattle.hir_input.specs.Path.{Path, shown_path}
-use Rattle.hir_input.specs.Syntax.{PlainKind, fn_kind, union_kind, enum_kind, static_kind, trait_kind, type_alias_kind, macro_def_kind}
+use Rattle.hir_input.specs.declared.ast.PlainKind.{PlainKind}
 use Rattle.item_tree_attrs.specs.Collected.{Collected}
 use Rattle.item_tree.specs.declared.visibility.RawVisibility.{RawVisibility}
 use Rattle.item_tree.specs.declared.visibility.RawVisibility.TheVariants.{Module, PubSelf, PubCrate, Public}
@@ -86,13 +87,13 @@ module _ (reserved : List (List ℕ)) where
   named_header word end name v = shown_visibility v ++ word ++ codes " " ++ shown_name reserved name ++ end
 
   abbrev pub plain_header : PlainKind → List ℕ → RawVisibility → List ℕ
-  plain_header fn_kind = named_header (codes "fn") (codes ";")
-  plain_header union_kind = named_header (codes "union") (codes " { ... }")
-  plain_header enum_kind = named_header (codes "enum") (codes " { ... }")
-  plain_header static_kind = named_header (codes "static") (codes " = _;")
-  plain_header trait_kind = named_header (codes "trait") (codes " { ... }")
-  plain_header type_alias_kind = named_header (codes "type") (codes ";")
-  plain_header macro_def_kind = named_header (codes "macro") (codes " { ... }")
+  plain_header plain_kind.Fn = named_header (codes "fn") (codes ";")
+  plain_header plain_kind.Union = named_header (codes "union") (codes " { ... }")
+  plain_header plain_kind.Enum = named_header (codes "enum") (codes " { ... }")
+  plain_header plain_kind.Static = named_header (codes "static") (codes " = _;")
+  plain_header plain_kind.Trait = named_header (codes "trait") (codes " { ... }")
+  plain_header plain_kind.TypeAlias = named_header (codes "type") (codes ";")
+  plain_header plain_kind.MacroDef = named_header (codes "macro") (codes " { ... }")
 
   -- a missing name is `_`
   abbrev pub shown_name_or_none : Option (List ℕ) → List ℕ

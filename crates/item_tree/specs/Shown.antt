@@ -1,8 +1,8 @@
 -- What a look-up lends.
 use Rattle.std.specs.Prelude.{◌≡◌, ◌↔◌, ℕ, List, map, Option, Some, None, IsSome}
 use Rattle.std.specs.Option.{option_map_or}
+use Rattle.hir_input.specs.declared.ast.PlainKind.TheVariants as plain_kind
 use Rattle.hir_input.specs.declared.ids.FileAstId.{FileAstId}
-use Rattle.hir_input.specs.Syntax as syntax
 use Rattle.item_tree_attrs.specs.Collected.{Collected}
 use Rattle.item_tree.specs.declared.visibility.RawVisibility.{RawVisibility}
 use Rattle.item_tree.specs.declared.items.StructValueNsCtor.{StructValueNsCtor}
@@ -72,13 +72,13 @@ lent_module a name v Outline = lent_leaf a (outline name v)
 
 -- what an item's id lends
 abbrev pub lent : ModItemKind → Lent
-lent (item.Function a x) = lent_leaf a (plain syntax.fn_kind x.now.name x.now.visibility)
-lent (item.Union a x) = lent_leaf a (plain syntax.union_kind x.now.name x.now.visibility)
-lent (item.Enum a x) = lent_leaf a (plain syntax.enum_kind x.now.name x.now.visibility)
-lent (item.Static a x) = lent_leaf a (plain syntax.static_kind x.now.name x.now.visibility)
-lent (item.Trait a x) = lent_leaf a (plain syntax.trait_kind x.now.name x.now.visibility)
-lent (item.TypeAlias a x) = lent_leaf a (plain syntax.type_alias_kind x.now.name x.now.visibility)
-lent (item.Macro2 a x) = lent_leaf a (plain syntax.macro_def_kind x.now.name x.now.visibility)
+lent (item.Function a x) = lent_leaf a (plain plain_kind.Fn x.now.name x.now.visibility)
+lent (item.Union a x) = lent_leaf a (plain plain_kind.Union x.now.name x.now.visibility)
+lent (item.Enum a x) = lent_leaf a (plain plain_kind.Enum x.now.name x.now.visibility)
+lent (item.Static a x) = lent_leaf a (plain plain_kind.Static x.now.name x.now.visibility)
+lent (item.Trait a x) = lent_leaf a (plain plain_kind.Trait x.now.name x.now.visibility)
+lent (item.TypeAlias a x) = lent_leaf a (plain plain_kind.TypeAlias x.now.name x.now.visibility)
+lent (item.Macro2 a x) = lent_leaf a (plain plain_kind.MacroDef x.now.name x.now.visibility)
 lent (item.Const a x) = lent_leaf a (constant x.now.name x.now.visibility)
 lent (item.Struct a x) = lent_leaf a (struct_item x.now.name x.now.visibility x.now.shape (ctor_ids x.now.value_ns_ctor))
 lent (item.Mod a x) = lent_module a x.now.name x.now.visibility x.now.kind

@@ -1,6 +1,6 @@
 -- The tables of a tree as they stand in memory. Only private contracts speak of them.
 use Rattle.std.specs.Prelude.{◌≡◌, ℕ, Bool, List, map, Option, Some, None}
-use Rattle.hir_input.specs.Syntax as syntax
+use Rattle.hir_input.specs.declared.ast.PlainKind.TheVariants as plain_kind
 use Rattle.hir_input.specs.declared.ids.FileAstId.{FileAstId}
 use Rattle.hir_input.specs.declared.ids.AstIdKind.{AstIdKind}
 use Rattle.hir_input.specs.contracts.ids.AstIdKindPartialEq.TheImpl as kinds
@@ -21,13 +21,13 @@ module_row name v (Some items) = parent_row (inline name v) items
 module_row name v None = leaf_row (outline name v)
 
 abbrev pub item_row : ModItem → RowItem
-item_row (item.Function x) = leaf_row (plain syntax.fn_kind x.name x.visibility)
-item_row (item.Union x) = leaf_row (plain syntax.union_kind x.name x.visibility)
-item_row (item.Enum x) = leaf_row (plain syntax.enum_kind x.name x.visibility)
-item_row (item.Static x) = leaf_row (plain syntax.static_kind x.name x.visibility)
-item_row (item.Trait x) = leaf_row (plain syntax.trait_kind x.name x.visibility)
-item_row (item.TypeAlias x) = leaf_row (plain syntax.type_alias_kind x.name x.visibility)
-item_row (item.Macro2 x) = leaf_row (plain syntax.macro_def_kind x.name x.visibility)
+item_row (item.Function x) = leaf_row (plain plain_kind.Fn x.name x.visibility)
+item_row (item.Union x) = leaf_row (plain plain_kind.Union x.name x.visibility)
+item_row (item.Enum x) = leaf_row (plain plain_kind.Enum x.name x.visibility)
+item_row (item.Static x) = leaf_row (plain plain_kind.Static x.name x.visibility)
+item_row (item.Trait x) = leaf_row (plain plain_kind.Trait x.name x.visibility)
+item_row (item.TypeAlias x) = leaf_row (plain plain_kind.TypeAlias x.name x.visibility)
+item_row (item.Macro2 x) = leaf_row (plain plain_kind.MacroDef x.name x.visibility)
 item_row (item.Const x) = leaf_row (constant x.name x.visibility)
 item_row (item.Struct x) = leaf_row (struct_item x.name x.visibility x.shape (ctor_ids x.value_ns_ctor))
 item_row (item.Mod x) = module_row x.name x.visibility (inline_ids x.kind)

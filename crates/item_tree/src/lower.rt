@@ -44,11 +44,12 @@ use crate::items::{Impl, Mod, ModItem, ModItemId, ModKind, Use};
 use crate::lower::constructor::lower_struct;
 use crate::lower::extern_block::lower_extern_block;
 use crate::lower::macros::{lower_macro_call, lower_macro_rules};
-use crate::lower::named::{NamedKind, lower_const, lower_extern_crate, lower_named};
+use crate::lower::named::{lower_const, lower_extern_crate, lower_named};
 use crate::lower::stmts::lower_stmts;
 use crate::rows::{AstKey, Rows, push_attrs};
 use crate::tree::ItemTree;
 use crate::visibility::{RawVisibilityId, visibility_from_ast};
+use hir_input::ast::PlainKind;
 use hir_input::{Meta, Name, ast};
 use item_tree_attrs::AttrsOrCfg;
 use std::alloc::Global;
@@ -283,20 +284,20 @@ fn lower_item(ctx: Ctx, rows: &mut Rows, item: &ast::Item) -> LoweredItem
     match item {
         ast::Item::AsmExpr(_) => Ok(None),
         ast::Item::Const(node) => lower_const(ctx, rows, node),
-        ast::Item::Enum(node) => lower_named(ctx, rows, NamedKind::Enum, node),
+        ast::Item::Enum(node) => lower_named(ctx, rows, PlainKind::Enum, node),
         ast::Item::ExternBlock(node) => lower_extern_block(ctx, rows, node),
         ast::Item::ExternCrate(node) => lower_extern_crate(ctx, rows, node),
-        ast::Item::Fn(node) => lower_named(ctx, rows, NamedKind::Fn, node),
+        ast::Item::Fn(node) => lower_named(ctx, rows, PlainKind::Fn, node),
         ast::Item::Impl(node) => lower_impl(ctx, rows, node),
         ast::Item::MacroCall(node) => lower_macro_call(ctx, rows, node),
-        ast::Item::MacroDef(node) => lower_named(ctx, rows, NamedKind::MacroDef, node),
+        ast::Item::MacroDef(node) => lower_named(ctx, rows, PlainKind::MacroDef, node),
         ast::Item::MacroRules(node) => lower_macro_rules(ctx, rows, node),
         ast::Item::Module(node) => lower_module(ctx, rows, node),
-        ast::Item::Static(node) => lower_named(ctx, rows, NamedKind::Static, node),
+        ast::Item::Static(node) => lower_named(ctx, rows, PlainKind::Static, node),
         ast::Item::Struct(node) => lower_struct(ctx, rows, node),
-        ast::Item::Trait(node) => lower_named(ctx, rows, NamedKind::Trait, node),
-        ast::Item::TypeAlias(node) => lower_named(ctx, rows, NamedKind::TypeAlias, node),
-        ast::Item::Union(node) => lower_named(ctx, rows, NamedKind::Union, node),
+        ast::Item::Trait(node) => lower_named(ctx, rows, PlainKind::Trait, node),
+        ast::Item::TypeAlias(node) => lower_named(ctx, rows, PlainKind::TypeAlias, node),
+        ast::Item::Union(node) => lower_named(ctx, rows, PlainKind::Union, node),
         ast::Item::Use(node) => lower_use(ctx, rows, node),
     }
 }

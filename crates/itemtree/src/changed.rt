@@ -4,7 +4,7 @@ use crate::escapes::Shown;
 use crate::files::{Room, STDIN, is_a_folder};
 use crate::output::{Progress, complain, complain_of, write_out};
 use crate::walk::{Found, files_of_folder, with_slash};
-use itemtree_commands::{CompareError, Options, changed};
+use itemtree_commands::{CompareError, Options, compare_trees};
 use itemtree_options::Asked;
 use source_listing::Source;
 use std::alloc::{AllocError, Global};
@@ -14,13 +14,17 @@ use std::fmt::Display;
 /// How files differ whose items are the same.
 const ONLY_ORDER: &str = "the order of items or the attributes of the file differ";
 
-/// A comparison. Its status is that of `diff`: 0 where all is the same, 1 where something differs, 2 where something cannot
-/// be read.
+/// How trees differ whose items are the same to others.
+const ONLY_IN_TREES: &str =
+    "the order of items, or the attributes of the file or inside a body differ";
+
+/// A comparison. Its status is that of `diff`: 0 where all is the same, 1 where something differs, 2 where something
+/// cannot be read.
 #[derive(Drop)]
 struct Comparison<'a> {
     rt: &'a HostRuntime,
     options: &'a Options,
-    /// Whether only the item trees are compared.
+    /// Whether nothing is told where the item trees are equal.
     is_of_trees: bool,
     /// Whether documentation is compared too.
     has_docs: bool,
@@ -53,15 +57,20 @@ impl Comparison<'_> {
             return Ok(());
         }
         if lines.is_empty() {
-            let line = format!(in self.rt.alloc(); "{old} and {new}: {ONLY_ORDER}\n")?;
+            let what = if self.is_of_trees {
+                ONLY_IN_TREES
+            } else {
+                ONLY_ORDER
+            };
+            let line = format!(in self.rt.alloc(); "{old} and {new}: {what}\n")?;
             return self.write(&line);
         }
         self.write(lines)
     }
 
-    /// Lists the changes between two trees.
+    /// Lists the changes between two files whose trees differ.
     fn compare_trees(&mut self, old: Source<'_>, new: Source<'_>) -> Result<(), Failure> {
-        match changed(self.rt.alloc(), old, new, self.options) {
+        match compare_trees(self.rt.alloc(), old, new, self.options) {
             Ok(compared) => self.tell(old.path, new.path, &compared.text, compared.is_same)?,
             Err(CompareError::Old(error)) => self.complain(old.path, error),
             Err(CompareError::New(error)) => self.complain(new.path, error),

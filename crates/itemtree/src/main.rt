@@ -1,5 +1,5 @@
-//! Lists the items, imports and declarations of Rust files, and what changed in them; and answers requests in JSON line by
-//! line.
+//! Lists the items, imports and declarations of Rust files, and what changed in them; and answers requests in JSON line
+//! by line.
 #![tactic(auto)]
 
 mod arguments;
@@ -41,7 +41,7 @@ fn run(rt: &HostRuntime) -> Result<u8, Failure> {
 }
 
 /// Tells on standard error why a run ended early.
-fn failed(rt: &HostRuntime, reason: impl Display + Drop) -> ExitCode {
+fn failure_status(rt: &HostRuntime, reason: impl Display + Drop) -> ExitCode {
     let _ = eprintln!(rt; "itemtree: {reason}");
     ExitCode::from(FAILED)
 }
@@ -50,11 +50,11 @@ fn main(rt: HostRuntime) -> ExitCode {
     match run(&rt) {
         Ok(status) => ExitCode::from(status),
         Err(Failure::Closed) => ExitCode::SUCCESS,
-        Err(Failure::Usage(message)) => failed(&rt, message),
+        Err(Failure::Usage(message)) => failure_status(&rt, message),
         Err(Failure::Unwritten { path, error }) => {
             complain(&rt, Shown(&path), error);
             ExitCode::from(FAILED)
         }
-        Err(Failure::Other(error)) => failed(&rt, error),
+        Err(Failure::Other(error)) => failure_status(&rt, error),
     }
 }

@@ -1,5 +1,5 @@
 //! What all commands are told.
-use crate::words::{edition, push_names, skipped};
+use crate::words::{edition, push_names, usually_skipped};
 use hir_input::{CfgAtom, CfgOptions, EditionYear, HirFileId, Name};
 use item_tree::CrateData;
 use item_tree_request::write::RequestOptions;
@@ -72,7 +72,7 @@ fn year(edition: u16) -> EditionYear {
 
 fn skipped_names(alloc: Global, asked: &Asked<'_>) -> Result<Vec<Name>, AllocError> {
     if asked.skipped.is_empty() {
-        return skipped(alloc, asked.has_docs);
+        return usually_skipped(alloc, asked.has_docs);
     }
     let mut names = Vec::new(alloc);
     push_names(alloc, &asked.skipped, &mut names)?;

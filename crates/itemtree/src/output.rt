@@ -18,7 +18,7 @@ pub(crate) const STDOUT: &str = "standard output";
 const CLEARED: &str = "\r\x1b[K";
 
 /// Why a file is not written. That nobody reads it is no fault.
-pub(crate) fn unwritten(alloc: Global, path: &str, error: io::Error) -> Failure {
+pub(crate) fn write_failure(alloc: Global, path: &str, error: io::Error) -> Failure {
     if error.kind() == io::ErrorKind::BrokenPipe {
         return Failure::Closed;
     }
@@ -31,7 +31,7 @@ pub(crate) fn unwritten(alloc: Global, path: &str, error: io::Error) -> Failure 
 pub(crate) fn write_out(rt: &HostRuntime, text: &str) -> Result<(), Failure> {
     match rt.stdout().write_all(text.as_bytes()) {
         Ok(()) => Ok(()),
-        Err(error) => Err(unwritten(rt.alloc(), STDOUT, error)),
+        Err(error) => Err(write_failure(rt.alloc(), STDOUT, error)),
     }
 }
 
@@ -77,8 +77,8 @@ pub(crate) fn complain_of(rt: &HostRuntime, faults: &[Fault]) {
     }
 }
 
-/// How many files are done: told on standard error once a second, where that is a terminal, and taken away before anything
-/// else is written.
+/// How many files are done: told on standard error once a second, where that is a terminal, and taken away before
+/// anything else is written.
 #[derive(Drop)]
 pub(crate) struct Progress<'a> {
     rt: &'a HostRuntime,

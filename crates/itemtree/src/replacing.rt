@@ -1,6 +1,6 @@
 //! Regular files that are replaced as a whole, or stand as they were.
 use crate::commands::{Failure, refusal};
-use crate::output::unwritten;
+use crate::output::write_failure;
 use crate::tags::write_lines;
 use std::fs::{File, Metadata};
 use std::os::unix::fs::MetadataExt;
@@ -136,8 +136,8 @@ fn try_replace(
     }
 }
 
-/// Puts a new file in the place of one, or of none, which stands as it is until then. Where a new file cannot stand for the
-/// old one, that is written itself.
+/// Puts a new file in the place of one, or of none, which stands as it is until then. Where a new file cannot stand for
+/// the old one, that is written itself.
 pub(crate) fn replace(
     rt: &HostRuntime,
     path: &str,
@@ -154,6 +154,6 @@ pub(crate) fn replace(
     };
     match written {
         Ok(()) => Ok(()),
-        Err(error) => Err(unwritten(rt.alloc(), path, error)),
+        Err(error) => Err(write_failure(rt.alloc(), path, error)),
     }
 }

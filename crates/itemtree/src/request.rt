@@ -38,7 +38,8 @@ fn shows_of(alloc: Global, words: &[&str], count: usize) -> Result<Vec<Show>, Al
     Ok(shows)
 }
 
-/// The texts of the files, and of those below folders; nothing if one of them cannot be read, which is told on standard error.
+/// The texts of the files, and of those below folders; nothing if one of them cannot be read, which is told on standard
+/// error.
 fn texts_of(rt: &HostRuntime, asked: &Asked<'_>) -> Result<Option<Vec<String>>, Failure> {
     let found = files_of(rt, asked)?;
     if !found.faults.is_empty() {

@@ -164,8 +164,8 @@ fn paths_of(
     Ok(paths)
 }
 
-/// The files that are named, those that lists name, and those below folders, in the order in which they are. One that is named
-/// twice, by its name in the same folder, stands where it is first.
+/// The files that are named, those that lists name, and those below folders, in the order in which they are. One that
+/// is named twice, by its name in the same folder, stands where it is first.
 pub(crate) fn files_of(rt: &HostRuntime, asked: &Asked<'_>) -> Result<Found, Failure> {
     let alloc = rt.alloc();
     refuse_wrong(alloc, asked)?;

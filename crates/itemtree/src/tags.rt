@@ -2,7 +2,7 @@
 use crate::commands::{Failure, refusal};
 use crate::escapes::Shown;
 use crate::files::STDIN;
-use crate::output::{STDOUT, unwritten};
+use crate::output::{STDOUT, write_failure};
 use crate::replacing::{is_same, replace};
 use std::alloc::{AllocError, Global};
 use std::fs::{File, Metadata};
@@ -189,7 +189,7 @@ fn replace_old(
     match fault_of(rt, path, old) {
         Ok(None) => replace(rt, path, Some(old), lines),
         Ok(Some(fault)) => Err(refusal(rt.alloc(), name, fault)?),
-        Err(error) => Err(unwritten(rt.alloc(), name, error)),
+        Err(error) => Err(write_failure(rt.alloc(), name, error)),
     }
 }
 
@@ -215,7 +215,7 @@ fn write_to(rt: &HostRuntime, file: TagsFile<'_>, lines: &[&str]) -> Result<(), 
     };
     match written {
         Ok(()) => Ok(()),
-        Err(error) => Err(unwritten(alloc, file.name(), error)),
+        Err(error) => Err(write_failure(alloc, file.name(), error)),
     }
 }
 
@@ -228,7 +228,7 @@ fn push_old(rt: &HostRuntime, path: &str, text: &mut String) -> Result<(), Failu
     };
     match old {
         Ok(old) => Ok(text.push_str(&old)?),
-        Err(error) => Err(unwritten(rt.alloc(), path, error)),
+        Err(error) => Err(write_failure(rt.alloc(), path, error)),
     }
 }
 

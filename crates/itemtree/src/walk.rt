@@ -139,8 +139,8 @@ fn unnamed_of(alloc: Global, names: &[Vec<u8>]) -> Result<Vec<String>, AllocErro
     Ok(unnamed)
 }
 
-/// Whether there may be folders whose names are not text: a folder has a link from itself and from each folder in it, on most
-/// file systems, and fewer than two where these are not counted.
+/// Whether there may be folders whose names are not text: a folder has a link from itself and from each folder in it,
+/// on most file systems, and fewer than two where these are not counted.
 fn may_have_unnamed(rt: &HostRuntime, folder: &str, names: &[Vec<u8>]) -> Result<bool, AllocError> {
     let Ok(found) = fs::metadata(rt, folder) else {
         return Ok(true);

@@ -25,7 +25,7 @@ pub(crate) fn push_names(
 }
 
 /// The attributes that are left out, but for documentation where that is asked.
-pub(crate) fn skipped(alloc: Global, keeps_docs: bool) -> Result<Vec<Name>, AllocError> {
+pub(crate) fn usually_skipped(alloc: Global, keeps_docs: bool) -> Result<Vec<Name>, AllocError> {
     let mut names = Vec::new(alloc);
     let words = if keeps_docs {
         &USUAL_SKIPPED[1..]

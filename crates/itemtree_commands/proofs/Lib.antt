@@ -4,5 +4,6 @@ pub mod Refused
 pub mod BareTrees
 pub mod Common
 pub mod RowTrees
+pub mod ListedRows
 pub mod Checks
 pub mod RequestTexts

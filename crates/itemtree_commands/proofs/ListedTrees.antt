@@ -4,7 +4,7 @@ use Rattle.itemtree_commands.proofs.Common.{EditionYear, CrateData, Lower, wante
 use Rattle.rust_items.specs.SourceFiles.{FileView}
 use Rattle.rust_mended.specs.declared.text.Mended.{Mended}
 use Rattle.source_listing.specs.Lines.{Source}
-use Rattle.source_reading.specs.ListedFiles.{HasTextOf, closers_in}
+use Rattle.source_rows.specs.ListedFiles.{HasTextOf, closers_in}
 use Rattle.itemtree_commands.specs.declared.Options.{Options}
 use Rattle.itemtree_commands.specs.declared.listed.ListedTree.{ListedTree}
 use Rattle.itemtree_commands.specs.declared.trees.SourceError.{SourceError}

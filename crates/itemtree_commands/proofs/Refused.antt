@@ -6,9 +6,9 @@ use Rattle.rust_leaves.specs.declared.wanted.Wanted.{Wanted}
 use Rattle.rust_items.specs.declared.source_file.SourceFile.{SourceFile}
 use Rattle.rust_items.specs.SourceFiles.{file_view}
 use Rattle.source_rows.specs.Listed.{Closers}
-use Rattle.source_reading.specs.declared.read.ReadError.{ReadError}
-use Rattle.source_reading.specs.declared.read.ReadError.TheVariants as read
-use Rattle.source_reading.specs.ListedFiles.{IsListedClipped, IsUnlisted, IsUnreadText}
+use Rattle.source_rows.specs.declared.read_texts.ReadError.{ReadError}
+use Rattle.source_rows.specs.declared.read_texts.ReadError.TheVariants as read
+use Rattle.source_rows.specs.ListedFiles.{IsListedClipped, IsUnlisted, IsUnreadText}
 use Rattle.itemtree_commands.specs.Inner.{IsClippedRefused, error_told}
 use Rattle.itemtree_commands.specs.declared.trees.SourceError.{SourceError}
 use Rattle.itemtree_commands.specs.declared.trees.SourceError.TheVariants.{TooLong}

@@ -23,7 +23,7 @@ use Rattle.rust_metas.specs.Docs.{is_condition_meta, kept_metas}
 use Rattle.rust_leaves.specs.Clipped.{clipped_node, clipped_item, clipped_list}
 use Rattle.rust_items.specs.declared.source_file.ItemPlace.{ItemPlace}
 use Rattle.rust_items.specs.SourceFiles.{FileView, clipped_syntax}
-use Rattle.source_reading.specs.ListedFiles.{closers_in}
+use Rattle.source_rows.specs.ListedFiles.{closers_in}
 use Rattle.itemtree_commands.specs.declared.listed.ListedTree.{ListedTree}
 use Rattle.itemtree_commands.specs.Inner.{HasListedRows, IsClippedTree, row_wanted}
 use Rattle.itemtree_commands.specs.Trees.{IsListedTree}

@@ -1,11 +1,10 @@
 -- What the commands answer, from the text of a file on.
-use Rattle.std.specs.Prelude.{◌≡◌, ◌↔◌, ℕ, Bool, IsTrue, if◌then◌else◌, Option, Some, None, List, length, string_bytes}
+use Rattle.std.specs.Prelude.{◌≡◌, ◌↔◌, ℕ, Bool, true, false, not, IsTrue, if◌then◌else◌, Option, Some, None, List, [], codes, length, string_bytes}
 use Rattle.hir_input.specs.Cfg.{AtomView}
+use Rattle.hir_input.specs.Name.{is_among}
 use Rattle.item_tree.specs.Page.{page}
 use Rattle.tree_walk.specs.Rows.{rows}
-use Rattle.item_changes.specs.Changes.{changes}
 use Rattle.source_rows.specs.Listed.{Closers, MemberReading}
-use Rattle.source_listing.specs.Changed.{Side, change_lines}
 use Rattle.source_listing.specs.Imports.{import_lines}
 use Rattle.source_listing.specs.Lines.{Choice, Source, problem_lines}
 use Rattle.source_listing.specs.Outlines.{Look, outline_text}
@@ -16,14 +15,15 @@ use Rattle.source_listing.specs.Uses.{FilePlaces, placed}
 use Rattle.source_listing.specs.Search.{Query, found_lines}
 use Rattle.source_listing.specs.Tags.{tags}
 use Rattle.source_problems.specs.Texts.{source_problems}
-use Rattle.source_reading.specs.ListedFiles.{listed_text}
+use Rattle.source_changes.specs.Changes.{AreLinesBetween}
+use Rattle.source_changes.specs.declared.Compared.{Compared}
+use Rattle.source_rows.specs.ListedFiles.{listed_text}
 use Rattle.rust_items.specs.SourceFiles.{FileView, IsFileView}
 use Rattle.itemtree_commands.specs.declared.trees.SourceTree.{SourceTree}
 use Rattle.itemtree_commands.specs.declared.trees.SourceError.{SourceError}
 use Rattle.itemtree_commands.specs.Trees.{IsListedTree, IsListRefused, IsTreeRefused, IsTreeOf}
 use Rattle.itemtree_commands.specs.declared.Options.{Options}
 use Rattle.itemtree_commands.specs.declared.Checked.{Checked}
-use Rattle.itemtree_commands.specs.declared.Compared.{Compared}
 use Rattle.itemtree_commands.specs.declared.CompareError.{CompareError}
 use Rattle.itemtree_commands.specs.declared.CompareError.TheVariants.{Old, New, OutOfMemory}
 
@@ -109,16 +109,16 @@ HasNoTree o = IsTreeRefused o.krate o.skipped.items o.edition.year
 abbrev pub HasNoList : Options → List ℕ → SourceError → Type 0
 HasNoList o = IsListRefused o.krate o.skipped.items o.edition.year
 
--- a file, and where its items stand
-abbrev pub side : Source → SourceTree → Side
-side s t = record { source = s; places = t.places.items }
+-- the lines of what became of one file in another, with documentation unless it is skipped; none where the two are the same
+abbrev pub AreLinesUnless : Bool → Options → Source → Source → List ℕ → Type 0
+AreLinesUnless true o old new lines = lines ≡ []
+AreLinesUnless false o old new lines = AreLinesBetween o.edition.year (not (is_among o.skipped.items (codes "doc"))) old new lines
 
--- the lines of the changes of the items, and whether the trees are equal
+-- whether the trees are equal, and the lines of what differs where they are not
 abbrev pub AreCompared : Options → Source → Source → Compared → Type 0
 AreCompared o old new c =
     (before after : SourceTree) × HasTree o old.text before × HasTree o new.text after
-    × (string_bytes c.text ≡ change_lines o.edition.reserved.items (side old before) (side new after) (changes before.tree after.tree))
-    × (IsTrue c.is_same ↔ (before.tree ≡ after.tree))
+    × (IsTrue c.is_same ↔ (before.tree ≡ after.tree)) × AreLinesUnless c.is_same o old new (string_bytes c.text)
 
 -- the text that is said to have no tree has none, and a new one is said so only where the old one has a tree; where neither is, both have trees
 abbrev pub IsUncompared : Options → List ℕ → List ℕ → CompareError → Type 0

@@ -11,9 +11,9 @@ use Rattle.rust_mended.specs.declared.text.Mended.{Mended}
 use Rattle.rust_items.specs.SourceFiles.{FileView}
 use Rattle.source_rows.specs.Listed.{Closers, MemberReading}
 use Rattle.source_rows.specs.ListedViews.{text_read}
-use Rattle.source_reading.specs.ListedFiles.{IsListedClipped, IsUnlisted, closers_in}
-use Rattle.source_reading.specs.declared.read.ReadError.{ReadError}
-use Rattle.source_reading.specs.declared.read.ReadError.TheVariants as read
+use Rattle.source_rows.specs.ListedFiles.{IsListedClipped, IsUnlisted, closers_in}
+use Rattle.source_rows.specs.declared.read_texts.ReadError.{ReadError}
+use Rattle.source_rows.specs.declared.read_texts.ReadError.TheVariants as read
 use Rattle.itemtree_commands.specs.declared.Options.{Options}
 use Rattle.itemtree_commands.specs.declared.trees.SourceError.{SourceError}
 use Rattle.itemtree_commands.specs.declared.trees.SourceError.TheVariants.{TooLong, Lower}

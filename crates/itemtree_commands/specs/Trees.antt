@@ -10,8 +10,8 @@ use Rattle.rust_metas.specs.declared.wanted.WantedMetas.TheVariants as wanted
 use Rattle.rust_leaves.specs.declared.wanted.Wanted.{Wanted}
 use Rattle.rust_items.specs.SourceFiles.{FileView, IsFileView}
 use Rattle.source_rows.specs.Listed.{Closers}
-use Rattle.source_reading.specs.ListedFiles.{IsListedFile, IsUnlisted}
-use Rattle.source_reading.specs.declared.read.ReadError.TheVariants as read
+use Rattle.source_rows.specs.ListedFiles.{IsListedFile, IsUnlisted}
+use Rattle.source_rows.specs.declared.read_texts.ReadError.TheVariants as read
 use Rattle.itemtree_commands.specs.declared.trees.SourceTree.{SourceTree}
 use Rattle.itemtree_commands.specs.declared.trees.SourceError.{SourceError}
 use Rattle.itemtree_commands.specs.declared.trees.SourceError.TheVariants.{TooLong, Lower}

@@ -15,13 +15,14 @@ ghost use Rattle.itemtree_commands.specs.Trees.{HasOwnIds, IsTextUnread};
 
 use hir_input::{CfgOptions, Edition, Name};
 use item_tree::CrateData;
-use listed::{listed, listed_rows};
+use listed::{listed_rows, listed_tree};
 pub use request::source_request;
 use rust_mended::Mended;
-use source_listing::{Choice, Look, Query, Reading, Side, Source, without_ids};
+use source_changes::{Compared, change_lines};
+use source_listing::{Choice, Look, Query, Reading, Source, without_ids};
 use source_problems::source_problems;
 use std::alloc::{AllocError, Global};
-use trees::checked_source;
+use trees::{checked_source, skips_docs};
 pub use trees::{SourceError, SourceTree, source_tree};
 
 /// What trees are made and written under.
@@ -92,15 +93,6 @@ pub struct Checked {
     pub is_clean: bool,
 }
 
-/// What became of the tree of one file in that of another.
-#[derive(Debug, Drop)]
-pub struct Compared {
-    /// A line for each change of an item.
-    pub text: String,
-    /// Whether the trees are equal.
-    pub is_same: bool,
-}
-
 /// Why two texts have no answer.
 #[derive(Debug, Drop)]
 pub enum CompareError {
@@ -157,8 +149,8 @@ pub fn outline(
     Ok(text)
 }
 
-/// `itemtree outline --json`: one JSON object on one line, with an object for each item and each member of one, or for those in
-/// fewer than so many items; with or without members.
+/// `itemtree outline --json`: one JSON object on one line, with an object for each item and each member of one, or for
+/// those in fewer than so many items; with or without members.
 ///
 /// # Errors
 ///
@@ -176,7 +168,7 @@ pub fn outline_json(
         IfOk result (λ out. json (string_bytes out)) }
     ensures refused { IfErr result (spec.HasNoList options.now source.entry.text.now) }
 {
-    let file = listed(alloc, source.text, options)?;
+    let file = listed_tree(alloc, source.text, options)?;
     let choice = options.choice(depth);
     let reading = options.reading(source.text, &file.mended, has_members);
     let edition = &options.edition;
@@ -217,8 +209,8 @@ pub fn page(
     Ok(page)
 }
 
-/// `itemtree find`: a line for each item that is looked for and each member of one, with or without members; empty where there
-/// is none.
+/// `itemtree find`: a line for each item that is looked for and each member of one, with or without members; empty
+/// where there is none.
 ///
 /// # Errors
 ///
@@ -255,7 +247,7 @@ pub fn imports(alloc: Global, source: Source<'_>, options: &Options) -> Result<S
         (λ out. spec.AreImports options.now (source_view source.entry) (string_bytes out)) }
     ensures refused { IfErr result (spec.HasNoList options.now source.entry.text.now) }
 {
-    let file = listed(alloc, source.text, options)?;
+    let file = listed_tree(alloc, source.text, options)?;
     let edition = &options.edition;
     let text = source_listing::import_lines(
         alloc,
@@ -283,7 +275,7 @@ pub fn duplicates(
         (λ out. spec.AreRepeated options.now (source_view source.entry) (string_bytes out)) }
     ensures refused { IfErr result (spec.HasNoList options.now source.entry.text.now) }
 {
-    let file = listed(alloc, source.text, options)?;
+    let file = listed_tree(alloc, source.text, options)?;
     let edition = &options.edition;
     let text = source_listing::repeated_lines(
         alloc,
@@ -320,11 +312,31 @@ pub fn tags(
     Ok(text)
 }
 
-/// `itemtree changed`: a line for each item that was removed, added or changed, and whether the trees are equal, as
-/// where only bodies, comments or layout became others.
+/// The lines of what became of a file in another, or none.
+fn lines_unless(
+    alloc: Global,
+    is_same: bool,
+    old: Source<'_>,
+    new: Source<'_>,
+    options: &Options,
+) -> Result<String, AllocError>
+    ensures { let are_lines = spec.AreLinesUnless is_same options.now (source_view old.entry)
+        (source_view new.entry) in
+        IfOk result (λ text. are_lines (string_bytes text)) }
+{
+    if is_same {
+        return Ok(String::new(alloc));
+    }
+    let has_docs = !skips_docs(&options.skipped);
+    change_lines(alloc, old, new, options.edition.year, has_docs)
+}
+
+/// `itemtree changed --tree`: whether the trees are equal, as where only bodies, comments or layout became others; if
+/// they are not, a line for each item and each member that was removed, added or changed, as `changed` tells it.
 ///
-/// Trees that differ in the order of their items or in the attributes of the file alone have no such line.
-pub fn changed(
+/// Trees that differ in the order of their items, in the attributes of the file or in those inside a body alone have no
+/// such line.
+pub fn compare_trees(
     alloc: Global,
     old: Source<'_>,
     new: Source<'_>,
@@ -347,23 +359,11 @@ pub fn changed(
         Ok(after) => after,
         Err(error) => return Err(CompareError::New(error)),
     };
-    let olds = Side {
-        source: old,
-        places: &before.places,
-        tree: &before.tree,
-    };
-    let news = Side {
-        source: new,
-        places: &after.places,
-        tree: &after.tree,
-    };
-    let Ok(text) = source_listing::change_lines(alloc, olds, news, &options.edition) else {
+    let is_same = before.tree == after.tree;
+    let Ok(text) = lines_unless(alloc, is_same, old, new, options) else {
         return Err(CompareError::OutOfMemory);
     };
-    Ok(Compared {
-        text,
-        is_same: before.tree == after.tree,
-    })
+    Ok(Compared { text, is_same })
 }
 
 /// `itemtree check`: a line for each thing that is wrong, in the order of their places.

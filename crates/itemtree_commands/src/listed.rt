@@ -2,7 +2,7 @@
 
 ghost use Rattle.std.specs.Prelude.{◌≡◌, ◌≤◌, ◌^◌, length, IfOk, IfErr, OnOk};
 ghost use Rattle.item_tree.specs.declared.fault.LowerError.TheVariants.{OutOfMemory};
-ghost use Rattle.source_reading.specs.ListedFiles.{HasTextOf, closers_in};
+ghost use Rattle.source_rows.specs.ListedFiles.{HasTextOf, closers_in};
 ghost use Rattle.itemtree_commands.specs.Answers as spec;
 ghost use Rattle.itemtree_commands.specs.Inner.{HasListedRows, IsClippedRefused, IsClippedTree};
 ghost use Rattle.itemtree_commands.specs.Trees.{HasOwnIds};
@@ -13,7 +13,7 @@ use crate::trees::{SourceError, SourceTree, tree_of, wanted_under};
 use item_tree::LowerError;
 use rust_items::{Wanted, WantedMetas};
 use rust_mended::Mended;
-use source_reading::read_listed;
+use source_rows::read_listed;
 use std::alloc::Global;
 
 /// The tree that lists tell of a text, with the places of the text as it is.
@@ -26,7 +26,7 @@ pub(crate) struct ListedTree {
 
 /// The tree of what is wanted of what lists read of a text.
 #[tactic(auto, using(crate::proofs::Refused::unlisted_told, crate::proofs::Refused::large_told))]
-fn clipped(
+fn clipped_tree(
     alloc: Global,
     text: &str,
     wanted: Wanted,
@@ -51,7 +51,7 @@ fn clipped(
 }
 
 /// The tree that lists tell of a text: of what they read of it.
-pub(crate) fn listed(
+pub(crate) fn listed_tree(
     alloc: Global,
     text: &str,
     options: &Options,
@@ -63,7 +63,7 @@ pub(crate) fn listed(
     ensures short { OnOk result (length text.now ≤ 2 ^ 32) }
     ensures refused { IfErr result (spec.HasNoList options.now text.now) }
 {
-    clipped(alloc, text, wanted_under(&options.skipped), options)
+    clipped_tree(alloc, text, wanted_under(&options.skipped), options)
 }
 
 /// A tree that has the rows of that, with conditions alone as its attributes.
@@ -79,7 +79,7 @@ fn clipped_rows(alloc: Global, text: &str, options: &Options) -> Result<ListedTr
         bodies: false,
         metas: WantedMetas::Conditions,
     };
-    clipped(alloc, text, wanted, options)
+    clipped_tree(alloc, text, wanted, options)
 }
 
 /// The same. Where it passes a size, the whole tree tells whether it does.
@@ -101,6 +101,6 @@ pub(crate) fn listed_rows(
         Err(SourceError::Lower(LowerError::OutOfMemory)) => {
             Err(SourceError::Lower(LowerError::OutOfMemory))
         }
-        Err(_) => listed(alloc, text, options),
+        Err(_) => listed_tree(alloc, text, options),
     }
 }

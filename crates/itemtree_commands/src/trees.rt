@@ -8,12 +8,13 @@ ghost use Rattle.rust_items.specs.SourceFiles.{IsClippedFile, file_view};
 ghost use Rattle.item_tree.specs.declared.fault.LowerError.TheVariants.{OutOfMemory};
 ghost use Rattle.itemtree_commands.specs.declared.trees.SourceError.TheVariants.{Lower};
 ghost use Rattle.itemtree_commands.specs.Inner.{checked_wanted};
-ghost use Rattle.itemtree_commands.specs.Trees.{HasOwnIds, IsTreeIn, IsTreeRefused, IsTreeOf, IsTextUnread, metas_under, wanted_under};
+ghost use Rattle.itemtree_commands.specs.Trees.{HasOwnIds, IsTreeIn, IsTreeRefused, IsTreeOf, IsTextUnread};
+ghost use Rattle.itemtree_commands.specs.Trees.{metas_under, wanted_under};
 
 use hir_input::{EditionYear, Name};
 use item_tree::{CrateData, ItemTree, LowerError, lower_syntax};
 use rust_items::{ItemPlace, Problem, SourceFile, Wanted, WantedMetas};
-use source_reading::{ReadError, read_text};
+use source_rows::{ReadError, read_text};
 use std::alloc::{AllocError, Global};
 use thiserror::Error;
 
@@ -97,7 +98,7 @@ pub(crate) fn tree_of(
 }
 
 /// Whether documentation is left out.
-fn skips_docs(skipped: &[Name]) -> bool
+pub(crate) fn skips_docs(skipped: &[Name]) -> bool
     ensures { result ≡ is_among skipped.now (codes "doc") }
 {
     skipped.iter().any(|name| name.text() == "doc")
@@ -159,8 +160,8 @@ pub(crate) fn checked_source(
     wanted_source(alloc, text, wanted, edition)
 }
 
-/// Reads a text of an edition and makes its tree in a crate: the items that are kept, with the attributes that their metas
-/// collect under the crate's options, without those of the skipped names.
+/// Reads a text of an edition and makes its tree in a crate: the items that are kept, with the attributes that their
+/// metas collect under the crate's options, without those of the skipped names.
 ///
 /// # Errors
 ///

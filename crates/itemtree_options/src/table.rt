@@ -126,7 +126,7 @@ const DOCS_TOO: Argument = argument!(DOCS id: "docs";
     "Compare documentation too; with --tree, if --skip is not given");
 
 const TREE: Argument = argument!(FLAG id: "tree";
-    "Compare the item trees alone, which keep no signatures, fields, variants, values or members");
+    "Tell nothing where the item trees are equal, which keep no signatures, fields, variants, values or members");
 
 const CFG_OF_TREE: Argument = Argument {
     needs_tree: true,
@@ -222,8 +222,8 @@ static CHANGED: Description = Description {
     about: "Lists the items and members that differ between two files, but for bodies of functions",
     after: "Example: itemtree changed old/lib.rs src/lib.rs
 
-Signatures, fields, variants, values, attributes and members are compared too. With --tree none of these
-counts but attributes, and of attributes none that is left out: another #[repr] or #[must_use] is no change.
+Signatures, fields, variants, values, attributes and members are compared too. With --tree nothing is told
+of equal item trees, which keep of these attributes alone, and not those that are left out, as #[repr].
 
 Status: 0 if nothing differs, 1 if something does, 2 at an error",
     arguments: &[

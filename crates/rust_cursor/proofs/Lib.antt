@@ -27,6 +27,10 @@ pub mod Places
 pub mod Level
 pub mod TreeTexts
 pub mod Sides
+pub mod Looks
+pub mod Rules
+pub mod InBrackets
+pub mod Anchored
 pub mod Around
 pub mod Near
 pub mod NearPassing

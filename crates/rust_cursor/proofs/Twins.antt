@@ -1,13 +1,10 @@
 -- Tokens of two texts that look alike: what is seen of the one is seen of the other, and so it is behind each token at which no texts part.
-use Rattle.std.proofs.Common.{◌≡◌, ℕ, ◌==◌, ◌||◌, ◌&&◌, Bool, true, false, None, Some, List, [], ◌∷◌, refl, ap, arith, bytes_eq}
+use Rattle.std.proofs.Common.{◌≡◌, ℕ, ◌==◌, ◌&&◌, Bool, true, false, None, Some, List, [], ◌∷◌, refl, ap, arith, bytes_eq}
 use Rattle.rust_cursor.proofs.Common.{and_parts, nat_tests, TokenKind, moved, Piece, symbol_of, Tokens, is_open, is_close, word_by, identifies, documents, by_first, symbol, word, kind, text, is_empty, is_at_open, is_at_end, is_at_identifier, is_at_doc, bumped, is_glued, is_pair}
 use Rattle.rust_lexer.specs.declared.kind.TokenKind.TheVariants as kinds
 use Rattle.rust_cursor.specs.Nests.{is_literal_kind}
 use Rattle.rust_cursor.proofs.Leads.{when}
-
--- texts may part at such a symbol
-abbrev pub is_edge : ℕ → Bool
-is_edge c = c == 123 || (c == 59 || c == 125)
+pub use Rattle.rust_cursor.specs.Looks.{is_edge}
 
 pub record Twins : Type 1 where
   pub are : Tokens → Tokens → Type 0

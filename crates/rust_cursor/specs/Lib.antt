@@ -9,3 +9,6 @@ pub mod Extents
 pub mod Angles
 pub mod Beside
 pub mod Inner
+pub mod Looks
+pub mod Grammar
+pub mod Anchored

@@ -1,7 +1,8 @@
 -- The names that most proofs here cite, passed on from one place. Declares nothing.
 pub use Rattle.hir_input.specs.Attr.{MetaView}
 pub use Rattle.hir_input.specs.Bodies.{item_without_bodies, items_without_bodies, without_bodies}
-pub use Rattle.hir_input.specs.Syntax.{FieldsView, ItemView, ItemViews, PlainKind, ast_kind, const_item, enum_kind, extern_block_from, extern_crate, fn_kind, impl_item, item_and, items_from, macro_def_kind, macro_rules, module_from, no_items, plain_item, source_file, static_kind, struct_item, trait_kind, tuple_fields, type_alias_kind, union_kind, use_item}
+pub use Rattle.hir_input.specs.Syntax.{FieldsView, ItemView, ItemViews, ast_kind, const_item, extern_block_from, extern_crate, impl_item, item_and, items_from, macro_rules, module_from, no_items, plain_item, source_file, struct_item, tuple_fields, use_item}
+pub use Rattle.hir_input.specs.declared.ast.PlainKind.{PlainKind}
 pub use Rattle.hir_input.specs.declared.ast.Visibility.{Visibility}
 pub use Rattle.hir_input.specs.declared.edition.EditionYear.{EditionYear}
 pub use Rattle.hir_input.specs.declared.ids.AstIdKind.{AstIdKind}
@@ -19,7 +20,7 @@ pub use Rattle.rust_cursor.proofs.NearTexts.{BlockNear, SameText, block, item_so
 pub use Rattle.rust_cursor.proofs.NearUntil.{AtEnd, Kept, Outcome, Step, UntilBy, at_last, comes, eat_fewer, eat_outcome, is_still, lost, map_outcome, next, stays, step, then_outcome, untaken}
 pub use Rattle.rust_cursor.proofs.Nesting.{shorter}
 pub use Rattle.rust_cursor.proofs.Ordered.{close_some, front_before, left_behind}
-pub use Rattle.rust_cursor.proofs.Parting.{Entering, Onward, Parting, Same, by_kept, by_next, cond_until, eat_until, eat_word_until, gone, into, kept, on, onward_leads, then_until}
+pub use Rattle.rust_cursor.proofs.Parting.{Entering, Onward, Parting, Same, by_kept, by_next, cond_until, eat_until, eat_word_until, gone, into, kept, on, onward_leads, then_until, UpTo}
 pub use Rattle.rust_cursor.proofs.Passing.{behind_tree_beside, beyond_beside, taken_both}
 pub use Rattle.rust_cursor.proofs.Places.{AreAlike, IsAlike, Moves, SamePlace, alike_join, at_place, both, moves, neither, no_more, one_more, unmoved}
 pub use Rattle.rust_cursor.proofs.Turns.{turns_stop}
@@ -53,10 +54,12 @@ pub use Rattle.rust_edits.specs.declared.shift.Shift.{Shift}
 pub use Rattle.rust_ids.specs.Ids.{AreIds}
 pub use Rattle.rust_ids.specs.Row.{Row}
 pub use Rattle.rust_items.proofs.FilePlaces.{text_found, view_placed}
-pub use Rattle.rust_items.proofs.Leads.{IsBraced, LeafAt, alias_if_leads, behind_modifiers_leads, behind_others_leads, braced, call_end_leads, front_start, front_takes, head_takes, impl_end_leads, item_end_leads, leaf_at, macro_end_leads, named_leads, named_or_leads, renamed_leads, value_end_leads}
+pub use Rattle.rust_items.proofs.Leads.{IsBraced, LeafAt, alias_if_leads, behind_modifiers_leads, behind_others_leads, braced, call_end_leads, front_start, front_takes, head_takes, leaf_at, named_leads, named_or_leads, renamed_leads, mut_word_leads, rest_leads}
 pub use Rattle.rust_items.proofs.LineEnds.{before, below_none, place_le, place_rises_in, place_within, prefix_short, returns_count}
-pub use Rattle.rust_items.proofs.Places.{AreFound, Finds, FindsIn, Span, adds_item, adds_problem_at, adds_use_trees, extern_inside_found, extern_turn_found, inside_found, items_found, list_found, list_from, place_span, turn_found, turn_with_found, unless_found}
-pub use Rattle.rust_items.proofs.UntilItems.{FileUntil, ListAlike, Rows, RowsAlike, SpanAlike, alike, by_rows, file_until, found_rows, of_none, rows_of}
+pub use Rattle.rust_items.proofs.Places.{FindsIn, extern_inside_found, extern_turn_found, inside_found, items_found, turn_found, turn_with_found, unless_found}
+pub use Rattle.rust_items.proofs.FoundItems.{AreFound, Finds, Span, adds_item, adds_problem_at, adds_use_trees, list_found, list_from, place_span}
+pub use Rattle.rust_items.proofs.UntilItems.{FileUntil, alike, file_until, found_rows, of_none}
+pub use Rattle.rust_items.proofs.FoundRows.{ListAlike, Rows, RowsAlike, SpanAlike, by_rows, rows_of}
 pub use Rattle.rust_items.proofs.UntilLeaves.{BeginPlain, FrontAlike, LeafLost, LeafUntil, front_until, leaf_gone, leaf_lost, leaf_same, leaf_until}
 pub use Rattle.rust_items.proofs.Within.{AreIn, IsIn, IsMaybeIn, spans_in}
 pub use Rattle.rust_items.specs.Found.{Finder, Found, and_all, and_problem, and_problem_at, and_row, and_use_trees, nothing_found}
@@ -73,15 +76,16 @@ pub use Rattle.rust_items.specs.declared.log.Problem.{Problem}
 pub use Rattle.rust_items.specs.declared.log.ProblemKind.{ProblemKind}
 pub use Rattle.rust_items.specs.declared.source_file.ItemPlace.{ItemPlace}
 pub use Rattle.rust_leaves.proofs.AlikeFronts.{begins_call_same, behind_others_onward, head_until, modifiers_alike}
-pub use Rattle.rust_leaves.proofs.Beside.{LeafAlike, SameRange, fields_of, named_local, named_or_local}
+pub use Rattle.rust_leaves.proofs.Beside.{LeafAlike, SameRange, fields_of, named_local, named_or_local, mut_word_local}
+pub use Rattle.rust_leaves.proofs.Rests.{by_taken}
 pub use Rattle.rust_leaves.specs.Fronts.{FrontRead}
 unfoldable pub use Rattle.rust_leaves.specs.Fronts.{front, front_behind}
 pub use Rattle.rust_leaves.specs.Heads.{behind_modifiers_from}
 unfoldable pub use Rattle.rust_leaves.specs.Heads.{behind_modifiers, head, head_by, is_called, begins_call, is_modifier, is_modifier_before, is_weak_before}
-pub use Rattle.rust_leaves.specs.Kinds.{block_item, called, leaf_by, leaf_read, named_node, node, plain_read, some_read, told_at, use_read, attributed_item}
-unfoldable pub use Rattle.rust_leaves.specs.Kinds.{constant, crate_item, enumeration, function, implementation, invocation, item_call, leaf, macro_def, macro_definition, static_value, structure, trait_item, type_alias, union_item, use_declaration}
+pub use Rattle.rust_leaves.specs.Kinds.{called, leaf_by, leaf_read, named_node, node, plain_read, some_read, told_at, use_read, mut_word, own_attributes, rest_of}
+unfoldable pub use Rattle.rust_leaves.specs.Kinds.{constant, crate_item, implementation, invocation, item_call, leaf, macro_definition, structure, use_declaration, plain_leaf}
 pub use Rattle.rust_leaves.specs.Leaves.{LeafRead, NameRead, RestRead, are_over, bare_end, crate_alias_if, fields_at, is_before, name_read, next_range, no_name, range_to, rename_of, rest_read, semicolon_end, symbol_within}
-unfoldable pub use Rattle.rust_leaves.specs.Leaves.{block_attributes, call_end, crate_alias, fields, has_trait, header_field, impl_end, item_end, macro_end, named, named_or, renamed, struct_fields, value_end}
+unfoldable pub use Rattle.rust_leaves.specs.Leaves.{block_attributes, call_end, crate_alias, fields, has_trait, header_field, named, named_or, renamed, struct_fields, rest_by}
 pub use Rattle.rust_leaves.specs.Texts.{last_text_from}
 unfoldable pub use Rattle.rust_leaves.specs.Texts.{bare, last_text}
 pub use Rattle.rust_leaves.specs.declared.head.Head.{Head}

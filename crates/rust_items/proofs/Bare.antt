@@ -1,7 +1,8 @@
 -- Items without bodies, or with what is wanted of them.
+use Rattle.hir_input.specs.declared.ast.PlainKind.TheVariants as plain_kind
 use Rattle.std.proofs.Common.{◌≡◌, Bool, true, false, List, [], ◌∷◌, Option, Some, None, refl, ap, ◌∙◌, map, option_map, option_to_list}
 use Rattle.rust_metas.specs.declared.wanted.WantedMetas.TheVariants as wanted
-use Rattle.rust_items.proofs.Common.{item_without_bodies, items_without_bodies, named_without_body, node_without_body, ItemView, ItemViews, NamedView, NodeView, plain_item, fn_kind, listed_module, listed_extern_block, no_items, item_and, items_from, module_from, extern_block_from, kept_metas, Wanted, clipped_item, clipped_list, as_extern}
+use Rattle.rust_items.proofs.Common.{item_without_bodies, items_without_bodies, named_without_body, node_without_body, ItemView, ItemViews, NamedView, NodeView, plain_item, listed_module, listed_extern_block, no_items, item_and, items_from, module_from, extern_block_from, kept_metas, Wanted, clipped_item, clipped_list, as_extern}
 
 pub from_list : (is : List ItemView) → items_without_bodies (items_from is) ≡ items_from (map item_without_bodies is)
 from_list [] = refl
@@ -17,7 +18,7 @@ extern_block_alike n (Some is) = ap (listed_extern_block (node_without_body n)) 
 
 -- what is an item of an extern block is one without bodies too
 pub extern_alike : (i : ItemView) → option_map item_without_bodies (as_extern i) ≡ as_extern (item_without_bodies i)
-extern_alike (plain_item fn_kind n) = refl
+extern_alike (plain_item plain_kind.Fn n) = refl
 extern_alike _ = refl
 
 pub list_of : {A B : Type 0} (change : A → B) (o : Option A) → map change (option_to_list o) ≡ option_to_list (option_map change o)
@@ -64,5 +65,5 @@ wanted_from w (i ∷ is) = ap (item_and (clipped_item w i)) (wanted_from w is)
 
 -- what is an item of an extern block is one with what is wanted of it too
 pub extern_clipped : (w : Wanted) (i : ItemView) → as_extern (clipped_item w i) ≡ option_map (clipped_item w) (as_extern i)
-extern_clipped w (plain_item fn_kind n) = refl
+extern_clipped w (plain_item plain_kind.Fn n) = refl
 extern_clipped w _ = refl

@@ -9,7 +9,8 @@ use Rattle.rust_items.proofs.FilePlaces.{IsText, whole_text, placed_text}
 use Rattle.rust_items.proofs.Leads.{blank, IsBraced, braces_behind, block_braced, nameless, tree_body_leads, called_some}
 use Rattle.rust_items.proofs.Names.{untold}
 use Rattle.rust_items.proofs.Parts.{parts_stop}
-use Rattle.rust_items.proofs.Places.{AreFound, adds_none, adds_problem, adds_item, none_found, found_more, unnumbered, widened, place_is, place_within, turn_found}
+use Rattle.rust_items.proofs.Places.{place_is, place_within, turn_found}
+use Rattle.rust_items.proofs.FoundItems.{AreFound, adds_none, adds_problem, adds_item, none_found, found_more, unnumbered, widened}
 use Rattle.rust_items.proofs.UsesFound.{leaf_uses, no_uses, widened_uses}
 
 -- ---- statements as a list of items

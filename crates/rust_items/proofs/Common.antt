@@ -2,7 +2,8 @@
 pub use Rattle.hir_input.proofs.SyntaxViews.{item_view-made_module, module_view-fields}
 pub use Rattle.hir_input.specs.Attr.{MetaView}
 pub use Rattle.hir_input.specs.Bodies.{item_without_bodies, items_without_bodies, named_without_body, node_without_body, without_bodies}
-pub use Rattle.hir_input.specs.Syntax.{FieldsView, ItemView, ItemViews, NamedView, NodeView, PlainKind, StmtView, SyntaxView, TailView, bare_extern_block, bare_module, block_view, call_stmt, call_tail, enum_kind, extern_block_from, extern_block_view, extern_item_view, fn_kind, item_and, item_stmt, item_view, items_from, items_of, listed_extern_block, listed_module, macro_call, module_from, module_view, named_from, no_items, no_tail, node_from, other_stmt, other_tail, plain_item, source_file, static_kind, stmt_items, stmt_view, syntax_view, trait_kind, tuple_fields, type_alias_kind, union_kind, use_item}
+pub use Rattle.hir_input.specs.Syntax.{FieldsView, ItemView, ItemViews, NamedView, NodeView, StmtView, SyntaxView, TailView, bare_extern_block, bare_module, block_view, call_stmt, call_tail, extern_block_from, extern_block_view, extern_item_view, item_and, item_stmt, item_view, items_from, items_of, listed_extern_block, listed_module, macro_call, module_from, module_view, named_from, no_items, no_tail, node_from, other_stmt, other_tail, plain_item, source_file, stmt_items, stmt_view, syntax_view, tuple_fields, use_item}
+pub use Rattle.hir_input.specs.declared.ast.PlainKind.{PlainKind}
 pub use Rattle.hir_input.specs.UseTreeView.{UseTreeView, trees_from}
 pub use Rattle.hir_input.specs.declared.ast.PathNode.{PathNode}
 pub use Rattle.hir_input.specs.declared.ast.Visibility.{Visibility}
@@ -34,7 +35,7 @@ unfoldable pub use Rattle.rust_items.specs.Blocks.{call_found, found_of, other_r
 pub use Rattle.rust_items.specs.Clipped.{clipped_turn}
 unfoldable pub use Rattle.rust_items.specs.Clipped.{clipped_block, clipped_item_if, clipped_items, wanted_behind, wanted_item_if}
 pub use Rattle.rust_items.specs.Found.{Finder, Finds, Found, and_all, and_problem, and_problem_at, and_problem_if, and_row, and_use_trees, log_view, nothing_found}
-pub use Rattle.rust_items.specs.Ids.{each_with_ids, first_numbers, held_with_ids, item_with_ids, list_with_ids, listed_by, numbered_call, numbered_named, numbered_node, some_with_ids, with_ids}
+pub use Rattle.rust_items.specs.Ids.{each_with_ids, first_numbers, held_with_ids, item_with_ids, list_with_ids, listed_by, numbered_call, numbered_named, numbered_node, with_ids}
 pub use Rattle.rust_items.specs.Items.{BlockRead, and_flaw, and_item, and_leaf, and_parent, and_rest, as_extern, block_of, by_head, deep_block, depth_of, empty_block, extern_by, extern_found, extern_kept, finding_from, inside_unless, items, leaf_found, leaf_kept, module_with, needs_name, one_more, some_item, span_of, turn_with, unmatched}
 unfoldable pub use Rattle.rust_items.specs.Items.{behind_front, extern_block, extern_inside, extern_turn, finding, inside, is_list_end, leaf_turn, module_item, turn}
 pub use Rattle.rust_items.specs.LineEnds.{is_return, moved_problem, moved_range, moved_span, place_by, returns_from, with_feeds}
@@ -50,7 +51,8 @@ pub use Rattle.rust_items.specs.declared.ids.Numbers.{Numbers}
 pub use Rattle.rust_items.specs.declared.log.ItemSpan.{ItemSpan}
 pub use Rattle.rust_items.specs.declared.log.ProblemKind.{ProblemKind}
 pub use Rattle.rust_items.specs.declared.source_file.ItemPlace.{ItemPlace}
-pub use Rattle.rust_leaves.proofs.Beside.{LeafAlike, NameAlike, RangeAlike, RestAlike, SameRange, block_item_local, call_end_local, constant_local, fields_of, impl_end_local, implementation_local, item_end_local, macro_def_local, macro_definition_local, named_local, static_local, structure_local, type_alias_local, attributed_local}
+pub use Rattle.rust_leaves.proofs.Beside.{LeafAlike, NameAlike, RangeAlike, RestAlike, SameRange, call_end_local, constant_local, fields_of, implementation_local, macro_definition_local, named_local, structure_local, plain_leaf_local, plain_rest, rest_local}
+pub use Rattle.rust_leaves.proofs.Rests.{by_taken}
 pub use Rattle.rust_leaves.proofs.Fronts.{behind_others_beside, head_local, modifiers_beside}
 pub use Rattle.rust_leaves.specs.Clipped.{clipped_item, clipped_list, clipped_named, clipped_node, unattributed}
 unfoldable pub use Rattle.rust_leaves.specs.Clipped.{clipped_front, clipped_leaf, clipped_leaf_if, leaf_behind, wanted_item, wanted_leaf, wanted_leaf_if, with_value}
@@ -58,10 +60,10 @@ pub use Rattle.rust_leaves.specs.Fronts.{FrontRead}
 unfoldable pub use Rattle.rust_leaves.specs.Fronts.{front, front_behind}
 pub use Rattle.rust_leaves.specs.Heads.{behind_head, behind_modifiers_from}
 unfoldable pub use Rattle.rust_leaves.specs.Heads.{behind_abi, behind_modifier, behind_modifiers, behind_others, head, head_by, is_called, begins_call, is_modifier}
-pub use Rattle.rust_leaves.specs.Kinds.{block_item, call_behind, called, leaf_by, named_node, node, some_read, told_at, use_read, attributed_item}
-unfoldable pub use Rattle.rust_leaves.specs.Kinds.{constant, crate_item, enumeration, function, implementation, invocation, item_call, leaf, macro_def, macro_definition, static_value, structure, trait_item, type_alias, union_item, use_declaration}
+pub use Rattle.rust_leaves.specs.Kinds.{call_behind, called, leaf_by, named_node, node, some_read, told_at, use_read, mut_word, own_attributes, rest_of}
+unfoldable pub use Rattle.rust_leaves.specs.Kinds.{constant, crate_item, implementation, invocation, item_call, leaf, macro_definition, structure, use_declaration, plain_leaf}
 pub use Rattle.rust_leaves.specs.Leaves.{LeafRead, NameRead, are_over, crate_alias_if, fields_at, is_before, name_read, no_name, range_to, semicolon_end, symbol_within}
-unfoldable pub use Rattle.rust_leaves.specs.Leaves.{block_attributes, call_end, crate_alias, fields, header_field, impl_end, item_end, macro_end, named, named_or, renamed, struct_fields, value_end}
+unfoldable pub use Rattle.rust_leaves.specs.Leaves.{block_attributes, call_end, crate_alias, fields, header_field, named, named_or, renamed, struct_fields, rest_by}
 pub use Rattle.rust_leaves.specs.declared.head.Head.{Head}
 pub use Rattle.rust_leaves.specs.declared.wanted.Wanted.{Wanted}
 pub use Rattle.rust_lexer.specs.Piece.{Piece}

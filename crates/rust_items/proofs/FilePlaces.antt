@@ -5,7 +5,8 @@ use Rattle.rust_cursor.proofs.Laid.{behind}
 use Rattle.rust_ids.proofs.Consequences.{distinct}
 use Rattle.rust_items.proofs.Names.{IsToken, told_behind, told_written}
 use Rattle.rust_items.proofs.LineEnds.{returns_count, place_rises_in, place_within, moved_place, places_moved}
-use Rattle.rust_items.proofs.Places.{few, widened, retold, row_kind, place_kind, place_span, Adds, adds_problem_at, AreFound, same_problem_at, items_found}
+use Rattle.rust_items.proofs.Places.{same_problem_at, items_found}
+use Rattle.rust_items.proofs.FoundItems.{few, widened, retold, row_kind, place_kind, place_span, Adds, adds_problem_at, AreFound}
 use Rattle.rust_items.proofs.TreesRead.{IsRead, read_around}
 use Rattle.rust_items.proofs.UsesFound.{UsesIn, widened_uses, retold_uses}
 

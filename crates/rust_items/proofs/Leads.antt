@@ -1,7 +1,8 @@
 -- What is left behind items that hold none is left of the tokens before them, and what they are.
 use Rattle.std.proofs.Common.{◌≡◌, ◌==◌, ◌&&◌, ℕ, zero, suc, Bool, true, false, Option, Some, None, List, [], codes, refl, ap, ◌∙◌, arith, is_some, bytes_eq}
-use Rattle.rust_items.proofs.Common.{AllZip, and_parts, AstIdKind, FileAstId, Visibility, MetaView, PlainKind, union_kind, enum_kind, trait_kind, no_items, Tokens, symbol, word, kind, text, at, eat, eat_word, is_empty, is_at_open, bumped, is_at_end, ExcerptRead, tree_body, LeadsTo, here, further, through, Forwards, when, bumped_leads, eat_leads, eat_word_leads, behind_tree_leads, taken_leads_on, Takes, takes, takes_leads, takes_behind, takes_before, symbol_some, word_none, HasBlock, no_block, block, taken_block, TextRange, Placed, placed_name, path, use_tree, placed_name_leads, placed_next, path_leads, visibility_leads, use_tree_leads, outer_attributes_leads, Head, LeafRead, range_to, name_read, named, named_or, crate_alias, crate_alias_if, renamed, impl_end, item_end, macro_end, value_end, semicolon_end, call_end, function, block_item, union_item, enumeration, trait_item, macro_def, type_alias, static_value, constant, structure, implementation, told_at, crate_item, use_declaration, macro_definition, is_called, begins_call, invocation, item_call, leaf_by, leaf, FrontRead, front_behind, front, id_of, name_of, items_held, trees_in, written_trees, behind_abi, is_modifier, behind_modifier, behind_modifiers_from, behind_modifiers, head_by, behind_head, head, behind_others, fn_kind, attributed_item}
+use Rattle.rust_items.proofs.Common.{AllZip, and_parts, AstIdKind, FileAstId, Visibility, MetaView, PlainKind, no_items, Tokens, symbol, word, kind, text, at, eat, eat_word, is_empty, is_at_open, bumped, is_at_end, ExcerptRead, tree_body, LeadsTo, here, further, through, Forwards, when, bumped_leads, eat_leads, eat_word_leads, behind_tree_leads, taken_leads_on, Takes, takes, takes_leads, takes_behind, takes_before, symbol_some, word_none, HasBlock, no_block, block, taken_block, TextRange, Placed, placed_name, path, use_tree, placed_name_leads, placed_next, path_leads, visibility_leads, use_tree_leads, outer_attributes_leads, Head, LeafRead, range_to, name_read, named, named_or, crate_alias, crate_alias_if, renamed, semicolon_end, call_end, constant, structure, implementation, told_at, crate_item, use_declaration, macro_definition, is_called, begins_call, invocation, item_call, leaf_by, leaf, FrontRead, front_behind, front, id_of, name_of, items_held, trees_in, written_trees, behind_abi, is_modifier, behind_modifier, behind_modifiers_from, behind_modifiers, head_by, behind_head, head, behind_others, plain_leaf, mut_word, by_taken, rest_by, rest_of}
 use Rattle.std.specs.Option.{option_or}
+use Rattle.hir_input.specs.declared.ast.PlainKind.TheVariants as plain_kind
 use Rattle.hir_input.specs.declared.ids.AstIdKind.TheVariants as ast
 use Rattle.rust_leaves.specs.declared.head.Head.TheVariants as heads
 use Rattle.rust_cursor.specs.Nests.{is_literal_kind}
@@ -14,21 +15,9 @@ use Rattle.rust_items.proofs.TreesRead.{word_some, zip_is, IsRead, read_around, 
 pub tree_body_leads : Forwards tree_body
 tree_body_leads ts = taken_leads_on _ _ ts
 
-pub item_end_leads : Forwards item_end
-unfolding item_end
-item_end_leads ts = taken_leads_on _ _ ts
-
-pub impl_end_leads : Forwards impl_end
-unfolding impl_end
-impl_end_leads ts = taken_leads_on _ _ ts
-
-pub macro_end_leads : Forwards macro_end
-unfolding macro_end
-macro_end_leads ts = taken_leads_on _ _ ts
-
-pub value_end_leads : Forwards value_end
-unfolding value_end
-value_end_leads ts = taken_leads_on _ _ ts
+pub rest_leads : (h : Head) → Forwards (rest_of h)
+unfolding rest_by
+rest_leads = by_taken (λ r. Forwards (rest_by r)) (λ before e ts. taken_leads_on before e ts)
 
 semicolon_end_leads : (read : ExcerptRead) → Forwards (semicolon_end read)
 semicolon_end_leads read ts = eat_leads _ ts
@@ -180,21 +169,9 @@ pub block_braced : {ts us : Tokens} {o : Option Tokens} → HasBlock ts us o →
 block_braced no_block = unbraced
 block_braced (block b before some t) = braced b before some t
 
-item_end_braced : (ts : Tokens) → IsBraced ts (item_end ts).1 (item_end ts).0.braces
-unfolding item_end
-item_end_braced ts = block_braced (taken_block _ _ ts)
-
-impl_end_braced : (ts : Tokens) → IsBraced ts (impl_end ts).1 (impl_end ts).0.braces
-unfolding impl_end
-impl_end_braced ts = block_braced (taken_block _ _ ts)
-
-macro_end_braced : (ts : Tokens) → IsBraced ts (macro_end ts).1 (macro_end ts).0.braces
-unfolding macro_end
-macro_end_braced ts = block_braced (taken_block _ _ ts)
-
-value_end_braced : (ts : Tokens) → IsBraced ts (value_end ts).1 (value_end ts).0.braces
-unfolding value_end
-value_end_braced ts = block_braced (taken_block _ _ ts)
+rest_braced : (h : Head) (ts : Tokens) → IsBraced ts (rest_of h ts).1 (rest_of h ts).0.braces
+unfolding rest_by
+rest_braced = by_taken (λ r. (ts : Tokens) → IsBraced ts (rest_by r ts).1 (rest_by r ts).0.braces) (λ before e ts. block_braced (taken_block before e ts))
 
 pub call_end_braced : (ts : Tokens) → IsBraced ts (call_end ts).1 (call_end ts).0.braces
 unfolding call_end
@@ -218,63 +195,53 @@ pub record IsLeaf (ts us : Tokens) (l : LeafRead) : Type 0 where
   pub told : (l.kind ≡ ast.ExternCrate → ⊥) → IsToken ts (name_of l.item) l.named
   pub uses : AllZip (IsRead ts us) l.use_trees (trees_in l.item)
 
+pub mut_word_leads : (k : PlainKind) → Forwards (mut_word k)
+mut_word_leads plain_kind.Static ts = eat_word_leads (codes "mut") ts
+mut_word_leads _ ts = here
+
 -- an item by what is told of it
-plain_leaf : {ts us : Tokens} (l : LeafRead) → id_of l.item ≡ Some (blank l.kind) → items_held l.item ≡ no_items → AllZip (IsRead ts us) l.use_trees (trees_in l.item) → LeadsTo ts us → IsNamed ts us l.named → IsBraced ts us l.body
+leaf_by_told : {ts us : Tokens} (l : LeafRead) → id_of l.item ≡ Some (blank l.kind) → items_held l.item ≡ no_items → AllZip (IsRead ts us) l.use_trees (trees_in l.item) → LeadsTo ts us → IsNamed ts us l.named → IsBraced ts us l.body
     → ((l.kind ≡ ast.ExternCrate → ⊥) → IsToken ts (name_of l.item) l.named) → IsLeaf ts us l
-plain_leaf l e f uses leads name body told = record { leads = leads; id = e; alone = f; name = name; body = body; told = told; uses = uses }
+leaf_by_told l e f uses leads name body told = record { leads = leads; id = e; alone = f; name = name; body = body; told = told; uses = uses }
 
 module _ (attrs : List MetaView) (v : Option Visibility) (ts : Tokens) where
-  attributed_leaf : (k : PlainKind) → IsLeaf ts (attributed_item k attrs v ts).1 (attributed_item k attrs v ts).0
-  attributed_leaf k = plain_leaf _ refl refl tt (through (named_leads ts) (item_end_leads _)) (name_before (named_named ts) (item_end_leads _)) (braces_behind (named_leads ts) (item_end_braced _)) (λ _. named_told ts)
-
-  block_leaf : (k : PlainKind) → IsLeaf ts (block_item k attrs v ts).1 (block_item k attrs v ts).0
-  block_leaf k = plain_leaf _ refl refl tt (through (named_leads ts) (item_end_leads _)) (name_before (named_named ts) (item_end_leads _)) (braces_behind (named_leads ts) (item_end_braced _)) (λ _. named_told ts)
-
-  pub macro_def_leaf : IsLeaf ts (macro_def attrs v ts).1 (macro_def attrs v ts).0
-  unfolding macro_def
-  macro_def_leaf = plain_leaf _ refl refl tt (through (named_leads ts) (macro_end_leads _)) (name_before (named_named ts) (macro_end_leads _)) (braces_behind (named_leads ts) (macro_end_braced _)) (λ _. named_told ts)
-
-  pub type_alias_leaf : IsLeaf ts (type_alias attrs v ts).1 (type_alias attrs v ts).0
-  unfolding type_alias
-  type_alias_leaf = plain_leaf _ refl refl tt (through (named_leads ts) (value_end_leads _)) (name_before (named_named ts) (value_end_leads _)) (braces_behind (named_leads ts) (value_end_braced _)) (λ _. named_told ts)
-
-  pub static_leaf : IsLeaf ts (static_value attrs v ts).1 (static_value attrs v ts).0
-  unfolding static_value
-  static_leaf =
-      plain_leaf _ refl refl tt (through (eat_word_leads _ ts) (through (named_leads _) (value_end_leads _))) (name_behind (eat_word_leads _ ts) (name_before (named_named _) (value_end_leads _)))
-      (braces_behind (through (eat_word_leads _ ts) (named_leads _)) (value_end_braced _)) (λ _. told_behind (eat_word_leads _ ts) _ _ (named_told _))
+  pub plain_leaf_is : (k : PlainKind) → IsLeaf ts (plain_leaf k attrs v ts).1 (plain_leaf k attrs v ts).0
+  unfolding plain_leaf
+  plain_leaf_is k =
+      leaf_by_told _ refl refl tt (through (mut_word_leads k ts) (through (named_leads _) (rest_leads (heads.Plain k) _))) (name_behind (mut_word_leads k ts) (name_before (named_named _) (rest_leads (heads.Plain k) _)))
+      (braces_behind (through (mut_word_leads k ts) (named_leads _)) (rest_braced (heads.Plain k) _)) (λ _. told_behind (mut_word_leads k ts) _ _ (named_told _))
 
   pub const_leaf : IsLeaf ts (constant attrs v ts).1 (constant attrs v ts).0
   unfolding constant
   const_leaf =
-      plain_leaf _ refl refl tt (through (named_leads ts) (through (eat_word_leads _ _) (value_end_leads _))) (name_before (named_named ts) (through (eat_word_leads _ _) (value_end_leads _)))
-      (braces_behind (through (named_leads ts) (eat_word_leads _ _)) (value_end_braced _)) (λ _. named_told ts)
+      leaf_by_told _ refl refl tt (through (named_leads ts) (through (eat_word_leads _ _) (rest_leads heads.Const _))) (name_before (named_named ts) (through (eat_word_leads _ _) (rest_leads heads.Const _)))
+      (braces_behind (through (named_leads ts) (eat_word_leads _ _)) (rest_braced heads.Const _)) (λ _. named_told ts)
 
   pub struct_leaf : IsLeaf ts (structure attrs v ts).1 (structure attrs v ts).0
   unfolding structure
-  struct_leaf = plain_leaf _ refl refl tt (through (named_leads ts) (item_end_leads _)) (name_before (named_named ts) (item_end_leads _)) (braces_behind (named_leads ts) (item_end_braced _)) (λ _. named_told ts)
+  struct_leaf = leaf_by_told _ refl refl tt (through (named_leads ts) (rest_leads heads.Struct _)) (name_before (named_named ts) (rest_leads heads.Struct _)) (braces_behind (named_leads ts) (rest_braced heads.Struct _)) (λ _. named_told ts)
 
   pub impl_leaf : IsLeaf ts (implementation attrs ts).1 (implementation attrs ts).0
   unfolding implementation
-  impl_leaf = plain_leaf _ refl refl tt (impl_end_leads ts) nameless (impl_end_braced ts) (λ _. untold)
+  impl_leaf = leaf_by_told _ refl refl tt (rest_leads heads.Impl ts) nameless (rest_braced heads.Impl ts) (λ _. untold)
 
   pub crate_leaf : IsLeaf ts (crate_item attrs v ts).1 (crate_item attrs v ts).0
   unfolding crate_item
   crate_leaf =
-      plain_leaf _ refl refl tt (through (named_or_leads (codes "self") ts) (through (renamed_leads _) (eat_leads _ _)))
+      leaf_by_told _ refl refl tt (through (named_or_leads (codes "self") ts) (through (renamed_leads _) (eat_leads _ _)))
       (name_before (told_named (named_or (codes "self") ts).0.range ts (named_or (codes "self") ts).1 (named_or_named (codes "self") refl ts) (named_or_leads (codes "self") ts)) (eat_leads _ _)) unbraced (λ other. absurd (other refl))
 
   pub use_leaf : IsLeaf ts (use_declaration attrs v ts).1 (use_declaration attrs v ts).0
   unfolding use_declaration
   use_leaf =
-      plain_leaf _ refl refl
+      leaf_by_told _ refl refl
       (zip_is (IsRead ts (use_tree ts).1) (IsRead ts (eat 59 (use_tree ts).1).1) (read_around here (eat_leads 59 (use_tree ts).1)) (use_tree ts).0.starts (written_trees (use_tree ts).0.value) (use_tree_told ts))
       (through (use_tree_leads ts) (eat_leads _ _)) nameless unbraced (λ _. untold)
 
   pub macro_rules_leaf : IsLeaf ts (macro_definition attrs ts).1 (macro_definition attrs ts).0
   unfolding macro_definition
   macro_rules_leaf =
-      plain_leaf _ refl refl tt (through (named_or_leads (codes "try") ts) (call_end_leads _)) (name_before (named_or_named (codes "try") refl ts) (call_end_leads _))
+      leaf_by_told _ refl refl tt (through (named_or_leads (codes "try") ts) (call_end_leads _)) (name_before (named_or_named (codes "try") refl ts) (call_end_leads _))
       (braces_behind (named_or_leads (codes "try") ts) (call_end_braced _)) (λ _. named_or_told 116 (codes "ry") refl ts)
 
 -- an item of tokens, one at least
@@ -325,19 +292,12 @@ taken_at ts us vs None t p = through (takes_leads t) p
 taken_at ts us vs (Some l) t p = leaf_taken t p
 
 leaf_by_at : (h : Head) (attrs : List MetaView) (v : Option Visibility) (ts : Tokens) → LeafAt ts (leaf_by h attrs v ts).1 (leaf_by h attrs v ts).0
-unfolding function trait_item union_item enumeration
 leaf_by_at heads.Use attrs v ts = use_leaf attrs v ts
 leaf_by_at heads.ExternCrate attrs v ts = crate_leaf attrs v ts
-leaf_by_at heads.Fn attrs v ts = attributed_leaf attrs v ts fn_kind
 leaf_by_at heads.Impl attrs v ts = impl_leaf attrs v ts
-leaf_by_at heads.Trait attrs v ts = attributed_leaf attrs v ts trait_kind
 leaf_by_at heads.Struct attrs v ts = struct_leaf attrs v ts
-leaf_by_at heads.Union attrs v ts = block_leaf attrs v ts union_kind
-leaf_by_at heads.Enum attrs v ts = block_leaf attrs v ts enum_kind
 leaf_by_at heads.Const attrs v ts = const_leaf attrs v ts
-leaf_by_at heads.Static attrs v ts = static_leaf attrs v ts
-leaf_by_at heads.TypeAlias attrs v ts = type_alias_leaf attrs v ts
-leaf_by_at heads.MacroDef attrs v ts = macro_def_leaf attrs v ts
+leaf_by_at (heads.Plain k) attrs v ts = plain_leaf_is attrs v ts k
 leaf_by_at heads.MacroRules attrs v ts = macro_rules_leaf attrs v ts
 leaf_by_at _ attrs v ts = alone_at ts (item_call attrs ts).1 (item_call attrs ts).0 (item_call_found attrs ts ts here)
 

@@ -6,6 +6,7 @@ pub mod Names
 pub mod TreesRead
 pub mod Leads
 pub mod UsesFound
+pub mod FoundItems
 pub mod Places
 pub mod LineEnds
 pub mod FilePlaces
@@ -17,7 +18,14 @@ pub mod Clipped
 pub mod BareFiles
 pub mod UntilFields
 pub mod UntilLeaves
+pub mod FoundRows
 pub mod UntilItems
 pub mod Within
 pub mod Told
 pub mod Moving
+pub mod MemberSteps
+pub mod MemberPlacing
+pub mod MemberCuts
+pub mod MemberMetas
+pub mod UntilMembers
+pub mod MemberCommon

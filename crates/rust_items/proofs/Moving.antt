@@ -3,7 +3,7 @@ use Rattle.std.proofs.Common.{◌≡◌, ◌≤◌, ℕ, Option, Some, List, [],
 use Rattle.rust_items.proofs.Common.{EditionYear, FileAstId, AreAlike, no_more, IsAlike, neither, both, TextRange, SameRange, ItemSpan, moved_range, moved_span, FileView, places, found_in, IsFile}
 use Rattle.rust_cursor.proofs.Places.{one_more}
 use Rattle.rust_items.proofs.LineEnds.{moved_place}
-use Rattle.rust_items.proofs.UntilItems.{SpanAlike}
+use Rattle.rust_items.proofs.FoundRows.{SpanAlike}
 use Rattle.rust_items.proofs.Within.{IsIn, IsMaybeIn, AreIn, spans_in}
 
 places_map : (place : ℕ → ℕ) (ids : List FileAstId) (spans : List ItemSpan) → places ids (map (moved_span place) spans) ≡ map (moved_place place) (places ids spans)

@@ -1,7 +1,6 @@
 -- Steps of what reads blocks.
 use Rattle.std.proofs.Common.{◌≡◌, ◌<◌, ◌+◌, ◌-◌, ℕ, zero, suc, Bool, true, false, List, [], ◌∷◌, ◌++◌, refl, sym, ap, ◌∙◌, arith}
 use Rattle.rust_items.proofs.Common.{FileAstId, StmtView, Tokens, beyond, Found, is_list_end, PartView, BodyRead, and_part, part, parts_from, stmt_with_ids, stmts_with_ids}
-use Rattle.rust_items.proofs.Numbering.{behind, each_more}
 
 pub parts_stop : (is_top : Bool) (n : ℕ) (done : BodyRead) (f : Found) (ts : Tokens) → is_list_end is_top ts ≡ true → parts_from is_top n done f ts ≡ (done, (f, ts))
 parts_stop is_top zero done f ts e = refl
@@ -19,8 +18,3 @@ parts_more is_top bound at past done done' p f f' ts mid after all below e told 
     ap (λ l. parts_from is_top n l f' after) d
     ∙ ap (λ k. parts_from is_top n (and_part done p) f' k) (a ∙ ap (λ k. beyond k mid) q)
     ∙ sym here ∙ sym step ∙ before
-
--- one more statement
-pub one_more : (done : List StmtView) (s made : StmtView) (ss : List StmtView) (ids rest : List FileAstId) → stmt_with_ids s ids ≡ (made, rest)
-    → behind done (stmts_with_ids (s ∷ ss) ids) ≡ behind (done ++ made ∷ []) (stmts_with_ids ss rest)
-one_more = each_more stmt_with_ids

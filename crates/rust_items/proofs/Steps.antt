@@ -23,11 +23,6 @@ finding_more ends turn bound at past done done' i f f' ts mid after all below e 
     ∙ ap (λ k. finding_from ends turn n (done ++ option_to_list i) f' k) (a ∙ ap (λ k. beyond k mid) p)
     ∙ sym here ∙ sym step ∙ before
 
--- the views of a list that may have one more
-pub pushed : {A B : Type 0} (view : A → B) (old new : List A) (o : Option A) → new ≡ old ++ option_to_list o → map view new ≡ map view old ++ option_to_list (option_map view o)
-pushed view old new None e = ap (map view) e ∙ map-append view old []
-pushed view old new (Some x) e = ap (map view) e ∙ map-append view old (x ∷ [])
-
 -- ---- modules
 
 -- one that is too deep

@@ -1,6 +1,7 @@
 -- Items that hold none, of tokens beside, are the same but for body texts, until one goes into the braces.
+use Rattle.hir_input.specs.declared.ast.PlainKind.TheVariants as plain_kind
 use Rattle.std.proofs.Common.{◌≡◌, ◌≤◌, ◌+◌, ◌&&◌, ℕ, suc, true, false, Option, Some, None, List, [], ◌∷◌, ◌++◌, map, refl, ap, sym, subst, ◌∙◌, arith, is_some}
-use Rattle.rust_items.proofs.Common.{and_parts, PathNode, Visibility, MetaView, item_without_bodies, use_item, union_kind, enum_kind, trait_kind, UseTreeView, Piece, Tokens, end_of, at, is_empty, bumped, eat, Bodies, Beside, ahead, behind, LeadsTo, through, Forwards, when, bumped_leads, eat_leads, HasBlock, no_block, block, taken_block, IsLaid, at_behind, taken_behind, before_at, behind_at, next_ahead, next_behind, BothBeside, Kept, eat_local, Gone, gone_on, by_kept, KeptBy, UntilBy, went, stayed, by_stayed, IsAlike, no_more, SamePlace, at_place, TextRange, path, use_tree, visibility, path_local, visibility_local, path_leads, visibility_leads, outer_attributes, inner_attributes, IsSound, sound_on, outer_attributes_until, inner_attributes_until, Head, FrontRead, front_behind, front, LeafRead, named, impl_end, item_end, call_end, block_attributes, range_to, node, function, union_item, enumeration, trait_item, structure, implementation, use_read, use_declaration, is_called, begins_call, called, call_behind, some_read, invocation, item_call, leaf_by, leaf, modifiers_beside, head_local, named_local, item_end_local, impl_end_local, call_end_local, NameAlike, RestAlike, LeafAlike, block_item_local, macro_def_local, type_alias_local, static_local, constant_local, fields_of, structure_local, implementation_local, macro_definition_local, behind_modifiers, PlainKind, fn_kind, attributed_item, attributed_local}
+use Rattle.rust_items.proofs.Common.{and_parts, PathNode, Visibility, MetaView, item_without_bodies, use_item, UseTreeView, Piece, Tokens, end_of, at, is_empty, bumped, eat, Bodies, Beside, ahead, behind, LeadsTo, through, Forwards, when, bumped_leads, eat_leads, HasBlock, no_block, block, taken_block, IsLaid, at_behind, taken_behind, before_at, behind_at, next_ahead, next_behind, BothBeside, Kept, eat_local, Gone, gone_on, by_kept, KeptBy, UntilBy, went, stayed, by_stayed, IsAlike, no_more, SamePlace, at_place, TextRange, path, use_tree, visibility, path_local, visibility_local, path_leads, visibility_leads, outer_attributes, inner_attributes, IsSound, sound_on, outer_attributes_until, inner_attributes_until, Head, FrontRead, front_behind, front, LeafRead, named, call_end, block_attributes, range_to, node, structure, implementation, use_read, use_declaration, is_called, begins_call, called, call_behind, some_read, invocation, item_call, leaf_by, leaf, modifiers_beside, head_local, named_local, call_end_local, NameAlike, RestAlike, LeafAlike, constant_local, fields_of, structure_local, implementation_local, macro_definition_local, behind_modifiers, PlainKind, plain_leaf, plain_leaf_local, plain_rest, own_attributes, rest_of, rest_local, by_taken, rest_by}
 use Rattle.rust_lexer.specs.Alone.{moved}
 use Rattle.rust_cursor.proofs.Laid as laid
 use Rattle.rust_cursor.proofs.Braced.{tokens_at}
@@ -120,60 +121,59 @@ lost_block : {b : Bodies} {q : Option LeafRead × Tokens} (p : LeafRead × Token
     → ((t : Tokens) → o ≡ Some t → at t ≡ b.opening.at → ⊥) → LeafUntil b (some_read p) q
 lost_block {b} p o end is g f = leaf_lost g (λ l r e d s. no_start b o end f r (sym is ∙ ap (λ (x : LeafRead). x.body) (some_is p.0 l e) ∙ d) s)
 
-item_end_block : (ts : Tokens) → HasBlock ts (item_end ts).1 (item_end ts).0.block
-unfolding item_end
-item_end_block ts = taken_block _ _ ts
+item_within : (end : ℕ) (ts : Tokens) → IsSound end ts → IsWithin (rest_of heads.Struct ts).0.block (rest_of heads.Struct ts).1
+unfolding rest_by
+item_within end ts s t e = inner_within end ts (rest_of heads.Struct ts).1 t s (item_enclosed ts t e)
 
-impl_end_block : (ts : Tokens) → HasBlock ts (impl_end ts).1 (impl_end ts).0.block
-unfolding impl_end
-impl_end_block ts = taken_block _ _ ts
+impl_within : (end : ℕ) (ts : Tokens) → IsSound end ts → IsWithin (rest_of heads.Impl ts).0.block (rest_of heads.Impl ts).1
+unfolding rest_by
+impl_within end ts s t e = inner_within end ts (rest_of heads.Impl ts).1 t s (impl_enclosed ts t e)
 
-item_end_braces : (ts : Tokens) → (item_end ts).0.braces ≡ range_to (item_end ts).1.past (item_end ts).0.block
-unfolding item_end
-item_end_braces ts = refl
+rest_block : (h : Head) (ts : Tokens) → HasBlock ts (rest_of h ts).1 (rest_of h ts).0.block
+unfolding rest_by
+rest_block = by_taken (λ r. (ts : Tokens) → HasBlock ts (rest_by r ts).1 (rest_by r ts).0.block) (λ before e ts. taken_block before e ts)
 
-impl_end_braces : (ts : Tokens) → (impl_end ts).0.braces ≡ range_to (impl_end ts).1.past (impl_end ts).0.block
-unfolding impl_end
-impl_end_braces ts = refl
-
-item_end_within : (end : ℕ) (ts : Tokens) → IsSound end ts → IsWithin (item_end ts).0.block (item_end ts).1
-unfolding item_end
-item_end_within end ts s t e = inner_within end ts (item_end ts).1 t s (item_enclosed ts t e)
-
-impl_end_within : (end : ℕ) (ts : Tokens) → IsSound end ts → IsWithin (impl_end ts).0.block (impl_end ts).1
-unfolding impl_end
-impl_end_within end ts s t e = inner_within end ts (impl_end ts).1 t s (impl_enclosed ts t e)
+rest_braces : (h : Head) (ts : Tokens) → (rest_of h ts).0.braces ≡ range_to (rest_of h ts).1.past (rest_of h ts).0.block
+unfolding rest_by
+rest_braces h ts = refl
 
 module _ (b : Bodies) (plain : BeginPlain b) (end : ℕ) (attrs : List MetaView) (v : Option Visibility) (ts us : Tokens) (l : IsSound end ts) (h : Beside b ts us) where
-  attributed_until : (k : PlainKind) → LeafUntil b (some_read (attributed_item k attrs v ts)) (some_read (attributed_item k attrs v us))
-  attributed_until k = by (block_attributes_until b plain end sound.laid (item_end_block (named ts).1) r.value.block (item_end_within end (named ts).1 sound))
+  -- the inner attributes of an item with a name
+  inner_until : SameOr b (rest_of heads.Struct (named ts).1).1 (rest_of heads.Struct (named ts).1).0.block (block_attributes (rest_of heads.Struct (named ts).1).0.block) (block_attributes (rest_of heads.Struct (named us).1).0.block)
+  inner_until = block_attributes_until b plain end sound.laid (rest_block heads.Struct (named ts).1) r.value.block (item_within end (named ts).1 sound)
     where
       sound : IsSound end (named ts).1
       sound = sound_on end (named_leads ts) l
 
-      n : KeptBy (NameAlike b) b (named ts) (named us)
-      n = named_local b ts us h
+      r : KeptBy (RestAlike b) b (rest_of heads.Struct (named ts).1) (rest_of heads.Struct (named us).1)
+      r = rest_local b heads.Struct (named ts).1 (named us).1 (named_local b ts us h).rest
 
-      r : KeptBy (RestAlike b) b (item_end (named ts).1) (item_end (named us).1)
-      r = item_end_local b (named ts).1 (named us).1 n.rest
+  own_until : (k : PlainKind) → SameOr b (plain_rest k ts).1 (plain_rest k ts).0.block (own_attributes k (plain_rest k ts).0.block) (own_attributes k (plain_rest k us).0.block)
+  own_until plain_kind.Fn = inner_until
+  own_until plain_kind.Trait = inner_until
+  own_until _ = both_same refl
 
-      by : SameOr b (item_end (named ts).1).1 (item_end (named ts).1).0.block (block_attributes (item_end (named ts).1).0.block) (block_attributes (item_end (named us).1).0.block)
-          → LeafUntil b (some_read (attributed_item k attrs v ts)) (some_read (attributed_item k attrs v us))
-      by (not_same g f) = lost_block (attributed_item k attrs v ts) (item_end (named ts).1).0.block (item_end (named ts).1).1.past (item_end_braces (named ts).1) g f
-      by (both_same e) = some_alike (attributed_local b k attrs v ts us h e)
+  plain_until : (k : PlainKind) → LeafUntil b (some_read (plain_leaf k attrs v ts)) (some_read (plain_leaf k attrs v us))
+  unfolding plain_leaf
+  plain_until k = by (own_until k)
+    where
+      by : SameOr b (plain_rest k ts).1 (plain_rest k ts).0.block (own_attributes k (plain_rest k ts).0.block) (own_attributes k (plain_rest k us).0.block)
+          → LeafUntil b (some_read (plain_leaf k attrs v ts)) (some_read (plain_leaf k attrs v us))
+      by (not_same g f) = lost_block (plain_leaf k attrs v ts) (plain_rest k ts).0.block (plain_rest k ts).1.past (rest_braces (heads.Plain k) _) g f
+      by (both_same e) = some_alike (plain_leaf_local b k attrs v ts us h e)
 
   implementation_until : LeafUntil b (some_read (implementation attrs ts)) (some_read (implementation attrs us))
   unfolding implementation
-  implementation_until = by (block_attributes_until b plain end l.laid (impl_end_block ts) (impl_end_local b ts us h).value.block (impl_end_within end ts l))
+  implementation_until = by (block_attributes_until b plain end l.laid (rest_block heads.Impl ts) (rest_local b heads.Impl ts us h).value.block (impl_within end ts l))
     where
-      by : SameOr b (impl_end ts).1 (impl_end ts).0.block (block_attributes (impl_end ts).0.block) (block_attributes (impl_end us).0.block)
+      by : SameOr b (rest_of heads.Impl ts).1 (rest_of heads.Impl ts).0.block (block_attributes (rest_of heads.Impl ts).0.block) (block_attributes (rest_of heads.Impl us).0.block)
           → LeafUntil b (some_read (implementation attrs ts)) (some_read (implementation attrs us))
-      by (not_same g f) = lost_block (implementation attrs ts) (impl_end ts).0.block (impl_end ts).1.past (impl_end_braces ts) g f
+      by (not_same g f) = lost_block (implementation attrs ts) (rest_of heads.Impl ts).0.block (rest_of heads.Impl ts).1.past (rest_braces heads.Impl ts) g f
       by (both_same e) = some_alike (implementation_local b attrs ts us h e)
 
   structure_until : LeafUntil b (some_read (structure attrs v ts)) (some_read (structure attrs v us))
   unfolding structure
-  structure_until = by (struct_fields_same b plain.new_behind x (named us).1 (item_end x).1 (item_end (named us).1).1 (item_end x).0.block (item_end (named us).1).0.block n.rest r.rest r.value.block)
+  structure_until = by (struct_fields_same b plain.new_behind x (named us).1 (rest_of heads.Struct x).1 (rest_of heads.Struct (named us).1).1 (rest_of heads.Struct x).0.block (rest_of heads.Struct (named us).1).0.block n.rest r.rest r.value.block)
     where
       x : Tokens
       x = (named ts).1
@@ -181,13 +181,13 @@ module _ (b : Bodies) (plain : BeginPlain b) (end : ℕ) (attrs : List MetaView)
       n : KeptBy (NameAlike b) b (named ts) (named us)
       n = named_local b ts us h
 
-      r : KeptBy (RestAlike b) b (item_end (named ts).1) (item_end (named us).1)
-      r = item_end_local b (named ts).1 (named us).1 n.rest
+      r : KeptBy (RestAlike b) b (rest_of heads.Struct (named ts).1) (rest_of heads.Struct (named us).1)
+      r = rest_local b heads.Struct (named ts).1 (named us).1 n.rest
 
-      by : SameFields b (item_end x).0.block (item_end x).1 (fields_of x) (fields_of (named us).1) → LeafUntil b (some_read (structure attrs v ts)) (some_read (structure attrs v us))
+      by : SameFields b (rest_of heads.Struct x).0.block (rest_of heads.Struct x).1 (fields_of x) (fields_of (named us).1) → LeafUntil b (some_read (structure attrs v ts)) (some_read (structure attrs v us))
       by (header_gone g) =
-          let i = item_gone b end (laid.behind end (named_leads ts) l.laid).laid (item_end_block x) g in
-          lost_block (structure attrs v ts) (item_end x).0.block (item_end x).1.past (item_end_braces x) i.gone i.free
+          let i = item_gone b end (laid.behind end (named_leads ts) l.laid).laid (rest_block heads.Struct x) g in
+          lost_block (structure attrs v ts) (rest_of heads.Struct x).0.block (rest_of heads.Struct x).1.past (rest_braces heads.Struct x) i.gone i.free
       by (fields_same e) = some_alike (structure_local b attrs v ts us h e)
 
   use_until : LeafUntil b (some_read (use_declaration attrs v ts)) (some_read (use_declaration attrs v us))
@@ -245,19 +245,12 @@ module _ (b : Bodies) (plain : BeginPlain b) (end : ℕ) (attrs : List MetaView)
 -- ---- all kinds
 
 leaf_by_until : (b : Bodies) → BeginPlain b → (end : ℕ) (k : Head) (attrs : List MetaView) (v : Option Visibility) (ts us : Tokens) → IsSound end ts → Beside b ts us → LeafUntil b (leaf_by k attrs v ts) (leaf_by k attrs v us)
-unfolding function trait_item union_item enumeration
 leaf_by_until b plain end heads.Use attrs v ts us l h = use_until b plain end attrs v ts us l h
 leaf_by_until b plain end heads.ExternCrate attrs v ts us l h = some_alike (crate_item_local b attrs v ts us h)
-leaf_by_until b plain end heads.Fn attrs v ts us l h = attributed_until b plain end attrs v ts us l h fn_kind
 leaf_by_until b plain end heads.Impl attrs v ts us l h = implementation_until b plain end attrs v ts us l h
-leaf_by_until b plain end heads.Trait attrs v ts us l h = attributed_until b plain end attrs v ts us l h trait_kind
 leaf_by_until b plain end heads.Struct attrs v ts us l h = structure_until b plain end attrs v ts us l h
-leaf_by_until b plain end heads.Union attrs v ts us l h = some_alike (block_item_local b union_kind attrs v ts us h)
-leaf_by_until b plain end heads.Enum attrs v ts us l h = some_alike (block_item_local b enum_kind attrs v ts us h)
 leaf_by_until b plain end heads.Const attrs v ts us l h = some_alike (constant_local b attrs v ts us h)
-leaf_by_until b plain end heads.Static attrs v ts us l h = some_alike (static_local b attrs v ts us h)
-leaf_by_until b plain end heads.TypeAlias attrs v ts us l h = some_alike (type_alias_local b attrs v ts us h)
-leaf_by_until b plain end heads.MacroDef attrs v ts us l h = some_alike (macro_def_local b attrs v ts us h)
+leaf_by_until b plain end (heads.Plain k) attrs v ts us l h = plain_until b plain end attrs v ts us l h k
 leaf_by_until b plain end heads.MacroRules attrs v ts us l h = some_alike (macro_definition_local b attrs ts us h)
 leaf_by_until b plain end _ attrs v ts us l h = item_call_until b plain end attrs v ts us l h
 

@@ -3,7 +3,7 @@ use Rattle.std.proofs.Common.{◌≡◌, ◌≤◌, ◌<◌, ℕ, suc, List, [],
 use Rattle.rust_items.proofs.Common.{AllZip, length-map, map-append, All-nil, EditionYear, FileAstId, ItemView, ItemViews, listed_module, listed_extern_block, no_items, item_and, items_of, syntax_view, UseTreeView, Tokens, tokens_of, at, LeadsTo, here, further, TextRange, tree_at, Numbers, ItemPlace, first_numbers, held_with_ids, with_ids, with_feeds, place_in, moved_span, places, items_in, trees_in, trees_within, preorder_of, preorder, left_behind, IsTreeAt, AreTreesIn, AreTreesOf, UsesAreTold}
 use Rattle.rust_items.proofs.FilePlaces.{id_kind, kinds, spans_moved, text_found}
 use Rattle.rust_items.proofs.LineEnds.{moved_place, place_rises_in, place_within}
-use Rattle.rust_items.proofs.Places.{place_kind, place_span}
+use Rattle.rust_items.proofs.FoundItems.{place_kind, place_span}
 use Rattle.rust_items.proofs.TreesRead.{IsRead}
 use Rattle.rust_items.proofs.UsesFound.{all_uses, each_uses, moved_uses}
 

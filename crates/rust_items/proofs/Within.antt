@@ -2,7 +2,7 @@
 use Rattle.std.proofs.Common.{◌≡◌, ◌<◌, ◌≤◌, ◌+◌, ℕ, Option, Some, None, List, [], ◌∷◌, length, ap, sym, subst, ◌∙◌, map, arith}
 use Rattle.rust_items.proofs.Common.{length-map, EditionYear, ItemViews, TextRange, ItemSpan, ItemPlace, Telling, IsBodyIn, IsNameIn, ArePlaces, nothing, placed, FileView, found_in, IsFile}
 use Rattle.rust_items.proofs.FilePlaces.{text_found}
-use Rattle.rust_items.proofs.Places.{row_kind, place_kind, place_span}
+use Rattle.rust_items.proofs.FoundItems.{row_kind, place_kind, place_span}
 
 -- a range up to this place
 abbrev pub IsIn : ℕ → TextRange → Type 0

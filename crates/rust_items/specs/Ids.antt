@@ -1,5 +1,5 @@
 -- Items with their ids, which are given in preorder.
-use Rattle.std.specs.Prelude.{List, [], ◌∷◌, Option, Some, None}
+use Rattle.std.specs.Prelude.{List, [], ◌∷◌}
 use Rattle.hir_input.specs.declared.ids.FileAstId.{FileAstId}
 use Rattle.hir_input.specs.Syntax.{NodeView, NamedView, UseView, CallView, ItemView, ItemViews, plain_item, const_item, struct_item, bare_module, listed_module, use_item, extern_crate, bare_extern_block, listed_extern_block, impl_item, macro_call, macro_rules, asm_item, no_items, item_and}
 use Rattle.rust_items.specs.declared.ids.Numbers.{Numbers}
@@ -75,7 +75,3 @@ each_with_ids with_own (x ∷ xs) ids =
 -- the same of a list
 abbrev pub list_with_ids : List ItemView → List FileAstId → List ItemView × List FileAstId
 list_with_ids = each_with_ids item_with_ids
-
-abbrev pub some_with_ids : Option (List ItemView) → List FileAstId → Option (List ItemView) × List FileAstId
-some_with_ids None ids = (None, ids)
-some_with_ids (Some is) ids = (Some (list_with_ids is ids).0, (list_with_ids is ids).1)

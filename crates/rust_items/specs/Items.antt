@@ -1,9 +1,10 @@
 -- Items: those of a list one after another, and those that hold others.
 use Rattle.std.specs.Prelude.{ℕ, zero, suc, ◌+◌, ◌-◌, Bool, true, false, not, ◌==◌, ◌&&◌, ◌||◌, if◌then◌else◌, Option, Some, None, is_none, option_to_list, List, [], ◌++◌}
+use Rattle.hir_input.specs.declared.ast.PlainKind.TheVariants as plain_kind
 use Rattle.hir_input.specs.declared.ids.AstIdKind.{AstIdKind}
 use Rattle.hir_input.specs.declared.ids.AstIdKind.TheVariants as kind
 use Rattle.hir_input.specs.Attr.{MetaView}
-use Rattle.hir_input.specs.Syntax.{ItemView, plain_item, fn_kind, static_kind, type_alias_kind, macro_call, module_from, extern_block_from}
+use Rattle.hir_input.specs.Syntax.{ItemView, plain_item, macro_call, module_from, extern_block_from}
 use Rattle.rust_cursor.specs.Tokens.{Tokens}
 use Rattle.rust_cursor.specs.Words.{symbol, at, eat, is_empty, is_at_end, bumped}
 use Rattle.rust_cursor.specs.Brackets.{behind_tree}
@@ -104,9 +105,9 @@ block_of turn f ts =
 
 -- what may stand in an extern block
 abbrev pub as_extern : ItemView → Option ItemView
-as_extern (plain_item fn_kind n) = Some (plain_item fn_kind n)
-as_extern (plain_item static_kind n) = Some (plain_item static_kind n)
-as_extern (plain_item type_alias_kind n) = Some (plain_item type_alias_kind n)
+as_extern (plain_item plain_kind.Fn n) = Some (plain_item plain_kind.Fn n)
+as_extern (plain_item plain_kind.Static n) = Some (plain_item plain_kind.Static n)
+as_extern (plain_item plain_kind.TypeAlias n) = Some (plain_item plain_kind.TypeAlias n)
 as_extern (macro_call c) = Some (macro_call c)
 as_extern _ = None
 

@@ -9,3 +9,8 @@ pub mod SourceFiles
 pub mod Places
 pub mod Uses
 pub mod Typed
+pub mod Members
+pub mod MemberParts
+pub mod MemberLists
+pub mod MemberPlaces
+pub mod MemberViews

@@ -2,25 +2,24 @@
 
 ghost use Rattle.std.specs.Prelude.{◌≡◌, [], length, IfOk, OnOk, map, option_map};
 ghost use Rattle.hir_input.specs.Attr.{meta_view};
-ghost use Rattle.hir_input.specs.Syntax.{block_view, call_view, item_view, items_of, stmt_view, tail_view};
+ghost use Rattle.hir_input.specs.Syntax.{block_view, item_view, items_of, stmt_view, tail_view};
 ghost use Rattle.rust_leaves.specs.Views.{call_read_view, front_view};
 ghost use Rattle.rust_items.specs.Blocks as spec;
 ghost use Rattle.rust_items.specs.Found.{Finds, log_view};
 ghost use Rattle.rust_items.specs.LineEnds.{place_by};
 ghost use Rattle.rust_items.specs.Places.{ArePlaces, IsWritten};
-ghost use Rattle.rust_items.specs.Views.{body_view, block_part_view, supply_view};
+ghost use Rattle.rust_items.specs.Views.{body_view, block_part_view};
 
 use crate::externs::is_list_end;
-use crate::ids::{Supply, item_with_ids};
+use crate::ids::{Supply, number_stmts, number_tail};
 use crate::items::{MOST_DEPTH, behind_front};
 use crate::line_ends::{LineEnds, has_return, with_feeds};
 use crate::log::{Log, Problem, ProblemKind};
-use crate::source_file::{ItemPlace, places};
+use crate::source_file::{ItemPlace, ids_of, places};
 use crate::turn::{Extent, push_item};
-use hir_input::ast::{BlockExpr, Item, MacroCall, Stmt, Tail};
+use hir_input::ast::{BlockExpr, Item, Stmt, Tail};
 use hir_input::{AstIdKind, EditionYear, Meta};
 use rust_cursor::Cursor;
-use rust_ids::assign;
 use rust_leaves::{
     Call, Wanted, WantedMetas, front_behind, is_item, pass_statement, statement_call,
 };
@@ -285,54 +284,6 @@ fn parts<'t>(
     Ok(body)
 }
 
-fn call_with_id(mut node: MacroCall, supply: &mut Supply<'_>) -> MacroCall
-    ensures { (spec.call_with_id (call_view node) (supply_view supply.old))
-        ≡ (call_view result, supply_view supply.new) }
-{
-    let id = supply.take();
-    node.hash = id.hash;
-    node.number = id.number;
-    node
-}
-
-fn stmt_with_ids(alloc: Global, stmt: Stmt, supply: &mut Supply<'_>) -> Result<Stmt, AllocError>
-    ensures { IfOk result (λ made. spec.stmt_with_ids (stmt_view stmt) (supply_view supply.old)
-        ≡ (stmt_view made, supply_view supply.new)) }
-{
-    match stmt {
-        Stmt::Item(item) => Ok(Stmt::Item(item_with_ids(alloc, item, supply)?)),
-        Stmt::MacroCall(node) => Ok(Stmt::MacroCall(call_with_id(node, supply))),
-        Stmt::Other => Ok(Stmt::Other),
-    }
-}
-
-#[tactic(auto, using(crate::proofs::Parts::one_more, crate::proofs::Numbering::no_more))]
-fn stmts_with_ids(
-    alloc: Global,
-    stmts: Vec<Stmt>,
-    supply: &mut Supply<'_>,
-) -> Result<Vec<Stmt>, AllocError>
-    ensures { IfOk result (λ v. spec.stmts_with_ids (map stmt_view stmts.items)
-        (supply_view supply.old) ≡ (map stmt_view v.items, supply_view supply.new)) }
-{
-    let mut numbered = Vec::with_capacity(alloc, stmts.len())?;
-    for stmt in stmts {
-        let stmt = stmt_with_ids(alloc, stmt, supply)?;
-        numbered.push(stmt)?;
-    }
-    Ok(numbered)
-}
-
-fn tail_with_id(tail: Tail, supply: &mut Supply<'_>) -> Tail
-    ensures { tail_view result ≡ spec.tail_with_id (tail_view tail) (supply_view supply.old) }
-{
-    match tail {
-        Tail::MacroCall(node) => Tail::MacroCall(call_with_id(node, supply)),
-        Tail::Nothing => Tail::Nothing,
-        Tail::Other => Tail::Other,
-    }
-}
-
 /// What was read of a block.
 #[derive(Debug, Drop)]
 pub struct SourceBlock {
@@ -358,14 +309,17 @@ fn block_of(
     let is_top = !cursor.eat(b'{');
     let attrs = inner_attributes(alloc, &mut cursor)?;
     let mut log = Log::new(alloc);
-    let body = parts(alloc, &mut cursor, is_top, &mut log)?;
+    let Body {
+        mut stmts,
+        mut tail,
+    } = parts(alloc, &mut cursor, is_top, &mut log)?;
     log.push_problem_at(ProblemKind::Unterminated, cursor.unended())?;
-    let ids = assign(alloc, &log.rows)?;
+    let ids = ids_of(alloc, log.rows)?;
     let places = places(alloc, &ids, &log.spans, ends)?;
     let problems = ends.problems(alloc, &log.problems)?;
     let mut supply = Supply { rest: &ids };
-    let stmts = stmts_with_ids(alloc, body.stmts, &mut supply)?;
-    let tail = tail_with_id(body.tail, &mut supply);
+    number_stmts(&mut stmts, &mut supply);
+    number_tail(&mut tail, &mut supply);
     Ok(SourceBlock {
         block: BlockExpr { attrs, stmts, tail },
         places,

@@ -13,10 +13,10 @@ ghost use Rattle.rust_items.specs.Items as spec;
 ghost use Rattle.rust_items.specs.Views.{extern_inside_view};
 
 use crate::log::{Log, ProblemKind};
-use crate::turn::{Extent, push_item, push_some};
+use crate::turn::{Extent, push_item};
 use hir_input::ast::{ExternBlock, ExternItem, Item};
 use hir_input::{AstIdKind, Meta};
-use rust_cursor::Cursor;
+use rust_cursor::{Cursor, push_some};
 use rust_leaves::{Front, Leaf, Wanted, joined, pass_others, take_leaf, wanted_front};
 use rust_metas::kept_inner_attributes;
 use std::alloc::{AllocError, Global};

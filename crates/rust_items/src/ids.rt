@@ -1,13 +1,13 @@
-//! Gives the items of a file their ids.
+//! Gives the items of a file their ids, where they stand.
 
-ghost use Rattle.std.specs.Prelude.{◌≡◌, IfOk, map, option_map};
-ghost use Rattle.hir_input.specs.Syntax.{item_view, module_view, extern_block_view, extern_item_view};
+ghost use Rattle.std.specs.Prelude.{◌≡◌, map};
+ghost use Rattle.hir_input.specs.Syntax.{call_view, extern_block_view, extern_item_view, item_view, module_view, named_view, stmt_view, tail_view};
+ghost use Rattle.rust_items.specs.Blocks as blocks;
 ghost use Rattle.rust_items.specs.Ids as spec;
 ghost use Rattle.rust_items.specs.Views.{supply_view};
 
 use hir_input::FileAstId;
-use hir_input::ast::{ExternBlock, ExternItem, Item, Module};
-use std::alloc::{AllocError, Global};
+use hir_input::ast::{ExternBlock, ExternItem, Item, MacroCall, Module, NamedNode, Stmt, Tail};
 
 /// The hash and the number of an id.
 #[derive(Clone, Copy)]
@@ -39,179 +39,139 @@ impl<'a> Supply<'a> {
     }
 }
 
-/// A node with the hash and the number of an id.
-macro_rules! with_id {
+/// Gives a node the hash and the number of an id.
+macro_rules! set_id {
     ($node:ident, $id:ident) => {{
         $node.hash = $id.hash;
         $node.number = $id.number;
-        $node
     }};
 }
 
+fn number_named(node: &mut NamedNode, id: Numbers)
+    ensures { named_view node.new ≡ spec.numbered_named id (named_view node.old) }
+{
+    set_id!(node, id);
+}
+
 #[tactic(auto, using(hir_input::proofs::SyntaxViews::item_views))]
-fn numbered_extern(item: ExternItem, id: Numbers) -> ExternItem
-    ensures { extern_item_view result ≡ spec.numbered id (extern_item_view item) }
+fn number_extern(item: &mut ExternItem, id: Numbers)
+    ensures { extern_item_view item.new ≡ spec.numbered id (extern_item_view item.old) }
 {
     match item {
-        ExternItem::Fn(mut node) => ExternItem::Fn(with_id!(node, id)),
-        ExternItem::MacroCall(mut node) => ExternItem::MacroCall(with_id!(node, id)),
-        ExternItem::Static(mut node) => ExternItem::Static(with_id!(node, id)),
-        ExternItem::TypeAlias(mut node) => ExternItem::TypeAlias(with_id!(node, id)),
+        ExternItem::Fn(node) => set_id!(node, id),
+        ExternItem::MacroCall(node) => set_id!(node, id),
+        ExternItem::Static(node) => set_id!(node, id),
+        ExternItem::TypeAlias(node) => set_id!(node, id),
     }
 }
 
-#[tactic(auto, using(crate::proofs::Numbering::one_more, crate::proofs::Numbering::no_more))]
-fn extern_items(
-    alloc: Global,
-    items: Vec<ExternItem>,
-    supply: &mut Supply<'_>,
-) -> Result<Vec<ExternItem>, AllocError>
-    ensures { IfOk result (λ v. spec.list_with_ids (map extern_item_view items.items)
-        (supply_view supply.old) ≡ (map extern_item_view v.items, supply_view supply.new)) }
+fn number_externs(items: &mut [ExternItem], supply: &mut Supply<'_>)
+    ensures { spec.list_with_ids (map extern_item_view items.old) (supply_view supply.old)
+        ≡ (map extern_item_view items.new, supply_view supply.new) }
 {
-    let mut numbered = Vec::with_capacity(alloc, items.len())?;
-    for item in items {
+    for item in items.iter_mut() {
         let id = supply.take();
-        numbered.push(numbered_extern(item, id))?;
-    }
-    Ok(numbered)
-}
-
-fn some_extern_items(
-    alloc: Global,
-    items: Option<Vec<ExternItem>>,
-    supply: &mut Supply<'_>,
-) -> Result<Option<Vec<ExternItem>>, AllocError>
-    ensures { IfOk result (λ made. spec.some_with_ids
-        (option_map (λ v. map extern_item_view v.items) items) (supply_view supply.old)
-        ≡ (option_map (λ v. map extern_item_view v.items) made, supply_view supply.new)) }
-{
-    match items {
-        Some(items) => Ok(Some(extern_items(alloc, items, supply)?)),
-        None => Ok(None),
+        number_extern(item, id);
     }
 }
 
-#[tactic(auto, using(hir_input::proofs::SyntaxViews::item_views, crate::proofs::Numbering::extern_made))]
-fn extern_block_with_ids(
-    alloc: Global,
-    block: ExternBlock,
-    id: Numbers,
-    supply: &mut Supply<'_>,
-) -> Result<Item, AllocError>
-    ensures { IfOk result (λ made. spec.held_with_ids id (extern_block_view block)
-        (supply_view supply.old) ≡ (item_view made, supply_view supply.new)) }
+#[tactic(auto, using(hir_input::proofs::SyntaxViews::item_views))]
+fn number_extern_block(block: &mut ExternBlock, id: Numbers, supply: &mut Supply<'_>)
+    ensures { spec.held_with_ids id (extern_block_view block.old) (supply_view supply.old)
+        ≡ (extern_block_view block.new, supply_view supply.new) }
 {
-    let ExternBlock {
-        attrs,
-        items,
-        body,
-        ..
-    } = block;
-    let items = some_extern_items(alloc, items, supply)?;
-    Ok(Item::ExternBlock(ExternBlock {
-        hash: id.hash,
-        number: id.number,
-        attrs,
-        items,
-        body,
-    }))
-}
-
-#[cycle(ids)]
-#[tactic(auto, using(hir_input::proofs::SyntaxViews::item_views, crate::proofs::Numbering::module_fields, crate::proofs::Numbering::module_listed))]
-fn module_with_ids(
-    alloc: Global,
-    node: Module,
-    id: Numbers,
-    supply: &mut Supply<'_>,
-) -> Result<Item, AllocError>
-    ensures { IfOk result (λ made. spec.held_with_ids id (module_view node) (supply_view supply.old)
-        ≡ (item_view made, supply_view supply.new)) }
-{
-    let Module {
-        attrs,
-        name,
-        visibility,
-        semicolon,
-        items,
-        body,
-        ..
-    } = node;
-    match items {
-        Some(items) => {
-            let items = items_with_ids(alloc, items, supply)?;
-            Ok(Item::Module(Module {
-                hash: id.hash,
-                number: id.number,
-                attrs,
-                name,
-                visibility,
-                semicolon,
-                items: Some(items),
-                body,
-            }))
-        }
-        None => Ok(Item::Module(Module {
-            hash: id.hash,
-            number: id.number,
-            attrs,
-            name,
-            visibility,
-            semicolon,
-            items: None,
-            body,
-        })),
+    set_id!(block, id);
+    if let Some(items) = &mut block.items {
+        number_externs(items, supply);
     }
 }
 
 #[cycle(ids)]
 #[tactic(auto, using(hir_input::proofs::SyntaxViews::item_views))]
-pub(crate) fn item_with_ids(
-    alloc: Global,
-    item: Item,
-    supply: &mut Supply<'_>,
-) -> Result<Item, AllocError>
-    ensures { IfOk result (λ made. spec.item_with_ids (item_view item) (supply_view supply.old)
-        ≡ (item_view made, supply_view supply.new)) }
+fn number_module(node: &mut Module, id: Numbers, supply: &mut Supply<'_>)
+    ensures { spec.held_with_ids id (module_view node.old) (supply_view supply.old)
+        ≡ (module_view node.new, supply_view supply.new) }
+{
+    set_id!(node, id);
+    if let Some(items) = &mut node.items {
+        number_items(items, supply);
+    }
+}
+
+#[cycle(ids)]
+#[tactic(auto, using(hir_input::proofs::SyntaxViews::item_views))]
+pub(crate) fn number_item(item: &mut Item, supply: &mut Supply<'_>)
+    ensures { spec.item_with_ids (item_view item.old) (supply_view supply.old)
+        ≡ (item_view item.new, supply_view supply.new) }
 {
     let id = supply.take();
     match item {
-        Item::Module(node) => module_with_ids(alloc, node, id, supply),
-        Item::ExternBlock(node) => extern_block_with_ids(alloc, node, id, supply),
-        Item::Const(mut node) => Ok(Item::Const(with_id!(node, id))),
-        Item::Enum(mut node) => Ok(Item::Enum(with_id!(node, id))),
-        Item::ExternCrate(mut node) => Ok(Item::ExternCrate(with_id!(node, id))),
-        Item::Fn(mut node) => Ok(Item::Fn(with_id!(node, id))),
-        Item::Impl(mut node) => Ok(Item::Impl(with_id!(node, id))),
-        Item::MacroCall(mut node) => Ok(Item::MacroCall(with_id!(node, id))),
-        Item::MacroDef(mut node) => Ok(Item::MacroDef(with_id!(node, id))),
-        Item::MacroRules(mut node) => Ok(Item::MacroRules(with_id!(node, id))),
-        Item::Static(mut node) => Ok(Item::Static(with_id!(node, id))),
-        Item::Struct(mut node) => Ok(Item::Struct(with_id!(node, id))),
-        Item::Trait(mut node) => Ok(Item::Trait(with_id!(node, id))),
-        Item::TypeAlias(mut node) => Ok(Item::TypeAlias(with_id!(node, id))),
-        Item::Union(mut node) => Ok(Item::Union(with_id!(node, id))),
-        Item::Use(mut node) => Ok(Item::Use(with_id!(node, id))),
-        Item::AsmExpr(node) => Ok(Item::AsmExpr(node)),
+        Item::Module(node) => number_module(node, id, supply),
+        Item::ExternBlock(node) => number_extern_block(node, id, supply),
+        Item::Const(node) => number_named(node, id),
+        Item::Enum(node) => number_named(node, id),
+        Item::ExternCrate(node) => set_id!(node, id),
+        Item::Fn(node) => number_named(node, id),
+        Item::Impl(node) => set_id!(node, id),
+        Item::MacroCall(node) => set_id!(node, id),
+        Item::MacroDef(node) => number_named(node, id),
+        Item::MacroRules(node) => set_id!(node, id),
+        Item::Static(node) => number_named(node, id),
+        Item::Struct(node) => set_id!(node, id),
+        Item::Trait(node) => number_named(node, id),
+        Item::TypeAlias(node) => number_named(node, id),
+        Item::Union(node) => number_named(node, id),
+        Item::Use(node) => set_id!(node, id),
+        Item::AsmExpr(_) => {}
     }
 }
 
-/// The items with their ids, which are given in preorder.
+/// Gives items their ids, in preorder.
 #[cycle(ids)]
-#[tactic(auto, using(crate::proofs::Numbering::one_more, crate::proofs::Numbering::no_more))]
-pub(crate) fn items_with_ids(
-    alloc: Global,
-    items: Vec<Item>,
-    supply: &mut Supply<'_>,
-) -> Result<Vec<Item>, AllocError>
-    ensures { IfOk result (λ v. spec.list_with_ids (map item_view items.items)
-        (supply_view supply.old) ≡ (map item_view v.items, supply_view supply.new)) }
+pub(crate) fn number_items(items: &mut [Item], supply: &mut Supply<'_>)
+    ensures { spec.list_with_ids (map item_view items.old) (supply_view supply.old)
+        ≡ (map item_view items.new, supply_view supply.new) }
 {
-    let mut numbered = Vec::with_capacity(alloc, items.len())?;
-    for item in items {
-        let item = item_with_ids(alloc, item, supply)?;
-        numbered.push(item)?;
+    for item in items.iter_mut() {
+        number_item(item, supply);
     }
-    Ok(numbered)
+}
+
+/// Gives a macro call its id.
+fn number_call(node: &mut MacroCall, supply: &mut Supply<'_>)
+    ensures { blocks.call_with_id (call_view node.old) (supply_view supply.old)
+        ≡ (call_view node.new, supply_view supply.new) }
+{
+    let id = supply.take();
+    set_id!(node, id);
+}
+
+fn number_stmt(stmt: &mut Stmt, supply: &mut Supply<'_>)
+    ensures { blocks.stmt_with_ids (stmt_view stmt.old) (supply_view supply.old)
+        ≡ (stmt_view stmt.new, supply_view supply.new) }
+{
+    match stmt {
+        Stmt::Item(item) => number_item(item, supply),
+        Stmt::MacroCall(node) => number_call(node, supply),
+        Stmt::Other => {}
+    }
+}
+
+/// Gives statements their ids, in preorder.
+pub(crate) fn number_stmts(stmts: &mut [Stmt], supply: &mut Supply<'_>)
+    ensures { blocks.stmts_with_ids (map stmt_view stmts.old) (supply_view supply.old)
+        ≡ (map stmt_view stmts.new, supply_view supply.new) }
+{
+    for stmt in stmts.iter_mut() {
+        number_stmt(stmt, supply);
+    }
+}
+
+/// Gives what stands behind the last statement its id.
+pub(crate) fn number_tail(tail: &mut Tail, supply: &mut Supply<'_>)
+    ensures { tail_view tail.new ≡ blocks.tail_with_id (tail_view tail.old) (supply_view supply.old) }
+{
+    if let Tail::MacroCall(node) = tail {
+        number_call(node, supply);
+    }
 }

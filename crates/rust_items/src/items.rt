@@ -13,10 +13,10 @@ ghost use Rattle.rust_leaves.specs.Views.{front_view, name_view};
 
 use crate::externs::{extern_block, is_list_end};
 use crate::log::{Log, ProblemKind};
-use crate::turn::{Extent, leaf_turn, push_item, push_some};
+use crate::turn::{Extent, leaf_turn, push_item};
 use hir_input::ast::{Item, Module};
 use hir_input::{AstIdKind, Meta, Name};
-use rust_cursor::Cursor;
+use rust_cursor::{Cursor, push_some};
 use rust_leaves::{Front, Head, Named, Wanted, item_name, joined, wanted_front};
 use rust_metas::kept_inner_attributes;
 use std::alloc::{AllocError, Global};

@@ -4,16 +4,19 @@ ghost use Rattle.hir_input.specs.Equality.{DecidesEq, IsCopied};
 ghost use Rattle.rust_items.specs.Uses.{UsesAreTold};
 
 use crate::log::{Problem, ProblemKind};
+use crate::member::MemberKind;
 use crate::source_file::ItemPlace;
 
 fn equal_values()
     ensures kinds { DecidesEq ⟦<ProblemKind as PartialEq>⟧.eq }
+    ensures members { DecidesEq ⟦<MemberKind as PartialEq>⟧.eq }
     ensures problems { DecidesEq ⟦<Problem as PartialEq>⟧.eq }
     ensures places { DecidesEq ⟦<ItemPlace as PartialEq>⟧.eq }
 {}
 
 fn copies()
     ensures kinds { IsCopied ⟦<ProblemKind as Clone>⟧.is_clone }
+    ensures members { IsCopied ⟦<MemberKind as Clone>⟧.is_clone }
     ensures problems { IsCopied ⟦<Problem as Clone>⟧.is_clone }
     ensures places { IsCopied ⟦<ItemPlace as Clone>⟧.is_clone }
 {}

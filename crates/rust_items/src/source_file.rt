@@ -3,6 +3,7 @@
 ghost use Rattle.std.specs.Prelude.{◌≡◌, ◌≢◌, ◌≤◌, ◌^◌, [], true, length, AllPairs, IfOk, OnOk, map};
 ghost use Rattle.hir_input.specs.Syntax.{item_view, items_of, syntax_view};
 ghost use Rattle.rust_leaves.specs.Clipped.{with_value};
+ghost use Rattle.rust_ids.specs.Ids.{AreIds};
 ghost use Rattle.rust_items.specs.Clipped.{clipped_items};
 ghost use Rattle.rust_items.specs.Found.{Finds, log_view};
 ghost use Rattle.rust_items.specs.Items as found;
@@ -11,14 +12,14 @@ ghost use Rattle.rust_items.specs.Places.{ArePlaces, IsWritten};
 ghost use Rattle.rust_items.specs.SourceFiles as spec;
 ghost use Rattle.rust_items.specs.Views.{reading_file};
 
-use crate::ids::{Supply, items_with_ids};
+use crate::ids::{Supply, number_items};
 use crate::items::{MOST_DEPTH, items};
 use crate::line_ends::{LineEnds, has_return, with_feeds};
 use crate::log::{ItemSpan, Log, Problem, ProblemKind};
 use hir_input::ast::{Item, Syntax};
 use hir_input::{EditionYear, FileAstId, Meta};
 use rust_cursor::Cursor;
-use rust_ids::assign;
+use rust_ids::{Node, assign};
 use rust_leaves::{Wanted, WantedMetas};
 use rust_metas::kept_inner_attributes;
 use rust_paths::TextRange;
@@ -82,6 +83,13 @@ pub(crate) fn places(
     Ok(places)
 }
 
+/// The ids of rows. The rows are let go, so that they take no memory while the places are made.
+pub(crate) fn ids_of(alloc: Global, rows: Vec<Node<'_>>) -> Result<Vec<FileAstId>, AllocError>
+    ensures { IfOk result (λ ids. AreIds rows.items ids.items) }
+{
+    assign(alloc, &rows)
+}
+
 /// What was read of a text, before its items are a syntax.
 #[derive(Drop)]
 pub(crate) struct Reading {
@@ -122,14 +130,14 @@ fn reading_of(
     let mut cursor = Cursor::new(text, edition);
     let attrs = kept_inner_attributes(alloc, &mut cursor, wanted.metas)?;
     let mut log = Log::new(alloc);
-    let items = top_items(alloc, &mut cursor, wanted, &mut log)?;
+    let mut items = top_items(alloc, &mut cursor, wanted, &mut log)?;
     log.push_problem_at(ProblemKind::Unterminated, cursor.unended())?;
-    let ids = assign(alloc, &log.rows)?;
+    let ids = ids_of(alloc, log.rows)?;
     let places = places(alloc, &ids, &log.spans, ends)?;
     let use_trees = ends.places(alloc, &log.use_trees)?;
     let problems = ends.problems(alloc, &log.problems)?;
     let mut supply = Supply { rest: &ids };
-    let items = items_with_ids(alloc, items, &mut supply)?;
+    number_items(&mut items, &mut supply);
     Ok(Reading {
         attrs,
         items,

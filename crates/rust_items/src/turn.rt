@@ -1,6 +1,6 @@
 //! What an item leaves in the log, and items that hold none.
 
-ghost use Rattle.std.specs.Prelude.{◌≡◌, ◌++◌, IfOk, OnOk, option_map, option_to_list};
+ghost use Rattle.std.specs.Prelude.{◌≡◌, IfOk, OnOk, option_map};
 ghost use Rattle.hir_input.specs.Syntax.{item_view};
 ghost use Rattle.rust_leaves.specs.Views.{front_view, leaf_view};
 ghost use Rattle.rust_items.specs.Clipped.{wanted_behind};
@@ -150,15 +150,4 @@ pub(crate) fn leaf_turn<'t>(
             Ok(None)
         }
     }
-}
-
-/// Adds an item to a list, if there is one.
-pub(crate) fn push_some<T: Drop>(items: &mut Vec<T>, item: Option<T>) -> Result<(), AllocError>
-    ensures { OnOk result (items.new.items ≡ items.old.items ++ option_to_list item) }
-{
-    let Some(item) = item else {
-        return Ok(());
-    };
-    items.push(item)?;
-    Ok(())
 }

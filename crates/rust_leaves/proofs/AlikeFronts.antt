@@ -1,6 +1,6 @@
 -- What stands before an item's own parts is the same of tokens that look alike, until one goes past where the texts part.
 use Rattle.std.proofs.Common.{◌≡◌, ◌==◌, ℕ, zero, suc, Bool, true, false, List, [], refl, sym, ap, subst, ◌∙◌, codes, if◌then◌else◌, bytes_eq, ◌&&◌}
-use Rattle.rust_leaves.proofs.Common.{and_parts, behind_tree, is_segment, Tokens, symbol, word, kind, is_at_identifier, is_pair, eat, eat_pair, bumped, LeadsTo, here, through, when, behind_tree_leads, bumped_leads, has_name, Head, behind_abi, is_modifier_before, is_modifier, behind_modifier, behind_modifiers_from, behind_modifiers, extern_head, macro_rules_head, union_head, head_by, behind_head, head, is_union, is_path_word, begins_path, behind_segments_from, behind_segments, is_called, is_called_here, begins_call, is_at_first, may_begin, is_behind_others, behind_other, behind_others_from, behind_others, follows_async, is_gen_modifier, is_weak_before, is_weak_modifier}
+use Rattle.rust_leaves.proofs.Common.{and_parts, behind_tree, is_segment, Tokens, symbol, word, kind, is_at_identifier, is_pair, eat, eat_pair, bumped, LeadsTo, here, through, when, behind_tree_leads, bumped_leads, has_name, Head, behind_abi, is_modifier_before, is_modifier, behind_modifier, behind_modifiers_from, behind_modifiers, extern_head, macro_rules_head, head_by, behind_head, head, is_union, is_path_word, begins_path, behind_segments_from, behind_segments, is_called, is_called_here, begins_call, is_at_first, may_begin, is_behind_others, behind_other, behind_others_from, behind_others, follows_async, is_gen_modifier, is_weak_before, is_weak_modifier}
 use Rattle.rust_cursor.proofs.Parting.{Onward, on, kept, Parting, Until, UpTo, onward_leads, cond_onward}
 use Rattle.rust_cursor.proofs.Twins.{is_edge, symbol_same, word_same, kind_same, identifier_same, open_same, end_same, doc_same, pair_same, edge_word, edge_identifier, edge_test, after_word, after_symbol, after_pair}
 use Rattle.rust_cursor.proofs.Tests.{begins_item_same}
@@ -96,21 +96,13 @@ rules_same b ts us h =
     (λ e. rw (symbol_same b.twins ts us h, identifier_same b.twins (bumped ts) (bumped us) (after_symbol b.twins 33 ts us refl h e)) refl)
     (λ e. rw (symbol_same b.twins ts us h, e) refl)
 
-union_same : (b : Parting) (ts us : Tokens) → b.twins.are ts us → union_head us ≡ union_head ts
-unfolding union_head
-union_same b ts us h = rw (has_name_same b ts us h) refl
-
 by_same : (b : Parting) (w : List ℕ) (ts us : Tokens) → b.twins.are ts us → head_by w us ≡ head_by w ts
 unfolding head_by
-by_same b w ts us h = rw (extern_same b ts us h, rules_same b ts us h, union_same b ts us h) refl
+by_same b w ts us h = rw (extern_same b ts us h, rules_same b ts us h, has_name_same b ts us h) refl
 
 module _ (b : Parting) (ts us : Tokens) (h : b.twins.are ts us) (n : b.twins.are (bumped ts) (bumped us)) where
   abbrev Next : Head → Type 0
   Next k = b.twins.are (behind_head k ts) (behind_head k us)
-
-  union_next : Next (union_head (bumped ts))
-  unfolding union_head
-  union_next = pick Next (has_name (bumped ts)) n h
 
   rules_next : Next (macro_rules_head (bumped ts))
   unfolding macro_rules_head
@@ -131,7 +123,7 @@ module _ (b : Parting) (ts us : Tokens) (h : b.twins.are ts us) (n : b.twins.are
   head_next w =
       pick Next (bytes_eq w (codes "use")) n (pick Next (bytes_eq w (codes "fn")) n (pick Next (bytes_eq w (codes "impl")) n (pick Next (bytes_eq w (codes "trait")) n
       (pick Next (bytes_eq w (codes "struct")) n (pick Next (bytes_eq w (codes "enum")) n (pick Next (bytes_eq w (codes "const")) n (pick Next (bytes_eq w (codes "static")) n
-      (pick Next (bytes_eq w (codes "type")) n (pick Next (bytes_eq w (codes "mod")) n (pick Next (bytes_eq w (codes "macro")) n (pick Next (bytes_eq w (codes "union")) union_next
+      (pick Next (bytes_eq w (codes "type")) n (pick Next (bytes_eq w (codes "mod")) n (pick Next (bytes_eq w (codes "macro")) n (pick Next (bytes_eq w (codes "union")) (pick Next (has_name (bumped ts)) n h)
       (pick Next (bytes_eq w (codes "macro_rules")) rules_next (pick Next (bytes_eq w (codes "extern")) extern_next h)))))))))))))
 
 no_head : (behind : Tokens) → head_by [] behind ≡ heads.Other

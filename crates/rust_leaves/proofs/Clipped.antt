@@ -2,11 +2,12 @@
 use Rattle.std.proofs.Common.{◌≡◌, ◌==◌, ◌&&◌, ℕ, Bool, true, false, Option, Some, None, List, [], ◌++◌, refl, sym, ap, ◌∙◌, append-nil, if◌then◌else◌, is_some, codes}
 use Rattle.hir_input.specs.declared.ids.AstIdKind.TheVariants as kind
 use Rattle.hir_input.specs.declared.ast.PathNode.{PathNode}
-use Rattle.rust_leaves.proofs.Common.{Visibility, MetaView, fn_kind, trait_kind, const_item, struct_item, impl_item, macro_rules, Tokens, Reader, when, symbol, at, eat_word, bumped, is_at_open, clipped, kept_text, item_rest, impl_rest, macro_rest, value_rest, tree_body, Head, RestRead, LeafRead, no_name, named, named_or, rest_read, bare_end, semicolon_end, item_end, impl_end, macro_end, value_end, call_end, block_attributes, struct_fields, has_trait, node, named_node, leaf_read, plain_read, plain_kind, plain_end, plain_leaf, function, union_item, enumeration, trait_item, macro_def, type_alias, static_value, constant, structure, implementation, macro_definition, crate_item, use_declaration, begins_call, is_called, called, call_behind, some_read, invocation, item_call, leaf_by, leaf, bare, last_text}
+use Rattle.rust_leaves.proofs.Common.{Visibility, MetaView, const_item, struct_item, impl_item, macro_rules, Tokens, Reader, when, symbol, at, eat_word, bumped, is_at_open, clipped, kept_text, ExcerptRead, tree_body, Head, RestRead, LeafRead, no_name, named, named_or, rest_read, bare_end, semicolon_end, rest_by, rest_of, call_end, block_attributes, struct_fields, has_trait, node, named_node, leaf_read, plain_read, mut_word, own_attributes, plain_leaf, PlainKind, constant, structure, implementation, macro_definition, crate_item, use_declaration, begins_call, is_called, called, call_behind, some_read, invocation, item_call, leaf_by, leaf, bare, last_text}
 use Rattle.rust_paths.specs.Paths.{path}
 use Rattle.rust_metas.specs.Attributes.{outer_attributes}
 use Rattle.rust_metas.specs.Docs.{kept_metas}
 use Rattle.rust_metas.proofs.Kept.{kept_append, kept_none}
+use Rattle.rust_metas.specs.declared.wanted.WantedMetas.{WantedMetas}
 use Rattle.rust_metas.specs.declared.wanted.WantedMetas.TheVariants as wanted
 use Rattle.rust_leaves.specs.declared.head.Head.TheVariants as head
 use Rattle.rust_leaves.specs.declared.wanted.Wanted.{Wanted}
@@ -20,21 +21,9 @@ with_if change false x y = refl
 
 -- ---- ends
 
-pub item_end_clipped : (keeps : Bool) (ts : Tokens) → with_value (clipped_rest keeps) (item_end ts) ≡ (let r = clipped keeps (item_rest ts) in (rest_read r.0 r.1.past, r.1))
-unfolding with_value item_end clipped_rest
-item_end_clipped keeps ts = refl
-
-pub impl_end_clipped : (keeps : Bool) (ts : Tokens) → with_value (clipped_rest keeps) (impl_end ts) ≡ (let r = clipped keeps (impl_rest ts) in (rest_read r.0 r.1.past, r.1))
-unfolding with_value impl_end clipped_rest
-impl_end_clipped keeps ts = refl
-
-pub macro_end_clipped : (keeps : Bool) (ts : Tokens) → with_value (clipped_rest keeps) (macro_end ts) ≡ (let r = clipped keeps (macro_rest ts) in (rest_read r.0 r.1.past, r.1))
-unfolding with_value macro_end clipped_rest
-macro_end_clipped keeps ts = refl
-
-pub value_end_clipped : (keeps : Bool) (ts : Tokens) → with_value (clipped_rest keeps) (value_end ts) ≡ (let r = clipped keeps (value_rest ts) in (rest_read r.0 r.1.past, r.1))
-unfolding with_value value_end clipped_rest
-value_end_clipped keeps ts = refl
+pub rest_clipped : (keeps : Bool) (taken : Reader ExcerptRead) (ts : Tokens) → with_value (clipped_rest keeps) (rest_by taken ts) ≡ (let r = clipped keeps (taken ts) in (rest_read r.0 r.1.past, r.1))
+unfolding with_value rest_by clipped_rest
+rest_clipped keeps taken ts = refl
 
 ended_clipped : (keeps is_open is_brace : Bool) (ts : Tokens)
     → with_value (clipped_rest keeps) (if is_open then (if is_brace then (rest_read (tree_body ts).0 (tree_body ts).1.past, (tree_body ts).1) else semicolon_end (tree_body ts).0 (tree_body ts).1) else (bare_end false, ts))
@@ -56,52 +45,37 @@ abbrev pub up_to : Bool → Reader RestRead → Reader RestRead
 up_to keeps end ts = with_value (clipped_rest keeps) (end ts)
 
 -- an item that has no attributes of its own
-none_behind : (w : Wanted) (attrs : List MetaView) → attrs ++ kept_metas w.metas [] ≡ attrs
-none_behind w attrs = ap (λ ms. attrs ++ ms) (kept_none w.metas) ∙ append-nil attrs
+pub none_behind : (w : WantedMetas) (attrs : List MetaView) → attrs ++ kept_metas w [] ≡ attrs
+none_behind w attrs = ap (λ ms. attrs ++ ms) (kept_none w) ∙ append-nil attrs
 
 at_none : {A : Type 0} (w : Wanted) (attrs : List MetaView) (made : List MetaView → A) → made (attrs ++ kept_metas w.metas []) ≡ made attrs
-at_none w attrs made = ap made (none_behind w attrs)
+at_none w attrs made = ap made (none_behind w.metas attrs)
 
 pub text_none : (keeps : Bool) → kept_text keeps [] ≡ []
 text_none true = refl
 text_none false = refl
 
-pub function_clipped : (w : Wanted) (attrs : List MetaView) (visibility : Option Visibility) (ts : Tokens) → with_value (wanted_leaf w attrs) (function [] visibility ts)
-    ≡ (let n = named ts in let r = up_to w.bodies item_end n.1 in (plain_read fn_kind (attrs ++ kept_metas w.metas (block_attributes r.0.block)) visibility n.0 r.0, r.1))
-unfolding with_value function clipped_rest wanted_leaf wanted_item
-function_clipped w attrs visibility ts = refl
-
-pub trait_clipped : (w : Wanted) (attrs : List MetaView) (visibility : Option Visibility) (ts : Tokens) → with_value (wanted_leaf w attrs) (trait_item [] visibility ts)
-    ≡ (let n = named ts in let r = up_to w.bodies item_end n.1 in (plain_read trait_kind (attrs ++ kept_metas w.metas (block_attributes r.0.block)) visibility n.0 r.0, r.1))
-unfolding with_value trait_item clipped_rest wanted_leaf wanted_item
-trait_clipped w attrs visibility ts = refl
-
 pub implementation_clipped : (w : Wanted) (attrs : List MetaView) (ts : Tokens) → with_value (wanted_leaf w attrs) (implementation [] ts)
-    ≡ (let r = up_to w.bodies impl_end ts in (leaf_read (impl_item (node (attrs ++ kept_metas w.metas (block_attributes r.0.block)) r.0.body) (has_trait r.1.past ts)) kind.Impl no_name r.0, r.1))
+    ≡ (let r = up_to w.bodies (rest_of head.Impl) ts in (leaf_read (impl_item (node (attrs ++ kept_metas w.metas (block_attributes r.0.block)) r.0.body) (has_trait r.1.past ts)) kind.Impl no_name r.0, r.1))
 unfolding with_value implementation clipped_rest wanted_leaf wanted_item
 implementation_clipped w attrs ts = refl
 
-pub plain_leaf_clipped : (w : Wanted) (h : Head) (attrs : List MetaView) (visibility : Option Visibility) (ts : Tokens) → with_value (wanted_leaf w attrs) (plain_leaf h [] visibility ts)
-    ≡ (let n = named ts in let r = up_to w.bodies (plain_end h) n.1 in (plain_read (plain_kind h) attrs visibility n.0 r.0, r.1))
+pub plain_leaf_clipped : (w : Wanted) (k : PlainKind) (attrs : List MetaView) (visibility : Option Visibility) (ts : Tokens) → with_value (wanted_leaf w attrs) (plain_leaf k [] visibility ts)
+    ≡ (let n = named (mut_word k ts).1 in let r = up_to w.bodies (rest_of (head.Plain k)) n.1 in (plain_read k (attrs ++ kept_metas w.metas (own_attributes k r.0.block)) visibility n.0 r.0, r.1))
 unfolding with_value plain_leaf clipped_rest wanted_leaf wanted_item
-plain_leaf_clipped w h attrs visibility ts = let n = named ts in let r = up_to w.bodies (plain_end h) n.1 in at_none w attrs (λ a. (plain_read (plain_kind h) a visibility n.0 r.0, r.1))
-
-pub static_clipped : (w : Wanted) (attrs : List MetaView) (visibility : Option Visibility) (ts : Tokens) → with_value (wanted_leaf w attrs) (static_value [] visibility ts)
-    ≡ with_value (wanted_leaf w attrs) (plain_leaf head.Static [] visibility (eat_word (codes "mut") ts).1)
-unfolding static_value plain_leaf
-static_clipped w attrs visibility ts = refl
+plain_leaf_clipped w k attrs visibility ts = refl
 
 pub constant_clipped : (w : Wanted) (attrs : List MetaView) (visibility : Option Visibility) (ts : Tokens) → with_value (wanted_leaf w attrs) (constant [] visibility ts)
-    ≡ (let n = named ts in let r = up_to w.bodies value_end (eat_word (codes "_") n.1).1 in (leaf_read (const_item (named_node attrs n.0.name visibility r.0.body)) kind.Const n.0 r.0, r.1))
+    ≡ (let n = named ts in let r = up_to w.bodies (rest_of head.Const) (eat_word (codes "_") n.1).1 in (leaf_read (const_item (named_node attrs n.0.name visibility r.0.body)) kind.Const n.0 r.0, r.1))
 unfolding with_value constant clipped_rest wanted_leaf wanted_item
 constant_clipped w attrs visibility ts =
-    let n = named ts in let r = up_to w.bodies value_end (eat_word (codes "_") n.1).1 in at_none w attrs (λ a. (leaf_read (const_item (named_node a n.0.name visibility r.0.body)) kind.Const n.0 r.0, r.1))
+    let n = named ts in let r = up_to w.bodies (rest_of head.Const) (eat_word (codes "_") n.1).1 in at_none w attrs (λ a. (leaf_read (const_item (named_node a n.0.name visibility r.0.body)) kind.Const n.0 r.0, r.1))
 
 pub structure_clipped : (w : Wanted) (attrs : List MetaView) (visibility : Option Visibility) (ts : Tokens) → with_value (wanted_leaf w attrs) (structure [] visibility ts)
-    ≡ (let n = named ts in let r = up_to w.bodies item_end n.1 in (leaf_read (struct_item (named_node attrs n.0.name visibility r.0.body) (struct_fields r.1.past r.0.block n.1)) kind.Struct n.0 r.0, r.1))
+    ≡ (let n = named ts in let r = up_to w.bodies (rest_of head.Struct) n.1 in (leaf_read (struct_item (named_node attrs n.0.name visibility r.0.body) (struct_fields r.1.past r.0.block n.1)) kind.Struct n.0 r.0, r.1))
 unfolding with_value structure clipped_rest wanted_leaf wanted_item
 structure_clipped w attrs visibility ts =
-    let n = named ts in let r = up_to w.bodies item_end n.1 in
+    let n = named ts in let r = up_to w.bodies (rest_of head.Struct) n.1 in
     at_none w attrs (λ a. (leaf_read (struct_item (named_node a n.0.name visibility r.0.body) (struct_fields r.1.past r.0.block n.1)) kind.Struct n.0 r.0, r.1))
 
 pub macro_definition_clipped : (w : Wanted) (attrs : List MetaView) (ts : Tokens) → with_value (wanted_leaf w attrs) (macro_definition [] ts)
@@ -142,20 +116,15 @@ crate_whole false attrs v ts = refl
 abbrev pub wanted_by : Wanted → Head → List MetaView → Option Visibility → Reader (Option LeafRead)
 wanted_by w head.Use attrs v ts = some_read (use_declaration attrs v ts)
 wanted_by w head.ExternCrate attrs v ts = some_read (crate_item attrs v ts)
-wanted_by w head.Fn attrs v ts = some_read (with_value (wanted_leaf w attrs) (function [] v ts))
-wanted_by w head.Trait attrs v ts = some_read (with_value (wanted_leaf w attrs) (trait_item [] v ts))
 wanted_by w head.Impl attrs v ts = some_read (with_value (wanted_leaf w attrs) (implementation [] ts))
 wanted_by w head.Struct attrs v ts = some_read (with_value (wanted_leaf w attrs) (structure [] v ts))
 wanted_by w head.Const attrs v ts = some_read (with_value (wanted_leaf w attrs) (constant [] v ts))
-wanted_by w head.Static attrs v ts = some_read (with_value (wanted_leaf w attrs) (static_value [] v ts))
+wanted_by w (head.Plain k) attrs v ts = some_read (with_value (wanted_leaf w attrs) (plain_leaf k [] v ts))
 wanted_by w head.MacroRules attrs v ts = some_read (with_value (wanted_leaf w attrs) (macro_definition [] ts))
-wanted_by w head.Module attrs v ts = with_value (wanted_leaf_if w attrs) (item_call [] ts)
-wanted_by w head.ExternBlock attrs v ts = with_value (wanted_leaf_if w attrs) (item_call [] ts)
-wanted_by w head.Other attrs v ts = with_value (wanted_leaf_if w attrs) (item_call [] ts)
-wanted_by w h attrs v ts = some_read (with_value (wanted_leaf w attrs) (plain_leaf h [] v ts))
+wanted_by w _ attrs v ts = with_value (wanted_leaf_if w attrs) (item_call [] ts)
 
 by_clipped : (w : Wanted) (h : Head) (attrs : List MetaView) (v : Option Visibility) (ts : Tokens) → with_value (wanted_leaf_if w attrs) (leaf_by h [] v ts) ≡ wanted_by w h attrs v ts
-unfolding with_value wanted_leaf wanted_leaf_if wanted_item clipped_leaf clipped_leaf_if kept_metas use_declaration crate_item trait_item union_item enumeration macro_def type_alias plain_leaf
+unfolding with_value wanted_leaf wanted_leaf_if wanted_item clipped_leaf clipped_leaf_if kept_metas use_declaration crate_item
 by_clipped w head.Use attrs v ts = at_none w attrs (λ a. textless w.bodies (some_read (use_declaration a v ts))) ∙ use_whole w.bodies attrs v ts
 by_clipped w head.ExternCrate attrs v ts = at_none w attrs (λ a. textless w.bodies (some_read (crate_item a v ts))) ∙ crate_whole w.bodies attrs v ts
 by_clipped w _ attrs v ts = refl
@@ -180,13 +149,12 @@ item_call_front w attrs ts = when (begins_call ts) (λ e. rw e (invocation_front
 
 -- those that begin an item stand before its inner ones, if it has any
 by_front : (w : Wanted) (h : Head) (attrs : List MetaView) (v : Option Visibility) (ts : Tokens) → with_value (clipped_leaf_if w) (leaf_by h attrs v ts) ≡ with_value (wanted_leaf_if w (kept_metas w.metas attrs)) (leaf_by h [] v ts)
-unfolding with_value clipped_rest clipped_leaf clipped_leaf_if wanted_leaf wanted_leaf_if wanted_item kept_metas function implementation use_declaration crate_item trait_item union_item enumeration macro_def type_alias static_value constant structure macro_definition
-by_front w head.Fn attrs v ts =
-    let n = named ts in let r = up_to w.bodies item_end n.1 in ap (λ a. (Some (plain_read fn_kind a v n.0 r.0), r.1)) (kept_append w.metas attrs (block_attributes (item_end n.1).0.block))
-by_front w head.Trait attrs v ts =
-    let n = named ts in let r = up_to w.bodies item_end n.1 in ap (λ a. (Some (plain_read trait_kind a v n.0 r.0), r.1)) (kept_append w.metas attrs (block_attributes (item_end n.1).0.block))
+unfolding with_value clipped_rest clipped_leaf clipped_leaf_if wanted_leaf wanted_leaf_if wanted_item kept_metas plain_leaf implementation use_declaration crate_item constant structure macro_definition
+by_front w (head.Plain k) attrs v ts =
+    let n = named (mut_word k ts).1 in let r = up_to w.bodies (rest_of (head.Plain k)) n.1 in
+    ap (λ a. (Some (plain_read k a v n.0 r.0), r.1)) (kept_append w.metas attrs (own_attributes k (rest_of (head.Plain k) n.1).0.block))
 by_front w head.Impl attrs v ts =
-    let r = up_to w.bodies impl_end ts in ap (λ a. (Some (leaf_read (impl_item (node a r.0.body) (has_trait r.1.past ts)) kind.Impl no_name r.0), r.1)) (kept_append w.metas attrs (block_attributes (impl_end ts).0.block))
+    let r = up_to w.bodies (rest_of head.Impl) ts in ap (λ a. (Some (leaf_read (impl_item (node a r.0.body) (has_trait r.1.past ts)) kind.Impl no_name r.0), r.1)) (kept_append w.metas attrs (block_attributes (rest_of head.Impl ts).0.block))
 by_front w head.Module attrs v ts = item_call_front w attrs ts
 by_front w head.ExternBlock attrs v ts = item_call_front w attrs ts
 by_front w head.Other attrs v ts = item_call_front w attrs ts

@@ -1,7 +1,8 @@
 -- The names that most proofs here cite, passed on from one place. Declares nothing.
 pub use Rattle.hir_input.specs.Attr.{MetaView}
 pub use Rattle.hir_input.specs.Bodies.{item_without_bodies}
-pub use Rattle.hir_input.specs.Syntax.{FieldsView, PlainKind, const_item, extern_crate, fn_kind, impl_item, macro_def_kind, macro_rules, plain_item, static_kind, struct_item, trait_kind, type_alias_kind}
+pub use Rattle.hir_input.specs.Syntax.{FieldsView, const_item, extern_crate, impl_item, macro_rules, plain_item, struct_item}
+pub use Rattle.hir_input.specs.declared.ast.PlainKind.{PlainKind}
 pub use Rattle.hir_input.specs.declared.ast.Visibility.{Visibility}
 pub use Rattle.rust_cursor.proofs.Alike.{KeptBy}
 pub use Rattle.rust_cursor.proofs.Leads.{Forwards, LeadsTo, behind_tree_leads, bumped_leads, eat_leads, further, here, reached_leads, through, when}
@@ -10,17 +11,17 @@ pub use Rattle.rust_cursor.proofs.Places.{AreAlike, IsAlike, SamePlace, alike_or
 pub use Rattle.rust_cursor.proofs.Views.{open_same, symbol_same, taken_same, text_same, word_same}
 pub use Rattle.rust_cursor.specs.Beside.{Beside, Bodies}
 unfoldable pub use Rattle.rust_cursor.specs.Brackets.{behind_tree}
-pub use Rattle.rust_cursor.specs.Extents.{ExcerptRead, clipped, impl_rest, item_rest, kept_text, macro_rest, tree_body, value_rest}
+pub use Rattle.rust_cursor.specs.Extents.{ExcerptRead, clipped, kept_text, tree_body}
 unfoldable pub use Rattle.rust_cursor.specs.Extents.{begins_item}
 pub use Rattle.rust_cursor.specs.Reader.{Reader}
 pub use Rattle.rust_cursor.specs.Tokens.{Tokens}
 unfoldable pub use Rattle.rust_cursor.specs.Words.{at, bumped, eat, eat_pair, eat_word, is_at_end, is_at_identifier, is_at_open, is_pair, kind, symbol, text, word}
 pub use Rattle.rust_leaves.specs.Heads.{begins_path, behind_head, behind_modifiers_from, behind_more_others, behind_other, behind_others_from, behind_segments_from, is_at_first, is_called_here, is_path_word, is_union, is_gen_modifier, is_weak_modifier}
-unfoldable pub use Rattle.rust_leaves.specs.Heads.{behind_abi, behind_modifier, behind_modifiers, behind_others, behind_segments, extern_head, head, head_by, is_behind_others, begins_call, is_called, is_modifier, is_modifier_before, macro_rules_head, may_begin, union_head, is_weak_before, follows_async}
-pub use Rattle.rust_leaves.specs.Kinds.{attributed_item, block_item, call_behind, called, leaf_by, leaf_read, named_leaf, named_node, node, plain_end, plain_kind, plain_read, some_read, told_at}
-unfoldable pub use Rattle.rust_leaves.specs.Kinds.{constant, crate_item, enumeration, function, implementation, invocation, item_call, leaf, macro_def, macro_definition, plain_leaf, static_value, structure, trait_item, type_alias, union_item, use_declaration}
+unfoldable pub use Rattle.rust_leaves.specs.Heads.{behind_abi, behind_modifier, behind_modifiers, behind_others, behind_segments, extern_head, head, head_by, is_behind_others, begins_call, is_called, is_modifier, is_modifier_before, macro_rules_head, may_begin, is_weak_before, follows_async}
+pub use Rattle.rust_leaves.specs.Kinds.{call_behind, called, leaf_by, leaf_read, mut_word, named_node, node, own_attributes, plain_read, rest_of, some_read, told_at}
+unfoldable pub use Rattle.rust_leaves.specs.Kinds.{constant, crate_item, implementation, invocation, item_call, leaf, macro_definition, plain_leaf, structure, use_declaration}
 pub use Rattle.rust_leaves.specs.Leaves.{LeafRead, NameRead, RestRead, are_over, bare_end, crate_alias_if, is_before, name_read, next_range, no_name, range_to, rename_of, rest_read, semicolon_end, symbol_within}
-unfoldable pub use Rattle.rust_leaves.specs.Leaves.{block_attributes, call_end, crate_alias, fields, has_trait, header_field, impl_end, item_end, macro_end, named, named_or, renamed, struct_fields, value_end}
+unfoldable pub use Rattle.rust_leaves.specs.Leaves.{block_attributes, call_end, crate_alias, fields, has_trait, header_field, named, named_or, renamed, rest_by, struct_fields}
 pub use Rattle.rust_leaves.specs.Statements.{behind_else, by_step, is_block_at, is_label_kind, is_use_of, statement_from, statement_up_to}
 unfoldable pub use Rattle.rust_leaves.specs.Statements.{behind_own_block, behind_block_word, behind_label, block_start, is_block_word, part_step, plain_step, statement, statement_step}
 pub use Rattle.rust_leaves.specs.Texts.{last_text_from}

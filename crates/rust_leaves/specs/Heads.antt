@@ -1,6 +1,7 @@
 -- The words that begin an item, and the modifiers before them.
 use Rattle.std.specs.Prelude.{ℕ, zero, suc, Bool, true, false, not, ◌==◌, ◌&&◌, ◌||◌, if◌then◌else◌, List, [], ◌∷◌, codes, bytes_eq}
 use Rattle.std.specs.List.{list_any}
+use Rattle.hir_input.specs.declared.ast.PlainKind.TheVariants as plain_kind
 use Rattle.rust_cursor.specs.Nests.{is_literal_kind}
 use Rattle.rust_cursor.specs.Tokens.{Tokens}
 use Rattle.rust_cursor.specs.Reader.{Reader}
@@ -99,25 +100,21 @@ extern_head behind =
 unfoldable pub macro_rules_head : Tokens → Head
 macro_rules_head behind = if symbol behind == 33 && is_at_identifier (bumped behind) then heads.MacroRules else heads.Other
 
--- `union`: an item where a name follows
-unfoldable pub union_head : Tokens → Head
-union_head behind = if has_name behind then heads.Union else heads.Other
-
--- the kind of item that a word begins
+-- the kind of item that a word begins; `union` begins one where a name follows
 unfoldable pub head_by : List ℕ → Tokens → Head
 head_by w behind =
     if bytes_eq w (codes "use") then heads.Use
-    else (if bytes_eq w (codes "fn") then heads.Fn
+    else (if bytes_eq w (codes "fn") then heads.Plain plain_kind.Fn
     else (if bytes_eq w (codes "impl") then heads.Impl
-    else (if bytes_eq w (codes "trait") then heads.Trait
+    else (if bytes_eq w (codes "trait") then heads.Plain plain_kind.Trait
     else (if bytes_eq w (codes "struct") then heads.Struct
-    else (if bytes_eq w (codes "enum") then heads.Enum
+    else (if bytes_eq w (codes "enum") then heads.Plain plain_kind.Enum
     else (if bytes_eq w (codes "const") then heads.Const
-    else (if bytes_eq w (codes "static") then heads.Static
-    else (if bytes_eq w (codes "type") then heads.TypeAlias
+    else (if bytes_eq w (codes "static") then heads.Plain plain_kind.Static
+    else (if bytes_eq w (codes "type") then heads.Plain plain_kind.TypeAlias
     else (if bytes_eq w (codes "mod") then heads.Module
-    else (if bytes_eq w (codes "macro") then heads.MacroDef
-    else (if bytes_eq w (codes "union") then union_head behind
+    else (if bytes_eq w (codes "macro") then heads.Plain plain_kind.MacroDef
+    else (if bytes_eq w (codes "union") then (if has_name behind then heads.Plain plain_kind.Union else heads.Other)
     else (if bytes_eq w (codes "macro_rules") then macro_rules_head behind
     else (if bytes_eq w (codes "extern") then extern_head behind else heads.Other)))))))))))))
 

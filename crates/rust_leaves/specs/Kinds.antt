@@ -1,6 +1,7 @@
 -- The items that hold no items, kind by kind. Each begins behind its attributes, its visibility, its modifiers and its word.
-use Rattle.std.specs.Prelude.{ℕ, Bool, ◌&&◌, if◌then◌else◌, Option, Some, None, is_some, List, [], ◌++◌, codes}
+use Rattle.std.specs.Prelude.{ℕ, Bool, false, ◌&&◌, if◌then◌else◌, Option, Some, None, is_some, List, [], ◌++◌, codes}
 use Rattle.std.specs.Option.{option_or}
+use Rattle.hir_input.specs.declared.ast.PlainKind.TheVariants as plain_kind
 use Rattle.hir_input.specs.declared.ids.AstIdKind.{AstIdKind}
 use Rattle.hir_input.specs.declared.ids.AstIdKind.TheVariants as kind
 use Rattle.hir_input.specs.declared.ids.SyntaxContext.TheVariants as context
@@ -10,7 +11,9 @@ use Rattle.hir_input.specs.declared.ast.PathNode.{PathNode}
 use Rattle.hir_input.specs.declared.ast.Visibility.{Visibility}
 use Rattle.hir_input.specs.Attr.{MetaView}
 use Rattle.hir_input.specs.UseTreeView.{UseTreeView}
-use Rattle.hir_input.specs.Syntax.{NodeView, NamedView, PlainKind, fn_kind, union_kind, enum_kind, static_kind, trait_kind, type_alias_kind, macro_def_kind, ast_kind, ItemView, plain_item, const_item, struct_item, use_item, extern_crate, impl_item, macro_call, macro_rules}
+use Rattle.hir_input.specs.Syntax.{NodeView, NamedView, ast_kind, ItemView, plain_item, const_item, struct_item, use_item, extern_crate, impl_item, macro_call, macro_rules}
+use Rattle.hir_input.specs.declared.ast.PlainKind.{PlainKind}
+use Rattle.rust_cursor.specs.Extents.{ExcerptRead, impl_rest, item_rest, macro_rest, value_rest}
 use Rattle.rust_cursor.specs.Tokens.{Tokens}
 use Rattle.rust_cursor.specs.Reader.{Reader, ◌>>=◌, pure, look}
 use Rattle.rust_cursor.specs.Words.{eat, eat_word, bumped}
@@ -22,7 +25,7 @@ use Rattle.rust_leaves.specs.declared.head.Head.TheVariants as head
 use Rattle.rust_leaves.specs.Fronts.{FrontRead}
 use Rattle.rust_leaves.specs.Heads.{begins_call, is_called}
 use Rattle.rust_leaves.specs.Texts.{bare, last_text}
-use Rattle.rust_leaves.specs.Leaves.{NameRead, RestRead, LeafRead, no_name, named, named_or, renamed, rename_of, past, bare_end, impl_end, item_end, macro_end, value_end, call_end, block_attributes, struct_fields, has_trait}
+use Rattle.rust_leaves.specs.Leaves.{NameRead, RestRead, LeafRead, no_name, named, named_or, renamed, rename_of, past, bare_end, rest_by, call_end, block_attributes, struct_fields, has_trait}
 
 -- the ids are given later
 abbrev pub node : List MetaView → List ℕ → NodeView
@@ -41,77 +44,44 @@ plain_read k attrs visibility n r = leaf_read (plain_item k (named_node attrs n.
 abbrev pub left_here : Tokens → Tokens
 left_here ts = ts
 
--- a name, and all that is left; the inner attributes in its braces are its own
-abbrev pub attributed_item : PlainKind → List MetaView → Option Visibility → Reader LeafRead
-attributed_item k attrs visibility = do
+-- what is taken of an item up to its end, by its word
+abbrev pub excerpt_of : Head → Reader ExcerptRead
+excerpt_of head.Impl = impl_rest
+excerpt_of head.Const = value_rest
+excerpt_of (head.Plain plain_kind.MacroDef) = macro_rest
+excerpt_of (head.Plain plain_kind.Static) = value_rest
+excerpt_of (head.Plain plain_kind.TypeAlias) = value_rest
+excerpt_of _ = item_rest
+
+-- the rest of an item, by its word
+abbrev pub rest_of : Head → Reader RestRead
+rest_of h = rest_by (excerpt_of h)
+
+-- the `mut` of a static
+abbrev pub mut_word : PlainKind → Reader Bool
+mut_word plain_kind.Static = eat_word (codes "mut")
+mut_word _ = pure false
+
+-- of the inner attributes in braces, those that are the item's own: a function's and a trait's
+abbrev pub own_attributes : PlainKind → Option Tokens → List MetaView
+own_attributes plain_kind.Fn block = block_attributes block
+own_attributes plain_kind.Trait block = block_attributes block
+own_attributes _ block = []
+
+-- Function, TypeAlias, Enumeration, Union, StaticItem, Trait, or a macro 2.0: a name, and all that is left
+unfoldable pub plain_leaf : PlainKind → List MetaView → Option Visibility → Reader LeafRead
+plain_leaf k attrs visibility = do
+  _ ← mut_word k
   n ← named
-  r ← item_end
-  pure (plain_read k (attrs ++ block_attributes r.block) visibility n r)
-
--- Function
-unfoldable pub function : List MetaView → Option Visibility → Reader LeafRead
-function = attributed_item fn_kind
-
--- Trait
-unfoldable pub trait_item : List MetaView → Option Visibility → Reader LeafRead
-trait_item = attributed_item trait_kind
-
--- a name, and what is left up to an end
-abbrev pub named_leaf : Reader RestRead → PlainKind → List MetaView → Option Visibility → Reader LeafRead
-named_leaf end k attrs visibility = do
-  n ← named
-  r ← end
-  pure (plain_read k attrs visibility n r)
-
--- Union and Enumeration: a name, and all that is left
-abbrev pub block_item : PlainKind → List MetaView → Option Visibility → Reader LeafRead
-block_item = named_leaf item_end
-
-unfoldable pub union_item : List MetaView → Option Visibility → Reader LeafRead
-union_item = block_item union_kind
-
-unfoldable pub enumeration : List MetaView → Option Visibility → Reader LeafRead
-enumeration = block_item enum_kind
-
--- a macro 2.0
-unfoldable pub macro_def : List MetaView → Option Visibility → Reader LeafRead
-macro_def = named_leaf macro_end macro_def_kind
-
--- TypeAlias
-unfoldable pub type_alias : List MetaView → Option Visibility → Reader LeafRead
-type_alias = named_leaf value_end type_alias_kind
-
--- StaticItem
-unfoldable pub static_value : List MetaView → Option Visibility → Reader LeafRead
-static_value attrs visibility = do
-  _ ← eat_word (codes "mut")
-  named_leaf value_end static_kind attrs visibility
-
--- the kind of an item that has nothing else of its own, by its word
-abbrev pub plain_kind : Head → PlainKind
-plain_kind head.Enum = enum_kind
-plain_kind head.MacroDef = macro_def_kind
-plain_kind head.Static = static_kind
-plain_kind head.TypeAlias = type_alias_kind
-plain_kind _ = union_kind
-
--- how far it goes
-abbrev pub plain_end : Head → Reader RestRead
-plain_end head.Impl = impl_end
-plain_end head.MacroDef = macro_end
-plain_end head.Static = value_end
-plain_end head.TypeAlias = value_end
-plain_end _ = item_end
-
-unfoldable pub plain_leaf : Head → List MetaView → Option Visibility → Reader LeafRead
-plain_leaf h = named_leaf (plain_end h) (plain_kind h)
+  r ← rest_of (head.Plain k)
+  pure (plain_read k (attrs ++ own_attributes k r.block) visibility n r)
 
 -- ConstantItem: `_` is no name
 unfoldable pub constant : List MetaView → Option Visibility → Reader LeafRead
 constant attrs visibility = do
   n ← named
   _ ← eat_word (codes "_")
-  r ← value_end
+  r ← rest_of head.Const
   pure (leaf_read (const_item (named_node attrs n.name visibility r.body)) kind.Const n r)
 
 -- Struct
@@ -119,7 +89,7 @@ unfoldable pub structure : List MetaView → Option Visibility → Reader LeafRe
 structure attrs visibility = do
   n ← named
   header ← look left_here
-  r ← item_end
+  r ← rest_of head.Struct
   end ← look past
   pure (leaf_read (struct_item (named_node attrs n.name visibility r.body) (struct_fields end r.block header)) kind.Struct n r)
 
@@ -127,7 +97,7 @@ structure attrs visibility = do
 unfoldable pub implementation : List MetaView → Reader LeafRead
 implementation attrs = do
   header ← look left_here
-  r ← impl_end
+  r ← rest_of head.Impl
   end ← look past
   pure (leaf_read (impl_item (node (attrs ++ block_attributes r.block) r.body) (has_trait end header)) kind.Impl no_name r)
 
@@ -211,16 +181,10 @@ item_call attrs ts = if begins_call ts then invocation attrs ts else (None, ts)
 abbrev pub leaf_by : Head → List MetaView → Option Visibility → Reader (Option LeafRead)
 leaf_by head.Use attrs v ts = some_read (use_declaration attrs v ts)
 leaf_by head.ExternCrate attrs v ts = some_read (crate_item attrs v ts)
-leaf_by head.Fn attrs v ts = some_read (function attrs v ts)
 leaf_by head.Impl attrs v ts = some_read (implementation attrs ts)
-leaf_by head.Trait attrs v ts = some_read (trait_item attrs v ts)
 leaf_by head.Struct attrs v ts = some_read (structure attrs v ts)
-leaf_by head.Union attrs v ts = some_read (union_item attrs v ts)
-leaf_by head.Enum attrs v ts = some_read (enumeration attrs v ts)
 leaf_by head.Const attrs v ts = some_read (constant attrs v ts)
-leaf_by head.Static attrs v ts = some_read (static_value attrs v ts)
-leaf_by head.TypeAlias attrs v ts = some_read (type_alias attrs v ts)
-leaf_by head.MacroDef attrs v ts = some_read (macro_def attrs v ts)
+leaf_by (head.Plain k) attrs v ts = some_read (plain_leaf k attrs v ts)
 leaf_by head.MacroRules attrs v ts = some_read (macro_definition attrs ts)
 leaf_by _ attrs v ts = item_call attrs ts
 

@@ -9,7 +9,7 @@ use Rattle.rust_cursor.specs.Tokens.{Tokens}
 use Rattle.rust_cursor.specs.Reader.{Reader, ◌>>=◌, pure, look, pass, only_if}
 use Rattle.rust_cursor.specs.Words.{symbol, word, text, at, eat, eat_word, bumped, is_at_open, is_at_end}
 use Rattle.rust_cursor.specs.Elements.{turns, one}
-use Rattle.rust_cursor.specs.Extents.{ExcerptRead, tree_body, impl_rest, item_rest, macro_rest, value_rest}
+use Rattle.rust_cursor.specs.Extents.{ExcerptRead, tree_body}
 use Rattle.rust_cursor.specs.Angles.{behind_angles, behind_field, is_trait_impl}
 use Rattle.rust_paths.specs.declared.names.TextRange.{TextRange}
 use Rattle.rust_paths.specs.Names.{Placed, placed_name, as_name}
@@ -101,27 +101,12 @@ bare_end is_ended = record { body = []; is_ended = is_ended; block = None; brace
 abbrev pub past : Tokens → ℕ
 past ts = ts.past
 
-abbrev pub rest_by : Reader ExcerptRead → Reader RestRead
-rest_by reader = do
-  read ← reader
+-- the rest of an item, by what is taken of it
+unfoldable pub rest_by : Reader ExcerptRead → Reader RestRead
+rest_by taken = do
+  read ← taken
   end ← look past
   pure (rest_read read end)
-
--- up to a semicolon or a block
-unfoldable pub item_end : Reader RestRead
-item_end = rest_by item_rest
-
--- the same of an impl
-unfoldable pub impl_end : Reader RestRead
-impl_end = rest_by impl_rest
-
--- the same of a macro with parameters
-unfoldable pub macro_end : Reader RestRead
-macro_end = rest_by macro_rest
-
--- up to a semicolon
-unfoldable pub value_end : Reader RestRead
-value_end = rest_by value_rest
 
 abbrev pub semicolon_end : ExcerptRead → Reader RestRead
 semicolon_end read = do

@@ -10,7 +10,7 @@ use Rattle.rust_leaves.specs.declared.named.Rest.{Rest}
 use Rattle.rust_leaves.specs.declared.leaf.Leaf.{Leaf}
 use Rattle.rust_leaves.specs.declared.calls.Callee.{Callee}
 use Rattle.rust_leaves.specs.declared.front.Front.{Front}
-use Rattle.rust_leaves.specs.declared.statements.Call.{Call}
+use Rattle.rust_leaves.specs.declared.statement_calls.Call.{Call}
 use Rattle.rust_leaves.specs.Fronts.{FrontRead}
 use Rattle.rust_leaves.specs.Leaves.{NameRead, RestRead, LeafRead}
 use Rattle.rust_leaves.specs.Kinds.{CalleeRead}

@@ -38,7 +38,7 @@ pub(crate) fn macro_definition<'t>(
         name: named.name,
         body: rest.body,
     });
-    Ok(read_leaf!(alloc, MacroRules, item, named.hashed, named.range, rest))
+    Ok(read_leaf!(alloc, AstIdKind::MacroRules, item, named, rest))
 }
 
 /// What a macro is called by.
@@ -94,7 +94,7 @@ fn call_behind<'t>(
         ctxt: SyntaxContext::Root(EditionYear::E2024),
         body: rest.body,
     });
-    Ok(read_leaf!(alloc, MacroCall, item, name, None, rest))
+    Ok(read_leaf!(alloc, AstIdKind::MacroCall, item, name, None, rest))
 }
 
 /// Takes a macro call that is an item, or nothing where none is written.

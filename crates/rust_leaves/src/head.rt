@@ -5,6 +5,7 @@ ghost use Rattle.rust_cursor.specs.Nests.{is_literal_kind};
 ghost use Rattle.rust_cursor.specs.Words.{bumped, word};
 ghost use Rattle.rust_leaves.specs.Heads as spec;
 
+use hir_input::ast::PlainKind;
 use rust_cursor::{Cursor, is_among};
 use rust_lexer::TokenKind;
 use rust_paths::{has_name, is_segment};
@@ -13,20 +14,15 @@ use rust_paths::{has_name, is_segment};
 #[derive(Clone, Copy)]
 pub enum Head {
     Const,
-    Enum,
     ExternBlock,
     ExternCrate,
-    Fn,
     Impl,
-    MacroDef,
     MacroRules,
     Module,
-    Static,
     Struct,
-    Trait,
-    TypeAlias,
-    Union,
     Use,
+    /// One that differs from others in nothing but the kind.
+    Plain(PlainKind),
     /// No word of an item: it may be a macro call.
     Other,
 }
@@ -201,13 +197,6 @@ fn macro_rules_head(behind: &Cursor<'_>) -> Head
     head_if(is_named, Head::MacroRules)
 }
 
-#[tactic(auto, unfolding(crate::specs::Heads::union_head))]
-fn union_head(behind: &Cursor<'_>) -> Head
-    ensures { result ≡ spec.union_head behind.now }
-{
-    head_if(has_name(behind), Head::Union)
-}
-
 /// What kind of item the next words begin.
 #[tactic(auto, unfolding(crate::specs::Heads::head_by))]
 pub(crate) fn head_at(cursor: &Cursor<'_>) -> Head
@@ -215,17 +204,17 @@ pub(crate) fn head_at(cursor: &Cursor<'_>) -> Head
 {
     match cursor.word() {
         "use" => Head::Use,
-        "fn" => Head::Fn,
+        "fn" => Head::Plain(PlainKind::Fn),
         "impl" => Head::Impl,
-        "trait" => Head::Trait,
+        "trait" => Head::Plain(PlainKind::Trait),
         "struct" => Head::Struct,
-        "enum" => Head::Enum,
+        "enum" => Head::Plain(PlainKind::Enum),
         "const" => Head::Const,
-        "static" => Head::Static,
-        "type" => Head::TypeAlias,
+        "static" => Head::Plain(PlainKind::Static),
+        "type" => Head::Plain(PlainKind::TypeAlias),
         "mod" => Head::Module,
-        "macro" => Head::MacroDef,
-        "union" => union_head(&second(cursor)),
+        "macro" => Head::Plain(PlainKind::MacroDef),
+        "union" => head_if(has_name(&second(cursor)), Head::Plain(PlainKind::Union)),
         "macro_rules" => macro_rules_head(&second(cursor)),
         "extern" => extern_head(&second(cursor)),
         _ => Head::Other,
@@ -328,7 +317,8 @@ fn is_called_here(cursor: &Cursor<'_>) -> bool
     is_called(&behind)
 }
 
-/// Whether a macro call comes next that is an item. In its path no generic arguments stand: none is looked for behind a `<`.
+/// Whether a macro call comes next that is an item. In its path no generic arguments stand: none is looked for behind a
+/// `<`.
 #[tactic(auto, unfolding(crate::specs::Heads::begins_call))]
 pub(crate) fn begins_call(cursor: &Cursor<'_>) -> bool
     ensures { result ≡ spec.begins_call cursor.now }
@@ -369,7 +359,8 @@ fn is_behind_others(cursor: &Cursor<'_>) -> bool
     cursor.is_at_end() || may_begin(cursor)
 }
 
-/// Passes over a token or what stands in brackets, or over a path up to its last segment, so that each path is looked through once.
+/// Passes over a token or what stands in brackets, or over a path up to its last segment, so that each path is looked
+/// through once.
 fn pass_other(cursor: &mut Cursor<'_>)
     ensures { cursor.new ≡ spec.behind_other cursor.old }
 {

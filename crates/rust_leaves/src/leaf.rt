@@ -1,20 +1,20 @@
 //! Items that hold no items.
 
-ghost use Rattle.std.specs.Prelude.{◌≡◌, Some, [], map, option_map};
+ghost use Rattle.std.specs.Prelude.{◌≡◌, [], map, option_map};
 ghost use Rattle.hir_input.specs.Attr.{meta_view};
 ghost use Rattle.rust_cursor.specs.Reader.{Gives};
-ghost use Rattle.rust_leaves.specs.Clipped.{clipped_rest, leaf_behind, wanted_leaf, with_value};
+ghost use Rattle.rust_leaves.specs.Clipped.{leaf_behind, wanted_leaf, with_value};
 ghost use Rattle.rust_leaves.specs.Kinds as spec;
-ghost use Rattle.rust_leaves.specs.Views.{front_view, leaf_view, name_view, rest_view};
+ghost use Rattle.rust_leaves.specs.Views.{front_view, leaf_view};
 
 use crate::calls::{item_call, macro_definition};
 use crate::front::Front;
 use crate::head::Head;
-use crate::named::{Named, Rest, item_name, plain_end, with_inner};
+use crate::named::{item_name, take_rest, with_inner, with_own};
 use crate::structs::{has_trait, structure};
 use crate::uses::{crate_item, use_declaration};
 use crate::wanted::Wanted;
-use hir_input::ast::{Impl, Item, NamedNode, Visibility};
+use hir_input::ast::{Impl, Item, NamedNode, PlainKind, Visibility};
 use hir_input::{AstIdKind, Meta};
 use rust_cursor::Cursor;
 use rust_paths::{TextRange, TreeStarts};
@@ -40,12 +40,15 @@ pub struct Leaf<'t> {
     pub use_trees: TreeStarts,
 }
 
-// What was read of an item other than a use.
+// What was read of an item other than a use, with a name or with what stands for one.
 macro_rules! read_leaf {
-    ($alloc:expr, $kind:ident, $item:expr, $name:expr, $named:expr, $rest:expr) => {
+    ($alloc:expr, $kind:expr, $item:expr, $named:ident, $rest:expr) => {
+        read_leaf!($alloc, $kind, $item, $named.hashed, $named.range, $rest)
+    };
+    ($alloc:expr, $kind:expr, $item:expr, $name:expr, $named:expr, $rest:expr) => {
         Some(Leaf {
             item: $item,
-            kind: AstIdKind::$kind,
+            kind: $kind,
             name: $name,
             named: $named,
             body: $rest.braces,
@@ -58,118 +61,50 @@ macro_rules! read_leaf {
 
 pub(crate) use read_leaf;
 
-// The same of one of a kind that has nothing else of its own.
-macro_rules! named_leaf {
-    ($kind:ident, $alloc:expr, $attrs:expr, $visibility:expr, $named:expr, $rest:expr) => {
-        read_leaf!(
-            $alloc,
-            $kind,
-            Item::$kind(NamedNode {
-                hash: 0,
-                number: 0,
-                attrs: $attrs,
-                name: $named.name,
-                visibility: $visibility,
-                body: $rest.body,
-            }),
-            $named.hashed,
-            $named.range,
-            $rest
-        )
+// The node of an item that has a name, a visibility and nothing else of its own.
+macro_rules! named_node {
+    ($attrs:expr, $visibility:expr, $named:expr, $rest:expr) => {
+        NamedNode {
+            hash: 0,
+            number: 0,
+            attrs: $attrs,
+            name: $named.name,
+            visibility: $visibility,
+            body: $rest.body,
+        }
     };
 }
 
-#[tactic(auto, using(hir_input::proofs::SyntaxViews::item_views, crate::proofs::Clipped::function_clipped))]
-fn function<'t>(
-    alloc: Global,
-    cursor: &mut Cursor<'t>,
-    wanted: Wanted,
-    attrs: Vec<Meta>,
-    visibility: Option<Visibility>,
-) -> Result<Option<Leaf<'t>>, AllocError>
-    ensures { Gives (option_map leaf_view)
-        (spec.some_read (with_value (wanted_leaf wanted (map meta_view attrs.items))
-        (spec.function [] visibility cursor.old))) result cursor.new }
+/// Takes the `mut` of a static.
+fn take_mut(kind: PlainKind, cursor: &mut Cursor<'_>) -> bool
+    ensures { spec.mut_word kind cursor.old ≡ (result, cursor.new) }
 {
-    let named = item_name(alloc, cursor)?;
-    let rest = plain_end(alloc, cursor, wanted.bodies, Head::Fn)?;
-    let attrs = with_inner(alloc, attrs, rest.block, wanted.metas)?;
-    Ok(named_leaf!(Fn, alloc, attrs, visibility, named, rest))
-}
-
-#[tactic(auto, using(hir_input::proofs::SyntaxViews::item_views, crate::proofs::Clipped::trait_clipped))]
-fn trait_item<'t>(
-    alloc: Global,
-    cursor: &mut Cursor<'t>,
-    wanted: Wanted,
-    attrs: Vec<Meta>,
-    visibility: Option<Visibility>,
-) -> Result<Option<Leaf<'t>>, AllocError>
-    ensures { Gives (option_map leaf_view)
-        (spec.some_read (with_value (wanted_leaf wanted (map meta_view attrs.items))
-        (spec.trait_item [] visibility cursor.old))) result cursor.new }
-{
-    let named = item_name(alloc, cursor)?;
-    let rest = plain_end(alloc, cursor, wanted.bodies, Head::Trait)?;
-    let attrs = with_inner(alloc, attrs, rest.block, wanted.metas)?;
-    Ok(named_leaf!(Trait, alloc, attrs, visibility, named, rest))
-}
-
-/// What was read of an item that has nothing else of its own.
-#[tactic(auto, using(hir_input::proofs::SyntaxViews::item_views))]
-fn plain_of<'t>(
-    alloc: Global,
-    head: Head,
-    attrs: Vec<Meta>,
-    visibility: Option<Visibility>,
-    named: Named<'t>,
-    rest: Rest<'t>,
-) -> Option<Leaf<'t>>
-    ensures { option_map leaf_view result ≡ Some (spec.plain_read (spec.plain_kind head)
-        (map meta_view attrs.items) visibility (name_view named.entry) (rest_view rest.entry)) }
-{
-    match head {
-        Head::Enum => named_leaf!(Enum, alloc, attrs, visibility, named, rest),
-        Head::MacroDef => named_leaf!(MacroDef, alloc, attrs, visibility, named, rest),
-        Head::Static => named_leaf!(Static, alloc, attrs, visibility, named, rest),
-        Head::TypeAlias => named_leaf!(TypeAlias, alloc, attrs, visibility, named, rest),
-        _ => named_leaf!(Union, alloc, attrs, visibility, named, rest),
+    match kind {
+        PlainKind::Static => cursor.eat_word("mut"),
+        _ => false,
     }
 }
 
-/// Takes an item that has nothing else of its own, by its word.
+/// Takes an item that differs from others in nothing but the kind.
 #[tactic(auto, using(crate::proofs::Clipped::plain_leaf_clipped))]
 fn plain_leaf<'t>(
     alloc: Global,
     cursor: &mut Cursor<'t>,
     wanted: Wanted,
-    head: Head,
+    kind: PlainKind,
     attrs: Vec<Meta>,
     visibility: Option<Visibility>,
 ) -> Result<Option<Leaf<'t>>, AllocError>
     ensures { Gives (option_map leaf_view)
         (spec.some_read (with_value (wanted_leaf wanted (map meta_view attrs.items))
-        (spec.plain_leaf head [] visibility cursor.old))) result cursor.new }
+        (spec.plain_leaf kind [] visibility cursor.old))) result cursor.new }
 {
+    take_mut(kind, cursor);
     let named = item_name(alloc, cursor)?;
-    let rest = plain_end(alloc, cursor, wanted.bodies, head)?;
-    Ok(plain_of(alloc, head, attrs, visibility, named, rest))
-}
-
-#[tactic(auto, using(crate::proofs::Clipped::static_clipped))]
-fn static_value<'t>(
-    alloc: Global,
-    cursor: &mut Cursor<'t>,
-    wanted: Wanted,
-    attrs: Vec<Meta>,
-    visibility: Option<Visibility>,
-) -> Result<Option<Leaf<'t>>, AllocError>
-    ensures { Gives (option_map leaf_view)
-        (spec.some_read (with_value (wanted_leaf wanted (map meta_view attrs.items))
-        (spec.static_value [] visibility cursor.old))) result cursor.new }
-{
-    cursor.eat_word("mut");
-    plain_leaf(alloc, cursor, wanted, Head::Static, attrs, visibility)
+    let rest = take_rest(alloc, cursor, wanted.bodies, Head::Plain(kind))?;
+    let attrs = with_own(alloc, kind, attrs, rest.block, wanted.metas)?;
+    let item = kind.item(named_node!(attrs, visibility, named, rest));
+    Ok(read_leaf!(alloc, kind.ast_kind(), item, named, rest))
 }
 
 #[tactic(auto, using(hir_input::proofs::SyntaxViews::item_views, crate::proofs::Clipped::constant_clipped))]
@@ -186,9 +121,9 @@ fn constant<'t>(
 {
     let named = item_name(alloc, cursor)?;
     cursor.eat_word("_");
-    // (it ends as a static does)
-    let rest = plain_end(alloc, cursor, wanted.bodies, Head::Static)?;
-    Ok(named_leaf!(Const, alloc, attrs, visibility, named, rest))
+    let rest = take_rest(alloc, cursor, wanted.bodies, Head::Const)?;
+    let item = Item::Const(named_node!(attrs, visibility, named, rest));
+    Ok(read_leaf!(alloc, AstIdKind::Const, item, named, rest))
 }
 
 #[tactic(auto, using(hir_input::proofs::SyntaxViews::item_views, crate::proofs::Clipped::implementation_clipped))]
@@ -203,7 +138,7 @@ fn implementation<'t>(
         (spec.implementation [] cursor.old))) result cursor.new }
 {
     let header = cursor.ahead();
-    let rest = plain_end(alloc, cursor, wanted.bodies, Head::Impl)?;
+    let rest = take_rest(alloc, cursor, wanted.bodies, Head::Impl)?;
     let is_trait_impl = has_trait(&header, cursor.past());
     let attrs = with_inner(alloc, attrs, rest.block, wanted.metas)?;
     let item = Item::Impl(Impl {
@@ -213,11 +148,11 @@ fn implementation<'t>(
         is_trait_impl,
         body: rest.body,
     });
-    Ok(read_leaf!(alloc, Impl, item, "", None, rest))
+    Ok(read_leaf!(alloc, AstIdKind::Impl, item, "", None, rest))
 }
 
-/// Takes an item that holds no items, behind the words that begin it, or nothing where none is written. Of its body text and its
-/// inner documentation it has what is wanted; the attributes before it are those that it is given.
+/// Takes an item that holds no items, behind the words that begin it, or nothing where none is written. Of its body
+/// text and its inner documentation it has what is wanted; the attributes before it are those that it is given.
 ///
 /// # Errors
 ///
@@ -237,16 +172,10 @@ pub fn take_leaf<'t>(
     match front.head {
         Head::Use => use_declaration(alloc, cursor, attrs, visibility),
         Head::ExternCrate => crate_item(alloc, cursor, attrs, visibility),
-        Head::Fn => function(alloc, cursor, wanted, attrs, visibility),
         Head::Impl => implementation(alloc, cursor, wanted, attrs),
         Head::Struct => structure(alloc, cursor, wanted, attrs, visibility),
         Head::Const => constant(alloc, cursor, wanted, attrs, visibility),
-        Head::Static => static_value(alloc, cursor, wanted, attrs, visibility),
-        Head::Trait => trait_item(alloc, cursor, wanted, attrs, visibility),
-        Head::Union => plain_leaf(alloc, cursor, wanted, Head::Union, attrs, visibility),
-        Head::Enum => plain_leaf(alloc, cursor, wanted, Head::Enum, attrs, visibility),
-        Head::TypeAlias => plain_leaf(alloc, cursor, wanted, Head::TypeAlias, attrs, visibility),
-        Head::MacroDef => plain_leaf(alloc, cursor, wanted, Head::MacroDef, attrs, visibility),
+        Head::Plain(kind) => plain_leaf(alloc, cursor, wanted, kind, attrs, visibility),
         Head::MacroRules => macro_definition(alloc, cursor, wanted, attrs),
         Head::Module | Head::ExternBlock | Head::Other => item_call(alloc, cursor, wanted, attrs),
     }

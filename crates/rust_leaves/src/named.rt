@@ -8,12 +8,13 @@ ghost use Rattle.rust_cursor.specs.Reader.{Gives};
 ghost use Rattle.rust_cursor.specs.Words.{bumped};
 ghost use Rattle.rust_metas.specs.Docs.{kept_metas};
 ghost use Rattle.rust_leaves.specs.Clipped.{clipped_rest, with_value};
-ghost use Rattle.rust_leaves.specs.Kinds.{plain_end};
+ghost use Rattle.rust_leaves.specs.Kinds.{own_attributes, rest_of};
 ghost use Rattle.rust_leaves.specs.Leaves as spec;
 ghost use Rattle.rust_leaves.specs.Views.{name_view, rest_view};
 
 use crate::head::Head;
 use crate::texts::bare;
+use hir_input::ast::PlainKind;
 use hir_input::{Meta, Name};
 use rust_cursor::{Cursor, Excerpt};
 use rust_metas::{WantedMetas, kept_inner_attributes};
@@ -120,7 +121,7 @@ pub(crate) fn range_to(end: usize, block: &Option<Cursor<'_>>) -> Option<TextRan
 }
 
 /// The rest of an item that ends at a place.
-fn rest_of<'t>(excerpt: Excerpt<'t>, end: usize) -> Rest<'t>
+fn rest_up_to<'t>(excerpt: Excerpt<'t>, end: usize) -> Rest<'t>
     ensures { rest_view result ≡ spec.rest_read (excerpt_view excerpt.entry) end }
 {
     let braces = range_to(end, &excerpt.block);
@@ -133,23 +134,25 @@ fn rest_of<'t>(excerpt: Excerpt<'t>, end: usize) -> Rest<'t>
 }
 
 /// Takes what is left of an item up to its end, by its word, and keeps its text where that is asked for.
-#[tactic(auto, using(crate::proofs::Clipped::item_end_clipped, crate::proofs::Clipped::impl_end_clipped, crate::proofs::Clipped::macro_end_clipped, crate::proofs::Clipped::value_end_clipped))]
-pub(crate) fn plain_end<'t>(
+#[tactic(auto, using(crate::proofs::Clipped::rest_clipped))]
+pub(crate) fn take_rest<'t>(
     alloc: Global,
     cursor: &mut Cursor<'t>,
     keeps_body: bool,
     head: Head,
 ) -> Result<Rest<'t>, AllocError>
     ensures { Gives rest_view
-        (with_value (clipped_rest keeps_body) (plain_end head cursor.old)) result cursor.new }
+        (with_value (clipped_rest keeps_body) (rest_of head cursor.old)) result cursor.new }
 {
     let excerpt = match head {
         Head::Impl => cursor.impl_rest(alloc, keeps_body),
-        Head::MacroDef => cursor.macro_rest(alloc, keeps_body),
-        Head::Static | Head::TypeAlias => cursor.value_rest(alloc, keeps_body),
+        Head::Plain(PlainKind::MacroDef) => cursor.macro_rest(alloc, keeps_body),
+        Head::Const | Head::Plain(PlainKind::Static | PlainKind::TypeAlias) => {
+            cursor.value_rest(alloc, keeps_body)
+        }
         _ => cursor.item_rest(alloc, keeps_body),
     }?;
-    Ok(rest_of(excerpt, cursor.past()))
+    Ok(rest_up_to(excerpt, cursor.past()))
 }
 
 fn no_call<'t>(alloc: Global) -> Rest<'t>
@@ -192,7 +195,7 @@ pub(crate) fn call_end<'t>(
     let is_braced = cursor.symbol() == b'{';
     let excerpt = cursor.tree_body(alloc, keeps_body)?;
     if is_braced {
-        return Ok(rest_of(excerpt, cursor.past()));
+        return Ok(rest_up_to(excerpt, cursor.past()));
     }
     Ok(semicolon_end(excerpt, cursor))
 }
@@ -241,4 +244,22 @@ pub(crate) fn with_inner(
 {
     let inner = block_attributes(alloc, block, wanted)?;
     joined(attrs, inner)
+}
+
+/// Attributes with those inner ones of an item's block behind that are the item's own, as far as these are kept.
+#[tactic(auto, using(crate::proofs::Clipped::none_behind))]
+pub(crate) fn with_own(
+    alloc: Global,
+    kind: PlainKind,
+    attrs: Vec<Meta>,
+    block: Option<Cursor<'_>>,
+    wanted: WantedMetas,
+) -> Result<Vec<Meta>, AllocError>
+    ensures { IfOk result (λ v. map meta_view v.items ≡ map meta_view attrs.items
+        ++ kept_metas wanted (own_attributes kind block.entry)) }
+{
+    match kind {
+        PlainKind::Fn | PlainKind::Trait => with_inner(alloc, attrs, block, wanted),
+        _ => Ok(attrs),
+    }
 }

@@ -1,20 +1,11 @@
-//! Statements: what begins one, how far it goes, and the macro calls in the place of one.
+//! Statements: what begins one, and how far it goes.
 
-ghost use Rattle.std.specs.Prelude.{◌≡◌, map, option_map};
-ghost use Rattle.hir_input.specs.Attr.{meta_view};
-ghost use Rattle.rust_cursor.specs.Reader.{Gives};
+ghost use Rattle.std.specs.Prelude.{◌≡◌};
 ghost use Rattle.rust_leaves.specs.Statements as spec;
-ghost use Rattle.rust_leaves.specs.Views.{call_read_view};
 
-use crate::calls::{Callee, take_callee};
 use crate::head::{Head, head_at, is_modifier, second};
-use crate::named::range_to;
-use hir_input::ast::{MacroCall, PathNode};
-use hir_input::{EditionYear, ExpandTo, Meta, SyntaxContext};
 use rust_cursor::Cursor;
 use rust_lexer::TokenKind;
-use rust_paths::TextRange;
-use std::alloc::{AllocError, Global};
 
 /// How a statement goes on.
 #[derive(Clone, Copy)]
@@ -327,7 +318,8 @@ fn pass_from(cursor: &mut Cursor<'_>, from: Scan) -> bool
     false
 }
 
-/// Takes a `let`, or another statement that is neither an item nor a macro call alone, and tells whether a semicolon ended it.
+/// Takes a `let`, or another statement that is neither an item nor a macro call alone, and tells whether a semicolon
+/// ended it.
 ///
 /// Else it ends with its block, before a bracket that closes, or before a word that can begin an item only.
 #[tactic(auto, unfolding(crate::specs::Statements::statement))]
@@ -340,69 +332,4 @@ pub fn pass_statement(cursor: &mut Cursor<'_>) -> bool
         return pass_from(cursor, Scan::Header(0));
     }
     pass_from(cursor, Scan::Plain)
-}
-
-/// A macro call in the place of a statement.
-#[derive(Drop)]
-pub struct Call<'t> {
-    pub node: MacroCall,
-    /// The name that is hashed.
-    pub name: &'t str,
-    /// Whether its bracket is a brace.
-    pub is_braced: bool,
-    /// Where its braces stand.
-    pub body: Option<TextRange>,
-}
-
-fn call_tree<'t>(
-    alloc: Global,
-    cursor: &mut Cursor<'t>,
-    attrs: Vec<Meta>,
-    path: Option<PathNode>,
-    name: &'t str,
-) -> Result<Call<'t>, AllocError>
-    ensures { Gives call_read_view
-        (spec.call_tree (map meta_view attrs.items) path name.now cursor.old) result cursor.new }
-{
-    let is_braced = cursor.symbol() == b'{';
-    let excerpt = cursor.tree_body(alloc, true)?;
-    let body = range_to(cursor.past(), &excerpt.block);
-    let node = MacroCall {
-        hash: 0,
-        number: 0,
-        attrs,
-        path,
-        expand_to: ExpandTo::Statements,
-        ctxt: SyntaxContext::Root(EditionYear::E2024),
-        body: excerpt.text,
-    };
-    Ok(Call {
-        node,
-        name,
-        is_braced,
-        body,
-    })
-}
-
-/// Takes a macro call up to its bracket, or nothing where none is written.
-///
-/// # Errors
-///
-/// Only if memory runs out. The cursor may then stand anywhere.
-#[tactic(auto, using(crate::proofs::Callees::call_taken))]
-pub fn statement_call<'t>(
-    alloc: Global,
-    cursor: &mut Cursor<'t>,
-    attrs: Vec<Meta>,
-) -> Result<Option<Call<'t>>, AllocError>
-    ensures { let read = spec.statement_call (map meta_view attrs.items) cursor.old in
-        Gives (option_map call_read_view) read result cursor.new }
-{
-    match take_callee(alloc, cursor)? {
-        Some(Callee { path, name }) => {
-            let call = call_tree(alloc, cursor, attrs, path, name)?;
-            Ok(Some(call))
-        }
-        None => Ok(None),
-    }
 }

@@ -11,7 +11,7 @@ ghost use Rattle.rust_leaves.specs.Views.{field_view, leaf_view};
 
 use crate::head::Head;
 use crate::leaf::{Leaf, read_leaf};
-use crate::named::{item_name, plain_end};
+use crate::named::{item_name, take_rest};
 use crate::wanted::Wanted;
 use hir_input::ast::{Item, Struct, StructKind, TupleField, Visibility};
 use hir_input::{AstIdKind, Meta};
@@ -135,7 +135,7 @@ pub(crate) fn structure<'t>(
 {
     let named = item_name(alloc, cursor)?;
     let header = cursor.ahead();
-    let rest = plain_end(alloc, cursor, wanted.bodies, Head::Struct)?;
+    let rest = take_rest(alloc, cursor, wanted.bodies, Head::Struct)?;
     let kind = struct_fields(alloc, &header, cursor.past(), &rest.block)?;
     let item = Item::Struct(Struct {
         hash: 0,
@@ -146,5 +146,5 @@ pub(crate) fn structure<'t>(
         kind,
         body: rest.body,
     });
-    Ok(read_leaf!(alloc, Struct, item, named.hashed, named.range, rest))
+    Ok(read_leaf!(alloc, AstIdKind::Struct, item, named, rest))
 }

@@ -1,6 +1,6 @@
 -- Attributes stay in the brackets that they stand in.
 use Rattle.std.proofs.Common.{◌≡◌, ◌==◌, ◌||◌, ◌&&◌, ℕ, zero, suc, Bool, true, false, Option, Some, None, List, [], ◌∷◌, refl, sym, ◌∙◌, subst, codes, if◌then◌else◌, not, slice_index, bytes_eq}
-use Rattle.rust_metas.proofs.Common.{eqb-true, PathNode, MetaView, CfgView, DocStyle, Outer, Inner, Tokens, Reader, by_first, symbol, word, kind, text, at, is_empty, bumped, is_at_open, is_at_end, behind_closed, behind_tree, elements, one, begins_item, LeadsTo, here, further, through, Forwards, when, bumped_leads, behind_tree_leads, path, path_leads, is_literal_kind, is_truth, is_literal, is_ended, style_by, value, documentation, tree_comma_from, tree_behind_comma, is_word_kind, is_option_word, option_name, pair, named_condition, if_named, ended_condition, condition_with, conditions, condition, input, plain_meta, is_call, is_at_name, is_named_call, member, meta_with, meta, doc, behind_docs_from, behind_docs, behind_attribute, deepest, is_style, is_doc, is_attribute, is_behind, bracketed, past_mark, one_attribute, attribute, attributes, inner_attributes}
+use Rattle.rust_metas.proofs.Common.{eqb-true, PathNode, MetaView, CfgView, DocStyle, Outer, Inner, Tokens, Reader, by_first, symbol, word, kind, text, at, is_empty, bumped, is_at_open, is_at_end, behind_closed, behind_tree, elements, one, begins_item, LeadsTo, here, further, through, Forwards, when, bumped_leads, behind_tree_leads, path, rule_leads, reads, reads_from, sees, past_from, is_literal_kind, is_truth, is_literal, is_ended, style_by, value, comma_from, comma, tree_behind_comma, is_word_kind, is_option_word, option_name, pair, named_condition, if_named, ended_condition, condition_with, conditions, condition, input, plain_meta, is_call, is_at_name, is_named_call, member, conditional, meta_with, meta, behind_docs, behind_attribute, deepest, is_style, is_doc, is_attribute, is_behind, bracketed, past_mark, one_attribute, attribute, attributes, inner_attributes}
 use Rattle.rust_lexer.specs.declared.kind.TokenKind.{TokenKind}
 use Rattle.rust_lexer.specs.declared.kind.TokenKind.TheVariants as kinds
 use Rattle.rust_lexer.specs.Piece.{Piece}
@@ -9,44 +9,36 @@ use Rattle.rust_cursor.proofs.Local.{both_true}
 use Rattle.rust_cursor.proofs.Around.{around, Within, same_within, is_plain, IsSound, sound_on, Remains, NoCloser, OpensAt, round, opens_at, opens_no_closer, not_end, plain_of, plain_upto, plain_around, other_around, word_symbol, entered_within, inside_within, tree_within, turns_within, elements_within, tree_text_within, to_around}
 use Rattle.rust_cursor.proofs.Enclosed.{AreEnclosed}
 use Rattle.rust_cursor.proofs.Near.{nothing}
-use Rattle.rust_paths.proofs.Around.{name_around, path_within, raw_symbol}
+use Rattle.rust_cursor.proofs.Looks.{kind_symbol}
+use Rattle.rust_paths.proofs.Segments.{name_within, path_within}
 use Rattle.rust_paths.specs.Names.{behind_hash}
 use Rattle.rust_paths.specs.Paths.{is_raw}
 use Rattle.rust_metas.specs.Metas.{is_text}
-use Rattle.rust_metas.proofs.Leads.{option_name_leads, if_named_leads, condition_with_leads, conditions_leads, condition_leads, member_leads, members_leads, meta_leads, attribute_leads}
+use Rattle.rust_cursor.specs.Grammar.{Grammar, inside}
+use Rattle.rust_cursor.specs.Anchored.{Anchored}
+use Rattle.rust_cursor.proofs.Anchored.{rule_leads_from}
+use Rattle.rust_metas.proofs.Leads.{attribute_leads}
 
 -- ---- literals
 
-literal_first : (left : List Piece) → is_literal_kind (by_first None (λ t. Some t.kind) left) ≡ true → by_first 0 symbol_of left ≡ 0
-literal_first [] e = refl
-literal_first (t ∷ left) e = by t.kind t.text e
-  where
-    by : (k : TokenKind) (z : List ℕ) → is_literal_kind (Some k) ≡ true → symbol_of (record { kind = k; text = z; at = 0 }) ≡ 0
-    by (kinds.Literal l) z e = refl
-    by _ z e = absurd cc
-
-pub kind_symbol : (ts : Tokens) → is_literal_kind (kind ts) ≡ true → symbol ts ≡ 0
-unfolding kind symbol
-kind_symbol ts e = literal_first ts.left e
-
 -- a literal has no symbol
-pub literal_symbol : (ts : Tokens) → is_literal ts ≡ true → symbol ts ≡ 0
+pub literal_symbol : (ts : Tokens) → sees is_literal ts ≡ true → symbol ts ≡ 0
 unfolding is_literal is_truth
 literal_symbol ts e =
-    when (is_literal_kind (kind ts)) (λ f. kind_symbol ts f)
+    when (is_literal_kind (kind ts)) (λ f. kind_symbol is_literal_kind refl ts f)
     (λ f. let g = rw f at e in
     when (bytes_eq (word ts) (codes "true")) (λ i. word_symbol (codes "true") ts refl i)
     (λ i. let j = rw i at g in word_symbol (codes "false") ts refl j))
 
-value_around : (c anchor : ℕ) (ts : Tokens) → around c (value anchor ts).1 ≡ around c ts
+value_around : (c anchor : ℕ) (ts : Tokens) → around c (reads_from anchor value ts).1 ≡ around c ts
 unfolding value
 value_around c anchor ts =
-    when (is_literal ts && is_ended (bumped ts))
-    (λ e. rw e (plain_around c ts (literal_symbol ts (both_true (is_literal ts) (is_ended (bumped ts)) e).0))) (λ e. rw e refl)
+    when (sees is_literal ts && sees is_ended (bumped ts))
+    (λ e. rw e (plain_around c ts (literal_symbol ts (both_true (sees is_literal ts) (sees is_ended (bumped ts)) e).0))) (λ e. rw e refl)
 
 -- ---- conditions
 
-comma_within : (end c n : ℕ) (ts : Tokens) → IsSound end ts → Within c (tree_comma_from n ts) ts
+comma_within : (end c n : ℕ) (ts : Tokens) → IsSound end ts → Within c (reads (comma_from n) ts).1 ts
 comma_within end c zero ts s = here
 comma_within end c (suc n) ts s =
     when (is_at_end ts) (λ e. rw e here)
@@ -54,7 +46,7 @@ comma_within end c (suc n) ts s =
     (λ f. rw f (through (comma_within end c n (behind_tree ts) (sound_on end (behind_tree_leads ts) s)) (tree_within end c ts s (not_end end ts s e))))))
 
 behind_comma_within : (end c : ℕ) (ts : Tokens) → IsSound end ts → Within c (tree_behind_comma ts) ts
-unfolding tree_behind_comma
+unfolding comma
 behind_comma_within end c ts s = comma_within end c _ ts s
 
 -- an option's word begins with no symbol, or with the `r` of `r#true`
@@ -75,7 +67,7 @@ module _ (P : ℕ → Type 0) (none : P 0) (raw : P 114) where
   option_kind kinds.Punct z e = option_text z e
   option_kind _ z e = none
 
-  pub option_symbol : (ts : Tokens) → is_option_word ts ≡ true → P (symbol ts)
+  pub option_symbol : (ts : Tokens) → sees is_option_word ts ≡ true → P (symbol ts)
   unfolding is_option_word symbol text kind
   option_symbol ts e = first ts.left e
     where
@@ -84,64 +76,67 @@ module _ (P : ℕ → Type 0) (none : P 0) (raw : P 114) where
       first [] e = none
       first (t ∷ left) e = option_kind t.kind t.text e
 
-option_name_around : (c : ℕ) (ts : Tokens) → around c (option_name ts).1 ≡ around c ts
+option_name_within : (end c : ℕ) → Remains end c (reads option_name)
 unfolding option_name
-option_name_around c ts = when (is_option_word ts) (λ e. rw e (plain_upto c ts (plain_of (symbol ts) (option_symbol (λ s. is_plain s ≡ true) refl refl ts e)))) (λ e. rw e (name_around c ts))
+option_name_within end c ts s =
+    when (sees is_option_word ts) (λ e. rw e (same_within c (bumped ts) ts (plain_upto c ts (plain_of (symbol ts) (option_symbol (λ s. is_plain s ≡ true) refl refl ts e)))))
+    (λ e. rw e (name_within end c ts s))
 
-pair_around : (c : ℕ) (key : List ℕ) (ts : Tokens) → (symbol ts == 61) ≡ true → around c (pair key ts).1 ≡ around c ts
+pair_around : (c : ℕ) (key : List ℕ) (ts : Tokens) → around c (reads (pair key) ts).1 ≡ around c ts
 unfolding pair
-pair_around c key ts e =
-    let first = other_around c 61 ts refl e in
-    when (is_literal_kind (kind (bumped ts))) (λ f. rw f (plain_around c (bumped ts) (kind_symbol (bumped ts) f) ∙ first)) (λ f. rw f first)
+pair_around c key ts = when (is_literal_kind (kind ts)) (λ f. rw f (plain_around c ts (kind_symbol is_literal_kind refl ts f))) (λ f. rw f refl)
 
-module _ (end : ℕ) (inside : Reader (Option (List CfgView))) (i : (c : ℕ) → Remains end c inside) (f : Forwards inside) where
-  named_within : (c : ℕ) (w : List ℕ) → Remains end c (named_condition inside w)
+ended_within : (end c : ℕ) (v : CfgView) → Remains end c (reads (ended_condition v))
+unfolding ended_condition
+ended_within end c v ts s = when (sees is_ended ts) (λ e. rw e (behind_comma_within end c ts s)) (λ e. rw e (behind_comma_within end c ts s))
+
+module _ (end : ℕ) (inner : Grammar inside (Option (List CfgView))) (i : (c : ℕ) → Remains end c (reads inner)) where
+  named_within : (c : ℕ) (w : List ℕ) → Remains end c (reads (named_condition inner w))
   named_within c w ts s =
       when (is_at_open ts)
-      (λ e. rw e (inside_within end c ts (inside (bumped ts)).1 s (opens_at end ts s e) (f (bumped ts)) (i (symbol ts) (bumped ts) (sound_on end (bumped_leads ts) s))))
-      (λ e. rw e (when (symbol ts == 61) (λ g. rw g (same_within c _ ts (pair_around c w ts g))) (λ g. rw g here)))
+      (λ e. rw e (inside_within end c ts (reads inner (bumped ts)).1 s (opens_at end ts s e) (rule_leads inner (bumped ts)) (i (symbol ts) (bumped ts) (sound_on end (bumped_leads ts) s))))
+      (λ e. rw e (when (symbol ts == 61) (λ g. rw g (same_within c _ ts (pair_around c w (bumped ts) ∙ other_around c 61 ts refl g))) (λ g. rw g here)))
 
-  if_named_within : (c : ℕ) (o : Option (List ℕ)) → Remains end c (if_named inside o)
+  if_named_within : (c : ℕ) (o : Option (List ℕ)) → Remains end c (reads (if_named inner o))
   if_named_within c None ts s = here
   if_named_within c (Some w) ts s = named_within c w ts s
 
-  condition_with_within : (c : ℕ) → Remains end c (condition_with inside)
-  unfolding ended_condition
+  condition_with_within : (c : ℕ) → Remains end c (reads (condition_with inner))
   condition_with_within c ts s =
-      let first = option_name ts in
-      let second = if_named inside first.0 first.1 in
-      let s1 = sound_on end (option_name_leads ts) s in
-      through (behind_comma_within end c second.1 (sound_on end (if_named_leads inside f first.0 first.1) s1)) (through (if_named_within c first.0 first.1 s1) (same_within c first.1 ts (option_name_around c ts)))
+      let first = reads option_name ts in
+      let second = reads (if_named inner first.0) first.1 in
+      let s1 = sound_on end (rule_leads option_name ts) s in
+      through (ended_within end c second.0 second.1 (sound_on end (rule_leads (if_named inner first.0) first.1) s1)) (through (if_named_within c first.0 first.1 s1) (option_name_within end c ts s))
 
-conditions_within : (end depth c : ℕ) → Remains end c (conditions depth)
+conditions_within : (end depth c : ℕ) → Remains end c (reads (conditions depth))
 unfolding conditions
 conditions_within end zero c ts s = here
 conditions_within end (suc depth) c ts s =
     let inner = condition_with (conditions depth) in
-    elements_within end c (one inner) (condition_with_leads (conditions depth) (conditions_leads depth)) (condition_with_within end (conditions depth) (conditions_within end depth) (conditions_leads depth) c) ts s
+    elements_within end c (one (reads inner)) (λ us. rule_leads inner us) (condition_with_within end (conditions depth) (conditions_within end depth) c) ts s
 
-condition_within : (end depth c : ℕ) → Remains end c (condition depth)
+condition_within : (end depth c : ℕ) → Remains end c (reads (condition depth))
 unfolding condition
-condition_within end depth c ts s = condition_with_within end (conditions depth) (conditions_within end depth) (conditions_leads depth) c ts s
+condition_within end depth c ts s = condition_with_within end (conditions depth) (conditions_within end depth) c ts s
 
 -- ---- metas
 
-input_within : (end c anchor : ℕ) (p : Option PathNode) → Remains end c (input anchor p)
+input_within : (end c anchor : ℕ) (p : Option PathNode) → Remains end c (reads_from anchor (input p))
 unfolding input
 input_within end c anchor p ts s =
     when (symbol ts == 61) (λ e. rw e (same_within c _ ts (value_around c anchor (bumped ts) ∙ other_around c 61 ts refl e)))
     (λ e. rw e (when (is_at_open ts) (λ f. rw f (tree_text_within c ts (opens_no_closer (symbol ts) (opens_at end ts s f)))) (λ f. rw f here)))
 
-plain_within : (end c anchor : ℕ) → Remains end c (plain_meta anchor)
+plain_within : (end c anchor : ℕ) → Remains end c (reads_from anchor plain_meta)
 unfolding plain_meta
-plain_within end c anchor ts s = through (input_within end c anchor (path ts).0 (path ts).1 (sound_on end (path_leads ts) s)) (path_within end c ts s)
+plain_within end c anchor ts s = through (input_within end c anchor (reads path ts).0 (reads path ts).1 (sound_on end (rule_leads path ts) s)) (path_within end c ts s)
 
 -- a name has no symbol, written as `r#name` or not
-pub named_symbol : (w : List ℕ) (ts : Tokens) → bytes_eq [] w ≡ false → is_at_name w ts ≡ true → symbol ts ≡ 0
+pub named_symbol : (w : List ℕ) (ts : Tokens) → bytes_eq [] w ≡ false → sees (is_at_name w) ts ≡ true → symbol ts ≡ 0
 unfolding is_at_name
 named_symbol w ts empty e =
     when (bytes_eq (word ts) w) (λ f. word_symbol w ts empty f)
-    (λ f. let raw : (is_raw (kind ts) && is_text w (behind_hash (text ts))) ≡ true = rw f at e in raw_symbol ts (both_true (is_raw (kind ts)) (is_text w (behind_hash (text ts))) raw).0)
+    (λ f. let raw : (is_raw (kind ts) && is_text w (behind_hash (text ts))) ≡ true = rw f at e in kind_symbol is_raw refl ts (both_true (is_raw (kind ts)) (is_text w (behind_hash (text ts))) raw).0)
 
 -- behind a token without a symbol and a bracket
 behind_within : (end c : ℕ) (ts us : Tokens) → symbol ts ≡ 0 → IsSound end ts → is_at_open (bumped ts) ≡ true → LeadsTo (bumped (bumped ts)) us → Within (symbol (bumped ts)) us (bumped (bumped ts))
@@ -151,7 +146,7 @@ behind_within end c ts us plain s e p h =
     through (inside_within end c (bumped ts) us s1 (opens_at end (bumped ts) s1 e) p h) (same_within c (bumped ts) ts (plain_around c ts plain))
 
 -- behind a word and a bracket
-call_within : (end c : ℕ) (w : List ℕ) (ts us : Tokens) → bytes_eq [] w ≡ false → IsSound end ts → is_call w ts ≡ true → LeadsTo (bumped (bumped ts)) us → Within (symbol (bumped ts)) us (bumped (bumped ts))
+call_within : (end c : ℕ) (w : List ℕ) (ts us : Tokens) → bytes_eq [] w ≡ false → IsSound end ts → sees (is_call w) ts ≡ true → LeadsTo (bumped (bumped ts)) us → Within (symbol (bumped ts)) us (bumped (bumped ts))
     → Within c (behind_closed (symbol (bumped ts)) us) ts
 unfolding is_call
 call_within end c w ts us empty s e p h =
@@ -159,65 +154,59 @@ call_within end c w ts us empty s e p h =
     behind_within end c ts us (word_symbol w ts empty first.0) s first.1 p h
 
 -- and behind a name
-named_call_within : (end c : ℕ) (w : List ℕ) (ts us : Tokens) → bytes_eq [] w ≡ false → IsSound end ts → is_named_call w ts ≡ true → LeadsTo (bumped (bumped ts)) us → Within (symbol (bumped ts)) us (bumped (bumped ts))
+named_call_within : (end c : ℕ) (w : List ℕ) (ts us : Tokens) → bytes_eq [] w ≡ false → IsSound end ts → sees (is_named_call w) ts ≡ true → LeadsTo (bumped (bumped ts)) us → Within (symbol (bumped ts)) us (bumped (bumped ts))
     → Within c (behind_closed (symbol (bumped ts)) us) ts
 unfolding is_named_call
 named_call_within end c w ts us empty s e p h =
-    let first = both_true (is_at_name w ts) (is_at_open (bumped ts)) e in
+    let first = both_true (sees (is_at_name w) ts) (is_at_open (bumped ts)) e in
     behind_within end c ts us (named_symbol w ts empty first.0) s first.1 p h
 
-module _ (end : ℕ) (inner : Reader MetaView) (condition : Reader CfgView) (i : (c : ℕ) → Remains end c inner) (f : Forwards inner) (j : (c : ℕ) → Remains end c condition) (d : Forwards condition) where
-  member_within : (c : ℕ) → Remains end c (member inner)
-  member_within c ts s = through (behind_comma_within end c (inner ts).1 (sound_on end (f ts) s)) (i c ts s)
+module _ (end anchor : ℕ) (inner : Anchored MetaView) (condition : Grammar inside CfgView) (i : (c : ℕ) → Remains end c (reads_from anchor inner)) (j : (c : ℕ) → Remains end c (reads condition)) where
+  member_within : (c : ℕ) → Remains end c (reads_from anchor (member inner))
+  member_within c ts s = through (behind_comma_within end c (reads_from anchor inner ts).1 (sound_on end (rule_leads_from anchor inner ts) s)) (i c ts s)
 
-  meta_with_within : (anchor c : ℕ) → Remains end c (meta_with anchor inner condition)
-  meta_with_within anchor c ts s =
+  members_within : (c : ℕ) → Remains end c (elements (one (reads_from anchor (member inner))))
+  members_within c = elements_within end c (one (reads_from anchor (member inner))) (λ us. rule_leads_from anchor (member inner) us) (member_within c)
+
+  meta_with_within : (c : ℕ) → Remains end c (reads_from anchor (meta_with inner condition))
+  meta_with_within c ts s =
       let twice = bumped (bumped ts) in
       let b = symbol (bumped ts) in
       let s2 : IsSound end twice = sound_on end (further (bumped_leads (bumped ts))) s in
-      when (is_call (codes "unsafe") ts) (λ e. rw e (call_within end c (codes "unsafe") ts (inner twice).1 refl s e (f twice) (i b twice s2)))
-      (λ e. rw e (when (is_named_call (codes "cfg") ts) (λ g. rw g (named_call_within end c (codes "cfg") ts (condition twice).1 refl s g (d twice) (j b twice s2)))
-      (λ g. rw g (when (is_named_call (codes "cfg_attr") ts)
-      (λ h. rw h (named_call_within end c (codes "cfg_attr") ts (elements (one (member inner)) (condition twice).1).1 refl s h (through (d twice) (members_leads inner condition f d (condition twice).1))
-      (through (elements_within end b (one (member inner)) (member_leads inner condition f d) (member_within b) (condition twice).1 (sound_on end (d twice) s2)) (j b twice s2))))
+      let behind = reads condition twice in
+      when (sees (is_call (codes "unsafe")) ts) (λ e. rw e (call_within end c (codes "unsafe") ts (reads_from anchor inner twice).1 refl s e (rule_leads_from anchor inner twice) (i b twice s2)))
+      (λ e. rw e (when (sees (is_named_call (codes "cfg")) ts) (λ g. rw g (named_call_within end c (codes "cfg") ts behind.1 refl s g (rule_leads condition twice) (j b twice s2)))
+      (λ g. rw g (when (sees (is_named_call (codes "cfg_attr")) ts)
+      (λ h. rw h (named_call_within end c (codes "cfg_attr") ts (reads_from anchor (conditional inner condition) twice).1 refl s h (rule_leads_from anchor (conditional inner condition) twice)
+      (through (members_within b behind.1 (sound_on end (rule_leads condition twice) s2)) (j b twice s2))))
       (λ h. rw h (plain_within end c anchor ts s))))))
 
-meta_within : (end anchor depth c : ℕ) → Remains end c (meta anchor depth)
+meta_within : (end anchor depth c : ℕ) → Remains end c (reads_from anchor (meta depth))
 unfolding meta
 meta_within end anchor zero c ts s = here
-meta_within end anchor (suc depth) c ts s =
-    meta_with_within end (meta anchor depth) (condition depth) (meta_within end anchor depth) (meta_leads anchor depth) (condition_within end depth) (condition_leads depth) anchor c ts s
+meta_within end anchor (suc depth) c ts s = meta_with_within end anchor (meta depth) (condition depth) (meta_within end anchor depth) (condition_within end depth) c ts s
 
 -- ---- attributes
 
-doc_first : (style : DocStyle) (left : List Piece) → is_style style (style_by (by_first None (λ t. Some t.kind) left)) ≡ true → by_first 0 symbol_of left ≡ 0
-doc_first style [] e = refl
-doc_first style (t ∷ left) e = by style t.kind t.text e
-  where
-    by : (style : DocStyle) (k : TokenKind) (z : List ℕ) → is_style style (style_by (Some k)) ≡ true → symbol_of (record { kind = k; text = z; at = 0 }) ≡ 0
-    by style (kinds.LineComment o) z e = refl
-    by style (kinds.BlockComment o) z e = refl
-    by Outer _ z e = absurd cc
-    by Inner _ z e = absurd cc
-
-pub doc_symbol : (style : DocStyle) (ts : Tokens) → is_doc style ts ≡ true → symbol ts ≡ 0
-unfolding is_doc kind symbol
-doc_symbol style ts e = doc_first style ts.left e
+pub doc_symbol : (style : DocStyle) (ts : Tokens) → sees (is_doc style) ts ≡ true → symbol ts ≡ 0
+unfolding is_doc
+doc_symbol Outer ts e = kind_symbol (λ k. is_style Outer (style_by k)) refl ts e
+doc_symbol Inner ts e = kind_symbol (λ k. is_style Inner (style_by k)) refl ts e
 
 square_opens : (ts : Tokens) → (symbol ts == 91) ≡ true → OpensAt (symbol ts)
 square_opens ts e = let is = eqb-true (symbol ts) 91 e in round (rw is refl) (rw is refl)
 
-bracketed_within : (end c anchor : ℕ) (ts : Tokens) → IsSound end ts → (symbol ts == 91) ≡ true → Within c (bracketed anchor ts).1 ts
+bracketed_within : (end c anchor : ℕ) (ts : Tokens) → IsSound end ts → (symbol ts == 91) ≡ true → Within c (reads_from anchor bracketed ts).1 ts
 unfolding bracketed
 bracketed_within end c anchor ts s e =
-    let us = (meta anchor deepest (bumped ts)).1 in
+    let us = (reads_from anchor (meta deepest) (bumped ts)).1 in
     let is = eqb-true (symbol ts) 91 e in
     let s1 = sound_on end (bumped_leads ts) s in
     when (begins_item us)
     (λ f. rw f (through (meta_within end anchor deepest c (bumped ts) s1) (entered_within c ts (square_opens ts e))))
-    (λ f. rw f (subst (λ (b : ℕ). Within c (behind_closed b us) ts) is (inside_within end c ts us s (square_opens ts e) (meta_leads anchor deepest (bumped ts)) (meta_within end anchor deepest (symbol ts) (bumped ts) s1))))
+    (λ f. rw f (subst (λ (b : ℕ). Within c (behind_closed b us) ts) is (inside_within end c ts us s (square_opens ts e) (rule_leads_from anchor (meta deepest) (bumped ts)) (meta_within end anchor deepest (symbol ts) (bumped ts) s1))))
 
-opened_within : (end c anchor : ℕ) (style : DocStyle) (ts : Tokens) → IsSound end ts → is_attribute style ts ≡ true → Within c (bracketed anchor (past_mark style ts)).1 ts
+opened_within : (end c anchor : ℕ) (style : DocStyle) (ts : Tokens) → IsSound end ts → sees (is_attribute style) ts ≡ true → Within c (reads_from anchor bracketed (past_mark style ts)).1 ts
 unfolding is_attribute
 opened_within end c anchor Outer ts s e =
     let both = both_true (symbol ts == 35) (symbol (bumped ts) == 91) e in
@@ -233,31 +222,31 @@ either false true e f = refl
 either false false e f = absurd cc
 either true b e f = absurd cc
 
-is_one : (style : DocStyle) (ts : Tokens) → is_behind style ts ≡ false → is_doc style ts ≡ false → is_attribute style ts ≡ true
+is_one : (style : DocStyle) (ts : Tokens) → sees (is_behind style) ts ≡ false → sees (is_doc style) ts ≡ false → sees (is_attribute style) ts ≡ true
 unfolding is_behind
-is_one style ts e f = either (is_doc style ts) (is_attribute style ts) e f
+is_one style ts e f = either (sees (is_doc style) ts) (sees (is_attribute style) ts) e f
 
-one_attribute_within : (end c anchor : ℕ) (style : DocStyle) (ts : Tokens) → IsSound end ts → is_behind style ts ≡ false → Within c (one_attribute anchor style ts).1 ts
-unfolding one_attribute doc documentation
+one_attribute_within : (end c anchor : ℕ) (style : DocStyle) (ts : Tokens) → IsSound end ts → sees (is_behind style) ts ≡ false → Within c (reads_from anchor (one_attribute style) ts).1 ts
+unfolding one_attribute
 one_attribute_within end c anchor style ts s e =
-    when (is_doc style ts) (λ f. rw f (same_within c (bumped ts) ts (plain_around c ts (doc_symbol style ts f)))) (λ f. rw f (opened_within end c anchor style ts s (is_one style ts e f)))
+    when (sees (is_doc style) ts) (λ f. rw f (same_within c (bumped ts) ts (plain_around c ts (doc_symbol style ts f)))) (λ f. rw f (opened_within end c anchor style ts s (is_one style ts e f)))
 
-docs_around : (c n : ℕ) (ts : Tokens) → around c (behind_docs_from n ts) ≡ around c ts
+docs_around : (c n : ℕ) (ts : Tokens) → around c (past_from (sees (is_doc Inner)) n ts) ≡ around c ts
 docs_around c zero ts = refl
-docs_around c (suc n) ts = when (is_doc Inner ts) (λ e. rw e (docs_around c n (bumped ts) ∙ plain_around c ts (doc_symbol Inner ts e))) (λ e. rw e refl)
+docs_around c (suc n) ts = when (sees (is_doc Inner) ts) (λ e. rw e (docs_around c n (bumped ts) ∙ plain_around c ts (doc_symbol Inner ts e))) (λ e. rw e refl)
 
 behind_attribute_around : (c : ℕ) (style : DocStyle) (ts : Tokens) → around c (behind_attribute style ts) ≡ around c ts
 unfolding behind_docs
 behind_attribute_around c Outer ts = docs_around c _ ts
 behind_attribute_around c Inner ts = refl
 
-attribute_within : (end c : ℕ) (style : DocStyle) (ts : Tokens) → IsSound end ts → is_behind style ts ≡ false → Within c (attribute style ts).1 ts
+attribute_within : (end c : ℕ) (style : DocStyle) (ts : Tokens) → IsSound end ts → sees (is_behind style) ts ≡ false → Within c (attribute style ts).1 ts
 unfolding attribute
 attribute_within end c style ts s e =
-    let us = (one_attribute (at ts) style ts).1 in
+    let us = (reads_from (at ts) (one_attribute style) ts).1 in
     through (same_within c (behind_attribute style us) us (behind_attribute_around c style us)) (one_attribute_within end c (at ts) style ts s e)
 
-hash_no_closer : (style : DocStyle) (ts : Tokens) → is_attribute style ts ≡ true → NoCloser (symbol ts)
+hash_no_closer : (style : DocStyle) (ts : Tokens) → sees (is_attribute style) ts ≡ true → NoCloser (symbol ts)
 unfolding is_attribute
 hash_no_closer Outer ts e = let both = both_true (symbol ts == 35) (symbol (bumped ts) == 91) e in let is = eqb-true (symbol ts) 35 both.0 in rw is (record { no_brace = refl; no_other = refl })
 hash_no_closer Inner ts e =
@@ -265,14 +254,14 @@ hash_no_closer Inner ts e =
     let is = eqb-true (symbol ts) 35 both.0 in
     rw is (record { no_brace = refl; no_other = refl })
 
-attribute_no_closer : (style : DocStyle) (ts : Tokens) → is_behind style ts ≡ false → NoCloser (symbol ts)
+attribute_no_closer : (style : DocStyle) (ts : Tokens) → sees (is_behind style) ts ≡ false → NoCloser (symbol ts)
 attribute_no_closer style ts e =
-    when (is_doc style ts) (λ f. rw (doc_symbol style ts f) (record { no_brace = refl; no_other = refl })) (λ f. hash_no_closer style ts (is_one style ts e f))
+    when (sees (is_doc style) ts) (λ f. rw (doc_symbol style ts f) (record { no_brace = refl; no_other = refl })) (λ f. hash_no_closer style ts (is_one style ts e f))
 
 attributes_within : (end c : ℕ) (style : DocStyle) → Remains end c (attributes style)
 unfolding attributes
 attributes_within end c style ts s =
-    turns_within end c (is_behind style) (one (attribute style)) (attribute_leads style) (attribute_within end c style) (λ ts s e. attribute_no_closer style ts e) ts s
+    turns_within end c (sees (is_behind style)) (one (attribute style)) (attribute_leads style) (attribute_within end c style) (λ ts s e. attribute_no_closer style ts e) ts s
 
 inner_attributes_within : (end c : ℕ) → Remains end c inner_attributes
 unfolding inner_attributes

@@ -2,7 +2,7 @@
 use Rattle.std.proofs.Common.{◌≡◌, ◌-◌, ℕ, zero, suc, Bool, true, false, List, [], ◌∷◌, ◌++◌, refl, sym, ap, ◌∙◌, arith, if◌then◌else◌}
 use Rattle.std.proofs.lemmas.List.Elements.{filter-append}
 use Rattle.rust_metas.specs.declared.wanted.WantedMetas.TheVariants as wanted
-use Rattle.rust_metas.proofs.Common.{MetaView, DocStyle, Tokens, Reader, bumped, most, beyond, turns_from, turns, one, is_doc, is_behind, one_attribute, behind_attribute, attribute, attributes, WantedMetas, is_wanted_meta, kept_metas, kept_by, documentation, doc}
+use Rattle.rust_metas.proofs.Common.{MetaView, DocStyle, Tokens, Reader, bumped, most, beyond, turns_from, turns, one, is_doc, is_behind, one_attribute, behind_attribute, attribute, attributes, WantedMetas, is_wanted_meta, kept_metas, kept_by, sees}
 
 pub kept_append : (w : WantedMetas) (ms ns : List MetaView) → kept_metas w (ms ++ ns) ≡ kept_metas w ms ++ kept_metas w ns
 unfolding kept_metas
@@ -34,14 +34,14 @@ abbrev pub keeps_docs : WantedMetas → Bool
 keeps_docs wanted.All = true
 keeps_docs _ = false
 
-doc_dropped : (w : WantedMetas) (style : DocStyle) (ts : Tokens) → keeps_docs w ≡ false → is_doc style ts ≡ true → kept_by w (one (attribute style)) ts ≡ ([], behind_attribute style (bumped ts))
-unfolding attribute one_attribute doc documentation kept_metas
+doc_dropped : (w : WantedMetas) (style : DocStyle) (ts : Tokens) → keeps_docs w ≡ false → sees (is_doc style) ts ≡ true → kept_by w (one (attribute style)) ts ≡ ([], behind_attribute style (bumped ts))
+unfolding attribute one_attribute kept_metas
 doc_dropped wanted.All style ts k e = absurd cc
 doc_dropped wanted.Undocumented style ts k e = rw e refl
 doc_dropped wanted.Conditions style ts k e = rw e refl
 
 -- a documentation comment is passed over
-pub doc_passed : (w : WantedMetas) (style : DocStyle) (told : Bool) (ts us : Tokens) → keeps_docs w ≡ false → told ≡ is_doc style ts → us ≡ (if told then behind_attribute style (bumped ts) else ts) → told ≡ true
+pub doc_passed : (w : WantedMetas) (style : DocStyle) (told : Bool) (ts us : Tokens) → keeps_docs w ≡ false → told ≡ sees (is_doc style) ts → us ≡ (if told then behind_attribute style (bumped ts) else ts) → told ≡ true
     → kept_by w (one (attribute style)) ts ≡ ([], us)
 doc_passed w style told ts us k d n taken =
     let behind : us ≡ behind_attribute style (bumped ts) = n ∙ rw taken refl in
@@ -68,10 +68,10 @@ turns_kept w ends reader (suc n) done ts =
 
 -- the attributes that are kept, one after another
 pub attributes_kept : (w : WantedMetas) (style : DocStyle) (ts : Tokens) (bound : ℕ) (done : List MetaView) → bound ≡ most → done ≡ []
-    → turns_from (is_behind style) (kept_by w (one (attribute style))) (bound - 0) done ts ≡ kept_by w (attributes style) ts
+    → turns_from (sees (is_behind style)) (kept_by w (one (attribute style))) (bound - 0) done ts ≡ kept_by w (attributes style) ts
 unfolding attributes turns
 attributes_kept w style ts bound done whole none =
     let turns_left : bound - 0 ≡ bound = omega arith in
-    ap (λ n. turns_from (is_behind style) (kept_by w (one (attribute style))) n done ts) (turns_left ∙ whole)
-    ∙ ap (λ l. turns_from (is_behind style) (kept_by w (one (attribute style))) most l ts) (none ∙ sym (kept_none w))
-    ∙ turns_kept w (is_behind style) (one (attribute style)) most [] ts
+    ap (λ n. turns_from (sees (is_behind style)) (kept_by w (one (attribute style))) n done ts) (turns_left ∙ whole)
+    ∙ ap (λ l. turns_from (sees (is_behind style)) (kept_by w (one (attribute style))) most l ts) (none ∙ sym (kept_none w))
+    ∙ turns_kept w (sees (is_behind style)) (one (attribute style)) most [] ts

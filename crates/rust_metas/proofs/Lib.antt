@@ -6,8 +6,6 @@ pub mod Strings
 pub mod Texts
 pub mod Leads
 pub mod Around
-pub mod Alike
-pub mod AlikeMetas
 pub mod AlikeAttributes
 pub mod UntilAttributes
 pub mod RoundTexts

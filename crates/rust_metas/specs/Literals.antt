@@ -1,5 +1,5 @@
 -- Literals and documentation comments. Their spans count from a place in the text, the anchor.
-use Rattle.std.specs.Prelude.{ℕ, Bool, ◌==◌, ◌-◌, ◌&&◌, ◌||◌, min, if◌then◌else◌, Option, Some, None, List, length, take, drop, slice_index, codes, bytes_eq}
+use Rattle.std.specs.Prelude.{◌≡◌, refl, true, ℕ, Bool, ◌==◌, ◌-◌, ◌&&◌, min, if◌then◌else◌, Option, Some, None, List, length, take, drop, slice_index, codes}
 use Rattle.hir_input.specs.declared.edition.EditionYear.TheVariants.{E2024}
 use Rattle.hir_input.specs.declared.ids.SyntaxContext.{SyntaxContext}
 use Rattle.hir_input.specs.declared.ids.SyntaxContext.TheVariants.{Root}
@@ -13,7 +13,9 @@ use Rattle.rust_lexer.specs.declared.kind.TokenKind.TheVariants as kinds
 use Rattle.rust_cursor.specs.Nests.{is_literal_kind}
 use Rattle.rust_cursor.specs.Tokens.{Tokens}
 use Rattle.rust_cursor.specs.Reader.{Reader}
-use Rattle.rust_cursor.specs.Words.{symbol, word, kind, text, at, bumped, is_at_end}
+use Rattle.rust_cursor.specs.Words.{kind, text, at, bumped}
+use Rattle.rust_cursor.specs.Looks.{Lookahead, at_end, either_seen, kind_is, may_skip, symbol_is, then_seen, word_is}
+use Rattle.rust_cursor.specs.Anchored.{Anchored, gives_from, spans}
 use Rattle.rust_metas.specs.Strings.{as_text, and_text, unescaped, raw_string_bytes, written}
 
 -- where all that is written in a text comes from
@@ -24,9 +26,13 @@ root = Root E2024
 abbrev pub place : ℕ → ℕ
 place at = min at 4294967295
 
--- from here to there, counted from the anchor
+-- from here to there
+abbrev pub span_between : ℕ → ℕ → Span
+span_between start end = record { start = place start; end = place end; ctxt = root }
+
+-- the same, counted from the anchor
 abbrev pub span_from : ℕ → ℕ → ℕ → Span
-span_from anchor start end = record { start = place (start - anchor); end = place (end - anchor); ctxt = root }
+span_from anchor start end = span_between (start - anchor) (end - anchor)
 
 -- ---- literals
 
@@ -41,24 +47,36 @@ string_by (Some (kinds.Literal k)) z = string_of k z
 string_by _ z = None
 
 -- `true` and `false`
-unfoldable pub is_truth : Tokens → Bool
-is_truth ts = bytes_eq (word ts) (codes "true") || bytes_eq (word ts) (codes "false")
+unfoldable pub is_truth : Lookahead
+is_truth = either_seen (word_is (codes "true")) (word_is (codes "false"))
 
 -- LiteralExpression
-unfoldable pub is_literal : Tokens → Bool
-is_literal ts = is_literal_kind (kind ts) || is_truth ts
+unfoldable pub is_literal : Lookahead
+is_literal = either_seen (kind_is is_literal_kind) is_truth
 
 -- a comma comes next, a bracket that closes, or nothing
-unfoldable pub is_ended : Tokens → Bool
-is_ended ts = is_at_end ts || symbol ts == 44
+unfoldable pub is_ended : Lookahead
+is_ended = either_seen at_end (symbol_is 44)
+
+pub ended_skipped : may_skip is_ended 0 ≡ true
+unfolding is_ended
+ended_skipped = refl
+
+-- the literal that a token of this kind and text is
+abbrev pub literal_by : Option TokenKind → List ℕ → Span → LiteralView
+literal_by k z span = record { rendered = z; string = string_by k z; span = span }
 
 -- the literal that comes next
 unfoldable pub next_literal : ℕ → Tokens → LiteralView
-next_literal anchor ts = record { rendered = text ts; string = string_by (kind ts) (text ts); span = span_from anchor (at ts) (bumped ts).past }
+next_literal anchor ts = literal_by (kind ts) (text ts) (span_from anchor (at ts) (bumped ts).past)
+
+pub literal_skipped : may_skip (then_seen is_literal 1 is_ended) 1 ≡ true
+unfolding is_literal is_truth is_ended
+literal_skipped = refl
 
 -- a literal, if one comes next and nothing stands behind it: any other expression is none
-unfoldable pub value : ℕ → Reader (Option LiteralView)
-value anchor ts = if is_literal ts && is_ended (bumped ts) then (Some (next_literal anchor ts), bumped ts) else (None, ts)
+unfoldable pub value : Anchored (Option LiteralView)
+value = spans (then_seen is_literal 1 is_ended) literal_skipped (λ y k z start end. Some (literal_by k z (span_between start end))) (gives_from None)
 
 -- ---- documentation comments
 

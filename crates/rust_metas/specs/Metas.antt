@@ -1,87 +1,81 @@
--- Metas. The spans of their literals count from the anchor, which is the first argument.
-use Rattle.std.specs.Prelude.{ℕ, zero, suc, Bool, false, ◌==◌, ◌&&◌, ◌||◌, if◌then◌else◌, Option, Some, None, List, [], ◌∷◌, codes, bytes_eq}
+-- Metas. The spans of their literals count from an anchor.
+use Rattle.std.specs.Prelude.{◌≡◌, refl, true, ℕ, zero, suc, Bool, false, Option, Some, None, List, [], ◌∷◌, codes, bytes_eq}
 use Rattle.hir_input.specs.declared.ast.PathNode.{PathNode}
 use Rattle.hir_input.specs.declared.ast.PathNode.TheVariants.{Readable}
 use Rattle.hir_input.specs.declared.mod_path.PathKind.TheVariants.{Plain}
 use Rattle.hir_input.specs.Attr.{MetaView, path_meta, key_value_meta, token_tree_meta, cfg_meta, cfg_attr_meta, unsafe_meta, metas_from}
 use Rattle.hir_input.specs.Cfg.{CfgView}
-use Rattle.rust_cursor.specs.Tokens.{Tokens}
-use Rattle.rust_cursor.specs.Reader.{Reader, ◌>>=◌, pure, pass}
-use Rattle.rust_cursor.specs.Words.{symbol, word, kind, text, bump, bumped, is_at_open}
-use Rattle.rust_cursor.specs.Elements.{elements, one}
-use Rattle.rust_cursor.specs.Extents.{tree_text}
+use Rattle.rust_cursor.specs.Reader.{Reader, ◌>>=◌, pure}
+use Rattle.rust_cursor.specs.Looks.{Lookahead, at_end, at_open, both_seen, either_seen, kind_is, may_skip, symbol_is, then_seen, token_is, word_is}
+use Rattle.rust_cursor.specs.Grammar.{Grammar, from_outside, in_bracket, inside, reads_as, takes_text}
+use Rattle.rust_cursor.specs.Anchored.{Anchored, bracket_from, from_seen, gives_from, reads_from_as, repeats_from, then_from, unplaced}
 use Rattle.rust_paths.specs.Names.{behind_hash}
 use Rattle.rust_paths.specs.Paths.{is_raw, path}
+use Rattle.rust_paths.specs.UseTrees.{comma}
 use Rattle.rust_metas.specs.Literals.{root, value, documentation}
-use Rattle.rust_paths.specs.UseTrees.{tree_behind_comma}
-use Rattle.rust_metas.specs.Conditions.{in_brackets, condition}
+use Rattle.rust_metas.specs.Conditions.{condition}
 
 -- ---- a path and its input
 
-abbrev pub assigned : ℕ → Option PathNode → Reader MetaView
-assigned anchor path = do
-  _ ← bump
-  value ← value anchor
-  pure (key_value_meta path value root)
-
-abbrev pub called_meta : Option PathNode → Reader MetaView
-called_meta path = do
-  tokens ← tree_text
-  pure (token_tree_meta path tokens root)
-
 -- AttrInput: `=` and a value, a token tree, or nothing
-unfoldable pub input : ℕ → Option PathNode → Reader MetaView
-input anchor path ts = if symbol ts == 61 then assigned anchor path ts else (if is_at_open ts then called_meta path ts else (path_meta path root, ts))
+unfoldable pub input : Option PathNode → Anchored MetaView
+input path =
+    from_seen (symbol_is 61) 1 refl (reads_from_as (λ v. key_value_meta path v root) value)
+    (from_seen at_open 0 refl (unplaced (reads_as (λ tokens. token_tree_meta path tokens root) takes_text)) (gives_from (path_meta path root)))
 
-unfoldable pub plain_meta : ℕ → Reader MetaView
-plain_meta anchor = do
-  path ← path
-  input anchor path
+unfoldable pub plain_meta : Anchored MetaView
+plain_meta = then_from (unplaced (from_outside path)) input
 
 -- ---- `unsafe(..)`, `cfg(..)` and `cfg_attr(..)`
 
 -- the word and a bracket come next
-unfoldable pub is_call : List ℕ → Tokens → Bool
-is_call w ts = bytes_eq (word ts) w && is_at_open (bumped ts)
+unfoldable pub is_call : List ℕ → Lookahead
+is_call w = then_seen (word_is w) 1 at_open
 
 abbrev pub is_text : List ℕ → Option (List ℕ) → Bool
 is_text w None = false
 is_text w (Some v) = bytes_eq v w
 
 -- the name comes next, perhaps as `r#name`
-unfoldable pub is_at_name : List ℕ → Tokens → Bool
-is_at_name w ts = bytes_eq (word ts) w || (is_raw (kind ts) && is_text w (behind_hash (text ts)))
+unfoldable pub is_at_name : List ℕ → Lookahead
+is_at_name w = either_seen (word_is w) (both_seen (kind_is is_raw) (token_is (λ y k z. is_text w (behind_hash z))))
 
 -- the name and a bracket
-unfoldable pub is_named_call : List ℕ → Tokens → Bool
-is_named_call w ts = is_at_name w ts && is_at_open (bumped ts)
+unfoldable pub is_named_call : List ℕ → Lookahead
+is_named_call w = then_seen (is_at_name w) 1 at_open
+
+pub unsafe_skipped : may_skip (is_call (codes "unsafe")) 1 ≡ true
+unfolding is_call
+unsafe_skipped = refl
+
+pub cfg_skipped : may_skip (is_named_call (codes "cfg")) 1 ≡ true
+unfolding is_named_call is_at_name
+cfg_skipped = refl
+
+pub cfg_attr_skipped : may_skip (is_named_call (codes "cfg_attr")) 1 ≡ true
+unfolding is_named_call is_at_name
+cfg_attr_skipped = refl
 
 -- a meta and the comma behind it
-abbrev pub member : Reader MetaView → Reader MetaView
-member inner = do
-  m ← inner
-  _ ← pass tree_behind_comma
-  pure m
+abbrev pub member : Anchored MetaView → Anchored MetaView
+member inner = then_from inner (λ m. unplaced (reads_as (λ _. m) (from_outside comma)))
 
 -- a condition, and the metas behind it
-abbrev pub conditional : Reader MetaView → Reader CfgView → Reader (CfgView × List MetaView)
-conditional inner condition = do
-  c ← condition
-  metas ← elements (one (member inner))
-  pure (c, metas)
+abbrev pub conditional : Anchored MetaView → Grammar inside CfgView → Anchored (CfgView × List MetaView)
+conditional inner condition = then_from (unplaced condition) (λ c. reads_from_as (λ metas. (c, metas)) (repeats_from at_end refl (member inner)))
 
 -- Attr, by what reads the metas and the conditions inside
-abbrev pub meta_with : ℕ → Reader MetaView → Reader CfgView → Reader MetaView
-meta_with anchor inner condition ts =
-    if is_call (codes "unsafe") ts then in_brackets unsafe_meta inner (bumped ts)
-    else (if is_named_call (codes "cfg") ts then in_brackets cfg_meta condition (bumped ts)
-    else (if is_named_call (codes "cfg_attr") ts then in_brackets (λ p. cfg_attr_meta p.0 (metas_from p.1)) (conditional inner condition) (bumped ts)
-    else plain_meta anchor ts))
+abbrev pub meta_with : Anchored MetaView → Grammar inside CfgView → Anchored MetaView
+meta_with inner condition =
+    from_seen (is_call (codes "unsafe")) 1 unsafe_skipped (reads_from_as unsafe_meta (bracket_from inner))
+    (from_seen (is_named_call (codes "cfg")) 1 cfg_skipped (unplaced (reads_as cfg_meta (in_bracket condition)))
+    (from_seen (is_named_call (codes "cfg_attr")) 1 cfg_attr_skipped (reads_from_as (λ p. cfg_attr_meta p.0 (metas_from p.1)) (bracket_from (conditional inner condition)))
+    plain_meta))
 
--- A meta. The second number bounds how deep metas and conditions stand in one another; a deeper meta is one without a path.
-unfoldable pub meta : ℕ → ℕ → Reader MetaView
-meta anchor zero ts = (path_meta None root, ts)
-meta anchor (suc depth) ts = meta_with anchor (meta anchor depth) (condition depth) ts
+-- A meta. The number bounds how deep metas and conditions stand in one another; a deeper meta is one without a path.
+unfoldable pub meta : ℕ → Anchored MetaView
+meta zero = gives_from (path_meta None root)
+meta (suc depth) = meta_with (meta depth) (condition depth)
 
 -- ---- documentation
 

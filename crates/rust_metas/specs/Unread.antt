@@ -6,6 +6,7 @@ use Rattle.rust_cursor.specs.Tokens.{Tokens}
 use Rattle.rust_cursor.specs.Reader.{Reader}
 use Rattle.rust_cursor.specs.Words.{symbol, word, bumped, is_at_open}
 use Rattle.rust_cursor.specs.Brackets.{behind_tree}
+use Rattle.rust_cursor.specs.Looks.{sees}
 use Rattle.rust_paths.specs.Names.{has_name}
 use Rattle.rust_metas.specs.Literals.{is_literal, is_ended}
 use Rattle.rust_metas.specs.Attributes.{past_mark}
@@ -16,12 +17,12 @@ may_condition w = bytes_eq w [] || (bytes_eq w (codes "cfg") || (bytes_eq w (cod
 
 -- a name comes next, not as `r#name`, with which no condition begins
 unfoldable pub is_plain_name : Tokens → Bool
-is_plain_name ts = if may_condition (word ts) then false else has_name ts && is_name (word ts)
+is_plain_name ts = if may_condition (word ts) then false else sees has_name ts && is_name (word ts)
 
 -- whether `=` and a literal come next, brackets of the first kind, or the end of the attribute, and what is left behind that
 unfoldable pub plain_input : Reader Bool
 plain_input ts =
-    if symbol ts == 61 then (is_literal (bumped ts) && is_ended (bumped (bumped ts)), bumped (bumped ts))
+    if symbol ts == 61 then (sees is_literal (bumped ts) && sees is_ended (bumped (bumped ts)), bumped (bumped ts))
     else (if is_at_open ts then (symbol ts == 40, behind_tree ts) else (symbol ts == 93, ts))
 
 -- the same from the attribute's bracket on, up to the one that closes it, and it

@@ -2,7 +2,9 @@
 
 ghost use Rattle.std.specs.Prelude.{◌≡◌, [], IsTrue, false, if◌then◌else◌, map, option_map, option_to_list};
 ghost use Rattle.hir_input.specs.Attr.{meta_view};
+ghost use Rattle.rust_cursor.specs.Anchored.{reads_from};
 ghost use Rattle.rust_cursor.specs.Elements.{one};
+ghost use Rattle.rust_cursor.specs.Looks.{sees};
 ghost use Rattle.rust_cursor.specs.Reader.{Gives};
 ghost use Rattle.rust_cursor.specs.Words.{bumped};
 ghost use Rattle.rust_metas.specs.Attributes as spec;
@@ -31,7 +33,7 @@ fn is_style(style: DocStyle, found: Option<DocStyle>) -> bool
 /// Whether a documentation comment of the style comes next.
 #[tactic(auto, unfolding(crate::specs::Attributes::is_doc))]
 fn is_doc(cursor: &Cursor<'_>, style: DocStyle) -> bool
-    ensures { result ≡ spec.is_doc style cursor.now }
+    ensures { result ≡ sees (spec.is_doc style) cursor.now }
 {
     is_style(style, style_by(cursor.kind()))
 }
@@ -49,7 +51,7 @@ pub(crate) fn pass_mark(cursor: &mut Cursor<'_>, style: DocStyle)
 /// Whether `#[` comes next, or `#![`.
 #[tactic(auto, unfolding(crate::specs::Attributes::is_attribute))]
 fn is_attribute(cursor: &Cursor<'_>, style: DocStyle) -> bool
-    ensures { result ≡ spec.is_attribute style cursor.now }
+    ensures { result ≡ sees (spec.is_attribute style) cursor.now }
 {
     if cursor.symbol() != b'#' {
         return false;
@@ -71,7 +73,7 @@ fn is_attribute(cursor: &Cursor<'_>, style: DocStyle) -> bool
 /// Whether no attribute of the style comes next.
 #[tactic(auto, unfolding(crate::specs::Attributes::is_behind))]
 fn is_behind(cursor: &Cursor<'_>, style: DocStyle) -> bool
-    ensures { result ≡ spec.is_behind style cursor.now }
+    ensures { result ≡ sees (spec.is_behind style) cursor.now }
 {
     !(is_doc(cursor, style) || is_attribute(cursor, style))
 }
@@ -79,7 +81,7 @@ fn is_behind(cursor: &Cursor<'_>, style: DocStyle) -> bool
 /// A meta in its bracket. What stands behind it there is passed over, but for a word that can begin an item only.
 #[tactic(auto, unfolding(crate::specs::Attributes::bracketed))]
 fn bracketed(alloc: Global, cursor: &mut Cursor<'_>, anchor: usize) -> Result<Meta, AllocError>
-    ensures { Gives meta_view (spec.bracketed anchor cursor.old) result cursor.new }
+    ensures { Gives meta_view (reads_from anchor spec.bracketed cursor.old) result cursor.new }
 {
     cursor.bump();
     let meta = meta(alloc, cursor, anchor, 128)?;
@@ -89,14 +91,14 @@ fn bracketed(alloc: Global, cursor: &mut Cursor<'_>, anchor: usize) -> Result<Me
     Ok(meta)
 }
 
-#[tactic(auto, unfolding(crate::specs::Attributes::one_attribute))]
+#[tactic(auto, unfolding(crate::specs::Attributes::one_attribute, crate::specs::Metas::doc, crate::specs::Literals::documentation))]
 fn one_attribute(
     alloc: Global,
     cursor: &mut Cursor<'_>,
     anchor: usize,
     style: DocStyle,
 ) -> Result<Meta, AllocError>
-    ensures { Gives meta_view (spec.one_attribute anchor style cursor.old) result cursor.new }
+    ensures { Gives meta_view (reads_from anchor (spec.one_attribute style) cursor.old) result cursor.new }
 {
     if is_doc(cursor, style) {
         return doc(alloc, cursor, anchor);
@@ -183,7 +185,7 @@ fn is_wanted_meta(meta: &Meta, wanted: WantedMetas) -> bool
 
 /// Passes over a documentation comment of the style, and what stands behind it. Something else is left where it is.
 fn pass_doc(cursor: &mut Cursor<'_>, style: DocStyle) -> bool
-    ensures told { result ≡ spec.is_doc style cursor.old }
+    ensures told { result ≡ sees (spec.is_doc style) cursor.old }
     ensures passed { cursor.new
         ≡ (if result then spec.behind_attribute style (bumped cursor.old) else cursor.old) }
 {

@@ -2,7 +2,10 @@
 
 ghost use Rattle.std.specs.Prelude.{◌≡◌, IfOk, Some, map, option_map, string_bytes};
 ghost use Rattle.hir_input.specs.Cfg.{cfg_view};
+ghost use Rattle.rust_cursor.specs.Grammar.{reads};
+ghost use Rattle.rust_cursor.specs.Looks.{sees};
 ghost use Rattle.rust_cursor.specs.Reader.{Gives};
+ghost use Rattle.rust_cursor.specs.Words.{bumped};
 ghost use Rattle.rust_metas.specs.Conditions as spec;
 
 use crate::literal::{is_ended, is_literal_kind, string_by};
@@ -15,7 +18,7 @@ use std::alloc::{AllocError, Global};
 /// Whether an option's name comes next as it is written: a word, or `r#true` or `r#false`, which are not `true` and `false`.
 #[tactic(auto, unfolding(crate::specs::Conditions::is_option_word))]
 fn is_option_word(cursor: &Cursor<'_>) -> bool
-    ensures { result ≡ spec.is_option_word cursor.now }
+    ensures { result ≡ sees spec.is_option_word cursor.now }
 {
     match cursor.text() {
         "_" => false,
@@ -33,7 +36,7 @@ fn is_word_kind(kind: Option<TokenKind>) -> bool
 /// Takes a word, a keyword too, or another identifier.
 #[tactic(auto, unfolding(crate::specs::Conditions::option_name))]
 fn option_name(alloc: Global, cursor: &mut Cursor<'_>) -> Result<Option<Name>, AllocError>
-    ensures { Gives (λ n. n) (spec.option_name cursor.old) result cursor.new }
+    ensures { Gives (λ n. n) (reads spec.option_name cursor.old) result cursor.new }
 {
     if !is_option_word(cursor) {
         return name(alloc, cursor);
@@ -91,7 +94,7 @@ fn pair_from(key: Name, value: Option<String>) -> CfgExpr
 /// A key with a value, from its `=` on.
 #[tactic(auto, unfolding(crate::specs::Conditions::pair), using(hir_input::proofs::CfgLemmas::cfg_views))]
 fn pair(alloc: Global, cursor: &mut Cursor<'_>, key: Name) -> Result<CfgExpr, AllocError>
-    ensures { Gives cfg_view (spec.pair key cursor.old) result cursor.new }
+    ensures { Gives cfg_view (reads (spec.pair key) (bumped cursor.old)) result cursor.new }
 {
     cursor.bump();
     if !is_literal_kind(cursor.kind()) {
@@ -105,7 +108,7 @@ fn pair(alloc: Global, cursor: &mut Cursor<'_>, key: Name) -> Result<CfgExpr, Al
 /// A condition that goes up to a comma. With more behind it, it is none.
 #[tactic(auto, unfolding(crate::specs::Conditions::ended_condition), using(hir_input::proofs::CfgLemmas::cfg_views))]
 fn ended(cursor: &mut Cursor<'_>, condition: CfgExpr) -> CfgExpr
-    ensures { spec.ended_condition (cfg_view condition) cursor.old ≡ (cfg_view result, cursor.new) }
+    ensures { reads (spec.ended_condition (cfg_view condition)) cursor.old ≡ (cfg_view result, cursor.new) }
 {
     let is_whole = is_ended(cursor);
     pass_comma(cursor);
@@ -123,7 +126,7 @@ pub(crate) fn condition(
     cursor: &mut Cursor<'_>,
     depth: usize,
 ) -> Result<CfgExpr, AllocError>
-    ensures { Gives cfg_view (spec.condition depth cursor.old) result cursor.new }
+    ensures { Gives cfg_view (reads (spec.condition depth) cursor.old) result cursor.new }
 {
     let Some(word) = option_name(alloc, cursor)? else {
         return Ok(ended(cursor, CfgExpr::Invalid));
@@ -152,7 +155,7 @@ fn conditions(
     depth: usize,
 ) -> Result<Option<Vec<CfgExpr>>, AllocError>
     ensures { Gives (option_map (λ v. map cfg_view v.items))
-        (spec.conditions depth cursor.old) result cursor.new }
+        (reads (spec.conditions depth) cursor.old) result cursor.new }
 {
     if depth == 0 {
         return Ok(None);

@@ -2,6 +2,8 @@
 
 ghost use Rattle.std.specs.Prelude.{◌≡◌, IfOk, option_map, string_bytes};
 ghost use Rattle.rust_cursor.specs.Nests.{is_literal_kind};
+ghost use Rattle.rust_cursor.specs.Anchored.{reads_from};
+ghost use Rattle.rust_cursor.specs.Looks.{sees};
 ghost use Rattle.rust_cursor.specs.Reader.{Gives};
 ghost use Rattle.rust_cursor.specs.Words.{bumped};
 ghost use Rattle.rust_metas.specs.Literals as spec;
@@ -87,14 +89,14 @@ pub(crate) fn is_literal_kind(kind: Option<TokenKind>) -> bool
 /// Whether `true` or `false` comes next.
 #[tactic(auto, unfolding(crate::specs::Literals::is_truth))]
 fn is_truth(cursor: &Cursor<'_>) -> bool
-    ensures { result ≡ spec.is_truth cursor.now }
+    ensures { result ≡ sees spec.is_truth cursor.now }
 {
     matches!(cursor.word(), "true" | "false")
 }
 
 #[tactic(auto, unfolding(crate::specs::Literals::is_literal))]
 pub(crate) fn is_literal(cursor: &Cursor<'_>) -> bool
-    ensures { result ≡ spec.is_literal cursor.now }
+    ensures { result ≡ sees spec.is_literal cursor.now }
 {
     is_literal_kind(cursor.kind()) || is_truth(cursor)
 }
@@ -102,7 +104,7 @@ pub(crate) fn is_literal(cursor: &Cursor<'_>) -> bool
 /// Whether a comma comes next, a bracket that closes, or nothing.
 #[tactic(auto, unfolding(crate::specs::Literals::is_ended))]
 pub(crate) fn is_ended(cursor: &Cursor<'_>) -> bool
-    ensures { result ≡ spec.is_ended cursor.now }
+    ensures { result ≡ sees spec.is_ended cursor.now }
 {
     cursor.is_at_end() || cursor.symbol() == b','
 }
@@ -128,13 +130,13 @@ fn next_literal(
 }
 
 /// Takes a literal, if one comes next and nothing stands behind it.
-#[tactic(auto, unfolding(crate::specs::Literals::value))]
+#[tactic(auto, unfolding(crate::specs::Literals::value, crate::specs::Literals::next_literal))]
 pub(crate) fn value(
     alloc: Global,
     cursor: &mut Cursor<'_>,
     anchor: usize,
 ) -> Result<Option<Literal>, AllocError>
-    ensures { Gives (λ l. l) (spec.value anchor cursor.old) result cursor.new }
+    ensures { Gives (λ l. l) (reads_from anchor spec.value cursor.old) result cursor.new }
 {
     if !is_literal(cursor) {
         return Ok(None);

@@ -2,7 +2,9 @@
 
 ghost use Rattle.std.specs.Prelude.{◌≡◌, IfOk, Some, map};
 ghost use Rattle.hir_input.specs.Attr.{meta_view};
+ghost use Rattle.rust_cursor.specs.Anchored.{reads_from};
 ghost use Rattle.rust_cursor.specs.Elements.{elements, one};
+ghost use Rattle.rust_cursor.specs.Looks.{sees};
 ghost use Rattle.rust_cursor.specs.Reader.{Gives};
 ghost use Rattle.rust_cursor.specs.Words.{bumped, symbol};
 ghost use Rattle.rust_metas.specs.Metas as spec;
@@ -24,7 +26,7 @@ fn input(
     anchor: usize,
     path: Option<PathNode>,
 ) -> Result<Meta, AllocError>
-    ensures { Gives meta_view (spec.input anchor path cursor.old) result cursor.new }
+    ensures { Gives meta_view (reads_from anchor (spec.input path) cursor.old) result cursor.new }
 {
     let ctxt = root();
     if cursor.symbol() == b'=' {
@@ -43,7 +45,7 @@ fn input(
 /// A path and its input.
 #[tactic(auto, unfolding(crate::specs::Metas::plain_meta))]
 fn plain(alloc: Global, cursor: &mut Cursor<'_>, anchor: usize) -> Result<Meta, AllocError>
-    ensures { Gives meta_view (spec.plain_meta anchor cursor.old) result cursor.new }
+    ensures { Gives meta_view (reads_from anchor spec.plain_meta cursor.old) result cursor.new }
 {
     let path = path(alloc, cursor)?;
     input(alloc, cursor, anchor, path)
@@ -52,7 +54,7 @@ fn plain(alloc: Global, cursor: &mut Cursor<'_>, anchor: usize) -> Result<Meta, 
 /// Whether the word and a bracket come next.
 #[tactic(auto, unfolding(crate::specs::Metas::is_call))]
 fn is_call(cursor: &Cursor<'_>, word: &str) -> bool
-    ensures { result ≡ spec.is_call word.now cursor.now }
+    ensures { result ≡ sees (spec.is_call word.now) cursor.now }
 {
     if cursor.word() != word {
         return false;
@@ -65,7 +67,7 @@ fn is_call(cursor: &Cursor<'_>, word: &str) -> bool
 /// Whether the name comes next, perhaps as `r#name`.
 #[tactic(auto, unfolding(crate::specs::Metas::is_at_name))]
 fn is_at_name(cursor: &Cursor<'_>, name: &str) -> bool
-    ensures { result ≡ spec.is_at_name name.now cursor.now }
+    ensures { result ≡ sees (spec.is_at_name name.now) cursor.now }
 {
     if cursor.word() == name {
         return true;
@@ -79,7 +81,7 @@ fn is_at_name(cursor: &Cursor<'_>, name: &str) -> bool
 /// Whether the name and a bracket come next.
 #[tactic(auto, unfolding(crate::specs::Metas::is_named_call))]
 fn is_named_call(cursor: &Cursor<'_>, name: &str) -> bool
-    ensures { result ≡ spec.is_named_call name.now cursor.now }
+    ensures { result ≡ sees (spec.is_named_call name.now) cursor.now }
 {
     if !is_at_name(cursor, name) {
         return false;
@@ -102,14 +104,14 @@ fn pass_open(cursor: &mut Cursor<'_>) -> u8
 
 /// Takes a meta. Spans count from the anchor. `depth` bounds how deep metas and conditions stand in one another.
 #[cycle(metas)]
-#[tactic(auto, using(crate::proofs::Depths::meta_deep, crate::proofs::Depths::meta_at, hir_input::proofs::MetaLemmas::meta_views))]
+#[tactic(auto, using(crate::proofs::Depths::meta_deep, crate::proofs::Depths::meta_at, crate::proofs::Depths::meta_conditional, hir_input::proofs::MetaLemmas::meta_views))]
 pub(crate) fn meta(
     alloc: Global,
     cursor: &mut Cursor<'_>,
     anchor: usize,
     depth: usize,
 ) -> Result<Meta, AllocError>
-    ensures { Gives meta_view (spec.meta anchor depth cursor.old) result cursor.new }
+    ensures { Gives meta_view (reads_from anchor (spec.meta depth) cursor.old) result cursor.new }
 {
     if depth == 0 {
         let ctxt = root();
@@ -147,7 +149,7 @@ fn metas(
     depth: usize,
 ) -> Result<Vec<Meta>, AllocError>
     ensures { Gives (λ v. map meta_view v.items)
-        (elements (one (spec.member (spec.meta anchor depth))) cursor.old) result cursor.new }
+        (elements (one (reads_from anchor (spec.member (spec.meta depth)))) cursor.old) result cursor.new }
 {
     let mut metas = Vec::new(alloc);
     let most = Cursor::most_turns();

@@ -1,23 +1,9 @@
 -- Use trees of tokens that look alike are the same, until one goes past where the texts part; where they begin is told alike.
-use Rattle.std.proofs.Common.{◌≡◌, ◌||◌, ℕ, zero, suc, Bool, true, false, Option, Some, None, List, [], ◌∷◌, ◌++◌, refl, ap, ◌∙◌, codes, is_none, option_to_list}
-use Rattle.rust_paths.proofs.Common.{PathNode, Readable, Unreadable, UseTreeView, behind_closed, behind_tree, one, Reader, Tokens, at, bumped, is_at_end, eat_word, eat_colons, through, Forwards, when, eat_word_leads, eat_pair_leads, behind_closed_leads, turns_leads, Onward, on, UntilBy, gone, kept, Parting, UpTo, by_next, onward_leads, cond_onward, by_kept, cond_until, map_until, bind_until, eat_word_until, eat_pair_until, turns_by, Entering, AreAlike, no_more, one_more, alike_join, IsAlike, neither, both, alike_or, end_same, symbol_test, after_symbol, name, is_last_self, use_path, FoundInUse, alias, alias_if, rename, begun_trees, with_bare, tree_with_list, begun_list, with_list, star_or_list, self_in_list, with_self, self_tree, renamed_tree, tree_behind, tree_with, tree_comma_from, tree_behind_comma, element_with, values, all_starts, first_too_deep, all_found, trees, some_list, no_list, list, tree_at, use_tree}
-use Rattle.rust_paths.proofs.Alike.{name_until, use_path_until, last_self_same, after_self}
-use Rattle.rust_paths.proofs.Leads.{alias_if_leads, comma_from_leads, behind_comma_leads, tree_behind_leads, element_leads, list_leads}
-
--- ---- renames
-
-alias_until : (b : Parting) → UpTo b alias alias
-unfolding alias
-alias_until b =
-    bind_until b name name _ _ (name_until b) (λ n ts us h. map_until (λ _. record { name = n }) (eat_word_until b (codes "_") refl ts us h)) (λ n ts. eat_word_leads (codes "_") ts) (λ n ts. eat_word_leads (codes "_") ts)
-
-alias_if_until : (b : Parting) (found : Bool) → UpTo b (alias_if found) (alias_if found)
-alias_if_until b true ts us h = map_until Some (alias_until b ts us h)
-alias_if_until b false ts us h = kept (record { value = refl; rest = h })
-
-rename_until : (b : Parting) → UpTo b rename rename
-unfolding rename
-rename_until b = bind_until b (eat_word (codes "as")) (eat_word (codes "as")) alias_if alias_if (eat_word_until b (codes "as") refl) (alias_if_until b) alias_if_leads alias_if_leads
+use Rattle.std.proofs.Common.{◌≡◌, ◌||◌, ℕ, zero, suc, Bool, true, false, Option, Some, None, List, [], ◌∷◌, ◌++◌, refl, ap, ◌∙◌, is_none, option_to_list}
+use Rattle.rust_paths.proofs.Common.{PathNode, Readable, Unreadable, UseTreeView, behind_closed, one, Reader, Tokens, at, bumped, is_at_end, eat_colons, reads, sees, rule_leads, rule_until, through, Forwards, when, eat_pair_leads, behind_closed_leads, turns_leads, Onward, into, on, UntilBy, gone, kept, Parting, by_next, by_kept, cond_until, eat_pair_until, turns_by, Entering, AreAlike, no_more, one_more, alike_join, IsAlike, neither, both, alike_or, end_same, symbol_test, after_symbol, is_last_self, use_path, FoundInUse, rename, begun_trees, with_bare, tree_with_list, begun_list, with_list, star_or_list, self_in_list, with_self, self_tree, renamed_tree, tree_behind, tree_with, comma, tree_behind_comma, element_with, values, all_starts, first_too_deep, all_found, trees, some_list, no_list, list, tree_at, use_tree}
+use Rattle.rust_cursor.proofs.Looks.{skipped_are, skipped_same}
+use Rattle.rust_paths.specs.Paths.{self_skipped}
+use Rattle.rust_paths.proofs.Leads.{tree_behind_leads, element_leads, list_leads}
 
 -- ---- what is found
 
@@ -61,16 +47,8 @@ all_same place fs gs h = record { value = values_same place fs gs h; starts = st
 
 -- ---- trees
 
-pub comma_onward : (b : Parting) (n : ℕ) (ts us : Tokens) → b.twins.are ts us → Onward b.twins.are b.lost (tree_comma_from n ts) (tree_comma_from n us)
-comma_onward b zero ts us h = on h
-comma_onward b (suc n) ts us h =
-    cond_onward (end_same b.twins ts us h) (λ _. on h)
-    (λ _. cond_onward (symbol_test b.twins 44 ts us h) (λ f. on (after_symbol b.twins 44 ts us refl h f))
-    (λ _. onward_leads b (b.tree ts us h) (comma_from_leads n _) (comma_from_leads n _) (λ k. comma_onward b n (behind_tree ts) (behind_tree us) k)))
-
 pub behind_comma_onward : (b : Parting) (ts us : Tokens) → b.twins.are ts us → Onward b.twins.are b.lost (tree_behind_comma ts) (tree_behind_comma us)
-unfolding tree_behind_comma
-behind_comma_onward b ts us h = comma_onward b _ ts us h
+behind_comma_onward b ts us h = by_kept (rule_until b comma ts us h) (λ g. into g) (λ k. on k.rest)
 
 -- readers of what is found
 abbrev pub FoundUntil : {A : Type 0} (b : Parting) → Entering b → FoundInUse A × Tokens → FoundInUse A × Tokens → Type 0
@@ -87,21 +65,21 @@ self_same place s s' i i' p r r' a c e =
     record { value = ap (λ z. Some (self_in_list p z)) e; starts = begun_same place p s s' (i ∷ []) (i' ∷ []) a (one_more c no_more); too_deep = neither }
 
 module _ (b : Parting) (e : Entering b) (list : Reader (FoundInUse (Option (List UseTreeView)))) (l : UpToFound b e list) (f : Forwards list) where
-  self_until : (s s' : ℕ) (p : Option PathNode) → e.place s s' → (ts us : Tokens) → b.twins.are ts us → is_last_self ts ≡ true → FoundUntil b e (self_tree s p ts) (self_tree s' p us)
+  self_until : (s s' : ℕ) (p : Option PathNode) → e.place s s' → (ts us : Tokens) → b.twins.are ts us → sees is_last_self ts ≡ true → FoundUntil b e (self_tree s p ts) (self_tree s' p us)
   self_until s s' p a ts us h f =
-      by_kept (rename_until b (bumped ts) (bumped us) (after_self b ts us h f)) (λ g. gone g)
-      (λ r. kept (record { value = self_same e.place s s' (at ts) (at us) p (rename (bumped ts)).0 (rename (bumped us)).0 a (e.at_place ts us h) r.value; rest = r.rest }))
+      by_kept (rule_until b rename (bumped ts) (bumped us) (skipped_are b.twins is_last_self 1 ts us self_skipped h f)) (λ g. gone g)
+      (λ r. kept (record { value = self_same e.place s s' (at ts) (at us) p (reads rename (bumped ts)).0 (reads rename (bumped us)).0 a (e.at_place ts us h) r.value; rest = r.rest }))
 
   star_or_list_until : (s s' : ℕ) (p : Option PathNode) → e.place s s' → (ts us : Tokens) → b.twins.are ts us → FoundUntil b e (star_or_list list s p ts) (star_or_list list s' p us)
   star_or_list_until s s' p a ts us h =
       cond_until (symbol_test b.twins 42 ts us h)
       (λ star. kept (record { value = bare_same e.place s s' p true None None a refl; rest = after_symbol b.twins 42 ts us refl h star }))
-      (λ _. cond_until (last_self_same b ts us h) (λ f. self_until s s' p a ts us h f)
+      (λ _. cond_until (skipped_same b.twins is_last_self 1 self_skipped ts us h) (λ f. self_until s s' p a ts us h f)
       (λ _. by_kept (l ts us h) (λ g. gone g) (λ k. kept (record { value = with_list_same e.place p s s' (list ts).0 (list us).0 a k.value; rest = k.rest }))))
 
   renamed_until : (s s' : ℕ) (p : Option PathNode) → e.place s s' → (ts us : Tokens) → b.twins.are ts us → FoundUntil b e (renamed_tree s p ts) (renamed_tree s' p us)
   renamed_until s s' p a ts us h =
-      by_kept (rename_until b ts us h) (λ g. gone g) (λ r. kept (record { value = bare_same e.place s s' p false (rename ts).0 (rename us).0 a r.value; rest = r.rest }))
+      by_kept (rule_until b rename ts us h) (λ g. gone g) (λ r. kept (record { value = bare_same e.place s s' p false (reads rename ts).0 (reads rename us).0 a r.value; rest = r.rest }))
 
   tree_behind_until : (s s' : ℕ) (p p' : Option PathNode) (j j' : Bool) → e.place s s' → p' ≡ p → j' ≡ j → (ts us : Tokens) → b.twins.are ts us
       → FoundUntil b e (tree_behind list s p j ts) (tree_behind list s' p' j' us)
@@ -110,19 +88,19 @@ module _ (b : Parting) (e : Entering b) (list : Reader (FoundInUse (Option (List
 
   tree_until : UpToFound b e (tree_with list)
   tree_until ts us h =
-      let p = use_path ts in
-      let p' = use_path us in
+      let p = reads use_path ts in
+      let p' = reads use_path us in
       let c = eat_colons p.1 in
       let c' = eat_colons p'.1 in
       let more = tree_behind_leads list f (at ts) p.0 c.0 c.1 in
       let more' = tree_behind_leads list f (at us) p'.0 c'.0 c'.1 in
-      by_kept (use_path_until b ts us h) (λ g. gone (b.lost_on _ _ _ _ g (through (eat_pair_leads 58 58 p.1) more) (through (eat_pair_leads 58 58 p'.1) more')))
+      by_kept (rule_until b use_path ts us h) (λ g. gone (b.lost_on _ _ _ _ g (through (eat_pair_leads 58 58 p.1) more) (through (eat_pair_leads 58 58 p'.1) more')))
       (λ k. by_kept (eat_pair_until b 58 58 refl refl p.1 p'.1 k.rest) (λ g. gone (b.lost_on _ _ _ _ g more more'))
       (λ m. tree_behind_until (at ts) (at us) p.0 p'.0 c.0 c'.0 (e.at_place ts us h) k.value m.value c.1 c'.1 m.rest))
 
   element_until : UpToFound b e (element_with list)
   element_until ts us h =
-      by_kept (tree_until ts us h) (λ g. gone (b.lost_on _ _ _ _ g (behind_comma_leads (tree_with list ts).1) (behind_comma_leads (tree_with list us).1)))
+      by_kept (tree_until ts us h) (λ g. gone (b.lost_on _ _ _ _ g (rule_leads comma (tree_with list ts).1) (rule_leads comma (tree_with list us).1)))
       (λ k. by_next (behind_comma_onward b (tree_with list ts).1 (tree_with list us).1 k.rest) (λ g. gone g) (λ n. kept (record { value = k.value; rest = n })))
 
   found_until : (ts us : Tokens) → b.twins.are ts us → UntilBy (AreAlike (SameFound e.place)) b.twins.are b.lost (one (element_with list) ts) (one (element_with list) us)

@@ -3,9 +3,7 @@ pub mod Meant
 pub mod Steps
 pub mod Trees
 pub mod Leads
-pub mod Around
-pub mod Alike
-pub mod Beside
+pub mod Segments
 pub mod AlikeTrees
 pub mod UntilTrees
 pub mod Common

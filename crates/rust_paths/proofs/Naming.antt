@@ -1,8 +1,9 @@
 -- Raw names, and names of all editions.
 use Rattle.std.proofs.Common.{◌≡◌, ◌≢◌, ◌==◌, ℕ, List, [], ◌∷◌, Bool, true, false, Bor, MatchOption, Option, Some, None, option_map, if◌then◌else◌, refl, sym, arith, bytes_eq}
 use Rattle.std.specs.List.{list_any}
-use Rattle.rust_paths.proofs.Common.{nat_tests, EditionYear, keywords, keywords_since_2018, keywords_since_2024, is_since_2018, is_since_2024, may_be_keyword, is_keyword, is_path_keyword, is_underscore, plain_name, behind_hash}
+use Rattle.rust_paths.proofs.Common.{nat_tests, EditionYear, keywords, keywords_since_2018, keywords_since_2024, is_since_2018, is_since_2024, may_be_keyword, is_keyword, is_path_keyword, is_underscore, plain_name, behind_hash, name_text, as_name, by_identifier, identifier_name, TokenKind}
 use Rattle.hir_input.specs.declared.edition.EditionYear.TheVariants as year
+use Rattle.rust_lexer.specs.declared.kind.TokenKind.TheVariants as kinds
 use Rattle.rust_cursor.proofs.Keywords.{none_passed}
 
 -- a text without `r` in front
@@ -47,3 +48,10 @@ unfolding plain_name is_keyword
 name_in edition n e =
     named_in (list_any (bytes_eq n) keywords) (list_any (bytes_eq n) keywords_since_2018) (list_any (bytes_eq n) keywords_since_2024) edition
     (if is_path_keyword n then None else (if is_underscore n then None else Some n)) n e
+
+-- a name, by the kind of its token
+pub by_kind : (y : EditionYear) (k : Option TokenKind) (z : List ℕ) → as_name (name_text y k z) ≡ by_identifier identifier_name y k z
+by_kind y None z = refl
+by_kind y (Some kinds.Ident) z = refl
+by_kind y (Some kinds.RawIdent) z = refl
+by_kind y (Some _) z = refl

@@ -1,6 +1,6 @@
 -- Steps over use trees.
 use Rattle.std.proofs.Common.{◌≡◌, ◌≢◌, ◌==◌, ◌<◌, ◌+◌, ◌-◌, ℕ, zero, suc, Bool, true, false, List, [], ◌∷◌, ◌++◌, map, Option, Some, None, option_map, refl, sym, ap, ◌∙◌, not, codes, bytes_eq, rules, arith, append_assoc, append-nil, Vec, Global, option_to_list}
-use Rattle.rust_paths.proofs.Common.{option_or, ne_eqb, PathNode, UseTreeView, use_tree_view, tree_from, Tokens, Reader, symbol, word, at, bumped, eat_colons, is_at_end, behind_closed, behind_tree, beyond, turns_from, one, FoundInUse, and_parts, self_word, is_colons, is_last_self, is_path_colons, is_path_keyword, is_path_start, is_segment, segment, more_segments, use_path, bare_tree, self_path, rename, tree_at, tree_comma_from, list, element, trees, some_list, no_list, values, all_starts, first_too_deep}
+use Rattle.rust_paths.proofs.Common.{option_or, ne_eqb, PathNode, UseTreeView, use_tree_view, tree_from, Tokens, Reader, symbol, word, at, bumped, eat_colons, is_at_end, behind_closed, behind_tree, beyond, turns_from, one, FoundInUse, and_parts, self_word, is_colons, is_last_self, is_path_colons, is_path_keyword, is_path_start, is_segment, segment, more_segments, use_path, bare_tree, self_path, rename, tree_at, comma_from, reads, sees, list, element, trees, some_list, no_list, values, all_starts, first_too_deep}
 use Rattle.hir_input.specs.declared.ast.Rename.{Rename}
 use Rattle.hir_input.specs.declared.ast.UseTree.{UseTree, the_lemmas}
 use Rattle.hir_input.specs.declared.ast.UseTree.TheViews.{roll-UseTree}
@@ -20,16 +20,16 @@ use_tree_view_made path star rename (Some v) = search (rules, the_lemmas)
 -- ---- commas
 
 -- nothing more stands in the list
-pub comma_end : (n : ℕ) (ts : Tokens) → is_at_end ts ≡ true → tree_comma_from n ts ≡ ts
+pub comma_end : (n : ℕ) (ts : Tokens) → is_at_end ts ≡ true → (reads (comma_from n) ts).1 ≡ ts
 comma_end zero ts e = refl
 comma_end (suc n) ts e = rw e refl
 
 -- a comma
-pub comma_here : (bound at : ℕ) (ts : Tokens) → at < bound → is_at_end ts ≡ false → (symbol ts == 44) ≡ true → tree_comma_from (bound - at) ts ≡ bumped ts
+pub comma_here : (bound at : ℕ) (ts : Tokens) → at < bound → is_at_end ts ≡ false → (symbol ts == 44) ≡ true → (reads (comma_from (bound - at)) ts).1 ≡ bumped ts
 comma_here bound at ts below e f = let turn : bound - at ≡ suc (bound - (at + 1)) = omega arith in rw (turn, e, f) refl
 
 -- something else
-pub comma_more : (bound at : ℕ) (ts : Tokens) → at < bound → is_at_end ts ≡ false → symbol ts ≢ 44 → tree_comma_from (bound - at) ts ≡ tree_comma_from (bound - (at + 1)) (behind_tree ts)
+pub comma_more : (bound at : ℕ) (ts : Tokens) → at < bound → is_at_end ts ≡ false → symbol ts ≢ 44 → (reads (comma_from (bound - at)) ts).1 ≡ (reads (comma_from (bound - (at + 1))) (behind_tree ts)).1
 comma_more bound at ts below e f =
     let turn : bound - at ≡ suc (bound - (at + 1)) = omega arith in
     let other : (symbol ts == 44) ≡ false = ne_eqb (symbol ts) 44 f in
@@ -37,7 +37,7 @@ comma_more bound at ts below e f =
 
 -- ---- a last `self`
 
-no_more : (ts : Tokens) → is_colons ts ≡ false → more_segments true ts ≡ ([], ts)
+no_more : (ts : Tokens) → sees is_colons ts ≡ false → reads (more_segments true) ts ≡ ([], ts)
 unfolding more_segments is_path_colons
 no_more ts e = more_stop true _ ts (rw e refl)
 
@@ -45,32 +45,32 @@ no_pair : (ts : Tokens) → (symbol ts == 58) ≡ false → eat_colons ts ≡ (f
 unfolding eat_pair is_pair
 no_pair ts e = rw e refl
 
-end_pair : (ts : Tokens) → is_colons ts ≡ false → eat_colons ts ≡ (false, ts)
+end_pair : (ts : Tokens) → sees is_colons ts ≡ false → eat_colons ts ≡ (false, ts)
 unfolding eat_pair is_colons
 end_pair ts e = rw e refl
 
-self_segment : (ts : Tokens) → word ts ≡ codes "self" → segment ts ≡ (Some self_word, bumped ts)
+self_segment : (ts : Tokens) → word ts ≡ codes "self" → reads segment ts ≡ (Some self_word, bumped ts)
 unfolding segment
 self_segment ts e = rw e refl
 
-self_starts : (ts : Tokens) → (symbol ts == 58) ≡ false → word ts ≡ codes "self" → is_path_start true ts ≡ true
+self_starts : (ts : Tokens) → (symbol ts == 58) ≡ false → word ts ≡ codes "self" → sees (is_path_start true) ts ≡ true
 unfolding is_path_start is_path_colons is_colons is_pair is_segment is_path_keyword
 self_starts ts e f = rw (e, f) refl
 
-self_path_read : (ts : Tokens) → is_last_self ts ≡ true → use_path ts ≡ (Some self_path, bumped ts)
+self_path_read : (ts : Tokens) → sees is_last_self ts ≡ true → reads use_path ts ≡ (Some self_path, bumped ts)
 unfolding use_path is_last_self
 self_path_read ts e =
-    let both = and_parts (bytes_eq (word ts) (codes "self")) (not (is_colons (bumped ts))) e in
+    let both = and_parts (bytes_eq (word ts) (codes "self")) (not (sees is_colons (bumped ts))) e in
     let same = (bytes_eq-Decides (word ts) (codes "self")).0 both.0 in
     let flat : symbol ts ≡ 0 = word_symbol (codes "self") ts refl both.0 in
     let plain : (symbol ts == 58) ≡ false = rw flat refl in
-    rw (self_starts ts plain same, no_pair ts plain, self_segment ts same, no_more (bumped ts) (not-true (is_colons (bumped ts)) both.1)) refl
+    rw (self_starts ts plain same, no_pair ts plain, self_segment ts same, no_more (bumped ts) (not-true (sees is_colons (bumped ts)) both.1)) refl
 
 -- it is read as a tree by itself, as in braces
-pub self_reads : (depth : ℕ) (ts : Tokens) → is_last_self ts ≡ true → (tree_at depth ts).0.value ≡ Some (bare_tree (Some self_path) false (rename (bumped ts)).0)
+pub self_reads : (depth : ℕ) (ts : Tokens) → sees is_last_self ts ≡ true → (tree_at depth ts).0.value ≡ Some (bare_tree (Some self_path) false (reads rename (bumped ts)).0)
 unfolding tree_at is_last_self
 self_reads depth ts e =
-    let end = not-true (is_colons (bumped ts)) (and_parts (bytes_eq (word ts) (codes "self")) (not (is_colons (bumped ts))) e).1 in
+    let end = not-true (sees is_colons (bumped ts)) (and_parts (bytes_eq (word ts) (codes "self")) (not (sees is_colons (bumped ts))) e).1 in
     rw (self_path_read ts e, end_pair (bumped ts) end) refl
 
 -- ---- lists

@@ -1,5 +1,5 @@
 -- Names.
-use Rattle.std.specs.Prelude.{ℕ, ◌-◌, ◌/◌, Bool, true, false, ◌==◌, ◌&&◌, length, slice_index, if◌then◌else◌, Option, Some, None, is_some, List, [], ◌∷◌, codes, bytes_eq}
+use Rattle.std.specs.Prelude.{◌≡◌, refl, ℕ, ◌-◌, ◌/◌, Bool, true, false, ◌==◌, ◌&&◌, length, slice_index, if◌then◌else◌, Option, Some, None, is_some, List, [], ◌∷◌, codes, bytes_eq}
 use Rattle.std.specs.List.{list_any}
 use Rattle.hir_input.specs.declared.edition.EditionYear.{EditionYear}
 use Rattle.hir_input.specs.declared.edition.EditionYear.TheVariants as year
@@ -8,7 +8,9 @@ use Rattle.rust_lexer.specs.declared.kind.TokenKind.{TokenKind}
 use Rattle.rust_lexer.specs.declared.kind.TokenKind.TheVariants as kinds
 use Rattle.rust_cursor.specs.Tokens.{Tokens}
 use Rattle.rust_cursor.specs.Reader.{Reader}
-use Rattle.rust_cursor.specs.Words.{kind, text, at, bumped, has_length}
+use Rattle.rust_cursor.specs.Words.{kind, text, at, has_length}
+use Rattle.rust_cursor.specs.Looks.{Lookahead, token_is, stays_short}
+use Rattle.rust_cursor.specs.Grammar.{by_identifier, outside, Grammar, takes_identifier, reads}
 use Rattle.rust_paths.specs.declared.names.TheConstants.{KEYWORD_FIRST, KEYWORD_LAST, KEYWORD_MIDDLE}
 
 -- ---- keywords
@@ -89,26 +91,30 @@ name_text edition (Some kinds.RawIdent) text = raw_name text
 name_text edition _ text = None
 
 -- a name of the edition comes next
-unfoldable pub has_name : Tokens → Bool
-has_name ts = is_some (name_text ts.edition (kind ts) (text ts))
+unfoldable pub has_name : Lookahead
+has_name = token_is (λ y k z. is_some (name_text y k z))
+
+pub name_short : stays_short has_name ≡ true
+unfolding has_name
+name_short = refl
 
 -- each identifier is a name
 abbrev pub as_name : Option (List ℕ) → Option (List ℕ)
 as_name None = None
 as_name (Some text) = name_in text
 
+-- the name that an identifier is
+abbrev pub identifier_name : EditionYear → Bool → List ℕ → Option (List ℕ)
+identifier_name edition false text = as_name (plain_name edition text)
+identifier_name edition true text = as_name (raw_name text)
+
 -- the name that comes next
 unfoldable pub next_name : Tokens → Option (List ℕ)
-next_name ts = as_name (name_text ts.edition (kind ts) (text ts))
-
--- a token is taken where there is something
-abbrev pub taken_with : {A : Type 0} → Option A → Reader (Option A)
-taken_with None ts = (None, ts)
-taken_with (Some a) ts = (Some a, bumped ts)
+next_name ts = by_identifier identifier_name ts.edition (kind ts) (text ts)
 
 -- A name, if one comes next. What is none is left.
-unfoldable pub name : Reader (Option (List ℕ))
-name ts = taken_with (next_name ts) ts
+unfoldable pub name : Grammar outside (Option (List ℕ))
+name = takes_identifier identifier_name
 
 -- a name, and where its token begins and ends
 pub record Placed : Type 0 where
@@ -122,4 +128,4 @@ placed_if start (Some name) end = Some (record { name = name; start = start; end
 
 -- a name with its range, if one comes next
 unfoldable pub placed_name : Reader (Option Placed)
-placed_name ts = (placed_if (at ts) (name ts).0 (name ts).1.past, (name ts).1)
+placed_name ts = (placed_if (at ts) (reads name ts).0 (reads name ts).1.past, (reads name ts).1)

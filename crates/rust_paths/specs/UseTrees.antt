@@ -1,5 +1,5 @@
 -- Use trees.
-use Rattle.std.specs.Prelude.{ℕ, zero, suc, Bool, true, false, ◌==◌, ◌||◌, if◌then◌else◌, Option, Some, None, is_none, option_to_list, List, [], ◌∷◌, ◌++◌, codes}
+use Rattle.std.specs.Prelude.{refl, ℕ, zero, suc, Bool, true, false, ◌==◌, ◌||◌, if◌then◌else◌, Option, Some, None, is_none, option_to_list, List, [], ◌∷◌, ◌++◌, codes}
 use Rattle.std.specs.Option.{option_or}
 use Rattle.hir_input.specs.declared.ast.PathNode.{PathNode}
 use Rattle.hir_input.specs.declared.ast.PathNode.TheVariants.{Readable, Unreadable}
@@ -7,10 +7,12 @@ use Rattle.hir_input.specs.declared.mod_path.PathKind.TheVariants.{Super}
 use Rattle.hir_input.specs.declared.ast.Rename.{Rename}
 use Rattle.hir_input.specs.UseTreeView.{UseTreeView, tree_from}
 use Rattle.rust_cursor.specs.Tokens.{Tokens}
-use Rattle.rust_cursor.specs.Reader.{Reader, ◌>>=◌, pure, look, pass, only_if}
-use Rattle.rust_cursor.specs.Words.{symbol, at, bump, bumped, is_at_end, eat_word, eat_colons}
+use Rattle.rust_cursor.specs.Reader.{Reader, ◌>>=◌, pure, look, pass}
+use Rattle.rust_cursor.specs.Words.{symbol, at, bump, bumped, eat_colons}
 use Rattle.rust_cursor.specs.Brackets.{behind_closed, behind_tree}
 use Rattle.rust_cursor.specs.Elements.{most, elements, one}
+use Rattle.rust_cursor.specs.Looks.{at_end, symbol_is, sees}
+use Rattle.rust_cursor.specs.Grammar.{outside, Grammar, gives, and_then, on_seen, eats_word, passes_tree, reads, reads_as}
 use Rattle.rust_paths.specs.Names.{name}
 use Rattle.rust_paths.specs.Paths.{is_last_self, use_path}
 
@@ -24,20 +26,16 @@ pub record FoundInUse (A : Type 0) : Type 0 where
 -- ---- renames
 
 -- `_`, and a name that is missing, are none
-unfoldable pub alias : Reader Rename
-alias = do
-  name ← name
-  _ ← eat_word (codes "_")
-  pure (record { name = name })
+unfoldable pub alias : Grammar outside Rename
+alias = and_then name (λ n. reads_as (λ _. record { name = n }) (eats_word (codes "_") refl))
 
-abbrev pub alias_if : Bool → Reader (Option Rename)
-alias_if = only_if alias
+abbrev pub alias_if : Bool → Grammar outside (Option Rename)
+alias_if true = reads_as Some alias
+alias_if false = gives None
 
 -- `as` and a name or `_`
-unfoldable pub rename : Reader (Option Rename)
-rename = do
-  found ← eat_word (codes "as")
-  alias_if found
+unfoldable pub rename : Grammar outside (Option Rename)
+rename = and_then (eats_word (codes "as") refl) alias_if
 
 -- ---- trees
 
@@ -84,18 +82,18 @@ abbrev pub self_tree : ℕ → Option PathNode → Reader (FoundInUse (Option Us
 self_tree start path = do
   inner ← look at
   _ ← bump
-  rename ← rename
+  rename ← reads rename
   pure (with_self start inner path rename)
 
 -- behind a path and `::`, or behind neither: a star, a last `self` or a list
 abbrev pub star_or_list : Reader (FoundInUse (Option (List UseTreeView))) → ℕ → Option PathNode → Reader (FoundInUse (Option UseTreeView))
 star_or_list list start path ts =
     if symbol ts == 42 then (with_bare start path true None, bumped ts)
-    else (if is_last_self ts then self_tree start path ts else (with_list start path (list ts).0, (list ts).1))
+    else (if sees is_last_self ts then self_tree start path ts else (with_list start path (list ts).0, (list ts).1))
 
 abbrev pub renamed_tree : ℕ → Option PathNode → Reader (FoundInUse (Option UseTreeView))
 renamed_tree start path = do
-  rename ← rename
+  rename ← reads rename
   pure (with_bare start path false rename)
 
 abbrev pub tree_behind : Reader (FoundInUse (Option (List UseTreeView))) → ℕ → Option PathNode → Bool → Reader (FoundInUse (Option UseTreeView))
@@ -105,20 +103,23 @@ tree_behind list start path joined = if joined || is_none path then star_or_list
 abbrev pub tree_with : Reader (FoundInUse (Option (List UseTreeView))) → Reader (FoundInUse (Option UseTreeView))
 tree_with list = do
   start ← look at
-  path ← use_path
+  path ← reads use_path
   joined ← eat_colons
   tree_behind list start path joined
 
 -- ---- lists
 
 -- up to a comma, and it, or up to a bracket that closes
-abbrev pub tree_comma_from : ℕ → Tokens → Tokens
-tree_comma_from zero ts = ts
-tree_comma_from (suc n) ts = if is_at_end ts then ts else (if symbol ts == 44 then bumped ts else tree_comma_from n (behind_tree ts))
+abbrev pub comma_from : ℕ → Grammar outside (Unit {0})
+comma_from zero = gives tt
+comma_from (suc n) = on_seen at_end 0 refl (gives tt) (on_seen (symbol_is 44) 1 refl (gives tt) (and_then passes_tree (λ _. comma_from n)))
+
+unfoldable pub comma : Grammar outside (Unit {0})
+comma = comma_from most
 
 -- what is left behind the next comma, or from a bracket that closes on
-unfoldable pub tree_behind_comma : Tokens → Tokens
-tree_behind_comma ts = tree_comma_from most ts
+abbrev pub tree_behind_comma : Tokens → Tokens
+tree_behind_comma ts = (reads comma ts).1
 
 abbrev pub element_with : Reader (FoundInUse (Option (List UseTreeView))) → Reader (FoundInUse (Option UseTreeView))
 element_with list = do

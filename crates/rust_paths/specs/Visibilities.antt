@@ -1,5 +1,5 @@
 -- Visibilities.
-use Rattle.std.specs.Prelude.{Bool, zero, suc, length, ◌==◌, ◌&&◌, ◌||◌, if◌then◌else◌, Option, Some, None, List, ℕ, codes, bytes_eq}
+use Rattle.std.specs.Prelude.{◌≡◌, refl, true, Bool, zero, suc, length, ◌==◌, if◌then◌else◌, Option, Some, None, List, ℕ, codes, bytes_eq}
 use Rattle.hir_input.specs.declared.ast.PathNode.{PathNode}
 use Rattle.hir_input.specs.declared.ast.PathNode.TheVariants.{Readable, Unreadable}
 use Rattle.hir_input.specs.declared.mod_path.PathKind.{PathKind}
@@ -8,10 +8,10 @@ use Rattle.hir_input.specs.Path.{Path}
 use Rattle.hir_input.specs.declared.ast.Visibility.{Visibility}
 use Rattle.hir_input.specs.declared.ast.Visibility.TheVariants.{Pub, PubCrate, PubSuper, PubSelf, InPath}
 use Rattle.rust_cursor.specs.Tokens.{Tokens}
-use Rattle.rust_cursor.specs.Reader.{Reader, ◌>>=◌, pure, pass}
-use Rattle.rust_cursor.specs.Words.{symbol, word, is_at_identifier, eat, bumped}
-use Rattle.rust_cursor.specs.Angles.{behind_field}
-use Rattle.rust_cursor.specs.Elements.{most}
+use Rattle.rust_cursor.specs.Reader.{Reader}
+use Rattle.rust_cursor.specs.Words.{symbol, word, bumped}
+use Rattle.rust_cursor.specs.Looks.{Lookahead, at_identifier, symbol_is, word_is, either_seen, then_seen, past_seen, sees, may_skip}
+use Rattle.rust_cursor.specs.Grammar.{outside, Grammar, gives, on_seen, eats, passes_field, reads, reads_as, ◌>>=◌}
 use Rattle.rust_paths.specs.Paths as paths
 
 -- `crate`, `self` or `super` alone are what they are without `in`
@@ -41,36 +41,33 @@ scope_of word =
 unfoldable pub scope : Tokens → Option Visibility
 scope ts = if symbol (bumped (bumped ts)) == 41 then scope_of (word (bumped ts)) else None
 
--- behind the bracket that closes; before a comma or what begins an item, where one comes first
-abbrev pub behind_scope : Tokens → Tokens
-behind_scope ts = (eat 41 (behind_field ts)).1
-
--- a path, up to there
-abbrev pub scope_path : Reader Visibility
+-- a path, up to the bracket that closes, and it; or up to a comma or what begins an item, where one comes first
+abbrev pub scope_path : Grammar outside Visibility
 scope_path = do
   p ← paths.path
-  _ ← pass behind_scope
-  pure (in_path p)
+  _ ← passes_field
+  _ ← eats 41 refl
+  gives (in_path p)
 
 -- a word or a colon comes next
-abbrev pub is_path_part : Tokens → Bool
-is_path_part ts = is_at_identifier ts || symbol ts == 58
+abbrev pub is_path_part : Lookahead
+is_path_part = either_seen at_identifier (symbol_is 58)
 
--- what is left behind those
-abbrev pub behind_parts_from : ℕ → Tokens → Tokens
-behind_parts_from zero ts = ts
-behind_parts_from (suc n) ts = if is_path_part ts then behind_parts_from n (bumped ts) else ts
+-- Words and colons come next, and behind them a `)` and a word: so does a path in `pub(a::b) fn f() {}`, and no type in `struct Pair(pub (a::B))`.
+unfoldable pub is_bare_path : Lookahead
+is_bare_path = past_seen is_path_part (then_seen (symbol_is 41) 1 at_identifier)
 
-unfoldable pub behind_parts : Tokens → Tokens
-behind_parts ts = behind_parts_from most ts
+pub bare_path_skipped : may_skip (then_seen (symbol_is 40) 1 is_bare_path) 1 ≡ true
+unfolding is_bare_path
+bare_path_skipped = refl
 
--- Words and colons in brackets come next, and a word behind these: so does a path in `pub(a::b) fn f() {}`, and no type in `struct Pair(pub (a::B))`.
-unfoldable pub is_bare_path : Tokens → Bool
-is_bare_path ts = symbol (behind_parts (bumped ts)) == 41 && is_at_identifier (bumped (behind_parts (bumped ts)))
+-- such a word alone in brackets comes next
+abbrev pub is_scope : List ℕ → Lookahead
+is_scope w = then_seen (symbol_is 40) 1 (then_seen (word_is w) 1 (symbol_is 41))
 
 -- A word in brackets is the visibility that it names, and a path in them is read as behind `in`.
 abbrev pub plain_scope : Option Visibility → Reader Visibility
-plain_scope None ts = if is_bare_path ts then scope_path (bumped ts) else (Pub, ts)
+plain_scope None ts = if sees is_bare_path (bumped ts) then reads scope_path (bumped ts) else (Pub, ts)
 plain_scope (Some v) ts = (v, bumped (bumped (bumped ts)))
 
 -- `in` comes next in a bracket
@@ -78,9 +75,14 @@ unfoldable pub is_in : Tokens → Bool
 is_in ts = bytes_eq (word (bumped ts)) (codes "in")
 
 -- Behind `pub`: `(in path)`, or a word or a path in brackets. Other brackets are no part of it, as in `struct Pair(pub (u8, u8))`.
-unfoldable pub scoped : Reader Visibility
-scoped ts = if symbol ts == 40 then (if is_in ts then scope_path (bumped (bumped ts)) else plain_scope (scope ts) ts) else (Pub, ts)
+unfoldable pub scoped : Grammar outside Visibility
+scoped =
+    on_seen (then_seen (symbol_is 40) 1 (word_is (codes "in"))) 2 refl scope_path
+    (on_seen (is_scope (codes "crate")) 3 refl (gives PubCrate)
+    (on_seen (is_scope (codes "super")) 3 refl (gives PubSuper)
+    (on_seen (is_scope (codes "self")) 3 refl (gives PubSelf)
+    (on_seen (then_seen (symbol_is 40) 1 is_bare_path) 1 bare_path_skipped scope_path (gives Pub)))))
 
 -- Visibility: `pub` and a scope, if one is written. `crate` alone is none.
-unfoldable pub visibility : Reader (Option Visibility)
-visibility ts = if bytes_eq (word ts) (codes "pub") then (Some (scoped (bumped ts)).0, (scoped (bumped ts)).1) else (None, ts)
+unfoldable pub visibility : Grammar outside (Option Visibility)
+visibility = on_seen (word_is (codes "pub")) 1 refl (reads_as Some scoped) (gives None)

@@ -1,6 +1,8 @@
 //! Names.
 
 ghost use Rattle.std.specs.Prelude.{◌≡◌, Some, IfOk, option_map, string_bytes};
+ghost use Rattle.rust_cursor.specs.Grammar.{reads};
+ghost use Rattle.rust_cursor.specs.Looks.{sees};
 ghost use Rattle.rust_cursor.specs.Reader.{Gives};
 ghost use Rattle.rust_paths.specs.Names as spec;
 ghost use Rattle.rust_paths.specs.Views.{placed_view};
@@ -168,13 +170,13 @@ fn name_text(edition: EditionYear, kind: Option<TokenKind>, text: &str) -> Optio
 /// Whether a name of the text's edition comes next.
 #[tactic(auto, unfolding(crate::specs::Names::has_name))]
 pub fn has_name(cursor: &Cursor<'_>) -> bool
-    ensures { result ≡ spec.has_name cursor.now }
+    ensures { result ≡ sees spec.has_name cursor.now }
 {
     name_text(cursor.edition(), cursor.kind(), cursor.text()).is_some()
 }
 
 /// The name that comes next.
-#[tactic(auto, unfolding(crate::specs::Names::next_name))]
+#[tactic(auto, unfolding(crate::specs::Names::next_name), using(crate::proofs::Naming::by_kind))]
 pub(crate) fn next_name(alloc: Global, cursor: &Cursor<'_>) -> Result<Option<Name>, AllocError>
     ensures { IfOk result (λ name. name ≡ spec.next_name cursor.now) }
 {
@@ -185,9 +187,9 @@ pub(crate) fn next_name(alloc: Global, cursor: &Cursor<'_>) -> Result<Option<Nam
 }
 
 /// Takes a name, if one comes next: an identifier that is no keyword of the text's edition and not `_`, or a raw identifier.
-#[tactic(auto, unfolding(crate::specs::Names::name))]
+#[tactic(auto, unfolding(crate::specs::Names::name, crate::specs::Names::next_name))]
 pub fn name(alloc: Global, cursor: &mut Cursor<'_>) -> Result<Option<Name>, AllocError>
-    ensures { Gives (λ name. name) (spec.name cursor.old) result cursor.new }
+    ensures { Gives (λ name. name) (reads spec.name cursor.old) result cursor.new }
 {
     match next_name(alloc, cursor)? {
         Some(name) => {

@@ -2,6 +2,8 @@
 
 ghost use Rattle.std.specs.Prelude.{◌≡◌, OnOk, option_map, [], true, false};
 ghost use Rattle.hir_input.specs.Words.{name_word};
+ghost use Rattle.rust_cursor.specs.Grammar.{reads};
+ghost use Rattle.rust_cursor.specs.Looks.{sees};
 ghost use Rattle.rust_cursor.specs.Reader.{Gives};
 ghost use Rattle.rust_paths.specs.Inner.{meaning, with_word, with_words};
 ghost use Rattle.rust_paths.specs.Paths as spec;
@@ -23,7 +25,7 @@ fn is_raw(kind: Option<TokenKind>) -> bool
 /// Whether `$crate` comes next.
 #[tactic(auto, unfolding(crate::specs::Paths::is_dollar_crate))]
 fn is_dollar_crate(cursor: &Cursor<'_>) -> bool
-    ensures { result ≡ spec.is_dollar_crate cursor.now }
+    ensures { result ≡ sees spec.is_dollar_crate cursor.now }
 {
     if cursor.symbol() != b'$' {
         return false;
@@ -36,7 +38,7 @@ fn is_dollar_crate(cursor: &Cursor<'_>) -> bool
 /// Whether a segment of a path comes next.
 #[tactic(auto, unfolding(crate::specs::Paths::is_segment))]
 pub fn is_segment(cursor: &Cursor<'_>) -> bool
-    ensures { result ≡ spec.is_segment cursor.now }
+    ensures { result ≡ sees spec.is_segment cursor.now }
 {
     if is_path_keyword(cursor.word()) {
         return true;
@@ -51,8 +53,9 @@ pub fn is_segment(cursor: &Cursor<'_>) -> bool
 }
 
 /// Takes a name, or a raw identifier that is none.
+#[tactic(auto, unfolding(crate::specs::Names::next_name))]
 fn named_word(alloc: Global, cursor: &mut Cursor<'_>) -> Result<Option<Name>, AllocError>
-    ensures { Gives (option_map name_word) (spec.named_word cursor.old) result cursor.new }
+    ensures { Gives (option_map name_word) (reads spec.named_word cursor.old) result cursor.new }
 {
     if is_raw(cursor.kind()) {
         let name = next_name(alloc, cursor)?;
@@ -68,7 +71,7 @@ fn other_segment(
     cursor: &mut Cursor<'_>,
     words: &mut PathWords,
 ) -> Result<(), AllocError>
-    ensures { OnOk result (with_word words.old (spec.other_segment cursor.old)
+    ensures { OnOk result (with_word words.old (reads spec.other_segment cursor.old)
         ≡ (words.new, cursor.new)) }
 {
     if cursor.symbol() == b'<' {
@@ -89,7 +92,7 @@ fn other_segment(
 /// Takes a segment of a path, where one has to stand.
 #[tactic(auto, unfolding(crate::specs::Paths::segment))]
 fn segment(alloc: Global, cursor: &mut Cursor<'_>, words: &mut PathWords) -> Result<(), AllocError>
-    ensures { OnOk result (with_word words.old (spec.segment cursor.old)
+    ensures { OnOk result (with_word words.old (reads spec.segment cursor.old)
         ≡ (words.new, cursor.new)) }
 {
     match cursor.word() {
@@ -120,15 +123,15 @@ fn segment(alloc: Global, cursor: &mut Cursor<'_>, words: &mut PathWords) -> Res
 /// Whether `::` comes next.
 #[tactic(auto, unfolding(crate::specs::Paths::is_colons))]
 fn is_colons(cursor: &Cursor<'_>) -> bool
-    ensures { result ≡ spec.is_colons cursor.now }
+    ensures { result ≡ sees spec.is_colons cursor.now }
 {
     cursor.is_pair(b':', b':')
 }
 
 /// Whether the `::` of a use tree comes next that stands in front of `*` or `{`.
-#[tactic(auto, unfolding(crate::specs::Paths::is_joint))]
+#[tactic(auto, unfolding(crate::specs::Paths::is_joint, crate::specs::Paths::is_colons))]
 fn is_joint(cursor: &Cursor<'_>) -> bool
-    ensures { result ≡ spec.is_joint cursor.now }
+    ensures { result ≡ sees spec.is_joint cursor.now }
 {
     if !is_colons(cursor) {
         return false;
@@ -142,7 +145,7 @@ fn is_joint(cursor: &Cursor<'_>) -> bool
 /// Whether a `::` comes next that belongs to a path.
 #[tactic(auto, unfolding(crate::specs::Paths::is_path_colons))]
 fn is_path_colons(cursor: &Cursor<'_>, in_use: bool) -> bool
-    ensures { result ≡ spec.is_path_colons in_use cursor.now }
+    ensures { result ≡ sees (spec.is_path_colons in_use) cursor.now }
 {
     if in_use {
         return is_colons(cursor) && !is_joint(cursor);
@@ -153,7 +156,7 @@ fn is_path_colons(cursor: &Cursor<'_>, in_use: bool) -> bool
 /// Whether `self` comes next with no `::` behind it.
 #[tactic(auto, unfolding(crate::specs::Paths::is_last_self))]
 pub(crate) fn is_last_self(cursor: &Cursor<'_>) -> bool
-    ensures { result ≡ spec.is_last_self cursor.now }
+    ensures { result ≡ sees spec.is_last_self cursor.now }
 {
     if cursor.word() != "self" {
         return false;
@@ -165,7 +168,7 @@ pub(crate) fn is_last_self(cursor: &Cursor<'_>) -> bool
 
 /// Whether a `::` comes next with another segment of the path behind it.
 fn has_more(cursor: &Cursor<'_>, in_use: bool) -> bool
-    ensures { result ≡ spec.has_more in_use cursor.now }
+    ensures { result ≡ sees (spec.has_more in_use) cursor.now }
 {
     if !is_path_colons(cursor, in_use) {
         return false;
@@ -187,7 +190,7 @@ fn more_segments(
     in_use: bool,
     words: &mut PathWords,
 ) -> Result<(), AllocError>
-    ensures { OnOk result (with_words words.old (spec.more_segments in_use cursor.old)
+    ensures { OnOk result (with_words words.old (reads (spec.more_segments in_use) cursor.old)
         ≡ (meaning words.new [], cursor.new)) }
 {
     let most = Cursor::most_turns();
@@ -204,7 +207,7 @@ fn more_segments(
 
 #[tactic(auto, unfolding(crate::specs::Paths::is_path_start))]
 fn is_path_start(cursor: &Cursor<'_>, in_use: bool) -> bool
-    ensures { result ≡ spec.is_path_start in_use cursor.now }
+    ensures { result ≡ sees (spec.is_path_start in_use) cursor.now }
 {
     if is_path_colons(cursor, in_use) {
         return true;
@@ -218,7 +221,7 @@ fn written_path(
     cursor: &mut Cursor<'_>,
     in_use: bool,
 ) -> Result<PathNode, AllocError>
-    ensures { Gives (λ p. p) (spec.written_path in_use cursor.old) result cursor.new }
+    ensures { Gives (λ p. p) (reads (spec.written_path in_use) cursor.old) result cursor.new }
 {
     let is_absolute = cursor.eat_colons();
     let mut words = PathWords::new(alloc, is_absolute);
@@ -232,7 +235,7 @@ fn path_in(
     cursor: &mut Cursor<'_>,
     in_use: bool,
 ) -> Result<Option<PathNode>, AllocError>
-    ensures { Gives (λ p. p) (spec.path_in in_use cursor.old) result cursor.new }
+    ensures { Gives (λ p. p) (reads (spec.path_in in_use) cursor.old) result cursor.new }
 {
     if !is_path_start(cursor, in_use) {
         return Ok(None);
@@ -246,7 +249,7 @@ fn path_in(
 /// lacks a segment. rust-analyzer's `ModPath::from_src`.
 #[tactic(auto, unfolding(crate::specs::Paths::path))]
 pub fn path(alloc: Global, cursor: &mut Cursor<'_>) -> Result<Option<PathNode>, AllocError>
-    ensures { Gives (λ p. p) (spec.path cursor.old) result cursor.new }
+    ensures { Gives (λ p. p) (reads spec.path cursor.old) result cursor.new }
 {
     path_in(alloc, cursor, false)
 }
@@ -257,7 +260,7 @@ pub(crate) fn use_path(
     alloc: Global,
     cursor: &mut Cursor<'_>,
 ) -> Result<Option<PathNode>, AllocError>
-    ensures { Gives (λ p. p) (spec.use_path cursor.old) result cursor.new }
+    ensures { Gives (λ p. p) (reads spec.use_path cursor.old) result cursor.new }
 {
     path_in(alloc, cursor, true)
 }

@@ -3,6 +3,7 @@
 ghost use Rattle.std.specs.Prelude.{◌≡◌, ◌||◌, IfOk, MatchResult, Some, option_map, ◌++◌, [], map, is_none};
 ghost use Rattle.std.specs.Io.{StartsWith};
 ghost use Rattle.hir_input.specs.UseTreeView.{use_tree_view};
+ghost use Rattle.rust_cursor.specs.Grammar.{reads};
 ghost use Rattle.rust_cursor.specs.Reader.{Gives};
 ghost use Rattle.rust_paths.specs.UseTrees as spec;
 ghost use Rattle.rust_paths.specs.Views.{found_view, list_view, starts_view, trees_view};
@@ -91,7 +92,7 @@ pub(crate) struct FoundTrees {
 /// Takes a name or `_`, if one of them comes next.
 #[tactic(auto, unfolding(crate::specs::UseTrees::alias))]
 fn alias(alloc: Global, cursor: &mut Cursor<'_>) -> Result<Rename, AllocError>
-    ensures { Gives (λ r. r) (spec.alias cursor.old) result cursor.new }
+    ensures { Gives (λ r. r) (reads spec.alias cursor.old) result cursor.new }
 {
     let name = name(alloc, cursor)?;
     cursor.eat_word("_");
@@ -101,7 +102,7 @@ fn alias(alloc: Global, cursor: &mut Cursor<'_>) -> Result<Rename, AllocError>
 /// Takes `as` and what stands behind it, if it comes next.
 #[tactic(auto, unfolding(crate::specs::UseTrees::rename))]
 fn rename(alloc: Global, cursor: &mut Cursor<'_>) -> Result<Option<Rename>, AllocError>
-    ensures { Gives (λ r. r) (spec.rename cursor.old) result cursor.new }
+    ensures { Gives (λ r. r) (reads spec.rename cursor.old) result cursor.new }
 {
     if !cursor.eat_word("as") {
         return Ok(None);
@@ -269,7 +270,7 @@ fn may_be_listed(joined: bool, path: &Option<PathNode>) -> bool
 }
 
 /// Passes over what stands before the next comma, and it, or up to a bracket that closes.
-#[tactic(auto, unfolding(crate::specs::UseTrees::tree_behind_comma), using(crate::proofs::Trees::comma_end, crate::proofs::Trees::comma_here, crate::proofs::Trees::comma_more))]
+#[tactic(auto, unfolding(crate::specs::UseTrees::comma), using(crate::proofs::Trees::comma_end, crate::proofs::Trees::comma_here, crate::proofs::Trees::comma_more))]
 pub fn pass_comma(cursor: &mut Cursor<'_>)
     ensures { cursor.new ≡ spec.tree_behind_comma cursor.old }
 {

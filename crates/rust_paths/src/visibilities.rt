@@ -1,7 +1,11 @@
 //! Visibilities.
 
 ghost use Rattle.std.specs.Prelude.{◌≡◌};
+ghost use Rattle.rust_cursor.specs.Elements.{most};
+ghost use Rattle.rust_cursor.specs.Grammar.{reads};
+ghost use Rattle.rust_cursor.specs.Looks.{past_from, sees};
 ghost use Rattle.rust_cursor.specs.Reader.{Gives};
+ghost use Rattle.rust_cursor.specs.Words.{bumped};
 ghost use Rattle.rust_paths.specs.Visibilities as spec;
 
 use crate::paths::path;
@@ -75,7 +79,7 @@ fn is_in(cursor: &Cursor<'_>) -> bool
 
 /// Takes a path, up to the bracket that closes; before a comma or what begins an item, where one comes first.
 fn scope_path(alloc: Global, cursor: &mut Cursor<'_>) -> Result<Visibility, AllocError>
-    ensures { Gives (λ v. v) (spec.scope_path cursor.old) result cursor.new }
+    ensures { Gives (λ v. v) (reads spec.scope_path cursor.old) result cursor.new }
 {
     let path = path(alloc, cursor)?;
     cursor.pass_field();
@@ -85,14 +89,14 @@ fn scope_path(alloc: Global, cursor: &mut Cursor<'_>) -> Result<Visibility, Allo
 
 /// Whether a word or a colon comes next.
 fn is_path_part(cursor: &Cursor<'_>) -> bool
-    ensures { result ≡ spec.is_path_part cursor.now }
+    ensures { result ≡ sees spec.is_path_part cursor.now }
 {
     cursor.is_at_identifier() || cursor.symbol() == b':'
 }
 
-#[tactic(auto, unfolding(crate::specs::Visibilities::behind_parts), using(crate::proofs::Steps::parts_more, crate::proofs::Steps::parts_stop))]
+#[tactic(auto, using(crate::proofs::Steps::parts_more, crate::proofs::Steps::parts_stop))]
 fn pass_parts(cursor: &mut Cursor<'_>)
-    ensures { cursor.new ≡ spec.behind_parts cursor.old }
+    ensures { cursor.new ≡ past_from (sees spec.is_path_part) most cursor.old }
 {
     let most = Cursor::most_turns();
     for _turn in 0..most {
@@ -106,7 +110,7 @@ fn pass_parts(cursor: &mut Cursor<'_>)
 /// Whether words and colons in brackets come next, and a word behind these.
 #[tactic(auto, unfolding(crate::specs::Visibilities::is_bare_path))]
 fn is_bare_path(cursor: &Cursor<'_>) -> bool
-    ensures { result ≡ spec.is_bare_path cursor.now }
+    ensures { result ≡ sees spec.is_bare_path (bumped cursor.now) }
 {
     let mut ahead = cursor.ahead();
     ahead.bump();
@@ -136,9 +140,9 @@ fn plain_scope(alloc: Global, cursor: &mut Cursor<'_>) -> Result<Visibility, All
 }
 
 /// Takes what goes on a visibility behind `pub`.
-#[tactic(auto, unfolding(crate::specs::Visibilities::scoped))]
+#[tactic(auto, using(crate::proofs::Steps::scoped_none, crate::proofs::Steps::scoped_in, crate::proofs::Steps::scoped_plain))]
 fn scoped(alloc: Global, cursor: &mut Cursor<'_>) -> Result<Visibility, AllocError>
-    ensures { Gives (λ v. v) (spec.scoped cursor.old) result cursor.new }
+    ensures { Gives (λ v. v) (reads spec.scoped cursor.old) result cursor.new }
 {
     if cursor.symbol() != b'(' {
         return Ok(Visibility::Pub);
@@ -158,7 +162,7 @@ fn scoped(alloc: Global, cursor: &mut Cursor<'_>) -> Result<Visibility, AllocErr
 /// rust-analyzer's `opt_visibility`.
 #[tactic(auto, unfolding(crate::specs::Visibilities::visibility))]
 pub fn visibility(alloc: Global, cursor: &mut Cursor<'_>) -> Result<Option<Visibility>, AllocError>
-    ensures { Gives (λ v. v) (spec.visibility cursor.old) result cursor.new }
+    ensures { Gives (λ v. v) (reads spec.visibility cursor.old) result cursor.new }
 {
     if cursor.word() != "pub" {
         return Ok(None);

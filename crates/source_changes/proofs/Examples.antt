@@ -8,8 +8,8 @@ use Rattle.rust_lexer.specs.Number.{past_digits}
 use Rattle.rust_lexer.specs.Tokens.{tokens}
 use Rattle.rust_items.specs.declared.source_file.ItemPlace.{ItemPlace}
 use Rattle.rust_edits.specs.Typing.Laws.{with_body}
-use Rattle.rust_members.specs.declared.member.MemberKind.TheVariants as members
-use Rattle.rust_members.specs.Members.{MemberRead}
+use Rattle.rust_items.specs.declared.member.MemberKind.TheVariants as members
+use Rattle.rust_items.specs.Members.{MemberRead}
 use Rattle.source_changes.specs.Typing.{AreBraces, braces, has_hole, is_member_hole}
 
 -- `fn f() { 1 }`, where ` "}" // x` and a line feed is typed

@@ -10,9 +10,9 @@ use Rattle.rust_edits.proofs.Common.{AreAlike, IsAlike, Moves, SameRange, both, 
 use Rattle.rust_paths.specs.declared.names.TextRange.{TextRange}
 use Rattle.rust_items.specs.LineEnds.{moved_range}
 use Rattle.rust_items.specs.Places.{IsNameIn}
-use Rattle.rust_members.specs.Members.{MemberRead, moved_member, range_moved_by}
-use Rattle.rust_members.specs.Places.{ArePlaced, IsMemberPlaced}
-use Rattle.rust_members.proofs.UntilMembers.{MemberAlike}
+use Rattle.rust_items.specs.Members.{MemberRead, moved_member, range_moved_by}
+use Rattle.rust_items.specs.MemberPlaces.{ArePlaced, IsMemberPlaced}
+use Rattle.rust_items.proofs.UntilMembers.{MemberAlike}
 use Rattle.rust_edits.specs.Typing.Laws.{with_body}
 use Rattle.rust_edits.specs.Typing.Moved.{close_at, shifted, shifted_by}
 use Rattle.source_rows.specs.Bodies.{hole_of}

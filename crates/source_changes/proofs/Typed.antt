@@ -14,7 +14,7 @@ use Rattle.rust_paths.specs.declared.names.TextRange.{TextRange}
 use Rattle.source_rows.specs.declared.kept.Hole.{Hole}
 use Rattle.rust_items.specs.declared.source_file.ItemPlace.{ItemPlace}
 use Rattle.rust_items.specs.Places.{IsNameIn}
-use Rattle.rust_members.specs.Members.{range_moved_by}
+use Rattle.rust_items.specs.Members.{range_moved_by}
 use Rattle.source_rows.specs.Bodies.{is_hole, hole_of}
 use Rattle.rust_items.specs.LineEnds.{moved_range}
 use Rattle.rust_edits.specs.Typing.Laws.{with_body}

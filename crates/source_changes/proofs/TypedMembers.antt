@@ -13,12 +13,13 @@ use Rattle.rust_lexer.proofs.Counted.{when}
 use Rattle.rust_paths.specs.declared.names.TextRange.{TextRange}
 use Rattle.rust_items.specs.declared.source_file.ItemPlace.{ItemPlace}
 use Rattle.rust_items.specs.LineEnds.{moved_range}
-use Rattle.rust_members.specs.Lists.{is_cut, members, members_in}
-use Rattle.rust_members.specs.Members.{MemberRead, moved_member, range_moved_by}
-use Rattle.rust_members.specs.Places.{ArePlaced}
-use Rattle.rust_members.proofs.Moving.{placed_moved}
-use Rattle.rust_members.proofs.Placing.{members_placed}
-use Rattle.rust_members.proofs.UntilMembers.{AreElsewhere, Elsewhere, MemberAlike, MembersUntil, alike, members_until, of_none}
+use Rattle.rust_items.specs.MemberLists.{is_cut, members, members_in}
+use Rattle.rust_items.specs.Members.{MemberRead, moved_member, range_moved_by}
+use Rattle.rust_items.specs.MemberPlaces.{ArePlaced}
+use Rattle.rust_items.proofs.MemberCuts.{placed_moved}
+use Rattle.rust_items.proofs.MemberPlacing.{members_placed}
+use Rattle.rust_items.proofs.FoundRows.{Elsewhere}
+use Rattle.rust_items.proofs.UntilMembers.{AreElsewhere, MemberAlike, MembersUntil, alike, members_until, of_none}
 use Rattle.rust_edits.proofs.Common.{AreAlike, close_of, close_some, end_of, tokens_of, tokens_sound}
 use Rattle.rust_edits.proofs.Typing.Texts.{IsMoved, are_moved, begin_plain, bodies_at, tokens_beside}
 use Rattle.rust_edits.proofs.Typing.Texts as texts

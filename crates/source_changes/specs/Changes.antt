@@ -2,7 +2,7 @@
 use Rattle.std.specs.Prelude.{◌≡◌, ◌↔◌, ℕ, Bool, IsTrue, if◌then◌else◌, List, [], ◌∷◌, ◌++◌, codes, string_bytes, flat_map}
 use Rattle.hir_input.specs.declared.edition.EditionYear.{EditionYear}
 use Rattle.rust_items.specs.SourceFiles.{FileView, IsFileView}
-use Rattle.item_changes.specs.ChangeWords.{change_word, side_of}
+use Rattle.source_rows.specs.ChangeWords.{change_word, side_of}
 use Rattle.source_rows.specs.Changes.{RowChange, row_changes}
 use Rattle.source_rows.specs.Skeletons.{skeleton}
 use Rattle.source_rows.specs.Parts.{Part, item_parts}
@@ -55,6 +55,11 @@ abbrev pub lines_between : EditionYear → Bool → Source → Source → List P
 lines_between edition has_docs old new olds news =
     let items = row_changes (part_rows has_docs old.text olds) (part_rows has_docs new.text news) in
     row_lines old new (or_else items (changes_beside edition has_docs old new olds news))
+
+-- these are the lines of what became of one file of an edition in another
+abbrev pub AreLinesBetween : EditionYear → Bool → Source → Source → List ℕ → Type 0
+AreLinesBetween edition has_docs old new lines =
+    (olds news : List Part) × AreParts edition old.text olds × AreParts edition new.text news × (lines ≡ lines_between edition has_docs old new olds news)
 
 -- no line where nothing differs
 abbrev pub compared_lines : EditionYear → Bool → Bool → Source → Source → List Part → List Part → List ℕ

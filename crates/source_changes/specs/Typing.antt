@@ -9,7 +9,7 @@ use Rattle.rust_items.specs.LineEnds.{with_feeds}
 use Rattle.rust_items.specs.SourceFiles.{FileView, IsFileView}
 use Rattle.rust_edits.specs.Typing.Laws.{with_body, BeginsPlain, OpensAt, IsTyped}
 use Rattle.rust_edits.specs.Typing.Moved.{close_at, shifted_by}
-use Rattle.rust_members.specs.Members.{MemberRead}
+use Rattle.rust_items.specs.Members.{MemberRead}
 use Rattle.source_rows.specs.Bodies.{hole_of}
 use Rattle.source_rows.specs.Labels.{has_members}
 use Rattle.source_rows.specs.Parts.{Part, body_members, fn_body}

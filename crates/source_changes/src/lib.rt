@@ -12,12 +12,12 @@ ghost use Rattle.source_changes.specs.Changes as spec;
 ghost use Rattle.source_changes.specs.Views.{lined_view};
 
 use hir_input::EditionYear;
-use item_changes::{ChangeKind, change_word};
 use line_index::LineIndex;
 use rust_items::{Wanted, WantedMetas, read_wanted};
 pub use source_rows::Source;
 use source_rows::{
-    Change, Part, Skeleton, bodies, changes, moves, outside, parts, push_place, row_around, rows,
+    Change, ChangeKind, Part, Skeleton, bodies, change_word, changes, moves, outside, parts,
+    push_place, row_around, rows,
 };
 use std::alloc::{AllocError, Global};
 
@@ -26,7 +26,7 @@ use std::alloc::{AllocError, Global};
 pub struct Compared {
     /// A line for each change of an item or of a member of one.
     pub text: String,
-    /// Whether others see the same of both.
+    /// Whether the two are the same: as others see them, or as trees.
     pub is_same: bool,
 }
 
@@ -165,17 +165,14 @@ fn outside_lines(alloc: Global, pair: Pair<'_>) -> Result<String, AllocError>
     lines(alloc, pair.old, pair.new, &changes)
 }
 
-/// The lines of what became of the parts of a file in another, or else of what moved from a part to another of its label, or else of
-/// what stands in none; no line where others see the same of both.
-fn text_of(alloc: Global, is_same: bool, pair: Pair<'_>) -> Result<String, AllocError>
+/// The lines of what became of the parts of a file in another, or else of what moved from a part to another of its
+/// label, or else of what stands in none.
+fn lines_between(alloc: Global, pair: Pair<'_>) -> Result<String, AllocError>
     ensures { let p = pair.entry in
-        let lines = spec.compared_lines p.edition is_same p.has_docs (source_view p.old)
-        (source_view p.new) (map part_view p.olds.now) (map part_view p.news.now) in
+        let lines = spec.lines_between p.edition p.has_docs (source_view p.old) (source_view p.new)
+        (map part_view p.olds.now) (map part_view p.news.now) in
         IfOk result (λ text. string_bytes text ≡ lines) }
 {
-    if is_same {
-        return Ok(String::new(alloc));
-    }
     let old_rows = rows(alloc, pair.old.text, pair.olds, pair.has_docs)?;
     let new_rows = rows(alloc, pair.new.text, pair.news, pair.has_docs)?;
     let changes = changes(alloc, &old_rows, &new_rows)?;
@@ -189,13 +186,57 @@ fn text_of(alloc: Global, is_same: bool, pair: Pair<'_>) -> Result<String, Alloc
     outside_lines(alloc, pair)
 }
 
-/// Compares what others can see of two files of an edition: every token but those between the braces of functions and comments, and
-/// documentation only where that is asked.
+/// The same, but no line where others see the same of both.
+fn text_of(alloc: Global, is_same: bool, pair: Pair<'_>) -> Result<String, AllocError>
+    ensures { let p = pair.entry in
+        let lines = spec.compared_lines p.edition is_same p.has_docs (source_view p.old)
+        (source_view p.new) (map part_view p.olds.now) (map part_view p.news.now) in
+        IfOk result (λ text. string_bytes text ≡ lines) }
+{
+    if is_same {
+        return Ok(String::new(alloc));
+    }
+    lines_between(alloc, pair)
+}
+
+/// The lines of what became of a file of an edition in another, whatever makes the two differ: those of `compare` where
+/// others see a difference, and else none.
 ///
-/// It tells in a line what was removed of the old file's items and of their members, and then what was added or changed. Where
-/// nothing of that became another, lines tell what moved from an item to another of the same kind and path: it was removed and added.
-/// Where nothing did, a line tells what stands in none of these; without one the files differ in the order of items or in the
-/// attributes of the file.
+/// # Errors
+///
+/// Only if memory runs out.
+pub fn change_lines(
+    alloc: Global,
+    old: Source<'_>,
+    new: Source<'_>,
+    edition: EditionYear,
+    has_docs: bool,
+) -> Result<String, AllocError>
+    ensures { let are_lines = spec.AreLinesBetween edition has_docs (source_view old.entry)
+        (source_view new.entry) in
+        IfOk result (λ text. are_lines (string_bytes text)) }
+{
+    let before = parts_of(alloc, old.text, edition)?;
+    let after = parts_of(alloc, new.text, edition)?;
+    let pair = Pair {
+        old,
+        new,
+        olds: &before,
+        news: &after,
+        edition,
+        has_docs,
+    };
+    let text = lines_between(alloc, pair)?;
+    Ok(text)
+}
+
+/// Compares what others can see of two files of an edition: every token but those between the braces of functions and
+/// comments, and documentation only where that is asked.
+///
+/// It tells in a line what was removed of the old file's items and of their members, and then what was added or
+/// changed. Where nothing of that became another, lines tell what moved from an item to another of the same kind and
+/// path: it was removed and added. Where nothing did, a line tells what stands in none of these; without one the files
+/// differ in the order of items or in the attributes of the file.
 ///
 /// # Errors
 ///

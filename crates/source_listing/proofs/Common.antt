@@ -4,7 +4,6 @@ pub use Rattle.tree_walk.specs.Declarations.{Declared, declarations, declared_im
 pub use Rattle.tree_walk.specs.Listed.{listed_import}
 pub use Rattle.hir_input.specs.declared.edition.Edition.{Edition}
 pub use Rattle.hir_input.specs.declared.ids.FileAstId.{FileAstId}
-pub use Rattle.item_changes.specs.Views.{change_view}
 pub use Rattle.item_tree.proofs.Walking.{flat_map_of_id, leaf_of_id, parent_of_id}
 pub use Rattle.item_tree.specs.Imports.{Import, imports}
 pub use Rattle.item_tree.specs.Layout.{leaf_map}
@@ -16,23 +15,23 @@ pub use Rattle.item_tree.specs.Walk.{children, children_at, count_at}
 pub use Rattle.rust_cursor.proofs.Leads.{LeadsTo, behind_closed_leads, behind_tree_leads, beyond_leads, bumped_leads, eat_pair_leads, here, through, when}
 pub use Rattle.rust_items.specs.declared.source_file.ItemPlace.{ItemPlace}
 pub use Rattle.serde_json.specs.View.{items_of, view}
-pub use Rattle.source_listing.specs.Changed.{Side, change_lines, line_between}
-pub use Rattle.source_listing.specs.Ends.{IsEndOf}
+pub use Rattle.source_rows.specs.Finders.{IsFinderOf, IsSameFinder}
 pub use Rattle.source_listing.specs.ImportObjects.{alias_form, import_form, import_object, import_objects, seen_objects}
 pub use Rattle.source_listing.specs.Imports.{import_lines, of_declared, of_seen, of_uses, placed_import_line, seen_lines, spots_of_any}
-pub use Rattle.source_listing.specs.Inner.{FindsFirsts, Firsts, IsFinderOf, IsPrinterOf, IsSameFile, IsSameFinder, IsSameTreeFinder, IsTreeFinderOf, NamedKey, PutsFirst, file_of, finder_text, first_in, has_named_key, id_key, is_around, item_at, key, lent_named, listed_named_view, named_at, named_key_view, objects_at, own_named, own_named_at, placed_trees_view, places_in, places_of, reserved_of, same_named_key, shown_item_view, side_of_printer}
+pub use Rattle.source_listing.specs.Inner.{FindsFirsts, Firsts, IsPrinterOf, IsSameFile, IsSameTreeFinder, IsTreeFinderOf, NamedKey, PutsFirst, file_of, finder_text, first_in, has_named_key, id_key, is_around, item_at, key, lent_named, listed_named_view, named_at, named_key_view, objects_at, own_named, own_named_at, placed_trees_view, places_in, places_of, reserved_of, same_named_key, shown_item_view}
 pub use Rattle.source_listing.specs.Lines.{Choice, Source, is_chosen, is_listed}
 pub use Rattle.source_listing.specs.Objects.{Entry, ItemView, column_form, entry_object, file_form, header_form, item_entry, item_in, line_form, listed_objects, member_entry, member_object, member_objects, member_spot, name_form, node_objects, own_objects, problem_objects, range_form, subject_form, tree_objects, visibility_form, whole_object}
-pub use Rattle.source_listing.specs.Outlines.{member_line, reading, title}
-pub use Rattle.source_listing.specs.Places.{AreDistinct, is_id, place_of, spot_at}
+pub use Rattle.source_listing.specs.Outlines.{member_line, title}
+pub use Rattle.source_rows.specs.Places.{AreDistinct, is_id, place_of, spot_at}
 pub use Rattle.source_listing.specs.Repeated.{Named, first_alike, forest_named, is_alike, leaf_named, line_if_any, named_import, node_named, repeat_lines}
-pub use Rattle.source_listing.specs.Search.{Query, bare_segment, found_lines, found_member, is_member_found, whole_found}
+pub use Rattle.source_listing.specs.Search.{Query, found_lines, found_member, is_member_found, whole_found}
+pub use Rattle.source_listing.specs.Paths.{bare_segment}
 unfoldable pub use Rattle.source_listing.specs.Search.{found_members}
 pub use Rattle.source_listing.specs.Tags.{if_any, path_char, scope_field, tag_inside}
 unfoldable pub use Rattle.source_listing.specs.Tags.{tags_inside}
 pub use Rattle.source_listing.specs.Uses.{FilePlaces, Trees, from_place, import_spot, placed, tree_spots, use_trees_at}
-pub use Rattle.source_listing.specs.Views.{choice_view, look_view, query_view, side_view, source_view}
-pub use Rattle.source_listing.specs.declared.finder.Spot.{Spot}
+pub use Rattle.source_listing.specs.Views.{choice_view, look_view, query_view, source_view}
+pub use Rattle.source_rows.specs.declared.finder.Spot.{Spot}
 pub use Rattle.source_listing.specs.declared.printer.Printer.{Printer}
 pub use Rattle.source_rows.specs.Listed.{Listed, MemberReading, header_of, members_of}
 pub use Rattle.source_rows.specs.ListedViews.{listed_view, reading_view}

@@ -60,15 +60,6 @@ first_same table k q h = λ i. option_map (λ n. listed_named_view n.now) (get_b
 
 -- ---- one more import
 
-or-first : (o : Option Named) (x y : Named) → o ≡ Some y → o ≡ option_or o (Some x)
-or-first None x y e = absurd cc
-or-first (Some z) x y e = refl
-
--- there is one of its key
-pub put_none : (table : Firsts) (k : code_key.Key) (x : Named) (y : Named) → first_in table k ≡ Some y → PutsFirst table table k x
-put_none table k x y e q =
-    ⊎_elim (λ (t : same_named_key k q ≡ true). rw t (or-first (first_in table q) x y (sym (first_same table k q t) ∙ e))) (λ (t : same_named_key k q ≡ false). rw t refl) (cases_Bool (same_named_key k q))
-
 -- there is none
 pub put_first : (old new : Firsts) (k : code_key.Key) (b : Bor code_named.Named) → first_in old k ≡ None
     → ((q : code_key.Key) → get same_named_key new q ≡ cond (same_named_key k q) (Some b) (get same_named_key old q)) → PutsFirst old new k (listed_named_view b.now)

@@ -38,7 +38,7 @@ seen_by_finder each text places f d is =
 
 -- the places are the same
 pub places_kept : (old new : TreeFinder) → IsSameTreeFinder old new → places_in new ≡ places_in old
-places_kept old new same = ap (λ ps. placed ps new.uses.all.now) same.0.1 ∙ ap (placed old.finder.places.all.now) same.1
+places_kept old new same = ap (λ ps. placed ps new.uses.all.now) same.0.1 ∙ ap (placed old.finder.places) same.1
 
 pub finder_same : (text : List ℕ) (places : FilePlaces) (old new : TreeFinder) → IsSameTreeFinder old new → IsTreeFinderOf text places old → IsTreeFinderOf text places new
 finder_same text places old new same is = ((same.0.0 ∙ is.0.0, same.0.1 ∙ is.0.1), same.1 ∙ is.1)

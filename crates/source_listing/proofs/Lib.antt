@@ -1,6 +1,5 @@
 pub mod Common
 pub mod Skips
-pub mod Found
 pub mod Nested
 pub mod NoFloats
 pub mod Pushed
@@ -9,7 +8,6 @@ pub mod Tagged
 pub mod Imported
 pub mod Repeats
 pub mod Printers
-pub mod Between
 pub mod Firsts
 pub mod AtStarts
 pub mod Named

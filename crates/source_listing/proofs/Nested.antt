@@ -31,21 +31,6 @@ module _ (s : Source) (x : MemberReading) (reserved : List (List ℕ)) (places :
       → objects_at s x reserved places c u level a i ≡ own_objects s x reserved places c level y (flat_map (objects_at s x reserved places c u (level + 1) y.is_active) is)
   item_objects u level a i is y e f = one_objects u level a is (node_at u.forest i) y e f
 
-  unlisted_own : (level : ℕ) (y z : ItemView) (ds : List Data) → z ≡ y → is_chosen c level y.is_active ≡ false → own_objects s x reserved places c level z ds ≡ []
-  unlisted_own level y z ds e f = rw (e, f) refl
-
-  unlisted : (level : ℕ) (a : Bool) (o : Option Node) (y : ItemView) → y ∷ [] ≡ option_map_or (λ n. item_in a n ∷ []) o [] → is_chosen c level y.is_active ≡ false
-      → option_map_or (node_objects s x reserved places c level a) o [] ≡ []
-  unlisted level a None y e f = refl
-  unlisted level a (Some n) y e f =
-      let e : item_in a n ≡ y = cc in
-      node_is level a n ∙ unlisted_own level y (item_in a n) (listed_objects s x reserved places c (level + 1) (item_in a n).is_active (children n)) e f
-
-  -- an item that is not chosen has none
-  pub item_unlisted : (u : Unfolding) (level : ℕ) (a : Bool) (i : ℕ) (y : ItemView) → y ∷ [] ≡ item_at u a i → is_chosen c level y.is_active ≡ false
-      → objects_at s x reserved places c u level a i ≡ []
-  item_unlisted u level a i y e f = unlisted level a (node_at u.forest i) y e f
-
   own_chosen : (level : ℕ) (y : ItemView) (ds : List Data) → is_chosen c level y.is_active ≡ true
       → own_objects s x reserved places c level y ds ≡ whole_object s x reserved places c level y (place_of y.id places) ds ∷ []
   own_chosen level y ds e = rw e refl

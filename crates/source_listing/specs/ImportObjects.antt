@@ -9,7 +9,7 @@ use Rattle.item_tree.specs.Imports.{Import}
 use Rattle.item_tree.specs.Node.{Forest}
 use Rattle.item_tree.specs.UseText.{shown_alias}
 use Rattle.tree_walk.specs.DeclarationView.{DeclarationView}
-use Rattle.source_listing.specs.declared.finder.Spot.{Spot}
+use Rattle.source_rows.specs.declared.finder.Spot.{Spot}
 use Rattle.source_listing.specs.Imports.{of_seen, of_uses}
 use Rattle.source_listing.specs.Objects.{column_form, line_form}
 use Rattle.source_listing.specs.Uses.{FilePlaces}

@@ -10,9 +10,9 @@ use Rattle.item_tree.specs.Node.{Forest, node_ast}
 use Rattle.item_tree.specs.UseText.{shown_rename}
 use Rattle.tree_walk.specs.Declarations.{Declared, declared_name, declared_imports, declarations}
 use Rattle.tree_walk.specs.DeclarationView.{DeclarationView, view_of}
-use Rattle.source_listing.specs.declared.finder.Spot.{Spot}
+use Rattle.source_rows.specs.declared.finder.Spot.{Spot}
 use Rattle.source_listing.specs.Lines.{Source}
-use Rattle.source_listing.specs.Places.{item_place}
+use Rattle.source_rows.specs.Places.{item_place}
 use Rattle.source_listing.specs.Uses.{FilePlaces, import_spot}
 
 -- an import as a use of it alone would be written

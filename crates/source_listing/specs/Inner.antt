@@ -17,17 +17,16 @@ use Rattle.rust_items.specs.declared.source_file.ItemPlace.{ItemPlace}
 use Rattle.source_rows.specs.Listed.{MemberReading}
 use Rattle.source_listing.specs.declared.json.Item as code_item
 use Rattle.source_listing.specs.declared.printer.Printer.{Printer}
-use Rattle.source_listing.specs.declared.finder.Finder.{Finder}
-use Rattle.source_listing.specs.declared.finder.Spot.{Spot}
+use Rattle.source_rows.specs.Finders.{IsFinderOf, IsSameFinder}
+use Rattle.source_rows.specs.declared.finder.Spot.{Spot}
 use Rattle.source_listing.specs.declared.repeated.Named as code_named
 use Rattle.source_listing.specs.declared.repeated.Key as code_key
 use Rattle.source_listing.specs.contracts.repeated.KeyPartialEq.TheImpl as keys
 use Rattle.source_listing.specs.declared.uses.UseTrees as code_trees
 use Rattle.source_listing.specs.declared.uses.TreeFinder.{TreeFinder}
-use Rattle.source_listing.specs.Changed.{Side}
 use Rattle.source_listing.specs.Lines.{Choice, Source}
 use Rattle.source_listing.specs.Objects.{Entry, ItemView, column_form, item_in, line_form, node_objects, range_form}
-use Rattle.source_listing.specs.Places.{AreDistinct}
+use Rattle.source_rows.specs.Places.{AreDistinct}
 use Rattle.source_listing.specs.Repeated.{Named, leaf_named, node_named}
 use Rattle.source_listing.specs.Uses.{FilePlaces, placed, Trees}
 
@@ -37,25 +36,15 @@ abbrev pub file_of : Printer → Source
 file_of p = record { path = p.path.now; text = p.finder.lines }
 
 abbrev pub places_of : Printer → List ItemPlace
-places_of p = p.finder.places.all.now
+places_of p = p.finder.places
 
 abbrev pub reserved_of : Printer → List (List ℕ)
 reserved_of p = p.edition.now.reserved.items
-
-abbrev pub side_of_printer : Printer → Side
-side_of_printer p = record { source = file_of p; places = places_of p }
-
--- the places that are found are those of a text
-abbrev pub IsFinderOf : List ℕ → List ItemPlace → Finder → Type 0
-IsFinderOf text places f = (f.lines ≡ text) × (f.places.all.now ≡ places)
 
 abbrev pub IsPrinterOf : Source → List ItemPlace → Edition → Printer → Type 0
 IsPrinterOf s places edition p = (p.path.now ≡ s.path) × (p.edition.now ≡ edition) × IsFinderOf s.text places p.finder
 
 -- nothing of the file is another
-abbrev pub IsSameFinder : Finder → Finder → Type 0
-IsSameFinder old new = (new.lines ≡ old.lines) × (new.places.all.now ≡ old.places.all.now)
-
 abbrev pub IsSameFile : Printer → Printer → Type 0
 IsSameFile old new = (new.path ≡ old.path) × (new.edition ≡ old.edition) × IsSameFinder old.finder new.finder
 
@@ -96,7 +85,7 @@ abbrev pub finder_text : TreeFinder → List ℕ
 finder_text f = f.finder.lines
 
 abbrev pub places_in : TreeFinder → FilePlaces
-places_in f = placed f.finder.places.all.now f.uses.all.now
+places_in f = placed f.finder.places f.uses.all.now
 
 abbrev pub file_in : List ℕ → TreeFinder → Source
 file_in path f = record { path = path; text = finder_text f }

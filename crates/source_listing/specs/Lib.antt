@@ -1,9 +1,6 @@
-pub mod Ends
-pub mod Places
 pub mod Colors
 pub mod Lines
 pub mod Outlines
-pub mod Changed
 pub mod Objects
 pub mod Uses
 pub mod Told
@@ -11,6 +8,7 @@ pub mod Imports
 pub mod ImportObjects
 pub mod Repeated
 pub mod Pages
+pub mod Paths
 pub mod Search
 pub mod Sought
 pub mod Tags

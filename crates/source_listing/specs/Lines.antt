@@ -17,7 +17,7 @@ use Rattle.source_problems.specs.declared.problem.SourceProblemKind.{SourceProbl
 use Rattle.source_problems.specs.declared.problem.SourceProblemKind.TheVariants as problem
 pub use Rattle.source_rows.specs.Labels.{item_word}
 pub use Rattle.source_rows.specs.Sources.{Source, place_at}
-use Rattle.source_listing.specs.Places.{stands_at}
+use Rattle.source_rows.specs.Places.{stands_at}
 
 -- where something stands in a file; all has a place
 abbrev pub at_text : Source → Option ℕ → List ℕ

@@ -21,9 +21,9 @@ use Rattle.source_rows.specs.Labels.{member_word}
 use Rattle.source_rows.specs.Listed.{Listed, MemberReading, header_of, members_of}
 use Rattle.source_problems.specs.declared.problem.SourceProblemKind.{SourceProblemKind}
 use Rattle.source_problems.specs.Problems.{told_kind}
-use Rattle.source_listing.specs.declared.finder.Spot.{Spot}
+use Rattle.source_rows.specs.declared.finder.Spot.{Spot}
 use Rattle.source_listing.specs.Lines.{Choice, Source, is_chosen, message, short_tree, visible_in, item_word}
-use Rattle.source_listing.specs.Places.{place_of, spot_at}
+use Rattle.source_rows.specs.Places.{place_of, spot_at}
 
 -- an item, and whether no cfg disables it, nor an item that it stands in, nor the file
 pub record ItemView : Type 0 where

@@ -1,18 +1,12 @@
 -- The lines of an outline.
 use Rattle.std.specs.Prelude.{ℕ, Bool, ◌+◌, List, [], ◌∷◌, ◌++◌, codes, filter, Option, Some, None, flat_map}
-use Rattle.hir_input.specs.declared.edition.EditionYear.{EditionYear}
-use Rattle.hir_input.specs.Cfg.{AtomView}
 use Rattle.tree_walk.specs.Rows.{RowView, Subject, no_subject}
 use Rattle.rust_items.specs.declared.source_file.ItemPlace.{ItemPlace}
 use Rattle.source_rows.specs.Labels.{member_word}
 use Rattle.source_rows.specs.Listed.{Listed, MemberReading, header_of, members_of}
-use Rattle.source_listing.specs.Colors.{bold, colored, cyan, faint}
+use Rattle.source_listing.specs.Colors.{bold_code, colored_text, cyan_code, faint_code}
 use Rattle.source_listing.specs.Lines.{Choice, Source, indent, is_chosen, is_listed, line_end, listed_name, place_at, stand_text, subject_text, visibility_text, item_word}
-use Rattle.source_listing.specs.Places.{place_of}
-
--- where the headers and the members of a file are read
-abbrev pub reading : Source → EditionYear → Option (List AtomView) → MemberReading
-reading s year options = record { text = s.text; closers = None; edition = year; options = options }
+use Rattle.source_rows.specs.Places.{place_of}
 
 -- which items have lines, and whether these are in colour
 pub record Look : Type 0 where
@@ -31,14 +25,14 @@ title reserved header name subject = header_text header ++ listed_name reserved 
 -- the line of an item: its place, four blanks for each item that it stands in, its visibility, the word of its kind, its title, and whether a cfg disables it
 abbrev pub item_line : Source → List (List ℕ) → Bool → Option ItemPlace → List ℕ → RowView → List ℕ
 item_line s reserved is_colored place header r =
-    colored is_colored faint (stand_text s place) ++ indent r.level ++ visibility_text reserved r.visibility ++ colored is_colored cyan (item_word r.id.kind)
-    ++ colored is_colored bold (title reserved header r.name r.subject) ++ line_end r.is_active
+    colored_text is_colored faint_code (stand_text s place) ++ indent r.level ++ visibility_text reserved r.visibility ++ colored_text is_colored cyan_code (item_word r.id.kind)
+    ++ colored_text is_colored bold_code (title reserved header r.name r.subject) ++ line_end r.is_active
 
 -- the line of a member of an item in so many others, one level deeper; its title is its name alone
 abbrev pub member_line : Source → List (List ℕ) → Bool → ℕ → Listed → List ℕ
 member_line s reserved is_colored level m =
-    colored is_colored faint (place_at s m.at) ++ indent level ++ codes "    " ++ visibility_text reserved (Some m.visibility) ++ colored is_colored cyan (member_word m.kind)
-    ++ colored is_colored bold (title reserved [] (Some m.name) no_subject) ++ line_end m.is_active
+    colored_text is_colored faint_code (place_at s m.at) ++ indent level ++ codes "    " ++ visibility_text reserved (Some m.visibility) ++ colored_text is_colored cyan_code (member_word m.kind)
+    ++ colored_text is_colored bold_code (title reserved [] (Some m.name) no_subject) ++ line_end m.is_active
 
 -- the lines of those members of an item in so many others that are chosen
 abbrev pub member_lines : Source → List (List ℕ) → Look → ℕ → List Listed → List ℕ

@@ -3,16 +3,16 @@ use Rattle.std.specs.Prelude.{ℕ, Bool, not, ◌==◌, if◌then◌else◌, Lis
 use Rattle.std.specs.List.{join_by, slice_split, starts_with}
 
 -- a text behind its blanks
-abbrev pub unindented : List ℕ → List ℕ
-unindented [] = []
-unindented (b ∷ bs) = if b == 32 then unindented bs else b ∷ bs
+abbrev pub behind_indent : List ℕ → List ℕ
+behind_indent [] = []
+behind_indent (b ∷ bs) = if b == 32 then behind_indent bs else b ∷ bs
 
 -- how the line of an id begins
 abbrev pub id_opening : List ℕ
 id_opening = codes "// AstId: "
 
 abbrev pub is_id_line : List ℕ → Bool
-is_id_line line = starts_with nat_eq (unindented line) id_opening
+is_id_line line = starts_with nat_eq (behind_indent line) id_opening
 
 -- the lines of a text, which stand between its line feeds
 abbrev pub text_lines : List ℕ → List (List ℕ)

@@ -4,10 +4,10 @@ use Rattle.hir_input.specs.declared.ids.FileAstId.{FileAstId}
 use Rattle.item_tree.specs.Imports.{Import, imports}
 use Rattle.item_tree.specs.Node.{Leaf, use_item, Node, leaf, parent, Forest, empty, more, node_ast}
 use Rattle.line_index.specs.declared.Position.{Position}
-use Rattle.source_listing.specs.declared.finder.Spot.{Spot}
+use Rattle.source_rows.specs.declared.finder.Spot.{Spot}
 use Rattle.source_listing.specs.Lines.{Source}
 use Rattle.source_listing.specs.Imports.{import_text}
-use Rattle.source_listing.specs.Places.{is_id, item_place}
+use Rattle.source_rows.specs.Places.{is_id, item_place}
 use Rattle.source_listing.specs.Uses.{FilePlaces, import_spot}
 
 -- an import: the item that its use stands in, its place, and how a use of it alone would be written

@@ -1,22 +1,20 @@
 -- Where a path of names is declared.
-use Rattle.std.specs.Prelude.{ℕ, Bool, not, ◌&&◌, ◌||◌, if◌then◌else◌, List, [], ◌++◌, codes, filter, nat_eq, Option, Some, None, is_some, option_map, bytes_eq}
-use Rattle.std.specs.List.{flat_map, ends_with}
+use Rattle.std.specs.Prelude.{ℕ, Bool, not, ◌&&◌, ◌||◌, if◌then◌else◌, List, [], ◌++◌, codes, filter, Option, Some, None, is_some, option_map}
+use Rattle.std.specs.List.{flat_map}
 use Rattle.std.specs.Option.{option_or}
 use Rattle.tree_walk.specs.Rows.{RowView}
 use Rattle.source_rows.specs.Listed.{Listed, MemberReading, members_of, type_name_of}
 use Rattle.rust_items.specs.declared.source_file.ItemPlace.{ItemPlace}
 use Rattle.source_rows.specs.Labels.{member_word}
 use Rattle.source_listing.specs.Lines.{Source, at_text, listed_name, item_word}
-use Rattle.source_listing.specs.Places.{place_of, stands_at}
+use Rattle.source_listing.specs.Paths.{bare_segment, is_sought_path}
+use Rattle.source_rows.specs.Places.{place_of, stands_at}
 
 -- what is looked for: names with two colons before each, from the top on or anywhere, with or without what a cfg disables
 pub record Query : Type 0 where
   pub path : List ℕ
   pub is_anywhere : Bool
   pub only_active : Bool
-
-abbrev pub bare_segment : List ℕ → List ℕ
-bare_segment name = codes "::" ++ name
 
 abbrev pub own_segment : Option (List ℕ) → List ℕ
 own_segment None = []
@@ -35,7 +33,7 @@ abbrev pub path_inside : RowView → Option (List ℕ) → List ℕ → List ℕ
 path_inside r around name = flat_map bare_segment r.scope ++ own_segment around ++ bare_segment name
 
 abbrev pub is_path : Query → List ℕ → Bool
-is_path q path = if q.is_anywhere then ends_with nat_eq path q.path else bytes_eq path q.path
+is_path q path = is_sought_path q.path q.is_anywhere path
 
 abbrev pub is_shown : Query → Bool → Bool
 is_shown q is_active = not q.only_active || is_active

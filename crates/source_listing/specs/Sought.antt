@@ -4,7 +4,7 @@ use Rattle.std.specs.List.{slice_split, starts_with}
 use Rattle.std.specs.Option.{option_or}
 use Rattle.rust_lexer.specs.Identifier.{is_identifier}
 use Rattle.rust_paths.specs.Names.{is_path_keyword}
-use Rattle.source_listing.specs.Search.{bare_segment}
+use Rattle.source_listing.specs.Paths.{bare_segment}
 
 -- a path that is looked for: names with two colons before each, from the top on or anywhere
 pub record Sought : Type 0 where

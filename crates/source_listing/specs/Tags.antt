@@ -6,11 +6,12 @@ use Rattle.line_index.specs.Positions.{position_of}
 use Rattle.source_rows.specs.Labels.{kind_texts}
 use Rattle.source_rows.specs.Listed.{Listed, MemberReading, members_of}
 use Rattle.rust_items.specs.declared.source_file.ItemPlace.{ItemPlace}
-use Rattle.rust_members.specs.declared.member.MemberKind.{MemberKind}
-use Rattle.rust_members.specs.declared.member.MemberKind.TheVariants as member
+use Rattle.rust_items.specs.declared.member.MemberKind.{MemberKind}
+use Rattle.rust_items.specs.declared.member.MemberKind.TheVariants as member
 use Rattle.source_listing.specs.Lines.{Choice, Source, is_chosen, is_listed}
-use Rattle.source_listing.specs.Places.{place_of, stands_at}
-use Rattle.source_listing.specs.Search.{holder, bare_segment}
+use Rattle.source_rows.specs.Places.{place_of, stands_at}
+use Rattle.source_listing.specs.Search.{holder}
+use Rattle.source_listing.specs.Paths.{bare_segment}
 
 -- the letter of a member's kind; constants, which Universal Ctags passes over, have that of items
 abbrev pub member_letter : MemberKind → Option (List ℕ)
@@ -32,8 +33,8 @@ scope_field word [] = []
 scope_field word (name ∷ names) = codes "\t" ++ word ++ codes ":" ++ name ++ flat_map bare_segment names
 
 -- what Universal Ctags writes for a control character or a backslash in the path of a file, behind a backslash
-abbrev pub escaped : ℕ → List ℕ
-escaped c =
+abbrev pub escaped_text : ℕ → List ℕ
+escaped_text c =
     if c == 7 then codes "a" else if c == 8 then codes "b" else if c == 9 then codes "t" else if c == 10 then codes "n"
     else if c == 11 then codes "v" else if c == 12 then codes "f" else if c == 13 then codes "r" else if c == 92 then c ∷ []
     else codes "x" ++ hex_digit (c / 16) ∷ hex_digit (c % 16) ∷ []
@@ -43,7 +44,7 @@ is_escaped c = nat_lt c 32 || (c == 127 || c == 92)
 
 -- a character of a path
 abbrev pub path_char : ℕ → List ℕ
-path_char c = if is_escaped c then 92 ∷ escaped c else encode_utf8 c
+path_char c = if is_escaped c then 92 ∷ escaped_text c else encode_utf8 c
 
 abbrev pub tag_path : List ℕ → List ℕ
 tag_path path = flat_map path_char (chars path)

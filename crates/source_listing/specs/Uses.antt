@@ -3,8 +3,8 @@ use Rattle.std.specs.Prelude.{ℕ, if◌then◌else◌, nat_lt, List, [], ◌∷
 use Rattle.hir_input.specs.declared.ids.FileAstId.{FileAstId}
 use Rattle.line_index.specs.Positions.{position_of}
 use Rattle.rust_items.specs.declared.source_file.ItemPlace.{ItemPlace}
-use Rattle.source_listing.specs.declared.finder.Spot.{Spot}
-use Rattle.source_listing.specs.Places.{place_of, stands_at}
+use Rattle.source_rows.specs.declared.finder.Spot.{Spot}
+use Rattle.source_rows.specs.Places.{place_of, stands_at}
 
 -- the places of a file's items, and where its use trees begin, each before those in it
 pub record FilePlaces : Type 0 where

@@ -10,8 +10,6 @@ use Rattle.source_listing.specs.Lines.{Choice}
 use Rattle.source_listing.specs.declared.outlines.Look as code_look
 use Rattle.source_listing.specs.Outlines.{Look}
 use Rattle.source_listing.specs.Search.{Query}
-use Rattle.source_listing.specs.declared.changed.Side as code_side
-use Rattle.source_listing.specs.Changed.{Side}
 
 -- a choice of items as plain data
 abbrev pub choice_view : code_choice.Choice → Choice
@@ -24,10 +22,6 @@ look_view k = record { choice = choice_view k.choice; is_colored = k.is_colored 
 -- what is looked for, as plain data
 abbrev pub query_view : code_query.Query → Query
 query_view q = record { path = q.path.now; is_anywhere = q.is_anywhere; only_active = q.only_active }
-
--- one of two compared files, as plain data
-abbrev pub side_view : code_side.Side → Side
-side_view s = record { source = source_view s.source; places = s.places.now }
 
 -- a path that is looked for, as plain data
 abbrev pub sought_view : code_sought.SoughtPath → Sought

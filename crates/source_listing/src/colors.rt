@@ -25,14 +25,14 @@ pub(crate) fn push_color(is_colored: bool, color: &str, out: &mut String) -> Res
 }
 
 /// A text, in a colour if colours are wanted.
-#[tactic(auto, unfolding(crate::specs::Colors::colored))]
+#[tactic(auto, unfolding(crate::specs::Colors::colored_text))]
 pub(crate) fn push_colored(
     is_colored: bool,
     color: &str,
     text: &str,
     out: &mut String,
 ) -> Result<(), AllocError>
-    ensures { let text = spec.colored is_colored color.now text.now in
+    ensures { let text = spec.colored_text is_colored color.now text.now in
         OnOk result (string_bytes out.new ≡ string_bytes out.old ++ text) }
 {
     push_color(is_colored, color, out)?;

@@ -7,17 +7,17 @@ ghost use Rattle.tree_walk.specs.Listed.{listed_import};
 ghost use Rattle.item_tree.specs.Shown.{IsContained};
 ghost use Rattle.source_listing.specs.ImportObjects as spec;
 ghost use Rattle.source_listing.specs.Inner.{FindsTrees, IsSameTreeFinder, places_in, finder_text, placed_trees_view};
-ghost use Rattle.source_listing.specs.Places.{AreDistinct};
+ghost use Rattle.source_rows.specs.Places.{AreDistinct};
 ghost use Rattle.source_listing.specs.Uses.{placed, tree_spots};
 
-use crate::finder::Spot;
-use crate::json::{column_value, line_value, put_text};
 use crate::uses::{TreeFinder, UseTrees};
+use crate::values::{column_value, line_value, put_text};
 use hir_input::Edition;
 use hir_input_json::member::Members;
 use item_tree::{ImportAlias, ImportKind, ItemTree};
 use rust_items::ItemPlace;
 use serde_json::{Map, Value, put};
+use source_rows::Spot;
 use std::alloc::{AllocError, Global};
 use tree_walk::{Declaration, Declares, Listed, collect};
 
@@ -120,7 +120,8 @@ fn push_declaration(
     requires contained { IsContained tree.now declaration.now.id }
     ensures objects { let objects = spec.seen_objects
         (finder_text finder.old) edition.now.reserved.items (places_in finder.old) in
-        OnOk result (map view out.new.items ≡ map view out.old.items ++ objects (declaration_view tree.now declaration.now)) }
+        let seen = objects (declaration_view tree.now declaration.now) in
+        OnOk result (map view out.new.items ≡ map view out.old.items ++ seen) }
     ensures same { IsSameTreeFinder finder.old finder.new }
 {
     match &declaration.declares {
@@ -132,10 +133,10 @@ fn push_declaration(
     }
 }
 
-/// The imports of a file as values, in the order in which they are written, each an object with the `line` and the `column` of
-/// its own use tree, its `path`, the word of its `kind` (`plain`; `glob` for all names of the path; `type` for a name in the
-/// type namespace alone, by `self` in a list), and what it is renamed to as its `alias`, which is null where it is not. What a
-/// cfg disables is not left out.
+/// The imports of a file as values, in the order in which they are written, each an object with the `line` and the
+/// `column` of its own use tree, its `path`, the word of its `kind` (`plain`; `glob` for all names of the path; `type`
+/// for a name in the type namespace alone, by `self` in a list), and what it is renamed to as its `alias`, which is
+/// null where it is not. What a cfg disables is not left out.
 ///
 /// The places, and those of the use trees, are what the reader gave with the syntax of the tree.
 ///

@@ -5,8 +5,9 @@ ghost use Rattle.tree_walk.specs.Listed.{listed_import};
 ghost use Rattle.item_tree.specs.Shown.{IsContained};
 ghost use Rattle.item_tree.specs.UseText.{shown_rename};
 ghost use Rattle.source_listing.specs.Imports as spec;
-ghost use Rattle.source_listing.specs.Inner.{FindsTrees, IsSameTreeFinder, file_in, places_in, finder_text, placed_trees_view};
-ghost use Rattle.source_listing.specs.Places.{AreDistinct};
+ghost use Rattle.source_listing.specs.Inner.{FindsTrees, IsSameTreeFinder, file_in, places_in, finder_text};
+ghost use Rattle.source_listing.specs.Inner.{placed_trees_view};
+ghost use Rattle.source_rows.specs.Places.{AreDistinct};
 ghost use Rattle.source_listing.specs.Uses.{placed, tree_spots};
 ghost use Rattle.source_listing.specs.Views.{source_view};
 
@@ -109,8 +110,8 @@ fn push_declaration(
     }
 }
 
-/// A line for each import of a file, in the order in which they are written: file, line and column of its own use tree, and
-/// the import as a use of it alone would be written. What a cfg disables is not left out.
+/// A line for each import of a file, in the order in which they are written: file, line and column of its own use tree,
+/// and the import as a use of it alone would be written. What a cfg disables is not left out.
 ///
 /// The places, and those of the use trees, are what the reader gave with the syntax of the tree.
 ///

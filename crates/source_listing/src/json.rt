@@ -1,29 +1,31 @@
 //! Outlines as JSON.
-ghost use Rattle.std.specs.Prelude.{◌≡◌, ◌+◌, ◌<◌, ◌^◌, ◌++◌, ◌∷◌, [], false, codes, map, IfOk, OnOk, option_copied, option_map, string_bytes, flat_map, sum_by};
-ghost use Rattle.serde_json.specs.Data.{no_members, object as object_of, put as put_member, string};
+ghost use Rattle.std.specs.Prelude.{◌≡◌, ◌+◌, ◌<◌, ◌^◌, ◌++◌, ◌∷◌, [], false, codes, map, IfOk, OnOk, option_copied};
+ghost use Rattle.std.specs.Prelude.{option_map, string_bytes, flat_map, sum_by};
+ghost use Rattle.serde_json.specs.Data.{no_members, object as object_of};
 ghost use Rattle.serde_json.specs.View.{items_view, members_view, view};
 ghost use Rattle.serde_json.specs.Written.{compact_text, has_float};
-ghost use Rattle.tree_walk.specs.Views.{subject_view};
 ghost use Rattle.item_tree.specs.Shown.{IsContained};
 ghost use Rattle.item_tree.specs.Walk.{AreContained, count_at};
 ghost use Rattle.source_rows.specs.Listed.{header_of, members_of};
 ghost use Rattle.source_rows.specs.ListedViews.{listed_view, reading_view};
-ghost use Rattle.source_listing.specs.Inner.{IsSameFile, entry_members, file_of, item_at, shown_item_view, objects_at, placed_members, places_of, reserved_of, stand_members};
+ghost use Rattle.source_listing.specs.Inner.{IsSameFile, entry_members, file_of, item_at, shown_item_view, objects_at};
+ghost use Rattle.source_listing.specs.Inner.{placed_members, places_of, reserved_of, stand_members};
 ghost use Rattle.source_listing.specs.Objects as spec;
-ghost use Rattle.source_listing.specs.Places.{AreDistinct, place_of, spot_at};
+ghost use Rattle.source_rows.specs.Places.{AreDistinct, place_of, spot_at};
 ghost use Rattle.source_listing.specs.Views.{choice_view, source_view};
 
-use crate::finder::Spot;
-use crate::lines::{Choice, push_visible_in};
+use crate::lines::Choice;
 use crate::printer::Printer;
-use crate::subjects::push_short_tree;
+use crate::values::{
+    column_value, line_value, name_value, put_text, range_value, subject_value, visibility_value,
+};
 use hir_input::{Edition, FileAstId, Name};
+use item_tree::{ItemTree, ModItemId, RawVisibility};
 use hir_input_json::member::Members;
 use hir_input_json::write::object::{of_text, with};
-use item_tree::{ItemTree, ModItemId, RawVisibility, VisibilityExplicitness};
 use rust_items::ItemPlace;
 use serde_json::{Map, Value, put};
-use source_rows::{ListedMember, Reading, Source, item_word, member_word};
+use source_rows::{ListedMember, Reading, Source, Spot, item_word, member_word};
 use std::alloc::{AllocError, Global};
 use tree_walk::{
     Subject, children, is_enabled, is_file_enabled, name_at, subject_at, visibility_at,
@@ -74,120 +76,7 @@ impl Printer<'_> {
     }
 }
 
-// ---- members
-
-fn name_value(alloc: Global, name: Option<&Name>) -> Result<Value, AllocError>
-    ensures { IfOk result (λ value. view value ≡ spec.name_form (option_copied name.entry)) }
-{
-    match name {
-        None => Ok(Value::Null),
-        Some(name) => Value::try_from_str(alloc, name.text()),
-    }
-}
-
-/// The header of an impl; other items have none.
-fn header_value(alloc: Global, header: &str) -> Result<Value, AllocError>
-    ensures { IfOk result (λ value. view value ≡ spec.header_form header.now) }
-{
-    if header.is_empty() {
-        return Ok(Value::Null);
-    }
-    Value::try_from_str(alloc, header)
-}
-
-/// What an item is told by if it has no name.
-fn subject_value(
-    alloc: Global,
-    edition: &Edition,
-    header: &str,
-    subject: Subject<'_>,
-) -> Result<Value, AllocError>
-    ensures { let form = spec.subject_form edition.now.reserved.items header.now
-        (subject_view subject.entry) in
-        IfOk result (λ value. view value ≡ form) }
-{
-    match subject {
-        Subject::Nothing => header_value(alloc, header),
-        Subject::Use(tree) => {
-            let mut text = String::new(alloc);
-            push_short_tree(edition, tree, &mut text)?;
-            Ok(Value::String(text))
-        }
-        Subject::Call(path) => Ok(Value::String(path.display(edition).to_string(alloc)?)),
-    }
-}
-
-/// A visibility as it was written.
-fn visibility_value(
-    alloc: Global,
-    edition: &Edition,
-    visibility: Option<&RawVisibility>,
-) -> Result<Value, AllocError>
-    ensures { let reserved = edition.now.reserved.items in
-        IfOk result (λ value. view value ≡ spec.visibility_form reserved (option_copied visibility.entry)) }
-{
-    match visibility {
-        None | Some(RawVisibility::PubSelf(VisibilityExplicitness::Implicit)) => Ok(Value::Null),
-        Some(RawVisibility::PubSelf(VisibilityExplicitness::Explicit)) => {
-            Value::try_from_str(alloc, "pub(self)")
-        }
-        Some(RawVisibility::Public) => Value::try_from_str(alloc, "pub"),
-        Some(RawVisibility::PubCrate) => Value::try_from_str(alloc, "pub(crate)"),
-        Some(RawVisibility::Module(path, _)) => {
-            let mut text = String::new(alloc);
-            push_visible_in(edition, path, &mut text)?;
-            Ok(Value::String(text))
-        }
-    }
-}
-
-pub(crate) fn line_value(spot: Option<Spot>) -> Value
-    ensures { view result ≡ spec.line_form spot }
-{
-    match spot {
-        None => Value::Null,
-        Some(spot) => Value::from(spot.position.line),
-    }
-}
-
-pub(crate) fn column_value(spot: Option<Spot>) -> Value
-    ensures { view result ≡ spec.column_form spot }
-{
-    match spot {
-        None => Value::Null,
-        Some(spot) => Value::from(spot.position.column),
-    }
-}
-
-fn range_value(alloc: Global, spot: Option<Spot>) -> Result<Value, AllocError>
-    ensures { IfOk result (λ value. view value ≡ spec.range_form spot) }
-{
-    match spot {
-        None => Ok(Value::Null),
-        Some(spot) => {
-            let mut range = Vec::new(alloc);
-            range.push(Value::from(spot.range.start))?;
-            range.push(Value::from(spot.range.end))?;
-            Ok(Value::Array(range))
-        }
-    }
-}
-
 // ---- objects
-
-/// Adds a text to the members of an object.
-pub(crate) fn put_text(
-    alloc: Global,
-    key: &str,
-    text: &str,
-    members: &mut Members,
-) -> Result<(), AllocError>
-    ensures { let old = members_view members.old.entries in
-        OnOk result (members_view members.new.entries ≡ put_member key.now (string text.now) old) }
-{
-    let text = Value::try_from_str(alloc, text)?;
-    put(members, alloc, key, text)
-}
 
 /// Gives an object the members that tell what an item is.
 fn put_item(
@@ -298,7 +187,8 @@ fn member_values(
 ) -> Result<Vec<Value>, AllocError>
     ensures objects { let objects = spec.member_objects (file_of printer.old).text
         (reserved_of printer.old) (choice_view listing.entry.choice) level in
-        IfOk result (λ values. map view values.items ≡ objects (members_of (reading_view listing.entry.reading) place is_active)) }
+        let members = members_of (reading_view listing.entry.reading) place is_active in
+        IfOk result (λ values. map view values.items ≡ objects members) }
     ensures same { IsSameFile printer.old printer.new }
 {
     let (choice, reading) = (listing.choice, listing.reading);
@@ -334,7 +224,8 @@ fn item_object(
 ) -> Result<Value, AllocError>
     ensures { let header = header_of (reading_view reading.entry) item.now.id.kind stand.place in
         let entry = spec.item_entry edition.now.reserved.items header (shown_item_view item.now) in
-        IfOk result (λ object. view object ≡ spec.entry_object item.now.is_active stand.spot entry (items_view inner.items)) }
+        let form = spec.entry_object item.now.is_active stand.spot entry (items_view inner.items) in
+        IfOk result (λ object. view object ≡ form) }
 {
     let header = reading.header(alloc, item.id.kind, stand.place)?;
     let mut members = Map::new(alloc);
@@ -422,14 +313,15 @@ fn line_of(alloc: Global, value: &Value) -> Result<String, AllocError>
     Ok(line)
 }
 
-/// The chosen items of a file's tree as values, each an object with its `id`, the word of its `kind`, its `name`, the `path` of
-/// a use, where `{..}` stands for a list, or of the macro of a macro call, where an impl has its type and its trait, as
-/// `Display for Circle`, its `visibility` as it was written, the `line` and the `column` at which it stands, its bytes with its
-/// attributes as a `range` (where they begin and where they end), whether no cfg disables it (`active`), and as `children` the
-/// objects of its members and then those of the items in it. What an item has not is null; names are without `r#`.
+/// The chosen items of a file's tree as values, each an object with its `id`, the word of its `kind`, its `name`, the
+/// `path` of a use, where `{..}` stands for a list, or of the macro of a macro call, where an impl has its type and its
+/// trait, as `Display for Circle`, its `visibility` as it was written, the `line` and the `column` at which it stands,
+/// its bytes with its attributes as a `range` (where they begin and where they end), whether no cfg disables it
+/// (`active`), and as `children` the objects of its members and then those of the items in it. What an item has not is
+/// null; names are without `r#`.
 ///
-/// If cfgs are given for the members, those with a name are listed as far as they are chosen, as the reader reads them. The tree
-/// has none, so their `id` is null.
+/// If cfgs are given for the members, those with a name are listed as far as they are chosen, as the reader reads them.
+/// The tree has none, so their `id` is null.
 ///
 /// The places are those that the reader gave with the syntax of the tree.
 ///
@@ -473,8 +365,8 @@ pub fn outline_items(
     Ok(items)
 }
 
-/// The chosen items of a file's tree as one JSON object on one line: the file's `path`, and its `items`, as `outline_items`
-/// gives them.
+/// The chosen items of a file's tree as one JSON object on one line: the file's `path`, and its `items`, as
+/// `outline_items` gives them.
 ///
 /// The places are those that the reader gave with the syntax of the tree.
 ///

@@ -1,16 +1,15 @@
-//! What holds of the definitions of places; and of the types here: a copy is its source. Each derive is held to it by a clause. The
-//! functions do nothing.
+//! What holds of the definitions of places; and of the types here: a copy is its source. Each derive is held to it by a
+//! clause. The functions do nothing.
 ghost use Rattle.hir_input.specs.Equality.{IsCopied};
 ghost use Rattle.rust_cursor.specs.Tokens.{Tokens};
 ghost use Rattle.source_listing.specs.Told.{AreToldFor};
 
-use crate::changed::Side;
 use crate::lines::Choice;
 use crate::outlines::Look;
 use crate::search::Query;
 
-// Where use trees begin is told of the trees that are kept, in their order: reading from the place of a number gives the tree
-// of that number, so each import stands at its own.
+// Where use trees begin is told of the trees that are kept, in their order: reading from the place of a number gives
+// the tree of that number, so each import stands at its own.
 fn starts_are_told()
     ensures { (ts : Tokens) → AreToldFor ts }
 {}
@@ -19,5 +18,4 @@ fn copies()
     ensures choices { IsCopied ⟦<Choice as Clone>⟧.is_clone }
     ensures looks { IsCopied ⟦<Look as Clone>⟧.is_clone }
     ensures queries { IsCopied ⟦<Query<'static> as Clone>⟧.is_clone }
-    ensures sides { IsCopied ⟦<Side<'static> as Clone>⟧.is_clone }
 {}

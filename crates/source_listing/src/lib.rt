@@ -1,9 +1,7 @@
 //! Lists of the items and of the problems of Rust source, with the line and the column of each.
 #![tactic(auto)]
 
-mod changed;
 mod colors;
-mod finder;
 mod import_objects;
 mod imports;
 mod json;
@@ -11,7 +9,7 @@ mod laws;
 mod lines;
 mod outlines;
 mod pages;
-mod places;
+mod paths;
 mod printer;
 mod problems;
 mod repeated;
@@ -21,14 +19,15 @@ mod subjects;
 mod tags;
 mod use_places;
 mod uses;
+mod values;
 
-pub use changed::{Side, change_lines};
 pub use import_objects::import_items;
 pub use imports::import_lines;
 pub use json::{outline_items, outline_json};
 pub use lines::Choice;
 pub use outlines::{Look, outline};
 pub use pages::without_ids;
+pub use paths::{is_sought_path, push_scope, push_segment};
 pub use problems::{problem_items, problem_lines};
 pub use repeated::repeated_lines;
 pub use search::{Query, found_lines};

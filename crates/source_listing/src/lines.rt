@@ -4,18 +4,17 @@ ghost use Rattle.tree_walk.specs.Rows as rows;
 ghost use Rattle.tree_walk.specs.Views.{row_view};
 ghost use Rattle.source_rows.specs.Listed.{members_of};
 ghost use Rattle.source_rows.specs.ListedViews.{listed_view, reading_view};
-ghost use Rattle.source_listing.specs.Inner.{IsPrinterOf, IsSameFile, file_of, places_of, reserved_of};
+ghost use Rattle.source_listing.specs.Inner.{IsPrinterOf, IsSameFile, file_of, reserved_of};
 ghost use Rattle.source_listing.specs.Lines as spec;
-ghost use Rattle.source_listing.specs.Places.{AreDistinct, item_place, place_of};
+ghost use Rattle.source_rows.specs.Places.{item_place};
 ghost use Rattle.source_listing.specs.Views.{choice_view, source_view};
 
-use crate::finder::{Finder, Spot, stand_of};
 use crate::printer::{Printer, are_keywords};
-use hir_input::{Edition, FileAstId, ModPath, Name, PathKind};
+use hir_input::{Edition, ModPath, Name, PathKind};
 use item_tree::{ItemTree, RawVisibility, VisibilityExplicitness};
 use rust_items::ItemPlace;
 use rust_paths::may_be_keyword;
-use source_rows::{ListedMember, Reading, Source, push_place};
+use source_rows::{Finder, ListedMember, Reading, Source, Spot, push_place};
 use std::alloc::{AllocError, Global};
 use tree_walk::{Row, item_rows};
 
@@ -216,20 +215,5 @@ impl Printer<'_> {
             }
             None => push_spot(self.path, None, out),
         }
-    }
-
-    /// Where the item of an id stands.
-    pub(crate) fn push_place_of(
-        &mut self,
-        id: FileAstId,
-        out: &mut String,
-    ) -> Result<(), AllocError>
-        requires { AreDistinct (places_of self.old) }
-        ensures text { let place = place_of id (places_of self.old) in
-            OnOk result (string_bytes out.new ≡ string_bytes out.old ++ spec.stand_text (file_of self.old) place) }
-        ensures same { IsSameFile self.old self.new }
-    {
-        let place = self.finder.places.find(id);
-        self.push_at(stand_of(place), out)
     }
 }

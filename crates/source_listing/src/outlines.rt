@@ -4,22 +4,21 @@ ghost use Rattle.tree_walk.specs.Rows as rows;
 ghost use Rattle.tree_walk.specs.Views.{row_view, subject_view};
 ghost use Rattle.source_rows.specs.Listed.{members_of};
 ghost use Rattle.source_rows.specs.ListedViews.{listed_view, reading_view};
-ghost use Rattle.source_listing.specs.Colors.{bold, colored, faint};
+ghost use Rattle.source_listing.specs.Colors.{bold_code, colored_text, faint_code};
 ghost use Rattle.source_listing.specs.Inner.{IsSameFile, file_of, places_of, reserved_of};
 ghost use Rattle.source_listing.specs.Lines.{at_text, indent};
 ghost use Rattle.source_listing.specs.Outlines as spec;
-ghost use Rattle.source_listing.specs.Places.{AreDistinct};
+ghost use Rattle.source_rows.specs.Places.{AreDistinct};
 ghost use Rattle.source_listing.specs.Views.{look_view, source_view};
 
 use crate::colors::{BOLD, CYAN, FAINT, USUAL, push_color, push_colored};
-use crate::finder::stand_of;
 use crate::lines::{Choice, push_end, push_indent, push_visibility};
 use crate::printer::Printer;
 use crate::subjects::push_subject;
 use hir_input::{Edition, Name};
 use item_tree::ItemTree;
 use rust_items::ItemPlace;
-use source_rows::{ListedMember, Reading, Source, item_word, member_word};
+use source_rows::{ListedMember, Reading, Source, item_word, member_word, stand_of};
 use std::alloc::{AllocError, Global};
 use tree_walk::{Row, Subject};
 
@@ -45,7 +44,7 @@ fn push_header(header: &str, out: &mut String) -> Result<(), AllocError>
 
 impl Printer<'_> {
     /// What follows the word of a kind, bold if colours are wanted.
-    #[tactic(auto, unfolding(crate::specs::Colors::colored))]
+    #[tactic(auto, unfolding(crate::specs::Colors::colored_text))]
     fn push_title(
         &self,
         is_colored: bool,
@@ -56,7 +55,7 @@ impl Printer<'_> {
     ) -> Result<(), AllocError>
         ensures { let text = spec.title (reserved_of self.now) header.now
             (option_copied name.entry) (subject_view subject.entry) in
-            OnOk result (string_bytes out.new ≡ string_bytes out.old ++ colored is_colored bold text) }
+            OnOk result (string_bytes out.new ≡ string_bytes out.old ++ colored_text is_colored bold_code text) }
     {
         push_color(is_colored, BOLD, out)?;
         push_header(header, out)?;
@@ -66,7 +65,7 @@ impl Printer<'_> {
     }
 
     /// Where something stands, faint if colours are wanted, and four blanks for each level.
-    #[tactic(auto, unfolding(crate::specs::Colors::colored))]
+    #[tactic(auto, unfolding(crate::specs::Colors::colored_text))]
     fn push_head(
         &mut self,
         is_colored: bool,
@@ -74,7 +73,7 @@ impl Printer<'_> {
         level: usize,
         out: &mut String,
     ) -> Result<(), AllocError>
-        ensures text { let place = colored is_colored faint (at_text (file_of self.old) at) in
+        ensures text { let place = colored_text is_colored faint_code (at_text (file_of self.old) at) in
             OnOk result (string_bytes out.new ≡ string_bytes out.old ++ place ++ indent level) }
         ensures same { IsSameFile self.old self.new }
     {
@@ -174,12 +173,12 @@ impl Printer<'_> {
     }
 }
 
-/// A line for each chosen item of a file's tree, before those of the items in it: file, line and column, four blanks for
-/// each item that it stands in, its visibility as it was written, the word of its kind, its name, and whether a cfg
-/// disables it. A use has its tree in place of a name, where `{..}` stands for a list, a macro call the macro's path, and an
-/// impl its type and its trait, as `Display for Circle`. If cfgs are given for the members, the chosen ones of those with a
-/// name have lines behind that of their item, one level deeper, as the reader reads them; the tree has none. In colour, places
-/// are faint, the words of kinds cyan, and what follows these bold.
+/// A line for each chosen item of a file's tree, before those of the items in it: file, line and column, four blanks
+/// for each item that it stands in, its visibility as it was written, the word of its kind, its name, and whether a cfg
+/// disables it. A use has its tree in place of a name, where `{..}` stands for a list, a macro call the macro's path,
+/// and an impl its type and its trait, as `Display for Circle`. If cfgs are given for the members, the chosen ones of
+/// those with a name have lines behind that of their item, one level deeper, as the reader reads them; the tree has
+/// none. In colour, places are faint, the words of kinds cyan, and what follows these bold.
 ///
 /// The places are those that the reader gave with the syntax of the tree.
 ///

@@ -5,8 +5,8 @@ ghost use Rattle.source_listing.specs.Pages as spec;
 use std::alloc::{AllocError, Global};
 
 /// A text behind its blanks.
-fn unindented(text: &[u8]) -> &[u8]
-    ensures { result.now ≡ spec.unindented text.now }
+fn behind_indent(text: &[u8]) -> &[u8]
+    ensures { result.now ≡ spec.behind_indent text.now }
 {
     let mut left = text;
     while let [b' ', rest @ ..] = left {
@@ -18,7 +18,7 @@ fn unindented(text: &[u8]) -> &[u8]
 fn is_id_line(line: &str) -> bool
     ensures { result ≡ spec.is_id_line line.now }
 {
-    unindented(line.as_bytes()).starts_with(b"// AstId: ")
+    behind_indent(line.as_bytes()).starts_with(b"// AstId: ")
 }
 
 fn push_unless_id<'a>(line: &'a str, lines: &mut Vec<&'a str>) -> Result<(), AllocError>
@@ -33,7 +33,7 @@ fn push_unless_id<'a>(line: &'a str, lines: &mut Vec<&'a str>) -> Result<(), All
 }
 
 /// Lines with a line feed between each two.
-fn joined(alloc: Global, lines: &[&str]) -> Result<String, AllocError>
+fn joined_text(alloc: Global, lines: &[&str]) -> Result<String, AllocError>
     ensures { IfOk result (λ text. string_bytes text ≡ spec.joined_lines (map (λ l. l.now) lines.now)) }
 {
     let Some((first, rest)) = lines.split_first() else {
@@ -50,9 +50,9 @@ fn joined(alloc: Global, lines: &[&str]) -> Result<String, AllocError>
 /// A page of `pretty_print` without the lines that tell the ids of items: those that begin, behind their blanks, with
 /// `// AstId: `.
 ///
-/// Each item has one such line, and no other line of an item begins so: it begins with a visibility, a keyword, the path
-/// of a macro or a brace. An attribute begins with `#`, but what a string or a comment in it holds behind a line feed can
-/// begin a line so, and such a line is left out too.
+/// Each item has one such line, and no other line of an item begins so: it begins with a visibility, a keyword, the
+/// path of a macro or a brace. An attribute begins with `#`, but what a string or a comment in it holds behind a line
+/// feed can begin a line so, and such a line is left out too.
 ///
 /// # Errors
 ///
@@ -64,5 +64,5 @@ pub fn without_ids(alloc: Global, page: &str) -> Result<String, AllocError>
     for line in page.split('\n') {
         push_unless_id(line, &mut lines)?;
     }
-    joined(alloc, &lines)
+    joined_text(alloc, &lines)
 }

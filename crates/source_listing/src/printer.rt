@@ -4,9 +4,9 @@ ghost use Rattle.std.specs.Prelude.{◌≡◌, IsTrue};
 ghost use Rattle.std.specs.List.{list_all};
 ghost use Rattle.rust_paths.specs.Names.{may_be_keyword};
 
-use crate::finder::Finder;
 use hir_input::{Edition, Name};
 use rust_paths::may_be_keyword;
+use source_rows::Finder;
 
 /// What the lines of a file are made from.
 #[derive(Drop)]

@@ -71,8 +71,8 @@ fn problem_value(
     Ok(Value::Object(with(alloc, members, "column", Value::from(position.column))?))
 }
 
-/// What the reader of items tells of a text as values, each an object with the `line` and the `column` at which it stands, and a `message` that
-/// says what is wrong.
+/// What the reader of items tells of a text as values, each an object with the `line` and the `column` at which it
+/// stands, and a `message` that says what is wrong.
 ///
 /// # Errors
 ///

@@ -4,20 +4,21 @@ ghost use Rattle.tree_walk.specs.Listed.{listed_import};
 ghost use Rattle.item_tree.specs.Shown.{IsContained};
 ghost use Rattle.item_tree.specs.Walk.{AreContained};
 ghost use Rattle.source_listing.specs.Imports.{import_text};
-ghost use Rattle.source_listing.specs.Inner.{FindsTrees, IsSameTreeFinder, PutsFirst, first_in, key, named_key_view, named_at, listed_named_view, own_named_at, places_in, finder_text, placed_trees_view};
-ghost use Rattle.source_listing.specs.Places.{AreDistinct};
+ghost use Rattle.source_listing.specs.Inner.{FindsTrees, IsSameTreeFinder, PutsFirst, first_in, key, named_key_view};
+ghost use Rattle.source_listing.specs.Inner.{named_at, listed_named_view, own_named_at, places_in, finder_text};
+ghost use Rattle.source_listing.specs.Inner.{placed_trees_view};
+ghost use Rattle.source_rows.specs.Places.{AreDistinct};
 ghost use Rattle.source_listing.specs.Repeated as spec;
 ghost use Rattle.source_listing.specs.Uses.{placed, tree_spots};
 ghost use Rattle.source_listing.specs.Views.{source_view};
 
-use crate::finder::Spot;
 use crate::imports::push_import_text;
 use crate::lines::push_spot;
 use crate::uses::{TreeFinder, UseTrees};
 use hir_input::{Edition, FileAstId};
 use item_tree::{ItemTree, ModItemId, ModItemKind};
 use rust_items::ItemPlace;
-use source_rows::Source;
+use source_rows::{Source, Spot};
 use std::alloc::{AllocError, Global};
 use std::collections::HashMap;
 use tree_walk::{Listed, children, list_imports};
@@ -240,9 +241,10 @@ fn lines_of(alloc: Global, path: &str, imports: &[Named]) -> Result<String, Allo
     Ok(out)
 }
 
-/// A line for each import that repeats an earlier one of the same module, in the order in which they are written: file, line
-/// and column of its own use tree, the import as a use of it alone would be written, and where the first that is written so
-/// stands. Two modules are the same only if they are one item, whatever their names; what a cfg disables counts as well.
+/// A line for each import that repeats an earlier one of the same module, in the order in which they are written: file,
+/// line and column of its own use tree, the import as a use of it alone would be written, and where the first that is
+/// written so stands. Two modules are the same only if they are one item, whatever their names; what a cfg disables
+/// counts as well.
 ///
 /// The places, and those of the use trees, are what the reader gave with the syntax of the tree.
 ///

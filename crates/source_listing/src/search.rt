@@ -1,20 +1,20 @@
 //! Where a path of names is declared.
-ghost use Rattle.std.specs.Prelude.{◌≡◌, ◌++◌, ◌∷◌, [], IfOk, OnOk, map, option_copied, string_bytes, flat_map};
+ghost use Rattle.std.specs.Prelude.{◌≡◌, ◌++◌, ◌∷◌, [], IfOk, OnOk, map, option_copied, string_bytes};
 ghost use Rattle.std.specs.Option.{option_or};
 ghost use Rattle.tree_walk.specs.Views.{row_view};
 ghost use Rattle.tree_walk.specs.Rows as rows;
 ghost use Rattle.source_rows.specs.ListedViews.{listed_view, reading_view};
 ghost use Rattle.source_listing.specs.Inner.{IsSameFile, file_of, places_of, reserved_of};
 ghost use Rattle.source_listing.specs.Search as spec;
-ghost use Rattle.source_listing.specs.Places.{AreDistinct};
+ghost use Rattle.source_rows.specs.Places.{AreDistinct};
 ghost use Rattle.source_listing.specs.Views.{query_view, source_view};
 
-use crate::finder::stand_of;
+use crate::paths::{is_sought_path, push_scope, push_segment};
 use crate::printer::Printer;
 use hir_input::{Edition, Name};
 use item_tree::ItemTree;
 use rust_items::ItemPlace;
-use source_rows::{ListedMember, Reading, Source, item_word, member_word};
+use source_rows::{ListedMember, Reading, Source, item_word, member_word, stand_of};
 use std::alloc::{AllocError, Global};
 use tree_walk::{Row, item_rows};
 
@@ -27,24 +27,6 @@ pub struct Query<'a> {
     pub is_anywhere: bool,
     /// Whether what a cfg disables is left out.
     pub only_active: bool,
-}
-
-/// Two colons and a name.
-pub(crate) fn push_segment(name: &str, path: &mut String) -> Result<(), AllocError>
-    ensures { OnOk result (string_bytes path.new ≡ string_bytes path.old ++ spec.bare_segment name.now) }
-{
-    path.push_str("::")?;
-    path.push_str(name)
-}
-
-pub(crate) fn push_scope(scope: &[&Name], path: &mut String) -> Result<(), AllocError>
-    ensures { let segments = flat_map (λ n. spec.bare_segment n.now) scope.now in
-        OnOk result (string_bytes path.new ≡ string_bytes path.old ++ segments) }
-{
-    for name in scope {
-        push_segment(name.text(), path)?;
-    }
-    Ok(())
 }
 
 /// The name of what the members of an item stand in: the item's, or that of an impl's type.
@@ -90,11 +72,7 @@ impl Query<'_> {
     fn is_path(self, path: &str) -> bool
         ensures { result ≡ spec.is_path (query_view self.entry) path.now }
     {
-        if self.is_anywhere {
-            path.as_bytes().ends_with(self.path.as_bytes())
-        } else {
-            path == self.path
-        }
+        is_sought_path(self.path, self.is_anywhere, path)
     }
 
     fn shows(self, is_active: bool) -> bool
@@ -248,12 +226,12 @@ impl Printer<'_> {
     }
 }
 
-/// A line for each item that is looked for, and for each member where members are asked for, each item before its members:
-/// file, line and column, the word of its kind, and its name. The path of a member has its item's name before its own, or for
-/// a member of an impl the last name of the type's path, if the type is one.
+/// A line for each item that is looked for, and for each member where members are asked for, each item before its
+/// members: file, line and column, the word of its kind, and its name. The path of a member has its item's name before
+/// its own, or for a member of an impl the last name of the type's path, if the type is one.
 ///
-/// Members are listed under the cfgs that are given, and only where these are. The places are those that the reader gave with
-/// the syntax of the tree.
+/// Members are listed under the cfgs that are given, and only where these are. The places are those that the reader
+/// gave with the syntax of the tree.
 ///
 /// # Errors
 ///

@@ -5,7 +5,7 @@ ghost use Rattle.rust_paths.specs.Names.{is_path_keyword};
 ghost use Rattle.source_listing.specs.Sought as spec;
 ghost use Rattle.source_listing.specs.Views.{sought_view};
 
-use crate::search::push_segment;
+use crate::paths::push_segment;
 use rust_lexer::is_identifier;
 use std::alloc::{AllocError, Global};
 
@@ -137,8 +137,8 @@ fn sought_from(
     Ok(Some(SoughtPath { path, is_anywhere }))
 }
 
-/// The path that a text is: names, also with `r#`, with two colons between each two, from the top on behind `::` or `crate::`,
-/// and else anywhere. `crate`, `self`, `super` and `Self` are no names.
+/// The path that a text is: names, also with `r#`, with two colons between each two, from the top on behind `::` or
+/// `crate::`, and else anywhere. `crate`, `self`, `super` and `Self` are no names.
 ///
 /// # Errors
 ///

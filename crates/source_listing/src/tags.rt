@@ -1,24 +1,24 @@
 //! Lines of a tags file, by which editors jump to names.
-ghost use Rattle.std.specs.Prelude.{◌≡◌, ◌<◌, ◌++◌, IfOk, OnOk, map, option_copied, option_map, option_to_list, string_bytes};
+ghost use Rattle.std.specs.Prelude.{◌≡◌, ◌<◌, ◌++◌, IfOk, OnOk, map, option_copied, option_map, option_to_list};
+ghost use Rattle.std.specs.Prelude.{string_bytes};
 ghost use Rattle.hir_input.specs.Id.{hex_digit as hex_digit_of};
 ghost use Rattle.tree_walk.specs.Rows as rows;
 ghost use Rattle.tree_walk.specs.Views.{row_view};
 ghost use Rattle.source_rows.specs.Labels.{kind_texts};
 ghost use Rattle.source_rows.specs.ListedViews.{listed_view, reading_view};
-ghost use Rattle.source_listing.specs.Inner.{IsSameFinder};
-ghost use Rattle.source_listing.specs.Places.{AreDistinct};
+ghost use Rattle.source_rows.specs.Finders.{IsSameFinder};
+ghost use Rattle.source_rows.specs.Places.{AreDistinct};
 ghost use Rattle.source_listing.specs.Tags as spec;
 ghost use Rattle.source_listing.specs.Views.{choice_view, source_view};
 
-use crate::finder::{Finder, stands_at};
 use crate::lines::Choice;
-use crate::search::{holder, push_scope};
+use crate::paths::push_scope;
+use crate::search::holder;
 use hir_input::{AstIdKind, Name};
 use item_tree::ItemTree;
 use itoa::Buffer;
-use rust_items::ItemPlace;
-use rust_members::MemberKind;
-use source_rows::{ListedMember, Reading, Source, kind_texts};
+use rust_items::{ItemPlace, MemberKind};
+use source_rows::{Finder, ListedMember, Reading, Source, kind_texts, stands_at};
 use std::alloc::{AllocError, Global};
 use tree_walk::Row;
 
@@ -79,7 +79,7 @@ fn hex_digit(value: u8) -> char
 
 /// What stands behind a backslash for a character of a path.
 fn push_escaped(byte: u8, out: &mut String) -> Result<(), AllocError>
-    ensures { OnOk result (string_bytes out.new ≡ string_bytes out.old ++ spec.escaped byte) }
+    ensures { OnOk result (string_bytes out.new ≡ string_bytes out.old ++ spec.escaped_text byte) }
 {
     match byte {
         7 => out.push_str("a"),
@@ -250,10 +250,10 @@ fn push_whole(
     row: &Row<'_>,
     out: &mut String,
 ) -> Result<(), AllocError>
-    requires { AreDistinct finder.old.places.all.now }
+    requires { AreDistinct finder.old.places }
     ensures tags { let all = spec.whole_tags path.now finder.old.lines
         (reading_view reading.entry) in
-        let added = all finder.old.places.all.now (choice_view choice) (row_view row.now) in
+        let added = all finder.old.places (choice_view choice) (row_view row.now) in
         OnOk result (string_bytes out.new ≡ string_bytes out.old ++ added) }
     ensures same { IsSameFinder finder.old finder.new }
 {
@@ -271,9 +271,10 @@ fn push_whole(
 }
 
 /// The tags of a file: for each chosen item with a name of a kind that has a letter, and for each chosen member with a
-/// name where members are asked for, its name, the file, the line, the letter and what it stands in, as Universal Ctags writes
-/// them, in the order of the items, each before its members. A member stands in its item, and one of an impl in the type, if
-/// that is a path. A control character or a backslash in the path stands behind a backslash, as Universal Ctags has it too.
+/// name where members are asked for, its name, the file, the line, the letter and what it stands in, as Universal Ctags
+/// writes them, in the order of the items, each before its members. A member stands in its item, and one of an impl in
+/// the type, if that is a path. A control character or a backslash in the path stands behind a backslash, as Universal
+/// Ctags has it too.
 ///
 /// The places are those that the reader gave with the syntax of the tree.
 ///

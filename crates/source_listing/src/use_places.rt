@@ -16,8 +16,8 @@ fn from_place(places: &[usize], start: usize) -> &[usize]
     left
 }
 
-/// Where a file's use trees begin, to be found from the place of their item on. It goes on from the item that was asked for
-/// last, so that items in the order of the text cost one pass over them in all.
+/// Where a file's use trees begin, to be found from the place of their item on. It goes on from the item that was asked
+/// for last, so that items in the order of the text cost one pass over them in all.
 #[derive(Drop)]
 pub(crate) struct UsePlaces<'a> {
     pub(crate) all: &'a [usize],

@@ -1,14 +1,15 @@
 //! Where imports are written.
 ghost use Rattle.std.specs.Prelude.{◌≡◌, option_map};
-ghost use Rattle.source_listing.specs.Inner.{FindsTrees, IsSameTreeFinder, IsTreeFinderOf, places_in, finder_text, placed_trees_view};
-ghost use Rattle.source_listing.specs.Places.{place_of};
+ghost use Rattle.source_listing.specs.Inner.{FindsTrees, IsSameTreeFinder, IsTreeFinderOf, places_in, finder_text};
+ghost use Rattle.source_listing.specs.Inner.{placed_trees_view};
+ghost use Rattle.source_rows.specs.Places.{place_of};
 ghost use Rattle.source_listing.specs.Uses as spec;
 
-use crate::finder::{Finder, Spot, stands_at};
 use crate::use_places::UsePlaces;
 use hir_input::FileAstId;
 use item_tree::UseTreeIdx;
 use rust_items::ItemPlace;
+use source_rows::{Finder, Spot, stands_at};
 
 /// A use item's place, and where its use trees begin, by their numbers.
 #[derive(Clone, Copy)]
@@ -38,7 +39,8 @@ impl<'a> TreeFinder<'a> {
     pub(crate) fn find(&mut self, id: FileAstId) -> Option<UseTrees<'a>>
         requires { FindsTrees self.old }
         ensures trees { let places = places_in self.old in
-            option_map placed_trees_view result ≡ option_map (spec.use_trees_at places.use_trees) (place_of id places.items) }
+            let trees = option_map (spec.use_trees_at places.use_trees) (place_of id places.items) in
+            option_map placed_trees_view result ≡ trees }
         ensures same { IsSameTreeFinder self.old self.new }
     {
         match self.finder.places.find(id) {

@@ -22,8 +22,8 @@ told_kind read.Unterminated = kind.Unterminated
 told_kind read.TooDeep = kind.TooDeep
 
 -- what the reader of items tells
-abbrev pub told : Problem → SourceProblem
-told p = problem (told_kind p.kind) p.at
+abbrev pub told_problem : Problem → SourceProblem
+told_problem p = problem (told_kind p.kind) p.at
 
 -- a path that is written and has no meaning
 abbrev pub path_problems : SourceProblemKind → ℕ → Option PathNode → List SourceProblem

@@ -8,13 +8,13 @@ use Rattle.source_problems.specs.Problems.{problem}
 use Rattle.source_problems.specs.Markers.{marker_behind, marker_problems}
 
 -- a literal or a comment without its end
-abbrev pub unended : Piece → List SourceProblem
-unended t = if is_terminated t then [] else problem kind.Unterminated t.at ∷ []
+abbrev pub unended_problems : Piece → List SourceProblem
+unended_problems t = if is_terminated t then [] else problem kind.Unterminated t.at ∷ []
 
 -- what is wrong with tokens that begin no line
 abbrev pub problems_from : List Piece → List SourceProblem
 problems_from [] = []
-problems_from (t ∷ ts) = unended t ++ (marker_behind t ts ++ problems_from ts)
+problems_from (t ∷ ts) = unended_problems t ++ (marker_behind t ts ++ problems_from ts)
 
 -- what is wrong with the tokens of a text, beside its brackets and its items
 abbrev pub token_problems : List Piece → List SourceProblem

@@ -7,7 +7,7 @@ use Rattle.rust_items.specs.LineEnds.{with_feeds, place_in}
 use Rattle.rust_items.specs.SourceFiles.{FileView}
 use Rattle.source_problems.specs.declared.problem.SourceProblem.{SourceProblem}
 use Rattle.source_problems.specs.contracts.problem.SourceProblemOrd.TheImpl as ord
-use Rattle.source_problems.specs.Problems.{problem, told}
+use Rattle.source_problems.specs.Problems.{problem, told_problem}
 use Rattle.source_problems.specs.Brackets.{bracket_problems}
 use Rattle.source_problems.specs.Quotes.{token_problems}
 use Rattle.source_problems.specs.Items.{syntax_problems}
@@ -21,7 +21,7 @@ quote_problems text = map (problem_moved_by (place_in text)) (token_problems (to
 
 -- all that is wrong with a text of which this was read
 abbrev pub all_problems : List ℕ → FileView → List SourceProblem
-all_problems text file = bracket_problems text ++ (quote_problems text ++ (map told file.problems ++ syntax_problems file.syntax file.places))
+all_problems text file = bracket_problems text ++ (quote_problems text ++ (map told_problem file.problems ++ syntax_problems file.syntax file.places))
 
 -- each in its place in the order of these, unless it is among them
 abbrev pub put_all : List SourceProblem → List SourceProblem → List SourceProblem

@@ -11,7 +11,8 @@ use std::collections::VecDeque;
 
 /// Takes a token of a symbol, and tells whether the brackets still match.
 pub(crate) fn take_bracket(symbol: u8, opened: &mut VecDeque<Bracket>) -> Result<bool, AllocError>
-    ensures { IfOk result (λ is. (rest : List Bracket → Bool) → (is && rest opened.new.items) ≡ matched_symbol symbol rest opened.old.items) }
+    ensures { IfOk result (λ is. (rest : List Bracket → Bool)
+        → (is && rest opened.new.items) ≡ matched_symbol symbol rest opened.old.items) }
 {
     if matches!(symbol, b'{' | b'(' | b'[') {
         opened.push_front(bracket_of(symbol))?;

@@ -2,7 +2,8 @@
 
 ghost use Rattle.std.specs.Prelude.{◌≡◌, ◌++◌, OnOk, map, option_map};
 ghost use Rattle.hir_input.specs.Attr.{meta_view};
-ghost use Rattle.hir_input.specs.Syntax.{item_view, extern_item_view, items_view, items_from, struct_view, use_view, call_view, fields_view, syntax_view};
+ghost use Rattle.hir_input.specs.Syntax.{item_view, extern_item_view, items_view, items_from, struct_view, use_view};
+ghost use Rattle.hir_input.specs.Syntax.{call_view, fields_view, syntax_view};
 ghost use Rattle.hir_input.specs.UseTreeView.{use_tree_view};
 ghost use Rattle.source_problems.specs.Metas.{attribute_problems};
 ghost use Rattle.source_problems.specs.Items.{in_preorder, held_items};
@@ -82,8 +83,9 @@ fn push_named(
     visibility: &Option<Visibility>,
     found: &mut Found,
 ) -> Result<(), AllocError>
-    ensures { OnOk result (AddsHere found.old found.new
-        (attribute_problems found.old.at (map meta_view attrs.now) ++ spec.visibility_problems found.old.at visibility.now)) }
+    ensures { let attributes = attribute_problems found.old.at (map meta_view attrs.now) in
+        let all = attributes ++ spec.visibility_problems found.old.at visibility.now in
+        OnOk result (AddsHere found.old found.new all) }
 {
     push_attributes(attrs, found)?;
     push_visibility(visibility, found)
@@ -91,8 +93,9 @@ fn push_named(
 
 #[tactic(auto, using(std::proofs::Common::append_assoc))]
 fn push_struct(item: &Struct, found: &mut Found) -> Result<(), AllocError>
-    ensures { OnOk result (AddsHere found.old found.new
-        (spec.named_problems found.old.at (struct_view item.now) ++ spec.struct_problems found.old.at (fields_view item.now.kind))) }
+    ensures { let named = spec.named_problems found.old.at (struct_view item.now) in
+        let all = named ++ spec.struct_problems found.old.at (fields_view item.now.kind) in
+        OnOk result (AddsHere found.old found.new all) }
 {
     push_named(&item.attrs, &item.visibility, found)?;
     push_struct_fields(&item.kind, found)

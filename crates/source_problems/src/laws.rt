@@ -1,5 +1,5 @@
-//! What holds of the types here: `==` decides whether two values are one, problems are ordered by place and at a place by kind, and
-//! a copy is its source. Each derive is held to it by a clause; the functions do nothing.
+//! What holds of the types here: `==` decides whether two values are one, problems are ordered by place and at a place
+//! by kind, and a copy is its source. Each derive is held to it by a clause; the functions do nothing.
 ghost use Rattle.std.specs.Prelude.{◌≡◌, ◌<◌};
 ghost use Rattle.std.specs.declared.cmp.Ordering.TheVariants.{Less};
 ghost use Rattle.hir_input.specs.Equality.{DecidesEq, IsCopied};

@@ -1,4 +1,5 @@
-//! All that is wrong with Rust source text, as far as its items, its brackets and its quotes are read; and conflict markers.
+//! All that is wrong with Rust source text, as far as its items, its brackets and its quotes are read; and conflict
+//! markers.
 #![tactic(auto)]
 
 mod brackets;

@@ -68,8 +68,8 @@ impl From<ProblemKind> for SourceProblemKind {
 }
 
 /// What the reader of items tells.
-pub(crate) fn told(problem: Problem) -> SourceProblem
-    ensures { result ≡ spec.told problem }
+pub(crate) fn told_problem(problem: Problem) -> SourceProblem
+    ensures { result ≡ spec.told_problem problem }
 {
     SourceProblem {
         at: problem.at,

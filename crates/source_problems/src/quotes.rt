@@ -14,7 +14,7 @@ use std::collections::VecDeque;
 
 /// Adds a problem where a token is not ended.
 fn push_unended(token: &Token<'_>, problems: &mut Vec<SourceProblem>) -> Result<(), AllocError>
-    ensures { OnOk result (problems.new.items ≡ problems.old.items ++ spec.unended token.now) }
+    ensures { OnOk result (problems.new.items ≡ problems.old.items ++ spec.unended_problems token.now) }
 {
     if token.is_terminated() {
         return Ok(());

@@ -12,7 +12,7 @@ ghost use Rattle.source_problems.specs.Texts as spec;
 
 use crate::brackets::bracket_problems;
 use crate::items::push_syntax;
-use crate::problem::{Found, SourceProblem, told};
+use crate::problem::{Found, SourceProblem, told_problem};
 use crate::quotes::{Lines, read_lines};
 use rust_items::line_ends::{LineEnds, has_return, with_feeds};
 use rust_items::{Problem, SourceFile};
@@ -20,7 +20,7 @@ use std::alloc::{AllocError, Global};
 use std::collections::BTreeSet;
 
 /// Problems of a text with line feeds alone, at the places of the text as it is.
-fn placed(
+fn moved_problems(
     alloc: Global,
     problems: &[SourceProblem],
     ends: &LineEnds,
@@ -40,13 +40,14 @@ fn placed(
 
 /// What is wrong with the quotes and the lines of a text with line feeds alone, at the places of the text as it is.
 fn placed_lines(alloc: Global, feeds: &str, ends: &LineEnds) -> Result<Lines, AllocError>
-    ensures problems { IfOk result (λ l. l.problems.items
-        ≡ map (spec.problem_moved_by (place_by ends.now.len ends.now.returns.items)) (quotes.token_problems (tokens feeds.now))) }
+    ensures problems { let place = place_by ends.now.len ends.now.returns.items in
+        let problems = map (spec.problem_moved_by place) (quotes.token_problems (tokens feeds.now)) in
+        IfOk result (λ l. l.problems.items ≡ problems) }
     ensures matched { IfOk result (λ l. l.is_matched ≡ tokens_match (tokens feeds.now) []) }
 {
     let lines = read_lines(alloc, feeds)?;
     Ok(Lines {
-        problems: placed(alloc, &lines.problems, ends)?,
+        problems: moved_problems(alloc, &lines.problems, ends)?,
         is_matched: lines.is_matched,
     })
 }
@@ -85,16 +86,19 @@ fn line_problems(alloc: Global, text: &str) -> Result<Vec<SourceProblem>, AllocE
 
 /// Adds what the reader of items tells.
 fn push_told(read: &[Problem], problems: &mut Vec<SourceProblem>) -> Result<(), AllocError>
-    ensures { OnOk result (problems.new.items ≡ problems.old.items ++ map found.told read.now) }
+    ensures { OnOk result (problems.new.items ≡ problems.old.items ++ map found.told_problem read.now) }
 {
     for problem in read {
-        problems.push(told(*problem))?;
+        problems.push(told_problem(*problem))?;
     }
     Ok(())
 }
 
 /// The problems that are known, in order.
-fn listed(alloc: Global, known: &BTreeSet<SourceProblem>) -> Result<Vec<SourceProblem>, AllocError>
+fn problem_list(
+    alloc: Global,
+    known: &BTreeSet<SourceProblem>,
+) -> Result<Vec<SourceProblem>, AllocError>
     ensures listed { IfOk result (λ v. v.items ≡ known.now.keys) }
     ensures ordered { IfOk result (λ v. spec.AreInOrder v.items) }
 {
@@ -114,13 +118,14 @@ fn in_order(alloc: Global, problems: &[SourceProblem]) -> Result<Vec<SourceProbl
     for problem in problems {
         known.insert(*problem)?;
     }
-    listed(alloc, &known)
+    problem_list(alloc, &known)
 }
 
-/// All that is wrong with a text of which this was read, in the order of places, each once: what the reader of items tells; brackets
-/// that have to be mended, each where its line tells that it is wrong; literals and comments without their ends, also those behind which the text goes on; conflict markers at the
-/// beginning of lines; and the paths without a meaning and the attributes that are too deep, at the items that have them, or at the
-/// beginning of the file.
+/// All that is wrong with a text of which this was read, in the order of places, each once: what the reader of items
+/// tells; brackets that have to be mended, each where its line tells that it is wrong; literals and comments without
+/// their ends, also those behind which the text goes on; conflict markers at the beginning of lines; and the paths
+/// without a meaning and the attributes that are too deep, at the items that have them, or at the beginning of the
+/// file.
 ///
 /// Nothing is wrong with the texts of bodies, nor with documentation: what was read may be without both.
 ///

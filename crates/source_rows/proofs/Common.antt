@@ -1,7 +1,7 @@
 -- The names that most proofs here cite, passed on from one place. Declares nothing.
 pub use Rattle.rust_cursor.proofs.Nesting.{not_first, shorter}
 pub use Rattle.rust_cursor.specs.Tokens.{Tokens}
-pub use Rattle.rust_members.specs.Views.{member_view}
+pub use Rattle.rust_items.specs.MemberViews.{member_view}
 pub use Rattle.source_rows.specs.ChangeViews.{row_change_view, row_part, text_row_view}
 pub use Rattle.source_rows.specs.Changes.{row_change_of, same_text, same_texts}
 pub use Rattle.source_rows.specs.Blanks.{first_spacing, gap_text, spacing_behind}

@@ -6,8 +6,8 @@ use Rattle.std.proofs.lemmas.List.{drop-append-le, take-append-le, length-drop, 
 use Rattle.std.proofs.Math.Seq.{drop-append-add}
 use Rattle.rust_lexer.proofs.Counted.{when}
 use Rattle.rust_paths.specs.declared.names.TextRange.{TextRange}
-use Rattle.rust_members.specs.Lists.{cut_out, is_boundary}
-use Rattle.rust_members.specs.Members.{range_moved_by}
+use Rattle.rust_items.specs.MemberLists.{cut_out, is_boundary}
+use Rattle.rust_items.specs.Members.{range_moved_by}
 use Rattle.source_rows.specs.Bodies.{is_hole, hole_of}
 
 -- ---- at the beginning

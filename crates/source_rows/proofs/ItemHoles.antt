@@ -14,9 +14,9 @@ use Rattle.rust_items.specs.declared.source_file.ItemPlace.{ItemPlace}
 use Rattle.rust_items.specs.Places.{IsNameIn, IsBodyIn}
 use Rattle.hir_input.specs.declared.edition.EditionYear.{EditionYear}
 use Rattle.rust_metas.specs.declared.wanted.WantedMetas.TheVariants as wanted
-use Rattle.rust_members.specs.Lists.{cut_out, members, members_at, members_in}
-use Rattle.rust_members.specs.Members.{MemberRead, moved_member, range_moved_by}
-use Rattle.rust_members.specs.Places.{ArePlaced}
+use Rattle.rust_items.specs.MemberLists.{cut_out, members, members_at, members_in}
+use Rattle.rust_items.specs.Members.{MemberRead, moved_member, range_moved_by}
+use Rattle.rust_items.specs.MemberPlaces.{ArePlaced}
 use Rattle.source_rows.specs.Labels.{Outer, has_members}
 use Rattle.source_rows.specs.Bodies.{hole_of}
 use Rattle.source_rows.specs.Parts.{Part, around_behind, body_members, fn_body, item_parts_from, member_part, member_parts, part_of_item, part_path, still_open}
@@ -24,8 +24,8 @@ use Rattle.source_rows.specs.Rows.{bodies, hole_inside}
 use Rattle.source_rows.proofs.Beside.{moved_on}
 use Rattle.source_rows.proofs.Cuts.{cut_front, cut_behind, hole_front, hole_behind}
 use Rattle.source_rows.proofs.Parted.{may_hold}
-use Rattle.rust_members.proofs.Moving.{members_moved, placed_widened}
-use Rattle.rust_members.proofs.Placing.{members_placed}
+use Rattle.rust_items.proofs.MemberCuts.{members_moved, placed_widened}
+use Rattle.rust_items.proofs.MemberPlacing.{members_placed}
 
 -- ---- the holes of one item
 

@@ -1,8 +1,8 @@
 -- Rows, and where they stand.
 use Rattle.std.proofs.Common.{◌≡◌, ◌<◌, ℕ, List, [], ◌∷◌, ◌++◌, length, map, Bor, ap, sym, ◌∙◌, append-nil, arith, refl, zip}
-use Rattle.item_changes.specs.declared.matching.Keyed.{Keyed}
-use Rattle.item_changes.specs.Matches.{ranks, same_keys}
-use Rattle.item_changes.proofs.Seen.{ranks_seen}
+use Rattle.source_rows.specs.declared.matching.Keyed.{Keyed}
+use Rattle.source_rows.specs.Matches.{ranks, same_keys}
+use Rattle.source_rows.proofs.Seen.{ranks_seen}
 use Rattle.source_rows.specs.declared.compare.Row as code_row
 use Rattle.source_rows.specs.Changes.{TextRow}
 use Rattle.source_rows.specs.Moves.{Frame, StandingRow, same_called, standings_from}

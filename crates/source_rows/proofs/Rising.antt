@@ -13,9 +13,9 @@ use Rattle.rust_items.specs.declared.source_file.ItemPlace.{ItemPlace}
 use Rattle.rust_items.specs.Places.{Telling, IsNameIn, IsBodyIn, ArePlaces, nothing, placed}
 use Rattle.hir_input.specs.declared.edition.EditionYear.{EditionYear}
 use Rattle.rust_metas.specs.declared.wanted.WantedMetas.TheVariants as wanted
-use Rattle.rust_members.specs.Lists.{members}
-use Rattle.rust_members.specs.Members.{MemberRead}
-use Rattle.rust_members.specs.Places.{ArePlaced}
+use Rattle.rust_items.specs.MemberLists.{members}
+use Rattle.rust_items.specs.Members.{MemberRead}
+use Rattle.rust_items.specs.MemberPlaces.{ArePlaced}
 use Rattle.source_rows.specs.Labels.{has_members}
 use Rattle.source_rows.specs.Bodies.{is_hole}
 use Rattle.source_rows.specs.Parts.{body_members}

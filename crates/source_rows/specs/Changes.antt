@@ -1,11 +1,11 @@
 -- What of some rows became another.
 use Rattle.std.specs.Prelude.{ℕ, Bool, nat_eq, if◌then◌else◌, List, [], ◌∷◌, flat_map}
 use Rattle.std.specs.Cmp.Lexicographic.{pointwise}
-use Rattle.item_changes.specs.declared.compare.ChangeKind.{ChangeKind}
-use Rattle.item_changes.specs.declared.compare.ChangeKind.TheVariants.{Removed, Added, Changed}
-use Rattle.item_changes.specs.declared.matching.Match.{Match}
-use Rattle.item_changes.specs.declared.matching.Match.TheVariants.{Gone, Came, Stays}
-use Rattle.item_changes.specs.Matches.{matched}
+use Rattle.source_rows.specs.declared.change_kind.ChangeKind.{ChangeKind}
+use Rattle.source_rows.specs.declared.change_kind.ChangeKind.TheVariants.{Removed, Added, Changed}
+use Rattle.source_rows.specs.declared.matching.Match.{Match}
+use Rattle.source_rows.specs.declared.matching.Match.TheVariants.{Gone, Came, Stays}
+use Rattle.source_rows.specs.Matches.{matched}
 
 -- a row: what it is called, where it is told, and the texts of its own tokens
 pub record TextRow : Type 0 where

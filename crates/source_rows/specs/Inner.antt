@@ -1,9 +1,9 @@
 -- For the crate's own functions: rows with their labels as keys, and what of a text is passed over.
 use Rattle.std.specs.Prelude.{◌≡◌, ◌≤◌, ◌<◌, ℕ, ◌+◌, ◌++◌, All, Bool, true, false, not, ◌&&◌, is_some, nat_le, length, if◌then◌else◌, List, [], ◌∷◌, Option, Some, None}
 use Rattle.std.specs.Borrow.{Bor}
-use Rattle.item_changes.specs.declared.matching.Keyed.{Keyed}
-use Rattle.item_changes.specs.declared.matching.Match.{Match}
-use Rattle.item_changes.specs.Matches.{match_map}
+use Rattle.source_rows.specs.declared.matching.Keyed.{Keyed}
+use Rattle.source_rows.specs.declared.matching.Match.{Match}
+use Rattle.source_rows.specs.Matches.{match_map}
 use Rattle.rust_lexer.specs.Piece.{Piece}
 use Rattle.source_rows.specs.declared.doc_attributes.Sign.{Sign}
 use Rattle.source_rows.specs.declared.doc_attributes.Sign.TheVariants as signs

@@ -3,9 +3,9 @@ use Rattle.std.specs.Prelude.{List, ℕ, Bool, [], ◌∷◌, ◌++◌, codes, O
 use Rattle.hir_input.specs.declared.ids.AstIdKind.{AstIdKind}
 use Rattle.hir_input.specs.declared.ids.AstIdKind.TheVariants as kind
 use Rattle.rust_paths.specs.declared.names.TextRange.{TextRange}
-use Rattle.rust_members.specs.declared.member.MemberKind.{MemberKind}
-use Rattle.rust_members.specs.declared.member.MemberKind.TheVariants as member
-use Rattle.rust_members.specs.Lists.{cut_out}
+use Rattle.rust_items.specs.declared.member.MemberKind.{MemberKind}
+use Rattle.rust_items.specs.declared.member.MemberKind.TheVariants as member
+use Rattle.rust_items.specs.MemberLists.{cut_out}
 
 -- what is written of the items of a kind: the word that lists have; the letter in a tags file, as Universal Ctags has it, if they have tags; and what Universal Ctags calls what their members stand in, if they have members
 pub record KindTexts : Type 0 where

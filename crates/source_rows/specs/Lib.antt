@@ -5,6 +5,9 @@ pub mod Bodies
 pub mod Parts
 pub mod Rows
 pub mod Sources
+pub mod Ends
+pub mod Places
+pub mod Finders
 pub mod Views
 pub mod Enabled
 pub mod Types
@@ -12,8 +15,11 @@ pub mod Listed
 pub mod ListedViews
 pub mod DocAttributes
 pub mod Skeletons
+pub mod Matches
+pub mod ChangeWords
 pub mod Changes
 pub mod Inner
 pub mod ChangeViews
 pub mod Outside
 pub mod Moves
+pub mod ListedFiles

@@ -8,13 +8,11 @@ use Rattle.hir_input.specs.Cfg.{AtomView}
 use Rattle.item_tree.specs.declared.visibility.RawVisibility.{RawVisibility}
 use Rattle.item_tree.specs.Visibility.{read_visibility}
 use Rattle.rust_mended.specs.Texts.{forward_by, place_back_by}
-use Rattle.rust_cursor.specs.Tokens.{tokens_of}
-use Rattle.rust_paths.specs.Names.{name}
 use Rattle.rust_paths.specs.declared.names.TextRange.{TextRange}
 use Rattle.rust_items.specs.declared.source_file.ItemPlace.{ItemPlace}
 use Rattle.rust_items.specs.LineEnds.{moved_range}
-use Rattle.rust_members.specs.declared.member.MemberKind.{MemberKind}
-use Rattle.rust_members.specs.Members.{MemberRead}
+use Rattle.rust_items.specs.declared.member.MemberKind.{MemberKind}
+use Rattle.rust_items.specs.Members.{MemberRead}
 use Rattle.source_rows.specs.Headers.{header}
 use Rattle.source_rows.specs.Labels.{has_members, text_at}
 use Rattle.source_rows.specs.Parts.{body_members}
@@ -63,33 +61,29 @@ abbrev pub told_item : Option Closers → ItemPlace → ItemPlace
 told_item None p = p
 told_item (Some c) p = moved_item (place_back_by c.puts) p
 
--- the name that stands in a range of a text
-abbrev pub name_at : EditionYear → List ℕ → TextRange → Option (List ℕ)
-name_at edition text range = (name (tokens_of edition (text_at text range))).0
-
-abbrev pub member_told : Option Closers → List AtomView → Bool → MemberRead → ℕ → Option (List ℕ) → Option Listed
-member_told closers options is_active m at None = None
-member_told closers options is_active m at (Some name) = Some (record {
+-- a member of this name, which begins there
+abbrev pub member_told : Option Closers → List AtomView → Bool → MemberRead → List ℕ → ℕ → Listed
+member_told closers options is_active m name at = record {
   kind = m.kind;
   name = name;
   visibility = read_visibility m.visibility;
   at = told_place closers at;
   range = told_range closers m.range;
   is_active = is_active && not (any_disables options (metas_from m.attrs));
-})
+}
 
-abbrev pub told_by : Option Closers → EditionYear → List AtomView → List ℕ → Bool → MemberRead → Option TextRange → Option Listed
-told_by closers edition options text is_active m None = None
-told_by closers edition options text is_active m (Some range) = member_told closers options is_active m range.start (name_at edition text range)
+abbrev pub told_by : Option Closers → List AtomView → Bool → MemberRead → Option (List ℕ) → Option TextRange → Option Listed
+told_by closers options is_active m (Some name) (Some range) = Some (member_told closers options is_active m name range.start)
+told_by closers options is_active m _ _ = None
 
 -- a member without a name is not told
-abbrev pub listed : Option Closers → EditionYear → List AtomView → List ℕ → Bool → MemberRead → Option Listed
-listed closers edition options text is_active m = told_by closers edition options text is_active m m.name
+abbrev pub listed : Option Closers → List AtomView → Bool → MemberRead → Option Listed
+listed closers options is_active m = told_by closers options is_active m m.identifier m.name
 
 -- the members of an item that stands there, which a cfg disables or not
 abbrev pub listed_members : Option Closers → EditionYear → List AtomView → List ℕ → ItemPlace → Bool → List Listed
 listed_members closers edition options text p is_active =
-    filter_map (listed closers edition options text is_active) (body_members edition p.id.kind text (has_members p.id.kind) p.body)
+    filter_map (listed closers options is_active) (body_members edition p.id.kind text (has_members p.id.kind) p.body)
 
 -- those of an item whose place is known, where they are asked for
 abbrev pub members_by : Option (List AtomView) → Option Closers → EditionYear → List ℕ → Option ItemPlace → Bool → List Listed

@@ -1,7 +1,7 @@
 -- What moved from a part around it to another of the same label.
 use Rattle.std.specs.Prelude.{ℕ, Bool, ◌==◌, ◌&&◌, nat_lt, List, [], ◌∷◌, filter, flat_map, map}
 use Rattle.std.specs.List.{zip}
-use Rattle.item_changes.specs.Matches.{match_map, matched, ranks}
+use Rattle.source_rows.specs.Matches.{match_map, matched, ranks}
 use Rattle.source_rows.specs.Changes.{RowChange, TextRow, row_change_of, same_text}
 use Rattle.source_rows.specs.Parts.{Part}
 

@@ -6,10 +6,10 @@ use Rattle.hir_input.specs.declared.ids.AstIdKind.TheVariants as kind
 use Rattle.rust_paths.specs.declared.names.TextRange.{TextRange}
 use Rattle.rust_items.specs.declared.source_file.ItemPlace.{ItemPlace}
 use Rattle.rust_metas.specs.declared.wanted.WantedMetas.TheVariants as wanted
-use Rattle.rust_members.specs.declared.member.MemberKind.{MemberKind}
-use Rattle.rust_members.specs.declared.member.MemberKind.TheVariants as member
-use Rattle.rust_members.specs.Members.{MemberRead}
-use Rattle.rust_members.specs.Lists.{members}
+use Rattle.rust_items.specs.declared.member.MemberKind.{MemberKind}
+use Rattle.rust_items.specs.declared.member.MemberKind.TheVariants as member
+use Rattle.rust_items.specs.Members.{MemberRead}
+use Rattle.rust_items.specs.MemberLists.{members}
 use Rattle.source_rows.specs.Labels.{item_word, has_members, member_word, text_at, text_at_some, Outer, modules_path, label}
 use Rattle.source_rows.specs.Headers.{header}
 use Rattle.source_rows.specs.Bodies.{hole_of}

@@ -7,12 +7,13 @@ ghost use Rattle.source_rows.specs.ChangeViews.{row_change_view, skeleton_view, 
 ghost use Rattle.source_rows.specs.Labels.{text_at};
 ghost use Rattle.source_rows.specs.Skeletons.{skeleton};
 
+use crate::change_kind::ChangeKind;
 use crate::items::Part;
 use crate::kept::{Hole, Skeleton};
 use crate::labelled::labelled;
 use crate::labels::text_at;
+use crate::matching::{Keyed, Match, matched};
 use crate::tokens::own_holes;
-use item_changes::{ChangeKind, Keyed, Match, matched};
 use std::alloc::{AllocError, Global};
 
 /// A part of a text that is told by itself.

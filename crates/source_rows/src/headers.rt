@@ -10,8 +10,8 @@ use crate::blanks::{Spacing, first_spacing, spacing_behind, stands_close};
 use crate::labels::{ROOM, text_at};
 use hir_input::EditionYear;
 use rust_cursor::Cursor;
+use rust_items::TextRange;
 use rust_leaves::{Wanted, WantedMetas, wanted_front};
-use rust_members::TextRange;
 use std::alloc::{AllocError, Global};
 
 /// Adds the text of the next token, which stands there.

@@ -8,8 +8,8 @@ ghost use Rattle.source_rows.specs.Bodies as spec;
 
 use crate::labels::text_at;
 use memchr::memmem;
+use rust_items::TextRange;
 use rust_lexer::{Lexer, Token, TokenKind};
-use rust_members::TextRange;
 
 /// A body of one of these functions runs while others are compiled.
 const MACRO_WORDS: [&str; 3] = ["proc_macro", "proc_macro_derive", "proc_macro_attribute"];

@@ -1,7 +1,7 @@
 //! The items of a text and their members, as parts of it.
 
 ghost use Rattle.std.specs.Prelude.{◌≡◌, ◌++◌, ◌∷◌, [], IfOk, OnOk, map, string_bytes};
-ghost use Rattle.rust_members.specs.Views.{member_view};
+ghost use Rattle.rust_items.specs.MemberViews.{member_view};
 ghost use Rattle.source_rows.specs.Labels.{has_members, label, member_word, modules_path};
 ghost use Rattle.source_rows.specs.Parts as spec;
 ghost use Rattle.source_rows.specs.Views.{outer_view, part_view};
@@ -10,8 +10,7 @@ use crate::headers::header;
 use crate::inside::hole_of;
 use crate::labels::{ROOM, kind_texts, member_word, push_label, text_at, text_at_some};
 use hir_input::{AstIdKind, EditionYear};
-use rust_items::ItemPlace;
-use rust_members::{Member, MemberKind, TextRange, read_members};
+use rust_items::{ItemPlace, Member, MemberKind, TextRange, read_members};
 use rust_metas::WantedMetas;
 use std::alloc::{AllocError, Global};
 

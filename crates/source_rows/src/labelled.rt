@@ -5,7 +5,7 @@ ghost use Rattle.source_rows.specs.Inner.{labelled_view, with_label};
 ghost use Rattle.source_rows.specs.ChangeViews.{text_row_view};
 
 use crate::compare::Row;
-use item_changes::Keyed;
+use crate::matching::Keyed;
 use std::alloc::{AllocError, Global};
 
 pub(crate) type Labelled<'a> = Keyed<&'a str, Row<'a>>;

@@ -4,7 +4,7 @@ ghost use Rattle.std.specs.Prelude.{◌≡◌, ◌++◌, OnOk, is_some, option_m
 ghost use Rattle.source_rows.specs.Labels as spec;
 
 use hir_input::AstIdKind;
-use rust_members::{MemberKind, TextRange, cut_out};
+use rust_items::{MemberKind, TextRange, cut_out};
 use std::alloc::AllocError;
 
 // Most labels are shorter than so many bytes: they take memory once.

@@ -1,6 +1,6 @@
 //! What holds of the types here. Each derive is held to it by a clause; the functions do nothing.
 
-ghost use Rattle.hir_input.specs.Equality.{IsCopied};
+ghost use Rattle.hir_input.specs.Equality.{IsByValue, IsCopied};
 ghost use Rattle.std.specs.Prelude.{◌≡◌, List, Decides};
 ghost use Rattle.hir_input.specs.Attr.{MetaView, metas_from};
 ghost use Rattle.hir_input.specs.Cfg.{AtomView};
@@ -8,6 +8,7 @@ ghost use Rattle.rust_metas.specs.Docs.{kept_metas};
 ghost use Rattle.rust_metas.specs.declared.wanted.WantedMetas.TheVariants as wanted;
 ghost use Rattle.source_rows.specs.Enabled.{any_disables};
 
+use crate::change_kind::ChangeKind;
 use crate::compare::{Change, Row};
 use crate::kept::{Hole, Skeleton};
 use crate::labels::KindTexts;
@@ -42,6 +43,10 @@ fn skeletons()
 fn changes()
     ensures copied { (source copy : Change) → ⟦<Change<'static> as Clone>⟧.is_clone source copy
         → copy ≡ source }
+{}
+
+fn change_kinds()
+    ensures { IsByValue ⟦<ChangeKind as PartialEq>⟧.eq ⟦<ChangeKind as Clone>⟧.is_clone }
 {}
 
 /// What a cfg disables is told by the metas that tell conditions.

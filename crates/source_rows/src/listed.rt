@@ -1,20 +1,17 @@
 //! Members as lists tell them.
-ghost use Rattle.std.specs.Prelude.{◌≡◌, ◌++◌, Some, IfOk, OnOk, map, option_copied, option_map, option_to_list};
-ghost use Rattle.rust_members.specs.Views.{member_view};
+ghost use Rattle.std.specs.Prelude.{◌≡◌, IfOk, filter_map, map, option_copied, option_map};
+ghost use Rattle.rust_items.specs.MemberViews.{member_view};
 ghost use Rattle.source_rows.specs.Listed as spec;
 ghost use Rattle.source_rows.specs.ListedViews.{closers_view, listed_view};
 
 use crate::enabled::any_disables;
 use crate::items::members_in;
-use crate::labels::text_at;
 use crate::mended::{told_place, told_range};
 use hir_input::{CfgOptions, EditionYear, Name};
 use item_tree::{RawVisibility, visibility_from_ast};
-use rust_cursor::Cursor;
-use rust_items::ItemPlace;
-use rust_members::{Member, MemberKind, TextRange};
+use rust_cursor::push_some;
+use rust_items::{ItemPlace, Member, MemberKind, TextRange};
 use rust_mended::Mended;
-use rust_paths::name;
 use std::alloc::{AllocError, Global};
 
 /// A member of an item that has a name.
@@ -44,62 +41,52 @@ pub(crate) struct Around<'a> {
     pub(crate) is_active: bool,
 }
 
-/// The name that stands in a range of a text.
-fn name_at(
-    alloc: Global,
-    text: &str,
-    edition: EditionYear,
-    range: TextRange,
-) -> Result<Option<Name>, AllocError>
-    ensures { IfOk result (λ name. name ≡ spec.name_at edition text.now range) }
-{
-    let mut cursor = Cursor::new(text_at(text, range), edition);
-    name(alloc, &mut cursor)
-}
-
-/// A member of this name, which begins there.
-fn told(
+/// A member as a list tells it, if it has a name.
+fn listed_member(
     alloc: Global,
     around: Around<'_>,
-    member: &Member,
-    name: Name,
-    at: usize,
-) -> Result<ListedMember, AllocError>
+    member: Member,
+) -> Result<Option<ListedMember>, AllocError>
     ensures { let closers = option_map closers_view (option_copied around.entry.mended) in
-        let told = spec.member_told closers around.entry.options.now around.entry.is_active
-        (member_view member.now) at (Some name) in
-        IfOk result (λ m. Some (listed_view m) ≡ told) }
+        let listed = spec.listed closers around.entry.options.now around.entry.is_active
+        (member_view member) in
+        IfOk result (λ m. option_map listed_view m ≡ listed) }
 {
-    Ok(ListedMember {
-        kind: member.kind,
+    let Some(place) = member.name else {
+        return Ok(None);
+    };
+    let visibility = visibility_from_ast(alloc, member.visibility.as_ref())?;
+    let is_active = around.is_active && !any_disables(&member.attrs, around.options);
+    let (kind, range) = (member.kind, member.range);
+    let Some(name) = member.into_identifier() else {
+        return Ok(None);
+    };
+    Ok(Some(ListedMember {
+        kind,
         name,
-        visibility: visibility_from_ast(alloc, member.visibility.as_ref())?,
-        at: told_place(around.mended, at),
-        range: told_range(around.mended, member.range),
-        is_active: around.is_active && !any_disables(&member.attrs, around.options),
-    })
+        visibility,
+        at: told_place(around.mended, place.start),
+        range: told_range(around.mended, range),
+        is_active,
+    }))
 }
 
-fn push_listed(
+/// Those of members that have names.
+fn listed_of(
     alloc: Global,
     around: Around<'_>,
-    member: &Member,
-    out: &mut Vec<ListedMember>,
-) -> Result<(), AllocError>
-    ensures { let a = around.entry in
-        let closers = option_map closers_view (option_copied a.mended) in
-        let listed = spec.listed closers a.edition a.options.now a.text.now a.is_active (member_view member.now) in
-        OnOk result (map listed_view out.new.items ≡ map listed_view out.old.items ++ option_to_list listed) }
+    members: Vec<Member>,
+) -> Result<Vec<ListedMember>, AllocError>
+    ensures { let closers = option_map closers_view (option_copied around.entry.mended) in
+        let listed = spec.listed closers around.entry.options.now around.entry.is_active in
+        IfOk result (λ v. map listed_view v.items ≡ filter_map listed (map member_view members.items)) }
 {
-    let Some(range) = member.name else {
-        return Ok(());
-    };
-    let Some(name) = name_at(alloc, around.text, around.edition, range)? else {
-        return Ok(());
-    };
-    let member = told(alloc, around, member, name, range.start)?;
-    out.push(member)?;
-    Ok(())
+    let mut out = Vec::with_capacity(alloc, members.len())?;
+    for member in members {
+        let listed = listed_member(alloc, around, member)?;
+        push_some(&mut out, listed)?;
+    }
+    Ok(out)
 }
 
 /// The members of an item that have names.
@@ -114,9 +101,5 @@ pub(crate) fn listed_members(
         IfOk result (λ v. map listed_view v.items ≡ members) }
 {
     let members = members_in(alloc, item.id.kind, around.text, item.body, around.edition)?;
-    let mut out = Vec::with_capacity(alloc, members.len())?;
-    for member in &members {
-        push_listed(alloc, around, member, &mut out)?;
-    }
-    Ok(out)
+    listed_of(alloc, around, members)
 }

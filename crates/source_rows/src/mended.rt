@@ -5,8 +5,7 @@ ghost use Rattle.rust_mended.specs.Texts.{forward_by};
 ghost use Rattle.source_rows.specs.Listed as spec;
 ghost use Rattle.source_rows.specs.ListedViews.{closers_view};
 
-use rust_items::ItemPlace;
-use rust_members::TextRange;
+use rust_items::{ItemPlace, TextRange};
 use rust_mended::Mended;
 
 fn read_range(mended: &Mended, range: TextRange) -> TextRange

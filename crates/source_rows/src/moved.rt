@@ -2,7 +2,7 @@
 
 ghost use Rattle.std.specs.Prelude.{◌≡◌, ◌∷◌, [], IfOk, map};
 ghost use Rattle.std.specs.List.{zip};
-ghost use Rattle.item_changes.specs.Matches.{ranks};
+ghost use Rattle.source_rows.specs.Matches.{ranks};
 ghost use Rattle.source_rows.specs.ChangeViews.{row_change_view, row_part, text_row_view};
 ghost use Rattle.source_rows.specs.Inner.{frame_view, standing_row_view, standing_view};
 ghost use Rattle.source_rows.specs.Moves as spec;
@@ -11,7 +11,7 @@ ghost use Rattle.source_rows.specs.Views.{part_view};
 use crate::compare::{Change, Row, changes_of};
 use crate::items::Part;
 use crate::labelled::labelled;
-use item_changes::{Keyed, matched, ranks};
+use crate::matching::{Keyed, matched, ranks};
 use std::alloc::{AllocError, Global};
 
 /// A part around others: where it ends, what it is called, and how many parts of that label come before it.

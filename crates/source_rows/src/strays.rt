@@ -12,8 +12,8 @@ use crate::kept::{Hole, is_begun, not_over};
 use crate::tokens::push_begun;
 use hir_input::EditionYear;
 use rust_cursor::Cursor;
+use rust_items::TextRange;
 use rust_lexer::Lexer;
-use rust_members::TextRange;
 use rust_metas::{WantedMetas, kept_inner_attributes};
 use std::alloc::{AllocError, Global};
 

@@ -8,7 +8,7 @@ ghost use Rattle.source_rows.specs.Views.{part_view};
 use crate::compare::Row;
 use crate::items::Part;
 use crate::kept::Hole;
-use rust_members::TextRange;
+use rust_items::TextRange;
 use std::alloc::{AllocError, Global};
 
 /// Adds what stands between braces.

@@ -1,6 +1,6 @@
 -- Edits inside bodies.
 use Rattle.std.proofs.Common.{◌≡◌, ◌≢◌, ℕ, zero, suc, ◌+◌, ◌<◌, ◌≤◌, ◌==◌, Bool, true, false, if◌then◌else◌, List, [], ◌∷◌, Option, Some, None, IfSome, IfNone, OnSome, is_some, Result, Ok, Err, All, slice_get, length, map, take, drop, refl, sym, ap, subst, ◌∙◌, append_assoc, arith, IsCharBoundary, nat_le, string_bytes}
-use Rattle.source_session.proofs.Common.{list_all, and_parts, nat_tests, get_or-map, length-map, EditionYear, Place, File, IsSetAgain, EditView, set, IsFooting, FitsAfter, last_number, State, present, ItemPlace, FileView, IsFileView, bare_file, HasPlaces, IsReadMoved, edited, has_item, has_place, shifted_item, shifted_place, shifted_problem, HasTextOf, IsListedFile, closers_in, is_cut, TextRange, AreDistinct, IndexView, ChangeFault, SourceText, LineEdit, set_text, change_text, CrateFiles, AreSetTo, AreTogether, IsPlaced, IsSetTo, LeavesPlaced, session_of, CanReplace, HasRoom, IsInside, IsMadeAlone, IsMadeOrNot, IsRetyped, IsRetypedIf, MakesAlone, IsEdited, TextChange, IsKept, IsReading, Texts, bytes_kept, change_fault, changed_text, spliced, text_after, text_in, unless_fault, Touched, IsAfter, AreMeant}
+use Rattle.source_session.proofs.Common.{list_all, and_parts, nat_tests, get_or-map, length-map, EditionYear, Place, File, IsSetAgain, EditView, set, IsFooting, FitsAfter, last_number, State, present, ItemPlace, FileView, IsFileView, bare_file, HasPlaces, IsReadMoved, edited, has_item, has_place, shifted_item, shifted_place, shifted_problem, HasTextOf, IsListedFile, closers_in, is_cut, TextRange, AreDistinct, IndexView, ChangeFault, SourceText, LineEdit, set_text, change_text, CrateFiles, AreSetTo, AreTogether, IsPlaced, IsSetTo, LeavesPlaced, session_of, CanReplace, HasRoom, IsInside, IsMadeAlone, IsMadeOrNot, IsRetyped, IsRetypedIf, MakesAlone, IsEdited, TextChange, IsKept, IsReading, Texts, bytes_kept, change_fault, changed_text, spliced_text, text_after, text_in, unless_fault, Touched, IsAfter, AreMeant}
 use Rattle.std.specs.String.{string_capacity, string_len}
 use Rattle.std.specs.String.Boundary.{IsSplitPoint}
 use Rattle.std.specs.declared.alloc.AllocError.{AllocError}
@@ -8,7 +8,7 @@ use Rattle.std.specs.declared.alloc.Global.{Global}
 use Rattle.std.specs.declared.string.String.{String}
 use Rattle.rust_edits.specs.declared.shift.Shift.{Shift}
 use Rattle.rust_mended.specs.declared.text.Mended.{Mended}
-use Rattle.source_reading.proofs.ListedTexts.{listed_whole, no_problems, whole_listed}
+use Rattle.source_rows.proofs.ListedTexts.{listed_whole, no_problems, whole_listed}
 use Rattle.source_session.specs.declared.inside.Inside.{Inside}
 use Rattle.source_session.proofs.Kept.{text_step}
 use Rattle.source_session.proofs.Made.{together_after}
@@ -31,7 +31,7 @@ module _ (text : String Global) (range : TextRange) (typed : List ℕ) (cut : is
   pub room_left : string_len text + length typed ≤ string_capacity text → CanReplace text range typed None
   room_left h = can_replace None h
 
-  pub room_made : (made : String Global) → string_bytes made ≡ spliced (string_bytes text) range typed → CanReplace text range typed (Some made)
+  pub room_made : (made : String Global) → string_bytes made ≡ spliced_text (string_bytes text) range typed → CanReplace text range typed (Some made)
   room_made made h = can_replace (Some made) h
 
 -- ---- places
@@ -105,15 +105,15 @@ module _ (edition : EditionYear) (s u : State) (old new : Texts) (file : ℕ) (r
   unmended : closers_in after.mended ≡ None
   unmended = ap closers_in retyped.mended ∙ own.0
 
-  listed : IsListedFile edition (spliced bytes range typed) (closers_in after.mended) moved.again
-  listed = subst (λ c. IsListedFile edition (spliced bytes range typed) c moved.again) (sym unmended)
-      (whole_listed edition (spliced bytes range typed) moved.again (subst (λ x. IsFileView edition x moved.again) (sym (append_assoc (take range.start bytes) typed (drop range.end bytes))) moved.is_read) none_behind)
+  listed : IsListedFile edition (spliced_text bytes range typed) (closers_in after.mended) moved.again
+  listed = subst (λ c. IsListedFile edition (spliced_text bytes range typed) c moved.again) (sym unmended)
+      (whole_listed edition (spliced_text bytes range typed) moved.again (subst (λ x. IsFileView edition x moved.again) (sym (append_assoc (take range.start bytes) typed (drop range.end bytes))) moved.is_read) none_behind)
 
-  kept_after : IsKept edition (spliced bytes range typed) now after
+  kept_after : IsKept edition (spliced_text bytes range typed) now after
   kept_after = record {
     text_is = retyped.text;
     is_read = record { read = moved.again; is_read = listed; bare = refl };
-    mended = unmended_text (spliced bytes range typed) after.mended unmended;
+    mended = unmended_text (spliced_text bytes range typed) after.mended unmended;
     places = retyped.places (ap (list_all (has_item shift)) (sym places_are) ∙ all.items) ∙ ap (map (shifted_item shift)) (sym places_are) ∙ sym moved.moved.items;
     use_trees = retyped.use_trees (ap (list_all (has_place shift)) (sym uses_are) ∙ all.use_trees) ∙ ap (map (shifted_place shift)) (sym uses_are) ∙ sym moved.moved.use_trees;
     problems = retyped.problems ∙ no_problems text.problems.items is.faultless ∙ sym none_behind;
@@ -128,7 +128,7 @@ module _ (edition : EditionYear) (s u : State) (old new : Texts) (file : ℕ) (r
   syntax_is : again.syntax ≡ now.syntax
   syntax_is = some_same again.syntax read.read.syntax (sym again.had ∙ read.syntax_is) ∙ ap (λ (f : FileView). f.syntax) bare_is ∙ moved.moved.syntax
 
-  reading : IsReading edition file (spliced bytes range typed) edit change
+  reading : IsReading edition file (spliced_text bytes range typed) edit change
   reading = record {
     read = now;
     edit_is = ap (set (File (record { 0 = file }))) syntax_is;
@@ -137,8 +137,8 @@ module _ (edition : EditionYear) (s u : State) (old new : Texts) (file : ℕ) (r
     is_kept = kept_after;
   }
 
-  changed : changed_text (bytes_kept (text_in old file)) range typed ≡ Ok (spliced bytes range typed)
-  changed = ap (λ t. changed_text (bytes_kept t) range typed) had ∙ ap (λ f. unless_fault f (spliced bytes range typed)) is.fits
+  changed : changed_text (bytes_kept (text_in old file)) range typed ≡ Ok (spliced_text bytes range typed)
+  changed = ap (λ t. changed_text (bytes_kept t) range typed) had ∙ ap (λ f. unless_fault f (spliced_text bytes range typed)) is.fits
 
   texts : (f : ℕ) → text_in new f ≡ text_after (text_in old) (change ∷ []) f
   texts = text_step old new file (Some after) [] (λ f. elim (file == f) as (λ b. (file == f) ≡ b → text_in new f ≡ (if b then Some after else text_in old f)) [
@@ -150,7 +150,7 @@ module _ (edition : EditionYear) (s u : State) (old new : Texts) (file : ℕ) (r
   pub made_alone : AreDistinct text.places.items → IsFooting s u → u.number ≤ last_number → IsMadeAlone edition s old (change_text file range typed ∷ []) u new
   made_alone distinct footing number =
       let placed = subst AreDistinct (sym (retyped.places (ap (list_all (has_item shift)) (sym places_are) ∙ all.items))) (distinct_moved shift text.places.items distinct) in
-      alone_by edition s u old new (change_text file range typed ∷ []) edit change (File (record { 0 = file })) ((spliced bytes range typed, changed, reading), tt) again.after again footing again.fits number placed texts
+      alone_by edition s u old new (change_text file range typed ∷ []) edit change (File (record { 0 = file })) ((spliced_text bytes range typed, changed, reading), tt) again.after again footing again.fits number placed texts
 
 retyped_to : (range : TextRange) (typed : List ℕ) (move : Shift) (text : SourceText) (new : Option SourceText) → IsRetypedIf range typed move (Some text) new → (after : SourceText) × (new ≡ Some after) × IsRetyped range typed move text after
 retyped_to range typed move text None h = absurd h
@@ -203,14 +203,14 @@ only_text None made text e = cc
 only_text (Some cause) made text e = absurd cc
 
 -- changing its text by the difference is setting it
-pub set_alone : (edition : EditionYear) (s u : State) (old new : Texts) (file : ℕ) (range : TextRange) (typed made : List ℕ) (text : SourceText) → text_in old file ≡ Some text → made ≡ spliced (string_bytes text.text) range typed
+pub set_alone : (edition : EditionYear) (s u : State) (old new : Texts) (file : ℕ) (range : TextRange) (typed made : List ℕ) (text : SourceText) → text_in old file ≡ Some text → made ≡ spliced_text (string_bytes text.text) range typed
     → IsMadeAlone edition s old (change_text file range typed ∷ []) u new → IsMadeAlone edition s old (set_text file made ∷ []) u new
 set_alone edition s u old new file range typed made text had is m =
-    let text_is = only_text (change_fault (string_bytes text.text) range typed) (spliced (string_bytes text.text) range typed) m.meant.0.0 (ap (λ t. changed_text (bytes_kept t) range typed) (sym had) ∙ m.meant.0.1) ∙ sym is in
+    let text_is = only_text (change_fault (string_bytes text.text) range typed) (spliced_text (string_bytes text.text) range typed) m.meant.0.0 (ap (λ t. changed_text (bytes_kept t) range typed) (sym had) ∙ m.meant.0.1) ∙ sym is in
     alone_by edition s u old new (set_text file made ∷ []) m.edit m.change m.place (subst (λ x. IsReading edition file x m.edit m.change) text_is m.meant.0.2, tt) m.after m.again m.footing m.fits m.number m.placed m.texts
 
 -- the same, made or not
-pub set_by_change : (s u : State) (old new : Texts) (file : ℕ) (range : TextRange) (typed made : List ℕ) (text : SourceText) (r : Result Bool AllocError) → text_in old file ≡ Some text → made ≡ spliced (string_bytes text.text) range typed
+pub set_by_change : (s u : State) (old new : Texts) (file : ℕ) (range : TextRange) (typed made : List ℕ) (text : SourceText) (r : Result Bool AllocError) → text_in old file ≡ Some text → made ≡ spliced_text (string_bytes text.text) range typed
     → MakesAlone s old (change_text file range typed ∷ []) u new r → MakesAlone s old (set_text file made ∷ []) u new r
 set_by_change s u old new file range typed made text (Ok true) had is h = λ edition are placed. set_alone edition s u old new file range typed made text had is (h edition are placed)
 set_by_change s u old new file range typed made text (Ok false) had is h = h

@@ -32,14 +32,14 @@ unfoldable pub use Rattle.item_tree_request.specs.Outputs.{table_change_line}
 pub use Rattle.rust_edits.specs.Edits.{HasPlaces, IsReadMoved, PlacesAreKept, ReadsMoved, edited, has_item, has_place, shifted_item, shifted_place, shifted_problem}
 pub use Rattle.rust_items.specs.SourceFiles.{FileView, IsFileView, bare_file, file_view}
 pub use Rattle.rust_items.specs.declared.source_file.ItemPlace.{ItemPlace}
-pub use Rattle.rust_members.specs.Lists.{is_boundary, is_cut}
+pub use Rattle.rust_items.specs.MemberLists.{is_boundary, is_cut}
 pub use Rattle.rust_paths.specs.declared.names.TextRange.{TextRange}
-pub use Rattle.source_listing.specs.Places.{AreDistinct, place_of, stands_at}
-pub use Rattle.source_listing.specs.Search.{bare_segment}
-pub use Rattle.source_reading.specs.ListedFiles.{HasTextOf, IsListedBare, IsListedFile, closers_in}
+pub use Rattle.source_rows.specs.Places.{AreDistinct, place_of, stands_at}
+pub use Rattle.source_listing.specs.Paths.{bare_segment}
+pub use Rattle.source_rows.specs.ListedFiles.{HasTextOf, IsListedBare, IsListedFile, closers_in}
 pub use Rattle.source_session.specs.Edits.{IsShort, IsUsable, LineEdit, change_text, line_edit, line_edit_view, of_table, range_in, set_text}
 pub use Rattle.source_session.specs.Files.{CrateFiles, crate_files, is_change_in, is_in_crate}
-pub use Rattle.source_session.specs.Finders.{HaveDistinctIds, IsFinder, declared_scope, found_with, head_place, head_scope}
+pub use Rattle.source_session.specs.Finders.{HaveDistinctIds, IsFinder, declared_scope, found_with, head_scope}
 pub use Rattle.source_session.specs.Found.{IsFound, ast_of, found_form, found_value, id_form, in_file, place_by_id}
 pub use Rattle.source_session.specs.Inner.{AreSetTo, AreTogether, AreUnfloating, HasSlot, HasSlotFor, IsFailing, IsPlaced, IsSetTo, Knowing, LeavesPlaced, TellsFault, found_one, outcome_view, reply_view, session_of}
 pub use Rattle.source_session.specs.Inside.{CanReplace, HasRoom, IsInside, IsMadeAlone, IsMadeOrNot, IsRetyped, IsRetypedIf, MakesAlone}
@@ -49,11 +49,11 @@ pub use Rattle.source_session.specs.Lines.{Asked, Settings, first_line, later_li
 pub use Rattle.source_session.specs.Refusals.{line_refusal, made_count, outcome_of}
 pub use Rattle.source_session.specs.Replies.{IsCarriedOut, IsOutcome, IsRefusedAs, IsReply, IsReplyOf, IsReplyUnless, IsWanting, Open, Outcome, Replies, Reply, asked_of, id_value, of_opened, of_session, out_of_memory, reply_number, reply_text}
 pub use Rattle.source_session.specs.Sessions.{AreMade, IsEdited, IsStopped, IsUnedited, Session, new_session}
-pub use Rattle.source_session.specs.Shown.{IsPresentValue, IsShowValue, IsValueUnless, all_items, change_form, change_with, item_objects, items_member, pathless, shown_tree, unset_form, unset_place}
+pub use Rattle.source_session.specs.Shown.{IsPresentValue, IsShowValue, IsValueUnless, all_items, change_form, change_with, item_objects, items_member, pathless_source, shown_tree, unset_form, unset_place}
 pub use Rattle.source_session.specs.Shows.{IsCrateOf, ShowNamesCrate, line_show}
 pub use Rattle.source_session.specs.Sought.{entry_path, found_scope, is_at, is_sought, own_scope, path_within, scope_at}
 pub use Rattle.source_session.specs.SourceTexts.{places_of_text, text_bytes, text_places, text_problems, text_reading}
-pub use Rattle.source_session.specs.Texts.{AreMeant, Fails, FailsAt, FileTexts, IsKept, IsReading, Means, TextChange, Texts, bytes_kept, change_fault, changed_text, forgets, is_long, is_outside, left_text, slot_in, spliced, text_after, text_in, text_of_place, unless_fault}
+pub use Rattle.source_session.specs.Texts.{AreMeant, Fails, FailsAt, FileTexts, IsKept, IsReading, Means, TextChange, Texts, bytes_kept, change_fault, changed_text, forgets, is_long, is_outside, left_text, slot_in, spliced_text, text_after, text_in, text_of_place, unless_fault}
 pub use Rattle.source_session.specs.Touched.{AreTouched, IsBehindBy, Touched, touched_keys}
 pub use Rattle.source_session.specs.declared.error.LineError.{LineError}
 pub use Rattle.source_session.specs.declared.error.LineError.TheVariants.{NotChanged, NotJson, NotRequest, OutOfMemory, Refused, TooLong}

@@ -1,11 +1,9 @@
 -- Items found by their ids.
 use Rattle.std.proofs.Common.{◌≡◌, ◌≢◌, ℕ, suc, zero, ◌<◌, ◌≤◌, ◌-◌, ◌==◌, List, [], ◌∷◌, Bor, length, drop, take, map, Option, Some, None, IsSome, refl, sym, ap, ◌∙◌, subst, arith, ⊎_elim, slice_index_or, AllPairs, flat_map}
-use Rattle.source_session.proofs.Common.{option_map_or, cases_Bool, nat_tests, length-drop, take_all, Crate, FileAstId, Unfolding, Place, File, Block, State, unfolding_at, node_name, declaration_id, Entry, IsDeclared, ItemPlace, AreDistinct, place_of, bare_segment, SourceText, HaveDistinctIds, declared_scope, found_with, head_place, head_scope, found_value, IsPlaced, found_scope, text_bytes, text_places, Texts, text_of_place, text_in}
+use Rattle.source_session.proofs.Common.{option_map_or, cases_Bool, nat_tests, length-drop, take_all, Crate, FileAstId, Unfolding, Place, File, Block, State, unfolding_at, node_name, declaration_id, Entry, IsDeclared, ItemPlace, AreDistinct, bare_segment, SourceText, HaveDistinctIds, declared_scope, found_with, head_scope, found_value, IsPlaced, found_scope, text_bytes, text_places, Texts, text_of_place, text_in}
 use Rattle.item_tree.specs.Layout.{node_at}
 use Rattle.item_tree.specs.Shown.{IsContained}
 use Rattle.tree_walk.specs.declared.collector.Declaration as code
-use Rattle.source_listing.specs.Ends.{IsEndOf}
-use Rattle.source_listing.proofs.Found.{found_later}
 use Rattle.source_listing.proofs.Pushed.{segments_of}
 
 -- ---- what is around items
@@ -69,16 +67,6 @@ pub segments_are : (names : List (Bor (List ℕ))) → flat_map (λ n. bare_segm
 segments_are names = sym (segments_of (λ n. n.now) names)
 
 -- ---- where items stand
-
-is_end : {A : Type 0} (k : ℕ) (all : List A) → k ≤ length all → IsEndOf (drop k all) all
-is_end k all within =
-    let count : length all - length (drop k all) ≡ k = omega (arith, within, length-drop k all) in
-    ap (λ n. drop n all) count
-
--- of different places, the first one behind some is the only one
-pub place_later : (id : FileAstId) (k : ℕ) (all found : List ItemPlace) → AreDistinct all → k ≤ length all → 0 < length found → head_place found ≡ place_of id (take (length all - k) (drop k all)) → head_place found ≡ place_of id all
-place_later id k all [] distinct within some e = absurd (omega (arith, some))
-place_later id k all (p ∷ found) distinct within some e = sym (found_later id (drop k all) all p distinct (is_end k all within) (ap (place_of id) (sym (left_whole k all)) ∙ sym e))
 
 places_distinct : (t : Option SourceText) → IsPlaced t → AreDistinct (text_places t)
 places_distinct None h = λ i j p less within. absurd (omega (arith, less, within))

@@ -1,6 +1,6 @@
 -- Crates that lines name, and values without floats.
 use Rattle.std.proofs.Common.{◌≡◌, ℕ, ◌+◌, ◌<◌, suc, false, ◌||◌, List, [], ◌∷◌, ◌++◌, Option, Some, None, is_some, option_map, All, length, map, filter, take, get_or, refl, sym, ap, subst, ◌∙◌, arith}
-use Rattle.source_session.proofs.Common.{take_more, AllByRecursion, AllZip, Crate, FileAstId, Edit, Place, File, Block, edit_view, NamesKnown, State, change_number, Knows, Entry, ItemPlace, Table, Outline, TreeItems, ImportPlaces, Changes, Problems, Find, ast_of, found_form, found_value, id_form, in_file, place_by_id, AreUnfloating, Knowing, Session, all_items, change_form, change_with, item_objects, items_member, pathless, shown_tree, unset_form, unset_place, IsPresentValue, IsShowValue, IsValueUnless, is_sought, text_bytes, text_places, places_of_text, text_problems, text_reading, Texts, text_of_place, text_in}
+use Rattle.source_session.proofs.Common.{take_more, AllByRecursion, AllZip, Crate, FileAstId, Edit, Place, File, Block, edit_view, NamesKnown, State, change_number, Knows, Entry, ItemPlace, Table, Outline, TreeItems, ImportPlaces, Changes, Problems, Find, ast_of, found_form, found_value, id_form, in_file, place_by_id, AreUnfloating, Knowing, Session, all_items, change_form, change_with, item_objects, items_member, pathless_source, shown_tree, unset_form, unset_place, IsPresentValue, IsShowValue, IsValueUnless, is_sought, text_bytes, text_places, places_of_text, text_problems, text_reading, Texts, text_of_place, text_in}
 use Rattle.serde_json.specs.Data.{Data}
 use Rattle.serde_json.specs.Written.{has_float}
 use Rattle.hir_input.specs.declared.ids.HirFileId.{HirFileId}
@@ -63,7 +63,7 @@ no_float_in_changes (c ∷ cs) = rw (no_float_change_form c, no_float_in_changes
 no_float_items : (u : Session) (krate : Crate) (place : Place) → AreUnfloating (item_objects u krate place)
 no_float_items u krate place =
     let t = text_of_place u.texts place in
-    let s = pathless (text_bytes t) in no_float_in_outline s (text_reading u.edition.0 t) u.edition.1 (text_places t) all_items (shown_tree u krate place)
+    let s = pathless_source (text_bytes t) in no_float_in_outline s (text_reading u.edition.0 t) u.edition.1 (text_places t) all_items (shown_tree u krate place)
 
 -- ---- shows
 

@@ -8,7 +8,7 @@ use Rattle.item_tree.specs.declared.fault.EditFault.{EditFault}
 use Rattle.item_tree.specs.declared.fault.EditFault.TheVariants.{TooManyEdits, Lower}
 use Rattle.item_tree.specs.declared.fault.LowerError.TheVariants as lowering
 use Rattle.source_listing.specs.Objects.{count_form}
-use Rattle.source_session.specs.Expected.{expected}
+use Rattle.source_session.specs.Expected.{expected_words}
 use Rattle.source_session.specs.declared.error.LineError.{LineError}
 use Rattle.source_session.specs.declared.splice.ChangeFault.{ChangeFault}
 use Rattle.source_session.specs.declared.splice.ChangeFault.TheVariants as change
@@ -43,7 +43,7 @@ line_error fault.OutOfMemory = OutOfMemory
 -- the object of an error, with a session open or not; its members are in the order of their keys
 abbrev pub error_form : Bool → LineError → Data
 error_form is_open (NotJson column) = object (member (codes "column") (count_form column) (member (codes "kind") (string (codes "not JSON")) no_members))
-error_form is_open (NotRequest pointer) = object (member (codes "expected") (string (expected is_open pointer)) (member (codes "kind") (string (codes "not a request")) (member (codes "pointer") (string pointer) no_members)))
+error_form is_open (NotRequest pointer) = object (member (codes "expected") (string (expected_words is_open pointer)) (member (codes "kind") (string (codes "not a request")) (member (codes "pointer") (string pointer) no_members)))
 error_form is_open (NotChanged place cause) = object (member (codes "cause") (string (fault_text cause)) (member (codes "kind") (string (codes "text not changed")) (member (codes "place") (count_form place) no_members)))
 error_form is_open (Refused place cause) = object (member (codes "cause") (string (cause_text cause)) (member (codes "kind") (string (codes "edit refused")) (member (codes "place") (count_form place) no_members)))
 error_form is_open TooLong = kind_form (codes "line too long")

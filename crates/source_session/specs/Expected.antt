@@ -110,5 +110,5 @@ expected_at is_open s =
     else (if is_open && opens_session s then codes "nothing: the session is open" else steps_told_at s))
 
 -- the same by the pointer
-abbrev pub expected : Bool → List ℕ → List ℕ
-expected is_open pointer = expected_at is_open (steps_of (parts_between 47 pointer))
+abbrev pub expected_words : Bool → List ℕ → List ℕ
+expected_words is_open pointer = expected_at is_open (steps_of (parts_between 47 pointer))

@@ -12,10 +12,9 @@ use Rattle.tree_walk.specs.Declarations.{declared_at}
 use Rattle.tree_walk.specs.DeclarationView.{declaration_id}
 use Rattle.tree_walk.specs.declared.collector.Declaration as code
 use Rattle.rust_items.specs.declared.source_file.ItemPlace.{ItemPlace}
-use Rattle.source_listing.specs.Places.{AreDistinct, place_of}
-use Rattle.source_session.specs.declared.finder.Scopes.{Scopes}
-use Rattle.source_session.specs.declared.finder.Spots.{Spots}
-use Rattle.source_session.specs.declared.found.Finder.{Finder}
+use Rattle.source_rows.specs.Places.{AreDistinct, place_of}
+use Rattle.source_session.specs.declared.scopes.Scopes.{Scopes}
+use Rattle.source_session.specs.declared.found.EntryFinder.{EntryFinder}
 use Rattle.source_session.specs.Found.{id_form, in_block, in_file}
 use Rattle.source_session.specs.Sought.{own_scope}
 use Rattle.source_session.specs.SourceTexts.{text_bytes, text_places}
@@ -37,31 +36,20 @@ pub record KnowsScopes (u : Unfolding) (x : Scopes) : Type 0 where
   pub all : map declared_scope x.declarations.items ≡ map own_scope (declared_at u)
   pub once : AllPairs (λ i j. i ≢ j) (map declaration_id x.declarations.items)
 
--- ---- where items stand
-
--- the first of some places
-abbrev pub head_place : List ItemPlace → Option ItemPlace
-head_place [] = None
-head_place (p ∷ ps) = Some p
-
--- the places are those of the same text
-abbrev pub IsSameText : Spots → Spots → Type 0
-IsSameText old new = (new.lines ≡ old.lines) × (new.places.now ≡ old.places.now)
-
--- ---- both
+-- ---- and where they stand
 
 -- what finds items finds those of a crate's tree of a place
-pub record FindsIn (s : State) (texts : Texts) (at : Place) (of : Crate) (f : Finder) : Type 0 where
+pub record FindsIn (s : State) (texts : Texts) (at : Place) (of : Crate) (f : EntryFinder) : Type 0 where
   pub place : f.place ≡ at
   pub krate : f.krate ≡ of
   pub tree : f.tree.now ≡ unfolding_at s at of.0
   pub scopes : IfSome f.scopes (KnowsScopes f.tree.now)
   pub lines : f.spots.lines ≡ text_bytes (text_of_place texts at)
-  pub places : f.spots.places.now ≡ text_places (text_of_place texts at)
-  pub distinct : AreDistinct f.spots.places.now
+  pub places : f.spots.places ≡ text_places (text_of_place texts at)
+  pub distinct : AreDistinct f.spots.places
 
 -- those of some place
-abbrev pub IsFinder : State → Texts → Finder → Type 0
+abbrev pub IsFinder : State → Texts → EntryFinder → Type 0
 IsFinder s texts f = FindsIn s texts f.place f.krate f
 
 -- no two items of one text have the same id

@@ -19,7 +19,7 @@ use Rattle.decl_index.specs.declared.entry.Entry.{Entry}
 use Rattle.decl_index.specs.Entries.{IsListing}
 use Rattle.rust_items.specs.declared.source_file.ItemPlace.{ItemPlace}
 use Rattle.source_listing.specs.Objects.{count_form}
-use Rattle.source_listing.specs.Places.{place_of, stands_at}
+use Rattle.source_rows.specs.Places.{place_of, stands_at}
 use Rattle.source_session.specs.declared.texts.SourceText.{SourceText}
 use Rattle.source_session.specs.Files.{CrateFiles}
 use Rattle.source_session.specs.SourceTexts.{text_bytes, text_places}

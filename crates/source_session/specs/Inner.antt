@@ -12,7 +12,7 @@ use Rattle.hir_input_json.specs.Editions.{EditionView}
 use Rattle.item_tree_db.specs.declared.place.Place.TheVariants.{File}
 use Rattle.item_tree_db.specs.State.{State, present}
 use Rattle.rust_items.specs.SourceFiles.{FileView}
-use Rattle.source_listing.specs.Places.{AreDistinct}
+use Rattle.source_rows.specs.Places.{AreDistinct}
 use Rattle.decl_index.specs.declared.entry.Entry.{Entry}
 use Rattle.decl_index.specs.Entries.{IndexView}
 use Rattle.source_session.specs.declared.error.LineError.{LineError}

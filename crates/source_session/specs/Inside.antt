@@ -19,14 +19,14 @@ use Rattle.source_session.specs.declared.inside.Inside.{Inside}
 use Rattle.source_session.specs.declared.texts.SourceText.{SourceText}
 use Rattle.source_session.specs.Edits.{LineEdit}
 use Rattle.source_session.specs.Inner.{AreSetTo, IsPlaced, LeavesPlaced}
-use Rattle.source_session.specs.Texts.{AreMeant, TextChange, Texts, change_fault, spliced, text_after, text_in}
+use Rattle.source_session.specs.Texts.{AreMeant, TextChange, Texts, change_fault, spliced_text, text_after, text_in}
 
 -- ---- a text in place
 
 -- a text has room for this in the place of a range, or is made anew with it
 abbrev pub HasRoom : String Global → TextRange → List ℕ → Option (String Global) → Type 0
 HasRoom text range typed None = string_len text + length typed ≤ string_capacity text
-HasRoom text range typed (Some made) = string_bytes made ≡ spliced (string_bytes text) range typed
+HasRoom text range typed (Some made) = string_bytes made ≡ spliced_text (string_bytes text) range typed
 
 -- a range of a text cuts no character, and can be replaced by this
 pub record CanReplace (text : String Global) (range : TextRange) (typed : List ℕ) (made : Option (String Global)) : Type 0 where
@@ -37,7 +37,7 @@ pub record CanReplace (text : String Global) (range : TextRange) (typed : List �
 
 -- a range of a text was replaced, and what was read of it was moved, if that has places in the new text; its problems and its mended text stay
 pub record IsRetyped (range : TextRange) (typed : List ℕ) (shift : Shift) (old new : SourceText) : Type 0 where
-  pub text : string_bytes new.text ≡ spliced (string_bytes old.text) range typed
+  pub text : string_bytes new.text ≡ spliced_text (string_bytes old.text) range typed
   pub places : list_all (has_item shift) old.places.items ≡ true → new.places.items ≡ map (shifted_item shift) old.places.items
   pub use_trees : list_all (has_place shift) old.use_trees.items ≡ true → new.use_trees.items ≡ map (shifted_place shift) old.use_trees.items
   pub problems : new.problems.items ≡ old.problems.items

@@ -34,14 +34,14 @@ abbrev pub all_items : Choice
 all_items = record { depth = None; only_active = false }
 
 -- a file, of whose objects the path is no part
-abbrev pub pathless : List ℕ → Source
-pathless text = record { path = []; text = text }
+abbrev pub pathless_source : List ℕ → Source
+pathless_source text = record { path = []; text = text }
 
 -- the objects of the items of a place, without members
 abbrev pub item_objects : Session → Crate → Place → List Data
 item_objects u krate place =
     let t = text_of_place u.texts place in
-    let s = pathless (text_bytes t) in
+    let s = pathless_source (text_bytes t) in
     tree_objects s (text_reading u.edition.0 t) u.edition.1 (text_places t) all_items (shown_tree u krate place)
 
 -- those of a file

@@ -1,5 +1,5 @@
 -- Paths of names that are looked for.
-use Rattle.std.specs.Prelude.{ℕ, Bool, false, ◌==◌, ◌&&◌, if◌then◌else◌, List, [], ◌∷◌, ◌++◌, codes, map, Option, Some, None, flat_map, unwrap_or}
+use Rattle.std.specs.Prelude.{ℕ, Bool, ◌==◌, ◌&&◌, if◌then◌else◌, List, [], ◌∷◌, ◌++◌, codes, map, Option, Some, None, flat_map, unwrap_or}
 use Rattle.serde_json.specs.Data.{Data}
 use Rattle.hir_input_json.specs.Reading.{Reading, right, here, ◌>>=◌}
 use Rattle.hir_input.specs.Name.{name_in}
@@ -9,8 +9,7 @@ use Rattle.item_tree_db.specs.State.{State, unfolding_at}
 use Rattle.tree_walk.specs.Declarations.{Declaration, declared_at}
 use Rattle.decl_index.specs.declared.entry.Entry.{Entry}
 use Rattle.decl_index.specs.Lookup.{entry_has_name}
-use Rattle.rust_paths.specs.Names.{behind_hash}
-use Rattle.source_listing.specs.Search.{bare_segment, is_path}
+use Rattle.source_listing.specs.Paths.{bare_segment, is_sought_path}
 use Rattle.source_listing.specs.Sought.{Sought, sought}
 use Rattle.source_session.specs.Files.{CrateFiles, is_in_crate}
 use Rattle.source_session.specs.Parts.{parts_between, last_part}
@@ -22,20 +21,16 @@ pub record SoughtItem : Type 0 where
 
 -- ---- how it is written
 
--- a word without `r#`
-abbrev pub without_hash : List ℕ → List ℕ
-without_hash word = unwrap_or (behind_hash word) word
-
 -- the last name of a path: what stands behind its last colon
 abbrev pub last_name : List ℕ → Reading (List ℕ)
-last_name s = here (name_in (without_hash (last_part (parts_between 58 s))))
+last_name path = here (name_in (last_part (parts_between 58 path)))
 
 -- a path as the command takes it
 abbrev pub asked_path : Data → Reading SoughtItem
 asked_path d = do
   s ← text_form d
   path ← here (sought s)
-  name ← last_name s
+  name ← last_name path.path
   right (record { path = path; name = name })
 
 -- the path that is looked for, which is required
@@ -70,7 +65,7 @@ entry_path s e = path_within (unfolding_at s e.place e.krate.0) e.id e.name
 
 -- whether a path is the one that is looked for, or ends as that may
 abbrev pub is_at : Sought → List ℕ → Bool
-is_at q path = is_path (record { path = q.path; is_anywhere = q.is_anywhere; only_active = false }) path
+is_at q path = is_sought_path q.path q.is_anywhere path
 
 -- whether the entry has the last name and is in its crate, and its item has the path
 abbrev pub is_sought : CrateFiles → State → SoughtItem → Entry → Bool

@@ -6,7 +6,7 @@ use Rattle.rust_mended.specs.declared.text.Mended.{Mended}
 use Rattle.rust_items.specs.declared.source_file.ItemPlace.{ItemPlace}
 use Rattle.rust_items.specs.declared.log.Problem.{Problem}
 use Rattle.source_listing.specs.Uses.{FilePlaces, placed}
-use Rattle.source_reading.specs.ListedFiles.{closers_in}
+use Rattle.source_rows.specs.ListedFiles.{closers_in}
 use Rattle.source_rows.specs.Listed.{MemberReading}
 use Rattle.source_rows.specs.ListedViews.{text_read}
 use Rattle.source_session.specs.declared.texts.SourceText.{SourceText}

@@ -9,9 +9,9 @@ use Rattle.item_tree_db.specs.declared.place.Place.TheVariants.{File, Block}
 use Rattle.item_tree_db.specs.Edits.{EditView, set, remove, set_cfg}
 use Rattle.item_tree_db.specs.History.{last_some}
 use Rattle.rust_items.specs.SourceFiles.{FileView}
-use Rattle.rust_members.specs.Lists.{is_cut}
+use Rattle.rust_items.specs.MemberLists.{is_cut}
 use Rattle.rust_paths.specs.declared.names.TextRange.{TextRange}
-use Rattle.source_reading.specs.ListedFiles.{HasTextOf, IsListedBare, closers_in}
+use Rattle.source_rows.specs.ListedFiles.{HasTextOf, IsListedBare, closers_in}
 use Rattle.source_session.specs.declared.splice.ChangeFault.{ChangeFault}
 use Rattle.source_session.specs.declared.splice.ChangeFault.TheVariants.{NoText, OutsideText, CutsCharacter, TooLong}
 use Rattle.source_session.specs.declared.texts.SourceText.{SourceText}
@@ -62,8 +62,8 @@ text_after texts changes file = unwrap_or (last_some (left_text file) changes) (
 -- ---- a range of a text replaced
 
 -- a text with what stands in a range of it replaced
-abbrev pub spliced : List ℕ → TextRange → List ℕ → List ℕ
-spliced text range new = take range.start text ++ new ++ drop range.end text
+abbrev pub spliced_text : List ℕ → TextRange → List ℕ → List ℕ
+spliced_text text range new = take range.start text ++ new ++ drop range.end text
 
 -- a range does not stand in a text
 abbrev pub is_outside : List ℕ → TextRange → Bool
@@ -77,7 +77,7 @@ is_long text = nat_lt (2 ^ 32) (length text)
 abbrev pub change_fault : List ℕ → TextRange → List ℕ → Option ChangeFault
 change_fault text range new =
     if is_outside text range then Some OutsideText
-    else (if is_cut text range then (if is_long (spliced text range new) then Some TooLong else None) else Some CutsCharacter)
+    else (if is_cut text range then (if is_long (spliced_text text range new) then Some TooLong else None) else Some CutsCharacter)
 
 -- a text, unless there is a fault
 abbrev pub unless_fault : Option ChangeFault → List ℕ → Result (List ℕ) ChangeFault
@@ -87,7 +87,7 @@ unless_fault (Some cause) text = Err cause
 -- the text of a file with a range replaced, or why it cannot be
 abbrev pub changed_text : Option (List ℕ) → TextRange → List ℕ → Result (List ℕ) ChangeFault
 changed_text None range new = Err NoText
-changed_text (Some text) range new = unless_fault (change_fault text range new) (spliced text range new)
+changed_text (Some text) range new = unless_fault (change_fault text range new) (spliced_text text range new)
 
 -- the bytes of a text
 abbrev pub bytes_kept : Option SourceText → Option (List ℕ)

@@ -7,7 +7,8 @@ ghost use Rattle.hir_input_json.specs.Held.{held};
 ghost use Rattle.line_stream.specs.Lines.{line_told};
 ghost use Rattle.source_session.specs.Inner.{IsUnfloating, outcome_view, reply_view};
 ghost use Rattle.source_session.specs.LineViews.{asked_view, IsOwn};
-ghost use Rattle.source_session.specs.Replies.{IsCarriedOut, IsOutcome, IsReply, IsReplyTo, IsValueReply, IsWanting, asked_of, reply_number};
+ghost use Rattle.source_session.specs.Replies.{IsCarriedOut, IsOutcome, IsReply, IsReplyTo, IsValueReply, IsWanting};
+ghost use Rattle.source_session.specs.Replies.{asked_of, reply_number};
 
 use crate::error::LineError;
 use crate::keys::Members;

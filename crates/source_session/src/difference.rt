@@ -1,8 +1,8 @@
 //! What differs in two texts.
 ghost use Rattle.std.specs.Prelude.{◌≡◌, ◌++◌, IfSome};
-ghost use Rattle.source_session.specs.Texts.{spliced};
+ghost use Rattle.source_session.specs.Texts.{spliced_text};
 
-use rust_members::TextRange;
+use rust_items::TextRange;
 
 // How many bytes two texts begin with in common.
 fn common_start(old: &[u8], new: &[u8]) -> usize {
@@ -40,7 +40,7 @@ fn before<'t>(text: &'t str, back: &str) -> Option<&'t str>
 /// A range of a text, and what replaces it in another: all but what both begin with, and then what both end with.
 #[tactic(auto, using(crate::proofs::Spliced::spliced_by))]
 pub(crate) fn difference<'t>(old: &str, new: &'t str) -> Option<(TextRange, &'t str)>
-    ensures { IfSome result (λ d. new.now ≡ spliced old.now d.0 d.1.now) }
+    ensures { IfSome result (λ d. new.now ≡ spliced_text old.now d.0 d.1.now) }
 {
     let start = old.floor_char_boundary(common_start(old.as_bytes(), new.as_bytes()));
     let (front, rest) = old.split_at_checked(start)?;

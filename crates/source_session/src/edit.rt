@@ -4,7 +4,8 @@ ghost use Rattle.serde_json.specs.View.{view};
 ghost use Rattle.hir_input_json.specs.Forms.{required_at as required_form, whole_form};
 ghost use Rattle.hir_input_json.specs.Held.{held};
 ghost use Rattle.hir_input_json.specs.Reads.{Reads};
-ghost use Rattle.source_session.specs.Edits.{edit_form as edit_form, line_edit, text_edit, change_edit, range as range_form, short_text, line_edit_view, IsUsable, IsShort};
+ghost use Rattle.source_session.specs.Edits.{edit_form as edit_form, line_edit, text_edit, change_edit};
+ghost use Rattle.source_session.specs.Edits.{range as range_form, short_text, line_edit_view, IsUsable, IsShort};
 
 use crate::keys::{LineObject, Members, only_known};
 use hir_input::HirFileId;
@@ -13,7 +14,7 @@ use hir_input_json::member::{field, id_at, members_of, taken, word_at};
 use hir_input_json::{Fault, ReadIn};
 use item_tree_db::Edit;
 use item_tree_request::request::edit::edit_in;
-use rust_members::TextRange;
+use rust_items::TextRange;
 use serde_json::Value;
 use std::alloc::Global;
 

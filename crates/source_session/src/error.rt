@@ -4,19 +4,19 @@ ghost use Rattle.serde_json.specs.View.{view};
 ghost use Rattle.source_session.specs.Errors.{cause_text, error_form, fault_text, line_error};
 ghost use Rattle.source_session.specs.declared.error.LineError.TheVariants.{OutOfMemory};
 
-use crate::expected::expected;
+use crate::expected::expected_words;
 use crate::splice::ChangeFault;
 use hir_input_json::{Fault, Pointer};
 use item_tree::{EditFault, LowerError};
 use serde_json::{Value, json};
-use source_reading::ReadError;
+use source_rows::ReadError;
 use std::alloc::{AllocError, AllocFailed, Global};
 
 /// Why a line is answered with an error.
 #[derive(Debug, Drop)]
 pub enum LineError {
-    /// It is no JSON text in UTF-8, or one that nests deeper than 127 or holds a number past the floats of 64 bits. The column
-    /// is the one that serde_json tells.
+    /// It is no JSON text in UTF-8, or one that nests deeper than 127 or holds a number past the floats of 64 bits. The
+    /// column is the one that serde_json tells.
     NotJson { column: usize },
     /// It is JSON, but no request: where the first value stands that is not of its form.
     NotRequest { pointer: Pointer },
@@ -108,7 +108,7 @@ pub(crate) fn error_value(
         LineError::NotJson { column } => json!(in alloc; {"column": column, "kind": "not JSON"}),
         LineError::NotRequest { pointer } => {
             let pointer = pointer.text();
-            let expected = expected(alloc, pointer, is_open)?;
+            let expected = expected_words(alloc, pointer, is_open)?;
             json!(in alloc; {"expected": expected, "kind": "not a request", "pointer": pointer})
         }
         LineError::NotChanged { place, cause } => {

@@ -102,7 +102,7 @@ fn steps_of<'a>(parts: &[&'a str]) -> Steps<'a>
 }
 
 // An edit or a show.
-fn listed(list: &str) -> Option<LineObject>
+fn listed_object(list: &str) -> Option<LineObject>
     ensures { result ≡ spec.listed_object list.now }
 {
     match list {
@@ -129,7 +129,7 @@ impl Steps<'_> {
     {
         match self.count {
             2 => Some(LineObject::Whole),
-            4 => listed(self.list),
+            4 => listed_object(self.list),
             _ => None,
         }
     }
@@ -153,7 +153,7 @@ impl Steps<'_> {
         matches!(self.last, "crates" | "skipped" | "edition" | "start")
     }
 
-    fn told(self) -> &'static str
+    fn words_at(self) -> &'static str
         ensures { result.now ≡ spec.steps_told_at (steps_view self.entry) }
     {
         if is_place(self.last) {
@@ -165,7 +165,7 @@ impl Steps<'_> {
         of_syntax(self.last)
     }
 
-    fn expected(self, is_open: bool) -> &'static str
+    fn words(self, is_open: bool) -> &'static str
         ensures { result.now ≡ spec.expected_at is_open (steps_view self.entry) }
     {
         if self.count == 1 {
@@ -177,7 +177,7 @@ impl Steps<'_> {
         if is_open && self.opens() {
             return "nothing: the session is open";
         }
-        self.told()
+        self.words_at()
     }
 }
 
@@ -186,13 +186,13 @@ impl Steps<'_> {
 /// # Errors
 ///
 /// Only if memory runs out.
-pub(crate) fn expected(
+pub(crate) fn expected_words(
     alloc: Global,
     pointer: &str,
     is_open: bool,
 ) -> Result<&'static str, AllocError>
-    ensures { IfOk result (λ words. words.now ≡ spec.expected is_open pointer.now) }
+    ensures { IfOk result (λ words. words.now ≡ spec.expected_words is_open pointer.now) }
 {
     let parts = parts(alloc, pointer, '/')?;
-    Ok(steps_of(&parts).expected(is_open))
+    Ok(steps_of(&parts).words(is_open))
 }

@@ -105,7 +105,8 @@ fn all_files_of(alloc: Global, items: &[Value]) -> Result<Vec<Option<Files>>, Fa
 
 /// The files of the crates, none where the crates are absent.
 ///
-/// `WrongForm` comes only where the crates are no list or those of one are not of their form (`Files.crate_files`), and tells where.
+/// `WrongForm` comes only where the crates are no list or those of one are not of their form (`Files.crate_files`), and
+/// tells where.
 pub(crate) fn crate_files_at(alloc: Global, members: &Members) -> Result<Vec<Option<Files>>, Fault>
     ensures { Reads (λ v. v.items) result
         (each_at spec.crate_files (codes "crates") (held members.now)) }

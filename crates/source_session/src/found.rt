@@ -1,19 +1,22 @@
 //! The objects of what is found.
-ghost use Rattle.std.specs.Prelude.{ℕ, List, None, ◌≡◌, ◌++◌, true, All, IfOk, IfSome, OnOk, map, string_bytes, flat_map};
+ghost use Rattle.std.specs.Prelude.{ℕ, List, None, ◌≡◌, ◌++◌, true, All, IfOk, IfSome, OnOk, map, option_copied};
+ghost use Rattle.std.specs.Prelude.{string_bytes, flat_map};
 ghost use Rattle.serde_json.specs.{Data.string, View.view};
 ghost use Rattle.hir_input.specs.Id.{shown_id};
 ghost use Rattle.item_tree.specs.Shown.{IsContained};
 ghost use Rattle.item_tree_db.specs.State.{IsKnown};
 ghost use Rattle.decl_index.specs.Entries.{IsDeclared};
-ghost use Rattle.source_listing.specs.Places.{AreDistinct, place_of};
-ghost use Rattle.source_session.specs.Finders.{HaveDistinctIds, IsFinder, FindsIn, IsSameText, KnowsScopes, ast_in, found_with};
+ghost use Rattle.source_rows.specs.Places.{AreDistinct, place_of};
+ghost use Rattle.source_rows.specs.Finders.{IsFinderOf, IsSameFinder};
+ghost use Rattle.source_session.specs.Finders.{HaveDistinctIds, IsFinder, FindsIn, KnowsScopes, ast_in, found_with};
 ghost use Rattle.source_session.specs.Found as spec;
 ghost use Rattle.source_session.specs.{Inner.found_one, Sought.is_at, Sought.path_within};
+ghost use Rattle.source_session.specs.SourceTexts.{text_bytes, text_places};
 
 use crate::files::{Files, is_in_crate};
-use crate::finder::{Scopes, Spots, push_segment};
+use crate::scopes::Scopes;
 use crate::sought::SoughtItem;
-use crate::texts::{Texts, text_at};
+use crate::texts::{SourceText, Texts, text_at};
 use decl_index::Entry;
 use hir_input::{BlockId, Crate, FileAstId, HirFileId, Name};
 use item_tree::{ItemTree, ModItemId};
@@ -21,6 +24,8 @@ use item_tree_db::{Place, Sources};
 use line_index::Position;
 use rust_items::ItemPlace;
 use serde_json::{Value, json};
+use source_listing::push_segment;
+use source_rows::{Finder, stands_at};
 use std::alloc::{AllocError, Global};
 
 // ---- paths of items
@@ -55,13 +60,13 @@ fn path_of<'a>(
     let mut known = scopes_of(alloc, tree, scopes.take())?;
     let mut path = String::new(alloc);
     known.push_scope(id, &mut path)?;
-    push_segment(name, &mut path)?;
+    push_segment(name.text(), &mut path)?;
     *scopes = Some(known);
     Ok(path)
 }
 
-// Whether an item has the path that is looked for. What is around the items of its tree is read only where the name alone does not
-// tell.
+// Whether an item has the path that is looked for. What is around the items of its tree is read only where the name
+// alone does not tell.
 #[tactic(auto, using(crate::proofs::Paths::name_tells))]
 fn is_found<'a>(
     alloc: Global,
@@ -77,7 +82,7 @@ fn is_found<'a>(
     ensures scopes { IfSome scopes.new (KnowsScopes tree.now) }
 {
     let mut own = String::new(alloc);
-    push_segment(&entry.name, &mut own)?;
+    push_segment(entry.name.text(), &mut own)?;
     if sought.is_end(&own) {
         return Ok(true);
     }
@@ -123,18 +128,18 @@ fn in_file(
     file: HirFileId,
     krate: Crate,
     id: FileAstId,
-    spots: &mut Spots<'_>,
+    spots: &mut Finder<'_>,
 ) -> Result<Value, AllocError>
-    requires { AreDistinct spots.old.places.now }
-    ensures value { let place = place_of id spots.old.places.now in
+    requires { AreDistinct spots.old.places }
+    ensures value { let place = place_of id spots.old.places in
         IfOk result (λ value. view value ≡ spec.in_file file krate (string (shown_id id)) spots.old.lines place) }
-    ensures same { IsSameText spots.old spots.new }
+    ensures same { IsSameFinder spots.old spots.new }
 {
     let shown = id.to_string(alloc)?;
-    let Some(place) = spots.place(id) else {
+    let Some(place) = spots.places.find(id) else {
         return placeless_value(alloc, file, krate, shown);
     };
-    let at = spots.position(place);
+    let at = spots.lines.position(stands_at(place));
     placed_value(alloc, file, krate, shown, at, place)
 }
 
@@ -151,13 +156,14 @@ fn found_value(
     alloc: Global,
     tree: &ItemTree,
     entry: &Entry,
-    spots: &mut Spots<'_>,
+    spots: &mut Finder<'_>,
 ) -> Result<Value, AllocError>
     requires contained { IsContained tree.now entry.now.id }
-    requires distinct { AreDistinct spots.old.places.now }
-    ensures value { let id = ast_in tree.now entry.now.id in
-        IfOk result (λ value. view value ≡ found_with spots.old.lines spots.old.places.now entry.now.place entry.now.krate id) }
-    ensures same { IsSameText spots.old spots.new }
+    requires distinct { AreDistinct spots.old.places }
+    ensures value { let found = found_with spots.old.lines spots.old.places in
+        let form = found entry.now.place entry.now.krate (ast_in tree.now entry.now.id) in
+        IfOk result (λ value. view value ≡ form) }
+    ensures same { IsSameFinder spots.old spots.new }
 {
     let id = entry.id.ast_id(tree);
     match entry.place {
@@ -170,46 +176,47 @@ fn found_value(
 
 /// What finds the items of a crate's tree of a place.
 #[derive(Drop)]
-pub(crate) struct Finder<'a> {
+pub(crate) struct EntryFinder<'a> {
     place: Place,
     krate: Crate,
     tree: &'a ItemTree,
     /// What is around the items, if that was asked for.
     scopes: Option<Scopes<'a>>,
-    spots: Spots<'a>,
+    spots: Finder<'a>,
 }
 
-fn is_same_place(place: Place, other: Place) -> bool
-    ensures { result ≡ true → place ≡ other }
+// What finds the items of a text, none where there is no text.
+fn finder_of(text: Option<&SourceText>) -> Finder<'_>
+    ensures { let text = option_copied text.entry in
+        IsFinderOf (text_bytes text) (text_places text) result }
 {
-    match (place, other) {
-        (Place::File(file), Place::File(other)) => file.0 == other.0,
-        (Place::Block(block), Place::Block(other)) => block.0 == other.0,
-        _ => false,
+    match text {
+        Some(text) => Finder::new(text.text.as_str(), &text.places),
+        None => Finder::new("", &[]),
     }
 }
 
-impl Finder<'_> {
+impl EntryFinder<'_> {
     // Whether the entry is of this tree.
     fn is_of(&self, entry: &Entry) -> bool
         ensures { result ≡ true → (self.now.place ≡ entry.now.place)
             × (self.now.krate ≡ entry.now.krate) }
     {
-        is_same_place(self.place, entry.place) && self.krate.0 == entry.krate.0
+        self.place == entry.place && self.krate == entry.krate
     }
 }
 
-fn new_finder<'a>(sources: &'a Sources, texts: &'a Texts, entry: &Entry) -> Finder<'a>
+fn new_finder<'a>(sources: &'a Sources, texts: &'a Texts, entry: &Entry) -> EntryFinder<'a>
     requires known { IsKnown sources.now entry.now.krate }
     requires placed { HaveDistinctIds texts.now.entries }
     ensures { FindsIn sources.now texts.now.entries entry.now.place entry.now.krate result }
 {
-    Finder {
+    EntryFinder {
         place: entry.place,
         krate: entry.krate,
         tree: sources.tree(entry.place, entry.krate),
         scopes: None,
-        spots: Spots::new(text_at(texts, entry.place)),
+        spots: finder_of(text_at(texts, entry.place)),
     }
 }
 
@@ -218,8 +225,8 @@ fn finder_for<'a>(
     sources: &'a Sources,
     texts: &'a Texts,
     entry: &Entry,
-    last: Option<Finder<'a>>,
-) -> Finder<'a>
+    last: Option<EntryFinder<'a>>,
+) -> EntryFinder<'a>
     requires known { IsKnown sources.now entry.now.krate }
     requires placed { HaveDistinctIds texts.now.entries }
     requires last { IfSome last (IsFinder sources.now texts.now.entries) }
@@ -231,7 +238,8 @@ fn finder_for<'a>(
     }
 }
 
-// Adds the object of an entry, if it is in its crate and its item has the path, and hands on what finds the items of its tree.
+// Adds the object of an entry, if it is in its crate and its item has the path, and hands on what finds the items of
+// its tree.
 #[tactic(auto, using(crate::proofs::Finders::is_object, crate::proofs::Finders::contained))]
 fn push_found<'a>(
     alloc: Global,
@@ -240,9 +248,9 @@ fn push_found<'a>(
     texts: &'a Texts,
     sought: &SoughtItem,
     entry: &Entry,
-    last: Option<Finder<'a>>,
+    last: Option<EntryFinder<'a>>,
     values: &mut Vec<Value>,
-) -> Result<Option<Finder<'a>>, AllocError>
+) -> Result<Option<EntryFinder<'a>>, AllocError>
     requires declared { IsDeclared sources.now entry.now }
     requires placed { HaveDistinctIds texts.now.entries }
     requires last { IfSome last (IsFinder sources.now texts.now.entries) }
@@ -263,7 +271,8 @@ fn push_found<'a>(
     Ok(Some(finder))
 }
 
-/// The objects of the entries that are in their crates and whose items have the path that is looked for, of some with its last name.
+/// The objects of the entries that are in their crates and whose items have the path that is looked for, of some with
+/// its last name.
 ///
 /// # Errors
 ///

@@ -12,7 +12,7 @@ use crate::texts::{SourceText, Texts, text_of};
 use hir_input::HirFileId;
 use item_tree_db::Sources;
 use rust_edits::{BodyEdit, edit_inside};
-use rust_members::TextRange;
+use rust_items::TextRange;
 use std::alloc::{AllocError, Global};
 
 /// An edit inside a body of a text.
@@ -97,8 +97,8 @@ fn set_inside(
     change_inside(alloc, sources, texts, file, range, typed)
 }
 
-/// Makes the edits of a line, if they are one, and it changes a text inside a body or not at all. All memory is asked for before the first
-/// change.
+/// Makes the edits of a line, if they are one, and it changes a text inside a body or not at all. All memory is asked
+/// for before the first change.
 ///
 /// # Errors
 ///

@@ -1,4 +1,5 @@
-//! What holds of whole conversations and of answers, and that a copy of a fault is its source. The functions do nothing.
+//! What holds of whole conversations and of answers, and that a copy of a fault is its source. The functions do
+//! nothing.
 ghost use Rattle.std.specs.Prelude.{ℕ, List, None, Some};
 ghost use Rattle.hir_input.specs.Equality.{IsCopied};
 ghost use Rattle.line_stream.specs.Lines.{HasNoFeed, Told};
@@ -9,7 +10,8 @@ ghost use Rattle.source_session.specs.Sessions.{Session};
 
 use crate::splice::ChangeFault;
 
-// A conversation, whatever its lines, is where the edits lead that stand by its answers: a new one, and one over an open session.
+// A conversation, whatever its lines, is where the edits lead that stand by its answers: a new one, and one over an
+// open session.
 fn conversations()
     ensures led { (lines : List (List ℕ)) (new : Open) (text : List ℕ)
         → IsServed Replies None lines new text

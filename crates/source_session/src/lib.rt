@@ -1,5 +1,5 @@
-//! Requests line by line over one table of item trees that lives from line to line, with files as Rust source: `Conversation`
-//! is a service of `line_stream`.
+//! Requests line by line over one table of item trees that lives from line to line, with files as Rust source:
+//! `Conversation` is a service of `line_stream`.
 #![tactic(auto)]
 
 mod conversation;
@@ -8,7 +8,6 @@ mod edit;
 mod error;
 mod expected;
 mod files;
-mod finder;
 mod found;
 mod inside;
 mod keys;
@@ -19,11 +18,13 @@ mod meaning;
 mod parts;
 mod reply;
 mod retyped;
+mod scopes;
 mod session;
 mod show;
 mod shown;
 mod sought;
 mod splice;
+mod table_changes;
 mod texts;
 mod touched;
 

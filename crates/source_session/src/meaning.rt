@@ -4,17 +4,17 @@ ghost use Rattle.item_tree_db.specs.Edits.{edit_view as table_view};
 ghost use Rattle.item_tree_request.specs.Named.{EditNamesCrate};
 ghost use Rattle.source_session.specs.Edits.{IsUsable, change_text, line_edit_view};
 ghost use Rattle.source_session.specs.Inner.{LeavesPlaced, IsFailing, TellsFault};
-ghost use Rattle.source_session.specs.Texts.{AreMeant, FailsAt, IsReading, Means, forgets, text_after as after, text_in};
+ghost use Rattle.source_session.specs.Texts.{AreMeant, FailsAt, IsReading, Means, forgets, text_after as after};
+ghost use Rattle.source_session.specs.Texts.{text_in};
 
 use crate::edit::LineEdit;
 use crate::error::LineError;
-use crate::splice::changed;
+use crate::splice::changed_text;
 use crate::texts::{Change, SourceText, Texts, text_after};
 use hir_input::{EditionYear, HirFileId};
 use item_tree_db::Edit;
-use rust_items::{Wanted, WantedMetas};
-use rust_members::TextRange;
-use source_reading::{ReadError, read_listed};
+use rust_items::{TextRange, Wanted, WantedMetas};
+use source_rows::{ReadError, read_listed};
 use std::alloc::Global;
 
 /// An edit of the table, and what it leaves of the text of a file.
@@ -32,7 +32,7 @@ pub(crate) struct Meanings {
 }
 
 // What an edit of the table leaves of the text of a file.
-fn forgotten(edit: &Edit) -> Change
+fn forgetting_change(edit: &Edit) -> Change
     ensures { result ≡ forgets (table_view edit.now) }
 {
     match edit {
@@ -75,7 +75,7 @@ fn reading(
 }
 
 // What the edit means that replaces a range of the text of a file, behind those which make these changes.
-fn changing(
+fn change_meaning(
     alloc: Global,
     file: HirFileId,
     range: TextRange,
@@ -94,7 +94,7 @@ fn changing(
         (change_text file.0 range new.now) (length changes.now))) }
 {
     let old = text_after(texts, changes, file.0);
-    let made = changed(alloc, old, range, new, changes.len())?;
+    let made = changed_text(alloc, old, range, new, changes.len())?;
     let meaning = reading(alloc, file, made, edition)?;
     Ok(meaning)
 }
@@ -120,7 +120,7 @@ fn meaning_of(
 {
     match edit {
         LineEdit::Table(edit) => {
-            let change = forgotten(&edit);
+            let change = forgetting_change(&edit);
             Ok(Meaning { edit, change })
         }
         LineEdit::SetText { file, text } => {
@@ -128,14 +128,15 @@ fn meaning_of(
             Ok(meaning)
         }
         LineEdit::ChangeText { file, range, text } => {
-            changing(alloc, file, range, text.as_str(), texts, changes, edition)
+            change_meaning(alloc, file, range, text.as_str(), texts, changes, edition)
         }
     }
 }
 
 /// What edits of a line over these texts mean that name crates of this many, in an edition.
 ///
-/// `NotChanged` comes exactly where one of them means nothing, and tells the first. The only other error is that memory runs out.
+/// `NotChanged` comes exactly where one of them means nothing, and tells the first. The only other error is that memory
+/// runs out.
 pub(crate) fn meanings_of(
     alloc: Global,
     edits: Vec<LineEdit>,

@@ -1,14 +1,14 @@
 //! Texts that are changed in place, with what was read of them.
 ghost use Rattle.std.specs.Prelude.{◌≡◌, ◌≢◌, ℕ, true, IfOk, IfSome, string_bytes};
-ghost use Rattle.rust_members.specs.Lists.{is_cut};
+ghost use Rattle.rust_items.specs.MemberLists.{is_cut};
 ghost use Rattle.source_session.specs.Inside.{CanReplace, IsRetyped, IsRetypedIf};
 ghost use Rattle.source_session.specs.Texts as spec;
 ghost use Rattle.source_session.specs.Texts.{text_in};
 
-use crate::splice::spliced;
+use crate::splice::spliced_text;
 use crate::texts::{SourceText, Texts};
 use rust_edits::Shift;
-use rust_members::TextRange;
+use rust_items::TextRange;
 use std::alloc::{AllocError, Global};
 
 /// A text with what stands in a range of it replaced, if the text itself has no room for that.
@@ -25,7 +25,7 @@ pub(crate) fn made_if_full(
     if typed.len() <= text.capacity().saturating_sub(text.len()) {
         return Ok(None);
     }
-    let made = spliced(alloc, text, range, typed)?;
+    let made = spliced_text(alloc, text, range, typed)?;
     Ok(Some(made))
 }
 
@@ -33,7 +33,7 @@ pub(crate) fn made_if_full(
 #[tactic(auto, using(crate::proofs::Alone::split_point))]
 fn replace(text: &mut String, range: TextRange, typed: &str, made: Option<String>)
     requires { CanReplace text.old range typed.now made }
-    ensures { string_bytes text.new ≡ spec.spliced (string_bytes text.old) range typed.now }
+    ensures { string_bytes text.new ≡ spec.spliced_text (string_bytes text.old) range typed.now }
 {
     match made {
         Some(made) => *text = made,

@@ -50,9 +50,16 @@ impl Model for Session {
 
     ghost coded = { Prim.hlevel (codes, state_code, files_code) };
 
-    ghost view = { λ x. record { count = x.count; files = x.files.items; edition = edition_view x.edition; table = x.sources; texts = x.texts.entries } };
+    ghost view = { λ x. record {
+      count = x.count;
+      files = x.files.items;
+      edition = edition_view x.edition;
+      table = x.sources;
+      texts = x.texts.entries;
+    } };
 
-    ghost invariant = { λ x. AreTogether x.count x.edition.year x.sources x.texts.entries x.index (touched_keys x.touched) };
+    ghost invariant = { λ x. let touched = touched_keys x.touched in
+        AreTogether x.count x.edition.year x.sources x.texts.entries x.index touched };
 }
 
 // How many edits of the table were made, of so many.
@@ -78,8 +85,8 @@ fn outcome(made: Result<u64, AllRefused>) -> Result<(), LineError>
     }
 }
 
-// Makes the edits of a line in a table and in the texts of its files, up to the first that is refused. Each text that one of them sets or
-// changes is read.
+// Makes the edits of a line in a table and in the texts of its files, up to the first that is refused. Each text that
+// one of them sets or changes is read.
 fn edit_files(
     alloc: Global,
     sources: &mut Sources,
@@ -106,8 +113,8 @@ fn edit_files(
     outcome(made)
 }
 
-// Makes the edits of a line in a table and in the texts of its files, up to the first that is refused. No text is read where there is one
-// edit, and it lies inside a body.
+// Makes the edits of a line in a table and in the texts of its files, up to the first that is refused. No text is read
+// where there is one edit, and it lies inside a body.
 fn edit_texts(
     alloc: Global,
     sources: &mut Sources,

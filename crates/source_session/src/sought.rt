@@ -1,9 +1,8 @@
 //! Paths of names that are looked for.
-ghost use Rattle.std.specs.Prelude.{◌≡◌, ◌&&◌, nat_eq, option_map};
+ghost use Rattle.std.specs.Prelude.{◌≡◌, ◌&&◌, nat_eq};
 ghost use Rattle.std.specs.List.{ends_with};
 ghost use Rattle.serde_json.specs.View.{view};
 ghost use Rattle.hir_input_json.specs.{Reading.here, Reads.Reads};
-ghost use Rattle.rust_paths.specs.Names.{behind_hash};
 ghost use Rattle.source_listing.specs.{Sought.sought, Views.sought_view};
 ghost use Rattle.source_session.specs.Sought as spec;
 
@@ -12,7 +11,7 @@ use hir_input::Name;
 use hir_input_json::Fault;
 use hir_input_json::name::name_of;
 use serde_json::Value;
-use source_listing::{SoughtPath, sought_path};
+use source_listing::{SoughtPath, is_sought_path, sought_path};
 use std::alloc::Global;
 use std::marker::Model;
 
@@ -32,32 +31,13 @@ impl Model for SoughtItem {
     ghost view = { λ x. record { path = sought_view x.path; name = x.name } };
 }
 
-fn behind_hash(text: &str) -> Option<&str>
-    ensures { option_map (λ word. word.now) result ≡ behind_hash text.now }
-{
-    match text.strip_prefix('r') {
-        Some(rest) => rest.strip_prefix('#'),
-        None => None,
-    }
-}
-
-// A word without the `r#` that it may stand behind.
-fn without_hash(text: &str) -> &str
-    ensures { result.now ≡ spec.without_hash text.now }
-{
-    match behind_hash(text) {
-        Some(name) => name,
-        None => text,
-    }
-}
-
 #[tactic(auto, using(crate::proofs::Pieces::same_count))]
-fn last_name(alloc: Global, text: &str) -> Result<Name, Fault>
-    ensures { Reads (λ name. name) result (spec.last_name text.now) }
+fn last_name(alloc: Global, path: &str) -> Result<Name, Fault>
+    ensures { Reads (λ name. name) result (spec.last_name path.now) }
 {
-    let words = parts(alloc, text, ':')?;
-    let last = part_at(&words, words.len().saturating_sub(1));
-    let name = Value::try_from_str(alloc, without_hash(last))?;
+    let names = parts(alloc, path, ':')?;
+    let last = part_at(&names, names.len().saturating_sub(1));
+    let name = Value::try_from_str(alloc, last)?;
     name_of(alloc, name)
 }
 
@@ -80,7 +60,7 @@ pub(crate) fn sought_of(alloc: Global, value: &Value) -> Result<SoughtItem, Faul
         return Err(Fault::here(alloc));
     };
     let path = path_of(alloc, text)?;
-    let name = last_name(alloc, text)?;
+    let name = last_name(alloc, &path.path)?;
     Ok(SoughtItem { path, name })
 }
 
@@ -100,17 +80,13 @@ impl SoughtItem {
         if !self.path.is_anywhere {
             return false;
         }
-        path.as_bytes().ends_with(self.path.path.as_bytes())
+        is_sought_path(&self.path.path, true, path)
     }
 
     /// Whether this is the path, or ends as it does if it may begin anywhere.
     pub(crate) fn is_at(&self, path: &str) -> bool
         ensures { result ≡ spec.is_at self.now.path path.now }
     {
-        if self.path.is_anywhere {
-            path.as_bytes().ends_with(self.path.path.as_bytes())
-        } else {
-            path == self.path.path.as_str()
-        }
+        is_sought_path(&self.path.path, self.path.is_anywhere, path)
     }
 }

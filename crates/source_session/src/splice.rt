@@ -1,6 +1,7 @@
 //! The text of a file, with what stands in a range of it replaced.
-ghost use Rattle.std.specs.Prelude.{◌≡◌, ◌^◌, ◌+◌, ◌≤◌, true, nat_lt, IfOk, IfErr, Ok, length, option_copied, string_bytes};
-ghost use Rattle.rust_members.specs.Lists.{is_cut};
+ghost use Rattle.std.specs.Prelude.{◌≡◌, ◌^◌, ◌+◌, ◌≤◌, true, nat_lt, IfOk, IfErr, Ok, length, option_copied};
+ghost use Rattle.std.specs.Prelude.{string_bytes};
+ghost use Rattle.rust_items.specs.MemberLists.{is_cut};
 ghost use Rattle.source_session.specs.Inner.{TellsFault, IsWhyUnchanged};
 ghost use Rattle.source_session.specs.Texts as spec;
 ghost use Rattle.source_session.specs.Texts.{bytes_kept, change_fault, changed_text};
@@ -8,7 +9,7 @@ ghost use Rattle.source_session.specs.Texts.{bytes_kept, change_fault, changed_t
 use crate::edit::MOST_BYTES;
 use crate::error::LineError;
 use crate::texts::SourceText;
-use rust_members::{TextRange, cut_out};
+use rust_items::{TextRange, cut_out};
 use std::alloc::{AllocError, Global};
 
 /// Why a range of the text of a file cannot be replaced.
@@ -53,7 +54,7 @@ fn are_many(left: usize, more: usize) -> bool
 fn is_long(text: &str, range: TextRange, new: &str) -> bool
     requires order { range.start ≤ range.end }
     requires inside { range.end ≤ length text.now }
-    ensures { result ≡ spec.is_long (spec.spliced text.now range new.now) }
+    ensures { result ≡ spec.is_long (spec.spliced_text text.now range new.now) }
 {
     are_many(text.len() - (range.end - range.start), new.len())
 }
@@ -77,14 +78,14 @@ pub(crate) fn fault(text: &str, range: TextRange, new: &str) -> Option<ChangeFau
 
 /// A text with what stands in a range of it replaced, in memory for more.
 #[tactic(auto, using(crate::proofs::Spliced::begins, crate::proofs::Spliced::ends))]
-pub(crate) fn spliced(
+pub(crate) fn spliced_text(
     alloc: Global,
     text: &str,
     range: TextRange,
     new: &str,
 ) -> Result<String, AllocError>
     requires { is_cut text.now range ≡ true }
-    ensures { IfOk result (λ made. string_bytes made ≡ spec.spliced text.now range new.now) }
+    ensures { IfOk result (λ made. string_bytes made ≡ spec.spliced_text text.now range new.now) }
 {
     let more = (text.len() / 8).saturating_add(new.len());
     let mut made = String::with_capacity(alloc, text.len().saturating_add(more))?;
@@ -98,7 +99,7 @@ pub(crate) fn spliced(
 ///
 /// `NotChanged` comes exactly where the range cannot be replaced, and the only other error is that memory runs out.
 #[tactic(auto, using(crate::proofs::Spliced::fault_none))]
-pub(crate) fn changed(
+pub(crate) fn changed_text(
     alloc: Global,
     text: Option<&SourceText>,
     range: TextRange,
@@ -120,6 +121,6 @@ pub(crate) fn changed(
     if let Some(cause) = fault(old, range, new) {
         return Err(LineError::NotChanged { place, cause });
     }
-    let made = spliced(alloc, old, range, new)?;
+    let made = spliced_text(alloc, old, range, new)?;
     Ok(made)
 }

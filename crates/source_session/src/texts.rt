@@ -1,5 +1,6 @@
 //! The texts of files, with what was read of them.
-ghost use Rattle.std.specs.Prelude.{◌≡◌, ℕ, ◌==◌, ◌∷◌, List, All, Some, IfSome, OnOk, if◌then◌else◌, take, option_copied, option_map};
+ghost use Rattle.std.specs.Prelude.{◌≡◌, ℕ, ◌==◌, ◌∷◌, List, All, Some, IfSome, OnOk, if◌then◌else◌, take};
+ghost use Rattle.std.specs.Prelude.{option_copied, option_map};
 ghost use Rattle.source_session.specs.Inner.{HasSlot, HasSlotFor};
 ghost use Rattle.source_listing.specs.Views.{reading_view};
 ghost use Rattle.source_session.specs.SourceTexts.{text_reading};

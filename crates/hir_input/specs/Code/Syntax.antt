@@ -8,10 +8,10 @@ use Rattle.hir_input.specs.declared.expand_to.ExpandTo.{ExpandTo}
 use Rattle.hir_input.specs.declared.ast.PathNode.{PathNode}
 use Rattle.hir_input.specs.declared.ast.Rename.{Rename}
 use Rattle.hir_input.specs.declared.ast.Visibility.{Visibility}
-use Rattle.hir_input.specs.contracts.ids.AstIdKind as ast_id_kind
 use Rattle.hir_input.specs.contracts.ids.SyntaxContext as context
 use Rattle.hir_input.specs.contracts.expand_to.ExpandTo as expand_to
 use Rattle.hir_input.specs.contracts.ast.PathNode as path_node
+use Rattle.hir_input.specs.contracts.ast.PlainKind as plain_kind
 use Rattle.hir_input.specs.contracts.ast.Rename as rename
 use Rattle.hir_input.specs.contracts.ast.Visibility as visibility
 use Rattle.hir_input.specs.Attr.{MetaView}
@@ -19,7 +19,8 @@ use Rattle.hir_input.specs.Code.Parts.{front_code, behind_code, number_of}
 use Rattle.hir_input.specs.Code.Attr.{attrs_code}
 use Rattle.hir_input.specs.UseTreeView.{UseTreeView}
 use Rattle.hir_input.specs.Code.UseTree.{use_tree_code}
-use Rattle.hir_input.specs.Syntax.{NodeView, NamedView, UseView, CallView, PlainKind, fn_kind, union_kind, enum_kind, static_kind, trait_kind, type_alias_kind, macro_def_kind, ast_kind, FieldsView, record_fields, tuple_fields, no_fields, ItemView, plain_item, const_item, struct_item, bare_module, listed_module, use_item, extern_crate, bare_extern_block, listed_extern_block, impl_item, macro_call, macro_rules, asm_item, ItemViews, no_items, item_and, StmtView, item_stmt, call_stmt, other_stmt, TailView, no_tail, call_tail, other_tail, SyntaxView, source_file, macro_items, macro_stmts, block_expr, error}
+use Rattle.hir_input.specs.Syntax.{NodeView, NamedView, UseView, CallView, FieldsView, record_fields, tuple_fields, no_fields, ItemView, plain_item, const_item, struct_item, bare_module, listed_module, use_item, extern_crate, bare_extern_block, listed_extern_block, impl_item, macro_call, macro_rules, asm_item, ItemViews, no_items, item_and, StmtView, item_stmt, call_stmt, other_stmt, TailView, no_tail, call_tail, other_tail, SyntaxView, source_file, macro_items, macro_stmts, block_expr, error}
+use Rattle.hir_input.specs.declared.ast.PlainKind.{PlainKind}
 
 -- ---- nodes without the items in them
 
@@ -61,20 +62,6 @@ call_code =
     (λ p. record { node = p.0; path = p.1.0; expand_to = p.1.1.0; ctxt = p.1.1.1 })
     (λ _. refl)
 
--- the kind of their ids tells two kinds apart
-pub ast_kind_inj : (j k : PlainKind) → ast_kind j ≡ ast_kind k → j ≡ k
-ast_kind_inj fn_kind fn_kind h = refl
-ast_kind_inj union_kind union_kind h = refl
-ast_kind_inj enum_kind enum_kind h = refl
-ast_kind_inj static_kind static_kind h = refl
-ast_kind_inj trait_kind trait_kind h = refl
-ast_kind_inj type_alias_kind type_alias_kind h = refl
-ast_kind_inj macro_def_kind macro_def_kind h = refl
-ast_kind_inj _ _ h = cc
-
-abbrev pub plain_kind_code : Coded PlainKind
-plain_kind_code = record { code = λ k. ast_id_kind.the_row.coded.code (ast_kind k); inj = λ j k h. ast_kind_inj j k (ast_id_kind.the_row.coded.inj (ast_kind j) (ast_kind k) h) }
-
 abbrev pub fields_to : FieldsView → Gv
 fields_to record_fields = gnum 0
 fields_to (tuple_fields fields) = gcons gnil ((coded_list visibility_code).code fields)
@@ -92,7 +79,7 @@ fields_code = record { code = fields_to; inj = fields_inj }
 -- ---- what items are made of
 
 abbrev pub plain_code : Coded (PlainKind × NamedView)
-plain_code = coded× plain_kind_code named_code
+plain_code = coded× plain_kind.the_row.coded named_code
 
 abbrev pub struct_code : Coded (NamedView × FieldsView)
 struct_code = coded× named_code fields_code

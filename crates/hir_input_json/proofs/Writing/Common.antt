@@ -4,7 +4,8 @@ pub use Rattle.hir_input.specs.Attr.{MetaView, MetaViews, cfg_attr_meta, cfg_met
 pub use Rattle.hir_input.specs.Cfg.{AtomView, CfgView, CfgViews, all_of, any_of, atom_view, cfg_and, cfg_view, cfgs_from, invalid, no_cfgs, not_of}
 pub use Rattle.hir_input.specs.Literal.{LiteralView}
 pub use Rattle.hir_input.specs.Name.{IsName, is_name, name_in}
-pub use Rattle.hir_input.specs.Syntax.{CallView, FieldsView, ItemView, ItemViews, NamedView, NodeView, PlainKind, StmtView, SyntaxView, TailView, UseView, asm_item, bare_extern_block, bare_module, block_expr, call_stmt, call_tail, const_item, error, extern_block_from, extern_crate, extern_item_view, fn_kind, impl_item, item_and, item_stmt, item_view, items_from, items_view, listed_extern_block, listed_module, macro_call, macro_items, macro_rules, macro_stmts, module_from, module_view, named_from, no_items, no_tail, other_stmt, other_tail, plain_item, source_file, static_kind, stmt_view, struct_item, syntax_view, tuple_fields, type_alias_kind, use_item}
+pub use Rattle.hir_input.specs.Syntax.{CallView, FieldsView, ItemView, ItemViews, NamedView, NodeView, StmtView, SyntaxView, TailView, UseView, asm_item, bare_extern_block, bare_module, block_expr, call_stmt, call_tail, const_item, error, extern_block_from, extern_crate, extern_item_view, impl_item, item_and, item_stmt, item_view, items_from, items_view, listed_extern_block, listed_module, macro_call, macro_items, macro_rules, macro_stmts, module_from, module_view, named_from, no_items, no_tail, other_stmt, other_tail, plain_item, source_file, stmt_view, struct_item, syntax_view, tuple_fields, use_item}
+pub use Rattle.hir_input.specs.declared.ast.PlainKind.{PlainKind}
 pub use Rattle.hir_input.specs.UseTreeView.{UseNode, UseTreeView, UseTreeViews, bare_tree, listed_tree, no_trees, tree_and, tree_from, trees_from, use_tree_view}
 pub use Rattle.hir_input.specs.declared.ast.Item.{Item}
 pub use Rattle.hir_input.specs.declared.ast.PathNode.{PathNode}

@@ -1,8 +1,9 @@
 -- An item that is written is read again.
+use Rattle.hir_input.specs.declared.ast.PlainKind.TheVariants as plain_kind
 use Rattle.std.proofs.Common.{◌≡◌, List, [], ◌∷◌, Bool, false, IfSome, Option, Some, None, codes, refl, ap, subst, ◌∙◌}
 use Rattle.serde_json.specs.Data.{Data, null, array, object}
 use Rattle.serde_json.specs.Written.{has_float}
-use Rattle.hir_input_json.proofs.Writing.Common.{NodeView, NamedView, CallView, PlainKind, fn_kind, static_kind, type_alias_kind, ItemView, ItemViews, plain_item, const_item, struct_item, bare_module, listed_module, use_item, extern_crate, bare_extern_block, listed_extern_block, impl_item, macro_call, macro_rules, asm_item, no_items, item_and, extern_block_from, items_from, module_from, Reading, right, reading_map, field, flag, list_of, maybe, maybe_at, optional_at, unless_null, item, extern_item, named_item, item_reads_itself, Holds, call_data, extern_block_data, extern_block_object, extern_item_data, extern_items_data, item_data, items_data, kind_word, module_data, module_object, named_data, node_data, call_kept, item_kept, items_kept, named_kept, node_kept}
+use Rattle.hir_input_json.proofs.Writing.Common.{NodeView, NamedView, CallView, PlainKind, ItemView, ItemViews, plain_item, const_item, struct_item, bare_module, listed_module, use_item, extern_crate, bare_extern_block, listed_extern_block, impl_item, macro_call, macro_rules, asm_item, no_items, item_and, extern_block_from, items_from, module_from, Reading, right, reading_map, field, flag, list_of, maybe, maybe_at, optional_at, unless_null, item, extern_item, named_item, item_reads_itself, Holds, call_data, extern_block_data, extern_block_object, extern_item_data, extern_items_data, item_data, items_data, kind_word, module_data, module_object, named_data, node_data, call_kept, item_kept, items_kept, named_kept, node_kept}
 use Rattle.hir_input_json.specs.Reading.{◌>>=◌}
 use Rattle.hir_input_json.proofs.Writing.Held.{HoldAll, bind, held_of, mapped, none_of, weaker}
 use Rattle.hir_input_json.proofs.Writing.KindLaws.{CallHolds, asm_law, call_law, extern_crate_law, impl_law, macro_rules_law, plain_law, struct_law, use_law, with_part}
@@ -10,7 +11,7 @@ use Rattle.hir_input_json.proofs.Writing.NodeLaws.{NamedHolds, NodeHolds, named_
 
 plain_item_law : (kind : PlainKind) (bodies : Bool) (n : NamedView) → IfSome (item_data bodies (plain_item kind n)) (Holds item (plain_item kind (named_kept bodies n)))
 unfolding named_item
-plain_item_law fn_kind = plain_law item (codes "fn") (plain_item fn_kind) (λ ms e. item_reads_itself (object ms) ∙ rw e refl)
+plain_item_law plain_kind.Fn = plain_law item (codes "fn") (plain_item plain_kind.Fn) (λ ms e. item_reads_itself (object ms) ∙ rw e refl)
 plain_item_law kind = plain_law item (kind_word kind) (plain_item kind) (λ ms e. item_reads_itself (object ms) ∙ rw e refl)
 
 const_law : (bodies : Bool) (n : NamedView) → IfSome (item_data bodies (const_item n)) (Holds item (const_item (named_kept bodies n)))
@@ -26,9 +27,9 @@ call_item_law bodies c =
 
 extern_item_law : (bodies : Bool) (i : ItemView) → IfSome (extern_item_data bodies i) (Holds extern_item (item_kept bodies i))
 unfolding extern_item
-extern_item_law bodies (plain_item fn_kind n) = plain_law extern_item (codes "fn") (plain_item fn_kind) (λ ms e. rw e refl) bodies n
-extern_item_law bodies (plain_item static_kind n) = plain_law extern_item (codes "static") (plain_item static_kind) (λ ms e. rw e refl) bodies n
-extern_item_law bodies (plain_item type_alias_kind n) = plain_law extern_item (codes "type_alias") (plain_item type_alias_kind) (λ ms e. rw e refl) bodies n
+extern_item_law bodies (plain_item plain_kind.Fn n) = plain_law extern_item (codes "fn") (plain_item plain_kind.Fn) (λ ms e. rw e refl) bodies n
+extern_item_law bodies (plain_item plain_kind.Static n) = plain_law extern_item (codes "static") (plain_item plain_kind.Static) (λ ms e. rw e refl) bodies n
+extern_item_law bodies (plain_item plain_kind.TypeAlias n) = plain_law extern_item (codes "type_alias") (plain_item plain_kind.TypeAlias) (λ ms e. rw e refl) bodies n
 extern_item_law bodies (macro_call c) =
     weaker (call_data bodies c) (CallHolds bodies c) (Holds extern_item (macro_call (call_kept bodies c))) (call_law bodies c)
     (λ d h. record { there = h.there; reads = rw (h.object, h.is) (ap (reading_map macro_call) h.reads); exact = h.exact })

@@ -1,11 +1,13 @@
 -- The data of an item, with its body or without.
 use Rattle.std.specs.Prelude.{ℕ, ◌^◌, List, Bool, true, false, codes, Option, Some, None, option_map}
 use Rattle.serde_json.specs.Data.{Data, null, boolean, number as number_value, unsigned, string, array, object, Items, no_items, Members, no_members, member}
+use Rattle.hir_input.specs.declared.ast.PlainKind.TheVariants as plain_kind
 use Rattle.hir_input.specs.declared.ast.Rename.{Rename}
 use Rattle.hir_input.specs.declared.ast.Visibility.{Visibility}
 use Rattle.hir_input.specs.Attr.{MetaView, metas_from}
 use Rattle.hir_input.specs.Id.{shown_expand_to}
-use Rattle.hir_input.specs.Syntax.{NodeView, NamedView, UseView, CallView, PlainKind, fn_kind, union_kind, enum_kind, static_kind, trait_kind, type_alias_kind, macro_def_kind, FieldsView, record_fields, tuple_fields, no_fields, ItemView, ItemViews, plain_item, const_item, struct_item, bare_module, listed_module, use_item, extern_crate, bare_extern_block, listed_extern_block, impl_item, macro_call, macro_rules, asm_item, items_from}
+use Rattle.hir_input.specs.Syntax.{NodeView, NamedView, UseView, CallView, FieldsView, record_fields, tuple_fields, no_fields, ItemView, ItemViews, plain_item, const_item, struct_item, bare_module, listed_module, use_item, extern_crate, bare_extern_block, listed_extern_block, impl_item, macro_call, macro_rules, asm_item, items_from}
+use Rattle.hir_input.specs.declared.ast.PlainKind.{PlainKind}
 use Rattle.hir_input.specs.Syntax as syntax
 use Rattle.hir_input_json.specs.Writing.Literals.{context_data}
 use Rattle.hir_input_json.specs.Writing.Metas.{metas_data}
@@ -119,13 +121,13 @@ asm_object n = object (node_members (codes "asm") n)
 -- ---- the kinds of items
 
 abbrev pub kind_word : PlainKind → List ℕ
-kind_word fn_kind = codes "fn"
-kind_word union_kind = codes "union"
-kind_word enum_kind = codes "enum"
-kind_word static_kind = codes "static"
-kind_word trait_kind = codes "trait"
-kind_word type_alias_kind = codes "type_alias"
-kind_word macro_def_kind = codes "macro_def"
+kind_word plain_kind.Fn = codes "fn"
+kind_word plain_kind.Union = codes "union"
+kind_word plain_kind.Enum = codes "enum"
+kind_word plain_kind.Static = codes "static"
+kind_word plain_kind.Trait = codes "trait"
+kind_word plain_kind.TypeAlias = codes "type_alias"
+kind_word plain_kind.MacroDef = codes "macro_def"
 
 -- an item that has no parts but a name and a visibility
 abbrev pub plain_data : Bool → List ℕ → NamedView → Option Data
@@ -185,9 +187,9 @@ asm_data bodies n = option_map asm_object (node_data bodies n)
 
 -- an item of an extern block; no other stands in one
 abbrev pub extern_item_data : Bool → ItemView → Option Data
-extern_item_data bodies (plain_item fn_kind n) = plain_data bodies (codes "fn") n
-extern_item_data bodies (plain_item static_kind n) = plain_data bodies (codes "static") n
-extern_item_data bodies (plain_item type_alias_kind n) = plain_data bodies (codes "type_alias") n
+extern_item_data bodies (plain_item plain_kind.Fn n) = plain_data bodies (codes "fn") n
+extern_item_data bodies (plain_item plain_kind.Static n) = plain_data bodies (codes "static") n
+extern_item_data bodies (plain_item plain_kind.TypeAlias n) = plain_data bodies (codes "type_alias") n
 extern_item_data bodies (macro_call c) = call_data bodies c
 extern_item_data bodies i = None
 

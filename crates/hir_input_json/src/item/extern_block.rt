@@ -12,7 +12,7 @@ use crate::fault::{Fault, ReadIn};
 use crate::item::macros::macro_call_of;
 use crate::item::node::{named_at, named_by, node_at, with_name, with_node};
 use crate::member::{Members, array_of, maybe_list_of, members_of, taken, word_at};
-use hir_input::ast::{ExternBlock, ExternItem, Fn, Item, Static, TypeAlias};
+use hir_input::ast::{ExternBlock, ExternItem, Item, NamedNode};
 use serde_json::Value;
 use std::alloc::Global;
 

@@ -65,7 +65,7 @@ macro_rules! with_name {
 macro_rules! named_by {
     ($alloc:expr, $members:expr, $item:ident { $($word:literal: $kind:ident),* }, $($other:tt)*) => {
         match word_at($alloc, $members, "is")? {
-            $($word => Ok($item::$kind(with_name!($kind, named_at($alloc, $members)?))),)*
+            $($word => Ok($item::$kind(with_name!(NamedNode, named_at($alloc, $members)?))),)*
             $($other)*
         }
     };

@@ -10,8 +10,8 @@ use Rattle.hir_input.specs.contracts.expand_to.ExpandTo as expand_to
 use Rattle.hir_input.specs.contracts.mod_path.ModPath as mod_path
 use Rattle.hir_input.specs.Code.Parts.{front_code, behind_code, number_of}
 use Rattle.hir_input.specs.Path.{Path}
-use Rattle.hir_input.specs.Syntax.{PlainKind}
-use Rattle.hir_input.specs.Code.Syntax.{plain_kind_code}
+use Rattle.hir_input.specs.declared.ast.PlainKind.{PlainKind}
+use Rattle.hir_input.specs.contracts.ast.PlainKind as plain_kind
 use Rattle.item_tree_attrs.specs.Collected.{Collected}
 use Rattle.item_tree_attrs.specs.Code.Collected.{collected_code}
 use Rattle.item_tree.specs.declared.visibility.RawVisibility.{RawVisibility}
@@ -55,7 +55,7 @@ ctor_code = record { code = ctor_to; inj = ctor_inj }
 -- ---- items without their children
 
 abbrev pub plain_leaf_code : Coded (PlainKind × (List ℕ × RawVisibility))
-plain_leaf_code = coded× plain_kind_code (coded× leaf_name_code vis_code)
+plain_leaf_code = coded× plain_kind.the_row.coded (coded× leaf_name_code vis_code)
 
 abbrev pub constant_code : Coded (Option (List ℕ) × RawVisibility)
 constant_code = coded× (coded_option leaf_name_code) vis_code

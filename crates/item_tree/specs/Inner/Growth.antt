@@ -4,14 +4,12 @@ use Rattle.std.specs.declared.vec.Vec.{Vec}
 use Rattle.std.specs.declared.alloc.Global.{Global}
 use Rattle.hir_input.specs.declared.attr.Meta.{Meta}
 use Rattle.hir_input.specs.Attr.{meta_view}
-use Rattle.hir_input.specs.Syntax.{ItemView, ItemViews, no_items, listed_module, listed_extern_block, PlainKind, enum_kind, fn_kind, macro_def_kind, static_kind, trait_kind, type_alias_kind, union_kind}
+use Rattle.hir_input.specs.Syntax.{ItemView, ItemViews, no_items, listed_module, listed_extern_block}
 use Rattle.item_tree_attrs.specs.declared.collect.AttrsOrCfg.{AttrsOrCfg}
 use Rattle.item_tree_attrs.specs.Collected.{Collected, collected, collected_from, attr_limit}
 use Rattle.item_tree.specs.declared.visibility.RawVisibility.{RawVisibility}
 use Rattle.item_tree.specs.declared.items.StructValueNsCtor.{StructValueNsCtor}
 use Rattle.item_tree.specs.declared.lower.Ctx.{Ctx}
-use Rattle.item_tree.specs.declared.lower.named.NamedKind.{NamedKind}
-use Rattle.item_tree.specs.declared.lower.named.NamedKind.TheVariants as named
 use Rattle.item_tree.specs.declared.rows.Rows.{Rows}
 use Rattle.item_tree.specs.declared.fault.LowerError.{LowerError}
 use Rattle.item_tree.specs.CrateView.{crate_view}
@@ -25,16 +23,6 @@ use Rattle.item_tree.specs.KeptUse.{use_tree_limit}
 use Rattle.item_tree.specs.Size.{item_limit, visibility_limit, most_attrs, forest_supers, item_written, items_written, Sizes, IsPassed, no_sizes, only_visibilities}
 use Rattle.item_tree.specs.Shown.{ctor_ids}
 use Rattle.item_tree.specs.Stored.{keys_in, row_items, column_places, column_in}
-
--- the kind of item that it is
-abbrev pub named_kind : NamedKind → PlainKind
-named_kind named.Enum = enum_kind
-named_kind named.Fn = fn_kind
-named_kind named.MacroDef = macro_def_kind
-named_kind named.Static = static_kind
-named_kind named.Trait = trait_kind
-named_kind named.TypeAlias = type_alias_kind
-named_kind named.Union = union_kind
 
 -- the items of a module or of an extern block
 abbrev pub items_below : ItemView → ItemViews

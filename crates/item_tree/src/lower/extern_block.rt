@@ -5,10 +5,10 @@ ghost use Rattle.item_tree.specs.Inner.Growth.{IsWithinLimits, IsLowered, AreLow
 use crate::items::{ExternBlock, ModItem};
 use crate::lower::each::{LowerNode, lower_each};
 use crate::lower::macros::lower_macro_call;
-use crate::lower::named::{NamedKind, lower_named};
+use crate::lower::named::lower_named;
 use crate::lower::{Ctx, LoweredItem, LoweredItems, push_item};
 use crate::rows::Rows;
-use hir_input::ast;
+use hir_input::ast::{self, PlainKind};
 use std::alloc::Global;
 
 // An extern block without a list has no items.
@@ -41,10 +41,10 @@ impl LowerNode for ast::ExternItem {
 
     fn lower(&self, ctx: Ctx, rows: &mut Rows) -> LoweredItem {
         match self {
-            ast::ExternItem::Fn(node) => lower_named(ctx, rows, NamedKind::Fn, node),
+            ast::ExternItem::Fn(node) => lower_named(ctx, rows, PlainKind::Fn, node),
             ast::ExternItem::MacroCall(node) => lower_macro_call(ctx, rows, node),
-            ast::ExternItem::Static(node) => lower_named(ctx, rows, NamedKind::Static, node),
-            ast::ExternItem::TypeAlias(node) => lower_named(ctx, rows, NamedKind::TypeAlias, node),
+            ast::ExternItem::Static(node) => lower_named(ctx, rows, PlainKind::Static, node),
+            ast::ExternItem::TypeAlias(node) => lower_named(ctx, rows, PlainKind::TypeAlias, node),
         }
     }
 }

@@ -3,55 +3,42 @@ ghost use Rattle.std.specs.Prelude.{◌≡◌};
 ghost use Rattle.hir_input.specs.Syntax.{plain_item, const_item, named_view, extern_crate, extern_crate_view};
 ghost use Rattle.item_tree.specs.Layout.{leaf_row};
 ghost use Rattle.item_tree.specs.Node.{plain};
-ghost use Rattle.item_tree.specs.Inner.Growth.{IsWithinLimits, IsLowered, named_kind};
+ghost use Rattle.item_tree.specs.Inner.Growth.{IsWithinLimits, IsLowered};
 ghost use Rattle.item_tree.specs.Stored.{item_row};
 
-use crate::items::{
-    Const, Enum, ExternCrate, Function, Macro2, ModItem, Static, Trait, TypeAlias, Union,
-};
+use crate::items::{self, Const, ExternCrate, ModItem};
 use crate::lower::use_tree::lower_alias;
 use crate::lower::{Ctx, LoweredItem, lower_visibility, push_item};
 use crate::rows::Rows;
 use crate::visibility::RawVisibilityId;
+use hir_input::ast::PlainKind;
 use hir_input::{Name, ast};
 use std::alloc::Global;
 
-/// The kinds of items that differ in nothing but the kind.
-#[derive(Clone, Copy)]
-pub(super) enum NamedKind {
-    Enum,
-    Fn,
-    MacroDef,
-    Static,
-    Trait,
-    TypeAlias,
-    Union,
-}
-
 // An item that differs from others in nothing but the kind.
-fn plain_item(kind: NamedKind, name: Name, visibility: RawVisibilityId) -> ModItem
-    ensures { item_row result ≡ leaf_row (plain (named_kind kind) name visibility) }
+fn plain_item(kind: PlainKind, name: Name, visibility: RawVisibilityId) -> ModItem
+    ensures { item_row result ≡ leaf_row (plain kind name visibility) }
 {
     match kind {
-        NamedKind::Enum => ModItem::Enum(Enum { name, visibility }),
-        NamedKind::Fn => ModItem::Function(Function { name, visibility }),
-        NamedKind::MacroDef => ModItem::Macro2(Macro2 { name, visibility }),
-        NamedKind::Static => ModItem::Static(Static { name, visibility }),
-        NamedKind::Trait => ModItem::Trait(Trait { name, visibility }),
-        NamedKind::TypeAlias => ModItem::TypeAlias(TypeAlias { name, visibility }),
-        NamedKind::Union => ModItem::Union(Union { name, visibility }),
+        PlainKind::Enum => ModItem::Enum(items::Enum { name, visibility }),
+        PlainKind::Fn => ModItem::Function(items::Function { name, visibility }),
+        PlainKind::MacroDef => ModItem::Macro2(items::Macro2 { name, visibility }),
+        PlainKind::Static => ModItem::Static(items::Static { name, visibility }),
+        PlainKind::Trait => ModItem::Trait(items::Trait { name, visibility }),
+        PlainKind::TypeAlias => ModItem::TypeAlias(items::TypeAlias { name, visibility }),
+        PlainKind::Union => ModItem::Union(items::Union { name, visibility }),
     }
 }
 
 pub(super) fn lower_named(
     ctx: Ctx,
     rows: &mut Rows,
-    kind: NamedKind,
+    kind: PlainKind,
     node: &ast::NamedNode,
 ) -> LoweredItem
     requires { IsWithinLimits rows.old }
     ensures { IsLowered ctx.entry rows.old rows.new
-        (plain_item (named_kind kind) (named_view node.now)) result }
+        (plain_item kind (named_view node.now)) result }
 {
     let Some(name) = &node.name else {
         return Ok(None);

@@ -18,6 +18,7 @@ use hir_input::ast::Syntax;
 use hir_input::{CfgAtom, Edition, Name};
 use hir_input_json::write::cfg::atom_value;
 use hir_input_json::write::name::name_value;
+use hir_input_json::write::object::{of_text, with};
 use hir_input_json::write::syntax::syntax_value;
 use hir_input_json::write::{WriteFault, year_number};
 use item_tree_db::Place;

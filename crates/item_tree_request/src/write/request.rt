@@ -18,6 +18,7 @@ use crate::write::parts::{
 use hir_input::ast::Syntax;
 use hir_input::{CfgAtom, Edition, Name};
 use hir_input_json::write::WriteFault;
+use hir_input_json::write::object::with;
 use serde_json::{Map, Value};
 use std::alloc::{AllocError, Global};
 use thiserror::Error;

@@ -1,5 +1,5 @@
 use Rattle.std.proofs.Common.{rules}
-use Rattle.source_reading.specs.ListedFiles.{closers_in}
+use Rattle.source_rows.specs.ListedFiles.{closers_in}
 use Rattle.itemtree_commands.proofs.duplicates.Goals as goal
 
 pub returns-clause-text : goal.returns-clause-text

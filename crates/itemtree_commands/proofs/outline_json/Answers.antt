@@ -3,7 +3,7 @@ use Rattle.source_rows.specs.Listed.{MemberReading}
 use Rattle.source_listing.specs.Objects.{json_line}
 use Rattle.source_listing.specs.Views.{source_view}
 use Rattle.itemtree_commands.specs.Answers.{choice}
-use Rattle.source_reading.specs.ListedFiles.{closers_in}
+use Rattle.source_rows.specs.ListedFiles.{closers_in}
 use Rattle.itemtree_commands.specs.Inner.{reading_by}
 use Rattle.itemtree_commands.proofs.ListedTrees.{same_reading}
 use Rattle.itemtree_commands.proofs.outline_json.Goals as goal

@@ -1,12 +1,13 @@
 -- Small examples, by computing: a text that ends with its own token, one that ends with a whole item, and one that ends with an item without its end.
 use Rattle.std.proofs.Common.{◌||◌, ◌<◌, subst, arith, length, map, ◌++◌, ◌≡◌, ◌==◌, ℕ, true, false, Option, None, List, [], ◌∷◌, codes, refl, sym, ap, ◌∙◌, suc}
 use Rattle.rust_edits.proofs.Common.{nest_behind, with_feeds, moved, begins_item, option_to_list, beyond, slice_index, EditionYear, MetaView, ItemView, Inner, semicolon, closing, is_continuation, is_wide_start, is_wide_continue, first_cut, Piece, tokens, most, goes_on, Tokens, tokens_of, symbol, word, text, kind, at, is_empty, is_at_end, bumped, eat, plain_name, is_keyword, is_path_keyword, next_name, name, placed_name, is_behind, is_doc, is_attribute, inner_attributes, is_modifier, is_modifier_before, is_weak_before, head, head_by, FrontRead, front, named, Found, nothing_found, items, by_head, inside, turn, depth_of, behind_attributes, read_of, IsBare, EndsWhole, BeginsAnew, EndsOwn, is_list_end, finding, finding_from, tokens_at}
+use Rattle.hir_input.specs.declared.ast.PlainKind.TheVariants as plain_kind
 use Rattle.rust_cursor.specs.Extents.{begins}
 use Rattle.rust_cursor.specs.Nests.{flat_behind}
 use Rattle.rust_mended.specs.Apart.{StandApart}
 use Rattle.rust_mended.specs.Texts.{edits, is_matched, mended_text}
 use Rattle.rust_edits.specs.Beside.Mended.{StandsInFront, StandsOpen}
-use Rattle.rust_edits.specs.Beside.Open.{StandsBefore, nothing_before, open_before, IsOpenItem, before_rest, end_behind, nest_through}
+use Rattle.rust_edits.specs.Beside.Open.{StandsBefore, nothing_before, open_before, IsOpenItem, end_behind, nest_through, before_rest}
 use Rattle.rust_edits.proofs.Beside.Inner.{front_bare, no_inner}
 use Rattle.rust_lexer.specs.declared.kind.TokenKind.TheVariants as kinds
 use Rattle.rust_leaves.specs.declared.head.Head.TheVariants as heads
@@ -167,7 +168,7 @@ module _ (y : EditionYear) where
   unfolding from_fn f_and_module fn_f behind_line tokens_of tokens first_cut is_wide_start is_wide_continue
   both_are = refl
 
-  front_fn : front from_fn ≡ (record { start = 0; attrs = []; visibility = None; head = heads.Fn }, from_f)
+  front_fn : front from_fn ≡ (record { start = 0; attrs = []; visibility = None; head = heads.Plain plain_kind.Fn }, from_f)
   unfolding from_fn from_f is_behind is_doc is_attribute is_modifier is_modifier_before is_weak_before symbol kind word bumped at head head_by
   front_fn = front_bare from_fn refl refl refl
 
@@ -204,7 +205,7 @@ module _ (y : EditionYear) where
   module_plain = refl
 
   -- behind its brackets the module begins
-  module_begins : begins (nest_through 2 (flat_behind (before_rest heads.Fn)) (named from_f).1) (tokens_of y behind_line) ≡ true
+  module_begins : begins (nest_through 2 (flat_behind (before_rest (heads.Plain plain_kind.Fn))) (named from_f).1) (tokens_of y behind_line) ≡ true
   unfolding from_f f_and_module behind_line tokens_of tokens first_cut is_wide_start is_wide_continue named placed_name name next_name plain_name is_keyword is_path_keyword kind text at bumped nest_behind begins_item word symbol
   module_begins = refl
 
@@ -215,14 +216,14 @@ module _ (y : EditionYear) where
     ends = ends_there;
     outer = ap (is_behind Inner) both_are ∙ fn_outer;
     item = ap is_at_end both_are ∙ fn_item;
-    head = heads.Fn;
+    head = heads.Plain plain_kind.Fn;
     is_head = ap (λ (t : Tokens). (front t).0.head) both_are ∙ ap (λ (r : FrontRead × Tokens). r.0.head) front_fn;
     rest = record { kind = kinds.OpenDelim; text = codes "("; at = 4 } ∷ record { kind = kinds.CloseDelim; text = codes ")"; at = 5 } ∷ [];
     left = ap (λ (t : Tokens). (named (front t).1).1.left) both_are ∙ ap (λ (r : FrontRead × Tokens). (named r.1).1.left) front_fn ∙ behind_f;
     reaches = refl;
     some = module_some;
-    begins = ap (λ (t : Tokens). begins (nest_through 2 (flat_behind (before_rest heads.Fn)) (named (front t).1).1) (tokens_of y behind_line)) both_are
-        ∙ ap (λ (r : FrontRead × Tokens). begins (nest_through 2 (flat_behind (before_rest heads.Fn)) (named r.1).1) (tokens_of y behind_line)) front_fn ∙ module_begins;
+    begins = ap (λ (t : Tokens). begins (nest_through 2 (flat_behind (before_rest (heads.Plain plain_kind.Fn))) (named (front t).1).1) (tokens_of y behind_line)) both_are
+        ∙ ap (λ (r : FrontRead × Tokens). begins (nest_through 2 (flat_behind (before_rest (heads.Plain plain_kind.Fn))) (named r.1).1) (tokens_of y behind_line)) front_fn ∙ module_begins;
     outer_behind = module_outer;
     plain = module_plain;
   }

@@ -1,10 +1,10 @@
 -- Items are the same in a text that ends with a `;` or a `}` and in a longer one, where they end there or before.
 use Rattle.std.proofs.Common.{◌≡◌, ◌≤◌, length-append, ◌<◌, ◌+◌, ◌==◌, ◌&&◌, ℕ, zero, suc, Bool, true, false, Option, Some, None, List, [], ◌∷◌, ◌++◌, length, refl, sym, ap, ◌∙◌, subst, arith, map, append_assoc, codes}
-use Rattle.rust_edits.proofs.Common.{option_map, option_to_list, is_some, is_none, AstIdKind, MetaView, ItemView, Row, most, beyond, Tokens, symbol, at, eat_word, bumped, is_at_end, TextRange, path, use_tree, inner_attributes, Head, FrontRead, front, function, trait_item, enumeration, union_item, macro_def, type_alias, static_value, constant, structure, implementation, crate_item, use_declaration, macro_definition, is_called, begins_call, invocation, item_call, leaf_by, leaf, LeafRead, named, named_or, renamed, ProblemKind, Found, Finder, nothing_found, and_problem, and_problem_at, and_all, span_of, and_flaw, and_item, and_leaf, leaf_found, leaf_turn, finding_from, finding, is_list_end, BlockRead, block_of, as_extern, extern_kept, extern_found, unmatched, extern_turn, extern_inside, inside, turn, moved_span, moved_problem, map-append, IsLaid, behind, LeadsTo, here, further, through, when, bumped_leads, beyond_leads, eat_leads, eat_word_leads, Ending, Near, fewer, nothing, bumped_onward, at_same, past_same, near_twins, beyond_near, near_parting, near_enters, near_levels, Kept, AtEnd, is_still, Outcome, lost, stays, comes, untaken, eat_outcome, eat_fewer, Same, by_next, by_kept, symbol_same, empty_same, end_same, path_leads, use_tree_leads, inner_attributes_leads, inner_attributes_until, behind_others_onward, named_leads, named_or_leads, renamed_leads, behind_others_leads, front_takes, LeafAt, leaf_at, Finds, extern_turn_found, list_from}
+use Rattle.rust_edits.proofs.Common.{option_map, option_to_list, is_some, is_none, AstIdKind, MetaView, ItemView, Row, most, beyond, Tokens, symbol, at, eat_word, bumped, is_at_end, TextRange, path, use_tree, inner_attributes, Head, FrontRead, front, constant, structure, implementation, crate_item, use_declaration, macro_definition, is_called, begins_call, invocation, item_call, leaf_by, leaf, LeafRead, named, named_or, renamed, ProblemKind, Found, Finder, nothing_found, and_problem, and_problem_at, and_all, span_of, and_flaw, and_item, and_leaf, leaf_found, leaf_turn, finding_from, finding, is_list_end, BlockRead, block_of, as_extern, extern_kept, extern_found, unmatched, extern_turn, extern_inside, inside, turn, moved_span, moved_problem, map-append, IsLaid, behind, LeadsTo, here, further, through, when, bumped_leads, beyond_leads, eat_leads, eat_word_leads, Ending, Near, fewer, nothing, bumped_onward, at_same, past_same, near_twins, beyond_near, near_parting, near_enters, near_levels, Kept, AtEnd, is_still, Outcome, lost, stays, comes, untaken, eat_outcome, eat_fewer, Same, by_next, by_kept, symbol_same, empty_same, end_same, path_leads, use_tree_leads, inner_attributes_leads, inner_attributes_until, behind_others_onward, named_leads, named_or_leads, renamed_leads, behind_others_leads, front_takes, LeafAt, leaf_at, Finds, extern_turn_found, list_from, mut_word, mut_word_leads, plain_leaf}
 use Rattle.rust_leaves.specs.declared.head.Head.TheVariants as heads
 use Rattle.rust_items.specs.declared.log.ProblemKind.TheVariants as problem
 use Rattle.rust_edits.proofs.Beside.NearFronts.{FrontNear, front_until, further_on}
-use Rattle.rust_edits.proofs.Beside.NearLeaves.{some_on, LeafNear, Given, given_on, Ends, passes, before_end, at_end, SomeLeaf, no_leaf, one_leaf, leaf_ended, LeafEnds, leaf_ends, item_end_fewer, impl_end_fewer, macro_end_fewer, value_end_fewer, call_end_fewer}
+use Rattle.rust_edits.proofs.Beside.NearLeaves.{some_on, LeafNear, Given, given_on, Ends, passes, before_end, at_end, SomeLeaf, no_leaf, one_leaf, leaf_ended, LeafEnds, leaf_ends, call_end_fewer, rest_fewer}
 
 -- ---- what is found
 
@@ -340,7 +340,7 @@ extern_unended depth f ts e = rw e refl
 -- ---- what is ended takes a token
 
 pub leaf_fewer : (h : FrontRead) (ts : Tokens) → leaf_ended (leaf h ts).0 ≡ true → length (leaf h ts).1.left < length ts.left
-unfolding leaf item_call invocation function trait_item enumeration union_item macro_def type_alias static_value constant structure implementation crate_item use_declaration macro_definition
+unfolding leaf item_call invocation plain_leaf constant structure implementation crate_item use_declaration macro_definition
 leaf_fewer h ts = by h.head
   where
     named_first : length (named ts).1.left ≤ length ts.left
@@ -362,21 +362,15 @@ leaf_fewer h ts = by h.head
         let first = fewer (named_or_leads (codes "self") ts) in
         let second = fewer (renamed_leads p) in
         let strict = eat_fewer 59 (renamed p).1 (omega arith) e in omega arith
-    by heads.Fn e = let strict = item_end_fewer (named ts).1 e in omega (arith, named_first)
-    by heads.Impl e = impl_end_fewer ts e
-    by heads.Trait e = let strict = item_end_fewer (named ts).1 e in omega (arith, named_first)
-    by heads.Struct e = let strict = item_end_fewer (named ts).1 e in omega (arith, named_first)
-    by heads.Union e = let strict = item_end_fewer (named ts).1 e in omega (arith, named_first)
-    by heads.Enum e = let strict = item_end_fewer (named ts).1 e in omega (arith, named_first)
+    by heads.Impl e = rest_fewer heads.Impl ts e
+    by heads.Struct e = let strict = rest_fewer heads.Struct (named ts).1 e in omega (arith, named_first)
     by heads.Const e =
-        let second = fewer (eat_word_leads (codes "_") (named ts).1) in let strict = value_end_fewer (eat_word (codes "_") (named ts).1).1 e in omega (arith, named_first)
-    by heads.Static e =
-        let p = (eat_word (codes "mut") ts).1 in
-        let first = fewer (eat_word_leads (codes "mut") ts) in
+        let second = fewer (eat_word_leads (codes "_") (named ts).1) in let strict = rest_fewer heads.Const (eat_word (codes "_") (named ts).1).1 e in omega (arith, named_first)
+    by (heads.Plain k) e =
+        let p = (mut_word k ts).1 in
+        let first = fewer (mut_word_leads k ts) in
         let second = fewer (named_leads p) in
-        let strict = value_end_fewer (named p).1 e in omega arith
-    by heads.TypeAlias e = let strict = value_end_fewer (named ts).1 e in omega (arith, named_first)
-    by heads.MacroDef e = let strict = macro_end_fewer (named ts).1 e in omega (arith, named_first)
+        let strict = rest_fewer (heads.Plain k) (named p).1 e in omega arith
     by heads.MacroRules e =
         let first = fewer (named_or_leads (codes "try") ts) in let strict = call_end_fewer (named_or (codes "try") ts).1 e in omega arith
     by _ e = when (begins_call ts) (λ f. rw f (called (rw f at e))) (λ f. absurd (let no = rw f at e in cc))

@@ -1,7 +1,8 @@
 -- Items that hold none are the same in a text that ends with a `;` or a `}` and in a longer one, where they end there or before.
 use Rattle.std.specs.Option.{option_or}
 use Rattle.std.proofs.Common.{◌≡◌, ◌≤◌, ◌<◌, ◌+◌, ◌==◌, ◌&&◌, ℕ, zero, suc, Bool, true, false, Option, Some, None, List, [], ◌++◌, length, refl, sym, ap, ◌∙◌, arith, codes}
-use Rattle.rust_edits.proofs.Common.{option_map, is_some, nat_lt, bytes_eq, Visibility, AstIdKind, MetaView, PlainKind, ItemView, FieldsView, fn_kind, union_kind, enum_kind, trait_kind, macro_def_kind, type_alias_kind, static_kind, ast_kind, plain_item, const_item, struct_item, impl_item, extern_crate, use_item, macro_rules, behind_angles, behind_header, is_trait_impl, most, ExcerptRead, ends, tree_body, Reader, Tokens, symbol, word, text, bumped, eat, eat_word, is_at_open, TextRange, Placed, as_name, path, use_tree, inner_attributes, NameRead, RestRead, LeafRead, no_name, name_read, named, next_range, named_or, crate_alias, crate_alias_if, renamed, rename_of, range_to, rest_read, bare_end, item_end, impl_end, macro_end, value_end, semicolon_end, call_end, block_attributes, has_trait, node, named_node, leaf_read, plain_read, function, block_item, macro_def, type_alias, static_value, constant, structure, implementation, told_at, crate_item, use_read, use_declaration, macro_definition, union_item, enumeration, trait_item, is_called, begins_call, begins_call_same, called, some_read, invocation, item_call, leaf_by, leaf, Head, FrontRead, nat_tests, and_parts, and_right, eq-eqb, IsSound, sound_on, IsLaid, behind, LeadsTo, here, further, through, Forwards, when, eat_leads, eat_word_leads, reached_leads, behind_angles_leads, taken_leads_on, Ending, Near, Gone, nothing, bumped_onward, fewer, enough_left, more_left, at_same, past_same, taken_same, near_twins, behind_angles_near, reached_near, near_parting, UntilBy, Kept, AtEnd, is_still, Outcome, lost, stays, comes, untaken, map_outcome, then_outcome, eat_outcome, eat_fewer, gone, kept, by_next, onward_leads, by_kept, cond_until, then_until, eat_word_until, symbol_same, word_same, text_same, after_symbol, BlockNear, no_block, block, SameText, item_so, macro_so, value_so, tree_so, taken_outcome, taken_until, taken_fewer, next_past, near_enters, near_levels, path_until, path_leads, inner_attributes_until, inner_attributes_leads, fields_of, named_leads, alias_if_leads, renamed_leads, item_end_leads, impl_end_leads, macro_end_leads, value_end_leads, call_end_leads, use_tree_until, inner_some, bare, last_text_from, last_text, attributed_item}
+use Rattle.rust_edits.proofs.Common.{option_map, is_some, nat_lt, bytes_eq, Visibility, AstIdKind, MetaView, PlainKind, ItemView, FieldsView, ast_kind, plain_item, const_item, struct_item, impl_item, extern_crate, use_item, macro_rules, behind_angles, behind_header, is_trait_impl, most, ExcerptRead, ends, tree_body, Reader, Tokens, symbol, word, text, bumped, eat, eat_word, is_at_open, TextRange, Placed, as_name, path, use_tree, inner_attributes, NameRead, RestRead, LeafRead, no_name, name_read, named, next_range, named_or, crate_alias, crate_alias_if, renamed, rename_of, range_to, rest_read, bare_end, semicolon_end, call_end, block_attributes, has_trait, node, named_node, leaf_read, plain_read, constant, structure, implementation, told_at, crate_item, use_read, use_declaration, macro_definition, is_called, begins_call, begins_call_same, called, some_read, invocation, item_call, leaf_by, leaf, Head, FrontRead, nat_tests, and_parts, and_right, eq-eqb, IsSound, sound_on, IsLaid, behind, LeadsTo, here, further, through, Forwards, when, eat_leads, eat_word_leads, reached_leads, behind_angles_leads, taken_leads_on, Ending, Near, Gone, nothing, bumped_onward, fewer, enough_left, more_left, at_same, past_same, taken_same, near_twins, behind_angles_near, reached_near, near_parting, UntilBy, Kept, AtEnd, is_still, Outcome, lost, stays, comes, untaken, map_outcome, then_outcome, eat_outcome, eat_fewer, gone, kept, by_next, onward_leads, by_kept, cond_until, then_until, eat_word_until, symbol_same, word_same, text_same, after_symbol, BlockNear, no_block, block, SameText, item_so, macro_so, value_so, tree_so, taken_outcome, taken_until, taken_fewer, next_past, near_enters, near_levels, path_until, path_leads, inner_attributes_until, inner_attributes_leads, fields_of, named_leads, alias_if_leads, renamed_leads, call_end_leads, use_tree_until, inner_some, bare, last_text_from, last_text, UpTo, mut_word, mut_word_leads, own_attributes, plain_leaf, rest_by, rest_leads, rest_of, by_taken}
+use Rattle.hir_input.specs.declared.ast.PlainKind.TheVariants as plain_kind
 use Rattle.hir_input.specs.declared.ids.AstIdKind.TheVariants as kind
 use Rattle.rust_cursor.specs.declared.cursor.generics.Reach.TheVariants as reaches
 use Rattle.rust_cursor.proofs.Enclosed.{item_enclosed, impl_enclosed}
@@ -111,41 +112,22 @@ rest_outcome b (lost g f n) = lost g f n
 rest_outcome b {p = p} {q = q} (stays k) = stays (record { value = rest_near b p.0 q.0 p.1.past q.1.past (past_same b p.1 q.1 k.rest) k.value; rest = k.rest })
 rest_outcome b {p = p} {q = q} (comes t a) = comes (rest_near b p.0 q.0 p.1.past q.1.past a.past t) a
 
-item_end_outcome : (b : Ending) (ts us : Tokens) → Near b ts us → RestOutcome b (item_end ts) (item_end us)
-unfolding item_end ends
-item_end_outcome b ts us h = rest_outcome b (taken_outcome b _ _ (item_so b) ts us h)
-
-impl_end_outcome : (b : Ending) (ts us : Tokens) → Near b ts us → RestOutcome b (impl_end ts) (impl_end us)
-unfolding impl_end ends
-impl_end_outcome b ts us h = rest_outcome b (taken_outcome b _ _ (item_so b) ts us h)
-
-macro_end_outcome : (b : Ending) (ts us : Tokens) → Near b ts us → RestOutcome b (macro_end ts) (macro_end us)
-unfolding macro_end ends
-macro_end_outcome b ts us h = rest_outcome b (taken_outcome b _ _ (macro_so b) ts us h)
-
-value_end_outcome : (b : Ending) (ts us : Tokens) → Near b ts us → RestOutcome b (value_end ts) (value_end us)
-unfolding value_end ends
-value_end_outcome b ts us h = rest_outcome b (taken_outcome b _ _ (value_so b) ts us h)
+rest_of_outcome : (b : Ending) (h : Head) (ts us : Tokens) → Near b ts us → RestOutcome b (rest_of h ts) (rest_of h us)
+unfolding rest_by ends
+rest_of_outcome b heads.Impl ts us h = rest_outcome b (taken_outcome b _ _ (item_so b) ts us h)
+rest_of_outcome b heads.Const ts us h = rest_outcome b (taken_outcome b _ _ (value_so b) ts us h)
+rest_of_outcome b (heads.Plain plain_kind.MacroDef) ts us h = rest_outcome b (taken_outcome b _ _ (macro_so b) ts us h)
+rest_of_outcome b (heads.Plain plain_kind.Static) ts us h = rest_outcome b (taken_outcome b _ _ (value_so b) ts us h)
+rest_of_outcome b (heads.Plain plain_kind.TypeAlias) ts us h = rest_outcome b (taken_outcome b _ _ (value_so b) ts us h)
+rest_of_outcome b _ ts us h = rest_outcome b (taken_outcome b _ _ (item_so b) ts us h)
 
 -- what is ended takes a token
 abbrev pub TakesEnded : Reader RestRead → Type 0
 TakesEnded end = (ts : Tokens) → (end ts).0.is_ended ≡ true → length (end ts).1.left < length ts.left
 
-pub item_end_fewer : TakesEnded item_end
-unfolding item_end
-item_end_fewer ts e = taken_fewer _ _ ts e
-
-pub impl_end_fewer : TakesEnded impl_end
-unfolding impl_end
-impl_end_fewer ts e = taken_fewer _ _ ts e
-
-pub macro_end_fewer : TakesEnded macro_end
-unfolding macro_end
-macro_end_fewer ts e = taken_fewer _ _ ts e
-
-pub value_end_fewer : TakesEnded value_end
-unfolding value_end
-value_end_fewer ts e = taken_fewer _ _ ts e
+pub rest_fewer : (h : Head) → TakesEnded (rest_of h)
+unfolding rest_by
+rest_fewer = by_taken (λ r. TakesEnded (rest_by r)) (λ before e ts f. taken_fewer before e ts f)
 
 semicolon_leads : (read : ExcerptRead) → Forwards (semicolon_end read)
 semicolon_leads read ts = eat_leads 59 ts
@@ -218,75 +200,48 @@ bare_near : (b : Ending) (t t' : Bool) → t' ≡ t → RestNear b (bare_end t) 
 bare_near b t t' e = record { body = refl; ended = e; block = no_block; braces = refl }
 
 -- the inner attributes of an item
-item_attributes : {n m : ℕ} (b : Ending) (ts us : Tokens) → Given n m ts us → RestNear b (item_end ts).0 (item_end us).0 → block_attributes (item_end us).0.block ≡ block_attributes (item_end ts).0.block
-unfolding item_end
-item_attributes {m = m} b ts us g r = attributes_same b _ _ r.block (λ a e. inner_some m us (item_end us).1 a g.short (item_enclosed us a e))
+item_attributes : {n m : ℕ} (b : Ending) (ts us : Tokens) → Given n m ts us → RestNear b (rest_of heads.Struct ts).0 (rest_of heads.Struct us).0 → block_attributes (rest_of heads.Struct us).0.block ≡ block_attributes (rest_of heads.Struct ts).0.block
+unfolding rest_by
+item_attributes {m = m} b ts us g r = attributes_same b _ _ r.block (λ a e. inner_some m us (rest_of heads.Struct us).1 a g.short (item_enclosed us a e))
 
-impl_attributes : {n m : ℕ} (b : Ending) (ts us : Tokens) → Given n m ts us → RestNear b (impl_end ts).0 (impl_end us).0 → block_attributes (impl_end us).0.block ≡ block_attributes (impl_end ts).0.block
-unfolding impl_end
-impl_attributes {m = m} b ts us g r = attributes_same b _ _ r.block (λ a e. inner_some m us (impl_end us).1 a g.short (impl_enclosed us a e))
+impl_attributes : {n m : ℕ} (b : Ending) (ts us : Tokens) → Given n m ts us → RestNear b (rest_of heads.Impl ts).0 (rest_of heads.Impl us).0 → block_attributes (rest_of heads.Impl us).0.block ≡ block_attributes (rest_of heads.Impl ts).0.block
+unfolding rest_by
+impl_attributes {m = m} b ts us g r = attributes_same b _ _ r.block (λ a e. inner_some m us (rest_of heads.Impl us).1 a g.short (impl_enclosed us a e))
+
+own_same : {n m : ℕ} (b : Ending) (k : PlainKind) (ts us : Tokens) → Given n m ts us → RestNear b (rest_of (heads.Plain k) ts).0 (rest_of (heads.Plain k) us).0
+    → own_attributes k (rest_of (heads.Plain k) us).0.block ≡ own_attributes k (rest_of (heads.Plain k) ts).0.block
+own_same b plain_kind.Fn ts us g r = item_attributes b ts us g r
+own_same b plain_kind.Trait ts us g r = item_attributes b ts us g r
+own_same b _ ts us g r = refl
+
+mut_word_until : (b : Ending) (k : PlainKind) → UpTo (near_parting b) (mut_word k) (mut_word k)
+mut_word_until b plain_kind.Static = eat_word_until (near_parting b) (codes "mut") refl
+mut_word_until b _ ts us h = kept (record { value = refl; rest = h })
 
 module _ (b : Ending) (attrs : List MetaView) (v : Option Visibility) where
-  attributed_outcome : {n m : ℕ} (k : PlainKind) (ts us : Tokens) → Given n m ts us → Near b ts us → LeafOutcome b (attributed_item k attrs v ts) (attributed_item k attrs v us)
-  attributed_outcome kind ts us g h =
-      by_kept (named_until b ts us h) (λ o. lost_by o (item_end_leads _) (item_end_leads _) (item_end_fewer _) (item_end_fewer _))
-      (λ k. map_outcome (λ r. plain_read kind (attrs ++ block_attributes r.block) v (named ts).0 r) (λ r. plain_read kind (attrs ++ block_attributes r.block) v (named us).0 r)
-      (λ r. plain_near b kind _ _ v _ _ _ _ (ap (λ l. attrs ++ l) (item_attributes b _ _ (given_on g (named_leads ts) (named_leads us)) r)) k.value r) (λ e. e) (λ e. e) (item_end_outcome b _ _ k.rest))
-
-  function_outcome : {n m : ℕ} (ts us : Tokens) → Given n m ts us → Near b ts us → LeafOutcome b (function attrs v ts) (function attrs v us)
-  unfolding function
-  function_outcome = attributed_outcome fn_kind
-
-  trait_outcome : {n m : ℕ} (ts us : Tokens) → Given n m ts us → Near b ts us → LeafOutcome b (trait_item attrs v ts) (trait_item attrs v us)
-  unfolding trait_item
-  trait_outcome = attributed_outcome trait_kind
-
-  block_item_outcome : (k : PlainKind) (ts us : Tokens) → Near b ts us → LeafOutcome b (block_item k attrs v ts) (block_item k attrs v us)
-  block_item_outcome k ts us h =
-      by_kept (named_until b ts us h) (λ o. lost_by o (item_end_leads _) (item_end_leads _) (item_end_fewer _) (item_end_fewer _))
-      (λ l. map_outcome (plain_read k attrs v (named ts).0) (plain_read k attrs v (named us).0) (λ r. plain_near b k _ _ v _ _ _ _ refl l.value r) (λ e. e) (λ e. e) (item_end_outcome b _ _ l.rest))
-
-  union_outcome : (ts us : Tokens) → Near b ts us → LeafOutcome b (union_item attrs v ts) (union_item attrs v us)
-  unfolding union_item
-  union_outcome = block_item_outcome union_kind
-
-  enum_outcome : (ts us : Tokens) → Near b ts us → LeafOutcome b (enumeration attrs v ts) (enumeration attrs v us)
-  unfolding enumeration
-  enum_outcome = block_item_outcome enum_kind
-
-  macro_def_outcome : (ts us : Tokens) → Near b ts us → LeafOutcome b (macro_def attrs v ts) (macro_def attrs v us)
-  unfolding macro_def
-  macro_def_outcome ts us h =
-      by_kept (named_until b ts us h) (λ o. lost_by o (macro_end_leads _) (macro_end_leads _) (macro_end_fewer _) (macro_end_fewer _))
-      (λ l. map_outcome (plain_read macro_def_kind attrs v (named ts).0) (plain_read macro_def_kind attrs v (named us).0) (λ r. plain_near b macro_def_kind _ _ v _ _ _ _ refl l.value r) (λ e. e) (λ e. e) (macro_end_outcome b _ _ l.rest))
-
-  type_alias_outcome : (ts us : Tokens) → Near b ts us → LeafOutcome b (type_alias attrs v ts) (type_alias attrs v us)
-  unfolding type_alias
-  type_alias_outcome ts us h =
-      by_kept (named_until b ts us h) (λ o. lost_by o (value_end_leads _) (value_end_leads _) (value_end_fewer _) (value_end_fewer _))
-      (λ l. map_outcome (plain_read type_alias_kind attrs v (named ts).0) (plain_read type_alias_kind attrs v (named us).0) (λ r. plain_near b type_alias_kind _ _ v _ _ _ _ refl l.value r) (λ e. e) (λ e. e) (value_end_outcome b _ _ l.rest))
-
-  static_outcome : (ts us : Tokens) → Near b ts us → LeafOutcome b (static_value attrs v ts) (static_value attrs v us)
-  unfolding static_value
-  static_outcome ts us h =
-      let ts' = (eat_word (codes "mut") ts).1 in
-      let us' = (eat_word (codes "mut") us).1 in
-      by_kept (eat_word_until (near_parting b) (codes "mut") refl ts us h) (λ o. lost_by o (through (named_leads ts') (value_end_leads _)) (through (named_leads us') (value_end_leads _)) (λ e. let less = fewer (named_leads ts') in let strict = value_end_fewer (named ts').1 e in omega arith)
-      (λ e. let less = fewer (named_leads us') in let strict = value_end_fewer (named us').1 e in omega arith))
-      (λ k. by_kept (named_until b ts' us' k.rest) (λ o. lost_by o (value_end_leads _) (value_end_leads _) (value_end_fewer _) (value_end_fewer _))
-      (λ l. map_outcome (plain_read static_kind attrs v (named ts').0) (plain_read static_kind attrs v (named us').0) (λ r. plain_near b static_kind _ _ v _ _ _ _ refl l.value r) (λ e. e) (λ e. e) (value_end_outcome b _ _ l.rest)))
+  plain_outcome : {n m : ℕ} (k : PlainKind) (ts us : Tokens) → Given n m ts us → Near b ts us → LeafOutcome b (plain_leaf k attrs v ts) (plain_leaf k attrs v us)
+  unfolding plain_leaf
+  plain_outcome k ts us g h =
+      let ts' = (mut_word k ts).1 in
+      let us' = (mut_word k us).1 in
+      by_kept (mut_word_until b k ts us h) (λ o. lost_by o (through (named_leads ts') (rest_leads (heads.Plain k) _)) (through (named_leads us') (rest_leads (heads.Plain k) _)) (λ e. let less = fewer (named_leads ts') in let strict = rest_fewer (heads.Plain k) (named ts').1 e in omega arith)
+      (λ e. let less = fewer (named_leads us') in let strict = rest_fewer (heads.Plain k) (named us').1 e in omega arith))
+      (λ m. by_kept (named_until b ts' us' m.rest) (λ o. lost_by o (rest_leads (heads.Plain k) _) (rest_leads (heads.Plain k) _) (rest_fewer (heads.Plain k) _) (rest_fewer (heads.Plain k) _))
+      (λ l. map_outcome (λ r. plain_read k (attrs ++ own_attributes k r.block) v (named ts').0 r) (λ r. plain_read k (attrs ++ own_attributes k r.block) v (named us').0 r)
+      (λ r. plain_near b k _ _ v _ _ _ _ (ap (λ z. attrs ++ z) (own_same b k _ _ (given_on g (through (mut_word_leads k ts) (named_leads ts')) (through (mut_word_leads k us) (named_leads us'))) r)) l.value r) (λ e. e) (λ e. e)
+      (rest_of_outcome b (heads.Plain k) _ _ l.rest)))
 
   constant_outcome : (ts us : Tokens) → Near b ts us → LeafOutcome b (constant attrs v ts) (constant attrs v us)
   unfolding constant
   constant_outcome ts us h =
       let w = codes "_" in
       by_kept (named_until b ts us h)
-      (λ o. lost_by o (through (eat_word_leads w _) (value_end_leads _)) (through (eat_word_leads w _) (value_end_leads _)) (λ e. let less = fewer (eat_word_leads w (named ts).1) in let strict = value_end_fewer (eat_word w (named ts).1).1 e in omega arith)
-      (λ e. let less = fewer (eat_word_leads w (named us).1) in let strict = value_end_fewer (eat_word w (named us).1).1 e in omega arith))
-      (λ l. by_kept (eat_word_until (near_parting b) w refl (named ts).1 (named us).1 l.rest) (λ o. lost_by o (value_end_leads _) (value_end_leads _) (value_end_fewer _) (value_end_fewer _))
+      (λ o. lost_by o (through (eat_word_leads w _) (rest_leads heads.Const _)) (through (eat_word_leads w _) (rest_leads heads.Const _)) (λ e. let less = fewer (eat_word_leads w (named ts).1) in let strict = rest_fewer heads.Const (eat_word w (named ts).1).1 e in omega arith)
+      (λ e. let less = fewer (eat_word_leads w (named us).1) in let strict = rest_fewer heads.Const (eat_word w (named us).1).1 e in omega arith))
+      (λ l. by_kept (eat_word_until (near_parting b) w refl (named ts).1 (named us).1 l.rest) (λ o. lost_by o (rest_leads heads.Const _) (rest_leads heads.Const _) (rest_fewer heads.Const _) (rest_fewer heads.Const _))
       (λ k. map_outcome (λ r. leaf_read (const_item (named_node attrs (named ts).0.name v r.body)) kind.Const (named ts).0 r) (λ r. leaf_read (const_item (named_node attrs (named us).0.name v r.body)) kind.Const (named us).0 r)
-      (λ r. read_near b _ _ kind.Const _ _ _ _ (ap (λ z. const_item (named_node attrs z v (value_end (eat_word w (named us).1).1).0.body)) l.value.name ∙ ap (λ z. const_item (named_node attrs (named ts).0.name v z)) r.body) l.value r)
-      (λ e. e) (λ e. e) (value_end_outcome b _ _ k.rest)))
+      (λ r. read_near b _ _ kind.Const _ _ _ _ (ap (λ z. const_item (named_node attrs z v (rest_of heads.Const (eat_word w (named us).1).1).0.body)) l.value.name ∙ ap (λ z. const_item (named_node attrs (named ts).0.name v z)) r.body) l.value r)
+      (λ e. e) (λ e. e) (rest_of_outcome b heads.Const _ _ k.rest)))
 
   crate_item_outcome : (ts us : Tokens) → Near b ts us → LeafOutcome b (crate_item attrs v ts) (crate_item attrs v us)
   unfolding crate_item
@@ -348,51 +303,51 @@ trait_same b ts us es fs g h p e le =
     (λ k. ap (λ z. bytes_eq z (codes "for") && nat_lt x'.past fs.past) (word_same (near_twins b) x x' k)
     ∙ ap (λ t. bytes_eq (word x) (codes "for") && t) (lt_by x'.past fs.past b.by ∙ sym (ap (λ z. nat_lt z es.past) (past_same b x x' k) ∙ ap (λ z. nat_lt (x'.past + b.by) z) e)))
 
-impl_near : {n m : ℕ} (b : Ending) (attrs : List MetaView) (ts us : Tokens) → Given n m ts us → Near b ts us → RestNear b (impl_end ts).0 (impl_end us).0 → (impl_end ts).1.past ≡ (impl_end us).1.past + b.by → length b.behind ≤ length (impl_end ts).1.left
+impl_near : {n m : ℕ} (b : Ending) (attrs : List MetaView) (ts us : Tokens) → Given n m ts us → Near b ts us → RestNear b (rest_of heads.Impl ts).0 (rest_of heads.Impl us).0 → (rest_of heads.Impl ts).1.past ≡ (rest_of heads.Impl us).1.past + b.by → length b.behind ≤ length (rest_of heads.Impl ts).1.left
     → LeafNear b (implementation attrs ts).0 (implementation attrs us).0
 unfolding implementation
 impl_near b attrs ts us g h r e le =
     read_near b _ _ kind.Impl no_name no_name _ _
-    (ap (λ (z : List MetaView). impl_item (node (attrs ++ z) (impl_end us).0.body) (has_trait (impl_end us).1.past us)) (impl_attributes b ts us g r)
-    ∙ ap (λ z. impl_item (node (attrs ++ block_attributes (impl_end ts).0.block) z) (has_trait (impl_end us).1.past us)) r.body
-    ∙ ap (λ t. impl_item (node (attrs ++ block_attributes (impl_end ts).0.block) (impl_end ts).0.body) t) (trait_same b ts us (impl_end ts).1 (impl_end us).1 g h (impl_end_leads ts) e le))
+    (ap (λ (z : List MetaView). impl_item (node (attrs ++ z) (rest_of heads.Impl us).0.body) (has_trait (rest_of heads.Impl us).1.past us)) (impl_attributes b ts us g r)
+    ∙ ap (λ z. impl_item (node (attrs ++ block_attributes (rest_of heads.Impl ts).0.block) z) (has_trait (rest_of heads.Impl us).1.past us)) r.body
+    ∙ ap (λ t. impl_item (node (attrs ++ block_attributes (rest_of heads.Impl ts).0.block) (rest_of heads.Impl ts).0.body) t) (trait_same b ts us (rest_of heads.Impl ts).1 (rest_of heads.Impl us).1 g h (rest_leads heads.Impl ts) e le))
     (record { name = refl; hashed = refl; range = refl }) r
 
 implementation_outcome : {n m : ℕ} (b : Ending) (attrs : List MetaView) (ts us : Tokens) → Given n m ts us → Near b ts us → LeafOutcome b (implementation attrs ts) (implementation attrs us)
 unfolding implementation
-implementation_outcome b attrs ts us g h = by (impl_end_outcome b ts us h)
+implementation_outcome b attrs ts us g h = by (rest_of_outcome b heads.Impl ts us h)
   where
-    by : RestOutcome b (impl_end ts) (impl_end us) → LeafOutcome b (implementation attrs ts) (implementation attrs us)
+    by : RestOutcome b (rest_of heads.Impl ts) (rest_of heads.Impl us) → LeafOutcome b (implementation attrs ts) (implementation attrs us)
     by (lost o f n) = lost o f n
     by (stays k) = stays (record { value = impl_near b attrs ts us g h k.value (past_same b _ _ k.rest) (enough_left b _ _ k.rest); rest = k.rest })
     by (comes r a) = comes (impl_near b attrs ts us g h r a.past (let same = ap length a.behind in omega arith)) a
 
 -- ---- structs
 
-block_leads : (ts a : Tokens) → (item_end ts).0.block ≡ Some a → LeadsTo ts a
-unfolding item_end
+block_leads : (ts a : Tokens) → (rest_of heads.Struct ts).0.block ≡ Some a → LeadsTo ts a
+unfolding rest_by
 block_leads ts a e = (item_enclosed ts a e).before
 
-struct_near : {n m : ℕ} (b : Ending) (attrs : List MetaView) (v : Option Visibility) (ts us : Tokens) → Given n m ts us → NameNear b (named ts).0 (named us).0 → Near b (named ts).1 (named us).1 → RestNear b (item_end (named ts).1).0 (item_end (named us).1).0
-    → (item_end (named ts).1).1.past ≡ (item_end (named us).1).1.past + b.by → length b.behind ≤ length (item_end (named ts).1).1.left → LeafNear b (structure attrs v ts).0 (structure attrs v us).0
+struct_near : {n m : ℕ} (b : Ending) (attrs : List MetaView) (v : Option Visibility) (ts us : Tokens) → Given n m ts us → NameNear b (named ts).0 (named us).0 → Near b (named ts).1 (named us).1 → RestNear b (rest_of heads.Struct (named ts).1).0 (rest_of heads.Struct (named us).1).0
+    → (rest_of heads.Struct (named ts).1).1.past ≡ (rest_of heads.Struct (named us).1).1.past + b.by → length b.behind ≤ length (rest_of heads.Struct (named ts).1).1.left → LeafNear b (structure attrs v ts).0 (structure attrs v us).0
 unfolding structure
 struct_near b attrs v ts us g nn h r e le =
     let x = (named ts).1 in
     let y = (named us).1 in
     let given = given_on g (named_leads ts) (named_leads us) in
     read_near b _ _ kind.Struct _ _ _ _
-    (ap (λ z. struct_item (named_node attrs z v (item_end y).0.body) (fields_of y)) nn.name
+    (ap (λ z. struct_item (named_node attrs z v (rest_of heads.Struct y).0.body) (fields_of y)) nn.name
     ∙ ap (λ z. struct_item (named_node attrs (named ts).0.name v z) (fields_of y)) r.body
-    ∙ ap (λ (f : FieldsView). struct_item (named_node attrs (named ts).0.name v (item_end x).0.body) f)
-    (struct_fields_near b x y (item_end x).1 (item_end y).1 _ _ given.laid given.short.laid h r.block (block_leads x) (block_leads y) (item_end_leads x) (item_end_leads y) e le))
+    ∙ ap (λ (f : FieldsView). struct_item (named_node attrs (named ts).0.name v (rest_of heads.Struct x).0.body) f)
+    (struct_fields_near b x y (rest_of heads.Struct x).1 (rest_of heads.Struct y).1 _ _ given.laid given.short.laid h r.block (block_leads x) (block_leads y) (rest_leads heads.Struct x) (rest_leads heads.Struct y) e le))
     nn r
 
 structure_outcome : {n m : ℕ} (b : Ending) (attrs : List MetaView) (v : Option Visibility) (ts us : Tokens) → Given n m ts us → Near b ts us → LeafOutcome b (structure attrs v ts) (structure attrs v us)
 unfolding structure
 structure_outcome b attrs v ts us g h =
-    by_kept (named_until b ts us h) (λ o. lost_by o (item_end_leads _) (item_end_leads _) (item_end_fewer _) (item_end_fewer _)) (λ l. by l.value l.rest (item_end_outcome b _ _ l.rest))
+    by_kept (named_until b ts us h) (λ o. lost_by o (rest_leads heads.Struct _) (rest_leads heads.Struct _) (rest_fewer heads.Struct _) (rest_fewer heads.Struct _)) (λ l. by l.value l.rest (rest_of_outcome b heads.Struct _ _ l.rest))
   where
-    by : NameNear b (named ts).0 (named us).0 → Near b (named ts).1 (named us).1 → RestOutcome b (item_end (named ts).1) (item_end (named us).1) → LeafOutcome b (structure attrs v ts) (structure attrs v us)
+    by : NameNear b (named ts).0 (named us).0 → Near b (named ts).1 (named us).1 → RestOutcome b (rest_of heads.Struct (named ts).1) (rest_of heads.Struct (named us).1) → LeafOutcome b (structure attrs v ts) (structure attrs v us)
     by nn l (lost o f n) = lost o f n
     by nn l (stays k) = stays (record { value = struct_near b attrs v ts us g nn l k.value (past_same b _ _ k.rest) (enough_left b _ _ k.rest); rest = k.rest })
     by nn l (comes r a) = comes (struct_near b attrs v ts us g nn l r a.past (let same = ap length a.behind in omega arith)) a
@@ -492,15 +447,9 @@ leaf_ends b f g k ts us given h = rw (k.head, k.attrs, k.visibility) (by f.head)
     by : (w : Head) → LeafEnds b (leaf_by w f.attrs f.visibility ts) (leaf_by w f.attrs f.visibility us)
     by heads.Use = some_ends (use_outcome b f.attrs f.visibility ts us h)
     by heads.ExternCrate = some_ends (crate_item_outcome b f.attrs f.visibility ts us h)
-    by heads.Fn = some_ends (function_outcome b f.attrs f.visibility ts us given h)
     by heads.Impl = some_ends (implementation_outcome b f.attrs ts us given h)
-    by heads.Trait = some_ends (trait_outcome b f.attrs f.visibility ts us given h)
     by heads.Struct = some_ends (structure_outcome b f.attrs f.visibility ts us given h)
-    by heads.Union = some_ends (union_outcome b f.attrs f.visibility ts us h)
-    by heads.Enum = some_ends (enum_outcome b f.attrs f.visibility ts us h)
     by heads.Const = some_ends (constant_outcome b f.attrs f.visibility ts us h)
-    by heads.Static = some_ends (static_outcome b f.attrs f.visibility ts us h)
-    by heads.TypeAlias = some_ends (type_alias_outcome b f.attrs f.visibility ts us h)
-    by heads.MacroDef = some_ends (macro_def_outcome b f.attrs f.visibility ts us h)
+    by (heads.Plain k) = some_ends (plain_outcome b f.attrs f.visibility k ts us given h)
     by heads.MacroRules = some_ends (macro_definition_outcome b f.attrs f.visibility ts us h)
     by _ = item_call_ends b f.attrs ts us h

@@ -1,6 +1,7 @@
 -- An item without its end goes on up to the word that begins the next one.
 use Rattle.std.proofs.Common.{length, ◌≡◌, ◌==◌, ◌&&◌, ◌||◌, ℕ, Bool, true, false, Option, List, [], ◌∷◌, ◌++◌, refl, sym, ap, ◌∙◌, codes, bytes_eq, not, if◌then◌else◌}
-use Rattle.rust_edits.proofs.Common.{is_nil, eat, use_tree, named_or, renamed, use_declaration, crate_item, is_some, Tokens, symbol, word, bumped, is_empty, is_at_doc, by_first, rest, Piece, symbol_of, LeadsTo, through, when, bumped_leads, and_parts, or_parts, Head, FrontRead, leaf, LeafRead, begins_item, begins_within, begins_impl_or_const, stops, ends, taking, taken, nest_behind, function, trait_item, structure, union_item, enumeration, constant, static_value, type_alias, implementation, item_end, impl_end, value_end}
+use Rattle.rust_edits.proofs.Common.{is_nil, eat, use_tree, named_or, renamed, use_declaration, crate_item, is_some, Tokens, symbol, word, bumped, is_empty, is_at_doc, by_first, rest, Piece, symbol_of, LeadsTo, through, when, bumped_leads, and_parts, or_parts, Head, FrontRead, leaf, LeafRead, begins_item, begins_within, begins_impl_or_const, stops, ends, taking, taken, nest_behind, structure, constant, implementation, plain_leaf, rest_by}
+use Rattle.hir_input.specs.declared.ast.PlainKind.TheVariants as plain_kind
 use Rattle.rust_cursor.specs.declared.cursor.nest.Before.{Before}
 use Rattle.rust_cursor.specs.declared.cursor.nest.Before.TheVariants as befores
 use Rattle.rust_cursor.specs.declared.cursor.nest.Nest.{Nest}
@@ -11,7 +12,7 @@ use Rattle.rust_cursor.proofs.Around.{others_of}
 use Rattle.rust_cursor.proofs.Passing.{braces_of}
 use Rattle.rust_cursor.proofs.Scans.{taking_stop, taking_more}
 use Rattle.rust_leaves.specs.declared.head.Head.TheVariants as heads
-use Rattle.rust_edits.specs.Beside.Open.{is_first, is_first_outside, is_border, is_inner, are_inner, before_rest, nest_through, reaches_end, behind_name}
+use Rattle.rust_edits.specs.Beside.Open.{is_first, is_first_outside, is_border, is_inner, are_inner, nest_through, reaches_end, behind_name, before_rest}
 
 not-false : {t : Bool} → not t ≡ true → t ≡ false
 not-false {t = false} e = refl
@@ -197,17 +198,15 @@ module _ (Y xs : List Piece) (before : Before) (ts : Tokens) (r : Reaches Y xs b
   nil_eat = eat_none Y ts nil_left nil_plain.0
 
 pub leaf_open : (Y xs : List Piece) (h : FrontRead) (ts : Tokens) (w : Head) → (w ≡ heads.Module → ⊥) → h.head ≡ w → reaches_end w xs ≡ true → Reaches Y xs (before_rest w) (behind_name w ts) → TakesUp Y (leaf h ts)
-unfolding leaf function trait_item structure union_item enumeration constant static_value type_alias implementation use_declaration crate_item item_end impl_end value_end stops ends
+unfolding leaf plain_leaf structure constant implementation use_declaration crate_item rest_by stops ends
 leaf_open Y xs h ts heads.Use n e t r = rw e (record { some = refl; left = nil_eat Y xs befores.End (use_tree ts).1 r t })
 leaf_open Y xs h ts heads.ExternCrate n e t r = rw e (record { some = refl; left = nil_eat Y xs befores.End (renamed (named_or (codes "self") ts).1).1 r t })
 leaf_open Y xs h ts heads.Module n e t r = absurd (n refl)
-leaf_open Y xs h ts heads.Fn n e t r = rw e (record { some = refl; left = r.inner t _ (λ n ts. refl) (λ c n ts. flat_ends c n ts _) })
 leaf_open Y xs h ts heads.Impl n e t r = rw e (record { some = refl; left = r.inner t _ (λ n ts. refl) (λ c n ts. flat_ends c n ts _) })
-leaf_open Y xs h ts heads.Trait n e t r = rw e (record { some = refl; left = r.inner t _ (λ n ts. refl) (λ c n ts. flat_ends c n ts _) })
 leaf_open Y xs h ts heads.Struct n e t r = rw e (record { some = refl; left = r.inner t _ (λ n ts. refl) (λ c n ts. flat_ends c n ts _) })
-leaf_open Y xs h ts heads.Union n e t r = rw e (record { some = refl; left = r.inner t _ (λ n ts. refl) (λ c n ts. flat_ends c n ts _) })
-leaf_open Y xs h ts heads.Enum n e t r = rw e (record { some = refl; left = r.inner t _ (λ n ts. refl) (λ c n ts. flat_ends c n ts _) })
 leaf_open Y xs h ts heads.Const n e t r = rw e (record { some = refl; left = r.inner t _ (λ n ts. refl) (λ c n ts a b. flat_value n ts a) })
-leaf_open Y xs h ts heads.Static n e t r = rw e (record { some = refl; left = r.inner t _ (λ n ts. refl) (λ c n ts a b. flat_value n ts a) })
-leaf_open Y xs h ts heads.TypeAlias n e t r = rw e (record { some = refl; left = r.inner t _ (λ n ts. refl) (λ c n ts a b. flat_value n ts a) })
+leaf_open Y xs h ts (heads.Plain plain_kind.MacroDef) n e t r = absurd cc
+leaf_open Y xs h ts (heads.Plain plain_kind.Static) n e t r = rw e (record { some = refl; left = r.inner t _ (λ n ts. refl) (λ c n ts a b. flat_value n ts a) })
+leaf_open Y xs h ts (heads.Plain plain_kind.TypeAlias) n e t r = rw e (record { some = refl; left = r.inner t _ (λ n ts. refl) (λ c n ts a b. flat_value n ts a) })
+leaf_open Y xs h ts (heads.Plain k) n e t r = rw e (record { some = refl; left = r.inner t _ (λ n ts. refl) (λ c n ts. flat_ends c n ts _) })
 leaf_open Y xs h ts _ n e t r = absurd cc

@@ -1,6 +1,6 @@
 -- What is read of an item without its end, and of the text that begins with an item behind it.
 use Rattle.std.proofs.Common.{◌≡◌, ◌<◌, ◌+◌, ◌==◌, ◌||◌, ℕ, zero, suc, true, false, Option, Some, None, List, [], ◌∷◌, ◌++◌, length, map, refl, sym, ap, ◌∙◌, subst, arith, length-append, append_assoc}
-use Rattle.rust_edits.proofs.Common.{symbol_same, is_nil, eat, module_with, some_item, named, named_or_leads, renamed_leads, use_tree_leads, Span, Problem, TextRange, moved_range, moved_span, moved_problem, map-append, Ending, EditionYear, MetaView, ItemView, Piece, Found, Head, FrontRead, LeafRead, Tokens, tokens_of, tokens, filter, is_significant, last_unended, option_map, is_some, by_first, rest, end_of, symbol, is_empty, bumped, beyond, taken, most, moved, front, leaf, leaf_turn, leaf_found, by_head, inside, depth_of, turn, nothing_found, and_all, and_problem_at, found_on, items, read_of, found_in, behind_attributes, is_list_end, LeadsTo, here, further, through, when, eat_word_leads, inner_attributes_leads, named_leads, fewer, IsLaid, behind, at_behind, tokens_laid, tokens_sound, tokens_short, ne_eqb, filter-append, filter_moved, near_twins, Near, BlockRead, Finder, items_found}
+use Rattle.rust_edits.proofs.Common.{symbol_same, is_nil, eat, module_with, some_item, named, named_or_leads, renamed_leads, use_tree_leads, Span, Problem, TextRange, moved_range, moved_span, moved_problem, map-append, Ending, EditionYear, MetaView, ItemView, Piece, Found, Head, FrontRead, LeafRead, Tokens, tokens_of, tokens, filter, is_significant, last_unended, option_map, is_some, by_first, rest, end_of, symbol, is_empty, bumped, beyond, taken, most, moved, front, leaf, leaf_turn, leaf_found, by_head, inside, depth_of, turn, nothing_found, and_all, and_problem_at, found_on, items, read_of, found_in, behind_attributes, is_list_end, LeadsTo, here, further, through, when, eat_word_leads, inner_attributes_leads, named_leads, fewer, IsLaid, behind, at_behind, tokens_laid, tokens_sound, tokens_short, ne_eqb, filter-append, filter_moved, near_twins, Near, BlockRead, Finder, items_found, mut_word_leads}
 use Rattle.rust_items.specs.declared.log.ProblemKind.TheVariants as problem
 use Rattle.rust_leaves.specs.declared.head.Head.TheVariants as heads
 use Rattle.rust_cursor.specs.declared.cursor.nest.Nest.{Nest}
@@ -9,7 +9,7 @@ use Rattle.rust_cursor.specs.Nests.{flat_behind}
 use Rattle.rust_items.specs.Items.{no_block}
 use Rattle.rust_cursor.specs.declared.cursor.nest.Before.TheVariants as befores
 use Rattle.rust_cursor.proofs.Tests.{begins_same}
-use Rattle.rust_edits.specs.Beside.Open.{IsOpenItem, OpenItemsEnd, ReadsOn, StandsBefore, nothing_before, whole_before, open_before, reaches_end, before_rest, nest_through, behind_name, end_behind}
+use Rattle.rust_edits.specs.Beside.Open.{IsOpenItem, OpenItemsEnd, ReadsOn, StandsBefore, nothing_before, whole_before, open_before, reaches_end, nest_through, behind_name, end_behind, before_rest}
 use Rattle.rust_edits.proofs.Beside.Alone.{start_near}
 use Rattle.rust_edits.proofs.Beside.Behind.{last_moved}
 use Rattle.rust_edits.proofs.Beside.Inner.{no_inner}
@@ -44,8 +44,8 @@ name_leads : (w : Head) (ts : Tokens) → LeadsTo ts (behind_name w ts)
 name_leads heads.Use ts = use_tree_leads ts
 name_leads heads.ExternCrate ts = through (named_or_leads _ ts) (renamed_leads _)
 name_leads heads.Impl ts = here
-name_leads heads.Static ts = through (eat_word_leads _ ts) (named_leads _)
 name_leads heads.Const ts = through (named_leads ts) (eat_word_leads _ _)
+name_leads (heads.Plain k) ts = through (mut_word_leads k ts) (named_leads _)
 name_leads _ ts = named_leads ts
 
 head_leaf : (w : Head) (xs : List Piece) → (w ≡ heads.Module → ⊥) → reaches_end w xs ≡ true → (inside : Finder BlockRead) (depth : ℕ) (h : FrontRead) (f : Found) (ts : Tokens) → by_head inside depth w h f ts ≡ leaf_turn depth h f ts

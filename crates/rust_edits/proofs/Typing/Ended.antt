@@ -1,6 +1,6 @@
 -- What is left of an item is ended in both of two texts or in neither, where as many brackets are loose between the braces of each.
 use Rattle.std.proofs.Common.{◌≡◌, ◌<◌, ℕ, zero, suc, ◌+◌, ◌-◌, ◌==◌, ◌||◌, ◌&&◌, Bool, true, false, Option, Some, None, List, [], ◌∷◌, ◌++◌, length, refl, ap, ◌∙◌, sym, subst, arith, map, length-append, ◌⊎◌, inl, inr, codes, if◌then◌else◌}
-use Rattle.rust_edits.proofs.Common.{nat_lt, EditionYear, Piece, symbol_of, moved, braces_from, Tokens, end_of, symbol, bumped, braces_behind, count_behind, closes_none, behind_braces, flat_behind, is_mark, nest_inside, nest_behind, ExcerptRead, stops, ends, opened_behind, taking, taken, Bodies, AreOpen, Beside, ahead, Loose, none_loose, loose_behind, loose_from, is_some, bytes_eq, Visibility, MetaView, word, is_at_open, eat, eat_word, tree_body, path, use_tree, Head, FrontRead, is_called, begins_call, leaf_by, leaf, function, union_item, enumeration, trait_item, macro_def, type_alias, static_value, constant, structure, implementation, crate_item, use_read, use_declaration, macro_definition, invocation, item_call, LeafRead, named, crate_alias, crate_alias_if, renamed, impl_end, item_end, macro_end, value_end, call_end, nat_tests, when, stops_empty, shorter, beside_twins, next_ahead, next_behind, tokens_at, symbol_at, some_at, bumped_at, inside_is, enters, and_parts, IsSound, eat_leads, IsAlike, neither, SamePlace, open_same, LeafAlike, named_local, named_or_local, FrontAlike, BeginPlain, LeafUntil, leaf_lost, leaf_same, leaf_until, LeafLost, by_stayed, word_test, after_word, eat_local, eat_word_local, taken_both, gone_on}
+use Rattle.rust_edits.proofs.Common.{nat_lt, EditionYear, Piece, symbol_of, moved, braces_from, Tokens, end_of, symbol, bumped, braces_behind, count_behind, closes_none, behind_braces, flat_behind, is_mark, nest_inside, nest_behind, ExcerptRead, stops, ends, opened_behind, taking, taken, Bodies, AreOpen, Beside, ahead, Loose, none_loose, loose_behind, loose_from, is_some, bytes_eq, Visibility, MetaView, word, is_at_open, eat, eat_word, tree_body, path, use_tree, Head, FrontRead, is_called, begins_call, leaf_by, leaf, constant, structure, implementation, crate_item, use_read, use_declaration, macro_definition, invocation, item_call, LeafRead, named, crate_alias, crate_alias_if, renamed, call_end, nat_tests, when, stops_empty, shorter, beside_twins, next_ahead, next_behind, tokens_at, symbol_at, some_at, bumped_at, inside_is, enters, and_parts, IsSound, eat_leads, IsAlike, neither, SamePlace, open_same, LeafAlike, named_local, named_or_local, FrontAlike, BeginPlain, LeafUntil, leaf_lost, leaf_same, leaf_until, LeafLost, by_stayed, word_test, after_word, eat_local, eat_word_local, taken_both, gone_on, mut_word_local, plain_leaf, rest_by, by_taken, rest_of}
 use Rattle.rust_cursor.specs.declared.cursor.nest.Before.{Before}
 use Rattle.rust_cursor.specs.declared.cursor.nest.Nest.{Nest}
 use Rattle.rust_cursor.specs.Beside.{behind}
@@ -292,24 +292,24 @@ module _ (b : Bodies) (same : SameLoose b) where
   named_beside : (ts us : Tokens) → Beside b ts us → Beside b (named ts).1 (named us).1
   named_beside ts us h = (named_local b ts us h).rest
 
+  rest_ended : (k : Head) (ts us : Tokens) → Beside b ts us → (rest_of k us).0.is_ended ≡ (rest_of k ts).0.is_ended
+  unfolding rest_by
+  rest_ended = by_taken (λ r. (ts us : Tokens) → Beside b ts us → (rest_by r us).0.is_ended ≡ (rest_by r ts).0.is_ended) (λ before e ts us h. taken_ended b same before e ts us h)
+
   flaws_until : (k : Head) (attrs : List MetaView) (v : Option Visibility) (ts us : Tokens) → Beside b ts us → FlawsUntil b (leaf_by k attrs v ts) (leaf_by k attrs v us)
-  unfolding function union_item enumeration trait_item macro_def type_alias static_value constant structure implementation crate_item use_declaration macro_definition item_end impl_end macro_end value_end
+  unfolding plain_leaf constant structure implementation crate_item use_declaration macro_definition
   flaws_until heads.Use attrs v ts us h =
       by_stayed (use_tree_until b ts us h)
       (λ g. inl (record { gone = gone_on g (eat_leads 59 _); free = λ l r e d s. absurd (let none : (use_read attrs v (use_tree ts).0 (eat 59 (use_tree ts).1).0).body ≡ Some r = ap (λ (x : LeafRead). x.body) (some_is _ l e) ∙ d in cc) }))
       (λ k. inr (record { ended = (eat_local b 59 refl (use_tree ts).1 (use_tree us).1 k.rest).value; deep = k.value.too_deep }))
   flaws_until heads.ExternCrate attrs v ts us h =
       inr (record { ended = (eat_local b 59 refl _ _ (renamed_beside _ _ (named_or_local b (codes "self") refl ts us h).rest)).value; deep = neither })
-  flaws_until heads.Impl attrs v ts us h = inr (record { ended = taken_ended b same _ _ ts us h; deep = neither })
-  flaws_until heads.Const attrs v ts us h = inr (record { ended = taken_ended b same _ _ _ _ (eat_word_local b (codes "_") refl _ _ (named_beside ts us h)).rest; deep = neither })
-  flaws_until heads.Static attrs v ts us h = inr (record { ended = taken_ended b same _ _ _ _ (named_beside _ _ (eat_word_local b (codes "mut") refl ts us h).rest); deep = neither })
-  flaws_until heads.TypeAlias attrs v ts us h = inr (record { ended = taken_ended b same _ _ _ _ (named_beside ts us h); deep = neither })
-  flaws_until heads.MacroDef attrs v ts us h = inr (record { ended = taken_ended b same _ _ _ _ (named_beside ts us h); deep = neither })
+  flaws_until heads.Impl attrs v ts us h = inr (record { ended = rest_ended heads.Impl ts us h; deep = neither })
+  flaws_until heads.Struct attrs v ts us h = inr (record { ended = rest_ended heads.Struct _ _ (named_beside ts us h); deep = neither })
+  flaws_until heads.Const attrs v ts us h = inr (record { ended = rest_ended heads.Const _ _ (eat_word_local b (codes "_") refl _ _ (named_beside ts us h)).rest; deep = neither })
+  flaws_until (heads.Plain k) attrs v ts us h = inr (record { ended = rest_ended (heads.Plain k) _ _ (named_beside _ _ (mut_word_local b k ts us h)); deep = neither })
   flaws_until heads.MacroRules attrs v ts us h = inr (record { ended = call_ended _ _ (named_or_local b (codes "try") refl ts us h).rest; deep = neither })
-  flaws_until heads.ExternBlock attrs v ts us h = inr (item_call_ended attrs ts us h)
-  flaws_until heads.Module attrs v ts us h = inr (item_call_ended attrs ts us h)
-  flaws_until heads.Other attrs v ts us h = inr (item_call_ended attrs ts us h)
-  flaws_until _ attrs v ts us h = inr (record { ended = taken_ended b same _ _ _ _ (named_beside ts us h); deep = neither })
+  flaws_until _ attrs v ts us h = inr (item_call_ended attrs ts us h)
 
 -- ---- what is read of both
 

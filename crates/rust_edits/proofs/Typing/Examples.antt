@@ -1,6 +1,6 @@
 -- Two small bodies, and a text with the one, by computing.
 use Rattle.std.proofs.Common.{◌≡◌, ◌<◌, ◌||◌, ℕ, zero, suc, true, false, Some, None, List, [], ◌∷◌, ◌++◌, length, refl, ap, sym, subst, ◌∙◌, arith}
-use Rattle.rust_edits.proofs.Common.{option_to_list, EditionYear, Inner, is_wide_start, is_wide_continue, first_cut, StandsAlone, Piece, tokens, Tokens, tokens_of, symbol, word, text, kind, at, is_empty, is_at_end, is_at_identifier, is_at_doc, is_glued, is_pair, bumped, leads_on, nest_behind, begins_item, begins_impl_or_const, begins_within, stops, ends, is_joined, has_blank, more, taking, taken, most, beyond, is_behind, is_doc, is_attribute, inner_attributes, is_modifier, is_modifier_before, is_weak_before, head, head_by, FrontRead, front, impl_end, implementation, leaf, nothing_found, leaf_turn, finding_from, finding, is_list_end, by_head, inside, turn, depth_of, begins_at, has_body, with_body, OpensAt, IsBody, BeginsPlain, IsTyped, none_loose, loose_in, tokens_at, IsLaid, tokens_laid, through, when, beyond_leads, Span, adds_item, adds_problem_at, adds_use_trees, list_from, turn_found, Rows, found_rows}
+use Rattle.rust_edits.proofs.Common.{option_to_list, EditionYear, Inner, is_wide_start, is_wide_continue, first_cut, StandsAlone, Piece, tokens, Tokens, tokens_of, symbol, word, text, kind, at, is_empty, is_at_end, is_at_identifier, is_at_doc, is_glued, is_pair, bumped, leads_on, nest_behind, begins_item, begins_impl_or_const, begins_within, stops, ends, is_joined, has_blank, more, taking, taken, most, beyond, is_behind, is_doc, is_attribute, inner_attributes, is_modifier, is_modifier_before, is_weak_before, head, head_by, FrontRead, front, implementation, leaf, nothing_found, leaf_turn, finding_from, finding, is_list_end, by_head, inside, turn, depth_of, begins_at, has_body, with_body, OpensAt, IsBody, BeginsPlain, IsTyped, none_loose, loose_in, tokens_at, IsLaid, tokens_laid, through, when, beyond_leads, Span, adds_item, adds_problem_at, adds_use_trees, list_from, turn_found, Rows, found_rows, rest_by, rest_of}
 use Rattle.rust_lexer.specs.declared.kind.LiteralKind.TheVariants as literals
 use Rattle.rust_lexer.specs.declared.kind.TokenKind.TheVariants as kinds
 use Rattle.rust_lexer.specs.Number.{past_digits}
@@ -81,8 +81,8 @@ module _ (y : EditionYear) where
   unfolding all impl_word behind is_behind is_doc is_attribute is_modifier is_modifier_before is_weak_before symbol kind word bumped at head head_by
   front_is = front_bare all refl refl refl
 
-  braces_are : (impl_end behind).0.braces ≡ Some (record { start = 5; end = 10 })
-  unfolding behind block impl_end taken taking stops ends begins_item begins_impl_or_const begins_within is_joined has_blank more nest_behind leads_on symbol word text kind at is_empty is_at_end is_at_identifier is_at_doc is_glued is_pair bumped
+  braces_are : (rest_of heads.Impl behind).0.braces ≡ Some (record { start = 5; end = 10 })
+  unfolding behind block rest_by taken taking stops ends begins_item begins_impl_or_const begins_within is_joined has_blank more nest_behind leads_on symbol word text kind at is_empty is_at_end is_at_identifier is_at_doc is_glued is_pair bumped
   braces_are = refl
 
   impl_found : has_body 5 (leaf_turn (depth_of 128) (record { start = 0; attrs = []; visibility = None; head = heads.Impl }) nothing_found behind).1.0.spans ≡ true

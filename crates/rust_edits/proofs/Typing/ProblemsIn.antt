@@ -1,6 +1,6 @@
 -- Problems stand in the text.
 use Rattle.std.proofs.Common.{◌≡◌, ◌≤◌, ◌+◌, ◌&&◌, ℕ, true, Option, Some, None, List, [], ◌∷◌, ◌++◌, length, refl, ap, sym, subst, ◌∙◌, arith, length-append, map}
-use Rattle.rust_edits.proofs.Common.{is_some, Visibility, EditionYear, MetaView, Piece, is_terminated, tokens, text_of, AreInPlace, behind_closed, behind_tree, behind_angles, beyond, tree_text, Tokens, end_of, last_unended, tokens_of, at, by_first, is_glued, bumped, use_tree, path, inner_attributes, Head, FrontRead, LeafRead, is_called, begins_call, leaf_by, leaf, function, union_item, enumeration, trait_item, macro_def, type_alias, static_value, constant, structure, implementation, crate_item, use_declaration, macro_definition, invocation, item_call, Problem, nothing_found, found_in, read_of, All, with_feeds, place_in, moved_problem, AreLaid, IsLaid, behind, tokens_laid, LeadsTo, here, further, through, when, bumped_leads, behind_closed_leads, behind_tree_leads, behind_angles_leads, beyond_leads, taken_leads_on, on, gone, kept, Parting, Entering, IsAlike, neither, both, inner_attributes_leads, items_found, All-nil, All-cons, place_le, place_rises_in, place_within, tokens_lossless, tokens_placed, SameFound, use_tree_until, behind_field, reached_leads}
+use Rattle.rust_edits.proofs.Common.{is_some, Visibility, EditionYear, MetaView, Piece, is_terminated, tokens, text_of, AreInPlace, behind_closed, behind_tree, behind_angles, beyond, tree_text, Tokens, end_of, last_unended, tokens_of, at, by_first, is_glued, bumped, use_tree, path, inner_attributes, Head, FrontRead, LeafRead, is_called, begins_call, leaf_by, leaf, constant, structure, implementation, crate_item, use_declaration, macro_definition, invocation, item_call, Problem, nothing_found, found_in, read_of, All, with_feeds, place_in, moved_problem, AreLaid, IsLaid, behind, tokens_laid, LeadsTo, here, further, through, when, bumped_leads, behind_closed_leads, behind_tree_leads, behind_angles_leads, beyond_leads, taken_leads_on, on, gone, kept, Parting, Entering, IsAlike, neither, both, inner_attributes_leads, items_found, All-nil, All-cons, place_le, place_rises_in, place_within, tokens_lossless, tokens_placed, SameFound, use_tree_until, behind_field, reached_leads, plain_leaf}
 use Rattle.rust_cursor.proofs.Parting.{UntilBy}
 use Rattle.rust_edits.proofs.Adding.{IfPlace, IfLeaf, Keeping, maybe, items_keeps}
 use Rattle.rust_edits.specs.Typing.Problems.{ProblemsStand}
@@ -82,7 +82,7 @@ call_in end attrs ts =
     when (begins_call ts) (λ e. rw e (when (is_some (path ts).0 && is_called (path ts).1) (λ f. rw f (tt, tt)) (λ f. rw f tt))) (λ e. rw e tt)
 
 leaf_by_in : (end : ℕ) (k : Head) (attrs : List MetaView) (v : Option Visibility) (ts : Tokens) → IsLaid end ts → LeafIn end (leaf_by k attrs v ts).0
-unfolding function union_item enumeration trait_item macro_def type_alias static_value constant structure implementation crate_item use_declaration macro_definition
+unfolding plain_leaf constant structure implementation crate_item use_declaration macro_definition
 leaf_by_in end heads.Use attrs v ts l = (tt, tree_in end ts l)
 leaf_by_in end heads.ExternBlock attrs v ts l = call_in end attrs ts
 leaf_by_in end heads.Module attrs v ts l = call_in end attrs ts

@@ -1,5 +1,6 @@
 -- An item that goes on up to the end of a text, and the item that begins behind it.
 use Rattle.std.specs.Prelude.{◌≡◌, ◌<◌, ℕ, zero, suc, ◌==◌, Bool, true, false, not, ◌&&◌, ◌||◌, List, [], ◌∷◌, ◌++◌, length, map, codes, bytes_eq}
+use Rattle.hir_input.specs.declared.ast.PlainKind.TheVariants as plain_kind
 use Rattle.hir_input.specs.declared.edition.EditionYear.{EditionYear}
 use Rattle.hir_input.specs.Syntax.{ItemView}
 use Rattle.rust_lexer.specs.declared.kind.DocStyle.TheVariants.{Inner}
@@ -20,6 +21,7 @@ use Rattle.rust_metas.specs.Attributes.{is_behind}
 use Rattle.rust_leaves.specs.declared.head.Head.{Head}
 use Rattle.rust_leaves.specs.declared.head.Head.TheVariants as heads
 use Rattle.rust_leaves.specs.Fronts.{front}
+use Rattle.rust_leaves.specs.Kinds.{mut_word}
 use Rattle.rust_leaves.specs.Leaves.{named, named_or, renamed}
 use Rattle.rust_items.specs.Found.{Found, and_all}
 use Rattle.rust_items.specs.SourceFiles.{found_in, read_of}
@@ -58,8 +60,8 @@ abbrev pub behind_name : Head → Tokens → Tokens
 behind_name heads.Use ts = (use_tree ts).1
 behind_name heads.ExternCrate ts = (renamed (named_or (codes "self") ts).1).1
 behind_name heads.Impl ts = ts
-behind_name heads.Static ts = (named (eat_word (codes "mut") ts).1).1
 behind_name heads.Const ts = (eat_word (codes "_") (named ts).1).1
+behind_name (heads.Plain k) ts = (named (mut_word k ts).1).1
 behind_name _ ts = (named ts).1
 
 -- it goes on to the end of the text with these tokens
@@ -67,15 +69,11 @@ abbrev pub reaches_end : Head → List Piece → Bool
 reaches_end heads.Use ts = is_nil ts
 reaches_end heads.ExternCrate ts = is_nil ts
 reaches_end heads.Module ts = is_nil ts
-reaches_end heads.Fn ts = are_inner 0 ts
 reaches_end heads.Impl ts = are_inner 0 ts
-reaches_end heads.Trait ts = are_inner 0 ts
 reaches_end heads.Struct ts = are_inner 0 ts
-reaches_end heads.Union ts = are_inner 0 ts
-reaches_end heads.Enum ts = are_inner 0 ts
 reaches_end heads.Const ts = are_inner 0 ts
-reaches_end heads.Static ts = are_inner 0 ts
-reaches_end heads.TypeAlias ts = are_inner 0 ts
+reaches_end (heads.Plain plain_kind.MacroDef) ts = false
+reaches_end (heads.Plain k) ts = are_inner 0 ts
 reaches_end _ ts = false
 
 -- behind `impl` a type begins, and behind a name it may have ended

@@ -1,5 +1,5 @@
 use Rattle.std.proofs.Common.{◌≡◌, ap, map, refl, subst, ◌∙◌, flat_map, IfOk}
-use Rattle.item_changes.proofs.Seen.{matched_pairs}
+use Rattle.source_rows.proofs.Seen.{matched_pairs}
 use Rattle.source_rows.specs.Inner.{standing_row_view}
 use Rattle.source_rows.specs.Moves.{same_standing}
 use Rattle.source_rows.specs.contracts.moved.StandingPartialEq.TheImpl as keys

@@ -1,5 +1,5 @@
 use Rattle.std.proofs.Common.{◌≡◌, [], IfOk, ap, map, subst, zip, ◌∙◌}
-use Rattle.item_changes.specs.Matches.{ranks, same_keys}
+use Rattle.source_rows.specs.Matches.{ranks, same_keys}
 use Rattle.source_rows.specs.Inner.{standing_row_view}
 use Rattle.source_rows.specs.Moves.{standings_from}
 use Rattle.source_rows.proofs.Common.{row_part, same_text, text_row_view}

@@ -12,7 +12,7 @@ pub returns-in_default-clause-value : goal.returns-in_default-clause-value
 returns-in_default-clause-value c =
     let r = c.placeless_value.result in
     let lines = c.args.spots.now.lines in
-    let none : place_of c.args.id c.args.spots.now.places.now ≡ None = search rules in
+    let none : place_of c.args.id c.args.spots.now.places ≡ None = search rules in
     let id : string_bytes c.in_ok-shown.shown ≡ shown_id c.args.id = search rules in
     subst (λ place. IfOk r (λ value. view value ≡ spec.in_file c.args.file c.args.krate (string (shown_id c.args.id)) lines place)) (sym none)
     (subst (λ id. IfOk r (λ value. view value ≡ spec.in_file c.args.file c.args.krate (string id) lines None)) id (c.placeless_value.ensures lines))
@@ -22,7 +22,7 @@ returns-clause-value c =
     let r = c.placed_value.result in
     let lines = c.args.spots.now.lines in
     let place = c.in-Some.place in
-    let some : place_of c.args.id c.args.spots.now.places.now ≡ Some place = search rules in
+    let some : place_of c.args.id c.args.spots.now.places ≡ Some place = search rules in
     let id : string_bytes c.in_ok-shown.shown ≡ shown_id c.args.id = search rules in
     let at : c.position-at.result ≡ position_of lines (stands_at place) = search rules in
     subst (λ p. IfOk r (λ value. view value ≡ spec.in_file c.args.file c.args.krate (string (shown_id c.args.id)) lines p)) (sym some)

@@ -1,5 +1,5 @@
 use Rattle.std.proofs.Common.{◌≡◌, ◌≤◌, [], ◌∷◌, Some, Ok, IfSome, option_copied, rules, string_bytes, sym, ap, subst, ◌∙◌}
-use Rattle.source_session.proofs.Common.{bytes_eq-Decides, last_number, MakesAlone, spliced, text_in}
+use Rattle.source_session.proofs.Common.{bytes_eq-Decides, last_number, MakesAlone, spliced_text, text_in}
 use Rattle.source_session.specs.Edits as line
 use Rattle.source_session.proofs.Alone.{set_by_change, set_by_itself}
 use Rattle.source_session.proofs.inside.set_inside.Goals as goal
@@ -24,6 +24,6 @@ returns c =
     let had : text_in old c.args.file.0 ≡ Some text = sym c.text_of.ensures ∙ ap option_copied c.in-Some.is in
     let range = c.in-Some-difference.range in
     let typed = c.in-Some-difference.typed.now in
-    let differ : c.args.new.now ≡ spliced c.deref.result.now range typed = search rules in
-    let made = subst (λ t. c.args.new.now ≡ spliced t range typed) c.deref.ensures differ in
+    let differ : c.args.new.now ≡ spliced_text c.deref.result.now range typed = search rules in
+    let made = subst (λ t. c.args.new.now ≡ spliced_text t range typed) c.deref.ensures differ in
     set_by_change c.args.sources.now c.change_inside.new.sources old c.change_inside.new.texts.entries c.args.file.0 range typed c.args.new.now text c.change_inside.result had made c.change_inside.ensures

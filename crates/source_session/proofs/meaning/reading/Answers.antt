@@ -1,6 +1,6 @@
 use Rattle.std.proofs.Common.{refl, subst}
 use Rattle.source_session.proofs.Common.{HasTextOf, IsListedBare, closers_in, file_view}
-use Rattle.source_reading.proofs.ListedTexts.{bare_listed}
+use Rattle.source_rows.proofs.ListedTexts.{bare_listed}
 use Rattle.source_session.proofs.meaning.reading.Goals as goal
 
 pub returns-clause-means : goal.returns-clause-means

@@ -1,6 +1,0 @@
-pub mod Own
-pub mod Matches
-pub mod Changes
-pub mod ChangeWords
-pub mod Views
-pub mod Inner

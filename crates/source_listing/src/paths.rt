@@ -1,0 +1,44 @@
+//! Paths of names, with two colons before each, as `::a::b`.
+ghost use Rattle.std.specs.Prelude.{◌≡◌, ◌++◌, OnOk, string_bytes, flat_map};
+ghost use Rattle.source_listing.specs.Paths as spec;
+
+use hir_input::Name;
+use std::alloc::AllocError;
+
+/// Adds two colons and a name.
+///
+/// # Errors
+///
+/// Only if memory runs out.
+pub fn push_segment(name: &str, path: &mut String) -> Result<(), AllocError>
+    ensures { OnOk result (string_bytes path.new ≡ string_bytes path.old ++ spec.bare_segment name.now) }
+{
+    path.push_str("::")?;
+    path.push_str(name)
+}
+
+/// Adds names, each behind two colons.
+///
+/// # Errors
+///
+/// Only if memory runs out.
+pub fn push_scope(scope: &[&Name], path: &mut String) -> Result<(), AllocError>
+    ensures { let segments = flat_map (λ n. spec.bare_segment n.now) scope.now in
+        OnOk result (string_bytes path.new ≡ string_bytes path.old ++ segments) }
+{
+    for name in scope {
+        push_segment(name.text(), path)?;
+    }
+    Ok(())
+}
+
+/// Whether a path is the one that is looked for, or ends as that does where it may begin anywhere.
+pub fn is_sought_path(sought: &str, is_anywhere: bool, path: &str) -> bool
+    ensures { result ≡ spec.is_sought_path sought.now is_anywhere path.now }
+{
+    if is_anywhere {
+        path.as_bytes().ends_with(sought.as_bytes())
+    } else {
+        path == sought
+    }
+}

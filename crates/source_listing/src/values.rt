@@ -1,0 +1,131 @@
+//! What is told of items and members, as values of JSON.
+ghost use Rattle.std.specs.Prelude.{◌≡◌, IfOk, OnOk, option_copied};
+ghost use Rattle.serde_json.specs.Data.{put as put_member, string};
+ghost use Rattle.serde_json.specs.View.{members_view, view};
+ghost use Rattle.tree_walk.specs.Views.{subject_view};
+ghost use Rattle.source_listing.specs.Objects as spec;
+
+use crate::lines::push_visible_in;
+use crate::subjects::push_short_tree;
+use hir_input::{Edition, Name};
+use item_tree::{RawVisibility, VisibilityExplicitness};
+use hir_input_json::member::Members;
+use serde_json::{Value, put};
+use source_rows::Spot;
+use std::alloc::{AllocError, Global};
+use tree_walk::Subject;
+
+/// A name, or null.
+pub(crate) fn name_value(alloc: Global, name: Option<&Name>) -> Result<Value, AllocError>
+    ensures { IfOk result (λ value. view value ≡ spec.name_form (option_copied name.entry)) }
+{
+    match name {
+        None => Ok(Value::Null),
+        Some(name) => Value::try_from_str(alloc, name.text()),
+    }
+}
+
+/// The header of an impl; other items have none.
+pub(crate) fn header_value(alloc: Global, header: &str) -> Result<Value, AllocError>
+    ensures { IfOk result (λ value. view value ≡ spec.header_form header.now) }
+{
+    if header.is_empty() {
+        return Ok(Value::Null);
+    }
+    Value::try_from_str(alloc, header)
+}
+
+/// What an item is told by if it has no name.
+pub(crate) fn subject_value(
+    alloc: Global,
+    edition: &Edition,
+    header: &str,
+    subject: Subject<'_>,
+) -> Result<Value, AllocError>
+    ensures { let form = spec.subject_form edition.now.reserved.items header.now
+        (subject_view subject.entry) in
+        IfOk result (λ value. view value ≡ form) }
+{
+    match subject {
+        Subject::Nothing => header_value(alloc, header),
+        Subject::Use(tree) => {
+            let mut text = String::new(alloc);
+            push_short_tree(edition, tree, &mut text)?;
+            Ok(Value::String(text))
+        }
+        Subject::Call(path) => Ok(Value::String(path.display(edition).to_string(alloc)?)),
+    }
+}
+
+/// A visibility as it was written.
+pub(crate) fn visibility_value(
+    alloc: Global,
+    edition: &Edition,
+    visibility: Option<&RawVisibility>,
+) -> Result<Value, AllocError>
+    ensures { let reserved = edition.now.reserved.items in
+        IfOk result (λ value. view value ≡ spec.visibility_form reserved (option_copied visibility.entry)) }
+{
+    match visibility {
+        None | Some(RawVisibility::PubSelf(VisibilityExplicitness::Implicit)) => Ok(Value::Null),
+        Some(RawVisibility::PubSelf(VisibilityExplicitness::Explicit)) => {
+            Value::try_from_str(alloc, "pub(self)")
+        }
+        Some(RawVisibility::Public) => Value::try_from_str(alloc, "pub"),
+        Some(RawVisibility::PubCrate) => Value::try_from_str(alloc, "pub(crate)"),
+        Some(RawVisibility::Module(path, _)) => {
+            let mut text = String::new(alloc);
+            push_visible_in(edition, path, &mut text)?;
+            Ok(Value::String(text))
+        }
+    }
+}
+
+/// The line of a spot, or null.
+pub(crate) fn line_value(spot: Option<Spot>) -> Value
+    ensures { view result ≡ spec.line_form spot }
+{
+    match spot {
+        None => Value::Null,
+        Some(spot) => Value::from(spot.position.line),
+    }
+}
+
+/// The column of a spot, or null.
+pub(crate) fn column_value(spot: Option<Spot>) -> Value
+    ensures { view result ≡ spec.column_form spot }
+{
+    match spot {
+        None => Value::Null,
+        Some(spot) => Value::from(spot.position.column),
+    }
+}
+
+/// The bytes of a spot, from where to where, or null.
+pub(crate) fn range_value(alloc: Global, spot: Option<Spot>) -> Result<Value, AllocError>
+    ensures { IfOk result (λ value. view value ≡ spec.range_form spot) }
+{
+    match spot {
+        None => Ok(Value::Null),
+        Some(spot) => {
+            let mut range = Vec::new(alloc);
+            range.push(Value::from(spot.range.start))?;
+            range.push(Value::from(spot.range.end))?;
+            Ok(Value::Array(range))
+        }
+    }
+}
+
+/// Adds a text to the members of an object.
+pub(crate) fn put_text(
+    alloc: Global,
+    key: &str,
+    text: &str,
+    members: &mut Members,
+) -> Result<(), AllocError>
+    ensures { let old = members_view members.old.entries in
+        OnOk result (members_view members.new.entries ≡ put_member key.now (string text.now) old) }
+{
+    let text = Value::try_from_str(alloc, text)?;
+    put(members, alloc, key, text)
+}
