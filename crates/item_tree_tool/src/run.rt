@@ -13,7 +13,11 @@ use std::io::{Read, Write};
 /// # Errors
 ///
 /// Those of `item_tree_request::run_with`.
-pub fn run_outlines<R: Read, W: Write>(alloc: Global, input: &mut R, output: &mut W) -> Result<(), RunError>
+pub fn run_outlines<R: Read, W: Write>(
+    alloc: Global,
+    input: &mut R,
+    output: &mut W,
+) -> Result<(), RunError>
     ensures run { HasRun IsOutlined result (R.remaining input.old) (R.remaining input.new)
         (W.contents output.old) (W.contents output.new) }
     ensures fixed { AreFixed IsOutlined }

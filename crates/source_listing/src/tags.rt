@@ -169,7 +169,15 @@ fn push_tag(
         return Ok(());
     };
     let line = finder.lines.position(stands_at(place)).line;
-    push_text(name, path, line, letter, "module", row.scope.as_slice(), out)
+    push_text(
+        name,
+        path,
+        line,
+        letter,
+        "module",
+        row.scope.as_slice(),
+        out,
+    )
 }
 
 /// The modules around an item, and what its members stand in.
