@@ -125,7 +125,7 @@ module _ (b : Parting) (ts us : Tokens) (h : b.twins.are ts us) (n : b.twins.are
   head_next w =
       pick Next (bytes_eq w (codes "use")) n (pick Next (bytes_eq w (codes "fn")) n (pick Next (bytes_eq w (codes "impl")) n (pick Next (bytes_eq w (codes "trait")) n
       (pick Next (bytes_eq w (codes "struct")) n (pick Next (bytes_eq w (codes "enum")) n (pick Next (bytes_eq w (codes "const")) n (pick Next (bytes_eq w (codes "static")) n
-      (pick Next (bytes_eq w (codes "type")) n (pick Next (bytes_eq w (codes "mod")) n (pick Next (bytes_eq w (codes "macro")) n (pick Next (bytes_eq w (codes "union")) (pick Next (has_name (bumped ts)) n h)
+      (pick Next (bytes_eq w (codes "type")) n (pick Next (bytes_eq w (codes "mod")) n (pick Next (bytes_eq w (codes "macro")) n (pick Next (bytes_eq w (codes "union")) (pick Next (sees has_name (bumped ts)) n h)
       (pick Next (bytes_eq w (codes "macro_rules")) rules_next (pick Next (bytes_eq w (codes "extern")) extern_next h)))))))))))))
 
 no_head : (behind : Tokens) → head_by [] behind ≡ heads.Other
