@@ -11,6 +11,8 @@ modifiers_stop (suc n) ts e = rw e refl
 pub modifiers_more : (bound at : ℕ) (ts : Tokens) → at < bound → is_modifier ts ≡ true → behind_modifiers_from (bound - at) ts ≡ behind_modifiers_from (bound - (at + 1)) (behind_modifier ts)
 modifiers_more bound at ts below e = let turn : bound - at ≡ suc (bound - (at + 1)) = omega arith in rw (turn, e) refl
 
+pub ruleset modifier_turns = (modifiers_more, modifiers_stop)
+
 -- ---- what is no item
 
 pub segments_stop : (n : ℕ) (ts : Tokens) → begins_path ts ≡ false → behind_segments_from n ts ≡ ts
@@ -20,12 +22,16 @@ segments_stop (suc n) ts e = rw e refl
 pub segments_more : (bound at : ℕ) (ts : Tokens) → at < bound → begins_path ts ≡ true → behind_segments_from (bound - at) ts ≡ behind_segments_from (bound - (at + 1)) (bumped (bumped (bumped ts)))
 segments_more bound at ts below e = let turn : bound - at ≡ suc (bound - (at + 1)) = omega arith in rw (turn, e) refl
 
+pub ruleset segment_turns = (segments_more, segments_stop)
+
 pub others_stop : (n : ℕ) (ts : Tokens) → is_behind_others ts ≡ true → behind_others_from n ts ≡ ts
 others_stop zero ts e = refl
 others_stop (suc n) ts e = rw e refl
 
 pub others_more : (bound at : ℕ) (ts : Tokens) → at < bound → is_behind_others ts ≡ false → behind_others_from (bound - at) ts ≡ behind_others_from (bound - (at + 1)) (behind_other ts)
 others_more bound at ts below e = let turn : bound - at ≡ suc (bound - (at + 1)) = omega arith in rw (turn, e) refl
+
+pub ruleset other_turns = (others_more, others_stop)
 
 -- ---- texts
 
@@ -38,6 +44,8 @@ last_more bound at end last ts below e =
     let turn : bound - at ≡ suc (bound - (at + 1)) = omega arith in
     let other : (ts.past == end) ≡ false = ne_eqb ts.past end e in
     rw (turn, other) refl
+
+pub ruleset last_turns = (last_more, last_stop)
 
 -- ---- statements
 

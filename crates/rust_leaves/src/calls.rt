@@ -10,7 +10,7 @@ ghost use Rattle.rust_leaves.specs.Views.{callee_view, leaf_view};
 use crate::head::{begins_call, is_called};
 use crate::leaf::{Leaf, read_leaf};
 use crate::named::{call_end, item_name_or};
-use crate::texts::{bare, last_text};
+use crate::texts::{last_text, without_hash};
 use crate::wanted::Wanted;
 use hir_input::ast::{Item, MacroCall, MacroRules, PathNode};
 use hir_input::{AstIdKind, EditionYear, ExpandTo, Meta, SyntaxContext};
@@ -65,7 +65,7 @@ pub(crate) fn take_callee<'t>(
     if !is_called(&ahead) {
         return Ok(None);
     }
-    let name = bare(last_text(cursor, ahead.past()));
+    let name = without_hash(last_text(cursor, ahead.past()));
     ahead.bump();
     *cursor = ahead;
     Ok(Some(Callee { path, name }))

@@ -74,12 +74,12 @@ fn word_behind_abi<'t>(behind: &Cursor<'t>) -> &'t str
 }
 
 /// What is left behind the next token.
-pub(crate) fn second<'t>(cursor: &Cursor<'t>) -> Cursor<'t>
+pub(crate) fn behind_next<'t>(cursor: &Cursor<'t>) -> Cursor<'t>
     ensures { result ≡ bumped cursor.now }
 {
-    let mut second = cursor.ahead();
-    second.bump();
-    second
+    let mut behind = cursor.ahead();
+    behind.bump();
+    behind
 }
 
 #[tactic(auto, unfolding(crate::specs::Heads::follows_async))]
@@ -92,7 +92,7 @@ fn is_behind_async(behind: &Cursor<'_>) -> bool
 fn is_gen_modifier(cursor: &Cursor<'_>) -> bool
     ensures { result ≡ spec.is_gen_modifier cursor.now }
 {
-    cursor.word() == "gen" && is_behind_async(&second(cursor))
+    cursor.word() == "gen" && is_behind_async(&behind_next(cursor))
 }
 
 fn is_async_modifier(behind: &Cursor<'_>) -> bool
@@ -107,9 +107,9 @@ fn is_weak_modifier(cursor: &Cursor<'_>) -> bool
     ensures { result ≡ spec.is_weak_modifier cursor.now }
 {
     match cursor.word() {
-        "async" => is_async_modifier(&second(cursor)),
-        "gen" => is_behind_async(&second(cursor)),
-        "auto" => second(cursor).word() == "trait",
+        "async" => is_async_modifier(&behind_next(cursor)),
+        "gen" => is_behind_async(&behind_next(cursor)),
+        "auto" => behind_next(cursor).word() == "trait",
         _ => false,
     }
 }
@@ -128,19 +128,40 @@ fn is_unsafe_modifier(behind: &Cursor<'_>) -> bool
     is_among(behind.word(), &BEHIND_UNSAFE) || is_weak_modifier(behind)
 }
 
+#[tactic(auto, unfolding(crate::specs::Heads::follows_safe))]
+fn follows_safe(word: &str) -> bool
+    ensures { result ≡ spec.follows_safe word.now }
+{
+    is_among(word, &BEHIND_SAFE)
+}
+
+#[tactic(auto, unfolding(crate::specs::Heads::follows_default))]
+fn follows_default(word: &str) -> bool
+    ensures { result ≡ spec.follows_default word.now }
+{
+    is_among(word, &BEHIND_DEFAULT)
+}
+
+#[tactic(auto, unfolding(crate::specs::Heads::follows_extern_modifier))]
+fn follows_extern(word: &str) -> bool
+    ensures { result ≡ spec.follows_extern_modifier word.now }
+{
+    is_among(word, &BEHIND_EXTERN)
+}
+
 /// Whether a modifier comes next. Only behind a word that can be one a token is cut.
-#[tactic(auto, unfolding(crate::specs::Heads::is_modifier, crate::specs::Heads::is_modifier_before, crate::specs::Heads::follows_safe, crate::specs::Heads::follows_default, crate::specs::Heads::follows_extern_modifier))]
+#[tactic(auto, unfolding(crate::specs::Heads::is_modifier, crate::specs::Heads::is_modifier_before))]
 pub(crate) fn is_modifier(cursor: &Cursor<'_>) -> bool
     ensures { result ≡ spec.is_modifier cursor.now }
 {
     match cursor.word() {
-        "const" => is_const_modifier(&second(cursor)),
-        "unsafe" => is_unsafe_modifier(&second(cursor)),
-        "safe" => is_among(second(cursor).word(), &BEHIND_SAFE),
-        "default" | "final" => is_among(second(cursor).word(), &BEHIND_DEFAULT),
-        "extern" => is_among(word_behind_abi(&second(cursor)), &BEHIND_EXTERN),
-        "type" => second(cursor).word() == "const",
-        "reuse" => second(cursor).word() == "impl",
+        "const" => is_const_modifier(&behind_next(cursor)),
+        "unsafe" => is_unsafe_modifier(&behind_next(cursor)),
+        "safe" => follows_safe(behind_next(cursor).word()),
+        "default" | "final" => follows_default(behind_next(cursor).word()),
+        "extern" => follows_extern(word_behind_abi(&behind_next(cursor))),
+        "type" => behind_next(cursor).word() == "const",
+        "reuse" => behind_next(cursor).word() == "impl",
         _ => is_weak_modifier(cursor),
     }
 }
@@ -157,7 +178,7 @@ fn pass_modifier(cursor: &mut Cursor<'_>)
 }
 
 /// Passes over the words that are modifiers where they stand, and the name of an interface behind `extern`.
-#[tactic(auto, unfolding(crate::specs::Heads::behind_modifiers), using(crate::proofs::Steps::modifiers_more, crate::proofs::Steps::modifiers_stop))]
+#[tactic(auto, unfolding(crate::specs::Heads::behind_modifiers), using(crate::proofs::Steps::modifier_turns))]
 pub(crate) fn pass_modifiers(cursor: &mut Cursor<'_>)
     ensures { cursor.new ≡ spec.behind_modifiers cursor.old }
 {
@@ -193,7 +214,7 @@ fn extern_head(behind: &Cursor<'_>) -> Head
 fn macro_rules_head(behind: &Cursor<'_>) -> Head
     ensures { result ≡ spec.macro_rules_head behind.now }
 {
-    let is_named = behind.symbol() == b'!' && second(behind).is_at_identifier();
+    let is_named = behind.symbol() == b'!' && behind_next(behind).is_at_identifier();
     head_if(is_named, Head::MacroRules)
 }
 
@@ -214,9 +235,12 @@ pub(crate) fn head_at(cursor: &Cursor<'_>) -> Head
         "type" => Head::Plain(PlainKind::TypeAlias),
         "mod" => Head::Module,
         "macro" => Head::Plain(PlainKind::MacroDef),
-        "union" => head_if(has_name(&second(cursor)), Head::Plain(PlainKind::Union)),
-        "macro_rules" => macro_rules_head(&second(cursor)),
-        "extern" => extern_head(&second(cursor)),
+        "union" => head_if(
+            has_name(&behind_next(cursor)),
+            Head::Plain(PlainKind::Union),
+        ),
+        "macro_rules" => macro_rules_head(&behind_next(cursor)),
+        "extern" => extern_head(&behind_next(cursor)),
         _ => Head::Other,
     }
 }
@@ -264,7 +288,7 @@ fn is_first_word(word: &str) -> bool
 fn is_union(cursor: &Cursor<'_>) -> bool
     ensures { result ≡ spec.is_union cursor.now }
 {
-    cursor.word() == "union" && has_name(&second(cursor))
+    cursor.word() == "union" && has_name(&behind_next(cursor))
 }
 
 /// Whether a word comes next that can be a segment of a path.
@@ -278,11 +302,11 @@ fn is_path_word(cursor: &Cursor<'_>) -> bool
 fn begins_path(cursor: &Cursor<'_>) -> bool
     ensures { result ≡ spec.begins_path cursor.now }
 {
-    is_path_word(cursor) && second(cursor).is_pair(b':', b':')
+    is_path_word(cursor) && behind_next(cursor).is_pair(b':', b':')
 }
 
 /// Passes over words of a path with `::` behind them.
-#[tactic(auto, unfolding(crate::specs::Heads::behind_segments), using(crate::proofs::Steps::segments_more, crate::proofs::Steps::segments_stop))]
+#[tactic(auto, unfolding(crate::specs::Heads::behind_segments), using(crate::proofs::Steps::segment_turns))]
 fn pass_segments(cursor: &mut Cursor<'_>)
     ensures { cursor.new ≡ spec.behind_segments cursor.old }
 {
@@ -302,7 +326,7 @@ fn pass_segments(cursor: &mut Cursor<'_>)
 pub(crate) fn is_called(cursor: &Cursor<'_>) -> bool
     ensures { result ≡ spec.is_called cursor.now }
 {
-    cursor.symbol() == b'!' && second(cursor).is_at_open()
+    cursor.symbol() == b'!' && behind_next(cursor).is_at_open()
 }
 
 fn is_called_here(cursor: &Cursor<'_>) -> bool
@@ -372,7 +396,7 @@ fn pass_other(cursor: &mut Cursor<'_>)
 }
 
 /// Passes over tokens that begin no item, up to where one may begin or a bracket closes.
-#[tactic(auto, unfolding(crate::specs::Heads::behind_others), using(crate::proofs::Steps::others_more, crate::proofs::Steps::others_stop))]
+#[tactic(auto, unfolding(crate::specs::Heads::behind_others), using(crate::proofs::Steps::other_turns))]
 pub fn pass_others(cursor: &mut Cursor<'_>)
     ensures { cursor.new ≡ spec.behind_others cursor.old }
 {

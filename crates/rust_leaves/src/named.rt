@@ -13,7 +13,7 @@ ghost use Rattle.rust_leaves.specs.Leaves as spec;
 ghost use Rattle.rust_leaves.specs.Views.{name_view, rest_view};
 
 use crate::head::Head;
-use crate::texts::bare;
+use crate::texts::without_hash;
 use hir_input::ast::PlainKind;
 use hir_input::{Meta, Name};
 use rust_cursor::{Cursor, Excerpt};
@@ -49,7 +49,7 @@ fn named_of<'t>(placed: Option<PlacedName>, text: &'t str) -> Named<'t>
     match placed {
         Some(placed) => Named {
             name: Some(placed.name),
-            hashed: bare(text),
+            hashed: without_hash(text),
             range: Some(placed.range),
         },
         None => Named {

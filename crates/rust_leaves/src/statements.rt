@@ -3,7 +3,7 @@
 ghost use Rattle.std.specs.Prelude.{◌≡◌};
 ghost use Rattle.rust_leaves.specs.Statements as spec;
 
-use crate::head::{Head, head_at, is_modifier, second};
+use crate::head::{Head, behind_next, head_at, is_modifier};
 use rust_cursor::Cursor;
 use rust_lexer::TokenKind;
 
@@ -37,7 +37,7 @@ fn leads_closure(cursor: &Cursor<'_>) -> bool
 {
     match cursor.word() {
         "move" => true,
-        "async" => second(cursor).symbol() != b':',
+        "async" => behind_next(cursor).symbol() != b':',
         _ => false,
     }
 }
@@ -63,8 +63,8 @@ fn is_item_head(cursor: &Cursor<'_>) -> bool
         return false;
     }
     match cursor.word() {
-        "const" | "static" => names_value(&second(cursor)),
-        "use" => second(cursor).symbol() != b'|',
+        "const" | "static" => names_value(&behind_next(cursor)),
+        "use" => behind_next(cursor).symbol() != b'|',
         _ => true,
     }
 }
@@ -246,7 +246,7 @@ fn pass_behind_block(cursor: &mut Cursor<'_>, blocks: u8) -> Step
 fn is_use_of(cursor: &Cursor<'_>) -> bool
     ensures { result ≡ spec.is_use_of cursor.now }
 {
-    cursor.symbol() == b'.' && second(cursor).word() == "use"
+    cursor.symbol() == b'.' && behind_next(cursor).word() == "use"
 }
 
 #[tactic(auto, unfolding(crate::specs::Statements::plain_step))]

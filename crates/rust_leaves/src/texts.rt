@@ -8,7 +8,7 @@ use rust_paths::behind_hash;
 
 /// An identifier without `r#`.
 #[tactic(auto, unfolding(crate::specs::Texts::bare))]
-pub(crate) fn bare(text: &str) -> &str
+pub(crate) fn without_hash(text: &str) -> &str
     ensures { result.now ≡ spec.bare text.now }
 {
     match behind_hash(text) {
@@ -18,7 +18,7 @@ pub(crate) fn bare(text: &str) -> &str
 }
 
 /// The text of the last token up to a place.
-#[tactic(auto, unfolding(crate::specs::Texts::last_text), using(crate::proofs::Steps::last_stop, crate::proofs::Steps::last_more))]
+#[tactic(auto, unfolding(crate::specs::Texts::last_text), using(crate::proofs::Steps::last_turns))]
 pub(crate) fn last_text<'t>(cursor: &Cursor<'t>, end: usize) -> &'t str
     ensures { result.now ≡ spec.last_text end cursor.now }
 {

@@ -33,7 +33,7 @@ fn alias<'t>(alloc: Global, cursor: &mut Cursor<'t>) -> Result<Named<'t>, AllocE
 
 /// Takes `as` and what stands behind it, if it comes next.
 #[tactic(auto, unfolding(crate::specs::Leaves::renamed))]
-fn renamed<'t>(alloc: Global, cursor: &mut Cursor<'t>) -> Result<Option<Named<'t>>, AllocError>
+fn take_rename<'t>(alloc: Global, cursor: &mut Cursor<'t>) -> Result<Option<Named<'t>>, AllocError>
     ensures { Gives (option_map name_view) (leaves.renamed cursor.old) result cursor.new }
 {
     if !cursor.eat_word("as") {
@@ -72,7 +72,7 @@ pub(crate) fn crate_item<'t>(
         (spec.some_read (spec.crate_item (map meta_view attrs.items) visibility cursor.old)) result cursor.new }
 {
     let named = item_name_or(alloc, cursor, "self")?;
-    let alias = renamed(alloc, cursor)?;
+    let alias = take_rename(alloc, cursor)?;
     let told_at = told_at(named.range, &alias);
     let is_ended = cursor.eat(b';');
     let item = Item::ExternCrate(ExternCrate {
