@@ -20,6 +20,7 @@ use Rattle.source_rows.specs.Labels.{has_members, text_at}
 use Rattle.source_rows.specs.Parts.{body_members}
 use Rattle.source_rows.specs.Enabled.{any_disables}
 use Rattle.source_rows.specs.Types.{type_name}
+use Rattle.rust_cursor.specs.Grammar.{reads}
 
 -- Where closers were put in the text that is read of a file: their places in that text, and in the file's.
 pub record Closers : Type 0 where
@@ -65,7 +66,7 @@ told_item (Some c) p = moved_item (place_back_by c.puts) p
 
 -- the name that stands in a range of a text
 abbrev pub name_at : EditionYear → List ℕ → TextRange → Option (List ℕ)
-name_at edition text range = (name (tokens_of edition (text_at text range))).0
+name_at edition text range = (reads name (tokens_of edition (text_at text range))).0
 
 abbrev pub member_told : Option Closers → List AtomView → Bool → MemberRead → ℕ → Option (List ℕ) → Option Listed
 member_told closers options is_active m at None = None
