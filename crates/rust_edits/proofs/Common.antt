@@ -13,6 +13,7 @@ pub use Rattle.rust_cursor.proofs.Braced.{bumped_at, enters, inside_is, some_at,
 pub use Rattle.rust_cursor.proofs.Few.{tokens_short}
 pub use Rattle.rust_cursor.proofs.Laid.{AreLaid, IsLaid, at_behind, behind, tokens_laid}
 pub use Rattle.rust_cursor.proofs.Leads.{Forwards, LeadsTo, behind_angles_leads, behind_closed_leads, behind_tree_leads, beyond_leads, bumped_leads, eat_leads, eat_word_leads, further, here, reached_leads, stops_empty, taken_leads_on, through, when}
+pub use Rattle.rust_cursor.specs.Grammar.{taken_with}
 pub use Rattle.rust_cursor.proofs.Local.{after_word, eat_local, eat_word_local, word_test}
 pub use Rattle.rust_cursor.proofs.Near.{Ending, Gone, Near, are_ended, at_same, bumped_onward, enough_left, fewer, is_last, more_left, near, near_twins, nothing, past_same, taken_same}
 pub use Rattle.rust_cursor.proofs.NearPassing.{behind_angles_near, behind_tree_near, beyond_near, near_parting, reached_near}
@@ -108,10 +109,9 @@ pub use Rattle.rust_metas.proofs.AlikeAttributes.{inner_attributes_until, outer_
 pub use Rattle.rust_metas.proofs.Around.{inner_some}
 pub use Rattle.rust_metas.proofs.Leads.{inner_attributes_leads, outer_attributes_leads}
 unfoldable pub use Rattle.rust_metas.specs.Attributes.{attribute, attributes, inner_attributes, is_attribute, is_behind, is_doc, outer_attributes}
-pub use Rattle.rust_paths.proofs.Alike.{after_name, next_name_same, path_until, visibility_until}
 pub use Rattle.rust_paths.proofs.AlikeTrees.{SameFound, use_tree_until}
-pub use Rattle.rust_paths.proofs.Leads.{path_leads, use_tree_leads, visibility_leads}
-pub use Rattle.rust_paths.specs.Names.{Placed, as_name, placed_if, taken_with}
+pub use Rattle.rust_paths.proofs.Leads.{use_tree_leads}
+pub use Rattle.rust_paths.specs.Names.{Placed, as_name, placed_if}
 unfoldable pub use Rattle.rust_paths.specs.Names.{is_keyword, is_path_keyword, name, next_name, placed_name, plain_name}
 unfoldable pub use Rattle.rust_paths.specs.Paths.{path}
 unfoldable pub use Rattle.rust_paths.specs.UseTrees.{use_tree}

@@ -1,6 +1,6 @@
 -- The places of a block are those of its items and macro calls.
 use Rattle.std.proofs.Common.{◌≡◌, ◌<◌, ◌==◌, ◌&&◌, ℕ, zero, suc, Bool, true, false, not, Option, Some, None, List, [], ◌∷◌, ◌++◌, length, refl, sym, subst, ap, ◌∙◌, arith, append_assoc, append-nil, is_some, option_to_list}
-use Rattle.rust_items.proofs.Common.{and_parts, ne_eqb, All-nil, EditionYear, FileAstId, MetaView, ItemView, ItemViews, macro_call, no_items, item_and, items_from, items_of, StmtView, item_stmt, call_stmt, other_stmt, TailView, no_tail, call_tail, other_tail, stmt_items, block_view, Tokens, tokens_of, symbol, at, eat, is_at_end, bumped, most, beyond, LeadsTo, here, through, when, bumped_leads, eat_leads, beyond_leads, Takes, takes, takes_leads, takes_behind, taken_block, IsLaid, at_behind, takes_strict, tokens_laid, path, path_leads, outer_attributes, outer_attributes_leads, inner_attributes_leads, front_behind, front, is_called, SourceBlock, PartView, no_part, stmt_part, tail_part, BodyRead, empty_body, and_part, item_found, other_part, other_read, other_found, and_call, is_operand, call_found, called_found, taken_item, part_behind_attributes, part, parts_from, parts, stmts_with_ids, tail_with_id, is_bare, attributes_of, block_body, found_of, IsBlockRead, Found, nothing_found, first_numbers, numbered_call, item_with_ids, with_ids, is_list_end, turn, behind_front, with_feeds, id_of, IsWritten, ArePlaces, nothing, placed}
+use Rattle.rust_items.proofs.Common.{and_parts, ne_eqb, All-nil, EditionYear, FileAstId, MetaView, ItemView, ItemViews, macro_call, no_items, item_and, items_from, items_of, StmtView, item_stmt, call_stmt, other_stmt, TailView, no_tail, call_tail, other_tail, stmt_items, block_view, Tokens, tokens_of, symbol, at, eat, is_at_end, bumped, most, beyond, LeadsTo, here, through, when, bumped_leads, eat_leads, beyond_leads, Takes, takes, takes_leads, takes_behind, taken_block, IsLaid, at_behind, takes_strict, tokens_laid, path, outer_attributes, outer_attributes_leads, inner_attributes_leads, front_behind, front, is_called, SourceBlock, PartView, no_part, stmt_part, tail_part, BodyRead, empty_body, and_part, item_found, other_part, other_read, other_found, and_call, is_operand, call_found, called_found, taken_item, part_behind_attributes, part, parts_from, parts, stmts_with_ids, tail_with_id, is_bare, attributes_of, block_body, found_of, IsBlockRead, Found, nothing_found, first_numbers, numbered_call, item_with_ids, with_ids, is_list_end, turn, behind_front, with_feeds, id_of, IsWritten, ArePlaces, nothing, placed}
 use Rattle.hir_input.specs.declared.ids.AstIdKind.TheVariants as ast
 use Rattle.rust_cursor.proofs.Laid.{behind}
 use Rattle.rust_leaves.specs.Statements.{CallRead, statement, statement_call, is_item}
@@ -12,6 +12,8 @@ use Rattle.rust_items.proofs.Parts.{parts_stop}
 use Rattle.rust_items.proofs.Places.{place_is, place_within, turn_found}
 use Rattle.rust_items.proofs.FoundItems.{AreFound, adds_none, adds_problem, adds_item, none_found, found_more, unnumbered, widened}
 use Rattle.rust_items.proofs.UsesFound.{leaf_uses, no_uses, widened_uses}
+use Rattle.rust_cursor.specs.Grammar.{reads}
+use Rattle.rust_cursor.proofs.Rules.{rule_leads}
 
 -- ---- statements as a list of items
 
@@ -66,11 +68,11 @@ CallFound ts us (Some c) = IsCall ts us c
 call_is_found : (attrs : List MetaView) (ts : Tokens) → CallFound ts (statement_call attrs ts).1 (statement_call attrs ts).0
 unfolding statement_call
 call_is_found attrs ts =
-    when (is_some (path ts).0 && is_called (path ts).1)
+    when (is_some (reads path ts).0 && is_called (reads path ts).1)
     (λ e. rw e (record {
-      taken = takes (path ts).1 (path_leads ts) (called_some (path ts).1 (and_parts (is_some (path ts).0) (is_called (path ts).1) e).1) (tree_body_leads _);
+      taken = takes (reads path ts).1 (rule_leads path ts) (called_some (reads path ts).1 (and_parts (is_some (reads path ts).0) (is_called (reads path ts).1) e).1) (tree_body_leads _);
       id = refl;
-      body = braces_behind (through (path_leads ts) (bumped_leads _)) (block_braced (taken_block _ _ (bumped (path ts).1)));
+      body = braces_behind (through (rule_leads path ts) (bumped_leads _)) (block_braced (taken_block _ _ (bumped (reads path ts).1)));
     }))
     (λ e. rw e here)
 

@@ -14,6 +14,7 @@ pub use Rattle.rust_cursor.proofs.Alike.{KeptBy, UntilBy, by_stayed, stayed, wen
 pub use Rattle.rust_cursor.proofs.Around.{IsSound, sound_on}
 pub use Rattle.rust_cursor.proofs.Laid.{IsLaid, at_behind, past_within, taken_behind, takes_strict, tokens_laid}
 pub use Rattle.rust_cursor.proofs.Leads.{Forwards, HasBlock, LeadsTo, Takes, behind_closed_leads, behind_tree_leads, beyond_leads, block, bumped_leads, eat_leads, eat_pair_leads, eat_word_leads, further, here, no_block, symbol_some, taken_block, taken_leads_on, takes, takes_before, takes_behind, takes_leads, through, turns_leads, when, word_none}
+pub use Rattle.rust_cursor.specs.Grammar.{taken_with}
 pub use Rattle.rust_cursor.proofs.Local.{Kept, after_symbol, eat_local}
 pub use Rattle.rust_cursor.proofs.Passing.{BothBeside, behind_angles_beside, behind_field_beside, behind_tree_beside, beyond_beside}
 pub use Rattle.rust_cursor.proofs.Places.{AreAlike, IsAlike, SamePlace, alike_join, at_place, both, neither, no_more, past_place}
@@ -72,9 +73,8 @@ pub use Rattle.rust_metas.proofs.UntilAttributes.{inner_attributes_until, outer_
 unfoldable pub use Rattle.rust_metas.specs.Attributes.{inner_attributes, outer_attributes}
 pub use Rattle.rust_metas.specs.Docs.{kept_by}
 unfoldable pub use Rattle.rust_metas.specs.Docs.{kept_metas}
-pub use Rattle.rust_paths.proofs.Beside.{path_local, visibility_local}
-pub use Rattle.rust_paths.proofs.Leads.{behind_comma_leads, element_leads, list_leads, more_segments_leads, path_leads, placed_name_leads, placed_next, rename_leads, segment_leads, use_path_leads, use_tree_leads, visibility_leads}
-pub use Rattle.rust_paths.specs.Names.{Placed, as_name, behind_hash, is_underscore, name_text, placed_if, taken_with, unless_path_keyword}
+pub use Rattle.rust_paths.proofs.Leads.{element_leads, list_leads, placed_name_leads, placed_next, use_tree_leads}
+pub use Rattle.rust_paths.specs.Names.{Placed, as_name, behind_hash, is_underscore, name_text, placed_if, unless_path_keyword}
 unfoldable pub use Rattle.rust_paths.specs.Names.{is_keyword, is_path_keyword, name, next_name, placed_name, plain_name, raw_name}
 pub use Rattle.rust_paths.specs.Paths.{front_of_path, is_raw, written_path}
 unfoldable pub use Rattle.rust_paths.specs.Paths.{is_dollar_crate, is_path_start, more_segments, other_segment, path, segment, use_path}

@@ -1,6 +1,6 @@
 -- What is left behind items that hold none is left of the tokens before them, and what they are.
 use Rattle.std.proofs.Common.{◌≡◌, ◌==◌, ◌&&◌, ℕ, zero, suc, Bool, true, false, Option, Some, None, List, [], codes, refl, ap, ◌∙◌, arith, is_some, bytes_eq}
-use Rattle.rust_items.proofs.Common.{AllZip, and_parts, AstIdKind, FileAstId, Visibility, MetaView, PlainKind, no_items, Tokens, symbol, word, kind, text, at, eat, eat_word, is_empty, is_at_open, bumped, is_at_end, ExcerptRead, tree_body, LeadsTo, here, further, through, Forwards, when, bumped_leads, eat_leads, eat_word_leads, behind_tree_leads, taken_leads_on, Takes, takes, takes_leads, takes_behind, takes_before, symbol_some, word_none, HasBlock, no_block, block, taken_block, TextRange, Placed, placed_name, path, use_tree, placed_name_leads, placed_next, path_leads, visibility_leads, use_tree_leads, outer_attributes_leads, Head, LeafRead, range_to, name_read, named, named_or, crate_alias, crate_alias_if, renamed, semicolon_end, call_end, constant, structure, implementation, told_at, crate_item, use_declaration, macro_definition, is_called, begins_call, invocation, item_call, leaf_by, leaf, FrontRead, front_behind, front, id_of, name_of, items_held, trees_in, written_trees, behind_abi, is_modifier, behind_modifier, behind_modifiers_from, behind_modifiers, head_by, behind_head, head, behind_others, plain_leaf, mut_word, by_taken, rest_by, rest_of}
+use Rattle.rust_items.proofs.Common.{AllZip, and_parts, AstIdKind, FileAstId, Visibility, MetaView, PlainKind, no_items, Tokens, symbol, word, kind, text, at, eat, eat_word, is_empty, is_at_open, bumped, is_at_end, ExcerptRead, tree_body, LeadsTo, here, further, through, Forwards, when, bumped_leads, eat_leads, eat_word_leads, behind_tree_leads, taken_leads_on, Takes, takes, takes_leads, takes_behind, takes_before, symbol_some, word_none, HasBlock, no_block, block, taken_block, TextRange, Placed, placed_name, path, use_tree, placed_name_leads, placed_next, use_tree_leads, outer_attributes_leads, Head, LeafRead, range_to, name_read, named, named_or, crate_alias, crate_alias_if, renamed, semicolon_end, call_end, constant, structure, implementation, told_at, crate_item, use_declaration, macro_definition, is_called, begins_call, invocation, item_call, leaf_by, leaf, FrontRead, front_behind, front, id_of, name_of, items_held, trees_in, written_trees, behind_abi, is_modifier, behind_modifier, behind_modifiers_from, behind_modifiers, head_by, behind_head, head, behind_others, plain_leaf, mut_word, by_taken, rest_by, rest_of}
 use Rattle.std.specs.Option.{option_or}
 use Rattle.hir_input.specs.declared.ast.PlainKind.TheVariants as plain_kind
 use Rattle.hir_input.specs.declared.ids.AstIdKind.TheVariants as ast
@@ -9,6 +9,9 @@ use Rattle.rust_cursor.specs.Nests.{is_literal_kind}
 use Rattle.rust_leaves.proofs.AlikeFronts.{others_leads}
 use Rattle.rust_items.proofs.Names.{IsToken, untold, told_behind, named_told, named_or_told}
 use Rattle.rust_items.proofs.TreesRead.{word_some, zip_is, IsRead, read_around, use_tree_told}
+use Rattle.rust_cursor.specs.Grammar.{reads}
+use Rattle.rust_cursor.proofs.Rules.{rule_leads}
+use Rattle.rust_paths.specs.Visibilities.{visibility}
 
 -- ---- texts
 
@@ -83,7 +86,7 @@ takes_by_behind p t = record { leads = through p t.leads; word = λ other. takes
 
 pub front_takes : (ts : Tokens) → TakesBy (front ts).0.head ts (front ts).1
 unfolding front front_behind
-front_takes ts = takes_by_behind (through (outer_attributes_leads ts) (through (visibility_leads _) (behind_modifiers_leads _))) (head_takes _)
+front_takes ts = takes_by_behind (through (outer_attributes_leads ts) (through (rule_leads visibility _) (behind_modifiers_leads _))) (head_takes _)
 
 pub front_start : (ts : Tokens) → (front ts).0.start ≡ at ts
 unfolding front front_behind
@@ -267,10 +270,10 @@ called_some ts e = symbol_some 33 ts (omega arith) (and_parts (symbol ts == 33) 
 invocation_found : (attrs : List MetaView) (ts us : Tokens) → LeadsTo ts us → LeafFound ts (invocation attrs us).1 (invocation attrs us).0
 unfolding invocation
 invocation_found attrs ts us p =
-    when (is_some (path us).0 && is_called (path us).1)
+    when (is_some (reads path us).0 && is_called (reads path us).1)
     (λ e. rw e (record {
-      takes = takes (path us).1 (through p (path_leads us)) (called_some (path us).1 (and_parts (is_some (path us).0) (is_called (path us).1) e).1) (call_end_leads _);
-      leaf = record { leads = through p (through (path_leads us) (further (call_end_leads _))); id = refl; alone = refl; name = nameless; body = braces_behind (through p (through (path_leads us) (further here))) (call_end_braced _); told = λ _. untold; uses = tt };
+      takes = takes (reads path us).1 (through p (rule_leads path us)) (called_some (reads path us).1 (and_parts (is_some (reads path us).0) (is_called (reads path us).1) e).1) (call_end_leads _);
+      leaf = record { leads = through p (through (rule_leads path us) (further (call_end_leads _))); id = refl; alone = refl; name = nameless; body = braces_behind (through p (through (rule_leads path us) (further here))) (call_end_braced _); told = λ _. untold; uses = tt };
     }))
     (λ e. rw e p)
 

@@ -13,7 +13,6 @@ use Rattle.rust_metas.specs.declared.wanted.WantedMetas.{WantedMetas}
 use Rattle.rust_cursor.proofs.Leads.{LeadsTo, here, further, through, when, bumped_leads, eat_leads, eat_word_leads, behind_tree_leads, behind_angles_leads, beyond_leads, takes, takes_leads}
 use Rattle.rust_cursor.proofs.Laid.{IsLaid, behind, past_within, at_behind, taken_behind, takes_strict, tokens_laid}
 use Rattle.rust_paths.specs.Visibilities.{visibility}
-use Rattle.rust_paths.proofs.Leads.{visibility_leads}
 use Rattle.rust_metas.specs.Attributes.{outer_attributes, inner_attributes}
 use Rattle.rust_metas.proofs.Leads.{outer_attributes_leads, inner_attributes_leads}
 use Rattle.rust_items.proofs.Places.{name_in}
@@ -21,6 +20,7 @@ use Rattle.rust_items.proofs.Leads.{IsBraced, braced, IsNamed, by_token, LeafFou
 use Rattle.rust_items.specs.declared.member.MemberKind.{MemberKind}
 use Rattle.rust_items.specs.declared.member.MemberKind.TheVariants as member
 use Rattle.rust_items.proofs.MemberCuts.{placed_widened, members_fit, members_moved}
+use Rattle.rust_cursor.proofs.Rules.{rule_leads}
 
 -- ---- lists of members
 
@@ -173,7 +173,7 @@ part_found end w k ts laid =
     let v = visibility a.1 in
     let u = eat_word (codes "unsafe") v.1 in
     let n = named u.1 in
-    let before = through (outer_attributes_leads ts) (through (visibility_leads a.1) (eat_word_leads (codes "unsafe") v.1)) in
+    let before = through (outer_attributes_leads ts) (through (rule_leads visibility a.1) (eat_word_leads (codes "unsafe") v.1)) in
     let rest = behind_part_leads k n.1 in
     let comma = eat_leads 44 (behind_part k n.1) in
     record {

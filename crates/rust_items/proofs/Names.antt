@@ -7,6 +7,7 @@ use Rattle.rust_lexer.specs.declared.kind.TokenKind.TheVariants as kinds
 use Rattle.rust_lexer.specs.Tokens.{tokens, is_significant, text_of, AreInPlace}
 use Rattle.rust_lexer.proofs.Laws.{tokens_lossless, tokens_placed}
 use Rattle.hir_input.specs.Name.{is_name}
+use Rattle.rust_paths.proofs.Naming.{by_kind}
 use Rattle.rust_items.proofs.LineEnds.{part_moved}
 
 -- ---- a name of a token
@@ -61,14 +62,14 @@ as_same (Some w) n e =
 
 next_spelled : (ts : Tokens) (n : List ℕ) → next_name ts ≡ Some n → (is_name n ≡ true) × IsSpelled n (text ts)
 unfolding next_name
-next_spelled ts n e = let h = as_same (name_text ts.edition (kind ts) (text ts)) n e in (h.1, text_spelled ts.edition (kind ts) (text ts) n h.0)
+next_spelled ts n e = let h = as_same (name_text ts.edition (kind ts) (text ts)) n (by_kind ts.edition (kind ts) (text ts) ∙ e) in (h.1, text_spelled ts.edition (kind ts) (text ts) n h.0)
 
 placed_same : (ts : Tokens) (o : Option (List ℕ)) (p : Placed) → next_name ts ≡ o → placed_if (at ts) (taken_with o ts).0 (taken_with o ts).1.past ≡ Some p → next_name ts ≡ Some p.name
 placed_same ts None p n e = absurd cc
 placed_same ts (Some w) p n e = let same : record { name = w; start = at ts; end = (bumped ts).past } ≡ p = cc in n ∙ ap (λ q. Some q.name) same
 
 next_placed : (ts : Tokens) (p : Placed) → (placed_name ts).0 ≡ Some p → next_name ts ≡ Some p.name
-unfolding placed_name name
+unfolding placed_name name next_name
 next_placed ts p e = placed_same ts (next_name ts) p refl e
 
 read_told : (ts : Tokens) (o : Option Placed) → (placed_name ts).0 ≡ o → IsToken ts (name_read o (text ts)).name (name_read o (text ts)).range

@@ -1,6 +1,6 @@
 -- Where a use tree tells that trees begin, those of it that can be read are read.
 use Rattle.std.proofs.Common.{◌≡◌, ◌==◌, ◌||◌, ℕ, zero, suc, Bool, true, false, Option, Some, None, List, [], ◌∷◌, ◌++◌, codes, refl, sym, ap, ◌∙◌, subst, append-nil, append_assoc, arith, is_none, option_map, option_to_list, not, bytes_eq}
-use Rattle.rust_items.proofs.Common.{AllZip, PathNode, UseTreeView, trees_from, Tokens, symbol, word, kind, at, is_empty, is_pair, eat_pair, bumped, is_at_end, eat_colons, most, beyond, turns_from, turns, elements, one, LeadsTo, here, through, when, bumped_leads, eat_pair_leads, behind_closed_leads, behind_tree_leads, beyond_leads, turns_leads, Takes, takes, takes_behind, takes_before, symbol_some, word_none, next_name, name, placed_name, taken_with, is_raw, is_dollar_crate, other_segment, segment, more_segments, front_of_path, written_path, is_path_start, use_path, FoundInUse, begun_trees, begun_list, values, all_starts, bare_tree, tree_with_list, star_or_list, tree_behind, tree_with, tree_at, element_with, list, rename, use_tree, placed_next, segment_leads, more_segments_leads, use_path_leads, rename_leads, behind_comma_leads, list_leads, element_leads, is_readable, all_readable_trees, readable_trees, written_trees}
+use Rattle.rust_items.proofs.Common.{AllZip, PathNode, UseTreeView, trees_from, Tokens, symbol, word, kind, at, is_empty, is_pair, eat_pair, bumped, is_at_end, eat_colons, most, beyond, turns_from, turns, elements, one, LeadsTo, here, through, when, bumped_leads, eat_pair_leads, behind_closed_leads, behind_tree_leads, beyond_leads, turns_leads, Takes, takes, takes_behind, takes_before, symbol_some, word_none, next_name, name, placed_name, taken_with, is_raw, is_dollar_crate, other_segment, segment, more_segments, front_of_path, written_path, is_path_start, use_path, FoundInUse, begun_trees, begun_list, values, all_starts, bare_tree, tree_with_list, star_or_list, tree_behind, tree_with, tree_at, element_with, list, rename, use_tree, placed_next, list_leads, element_leads, is_readable, all_readable_trees, readable_trees, written_trees}
 use Rattle.hir_input.specs.declared.ast.PathNode.TheVariants.{Readable, Unreadable}
 use Rattle.hir_input.specs.declared.ast.Rename.{Rename}
 use Rattle.hir_input.specs.Words.{PathWord, name_word}
@@ -10,6 +10,10 @@ use Rattle.rust_paths.specs.Paths.{is_colons, is_last_self}
 use Rattle.rust_paths.specs.UseTrees.{self_in_list, self_path}
 use Rattle.rust_paths.proofs.Trees.{self_reads}
 use Rattle.std.proofs.lemmas.Bool.{and_parts}
+use Rattle.rust_cursor.specs.Grammar.{reads}
+use Rattle.rust_cursor.specs.Looks.{sees}
+use Rattle.rust_cursor.proofs.Rules.{rule_leads}
+use Rattle.rust_paths.specs.UseTrees.{comma}
 
 -- ---- lists side by side
 
@@ -29,7 +33,7 @@ pub word_some : (keyword : List ℕ) → bytes_eq [] keyword ≡ false → (ts :
 word_some keyword some ts e = when (is_empty ts) (λ h. let none = word_none ts h in let wrong : bytes_eq [] keyword ≡ true = rw none at e in absurd cc) (λ h. h)
 
 name_some : (ts : Tokens) (n : List ℕ) → next_name ts ≡ Some n → is_empty ts ≡ false
-unfolding placed_name name
+unfolding placed_name name next_name
 name_some ts n e = (placed_next ts (record { name = n; start = at ts; end = (bumped ts).past }) (rw e refl)).some
 
 -- a segment that means something is a token
@@ -48,14 +52,14 @@ name_takes : (ts : Tokens) (o : Option (List ℕ)) → next_name ts ≡ o → Se
 name_takes ts None e = tt
 name_takes ts (Some n) e = takes ts here (name_some ts n e) here
 
-other_takes : (ts : Tokens) → SegmentTakes (other_segment ts).0 ts (other_segment ts).1
-unfolding other_segment name
+other_takes : (ts : Tokens) → SegmentTakes (reads other_segment ts).0 ts (reads other_segment ts).1
+unfolding other_segment name next_name
 other_takes ts =
     when (symbol ts == 60) (λ e. rw e tt)
-    (λ e. rw e (when (is_dollar_crate ts) (λ f. rw f tt)
+    (λ e. rw e (when (sees is_dollar_crate ts) (λ f. rw f tt)
     (λ f. rw f (when (is_raw (kind ts)) (λ g. rw g (raw_takes ts (next_name ts) refl)) (λ g. rw g (name_takes ts (next_name ts) refl))))))
 
-segment_takes : (ts : Tokens) → SegmentTakes (segment ts).0 ts (segment ts).1
+segment_takes : (ts : Tokens) → SegmentTakes (reads segment ts).0 ts (reads segment ts).1
 unfolding segment
 segment_takes ts =
     when (bytes_eq (word ts) (codes "self")) (λ e. rw e (keyword_takes (codes "self") refl ts e))
@@ -80,16 +84,16 @@ pair_some : (ts : Tokens) → is_pair 58 58 ts ≡ true → is_empty ts ≡ fals
 unfolding is_pair
 pair_some ts e = when (symbol ts == 58) (λ f. symbol_some 58 ts (omega arith) f) (λ f. let wrong : false ≡ true = rw f at e in absurd cc)
 
-written_takes : (ts : Tokens) → PathTakes (Some (written_path true ts).0) ts (written_path true ts).1
+written_takes : (ts : Tokens) → PathTakes (Some (reads (written_path true) ts).0) ts (reads (written_path true) ts).1
 unfolding eat_pair
 written_takes ts =
     when (is_pair 58 58 ts)
-    (λ e. rw e (path_any (Some (path_node (front_of_path true ((segment (bumped (bumped ts))).0 ∷ (more_segments true (segment (bumped (bumped ts))).1).0)))) ts _ (takes ts here (pair_some ts e) (through (bumped_leads _) (through (segment_leads _) (more_segments_leads true _))))))
-    (λ e. rw e (path_first (segment ts).0 (more_segments true (segment ts).1).0 ts (segment ts).1 _ (segment_takes ts) (more_segments_leads true _)))
+    (λ e. rw e (path_any (Some (path_node (front_of_path true ((reads segment (bumped (bumped ts))).0 ∷ (reads (more_segments true) (reads segment (bumped (bumped ts))).1).0)))) ts _ (takes ts here (pair_some ts e) (through (bumped_leads _) (through (rule_leads segment _) (rule_leads (more_segments true) _))))))
+    (λ e. rw e (path_first (reads segment ts).0 (reads (more_segments true) (reads segment ts).1).0 ts (reads segment ts).1 _ (segment_takes ts) (rule_leads (more_segments true) _)))
 
-path_takes : (ts : Tokens) → PathTakes (use_path ts).0 ts (use_path ts).1
+path_takes : (ts : Tokens) → PathTakes (reads use_path ts).0 ts (reads use_path ts).1
 unfolding use_path
-path_takes ts = when (is_path_start true ts) (λ e. rw e (written_takes ts)) (λ e. rw e tt)
+path_takes ts = when (sees (is_path_start true) ts) (λ e. rw e (written_takes ts)) (λ e. rw e tt)
 
 path_further : (p : Option PathNode) (ts us vs : Tokens) → PathTakes p ts us → LeadsTo us vs → PathTakes p ts vs
 path_further (Some (Readable q)) ts us vs t p = takes_before t p
@@ -172,9 +176,9 @@ bare_takes : (p : Option PathNode) (ts us vs : Tokens) → PathTakes p ts us →
 bare_takes (Some (Readable q)) ts us vs t p e r = takes_before t p
 bare_takes _ ts us vs t p e r = absurd cc
 
-self_some : (ts : Tokens) → is_last_self ts ≡ true → is_empty ts ≡ false
+self_some : (ts : Tokens) → sees is_last_self ts ≡ true → is_empty ts ≡ false
 unfolding is_last_self
-self_some ts e = word_some (codes "self") refl ts (and_parts (bytes_eq (word ts) (codes "self")) (not (is_colons (bumped ts))) e).0
+self_some ts e = word_some (codes "self") refl ts (and_parts (bytes_eq (word ts) (codes "self")) (not (sees is_colons (bumped ts))) e).0
 
 module _ (depth : ℕ) (h : (ts : Tokens) → ListTold ts (list depth ts)) (ts us : Tokens) (p : Option PathNode) (leads : LeadsTo ts us) (path : PathTakes p ts us) where
   -- the tree that is read from here on is this
@@ -184,14 +188,14 @@ module _ (depth : ℕ) (h : (ts : Tokens) → ListTold ts (list depth ts)) (ts u
   root_read : (vs : Tokens) → Takes ts vs → (w : UseTreeView) → (tree_at depth ts).0.value ≡ Some w → IsRead ts vs (at ts) w
   root_read vs t w e = record { from = ts; before = here; taken = t; first = refl; depth = depth; tree = e }
 
-  self_told : (symbol us == 42) ≡ false → is_last_self us ≡ true → IsTree (star_or_list (list depth) (at ts) p us).0.value → TreeTold ts (star_or_list (list depth) (at ts) p us)
+  self_told : (symbol us == 42) ≡ false → sees is_last_self us ≡ true → IsTree (star_or_list (list depth) (at ts) p us).0.value → TreeTold ts (star_or_list (list depth) (at ts) p us)
   unfolding IsTree
   self_told e f is =
-      let r = rename (bumped us) in
+      let r = reads rename (bumped us) in
       let v : (star_or_list (list depth) (at ts) p us).0.value ≡ Some (self_in_list p r.0) = rw (e, f) refl in
       let some = self_some us f in
-      rw (e, f) (self_at (IsRead ts r.1) (at ts) p (at us) r.0 (λ g. root_read r.1 (takes us leads some (rename_leads (bumped us))) _ (is _ v))
-      (record { from = us; before = leads; taken = takes us here some (rename_leads (bumped us)); first = refl; depth = depth; tree = self_reads depth us f }))
+      rw (e, f) (self_at (IsRead ts r.1) (at ts) p (at us) r.0 (λ g. root_read r.1 (takes us leads some (rule_leads rename (bumped us))) _ (is _ v))
+      (record { from = us; before = leads; taken = takes us here some (rule_leads rename (bumped us)); first = refl; depth = depth; tree = self_reads depth us f }))
 
   star_told : IsTree (star_or_list (list depth) (at ts) p us).0.value → TreeTold ts (star_or_list (list depth) (at ts) p us)
   unfolding IsTree
@@ -201,7 +205,7 @@ module _ (depth : ℕ) (h : (ts : Tokens) → ListTold ts (list depth ts)) (ts u
       let v : (star_or_list (list depth) (at ts) p us).0.value ≡ Some (bare_tree p true None) = rw e refl in
       let some = takes us leads (symbol_some 42 us (omega arith) e) here in
       rw e (bare_at (IsRead ts (bumped us)) (at ts) p true None (λ r. root_read (bumped us) some _ (is _ v))))
-      (λ e. when (is_last_self us) (λ f. self_told e f is)
+      (λ e. when (sees is_last_self us) (λ f. self_told e f is)
       (λ f.
       let v : (star_or_list (list depth) (at ts) p us).0.value ≡ tree_with_list p (list depth us).0.value = rw (e, f) refl in
       let told = h us in
@@ -218,21 +222,21 @@ module _ (depth : ℕ) (h : (ts : Tokens) → ListTold ts (list depth ts)) (ts u
       let all = star_told (λ w f. is w (v ∙ f)) in
       rw e all)
       (λ e.
-      let v : (tree_behind (list depth) (at ts) p joined us).0.value ≡ Some (bare_tree p false (rename us).0) = rw e refl in
+      let v : (tree_behind (list depth) (at ts) p joined us).0.value ≡ Some (bare_tree p false (reads rename us).0) = rw e refl in
       let some = either_none joined (is_none p) e in
-      rw e (bare_at (IsRead ts (rename us).1) (at ts) p false (rename us).0 (λ r. root_read (rename us).1 (bare_takes p ts us (rename us).1 path (rename_leads us) some r) _ (is _ v))))
+      rw e (bare_at (IsRead ts (reads rename us).1) (at ts) p false (reads rename us).0 (λ r. root_read (reads rename us).1 (bare_takes p ts us (reads rename us).1 path (rule_leads rename us) some r) _ (is _ v))))
 
 module _ (depth : ℕ) (h : (ts : Tokens) → ListTold ts (list depth ts)) where
   tree_told : (ts : Tokens) → TreeTold ts (tree_with (list depth) ts)
   unfolding tree_at IsTree
   tree_told ts =
-      let colons = eat_pair_leads 58 58 (use_path ts).1 in
-      behind_told depth h ts (eat_colons (use_path ts).1).1 (use_path ts).0 (through (use_path_leads ts) colons) (path_further (use_path ts).0 ts (use_path ts).1 (eat_colons (use_path ts).1).1 (path_takes ts) colons) (eat_colons (use_path ts).1).0 (λ w e. e)
+      let colons = eat_pair_leads 58 58 (reads use_path ts).1 in
+      behind_told depth h ts (eat_colons (reads use_path ts).1).1 (reads use_path ts).0 (through (rule_leads use_path ts) colons) (path_further (reads use_path ts).0 ts (reads use_path ts).1 (eat_colons (reads use_path ts).1).1 (path_takes ts) colons) (eat_colons (reads use_path ts).1).0 (λ w e. e)
 
   element_told : (ts : Tokens) → TreeTold ts (element_with (list depth) ts)
   element_told ts =
       let t = tree_with (list depth) ts in
-      zip_is (IsRead ts t.1) (IsRead ts (element_with (list depth) ts).1) (read_around here (behind_comma_leads t.1)) t.0.starts (written_trees t.0.value) (tree_told ts)
+      zip_is (IsRead ts t.1) (IsRead ts (element_with (list depth) ts).1) (read_around here (rule_leads comma t.1)) t.0.starts (written_trees t.0.value) (tree_told ts)
 
 -- ---- lists
 

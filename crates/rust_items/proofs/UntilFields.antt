@@ -1,10 +1,12 @@
 -- The fields of a struct in tokens beside are the same, or the struct's header goes into the braces.
 use Rattle.std.proofs.Common.{◌≡◌, ◌≤◌, ◌==◌, ◌||◌, ℕ, zero, suc, Bool, true, false, Option, Some, None, List, [], ◌∷◌, ◌++◌, refl, ap, ◌∙◌, arith, if◌then◌else◌, not}
-use Rattle.rust_items.proofs.Common.{Visibility, FieldsView, tuple_fields, Piece, Tokens, end_of, symbol, at, is_at_end, bumped, most, beyond, turns_from, turns, one, Bodies, AreBehind, Beside, ahead, behind, LeadsTo, when, bumped_leads, beyond_leads, HasBlock, no_block, block, takes_leads, IsLaid, at_behind, before_at, behind_at, symbol_same, end_same, before_same, BothBeside, behind_angles_beside, behind_field_beside, beyond_beside, eat_local, after_symbol, over_leads, over_moved, Gone, gone_on, by_kept, visibility, visibility_local, visibility_leads, outer_attributes, outer_attributes_until, is_before, header_field, are_over, fields, symbol_within, fields_at, struct_fields}
+use Rattle.rust_items.proofs.Common.{Visibility, FieldsView, tuple_fields, Piece, Tokens, end_of, symbol, at, is_at_end, bumped, most, beyond, turns_from, turns, one, Bodies, AreBehind, Beside, ahead, behind, LeadsTo, when, bumped_leads, beyond_leads, HasBlock, no_block, block, takes_leads, IsLaid, at_behind, before_at, behind_at, symbol_same, end_same, before_same, BothBeside, behind_angles_beside, behind_field_beside, beyond_beside, eat_local, after_symbol, over_leads, over_moved, Gone, gone_on, by_kept, visibility, outer_attributes, outer_attributes_until, is_before, header_field, are_over, fields, symbol_within, fields_at, struct_fields}
 use Rattle.rust_cursor.specs.Angles.{behind_angles}
 use Rattle.rust_cursor.proofs.Laid as laid
 use Rattle.rust_cursor.proofs.Passing as passing
 use Rattle.rust_leaves.proofs.Fields.{type_leads, not_before, over_ends, none_seen, symbol_is}
+use Rattle.rust_cursor.specs.Grammar.{reads}
+use Rattle.rust_cursor.proofs.Rules.{rule_leads, rule_local}
 
 -- ---- the other text first
 
@@ -98,12 +100,12 @@ module _ (b : Bodies) (n : NewBehind b) (e e' : Tokens) (ends : Beside b e e') w
   unfolding header_field
   field_read ts us h =
       attributes_go ts us (header_field e.past ts) (header_field e'.past us) h (λ g. went g)
-      (λ o. let o' = over_on o (visibility_leads (outer_attributes ts).1) (visibility_leads (outer_attributes us).1) in
-      read (none_seen _ _ _ _ (not_before e.past (visibility (outer_attributes ts).1).1 (behind_at e.past _ _ o'.old)) (not_before e'.past (visibility (outer_attributes us).1).1 (behind_at e'.past _ _ o'.new)))
+      (λ o. let o' = over_on o (rule_leads visibility (outer_attributes ts).1) (rule_leads visibility (outer_attributes us).1) in
+      read (none_seen _ _ _ _ (not_before e.past (reads visibility (outer_attributes ts).1).1 (behind_at e.past _ _ o'.old)) (not_before e'.past (reads visibility (outer_attributes us).1).1 (behind_at e'.past _ _ o'.new)))
       (over (over_on o' (type_leads _) (type_leads _))))
-      (λ k. let v = visibility_local b (outer_attributes ts).1 (outer_attributes us).1 k in
-      let test = before_same b (visibility (outer_attributes ts).1).1 (visibility (outer_attributes us).1).1 e e' v.rest ends in
-      read (ap (λ t. if t then (visibility (outer_attributes us).1).0 else None) test ∙ ap (λ o. if is_before e.past (visibility (outer_attributes ts).1).1 then o else None) v.value)
+      (λ k. let v = rule_local b visibility (outer_attributes ts).1 (outer_attributes us).1 k in
+      let test = before_same b (reads visibility (outer_attributes ts).1).1 (reads visibility (outer_attributes us).1).1 e e' v.rest ends in
+      read (ap (λ t. if t then (reads visibility (outer_attributes us).1).0 else None) test ∙ ap (λ o. if is_before e.past (reads visibility (outer_attributes ts).1).1 then o else None) v.value)
       (beside (eat_local b 44 refl _ _ (behind_field_beside b _ _ v.rest)).rest))
 
   over_same : (ts us : Tokens) → Beside b ts us → are_over e'.past us ≡ are_over e.past ts

@@ -1,7 +1,7 @@
 -- Items that hold none, of tokens beside, are the same but for body texts, until one goes into the braces.
 use Rattle.hir_input.specs.declared.ast.PlainKind.TheVariants as plain_kind
 use Rattle.std.proofs.Common.{◌≡◌, ◌≤◌, ◌+◌, ◌&&◌, ℕ, suc, true, false, Option, Some, None, List, [], ◌∷◌, ◌++◌, map, refl, ap, sym, subst, ◌∙◌, arith, is_some}
-use Rattle.rust_items.proofs.Common.{and_parts, PathNode, Visibility, MetaView, item_without_bodies, use_item, UseTreeView, Piece, Tokens, end_of, at, is_empty, bumped, eat, Bodies, Beside, ahead, behind, LeadsTo, through, Forwards, when, bumped_leads, eat_leads, HasBlock, no_block, block, taken_block, IsLaid, at_behind, taken_behind, before_at, behind_at, next_ahead, next_behind, BothBeside, Kept, eat_local, Gone, gone_on, by_kept, KeptBy, UntilBy, went, stayed, by_stayed, IsAlike, no_more, SamePlace, at_place, TextRange, path, use_tree, visibility, path_local, visibility_local, path_leads, visibility_leads, outer_attributes, inner_attributes, IsSound, sound_on, outer_attributes_until, inner_attributes_until, Head, FrontRead, front_behind, front, LeafRead, named, call_end, block_attributes, range_to, node, structure, implementation, use_read, use_declaration, is_called, begins_call, called, call_behind, some_read, invocation, item_call, leaf_by, leaf, modifiers_beside, head_local, named_local, call_end_local, NameAlike, RestAlike, LeafAlike, constant_local, fields_of, structure_local, implementation_local, macro_definition_local, behind_modifiers, PlainKind, plain_leaf, plain_leaf_local, plain_rest, own_attributes, rest_of, rest_local, by_taken, rest_by}
+use Rattle.rust_items.proofs.Common.{and_parts, PathNode, Visibility, MetaView, item_without_bodies, use_item, UseTreeView, Piece, Tokens, end_of, at, is_empty, bumped, eat, Bodies, Beside, ahead, behind, LeadsTo, through, Forwards, when, bumped_leads, eat_leads, HasBlock, no_block, block, taken_block, IsLaid, at_behind, taken_behind, before_at, behind_at, next_ahead, next_behind, BothBeside, Kept, eat_local, Gone, gone_on, by_kept, KeptBy, UntilBy, went, stayed, by_stayed, IsAlike, no_more, SamePlace, at_place, TextRange, path, use_tree, visibility, outer_attributes, inner_attributes, IsSound, sound_on, outer_attributes_until, inner_attributes_until, Head, FrontRead, front_behind, front, LeafRead, named, call_end, block_attributes, range_to, node, structure, implementation, use_read, use_declaration, is_called, begins_call, called, call_behind, some_read, invocation, item_call, leaf_by, leaf, modifiers_beside, head_local, named_local, call_end_local, NameAlike, RestAlike, LeafAlike, constant_local, fields_of, structure_local, implementation_local, macro_definition_local, behind_modifiers, PlainKind, plain_leaf, plain_leaf_local, plain_rest, own_attributes, rest_of, rest_local, by_taken, rest_by}
 use Rattle.rust_lexer.specs.Alone.{moved}
 use Rattle.rust_cursor.proofs.Laid as laid
 use Rattle.rust_cursor.proofs.Braced.{tokens_at}
@@ -16,6 +16,8 @@ use Rattle.rust_leaves.proofs.Fronts.{begins_call_beside}
 use Rattle.rust_leaves.proofs.Crates.{crate_item_local, is_called_same, called_next, SameLast, beyond_braces, same_text, last_same}
 use Rattle.rust_items.proofs.UntilFields.{NewBehind, SameFields, header_gone, fields_same, struct_fields_same, item_gone}
 use Rattle.rust_items.proofs.Leads.{LeafAt, leaf_at, named_leads, behind_modifiers_leads, head_takes, call_end_leads, call_end_braced, IsBraced, braced}
+use Rattle.rust_cursor.specs.Grammar.{reads}
+use Rattle.rust_cursor.proofs.Rules.{rule_leads, rule_local}
 
 -- ---- what stands in front
 
@@ -27,14 +29,14 @@ pub record FrontAlike (b : Bodies) (f g : FrontRead) : Type 0 where
 
 front_rest : (start : ℕ) (attrs : List MetaView) → Forwards (front_behind start attrs)
 unfolding front_behind
-front_rest start attrs ts = through (visibility_leads ts) (through (behind_modifiers_leads _) (head_takes _).leads)
+front_rest start attrs ts = through (rule_leads visibility ts) (through (behind_modifiers_leads _) (head_takes _).leads)
 
 front_behind_local : (b : Bodies) (start start' : ℕ) (attrs attrs' : List MetaView) (ts us : Tokens) → SamePlace b start start' → attrs' ≡ attrs → Beside b ts us → KeptBy (FrontAlike b) b (front_behind start attrs ts) (front_behind start' attrs' us)
 unfolding front_behind
 front_behind_local b start start' attrs attrs' ts us i e h =
-    let v = visibility_local b ts us h in
-    let m = modifiers_beside b (visibility ts).1 (visibility us).1 v.rest in
-    let k = head_local b (behind_modifiers (visibility ts).1) (behind_modifiers (visibility us).1) m in
+    let v = rule_local b visibility ts us h in
+    let m = modifiers_beside b (reads visibility ts).1 (reads visibility us).1 v.rest in
+    let k = head_local b (behind_modifiers (reads visibility ts).1) (behind_modifiers (reads visibility us).1) m in
     record { value = record { start = i; attrs = e; visibility = v.value; head = k.value }; rest = k.rest }
 
 pub front_until : (b : Bodies) (ts us : Tokens) → Beside b ts us → UntilBy (FrontAlike b) b (front ts) (front us)
@@ -208,27 +210,27 @@ module _ (b : Bodies) (plain : BeginPlain b) (end : ℕ) (attrs : List MetaView)
   invocation_until : LeafUntil b (invocation attrs ts) (invocation attrs us)
   unfolding invocation
   invocation_until =
-      when (is_some (path ts).0 && is_called (path ts).1)
-      (λ e. rw (tests, e) (by (last_same b ts us (path ts).1 (path us).1 (path_leads ts) p.rest h) (and_parts (is_some (path ts).0) (is_called (path ts).1) e).1))
+      when (is_some (reads path ts).0 && is_called (reads path ts).1)
+      (λ e. rw (tests, e) (by (last_same b ts us (reads path ts).1 (reads path us).1 (rule_leads path ts) p.rest h) (and_parts (is_some (reads path ts).0) (is_called (reads path ts).1) e).1))
       (λ e. rw (tests, e) (leaf_same places.neither h))
     where
-      p : Kept b (path ts) (path us)
-      p = path_local b ts us h
+      p : Kept b (reads path ts) (reads path us)
+      p = rule_local b path ts us h
 
-      tests : (is_some (path us).0 && is_called (path us).1) ≡ (is_some (path ts).0 && is_called (path ts).1)
-      tests = ap (λ o. is_some o && is_called (path us).1) p.value ∙ ap (λ t. is_some (path ts).0 && t) (is_called_same b (path ts).1 (path us).1 p.rest)
+      tests : (is_some (reads path us).0 && is_called (reads path us).1) ≡ (is_some (reads path ts).0 && is_called (reads path ts).1)
+      tests = ap (λ o. is_some o && is_called (reads path us).1) p.value ∙ ap (λ t. is_some (reads path ts).0 && t) (is_called_same b (reads path ts).1 (reads path us).1 p.rest)
 
-      by : SameLast b (path ts).1 (last_text (path ts).1.past ts) (last_text (path us).1.past us) → is_called (path ts).1 ≡ true
-          → LeafUntil b (some_read (call_behind attrs (path ts).0 (bare (last_text (path ts).1.past ts)) (bumped (path ts).1))) (some_read (call_behind attrs (path us).0 (bare (last_text (path us).1.past us)) (bumped (path us).1)))
+      by : SameLast b (reads path ts).1 (last_text (reads path ts).1.past ts) (last_text (reads path us).1.past us) → is_called (reads path ts).1 ≡ true
+          → LeafUntil b (some_read (call_behind attrs (reads path ts).0 (bare (last_text (reads path ts).1.past ts)) (bumped (reads path ts).1))) (some_read (call_behind attrs (reads path us).0 (bare (last_text (reads path us).1.past us)) (bumped (reads path us).1)))
       by (beyond_braces g) e =
-          let k = gone_on g (bumped_leads (path ts).1) in
-          leaf_lost (gone_on k (call_end_leads (bumped (path ts).1)))
-          (λ m r f d s. let body : (call_end (bumped (path ts).1)).0.braces ≡ Some r = ap (λ (x : LeafRead). x.body) (some_is _ m f) ∙ d in
-          braced_gone b end r (laid.behind end (through (path_leads ts) (bumped_leads (path ts).1)) l.laid).laid k (subst (λ (o : Option TextRange). IsBraced (bumped (path ts).1) (call_end (bumped (path ts).1)).1 o) body (call_end_braced (bumped (path ts).1))) s)
+          let k = gone_on g (bumped_leads (reads path ts).1) in
+          leaf_lost (gone_on k (call_end_leads (bumped (reads path ts).1)))
+          (λ m r f d s. let body : (call_end (bumped (reads path ts).1)).0.braces ≡ Some r = ap (λ (x : LeafRead). x.body) (some_is _ m f) ∙ d in
+          braced_gone b end r (laid.behind end (through (rule_leads path ts) (bumped_leads (reads path ts).1)) l.laid).laid k (subst (λ (o : Option TextRange). IsBraced (bumped (reads path ts).1) (call_end (bumped (reads path ts).1)).1 o) body (call_end_braced (bumped (reads path ts).1))) s)
       by (same_text f) e =
-          let c = call_end_local b (bumped (path ts).1) (bumped (path us).1) (called_next b (path ts).1 (path us).1 p.rest e) in
+          let c = call_end_local b (bumped (reads path ts).1) (bumped (reads path us).1) (called_next b (reads path ts).1 (reads path us).1 p.rest e) in
           leaf_same (places.both (record {
-            item = ap (λ (x : Option PathNode). item_without_bodies (called attrs x [] (call_end (bumped (path us).1)).0).item) p.value;
+            item = ap (λ (x : Option PathNode). item_without_bodies (called attrs x [] (call_end (bumped (reads path us).1)).0).item) p.value;
             kind = refl;
             name = ap bare f;
             named = places.neither;

@@ -13,6 +13,7 @@ use Rattle.rust_cursor.specs.Elements.{most}
 use Rattle.rust_cursor.specs.Angles.{behind_angles}
 use Rattle.rust_paths.specs.declared.names.TextRange.{TextRange}
 use Rattle.rust_paths.specs.Visibilities.{visibility}
+use Rattle.rust_cursor.specs.Grammar.{reads}
 use Rattle.rust_metas.specs.Attributes.{outer_attributes}
 use Rattle.rust_metas.specs.Docs.{kept_by, kept_metas}
 use Rattle.rust_metas.specs.declared.wanted.WantedMetas.{WantedMetas}
@@ -220,7 +221,7 @@ unfoldable pub part_member : WantedMetas → MemberKind → Reader (Option Membe
 part_member metas kind = do
   start ← look at
   attrs ← kept_by metas outer_attributes
-  v ← visibility
+  v ← reads visibility
   _ ← eat_word (codes "unsafe")
   n ← named
   _ ← pass (behind_part kind)

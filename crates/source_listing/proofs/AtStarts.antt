@@ -12,11 +12,13 @@ use Rattle.rust_cursor.specs.Reader.{Reader}
 use Rattle.rust_cursor.specs.Words.{symbol, at, bumped, is_at_end, eat_colons}
 use Rattle.rust_cursor.specs.Elements.{most, beyond, turns_from, turns, elements, one}
 use Rattle.rust_paths.specs.Paths.{is_last_self, use_path}
-use Rattle.rust_paths.specs.UseTrees.{FoundInUse, begun_trees, begun_list, values, all_starts, bare_tree, tree_with_list, star_or_list, tree_behind, tree_with, tree_at, element_with, list, tree_comma_from, tree_behind_comma, rename, self_in_list, self_path, use_tree}
-use Rattle.rust_paths.proofs.Leads.{use_path_leads, rename_leads}
+use Rattle.rust_paths.specs.UseTrees.{FoundInUse, begun_trees, begun_list, values, all_starts, bare_tree, tree_with_list, star_or_list, tree_behind, tree_with, tree_at, element_with, list, comma, rename, self_in_list, self_path, use_tree}
 use Rattle.rust_paths.proofs.Trees.{self_reads}
 use Rattle.rust_items.proofs.UsesTold.{counted}
 use Rattle.source_listing.specs.Told.{nodes_of, kept_nodes, IsReadAt, AreToldFor}
+use Rattle.rust_cursor.specs.Grammar.{reads}
+use Rattle.rust_cursor.specs.Looks.{sees}
+use Rattle.rust_cursor.proofs.Rules.{rule_leads}
 
 -- ---- lists side by side
 
@@ -126,16 +128,6 @@ either_none : (a b : Bool) → (a || b) ≡ false → b ≡ false
 either_none true b e = absurd cc
 either_none false b e = e
 
-comma_from_leads : (n : ℕ) (ts : Tokens) → LeadsTo ts (tree_comma_from n ts)
-comma_from_leads zero ts = here
-comma_from_leads (suc n) ts =
-    when (is_at_end ts) (λ e. rw e here)
-    (λ e. rw e (when (symbol ts == 44) (λ f. rw f (bumped_leads ts)) (λ f. rw f (through (behind_tree_leads ts) (comma_from_leads n _)))))
-
-comma_leads : (ts : Tokens) → LeadsTo ts (tree_behind_comma ts)
-unfolding tree_behind_comma
-comma_leads ts = comma_from_leads _ ts
-
 module _ (read : Reader (FoundInUse (Option (List UseTreeView)))) (h : (ts : Tokens) → ListTold ts (read ts)) where
   -- of a tree that begins there, behind its path
   module _ (ts : Tokens) where
@@ -146,14 +138,14 @@ module _ (read : Reader (FoundInUse (Option (List UseTreeView)))) (h : (ts : Tok
         let v : (star_or_list read (at ts) p us).0.value ≡ Some (bare_tree p true None) = rw e refl in
         let all = star_at (IsFound ts) (at ts) p (subst (Root (IsFound ts) (at ts)) v root) in
         rw e (record { each = all; leads = through leads (bumped_leads us) }))
-        (λ e. when (is_last_self us)
+        (λ e. when (sees is_last_self us)
         (λ f.
-        let r = rename (bumped us) in
+        let r = reads rename (bumped us) in
         let v : (star_or_list read (at ts) p us).0.value ≡ Some (self_in_list p r.0) = rw (e, f) refl in
         let below : (t : Tree) → kept_tree (bare_tree (Some self_path) false r.0) ≡ Some t → IsFound ts (at us) t =
         λ t k. record { from = us; leads = leads; depth = 0; first = refl; kept = ap (option_and_then kept_tree) (self_reads 0 us f) ∙ k } in
         let all = self_at (IsFound ts) (at ts) p (at us) r.0 (subst (Root (IsFound ts) (at ts)) v root) below in
-        rw (e, f) (record { each = all; leads = through leads (through (bumped_leads us) (rename_leads (bumped us))) }))
+        rw (e, f) (record { each = all; leads = through leads (through (bumped_leads us) (rule_leads rename (bumped us))) }))
         (λ f.
         let v : (star_or_list read (at ts) p us).0.value ≡ tree_with_list p (read us).0.value = rw (e, f) refl in
         let inner = zip_is (IsFound us) (IsFound ts) (later leads) (read us).0.starts (listed (read us).0.value) (h us).each in
@@ -169,19 +161,19 @@ module _ (read : Reader (FoundInUse (Option (List UseTreeView)))) (h : (ts : Tok
         let all = star_told p us leads (subst (Root (IsFound ts) (at ts)) v root) in
         rw e all)
         (λ e.
-        let v : (tree_behind read (at ts) p joined us).0.value ≡ Some (bare_tree p false (rename us).0) = rw e refl in
-        let all = path_at (IsFound ts) (at ts) p (rename us).0 (either_none joined (is_none p) e) (subst (Root (IsFound ts) (at ts)) v root) in
-        rw e (record { each = all; leads = through leads (rename_leads us) }))
+        let v : (tree_behind read (at ts) p joined us).0.value ≡ Some (bare_tree p false (reads rename us).0) = rw e refl in
+        let all = path_at (IsFound ts) (at ts) p (reads rename us).0 (either_none joined (is_none p) e) (subst (Root (IsFound ts) (at ts)) v root) in
+        rw e (record { each = all; leads = through leads (rule_leads rename us) }))
 
 module _ (depth : ℕ) (h : (ts : Tokens) → ListTold ts (list depth ts)) where
   tree_told : (ts : Tokens) → TreeTold ts (tree_with (list depth) ts)
   unfolding tree_at Root
   tree_told ts =
-      behind_told (list depth) h ts (use_path ts).0 (eat_colons (use_path ts).1).0 (eat_colons (use_path ts).1).1 (through (use_path_leads ts) (eat_pair_leads _ _ _))
+      behind_told (list depth) h ts (reads use_path ts).0 (eat_colons (reads use_path ts).1).0 (eat_colons (reads use_path ts).1).1 (through (rule_leads use_path ts) (eat_pair_leads _ _ _))
       (λ t e. record { from = ts; leads = here; depth = depth; first = refl; kept = e })
 
   element_told : (ts : Tokens) → TreeTold ts (element_with (list depth) ts)
-  element_told ts = let t = tree_told ts in record { each = t.each; leads = through t.leads (comma_leads _) }
+  element_told ts = let t = tree_told ts in record { each = t.each; leads = through t.leads (rule_leads comma _) }
 
 -- ---- lists
 

@@ -9,6 +9,7 @@ use Rattle.rust_cursor.specs.Elements.{most}
 use Rattle.rust_paths.specs.Names.{is_path_keyword, name}
 use Rattle.rust_leaves.specs.Fronts.{front}
 use Rattle.source_rows.specs.declared.types.TypeRead.{TypeRead}
+use Rattle.rust_cursor.specs.Grammar.{reads}
 
 -- a type of which nothing is read
 abbrev pub begun_type : TypeRead
@@ -32,7 +33,7 @@ abbrev pub type_step : TypeRead → Tokens → TypeRead × Tokens
 type_step r ts =
     if is_lone_for ts then (begun_type, bumped ts)
     else (if symbol ts == 60 then (r, behind_angles ts)
-    else (if is_link ts then (r, bumped ts) else type_named r (name ts).0 (name ts).1))
+    else (if is_link ts then (r, bumped ts) else type_named r (reads name ts).0 (reads name ts).1))
 
 abbrev pub type_from : ℕ → TypeRead → Tokens → TypeRead
 type_from zero r ts = r

@@ -1,5 +1,6 @@
 //! The types that impls are of.
 ghost use Rattle.std.specs.Prelude.{◌≡◌, IfOk, OnOk};
+ghost use Rattle.rust_cursor.specs.Grammar.{reads};
 ghost use Rattle.rust_paths.specs.Names as names;
 ghost use Rattle.source_rows.specs.Types as spec;
 
@@ -53,7 +54,7 @@ fn is_link(cursor: &Cursor<'_>) -> bool
 
 /// Takes a name of a path, or passes over what is in none.
 fn take_name(alloc: Global, cursor: &mut Cursor<'_>, read: &mut TypeRead) -> Result<(), AllocError>
-    ensures { let next = names.name cursor.old in
+    ensures { let next = reads names.name cursor.old in
         OnOk result (spec.type_named read.old next.0 next.1 ≡ (read.new, cursor.new)) }
 {
     match name(alloc, cursor)? {

@@ -6,22 +6,11 @@ use Rattle.rust_cursor.specs.Words.{eat_pair, identifies}
 use Rattle.rust_cursor.proofs.Leads.{eat_pair_leads}
 use Rattle.rust_cursor.proofs.Around.{word_symbol}
 use Rattle.rust_paths.specs.Paths.{is_raw, is_colons, is_path_colons, is_dollar_crate, segment, other_segment, more_from, more_segments, is_path_start}
-use Rattle.rust_paths.proofs.Around.{name_symbol, raw_symbol}
+use Rattle.rust_cursor.proofs.Looks.{at_identifier_symbol, kind_symbol}
+use Rattle.rust_paths.proofs.Leads.{name_symbol}
 use Rattle.rust_leaves.specs.Heads.{begins_path, is_path_word, behind_segments, behind_segments_from}
-
--- an identifier has no symbol
-identifier_symbol : (ts : Tokens) → is_at_identifier ts ≡ true → symbol ts ≡ 0
-unfolding is_at_identifier symbol
-identifier_symbol ts e = first ts.left e
-  where
-    by : (k : TokenKind) (z : List ℕ) → identifies k ≡ true → symbol_of (record { kind = k; text = z; at = 0 }) ≡ 0
-    by kinds.Ident z e = refl
-    by kinds.RawIdent z e = refl
-    by _ z e = absurd cc
-
-    first : (left : List Piece) → by_first false (λ t. identifies t.kind) left ≡ true → by_first 0 symbol_of left ≡ 0
-    first [] e = refl
-    first (t ∷ left) e = by t.kind t.text e
+use Rattle.rust_cursor.specs.Grammar.{reads}
+use Rattle.rust_cursor.specs.Looks.{sees}
 
 -- ---- segments
 
@@ -30,8 +19,8 @@ taken_one P None ts b s = s
 taken_one P (Some n) ts b s = b
 
 -- a segment that begins with no symbol takes one token or none
-segment_one : (P : Tokens → Type 0) (ts : Tokens) → symbol ts ≡ 0 → P (bumped ts) → P ts → P (segment ts).1
-unfolding segment other_segment is_dollar_crate name
+segment_one : (P : Tokens → Type 0) (ts : Tokens) → symbol ts ≡ 0 → P (bumped ts) → P ts → P (reads segment ts).1
+unfolding segment other_segment is_dollar_crate name next_name
 segment_one P ts z b s =
     when (bytes_eq (word ts) (codes "self")) (λ e. rw e b)
     (λ e. when (bytes_eq (word ts) (codes "super")) (λ f. rw (e, f) b)
@@ -40,7 +29,7 @@ segment_one P ts z b s =
     (λ h. when (is_raw (kind ts)) (λ i. rw (e, f, g, h, z, i) b) (λ i. rw (e, f, g, h, z, i) (taken_one P (next_name ts) ts b s))))))
 
 -- behind what is no colon none follows
-no_more : (n : ℕ) (ts : Tokens) → (symbol ts == 58) ≡ false → more_from false n ts ≡ ([], ts)
+no_more : (n : ℕ) (ts : Tokens) → (symbol ts == 58) ≡ false → reads (more_from false n) ts ≡ ([], ts)
 unfolding is_path_colons is_colons is_pair
 no_more zero ts e = refl
 no_more (suc n) ts e = rw e refl
@@ -50,13 +39,13 @@ segments_lead zero w = here
 segments_lead (suc m) w = when (begins_path w) (λ e. rw e (through (further (further (further here))) (segments_lead m (bumped (bumped (bumped w)))))) (λ e. rw e here)
 
 first_word : (m : ℕ) (w : Tokens) → is_path_word (behind_segments_from m w) ≡ true → symbol w ≡ 0
-first_word zero w e = identifier_symbol w (and_parts (is_at_identifier w) _ e).0
+first_word zero w e = at_identifier_symbol w (and_parts (is_at_identifier w) _ e).0
 first_word (suc m) w e =
-    when (begins_path w) (λ f. identifier_symbol w (and_parts (is_at_identifier w) _ (and_parts (is_path_word w) _ f).0).0)
-    (λ f. identifier_symbol w (and_parts (is_at_identifier w) _ (rw f at e)).0)
+    when (begins_path w) (λ f. at_identifier_symbol w (and_parts (is_at_identifier w) _ (and_parts (is_path_word w) _ f).0).0)
+    (λ f. at_identifier_symbol w (and_parts (is_at_identifier w) _ (rw f at e)).0)
 
 -- from a segment on, a path comes to the last word of a macro call
-more_lead : (n m : ℕ) (w : Tokens) → n ≤ m → is_path_word (behind_segments_from m w) ≡ true → LeadsTo (more_from false n (bumped w)).1 (bumped (behind_segments_from m w))
+more_lead : (n m : ℕ) (w : Tokens) → n ≤ m → is_path_word (behind_segments_from m w) ≡ true → LeadsTo (reads (more_from false n) (bumped w)).1 (bumped (behind_segments_from m w))
 unfolding is_path_colons is_colons
 more_lead zero m w l e = segments_lead m w
 more_lead (suc n) zero w l e = absurd (omega arith)
@@ -68,7 +57,7 @@ more_lead (suc n) (suc m) w l e =
     let plain = first_word m next word_there in
     let other : (symbol next == 58) ≡ false = rw plain refl in
     rw (f, pair)
-    (segment_one (λ s. LeadsTo (more_from false n s).1 (bumped (behind_segments_from m next))) next plain (more_lead n m next (omega arith) word_there)
+    (segment_one (λ s. LeadsTo (reads (more_from false n) s).1 (bumped (behind_segments_from m next))) next plain (more_lead n m next (omega arith) word_there)
     (rw (no_more n next other) (through (bumped_leads next) (segments_lead m next)))))
     (λ f. let here_word : is_path_word w ≡ true = rw f at e in
     let none : is_pair 58 58 (bumped w) ≡ false = rw here_word at f in rw (f, none) here)
@@ -84,14 +73,14 @@ module _ (ts : Tokens) (dollar : (symbol ts == 36) ≡ true) where
   not_word w empty = when (bytes_eq (word ts) w) (λ e. absurd (let z = word_symbol w ts empty e in let no = rw z at dollar in cc)) (λ e. e)
 
   not_raw : is_raw (kind ts) ≡ false
-  not_raw = when (is_raw (kind ts)) (λ e. absurd (let z = raw_symbol ts e in let no = rw z at dollar in cc)) (λ e. e)
+  not_raw = when (is_raw (kind ts)) (λ e. absurd (let z = kind_symbol is_raw refl ts e in let no = rw z at dollar in cc)) (λ e. e)
 
   not_named : (o : Option (List ℕ)) → next_name ts ≡ o → (taken_with o ts).1 ≡ ts
   not_named None e = refl
   not_named (Some n) e = absurd (let z = name_symbol n ts e in let no = rw z at dollar in cc)
 
-  dollar_segment : (P : Tokens → Type 0) → (bytes_eq (word (bumped ts)) (codes "crate") ≡ true → P (bumped (bumped ts))) → P ts → P (segment ts).1
-  unfolding segment other_segment is_dollar_crate name
+  dollar_segment : (P : Tokens → Type 0) → (bytes_eq (word (bumped ts)) (codes "crate") ≡ true → P (bumped (bumped ts))) → P ts → P (reads segment ts).1
+  unfolding segment other_segment is_dollar_crate name next_name
   dollar_segment P b s =
       let self = not_word (codes "self") refl in
       let super = not_word (codes "super") refl in
@@ -113,14 +102,14 @@ no_pair : (ts : Tokens) → (symbol ts == 58) ≡ false → (eat_pair 58 58 ts).
 unfolding eat_pair is_pair
 no_pair ts e = rw e refl
 
-written_lead : (ts : Tokens) → is_path_word (last_word ts) ≡ true → LeadsTo (more_segments false (segment (eat_pair 58 58 ts).1).1).1 (bumped (last_word ts))
+written_lead : (ts : Tokens) → is_path_word (last_word ts) ≡ true → LeadsTo (reads (more_segments false) (reads segment (eat_pair 58 58 ts).1).1).1 (bumped (last_word ts))
 unfolding more_segments behind_segments eat
 written_lead ts e =
     when (symbol ts == 36)
     (λ d. let is = is_dollar ts d in
     let other : (symbol ts == 58) ≡ false = rw is refl in
     rw (no_pair ts other)
-    (dollar_segment ts d (λ s. LeadsTo (more_from false most s).1 (bumped (last_word ts)))
+    (dollar_segment ts d (λ s. LeadsTo (reads (more_from false most) s).1 (bumped (last_word ts)))
     (λ c. let plain = word_symbol (codes "crate") (bumped ts) refl c in
     let still : (symbol (bumped ts) == 58) ≡ false = rw plain refl in
     let same : (eat_pair 58 58 (bumped ts)).1 ≡ bumped ts = no_pair (bumped ts) still in
@@ -131,14 +120,14 @@ written_lead ts e =
     let plain = first_word most w word_there in
     let other : (symbol w == 58) ≡ false = rw plain refl in
     rw d
-    (segment_one (λ s. LeadsTo (more_from false most s).1 (bumped (behind_segments_from most w))) w plain (more_lead most most w (omega arith) word_there)
+    (segment_one (λ s. LeadsTo (reads (more_from false most) s).1 (bumped (behind_segments_from most w))) w plain (more_lead most most w (omega arith) word_there)
     (rw (no_more most w other) (through (bumped_leads w) (segments_lead most w)))))
 
 -- so something is left behind it
-pub call_left : (ts : Tokens) → begins_call ts ≡ true → (path ts).1.left ≡ [] → ⊥
+pub call_left : (ts : Tokens) → begins_call ts ≡ true → (reads path ts).1.left ≡ [] → ⊥
 unfolding begins_call path is_called symbol
 call_left ts e none =
     let both = and_parts (is_path_word (last_word ts)) (is_called (bumped (last_word ts))) e in
-    let to : LeadsTo (path ts).1 (bumped (last_word ts)) = when (is_path_start false ts) (λ f. rw f (written_lead ts both.0)) (λ f. rw f (to_last ts)) in
+    let to : LeadsTo (reads path ts).1 (bumped (last_word ts)) = when (sees (is_path_start false) ts) (λ f. rw f (written_lead ts both.0)) (λ f. rw f (to_last ts)) in
     let gone : (bumped (last_word ts)).left ≡ [] = nothing to none in
     absurd (let no = rw gone at both.1 in cc)

@@ -11,6 +11,7 @@ use Rattle.rust_edits.specs.Beside.Open.{StandsBefore, nothing_before, open_befo
 use Rattle.rust_edits.proofs.Beside.Inner.{front_bare, no_inner}
 use Rattle.rust_lexer.specs.declared.kind.TokenKind.TheVariants as kinds
 use Rattle.rust_leaves.specs.declared.head.Head.TheVariants as heads
+use Rattle.rust_cursor.specs.Looks.{sees}
 
 -- the `;` of `mod b;` is its own
 module_ends : EndsOwn (codes "mod b;")
@@ -57,7 +58,7 @@ module _ (y : EditionYear) (left : List Piece) where
   unfoldable behind : Tokens
   behind = tokens_at y 3 left None
 
-  not_inner : is_behind Inner all ≡ true
+  not_inner : sees (is_behind Inner) all ≡ true
   unfolding all mod_word is_behind is_doc is_attribute symbol kind
   not_inner = refl
 
@@ -141,7 +142,7 @@ module _ (y : EditionYear) where
 
   -- and may stand behind others
   pub anew : BeginsAnew y mod_b
-  anew = record { bare = bare; uncut = first_uncut; outer = ap (is_behind Inner) toks ∙ not_inner y name_and_end; still = ap goes_on toks ∙ not_on }
+  anew = record { bare = bare; uncut = first_uncut; outer = ap (sees (is_behind Inner)) toks ∙ not_inner y name_and_end; still = ap goes_on toks ∙ not_on }
 
 -- ---- an item without its end, in front of a module
 
@@ -180,11 +181,11 @@ module _ (y : EditionYear) where
   unfolding fn_f tokens_of tokens first_cut is_wide_start is_wide_continue
   ends_there = refl
 
-  module_outer : is_behind Inner (tokens_of y behind_line) ≡ true
+  module_outer : sees (is_behind Inner) (tokens_of y behind_line) ≡ true
   unfolding behind_line tokens_of tokens first_cut is_wide_start is_wide_continue is_behind is_doc is_attribute symbol kind
   module_outer = refl
 
-  fn_outer : is_behind Inner from_fn ≡ true
+  fn_outer : sees (is_behind Inner) from_fn ≡ true
   unfolding from_fn is_behind is_doc is_attribute symbol kind
   fn_outer = refl
 
@@ -214,7 +215,7 @@ module _ (y : EditionYear) where
   is_open = record {
     parted = parted;
     ends = ends_there;
-    outer = ap (is_behind Inner) both_are ∙ fn_outer;
+    outer = ap (sees (is_behind Inner)) both_are ∙ fn_outer;
     item = ap is_at_end both_are ∙ fn_item;
     head = heads.Plain plain_kind.Fn;
     is_head = ap (λ (t : Tokens). (front t).0.head) both_are ∙ ap (λ (r : FrontRead × Tokens). r.0.head) front_fn;

@@ -1,8 +1,10 @@
 -- The fields of a struct are the same in a text that ends with a `;` or a `}` and in a longer one, where the struct ends there or before.
 use Rattle.std.proofs.Common.{if◌then◌else◌, ◌≡◌, ◌≤◌, ◌+◌, ◌==◌, ◌||◌, ℕ, zero, suc, Bool, true, false, Option, Some, None, List, [], ◌∷◌, ◌++◌, length, refl, ap, sym, ◌∙◌, arith}
-use Rattle.rust_edits.proofs.Common.{not, nat_lt, Visibility, tuple_fields, Tokens, end_of, by_first, rest, symbol, is_empty, is_at_end, bumped, eat, behind_angles, behind_field, most, beyond, turns_from, turns, one, visibility, outer_attributes, is_before, header_field, are_over, fields, symbol_within, fields_at, struct_fields, Piece, nat_tests, shorter, IsLaid, behind, LeadsTo, here, further, through, when, bumped_leads, eat_leads, behind_angles_leads, beyond_leads, Ending, Near, Gone, fewer, enough_left, past_same, near_twins, behind_angles_near, reached_near, beyond_near, near_parting, near_enters, near_levels, BlockNear, no_block, block, Onward, into, on, onward_leads, by_kept, eat_until, symbol_same, end_same, after_symbol, visibility_until, visibility_leads, outer_attributes_until, outer_attributes_leads}
+use Rattle.rust_edits.proofs.Common.{not, nat_lt, Visibility, tuple_fields, Tokens, end_of, by_first, rest, symbol, is_empty, is_at_end, bumped, eat, behind_angles, behind_field, most, beyond, turns_from, turns, one, visibility, outer_attributes, is_before, header_field, are_over, fields, symbol_within, fields_at, struct_fields, Piece, nat_tests, shorter, IsLaid, behind, LeadsTo, here, further, through, when, bumped_leads, eat_leads, behind_angles_leads, beyond_leads, Ending, Near, Gone, fewer, enough_left, past_same, near_twins, behind_angles_near, reached_near, beyond_near, near_parting, near_enters, near_levels, BlockNear, no_block, block, Onward, into, on, onward_leads, by_kept, eat_until, symbol_same, end_same, after_symbol, outer_attributes_until, outer_attributes_leads}
 use Rattle.rust_cursor.specs.declared.cursor.generics.Reach.TheVariants as reaches
 use Rattle.rust_leaves.proofs.Fields.{type_leads, field_leads, not_before, over_ends, none_seen, symbol_is}
+use Rattle.rust_cursor.specs.Grammar.{reads}
+use Rattle.rust_cursor.proofs.Rules.{rule_leads, rule_until}
 
 -- ---- places
 
@@ -100,23 +102,23 @@ module _ {n m : ℕ} (b : Ending) (xs ys e e' : Tokens) (hs : Headers n m b xs y
   unfolding header_field
   field_read ts us p q h =
       by_kept (outer_attributes_until (near_parting b) (near_enters b) (near_levels b) ts us h)
-      (λ g. behind_it (over_on (passed _ _ (through p (outer_attributes_leads ts)) (through q (outer_attributes_leads us)) g) (visibility_leads _) (visibility_leads _)))
-      (λ k. by_kept (visibility_until (near_parting b) _ _ k.rest)
+      (λ g. behind_it (over_on (passed _ _ (through p (outer_attributes_leads ts)) (through q (outer_attributes_leads us)) g) (rule_leads visibility _) (rule_leads visibility _)))
+      (λ k. by_kept (rule_until (near_parting b) visibility _ _ k.rest)
       (λ g. behind_it (passed _ _ to to' g))
       (λ v. record {
-        value = ap (λ t. if t then (visibility (outer_attributes us).1).0 else None) (before_both _ _ v.rest) ∙ ap (λ o. if is_before e.past (visibility (outer_attributes ts).1).1 then o else None) v.value;
+        value = ap (λ t. if t then (reads visibility (outer_attributes us).1).0 else None) (before_both _ _ v.rest) ∙ ap (λ o. if is_before e.past (reads visibility (outer_attributes ts).1).1 then o else None) v.value;
         go = goes _ _ (through to (type_leads _)) (through to' (type_leads _)) (type_near b _ _ v.rest);
       }))
     where
-      to : LeadsTo xs (visibility (outer_attributes ts).1).1
-      to = through p (through (outer_attributes_leads ts) (visibility_leads _))
+      to : LeadsTo xs (reads visibility (outer_attributes ts).1).1
+      to = through p (through (outer_attributes_leads ts) (rule_leads visibility _))
 
-      to' : LeadsTo ys (visibility (outer_attributes us).1).1
-      to' = through q (through (outer_attributes_leads us) (visibility_leads _))
+      to' : LeadsTo ys (reads visibility (outer_attributes us).1).1
+      to' = through q (through (outer_attributes_leads us) (rule_leads visibility _))
 
-      behind_it : AreOver n m e.past e'.past (visibility (outer_attributes ts).1).1 (visibility (outer_attributes us).1).1 → SameRead n m e.past e'.past b (header_field e.past ts) (header_field e'.past us)
+      behind_it : AreOver n m e.past e'.past (reads visibility (outer_attributes ts).1).1 (reads visibility (outer_attributes us).1).1 → SameRead n m e.past e'.past b (header_field e.past ts) (header_field e'.past us)
       behind_it o = record {
-        value = none_seen _ _ _ _ (not_before e.past (visibility (outer_attributes ts).1).1 o.past) (not_before e'.past (visibility (outer_attributes us).1).1 o.past_short);
+        value = none_seen _ _ _ _ (not_before e.past (reads visibility (outer_attributes ts).1).1 o.past) (not_before e'.past (reads visibility (outer_attributes us).1).1 o.past_short);
         go = over (over_on o (type_leads _) (type_leads _));
       }
 

@@ -1,7 +1,15 @@
 -- What stands in front of an item, and a name, is the same in a text that ends with a `;` or a `}` and in a longer one, until these pass the end.
 use Rattle.rust_cursor.specs.Reader.{◌>>=◌}
 use Rattle.std.proofs.Common.{◌≡◌, ◌+◌, ℕ, Option, List, refl, Some, None, ◌∷◌, ap, ◌∙◌, map}
-use Rattle.rust_edits.proofs.Common.{option_map, Visibility, MetaView, Reader, pure, pass, Tokens, at, bumped, FrontRead, front_behind, front, behind_modifiers, head, next_name, taken_with, name, Placed, placed_if, placed_name, Forwards, through, Ending, Near, at_same, past_same, near_parting, near_enters, near_levels, UntilBy, gone, kept, by_kept, then_until, AreAlike, no_more, one_more, IsAlike, neither, both, visibility_until, next_name_same, after_name, visibility_leads, outer_attributes_until, modifiers_alike, head_until, behind_modifiers_leads, head_takes}
+use Rattle.rust_edits.proofs.Common.{option_map, Visibility, MetaView, Reader, pure, pass, Tokens, at, bumped, FrontRead, front_behind, front, behind_modifiers, head, next_name, taken_with, name, Placed, placed_if, placed_name, Forwards, through, Ending, Near, at_same, past_same, near_parting, near_enters, near_levels, UntilBy, gone, kept, by_kept, then_until, AreAlike, no_more, one_more, IsAlike, neither, both, outer_attributes_until, modifiers_alike, head_until, behind_modifiers_leads, head_takes}
+use Rattle.rust_cursor.specs.Grammar.{by_identifier}
+use Rattle.rust_cursor.specs.Looks.{is_edge}
+use Rattle.rust_cursor.proofs.Looks.{token_same}
+use Rattle.rust_cursor.proofs.Near.{near_twins}
+use Rattle.rust_cursor.proofs.Rules.{rule_leads, rule_until}
+use Rattle.rust_paths.specs.Names.{identifier_name}
+use Rattle.rust_paths.proofs.Leads.{name_symbol}
+use Rattle.rust_paths.specs.Visibilities.{visibility}
 
 -- the same, so much further on
 pub record FrontNear (b : Ending) (f g : FrontRead) : Type 0 where
@@ -32,11 +40,11 @@ modifiers_behind_until b attrs s s' v e ts us h =
 front_behind_until : (b : Ending) (s s' : ℕ) → s ≡ s' + b.by → (attrs : List MetaView) (ts us : Tokens) → Near b ts us → UntilBy (FrontNear b) b (front_behind s attrs ts) (front_behind s' attrs us)
 unfolding front_behind modifiers_behind
 front_behind_until b s s' e attrs ts us h =
-    then_until (near_parting b) (modifiers_behind attrs s) (modifiers_behind attrs s') (modifiers_behind_leads attrs s) (modifiers_behind_leads attrs s') (λ v ts us h. modifiers_behind_until b attrs s s' v e ts us h) (visibility_until (near_parting b) ts us h)
+    then_until (near_parting b) (modifiers_behind attrs s) (modifiers_behind attrs s') (modifiers_behind_leads attrs s) (modifiers_behind_leads attrs s') (λ v ts us h. modifiers_behind_until b attrs s s' v e ts us h) (rule_until (near_parting b) visibility ts us h)
 
 front_behind_leads : (s : ℕ) (attrs : List MetaView) → Forwards (front_behind s attrs)
 unfolding front_behind
-front_behind_leads s attrs ts = through (visibility_leads ts) (through (behind_modifiers_leads _) (head_leads _))
+front_behind_leads s attrs ts = through (rule_leads visibility ts) (through (behind_modifiers_leads _) (head_leads _))
 
 pub front_until : (b : Ending) (ts us : Tokens) → Near b ts us → UntilBy (FrontNear b) b (front ts) (front us)
 unfolding front
@@ -56,8 +64,8 @@ placed_kept b None o' ts us e h next = rw e (kept (record { value = no_place; re
 placed_kept b (Some n) o' ts us e h next = rw e (kept (record { value = placed_near refl (at_same b ts us h) (past_same b (bumped ts) (bumped us) (next n refl)); rest = next n refl }))
 
 pub placed_name_until : (b : Ending) (ts us : Tokens) → Near b ts us → UntilBy (PlacedNear b) b (placed_name ts) (placed_name us)
-unfolding placed_name name
-placed_name_until b ts us h = placed_kept b (next_name ts) (next_name us) ts us (next_name_same (near_parting b) ts us h) h (λ n e. after_name (near_parting b) n ts us h e)
+unfolding placed_name name next_name
+placed_name_until b ts us h = placed_kept b (next_name ts) (next_name us) ts us (token_same (near_twins b) (by_identifier identifier_name) ts us h) h (λ n e. (near_twins b).next ts us h (ap is_edge (name_symbol n ts e)))
 
 -- places so much further on
 abbrev pub further_on : Ending → List ℕ → List ℕ

@@ -1,10 +1,12 @@
 -- Items are the same in a text that ends with a `;` or a `}` and in a longer one, where they end there or before.
 use Rattle.std.proofs.Common.{◌≡◌, ◌≤◌, length-append, ◌<◌, ◌+◌, ◌==◌, ◌&&◌, ℕ, zero, suc, Bool, true, false, Option, Some, None, List, [], ◌∷◌, ◌++◌, length, refl, sym, ap, ◌∙◌, subst, arith, map, append_assoc, codes}
-use Rattle.rust_edits.proofs.Common.{option_map, option_to_list, is_some, is_none, AstIdKind, MetaView, ItemView, Row, most, beyond, Tokens, symbol, at, eat_word, bumped, is_at_end, TextRange, path, use_tree, inner_attributes, Head, FrontRead, front, constant, structure, implementation, crate_item, use_declaration, macro_definition, is_called, begins_call, invocation, item_call, leaf_by, leaf, LeafRead, named, named_or, renamed, ProblemKind, Found, Finder, nothing_found, and_problem, and_problem_at, and_all, span_of, and_flaw, and_item, and_leaf, leaf_found, leaf_turn, finding_from, finding, is_list_end, BlockRead, block_of, as_extern, extern_kept, extern_found, unmatched, extern_turn, extern_inside, inside, turn, moved_span, moved_problem, map-append, IsLaid, behind, LeadsTo, here, further, through, when, bumped_leads, beyond_leads, eat_leads, eat_word_leads, Ending, Near, fewer, nothing, bumped_onward, at_same, past_same, near_twins, beyond_near, near_parting, near_enters, near_levels, Kept, AtEnd, is_still, Outcome, lost, stays, comes, untaken, eat_outcome, eat_fewer, Same, by_next, by_kept, symbol_same, empty_same, end_same, path_leads, use_tree_leads, inner_attributes_leads, inner_attributes_until, behind_others_onward, named_leads, named_or_leads, renamed_leads, behind_others_leads, front_takes, LeafAt, leaf_at, Finds, extern_turn_found, list_from, mut_word, mut_word_leads, plain_leaf}
+use Rattle.rust_edits.proofs.Common.{option_map, option_to_list, is_some, is_none, AstIdKind, MetaView, ItemView, Row, most, beyond, Tokens, symbol, at, eat_word, bumped, is_at_end, TextRange, path, use_tree, inner_attributes, Head, FrontRead, front, constant, structure, implementation, crate_item, use_declaration, macro_definition, is_called, begins_call, invocation, item_call, leaf_by, leaf, LeafRead, named, named_or, renamed, ProblemKind, Found, Finder, nothing_found, and_problem, and_problem_at, and_all, span_of, and_flaw, and_item, and_leaf, leaf_found, leaf_turn, finding_from, finding, is_list_end, BlockRead, block_of, as_extern, extern_kept, extern_found, unmatched, extern_turn, extern_inside, inside, turn, moved_span, moved_problem, map-append, IsLaid, behind, LeadsTo, here, further, through, when, bumped_leads, beyond_leads, eat_leads, eat_word_leads, Ending, Near, fewer, nothing, bumped_onward, at_same, past_same, near_twins, beyond_near, near_parting, near_enters, near_levels, Kept, AtEnd, is_still, Outcome, lost, stays, comes, untaken, eat_outcome, eat_fewer, Same, by_next, by_kept, symbol_same, empty_same, end_same, use_tree_leads, inner_attributes_leads, inner_attributes_until, behind_others_onward, named_leads, named_or_leads, renamed_leads, behind_others_leads, front_takes, LeafAt, leaf_at, Finds, extern_turn_found, list_from, mut_word, mut_word_leads, plain_leaf}
 use Rattle.rust_leaves.specs.declared.head.Head.TheVariants as heads
 use Rattle.rust_items.specs.declared.log.ProblemKind.TheVariants as problem
 use Rattle.rust_edits.proofs.Beside.NearFronts.{FrontNear, front_until, further_on}
 use Rattle.rust_edits.proofs.Beside.NearLeaves.{some_on, LeafNear, Given, given_on, Ends, passes, before_end, at_end, SomeLeaf, no_leaf, one_leaf, leaf_ended, LeafEnds, leaf_ends, call_end_fewer, rest_fewer}
+use Rattle.rust_cursor.specs.Grammar.{reads}
+use Rattle.rust_cursor.proofs.Rules.{rule_leads}
 
 -- ---- what is found
 
@@ -348,11 +350,11 @@ leaf_fewer h ts = by h.head
 
     called : leaf_ended (invocation h.attrs ts).0 ≡ true → length (invocation h.attrs ts).1.left < length ts.left
     called e =
-        when (is_some (path ts).0 && is_called (path ts).1)
+        when (is_some (reads path ts).0 && is_called (reads path ts).1)
         (λ f. rw f
-        (let first = fewer (path_leads ts) in
-        let second = fewer (bumped_leads (path ts).1) in
-        let strict = call_end_fewer (bumped (path ts).1) (rw f at e) in omega arith))
+        (let first = fewer (rule_leads path ts) in
+        let second = fewer (bumped_leads (reads path ts).1) in
+        let strict = call_end_fewer (bumped (reads path ts).1) (rw f at e) in omega arith))
         (λ f. absurd (let no = rw f at e in cc))
 
     by : (w : Head) → leaf_ended (leaf_by w h.attrs h.visibility ts).0 ≡ true → length (leaf_by w h.attrs h.visibility ts).1.left < length ts.left

@@ -1,7 +1,7 @@
 -- Items that hold none are the same in a text that ends with a `;` or a `}` and in a longer one, where they end there or before.
 use Rattle.std.specs.Option.{option_or}
 use Rattle.std.proofs.Common.{◌≡◌, ◌≤◌, ◌<◌, ◌+◌, ◌==◌, ◌&&◌, ℕ, zero, suc, Bool, true, false, Option, Some, None, List, [], ◌++◌, length, refl, sym, ap, ◌∙◌, arith, codes}
-use Rattle.rust_edits.proofs.Common.{option_map, is_some, nat_lt, bytes_eq, Visibility, AstIdKind, MetaView, PlainKind, ItemView, FieldsView, ast_kind, plain_item, const_item, struct_item, impl_item, extern_crate, use_item, macro_rules, behind_angles, behind_header, is_trait_impl, most, ExcerptRead, ends, tree_body, Reader, Tokens, symbol, word, text, bumped, eat, eat_word, is_at_open, TextRange, Placed, as_name, path, use_tree, inner_attributes, NameRead, RestRead, LeafRead, no_name, name_read, named, next_range, named_or, crate_alias, crate_alias_if, renamed, rename_of, range_to, rest_read, bare_end, semicolon_end, call_end, block_attributes, has_trait, node, named_node, leaf_read, plain_read, constant, structure, implementation, told_at, crate_item, use_read, use_declaration, macro_definition, is_called, begins_call, begins_call_same, called, some_read, invocation, item_call, leaf_by, leaf, Head, FrontRead, nat_tests, and_parts, and_right, eq-eqb, IsSound, sound_on, IsLaid, behind, LeadsTo, here, further, through, Forwards, when, eat_leads, eat_word_leads, reached_leads, behind_angles_leads, taken_leads_on, Ending, Near, Gone, nothing, bumped_onward, fewer, enough_left, more_left, at_same, past_same, taken_same, near_twins, behind_angles_near, reached_near, near_parting, UntilBy, Kept, AtEnd, is_still, Outcome, lost, stays, comes, untaken, map_outcome, then_outcome, eat_outcome, eat_fewer, gone, kept, by_next, onward_leads, by_kept, cond_until, then_until, eat_word_until, symbol_same, word_same, text_same, after_symbol, BlockNear, no_block, block, SameText, item_so, macro_so, value_so, tree_so, taken_outcome, taken_until, taken_fewer, next_past, near_enters, near_levels, path_until, path_leads, inner_attributes_until, inner_attributes_leads, fields_of, named_leads, alias_if_leads, renamed_leads, call_end_leads, use_tree_until, inner_some, bare, last_text_from, last_text, UpTo, mut_word, mut_word_leads, own_attributes, plain_leaf, rest_by, rest_leads, rest_of, by_taken}
+use Rattle.rust_edits.proofs.Common.{option_map, is_some, nat_lt, bytes_eq, Visibility, AstIdKind, MetaView, PlainKind, ItemView, FieldsView, ast_kind, plain_item, const_item, struct_item, impl_item, extern_crate, use_item, macro_rules, behind_angles, behind_header, is_trait_impl, most, ExcerptRead, ends, tree_body, Reader, Tokens, symbol, word, text, bumped, eat, eat_word, is_at_open, TextRange, Placed, as_name, path, use_tree, inner_attributes, NameRead, RestRead, LeafRead, no_name, name_read, named, next_range, named_or, crate_alias, crate_alias_if, renamed, rename_of, range_to, rest_read, bare_end, semicolon_end, call_end, block_attributes, has_trait, node, named_node, leaf_read, plain_read, constant, structure, implementation, told_at, crate_item, use_read, use_declaration, macro_definition, is_called, begins_call, begins_call_same, called, some_read, invocation, item_call, leaf_by, leaf, Head, FrontRead, nat_tests, and_parts, and_right, eq-eqb, IsSound, sound_on, IsLaid, behind, LeadsTo, here, further, through, Forwards, when, eat_leads, eat_word_leads, reached_leads, behind_angles_leads, taken_leads_on, Ending, Near, Gone, nothing, bumped_onward, fewer, enough_left, more_left, at_same, past_same, taken_same, near_twins, behind_angles_near, reached_near, near_parting, UntilBy, Kept, AtEnd, is_still, Outcome, lost, stays, comes, untaken, map_outcome, then_outcome, eat_outcome, eat_fewer, gone, kept, by_next, onward_leads, by_kept, cond_until, then_until, eat_word_until, symbol_same, word_same, text_same, after_symbol, BlockNear, no_block, block, SameText, item_so, macro_so, value_so, tree_so, taken_outcome, taken_until, taken_fewer, next_past, near_enters, near_levels, inner_attributes_until, inner_attributes_leads, fields_of, named_leads, alias_if_leads, renamed_leads, call_end_leads, use_tree_until, inner_some, bare, last_text_from, last_text, UpTo, mut_word, mut_word_leads, own_attributes, plain_leaf, rest_by, rest_leads, rest_of, by_taken}
 use Rattle.hir_input.specs.declared.ast.PlainKind.TheVariants as plain_kind
 use Rattle.hir_input.specs.declared.ids.AstIdKind.TheVariants as kind
 use Rattle.rust_cursor.specs.declared.cursor.generics.Reach.TheVariants as reaches
@@ -12,6 +12,8 @@ use Rattle.rust_leaves.specs.declared.head.Head.TheVariants as heads
 use Rattle.rust_edits.proofs.Beside.NearFronts.{FrontNear, PlacedNear, no_place, placed_near, placed_name_until, further_on, are_further, is_further}
 use Rattle.rust_edits.proofs.Beside.Calls.{call_left}
 use Rattle.rust_edits.proofs.Beside.NearFields.{in_order, lt_by, struct_fields_near}
+use Rattle.rust_cursor.specs.Grammar.{reads}
+use Rattle.rust_cursor.proofs.Rules.{rule_leads, rule_until}
 
 -- ---- places
 
@@ -421,15 +423,15 @@ call_near b attrs p p' z z' r s e f k =
 invocation_ends : (b : Ending) (attrs : List MetaView) (ts us : Tokens) → Near b ts us → begins_call us ≡ true → LeafEnds b (invocation attrs ts) (invocation attrs us)
 unfolding invocation last_text
 invocation_ends b attrs ts us h begins =
-    by_kept (path_until (near_parting b) ts us h)
+    by_kept (rule_until (near_parting b) path ts us h)
     (λ o. absurd (call_left us begins o.none))
-    (λ k. let test : (is_some (path us).0 && is_called (path us).1) ≡ (is_some (path ts).0 && is_called (path ts).1) =
-    ap (λ q. is_some q && is_called (path us).1) k.value ∙ ap (λ t. is_some (path ts).0 && t) (called_same b (path ts).1 (path us).1 k.rest) in
-    when (is_some (path ts).0 && is_called (path ts).1)
-    (λ e. let next = called_next b (path ts).1 (path us).1 k.rest (and_parts (is_some (path ts).0) (is_called (path ts).1) e).1 in
+    (λ k. let test : (is_some (reads path us).0 && is_called (reads path us).1) ≡ (is_some (reads path ts).0 && is_called (reads path ts).1) =
+    ap (λ q. is_some q && is_called (reads path us).1) k.value ∙ ap (λ t. is_some (reads path ts).0 && t) (called_same b (reads path ts).1 (reads path us).1 k.rest) in
+    when (is_some (reads path ts).0 && is_called (reads path ts).1)
+    (λ e. let next = called_next b (reads path ts).1 (reads path us).1 k.rest (and_parts (is_some (reads path ts).0) (is_called (reads path ts).1) e).1 in
     rw (test, e)
-    (leaf_by_outcome (called attrs (path ts).0 (bare (last_text_from most (path ts).1.past [] ts))) (called attrs (path us).0 (bare (last_text_from most (path us).1.past [] us)))
-    (λ r. call_near b attrs _ _ _ _ _ _ k.value (ap bare (last_text_near b (path ts).1 (path us).1 k.rest _ [] ts us h (path_leads ts))) r) (λ e. e) (call_end_outcome b _ _ next)))
+    (leaf_by_outcome (called attrs (reads path ts).0 (bare (last_text_from most (reads path ts).1.past [] ts))) (called attrs (reads path us).0 (bare (last_text_from most (reads path us).1.past [] us)))
+    (λ r. call_near b attrs _ _ _ _ _ _ k.value (ap bare (last_text_near b (reads path ts).1 (reads path us).1 k.rest _ [] ts us h (rule_leads path ts))) r) (λ e. e) (call_end_outcome b _ _ next)))
     (λ e. rw (test, e) (before_end (record { value = no_leaf; rest = h }))))
 
 item_call_ends : (b : Ending) (attrs : List MetaView) (ts us : Tokens) → Near b ts us → LeafEnds b (item_call attrs ts) (item_call attrs us)

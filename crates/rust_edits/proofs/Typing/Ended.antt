@@ -11,11 +11,12 @@ use Rattle.rust_cursor.proofs.Tests.{nest_same, stops_same, ends_same}
 use Rattle.rust_cursor.proofs.Inside.{stops_deep, not_last}
 use Rattle.rust_cursor.proofs.Braced.{brace_step}
 use Rattle.rust_cursor.proofs.Walk.{nothing, matched_in}
-use Rattle.rust_paths.proofs.Beside.{path_local}
 use Rattle.rust_paths.proofs.UntilTrees.{use_tree_until}
 use Rattle.rust_leaves.proofs.Crates.{is_called_same, called_next}
 use Rattle.rust_cursor.specs.Extents as extents
 use Rattle.rust_leaves.specs.declared.head.Head.TheVariants as heads
+use Rattle.rust_cursor.specs.Grammar.{reads}
+use Rattle.rust_cursor.proofs.Rules.{rule_local}
 
 -- ---- what is counted in braces
 
@@ -273,12 +274,12 @@ module _ (b : Bodies) (same : SameLoose b) where
   invocation_ended : (attrs : List MetaView) (ts us : Tokens) → Beside b ts us → SameFlaws b (invocation attrs ts).0 (invocation attrs us).0
   unfolding invocation
   invocation_ended attrs ts us h =
-      let p = path_local b ts us h in
-      let tests : (is_some (path us).0 && is_called (path us).1) ≡ (is_some (path ts).0 && is_called (path ts).1) =
-      ap (λ o. is_some o && is_called (path us).1) p.value ∙ ap (λ t. is_some (path ts).0 && t) (is_called_same b (path ts).1 (path us).1 p.rest) in
-      when (is_some (path ts).0 && is_called (path ts).1)
+      let p = rule_local b path ts us h in
+      let tests : (is_some (reads path us).0 && is_called (reads path us).1) ≡ (is_some (reads path ts).0 && is_called (reads path ts).1) =
+      ap (λ o. is_some o && is_called (reads path us).1) p.value ∙ ap (λ t. is_some (reads path ts).0 && t) (is_called_same b (reads path ts).1 (reads path us).1 p.rest) in
+      when (is_some (reads path ts).0 && is_called (reads path ts).1)
       (λ e. rw (tests, e) (record {
-        ended = call_ended (bumped (path ts).1) (bumped (path us).1) (called_next b (path ts).1 (path us).1 p.rest (and_parts (is_some (path ts).0) (is_called (path ts).1) e).1);
+        ended = call_ended (bumped (reads path ts).1) (bumped (reads path us).1) (called_next b (reads path ts).1 (reads path us).1 p.rest (and_parts (is_some (reads path ts).0) (is_called (reads path ts).1) e).1);
         deep = neither;
       }))
       (λ e. rw (tests, e) (record { ended = refl; deep = neither }))

@@ -8,6 +8,7 @@ use Rattle.rust_cursor.proofs.Laid as laid
 use Rattle.rust_leaves.specs.declared.head.Head.TheVariants as heads
 use Rattle.rust_items.specs.declared.log.ProblemKind.TheVariants as problem
 use Rattle.rust_edits.proofs.Beside.Inner.{front_bare, no_inner}
+use Rattle.rust_cursor.specs.Looks.{sees}
 
 -- ` 1 `
 one : List ℕ
@@ -73,7 +74,7 @@ module _ (y : EditionYear) where
   unfolding all impl_word block header one tokens_of tokens first_cut is_wide_start is_wide_continue past_digits
   toks = refl
 
-  plain : is_behind Inner all ≡ true
+  plain : sees (is_behind Inner) all ≡ true
   unfolding all impl_word is_behind is_doc is_attribute symbol kind
   plain = refl
 

@@ -6,6 +6,7 @@ use Rattle.rust_edits.proofs.Adding.{IfPlace, IfLeaf, Keeping, maybe, items_keep
 use Rattle.rust_edits.specs.Typing.Problems.{ProblemsStand}
 use Rattle.rust_leaves.specs.declared.head.Head.TheVariants as heads
 use Rattle.rust_items.specs.declared.log.ProblemKind.TheVariants as problem
+use Rattle.rust_cursor.specs.Grammar.{reads}
 
 -- ---- where tokens stand
 
@@ -79,7 +80,7 @@ LeafIn end o = IfLeaf (λ _. Unit {0}) (λ n. n ≤ end) o
 call_in : (end : ℕ) (attrs : List MetaView) (ts : Tokens) → LeafIn end (item_call attrs ts).0
 unfolding item_call invocation
 call_in end attrs ts =
-    when (begins_call ts) (λ e. rw e (when (is_some (path ts).0 && is_called (path ts).1) (λ f. rw f (tt, tt)) (λ f. rw f tt))) (λ e. rw e tt)
+    when (begins_call ts) (λ e. rw e (when (is_some (reads path ts).0 && is_called (reads path ts).1) (λ f. rw f (tt, tt)) (λ f. rw f tt))) (λ e. rw e tt)
 
 leaf_by_in : (end : ℕ) (k : Head) (attrs : List MetaView) (v : Option Visibility) (ts : Tokens) → IsLaid end ts → LeafIn end (leaf_by k attrs v ts).0
 unfolding plain_leaf constant structure implementation crate_item use_declaration macro_definition

@@ -3,6 +3,7 @@ use Rattle.std.proofs.Common.{◌≡◌, ◌≤◌, ◌<◌, ℕ, arith, true, f
 use Rattle.rust_edits.proofs.Common.{filter, EditionYear, Inner, StandsAlone, opening, tokens_in_front, moved, Piece, symbol_of, is_significant, Tokens, end_of, tokens_of, kind, symbol, bumped, turns, Bodies, AreBehind, Beside, ahead, is_doc, is_attribute, is_behind, inner_attributes, attributes, with_body, OpensAt, first_plain, BeginsPlain, common_steps, open_at, inside_of, body, body_matched, close_of, close_symbol, left_of, front_of, counted_apart, filter_moved, front_same, tokens_at, bumped_at, front_before, left_behind, Moves, SamePlace, BeginPlain, turns_stop}
 use Rattle.rust_lexer.proofs.Counted.{when}
 use Rattle.rust_lexer.proofs.Whole as wholes
+use Rattle.rust_cursor.specs.Looks.{sees}
 
 -- ---- the braces
 
@@ -80,13 +81,13 @@ tokens_beside edition q m m' s o h h' =
 
 -- ---- what the body begins with
 
-plain_behind : (y : EditionYear) (past : ℕ) (l : List Piece) (u : Option ℕ) → first_plain l ≡ true → is_behind Inner (tokens_at y past l u) ≡ true
+plain_behind : (y : EditionYear) (past : ℕ) (l : List Piece) (u : Option ℕ) → first_plain l ≡ true → sees (is_behind Inner) (tokens_at y past l u) ≡ true
 unfolding is_behind is_doc is_attribute symbol kind bumped
 plain_behind y past l u e = e
 
-no_attributes : (ts : Tokens) → is_behind Inner ts ≡ true → (inner_attributes ts).0 ≡ []
+no_attributes : (ts : Tokens) → sees (is_behind Inner) ts ≡ true → (inner_attributes ts).0 ≡ []
 unfolding inner_attributes attributes turns
-no_attributes ts e = ap (λ r. r.0) (turns_stop (is_behind Inner) _ _ [] ts e)
+no_attributes ts e = ap (λ r. r.0) (turns_stop (sees (is_behind Inner)) _ _ [] ts e)
 
 -- a `}` behind them makes no attribute of these, nor does it matter where they stand
 closed_plain : (l : List Piece) (c : Piece) (r : List Piece) → symbol_of c ≡ 125 → first_plain (l ++ c ∷ r) ≡ first_plain l

@@ -15,6 +15,7 @@ use Rattle.rust_items.specs.Found.{Found, nothing_found, and_all}
 use Rattle.rust_items.specs.Items.{finding_from, is_list_end, items, turn}
 use Rattle.rust_items.specs.LineEnds.{moved_span, moved_problem}
 use Rattle.rust_items.specs.SourceFiles.{behind_attributes, found_in, read_of}
+use Rattle.rust_cursor.specs.Looks.{sees}
 
 -- ---- a text, and what may stand behind it
 
@@ -42,7 +43,7 @@ pub record IsBare (text : List ℕ) : Type 0 where
 pub record BeginsAnew (edition : EditionYear) (text : List ℕ) : Type 0 where
   pub bare : IsBare text
   pub uncut : is_continuation (slice_index text 0) ≡ false
-  pub outer : is_behind Inner (tokens_of edition text) ≡ true
+  pub outer : sees (is_behind Inner) (tokens_of edition text) ≡ true
   pub still : goes_on (tokens_of edition text) ≡ false
 
 -- What is read of a text at the top, or as what stands between braces up to a `}`, where so many modules more may stand in one another.

@@ -26,6 +26,7 @@ use Rattle.rust_leaves.specs.Leaves.{named, named_or, renamed}
 use Rattle.rust_items.specs.Found.{Found, and_all}
 use Rattle.rust_items.specs.SourceFiles.{found_in, read_of}
 use Rattle.rust_edits.specs.Beside.Joined.{EndsWhole, BeginsAnew, found_on}
+use Rattle.rust_cursor.specs.Looks.{sees}
 
 -- ---- tokens of an item behind its name
 
@@ -97,7 +98,7 @@ pub record IsOpenItem (edition : EditionYear) (text y : List ℕ) : Type 0 where
   pub parted : tokens (text ++ y) ≡ tokens text ++ map (moved (length text)) (tokens y)
   pub ends : end_behind 0 (tokens_of edition text).left ≡ length text
   -- an item begins, with these words and a name; behind them it goes on with these tokens
-  pub outer : is_behind Inner (tokens_of edition (text ++ y)) ≡ true
+  pub outer : sees (is_behind Inner) (tokens_of edition (text ++ y)) ≡ true
   pub item : is_at_end (tokens_of edition (text ++ y)) ≡ false
   pub head : Head
   pub is_head : (front (tokens_of edition (text ++ y))).0.head ≡ head
@@ -107,7 +108,7 @@ pub record IsOpenItem (edition : EditionYear) (text y : List ℕ) : Type 0 where
   -- there the next one begins
   pub some : is_empty (tokens_of edition y) ≡ false
   pub begins : begins (nest_through (length rest) (flat_behind (before_rest head)) (behind_name head (front (tokens_of edition (text ++ y))).1)) (tokens_of edition y) ≡ true
-  pub outer_behind : is_behind Inner (tokens_of edition y) ≡ true
+  pub outer_behind : sees (is_behind Inner) (tokens_of edition y) ≡ true
   pub plain : (symbol (tokens_of edition y) == 59 || symbol (tokens_of edition y) == 123) ≡ false
 
 -- What is read of a text ends with what is read of another, which stands so much further on.
