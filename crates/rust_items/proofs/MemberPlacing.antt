@@ -170,7 +170,7 @@ part_found : (end : ℕ) (w : WantedMetas) (k : MemberKind) → Finds end (part_
 unfolding part_member
 part_found end w k ts laid =
     let a = outer_attributes ts in
-    let v = visibility a.1 in
+    let v = reads visibility a.1 in
     let u = eat_word (codes "unsafe") v.1 in
     let n = named u.1 in
     let before = through (outer_attributes_leads ts) (through (rule_leads visibility a.1) (eat_word_leads (codes "unsafe") v.1)) in

@@ -1,5 +1,5 @@
 -- Where a use tree tells that trees begin, those of it that can be read are read.
-use Rattle.std.proofs.Common.{◌≡◌, ◌==◌, ◌||◌, ℕ, zero, suc, Bool, true, false, Option, Some, None, List, [], ◌∷◌, ◌++◌, codes, refl, sym, ap, ◌∙◌, subst, append-nil, append_assoc, arith, is_none, option_map, option_to_list, not, bytes_eq}
+use Rattle.std.proofs.Common.{◌≡◌, ◌==◌, ◌||◌, ℕ, zero, suc, Bool, true, false, Option, Some, None, List, [], ◌∷◌, ◌++◌, codes, refl, sym, ap, ◌∙◌, subst, append-nil, append_assoc, arith, is_none, option_map, option_to_list, not, bytes_eq, if◌then◌else◌}
 use Rattle.rust_items.proofs.Common.{AllZip, PathNode, UseTreeView, trees_from, Tokens, symbol, word, kind, at, is_empty, is_pair, eat_pair, bumped, is_at_end, eat_colons, most, beyond, turns_from, turns, elements, one, LeadsTo, here, through, when, bumped_leads, eat_pair_leads, behind_closed_leads, behind_tree_leads, beyond_leads, turns_leads, Takes, takes, takes_behind, takes_before, symbol_some, word_none, next_name, name, placed_name, taken_with, is_raw, is_dollar_crate, other_segment, segment, more_segments, front_of_path, written_path, is_path_start, use_path, FoundInUse, begun_trees, begun_list, values, all_starts, bare_tree, tree_with_list, star_or_list, tree_behind, tree_with, tree_at, element_with, list, rename, use_tree, placed_next, list_leads, element_leads, is_readable, all_readable_trees, readable_trees, written_trees}
 use Rattle.hir_input.specs.declared.ast.PathNode.TheVariants.{Readable, Unreadable}
 use Rattle.hir_input.specs.declared.ast.Rename.{Rename}
@@ -84,12 +84,18 @@ pair_some : (ts : Tokens) → is_pair 58 58 ts ≡ true → is_empty ts ≡ fals
 unfolding is_pair
 pair_some ts e = when (symbol ts == 58) (λ f. symbol_some 58 ts (omega arith) f) (λ f. let wrong : false ≡ true = rw f at e in absurd cc)
 
+-- a path behind `::`, or one that begins there
+written_behind : (t : Bool) (ts : Tokens) → is_pair 58 58 ts ≡ t
+    → (let us = if t then bumped (bumped ts) else ts in
+    PathTakes (Some (path_node (front_of_path t ((reads segment us).0 ∷ (reads (more_segments true) (reads segment us).1).0)))) ts (reads (more_segments true) (reads segment us).1).1)
+written_behind true ts e =
+    path_any (Some (path_node (front_of_path true ((reads segment (bumped (bumped ts))).0 ∷ (reads (more_segments true) (reads segment (bumped (bumped ts))).1).0)))) ts _
+    (takes ts here (pair_some ts e) (through (bumped_leads _) (through (rule_leads segment _) (rule_leads (more_segments true) _))))
+written_behind false ts e = path_first (reads segment ts).0 (reads (more_segments true) (reads segment ts).1).0 ts (reads segment ts).1 _ (segment_takes ts) (rule_leads (more_segments true) _)
+
 written_takes : (ts : Tokens) → PathTakes (Some (reads (written_path true) ts).0) ts (reads (written_path true) ts).1
 unfolding eat_pair
-written_takes ts =
-    when (is_pair 58 58 ts)
-    (λ e. rw e (path_any (Some (path_node (front_of_path true ((reads segment (bumped (bumped ts))).0 ∷ (reads (more_segments true) (reads segment (bumped (bumped ts))).1).0)))) ts _ (takes ts here (pair_some ts e) (through (bumped_leads _) (through (rule_leads segment _) (rule_leads (more_segments true) _))))))
-    (λ e. rw e (path_first (reads segment ts).0 (reads (more_segments true) (reads segment ts).1).0 ts (reads segment ts).1 _ (segment_takes ts) (rule_leads (more_segments true) _)))
+written_takes ts = written_behind (is_pair 58 58 ts) ts refl
 
 path_takes : (ts : Tokens) → PathTakes (reads use_path ts).0 ts (reads use_path ts).1
 unfolding use_path
