@@ -20,6 +20,7 @@ use Rattle.rust_items.proofs.Leads.{IsBraced, braced, IsNamed, by_token, LeafFou
 use Rattle.rust_items.specs.declared.member.MemberKind.{MemberKind}
 use Rattle.rust_items.specs.declared.member.MemberKind.TheVariants as member
 use Rattle.rust_items.proofs.MemberCuts.{placed_widened, members_fit, members_moved}
+use Rattle.rust_cursor.specs.Grammar.{reads}
 use Rattle.rust_cursor.proofs.Rules.{rule_leads}
 
 -- ---- lists of members
