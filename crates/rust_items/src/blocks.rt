@@ -18,7 +18,7 @@ use crate::log::{Log, Problem, ProblemKind};
 use crate::source_file::{ItemPlace, ids_of, places};
 use crate::turn::{Extent, push_item};
 use hir_input::ast::{BlockExpr, Item, Stmt, Tail};
-use hir_input::{AstIdKind, EditionYear, Meta};
+use hir_input::{AstIdKind, EditionYear, FileAstId, Meta};
 use rust_cursor::Cursor;
 use rust_leaves::{
     Call, Wanted, WantedMetas, front_behind, is_item, pass_statement, statement_call,
@@ -284,6 +284,19 @@ fn parts<'t>(
     Ok(body)
 }
 
+/// The parts of a block with their ids.
+fn numbered_body(mut body: Body, ids: &[FileAstId]) -> Body
+    ensures stmts { let stmts = map stmt_view body.stmts.items in
+        map stmt_view result.stmts.items ≡ (spec.stmts_with_ids stmts ids.now).0 }
+    ensures tail { let left = (spec.stmts_with_ids (map stmt_view body.stmts.items) ids.now).1 in
+        tail_view result.tail ≡ spec.tail_with_id (tail_view body.tail) left }
+{
+    let mut supply = Supply { rest: ids };
+    number_stmts(&mut body.stmts, &mut supply);
+    number_tail(&mut body.tail, &mut supply);
+    body
+}
+
 /// What was read of a block.
 #[derive(Debug, Drop)]
 pub struct SourceBlock {
@@ -309,17 +322,12 @@ fn block_of(
     let is_top = !cursor.eat(b'{');
     let attrs = inner_attributes(alloc, &mut cursor)?;
     let mut log = Log::new(alloc);
-    let Body {
-        mut stmts,
-        mut tail,
-    } = parts(alloc, &mut cursor, is_top, &mut log)?;
+    let body = parts(alloc, &mut cursor, is_top, &mut log)?;
     log.push_problem_at(ProblemKind::Unterminated, cursor.unended())?;
     let ids = ids_of(alloc, log.rows)?;
     let places = places(alloc, &ids, &log.spans, ends)?;
     let problems = ends.problems(alloc, &log.problems)?;
-    let mut supply = Supply { rest: &ids };
-    number_stmts(&mut stmts, &mut supply);
-    number_tail(&mut tail, &mut supply);
+    let Body { stmts, tail } = numbered_body(body, &ids);
     Ok(SourceBlock {
         block: BlockExpr { attrs, stmts, tail },
         places,

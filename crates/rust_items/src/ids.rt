@@ -128,7 +128,7 @@ pub(crate) fn number_item(item: &mut Item, supply: &mut Supply<'_>)
 
 /// Gives items their ids, in preorder.
 #[cycle(ids)]
-pub(crate) fn number_items(items: &mut [Item], supply: &mut Supply<'_>)
+fn number_items(items: &mut [Item], supply: &mut Supply<'_>)
     ensures { spec.list_with_ids (map item_view items.old) (supply_view supply.old)
         ≡ (map item_view items.new, supply_view supply.new) }
 {
@@ -174,4 +174,14 @@ pub(crate) fn number_tail(tail: &mut Tail, supply: &mut Supply<'_>)
     if let Tail::MacroCall(node) = tail {
         number_call(node, supply);
     }
+}
+
+/// Items with their ids.
+pub(crate) fn numbered_items(mut items: Vec<Item>, ids: &[FileAstId]) -> Vec<Item>
+    ensures { map item_view result.items
+        ≡ (spec.list_with_ids (map item_view items.items) ids.now).0 }
+{
+    let mut supply = Supply { rest: ids };
+    number_items(&mut items, &mut supply);
+    items
 }

@@ -12,7 +12,7 @@ ghost use Rattle.rust_items.specs.Places.{ArePlaces, IsWritten};
 ghost use Rattle.rust_items.specs.SourceFiles as spec;
 ghost use Rattle.rust_items.specs.Views.{reading_file};
 
-use crate::ids::{Supply, number_items};
+use crate::ids::numbered_items;
 use crate::items::{MOST_DEPTH, items};
 use crate::line_ends::{LineEnds, has_return, with_feeds};
 use crate::log::{ItemSpan, Log, Problem, ProblemKind};
@@ -130,14 +130,13 @@ fn reading_of(
     let mut cursor = Cursor::new(text, edition);
     let attrs = kept_inner_attributes(alloc, &mut cursor, wanted.metas)?;
     let mut log = Log::new(alloc);
-    let mut items = top_items(alloc, &mut cursor, wanted, &mut log)?;
+    let items = top_items(alloc, &mut cursor, wanted, &mut log)?;
     log.push_problem_at(ProblemKind::Unterminated, cursor.unended())?;
     let ids = ids_of(alloc, log.rows)?;
     let places = places(alloc, &ids, &log.spans, ends)?;
     let use_trees = ends.places(alloc, &log.use_trees)?;
     let problems = ends.problems(alloc, &log.problems)?;
-    let mut supply = Supply { rest: &ids };
-    number_items(&mut items, &mut supply);
+    let items = numbered_items(items, &ids);
     Ok(Reading {
         attrs,
         items,
