@@ -20,9 +20,9 @@ use crate::values::{
     column_value, line_value, name_value, put_text, range_value, subject_value, visibility_value,
 };
 use hir_input::{Edition, FileAstId, Name};
-use item_tree::{ItemTree, ModItemId, RawVisibility};
 use hir_input_json::member::Members;
 use hir_input_json::write::object::{of_text, with};
+use item_tree::{ItemTree, ModItemId, RawVisibility};
 use rust_items::ItemPlace;
 use serde_json::{Map, Value, put};
 use source_rows::{ListedMember, Reading, Source, Spot, item_word, member_word};

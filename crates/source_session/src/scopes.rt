@@ -8,10 +8,10 @@ ghost use Rattle.source_listing.specs.Paths.{bare_segment};
 ghost use Rattle.source_session.specs.Finders.{KnowsScopes, declared_scope, head_scope};
 ghost use Rattle.source_session.specs.Sought.{found_scope, scope_by_id};
 
-use tree_walk::{Declaration, collect};
 use item_tree::{ItemTree, ModItemId};
 use source_listing::push_scope;
 use std::alloc::{AllocError, Global};
+use tree_walk::{Declaration, collect};
 
 /// The names of the modules around the items that a tree declares.
 #[derive(Drop)]
