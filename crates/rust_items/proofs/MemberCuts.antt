@@ -2,7 +2,7 @@
 use Rattle.std.proofs.Common.{◌≡◌, ◌<◌, ◌≤◌, ◌+◌, ◌-◌, ◌^◌, ◌&&◌, ◌++◌, ◌∙◌, ℕ, Bool, true, false, Option, Some, None, List, [], ◌∷◌, map, length, take, drop, set, get_or, ap, sym, subst, arith, ⊎_elim, append_assoc, IsTrue, ◌↔◌, IsCharBoundary, nat_le, option_map, slice_range}
 use Rattle.std.proofs.lemmas.Bool.{and_parts, cases_Bool, leb-true}
 use Rattle.std.proofs.lemmas.Bool.Decides.{nat_tests, same_from_decides}
-use Rattle.std.proofs.lemmas.List.{length-drop, length-take-le, map-append}
+use Rattle.std.proofs.lemmas.List.{drop_more, drop-set-lt, length-drop, length-take-le, map-append, take_more_set}
 use Rattle.rust_items.proofs.MemberCommon.{TextRange, IsNameIn, Member, is_boundary, is_cut, cut_out, MemberRead, moved_member, range_moved_by, ArePlaced, FitsMoved, member_view}
 
 -- what stands in a range that fits fits
@@ -82,16 +82,34 @@ members_fit text part range ms fits e p =
 
 -- ---- one after another, where they stand
 
+-- what is left from the next on
+left_more : {A : Type 0} (xs : List A) (i : ℕ) (x : A) → i < length xs → x ≡ get_or xs i x → drop i xs ≡ x ∷ drop (i + 1) xs
+left_more xs i x h e = drop_more xs i x h ∙ ap (λ y. y ∷ drop (i + 1) xs) (sym e)
+
+-- what is left behind one that was changed
+left_same : {A : Type 0} (xs : List A) (i : ℕ) (y : A) → drop (i + 1) (set xs i y) ≡ drop (i + 1) xs
+left_same xs i y = let less : i < i + 1 = omega arith in drop-set-lt (i + 1) xs i y less
+
 -- one more member is moved
-pub all_more : (by : ℕ) (done pushed : List Member) (m : Member) (x : MemberRead) (rest : List MemberRead) (all : List MemberRead) → pushed ≡ done ++ m ∷ [] → member_view m ≡ moved_member by x
-    → map member_view done ++ map (moved_member by) (x ∷ rest) ≡ all → map member_view pushed ++ map (moved_member by) rest ≡ all
-all_more by done pushed m x rest all p v inv =
-    ap (λ (ms : List Member). map member_view ms ++ map (moved_member by) rest) p
-    ∙ ap (λ (ms : List MemberRead). ms ++ map (moved_member by) rest) (map-append member_view done (m ∷ []))
-    ∙ append_assoc (map member_view done) (member_view m ∷ []) (map (moved_member by) rest)
-    ∙ ap (λ (y : MemberRead). map member_view done ++ y ∷ map (moved_member by) rest) v
+pub moved_next : (by : ℕ) (ms : List Member) (i : ℕ) (x y : Member) (all : List MemberRead) → i < length ms → x ≡ get_or ms i x → member_view y ≡ moved_member by (member_view x)
+    → map member_view (take i ms) ++ map (moved_member by) (map member_view (drop i ms)) ≡ all
+    → map member_view (take (i + 1) (set ms i y)) ++ map (moved_member by) (map member_view (drop (i + 1) (set ms i y))) ≡ all
+moved_next by ms i x y all h e w inv =
+    let rest = map (moved_member by) (map member_view (drop (i + 1) ms)) in
+    ap (λ (l : List Member). map member_view (take (i + 1) (set ms i y)) ++ map (moved_member by) (map member_view l)) (left_same ms i y)
+    ∙ ap (λ (l : List Member). map member_view l ++ rest) (take_more_set ms i y h)
+    ∙ ap (λ (l : List MemberRead). l ++ rest) (map-append member_view (take i ms) (y ∷ []))
+    ∙ append_assoc (map member_view (take i ms)) (member_view y ∷ []) rest
+    ∙ ap (λ (m : MemberRead). map member_view (take i ms) ++ m ∷ rest) w
+    ∙ sym (ap (λ (l : List Member). map member_view (take i ms) ++ map (moved_member by) (map member_view l)) (left_more ms i x h e))
     ∙ inv
 
 -- those behind the first
 pub placed_rest : (to : ℕ) (m : MemberRead) (ms : List MemberRead) → ArePlaced 0 to (m ∷ ms) → ArePlaced 0 to ms
 placed_rest to m ms p = placed_widened 0 to m.range.end to ms (omega arith) (omega arith) p.1
+
+-- the same of those that are left
+pub placed_next : (to : ℕ) (ms : List Member) (i : ℕ) (x y : Member) → i < length ms → x ≡ get_or ms i x → ArePlaced 0 to (map member_view (drop i ms)) → ArePlaced 0 to (map member_view (drop (i + 1) (set ms i y)))
+placed_next to ms i x y h e p =
+    let first = subst (λ (l : List Member). ArePlaced 0 to (map member_view l)) (left_more ms i x h e) p in
+    subst (λ (l : List Member). ArePlaced 0 to (map member_view l)) (sym (left_same ms i y)) (placed_rest to (member_view x) (map member_view (drop (i + 1) ms)) first)

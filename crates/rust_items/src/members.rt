@@ -108,28 +108,25 @@ fn moved_name(name: Option<TextRange>, by: usize) -> Option<TextRange>
     }
 }
 
-/// The member in a text with so many bytes in front.
+/// Moves a member to where it stands in a text with so many bytes in front.
 #[tactic(auto, using(crate::proofs::MemberCuts::name_fits))]
-fn member_behind(mut member: Member, by: usize) -> Member
-    requires { IsMemberPlaced 0 (18446744073709551615 - by) (member_view member) }
-    ensures { member_view result ≡ moved_member by (member_view member) }
+fn move_member(member: &mut Member, by: usize)
+    requires { IsMemberPlaced 0 (18446744073709551615 - by) (member_view member.old) }
+    ensures { member_view member.new ≡ moved_member by (member_view member.old) }
 {
     member.name = moved_name(member.name, by);
     member.range = moved_range(member.range, by);
     member.body = moved_name(member.body, by);
-    member
 }
 
-fn members_behind(alloc: Global, members: Vec<Member>, by: usize) -> Result<Vec<Member>, AllocError>
-    requires { ArePlaced 0 (18446744073709551615 - by) (map member_view members.items) }
-    ensures { IfOk result (λ v. map member_view v.items
-        ≡ map (moved_member by) (map member_view members.items)) }
+fn move_members(members: &mut [Member], by: usize)
+    requires { ArePlaced 0 (18446744073709551615 - by) (map member_view members.old) }
+    ensures { map member_view members.new
+        ≡ map (moved_member by) (map member_view members.old) }
 {
-    let mut all = Vec::with_capacity(alloc, members.len())?;
-    for member in members {
-        all.push(member_behind(member, by))?;
+    for member in members.iter_mut() {
+        move_member(member, by);
     }
-    Ok(all)
 }
 
 /// Reads the members in the braces of an item of this kind, which are this range of a text of an edition.
@@ -155,8 +152,9 @@ pub fn read_members(
 {
     match cut_out(text, body) {
         Some(braces) => {
-            let members = members_in(alloc, kind, braces, edition, metas)?;
-            members_behind(alloc, members, body.start)
+            let mut members = members_in(alloc, kind, braces, edition, metas)?;
+            move_members(&mut members, body.start);
+            Ok(members)
         }
         None => Ok(Vec::new(alloc)),
     }
