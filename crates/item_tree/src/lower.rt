@@ -1,6 +1,7 @@
 //! Lowering of a syntax to its item tree.
 ghost use Rattle.std.specs.Prelude.{◌≡◌, ◌≤◌, IfOk, IfErr, OnOk, [], ◌∷◌, false, length, option_copied};
-ghost use Rattle.hir_input.specs.Syntax.{impl_item, impl_view, use_item, use_view, macro_items, module_view, item_view, items_view, syntax_view, block_view};
+ghost use Rattle.hir_input.specs.Syntax.{impl_item, impl_view, use_item, use_view, macro_items, module_view, item_view};
+ghost use Rattle.hir_input.specs.Syntax.{items_view, syntax_view, block_view};
 ghost use Rattle.item_tree_attrs.specs.Collected.{attr_limit, collected};
 ghost use Rattle.item_tree.specs.Layout.{head_of_key};
 ghost use Rattle.item_tree.specs.Lowered.{kept_in, kept_without_bodies, FitsIn, IsTooLargeIn};
@@ -8,7 +9,8 @@ ghost use Rattle.item_tree.specs.Sees.{CtorsAreSeen};
 ghost use Rattle.item_tree.specs.KeptUse.{use_tree_limit};
 ghost use Rattle.item_tree.specs.Size.{Fits, IsTooLarge, IsPassed, only_attributes, items_written};
 ghost use Rattle.item_tree.specs.Stored.{key_in, item_row};
-ghost use Rattle.item_tree.specs.Inner.Growth.{IsWithinLimits, IsLowered, AreLowered, Meets, Pushes, sizes_meeting, sizes_pushing, attrs_in, top_attrs_in, tree_in, items_below};
+ghost use Rattle.item_tree.specs.Inner.Growth.{IsWithinLimits, IsLowered, AreLowered, Meets, Pushes, sizes_meeting};
+ghost use Rattle.item_tree.specs.Inner.Growth.{sizes_pushing, attrs_in, top_attrs_in, tree_in, items_below};
 ghost use Rattle.item_tree.specs.Inner.Statements.{body_items};
 ghost use Rattle.item_tree.specs.Visibility.{read_visibility};
 
@@ -87,8 +89,8 @@ enum Body<'a> {
 ///
 /// # Errors
 ///
-/// `TooManyItems`, `TooManyVisibilities`, `TooManyUseTrees`, `TooManyAttributes` and `TooManySupers` only where that size
-/// is passed, and `OutOfMemory`.
+/// `TooManyItems`, `TooManyVisibilities`, `TooManyUseTrees`, `TooManyAttributes` and `TooManySupers` only where that
+/// size is passed, and `OutOfMemory`.
 #[tactic(auto, using(crate::proofs::BodyTexts::kept_without_bodies, crate::proofs::Seen::ctors_are_seen))]
 pub fn lower_syntax(
     alloc: Global,

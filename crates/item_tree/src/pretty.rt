@@ -1,8 +1,10 @@
 //! The page of a tree, which shows its items as text.
 ghost use Rattle.std.specs.Prelude.{◌≡◌, ◌+◌, ◌<◌, ◌^◌, ◌∷◌, ◌++◌, [], IfOk, OnOk, codes, string_bytes, sum_by};
 ghost use Rattle.item_tree.specs.Line.{text};
-ghost use Rattle.item_tree.specs.Page.{shown_visibility, id_text, call_id_text, named_header, constant_header, use_header, extern_crate_header, macro_call_header, macro_rules_header, page};
-ghost use Rattle.item_tree.specs.Inner.PageByIds.{Gains, Starts, blank_between, item_lines, own_lines_at, lines_at, list_lines};
+ghost use Rattle.item_tree.specs.Page.{shown_visibility, id_text, call_id_text, named_header, constant_header};
+ghost use Rattle.item_tree.specs.Page.{use_header, extern_crate_header, macro_call_header, macro_rules_header, page};
+ghost use Rattle.item_tree.specs.Inner.PageByIds.{Gains, Starts, blank_between, item_lines, own_lines_at, lines_at};
+ghost use Rattle.item_tree.specs.Inner.PageByIds.{list_lines};
 ghost use Rattle.item_tree.specs.Shown.{IsContained, IsModule};
 ghost use Rattle.item_tree.specs.Walk.{AreContained, count_at};
 

@@ -4,7 +4,8 @@ ghost use Rattle.hir_input.specs.Syntax.{struct_item, struct_view, fields_view, 
 ghost use Rattle.item_tree.specs.Constructor.{ctor_of, ctor_from, deciding};
 ghost use Rattle.item_tree.specs.Layout.{vis_id};
 ghost use Rattle.item_tree.specs.Kept.{shape_of};
-ghost use Rattle.item_tree.specs.Inner.Growth.{IsWithinLimits, IsLowered, CtorIsLowered, HasId, MeetsAll, sizes_meeting};
+ghost use Rattle.item_tree.specs.Inner.Growth.{IsWithinLimits, IsLowered, CtorIsLowered, HasId, MeetsAll};
+ghost use Rattle.item_tree.specs.Inner.Growth.{sizes_meeting};
 ghost use Rattle.item_tree.specs.Size.{IsPassed};
 ghost use Rattle.item_tree.specs.Shown.{ctor_ids};
 ghost use Rattle.item_tree.specs.Visibility.{read_visibility};

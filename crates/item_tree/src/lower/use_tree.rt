@@ -1,9 +1,12 @@
 //! Lowering of use trees.
-ghost use Rattle.std.specs.Prelude.{◌≡◌, ◌+◌, ◌++◌, ◌<◌, ◌≤◌, ◌↔◌, IsTrue, IfOk, IfErr, OnOk, IfSome, MatchOption, length, map, option_map, option_copied, Some};
+ghost use Rattle.std.specs.Prelude.{◌≡◌, ◌+◌, ◌++◌, ◌<◌, ◌≤◌, ◌↔◌, IsTrue, IfOk, IfErr, OnOk, IfSome, MatchOption};
+ghost use Rattle.std.specs.Prelude.{length, map, option_map, option_copied, Some};
 ghost use Rattle.hir_input.specs.declared.ast.PathNode.TheVariants.{Unreadable};
-ghost use Rattle.hir_input.specs.UseTreeView.{bare_tree, use_node, use_tree_view, use_trees_view, written_count, all_written_nodes};
+ghost use Rattle.hir_input.specs.UseTreeView.{bare_tree, use_node, use_tree_view, use_trees_view, written_count};
+ghost use Rattle.hir_input.specs.UseTreeView.{all_written_nodes};
 ghost use Rattle.item_tree.specs.Tree.{tree_of, trees_of};
-ghost use Rattle.item_tree.specs.KeptUse.{alias_of, kept_prefix, kept_tree, kept_trees, kept_places, all_kept_places, use_tree_limit, ArePlacesOf};
+ghost use Rattle.item_tree.specs.KeptUse.{alias_of, kept_prefix, kept_tree, kept_trees, kept_places, all_kept_places};
+ghost use Rattle.item_tree.specs.KeptUse.{use_tree_limit, ArePlacesOf};
 ghost use Rattle.item_tree.specs.Imports.{imports, supers_in, most_supers, all_most_supers, super_limit};
 ghost use Rattle.item_tree.specs.Leaves.{AreWritten};
 ghost use Rattle.item_tree.specs.Size.{IsUseFault};
@@ -25,8 +28,8 @@ use std::alloc::{AllocError, Global};
 ///
 /// # Errors
 ///
-/// If the root is kept: `TooManyUseTrees` where more than 2^32 - 1 nodes are written, `TooManySupers` where `super` stands
-/// more than 2^32 - 1 times in the kept paths from the root to a node, and `OutOfMemory`.
+/// If the root is kept: `TooManyUseTrees` where more than 2^32 - 1 nodes are written, `TooManySupers` where `super`
+/// stands more than 2^32 - 1 times in the kept paths from the root to a node, and `OutOfMemory`.
 pub fn lower_use_tree(
     alloc: Global,
     node: &ast::UseTree,

@@ -2,7 +2,8 @@
 ghost use Rattle.std.specs.Prelude.{◌≡◌, ◌+◌, ◌≤◌, OnOk, OnErr};
 ghost use Rattle.item_tree.specs.Calls.{MayCallAt, CalledAtAll, CalledAtSome, at_import, by_import};
 ghost use Rattle.item_tree.specs.Inner.Expanding.{chain_of, supers_before, branch_count};
-ghost use Rattle.item_tree.specs.Imports.{imports, imports_from, all_imports_from, most_supers, all_most_supers, super_limit};
+ghost use Rattle.item_tree.specs.Imports.{imports, imports_from, all_imports_from, most_supers, all_most_supers};
+ghost use Rattle.item_tree.specs.Imports.{super_limit};
 ghost use Rattle.item_tree.specs.KeptUse.{use_tree_limit};
 ghost use Rattle.item_tree.specs.Tree.{tree_count, tree_of, trees_of, single, glob};
 

@@ -3,7 +3,8 @@ ghost use Rattle.std.specs.Prelude.{◌≡◌, ◌+◌, ◌≤◌, ◌++◌, [],
 ghost use Rattle.hir_input.specs.Path.{HasWords};
 ghost use Rattle.hir_input.specs.Words.{words, read_words};
 ghost use Rattle.item_tree.specs.Inner.Expanding.{chain_of, supers_before, joined_kind};
-ghost use Rattle.item_tree.specs.Imports.{super_count, supers_in, super_limit, is_self, read_chain, read_below, read_star, kind_below};
+ghost use Rattle.item_tree.specs.Imports.{super_count, supers_in, super_limit, is_self, read_chain, read_below};
+ghost use Rattle.item_tree.specs.Imports.{read_star, kind_below};
 
 use crate::use_tree::ImportKind;
 use hir_input::{ModPath, Name, PathKind};
