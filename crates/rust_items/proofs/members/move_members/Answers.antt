@@ -1,4 +1,4 @@
-use Rattle.std.proofs.Common.{◌≡◌, ◌-◌}
+use Rattle.std.proofs.Common.{◌≡◌, ◌<◌, ◌-◌, length, arith}
 use Rattle.rust_items.proofs.MemberCommon.{member_view, moved_member}
 use Rattle.rust_items.proofs.MemberCuts.{moved_next, placed_next}
 use Rattle.rust_items.proofs.members.move_members.Goals as goal
@@ -11,8 +11,9 @@ loop-member-preserved c =
     let y = c.move_member.new.member in
     let is = c.member-item.is in
     let moved = c.move_member.ensures in
+    let below : i < length ms = omega arith in
     let same : member_view y ≡ moved_member c.args.by (member_view x) = cc in
     record {
-      same = moved_next c.args.by ms i x y _ c.loop-member-test.true is same c.loop-member.invariant.same;
-      placed = placed_next (18446744073709551615 - c.args.by) ms i x y c.loop-member-test.true is c.loop-member.invariant.placed;
+      same = moved_next c.args.by ms i x y _ below is same c.loop-member.invariant.same;
+      placed = placed_next (18446744073709551615 - c.args.by) ms i x y below is c.loop-member.invariant.placed;
     }
