@@ -217,7 +217,7 @@ own_same b plain_kind.Trait ts us g r = item_attributes b ts us g r
 own_same b _ ts us g r = refl
 
 mut_word_until : (b : Ending) (k : PlainKind) → UpTo (near_parting b) (mut_word k) (mut_word k)
-mut_word_until b plain_kind.Static = eat_word_until (near_parting b) (codes "mut") refl
+mut_word_until b plain_kind.Static ts us h = eat_word_until (near_parting b) (codes "mut") refl ts us h
 mut_word_until b _ ts us h = kept (record { value = refl; rest = h })
 
 module _ (b : Ending) (attrs : List MetaView) (v : Option Visibility) where
