@@ -28,7 +28,11 @@ impl Model for Literal {
 
     ghost Value = { LiteralView };
 
-    ghost view = { λ l. record { rendered = string_bytes l.rendered; string = option_map string_bytes l.string; span = l.span } };
+    ghost view = { λ l. record {
+      rendered = string_bytes l.rendered;
+      string = option_map string_bytes l.string;
+      span = l.span;
+    } };
 }
 
 impl PartialEq for Literal {
@@ -39,7 +43,8 @@ impl PartialEq for Literal {
     ghost use Rattle.std.specs.Cmp.Rules.{comparing};
     ghost use Rattle.hir_input.specs.contracts.span.SpanEq.TheImpl.Laws.{laws-law};
 
-    ghost eq = { eq_of_both (on (λ l. l.rendered) (pointwise nat_eq)) (eq_of_both (on (λ l. l.string) (option_eq (pointwise nat_eq))) (on (λ l. l.span) ⟦<Span as PartialEq>⟧.eq)) };
+    ghost eq = { eq_of_both (on (λ l. l.rendered) (pointwise nat_eq))
+        (eq_of_both (on (λ l. l.string) (option_eq (pointwise nat_eq))) (on (λ l. l.span) ⟦<Span as PartialEq>⟧.eq)) };
 
     ghost laws = { Prim.search (comparing, nat_list_eq_equiv, laws-law) depth 7 };
 

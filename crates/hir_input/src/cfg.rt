@@ -57,7 +57,7 @@ impl fmt::Display for CfgAtom {
 
 // A condition.
 #[cycle(write_cfg)]
-#[tactic(auto, using(crate::proofs::CfgLemmas::cfg_texts, std::proofs::lemmas::Grind::common_steps), unfolding(crate::specs::Cfg::shown_cfg, crate::specs::Cfg::shown_cfgs))]
+#[tactic(auto, using(crate::proofs::CfgLemmas::cfg_texts, std::proofs::lemmas::Grind::common_steps), unfolding(crate::specs::Cfg::shown_cfg, crate::specs::Cfg::shown_cfgs),)]
 fn write_cfg<W: fmt::Write>(cfg: &CfgExpr, f: &mut fmt::Formatter<W>) -> fmt::Result
     ensures { WritesOnOk W.write_str_gives f.old result (shown_cfg (cfg_view cfg.now)) f.new }
 {
@@ -84,7 +84,7 @@ fn write_cfg<W: fmt::Write>(cfg: &CfgExpr, f: &mut fmt::Formatter<W>) -> fmt::Re
 
 // Members, with a comma and a space between them.
 #[cycle(write_cfg)]
-#[tactic(auto, using(crate::proofs::CfgLemmas::cfg_texts, std::proofs::lemmas::Grind::common_steps), unfolding(crate::specs::Cfg::shown_cfg, crate::specs::Cfg::shown_cfgs))]
+#[tactic(auto, using(crate::proofs::CfgLemmas::cfg_texts, std::proofs::lemmas::Grind::common_steps), unfolding(crate::specs::Cfg::shown_cfg, crate::specs::Cfg::shown_cfgs),)]
 fn write_members<W: fmt::Write>(members: &[CfgExpr], f: &mut fmt::Formatter<W>) -> fmt::Result
     ensures { let texts = map (λ c. shown_cfg (cfg_view c)) members.now in
         WritesOnOk W.write_str_gives f.old result (by_commas texts) f.new }
@@ -234,7 +234,7 @@ fn check_atom(options: &CfgOptions, atom: &CfgAtom) -> bool
 
 // Whether a condition is true.
 #[cycle(check_cfg)]
-#[tactic(auto, using(crate::proofs::CfgLemmas::cfg_truths, std::proofs::lemmas::Grind::common_steps), unfolding(crate::specs::Cfg::truth, crate::specs::Cfg::truths))]
+#[tactic(auto, using(crate::proofs::CfgLemmas::cfg_truths, std::proofs::lemmas::Grind::common_steps), unfolding(crate::specs::Cfg::truth, crate::specs::Cfg::truths),)]
 fn check_cfg(options: &CfgOptions, cfg: &CfgExpr) -> Option<bool>
     ensures { result ≡ truth options.now (cfg_view cfg.now) }
 {

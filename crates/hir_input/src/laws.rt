@@ -20,7 +20,8 @@ use std::hash::Hash;
 // hashed alike.
 fn ids()
     ensures crates { IsKey ⟦<Crate as PartialEq>⟧.eq ⟦<Crate as Clone>⟧.is_clone ⟦<Crate as Hash>⟧.hash_input }
-    ensures files { IsKey ⟦<HirFileId as PartialEq>⟧.eq ⟦<HirFileId as Clone>⟧.is_clone ⟦<HirFileId as Hash>⟧.hash_input }
+    ensures files { IsKey ⟦<HirFileId as PartialEq>⟧.eq ⟦<HirFileId as Clone>⟧.is_clone
+        ⟦<HirFileId as Hash>⟧.hash_input }
     ensures blocks { IsKey ⟦<BlockId as PartialEq>⟧.eq ⟦<BlockId as Clone>⟧.is_clone ⟦<BlockId as Hash>⟧.hash_input }
     ensures attr_ids { IsByValue ⟦<AttrId as PartialEq>⟧.eq ⟦<AttrId as Clone>⟧.is_clone }
     ensures kinds { IsByValue ⟦<AstIdKind as PartialEq>⟧.eq ⟦<AstIdKind as Clone>⟧.is_clone }
@@ -30,7 +31,8 @@ fn ids()
     ensures contexts { IsByValue ⟦<SyntaxContext as PartialEq>⟧.eq ⟦<SyntaxContext as Clone>⟧.is_clone }
     ensures spans { IsByValue ⟦<Span as PartialEq>⟧.eq ⟦<Span as Clone>⟧.is_clone }
     ensures expansions { IsByValue ⟦<ExpandTo as PartialEq>⟧.eq ⟦<ExpandTo as Clone>⟧.is_clone }
-    ensures path_kinds { IsKey ⟦<PathKind as PartialEq>⟧.eq ⟦<PathKind as Clone>⟧.is_clone ⟦<PathKind as Hash>⟧.hash_input }
+    ensures path_kinds { IsKey ⟦<PathKind as PartialEq>⟧.eq ⟦<PathKind as Clone>⟧.is_clone
+        ⟦<PathKind as Hash>⟧.hash_input }
 {}
 
 // The same of the values behind what owns memory.

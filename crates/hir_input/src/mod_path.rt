@@ -114,7 +114,8 @@ impl PartialEq for ModPath {
     ghost use Rattle.std.specs.Cmp.Rules.{comparing};
     ghost use Rattle.hir_input.specs.contracts.mod_path.PathKindEq.TheImpl.Laws.{laws-law};
 
-    ghost eq = { eq_of_both (on (λ p. p.kind) ⟦<PathKind as PartialEq>⟧.eq) (on (λ p. p.names) (pointwise (pointwise nat_eq))) };
+    ghost eq = { eq_of_both (on (λ p. p.kind) ⟦<PathKind as PartialEq>⟧.eq)
+        (on (λ p. p.names) (pointwise (pointwise nat_eq))) };
 
     ghost laws = { Prim.search (comparing, nat_list_eq_equiv, laws-law) depth 7 };
 
@@ -144,7 +145,8 @@ impl Hash for ModPath {
 
     ghost hash_input = { λ p. ⟦<PathKind as Hash>⟧.hash_input p.kind ++ fed.slice fed.str p.names };
 
-    ghost respects_eq = { (fed.and-Alike (fed.on_Alike (λ p. p.kind) {E = ⟦<PathKind as PartialEq>⟧.eq} {F = ⟦<PathKind as Hash>⟧.hash_input} (record { fed = kinds.respects_eq-law })) (fed.on_Alike (λ p. p.names) (fed.items_Alike {E = pointwise nat_eq} {F = fed.str} (record { fed = names.respects_eq-law })))).fed };
+    ghost respects_eq = { (fed.and-Alike (fed.on_Alike (λ p. p.kind) {E = ⟦<PathKind as PartialEq>⟧.eq} {F = ⟦<PathKind as Hash>⟧.hash_input} (record { fed = kinds.respects_eq-law })) (fed.on_Alike (λ p. p.names)
+        (fed.items_Alike {E = pointwise nat_eq} {F = fed.str} (record { fed = names.respects_eq-law })))).fed };
 
     fn hash<H: Hasher>(&self, state: &mut H) {
         self.kind().hash(state);

@@ -9,7 +9,8 @@ use crate::ast::UseTree;
 #[tactic(auto, using(crate::proofs::UseTreeNodes::length_pieces_more))]
 fn find_in<'a>(trees: &'a [UseTree], left: &mut u32) -> Option<&'a UseTree>
     ensures { let nodes = flat_map (λ t. written_nodes (use_tree_view t)) trees.now in
-        MatchOption result (left.old ≡ left.new + length nodes) (λ t. slice_get nodes left.old ≡ Some (use_tree_view t.now)) }
+        MatchOption result (left.old ≡ left.new + length nodes)
+        (λ t. slice_get nodes left.old ≡ Some (use_tree_view t.now)) }
 {
     for tree in trees {
         if let Some(found) = find(tree, left) {
@@ -24,7 +25,8 @@ fn find_in<'a>(trees: &'a [UseTree], left: &mut u32) -> Option<&'a UseTree>
 #[tactic(auto, using(crate::proofs::UseTreeNodes::node_steps))]
 fn find<'a>(tree: &'a UseTree, left: &mut u32) -> Option<&'a UseTree>
     ensures { let nodes = written_nodes (use_tree_view tree.now) in
-        MatchOption result (left.old ≡ left.new + length nodes) (λ t. slice_get nodes left.old ≡ Some (use_tree_view t.now)) }
+        MatchOption result (left.old ≡ left.new + length nodes)
+        (λ t. slice_get nodes left.old ≡ Some (use_tree_view t.now)) }
 {
     if *left == 0 {
         return Some(tree);

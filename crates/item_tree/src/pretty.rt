@@ -165,7 +165,8 @@ impl Printer<'_> {
     ) -> Result<(), AllocError>
         ensures { let reserved = self.entry.edition.now.reserved.items in
             let header = macro_call_header reserved item.now.path in
-            OnOk result (Gains out.old out.new (text self.entry.level (call_id_text ast_id item.now.ctxt item.now.expand_to) ∷ text self.entry.level header ∷ [])) }
+            OnOk result (Gains out.old out.new (text self.entry.level
+            (call_id_text ast_id item.now.ctxt item.now.expand_to) ∷ text self.entry.level header ∷ [])) }
     {
         let path = item.path.display(self.edition);
         self.push_call_id(out, ast_id, item)?;
@@ -306,7 +307,8 @@ impl ItemTree {
         requires contained { AreContained self.now ids.now }
         requires level_fits { printer.level + 1 + sum_by (count_at self.now) ids.now < 2 ^ 64 }
         ensures { let reserved = printer.entry.edition.now.reserved.items in
-            OnOk result (Gains out.old out.new (list_lines reserved self.now (printer.entry.level + 1) ids.now ++ text printer.entry.level (codes "}") ∷ [])) }
+            OnOk result (Gains out.old out.new (list_lines reserved self.now (printer.entry.level + 1) ids.now
+            ++ text printer.entry.level (codes "}") ∷ [])) }
     {
         let inner = Printer {
             level: printer.level + 1,

@@ -1,9 +1,12 @@
 //! Attributes that are collected from metas.
-ghost use Rattle.std.specs.Prelude.{◌≡◌, ◌↔◌, ◌<◌, ◌≤◌, length, map, option_map, Some, None, IsTrue, IfOk, OnOk, IsErrOf};
+ghost use Rattle.std.specs.Prelude.{◌≡◌, ◌↔◌, ◌<◌, ◌≤◌, length, map, option_map, Some, None, IsTrue, IfOk, OnOk};
+ghost use Rattle.std.specs.Prelude.{IsErrOf};
 ghost use Rattle.hir_input.specs.Attr.{meta_view, path_meta, key_value_meta, token_tree_meta};
 ghost use Rattle.hir_input.specs.Cfg.{cfg_view, truth};
 ghost use Rattle.hir_input.specs.declared.attr.AttrInput.TheVariants.{Literal as literal, TokenTree as token_tree};
-ghost use Rattle.item_tree_attrs.specs.Collected.{attr_events, attr_limit, cfg_events, collected, collected_from, cut_events, events, is_false, is_skipped, join, nothing_collected, attr_path, IsUnit, JoinsLists};
+ghost use Rattle.item_tree_attrs.specs.Collected.{attr_events, attr_limit, cfg_events, collected, collected_from};
+ghost use Rattle.item_tree_attrs.specs.Collected.{cut_events, events, is_false, is_skipped, join, nothing_collected};
+ghost use Rattle.item_tree_attrs.specs.Collected.{attr_path, IsUnit, JoinsLists};
 ghost use Rattle.item_tree_attrs.specs.Inner.Collecting.{found, AddsCollected};
 ghost use Rattle.item_tree_attrs.specs.declared.collect.AttrError.TheVariants.{OutOfMemory, TooMany};
 

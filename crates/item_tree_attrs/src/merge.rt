@@ -1,5 +1,6 @@
 //! Attributes of one owner that stand behind others.
-ghost use Rattle.std.specs.Prelude.{◌≡◌, ◌↔◌, ◌+◌, ◌<◌, ◌++◌, length, Ok, IsSome, IfOk, IfErr, OnOk, OnErr, IsErrAnd, IsErrOf};
+ghost use Rattle.std.specs.Prelude.{◌≡◌, ◌↔◌, ◌+◌, ◌<◌, ◌++◌, length, Ok, IsSome, IfOk, IfErr, OnOk, OnErr, IsErrAnd};
+ghost use Rattle.std.specs.Prelude.{IsErrOf};
 ghost use Rattle.item_tree_attrs.specs.Collected.{attr_limit, collected, join, IsAssociative, IsTooManyTogether};
 ghost use Rattle.item_tree_attrs.specs.declared.collect.AttrError.TheVariants.{TooMany};
 ghost use Rattle.item_tree_attrs.specs.declared.collect.AttrsOrCfg.TheVariants.{Enabled as enabled};

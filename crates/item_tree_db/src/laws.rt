@@ -1,5 +1,6 @@
 //! What holds of the types here: `==` decides whether two values are one, values that are equal are hashed alike,
-//! and a copy is its source. Each derive is held to it by a clause. And what follows of tables. The functions do nothing.
+//! and a copy is its source. Each derive is held to it by a clause. And what follows of tables. The functions do
+//! nothing.
 ghost use Rattle.std.specs.Prelude.{◌≡◌, ◌<◌, ◌^◌, ℕ, List, length};
 ghost use Rattle.hir_input.specs.Equality.{DecidesEq, HashesAlike, IsCopied};
 ghost use Rattle.item_tree_db.specs.Edits.{EditView};
@@ -23,7 +24,8 @@ fn tree_ids()
     ensures copied { IsCopied ⟦<TreeId as Clone>⟧.is_clone }
 {}
 
-// A change number of a table that edits led to: that of the last edit at which the unfolding became another, or what it was.
+// A change number of a table that edits led to: that of the last edit at which the unfolding became another, or what it
+// was.
 #[tactic(auto, using(crate::proofs::Histories::change_number_is))]
 fn change_numbers()
     ensures { (s u : State) (edits : List EditView) (place : Place) (i : ℕ) → IsAfter s edits u → i

@@ -160,7 +160,8 @@ pub fn lower_all(
     ensures fits { let crates = map crate_view crates.now in
         OnOk result (CratesFit crates skipped.now (source_place source.now) (source_syntax source.now)) }
     ensures refused { let crates = map crate_view crates.now in
-        IfErr result (UnlessMemory (CratesPass crates skipped.now (source_place source.now) (source_syntax source.now))) }
+        IfErr result (UnlessMemory (CratesPass crates skipped.now (source_place source.now)
+        (source_syntax source.now))) }
 {
     let place = source.place();
     let mut rows = Vec::with_capacity(alloc, crates.len())?;

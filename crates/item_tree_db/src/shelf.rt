@@ -1,10 +1,12 @@
 //! The entries of places, in their order.
-ghost use Rattle.std.specs.Prelude.{◌≡◌, ◌≤◌, [], length, map, slice_get, Some, option_map, option_and_then, option_copied, IfOk, IfErr, IfSome, OnOk, OnErr};
+ghost use Rattle.std.specs.Prelude.{◌≡◌, ◌≤◌, [], length, map, slice_get, Some, option_map, option_and_then};
+ghost use Rattle.std.specs.Prelude.{option_copied, IfOk, IfErr, IfSome, OnOk, OnErr};
 ghost use Rattle.std.specs.List.Sorted.{IsStrictlySortedBy};
 ghost use Rattle.item_tree.specs.CrateView.{crate_view};
 ghost use Rattle.item_tree_db.specs.declared.place.Place.{Place};
 ghost use Rattle.item_tree_db.specs.Inner.Settled.{settled};
-ghost use Rattle.item_tree_db.specs.Inner.Shelf.{placed_at, source_in, HasPut, set_to, removed, recast, recast_each, fresh_of, IsInOrder};
+ghost use Rattle.item_tree_db.specs.Inner.Shelf.{placed_at, source_in, HasPut, set_to, removed, recast, recast_each};
+ghost use Rattle.item_tree_db.specs.Inner.Shelf.{fresh_of, IsInOrder};
 ghost use Rattle.item_tree_db.specs.Inner.Sizes.{PlacesFit, PlacesPass};
 ghost use Rattle.item_tree_db.specs.Refusal.{UnlessMemory};
 ghost use Rattle.item_tree_db.specs.Inner.Source.{source_place};
@@ -184,7 +186,8 @@ impl Shelf {
         requires { IfSome (placed_at self.old (source_place source))
             (λ placed. length fresh.items ≡ length placed.rows) }
         ensures ok { let place = source_place source in
-            OnOk result (HasPut place (Some (set_to start number source fresh.items (placed_at self.old place))) self.old self.new) }
+            OnOk result (HasPut place (Some (set_to start number source fresh.items (placed_at self.old place)))
+            self.old self.new) }
         ensures err { OnErr result (self.new ≡ self.old) }
         ensures returned { IfErr result (λ back. back ≡ source) }
     {

@@ -1,5 +1,7 @@
 //! The table of trees.
-ghost use Rattle.std.specs.Prelude.{◌≡◌, ◌≢◌, ◌⊎◌, ◌<◌, ◌≤◌, ◌↔◌, ◌∷◌, [], length, map, slice_get, option_map, option_copied, unwrap_or, Some, IsTrue, IsNone, IfOk, IfErr, IfSome, IfNone, OnSome, OnOk, OnErr, IsErrAnd};
+ghost use Rattle.std.specs.Prelude.{◌≡◌, ◌≢◌, ◌⊎◌, ◌<◌, ◌≤◌, ◌↔◌, ◌∷◌, [], length, map, slice_get, option_map};
+ghost use Rattle.std.specs.Prelude.{option_copied, unwrap_or, Some, IsTrue, IsNone, IfOk, IfErr, IfSome, IfNone};
+ghost use Rattle.std.specs.Prelude.{OnSome, OnOk, OnErr, IsErrAnd};
 ghost use Rattle.std.specs.List.{AllByRecursion};
 ghost use Rattle.hir_input.specs.Syntax.{syntax_view, block_view};
 ghost use Rattle.item_tree.specs.declared.fault.EditFault.TheVariants.{TooManyEdits, Lower};
@@ -212,13 +214,13 @@ impl Sources {
 
     /// Makes an edit, and gives its number.
     ///
-    /// A refusal changes nothing and hands the edit back. A removal needs no memory. Where the edit names a crate, the caller
-    /// shows that the table knows it.
+    /// A refusal changes nothing and hands the edit back. A removal needs no memory. Where the edit names a crate, the
+    /// caller shows that the table knows it.
     ///
     /// # Errors
     ///
-    /// `TooManyEdits` where the table has the last number, before all else; a `LowerError` of the syntax in some crate, or,
-    /// where options are set, of some present syntax in their crate.
+    /// `TooManyEdits` where the table has the last number, before all else; a `LowerError` of the syntax in some crate,
+    /// or, where options are set, of some present syntax in their crate.
     pub fn edit(&mut self, edit: Edit) -> Result<u64, EditRefused>
         requires { NamesKnown self.old (edit_view edit) }
         ensures in_range { self.old.number ≤ last_number }
@@ -336,8 +338,8 @@ impl Sources {
     /// then of crates: what an index that was made at number `n` has to read again. A tree that changed and changed
     /// back is given too. A tree that is not given at 0 is empty.
     ///
-    /// It takes memory for the places and looks at these alone, which no clause says; where memory runs out, or did at an
-    /// edit after `n`, it passes over the table.
+    /// It takes memory for the places and looks at these alone, which no clause says; where memory runs out, or did at
+    /// an edit after `n`, it passes over the table.
     pub fn changed_since(&self, n: u64) -> ChangedSince<'_>
         ensures since { IsSince self.now n result }
         ensures grounded { IsGrounded self.now }

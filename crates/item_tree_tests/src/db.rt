@@ -1,5 +1,5 @@
-//! Tests of what only a call can show of the table of trees: an example of use, the texts of refusals, and what stands where
-//! a request for memory is refused.
+//! Tests of what only a call can show of the table of trees: an example of use, the texts of refusals, and what stands
+//! where a request for memory is refused.
 
 mod edits;
 mod example;

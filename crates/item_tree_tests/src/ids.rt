@@ -25,7 +25,8 @@ fn three(alloc: Global) -> Result<Syntax, AllocError> {
     })
 }
 
-// Whether a tree contains the first of the other's top items, which are so many, and lends attributes of it, and of no other one.
+// Whether a tree contains the first of the other's top items, which are so many, and lends attributes of it, and of no
+// other one.
 fn has_first_alone(tree: &ItemTree, other: &ItemTree, count: usize) -> bool {
     let ids = other.top_level_items();
     for (place, id) in ids.iter().enumerate() {

@@ -1,4 +1,5 @@
-//! A copy of each item, of a module's kind and of a constructor is its source, or refused, and of two requests never both are refused.
+//! A copy of each item, of a module's kind and of a constructor is its source, or refused, and of two requests never
+//! both are refused.
 use crate::copies::is_copied;
 use crate::lowered::{is_right, tree_of_all_kinds};
 use item_tree::{ItemTree, LowerError, ModItemId, ModItemKind};

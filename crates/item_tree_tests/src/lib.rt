@@ -1,10 +1,11 @@
-//! Tests of what only a call can show, of all libraries: names, metas and copies (`values`), trees and what stands on them, the table
-//! (`db`), the reader of Rust texts (`reader`), runs of a request over readers and writers that fail (`runs`), and conversations line by
-//! line (`conversations`). What a program shows of texts is in `tests/reader`. They are one crate, since each crate that drops a tree or
-//! a syntax proves anew how each of its parts is dropped; `samples` has the syntaxes that they share.
+//! Tests of what only a call can show, of all libraries: names, metas and copies (`values`), trees and what stands on
+//! them, the table (`db`), the reader of Rust texts (`reader`), runs of a request over readers and writers that fail
+//! (`runs`), and conversations line by line (`conversations`). What a program shows of texts is in `tests/reader`. They
+//! are one crate, since each crate that drops a tree or a syntax proves anew how each of its parts is dropped;
+//! `samples` has the syntaxes that they share.
 //!
-//! A test asserts what a function of its own answers: a test that holds a tree, fails by `Fail` or compares texts itself is proved
-//! slowly.
+//! A test asserts what a function of its own answers: a test that holds a tree, fails by `Fail` or compares texts
+//! itself is proved slowly.
 //!
 //! A crate with tests is proved twice; these call what is public, so no library has any.
 //!

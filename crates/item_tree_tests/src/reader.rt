@@ -1,4 +1,5 @@
-//! Tests of the crates about the reader: tokens, words and places of a cursor, and edits. No tree and no syntax is made here.
+//! Tests of the crates about the reader: tokens, words and places of a cursor, and edits. No tree and no syntax is made
+//! here.
 
 mod calls;
 mod edits;

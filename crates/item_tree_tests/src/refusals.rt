@@ -1,4 +1,5 @@
-//! Lowering where a request for memory is refused: a whole tree or a refusal, where of two requests never both are refused.
+//! Lowering where a request for memory is refused: a whole tree or a refusal, where of two requests never both are
+//! refused.
 use crate::lowered::{is_right, tree_of, tree_of_all_kinds};
 use crate::samples::file::file;
 use hir_input::ast::Syntax;

@@ -102,8 +102,8 @@ fn a_page_is_whole_or_refused_when_memory_is_refused(rt: HostRuntime) {
 }
 
 // Children stand before their parent, and siblings in order; attributes have places in the order of the rows, the top's
-// last; visibilities stand in the arena in order of first use, a module's before those of its items, and four are shown by
-// what they stand for. The constructor of the struct is seen where both of two modules see it.
+// last; visibilities stand in the arena in order of first use, a module's before those of its items, and four are shown
+// by what they stand for. The constructor of the struct is seen where both of two modules see it.
 const TABLES: &[&str] = &[
     "top_level: [ModItemId { id: 7 }, ModItemId { id: 10 }, ModItemId { id: 12 }, ModItemId { id: 14 }",
     "ModItemId { id: 31 }, ModItemId { id: 33 }, ModItemId { id: 35 }], top_place: 2",

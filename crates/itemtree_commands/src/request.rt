@@ -27,8 +27,8 @@ fn syntaxes(
     Ok(files)
 }
 
-/// The request of one crate, whose root is file 0, that sets each file to what is read of its text in the options' edition,
-/// numbered from 0, with these shows. The JSON text is read as exactly this request.
+/// The request of one crate, whose root is file 0, that sets each file to what is read of its text in the options'
+/// edition, numbered from 0, with these shows. The JSON text is read as exactly this request.
 ///
 /// # Errors
 ///

@@ -51,8 +51,8 @@ impl<'a> Filter<'a> {
         }
     }
 
-    /// Whether an entry is left out, by its name, its path below the folder that was named, which begins with a slash, and its
-    /// whole path.
+    /// Whether an entry is left out, by its name, its path below the folder that was named, which begins with a slash,
+    /// and its whole path.
     ///
     /// # Errors
     ///

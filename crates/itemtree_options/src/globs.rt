@@ -147,8 +147,8 @@ pub(crate) fn glob_fault(glob: &str) -> Option<&'static str> {
 
 /// Whether a glob stands for a whole path.
 ///
-/// `*` stands for any characters but `/`, also for none; `**` for any characters; `?` for any one but `/`; and each other
-/// character for itself. It takes time and memory for each pair of characters of the two, and no more.
+/// `*` stands for any characters but `/`, also for none; `**` for any characters; `?` for any one but `/`; and each
+/// other character for itself. It takes time and memory for each pair of characters of the two, and no more.
 ///
 /// # Errors
 ///

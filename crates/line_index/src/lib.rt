@@ -116,7 +116,7 @@ fn behind(start: Position, text: &[u8]) -> Position
 }
 
 /// From one place of a text to a later one.
-#[tactic(auto, unfolding(crate::specs::Positions::shown_at), using(crate::proofs::Positions::onward, crate::proofs::Positions::line_within, crate::proofs::Positions::column_within))]
+#[tactic(auto, unfolding(crate::specs::Positions::shown_at), using(crate::proofs::Positions::onward, crate::proofs::Positions::line_within, crate::proofs::Positions::column_within,),)]
 fn onward(text: &[u8], from: usize, here: Position, at: usize) -> Position
     requires here { here ≡ spec.shown_at text.now from }
     requires later { from ≤ at }

@@ -48,7 +48,8 @@ pub fn last_byte(word: &str) -> u8
     }
 }
 
-/// Whether a table has the length of a word for this byte: it holds a number for the last five bits of each, with a bit for each length.
+/// Whether a table has the length of a word for this byte: it holds a number for the last five bits of each, with a bit
+/// for each length.
 #[inline(always)]
 pub fn has_length(lengths: &[u16; 32], byte: u8, word: &str) -> bool
     ensures { result ≡ spec.has_length lengths.now byte word.now }

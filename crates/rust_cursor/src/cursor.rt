@@ -37,7 +37,12 @@ impl<'t> Model for Cursor<'t> {
 
     ghost coded = { coded_tokens };
 
-    ghost view = { λ c. record { past = c.past; left = left_of c.next c.lexer; unended = last_unended c.last c.lexer; edition = c.edition } };
+    ghost view = { λ c. record {
+      past = c.past;
+      left = left_of c.next c.lexer;
+      unended = last_unended c.last c.lexer;
+      edition = c.edition;
+    } };
 
     ghost invariant = { λ c. length (left_of c.next c.lexer) < 2 ^ 64 };
 }
@@ -75,8 +80,8 @@ fn pass_white(lexer: &mut Lexer<'_>, last: &mut Option<usize>)
     }
 }
 
-/// Puts down the next token that is neither white space nor a plain comment, in its place. The place of the last token that was
-/// passed is put down too, if that is not ended.
+/// Puts down the next token that is neither white space nor a plain comment, in its place. The place of the last token
+/// that was passed is put down too, if that is not ended.
 #[inline(always)]
 fn find_significant<'t>(
     lexer: &mut Lexer<'t>,
@@ -282,7 +287,7 @@ impl<'t> Cursor<'t> {
 
     /// Takes one token, if one is left.
     #[inline(never)]
-    #[tactic(auto, unfolding(crate::specs::Words::bumped), using(crate::proofs::White::frequent_found, crate::proofs::White::frequent_last))]
+    #[tactic(auto, unfolding(crate::specs::Words::bumped), using(crate::proofs::White::frequent_found, crate::proofs::White::frequent_last),)]
     pub fn bump(&mut self)
         ensures { self.new ≡ spec.bumped self.old }
     {

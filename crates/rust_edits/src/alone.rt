@@ -29,7 +29,8 @@ impl Brackets {
     }
 }
 
-/// The brackets that are loose in a text, if the braces that it begins with are closed by its last token, and no sooner.
+/// The brackets that are loose in a text, if the braces that it begins with are closed by its last token, and no
+/// sooner.
 #[tactic(auto, using(crate::proofs::Closed::none_behind))]
 fn loose_if_closed(text: &str) -> Option<Brackets>
     ensures closed { is_some result ≡ spec.closes_last 0 (tokens text.now) }
@@ -69,7 +70,7 @@ fn is_inner_doc(kind: Option<TokenKind>) -> bool
 }
 
 /// Whether no inner attribute stands behind the first token of a text.
-#[tactic(auto, unfolding(rust_cursor::specs::Tokens::tokens_of, rust_cursor::specs::Words::bumped, rust_cursor::specs::Words::kind, rust_cursor::specs::Words::symbol))]
+#[tactic(auto, unfolding(rust_cursor::specs::Tokens::tokens_of, rust_cursor::specs::Words::bumped, rust_cursor::specs::Words::kind, rust_cursor::specs::Words::symbol,),)]
 fn begins_plain(text: &str) -> bool
     ensures { result ≡ spec.begins_plain (tokens text.now) }
 {
@@ -90,7 +91,8 @@ fn begins_plain(text: &str) -> bool
     cursor.symbol() != b'['
 }
 
-/// The brackets that are loose in a text, if no inner attribute stands in the braces that it begins with, and it ends with these.
+/// The brackets that are loose in a text, if no inner attribute stands in the braces that it begins with, and it ends
+/// with these.
 fn loose_if_plain(text: &str) -> Option<Brackets>
     ensures test { is_some result ≡ spec.is_alone text.now }
     ensures loose { IfSome result

@@ -17,8 +17,8 @@ use std::alloc::{AllocError, Global};
 pub struct BodyEdit {
     /// How places move with it.
     pub shift: Shift,
-    /// Whether the problems are the same, and move with the text too. They are if, of the brackets `(` and `[` in the body, as many
-    /// close nothing and as many stay open as before; else the new text has to be read for its problems.
+    /// Whether the problems are the same, and move with the text too. They are if, of the brackets `(` and `[` in the
+    /// body, as many close nothing and as many stay open as before; else the new text has to be read for its problems.
     pub keeps_problems: bool,
 }
 
@@ -66,18 +66,19 @@ fn shift_of(body: TextRange, range: TextRange, typed: &str, back: &str) -> Optio
     })
 }
 
-/// What an edit that replaces a range of a text leaves of what was read of the text, if it is one inside a body; `None` says that the
-/// new text is to be read.
+/// What an edit that replaces a range of a text leaves of what was read of the text, if it is one inside a body; `None`
+/// says that the new text is to be read.
 ///
-/// It is told where the items of the old text stand, the old text, the range in bytes, and what was typed in its place. If it
-/// answers, then what is read of the new text is the same but for body texts, with the same ids, and items and use trees stand
-/// where the answer says; so do the problems, if it says that they are kept. It takes as long as the body is long, and a search among
-/// the items.
+/// It is told where the items of the old text stand, the old text, the range in bytes, and what was typed in its place.
+/// If it answers, then what is read of the new text is the same but for body texts, with the same ids, and items and
+/// use trees stand where the answer says; so do the problems, if it says that they are kept. It takes as long as the
+/// body is long, and a search among the items.
 ///
-/// It says `None` if the range is not in the braces of a body or cuts a character, if what stood or stands between these does not stand
-/// alone (its braces match, no token of it takes the `}`, and no inner attribute begins it), and of a text that begins with the byte
-/// 0xEF, as a byte order mark does, with `-`, with an end of a line, or with a `#` that neither `[` nor `![` follows at once. Else it
-/// answers, if the items are in the order in which they begin; those that are read of a text are.
+/// It says `None` if the range is not in the braces of a body or cuts a character, if what stood or stands between
+/// these does not stand alone (its braces match, no token of it takes the `}`, and no inner attribute begins it), and
+/// of a text that begins with the byte 0xEF, as a byte order mark does, with `-`, with an end of a line, or with a `#`
+/// that neither `[` nor `![` follows at once. Else it answers, if the items are in the order in which they begin; those
+/// that are read of a text are.
 ///
 /// # Errors
 ///

@@ -3,11 +3,13 @@
 ghost use Rattle.std.specs.Prelude.{◌≡◌, IfSome, is_some, map, option_map, true};
 ghost use Rattle.std.specs.List.{list_all};
 ghost use Rattle.rust_items.specs.LineEnds.{moved_range};
-ghost use Rattle.rust_edits.specs.Edits.{shifted_place, shifted_item, shifted_problem, has_place, has_range, has_some_range, has_item, has_problem, or_kept};
+ghost use Rattle.rust_edits.specs.Edits.{shifted_place, shifted_item, shifted_problem, has_place, has_range};
+ghost use Rattle.rust_edits.specs.Edits.{has_some_range, has_item, has_problem, or_kept};
 
 use rust_items::{ItemPlace, Problem, TextRange};
 
-/// How places move with an edit between braces: up to the `{` they stay, and behind the braces they are counted from the `}`.
+/// How places move with an edit between braces: up to the `{` they stay, and behind the braces they are counted from
+/// the `}`.
 #[derive(Clone, Copy, Debug, PartialEq, Eq)]
 pub struct Shift {
     /// The byte place of the `{`.
@@ -19,7 +21,8 @@ pub struct Shift {
 }
 
 impl Shift {
-    /// Where a place of the old text is in the new one. None stands between the braces, and none past what fits into memory.
+    /// Where a place of the old text is in the new one. None stands between the braces, and none past what fits into
+    /// memory.
     pub fn place(&self, at: usize) -> Option<usize>
         ensures value { IfSome result (λ to. to ≡ shifted_place self.now at) }
         ensures told { is_some result ≡ has_place self.now at }
@@ -87,8 +90,8 @@ impl Shift {
         }
     }
 
-    /// Moves the items of the old text to where they stand in the new one; the ids stay, and so does an item with a place that is not
-    /// in the new text.
+    /// Moves the items of the old text to where they stand in the new one; the ids stay, and so does an item with a
+    /// place that is not in the new text.
     pub fn move_items(&self, items: &mut [ItemPlace])
         ensures all { list_all (has_item self.now) items.old ≡ true
             → items.new ≡ map (shifted_item self.now) items.old }
@@ -99,7 +102,8 @@ impl Shift {
         }
     }
 
-    /// Moves the first bytes of the use trees of the old text to those in the new one; one that is not in the new text stays.
+    /// Moves the first bytes of the use trees of the old text to those in the new one; one that is not in the new text
+    /// stays.
     pub fn move_use_trees(&self, starts: &mut [usize])
         ensures all { list_all (has_place self.now) starts.old ≡ true
             → starts.new ≡ map (shifted_place self.now) starts.old }
@@ -110,8 +114,8 @@ impl Shift {
         }
     }
 
-    /// Moves the problems of the old text to where they stand in the new one, if the edit keeps them; one whose place is not in the new
-    /// text stays.
+    /// Moves the problems of the old text to where they stand in the new one, if the edit keeps them; one whose place
+    /// is not in the new text stays.
     pub fn move_problems(&self, problems: &mut [Problem])
         ensures all { list_all (has_problem self.now) problems.old ≡ true
             → problems.new ≡ map (shifted_problem self.now) problems.old }

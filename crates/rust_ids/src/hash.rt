@@ -1,4 +1,5 @@
-//! The hash of a name, as rust-analyzer takes it: rustc-hash's `FxHasher` over the name, and its 64 bits folded into 16.
+//! The hash of a name, as rust-analyzer takes it: rustc-hash's `FxHasher` over the name, and its 64 bits folded into
+//! 16.
 
 ghost use Rattle.std.specs.Prelude.{◌≡◌, ◌≤◌, ◌<◌, ◌++◌, ◌∷◌, [], ℕ, Some, length};
 ghost use Rattle.rust_ids.specs.Hash as spec;

@@ -1,8 +1,10 @@
 //! The ids of the items of one depth after another.
 
-ghost use Rattle.std.specs.Prelude.{◌≡◌, ◌<◌, ◌≤◌, ◌+◌, ◌-◌, ◌^◌, ◌==◌, IfOk, OnOk, Option, Some, None, if◌then◌else◌, length, min, suc};
+ghost use Rattle.std.specs.Prelude.{◌≡◌, ◌<◌, ◌≤◌, ◌+◌, ◌-◌, ◌^◌, ◌==◌, IfOk, OnOk, Option, Some, None, if◌then◌else◌};
+ghost use Rattle.std.specs.Prelude.{length, min, suc};
 ghost use Rattle.rust_ids.specs.Ids as spec;
-ghost use Rattle.rust_ids.specs.Inner.Numbering.{CountsOne, IsNextDepth, IsNumbered, count_of, nearer_of, is_numbered_before};
+ghost use Rattle.rust_ids.specs.Inner.Numbering.{CountsOne, IsNextDepth, IsNumbered, count_of, nearer_of};
+ghost use Rattle.rust_ids.specs.Inner.Numbering.{is_numbered_before};
 
 use crate::hash::{name_hash, name_hash_in};
 use crate::ids::Node;

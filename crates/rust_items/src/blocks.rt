@@ -348,12 +348,13 @@ fn read_text(alloc: Global, text: &str, edition: EditionYear) -> Result<SourceBl
     block_of(alloc, &feeds, edition, &ends)
 }
 
-/// Reads a block expression from its text, with its braces; a text that begins with none is that between them. The edition tells
-/// which words are names.
+/// Reads a block expression from its text, with its braces; a text that begins with none is that between them. The
+/// edition tells which words are names.
 ///
-/// It answers for every text. Statements that are neither items nor macro calls are not read, nor are the blocks in them. Places
-/// and spans count from the start of the text, and the ids count the items and the macro calls of this block alone: those of the
-/// block in its file would need the file. What stands behind the block is ignored, but that its last token is not ended.
+/// It answers for every text. Statements that are neither items nor macro calls are not read, nor are the blocks in
+/// them. Places and spans count from the start of the text, and the ids count the items and the macro calls of this
+/// block alone: those of the block in its file would need the file. What stands behind the block is ignored, but that
+/// its last token is not ended.
 ///
 /// # Errors
 ///

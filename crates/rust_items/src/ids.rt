@@ -1,7 +1,8 @@
 //! Gives the items of a file their ids, where they stand.
 
 ghost use Rattle.std.specs.Prelude.{◌≡◌, map};
-ghost use Rattle.hir_input.specs.Syntax.{call_view, extern_block_view, extern_item_view, item_view, module_view, named_view, stmt_view, tail_view};
+ghost use Rattle.hir_input.specs.Syntax.{call_view, extern_block_view, extern_item_view, item_view, module_view};
+ghost use Rattle.hir_input.specs.Syntax.{named_view, stmt_view, tail_view};
 ghost use Rattle.rust_items.specs.Blocks as blocks;
 ghost use Rattle.rust_items.specs.Ids as spec;
 ghost use Rattle.rust_items.specs.Views.{supply_view};

@@ -101,7 +101,7 @@ fn module_item(
 
 /// Takes the braces of a module, if they come next.
 #[cycle(items)]
-#[tactic(auto, using(crate::proofs::Clipped::deep_clipped, crate::proofs::Clipped::none_clipped, crate::proofs::Clipped::some_clipped))]
+#[tactic(auto, using(crate::proofs::Clipped::deep_clipped, crate::proofs::Clipped::none_clipped, crate::proofs::Clipped::some_clipped,),)]
 fn module_inside<'t>(
     alloc: Global,
     cursor: &mut Cursor<'t>,

@@ -1,5 +1,5 @@
-//! What holds of the types here: `==` decides whether two values are one, and a copy is its source. Each derive is held to it by a
-//! clause. And what follows from the definitions. The functions do nothing.
+//! What holds of the types here: `==` decides whether two values are one, and a copy is its source. Each derive is held
+//! to it by a clause. And what follows from the definitions. The functions do nothing.
 ghost use Rattle.hir_input.specs.Equality.{DecidesEq, IsCopied};
 ghost use Rattle.rust_items.specs.Uses.{UsesAreTold};
 

@@ -1,6 +1,6 @@
-//! Reads the items of Rust source text into the syntax that an item tree is made from, and what stands in the braces of an item, one
-//! level deep: the functions, constants, types and macro calls of a trait or an impl, the variants of an enum, the fields of a struct
-//! or a union.
+//! Reads the items of Rust source text into the syntax that an item tree is made from, and what stands in the braces of
+//! an item, one level deep: the functions, constants, types and macro calls of a trait or an impl, the variants of an
+//! enum, the fields of a struct or a union.
 #![tactic(auto)]
 
 mod associated;

@@ -26,7 +26,8 @@ pub enum ProblemKind {
     NoItem,
     /// A bracket that closes nothing.
     Unmatched,
-    /// An item without its end, at its first token: without a semicolon or a block, or with a bracket that is not closed.
+    /// An item without its end, at its first token: without a semicolon or a block, or with a bracket that is not
+    /// closed.
     Unfinished,
     /// An item without the name that its kind needs, at its first token.
     Nameless,

@@ -131,9 +131,9 @@ fn move_members(members: &mut [Member], by: usize)
 
 /// Reads the members in the braces of an item of this kind, which are this range of a text of an edition.
 ///
-/// It answers for every text: what is no member is passed over, and in a range that is none of the text is none. An item of
-/// another kind than a trait, an impl, an enum, a struct or a union is read as a trait is. Their attributes are those
-/// that are wanted.
+/// It answers for every text: what is no member is passed over, and in a range that is none of the text is none. An
+/// item of another kind than a trait, an impl, an enum, a struct or a union is read as a trait is. Their attributes are
+/// those that are wanted.
 ///
 /// # Errors
 ///

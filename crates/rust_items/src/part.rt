@@ -207,7 +207,7 @@ fn is_part_end(cursor: &Cursor<'_>, stand: Stand) -> bool
 }
 
 /// Passes over what is left of a variant or a field, behind its name or its type.
-#[tactic(auto, unfolding(crate::specs::MemberParts::behind_value), using(crate::proofs::MemberSteps::operands_more, crate::proofs::MemberSteps::operands_stop))]
+#[tactic(auto, unfolding(crate::specs::MemberParts::behind_value), using(crate::proofs::MemberSteps::operands_more, crate::proofs::MemberSteps::operands_stop),)]
 fn pass_value(cursor: &mut Cursor<'_>)
     ensures { cursor.new ≡ spec.behind_value cursor.old }
 {
@@ -240,7 +240,7 @@ fn pass_type_part(cursor: &mut Cursor<'_>)
 }
 
 /// Passes over a field's type.
-#[tactic(auto, unfolding(crate::specs::MemberParts::behind_type), using(crate::proofs::MemberSteps::types_more, crate::proofs::MemberSteps::types_stop))]
+#[tactic(auto, unfolding(crate::specs::MemberParts::behind_type), using(crate::proofs::MemberSteps::types_more, crate::proofs::MemberSteps::types_stop),)]
 fn pass_type(cursor: &mut Cursor<'_>)
     ensures { cursor.new ≡ spec.behind_type cursor.old }
 {

@@ -25,16 +25,16 @@ use rust_metas::kept_inner_attributes;
 use rust_paths::TextRange;
 use std::alloc::{AllocError, Global};
 
-/// Where an item stands: its id, its bytes with its attributes, and those of its name: of an extern crate that of the name or the `_`
-/// behind its `as`.
+/// Where an item stands: its id, its bytes with its attributes, and those of its name: of an extern crate that of the
+/// name or the `_` behind its `as`.
 #[derive(Clone, Copy, Debug, PartialEq, Eq)]
 pub struct ItemPlace {
     pub id: FileAstId,
     pub range: TextRange,
     pub name: Option<TextRange>,
-    /// The braces that the item ends with, from their `{` up to behind their `}`: those of a function, an impl, a trait, an enum, a
-    /// union, a struct with fields in braces, a macro or a macro call. A module, an extern block, a use and what ends with a
-    /// semicolon have none, nor has an item whose braces are not closed.
+    /// The braces that the item ends with, from their `{` up to behind their `}`: those of a function, an impl, a
+    /// trait, an enum, a union, a struct with fields in braces, a macro or a macro call. A module, an extern block, a
+    /// use and what ends with a semicolon have none, nor has an item whose braces are not closed.
     pub body: Option<TextRange>,
 }
 
@@ -44,9 +44,9 @@ pub struct SourceFile {
     pub syntax: Syntax,
     /// The places of the items, in preorder.
     pub places: Vec<ItemPlace>,
-    /// The first bytes of the use trees of the uses, each before those in it; those of a use stand in its range. A tree whose
-    /// path can not be read has none, nor has what stands in its list. So they are in the order of the numbers that the imports
-    /// of a use have for its trees.
+    /// The first bytes of the use trees of the uses, each before those in it; those of a use stand in its range. A tree
+    /// whose path can not be read has none, nor has what stands in its list. So they are in the order of the numbers
+    /// that the imports of a use have for its trees.
     pub use_trees: Vec<usize>,
     /// What is wrong with the text, in order.
     pub problems: Vec<Problem>,
@@ -116,7 +116,7 @@ fn top_items<'t>(
 }
 
 /// What is read of a text of an edition with line feeds alone.
-#[tactic(auto, unfolding(crate::specs::SourceFiles::found_in, rust_leaves::specs::Clipped::with_value), using(crate::proofs::Numbering::with_ids_list, crate::proofs::BareFiles::is_clipped))]
+#[tactic(auto, unfolding(crate::specs::SourceFiles::found_in, rust_leaves::specs::Clipped::with_value), using(crate::proofs::Numbering::with_ids_list, crate::proofs::BareFiles::is_clipped),)]
 fn reading_of(
     alloc: Global,
     text: &str,
@@ -191,8 +191,8 @@ fn read_file(
 
 /// Reads the items of a text. The edition tells which words are names.
 ///
-/// It answers for every text: what is no item is passed over and told among the problems. Lines may end with line feeds, or with
-/// carriage returns before them: only places tell which.
+/// It answers for every text: what is no item is passed over and told among the problems. Lines may end with line
+/// feeds, or with carriage returns before them: only places tell which.
 ///
 /// # Errors
 ///

@@ -79,7 +79,8 @@ fn push_leaf<'t>(
     leaf: &Leaf<'t>,
 ) -> Result<(), AllocError>
     ensures { let l = leaf.now in
-        OnOk result (log_view log.new ≡ and_problem_at ProblemKind.TooDeep l.too_deep (spec.and_item depth start end l.body l.kind l.name.now l.named l.is_ended (log_view log.old))) }
+        OnOk result (log_view log.new ≡ and_problem_at ProblemKind.TooDeep l.too_deep
+        (spec.and_item depth start end l.body l.kind l.name.now l.named l.is_ended (log_view log.old))) }
 {
     let extent = Extent {
         depth,

@@ -61,7 +61,7 @@ fn are_over(cursor: &Cursor<'_>, end: usize) -> bool
     cursor.is_at_end() || !is_before(cursor, end)
 }
 
-#[tactic(auto, unfolding(crate::specs::Leaves::fields, rust_cursor::specs::Elements::turns), using(rust_cursor::proofs::Turns::turns_stop))]
+#[tactic(auto, unfolding(crate::specs::Leaves::fields, rust_cursor::specs::Elements::turns), using(rust_cursor::proofs::Turns::turns_stop),)]
 fn fields(alloc: Global, cursor: &mut Cursor<'_>, end: usize) -> Result<Vec<TupleField>, AllocError>
     ensures { Gives (λ v. map field_view v.items) (spec.fields end cursor.old) result cursor.new }
 {

@@ -64,8 +64,8 @@ fn is_last(depth: Depth, symbol: u8) -> bool
     depth.braces == 1 && symbol == b'}'
 }
 
-/// The next stop from a token's beginning on, where a token ends before it: those between them count for nothing. Else the same place;
-/// the stop is put down, and up to there tokens are cut.
+/// The next stop from a token's beginning on, where a token ends before it: those between them count for nothing. Else
+/// the same place; the stop is put down, and up to there tokens are cut.
 #[inline(always)]
 pub(crate) fn past_gap(bytes: &[u8], count: usize, until: &mut usize, block: &mut Block) -> usize
     requires within { count ≤ length bytes.now }
@@ -89,8 +89,8 @@ pub(crate) fn past_gap(bytes: &[u8], count: usize, until: &mut usize, block: &mu
     count
 }
 
-/// The `}` that closes the last of so many braces, in a text that begins at this place: in which brackets it stands, its place, and the
-/// text from it on.
+/// The `}` that closes the last of so many braces, in a text that begins at this place: in which brackets it stands,
+/// its place, and the text from it on.
 pub(crate) fn to_outer(at: usize, text: &str, depth: Depth) -> Option<(Depth, usize, &str)>
     requires { at + length text.now < 2 ^ 64 }
     ensures value { IfSome result (λ p. spec.to_outer depth (tokens_from 0 at text.now)

@@ -70,8 +70,8 @@ pub enum TokenKind {
     Unknown,
 }
 
-// `==` decides whether two kinds are one, and a copy is its source: the derives are held to it by these clauses; the functions do
-// nothing.
+// `==` decides whether two kinds are one, and a copy is its source: the derives are held to it by these clauses; the
+// functions do nothing.
 fn equal_kinds()
     ensures styles { (a b : DocStyle) → Decides (⟦<DocStyle as PartialEq>⟧.eq a b) (a ≡ b) }
     ensures literals { (a b : LiteralKind) → Decides (⟦<LiteralKind as PartialEq>⟧.eq a b) (a ≡ b) }

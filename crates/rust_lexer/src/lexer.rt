@@ -1,6 +1,7 @@
 //! The tokens of a text.
 
-ghost use Rattle.std.specs.Prelude.{◌≡◌, ◌<◌, false, ◌≤◌, ◌+◌, ◌^◌, All, IsTrue, IfOk, Some, IfSome, IfNone, MatchOption, [], ◌∷◌, drop, length, IsUtf8};
+ghost use Rattle.std.specs.Prelude.{◌≡◌, ◌<◌, false, ◌≤◌, ◌+◌, ◌^◌, All, IsTrue, IfOk, Some, IfSome, IfNone};
+ghost use Rattle.std.specs.Prelude.{MatchOption, [], ◌∷◌, drop, length, IsUtf8};
 ghost use Rattle.rust_lexer.specs.Tokens.{AreInPlace, text_of};
 ghost use Rattle.rust_lexer.specs.Tokens as spec;
 ghost use Rattle.rust_lexer.specs.declared.kind.TokenKind.TheVariants as kinds;
@@ -114,8 +115,8 @@ impl<'a> Lexer<'a> {
         Some(token)
     }
 
-    /// A short path for a mark or a word of ASCII letters that begins no literal: what it takes is the next token, and more tokens are
-    /// left. Where it takes nothing, the lexer stays as it was and any token may come next.
+    /// A short path for a mark or a word of ASCII letters that begins no literal: what it takes is the next token, and
+    /// more tokens are left. Where it takes nothing, the lexer stays as it was and any token may come next.
     #[inline(always)]
     pub fn next_frequent(&mut self) -> Option<Token<'a>>
         ensures { MatchOption result (self.new ≡ self.old)
@@ -130,8 +131,8 @@ impl<'a> Lexer<'a> {
         Some(token)
     }
 
-    /// A short path over what stands in so many braces: it gives in which brackets the `}` stands that closes the last of these, and
-    /// that comes next. Where it finds none, the lexer stays as it was.
+    /// A short path over what stands in so many braces: it gives in which brackets the `}` stands that closes the last
+    /// of these, and that comes next. Where it finds none, the lexer stays as it was.
     pub fn pass_braces(&mut self, depth: Depth) -> Option<Depth>
         ensures { MatchOption result (self.new ≡ self.old)
             (λ d. depths.to_outer depth self.old ≡ Some (d, self.new)) }
@@ -145,8 +146,8 @@ impl<'a> Lexer<'a> {
         Some(depth)
     }
 
-    /// A short path over tokens with which two texts go on alike: both lexers pass the same, none of which begins at this place or
-    /// behind it. Where the texts differ soon, or the lexers stand at two places, they pass none.
+    /// A short path over tokens with which two texts go on alike: both lexers pass the same, none of which begins at
+    /// this place or behind it. Where the texts differ soon, or the lexers stand at two places, they pass none.
     pub fn pass_same(&mut self, other: &mut Lexer<'_>, place: usize)
         ensures { spec.ArePassed place self.old self.new other.old other.new }
     {

@@ -23,8 +23,8 @@ fn is_same_between(ours: &[u8], theirs: &[u8], from: usize, to: usize) -> bool
     to <= theirs.len() && ours[from..to] == theirs[from..to]
 }
 
-/// The place of a brace that is a token of a text, at most this, where another text has the same bytes up to and with it; 0 where
-/// there is none. It is the last but for those in the token that holds this place.
+/// The place of a brace that is a token of a text, at most this, where another text has the same bytes up to and with
+/// it; 0 where there is none. It is the last but for those in the token that holds this place.
 pub(crate) fn common_prefix(ours: &[u8], theirs: &[u8], most: usize) -> usize
     ensures brace { 0 < result → inner.IsCommon ours.now theirs.now result }
     ensures most { result ≤ most }

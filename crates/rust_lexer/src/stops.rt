@@ -9,7 +9,8 @@ use std::simd::prelude::*;
 
 const LANES: usize = 64;
 
-/// Which of the bytes of a text between two places are brackets, quotes or `/`: the stops. There are 64 of them, or none.
+/// Which of the bytes of a text between two places are brackets, quotes or `/`: the stops. There are 64 of them, or
+/// none.
 #[derive(Clone, Copy)]
 pub(crate) struct Block {
     at: usize,
@@ -116,7 +117,8 @@ pub(crate) fn stop_from(z: &[u8], from: usize, block: &mut Block) -> usize
     at + gap(&z[at..])
 }
 
-/// Whether a token ends before a stop, where one begins at a place before it and none of the bytes between them is a stop.
+/// Whether a token ends before a stop, where one begins at a place before it and none of the bytes between them is a
+/// stop.
 #[inline(always)]
 pub(crate) fn is_clean(z: &[u8], from: usize, stop: usize) -> bool
     requires order { from ≤ stop }

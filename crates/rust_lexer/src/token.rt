@@ -11,14 +11,15 @@ use crate::quoted::{character, raw_string, string};
 use std::alloc::AllocError;
 use std::marker::Model;
 
-/// A token: its kind, its text, and the byte place at which that begins. rustc's `Token`, which has the length of the text alone.
+/// A token: its kind, its text, and the byte place at which that begins. rustc's `Token`, which has the length of the
+/// text alone.
 #[derive(Debug, Drop)]
 pub struct Token<'a> {
     kind: TokenKind,
     text: &'a str,
     at: usize,
-    /// Its byte, if it is a bracket or punctuation, or 0: more is asked for that than for all else. (As long as a word of the machine:
-    /// what would stand unused behind a byte takes longer to be moved.)
+    /// Its byte, if it is a bracket or punctuation, or 0: more is asked for that than for all else. (As long as a word
+    /// of the machine: what would stand unused behind a byte takes longer to be moved.)
     symbol: usize,
 }
 

@@ -223,7 +223,8 @@ pub(crate) fn take(
     opened: &mut VecDeque<Opened>,
     edits: &mut Vec<Edit>,
 ) -> Result<(), AllocError>
-    ensures { OnOk result (steps.AddsEdits (steps.taken_step marked.mark.kind marked.mark marked.closer opened.old.items)
+    ensures { OnOk result (steps.AddsEdits (steps.taken_step marked.mark.kind marked.mark marked.closer
+        opened.old.items)
         edits.old.items edits.new.items opened.new.items) }
 {
     match marked.mark.kind {
@@ -244,7 +245,8 @@ pub(crate) fn end_all(
     mut opened: VecDeque<Opened>,
     edits: &mut Vec<Edit>,
 ) -> Result<(), AllocError>
-    ensures { OnOk result (edits.new.items ≡ edits.old.items ++ flat_map texts.mending_edit (spec.all_ended at opened.items)) }
+    ensures { OnOk result (edits.new.items ≡ edits.old.items ++ flat_map texts.mending_edit
+        (spec.all_ended at opened.items)) }
 {
     'opened: while let Some(last) = opened.pop_front() {
         edits.push(put(at, last))?;

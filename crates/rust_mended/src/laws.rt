@@ -1,5 +1,6 @@
 //! What holds of the mended text of every text. The functions do nothing.
-ghost use Rattle.std.specs.Prelude.{ℕ, ◌≡◌, ◌≤◌, ◌++◌, Decides, List, [], ◌∷◌, true, IsUtf8, flat_map, length, map, false, slice_index};
+ghost use Rattle.std.specs.Prelude.{ℕ, ◌≡◌, ◌≤◌, ◌++◌, Decides, List, [], ◌∷◌, true, IsUtf8, flat_map, length, map};
+ghost use Rattle.std.specs.Prelude.{false, slice_index};
 ghost use Rattle.std.specs.List.{AllByRecursion, list_all, list_any};
 ghost use Rattle.rust_lexer.specs.Alone.{EndsAlone, Stop, stop};
 ghost use Rattle.rust_lexer.specs.Bytes.{is_continuation};
@@ -9,7 +10,8 @@ ghost use Rattle.rust_mended.specs.Apart.{StandApart, begin_with_item, behind_fu
 ghost use Rattle.rust_mended.specs.Inside.{AreMendedAround, IsMendedAround, KeepEachOther, MayStandIn};
 ghost use Rattle.rust_mended.specs.Marks.{last, marks};
 ghost use Rattle.rust_mended.specs.Mended.{all_match, mended, closers_reaching, source_by, all_written};
-ghost use Rattle.rust_mended.specs.Texts.{mending_edit, edits, is_matched, mended_text, place_back, puts, tells, turned_text, without_bytes_at};
+ghost use Rattle.rust_mended.specs.Texts.{mending_edit, edits, is_matched, mended_text, place_back, puts, tells};
+ghost use Rattle.rust_mended.specs.Texts.{turned_text, without_bytes_at};
 ghost use Rattle.rust_mended.specs.declared.mark.Mark.{Mark};
 ghost use Rattle.rust_mended.specs.declared.mark.MarkKind.TheVariants as mark;
 
@@ -23,8 +25,8 @@ fn matched_texts_stay()
     ensures places { (text : List ℕ) (at : ℕ) → is_matched text ≡ true → place_back text at ≡ at }
 {}
 
-// Nothing is told exactly where all brackets match, and what is told is told of a bracket of the text: of one that nothing closes, of a
-// closer that closes nothing, or of one that closes a bracket of another kind.
+// Nothing is told exactly where all brackets match, and what is told is told of a bracket of the text: of one that
+// nothing closes, of a closer that closes nothing, or of one that closes a bracket of another kind.
 #[tactic(auto, using(crate::proofs::Told::nothing_told, crate::proofs::Told::told_at_marks))]
 fn brackets_are_told()
     ensures nothing { (text : List ℕ) → Decides (is_matched text) (edits text ≡ []) }
@@ -50,10 +52,12 @@ fn matched_marks_before_stay()
         → flat_map mending_edit (all_written at (front ++ behind)) ≡ flat_map mending_edit (all_written at behind) }
 {}
 
-// But for the closers that were put, the mended text is the text with single bytes replaced: closers that were left out or turned.
+// But for the closers that were put, the mended text is the text with single bytes replaced: closers that were left out
+// or turned.
 #[tactic(auto, using(crate::proofs::Lossless::text_lossless, crate::proofs::Lossless::text_length))]
 fn no_byte_is_lost()
-    ensures bytes { (text : List ℕ) → IsUtf8 text → without_bytes_at 0 (puts text) (mended_text text) ≡ turned_text text }
+    ensures bytes { (text : List ℕ) → IsUtf8 text → without_bytes_at 0 (puts text) (mended_text text)
+        ≡ turned_text text }
     ensures len { (text : List ℕ) → IsUtf8 text → length (turned_text text) ≡ length text }
 {}
 
@@ -65,8 +69,8 @@ fn places_lead_back()
         → place_back text at ≤ length text }
 {}
 
-// An item at the beginning of a line of column 0 is mended by itself, whatever stands before it, if no closer behind it is too much:
-// what is open before it ends before it.
+// An item at the beginning of a line of column 0 is mended by itself, whatever stands before it, if no closer behind it
+// is too much: what is open before it ends before it.
 #[tactic(auto, using(crate::proofs::Behind::written_behind))]
 fn items_behind_stay()
     ensures { (at : ℕ) (front : List Mark) (item : Mark) (behind : List Mark) → item.kind ≡ mark.Item
@@ -82,8 +86,8 @@ fn marks_stand_apart()
     ensures last { (q z s : List ℕ) → StandApart q z s → last (q ++ (z ++ 10 ∷ s)) ≡ behind_further q z (last s) }
 {}
 
-// A text that ends with a `{`, a `}` or a `;` as a token stands apart from what is behind the end of its line, as far as no byte order
-// mark, no `#`, no dash and no end of a line begins it.
+// A text that ends with a `{`, a `}` or a `;` as a token stands apart from what is behind the end of its line, as far
+// as no byte order mark, no `#`, no dash and no end of a line begins it.
 #[tactic(auto, using(crate::proofs::AtStops::apart_plain))]
 fn ended_texts_stand_apart()
     ensures { (b : ℕ) (w : List ℕ) (o : Stop) (z s : List ℕ) → begins_front b ≡ false → EndsAlone (b ∷ w) o
@@ -100,25 +104,28 @@ fn texts_before_stay()
         → mended_text (q ++ (z ++ 10 ∷ s)) ≡ q ++ (z ++ 10 ∷ mended_text s) }
 {}
 
-// A text that begins with an item of column 0, and in which no closer is too much, is mended by itself, whatever text it stands apart
-// behind; and so is that.
+// A text that begins with an item of column 0, and in which no closer is too much, is mended by itself, whatever text
+// it stands apart behind; and so is that.
 #[tactic(auto, using(crate::proofs::Joins::item_edits, crate::proofs::Joins::item_text))]
 fn texts_behind_stay()
-    ensures edits { (q z s : List ℕ) → StandApart q z s → begin_with_item (marks s) ≡ true → closers_reaching (marks s) ≡ []
+    ensures edits { (q z s : List ℕ) → StandApart q z s → begin_with_item (marks s) ≡ true → closers_reaching (marks s)
+        ≡ []
         → edits (q ++ (z ++ 10 ∷ s)) ≡ edits q ++ map (edit_further q z) (edits s) }
     ensures text { (q z s : List ℕ) → IsUtf8 q → StandApart q z s → begin_with_item (marks s) ≡ true
-        → closers_reaching (marks s) ≡ [] → mended_text (q ++ (z ++ 10 ∷ s)) ≡ mended_text q ++ (z ++ 10 ∷ mended_text s) }
+        → closers_reaching (marks s) ≡ [] → mended_text (q ++ (z ++ 10 ∷ s)) ≡ mended_text q ++
+        (z ++ 10 ∷ mended_text s) }
 {}
 
-// Marks in braces that keep each other are mended by themselves, and those around as if neither the braces nor these were there.
+// Marks in braces that keep each other are mended by themselves, and those around as if neither the braces nor these
+// were there.
 #[tactic(auto, using(crate::proofs::Inside::inside_stays))]
 fn marks_inside_stay()
     ensures { (at : ℕ) (front : List Mark) (o : Mark) (inner : List Mark) (c : Mark) (behind : List Mark)
         → KeepEachOther front o inner c behind → IsMendedAround at front o inner c behind }
 {}
 
-// What stands in braces that are each other's, and whose `}` begins no line further out than that of the `{`, changes nothing around
-// them: two texts are mended alike but for it.
+// What stands in braces that are each other's, and whose `}` begins no line further out than that of the `{`, changes
+// nothing around them: two texts are mended alike but for it.
 #[tactic(auto, using(crate::proofs::BodyTexts::mended_around))]
 fn texts_around_stay()
     ensures { (q m n s : List ℕ) → MayStandIn q m n s → AreMendedAround q m n s }

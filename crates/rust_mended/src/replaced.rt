@@ -1,6 +1,7 @@
 //! Edits written into a text.
 
-ghost use Rattle.std.specs.Prelude.{◌≡◌, ◌<◌, ◌+◌, ◌^◌, ◌++◌, [], ◌∷◌, IfOk, OnOk, IsCharBoundary, length, string_bytes};
+ghost use Rattle.std.specs.Prelude.{◌≡◌, ◌<◌, ◌+◌, ◌^◌, ◌++◌, [], ◌∷◌, IfOk, OnOk, IsCharBoundary, length};
+ghost use Rattle.std.specs.Prelude.{string_bytes};
 ghost use Rattle.rust_mended.specs.Steps.{EditsFit};
 ghost use Rattle.rust_mended.specs.Texts as spec;
 

@@ -59,14 +59,14 @@ pub struct Mended {
     ghost places_rise: { IsNonDecreasing places.items },
 }
 
-/// Mends the brackets of a text: each is closed where its line tells, and a closer that closes nothing is left out. Lines stay. It is
-/// `None` where nothing has to be done, as where all brackets match. Where a text ends in a literal that nothing closes, the closers
-/// that are put at its end fall into that.
+/// Mends the brackets of a text: each is closed where its line tells, and a closer that closes nothing is left out.
+/// Lines stay. It is `None` where nothing has to be done, as where all brackets match. Where a text ends in a literal
+/// that nothing closes, the closers that are put at its end fall into that.
 ///
 /// # Errors
 ///
 /// Only if memory runs out.
-#[tactic(auto, unfolding(crate::specs::Texts::mended_text, crate::specs::Texts::puts), using(crate::proofs::Puts::text_edits_fit))]
+#[tactic(auto, unfolding(crate::specs::Texts::mended_text, crate::specs::Texts::puts), using(crate::proofs::Puts::text_edits_fit),)]
 pub fn mend(alloc: Global, text: &str) -> Result<Option<Mended>, AllocError>
     ensures text { IfOk result (λ found. MatchOption found (spec.mended_text text.now ≡ text.now)
         (λ m. string_bytes m.text ≡ spec.mended_text text.now)) }

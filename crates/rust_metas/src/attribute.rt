@@ -91,7 +91,7 @@ fn bracketed(alloc: Global, cursor: &mut Cursor<'_>, anchor: usize) -> Result<Me
     Ok(meta)
 }
 
-#[tactic(auto, unfolding(crate::specs::Attributes::one_attribute, crate::specs::Metas::doc, crate::specs::Literals::documentation))]
+#[tactic(auto, unfolding(crate::specs::Attributes::one_attribute, crate::specs::Metas::doc, crate::specs::Literals::documentation),)]
 fn one_attribute(
     alloc: Global,
     cursor: &mut Cursor<'_>,
@@ -107,7 +107,7 @@ fn one_attribute(
     bracketed(alloc, cursor, anchor)
 }
 
-#[tactic(auto, unfolding(crate::specs::Attributes::behind_docs), using(crate::proofs::Docs::docs_more, crate::proofs::Docs::docs_stop))]
+#[tactic(auto, unfolding(crate::specs::Attributes::behind_docs), using(crate::proofs::Docs::docs_more, crate::proofs::Docs::docs_stop),)]
 fn pass_docs(cursor: &mut Cursor<'_>)
     ensures { cursor.new ≡ spec.behind_docs cursor.old }
 {

@@ -15,7 +15,8 @@ use rust_lexer::TokenKind;
 use rust_paths::{name, pass_comma};
 use std::alloc::{AllocError, Global};
 
-/// Whether an option's name comes next as it is written: a word, or `r#true` or `r#false`, which are not `true` and `false`.
+/// Whether an option's name comes next as it is written: a word, or `r#true` or `r#false`, which are not `true` and
+/// `false`.
 #[tactic(auto, unfolding(crate::specs::Conditions::is_option_word))]
 fn is_option_word(cursor: &Cursor<'_>) -> bool
     ensures { result ≡ sees spec.is_option_word cursor.now }
@@ -148,7 +149,7 @@ pub(crate) fn condition(
 
 /// Takes conditions up to a bracket that closes, unless they stand too deep.
 #[cycle(conditions)]
-#[tactic(auto, unfolding(rust_cursor::specs::Elements::turns), using(rust_cursor::proofs::Turns::turns_stop, crate::proofs::Depths::conditions_deep, crate::proofs::Depths::conditions_at))]
+#[tactic(auto, unfolding(rust_cursor::specs::Elements::turns), using(rust_cursor::proofs::Turns::turns_stop, crate::proofs::Depths::conditions_deep, crate::proofs::Depths::conditions_at,),)]
 fn conditions(
     alloc: Global,
     cursor: &mut Cursor<'_>,

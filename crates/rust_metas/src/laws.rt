@@ -1,5 +1,5 @@
-//! What holds of the type here: `==` decides whether two values are one, and a copy is its source. The derives are held to it by
-//! clauses; the function does nothing.
+//! What holds of the type here: `==` decides whether two values are one, and a copy is its source. The derives are held
+//! to it by clauses; the function does nothing.
 ghost use Rattle.hir_input.specs.Equality.{DecidesEq, IsCopied};
 
 use crate::wanted::WantedMetas;

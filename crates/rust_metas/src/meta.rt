@@ -104,7 +104,7 @@ fn pass_open(cursor: &mut Cursor<'_>) -> u8
 
 /// Takes a meta. Spans count from the anchor. `depth` bounds how deep metas and conditions stand in one another.
 #[cycle(metas)]
-#[tactic(auto, using(crate::proofs::Depths::meta_deep, crate::proofs::Depths::meta_at, crate::proofs::Depths::meta_conditional, hir_input::proofs::MetaLemmas::meta_views))]
+#[tactic(auto, using(crate::proofs::Depths::meta_deep, crate::proofs::Depths::meta_at, crate::proofs::Depths::meta_conditional, hir_input::proofs::MetaLemmas::meta_views,),)]
 pub(crate) fn meta(
     alloc: Global,
     cursor: &mut Cursor<'_>,

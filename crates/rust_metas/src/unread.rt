@@ -29,7 +29,8 @@ fn is_plain_name(cursor: &Cursor<'_>) -> bool
     has_name(cursor) && is_name(word)
 }
 
-/// Passes over what stands behind an attribute's name, and tells whether that is `=` and a literal, round brackets, or nothing.
+/// Passes over what stands behind an attribute's name, and tells whether that is `=` and a literal, round brackets, or
+/// nothing.
 #[tactic(auto, unfolding(crate::specs::Unread::plain_input))]
 fn pass_input(cursor: &mut Cursor<'_>) -> bool
     ensures { spec.plain_input cursor.old ≡ (result, cursor.new) }

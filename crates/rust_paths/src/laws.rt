@@ -1,5 +1,5 @@
-//! What holds of the types and the tests here: `==` decides whether two values are one, and a copy is its source. The derives are held to
-//! it by clauses. And no keyword is missed. The functions do nothing.
+//! What holds of the types and the tests here: `==` decides whether two values are one, and a copy is its source. The
+//! derives are held to it by clauses. And no keyword is missed. The functions do nothing.
 ghost use Rattle.std.specs.Prelude.{ℕ, ◌≡◌, List, false};
 ghost use Rattle.hir_input.specs.Equality.{DecidesEq, IsCopied};
 ghost use Rattle.rust_paths.specs.Names.{is_keyword, may_be_keyword};

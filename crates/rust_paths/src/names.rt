@@ -26,7 +26,8 @@ pub struct PlacedName {
     pub range: TextRange,
 }
 
-/// The keywords of every edition, strict or reserved, but for those that a path may hold: `crate`, `self`, `super` and `Self`.
+/// The keywords of every edition, strict or reserved, but for those that a path may hold: `crate`, `self`, `super` and
+/// `Self`.
 pub const KEYWORDS: [&str; 43] = [
     "abstract", "as", "become", "box", "break", "const", "continue", "do", "else", "enum",
     "extern", "false", "final", "fn", "for", "if", "impl", "in", "let", "loop", "macro", "match",
@@ -70,8 +71,8 @@ static KEYWORD_LAST: [u16; 32] = [
     0, 0, 0, 0, 0, 0,
 ];
 
-/// Whether a word may be one of all these, by its length and three of its bytes. It is a quick test: most names fail it, and no keyword
-/// of any edition does.
+/// Whether a word may be one of all these, by its length and three of its bytes. It is a quick test: most names fail
+/// it, and no keyword of any edition does.
 #[inline(always)]
 pub fn may_be_keyword(word: &str) -> bool
     ensures { result ≡ spec.may_be_keyword word.now }
@@ -186,7 +187,8 @@ pub(crate) fn next_name(alloc: Global, cursor: &Cursor<'_>) -> Result<Option<Nam
     }
 }
 
-/// Takes a name, if one comes next: an identifier that is no keyword of the text's edition and not `_`, or a raw identifier.
+/// Takes a name, if one comes next: an identifier that is no keyword of the text's edition and not `_`, or a raw
+/// identifier.
 #[tactic(auto, unfolding(crate::specs::Names::name, crate::specs::Names::next_name))]
 pub fn name(alloc: Global, cursor: &mut Cursor<'_>) -> Result<Option<Name>, AllocError>
     ensures { Gives (λ name. name) (reads spec.name cursor.old) result cursor.new }

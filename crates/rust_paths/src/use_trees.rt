@@ -270,7 +270,7 @@ fn may_be_listed(joined: bool, path: &Option<PathNode>) -> bool
 }
 
 /// Passes over what stands before the next comma, and it, or up to a bracket that closes.
-#[tactic(auto, unfolding(crate::specs::UseTrees::comma), using(crate::proofs::Trees::comma_end, crate::proofs::Trees::comma_here, crate::proofs::Trees::comma_more))]
+#[tactic(auto, unfolding(crate::specs::UseTrees::comma), using(crate::proofs::Trees::comma_end, crate::proofs::Trees::comma_here, crate::proofs::Trees::comma_more),)]
 pub fn pass_comma(cursor: &mut Cursor<'_>)
     ensures { cursor.new ≡ spec.tree_behind_comma cursor.old }
 {
@@ -311,7 +311,7 @@ fn tree_at(alloc: Global, cursor: &mut Cursor<'_>, depth: usize) -> Result<Found
 }
 
 #[cycle(trees)]
-#[tactic(auto, using(crate::proofs::Trees::list_deep, crate::proofs::Trees::list_none, crate::proofs::Trees::list_some))]
+#[tactic(auto, using(crate::proofs::Trees::list_deep, crate::proofs::Trees::list_none, crate::proofs::Trees::list_some),)]
 fn list(alloc: Global, cursor: &mut Cursor<'_>, depth: usize) -> Result<FoundList, AllocError>
     ensures { Gives list_view (spec.list depth cursor.old) result cursor.new }
 {
@@ -373,10 +373,9 @@ fn trees(alloc: Global, cursor: &mut Cursor<'_>, depth: usize) -> Result<FoundTr
 /// Takes a use tree, if one is written.
 ///
 /// Lists that stand in more than 128 others are passed over, and the place of the first of them is told. What stands
-/// between a tree of a list and the next comma is passed over too. `a::self` is read as `a::{self}`, which it means. Where the
-/// trees begin is told of those that can be read, as a tree's imports are numbered by them: not of a tree with an unreadable
-/// path, nor of those in it. rust-analyzer's
-/// `use_tree`.
+/// between a tree of a list and the next comma is passed over too. `a::self` is read as `a::{self}`, which it means.
+/// Where the trees begin is told of those that can be read, as a tree's imports are numbered by them: not of a tree
+/// with an unreadable path, nor of those in it. rust-analyzer's `use_tree`.
 #[tactic(auto, unfolding(crate::specs::UseTrees::use_tree))]
 pub fn use_tree(alloc: Global, cursor: &mut Cursor<'_>) -> Result<FoundUseTree, AllocError>
     ensures { Gives found_view (spec.use_tree cursor.old) result cursor.new }

@@ -140,7 +140,7 @@ fn plain_scope(alloc: Global, cursor: &mut Cursor<'_>) -> Result<Visibility, All
 }
 
 /// Takes what goes on a visibility behind `pub`.
-#[tactic(auto, using(crate::proofs::Steps::scoped_none, crate::proofs::Steps::scoped_in, crate::proofs::Steps::scoped_plain))]
+#[tactic(auto, using(crate::proofs::Steps::scoped_none, crate::proofs::Steps::scoped_in, crate::proofs::Steps::scoped_plain),)]
 fn scoped(alloc: Global, cursor: &mut Cursor<'_>) -> Result<Visibility, AllocError>
     ensures { Gives (λ v. v) (reads spec.scoped cursor.old) result cursor.new }
 {
@@ -157,9 +157,9 @@ fn scoped(alloc: Global, cursor: &mut Cursor<'_>) -> Result<Visibility, AllocErr
 
 /// Takes a visibility, if one is written.
 ///
-/// A bracket behind `pub` belongs to it where it holds `in` first, or one of `crate`, `super` and `self` alone, or a path before
-/// a word: `pub(a::b) fn f() {}` is read as `pub(in a::b)`, and `struct Pair(pub (u8, u8));` has a field that is `pub`.
-/// rust-analyzer's `opt_visibility`.
+/// A bracket behind `pub` belongs to it where it holds `in` first, or one of `crate`, `super` and `self` alone, or a
+/// path before a word: `pub(a::b) fn f() {}` is read as `pub(in a::b)`, and `struct Pair(pub (u8, u8));` has a field
+/// that is `pub`. rust-analyzer's `opt_visibility`.
 #[tactic(auto, unfolding(crate::specs::Visibilities::visibility))]
 pub fn visibility(alloc: Global, cursor: &mut Cursor<'_>) -> Result<Option<Visibility>, AllocError>
     ensures { Gives (λ v. v) (reads spec.visibility cursor.old) result cursor.new }

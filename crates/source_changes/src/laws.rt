@@ -1,6 +1,7 @@
 //! What holds of comparisons, each law told in words by its definition. The function does nothing.
 
-ghost use Rattle.source_changes.specs.Typing.{HolesAreUnseen, MemberHolesAreUnseen, MovedHolesAreUnseen, StandWithoutReturns, TypingInMemberIsSame, TypingIsSame};
+ghost use Rattle.source_changes.specs.Typing.{HolesAreUnseen, MemberHolesAreUnseen, MovedHolesAreUnseen};
+ghost use Rattle.source_changes.specs.Typing.{StandWithoutReturns, TypingInMemberIsSame, TypingIsSame};
 
 fn typing()
     ensures stand_without_returns { StandWithoutReturns }

@@ -1,5 +1,5 @@
-//! The blanks between the tokens of a header: those that rustfmt writes. They are told by the tokens alone, and not by what stands in
-//! the text, so that a header in two layouts is one label where texts are compared.
+//! The blanks between the tokens of a header: those that rustfmt writes. They are told by the tokens alone, and not by
+//! what stands in the text, so that a header in two layouts is one label where texts are compared.
 
 ghost use Rattle.std.specs.Prelude.{◌≡◌};
 ghost use Rattle.rust_cursor.specs.Angles.{is_lifetime};

@@ -120,11 +120,11 @@ pub(crate) fn changes_of<'r, K>(
     Ok(changes)
 }
 
-/// What became of the rows of a text in another: first those that were removed, in the order of the old text, and then those
-/// that were added or changed, in the order of the new one.
+/// What became of the rows of a text in another: first those that were removed, in the order of the old text, and then
+/// those that were added or changed, in the order of the new one.
 ///
-/// Two rows are the same row where both are the n-th of their label. Texts that differ in the order of their rows alone may
-/// have no changes.
+/// Two rows are the same row where both are the n-th of their label. Texts that differ in the order of their rows alone
+/// may have no changes.
 ///
 /// # Errors
 ///

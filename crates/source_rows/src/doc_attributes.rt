@@ -110,7 +110,8 @@ fn pass_if_all(signs: &[Sign], lexer: &mut Lexer<'_>) -> bool
     true
 }
 
-/// Passes over an attribute behind this token, if the token is its `#` and it documents. Where documentation counts it is not looked for.
+/// Passes over an attribute behind this token, if the token is its `#` and it documents. Where documentation counts it
+/// is not looked for.
 pub(crate) fn pass_doc_attribute(token: &Token<'_>, has_docs: bool, lexer: &mut Lexer<'_>) -> bool
     requires { inner.ComeBehind (token.now.at + length token.now.text) lexer.old }
     ensures same { (holes : List Hole) (before : ℕ) →

@@ -89,11 +89,11 @@ fn header_in(
     spaced(alloc, is_cut, &mut cursor)
 }
 
-/// The header of an item that stands in this range of a text: what stands behind the words that begin it and their generics, as
-/// `Display for Circle` of an impl.
+/// The header of an item that stands in this range of a text: what stands behind the words that begin it and their
+/// generics, as `Display for Circle` of an impl.
 ///
-/// The braces are those of an impl, if they are known: its header ends there or at its `where`. Any other also ends at a `{`, a
-/// `;`, a `=` and a `!` that is not its first token.
+/// The braces are those of an impl, if they are known: its header ends there or at its `where`. Any other also ends at
+/// a `{`, a `;`, a `=` and a `!` that is not its first token.
 ///
 /// # Errors
 ///

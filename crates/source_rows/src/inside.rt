@@ -98,8 +98,8 @@ fn is_run_early(front: &str) -> bool
     has_const_fn(front) || has_any(front, &MACRO_WORDS)
 }
 
-/// Whether a function with this in front of its body, and this in its braces, is neither a `const fn` nor a macro, and no word in them
-/// reaches out.
+/// Whether a function with this in front of its body, and this in its braces, is neither a `const fn` nor a macro, and
+/// no word in them reaches out.
 fn is_unseen(front: &str, inside: &str) -> bool
     ensures { result ≡ spec.is_unseen (tokens front.now) (tokens inside.now) }
 {

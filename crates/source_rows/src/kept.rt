@@ -1,6 +1,7 @@
 //! The tokens of a text that count, without those that stand in some parts of it.
 
-ghost use Rattle.std.specs.Prelude.{◌≡◌, ◌↔◌, ◌+◌, ◌≤◌, ◌<◌, ℕ, Bool, false, List, [], ◌∷◌, IfSome, IsTrue, MatchOption, length};
+ghost use Rattle.std.specs.Prelude.{◌≡◌, ◌↔◌, ◌+◌, ◌≤◌, ◌<◌, ℕ, Bool, false, List, [], ◌∷◌, IfSome, IsTrue};
+ghost use Rattle.std.specs.Prelude.{MatchOption, length};
 ghost use Rattle.source_rows.specs.DocAttributes.{docs_as_comments};
 ghost use Rattle.source_rows.specs.Inner as inner;
 ghost use Rattle.source_rows.specs.Skeletons as spec;
@@ -73,8 +74,9 @@ fn ends_behind(lexer: &Lexer<'_>, holes: &[Hole]) -> bool
     }
 }
 
-/// Passes over what stands in braces behind a token, if the token opens them and all of that stands in the first of some parts. Where
-/// that is tried in vain, it is not tried again: braces that are not closed are looked for up to the end of the text.
+/// Passes over what stands in braces behind a token, if the token opens them and all of that stands in the first of
+/// some parts. Where that is tried in vain, it is not tried again: braces that are not closed are looked for up to the
+/// end of the text.
 fn pass_hole(token: &Token<'_>, holes: &[Hole], may_pass: &mut bool, lexer: &mut Lexer<'_>)
     requires { inner.ComeBehind (token.now.at + length token.now.text) lexer.old }
     ensures same { (has_docs : Bool) (before : ℕ) →
@@ -101,7 +103,8 @@ fn pass_hole(token: &Token<'_>, holes: &[Hole], may_pass: &mut bool, lexer: &mut
 #[derive(Drop)]
 struct Kept<'a> {
     lexer: Lexer<'a>,
-    /// The symbol of the token before, whether or not that was taken, and 0 behind an attribute that documents as behind a comment.
+    /// The symbol of the token before, whether or not that was taken, and 0 behind an attribute that documents as
+    /// behind a comment.
     before: u8,
     holes: &'a [Hole],
     has_docs: bool,
@@ -237,7 +240,8 @@ fn is_apart_mark(symbol: u8) -> bool
     !matches!(symbol, b'>' | b'=' | b':' | b'.')
 }
 
-/// Whether what comes first is no mark with what stands before it, whatever that is, and ends no attribute that documents.
+/// Whether what comes first is no mark with what stands before it, whatever that is, and ends no attribute that
+/// documents.
 fn is_lone(lexer: &Lexer<'_>, has_docs: bool) -> bool
     ensures { IsTrue result → inner.IsLone has_docs lexer.now }
 {
@@ -311,8 +315,8 @@ fn are_same(mut ours: Kept<'_>, mut theirs: Kept<'_>) -> bool
 
 /// A text, told by the texts of its tokens that count and stand in none of some parts.
 ///
-/// Documentation counts where that is asked. The parts come in order: one that begins before an earlier one ends is looked
-/// at when that has ended.
+/// Documentation counts where that is asked. The parts come in order: one that begins before an earlier one ends is
+/// looked at when that has ended.
 #[derive(Clone, Copy, Debug)]
 pub struct Skeleton<'a> {
     pub text: &'a str,

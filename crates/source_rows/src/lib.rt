@@ -1,6 +1,6 @@
-//! The items of a text and their members as rows, with what each is called and its own tokens; what became of rows and of tokens in
-//! another text; and what lists read of a text, also of a damaged one, and tell of items beside the tree, as the type and the trait of an
-//! impl, and members that have a name.
+//! The items of a text and their members as rows, with what each is called and its own tokens; what became of rows and
+//! of tokens in another text; and what lists read of a text, also of a damaged one, and tell of items beside the tree,
+//! as the type and the trait of an impl, and members that have a name.
 #![tactic(auto)]
 
 mod blanks;

@@ -4,7 +4,8 @@ ghost use Rattle.std.specs.Prelude.{◌≡◌, ◌≤◌, ◌<◌, ◌^◌, Some
 ghost use Rattle.rust_items.specs.SourceFiles.{IsClippedFile, file_view};
 ghost use Rattle.source_rows.specs.Listed.{told_place, told_item};
 ghost use Rattle.source_rows.specs.ListedViews.{closers_view};
-ghost use Rattle.source_rows.specs.ListedFiles.{HasFileIds, HasTextOf, IsListedClipped, IsUnlisted, closers_in, told_file};
+ghost use Rattle.source_rows.specs.ListedFiles.{HasFileIds, HasTextOf, IsListedClipped, IsUnlisted, closers_in};
+ghost use Rattle.source_rows.specs.ListedFiles.{told_file};
 
 use crate::mended::{told_item, told_place};
 use crate::read_texts::{ReadError, read_text};

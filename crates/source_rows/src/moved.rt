@@ -123,8 +123,9 @@ fn standing_rows<'a>(alloc: Global, rows: &[Row<'a>]) -> Result<Vec<StandingRow<
     standing_rows_in(alloc, rows, &ranks)
 }
 
-/// What became of the rows of a text in another, as by `changes`, but that two rows are the same row only where they stand in the same
-/// part: both parts are the n-th of their label. So a row that moved from a part to another was removed and added.
+/// What became of the rows of a text in another, as by `changes`, but that two rows are the same row only where they
+/// stand in the same part: both parts are the n-th of their label. So a row that moved from a part to another was
+/// removed and added.
 ///
 /// # Errors
 ///

@@ -13,7 +13,8 @@ use rust_items::ItemPlace;
 use rust_mended::Mended;
 use std::alloc::{AllocError, Global};
 
-/// A text of an edition, the mended text where that is read in its place, and the cfgs that are set, where members are asked for.
+/// A text of an edition, the mended text where that is read in its place, and the cfgs that are set, where members are
+/// asked for.
 ///
 /// Places are those of the text as it is, whichever is read.
 #[derive(Clone, Copy)]
@@ -47,8 +48,8 @@ impl<'a> Reading<'a> {
 }
 
 impl Reading<'_> {
-    /// What an impl is told by: its type, or its trait, `for` and its type. It is empty for an item of another kind, and where
-    /// the place is not known. The place is the one that the reader gave with the text.
+    /// What an impl is told by: its type, or its trait, `for` and its type. It is empty for an item of another kind,
+    /// and where the place is not known. The place is the one that the reader gave with the text.
     ///
     /// # Errors
     ///
@@ -71,8 +72,8 @@ impl Reading<'_> {
     }
 
     /// The name of the type that an impl is of, without `r#`: the last name of its path, as `Circle` of
-    /// `impl<T> Display for geo::Circle<T>`. There is none of a type that is no path, of an item of another kind, and where the
-    /// place is not known. The place is the one that the reader gave with the text.
+    /// `impl<T> Display for geo::Circle<T>`. There is none of a type that is no path, of an item of another kind, and
+    /// where the place is not known. The place is the one that the reader gave with the text.
     ///
     /// # Errors
     ///
@@ -94,12 +95,12 @@ impl Reading<'_> {
         }
     }
 
-    /// The members of an item that have names, in the order of the text: the functions, constants and types of a trait or an
-    /// impl, the variants of an enum, the fields of a struct or a union with braces. It is empty for an item of another kind,
-    /// where the place is not known, and where members are not asked for.
+    /// The members of an item that have names, in the order of the text: the functions, constants and types of a trait
+    /// or an impl, the variants of an enum, the fields of a struct or a union with braces. It is empty for an item of
+    /// another kind, where the place is not known, and where members are not asked for.
     ///
-    /// The place is the one that the reader gave with the text, and `is_active` says that no cfg disables the item, nor what it
-    /// stands in.
+    /// The place is the one that the reader gave with the text, and `is_active` says that no cfg disables the item, nor
+    /// what it stands in.
     ///
     /// # Errors
     ///

@@ -41,7 +41,8 @@ fn attributes_end(alloc: Global, text: &str, edition: EditionYear) -> Result<usi
     Ok(cursor.past())
 }
 
-/// All of a text behind the attributes of the file, as a part of it, if tokens stand there that are in none of its items.
+/// All of a text behind the attributes of the file, as a part of it, if tokens stand there that are in none of its
+/// items.
 ///
 /// # Errors
 ///

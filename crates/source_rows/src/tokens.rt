@@ -121,7 +121,8 @@ pub(crate) fn own_holes(
     moved_back(alloc, part.range.start, &holes)
 }
 
-/// Each part of a text, which come in preorder, with what tells its own tokens. Documentation counts where that is asked.
+/// Each part of a text, which come in preorder, with what tells its own tokens. Documentation counts where that is
+/// asked.
 pub fn rows<'a>(
     alloc: Global,
     text: &'a str,

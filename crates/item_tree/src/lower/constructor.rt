@@ -81,7 +81,8 @@ fn lower_tuple_ctor(
 ) -> Result<StructValueNsCtor, LowerError>
     requires { IsWithinLimits rows.old }
     ensures { CtorIsLowered rows.old rows.new
-        (ctor_of (tuple_fields (map (λ f. f.visibility) fields.now)) (read_visibility (option_copied own.entry))) result }
+        (ctor_of (tuple_fields (map (λ f. f.visibility) fields.now)) (read_visibility (option_copied own.entry)))
+        result }
 {
     let written = read_visibilities(alloc, own, fields)?;
     let deciding = select_deciding(alloc, written)?;

@@ -22,7 +22,8 @@ impl Printer<'_> {
         attrs: Option<&AttrsOrCfg>,
     ) -> Result<(), AllocError>
         ensures { let reserved = self.entry.edition.now.reserved.items in
-            let lines = lent_lines reserved opening.now self.entry.level (option_map (λ a. collected a.now) attrs.entry) in
+            let lines = lent_lines reserved opening.now self.entry.level
+            (option_map (λ a. collected a.now) attrs.entry) in
             OnOk result (Gains out.old out.new lines) }
     {
         match attrs {
@@ -42,7 +43,8 @@ impl Printer<'_> {
         attrs: Attrs<'_>,
     ) -> Result<(), AllocError>
         ensures { let reserved = self.entry.edition.now.reserved.items in
-            let lines = flat_map (λ a. lines_of_text self.entry.level (attr_text reserved opening.now a)) (listed_attrs attrs.entry) in
+            let lines = flat_map (λ a. lines_of_text self.entry.level (attr_text reserved opening.now a))
+            (listed_attrs attrs.entry) in
             OnOk result (Gains out.old out.new lines) }
     {
         for attr in attrs.as_slice() {

@@ -69,7 +69,8 @@ fn write_single<W: fmt::Write>(
     f: &mut fmt::Formatter<W>,
 ) -> fmt::Result
     ensures { let reserved = edition.now.reserved.items in
-        WritesOnOk W.write_str_gives f.old result (shown_path reserved path.now ++ shown_rename reserved alias.now) f.new }
+        WritesOnOk W.write_str_gives f.old result
+        (shown_path reserved path.now ++ shown_rename reserved alias.now) f.new }
 {
     let path = path.display(edition);
     match alias {

@@ -62,8 +62,8 @@ fn count_made(alloc: Global, sources: &mut Sources) -> Result<Option<usize>, All
     }
 }
 
-// Whether the table has the number of the edits that were made, and that of the last at which the file became another; and
-// the file its function after the first and the fourth alone, and after the fifth what could not be parsed.
+// Whether the table has the number of the edits that were made, and that of the last at which the file became another;
+// and the file its function after the first and the fourth alone, and after the fifth what could not be parsed.
 fn stands_after(sources: &Sources, made: usize) -> bool {
     let has_item = made == 1 || made == 4;
     match [0, 1, 2, 2, 4, 5, 5].as_slice().get(made) {

@@ -1,7 +1,7 @@
 //! Tables, syntaxes and edits that the tests use.
 //!
-//! A function that makes or drops a table, a syntax, an edit or a refusal is proved slowly, and the more so the more it does
-//! meanwhile. So each of these is done once here, in a function of its own, and a table is handed out in a box.
+//! A function that makes or drops a table, a syntax, an edit or a refusal is proved slowly, and the more so the more it
+//! does meanwhile. So each of these is done once here, in a function of its own, and a table is handed out in a box.
 ghost use Rattle.std.specs.Prelude.{map, IfOk};
 ghost use Rattle.std.specs.List.{AllByRecursion};
 ghost use Rattle.item_tree_db.specs.State.{State};
@@ -60,7 +60,8 @@ fn function(alloc: Global, is_marked: bool) -> Result<Syntax, AllocError> {
     one_function(alloc, attrs)
 }
 
-// What became of an edit: it is made, or the edit of the file, or of the crate's options, is handed back for out of memory.
+// What became of an edit: it is made, or the edit of the file, or of the crate's options, is handed back for out of
+// memory.
 #[derive(Clone, Copy)]
 pub enum Answer {
     Made(u64),
@@ -124,8 +125,8 @@ pub fn are_set(alloc: Global, sources: &mut Sources) -> Result<bool, AllocError>
     )
 }
 
-// How a list of edits was refused. The text has the place and the cause, and what is printed of the refusal and of the one
-// that it holds.
+// How a list of edits was refused. The text has the place and the cause, and what is printed of the refusal and of the
+// one that it holds.
 #[derive(Drop)]
 pub struct Refusal {
     pub place: usize,
@@ -150,7 +151,8 @@ fn told(alloc: Global, made: &Result<u64, AllRefused>) -> Result<Result<u64, Ref
     }
 }
 
-// Sets the file, removes it twice, sets it again, sets it to what could not be parsed, and removes one that was never set.
+// Sets the file, removes it twice, sets it again, sets it to what could not be parsed, and removes one that was never
+// set.
 fn edits(alloc: Global) -> Result<Vec<Edit>, AllocError>
     ensures { IfOk result (λ edits. (s : State)
         → AllByRecursion (NamesKnown s) (map edit_view edits.items)) }

@@ -29,7 +29,8 @@ fn function(start: usize, braces: usize) -> ItemPlace {
     }
 }
 
-// Whether typing in place of a range of a text of one function, which is all of it, moves its end to a place; 0 says that the text is read.
+// Whether typing in place of a range of a text of one function, which is all of it, moves its end to a place; 0 says
+// that the text is read.
 fn is_moved(
     alloc: Global,
     text: &str,

@@ -1,5 +1,5 @@
-//! What metas collect and what two owners join to where a request for memory is refused: whole, or refused with what was handed
-//! in as it was. Of two requests never both are refused.
+//! What metas collect and what two owners join to where a request for memory is refused: whole, or refused with what
+//! was handed in as it was. Of two requests never both are refused.
 use crate::samples::attributes::{condition, options, words};
 use hir_input::Meta;
 use item_tree_attrs::{AttrError, AttrsOrCfg, MergeRefused};

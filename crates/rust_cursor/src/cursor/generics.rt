@@ -128,7 +128,7 @@ impl<'t> Cursor<'t> {
         self.is_barred(reach, nest)
     }
 
-    #[tactic(auto, unfolding(crate::specs::Angles::reached), using(crate::proofs::Reaches::reaching_stop, crate::proofs::Reaches::reaching_end))]
+    #[tactic(auto, unfolding(crate::specs::Angles::reached), using(crate::proofs::Reaches::reaching_stop, crate::proofs::Reaches::reaching_end),)]
     fn pass_reach(&mut self, reach: Reach)
         ensures { self.new ≡ spec.reached reach self.old }
     {
@@ -146,8 +146,8 @@ impl<'t> Cursor<'t> {
 
     /// Passes over what stands in angle brackets, if it comes next.
     ///
-    /// Where no `>` closes it, it ends before a semicolon, a bracket that closes, or a word that can begin an item only, and behind
-    /// a block that neither `>` nor `,` follows.
+    /// Where no `>` closes it, it ends before a semicolon, a bracket that closes, or a word that can begin an item
+    /// only, and behind a block that neither `>` nor `,` follows.
     #[tactic(auto, unfolding(crate::specs::Angles::behind_angles))]
     pub fn pass_angles(&mut self)
         ensures { self.new ≡ spec.behind_angles self.old }
@@ -164,7 +164,8 @@ impl<'t> Cursor<'t> {
         self.pass_reach(Reach::Field);
     }
 
-    /// Behind `impl` and its generics, whether a `for` stands between a trait and a type of the impl, which ends at this place.
+    /// Behind `impl` and its generics, whether a `for` stands between a trait and a type of the impl, which ends at
+    /// this place.
     #[tactic(auto, unfolding(crate::specs::Angles::is_trait_impl))]
     pub fn is_trait_impl(&self, end: usize) -> bool
         ensures { result ≡ spec.is_trait_impl end self.now }

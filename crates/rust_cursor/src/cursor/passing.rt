@@ -28,8 +28,8 @@ impl<'t> Cursor<'t> {
         nest.braces == 0 && self.shuts(bracket, nest)
     }
 
-    /// Passes over what stands before the bracket that closes one that was opened by this symbol, or that closes the braces around
-    /// it.
+    /// Passes over what stands before the bracket that closes one that was opened by this symbol, or that closes the
+    /// braces around it.
     #[tactic(auto, unfolding(crate::specs::Brackets::to_closing), using(crate::proofs::Steps::closing_stop))]
     pub fn pass_to_closing(&mut self, bracket: u8)
         ensures { self.new ≡ spec.to_closing bracket self.old }
@@ -60,7 +60,8 @@ impl<'t> Cursor<'t> {
         }
     }
 
-    /// Passes over a token, or what stands in brackets: where these match, up to the bracket that matches the first, and it.
+    /// Passes over a token, or what stands in brackets: where these match, up to the bracket that matches the first,
+    /// and it.
     #[tactic(auto, unfolding(crate::specs::Brackets::behind_tree), using(crate::proofs::Matched::tree_matched))]
     pub fn pass_tree(&mut self)
         ensures passed { self.new ≡ spec.behind_tree self.old }

@@ -1,6 +1,7 @@
 //! The texts of what is taken.
 
-ghost use Rattle.std.specs.Prelude.{ℕ, ◌≡◌, ◌≤◌, ◌<◌, ◌+◌, ◌^◌, ◌++◌, ◌==◌, ◌&&◌, not, false, if◌then◌else◌, OnOk, Option, length, string_bytes, filter};
+ghost use Rattle.std.specs.Prelude.{ℕ, ◌≡◌, ◌≤◌, ◌<◌, ◌+◌, ◌^◌, ◌++◌, ◌==◌, ◌&&◌, not, false, if◌then◌else◌, OnOk};
+ghost use Rattle.std.specs.Prelude.{Option, length, string_bytes, filter};
 ghost use Rattle.rust_lexer.specs.Tokens.{is_significant};
 ghost use Rattle.rust_cursor.specs.Extents as spec;
 ghost use Rattle.rust_cursor.specs.Inner as inner;
@@ -448,16 +449,16 @@ impl<'t> Cursor<'t> {
         Ok(excerpt.text)
     }
 
-    /// Takes a token, or what stands in brackets, and gives the texts of its tokens. White space and comments between them do not
-    /// count, but for what stands between two marks that are not joined, as in `- >`.
+    /// Takes a token, or what stands in brackets, and gives the texts of its tokens. White space and comments between
+    /// them do not count, but for what stands between two marks that are not joined, as in `- >`.
     pub fn tree_text(&mut self, alloc: Global) -> Result<String, AllocError>
         ensures { Gives string_bytes (spec.tree_text self.old) result self.new }
     {
         self.take_text(alloc, Extent::Tree)
     }
 
-    /// Takes a token, or what stands in brackets, and gives the texts of its tokens with a blank between each two, or an empty text
-    /// where none is kept.
+    /// Takes a token, or what stands in brackets, and gives the texts of its tokens with a blank between each two, or
+    /// an empty text where none is kept.
     pub fn tree_body(&mut self, alloc: Global, keeps_text: bool) -> Result<Excerpt<'t>, AllocError>
         ensures { Gives spec.excerpt_view (spec.clipped keeps_text (spec.tree_body self.old))
             result self.new }
@@ -465,8 +466,8 @@ impl<'t> Cursor<'t> {
         self.take_excerpt(alloc, keeps_text, Before::End, Extent::Group)
     }
 
-    /// Takes what is left of an item that ends with a semicolon, and gives the texts of its tokens with a blank between each two, or
-    /// an empty text where none is kept.
+    /// Takes what is left of an item that ends with a semicolon, and gives the texts of its tokens with a blank between
+    /// each two, or an empty text where none is kept.
     ///
     /// Without one it ends before a `}` that closes what is around, and before what can only begin an item.
     pub fn value_rest(&mut self, alloc: Global, keeps_text: bool) -> Result<Excerpt<'t>, AllocError>
@@ -476,8 +477,8 @@ impl<'t> Cursor<'t> {
         self.take_excerpt(alloc, keeps_text, Before::End, Extent::Value)
     }
 
-    /// The same of an item that ends with a semicolon, or with a block. The braces of a macro call are no block, and in angle brackets
-    /// one that `>` or `,` follows is none of the item's.
+    /// The same of an item that ends with a semicolon, or with a block. The braces of a macro call are no block, and in
+    /// angle brackets one that `>` or `,` follows is none of the item's.
     pub fn item_rest(&mut self, alloc: Global, keeps_text: bool) -> Result<Excerpt<'t>, AllocError>
         ensures { Gives spec.excerpt_view (spec.clipped keeps_text (spec.item_rest self.old))
             result self.new }
