@@ -145,8 +145,11 @@ impl Hash for ModPath {
 
     ghost hash_input = { λ p. ⟦<PathKind as Hash>⟧.hash_input p.kind ++ fed.slice fed.str p.names };
 
-    ghost respects_eq = { (fed.and-Alike (fed.on_Alike (λ p. p.kind) {E = ⟦<PathKind as PartialEq>⟧.eq} {F = ⟦<PathKind as Hash>⟧.hash_input} (record { fed = kinds.respects_eq-law })) (fed.on_Alike (λ p. p.names)
-        (fed.items_Alike {E = pointwise nat_eq} {F = fed.str} (record { fed = names.respects_eq-law })))).fed };
+    ghost respects_eq = { (fed.and-Alike
+        (fed.on_Alike (λ p. p.kind) {E = ⟦<PathKind as PartialEq>⟧.eq} {F = ⟦<PathKind as Hash>⟧.hash_input}
+        (record { fed = kinds.respects_eq-law }))
+        (fed.on_Alike (λ p. p.names) (fed.items_Alike {E = pointwise nat_eq} {F = fed.str}
+        (record { fed = names.respects_eq-law })))).fed };
 
     fn hash<H: Hasher>(&self, state: &mut H) {
         self.kind().hash(state);

@@ -108,12 +108,12 @@ fn texts_before_stay()
 // it stands apart behind; and so is that.
 #[tactic(auto, using(crate::proofs::Joins::item_edits, crate::proofs::Joins::item_text))]
 fn texts_behind_stay()
-    ensures edits { (q z s : List ℕ) → StandApart q z s → begin_with_item (marks s) ≡ true → closers_reaching (marks s)
-        ≡ []
+    ensures edits { (q z s : List ℕ) → StandApart q z s → begin_with_item (marks s) ≡ true
+        → closers_reaching (marks s) ≡ []
         → edits (q ++ (z ++ 10 ∷ s)) ≡ edits q ++ map (edit_further q z) (edits s) }
     ensures text { (q z s : List ℕ) → IsUtf8 q → StandApart q z s → begin_with_item (marks s) ≡ true
-        → closers_reaching (marks s) ≡ [] → mended_text (q ++ (z ++ 10 ∷ s)) ≡ mended_text q ++
-        (z ++ 10 ∷ mended_text s) }
+        → closers_reaching (marks s) ≡ [] → mended_text (q ++ (z ++ 10 ∷ s))
+        ≡ mended_text q ++ (z ++ 10 ∷ mended_text s) }
 {}
 
 // Marks in braces that keep each other are mended by themselves, and those around as if neither the braces nor these
