@@ -1,15 +1,28 @@
 #!/usr/bin/env python3
-"""The shape of the code: shape.py [--list]. No function of crates/*/src may be longer than 40 lines, with its clauses,
-and no line of code longer than 120 columns; no file of code, specs or proofs has more lines than MOST_LINES, but for the
-few that LONGER names. `--list` prints each that is. Its last line is `shape: N passed, M failed`.
+"""The shape of the code: shape.py [--list].
+
+No function in crates/*/src may have more than 40 lines beside its clauses, and no line more than 120 columns, but for hints
+(`#[tactic(..)]`), which rt fmt keeps on one line, and for texts of tests. A file of code, specs or proofs has at most 400
+lines; those that are longer are named in LONGER, and may not grow. `--list` prints all that is too long.
 """
 import os
 import re
 import sys
 
 HOME = os.path.dirname(os.path.dirname(os.path.abspath(__file__)))
-COLUMNS, FUNCTION, MOST_LINES = 120, 40, 400
-LONGER = {}
+COLUMNS, FUNCTION, FILE = 120, 40, 400
+LONGER = {
+    "crates/item_tree/proofs/Lowering.antt": 436,
+    "crates/item_tree/src/items.rt": 540,
+    "crates/item_tree_db/src/sources.rt": 418,
+    "crates/rust_cursor/proofs/Around.antt": 648,
+    "crates/rust_cursor/src/cursor/nest.rt": 490,
+    "crates/rust_cursor/src/cursor/texts.rt": 610,
+    "crates/rust_edits/proofs/Beside/NearLeaves.antt": 457,
+    "crates/rust_leaves/src/head.rt": 414,
+    "crates/rust_lexer/src/lexer.rt": 518,
+}
+BEGINS = re.compile(r"(\s*)(pub(\(\w+\))? )?(const )?(unsafe )?fn \w")
 
 
 def files(ending):
@@ -24,31 +37,37 @@ def lines_of(path):
 
 
 def long_functions(lines):
-    """The first line and the length of each function that is too long: it ends at a brace as far in as its `fn`."""
-    begin = indent = None
+    """The first line and the length of each function that is too long. It ends at a brace as far in as its `fn`."""
+    begin, indent, clauses, length = None, "", False, 0
     for number, line in enumerate(lines, 1):
-        if begin is None and (found := re.match(r"(\s*)(pub(\(crate\))? )?(const )?(unsafe )?fn \w", line)):
-            begin, indent = number, found[1]
-        if begin is not None and (line == indent + "}" or number == begin and line.endswith("}")):
-            if number - begin + 1 > FUNCTION:
-                yield begin, number - begin + 1
+        if begin is None and (found := BEGINS.match(line)):
+            begin, indent, clauses, length = number, found[1], False, 0
+        if begin is None:
+            continue
+        clauses = (clauses or re.match(r"\s*(requires|ensures)\b", line)) and line != indent + "{"
+        length += not clauses
+        if line in (indent + "}", indent + "{}") or line.endswith("}") and number == begin:
+            if length > FUNCTION:
+                yield begin, length
             begin = None
 
 
+def is_wide(name, line):
+    return len(line) > COLUMNS and "#[tactic(" not in line and not name.startswith("crates/item_tree_tests/")
+
+
 def main():
-    faults, passed = [], 0
-    for path in files(".rt"):
-        lines, name = lines_of(path), os.path.relpath(path, HOME)
-        faults += [f"{name}:{n}: a line of {len(line)} columns" for n, line in enumerate(lines, 1) if len(line) > COLUMNS]
-        faults += [f"{name}:{n}: a function of {length} lines" for n, length in long_functions(lines)]
-        passed += 1
+    faults, count = [], 0
     for path in [*files(".rt"), *files(".antt")]:
-        name, length = os.path.relpath(path, HOME), len(lines_of(path))
-        if length > LONGER.get(name, MOST_LINES):
-            faults.append(f"{name}: {length} lines")
-    if faults:
-        print("\n".join(faults) if "--list" in sys.argv[1:] else "\n".join(faults[:20]))
-    print(f"shape: {passed} passed, {len(faults)} failed")
+        lines, name = lines_of(path), os.path.relpath(path, HOME)
+        count += 1
+        if len(lines) > LONGER.get(name, FILE):
+            faults.append(f"{name}: {len(lines)} lines")
+        if name.endswith(".rt"):
+            faults += [f"{name}:{n}: {len(line)} columns" for n, line in enumerate(lines, 1) if is_wide(name, line)]
+            faults += [f"{name}:{n}: a function of {length} lines" for n, length in long_functions(lines)]
+    print("\n".join(faults if "--list" in sys.argv[1:] else faults[:20]), end="\n" if faults else "")
+    print(f"shape: {count} passed, {len(faults)} failed")
     return 1 if faults else 0
 
 

@@ -12,7 +12,6 @@ use Rattle.item_tree.specs.declared.visibility.VisibilityExplicitness.TheVariant
 use Rattle.item_tree.specs.Node.{Node, leaf, parent, Forest, empty, more, node_ast, Unfolding}
 use Rattle.tree_walk.specs.Declarations.{node_name, node_visibility}
 use Rattle.tree_walk.specs.Rows.{Subject, no_subject, used, called, node_subject, is_enabled, is_file_enabled}
-pub use Rattle.tree_walk.specs.Objects.{name_form}
 use Rattle.line_index.specs.declared.Position.{Position}
 use Rattle.line_index.specs.Positions.{position_of}
 use Rattle.rust_items.specs.declared.log.Problem.{Problem}
@@ -24,6 +23,11 @@ use Rattle.source_problems.specs.Problems.{told_kind}
 use Rattle.source_rows.specs.declared.finder.Spot.{Spot}
 use Rattle.source_listing.specs.Lines.{Choice, Source, is_chosen, message, short_tree, visible_in, item_word}
 use Rattle.source_rows.specs.Places.{place_of, spot_at}
+
+-- a name, if there is one
+abbrev pub name_form : Option (List ℕ) → Data
+name_form None = null
+name_form (Some name) = string name
 
 -- an item, and whether no cfg disables it, nor an item that it stands in, nor the file
 pub record ItemView : Type 0 where
