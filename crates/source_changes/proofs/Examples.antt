@@ -74,7 +74,7 @@ member_stands = (
 
 -- a member from behind `impl S { ` on, with these braces at its end
 method : ℕ → ℕ → MemberRead
-method from to = record { kind = members.Function; name = None; range = record { start = 9; end = to }; body = Some (record { start = from; end = to }); attrs = []; visibility = None }
+method from to = record { kind = members.Function; name = None; identifier = None; range = record { start = 9; end = to }; body = Some (record { start = from; end = to }); attrs = []; visibility = None }
 
 member_holes : (is_member_hole (with_body before (with_body member one space) []) (braces (before ++ 123 ∷ member) one) (method 16 21) ≡ true)
     × (is_member_hole (with_body before (with_body member two space) []) (braces (before ++ 123 ∷ member) two) (method 16 28) ≡ true)
