@@ -180,17 +180,27 @@ fn push_tag(
     )
 }
 
+/// The same names, lent for no longer.
+fn names_in<'r: 'a, 'a>(alloc: Global, scope: &[&'r Name]) -> Result<Vec<&'a Name>, AllocError>
+    ensures { IfOk result (λ v. map (λ n. n.now) v.items ≡ map (λ n. n.now) scope.now) }
+{
+    let mut names = Vec::with_capacity(alloc, scope.len())?;
+    for name in scope {
+        names.push(*name)?;
+    }
+    Ok(names)
+}
+
 /// The modules around an item, and what its members stand in.
-fn names_around<'a>(
+fn names_around<'r: 'a, 'a>(
     alloc: Global,
-    row: &Row<'a>,
+    scope: &[&'r Name],
     name: Option<&'a Name>,
 ) -> Result<Vec<&'a Name>, AllocError>
-    ensures { let names = map (λ n. n.now) row.now.scope.value.items
-        ++ option_to_list (option_copied name.entry) in
+    ensures { let names = map (λ n. n.now) scope.now ++ option_to_list (option_copied name.entry) in
         IfOk result (λ v. map (λ n. n.now) v.items ≡ names) }
 {
-    let mut names = Vec::from_slice(alloc, row.scope.as_slice())?;
+    let mut names = names_in(alloc, scope)?;
     if let Some(name) = name {
         names.push(name)?;
     }
@@ -266,7 +276,7 @@ fn push_whole(
     let type_name = reading.type_name(alloc, row.id.kind, place)?;
     let name = holder(row.name, &type_name);
     let word = scope_word(row.id.kind, name);
-    let scope = names_around(alloc, row, name)?;
+    let scope = names_around(alloc, row.scope.as_slice(), name)?;
     push_member_tags(finder, path, word, &scope, &members, out)
 }
 
