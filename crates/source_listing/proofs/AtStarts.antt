@@ -173,7 +173,7 @@ module _ (depth : ℕ) (h : (ts : Tokens) → ListTold ts (list depth ts)) where
       (λ t e. record { from = ts; leads = here; depth = depth; first = refl; kept = e })
 
   element_told : (ts : Tokens) → TreeTold ts (element_with (list depth) ts)
-  element_told ts = let t = tree_told ts in record { each = t.each; leads = through t.leads (rule_leads comma _) }
+  element_told ts = let t = tree_told ts in record { each = t.each; leads = through t.leads (rule_leads comma (tree_with (list depth) ts).1) }
 
 -- ---- lists
 
