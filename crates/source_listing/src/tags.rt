@@ -194,13 +194,14 @@ fn names_in<'r: 'a, 'a>(alloc: Global, scope: &[&'r Name]) -> Result<Vec<&'a Nam
 /// The modules around an item, and what its members stand in.
 fn names_around<'r: 'a, 'a>(
     alloc: Global,
-    scope: &[&'r Name],
+    row: &Row<'r>,
     name: Option<&'a Name>,
 ) -> Result<Vec<&'a Name>, AllocError>
-    ensures { let names = map (λ n. n.now) scope.now ++ option_to_list (option_copied name.entry) in
+    ensures { let names = map (λ n. n.now) row.now.scope.value.items
+        ++ option_to_list (option_copied name.entry) in
         IfOk result (λ v. map (λ n. n.now) v.items ≡ names) }
 {
-    let mut names = names_in(alloc, scope)?;
+    let mut names = names_in(alloc, row.scope.as_slice())?;
     if let Some(name) = name {
         names.push(name)?;
     }
@@ -276,7 +277,7 @@ fn push_whole(
     let type_name = reading.type_name(alloc, row.id.kind, place)?;
     let name = holder(row.name, &type_name);
     let word = scope_word(row.id.kind, name);
-    let scope = names_around(alloc, row.scope.as_slice(), name)?;
+    let scope = names_around(alloc, row, name)?;
     push_member_tags(finder, path, word, &scope, &members, out)
 }
 
