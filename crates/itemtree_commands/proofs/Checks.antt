@@ -13,7 +13,7 @@ use Rattle.rust_items.specs.declared.source_file.ItemPlace.{ItemPlace}
 use Rattle.rust_items.specs.SourceFiles.{FileView, clipped_syntax, IsClippedFile}
 use Rattle.source_problems.specs.declared.problem.SourceProblem.{SourceProblem}
 use Rattle.source_problems.specs.declared.problem.SourceProblemKind.TheVariants.{MacroPath}
-use Rattle.source_problems.specs.Problems.{path_problems, told}
+use Rattle.source_problems.specs.Problems.{path_problems, told_problem}
 use Rattle.source_problems.specs.Metas.{attribute_problems, meta_path_problems, meta_problems}
 use Rattle.source_problems.specs.Items.{in_preorder, held_items, next_start, others, own_problems, placed_problems, syntax_problems, visibility_problems, struct_problems, some_tree_problems}
 use Rattle.source_problems.specs.Brackets.{bracket_problems}
@@ -104,4 +104,4 @@ pub same_problems : (edition : EditionYear) (text : List ℕ) (file : FileView) 
 same_problems edition text file b =
     let whole = b.read in
     ap (λ (f : FileView). source_problems text f) b.clipped
-    ∙ ap (λ (ps : List SourceProblem). in_order (bracket_problems text ++ (quote_problems text ++ (map told whole.problems ++ ps)))) (same_syntax whole.syntax whole.places _ _ b.is_read.syntax)
+    ∙ ap (λ (ps : List SourceProblem). in_order (bracket_problems text ++ (quote_problems text ++ (map told_problem whole.problems ++ ps)))) (same_syntax whole.syntax whole.places _ _ b.is_read.syntax)
