@@ -12,14 +12,9 @@ import sys
 HOME = os.path.dirname(os.path.dirname(os.path.abspath(__file__)))
 COLUMNS, FUNCTION, FILE = 120, 40, 400
 LONGER = {
-    "crates/item_tree/proofs/Lowering.antt": 436,
     "crates/item_tree/src/items.rt": 540,
-    "crates/item_tree_db/src/sources.rt": 418,
-    "crates/rust_cursor/proofs/Around.antt": 648,
-    "crates/rust_cursor/src/cursor/nest.rt": 490,
-    "crates/rust_cursor/src/cursor/texts.rt": 610,
-    "crates/rust_edits/proofs/Beside/NearLeaves.antt": 457,
-    "crates/rust_leaves/src/head.rt": 414,
+    "crates/rust_cursor/src/cursor/nest.rt": 415,
+    "crates/rust_cursor/src/cursor/texts.rt": 596,
     "crates/rust_lexer/src/lexer.rt": 518,
 }
 BEGINS = re.compile(r"(\s*)(pub(\(\w+\))? )?(const )?(unsafe )?fn \w")

@@ -21,6 +21,7 @@ pub mod Walking
 pub mod Counted
 pub mod Equal
 pub mod Lowering
+pub mod LoweredTables
 pub mod Statements
 pub mod Constructors
 pub mod Seen

@@ -1,7 +1,10 @@
 //! Edits of a table, and their refusals.
+ghost use Rattle.std.specs.Prelude.{◌≡◌};
+ghost use Rattle.item_tree.specs.declared.fault.EditFault.TheVariants.{Lower};
+
 use hir_input::ast::{BlockExpr, Syntax};
 use hir_input::{BlockId, CfgOptions, Crate, HirFileId};
-use item_tree::EditFault;
+use item_tree::{EditFault, LowerError};
 use thiserror::Error;
 
 /// A change of a table. In place of the setters of rust-analyzer's database.
@@ -25,6 +28,16 @@ pub enum Edit {
 pub struct EditRefused {
     pub edit: Edit,
     pub cause: EditFault,
+}
+
+impl EditRefused {
+    /// An edit whose lowering was refused.
+    pub(crate) fn by(edit: Edit, cause: LowerError) -> EditRefused
+        ensures { result ≡ record { edit = edit; cause = Lower cause } }
+    {
+        let cause = EditFault::Lower(cause);
+        EditRefused { edit, cause }
+    }
 }
 
 /// The first refused edit of a list, and its place in the list, counted from 0. rust-analyzer has no such error.

@@ -15,5 +15,5 @@ mod tree_id;
 pub use edit::{AllRefused, Edit, EditRefused};
 pub use place::Place;
 pub use since::ChangedSince;
-pub use sources::{Sources, file_item_tree};
-pub use tree_id::TreeId;
+pub use sources::Sources;
+pub use tree_id::{TreeId, file_item_tree};

@@ -4,14 +4,13 @@ ghost use Rattle.std.specs.Prelude.{option_copied, unwrap_or, Some, IsTrue, IsNo
 ghost use Rattle.std.specs.Prelude.{OnSome, OnOk, OnErr, IsErrAnd};
 ghost use Rattle.std.specs.List.{AllByRecursion};
 ghost use Rattle.hir_input.specs.Syntax.{syntax_view, block_view};
-ghost use Rattle.item_tree.specs.declared.fault.EditFault.TheVariants.{TooManyEdits, Lower};
+ghost use Rattle.item_tree.specs.declared.fault.EditFault.TheVariants.{TooManyEdits};
 ghost use Rattle.item_tree.specs.CrateView.{crate_view};
 ghost use Rattle.item_tree_db.specs.declared.edit.Edit.TheVariants.{SetCfg};
 ghost use Rattle.item_tree_db.specs.State.{new_table, given, IsKnown, options, present, unfolding_at, change_number};
 ghost use Rattle.item_tree_db.specs.Edits.{edit_view, edits_before, remove as removes, set_cfg as gives};
 ghost use Rattle.item_tree_db.specs.History.{IsAfter, IsFooting, IgnoresBodies};
-ghost use Rattle.item_tree_db.specs.Inner.Settled.{empty_row};
-ghost use Rattle.item_tree_db.specs.Inner.Shelf.{change_at};
+ghost use Rattle.item_tree_db.specs.Inner.{Settled.empty_row, Shelf.change_at};
 ghost use Rattle.item_tree_db.specs.Since.{IsGrounded, IsSince, IsSinceAmong};
 ghost use Rattle.item_tree_db.specs.Inner.Source.{source_place, source_syntax, edit_of};
 ghost use Rattle.item_tree_db.specs.Inner.Table.{IsRowOf};
@@ -84,14 +83,6 @@ impl Model for Sources {
     } };
 }
 
-// An edit whose lowering was refused, handed back.
-fn refused(edit: Edit, cause: LowerError) -> EditRefused
-    ensures { result ≡ record { edit = edit; cause = Lower cause } }
-{
-    let cause = EditFault::Lower(cause);
-    EditRefused { edit, cause }
-}
-
 // Exchanges the options of a crate and these.
 fn swap_options(crates: &mut Vec<CrateData>, index: usize, options: &mut CfgOptions)
     requires { index < length crates.old.items }
@@ -135,13 +126,13 @@ impl Sources {
         let number = self.number + 1;
         let fresh = match lower_all(self.alloc, &self.crates, &self.skipped, &source, number) {
             Ok(fresh) => fresh,
-            Err(cause) => return Err(refused(source.into_edit(), cause)),
+            Err(cause) => return Err(EditRefused::by(source.into_edit(), cause)),
         };
         if let Err(source) = self
             .places
             .set(self.alloc, source, fresh, self.start, number)
         {
-            return Err(refused(source.into_edit(), LowerError::OutOfMemory));
+            return Err(EditRefused::by(source.into_edit(), LowerError::OutOfMemory));
         }
         self.number = number;
         Ok(())
@@ -181,7 +172,7 @@ impl Sources {
             }
             Err(cause) => {
                 swap_options(&mut self.crates, index, &mut options);
-                Err(refused(Edit::SetCfg { krate, options }, cause))
+                Err(EditRefused::by(Edit::SetCfg { krate, options }, cause))
             }
         }
     }
@@ -406,13 +397,4 @@ impl Sources {
             None => &self.empty,
         }
     }
-}
-
-/// A crate's tree of a file: the empty one where nothing is set or the syntax is `Error`. rust-analyzer's
-/// query `file_item_tree`. The caller shows `sources.knows(krate)`.
-pub fn file_item_tree(sources: &Sources, file: HirFileId, krate: Crate) -> &ItemTree
-    requires { IsKnown sources.now krate }
-    ensures { result.now ≡ unfolding_at sources.now (Place.File file) krate.0 }
-{
-    sources.tree(Place::File(file), krate)
 }

@@ -1,4 +1,4 @@
-//! Ids of trees.
+//! Ids of trees, and the trees of files.
 ghost use Rattle.std.specs.Prelude.{◌≡◌, is_some};
 ghost use Rattle.item_tree_db.specs.State.{IsKnown, unfolding_at};
 ghost use Rattle.item_tree_db.specs.TreeIds.{tree_place};
@@ -61,4 +61,13 @@ impl TreeId {
             None => sources.tree(Place::File(self.file), krate),
         }
     }
+}
+
+/// A crate's tree of a file: the empty one where nothing is set or the syntax is `Error`. rust-analyzer's
+/// query `file_item_tree`. The caller shows `sources.knows(krate)`.
+pub fn file_item_tree(sources: &Sources, file: HirFileId, krate: Crate) -> &ItemTree
+    requires { IsKnown sources.now krate }
+    ensures { result.now ≡ unfolding_at sources.now (Place.File file) krate.0 }
+{
+    sources.tree(Place::File(file), krate)
 }

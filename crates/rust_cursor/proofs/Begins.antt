@@ -6,7 +6,7 @@ use Rattle.rust_cursor.specs.declared.cursor.nest.Before.TheVariants as befores
 no_mark : (c : ℕ) → c ≢ 35 → (c == 35) ≡ false
 no_mark c h = grind (arith, nat_tests)
 
--- a word with none of the lengths and first bytes is none of the words
+-- a word with none of the lengths and bytes is none of the words
 other_word : (w k : List ℕ) → leads_item w ≡ false → leads_item k ≡ true → bytes_eq w k ≡ false
 other_word w k e h =
     false_from_ne_true (bytes_eq w k) (λ is. let both : false ≡ true = sym e ∙ ap leads_item ((bytes_eq-Decides w k).0 is) ∙ h in absurd cc)
@@ -49,7 +49,7 @@ no_doc nest ts e = rw e refl
 no_const : (nest : Nest) (ts : Tokens) → leads_item (word ts) ≡ false → begins_const nest ts ≡ false
 no_const nest ts e = rw (other_word (word ts) (codes "const") e refl) refl
 
--- a token begins none that is neither a `#`, documentation, nor a word with one of these lengths and first bytes
+-- a token begins none that is neither a `#`, documentation, nor a word with one of these lengths and bytes
 pub none_leads : (nest : Nest) (ts : Tokens) → leads_item (word ts) ≡ false → symbol ts ≢ 35 → is_at_doc ts ≡ false → false ≡ begins nest ts
 none_leads nest ts e h d =
     sym (neither (nest.others == 0) (nest.free == 0) (begins_item ts) (begins_behind nest.before ts) (documents_item nest ts) (begins_const nest ts) (begins_within ts) (no_item ts e) (no_behind nest.before ts e (no_mark (symbol ts) h)) (no_doc nest ts d) (no_const nest ts e) (no_within ts e))

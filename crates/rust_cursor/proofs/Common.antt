@@ -7,12 +7,12 @@ pub use Rattle.rust_cursor.specs.Brackets.{behind_closing}
 unfoldable pub use Rattle.rust_cursor.specs.Brackets.{behind_closed, behind_tree, closing, is_closing, to_closing}
 pub use Rattle.rust_cursor.specs.Elements.{elements, one, perhaps, turns_from}
 unfoldable pub use Rattle.rust_cursor.specs.Elements.{beyond, turns}
-pub use Rattle.rust_cursor.specs.Extents.{ExcerptRead, LeadsOn, begins, begins_behind, begins_const, begins_with_attribute, block_at, clipped, documents_item, ends_flat, excerpt, follows_const, follows_extern, follows_macro_rules, follows_union, goes_on, impl_rest, item_rest, kept_text, opened_behind, taking_from, taking_on, tree_text, value_rest}
+pub use Rattle.rust_cursor.specs.Extents.{ExcerptRead, LeadsOn, begins, begins_behind, begins_const, begins_with_attribute, block_at, clipped, documents_item, ends_flat, excerpt, follows_const, follows_extern, follows_macro_rules, follows_union, goes_on, impl_rest, item_rest, kept_text, opened_behind, taking_from, taking_on, tree_text}
 unfoldable pub use Rattle.rust_cursor.specs.Extents.{begins_impl_or_const, begins_item, begins_within, ends, has_blank, is_joined, more, stops, taken, taking}
 pub use Rattle.rust_cursor.specs.Inner.{leads_item, may_lead_on}
 pub use Rattle.rust_cursor.specs.Nests.{begun, behind_braces, braces_behind, closes_other, flat, flat_behind, inside_behind, is_arrow, is_flat, is_mark, is_whole, nest_inside, nest_outside, opens_other, others_behind, passing_from}
 unfoldable pub use Rattle.rust_cursor.specs.Nests.{leads_on, nest_behind}
-pub use Rattle.rust_cursor.specs.Reader.{Reader, only_if}
+pub use Rattle.rust_cursor.specs.Reader.{Reader}
 pub use Rattle.rust_cursor.specs.Tokens.{Tokens, end_of, last_unended, left_of, place_if_open}
 unfoldable pub use Rattle.rust_cursor.specs.Tokens.{tokens_of}
 pub use Rattle.rust_cursor.specs.Words.{by_first, closes, documents, identifies, is_close, is_open, opens, rest, taken_if, word_by}

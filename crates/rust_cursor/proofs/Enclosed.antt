@@ -7,7 +7,7 @@ use Rattle.rust_cursor.proofs.Leads.{LeadsTo, here, further, when, from_last, Ha
 use Rattle.rust_cursor.proofs.Steps.{closing_stop}
 use Rattle.rust_cursor.proofs.Scans.{taking_stop, taking_end, taking_more}
 use Rattle.rust_cursor.proofs.Passing.{braces_of}
-use Rattle.rust_cursor.proofs.Around.{deep, upto, around, others_next, Shuts, by_brace, by_other, shut_by_brace, shut_not, upto_more, one_deeper}
+use Rattle.rust_cursor.proofs.ClosingBrace.{deep, upto, around, others_next, Shuts, by_brace, by_other, shut_by_brace, shut_not, upto_more, one_deeper}
 
 -- what is left of braces that were opened last stands in them
 record Inside (j : ℕ) (ts all : Tokens) : Type 0 where

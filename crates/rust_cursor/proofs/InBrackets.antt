@@ -3,7 +3,9 @@ use Rattle.std.proofs.Common.{◌≡◌, ℕ, zero, suc, ◌==◌, nat_le, not, 
 use Rattle.rust_cursor.proofs.Common.{Tokens, symbol, word, bumped, eat, eat_word}
 use Rattle.rust_cursor.specs.Grammar.{taken_with, Region, Grammar, gives, and_then, shows, takes_identifier, on_seen, eats, eats_word, eats_pair, passes_angles, reads}
 use Rattle.rust_cursor.specs.Looks.{clear_of, sees, skip}
-use Rattle.rust_cursor.proofs.Around.{around, Within, same_within, sound_on, Remains, is_plain, plain_of, plain_upto, plain_around, other_around, word_symbol, eat_pair_around, behind_angles_within}
+use Rattle.rust_cursor.proofs.ClosingBrace.{around, is_plain, plain_of, plain_upto, plain_around, other_around}
+use Rattle.rust_cursor.proofs.WithinBrackets.{Within, same_within, Remains, word_symbol, eat_pair_around, behind_angles_within}
+use Rattle.rust_cursor.proofs.SoundTokens.{sound_on}
 use Rattle.rust_cursor.proofs.Leads.{here, through}
 use Rattle.rust_cursor.proofs.Looks.{AreClear, first_clear}
 use Rattle.rust_cursor.proofs.Rules.{rule_leads, skip_leads, identifier_symbol}

@@ -10,10 +10,10 @@ none_passed test w ks e = any-filter_same (bytes_eq w) test (test w) (λ k same.
 
 abbrev leading : List (List ℕ)
 leading =
-    codes "as" ∷ codes "async" ∷ codes "break" ∷ codes "const" ∷ codes "continue" ∷ codes "dyn" ∷ codes "else" ∷ codes "enum" ∷
-    codes "extern" ∷ codes "fn" ∷ codes "for" ∷ codes "if" ∷ codes "impl" ∷ codes "in" ∷ codes "let" ∷ codes "loop" ∷ codes "match" ∷
-    codes "mod" ∷ codes "move" ∷ codes "mut" ∷ codes "pub" ∷ codes "ref" ∷ codes "return" ∷ codes "static" ∷ codes "struct" ∷
-    codes "trait" ∷ codes "type" ∷ codes "unsafe" ∷ codes "use" ∷ codes "where" ∷ codes "while" ∷ codes "yield" ∷ []
+    codes "for" ∷ codes "mut" ∷ codes "where" ∷ codes "const" ∷ codes "impl" ∷ codes "fn" ∷ codes "dyn" ∷ codes "as" ∷ codes "unsafe" ∷
+    codes "pub" ∷ codes "async" ∷ codes "break" ∷ codes "continue" ∷ codes "else" ∷ codes "enum" ∷ codes "extern" ∷ codes "if" ∷
+    codes "in" ∷ codes "let" ∷ codes "loop" ∷ codes "match" ∷ codes "mod" ∷ codes "move" ∷ codes "ref" ∷ codes "return" ∷
+    codes "static" ∷ codes "struct" ∷ codes "trait" ∷ codes "type" ∷ codes "use" ∷ codes "while" ∷ codes "yield" ∷ []
 
 pub leads_none : (w : List ℕ) → may_lead_on w ≡ false → false ≡ leads_on w
 unfolding leads_on

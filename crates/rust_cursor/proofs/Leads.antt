@@ -1,6 +1,6 @@
 -- What is left behind tokens that are taken from the front.
 use Rattle.std.proofs.Common.{◌≡◌, ◌<◌, ◌==◌, ◌&&◌, ℕ, zero, suc, Bool, true, false, Option, Some, None, List, [], ◌∷◌, length, ⊎_elim, refl, arith, if◌then◌else◌}
-use Rattle.rust_cursor.proofs.Common.{cases_Bool, eqb-true, Piece, symbol_of, Before, Nest, Reach, Extent, Tokens, Reader, only_if, is_close, word_by, by_first, symbol, word, is_empty, is_at_open, is_at_end, bumped, taken_if, eat, eat_word, is_pair, eat_pair, begun, flat, is_mark, nest_behind, is_closing, closing, to_closing, behind_closing, behind_closed, behind_tree, beyond, turns_from, turns, stops, ends, opened_behind, block_at, taking, taken, is_reached, is_closed, reaching, reached, behind_angles}
+use Rattle.rust_cursor.proofs.Common.{cases_Bool, eqb-true, Piece, symbol_of, Before, Nest, Reach, Extent, Tokens, Reader, is_close, word_by, by_first, symbol, word, is_empty, is_at_open, is_at_end, bumped, taken_if, eat, eat_word, is_pair, eat_pair, begun, flat, is_mark, nest_behind, is_closing, closing, to_closing, behind_closing, behind_closed, behind_tree, beyond, turns_from, turns, stops, ends, opened_behind, block_at, taking, taken, is_reached, is_closed, reaching, reached, behind_angles}
 use Rattle.rust_cursor.specs.declared.cursor.generics.Reach.TheVariants as reaches
 use Rattle.rust_cursor.proofs.Nesting.{shorter}
 use Rattle.rust_cursor.proofs.Steps.{passing, passing_stop, passing_end, passing_more}
@@ -43,10 +43,6 @@ eat_word_leads w ts = taken_leads _ ts
 pub eat_pair_leads : (a b : ℕ) → Forwards (eat_pair a b)
 unfolding eat_pair
 eat_pair_leads a b ts = when (is_pair a b ts) (λ e. rw e (further (bumped_leads _))) (λ e. rw e here)
-
-pub only_if_leads : {A : Type 0} (reader : Reader A) → Forwards reader → (test : Bool) → Forwards (only_if reader test)
-only_if_leads reader r true ts = r ts
-only_if_leads reader r false ts = here
 
 -- ---- all tokens, from the last to the first
 

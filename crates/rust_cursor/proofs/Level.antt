@@ -5,7 +5,7 @@ use Rattle.rust_cursor.proofs.Leads.{LeadsTo, here, further, when, bumped_leads}
 use Rattle.rust_cursor.proofs.Braced.{tokens_at, bumped_at}
 use Rattle.rust_cursor.proofs.Parting.{Onward, into, on}
 use Rattle.rust_cursor.proofs.Views.{before_at, behind_at, next_ahead, not_brace}
-use Rattle.rust_cursor.proofs.Until.{over_leads, over_moved, Gone, gone_on, behind_opening}
+use Rattle.rust_cursor.proofs.BodyReaders.{over_leads, over_moved, Gone, gone_on, behind_opening}
 
 -- the tokens of the first text before the braces
 abbrev ahead_of : Bodies → ℕ → List Piece → List Piece → Option ℕ → Tokens

@@ -5,7 +5,7 @@ use Rattle.rust_cursor.proofs.Common.{and_parts, eqb-true, nat_tests, not-true, 
 use Rattle.rust_lexer.specs.declared.kind.TokenKind.TheVariants as kinds
 use Rattle.rust_cursor.specs.Elements.{most}
 use Rattle.rust_cursor.specs.Looks.{is_edge, View, Lookahead, fixed_look, token_is, kind_is, symbol_is, word_is, word_meets, at_identifier, at_open, at_end, at_item, pair_is, not_seen, both_seen, either_seen, look_by, then_seen, past_seen, skip, past_from, sees, is_flat_kind, clear_of, stays_short, may_skip}
-use Rattle.rust_cursor.proofs.Around.{word_symbol}
+use Rattle.rust_cursor.proofs.WithinBrackets.{word_symbol}
 use Rattle.rust_cursor.proofs.Leads.{when}
 use Rattle.rust_cursor.proofs.Tests.{begins_item_same}
 use Rattle.rust_cursor.proofs.Twins.{Twins, kind_same, text_same, word_same, end_same, open_same, identifier_same, symbol_test, word_test, pair_same}

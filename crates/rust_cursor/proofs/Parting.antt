@@ -1,9 +1,8 @@
 -- Readers of two texts that look alike: they read alike, until one goes past where the texts part.
 use Rattle.std.proofs.Common.{◌≡◌, ℕ, zero, suc, ◌-◌, Bool, true, false, List, [], ◌∷◌, ◌++◌, refl, ap, ◌∙◌, sym, subst, if◌then◌else◌, bytes_eq}
-use Rattle.rust_cursor.proofs.Common.{behind_angles, behind_closed, behind_tree, beyond, turns_from, turns, elements, one, tree_text, Reader, Tokens, symbol, at, bumped, taken_if, eat, eat_word, is_pair, eat_pair, is_at_end, behind_field}
-use Rattle.rust_cursor.specs.Reader.{◌>>=◌}
+use Rattle.rust_cursor.proofs.Common.{behind_angles, behind_closed, behind_tree, beyond, turns_from, turns, one, tree_text, Reader, Tokens, symbol, at, bumped, taken_if, eat, eat_word, is_pair, eat_pair, behind_field}
 use Rattle.rust_cursor.proofs.Leads.{LeadsTo, through, Forwards, when, bumped_leads, behind_closed_leads, behind_tree_leads, behind_angles_leads, beyond_leads, turns_from_leads, taken_leads_on, reached_leads}
-use Rattle.rust_cursor.proofs.Twins.{Twins, is_edge, symbol_test, word_test, end_same, after_word, after_symbol, pair_same, after_pair}
+use Rattle.rust_cursor.proofs.Twins.{Twins, is_edge, symbol_test, word_test, after_word, after_symbol, pair_same, after_pair}
 
 -- one went past where they part, or both look alike
 pub data Onward (are lost : Tokens → Tokens → Type 0) (ts us : Tokens) : Type 0 where
@@ -89,9 +88,6 @@ then_until b {p} {q} f f' leads leads' more (gone g) = gone (b.lost_on p.1 q.1 _
 then_until {alike = alike} b {p} {q} f f' leads leads' more (kept k) =
     subst (λ a. UntilBy alike b.twins.are b.lost (f p.0 p.1) (f' a q.1)) (sym k.value) (more p.0 p.1 q.1 k.rest)
 
-pub bind_until : {A B : Type 0} (b : Parting) (m m' : Reader A) (f f' : A → Reader B) → UpTo b m m' → ((a : A) → UpTo b (f a) (f' a)) → ((a : A) → Forwards (f a)) → ((a : A) → Forwards (f' a)) → UpTo b (m >>= f) (m' >>= f')
-bind_until b m m' f f' first more leads leads' ts us h = then_until b f f' leads leads' more (first ts us h)
-
 taken_until : (b : Parting) (t' t : Bool) (ts us : Tokens) → t' ≡ t → b.twins.are ts us → (t ≡ true → b.twins.are (bumped ts) (bumped us)) → Until b (taken_if t ts) (taken_if t' us)
 taken_until b t' true ts us e h next = rw e (kept (record { value = refl; rest = next refl }))
 taken_until b t' false ts us e h next = rw e (kept (record { value = refl; rest = h }))
@@ -140,9 +136,6 @@ one_until b m m' u ts us h = map_until (λ a. a ∷ []) (u ts us h)
 
 pub turns_until : {A : Type 0} (b : Parting) (ends : Tokens → Bool) (m m' : Reader A) → ((ts us : Tokens) → b.twins.are ts us → ends us ≡ ends ts) → UpTo b m m' → Forwards (one m) → Forwards (one m') → UpTo b (turns ends (one m)) (turns ends (one m'))
 turns_until b ends m m' same each leads leads' ts us h = turns_by b Same join_same ends same (one m) (one m') (one_until b m m' each) leads leads' refl ts us h
-
-pub elements_until : {A : Type 0} (b : Parting) (m m' : Reader A) → UpTo b m m' → Forwards (one m) → Forwards (one m') → UpTo b (elements (one m)) (elements (one m'))
-elements_until b m m' each leads leads' = turns_until b is_at_end m m' (end_same b.twins) each leads leads'
 
 -- ---- any token
 

@@ -111,9 +111,6 @@ rule_until_by b e (in_bracket g) ts us h = inside_until b (e refl) (reads g) (re
 pub rule_until : {A : Type 0} (b : Parting) (g : Grammar outside A) → UpTo b (reads g) (reads g)
 rule_until b g = rule_until_by b (from_outside_none b) g
 
-pub rule_until_in : {A : Type 0} (b : Parting) → Entering b → (g : Grammar inside A) → UpTo b (reads g) (reads g)
-rule_until_in b e g = rule_until_by b (λ _. e) g
-
 -- what a rule reads of tokens beside is the same
 pub rule_local : {A : Type 0} (b : Bodies) (g : Grammar outside A) → Local b (reads g)
 rule_local b g = is_local b (reads g) (rule_until (alongside b) g)

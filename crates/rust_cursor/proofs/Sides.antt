@@ -1,13 +1,13 @@
 -- Readers of tokens beside read alike: those that stay before the braces or pass over them, and those that may go into them, until one does.
 use Rattle.rust_cursor.proofs.Common.{Bodies, Beside, Reader, Tokens, symbol}
-use Rattle.rust_cursor.proofs.Alike as stands
+use Rattle.rust_cursor.proofs.BodyValues as stands
 use Rattle.rust_cursor.proofs.Level.{Level, level_beside, level_here, level_next, level_on, start_level, end_level}
 use Rattle.rust_cursor.proofs.Local as local
 use Rattle.rust_cursor.proofs.Parting.{Onward, into, on, UntilBy, gone, kept, Same, Parting, UpTo, by_kept, Entering, Levels}
 use Rattle.rust_cursor.proofs.Passing.{behind_angles_beside, behind_field_beside, behind_closed_beside, behind_tree_beside, beyond_beside}
 use Rattle.rust_cursor.proofs.Places.{SamePlace, at_place}
 use Rattle.rust_cursor.proofs.TreeTexts.{tree_text_until}
-use Rattle.rust_cursor.proofs.Until as until
+use Rattle.rust_cursor.proofs.BodyReaders as until
 use Rattle.rust_cursor.proofs.Views.{no_brace, beside_twins}
 
 -- no reader is lost

@@ -7,8 +7,8 @@ use Rattle.rust_cursor.proofs.Scans.{taking_stop, taking_end, taking_more, takin
 use Rattle.rust_cursor.proofs.Nesting.{shorter}
 use Rattle.rust_cursor.proofs.Views.{beside_twins, symbol_same}
 use Rattle.rust_cursor.proofs.Tests.{nest_same, stops_same, ends_same, more_same}
-use Rattle.rust_cursor.proofs.Until.{gone_on, gone, kept, UpTo, Onward, into, on, bumped_onward}
-use Rattle.rust_cursor.proofs.Alike.{UntilBy, went, stayed, by_stayed}
+use Rattle.rust_cursor.proofs.BodyReaders.{gone_on, gone, kept, UpTo, Onward, into, on, bumped_onward}
+use Rattle.rust_cursor.proofs.BodyValues.{UntilBy, went, stayed, by_stayed}
 
 -- the same text
 abbrev SameText : ExcerptRead → ExcerptRead → Type 0

@@ -1,9 +1,9 @@
 -- What is read again and again.
-use Rattle.std.specs.Prelude.{ℕ, zero, suc, Bool, ◌==◌, if◌then◌else◌, Option, Some, None, option_to_list, List, [], ◌∷◌, ◌++◌}
+use Rattle.std.specs.Prelude.{ℕ, zero, suc, Bool, ◌==◌, if◌then◌else◌, Option, option_to_list, List, [], ◌∷◌, ◌++◌}
 use Rattle.rust_cursor.specs.Tokens.{Tokens}
 use Rattle.rust_cursor.specs.Reader.{Reader}
-use Rattle.rust_cursor.specs.Words.{symbol, bumped, is_at_end}
-use Rattle.rust_cursor.specs.Brackets.{behind_closed, behind_tree}
+use Rattle.rust_cursor.specs.Words.{is_at_end}
+use Rattle.rust_cursor.specs.Brackets.{behind_tree}
 
 -- no text has more tokens
 unfoldable pub most : ℕ
@@ -32,10 +32,3 @@ one reader ts = ((reader ts).0 ∷ [], (reader ts).1)
 
 abbrev pub perhaps : {A : Type 0} → Reader (Option A) → Reader (List A)
 perhaps reader ts = (option_to_list (reader ts).0, (reader ts).1)
-
--- The elements in the bracket that comes next, if it is this one, by what reads an element from what reads such a bracket inside it.
--- The number bounds how deep they stand in one another; deeper ones are not read.
-unfoldable pub nested_lists : {A : Type 0} → ℕ → (Reader (Option (List A)) → Reader (List A)) → ℕ → Reader (Option (List A))
-nested_lists bracket element zero ts = (None, ts)
-nested_lists bracket element (suc depth) ts =
-    if symbol ts == bracket then (let r = elements (element (nested_lists bracket element depth)) (bumped ts) in (Some r.0, behind_closed bracket r.1)) else (None, ts)

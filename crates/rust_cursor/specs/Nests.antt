@@ -77,13 +77,13 @@ angles_behind nest ts =
 
 -- ---- what a token is for the next
 
--- a keyword with which neither a type nor a value ends
+-- a keyword with which neither a type nor a value ends; the most frequent ones come first
 unfoldable pub leads_on : List ℕ → Bool
 leads_on w =
-    list_any (bytes_eq w) (codes "as" ∷ codes "async" ∷ codes "break" ∷ codes "const" ∷ codes "continue" ∷ codes "dyn" ∷ codes "else" ∷ codes "enum"
-    ∷ codes "extern" ∷ codes "fn" ∷ codes "for" ∷ codes "if" ∷ codes "impl" ∷ codes "in" ∷ codes "let" ∷ codes "loop" ∷ codes "match" ∷ codes "mod"
-    ∷ codes "move" ∷ codes "mut" ∷ codes "pub" ∷ codes "ref" ∷ codes "return" ∷ codes "static" ∷ codes "struct" ∷ codes "trait" ∷ codes "type"
-    ∷ codes "unsafe" ∷ codes "use" ∷ codes "where" ∷ codes "while" ∷ codes "yield" ∷ [])
+    list_any (bytes_eq w) (codes "for" ∷ codes "mut" ∷ codes "where" ∷ codes "const" ∷ codes "impl" ∷ codes "fn" ∷ codes "dyn" ∷ codes "as"
+    ∷ codes "unsafe" ∷ codes "pub" ∷ codes "async" ∷ codes "break" ∷ codes "continue" ∷ codes "else" ∷ codes "enum" ∷ codes "extern"
+    ∷ codes "if" ∷ codes "in" ∷ codes "let" ∷ codes "loop" ∷ codes "match" ∷ codes "mod" ∷ codes "move" ∷ codes "ref" ∷ codes "return"
+    ∷ codes "static" ∷ codes "struct" ∷ codes "trait" ∷ codes "type" ∷ codes "use" ∷ codes "while" ∷ codes "yield" ∷ [])
 
 abbrev pub is_literal_kind : Option TokenKind → Bool
 is_literal_kind (Some (kinds.Literal k)) = true

@@ -6,6 +6,7 @@ ghost use Rattle.rust_cursor.specs.Tokens.{last_unended, left_of, place_if_open,
 ghost use Rattle.rust_cursor.specs.Words as spec;
 
 mod generics;
+mod keywords;
 mod nest;
 mod passing;
 mod taking;
@@ -141,7 +142,7 @@ impl<'t> Cursor<'t> {
     }
 
     /// Another cursor behind the next token, to look ahead.
-    pub(crate) fn second(&self) -> Self
+    pub fn second(&self) -> Self
         ensures { result ≡ spec.bumped self.now }
     {
         let mut second = self.ahead();

@@ -1,10 +1,11 @@
 -- Items in front of others, and behind them.
-pub mod NearFronts
-pub mod NearFields
+pub mod EndingFronts
+pub mod EndingFields
 pub mod Calls
-pub mod NearLeaves
-pub mod NearItems
-pub mod NearTurns
+pub mod EndingParts
+pub mod EndingLeaves
+pub mod EndingItems
+pub mod EndingTurns
 pub mod Tops
 pub mod Inner
 pub mod Alone

@@ -1,6 +1,6 @@
 -- An edit inside a body moves what is read.
 use Rattle.std.proofs.Common.{◌≡◌, ◌≤◌, ◌<◌, ◌+◌, ◌-◌, ◌^◌, ◌&&◌, ℕ, true, false, Option, List, [], ◌∷◌, length, refl, ap, sym, subst, ◌∙◌, map, arith, ◌==◌, ◌||◌, Bool, suc, ◌++◌, take, drop, IsUtf8, append_assoc, length-append}
-use Rattle.rust_edits.proofs.Common.{All, nat_le, option_map, list_all, EditionYear, FileAstId, TextRange, Problem, with_feeds, place_in, moved_problem, moved_range, moved_span, FileView, places, IsFile, with_body, IsTyped, close_at, has_place, has_range, has_some_range, has_item, has_problem, HasPlaces, not, slice_index, TokenKind, is_fence, is_wide_start, first_cut, symbol_from, has_mark, is_shebang, tokens_from, begins_bare, ItemPlace, IsFileView, has_body_at, IsBody, loose_in, shifted, shifted_by, moved_place, edited, shifted_place, Shifts, ReadsMoved, PlacesAreKept, in_braces, is_alone, loose_inside, same_loose, AreCut, IsShift, common_steps, nat_tests, All-head, All-tail, le-leb, and_from, close_some, AreAlike, no_more, one_more, IsAlike, neither, both, unmoved, moves, SameRange, before, place_le, place_rises_in, place_within, SpanAlike, IsIn, IsMaybeIn, AreIn, spans_in, and_parts, eqb-true, not-true, when, take_at, drop_at, IsUtf8-append, Shift, Parts}
+use Rattle.rust_edits.proofs.Common.{All, nat_le, option_map, list_all, EditionYear, FileAstId, TextRange, Problem, with_feeds, place_in, moved_problem, moved_range, moved_span, FileView, places, IsFile, with_body, IsTyped, close_at, has_place, has_range, has_some_range, has_item, has_problem, HasPlaces, not, slice_index, TokenKind, is_fence, is_wide_start, first_cut, symbol_from, has_mark, is_shebang, tokens_from, begins_bare, ItemPlace, IsFileView, has_body_at, IsBody, loose_in, place_after_edit, shifted_by, moved_place, edited_text, shifted_place, Shifts, ReadsMoved, PlacesAreKept, in_braces, is_alone, loose_inside, same_loose, AreCut, IsShift, common_steps, nat_tests, All-head, All-tail, le-leb, and_from, close_some, AreAlike, no_more, one_more, IsAlike, neither, both, unmoved, moves, SameRange, before, place_le, place_rises_in, place_within, SpanAlike, IsIn, IsMaybeIn, AreIn, spans_in, and_parts, eqb-true, not-true, when, take_at, drop_at, IsUtf8-append, Shift, Parts}
 use Rattle.rust_edits.proofs.Typing.Loose.{both_told, problems_move}
 use Rattle.rust_edits.proofs.Typing.Moved.{uses_within, is_read_anew, places_move, body_is_told}
 use Rattle.rust_edits.proofs.Typing.ProblemsAlike.{ProblemAlike}
@@ -160,7 +160,7 @@ body_is : (q a b c s : List ℕ) → q ++ 123 ∷ (a ++ (b ++ (c ++ 125 ∷ s)))
 body_is q a b c s = ap (λ (l : List ℕ). q ++ 123 ∷ l) (ap (λ (l : List ℕ). a ++ l) (sym (append_assoc b c (125 ∷ s))) ∙ sym (append_assoc a (b ++ c) (125 ∷ s)))
 
 edited_is : (old q a b c s : List ℕ) (range : TextRange) (typed : List ℕ) → old ≡ q ++ 123 ∷ (a ++ (b ++ (c ++ 125 ∷ s))) → suc (length q) + length a ≡ range.start → range.start + length b ≡ range.end
-    → edited old range typed ≡ with_body q (a ++ (typed ++ c)) s
+    → edited_text old range typed ≡ with_body q (a ++ (typed ++ c)) s
 edited_is old q a b c s range typed whole starts ends =
     let front = q ++ 123 ∷ a in
     let back = c ++ 125 ∷ s in
@@ -175,8 +175,8 @@ edited_is old q a b c s range typed whole starts ends =
 
 -- ---- the shift
 
-shift_is : (s : Shift) (i j k : ℕ) → s.opening ≡ i → s.closing ≡ j → s.closing_new ≡ k → shifted_place s ≡ shifted i j k
-shift_is s i j k e f g = ap (λ (n : ℕ). shifted n s.closing s.closing_new) e ∙ ap (λ (n : ℕ). shifted i n s.closing_new) f ∙ ap (λ (n : ℕ). shifted i j n) g
+shift_is : (s : Shift) (i j k : ℕ) → s.opening ≡ i → s.closing ≡ j → s.closing_new ≡ k → shifted_place s ≡ place_after_edit i j k
+shift_is s i j k e f g = ap (λ (n : ℕ). place_after_edit n s.closing s.closing_new) e ∙ ap (λ (n : ℕ). place_after_edit i n s.closing_new) f ∙ ap (λ (n : ℕ). place_after_edit i j n) g
 
 -- ---- an edit
 
@@ -199,7 +199,7 @@ module _ (old typed : List ℕ) (items : List ItemPlace) (body range : TextRange
   unfolding q m s
   old_is = parts.about.whole ∙ body_is p.before.now p.front.now p.replaced.now p.back.now p.behind.now
 
-  new_is : edited old range typed ≡ with_body q m' s
+  new_is : edited_text old range typed ≡ with_body q m' s
   unfolding q m' s
   new_is = edited_is old p.before.now p.front.now p.replaced.now p.back.now p.behind.now range typed parts.about.whole parts.about.starts parts.about.ends
 
@@ -271,7 +271,7 @@ module _ (old typed : List ℕ) (items : List ItemPlace) (body range : TextRange
     edit_reads edition read e f =
         let f' : IsFileView edition (with_body q m s) read = subst (λ (t : List ℕ). IsFileView edition t read) old_is f in
         let made = is_read_anew edition q m m' s read (typed_is edition read e f') f' in
-        let g : IsFileView edition (edited old range typed) made.0 = subst (λ (t : List ℕ). IsFileView edition t made.0) (sym new_is) made.1 in
+        let g : IsFileView edition (edited_text old range typed) made.0 = subst (λ (t : List ℕ). IsFileView edition t made.0) (sym new_is) made.1 in
         record { again = made.0; is_read = g; moved = edit_shifts edition read made.0 e f g }
 
   short : length old < 2 ^ 63 → length typed < 2 ^ 63 → length (with_body q m' s) < 2 ^ 64

@@ -12,17 +12,17 @@ use Rattle.rust_items.specs.LineEnds.{with_feeds, moved_problem}
 use Rattle.rust_items.specs.SourceFiles.{FileView, IsFileView}
 use Rattle.rust_edits.specs.Typing.Laws.{BeginsPlain}
 use Rattle.rust_edits.specs.Typing.Loose.{loose_in}
-use Rattle.rust_edits.specs.Typing.Moved.{shifted, moved_place}
+use Rattle.rust_edits.specs.Typing.Moved.{place_after_edit, moved_place}
 use Rattle.rust_edits.specs.declared.edit.BodyEdit.{BodyEdit}
 use Rattle.rust_edits.specs.declared.shift.Shift.{Shift}
 
 -- a text with this in the place of a range
-abbrev pub edited : List ℕ → TextRange → List ℕ → List ℕ
-edited old range typed = take range.start old ++ (typed ++ drop range.end old)
+abbrev pub edited_text : List ℕ → TextRange → List ℕ → List ℕ
+edited_text old range typed = take range.start old ++ (typed ++ drop range.end old)
 
 -- where a place of the old text is in the new one
 abbrev pub shifted_place : Shift → ℕ → ℕ
-shifted_place s = shifted s.opening s.closing s.closing_new
+shifted_place s = place_after_edit s.opening s.closing s.closing_new
 
 -- the places of an item of the old text, in the new one
 abbrev pub shifted_item : Shift → ItemPlace → ItemPlace
@@ -42,7 +42,7 @@ pub record IsMovedBy (edit : BodyEdit) (read again : FileView) : Type 0 where
 -- Where these are the places of what is read of a text, in some edition, so is what is read of the text with an edit.
 abbrev pub Shifts : List ItemPlace → List ℕ → TextRange → List ℕ → BodyEdit → Type 0
 Shifts items old range typed edit = (edition : EditionYear) (read again : FileView) → read.places ≡ items
-    → IsFileView edition old read → IsFileView edition (edited old range typed) again → IsMovedBy edit read again
+    → IsFileView edition old read → IsFileView edition (edited_text old range typed) again → IsMovedBy edit read again
 
 -- what is read of a text with an edit: what was read before it, moved
 pub record IsReadMoved (edit : BodyEdit) (edition : EditionYear) (text : List ℕ) (read : FileView) : Type 0 where
@@ -53,7 +53,7 @@ pub record IsReadMoved (edit : BodyEdit) (edition : EditionYear) (text : List �
 -- Where these are the places of what is read of a text, something is read of the text with an edit, and it is moved.
 abbrev pub ReadsMoved : List ItemPlace → List ℕ → TextRange → List ℕ → BodyEdit → Type 0
 ReadsMoved items old range typed edit =
-    (edition : EditionYear) (read : FileView) → read.places ≡ items → IsFileView edition old read → IsReadMoved edit edition (edited old range typed) read
+    (edition : EditionYear) (read : FileView) → read.places ≡ items → IsFileView edition old read → IsReadMoved edit edition (edited_text old range typed) read
 
 -- ---- which places are in the new text
 

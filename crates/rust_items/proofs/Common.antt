@@ -10,15 +10,15 @@ pub use Rattle.hir_input.specs.declared.ast.Visibility.{Visibility}
 pub use Rattle.hir_input.specs.declared.edition.EditionYear.{EditionYear}
 pub use Rattle.hir_input.specs.declared.ids.AstIdKind.{AstIdKind}
 pub use Rattle.hir_input.specs.declared.ids.FileAstId.{FileAstId}
-pub use Rattle.rust_cursor.proofs.Alike.{KeptBy, UntilBy, by_stayed, stayed, went}
-pub use Rattle.rust_cursor.proofs.Around.{IsSound, sound_on}
+pub use Rattle.rust_cursor.proofs.BodyValues.{KeptBy, UntilBy, by_stayed, stayed, went}
+pub use Rattle.rust_cursor.proofs.SoundTokens.{IsSound, sound_on}
 pub use Rattle.rust_cursor.proofs.Laid.{IsLaid, at_behind, past_within, taken_behind, takes_strict, tokens_laid}
 pub use Rattle.rust_cursor.proofs.Leads.{Forwards, HasBlock, LeadsTo, Takes, behind_closed_leads, behind_tree_leads, beyond_leads, block, bumped_leads, eat_leads, eat_pair_leads, eat_word_leads, further, here, no_block, symbol_some, taken_block, taken_leads_on, takes, takes_before, takes_behind, takes_leads, through, turns_leads, when, word_none}
 pub use Rattle.rust_cursor.specs.Grammar.{taken_with}
 pub use Rattle.rust_cursor.proofs.Local.{Kept, after_symbol, eat_local}
 pub use Rattle.rust_cursor.proofs.Passing.{BothBeside, behind_angles_beside, behind_field_beside, behind_tree_beside, beyond_beside}
 pub use Rattle.rust_cursor.proofs.Places.{AreAlike, IsAlike, SamePlace, alike_join, at_place, both, neither, no_more, past_place}
-pub use Rattle.rust_cursor.proofs.Until.{Gone, bumped_onward, by_kept, by_next, gone_on, over_leads, over_moved}
+pub use Rattle.rust_cursor.proofs.BodyReaders.{Gone, bumped_onward, by_kept, by_next, gone_on, over_leads, over_moved}
 pub use Rattle.rust_cursor.proofs.Views.{before_at, before_same, behind_at, empty_same, end_same, next_ahead, next_behind, symbol_same}
 pub use Rattle.rust_cursor.specs.Beside.{AreBehind, Beside, Bodies, ahead, behind}
 unfoldable pub use Rattle.rust_cursor.specs.Brackets.{behind_tree}
@@ -52,9 +52,9 @@ pub use Rattle.rust_items.specs.declared.ids.Numbers.{Numbers}
 pub use Rattle.rust_items.specs.declared.log.ItemSpan.{ItemSpan}
 pub use Rattle.rust_items.specs.declared.log.ProblemKind.{ProblemKind}
 pub use Rattle.rust_items.specs.declared.source_file.ItemPlace.{ItemPlace}
-pub use Rattle.rust_leaves.proofs.Beside.{LeafAlike, NameAlike, RangeAlike, RestAlike, SameRange, call_end_local, constant_local, fields_of, implementation_local, macro_definition_local, named_local, structure_local, plain_leaf_local, plain_rest, rest_local}
+pub use Rattle.rust_leaves.proofs.BodyParts.{LeafAlike, NameAlike, RangeAlike, RestAlike, SameRange, call_end_local, constant_local, fields_of, implementation_local, macro_definition_local, named_local, structure_local, plain_leaf_local, plain_rest, rest_local}
 pub use Rattle.rust_leaves.proofs.Rests.{by_taken}
-pub use Rattle.rust_leaves.proofs.Fronts.{behind_others_beside, head_local, modifiers_beside}
+pub use Rattle.rust_leaves.proofs.BodyFronts.{behind_others_beside, head_local, modifiers_beside}
 pub use Rattle.rust_leaves.specs.Clipped.{clipped_item, clipped_list, clipped_named, clipped_node, unattributed}
 unfoldable pub use Rattle.rust_leaves.specs.Clipped.{clipped_front, clipped_leaf, clipped_leaf_if, leaf_behind, wanted_item, wanted_leaf, wanted_leaf_if, with_value}
 pub use Rattle.rust_leaves.specs.Fronts.{FrontRead}
@@ -69,7 +69,7 @@ pub use Rattle.rust_leaves.specs.declared.head.Head.{Head}
 pub use Rattle.rust_leaves.specs.declared.wanted.Wanted.{Wanted}
 pub use Rattle.rust_lexer.specs.Piece.{Piece}
 pub use Rattle.rust_metas.proofs.Leads.{inner_attributes_leads, outer_attributes_leads}
-pub use Rattle.rust_metas.proofs.UntilAttributes.{inner_attributes_until, outer_attributes_until}
+pub use Rattle.rust_metas.proofs.BodyAttributes.{inner_attributes_until, outer_attributes_until}
 unfoldable pub use Rattle.rust_metas.specs.Attributes.{inner_attributes, outer_attributes}
 pub use Rattle.rust_metas.specs.Docs.{kept_by}
 unfoldable pub use Rattle.rust_metas.specs.Docs.{kept_metas}

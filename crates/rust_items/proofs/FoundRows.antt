@@ -9,7 +9,7 @@ use Rattle.rust_items.specs.declared.log.ProblemKind.TheVariants as problem
 use Rattle.rust_items.proofs.Bare.{extern_alike, list_of, module_alike, extern_block_alike}
 use Rattle.rust_items.proofs.Leads.{named_leads, behind_others_leads, front_takes, front_start}
 use Rattle.rust_items.proofs.FoundItems.{adds_item, adds_problem_at, adds_use_trees, AreFound, Finds, place_span}
-use Rattle.rust_items.proofs.UntilLeaves.{FrontAlike, front_until, BeginPlain, LeafUntil, leaf_lost, leaf_same, leaf_until, LeafLost, leaf_gone}
+use Rattle.rust_items.proofs.BodyLeaves.{FrontAlike, front_until, BeginPlain, LeafUntil, leaf_lost, leaf_same, leaf_until, LeafLost, leaf_gone}
 
 -- ---- whose braces they are
 

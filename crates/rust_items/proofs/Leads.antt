@@ -6,7 +6,7 @@ use Rattle.hir_input.specs.declared.ast.PlainKind.TheVariants as plain_kind
 use Rattle.hir_input.specs.declared.ids.AstIdKind.TheVariants as ast
 use Rattle.rust_leaves.specs.declared.head.Head.TheVariants as heads
 use Rattle.rust_cursor.specs.Nests.{is_literal_kind}
-use Rattle.rust_leaves.proofs.AlikeFronts.{others_leads}
+use Rattle.rust_leaves.proofs.Fronts.{others_leads}
 use Rattle.rust_items.proofs.Names.{IsToken, untold, told_behind, named_told, named_or_told}
 use Rattle.rust_items.proofs.TreesRead.{word_some, zip_is, IsRead, read_around, use_tree_told}
 use Rattle.rust_cursor.specs.Grammar.{reads}

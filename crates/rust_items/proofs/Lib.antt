@@ -16,10 +16,10 @@ pub mod Bodiless
 pub mod Bare
 pub mod Clipped
 pub mod BareFiles
-pub mod UntilFields
-pub mod UntilLeaves
+pub mod BodyFields
+pub mod BodyLeaves
 pub mod FoundRows
-pub mod UntilItems
+pub mod BodyItems
 pub mod Within
 pub mod Told
 pub mod Moving
@@ -27,5 +27,5 @@ pub mod MemberSteps
 pub mod MemberPlacing
 pub mod MemberCuts
 pub mod MemberMetas
-pub mod UntilMembers
+pub mod BodyMembers
 pub mod MemberCommon

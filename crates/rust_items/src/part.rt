@@ -3,7 +3,6 @@
 ghost use Rattle.std.specs.Prelude.{◌≡◌, map, option_map};
 ghost use Rattle.hir_input.specs.Attr.{meta_view};
 ghost use Rattle.rust_cursor.specs.Reader.{Gives};
-ghost use Rattle.rust_cursor.specs.Words.{bumped};
 ghost use Rattle.rust_items.specs.MemberParts as spec;
 ghost use Rattle.rust_items.specs.MemberViews.{member_view};
 
@@ -31,20 +30,12 @@ enum Stand {
     TypeEnded,
 }
 
-fn second<'t>(cursor: &Cursor<'t>) -> Cursor<'t>
-    ensures { result ≡ bumped cursor.now }
-{
-    let mut second = cursor.ahead();
-    second.bump();
-    second
-}
-
 /// Whether documentation, an attribute or `pub` comes next.
 fn begins_marked_part(cursor: &Cursor<'_>) -> bool
     ensures { result ≡ spec.begins_marked_part cursor.now }
 {
     cursor.is_at_doc()
-        || cursor.symbol() == b'#' && second(cursor).symbol() == b'['
+        || cursor.symbol() == b'#' && cursor.second().symbol() == b'['
         || cursor.word() == "pub"
 }
 
@@ -55,7 +46,7 @@ fn is_name_with_colon(cursor: &Cursor<'_>) -> bool
     if !cursor.is_at_identifier() {
         return false;
     }
-    let behind = second(cursor);
+    let behind = cursor.second();
     behind.symbol() == b':' && !behind.is_pair(b':', b':')
 }
 

@@ -4,7 +4,7 @@ pub use Rattle.hir_input.specs.Bodies.{item_without_bodies}
 pub use Rattle.hir_input.specs.Syntax.{FieldsView, const_item, extern_crate, impl_item, macro_rules, plain_item, struct_item}
 pub use Rattle.hir_input.specs.declared.ast.PlainKind.{PlainKind}
 pub use Rattle.hir_input.specs.declared.ast.Visibility.{Visibility}
-pub use Rattle.rust_cursor.proofs.Alike.{KeptBy}
+pub use Rattle.rust_cursor.proofs.BodyValues.{KeptBy}
 pub use Rattle.rust_cursor.proofs.Leads.{Forwards, LeadsTo, behind_tree_leads, bumped_leads, eat_leads, further, here, reached_leads, through, when}
 pub use Rattle.rust_cursor.proofs.Local.{Local, after_symbol, after_word, both_true, eat_local, eat_word_local, word_test}
 pub use Rattle.rust_cursor.proofs.Places.{AreAlike, IsAlike, SamePlace, alike_or, at_place, both, neither, no_more, past_place}

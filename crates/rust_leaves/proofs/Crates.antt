@@ -1,8 +1,8 @@
 -- Extern crates, and what a macro is called by, of tokens beside are the same.
 use Rattle.std.proofs.Common.{arith, ◌≡◌, ◌==◌, ℕ, zero, suc, Bool, true, false, Option, Some, None, List, [], refl, ap, ◌∙◌, codes, bytes_eq}
 use Rattle.rust_leaves.proofs.Common.{nat_tests, Visibility, MetaView, item_without_bodies, extern_crate, Tokens, symbol, word, text, is_at_open, bumped, eat_word, Bodies, Beside, LeadsTo, here, further, when, symbol_same, text_same, open_same, taken_same, word_test, after_word, after_symbol, eat_local, eat_word_local, both_true, KeptBy, no_more, IsAlike, neither, both, alike_or, TextRange, NameRead, named_or, crate_alias, crate_alias_if, renamed, rename_of, named_node, told_at, crate_item, is_called, last_text_from, last_text}
-use Rattle.rust_cursor.proofs.Until.{Gone, gone_on, Onward, into, on, bumped_onward}
-use Rattle.rust_leaves.proofs.Beside.{LocalBy, RangeAlike, next_alike, NameAlike, named_local, named_or_local, LeafAlike}
+use Rattle.rust_cursor.proofs.BodyReaders.{Gone, gone_on, Onward, into, on, bumped_onward}
+use Rattle.rust_leaves.proofs.BodyParts.{LocalBy, RangeAlike, next_alike, NameAlike, named_local, named_or_local, LeafAlike}
 
 -- ---- extern crates
 

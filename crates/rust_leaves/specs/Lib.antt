@@ -1,4 +1,5 @@
 pub mod Heads
+pub mod Inner
 pub mod Fronts
 pub mod Texts
 pub mod Leaves

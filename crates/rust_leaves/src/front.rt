@@ -7,7 +7,8 @@ ghost use Rattle.rust_leaves.specs.Clipped.{clipped_front, with_value};
 ghost use Rattle.rust_leaves.specs.Fronts as spec;
 ghost use Rattle.rust_leaves.specs.Views.{front_view};
 
-use crate::head::{Head, pass_modifiers, take_head};
+use crate::head::{Head, take_head};
+use crate::modifiers::pass_modifiers;
 use crate::wanted::Wanted;
 use hir_input::Meta;
 use hir_input::ast::Visibility;

@@ -1,13 +1,12 @@
-//! The words that begin an item, and the modifiers before them.
+//! The words that begin an item.
 
-ghost use Rattle.std.specs.Prelude.{◌≡◌, ◌||◌, if◌then◌else◌};
-ghost use Rattle.rust_cursor.specs.Nests.{is_literal_kind};
+ghost use Rattle.std.specs.Prelude.{◌≡◌, if◌then◌else◌};
 ghost use Rattle.rust_cursor.specs.Words.{bumped, word};
 ghost use Rattle.rust_leaves.specs.Heads as spec;
 
+use crate::modifiers::pass_abi;
 use hir_input::ast::PlainKind;
 use rust_cursor::{Cursor, is_among};
-use rust_lexer::TokenKind;
 use rust_paths::{has_name, is_segment};
 
 /// What kind of item the words begin that were taken.
@@ -25,170 +24,6 @@ pub enum Head {
     Plain(PlainKind),
     /// No word of an item: it may be a macro call.
     Other,
-}
-
-/// What may stand behind `const` as a modifier: another modifier, or the word of an item.
-const BEHIND_CONST: [&str; 5] = ["fn", "unsafe", "extern", "trait", "impl"];
-
-/// The same behind `async` and `gen`.
-const BEHIND_ASYNC: [&str; 4] = ["fn", "unsafe", "safe", "extern"];
-
-/// The same behind `unsafe`.
-const BEHIND_UNSAFE: [&str; 10] = [
-    "fn", "extern", "trait", "impl", "mod", "static", "type", "const", "async", "safe",
-];
-
-/// The same behind `safe`.
-const BEHIND_SAFE: [&str; 3] = ["fn", "static", "extern"];
-
-/// The same behind `default` and `final`.
-const BEHIND_DEFAULT: [&str; 9] = [
-    "fn", "unsafe", "const", "type", "impl", "async", "extern", "gen", "safe",
-];
-
-/// The same behind `extern`.
-const BEHIND_EXTERN: [&str; 2] = ["fn", "unsafe"];
-
-fn is_literal_kind(kind: Option<TokenKind>) -> bool
-    ensures { result ≡ is_literal_kind kind }
-{
-    matches!(kind, Some(TokenKind::Literal(_)))
-}
-
-/// Passes over the name of an interface, if it comes next.
-#[tactic(auto, unfolding(crate::specs::Heads::behind_abi))]
-fn pass_abi(cursor: &mut Cursor<'_>)
-    ensures { cursor.new ≡ spec.behind_abi cursor.old }
-{
-    if is_literal_kind(cursor.kind()) {
-        cursor.bump();
-    }
-}
-
-fn word_behind_abi<'t>(behind: &Cursor<'t>) -> &'t str
-    ensures { result.now ≡ spec.word_behind_abi behind.now }
-{
-    let mut ahead = behind.ahead();
-    pass_abi(&mut ahead);
-    ahead.word()
-}
-
-/// What is left behind the next token.
-pub(crate) fn behind_next<'t>(cursor: &Cursor<'t>) -> Cursor<'t>
-    ensures { result ≡ bumped cursor.now }
-{
-    let mut behind = cursor.ahead();
-    behind.bump();
-    behind
-}
-
-#[tactic(auto, unfolding(crate::specs::Heads::follows_async))]
-fn is_behind_async(behind: &Cursor<'_>) -> bool
-    ensures { result ≡ spec.follows_async (word behind.now) }
-{
-    is_among(behind.word(), &BEHIND_ASYNC)
-}
-
-fn is_gen_modifier(cursor: &Cursor<'_>) -> bool
-    ensures { result ≡ spec.is_gen_modifier cursor.now }
-{
-    cursor.word() == "gen" && is_behind_async(&behind_next(cursor))
-}
-
-fn is_async_modifier(behind: &Cursor<'_>) -> bool
-    ensures { result ≡ (spec.follows_async (word behind.now) || spec.is_gen_modifier behind.now) }
-{
-    is_behind_async(behind) || is_gen_modifier(behind)
-}
-
-/// Whether a modifier comes next that is a name elsewhere.
-#[tactic(auto, unfolding(crate::specs::Heads::is_weak_before))]
-fn is_weak_modifier(cursor: &Cursor<'_>) -> bool
-    ensures { result ≡ spec.is_weak_modifier cursor.now }
-{
-    match cursor.word() {
-        "async" => is_async_modifier(&behind_next(cursor)),
-        "gen" => is_behind_async(&behind_next(cursor)),
-        "auto" => behind_next(cursor).word() == "trait",
-        _ => false,
-    }
-}
-
-#[tactic(auto, unfolding(crate::specs::Heads::may_follow_const))]
-fn is_const_modifier(behind: &Cursor<'_>) -> bool
-    ensures { result ≡ (spec.may_follow_const (word behind.now) || spec.is_weak_modifier behind.now) }
-{
-    is_among(behind.word(), &BEHIND_CONST) || is_weak_modifier(behind)
-}
-
-#[tactic(auto, unfolding(crate::specs::Heads::follows_unsafe))]
-fn is_unsafe_modifier(behind: &Cursor<'_>) -> bool
-    ensures { result ≡ (spec.follows_unsafe (word behind.now) || spec.is_weak_modifier behind.now) }
-{
-    is_among(behind.word(), &BEHIND_UNSAFE) || is_weak_modifier(behind)
-}
-
-#[tactic(auto, unfolding(crate::specs::Heads::follows_safe))]
-fn follows_safe(word: &str) -> bool
-    ensures { result ≡ spec.follows_safe word.now }
-{
-    is_among(word, &BEHIND_SAFE)
-}
-
-#[tactic(auto, unfolding(crate::specs::Heads::follows_default))]
-fn follows_default(word: &str) -> bool
-    ensures { result ≡ spec.follows_default word.now }
-{
-    is_among(word, &BEHIND_DEFAULT)
-}
-
-#[tactic(auto, unfolding(crate::specs::Heads::follows_extern_modifier))]
-fn follows_extern(word: &str) -> bool
-    ensures { result ≡ spec.follows_extern_modifier word.now }
-{
-    is_among(word, &BEHIND_EXTERN)
-}
-
-/// Whether a modifier comes next. Only behind a word that can be one a token is cut.
-#[tactic(auto, unfolding(crate::specs::Heads::is_modifier, crate::specs::Heads::is_modifier_before))]
-pub(crate) fn is_modifier(cursor: &Cursor<'_>) -> bool
-    ensures { result ≡ spec.is_modifier cursor.now }
-{
-    match cursor.word() {
-        "const" => is_const_modifier(&behind_next(cursor)),
-        "unsafe" => is_unsafe_modifier(&behind_next(cursor)),
-        "safe" => follows_safe(behind_next(cursor).word()),
-        "default" | "final" => follows_default(behind_next(cursor).word()),
-        "extern" => follows_extern(word_behind_abi(&behind_next(cursor))),
-        "type" => behind_next(cursor).word() == "const",
-        "reuse" => behind_next(cursor).word() == "impl",
-        _ => is_weak_modifier(cursor),
-    }
-}
-
-#[tactic(auto, unfolding(crate::specs::Heads::behind_modifier))]
-fn pass_modifier(cursor: &mut Cursor<'_>)
-    ensures { cursor.new ≡ spec.behind_modifier cursor.old }
-{
-    let is_extern = cursor.word() == "extern";
-    cursor.bump();
-    if is_extern {
-        pass_abi(cursor);
-    }
-}
-
-/// Passes over the words that are modifiers where they stand, and the name of an interface behind `extern`.
-#[tactic(auto, unfolding(crate::specs::Heads::behind_modifiers), using(crate::proofs::Steps::modifier_turns))]
-pub(crate) fn pass_modifiers(cursor: &mut Cursor<'_>)
-    ensures { cursor.new ≡ spec.behind_modifiers cursor.old }
-{
-    let most = Cursor::most_turns();
-    for _turn in 0..most {
-        if !is_modifier(cursor) {
-            break;
-        }
-        pass_modifier(cursor);
-    }
 }
 
 /// The kind of item, if the test holds.
@@ -214,7 +49,7 @@ fn extern_head(behind: &Cursor<'_>) -> Head
 fn macro_rules_head(behind: &Cursor<'_>) -> Head
     ensures { result ≡ spec.macro_rules_head behind.now }
 {
-    let is_named = behind.symbol() == b'!' && behind_next(behind).is_at_identifier();
+    let is_named = behind.symbol() == b'!' && behind.second().is_at_identifier();
     head_if(is_named, Head::MacroRules)
 }
 
@@ -235,12 +70,9 @@ pub(crate) fn head_at(cursor: &Cursor<'_>) -> Head
         "type" => Head::Plain(PlainKind::TypeAlias),
         "mod" => Head::Module,
         "macro" => Head::Plain(PlainKind::MacroDef),
-        "union" => head_if(
-            has_name(&behind_next(cursor)),
-            Head::Plain(PlainKind::Union),
-        ),
-        "macro_rules" => macro_rules_head(&behind_next(cursor)),
-        "extern" => extern_head(&behind_next(cursor)),
+        "union" => head_if(has_name(&cursor.second()), Head::Plain(PlainKind::Union)),
+        "macro_rules" => macro_rules_head(&cursor.second()),
+        "extern" => extern_head(&cursor.second()),
         _ => Head::Other,
     }
 }
@@ -288,7 +120,7 @@ fn is_first_word(word: &str) -> bool
 fn is_union(cursor: &Cursor<'_>) -> bool
     ensures { result ≡ spec.is_union cursor.now }
 {
-    cursor.word() == "union" && has_name(&behind_next(cursor))
+    cursor.word() == "union" && has_name(&cursor.second())
 }
 
 /// Whether a word comes next that can be a segment of a path.
@@ -302,7 +134,7 @@ fn is_path_word(cursor: &Cursor<'_>) -> bool
 fn begins_path(cursor: &Cursor<'_>) -> bool
     ensures { result ≡ spec.begins_path cursor.now }
 {
-    is_path_word(cursor) && behind_next(cursor).is_pair(b':', b':')
+    is_path_word(cursor) && cursor.second().is_pair(b':', b':')
 }
 
 /// Passes over words of a path with `::` behind them.
@@ -326,7 +158,7 @@ fn pass_segments(cursor: &mut Cursor<'_>)
 pub(crate) fn is_called(cursor: &Cursor<'_>) -> bool
     ensures { result ≡ spec.is_called cursor.now }
 {
-    cursor.symbol() == b'!' && behind_next(cursor).is_at_open()
+    cursor.symbol() == b'!' && cursor.second().is_at_open()
 }
 
 fn is_called_here(cursor: &Cursor<'_>) -> bool

@@ -6,6 +6,7 @@ mod front;
 mod head;
 mod laws;
 mod leaf;
+mod modifiers;
 mod named;
 mod statement_calls;
 mod statements;

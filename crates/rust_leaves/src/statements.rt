@@ -3,7 +3,8 @@
 ghost use Rattle.std.specs.Prelude.{◌≡◌};
 ghost use Rattle.rust_leaves.specs.Statements as spec;
 
-use crate::head::{Head, behind_next, head_at, is_modifier};
+use crate::head::{Head, head_at};
+use crate::modifiers::is_modifier;
 use rust_cursor::Cursor;
 use rust_lexer::TokenKind;
 
@@ -37,7 +38,7 @@ fn leads_closure(cursor: &Cursor<'_>) -> bool
 {
     match cursor.word() {
         "move" => true,
-        "async" => behind_next(cursor).symbol() != b':',
+        "async" => cursor.second().symbol() != b':',
         _ => false,
     }
 }
@@ -63,8 +64,8 @@ fn is_item_head(cursor: &Cursor<'_>) -> bool
         return false;
     }
     match cursor.word() {
-        "const" | "static" => names_value(&behind_next(cursor)),
-        "use" => behind_next(cursor).symbol() != b'|',
+        "const" | "static" => names_value(&cursor.second()),
+        "use" => cursor.second().symbol() != b'|',
         _ => true,
     }
 }
@@ -246,7 +247,7 @@ fn pass_behind_block(cursor: &mut Cursor<'_>, blocks: u8) -> Step
 fn is_use_of(cursor: &Cursor<'_>) -> bool
     ensures { result ≡ spec.is_use_of cursor.now }
 {
-    cursor.symbol() == b'.' && behind_next(cursor).word() == "use"
+    cursor.symbol() == b'.' && cursor.second().word() == "use"
 }
 
 #[tactic(auto, unfolding(crate::specs::Statements::plain_step))]

@@ -3,7 +3,7 @@ use Rattle.std.proofs.Common.{◌≡◌, ◌<◌, ◌≤◌, ℕ, suc, ◌+◌, 
 use Rattle.rust_lexer.proofs.Common.{eqb-true, nat_tests, take_rest, Cut, Depth, TokenKind, run, first_cut, symbol_kind, depth_behind, to_outer, is_blank_byte, is_close_byte, is_letter, is_mark_byte, is_open_byte, Piece, symbol_from, symbol_of, piece, tokens_from, whole}
 use Rattle.rust_lexer.specs.declared.bytes.Class.TheVariants as class
 use Rattle.rust_lexer.specs.declared.kind.TokenKind.TheVariants as kind
-use Rattle.rust_lexer.proofs.Counted.{when}
+use Rattle.rust_lexer.proofs.Cases.{when}
 use Rattle.rust_lexer.proofs.Frequent.{blank_first, letter_first, mark_first}
 use Rattle.rust_lexer.proofs.Steps.{tokens_from_drop}
 use Rattle.rust_lexer.proofs.Wholes.{white_whole, word_whole}

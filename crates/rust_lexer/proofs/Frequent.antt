@@ -3,7 +3,7 @@ use Rattle.std.proofs.Common.{◌≡◌, ℕ, ◌==◌, ◌||◌, true, false, L
 use Rattle.rust_lexer.proofs.Common.{is_ascii_alphabetic, is_ascii_digit, nat_tests, is_white, is_wide_start, run, cut, first_cut, plain, slash, symbol_kind, is_blank_byte, is_letter, is_mark_byte, is_punctuation, is_significant_kind}
 use Rattle.rust_lexer.specs.declared.bytes.Class.TheVariants as class
 use Rattle.rust_lexer.specs.declared.kind.TokenKind.TheVariants as kind
-use Rattle.rust_lexer.proofs.Counted.{when}
+use Rattle.rust_lexer.proofs.Cases.{when}
 
 pub mark_first : (b : ℕ) (z : List ℕ) → is_mark_byte b ≡ true → first_cut b z ≡ cut (symbol_kind b) 0
 unfolding first_cut is_wide_start

@@ -3,8 +3,8 @@ use lib.Utf8.{scalars, scalar, next, encode, encodes, scalar_cases}
 use Rattle.std.proofs.Common.{◌≡◌, ◌⊎◌, ◌+◌, ◌/◌, ◌<◌, ◌≤◌, ℕ, true, List, [], ◌∷◌, ◌++◌, length, IsUtf8, refl, subst, arith, nat_le, nat_lt}
 use Rattle.std.proofs.lemmas.Bool.{ltb-true}
 use Rattle.rust_lexer.proofs.Common.{nat_tests, behind_lead, is_full}
-use Rattle.rust_lexer.proofs.Counted.{when}
-use Rattle.rust_lexer.proofs.Same.{both}
+use Rattle.rust_lexer.proofs.Cases.{when}
+use Rattle.rust_lexer.proofs.StopBytes.{both}
 
 full_cons : (b : ℕ) (y : List ℕ) → behind_lead b ≤ length y → is_full y ≡ true → is_full (b ∷ y) ≡ true
 full_cons b y l k = let t : nat_le (behind_lead b) (length y) ≡ true = grind (arith, nat_tests) in rw (t, k) refl

@@ -4,7 +4,7 @@ use Rattle.rust_lexer.proofs.Common.{get_or-drop, is_ascii_digit, nat_tests, Cla
 use Rattle.rust_lexer.specs.declared.bytes.Class.TheVariants as class
 use Rattle.rust_lexer.specs.Inner.{IsTokenBoundary}
 use Rattle.rust_lexer.proofs.Begins.{begins_behind}
-use Rattle.rust_lexer.proofs.Counted.{when}
+use Rattle.rust_lexer.proofs.Cases.{when}
 use Rattle.rust_lexer.proofs.Depths.{is_bracket, quiet_turn}
 
 -- ---- steps

@@ -181,7 +181,3 @@ tokens_placed z = placed front.Mark 0 z
 pub tokens_not_empty : (z : List ℕ) → AreSome (tokens z)
 unfolding tokens
 tokens_not_empty z = not_empty front.Mark 0 z
-
-pub tokens_few : (z : List ℕ) → length (tokens z) ≤ length z
-unfolding tokens
-tokens_few z = few front.Mark 0 z

@@ -4,7 +4,7 @@ use Rattle.std.specs.Option.{unwrap_or}
 use Rattle.memchr.specs.Find.{IsFirstByte, is_byte}
 use Rattle.rust_lexer.specs.declared.bytes.Class.TheVariants as class
 use Rattle.rust_lexer.proofs.Common.{run}
-use Rattle.rust_lexer.proofs.Counted.{when}
+use Rattle.rust_lexer.proofs.Cases.{when}
 use Rattle.rust_lexer.proofs.Runs.{run_to}
 
 goes_on : (b : ℕ) (z : List ℕ) → ((b == 10) ≡ true → ⊥) → run class.Line (b ∷ z) ≡ suc (run class.Line z)

@@ -7,7 +7,7 @@ use lib.Lanes.{chunk}
 use Rattle.rust_lexer.specs.declared.bytes.Class.{Class}
 use Rattle.rust_lexer.specs.declared.bytes.Class.TheVariants as class
 use Rattle.rust_lexer.proofs.Common.{is_ascii_alphanumeric, is_continuation, is_in_class, is_plain_byte, is_wide_continue, nat_tests, run}
-use Rattle.rust_lexer.proofs.Counted.{when}
+use Rattle.rust_lexer.proofs.Cases.{when}
 
 -- a run ends at the first byte that is not of the class
 pub run_to : (c : Class) (z : List ℕ) (n : ℕ) → n < length z → ((k : ℕ) → k < n → is_in_class c (slice_index z k) (drop (suc k) z) ≡ true) → is_in_class c (slice_index z n) (drop (suc n) z) ≡ false

@@ -4,9 +4,9 @@ use Rattle.rust_lexer.proofs.Common.{filter-append, nat_tests, TokenKind, is_wid
 use Rattle.rust_lexer.specs.declared.bytes.Class.TheVariants as class
 use Rattle.rust_lexer.specs.declared.kind.TokenKind.TheVariants as kind
 use Rattle.rust_lexer.specs.Inner.{begins_front}
-use Rattle.rust_lexer.proofs.Counted.{when}
+use Rattle.rust_lexer.proofs.Cases.{when}
 use Rattle.rust_lexer.proofs.Depths.{symbol_by}
-use Rattle.rust_lexer.proofs.Same.{upto, full_behind, run_same}
+use Rattle.rust_lexer.proofs.StopBytes.{upto, full_behind, run_same}
 use Rattle.rust_lexer.proofs.Apart.{apart}
 
 -- ---- what may stand in front of a text

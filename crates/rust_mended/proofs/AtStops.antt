@@ -7,7 +7,7 @@ use Rattle.rust_lexer.specs.Bytes.{is_continuation}
 use Rattle.rust_lexer.specs.Inner.{begins_front, is_blank_byte}
 use Rattle.rust_lexer.specs.Tokens.{tokens, tokens_from}
 use Rattle.rust_lexer.proofs.Apart.{tokens_first, tokens_moved}
-use Rattle.rust_lexer.proofs.Counted.{when}
+use Rattle.rust_lexer.proofs.Cases.{when}
 use Rattle.rust_lexer.proofs.Whole.{bare_is}
 use Rattle.rust_mended.specs.Apart.{StandApart}
 use Rattle.rust_mended.specs.Texts.{is_matched, mended_text}

@@ -9,7 +9,7 @@ use Rattle.rust_lexer.specs.Cut.{cut, first_cut}
 use Rattle.rust_lexer.specs.Inner.{is_blank_byte}
 use Rattle.rust_lexer.specs.Piece.{Piece}
 use Rattle.rust_lexer.specs.Tokens.{piece, tokens_from, whole}
-use Rattle.rust_lexer.proofs.Counted.{when}
+use Rattle.rust_lexer.proofs.Cases.{when}
 use Rattle.rust_lexer.proofs.Wholes.{white_whole}
 use Rattle.rust_mended.specs.declared.line.Line.{Line}
 use Rattle.rust_mended.specs.Marks.{blank_behind, blanks_behind, line_behind_all, marks_from, with_behind}

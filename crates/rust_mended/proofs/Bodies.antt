@@ -11,7 +11,7 @@ use Rattle.rust_lexer.specs.Cut.{first_cut}
 use Rattle.rust_lexer.specs.Piece.{Piece}
 use Rattle.rust_lexer.specs.Symbol.{symbol_of}
 use Rattle.rust_lexer.specs.Tokens.{AreInPlace, piece, tokens, tokens_from, whole}
-use Rattle.rust_lexer.proofs.Counted.{when}
+use Rattle.rust_lexer.proofs.Cases.{when}
 use Rattle.rust_lexer.proofs.Laws.{AreSome, tokens_not_empty, tokens_placed}
 use Rattle.rust_mended.specs.declared.bracket.Bracket.TheVariants as bracket
 use Rattle.rust_mended.specs.declared.line.Line.{Line}

@@ -8,7 +8,7 @@ use Rattle.std.specs.List.{AllByRecursion, flat_map}
 use Rattle.rust_lexer.specs.Alone.{StandsAlone, moved}
 use Rattle.rust_lexer.specs.Tokens.{tokens, tokens_from}
 use Rattle.rust_lexer.proofs.Apart.{apart}
-use Rattle.rust_lexer.proofs.Counted.{when}
+use Rattle.rust_lexer.proofs.Cases.{when}
 use Rattle.rust_lexer.proofs.Laws.{AreSome}
 use Rattle.rust_lexer.specs.Piece.{Piece}
 use Rattle.rust_mended.specs.declared.bracket.Bracket.TheVariants as bracket
@@ -25,7 +25,7 @@ use Rattle.rust_mended.specs.Marks.{last, line_behind_all, marks, marks_from, te
 use Rattle.rust_mended.specs.Mended.{all_written, closers_reaching, keeps, kept_if, written_from}
 use Rattle.rust_mended.specs.Steps.{EditsFit}
 use Rattle.rust_mended.specs.Texts.{edit_moved, edits, mended_text, mending_edit, past_by, past_edit, sign, with_edits}
-use Rattle.rust_mended.proofs.Around.{Any, all_changed_written, changed, edits_stay, fits_any, front_changed, grown_high, grown_same, marks_stay, upto_fits, upto_told}
+use Rattle.rust_mended.proofs.SpreadMarks.{Any, all_changed_written, changed, edits_stay, fits_any, front_changed, grown_high, grown_same, marks_stay, upto_fits, upto_told}
 use Rattle.rust_mended.proofs.Bodies as body
 use Rattle.rust_mended.proofs.Bodies.{behind_marks, behind_tokens, bounded, closed_line, closer, inner_line, inner_marks, inner_tokens, place_moved, some_unmoved}
 use Rattle.rust_mended.proofs.Further.{EndAt, IsSome, are_behind, reaching_on, same_on}

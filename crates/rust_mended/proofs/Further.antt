@@ -8,7 +8,7 @@ use Rattle.rust_lexer.specs.declared.kind.TokenKind.TheVariants as kind
 use Rattle.rust_lexer.specs.Piece.{Piece}
 use Rattle.rust_lexer.specs.Symbol.{symbol_from, symbol_of}
 use Rattle.rust_lexer.specs.Tokens.{tokens}
-use Rattle.rust_lexer.proofs.Counted.{when}
+use Rattle.rust_lexer.proofs.Cases.{when}
 use Rattle.rust_lexer.proofs.Laws.{AreSome, tokens_not_empty}
 use Rattle.rust_mended.specs.declared.bracket.Bracket.{Bracket}
 use Rattle.rust_mended.specs.declared.bracket.Bracket.TheVariants as bracket

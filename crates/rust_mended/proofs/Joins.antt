@@ -6,7 +6,7 @@ use Rattle.std.proofs.lemmas.Bool.Decides.{nat_tests}
 use Rattle.std.proofs.lemmas.List.{drop-append-le, take-append-le}
 use Rattle.std.specs.List.{flat_map}
 use Rattle.rust_lexer.specs.Tokens.{tokens}
-use Rattle.rust_lexer.proofs.Counted.{when}
+use Rattle.rust_lexer.proofs.Cases.{when}
 use Rattle.rust_mended.specs.declared.edit.Edit.{Edit}
 use Rattle.rust_mended.specs.declared.edit.EditKind.{EditKind}
 use Rattle.rust_mended.specs.declared.edit.EditKind.TheVariants as edit

@@ -15,7 +15,7 @@ pub mod Further
 pub mod Joins
 pub mod AtStops
 pub mod Inside
-pub mod Around
+pub mod SpreadMarks
 pub mod Bodies
 pub mod BodyTexts
 mod Examples

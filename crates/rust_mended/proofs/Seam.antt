@@ -7,7 +7,7 @@ use Rattle.rust_lexer.specs.Alone.{moved}
 use Rattle.rust_lexer.specs.Piece.{Piece}
 use Rattle.rust_lexer.specs.Tokens.{tokens, tokens_from}
 use Rattle.rust_lexer.proofs.Apart.{tokens_moved}
-use Rattle.rust_lexer.proofs.Counted.{when}
+use Rattle.rust_lexer.proofs.Cases.{when}
 use Rattle.rust_lexer.proofs.Laws.{AreSome, tokens_not_empty}
 use Rattle.rust_mended.specs.declared.line.Line.{Line}
 use Rattle.rust_mended.specs.declared.mark.Mark.{Mark}

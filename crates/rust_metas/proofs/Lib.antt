@@ -5,9 +5,9 @@ pub mod Kept
 pub mod Strings
 pub mod Texts
 pub mod Leads
-pub mod Around
-pub mod AlikeAttributes
-pub mod UntilAttributes
+pub mod AttributeBrackets
+pub mod Attributes
+pub mod BodyAttributes
 pub mod RoundTexts
 pub mod Passed
 pub mod Common

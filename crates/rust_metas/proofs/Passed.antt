@@ -14,7 +14,7 @@ use Rattle.rust_cursor.proofs.Common.{eat_pair, is_closing, is_pair, to_closing}
 use Rattle.rust_cursor.proofs.Steps.{closing_stop}
 use Rattle.rust_paths.proofs.Common.{eat_colons, has_name, is_colons, is_dollar_crate, is_keyword, is_path_colons, is_path_keyword, is_path_start, is_raw, is_segment, is_underscore, more_from, more_segments, name, next_name, other_segment, plain_name, segment}
 use Rattle.rust_metas.specs.declared.wanted.WantedMetas.TheVariants as wanted
-use Rattle.rust_metas.proofs.Common.{DocStyle, MetaView, Tokens, WantedMetas, and_parts, attribute, at, begins_item, behind_attribute, bracket_end, behind_closed, reads, reads_from, sees, behind_unread, bracketed, bumped, by_first, deepest, eqb-true, input, is_at_open, is_call, is_condition_meta, is_at_name, is_named_call, is_doc, is_empty, is_plain_name, is_unread, kept_by, kept_metas, kind, may_condition, meta, one, one_attribute, past_mark, path, plain_bracketed, plain_input, plain_meta, symbol, text, value, when, word}
+use Rattle.rust_metas.proofs.Common.{DocStyle, MetaView, Tokens, WantedMetas, and_parts, attribute, at, begins_item, behind_attribute, bracket_end, behind_closed, reads, reads_from, sees, behind_unread, bracketed_meta, bumped, by_first, deepest, eqb-true, input, is_at_open, is_call, is_condition_meta, is_at_name, is_named_call, is_doc, is_empty, is_plain_name, is_unread, kept_by, kept_metas, kind, may_condition, meta, one, one_attribute, past_mark, path, plain_bracketed, plain_input, plain_meta, symbol, text, value, when, word}
 use Rattle.rust_metas.proofs.Depths.{meta_at}
 use Rattle.rust_metas.proofs.RoundTexts.{round_text}
 
@@ -195,8 +195,8 @@ unfolding behind_closed to_closing
 square_closed ts e = rw (begins_none ts (no_word ts e)) (ap (behind_closing 91) (closing_stop 91 flat ts (square_shuts ts e)) ∙ rw (eqb-true (symbol ts) 93 e) refl)
 
 -- what stands in brackets is read as it is passed over, and tells no condition
-bracketed_passed : (anchor : ℕ) (ts : Tokens) → (plain_bracketed ts).0 ≡ true → ((reads_from anchor bracketed ts).1 ≡ (plain_bracketed ts).1) × (is_condition_meta (reads_from anchor bracketed ts).0 ≡ false)
-unfolding bracketed plain_bracketed
+bracketed_passed : (anchor : ℕ) (ts : Tokens) → (plain_bracketed ts).0 ≡ true → ((reads_from anchor bracketed_meta ts).1 ≡ (plain_bracketed ts).1) × (is_condition_meta (reads_from anchor bracketed_meta ts).0 ≡ false)
+unfolding bracketed_meta plain_bracketed
 bracketed_passed anchor ts e =
     let here = bumped ts in
     let input = plain_input (bumped here) in
@@ -210,7 +210,7 @@ dropped : (m : MetaView) → is_condition_meta m ≡ false → kept_metas wanted
 unfolding kept_metas
 dropped m e = rw e refl
 
-attribute_by : (style : DocStyle) (ts : Tokens) → sees (is_doc style) ts ≡ false → attribute style ts ≡ ((reads_from (at ts) bracketed (past_mark style ts)).0, behind_attribute style (reads_from (at ts) bracketed (past_mark style ts)).1)
+attribute_by : (style : DocStyle) (ts : Tokens) → sees (is_doc style) ts ≡ false → attribute style ts ≡ ((reads_from (at ts) bracketed_meta (past_mark style ts)).0, behind_attribute style (reads_from (at ts) bracketed_meta (past_mark style ts)).1)
 unfolding attribute one_attribute
 attribute_by style ts e = rw e refl
 

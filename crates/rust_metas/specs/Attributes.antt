@@ -50,8 +50,8 @@ abbrev pub bracket_end : Grammar inside (Unit {0})
 bracket_end = on_seen at_item 0 refl (gives tt) (passes_closed 91)
 
 -- A meta in its bracket; what stands behind it there is passed over.
-unfoldable pub bracketed : Anchored MetaView
-bracketed =
+unfoldable pub bracketed_meta : Anchored MetaView
+bracketed_meta =
     then_from (unplaced takes_any) (λ _. then_from (meta deepest) (λ m. then_from (unplaced bracket_end) (λ _. gives_from m)))
 
 -- `#`, or `#!`
@@ -66,7 +66,7 @@ past_mark style ts = (reads (mark style) ts).1
 unfoldable pub one_attribute : DocStyle → Anchored MetaView
 one_attribute style =
     spans (is_doc style) (doc_skipped style) (λ y k z start end. key_value_meta (Some doc_path) (string_literal (comment_text k z) (span_between start end)) root)
-    (then_from (unplaced (mark style)) (λ _. bracketed))
+    (then_from (unplaced (mark style)) (λ _. bracketed_meta))
 
 -- behind inner documentation
 unfoldable pub behind_docs : Tokens → Tokens

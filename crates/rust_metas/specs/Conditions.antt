@@ -39,9 +39,9 @@ not_from (c ∷ []) = not_of c
 not_from _ = invalid
 
 -- ConfigurationAll, ConfigurationAny and ConfigurationNot
-unfoldable pub composed : List ℕ → Option (List CfgView) → CfgView
-composed word None = invalid
-composed word (Some conditions) =
+unfoldable pub composed_condition : List ℕ → Option (List CfgView) → CfgView
+composed_condition word None = invalid
+composed_condition word (Some conditions) =
     if bytes_eq word (codes "all") then all_of (cfgs_from conditions)
     else (if bytes_eq word (codes "any") then any_of (cfgs_from conditions)
     else (if bytes_eq word (codes "not") then not_from conditions else invalid))
@@ -59,7 +59,7 @@ pair key = do
 -- a word with conditions in a bracket, one with a value, or alone
 abbrev pub named_condition : Grammar inside (Option (List CfgView)) → List ℕ → Grammar inside CfgView
 named_condition conditions word =
-    on_seen at_open 0 refl (reads_as (composed word) (in_bracket conditions)) (on_seen (symbol_is 61) 1 refl (pair word) (gives (atom (flag_atom word))))
+    on_seen at_open 0 refl (reads_as (composed_condition word) (in_bracket conditions)) (on_seen (symbol_is 61) 1 refl (pair word) (gives (atom (flag_atom word))))
 
 abbrev pub if_named : Grammar inside (Option (List CfgView)) → Option (List ℕ) → Grammar inside CfgView
 if_named conditions None = gives invalid

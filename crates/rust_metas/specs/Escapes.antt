@@ -56,8 +56,8 @@ blanks (b ∷ z) = if is_escaped_blank b then suc (blanks z) else 0
 abbrev pub is_feed : ℕ → List ℕ → Bool
 is_feed b z = b == 10 || (b == 13 && slice_index z 0 == 10)
 
-abbrev pub lettered : Option ℕ → Option Escape
-lettered character = option_map (λ c. stands_for c 1) character
+abbrev pub letter_escape : Option ℕ → Option Escape
+letter_escape character = option_map (λ c. stands_for c 1) character
 
 -- the escape behind a backslash; STRING_CONTINUE stands for no character
 abbrev pub escape : List ℕ → Option Escape
@@ -65,4 +65,4 @@ escape [] = None
 escape (b ∷ z) =
     if b == 120 then hex z
     else (if b == 117 then unicode z
-    else (if is_feed b z then Some (record { character = None; len = suc (blanks z) }) else lettered (escape_letter b)))
+    else (if is_feed b z then Some (record { character = None; len = suc (blanks z) }) else letter_escape (escape_letter b)))

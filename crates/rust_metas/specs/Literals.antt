@@ -16,7 +16,7 @@ use Rattle.rust_cursor.specs.Reader.{Reader}
 use Rattle.rust_cursor.specs.Words.{kind, text, at, bumped}
 use Rattle.rust_cursor.specs.Looks.{Lookahead, at_end, either_seen, kind_is, may_skip, symbol_is, then_seen, word_is}
 use Rattle.rust_cursor.specs.Anchored.{Anchored, gives_from, spans}
-use Rattle.rust_metas.specs.Strings.{as_text, and_text, unescaped, raw_string_bytes, written}
+use Rattle.rust_metas.specs.Strings.{as_text, and_text, unescaped_bytes, raw_string_bytes, quoted_text}
 
 -- where all that is written in a text comes from
 abbrev pub root : SyntaxContext
@@ -38,7 +38,7 @@ span_from anchor start end = span_between (start - anchor) (end - anchor)
 
 -- the string of a literal of this kind and text, if it is a string or a raw string without a suffix
 abbrev pub string_of : LiteralKind → List ℕ → Option (List ℕ)
-string_of literals.Str z = and_text (unescaped 0 (drop 1 z))
+string_of literals.Str z = and_text (unescaped_bytes 0 (drop 1 z))
 string_of literals.RawStr z = and_text (raw_string_bytes (drop 1 z))
 string_of _ z = None
 
@@ -104,7 +104,7 @@ literal_from _ _ span = None
 
 -- a text as the literal of a string
 unfoldable pub string_literal : List ℕ → Span → Option LiteralView
-string_literal z span = literal_from (as_text (written z)) (as_text z) span
+string_literal z span = literal_from (as_text (quoted_text z)) (as_text z) span
 
 -- what the documentation comment that comes next says
 unfoldable pub documentation : ℕ → Reader (Option LiteralView)

@@ -20,28 +20,28 @@ ended_string count z = if length z == count then Some [] else None
 
 -- ---- with escapes
 
-abbrev pub encoded : Option ℕ → List ℕ
-encoded None = []
-encoded (Some c) = encode_utf8 c
+abbrev pub character_bytes : Option ℕ → List ℕ
+character_bytes None = []
+character_bytes (Some c) = encode_utf8 c
 
 -- what a byte stands for, with how many bytes behind it
 unfoldable pub escaped_character : ℕ → List ℕ → Option (List ℕ × ℕ)
-escaped_character b z = if b == 92 then option_map (λ e. (encoded e.character, e.len)) (escape z) else Some (b ∷ [], 0)
+escaped_character b z = if b == 92 then option_map (λ e. (character_bytes e.character, e.len)) (escape z) else Some (b ∷ [], 0)
 
 -- the bytes so far with those that were read, and how many bytes are left of an escape
-abbrev pub pushed : List ℕ → Option (List ℕ × ℕ) → Option (List ℕ × ℕ)
-pushed bytes None = None
-pushed bytes (Some p) = Some (bytes ++ p.0, p.1)
+abbrev pub bytes_and_left : List ℕ → Option (List ℕ × ℕ) → Option (List ℕ × ℕ)
+bytes_and_left bytes None = None
+bytes_and_left bytes (Some p) = Some (bytes ++ p.0, p.1)
 
 abbrev pub beside : List ℕ → Option ℕ → Option (List ℕ × ℕ)
 beside bytes None = None
 beside bytes (Some n) = Some (bytes, n)
 
 -- What a string's bytes stand for up to its quote. The number counts the bytes that are left of an escape.
-abbrev pub unescaped : ℕ → List ℕ → Option (List ℕ)
-unescaped left [] = None
-unescaped (suc left) (b ∷ z) = unescaped left z
-unescaped zero (b ∷ z) = if b == 34 then ended_string 0 z else option_and_then (λ p. prepend p.0 (unescaped p.1 z)) (escaped_character b z)
+abbrev pub unescaped_bytes : ℕ → List ℕ → Option (List ℕ)
+unescaped_bytes left [] = None
+unescaped_bytes (suc left) (b ∷ z) = unescaped_bytes left z
+unescaped_bytes zero (b ∷ z) = if b == 34 then ended_string 0 z else option_and_then (λ p. prepend p.0 (unescaped_bytes p.1 z)) (escaped_character b z)
 
 -- ---- raw
 
@@ -74,5 +74,5 @@ written_byte b =
     else (if b == 0 then codes "\\0" else b ∷ []))))
 
 -- a text as a string literal
-abbrev pub written : List ℕ → List ℕ
-written text = codes "\"" ++ flat_map written_byte text ++ codes "\""
+abbrev pub quoted_text : List ℕ → List ℕ
+quoted_text text = codes "\"" ++ flat_map written_byte text ++ codes "\""

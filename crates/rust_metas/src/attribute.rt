@@ -56,8 +56,7 @@ fn is_attribute(cursor: &Cursor<'_>, style: DocStyle) -> bool
     if cursor.symbol() != b'#' {
         return false;
     }
-    let mut ahead = cursor.ahead();
-    ahead.bump();
+    let mut ahead = cursor.second();
     match style {
         DocStyle::Outer => ahead.symbol() == b'[',
         DocStyle::Inner => {
@@ -79,9 +78,9 @@ fn is_behind(cursor: &Cursor<'_>, style: DocStyle) -> bool
 }
 
 /// A meta in its bracket. What stands behind it there is passed over, but for a word that can begin an item only.
-#[tactic(auto, unfolding(crate::specs::Attributes::bracketed))]
-fn bracketed(alloc: Global, cursor: &mut Cursor<'_>, anchor: usize) -> Result<Meta, AllocError>
-    ensures { Gives meta_view (reads_from anchor spec.bracketed cursor.old) result cursor.new }
+#[tactic(auto, unfolding(crate::specs::Attributes::bracketed_meta))]
+fn bracketed_meta(alloc: Global, cursor: &mut Cursor<'_>, anchor: usize) -> Result<Meta, AllocError>
+    ensures { Gives meta_view (reads_from anchor spec.bracketed_meta cursor.old) result cursor.new }
 {
     cursor.bump();
     let meta = meta(alloc, cursor, anchor, 128)?;
@@ -104,7 +103,7 @@ fn one_attribute(
         return doc(alloc, cursor, anchor);
     }
     pass_mark(cursor, style);
-    bracketed(alloc, cursor, anchor)
+    bracketed_meta(alloc, cursor, anchor)
 }
 
 #[tactic(auto, unfolding(crate::specs::Attributes::behind_docs), using(crate::proofs::Docs::docs_more, crate::proofs::Docs::docs_stop),)]

@@ -62,14 +62,14 @@ fn not_from(alloc: Global, mut conditions: Vec<CfgExpr>) -> Result<CfgExpr, Allo
 }
 
 /// The condition of a word with conditions in its bracket.
-#[tactic(auto, unfolding(crate::specs::Conditions::composed), using(hir_input::proofs::CfgLemmas::cfg_views))]
-fn composed(
+#[tactic(auto, unfolding(crate::specs::Conditions::composed_condition), using(hir_input::proofs::CfgLemmas::cfg_views))]
+fn composed_condition(
     alloc: Global,
     word: Name,
     conditions: Option<Vec<CfgExpr>>,
 ) -> Result<CfgExpr, AllocError>
     ensures { IfOk result (λ c. cfg_view c
-        ≡ spec.composed word (option_map (λ v. map cfg_view v.items) conditions)) }
+        ≡ spec.composed_condition word (option_map (λ v. map cfg_view v.items) conditions)) }
 {
     let Some(conditions) = conditions else {
         return Ok(CfgExpr::Invalid);
@@ -108,7 +108,7 @@ fn pair(alloc: Global, cursor: &mut Cursor<'_>, key: Name) -> Result<CfgExpr, Al
 
 /// A condition that goes up to a comma. With more behind it, it is none.
 #[tactic(auto, unfolding(crate::specs::Conditions::ended_condition), using(hir_input::proofs::CfgLemmas::cfg_views))]
-fn ended(cursor: &mut Cursor<'_>, condition: CfgExpr) -> CfgExpr
+fn condition_if_ended(cursor: &mut Cursor<'_>, condition: CfgExpr) -> CfgExpr
     ensures { reads (spec.ended_condition (cfg_view condition)) cursor.old ≡ (cfg_view result, cursor.new) }
 {
     let is_whole = is_ended(cursor);
@@ -130,21 +130,21 @@ pub(crate) fn condition(
     ensures { Gives cfg_view (reads (spec.condition depth) cursor.old) result cursor.new }
 {
     let Some(word) = option_name(alloc, cursor)? else {
-        return Ok(ended(cursor, CfgExpr::Invalid));
+        return Ok(condition_if_ended(cursor, CfgExpr::Invalid));
     };
     if cursor.is_at_open() {
         let bracket = cursor.symbol();
         cursor.bump();
         let inside = conditions(alloc, cursor, depth)?;
         cursor.pass_closed(bracket);
-        let condition = composed(alloc, word, inside)?;
-        return Ok(ended(cursor, condition));
+        let condition = composed_condition(alloc, word, inside)?;
+        return Ok(condition_if_ended(cursor, condition));
     }
     if cursor.symbol() == b'=' {
         let condition = pair(alloc, cursor, word)?;
-        return Ok(ended(cursor, condition));
+        return Ok(condition_if_ended(cursor, condition));
     }
-    Ok(ended(cursor, CfgExpr::Atom(CfgAtom::Flag(word))))
+    Ok(condition_if_ended(cursor, CfgExpr::Atom(CfgAtom::Flag(word))))
 }
 
 /// Takes conditions up to a bracket that closes, unless they stand too deep.

@@ -9,7 +9,7 @@ ghost use Rattle.rust_cursor.specs.Words.{bumped};
 ghost use Rattle.rust_metas.specs.Literals as spec;
 ghost use Rattle.rust_metas.specs.Strings as strings;
 
-use crate::string::{behind, raw, text_from, unescaped, written};
+use crate::string::{behind, quoted_text, raw_string_bytes, text_from, unescaped_bytes};
 use hir_input::{EditionYear, Literal, Span, SyntaxContext};
 use rust_cursor::Cursor;
 use rust_lexer::{DocStyle, LiteralKind, TokenKind};
@@ -55,11 +55,11 @@ fn string_of(alloc: Global, kind: LiteralKind, text: &str) -> Result<Option<Stri
 {
     match kind {
         LiteralKind::Str => {
-            let bytes = unescaped(alloc, behind(text.as_bytes(), 1))?;
+            let bytes = unescaped_bytes(alloc, behind(text.as_bytes(), 1))?;
             Ok(and_text(bytes))
         }
         LiteralKind::RawStr => {
-            let bytes = raw(alloc, behind(text.as_bytes(), 1))?;
+            let bytes = raw_string_bytes(alloc, behind(text.as_bytes(), 1))?;
             Ok(and_text(bytes))
         }
         _ => Ok(None),
@@ -141,8 +141,7 @@ pub(crate) fn value(
     if !is_literal(cursor) {
         return Ok(None);
     }
-    let mut ahead = cursor.ahead();
-    ahead.bump();
+    let ahead = cursor.second();
     if !is_ended(&ahead) {
         return Ok(None);
     }
@@ -211,7 +210,7 @@ fn literal_from(rendered: Option<String>, string: Option<String>, span: Span) ->
 fn string_literal(alloc: Global, z: &[u8], span: Span) -> Result<Option<Literal>, AllocError>
     ensures { IfOk result (λ l. l ≡ spec.string_literal z.now span) }
 {
-    let rendered = written(alloc, z)?;
+    let rendered = quoted_text(alloc, z)?;
     let string = Vec::from_slice(alloc, z)?;
     Ok(literal_from(text_from(rendered), text_from(string), span))
 }

@@ -44,7 +44,7 @@ fn input(
 
 /// A path and its input.
 #[tactic(auto, unfolding(crate::specs::Metas::plain_meta))]
-fn plain(alloc: Global, cursor: &mut Cursor<'_>, anchor: usize) -> Result<Meta, AllocError>
+fn plain_meta(alloc: Global, cursor: &mut Cursor<'_>, anchor: usize) -> Result<Meta, AllocError>
     ensures { Gives meta_view (reads_from anchor spec.plain_meta cursor.old) result cursor.new }
 {
     let path = path(alloc, cursor)?;
@@ -59,9 +59,7 @@ fn is_call(cursor: &Cursor<'_>, word: &str) -> bool
     if cursor.word() != word {
         return false;
     }
-    let mut ahead = cursor.ahead();
-    ahead.bump();
-    ahead.is_at_open()
+    cursor.second().is_at_open()
 }
 
 /// Whether the name comes next, perhaps as `r#name`.
@@ -86,9 +84,7 @@ fn is_named_call(cursor: &Cursor<'_>, name: &str) -> bool
     if !is_at_name(cursor, name) {
         return false;
     }
-    let mut ahead = cursor.ahead();
-    ahead.bump();
-    ahead.is_at_open()
+    cursor.second().is_at_open()
 }
 
 /// Passes over a word and the bracket behind it, which it gives.
@@ -136,7 +132,7 @@ pub(crate) fn meta(
         cursor.pass_closed(bracket);
         return Ok(Meta::CfgAttr { condition, metas });
     }
-    plain(alloc, cursor, anchor)
+    plain_meta(alloc, cursor, anchor)
 }
 
 /// Metas with the commas behind them, up to a bracket that closes.

@@ -19,7 +19,7 @@ pub(crate) fn text_from(bytes: Vec<u8>) -> Option<String>
 /// Takes in what a byte stands for with those behind it, and tells how many of these it is.
 #[tactic(auto, unfolding(crate::specs::Strings::escaped_character))]
 fn push_character(out: &mut Vec<u8>, b: u8, z: &[u8]) -> Result<Option<usize>, AllocError>
-    ensures { IfOk result (λ len. spec.pushed out.old.items (spec.escaped_character b z.now)
+    ensures { IfOk result (λ len. spec.bytes_and_left out.old.items (spec.escaped_character b z.now)
         ≡ spec.beside out.new.items len) }
 {
     if b != b'\\' {
@@ -38,7 +38,7 @@ fn push_character(out: &mut Vec<u8>, b: u8, z: &[u8]) -> Result<Option<usize>, A
 }
 
 /// These bytes, if just so many stand behind a quote.
-fn ended(bytes: Vec<u8>, count: usize, z: &[u8]) -> Option<Vec<u8>>
+fn bytes_if_ended(bytes: Vec<u8>, count: usize, z: &[u8]) -> Option<Vec<u8>>
     ensures { option_map (λ v. v.items) result ≡ spec.prepend bytes.items (spec.ended_string count z.now) }
 {
     if z.len() == count {
@@ -49,14 +49,14 @@ fn ended(bytes: Vec<u8>, count: usize, z: &[u8]) -> Option<Vec<u8>>
 
 /// What the bytes of a string behind its quote stand for.
 #[tactic(auto, using(crate::proofs::Strings::unescaped_end, crate::proofs::Strings::unescaped_none))]
-pub(crate) fn unescaped(alloc: Global, mut z: &[u8]) -> Result<Option<Vec<u8>>, AllocError>
-    ensures { IfOk result (λ v. option_map (λ v. v.items) v ≡ spec.unescaped 0 z.entry.now) }
+pub(crate) fn unescaped_bytes(alloc: Global, mut z: &[u8]) -> Result<Option<Vec<u8>>, AllocError>
+    ensures { IfOk result (λ v. option_map (λ v. v.items) v ≡ spec.unescaped_bytes 0 z.entry.now) }
 {
     let mut out = Vec::new(alloc);
     'bytes: while let [b, ..] = z {
         let rest = behind(z, 1);
         if *b == b'"' {
-            return Ok(ended(out, 0, rest));
+            return Ok(bytes_if_ended(out, 0, rest));
         }
         let Some(len) = push_character(&mut out, *b, rest)? else {
             return Ok(None);
@@ -96,7 +96,7 @@ fn raw_from(alloc: Global, count: usize, mut z: &[u8]) -> Result<Option<Vec<u8>>
     let mut out = Vec::new(alloc);
     'bytes: while let [b, rest @ ..] = z {
         if is_end(count, *b, rest) {
-            return Ok(ended(out, count, rest));
+            return Ok(bytes_if_ended(out, count, rest));
         }
         out.push(*b)?;
         z = rest;
@@ -112,7 +112,7 @@ pub(crate) fn behind(z: &[u8], count: usize) -> &[u8]
 }
 
 /// The bytes of a raw string behind its `r`.
-pub(crate) fn raw(alloc: Global, z: &[u8]) -> Result<Option<Vec<u8>>, AllocError>
+pub(crate) fn raw_string_bytes(alloc: Global, z: &[u8]) -> Result<Option<Vec<u8>>, AllocError>
     ensures { IfOk result (λ v. option_map (λ v. v.items) v ≡ spec.raw_string_bytes z.now) }
 {
     let count = hashes(z);
@@ -135,8 +135,8 @@ fn push_written(out: &mut Vec<u8>, b: u8) -> Result<(), AllocError>
 }
 
 /// A text as a string literal.
-pub(crate) fn written(alloc: Global, text: &[u8]) -> Result<Vec<u8>, AllocError>
-    ensures { IfOk result (λ v. v.items ≡ spec.written text.now) }
+pub(crate) fn quoted_text(alloc: Global, text: &[u8]) -> Result<Vec<u8>, AllocError>
+    ensures { IfOk result (λ v. v.items ≡ spec.quoted_text text.now) }
 {
     let mut out = Vec::with_capacity(alloc, text.len().saturating_add(2))?;
     out.extend_from_slice(b"\"")?;

@@ -4,6 +4,6 @@ pub mod Steps
 pub mod Trees
 pub mod Leads
 pub mod Segments
-pub mod AlikeTrees
-pub mod UntilTrees
+pub mod UseTrees
+pub mod BodyUseTrees
 pub mod Common

@@ -1,7 +1,7 @@
 -- Raw names, and names of all editions.
 use Rattle.std.proofs.Common.{◌≡◌, ◌≢◌, ◌==◌, ℕ, List, [], ◌∷◌, Bool, true, false, Bor, MatchOption, Option, Some, None, option_map, if◌then◌else◌, refl, sym, arith, bytes_eq}
 use Rattle.std.specs.List.{list_any}
-use Rattle.rust_paths.proofs.Common.{nat_tests, EditionYear, keywords, keywords_since_2018, keywords_since_2024, is_since_2018, is_since_2024, may_be_keyword, is_keyword, is_path_keyword, is_underscore, plain_name, behind_hash, name_text, as_name, by_identifier, identifier_name, TokenKind}
+use Rattle.rust_paths.proofs.Common.{nat_tests, EditionYear, keywords, keywords_since_2018, keywords_since_2024, is_since_2018, is_since_2024, may_be_keyword, may_be_path_keyword, is_keyword, is_path_keyword, path_keywords, is_underscore, plain_name, behind_hash, name_text, as_name, by_identifier, identifier_name, TokenKind}
 use Rattle.hir_input.specs.declared.edition.EditionYear.TheVariants as year
 use Rattle.rust_lexer.specs.declared.kind.TokenKind.TheVariants as kinds
 use Rattle.rust_cursor.proofs.Keywords.{none_passed}
@@ -31,6 +31,10 @@ no_keyword edition w e =
     let since_2018 : list_any (bytes_eq w) keywords_since_2018 ≡ false = none_passed may_be_keyword w keywords_since_2018 e in
     let since_2024 : list_any (bytes_eq w) keywords_since_2024 ≡ false = none_passed may_be_keyword w keywords_since_2024 e in
     rw (always, since_2018, since_2024) refl
+
+pub no_path_keyword : (w : List ℕ) → may_be_path_keyword w ≡ false → false ≡ is_path_keyword w
+unfolding is_path_keyword
+no_path_keyword w e = sym (none_passed may_be_path_keyword w path_keywords e)
 
 -- ---- editions
 

@@ -1,6 +1,6 @@
 -- Paths stay in the brackets that they stand in.
 use Rattle.std.proofs.Common.{Bool, true, false, ℕ, zero, suc, refl}
-use Rattle.rust_cursor.proofs.Around.{Remains}
+use Rattle.rust_cursor.proofs.WithinBrackets.{Remains}
 use Rattle.rust_cursor.proofs.InBrackets.{Stays, rule_within}
 use Rattle.rust_paths.proofs.Common.{reads, has_name, name, segment, is_segment, is_path_start, other_segment, is_dollar_crate, is_colons, is_joint, is_last_self, is_path_colons, more_from, more_segments, path}
 

@@ -1,6 +1,6 @@
 -- Steps over the segments of a path, and over what stands in brackets behind `pub`.
 use Rattle.std.proofs.Common.{◌≡◌, ◌<◌, ◌+◌, ◌-◌, ℕ, zero, suc, Bool, true, false, List, [], ◌∷◌, Option, Some, refl, sym, ap, ◌∙◌, arith, ◌==◌, ◌&&◌, codes, bytes_eq}
-use Rattle.rust_paths.proofs.Common.{PathNode, Path, PathWord, Tokens, bumped, path_node, path_start, then_word, meaning, with_word, with_words, front_of_path, has_more, segment, more_from, is_path_part, reads, sees, past_from, symbol, word, when, scope, scope_of, scope_path, plain_scope, is_in, scoped}
+use Rattle.rust_paths.proofs.Common.{PathNode, Path, PathWord, Tokens, bumped, path_node, path_start, then_word, meaning, with_word, with_words, front_of_path, has_more, segment, more_from, is_path_part, reads, sees, past_from, symbol, word, when, scope, scope_of, scope_path, plain_scope, is_in, scoped_visibility}
 use Rattle.hir_input.specs.declared.ast.Visibility.TheVariants.{Pub}
 use Rattle.rust_paths.proofs.Meant.{meaning-step, meaning-start}
 
@@ -39,13 +39,13 @@ pub parts_more : (bound at : ℕ) (ts : Tokens) → at < bound → sees is_path_
 parts_more bound at ts below e = let turn : bound - at ≡ suc (bound - (at + 1)) = omega arith in rw (turn, e) refl
 
 -- no bracket
-pub scoped_none : (ts : Tokens) → (symbol ts == 40) ≡ false → reads scoped ts ≡ (Pub, ts)
-unfolding scoped
+pub scoped_none : (ts : Tokens) → (symbol ts == 40) ≡ false → reads scoped_visibility ts ≡ (Pub, ts)
+unfolding scoped_visibility
 scoped_none ts e = rw e refl
 
 -- `(in`
-pub scoped_in : (ts : Tokens) → (symbol ts == 40) ≡ true → is_in ts ≡ true → reads scoped ts ≡ reads scope_path (bumped (bumped ts))
-unfolding scoped is_in
+pub scoped_in : (ts : Tokens) → (symbol ts == 40) ≡ true → is_in ts ≡ true → reads scoped_visibility ts ≡ reads scope_path (bumped (bumped ts))
+unfolding scoped_visibility is_in
 scoped_in ts e f = rw (e, f) refl
 
 and_false : (b : Bool) → (b && false) ≡ false
@@ -53,8 +53,8 @@ and_false true = refl
 and_false false = refl
 
 -- another bracket
-pub scoped_plain : (ts : Tokens) → (symbol ts == 40) ≡ true → is_in ts ≡ false → reads scoped ts ≡ plain_scope (scope ts) ts
-unfolding scoped is_in scope scope_of
+pub scoped_plain : (ts : Tokens) → (symbol ts == 40) ≡ true → is_in ts ≡ false → reads scoped_visibility ts ≡ plain_scope (scope ts) ts
+unfolding scoped_visibility is_in scope scope_of
 scoped_plain ts e f =
     when (symbol (bumped (bumped ts)) == 41)
     (λ g. when (bytes_eq (word (bumped ts)) (codes "crate")) (λ h. rw (e, f, g, h) refl)

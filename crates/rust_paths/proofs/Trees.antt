@@ -7,7 +7,7 @@ use Rattle.hir_input.specs.declared.ast.UseTree.TheViews.{roll-UseTree}
 use Rattle.std.proofs.lemmas.Bool.{not-true}
 use Rattle.std.proofs.lemmas.Slice.Eq.{bytes_eq-Decides}
 use Rattle.rust_cursor.specs.Words.{eat_pair, is_pair}
-use Rattle.rust_cursor.proofs.Around.{word_symbol}
+use Rattle.rust_cursor.proofs.WithinBrackets.{word_symbol}
 use Rattle.rust_cursor.proofs.Turns.{turns_stop}
 use Rattle.rust_paths.proofs.Steps.{more_stop}
 

@@ -1,5 +1,5 @@
 -- Paths, word by word.
-use Rattle.std.specs.Prelude.{ℕ, Bool, nat_lt, ◌+◌, if◌then◌else◌, Option, Some, None, option_map, List, [], ◌∷◌, ◌++◌}
+use Rattle.std.specs.Prelude.{ℕ, Bool, nat_lt, ◌+◌, if◌then◌else◌, Option, Some, None, option_map, List, [], ◌∷◌, ◌++◌, slice_index}
 use Rattle.hir_input.specs.declared.mod_path.PathKind.{PathKind}
 use Rattle.hir_input.specs.declared.mod_path.PathKind.TheVariants.{Plain, Super, Crate, Abs, DollarCrate}
 use Rattle.hir_input.specs.declared.ast.PathNode.{PathNode}
@@ -7,6 +7,8 @@ use Rattle.hir_input.specs.declared.ast.PathNode.TheVariants.{Unreadable}
 use Rattle.hir_input.specs.Path.{Path}
 use Rattle.hir_input.specs.Words.{PathWord, self_word, super_word, crate_word, absolute_word, dollar_crate_word, name_word, words}
 use Rattle.rust_cursor.specs.Tokens.{Tokens}
+use Rattle.rust_cursor.specs.Words.{has_length}
+use Rattle.rust_paths.specs.declared.names.TheConstants.{PATH_FIRST}
 use Rattle.rust_paths.specs.Meaning.{node_of, read_all, all_words}
 
 -- nothing, or `::`
@@ -42,3 +44,7 @@ with_word p r = (then_word p r.0, r.1)
 
 abbrev pub with_words : Option Path → List (Option PathWord) × Tokens → PathNode × Tokens
 with_words p r = (meaning p r.0, r.1)
+
+-- a word that may be a keyword that a path may hold, by its length and its first byte
+abbrev pub may_be_path_keyword : List ℕ → Bool
+may_be_path_keyword w = has_length PATH_FIRST (slice_index w 0) w

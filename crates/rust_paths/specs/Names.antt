@@ -56,6 +56,7 @@ may_be_keyword w = has_length KEYWORD_FIRST (slice_index w 0) w && has_length KE
 abbrev pub path_keywords : List (List ℕ)
 path_keywords = codes "crate" ∷ codes "self" ∷ codes "super" ∷ codes "Self" ∷ []
 
+-- a keyword that a path may hold
 unfoldable pub is_path_keyword : List ℕ → Bool
 is_path_keyword word = list_any (bytes_eq word) path_keywords
 

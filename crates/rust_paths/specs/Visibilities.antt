@@ -75,8 +75,8 @@ unfoldable pub is_in : Tokens → Bool
 is_in ts = bytes_eq (word (bumped ts)) (codes "in")
 
 -- Behind `pub`: `(in path)`, or a word or a path in brackets. Other brackets are no part of it, as in `struct Pair(pub (u8, u8))`.
-unfoldable pub scoped : Grammar outside Visibility
-scoped =
+unfoldable pub scoped_visibility : Grammar outside Visibility
+scoped_visibility =
     on_seen (then_seen (symbol_is 40) 1 (word_is (codes "in"))) 2 refl scope_path
     (on_seen (is_scope (codes "crate")) 3 refl (gives PubCrate)
     (on_seen (is_scope (codes "super")) 3 refl (gives PubSuper)
@@ -85,4 +85,4 @@ scoped =
 
 -- Visibility: `pub` and a scope, if one is written. `crate` alone is none.
 unfoldable pub visibility : Grammar outside (Option Visibility)
-visibility = on_seen (word_is (codes "pub")) 1 refl (reads_as Some scoped) (gives None)
+visibility = on_seen (word_is (codes "pub")) 1 refl (reads_as Some scoped_visibility) (gives None)

@@ -4,6 +4,7 @@ ghost use Rattle.std.specs.Prelude.{◌≡◌, Some, IfOk, option_map, string_by
 ghost use Rattle.rust_cursor.specs.Grammar.{reads};
 ghost use Rattle.rust_cursor.specs.Looks.{sees};
 ghost use Rattle.rust_cursor.specs.Reader.{Gives};
+ghost use Rattle.rust_paths.specs.Inner as inner;
 ghost use Rattle.rust_paths.specs.Names as spec;
 ghost use Rattle.rust_paths.specs.Views.{placed_view};
 
@@ -110,12 +111,37 @@ fn is_keyword(edition: EditionYear, word: &str) -> bool
     is_keyword_among(edition, word)
 }
 
-/// Whether a path may hold the keyword.
+/// The lengths of the keywords that a path may hold, by their first byte.
+static PATH_FIRST: [u16; 32] = [
+    0, 0, 0, 32, 0, 0, 0, 0, 0, 0, 0, 0, 0, 0, 0, 0, 0, 0, 0, 48, 0, 0, 0, 0, 0, 0, 0, 0, 0, 0, 0,
+    0,
+];
+
+/// Whether a word may be one of these, by its length and its first byte.
+#[inline(always)]
+fn may_be_path_keyword(word: &str) -> bool
+    ensures { result ≡ inner.may_be_path_keyword word.now }
+{
+    has_length(&PATH_FIRST, first_byte(word), word)
+}
+
 #[tactic(auto, unfolding(crate::specs::Names::is_path_keyword))]
-pub(crate) fn is_path_keyword(word: &str) -> bool
+fn is_path_keyword_among(word: &str) -> bool
     ensures { result ≡ spec.is_path_keyword word.now }
 {
     matches!(word, "crate" | "self" | "super" | "Self")
+}
+
+/// Whether the word is a keyword that a path may hold: `crate`, `self`, `super` or `Self`.
+#[tactic(auto, using(crate::proofs::Naming::no_path_keyword))]
+pub fn is_path_keyword(word: &str) -> bool
+    ensures { result ≡ spec.is_path_keyword word.now }
+{
+    // Most names are told by their length and their first byte.
+    if !may_be_path_keyword(word) {
+        return false;
+    }
+    is_path_keyword_among(word)
 }
 
 #[tactic(auto, unfolding(crate::specs::Names::plain_name))]

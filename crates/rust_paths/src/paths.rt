@@ -30,9 +30,7 @@ fn is_dollar_crate(cursor: &Cursor<'_>) -> bool
     if cursor.symbol() != b'$' {
         return false;
     }
-    let mut ahead = cursor.ahead();
-    ahead.bump();
-    ahead.word() == "crate"
+    cursor.second().word() == "crate"
 }
 
 /// Whether a segment of a path comes next.
@@ -136,10 +134,7 @@ fn is_joint(cursor: &Cursor<'_>) -> bool
     if !is_colons(cursor) {
         return false;
     }
-    let mut ahead = cursor.ahead();
-    ahead.bump();
-    ahead.bump();
-    matches!(ahead.symbol(), b'*' | b'{')
+    matches!(cursor.second().second().symbol(), b'*' | b'{')
 }
 
 /// Whether a `::` comes next that belongs to a path.
@@ -161,9 +156,7 @@ pub(crate) fn is_last_self(cursor: &Cursor<'_>) -> bool
     if cursor.word() != "self" {
         return false;
     }
-    let mut ahead = cursor.ahead();
-    ahead.bump();
-    !is_colons(&ahead)
+    !is_colons(&cursor.second())
 }
 
 /// Whether a `::` comes next with another segment of the path behind it.
@@ -176,10 +169,7 @@ fn has_more(cursor: &Cursor<'_>, in_use: bool) -> bool
     if !in_use {
         return true;
     }
-    let mut ahead = cursor.ahead();
-    ahead.bump();
-    ahead.bump();
-    !is_last_self(&ahead)
+    !is_last_self(&cursor.second().second())
 }
 
 /// Takes `::` and a segment, as often as they come.

@@ -111,7 +111,7 @@ fn rename(alloc: Global, cursor: &mut Cursor<'_>) -> Result<Option<Rename>, Allo
 }
 
 #[tactic(auto, using(crate::proofs::Trees::use_tree_view_made))]
-fn bare(path: Option<PathNode>, star: bool, rename: Option<Rename>) -> UseTree
+fn bare_tree(path: Option<PathNode>, star: bool, rename: Option<Rename>) -> UseTree
     ensures { use_tree_view result ≡ spec.bare_tree path star rename }
 {
     UseTree {
@@ -123,7 +123,12 @@ fn bare(path: Option<PathNode>, star: bool, rename: Option<Rename>) -> UseTree
 }
 
 /// Where a tree begins, and those in it, if the path can be read.
-fn begun(alloc: Global, path: &Option<PathNode>, start: usize, below: Vec<usize>) -> TreeStarts
+fn tree_starts(
+    alloc: Global,
+    path: &Option<PathNode>,
+    start: usize,
+    below: Vec<usize>,
+) -> TreeStarts
     ensures { starts_view result ≡ spec.begun_trees path.now start below.items }
 {
     if let Some(PathNode::Unreadable) = path {
@@ -150,7 +155,7 @@ fn begun_list(
     if path.is_none() && list.is_none() {
         return TreeStarts::none(alloc);
     }
-    begun(alloc, path, start, below)
+    tree_starts(alloc, path, start, below)
 }
 
 /// A tree without a list, that begins there.
@@ -163,9 +168,9 @@ fn found_bare(
 ) -> FoundUseTree
     ensures { found_view result ≡ spec.with_bare start path star rename }
 {
-    let starts = begun(alloc, &path, start, Vec::new(alloc));
+    let starts = tree_starts(alloc, &path, start, Vec::new(alloc));
     FoundUseTree {
-        tree: Some(bare(path, star, rename)),
+        tree: Some(bare_tree(path, star, rename)),
         starts,
         too_deep: None,
     }
@@ -173,7 +178,7 @@ fn found_bare(
 
 /// A tree with a list, if there is something of it.
 #[tactic(auto, using(crate::proofs::Trees::use_tree_view_made))]
-fn listed(path: Option<PathNode>, list: Option<Vec<UseTree>>) -> Option<UseTree>
+fn listed_tree(path: Option<PathNode>, list: Option<Vec<UseTree>>) -> Option<UseTree>
     ensures { option_map use_tree_view result
         ≡ spec.tree_with_list path (option_map (λ v. map use_tree_view v.items) list) }
 {
@@ -199,7 +204,7 @@ fn found_listed(
     let list = found.list;
     let starts = begun_list(alloc, &path, start, &list, found.starts);
     FoundUseTree {
-        tree: listed(path, list),
+        tree: listed_tree(path, list),
         starts,
         too_deep: found.too_deep,
     }
@@ -222,7 +227,7 @@ fn self_in_list(
     ensures { IfOk result (λ tree. use_tree_view tree ≡ spec.self_in_list path rename) }
 {
     let mut list = Vec::new(alloc);
-    list.push(bare(self_path(alloc), false, rename))?;
+    list.push(bare_tree(self_path(alloc), false, rename))?;
     Ok(UseTree {
         path,
         star: false,
@@ -244,7 +249,7 @@ fn self_tree(
     below.push(cursor.at())?;
     cursor.bump();
     let rename = rename(alloc, cursor)?;
-    let starts = begun(alloc, &path, start, below);
+    let starts = tree_starts(alloc, &path, start, below);
     Ok(FoundUseTree {
         tree: Some(self_in_list(alloc, path, rename)?),
         starts,

@@ -57,8 +57,7 @@ fn scope_of(word: &str) -> Option<Visibility>
 fn scope(cursor: &Cursor<'_>) -> Option<Visibility>
     ensures { result ≡ spec.scope cursor.now }
 {
-    let mut ahead = cursor.ahead();
-    ahead.bump();
+    let mut ahead = cursor.second();
     let word = ahead.word();
     ahead.bump();
     if ahead.symbol() != b')' {
@@ -72,9 +71,7 @@ fn scope(cursor: &Cursor<'_>) -> Option<Visibility>
 fn is_in(cursor: &Cursor<'_>) -> bool
     ensures { result ≡ spec.is_in cursor.now }
 {
-    let mut ahead = cursor.ahead();
-    ahead.bump();
-    ahead.word() == "in"
+    cursor.second().word() == "in"
 }
 
 /// Takes a path, up to the bracket that closes; before a comma or what begins an item, where one comes first.
@@ -112,8 +109,7 @@ fn pass_parts(cursor: &mut Cursor<'_>)
 fn is_bare_path(cursor: &Cursor<'_>) -> bool
     ensures { result ≡ sees spec.is_bare_path (bumped cursor.now) }
 {
-    let mut ahead = cursor.ahead();
-    ahead.bump();
+    let mut ahead = cursor.second();
     pass_parts(&mut ahead);
     if ahead.symbol() != b')' {
         return false;
@@ -141,8 +137,8 @@ fn plain_scope(alloc: Global, cursor: &mut Cursor<'_>) -> Result<Visibility, All
 
 /// Takes what goes on a visibility behind `pub`.
 #[tactic(auto, using(crate::proofs::Steps::scoped_none, crate::proofs::Steps::scoped_in, crate::proofs::Steps::scoped_plain),)]
-fn scoped(alloc: Global, cursor: &mut Cursor<'_>) -> Result<Visibility, AllocError>
-    ensures { Gives (λ v. v) (reads spec.scoped cursor.old) result cursor.new }
+fn scoped_visibility(alloc: Global, cursor: &mut Cursor<'_>) -> Result<Visibility, AllocError>
+    ensures { Gives (λ v. v) (reads spec.scoped_visibility cursor.old) result cursor.new }
 {
     if cursor.symbol() != b'(' {
         return Ok(Visibility::Pub);
@@ -168,5 +164,5 @@ pub fn visibility(alloc: Global, cursor: &mut Cursor<'_>) -> Result<Option<Visib
         return Ok(None);
     }
     cursor.bump();
-    Ok(Some(scoped(alloc, cursor)?))
+    Ok(Some(scoped_visibility(alloc, cursor)?))
 }

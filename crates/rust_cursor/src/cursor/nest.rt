@@ -1,11 +1,10 @@
 //! Where a token stands.
 
 ghost use Rattle.std.specs.Prelude.{◌≡◌, ◌+◌, ◌<◌, ◌^◌};
-ghost use Rattle.rust_cursor.specs.Inner as inner;
 ghost use Rattle.rust_cursor.specs.Nests as spec;
 
-use crate::among::{first_byte, has_length, middle_byte};
 use crate::cursor::Cursor;
+use crate::cursor::keywords::leads_on;
 use rust_lexer::TokenKind;
 
 /// What the token before is for the next.
@@ -413,78 +412,4 @@ fn free_behind(nest: Nest, symbol: u8) -> usize
         b'}' => 0,
         _ => nest.free,
     }
-}
-
-/// The lengths of the keywords with which neither a type nor a value ends, by their first byte.
-static LEADING_FIRST: [u16; 32] = [
-    0, 36, 32, 288, 8, 80, 12, 0, 0, 20, 0, 0, 24, 56, 0, 0, 8, 0, 72, 64, 48, 72, 0, 32, 0, 32, 0,
-    0, 0, 0, 0, 0,
-];
-
-/// And by the one in their middle.
-static LEADING_MIDDLE: [u16; 32] = [
-    0, 96, 0, 0, 0, 104, 4, 0, 0, 288, 0, 0, 0, 0, 36, 24, 16, 0, 0, 28, 96, 88, 16, 0, 0, 40, 0,
-    0, 0, 0, 0, 0,
-];
-
-/// Whether a word may be one of these, by its length and two of its bytes.
-#[inline(always)]
-fn may_lead_on(word: &str) -> bool
-    ensures { result ≡ inner.may_lead_on word.now }
-{
-    has_length(&LEADING_FIRST, first_byte(word), word)
-        && has_length(&LEADING_MIDDLE, middle_byte(word), word)
-}
-
-#[inline(never)]
-#[tactic(auto, unfolding(crate::specs::Nests::leads_on))]
-fn is_leading(word: &str) -> bool
-    ensures { result ≡ spec.leads_on word.now }
-{
-    matches!(
-        word,
-        "as" | "async"
-            | "break"
-            | "const"
-            | "continue"
-            | "dyn"
-            | "else"
-            | "enum"
-            | "extern"
-            | "fn"
-            | "for"
-            | "if"
-            | "impl"
-            | "in"
-            | "let"
-            | "loop"
-            | "match"
-            | "mod"
-            | "move"
-            | "mut"
-            | "pub"
-            | "ref"
-            | "return"
-            | "static"
-            | "struct"
-            | "trait"
-            | "type"
-            | "unsafe"
-            | "use"
-            | "where"
-            | "while"
-            | "yield"
-    )
-}
-
-/// Whether neither a type nor a value ends with the word.
-#[tactic(auto, using(crate::proofs::Keywords::leads_none))]
-fn leads_on(word: &str) -> bool
-    ensures { result ≡ spec.leads_on word.now }
-{
-    // Most words are told by their length and two bytes.
-    if !may_lead_on(word) {
-        return false;
-    }
-    is_leading(word)
 }

@@ -4,12 +4,12 @@ ghost use Rattle.std.specs.Prelude.{ℕ, ◌≡◌, ◌≤◌, ◌<◌, ◌+◌,
 ghost use Rattle.std.specs.Prelude.{Option, length, string_bytes, filter};
 ghost use Rattle.rust_lexer.specs.Tokens.{is_significant};
 ghost use Rattle.rust_cursor.specs.Extents as spec;
-ghost use Rattle.rust_cursor.specs.Inner as inner;
 ghost use Rattle.rust_cursor.specs.Reader.{Gives};
 ghost use Rattle.rust_cursor.specs.Tokens.{Tokens, last_unended, left_of};
 ghost use Rattle.rust_cursor.specs.Words.{bumped, is_empty, symbol};
 
-use crate::among::{first_byte, has_length, is_among};
+use crate::among::is_among;
+use crate::cursor::keywords::leads_item;
 use crate::cursor::nest::{Before, Nest, count_inside, is_literal_kind, is_mark, is_star};
 use crate::cursor::{Cursor, note_last};
 use rust_lexer::{Depth, Lexer, Token};
@@ -149,7 +149,7 @@ impl<'t> Cursor<'t> {
     pub(crate) fn begins(&self, nest: &Nest) -> bool
         ensures { result ≡ spec.begins nest.now self.now }
     {
-        // Most words begin none, and are told by their length and their first byte.
+        // Most words begin none, and are told by their length and two bytes.
         if !leads_item(self.word()) && self.symbol() != b'#' && !self.is_at_doc() {
             return false;
         }
@@ -398,7 +398,7 @@ impl<'t> Cursor<'t> {
         Ok(())
     }
 
-    #[tactic(auto, unfolding(crate::specs::Extents::taken), using(crate::proofs::Unkept::clipped_stop))]
+    #[tactic(auto, unfolding(crate::specs::Extents::taken), using(crate::proofs::UnkeptTexts::clipped_stop))]
     fn take_excerpt(
         &mut self,
         alloc: Global,
@@ -574,20 +574,6 @@ fn push_token(text: &mut String, token: &str) -> Result<(), AllocError>
         [byte] if *byte < 128 => text.push(*byte as char),
         _ => text.push_str(token),
     }
-}
-
-/// The lengths of the words that can begin an item, by their first byte.
-static ITEMS: [u16; 32] = [
-    0, 0, 0, 32, 0, 80, 4, 0, 0, 16, 0, 0, 0, 2088, 0, 0, 8, 0, 0, 64, 48, 104, 0, 0, 0, 0, 0, 0,
-    0, 0, 0, 0,
-];
-
-/// Whether a word may begin an item, by its length and its first byte.
-#[inline(always)]
-fn leads_item(word: &str) -> bool
-    ensures { result ≡ inner.leads_item word.now }
-{
-    has_length(&ITEMS, first_byte(word), word)
 }
 
 fn opens(symbol: u8) -> bool

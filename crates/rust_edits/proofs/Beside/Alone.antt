@@ -1,7 +1,7 @@
 -- A text that ends with a `;` or a `}` of its own, in a longer one.
 use Rattle.rust_edits.proofs.Common.{ends_items, IsBare, slice_index, filter, EditionYear, Stop, stop, EndsAlone, is_continuation, is_significant, tokens_from, Tokens, tokens_in_front, moved, Piece, symbol_of, tokens, tokens_of, at, Found, nothing_found, nat_tests, filter-append, tokens_first, tokens_moved, own, stop_at, plain_is, filter_moved, Ending, Near, near, is_last, are_ended}
 use Rattle.std.proofs.Common.{◌≡◌, ◌+◌, ◌||◌, ℕ, suc, true, false, Option, List, [], ◌∷◌, ◌++◌, length, refl, sym, ap, ◌∙◌, subst, arith, map, append-nil}
-use Rattle.rust_edits.proofs.Beside.NearItems.{FoundNear}
+use Rattle.rust_edits.proofs.Beside.EndingItems.{FoundNear}
 
 -- ---- the tokens of both
 

@@ -4,7 +4,7 @@ use Rattle.rust_edits.proofs.Common.{Tokens, symbol, word, kind, bumped, eat, is
 use Rattle.rust_lexer.specs.declared.kind.TokenKind.TheVariants as kinds
 use Rattle.rust_cursor.specs.Words.{eat_pair, identifies}
 use Rattle.rust_cursor.proofs.Leads.{eat_pair_leads}
-use Rattle.rust_cursor.proofs.Around.{word_symbol}
+use Rattle.rust_cursor.proofs.WithinBrackets.{word_symbol}
 use Rattle.rust_paths.specs.Paths.{is_raw, is_colons, is_path_colons, is_dollar_crate, segment, other_segment, more_from, more_segments, is_path_start}
 use Rattle.rust_cursor.proofs.Looks.{at_identifier_symbol, kind_symbol}
 use Rattle.rust_paths.proofs.Leads.{name_symbol}

@@ -3,14 +3,14 @@ use Rattle.std.proofs.Common.{◌≡◌, Bool, ◌<◌, ◌+◌, ◌==◌, ◌||
 use Rattle.rust_edits.proofs.Common.{own, stop_at, tokens_in_front, option_map, not, slice_index, filter, EditionYear, MetaView, ItemView, Row, Stop, stop, EndsAlone, moved, is_continuation, Piece, symbol_of, is_significant, tokens, most, Tokens, tokens_of, last_unended, by_first, symbol, TextRange, inner_attributes, Problem, Found, nothing_found, and_problem_at, and_all, finding, items, moved_range, moved_span, moved_problem, behind_attributes, found_in, read_of, ends_items, read_at, EndsWhole, InsideJoin, ItemsJoin, IsBare, found_on, BeginsAnew, common_steps, nat_tests, tokens_sound, behind, tokens_laid, LeadsTo, here, further, bumped, through, by_kept, inner_attributes_until, inner_attributes_leads, Span, items_found, Ending, Near, near, fewer, near_parting, near_enters, near_levels, is_still, tokens_short}
 use Rattle.rust_items.specs.declared.log.ProblemKind.TheVariants as problem
 use Rattle.rust_cursor.proofs.Parting as parting
-use Rattle.rust_edits.proofs.Beside.NearLeaves.{Given, given_on}
-use Rattle.rust_edits.proofs.Beside.NearItems.{top_end, FoundNear, told}
+use Rattle.rust_edits.proofs.Beside.EndingParts.{Given, given_on}
+use Rattle.rust_edits.proofs.Beside.EndingItems.{top_end, FoundNear, told}
 use Rattle.rust_edits.proofs.Beside.Alone.{last_is, part_in, part_near, part_ended, start_near, ended, IsPart, tokens_behind}
 use Rattle.rust_edits.proofs.Beside.Behind.{last_stop, plain_on, behind_moved, first_moved, unended_behind, past_whole, plain_tokens}
 use Rattle.rust_edits.proofs.Beside.Inner.{no_inner}
 use Rattle.rust_edits.proofs.Beside.Onward.{IsRead, read_on}
 use Rattle.rust_edits.proofs.Beside.Turning.{run, run_stop, run_ended, top_is, Calm, calm_left, calm_by}
-use Rattle.rust_edits.proofs.Beside.NearFields.{empty_left}
+use Rattle.rust_edits.proofs.Beside.EndingFields.{empty_left}
 use Rattle.rust_edits.proofs.Typing.ProblemsIn.{unended_kept}
 use Rattle.rust_edits.proofs.Typing.Unended.{last_append}
 

@@ -1,10 +1,11 @@
 -- A text of whole items in a longer one: the longer one is read on from its end.
 use Rattle.std.proofs.Common.{◌≤◌, ◌≡◌, ◌<◌, ◌+◌, ◌==◌, ℕ, zero, suc, Bool, true, false, Option, List, [], ◌++◌, length, sym, ap, ◌∙◌, subst, arith, append_assoc, append-nil}
 use Rattle.rust_edits.proofs.Common.{nothing, beyond_leads, option_to_list, ItemView, beyond, Tokens, Found, is_list_end, turn, nat_tests, IsLaid, behind, LeadsTo, here, through, when, by_next, Ending, Near, Gone, more_left, past_same, beyond_near, AtEnd, is_still}
-use Rattle.rust_cursor.proofs.Near.{left_behind}
-use Rattle.rust_edits.proofs.Beside.NearLeaves.{Given, given_on, passes, before_end, at_end}
-use Rattle.rust_edits.proofs.Beside.NearItems.{top_end, FoundNear, told, TurnEnds}
-use Rattle.rust_edits.proofs.Beside.NearTurns.{turn_ends}
+use Rattle.rust_cursor.proofs.EndingTokens.{left_behind}
+use Rattle.rust_edits.proofs.Beside.EndingParts.{Given, given_on}
+use Rattle.rust_edits.proofs.Beside.EndingLeaves.{passes, before_end, at_end}
+use Rattle.rust_edits.proofs.Beside.EndingItems.{top_end, FoundNear, told, TurnEnds}
+use Rattle.rust_edits.proofs.Beside.EndingTurns.{turn_ends}
 use Rattle.rust_edits.proofs.Beside.Turning.{run, run_none, run_same, run_keeps, none_end, next_leads, next_fewer, beyond_none, turn_far, true_false, Calm, calm, later, calm_left, calm_next}
 
 -- what was read of the short text, and in the long one: the same items, and then what stands behind them is read, whatever number of turns is allowed

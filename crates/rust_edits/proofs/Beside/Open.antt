@@ -8,7 +8,7 @@ use Rattle.rust_cursor.specs.declared.cursor.nest.Nest.{Nest}
 use Rattle.rust_cursor.specs.Extents.{begins, begins_behind, is_item_word}
 use Rattle.rust_cursor.specs.Nests.{count_behind, is_mark}
 use Rattle.rust_cursor.specs.Words.{documents, word_by}
-use Rattle.rust_cursor.proofs.Around.{others_of}
+use Rattle.rust_cursor.proofs.ClosingBrace.{others_of}
 use Rattle.rust_cursor.proofs.Passing.{braces_of}
 use Rattle.rust_cursor.proofs.Scans.{taking_stop, taking_more}
 use Rattle.rust_leaves.specs.declared.head.Head.TheVariants as heads

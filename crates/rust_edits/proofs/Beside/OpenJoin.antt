@@ -14,12 +14,12 @@ use Rattle.rust_edits.proofs.Beside.Alone.{start_near}
 use Rattle.rust_edits.proofs.Beside.Behind.{last_moved}
 use Rattle.rust_edits.proofs.Beside.Inner.{no_inner}
 use Rattle.rust_edits.proofs.Beside.Joins.{edition_stays, found_same, found_still, found_both, items_join, items_top, level_at, level_near, unended_join}
-use Rattle.rust_edits.proofs.Beside.NearItems.{top_end, front_leads}
-use Rattle.rust_edits.proofs.Beside.NearLeaves.{Given}
+use Rattle.rust_edits.proofs.Beside.EndingItems.{top_end, front_leads}
+use Rattle.rust_edits.proofs.Beside.EndingParts.{Given}
 use Rattle.rust_edits.proofs.Beside.Onward.{IsRead, read_on}
 use Rattle.rust_edits.proofs.Beside.Open.{Reaches, TakesUp, taking_open, leaf_open, nil_left, nil_plain}
 use Rattle.rust_edits.proofs.Beside.Tops.{turn_strict}
-use Rattle.rust_edits.proofs.Beside.NearFields.{empty_left}
+use Rattle.rust_edits.proofs.Beside.EndingFields.{empty_left}
 use Rattle.std.proofs.lemmas.List.{length-map}
 use Rattle.rust_edits.proofs.Beside.Turning.{top_is, turn_leads, run, run_stop, next_fewer, beyond_none}
 use Rattle.rust_edits.proofs.Typing.ProblemsIn.{unended_kept}

@@ -6,7 +6,7 @@ use Rattle.rust_leaves.specs.declared.head.Head.TheVariants as heads
 use Rattle.rust_items.specs.declared.log.ProblemKind.TheVariants as problem
 use Rattle.rust_edits.proofs.Adding.{IfLeaf, any_place, Keeping}
 use Rattle.rust_edits.proofs.Adding as adding
-use Rattle.rust_edits.proofs.Beside.NearItems.{told, told_problem}
+use Rattle.rust_edits.proofs.Beside.EndingItems.{told, told_problem}
 
 -- ---- problems stay
 

@@ -1,9 +1,9 @@
 -- Turns at the top of a text, or between braces: each takes a token, and it does not matter how many more are allowed than there are tokens.
-use Rattle.std.proofs.Common.{◌≡◌, ◌≤◌, ◌<◌, ◌==◌, ℕ, zero, suc, Bool, true, false, Option, Some, None, List, [], ◌++◌, length, refl, sym, ◌∙◌, arith}
+use Rattle.std.proofs.Common.{◌≡◌, ◌≤◌, ◌<◌, ◌==◌, ◌||◌, ℕ, zero, suc, Bool, true, false, Option, Some, None, List, [], ◌++◌, length, refl, sym, ◌∙◌, arith}
 use Rattle.rust_edits.proofs.Common.{leaf, LeafRead, leaf_found, option_to_list, ItemView, behind_tree, beyond, Tokens, symbol, at, is_empty, is_at_open, is_at_end, bumped, Head, FrontRead, front, Found, Finder, BlockRead, leaf_turn, finding_from, is_list_end, by_head, inside, depth_of, turn, eq-eqb, or_parts, ne_eqb, IsLaid, behind, at_behind, LeadsTo, here, further, through, when, behind_closed_leads, behind_tree_leads, beyond_leads, shorter, turn_found, fewer}
 use Rattle.rust_items.specs.declared.log.ProblemKind.TheVariants as problem
 use Rattle.rust_leaves.specs.declared.head.Head.TheVariants as heads
-use Rattle.rust_edits.proofs.Beside.NearItems.{told, told_problem}
+use Rattle.rust_edits.proofs.Beside.EndingItems.{told, told_problem}
 use Rattle.rust_edits.proofs.Beside.Tops.{turn_strict, turn_keeps}
 use Rattle.rust_edits.proofs.Typing.ProblemsAlike.{or_none}
 

@@ -4,14 +4,14 @@ use Rattle.rust_edits.proofs.Common.{nat_lt, EditionYear, Piece, symbol_of, move
 use Rattle.rust_cursor.specs.declared.cursor.nest.Before.{Before}
 use Rattle.rust_cursor.specs.declared.cursor.nest.Nest.{Nest}
 use Rattle.rust_cursor.specs.Beside.{behind}
-use Rattle.rust_leaves.proofs.Fronts.{begins_call_beside}
+use Rattle.rust_leaves.proofs.BodyFronts.{begins_call_beside}
 use Rattle.rust_cursor.proofs.Scans.{taking_stop, taking_end, taking_more}
 use Rattle.rust_cursor.proofs.Views.{symbol_same}
 use Rattle.rust_cursor.proofs.Tests.{nest_same, stops_same, ends_same}
 use Rattle.rust_cursor.proofs.Inside.{stops_deep, not_last}
 use Rattle.rust_cursor.proofs.Braced.{brace_step}
 use Rattle.rust_cursor.proofs.Walk.{nothing, matched_in}
-use Rattle.rust_paths.proofs.UntilTrees.{use_tree_until}
+use Rattle.rust_paths.proofs.BodyUseTrees.{use_tree_until}
 use Rattle.rust_leaves.proofs.Crates.{is_called_same, called_next}
 use Rattle.rust_cursor.specs.Extents as extents
 use Rattle.rust_leaves.specs.declared.head.Head.TheVariants as heads

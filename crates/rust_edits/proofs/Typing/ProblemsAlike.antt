@@ -2,15 +2,15 @@
 use Rattle.std.proofs.Common.{◌≡◌, ◌≤◌, ◌<◌, ◌==◌, ◌||◌, ◌&&◌, ℕ, zero, suc, Bool, true, false, Option, Some, None, List, [], ◌∷◌, ◌++◌, map, refl, ap, sym, ◌∙◌, arith}
 use Rattle.rust_edits.proofs.Common.{is_none, is_some, option_to_list, AstIdKind, MetaView, ItemView, ItemViews, Tokens, symbol, eat, is_at_end, bumped, most, beyond, Bodies, Beside, TextRange, inner_attributes, Head, FrontRead, front, NameRead, LeafRead, no_name, named, leaf, Problem, ProblemKind, ItemPlace, Found, Finder, nothing_found, and_problem, and_problem_at, BlockRead, span_of, needs_name, and_flaw, and_item, and_leaf, and_parent, leaf_found, leaf_turn, finding_from, finding, is_list_end, block_of, as_extern, extern_kept, extern_found, extern_turn, extern_inside, extern_block, unmatched, inside_unless, module_with, some_item, by_head, turn_with, inside, turn, depth_of, items, begins_at, has_body, Telling, IsBodyIn, ArePlaces, placed, nat_tests, IsSound, sound_on, LeadsTo, further, through, when, eat_leads, AreAlike, no_more, one_more, alike_join, IsAlike, neither, both, SamePlace, at_place, behind_at, inner_attributes_leads, LeafAlike, named_leads, behind_others_leads, front_takes, front_start, Span, adds_item, adds_problem_at, adds_use_trees, AreFound, Finds, FindsIn, list_from, list_found, place_span, inside_found, turn_found, turn_with_found, extern_turn_found, extern_inside_found, unless_found, FrontAlike, front_until, BeginPlain, LeafLost, leaf_gone, item_without_bodies, eat_local, by_stayed, beyond_beside, behind_tree_beside, gone_on}
 use Rattle.hir_input.specs.declared.ids.AstIdKind.TheVariants as kind
-use Rattle.rust_cursor.proofs.Until.{Gone, by_kept, by_next, bumped_onward}
+use Rattle.rust_cursor.proofs.BodyReaders.{Gone, by_kept, by_next, bumped_onward}
 use Rattle.rust_cursor.proofs.Views.{symbol_same, empty_same, end_same}
-use Rattle.rust_metas.proofs.UntilAttributes.{inner_attributes_until}
+use Rattle.rust_metas.proofs.BodyAttributes.{inner_attributes_until}
 use Rattle.rust_leaves.specs.declared.head.Head.TheVariants as heads
-use Rattle.rust_leaves.proofs.Fronts.{behind_others_beside}
+use Rattle.rust_leaves.proofs.BodyFronts.{behind_others_beside}
 use Rattle.rust_items.specs.declared.log.ProblemKind.TheVariants as problem
 use Rattle.rust_items.specs.Items.{one_more as one_deeper}
 use Rattle.rust_items.specs.Places.{nothing}
-use Rattle.rust_items.proofs.UntilItems.{passed, plain_passed, side, unpassed_beside, turn_on, named_alike}
+use Rattle.rust_items.proofs.BodyItems.{passed, plain_passed, side, unpassed_beside, turn_on, named_alike}
 use Rattle.rust_edits.proofs.Typing.Ended.{SameLoose, SameFlaws, LeafTold, lost as leaf_lost, told as told_leaf, leaf_told}
 
 -- ---- whose braces they are

@@ -1,7 +1,7 @@
 -- The tokens of two texts that differ between two braces.
 use Rattle.std.proofs.Common.{◌≡◌, ◌≤◌, ◌<◌, ℕ, arith, true, false, suc, ◌+◌, Option, List, [], ◌∷◌, ◌++◌, length, refl, ap, sym, subst, ◌∙◌, map}
 use Rattle.rust_edits.proofs.Common.{filter, EditionYear, Inner, StandsAlone, opening, tokens_in_front, moved, Piece, symbol_of, is_significant, Tokens, end_of, tokens_of, kind, symbol, bumped, turns, Bodies, AreBehind, Beside, ahead, is_doc, is_attribute, is_behind, inner_attributes, attributes, with_body, OpensAt, first_plain, BeginsPlain, common_steps, open_at, inside_of, body, body_matched, close_of, close_symbol, left_of, front_of, counted_apart, filter_moved, front_same, tokens_at, bumped_at, front_before, left_behind, Moves, SamePlace, BeginPlain, turns_stop}
-use Rattle.rust_lexer.proofs.Counted.{when}
+use Rattle.rust_lexer.proofs.Cases.{when}
 use Rattle.rust_lexer.proofs.Whole as wholes
 use Rattle.rust_cursor.specs.Looks.{sees}
 

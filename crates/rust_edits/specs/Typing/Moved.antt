@@ -9,15 +9,15 @@ use Rattle.rust_edits.specs.Typing.Laws.{with_body, IsTyped}
 
 -- Where a place of the old text is in the new one: up to the `{` it stays, and behind the braces it is counted from the `}`. The numbers
 -- are the places of the `{`, of the `}`, and of the `}` in the new text.
-abbrev pub shifted : ℕ → ℕ → ℕ → ℕ → ℕ
-shifted opening closing closing_new n = if nat_le n opening then n else closing_new + (n - closing)
+abbrev pub place_after_edit : ℕ → ℕ → ℕ → ℕ → ℕ
+place_after_edit opening closing closing_new n = if nat_le n opening then n else closing_new + (n - closing)
 
 -- the place of the `}`
 abbrev pub close_at : List ℕ → List ℕ → ℕ
 close_at q m = suc (length q) + length m
 
 abbrev pub shifted_by : List ℕ → List ℕ → List ℕ → ℕ → ℕ
-shifted_by q m m' = shifted (length q) (close_at q m) (close_at q m')
+shifted_by q m m' = place_after_edit (length q) (close_at q m) (close_at q m')
 
 -- the place of the same item, in another text
 abbrev pub moved_place : (ℕ → ℕ) → ItemPlace → ItemPlace

@@ -1,6 +1,7 @@
 use Rattle.std.proofs.Common.{◌∙◌, refl, rules}
 use Rattle.item_tree.proofs.Common.{err_from_is_err_and, macro_items, collected, all_kept_in, body_items}
-use Rattle.item_tree.proofs.Lowering.{tables, passed-from_nothing}
+use Rattle.item_tree.proofs.Lowering.{passed-from_nothing}
+use Rattle.item_tree.proofs.LoweredTables.{tables}
 use Rattle.item_tree.proofs.lower.lower_body.Goals as goal
 
 pub from_rows-requires : goal.from_rows-requires

@@ -42,7 +42,7 @@ returns-in-Err-clause-returned c =
     let k = c.args.krate.0 in
     let now = c.swap_options-in-Err.new.options in
     let had = subst (λ (l : List CrateView). option_map (λ (x : CrateView). x.options) (slice_get l k) ≡ Some now) c.swap_options.ensures.swapped c.swap_options-in-Err.ensures.before in
-    ap (λ (r : EditRefused). r.edit) c.refused.ensures ∙ ap (λ (o : List AtomView). SetCfg c.args.krate o) (given_options c.args.options now k (map crate_view c.self.inside.crates.items) had)
+    ap (λ (r : EditRefused). r.edit) c.by.ensures ∙ ap (λ (o : List AtomView). SetCfg c.args.krate o) (given_options c.args.options now k (map crate_view c.self.inside.crates.items) had)
 
 pub returns-in-Err-clause-cause : goal.returns-in-Err-clause-cause
 returns-in-Err-clause-cause c =
@@ -53,5 +53,5 @@ returns-in-Err-clause-cause c =
     let now = c.swap_options-in-Err.new.options in
     let had = subst (λ (l : List CrateView). option_map (λ (x : CrateView). x.options) (slice_get l k.0) ≡ Some now) c.swap_options.ensures.swapped c.swap_options-in-Err.ensures.before in
     let passes = subst (λ (names : List (List ℕ)). UnlessMemory (PlacesPass names (Some krate) i.places) c.in-Err.cause) c.deref.ensures.value c.in-Err.ensures.refused in
-    rw (c.refused.ensures, given_options c.args.options now k.0 (map crate_view i.crates.items) had)
+    rw (c.by.ensures, given_options c.args.options now k.0 (map crate_view i.crates.items) had)
     (cfg_refused i.crates.items i.skipped.items i.start i.number i.places i.places c.args.self.now c.self.invariant.sound c.self.view_is k c.args.options krate at c.in-Err.cause passes)

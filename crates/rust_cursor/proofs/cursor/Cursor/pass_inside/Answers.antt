@@ -1,6 +1,6 @@
 use Rattle.std.proofs.Common.{ap, sym, ◌∙◌, arith, filter}
 use Rattle.rust_cursor.proofs.Common.{is_significant, left_of}
-use Rattle.rust_cursor.proofs.Unkept.{leads_first, leads_through, some_left}
+use Rattle.rust_cursor.proofs.UnkeptTexts.{leads_first, leads_through, some_left}
 use Rattle.rust_cursor.proofs.cursor.Cursor.pass_inside.Goals as goal
 
 pub nest_inside-requires-clause-braces : goal.nest_inside-requires-clause-braces

@@ -2,7 +2,7 @@ use Rattle.std.proofs.Common.{refl, sym, ◌∙◌, arith}
 use Rattle.rust_cursor.proofs.Common.{to_closing, nest_behind}
 use Rattle.rust_cursor.proofs.Nesting.{shorter, fewer}
 use Rattle.rust_cursor.proofs.Steps.{closing_some}
-use Rattle.rust_cursor.proofs.Around.{closing_counted}
+use Rattle.rust_cursor.proofs.ClosingBrace.{closing_counted}
 use Rattle.rust_cursor.proofs.cursor.Cursor.pass_to_closing.Goals as goal
 
 pub brackets_behind-requires-clause-braces : goal.brackets_behind-requires-clause-braces

@@ -2,7 +2,7 @@ use Rattle.std.proofs.Common.{sym, ◌∙◌, arith, string_bytes}
 use Rattle.rust_cursor.proofs.Common.{more, taken}
 use Rattle.rust_cursor.proofs.Nesting.{fewer, room, counted_on}
 use Rattle.rust_cursor.proofs.Scans.{taking_some}
-use Rattle.rust_cursor.proofs.Unkept.{clipped_turn, clipped_last, text_kept}
+use Rattle.rust_cursor.proofs.UnkeptTexts.{clipped_turn, clipped_last, text_kept}
 use Rattle.rust_cursor.proofs.cursor.Cursor.take_excerpt.Goals as goal
 
 pub nest_behind-requires : goal.nest_behind-requires

@@ -1,6 +1,6 @@
 use Rattle.std.proofs.Common.{◌≡◌, ◌==◌, ◌&&◌, true, false, sym, ap, ◌∙◌, subst, filter}
 use Rattle.rust_cursor.proofs.Common.{is_significant, last_unended, Nest}
-use Rattle.rust_cursor.proofs.Unkept.{leads_behind, open_still}
+use Rattle.rust_cursor.proofs.UnkeptTexts.{leads_behind, open_still}
 use Rattle.rust_cursor.proofs.cursor.texts.pass_braced.Goals as goal
 
 pub tokens-preserved-then-is_significant : goal.tokens-preserved-then-is_significant

@@ -1,4 +1,4 @@
-use Rattle.rust_cursor.proofs.Unkept.{depth_of, leads_same, outer_deep, outer_last, outer_leads}
+use Rattle.rust_cursor.proofs.UnkeptTexts.{depth_of, leads_same, outer_deep, outer_last, outer_leads}
 use Rattle.rust_cursor.proofs.cursor.texts.pass_shortly.Goals as goal
 
 pub returns-in-None-clause-passed : goal.returns-in-None-clause-passed

@@ -1,9 +1,0 @@
-use Rattle.std.proofs.Common.{◌≡◌, length}
-use Rattle.rust_metas.proofs.Common.{prepend, unescaped}
-use Rattle.rust_metas.proofs.string.unescaped.Given as goal
-
-abbrev pub invariant-bytes : goal.invariant-bytes
-invariant-bytes l = prepend l.out.items (unescaped 0 l.z) ≡ unescaped 0 l.initial.z
-
-abbrev pub decreases-bytes : goal.decreases-bytes
-decreases-bytes l = length l.z

@@ -1,0 +1,9 @@
+use Rattle.std.proofs.Common.{◌∙◌}
+use Rattle.rust_metas.proofs.Strings.{unescaped_more}
+use Rattle.rust_metas.proofs.string.unescaped_bytes.Goals as goal
+
+pub bytes-preserved : goal.bytes-preserved
+bytes-preserved c =
+    unescaped_more c.bytes.z.now c.behind-rest.result.now c.behind-z.result.now c.bytes.out.items c.push_character.new.out.items c.in_ok-len.field-0 c.in-Some.len
+    c.in-len1-up.len_at_least c.if-b-eq34.false c.behind-rest.ensures c.in_ok-len.ensures c.in-Some.is c.behind-z.ensures
+    ∙ c.bytes.invariant
