@@ -1,5 +1,5 @@
 #!/usr/bin/env python3
-"""Makes the list at the end of docs/DEFINITIONS.md: the definitions that public contracts cite, each with its comment.
+"""Makes the end of docs/DEFINITIONS.md: the definitions that public contracts cite, each with its comment, and the rules of the reader.
 
     definitions.py           writes it, and leaves what stands before it as it is
     definitions.py --check   writes nothing, and fails if the page is not what it would write
@@ -13,9 +13,17 @@ import re
 import sys
 import textwrap
 
+from rules import Rules
+
 PAGE = pathlib.Path("docs/DEFINITIONS.md")
 MARK = "<!-- What follows is written by tests/definitions.py. -->\n"
 DEFINED = re.compile(r"^ *(?:(?:abbrev|unfoldable) pub|pub(?: data| record)?) +([^\s:(){}=]+)")
+RULES = """
+## The rules of the reader
+
+Each as its definition has it, of that name: `[x]` may be missing, `{x}` is repeated, of `|` the first that fits counts, `<x>` comes next
+and stays, and `bracket(x)` passes over what is left in the bracket. What is not told here is a definition of its own.
+"""
 # `ghost use Rattle.CRATE.specs.MODULE.{a, b as c};`, `ghost use Rattle.CRATE.specs.{MODULE.a, MODULE.b};`, or the same without the braces
 # and with a name for the module.
 USED = re.compile(r"ghost use Rattle\.(\w+)\.specs(?:\.([\w.]+?))?(?:\.\{([^}]*)\}|(?: as (\w+))?);")
@@ -123,7 +131,7 @@ def made():
         for module, entries in modules.items():
             count += len(entries)
             lines += [f"- `{module}`", *(wrapped(entry) for entry in entries)]
-    return f"\n{count} definitions, and {bare} more that are cited and have no comment.\n" + "\n".join(lines) + "\n", count
+    return f"\n{count} definitions, and {bare} more that are cited and have no comment.\n" + "\n".join(lines) + "\n" + RULES + "".join(Rules().text()), count
 
 
 def main():

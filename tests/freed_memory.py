@@ -22,7 +22,7 @@ FILES, ROUNDS, OPTIONS = 1000, 10_000, 10_000
 MADE = {
     'Asked': 'options', 'Filter': 'options', 'AttrsOwned': 'outline', 'BlockExpr': 'serve', 'CfgOptions': 'serve',
     'Conversation': 'serve', 'DeclIndex': 'serve', 'ItemTree': 'page', 'Member': 'outline', 'ModPath': 'imports', 'Name': 'outline', 'Row': 'outline',
-    'SoughtPath': 'serve', 'Sources': 'serve', 'Syntax': 'outline',
+    'Pattern': 'find', 'SoughtPath': 'serve', 'Sources': 'serve', 'Syntax': 'outline',
 }
 TEXT = '''//! Told.
 #![allow(a, b = "c")]

@@ -118,7 +118,7 @@ def check_documents(offered):
     tell(re.findall(r'^\| (\d) \|', page, re.M) == STATUSES, 'the statuses of docs/ITEMTREE.md')
     told = dict(re.findall(r'^\| `--([\w-]+).*?` \| (.*?) \|', page, re.M))
     wanted = {option: offered[option] for option in told}
-    tell(len(told) == 9 and {option: named(words) for option, words in told.items()} == wanted, 'the options of docs/ITEMTREE.md', told, wanted)
+    tell(len(told) == 12 and {option: named(words) for option, words in told.items()} == wanted, 'the options of docs/ITEMTREE.md', told, wanted)
 
 
 def named(words):
@@ -146,9 +146,28 @@ def check_vim(folder):
     if shutil.which('vim') is None:
         print('itemtree: vim is not here, so no tags file is opened by it')
         return
-    run('itemtree tags shapes.rs', folder)
-    got = run('vim -es -t Circle -c "redir! > at" -c "echo line(\'.\')" -c "redir END" -c "qa!" < /dev/null; cat at', folder)
-    tell(got.split() == ['5'], 'vim -t Circle', got, '5\n')
+
+    def is_found(name, line):
+        got = run(f'vim -N -es -t {name} -c "redir! > at" -c "echo line(\'.\')" -c "redir END" -c "qa!" < /dev/null; cat at', folder)
+        tell(got.split() == [line], f'vim -t {name}', got, line)
+
+    for words, line in (('', '7'), ('--excmd=mixed', '7'), ('--excmd number', '5')):
+        run(f"cp shapes.rs above.rs; itemtree tags {words} above.rs; sed -i '1i // one\\n// two' above.rs", folder)
+        is_found('Circle', line)
+    write_files(folder, {'above.rs': b'mod a {\n    fn twin() {}\n}\nmod b {\n    fn twin() {}\n}\n'})
+    run("itemtree tags above.rs; sed -i '/module:a/d' tags", folder)
+    is_found('twin', '5')
+    odd = ['\ufefffn mark() {}', 'fn slash() {} // a/b\\c ^~[.*]', 'fn dollar() {} // $', 'fn long() {} // ' + 'é/' * 50, 'fn cut() {} // ' + '$' * 99,
+           '\tfn tab(a: u8,\tb: u8) {}', 'fn last() {} // $']
+    for ends in ('\n', '\r\n'):
+        write_files(folder, {'above.rs': ends.join(odd).encode()})
+        run('itemtree tags above.rs', folder)
+        write_files(folder, {'above.rs': ends.join(['// put in', *odd]).replace('\ufeff', '').encode()})
+        for at, line in enumerate(odd):
+            is_found(line.split('fn ')[1].split('(')[0], str(at + 2))
+    got = run('readtags -t tags -e -n - last; readtags -t tags -D | grep -c .', folder) if shutil.which('readtags') else None
+    tell(got in (None, 'last\tabove.rs\t/^fn last() {} \\/\\/ \\$/;"\tkind:f\tline:7\n9\n'), 'readtags', got)
+    os.remove(os.path.join(folder, 'above.rs'))
 
 
 def check_ctags(folder):
@@ -156,9 +175,11 @@ def check_ctags(folder):
     if shutil.which('ctags') is None or 'Universal Ctags' not in run('ctags --version', folder):
         print('itemtree: Universal Ctags is not here, so no tags are compared with its own')
         return
-    wanted = run('ctags --kinds-Rust=-c --excmd=number -f - tagged.rs', folder)
-    got = run("itemtree tags -o - tagged.rs | grep -v '^!_TAG'", folder)
-    tell(got == wanted, 'the tags of Universal Ctags', got, wanted)
+    for words in ('', '--excmd=number', '--excmd=mixed'):
+        field = '' if 'number' in words else '--fields=+n'
+        wanted = run(f'ctags --kinds-Rust=-c {words} {field} -f - tagged.rs', folder)
+        got = run(f"itemtree tags {words} -o - tagged.rs | grep -v '^!_TAG'", folder)
+        tell(got == wanted, f'the tags of Universal Ctags {words}', got, wanted)
 
 
 def check_request(folder):
@@ -335,7 +356,7 @@ def check_tags_kept(folder):
     text = open(tags, encoding='utf-8').read()
     there = sorted(os.listdir(place)), os.path.islink(link), os.stat(tags).st_mode & 0o777
     tell(got == wanted and there == (['bad.rs', 'empty', 'good.rs', 'link', 'tags'], True, 0o642)
-         and text.endswith('\ngood\tkept/good.rs\t1;"\tf\n') and text.startswith('!_TAG'), 'tags behind a link', (got, there, text), wanted)
+         and text.endswith('\ngood\tkept/good.rs\t/^fn good() {}/;"\tf\tline:1\n') and text.startswith('!_TAG'), 'tags behind a link', (got, there, text), wanted)
 
 
 def check_tags_in_place(folder):
@@ -346,7 +367,7 @@ def check_tags_in_place(folder):
     os.chmod(os.path.join(place, 'other/tags'), 0o666)
     os.chmod(os.path.join(place, 'other'), 0o555)
     os.link(tags, os.path.join(place, 'hard'))
-    line = 'good\tsame/good.rs\t1;"\tf\n'
+    line = 'good\tsame/good.rs\t/^fn good() {}/;"\tf\tline:1\n'
     for name in ('tags', 'other/tags'):
         path = os.path.join(place, name)
         before = os.stat(path)
@@ -382,7 +403,7 @@ def check_tags_refused(folder):
         got = run(f'cd guard; itemtree tags -o {name} b.rs; echo $?', folder)
         text = open(path, 'rb').read()
         wanted = '0\n' if is_taken else f'itemtree: {name}: this is no tags file, and stays as it is\n2\n'
-        is_right = text.endswith(b'\nb\tb.rs\t1;"\tf\n') if is_taken else text == before
+        is_right = text.endswith(b'\nb\tb.rs\t/^fn b() {}/;"\tf\tline:1\n') if is_taken else text == before
         tell(got == wanted and is_right, f'tags -o {name}', (got, text), wanted)
     lines = run('itemtree tags -o - guard/a.rs', folder)
     for command, wanted in (('echo hi > out; itemtree tags -o /dev/stdout a.rs >> out; cat out', f'hi\n{lines}'),
@@ -406,9 +427,14 @@ def check_tags_joined(folder):
     whole = run("cd joined; itemtree tags -o - [0-4].rs | grep -v '^!_TAG'", folder)
     tell(whole.count('\n') == 5, 'the tags of five files', whole)
     for command in ('ls *.rs | xargs -n 2 itemtree tags -a', 'ls *.rs | itemtree tags -L -', 'ls *.rs | xargs -n 2 itemtree tags --append',
-                    'itemtree tags *.rs ./1.rs . 2.rs', 'itemtree tags .', "printf 'f\\t4.rs\\t1;\"\\tf\\n' > tags; itemtree tags -a [0-3].rs"):
+                    'itemtree tags *.rs ./1.rs . 2.rs', 'itemtree tags .', "printf 'f\\t4.rs\\t/^fn f() {}/;\"\\tf\\tline:1\\n' > tags; itemtree tags -a [0-3].rs"):
         got = run(f"cd joined; {command}; grep -v '^!_TAG' tags; grep -c '^!_TAG' tags; head -1 tags | cut -f1; rm tags", folder)
-        tell(got == whole + '3\n!_TAG_FILE_FORMAT\n', command, got, whole)
+        tell(got == whole + '9\n!_TAG_FILE_ENCODING\n', command, got, whole)
+    for words, wanted in (('-o sub/tags 0.rs', '0.rs'), ('--tag-relative yes -o sub/tags ./sub/../0.rs', '../0.rs'), ('--tag-relative=yes -o sub/tags "$PWD/0.rs"', '$PWD/0.rs'),
+                          ('--tag-relative=always -o sub/../sub/tags "$PWD/0.rs"', '../0.rs'), ('--tag-relative=never -o sub/tags 0.rs', '$PWD/0.rs'),
+                          ('--tag-relative yes -o - sub/9.rs > sub/tags', 'sub/9.rs')):
+        got = run(f'cd joined; mkdir -p sub; cp 0.rs sub/9.rs; itemtree tags {words}; grep -v "^!_TAG" sub/tags | cut -f2; echo "{wanted}"; rm -r sub', folder).split()
+        tell(len(got) == 2 and got[0] == got[1], f'tags {words}', got)
     got = run('cd joined; itemtree tags -a -o - 1.rs; echo $?; itemtree tags -a -o 1.rs 2.rs; echo $?', folder)
     wanted = 'itemtree: --append: standard output keeps nothing\n2\nitemtree: 1.rs: this is no tags file, and stays as it is\n2\n'
     tell(got == wanted, 'tags -a where nothing is kept', got, wanted)
@@ -495,10 +521,14 @@ def check_colors(folder):
                                      (['--color', 'always'], {'NO_COLOR': '1', 'TERM': 'dumb'}, colored)):
         got = on_terminal(['outline', *words, 'shapes.rs'], folder, **variables)
         tell(got == wanted, f'{words} on a terminal with {variables}', repr(got), repr(wanted))
-    for words in (['outline', '--json'], ['outline', '--json', '--color', 'always'], ['find', 'area'], ['imports'], ['page']):
+    for words in (['outline', '--json'], ['outline', '--json', '--color', 'always'], ['find', '--json', 'area'], ['imports', '--json'], ['page']):
         got = on_terminal([*words, 'shapes.rs'], folder)
         wanted = run(shlex.join(['itemtree', *words, 'shapes.rs']), folder)
         tell(got == wanted and '\x1b' not in got, f'{words} on a terminal', repr(got), repr(wanted))
+    for words in (['find', 'area'], ['imports']):
+        got = on_terminal([*words, 'shapes.rs'], folder)
+        wanted = run(shlex.join(['itemtree', *words, 'shapes.rs']), folder)
+        tell(re.sub(r'\x1b\[\d+m', '', got) == wanted and '\x1b' in got, f'{words} in colours', repr(got), repr(wanted))
 
 
 def check_progress(folder):

@@ -17,7 +17,7 @@ PROGRAM is itemtree, and TOOL is item_tree_tool. The parts, all of them where no
 - damaged: edits, shows and first lines that are damaged at random, beside the forms in Python
 - noise: random bytes between good lines
 - unread: a client that never reads its answers
-- many: 10,000 edits, whose memory and processor time stay level; and many items of one name
+- many: 10,000 edits, whose memory and processor time stay level; many items of one name; and an edit among many files
 
 A random session follows from the seed and its number alone, and what is damaged from the seed.
 """
@@ -77,17 +77,20 @@ def refused(number, error, told=None):
     return written({'id': told, 'number': number, 'error': error})
 
 
+EDIT_WORDS = 'a kind of edit: set_text, change_text, set_file, remove_file, set_block, remove_block or set_cfg'
+SHOW_WORDS = 'a kind of show: page, tree, imports, changed, outline, import_places, problems or find'
+META_WORDS = 'a kind of meta: path, key_value, tokens, cfg, cfg_attr or unsafe'
 # What is expected where a pointer leads, by its last step, or by the one before where that is a place in a list.
 EXPECTED_LINE = {
     'a list': 'crates skipped edits shows reserved cfg attrs stmts files', 'an object': 'edition syntax', 'two byte places': 'range',
     'a number below 2^32': 'file block root', 'a number below 2^64': 'start since', 'the number of a crate': 'crate', 'a string': 'text',
-    'a name or path': 'name', 'a kind of edit': 'edit', 'a kind of show': 'show', 'text or json, of tree, imports or changed': 'as', '2015, 2018, 2021 or 2024': 'year',
+    'a name or path': 'name', EDIT_WORDS: 'edit', SHOW_WORDS: 'show', 'text or json, of tree, imports or changed': 'as', '2015, 2018, 2021 or 2024': 'year',
     'a value without a float': 'id',
 }
 EXPECTED_SYNTAX = {
     'a list': 'attrs items stmts metas list all any', 'a number below 2^16': 'hash', 'a number below 2^32': 'number',
     'true or false': 'semicolon trait star', 'a string': 'body tokens rendered string', 'a name': 'name rename key', 'a path': 'path in',
-    'a visibility': 'vis', 'a condition': 'cfg not', 'a kind of item': 'is', 'a kind of meta': 'meta',
+    'a visibility': 'vis', 'a condition': 'cfg not', 'a kind of item': 'is', META_WORDS: 'meta',
 }
 EXPECTED_IN = {
     'an object without a float': 'edits shows', 'an object': 'crates attrs items metas list', 'a name': 'skipped reserved',
@@ -118,8 +121,9 @@ def no_request(number, pointer, told=None):
     return refused(number, not_request(number, pointer), told)
 
 
-def not_changed(number, cause, place=0, told=None):
-    return refused(number, {'cause': cause, 'kind': 'text not changed', 'place': place}, told)
+def not_changed(number, cause, place=0, told=None, length=9):
+    outside = {'length': length} if cause == 'range not in the text' else {}
+    return refused(number, {'cause': cause, 'kind': 'text not changed', **outside, 'place': place}, told)
 
 
 class Silent(Exception):
@@ -1364,7 +1368,7 @@ EXPECTED = [
     ({'edition': {'reserved': [0]}}, '/edition/reserved/0', 'a name'), ({'start': -1}, '/start', 'a number below 2^64'),
     ({'edit': []}, '/edit', 'no such key'), ({'5': []}, '/5', 'no such key'), ({'edits': {}}, '/edits', 'a list'),
     ({'shows': 1}, '/shows', 'a list'), ({'edits': [0.5]}, '/edits/0', 'an object without a float'),
-    ({'edits': [{'edit': 'x'}]}, '/edits/0/edit', 'a kind of edit'), ({'edits': [{'shows': 0}]}, '/edits/0/shows', 'no such key'),
+    ({'edits': [{'edit': 'x'}]}, '/edits/0/edit', EDIT_WORDS), ({'edits': [{'shows': 0}]}, '/edits/0/shows', 'no such key'),
     ({'edits': [{'edit': 'set_text', 'file': 'a'}]}, '/edits/0/file', 'a number below 2^32'),
     ({'edits': [{'edit': 'set_text', 'file': 0, 'text': 1}]}, '/edits/0/text', 'a string'),
     ({'edits': [{'edit': 'change_text', 'file': 0, 'range': [0]}]}, '/edits/0/range', 'two byte places'),
@@ -1375,7 +1379,7 @@ EXPECTED = [
     ({'edits': [file_of({'is': 'fn', 'hash': -1})]}, '/edits/0/syntax/items/0/hash', 'a number below 2^16'),
     ({'edits': [file_of({'is': 'fn', 'name': ''})]}, '/edits/0/syntax/items/0/name', 'a name'),
     ({'edits': [file_of({'is': 'struct', 'fields': 1})]}, '/edits/0/syntax/items/0/fields', 'another value'),
-    ({'edits': [file_of(0)]}, '/edits/0/syntax/items/0', 'an object'), ({'shows': [{'show': 'x'}]}, '/shows/0/show', 'a kind of show'),
+    ({'edits': [file_of(0)]}, '/edits/0/syntax/items/0', 'an object'), ({'shows': [{'show': 'x'}]}, '/shows/0/show', SHOW_WORDS),
     ({'shows': [{'show': 'find', 'name': 'a b'}]}, '/shows/0/name', 'a name or path'),
     ({'shows': [{'show': 'changed', 'since': -1}]}, '/shows/0/since', 'a number below 2^64'),
     ({'shows': [{'show': 'changed', 'since': 0, 'as': 0}]}, '/shows/0/as', 'text or json, of tree, imports or changed'),
@@ -1536,7 +1540,7 @@ def check_unchanged(program):
                 'shows': [PAGE]}, answered(5, [PAGED]))]
     for start, end, text in ((0, 0, ''), (0, 10, '')):
         lines.append(({'edits': [{**change, 'range': [start, end], 'text': text}]}, answered(6 + bool(end), [])))
-    lines += [({'shows': [PAGE]}, answered(7, ['\n'])), ({'edits': [{**change, 'range': [0, 1]}]}, not_changed(7, 'range not in the text')),
+    lines += [({'shows': [PAGE]}, answered(7, ['\n'])), ({'edits': [{**change, 'range': [0, 1]}]}, not_changed(7, 'range not in the text', length=0)),
               ({'edits': [{**change, 'text': 'fn f() {}'}], 'shows': [PAGE]}, answered(8, [PAGED]))]
     check_lines(program, 'a text that cannot be changed', lines)
 
@@ -2161,8 +2165,31 @@ def check_one_name(options):
     tell(late <= 8 * early + 0.1, 'find reads a file once', f'{early} s, and {late} s for four times the file')
 
 
+def added_seconds(program, count):
+    """The processor time of 300 edits that add an item to a file among so many, each with a look at the names."""
+    def edit(file, more=''):
+        return {'edit': 'set_text', 'file': file, 'text': f'pub fn f{file}() {{}}\npub fn new() {{}}\nmod m {{ struct S{file}; }}\n{more}'}
+    with Server(program) as server:
+        server.ask({**OPENED, 'edits': [edit(file) for file in range(count)], 'shows': [{'show': 'find', 'name': 'f0'}]})
+        before = server.seconds()
+        for at in range(1, 301):
+            shows = [{'show': 'find', 'name': f'added{name}'} for name in (at, at - 1)]
+            got = json.loads(server.ask({'edits': [edit(7, f'pub fn added{at}() {{}}\n')], 'shows': shows}))
+            tell([len(found) for found in got['shows']] == [1, 0], f'an item added among {count} files', got)
+        took = server.seconds() - before
+        ends_well(server, 'many files')
+    return took
+
+
+def check_many_files(options):
+    # Ten times as many files make an edit of one of them hardly slower.
+    early, late = (min(added_seconds(options.program, count) for _ in range(2)) for count in (1000, 10_000))
+    tell(late <= 2 * early + 0.05, 'an edit among many files', f'{early} s, and {late} s among ten times as many files')
+
+
 def check_many(options):
     check_one_name(options)
+    check_many_files(options)
     # Others may have had the processor, so the best of some thousands counts, and a second run.
     for _ in range(2):
         marks = marks_of(options.program)

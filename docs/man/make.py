@@ -9,6 +9,17 @@ import re
 import subprocess
 import sys
 
+TOP = pathlib.Path(__file__).resolve().parents[2]
+ENVIRONMENT = [
+    ("NO_COLOR", "If it is set, and not empty, lists have no colours by themselves"),
+    ("TERM", "If it is dumb, likewise"),
+]
+FILES = [
+    ("tags", "The tags file, if -o says nothing else"),
+    ("tags.new", "What tags writes it to first; the next run takes over what one that was ended has left"),
+]
+SEE_ALSO = ".BR ctags (1), .BR git\\-difftool (1), .BR jq (1), .BR rg (1), .BR rustc (1)".replace(", .BR", ",\n.BR")
+HELP = "-h, --help"
 TERM = re.compile(r"^ {2,6}(\S.*?)(?: {2,}(\S.*))?$")
 HEAD = re.compile(r"^(Commands|Arguments|Options):$")
 
@@ -66,27 +77,73 @@ def of_entries(entries):
     return [line for term, about in entries for line in (".TP", f".B {roff(term)}", roff(about))]
 
 
+def paragraphs(lines):
+    """What stands behind a help, paragraph by paragraph."""
+    return [part.splitlines() for part in "\n".join(lines).strip().split("\n\n") if part]
+
+
 def after(lines):
+    """What stands behind a command's help, but for its example and its statuses, which have sections of their own."""
     found = []
-    for line in lines:
-        if not line:
-            found.append(".PP")
-        else:
-            found += [".br", roff(line)] if found and found[-1] != ".PP" else [roff(line)]
+    for part in paragraphs(lines):
+        if not re.match(r"Example: |Status: ", part[0]):
+            found += [".PP", *map(roff, part)]
     return found
 
 
+def statuses(lines):
+    """The statuses of the program, each with what it means."""
+    found = []
+    for line in lines:
+        begun = re.match(r"^  (\d)  (.*)$", line)
+        if begun:
+            found.append([begun[1], begun[2]])
+        elif found and line.startswith("    "):
+            found[-1][1] += " " + line.strip()
+        elif found:
+            break
+    return found
+
+
+def examples(commands):
+    return [text.removeprefix("Example: ") for _, help in commands for part in paragraphs(help.after) for text in part[:1] if text.startswith("Example: ")]
+
+
+def shared(commands):
+    """The options that several commands have, with the same words, each with the names of these commands."""
+    found = {}
+    for command, help in commands:
+        for term, about in help.entries["Options"]:
+            found.setdefault((term, about), []).append(command)
+    return {entry: names for entry, names in found.items() if len(names) > 1 and entry[0] != HELP}
+
+
+def of_command(command, help, common):
+    lines = [f".SS {command}", roff(" ".join(help.about)), ".PP", f".B {roff(help.usage)}"]
+    own = [entry for entry in help.entries["Options"] if tuple(entry) not in common and entry[0] != HELP]
+    lines += of_entries(help.entries["Arguments"]) + of_entries(own)
+    names = [re.findall(r"--[\w-]+", term)[-1] for term, about in help.entries["Options"] if (term, about) in common]
+    if names:
+        lines += [".PP", f"It takes of the common options {roff(', '.join(names))}."]
+    return lines + after(help.after)
+
+
 def page(name, version, top, commands):
-    lines = [f".TH {name.upper()} 1 \"\" \"{roff(version)}\"", ".SH NAME", f"{name} \\- {roff(' '.join(top.about))}", ".SH SYNOPSIS", roff(top.usage)]
+    date = re.search(r"^## .*\((\d{4}-\d\d-\d\d)\)$", (TOP / "CHANGELOG.md").read_text(), re.M)[1]
+    lines = [f".TH {name.upper()} 1 \"{date}\" \"{roff(version)}\"", ".SH NAME", f"{name} \\- {roff(' '.join(top.about))}", ".SH SYNOPSIS", roff(top.usage)]
     lines += [".SH OPTIONS", *of_entries(top.entries["Options"])]
+    common = shared(commands)
     if commands:
         lines.append(".SH COMMANDS")
     for command, help in commands:
-        lines += [f".SS {command}", roff(" ".join(help.about)), ".PP", f".B {roff(help.usage)}"]
-        lines += of_entries(help.entries["Arguments"]) + of_entries(help.entries["Options"])
-        lines += [".PP", *after(help.after)] * bool(help.after)
-    if top.after:
-        lines += [".SH NOTES", *after(top.after)]
+        lines += of_command(command, help, common)
+    if common:
+        lines.append(".SH COMMON OPTIONS")
+    for (term, about), names in common.items():
+        lines += of_entries([(term, about)]) + [".br", f"({roff(', '.join(names))})"]
+    lines += [".SH EXIT STATUS", *of_entries(statuses(top.after))]
+    lines += [".SH EXAMPLES", ".nf", *map(roff, examples(commands)), ".fi"]
+    lines += [".SH ENVIRONMENT", *of_entries(ENVIRONMENT), ".SH FILES", *of_entries(FILES), ".SH SEE ALSO", SEE_ALSO]
     return "\n".join(lines) + "\n"
 
 

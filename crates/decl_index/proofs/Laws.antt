@@ -1,15 +1,13 @@
 -- What stands on an index: it is the one of its table, and stays behind a table under edits.
-use Rattle.decl_index.proofs.Common.{◌≡◌, ℕ, ◌<◌, ◌≤◌, true, false, cond, IfSome, List, length, All, [], ◌∷◌, Option, Some, None, Result, Ok, Err, OnOk, OnErr, refl, sym, ap, subst, ◌∙◌, arith, Contains, option_map, unwrap_or, All-cons, All-contains, All-nil, All-weaker, Unfolding, of_id, Place, IsGrounded, node_name, Entry, entry_cmp, entry_cmp_total, btree_set_from_contains, btree_set_contains_iff, same_place, same_is, State, IsKnown, new_table, present, unfolding_at, change_number, IsDeclared, IsListing, IndexView, IsIndexOf, IsBehind, IsBehindAt}
-use Rattle.std.specs.BTreeSet.{BTreeSet, contains}
+use Rattle.decl_index.proofs.Common.{◌≡◌, ℕ, ◌<◌, ◌≤◌, true, false, cond, IfSome, List, length, All, [], ◌∷◌, Option, Some, None, Result, Ok, Err, OnOk, OnErr, refl, sym, ap, subst, ◌∙◌, arith, Contains, option_map, unwrap_or, All-cons, All-contains, All-nil, All-weaker, Unfolding, of_id, Place, IsGrounded, node_name, Entry, same_place, same_is, State, IsKnown, new_table, present, unfolding_at, change_number, IsDeclared, IsListing, IndexView, IsIndexOf, IsBehind, IsBehindAt}
 use Rattle.hir_input.specs.Bodies.{without_bodies}
-use Rattle.std.proofs.lemmas.Bool.Decides.{same_from_decides}
 use Rattle.item_tree.specs.CrateView.{CrateView}
 use Rattle.item_tree_db.specs.declared.edit.EditRefused.{EditRefused}
 use Rattle.item_tree_db.specs.Again.{IsSetAgain}
 use Rattle.item_tree_db.specs.Edits.{EditView, NamesPlaceOf, set}
 use Rattle.item_tree_db.specs.History.{ChangesBodiesOnly, IsAfter, IsFooting}
 use Rattle.item_tree_db.proofs.Histories.{late_after}
-use Rattle.decl_index.proofs.Order.{exact_entries}
+use Rattle.decl_index.proofs.Order.{alike}
 
 -- the index of a table is behind it
 pub behind_index : (s : State) (index : IndexView) → s.start ≤ s.number → IsIndexOf s index → IsBehind index s
@@ -100,13 +98,8 @@ behind_edit s u edit (Err refused) ok err footing index h = subst (IsBehind inde
 
 -- ---- a table has one index
 
-abbrev keys : List Entry → BTreeSet Entry
-keys entries = record { keys = entries }
-
 pub one_index : (s : State) (a b : IndexView) → IsIndexOf s a → IsIndexOf s b → a ≡ b
 one_index s a b h k =
-    let has = λ (xs : List Entry) (q : Entry). btree_set_contains_iff entry_cmp_total exact_entries (keys xs) q in
     let other = λ (c d : List Entry) (l : IsListing s c) (m : IsListing s d) (q : Entry) (i : Contains c q). m.whole q (All-contains (IsDeclared s) c q l.declared i) in
-    let alike = λ (q : Entry). same_from_decides (contains entry_cmp (keys a.1) q) (contains entry_cmp (keys b.1) q) (has a.1 q) (λ t. other b.1 a.1 k.listing h.listing q ((has b.1 q).0 t), λ i. (has b.1 q).1 (other a.1 b.1 h.listing k.listing q i)) in
-    let entries = btree_set_from_contains entry_cmp_total (keys a.1) (keys b.1) h.listing.in_order k.listing.in_order alike exact_entries in
+    let entries = alike a.1 b.1 h.listing.in_order k.listing.in_order (other a.1 b.1 h.listing k.listing) (other b.1 a.1 k.listing h.listing) in
     λ j. ((h.number ∙ sym k.number) j, entries j)

@@ -1,7 +1,9 @@
 pub mod Common
 pub mod Lists
 pub mod Order
+pub mod Listed
+pub mod Filed
+pub mod Catalogs
 pub mod Trees
 pub mod Refreshed
-pub mod Looked
 pub mod Laws

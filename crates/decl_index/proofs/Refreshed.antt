@@ -1,27 +1,70 @@
 -- What a refresh leaves is the index of the table.
-use Rattle.decl_index.proofs.Common.{◌≡◌, ◌≢◌, ◌⊎◌, inl, inr, ℕ, ◌<◌, ◌≤◌, true, false, cond, not, nat_lt, List, ◌++◌, length, filter, Option, Some, None, refl, sym, ap, subst, ◌∙◌, arith, All, Contains, slice_index_or, unwrap_or, Less, Equal, nat_tests, none-some, Crate, Unfolding, of_id, Place, State, IsKnown, change_number, node_name, Entry, entry_cmp, entry_cmp_total, IsDeclared, IsListing, IsBehind, IsBehindAt, entries_at, entries_of, is_current, AreChangedEntries, IsTotalOrder, tied_itself, nat_cmp_total, on_total, then_total, IsSorted, IsStrictlySortedBy, All-append, All-contains_itself, All-weaker, Contains-append_left, Contains-append_right, IsStrictlySortedBy-filter, All-permutation, Contains-permutation, IsDistinct-from_sorted, AllPairs-from_IsDistinct, of_id_nothing, place_cmp_total, Change, change_cmp, IsGrounded, IsSince, IsLate}
-use Rattle.std.specs.List.Sorted.{IsPermutation}
+use Rattle.decl_index.proofs.Common.{◌≡◌, ◌↔◌, ◌⊎◌, inl, inr, Bool, ℕ, ◌<◌, ◌≤◌, true, false, true≢false, cond, nat_lt, nat_eq, pointwise, List, [], ◌∷◌, length, Option, Some, None, refl, sym, ap, subst, ◌∙◌, arith, All, Contains, slice_index_or, unwrap_or, nat_tests, none-some, same_Some, option_map_or, flat_map, Unfolding, of_id, Place, State, IsKnown, change_number, node_name, FiledTrees, Entry, entry_cmp, entry_name, IsDeclared, IsListing, IsBehind, IsBehindAt, entries_at, entries_of, is_declared, is_filed, gone_at, gone_by, filed_at, AreChangedEntries, AreGone, IsOfOne, IsStrictlySortedBy, All-contains, All-contains_itself, All-cons, All-nil, All-weaker, Crate, of_id_nothing, Change, IsGrounded, IsSince, IsLate}
 use Rattle.std.proofs.lemmas.Bool.{cases_lt}
-use Rattle.decl_index.proofs.Lists.{Once, filter_all, filter_contains, flat_map_all, flat_map_contains, once_append, once_flat_map, strict}
-use Rattle.decl_index.proofs.Order.{same_entries}
-use Rattle.decl_index.proofs.Trees.{tree_of, all_in_tree, all_declared, each_once, declared_there}
+use Rattle.std.proofs.lemmas.Slice.Eq.{bytes_eq-Decides}
+use Rattle.decl_index.proofs.Lists.{flat_map_all, flat_map_contains}
+use Rattle.decl_index.proofs.Order.{in_set}
+use Rattle.decl_index.proofs.Trees.{all_declared, declared_there}
 
 -- the number of the last edit that changed an entry's tree
 abbrev number_of : State → Entry → ℕ
 number_of s e = change_number s e.place e.krate.0
 
-passed : (a b c d : ℕ) → a < b → d ≤ c → cond (nat_lt a b) (not (nat_lt c d)) false ≡ true
-passed a b c d p q = grind (arith, nat_tests)
+-- ---- the test whether an entry is declared
 
-passes : (a b c d : ℕ) → cond (nat_lt a b) (not (nat_lt c d)) false ≡ true → (a < b) × (d ≤ c)
-passes a b c d h = (grind (arith, nat_tests), grind (arith, nat_tests))
+has_name : (o : Option (List ℕ)) (name : List ℕ) → option_map_or (pointwise nat_eq name) o false ≡ true → o ≡ Some name
+has_name None name t = absurd (true≢false (sym t))
+has_name (Some own) name t = ap Some (sym ((bytes_eq-Decides name own).0 t))
+
+named : (o : Option (List ℕ)) (name : List ℕ) → o ≡ Some name → option_map_or (pointwise nat_eq name) o false ≡ true
+named None name h = absurd (none-some name h)
+named (Some own) name h = (bytes_eq-Decides name own).1 (sym (same_Some own name h))
+
+known_first : (a b : ℕ) (c : Bool) → cond (nat_lt a b) c false ≡ true → (a < b) × (c ≡ true)
+known_first a b c h = (grind (arith, nat_tests), grind (arith, nat_tests))
+
+known_then : (a b : ℕ) (c : Bool) → a < b → c ≡ true → cond (nat_lt a b) c false ≡ true
+known_then a b c p t = grind (arith, nat_tests)
+
+pub declared_by_test : (s : State) (e : Entry) → is_declared s e ≡ true → IsDeclared s e
+declared_by_test s e t = let p = known_first e.krate.0 (length s.crates) _ t in record { known = p.0; named = has_name (entry_name s e.place e.krate e.id) e.name p.1 }
+
+pub tested_declared : (s : State) (e : Entry) → IsDeclared s e → is_declared s e ≡ true
+tested_declared s e d = known_then e.krate.0 (length s.crates) _ d.known (named (entry_name s e.place e.krate e.id) e.name d.named)
+
+-- ---- what is gone
+
+lost_by : (s : State) (e : Entry) → All (λ x. is_declared s x ≡ false) (gone_by s e)
+lost_by s e = elim (is_declared s e) as (λ b. is_declared s e ≡ b → All (λ x. is_declared s x ≡ false) (cond b [] (e ∷ []))) [
+  | true ↦ λ t. All-nil (λ x. is_declared s x ≡ false)
+  | false ↦ λ f. All-cons (λ x. is_declared s x ≡ false) e [] f (All-nil (λ x. is_declared s x ≡ false))
+] refl
+
+all_lost : (s : State) (entries : List Entry) → All (λ x. is_declared s x ≡ false) (flat_map (gone_by s) entries)
+all_lost s entries = flat_map_all (gone_by s) (λ x. is_declared s x ≡ false) entries (λ k d l. lost_by s (slice_index_or entries k d))
+
+gone_here : (s : State) (entries : List Entry) (e : Entry) → Contains entries e → is_declared s e ≡ false → Contains (flat_map (gone_by s) entries) e
+gone_here s entries e c f = flat_map_contains (gone_by s) entries e e c (subst (λ (b : Bool). Contains (cond b [] (e ∷ [])) e) (sym f) (0, omega arith, refl))
+
+pub gone_of_all : (s : State) (entries : List Entry) → AreGone s entries (flat_map (gone_by s) entries)
+gone_of_all s entries = record { lost = all_lost s entries; all = gone_here s entries }
+
+pub gone_of_trees : (s : State) (trees : FiledTrees) (old : List Entry) (changes : List Change) → ((e : Entry) → Contains old e → is_filed trees e ≡ true) → ((e : Entry) → Contains old e → is_declared s e ≡ false → IsOfOne changes e) → AreGone s old (flat_map (λ c. gone_at s trees c.0 c.1) changes)
+gone_of_trees s trees old changes filed late = record {
+  lost = flat_map_all (λ (c : Change). gone_at s trees c.0 c.1) (λ x. is_declared s x ≡ false) changes (λ k d l. let c = slice_index_or changes k d in all_lost s (filed_at trees c.0 c.1.0).keys);
+  all = λ e i f.
+      let one = late e i f in
+      let there = (in_set (filed_at trees e.place e.krate.0) e).0 (filed e i) in
+      flat_map_contains (λ (c : Change). gone_at s trees c.0 c.1) changes one.0 e one.1
+      (subst (λ (p : Place). Contains (gone_at s trees p one.0.1) e) (sym one.2) (subst (λ (k : Crate). Contains (gone_at s trees e.place k) e) (sym one.3) (gone_here s (filed_at trees e.place e.krate.0).keys e there f)));
+}
 
 -- ---- trees that did not change
 
 module _ (s : State) (old : List Entry) where
-  sound : (number : Option ℕ) → IsBehind (number, old) s → (e : Entry) → Contains old e → is_current s (unwrap_or number 0) e ≡ true → IsDeclared s e
-  sound None h e c t = absurd (omega (arith, c.1, ap length h))
-  sound (Some n) h e c t = let p = passes e.krate.0 (length s.crates) n (number_of s e) t in (h.unchanged e p.0 p.1).0 c
+  sound : (number : Option ℕ) → IsBehind (number, old) s → (e : Entry) → Contains old e → IsKnown s e.krate → number_of s e ≤ unwrap_or number 0 → IsDeclared s e
+  sound None h e c known low = absurd (omega (arith, c.1, ap length h))
+  sound (Some n) h e c known low = (h.unchanged e known low).0 c
 
   below : (number : Option ℕ) → IsBehind (number, old) s → (e : Entry) → Contains old e → (number_of s e ≤ unwrap_or number 0) ⊎ (number_of s e ≤ s.start) → number_of s e ≤ unwrap_or number 0
   below None h e c low = absurd (omega (arith, c.1, ap length h))
@@ -54,21 +97,27 @@ module _ (s : State) (old : List Entry) where
           let e = slice_index_or old k d in
           let c = All-contains_itself old k d l in
           let known = behind.known k d l in
-          sound number behind.behind e c (passed e.krate.0 (length s.crates) (unwrap_or number 0) (number_of s e) known (still e c known));
+          sound number behind.behind e c known (still e c known);
       whole = λ e d. (whole number behind.behind grounded e d (low e d.known)).0;
       in_order = rises;
     }
 
+  -- where places may have changed, what is gone is of a tree that did
+  pub gone_late : (number : Option ℕ) (places : List Place) (changes : List Change) → IsBehindAt (number, old) places s → IsSince s (unwrap_or number 0) changes → (e : Entry) → Contains old e → is_declared s e ≡ false → IsOfOne changes e
+  gone_late number places changes behind since e c f =
+      let known = All-contains (λ (x : Entry). IsKnown s x.krate) old e behind.known c in
+      let not_low = λ (low : (number_of s e ≤ unwrap_or number 0) ⊎ (number_of s e ≤ s.start)). true≢false (sym (tested_declared s e (sound number behind.behind e c known (below number behind.behind e c low))) ∙ f) in
+      elim (cases_lt (unwrap_or number 0) (number_of s e)) as (λ _. IsOfOne changes e) [
+        | inr p ↦ absurd (not_low (inl p))
+        | inl p ↦ elim (cases_lt s.start (number_of s e)) as (λ _. IsOfOne changes e) [
+          | inr q ↦ absurd (not_low (inr q))
+          | inl q ↦
+              let change : Change = (e.place, e.krate, number_of s e) in
+              (change, since.whole change (record { known = known; number = refl; above = p; above_start = q }), refl, refl)
+        ]
+      ]
+
 -- ---- trees that changed
-
-abbrev tree_by : Change → Place × Crate
-tree_by c = (c.0, c.1)
-
-change_cmp_total : IsTotalOrder change_cmp
-change_cmp_total = then_total (on_total (λ c. c.0) place_cmp_total) (on_total (λ c. c.1.0) nat_cmp_total)
-
-apart : (b c : Change) → change_cmp b c ≡ Less → tree_by b ≢ tree_by c
-apart b c h e = let t : change_cmp b c ≡ Equal = (λ j. change_cmp b ((sym e j).0, (sym e j).1, c.2)) ∙ tied_itself change_cmp_total b in absurd (cc)
 
 module _ (s : State) (n : ℕ) (changes : List Change) (since : IsSince s n changes) where
   abbrev entries_in : Change → List Entry
@@ -77,49 +126,31 @@ module _ (s : State) (n : ℕ) (changes : List Change) (since : IsSince s n chan
   news_declared : All (IsDeclared s) (entries_of s changes)
   news_declared = flat_map_all entries_in (IsDeclared s) changes (All-weaker (IsLate s n) (λ c. All (IsDeclared s) (entries_in c)) (λ c l. all_declared s c.0 c.1 l.known) changes since.late)
 
-  news_once : Once (entries_of s changes)
-  news_once = once_flat_map entries_in tree_by tree_of (λ c. each_once s c.0 c.1) (λ c. all_in_tree s c.0 c.1) changes (λ i j d p q. apart (slice_index_or changes i d) (slice_index_or changes j d) (since.in_order i j d p q))
-
-  news_late : All (λ e. n < number_of s e) (entries_of s changes)
-  news_late = flat_map_all entries_in (λ e. n < number_of s e) changes (All-weaker (IsLate s n) (λ c. All (λ e. n < number_of s e) (entries_in c)) (λ c l.
-      All-weaker (λ e. tree_of e ≡ tree_by c) (λ e. n < number_of s e) (λ e t. subst (λ (t : Place × Crate). n < change_number s t.0 t.1.0) (sym t) (rw (← l.number) l.above)) (entries_in c) (all_in_tree s c.0 c.1)) changes since.late)
-
   news_whole : (e : Entry) → IsDeclared s e → n < number_of s e → s.start < number_of s e → Contains (entries_of s changes) e
   news_whole e d p q =
       let change : Change = (e.place, e.krate, number_of s e) in
       flat_map_contains entries_in changes change e (since.whole change (record { known = d.known; number = refl; above = p; above_start = q })) (declared_there s e d)
 
-  -- ---- both
-
-  module _ (old : List Entry) where
-    abbrev kept : List Entry
-    kept = filter (is_current s n) old
-
-    kept_low : All (λ e. number_of s e ≤ n) kept
-    kept_low = filter_all (Contains old) (λ e. number_of s e ≤ n) (is_current s n) (λ e c t. (passes e.krate.0 (length s.crates) n (number_of s e) t).1) old (All-contains_itself old)
-
-    all_once : IsStrictlySortedBy entry_cmp old → Once (kept ++ entries_of s changes)
-    all_once rises =
-        once_append kept (entries_of s changes) (AllPairs-from_IsDistinct same_entries kept (IsDistinct-from_sorted entry_cmp kept (IsStrictlySortedBy-filter entry_cmp (is_current s n) old rises))) news_once
-        (λ i d p j a q e. let same = ap (number_of s) e in let low = kept_low i d p in let late = news_late j a q in absurd (omega arith))
-
-pub refreshed : (s : State) (number : Option ℕ) (old : List Entry) (n : ℕ) (fresh new : List Entry) → n ≡ unwrap_or number 0 → IsBehind (number, old) s → IsStrictlySortedBy entry_cmp old → AreChangedEntries s n fresh → IsPermutation (filter (is_current s n) old ++ fresh) new → IsSorted entry_cmp new → IsListing s new
-refreshed s number old n fresh new from behind rises read moved sorted =
-    let news = entries_of s read.changes in
-    let left = kept s n read.changes read.since old in
-    let all = left ++ news in
-    let here : IsPermutation all new = subst (λ (xs : List Entry). IsPermutation (left ++ xs) new) read.items moved in
-    let is_sound = λ (e : Entry) (c : Contains old e) (t : is_current s n e ≡ true). sound s old number behind e c (subst (λ (m : ℕ). is_current s m e ≡ true) from t) in
-    let is_whole = λ (e : Entry) (d : IsDeclared s e) (low : (number_of s e ≤ n) ⊎ (number_of s e ≤ s.start)).
-    let was = whole s old number behind read.grounded e d (subst (λ (m : ℕ). (number_of s e ≤ m) ⊎ (number_of s e ≤ s.start)) from low) in
-    Contains-append_left left news e (filter_contains (is_current s n) old e was.0 (passed e.krate.0 (length s.crates) n (number_of s e) d.known (omega (arith, from, was.1)))) in
-    let all_whole = λ (e : Entry) (d : IsDeclared s e).
-    elim (cases_lt n (number_of s e)) as (λ _. Contains all e) [
-      | inl p ↦ elim (cases_lt s.start (number_of s e)) as (λ _. Contains all e) [ inl q ↦ Contains-append_right left news e (news_whole s n read.changes read.since e d p q) | inr q ↦ is_whole e d (inr q) ]
-      | inr p ↦ is_whole e d (inl p)
+-- with the entries of those, and without what is gone
+pub refreshed : (s : State) (number : Option ℕ) (old fresh gone mid new : List Entry) → IsBehind (number, old) s → AreChangedEntries s (unwrap_or number 0) fresh → AreGone s old gone → ((e : Entry) → Contains mid e ↔ (Contains old e ⊎ Contains fresh e)) → ((e : Entry) → Contains new e ↔ (Contains mid e × (Contains gone e → ⊥)))
+    → IsStrictlySortedBy entry_cmp new → IsListing s new
+refreshed s number old fresh gone mid new behind read lost put left rises =
+    let n = unwrap_or number 0 in
+    let news : All (IsDeclared s) fresh = subst (All (IsDeclared s)) (sym read.items) (news_declared s n read.changes read.since) in
+    let is_news = λ (e : Entry) (i : Contains (entries_of s read.changes) e). subst (λ (xs : List Entry). Contains xs e) (sym read.items) i in
+    let is_whole = λ (e : Entry) (d : IsDeclared s e).
+    elim (cases_lt n (number_of s e)) as (λ _. Contains old e ⊎ Contains fresh e) [
+      | inl p ↦ elim (cases_lt s.start (number_of s e)) as (λ _. Contains old e ⊎ Contains fresh e) [ inl q ↦ inr (is_news e (news_whole s n read.changes read.since e d p q)) | inr q ↦ inl (whole s old number behind read.grounded e d (inr q)).0 ]
+      | inr p ↦ inl (whole s old number behind read.grounded e d (inl p)).0
     ] in
+    let is_sound = λ (e : Entry) (c : Contains new e).
+    let kept = (left e).0 c in
+    elim (is_declared s e) as (λ b. is_declared s e ≡ b → IsDeclared s e) [
+      | true ↦ λ t. declared_by_test s e t
+      | false ↦ λ f. elim ((put e).0 kept.0) as (λ _. IsDeclared s e) [ inl i ↦ absurd (kept.1 (lost.all e i f)) | inr i ↦ All-contains (IsDeclared s) fresh e news i ]
+    ] refl in
     record {
-      declared = All-permutation (IsDeclared s) all new here (All-append (IsDeclared s) left news (filter_all (Contains old) (IsDeclared s) (is_current s n) is_sound old (All-contains_itself old)) (news_declared s n read.changes read.since));
-      whole = λ e d. Contains-permutation all new e here (all_whole e d);
-      in_order = strict entry_cmp entry_cmp_total same_entries all new (all_once s n read.changes read.since old rises) here sorted;
+      declared = λ k d l. is_sound (slice_index_or new k d) (All-contains_itself new k d l);
+      whole = λ e d. (left e).1 ((put e).1 (is_whole e d), λ i. true≢false (sym (tested_declared s e d) ∙ All-contains (λ (x : Entry). is_declared s x ≡ false) gone e lost.lost i));
+      in_order = rises;
     }

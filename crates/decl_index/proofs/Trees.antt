@@ -1,8 +1,8 @@
--- The entries of a tree are those that the table declares there, each once.
+-- The entries of a tree are those that the table declares there.
 use Rattle.decl_index.proofs.Common.{◌≡◌, ℕ, zero, true, List, [], ◌∷◌, Option, Some, None, refl, sym, subst, ◌∙◌, arith, Contains, All, is_some, All-nil, All-cons, All-weaker, none-some, Crate, Place, State, IsKnown, unfolding_at, node_name, Entry, Node, Unfolding, each_walked_once, IsDeclared, entry_name, entry_of, entries_by, entries_at}
 use Rattle.std.specs.Option.{option_map_or}
 use Rattle.item_tree.specs.Reach.{all_ids}
-use Rattle.decl_index.proofs.Lists.{Once, flat_map_all, flat_map_contains, once_flat_map}
+use Rattle.decl_index.proofs.Lists.{flat_map_all, flat_map_contains}
 
 -- the tree of an entry
 abbrev pub tree_of : Entry → Place × Crate
@@ -26,10 +26,6 @@ module _ (s : State) (place : Place) (krate : Crate) where
   told i None h = All-nil (IsOf i)
   told i (Some name) h = All-cons (IsOf i) (entry_of place krate i name) [] (record { in_tree = refl; id = refl; name = h }) (All-nil (IsOf i))
 
-  at_most_one : (i : ℕ) (o : Option (List ℕ)) → Once (option_map_or (λ name. entry_of place krate i name ∷ []) o [])
-  at_most_one i None = λ a b d p q. absurd (omega arith)
-  at_most_one i (Some name) = λ a b d p q. absurd (omega arith)
-
   pub all_in_tree : All (λ e. tree_of e ≡ (place, krate)) (entries_at s place krate)
   all_in_tree = flat_map_all (entries_by u place krate) (λ e. tree_of e ≡ (place, krate)) (all_ids u) (λ k d l. All-weaker (IsOf _) (λ e. tree_of e ≡ (place, krate)) (λ e h. h.in_tree) _ (told _ _ refl))
 
@@ -38,9 +34,6 @@ module _ (s : State) (place : Place) (krate : Crate) where
       All-weaker (IsOf _) (IsDeclared s)
       (λ e h. record { known = subst (λ (t : Place × Crate). IsKnown s t.1) (sym h.in_tree) known; named = (λ j. entry_name s (h.in_tree j).0 (h.in_tree j).1 (h.id j)) ∙ h.name })
       _ (told _ _ refl))
-
-  pub each_once : Once (entries_at s place krate)
-  each_once = once_flat_map (entries_by u place krate) (λ i. i) (λ e. e.id) (λ i. at_most_one i (entry_name s place krate i)) (λ i. All-weaker (IsOf i) (λ e. e.id ≡ i) (λ e h. h.id) _ (told i _ refl)) (all_ids u) (each_walked_once u).once
 
 -- each that is declared is of its tree
 pub declared_there : (s : State) (e : Entry) → IsDeclared s e → Contains (entries_at s e.place e.krate) e

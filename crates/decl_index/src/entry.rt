@@ -7,6 +7,7 @@ ghost use Rattle.decl_index.specs.EntryOrder.{entry_cmp, entry_cmp_partial, entr
 use hir_input::{Crate, Name};
 use item_tree::ModItemId;
 use item_tree_db::Place;
+use std::alloc::AllocError;
 use std::cmp::Ordering;
 
 /// An item that has a name: in which tree of the table it stands, and under which id.
@@ -19,6 +20,21 @@ pub struct Entry {
     pub krate: Crate,
     /// The item's id in the crate's tree of the place.
     pub id: ModItemId,
+}
+
+impl Clone for Entry {
+    ghost is_clone = { λ entry copy. copy ≡ entry };
+
+    fn clone(&self) -> Result<Entry, AllocError> {
+        let name = self.name.clone()?;
+        let (place, krate, id) = (self.place, self.krate, self.id);
+        Ok(Entry {
+            name,
+            place,
+            krate,
+            id,
+        })
+    }
 }
 
 impl PartialOrd for Entry {

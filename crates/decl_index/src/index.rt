@@ -1,17 +1,16 @@
 //! The index.
-ghost use Rattle.std.specs.Prelude.{◌≡◌, ◌++◌, All, List, None, Some, [], filter, IfOk, OnOk, OnErr, flat_map};
+ghost use Rattle.std.specs.Prelude.{◌≡◌, ◌++◌, All, List, None, Some, [], filter, map, IfOk, OnOk, OnErr, flat_map};
 ghost use Rattle.std.specs.Prelude.{unwrap_or};
-ghost use Rattle.std.specs.List.Sorted.{IsPermutation, IsSorted, IsStrictlySortedBy};
 ghost use Rattle.item_tree.specs.Shown.{IsContained};
 ghost use Rattle.item_tree.specs.Walk.{AreContained};
 ghost use Rattle.item_tree_db.specs.Since.{IsGrounded, IsSince};
 ghost use Rattle.item_tree_db.specs.State.{IsKnown};
-ghost use Rattle.decl_index.specs.EntryOrder.{entry_cmp};
 ghost use Rattle.decl_index.specs.Entries.{entries_at, entries_by, entries_of, HasChanged, IsBehind, IsBehindAt};
 ghost use Rattle.decl_index.specs.Entries.{IsIndexOf};
-ghost use Rattle.decl_index.specs.Inner.{is_current, AreChangedEntries};
+ghost use Rattle.decl_index.specs.Inner.{AreChangedEntries, AreGone};
 ghost use Rattle.decl_index.specs.Lookup.{entry_has_name};
 
+use crate::catalog::Catalog;
 use crate::entry::Entry;
 use hir_input::{Crate, Name};
 use item_tree::{ItemTree, ModItemId};
@@ -25,7 +24,7 @@ use tree_walk::{name_at, preorder};
 #[derive(Debug)]
 pub struct DeclIndex {
     number: Option<u64>,
-    entries: Vec<Entry>,
+    entries: Catalog,
 }
 
 // (Written out: what is derived is proved anew, field by field, in each crate that drops one.)
@@ -45,9 +44,9 @@ impl Model for DeclIndex {
 
     ghost Value = { IndexView };
 
-    ghost view = { λ x. (x.number, x.entries.items) };
+    ghost view = { λ x. (x.number, x.entries) };
 
-    ghost invariant = { λ x. IsStrictlySortedBy entry_cmp x.entries.items };
+    ghost invariant = { λ x. IsStrictlySortedBy entry_cmp x.entries };
 }
 
 impl DeclIndex {
@@ -57,7 +56,7 @@ impl DeclIndex {
     {
         DeclIndex {
             number: None,
-            entries: Vec::new(alloc),
+            entries: Catalog::new(alloc),
         }
     }
 
@@ -69,21 +68,25 @@ impl DeclIndex {
     }
 
     /// All entries, in their order.
-    pub fn entries(&self) -> &[Entry]
-        ensures { result.now ≡ self.now.1 }
+    ///
+    /// # Errors
+    ///
+    /// Only if memory runs out.
+    pub fn entries(&self, alloc: Global) -> Result<Vec<&Entry>, AllocError>
+        ensures { IfOk result (λ entries. map (λ e. e.now) entries.items ≡ self.now.1) }
     {
-        &self.entries
+        self.entries.entries(alloc)
     }
 
     /// The entries that have a name, in the order of places, then of crates and ids. Takes no memory.
-    pub fn lookup(&self, name: &Name) -> &[Entry]
-        ensures { result.now ≡ filter (entry_has_name name.now) self.now.1 }
+    pub fn lookup(&self, name: &Name) -> &BTreeSet<Entry>
+        ensures { result.now.keys ≡ filter (entry_has_name name.now) self.now.1 }
     {
-        named(&self.entries, name)
+        self.entries.get(name)
     }
 
     /// Makes this the index of the table as it stands, and gives how many entries the trees have that changed since the
-    /// last refresh: items with a name. It reads no other tree, which no clause says.
+    /// last refresh: items with a name. Of other trees it looks only at the items of its entries, which no clause says.
     ///
     /// The table is the one that the index was refreshed from before, if it ever was, after any edits.
     ///
@@ -100,7 +103,8 @@ impl DeclIndex {
     {
         let since = self.number.unwrap_or(0);
         let fresh = read_late(alloc, sources, since, sources.changed_since(since))?;
-        self.renew(sources, since, fresh)
+        let gone = self.entries.gone(alloc, sources)?;
+        self.renew(alloc, sources, fresh, &gone)
     }
 
     /// The same, where each tree that changed since the last refresh is of one of these places: it looks at no others,
@@ -128,41 +132,35 @@ impl DeclIndex {
         }
         let changes = sources.changed_among(since, places);
         let fresh = read_late(alloc, sources, since, changes)?;
-        self.renew(sources, since, fresh)
+        let again = sources.changed_among(since, places);
+        let gone = self.entries.gone_among(alloc, sources, again)?;
+        self.renew(alloc, sources, fresh, &gone)
     }
 
-    // Puts the entries of all trees that changed since the last refresh in place of theirs.
+    // Adds the entries of all trees that changed since the last refresh, and takes out what is gone.
     fn renew(
         &mut self,
+        alloc: Global,
         sources: &Sources,
-        since: u64,
-        mut fresh: Vec<Entry>,
+        fresh: Vec<Entry>,
+        gone: &[Entry],
     ) -> Result<usize, AllocError>
-        requires from { since ≡ unwrap_or self.old.0 0 }
         requires behind { IsBehind self.old sources.now }
-        requires read { AreChangedEntries sources.now since fresh.items }
+        requires read { AreChangedEntries sources.now (unwrap_or self.old.0 0) fresh.items }
+        requires gone { AreGone sources.now self.old.1 gone.now }
         ensures index { OnOk result (IsIndexOf sources.now self.new) }
         ensures behind { IsBehind self.new sources.now }
         ensures at { OnOk result ((named : List Place) → IsBehindAt self.new named sources.now) }
-        ensures changed { IfOk result (HasChanged sources.now since) }
+        ensures changed { IfOk result (HasChanged sources.now (unwrap_or self.old.0 0)) }
         ensures err { OnErr result (self.new ≡ self.old) }
     {
         let count = fresh.len();
         let number = sources.number();
-        replace(&mut self.entries, sources, since, &mut fresh)?;
+        self.entries.put(alloc, fresh)?;
+        self.entries.take(gone);
         self.number = Some(number);
         Ok(count)
     }
-}
-
-// Of entries in their order, those that have a name: they stand side by side.
-fn named<'a>(entries: &'a [Entry], name: &Name) -> &'a [Entry]
-    requires { IsStrictlySortedBy entry_cmp entries.now }
-    ensures { result.now ≡ filter (entry_has_name name.now) entries.now }
-{
-    let from = entries.partition_point(|entry| entry.name.text() < name.text());
-    let rest = &entries[from..];
-    &rest[..rest.partition_point(|entry| entry.name.text() <= name.text())]
 }
 
 // The entries of all trees that changed since a number, which these changes tell.
@@ -253,41 +251,4 @@ fn read_item(
         id,
     })?;
     Ok(())
-}
-
-// Whether the tree of an entry has not changed since a number.
-fn is_current(sources: &Sources, since: u64, entry: &Entry) -> bool
-    ensures { result ≡ is_current sources.now since entry.now }
-{
-    sources.knows(entry.krate) && sources.changed(entry.place, entry.krate) <= since
-}
-
-// Puts new entries in place of those of the trees that changed since a number.
-fn replace(
-    entries: &mut Vec<Entry>,
-    sources: &Sources,
-    since: u64,
-    fresh: &mut Vec<Entry>,
-) -> Result<(), AllocError>
-    ensures moved { let kept = filter (is_current sources.now since) entries.old.items in
-        OnOk result (IsPermutation (kept ++ fresh.old.items) entries.new.items) }
-    ensures sorted { OnOk result (IsSorted entry_cmp entries.new.items) }
-    ensures err { OnErr result (entries.new.items ≡ entries.old.items) }
-{
-    // Room first: once entries are taken out, nothing may fail.
-    entries.reserve(fresh.len())?;
-    entries.retain(|entry| is_current(sources, since, entry));
-    entries.append(fresh)?;
-    sort(entries);
-    Ok(())
-}
-
-// Sorts two sorted runs in one pass where memory is left.
-fn sort(entries: &mut Vec<Entry>)
-    ensures moved { IsPermutation entries.old.items entries.new.items }
-    ensures sorted { IsSorted entry_cmp entries.new.items }
-{
-    if entries.sort().is_err() {
-        entries.sort_unstable();
-    }
 }

@@ -2,7 +2,11 @@
 //! each name is declared, read again only for the trees that changed.
 #![tactic(auto)]
 
+mod by_name;
+mod by_tree;
+mod catalog;
 mod entry;
+mod gone;
 mod index;
 
 pub use entry::Entry;

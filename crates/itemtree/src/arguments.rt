@@ -1,5 +1,5 @@
 //! The words of the command line.
-use crate::commands::Failure;
+use crate::failure::Failure;
 use std::alloc::AllocError;
 use std::env::FillError;
 use std::rt::Env;

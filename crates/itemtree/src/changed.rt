@@ -1,11 +1,14 @@
 //! What became of a file in another, or of the files below a folder in those below another.
-use crate::commands::{FAILED, Failure, NOT_SO, or_closed};
+use crate::commands::{FAILED, NOT_SO, or_closed};
+use crate::failure::Failure;
 use crate::escapes::Shown;
 use crate::files::{Room, STDIN, is_a_folder};
-use crate::output::{Progress, complain, complain_of, write_out};
+use crate::output::{Progress, complain, complain_of, form, write_out};
 use crate::walk::{Found, files_of_folder, with_slash};
 use itemtree_commands::{CompareError, Options, compare_trees};
 use itemtree_options::Asked;
+use list_forms::Form;
+use source_changes::{ChangeKind, file_change};
 use source_listing::Source;
 use std::alloc::{AllocError, Global};
 use std::cmp::Ordering;
@@ -28,6 +31,9 @@ struct Comparison<'a> {
     is_of_trees: bool,
     /// Whether documentation is compared too.
     has_docs: bool,
+    form: Form,
+    /// Whether nothing is written.
+    is_quiet: bool,
     status: u8,
     progress: Progress<'a>,
 }
@@ -35,6 +41,9 @@ struct Comparison<'a> {
 impl Comparison<'_> {
     fn write(&mut self, text: &str) -> Result<(), Failure> {
         self.status = self.status.max(NOT_SO);
+        if self.is_quiet {
+            return Ok(());
+        }
         self.progress.clear();
         write_out(self.rt, text)
     }
@@ -43,6 +52,42 @@ impl Comparison<'_> {
         self.status = FAILED;
         self.progress.clear();
         complain(self.rt, path, error);
+    }
+
+    /// How a path is written: lines are for people, and show what terminals can.
+    fn written(&self, path: &str) -> Result<String, AllocError> {
+        match self.form {
+            Form::Json => String::from_str(self.rt.alloc(), path),
+            Form::Line { .. } => Shown(path).text(self.rt.alloc()),
+        }
+    }
+
+    /// The same of a path that is written so.
+    fn complain_of(&mut self, written: &str, error: impl Display + Drop) {
+        match self.form {
+            Form::Json => self.complain(Shown(written), error),
+            Form::Line { .. } => self.complain(written, error),
+        }
+    }
+
+    /// Tells what became of a file.
+    fn tell_file(&mut self, written: &str, kind: ChangeKind) -> Result<(), Failure> {
+        let text = file_change(self.rt.alloc(), written, kind, self.form)?;
+        self.write(&text)
+    }
+
+    /// Tells that files differ whose items are the same.
+    fn tell_order(&mut self, old: &str, new: &str) -> Result<(), Failure> {
+        if let Form::Json = self.form {
+            return self.tell_file(new, ChangeKind::Changed);
+        }
+        let what = if self.is_of_trees {
+            ONLY_IN_TREES
+        } else {
+            ONLY_ORDER
+        };
+        let line = format!(in self.rt.alloc(); "{old} and {new}: {what}\n")?;
+        self.write(&line)
     }
 
     /// Two files that there is no memory to compare.
@@ -57,23 +102,17 @@ impl Comparison<'_> {
             return Ok(());
         }
         if lines.is_empty() {
-            let what = if self.is_of_trees {
-                ONLY_IN_TREES
-            } else {
-                ONLY_ORDER
-            };
-            let line = format!(in self.rt.alloc(); "{old} and {new}: {what}\n")?;
-            return self.write(&line);
+            return self.tell_order(old, new);
         }
         self.write(lines)
     }
 
     /// Lists the changes between two files whose trees differ.
     fn compare_trees(&mut self, old: Source<'_>, new: Source<'_>) -> Result<(), Failure> {
-        match compare_trees(self.rt.alloc(), old, new, self.options) {
+        match compare_trees(self.rt.alloc(), old, new, self.options, self.form) {
             Ok(compared) => self.tell(old.path, new.path, &compared.text, compared.is_same)?,
-            Err(CompareError::Old(error)) => self.complain(old.path, error),
-            Err(CompareError::New(error)) => self.complain(new.path, error),
+            Err(CompareError::Old(error)) => self.complain_of(old.path, error),
+            Err(CompareError::New(error)) => self.complain_of(new.path, error),
             Err(CompareError::OutOfMemory) => self.give_up(old.path, new.path),
         }
         Ok(())
@@ -81,8 +120,8 @@ impl Comparison<'_> {
 
     /// Lists the changes of what others can see of two files.
     fn compare_seen(&mut self, old: Source<'_>, new: Source<'_>) -> Result<(), Failure> {
-        let year = self.options.edition.year;
-        match source_changes::compare(self.rt.alloc(), old, new, year, self.has_docs) {
+        let (alloc, year) = (self.rt.alloc(), self.options.edition.year);
+        match source_changes::compare(alloc, old, new, year, self.has_docs, self.form) {
             Ok(compared) => self.tell(old.path, new.path, &compared.text, compared.is_same)?,
             Err(_) => self.give_up(old.path, new.path),
         }
@@ -115,8 +154,8 @@ impl Comparison<'_> {
         if !self.is_of_trees && old == new {
             return Ok(());
         }
-        let old_path = Shown(old_path).text(self.rt.alloc())?;
-        let new_path = Shown(new_path).text(self.rt.alloc())?;
+        let old_path = self.written(old_path)?;
+        let new_path = self.written(new_path)?;
         let olds = Source {
             path: &old_path,
             text: old,
@@ -133,10 +172,9 @@ impl Comparison<'_> {
     }
 
     /// Tells of a file that only one of two folders has.
-    fn tell_single(&mut self, path: &str, what: &str) -> Result<(), Failure> {
-        let path = Shown(path);
-        let line = format!(in self.rt.alloc(); "{path}: {what} file\n")?;
-        self.write(&line)
+    fn tell_single(&mut self, path: &str, kind: ChangeKind) -> Result<(), Failure> {
+        let path = self.written(path)?;
+        self.tell_file(&path, kind)
     }
 
     fn side(&mut self, folder: &str, asked: &Asked<'_>) -> Result<Side, AllocError> {
@@ -159,10 +197,10 @@ impl Comparison<'_> {
         match pair {
             (Some(old), Some(new)) => self.compare_files(old, new, old_room, new_room),
             (Some(old), None) if !news.may_have(alloc, olds.below(old))? => {
-                self.tell_single(old, "removed")
+                self.tell_single(old, ChangeKind::Removed)
             }
             (None, Some(new)) if !olds.may_have(alloc, news.below(new))? => {
-                self.tell_single(new, "added")
+                self.tell_single(new, ChangeKind::Added)
             }
             _ => Ok(()),
         }
@@ -284,6 +322,8 @@ pub(crate) fn compare(
         options,
         is_of_trees,
         has_docs: asked.has_docs,
+        form: form(rt, asked),
+        is_quiet: asked.is_quiet,
         status: 0,
         progress: Progress::new(rt),
     };

@@ -1,18 +1,22 @@
 //! The commands, file by file.
 use crate::changed::compare;
 use crate::escapes::Shown;
+use crate::failure::Failure;
 use crate::files::{Room, STDIN};
+use crate::hints::better_edition;
 use crate::options::{atoms_of, options_of, request_options};
-use crate::output::{Progress, complain, complain_of, is_colored, write_out};
+use crate::output::{Progress, complain, complain_of, form, write_out};
 use crate::request::write_request;
 use crate::serve::answer_lines;
 use crate::sources::files_of;
-use crate::tags::{TagsFile, write_tags};
+use crate::tag_paths::TagPaths;
+use crate::tags::{TagsFile, head, write_tags};
 use itemtree_commands::{
     Options, SourceError, check, duplicates, find, imports, outline, outline_json, page, tags,
 };
 use itemtree_options::{Asked, Command};
-use source_listing::{Query, SoughtPath, Source, sought_path};
+use list_forms::Form;
+use source_listing::{Address, Pattern, Query, Source, sought_pattern};
 use std::alloc::{AllocError, Global};
 use std::fmt::Display;
 use std::io;
@@ -23,78 +27,55 @@ pub(crate) const NOT_SO: u8 = 1;
 /// The status of an error.
 pub(crate) const FAILED: u8 = 2;
 
-/// Why a run ends early.
-#[derive(Debug, Drop)]
-pub(crate) enum Failure {
-    /// Nobody reads what is written.
-    Closed,
-    /// The command line is wrong, or names what cannot be written.
-    Usage(String),
-    /// This cannot be written.
-    Unwritten { path: String, error: io::Error },
-    Other(io::Error),
-}
-
-impl From<io::Error> for Failure {
-    fn from(error: io::Error) -> Failure {
-        if error.kind() == io::ErrorKind::BrokenPipe {
-            Failure::Closed
-        } else {
-            Failure::Other(error)
-        }
-    }
-}
-
-impl From<AllocError> for Failure {
-    fn from(error: AllocError) -> Failure {
-        Failure::Other(io::Error::from(error))
-    }
-}
-
-/// Why a file is not written.
-pub(crate) fn refusal(alloc: Global, path: &str, reason: &str) -> Result<Failure, AllocError> {
-    let path = Shown(path);
-    Ok(Failure::Usage(format!(in alloc; "{path}: {reason}")?))
-}
-
 /// A command over files.
 #[derive(Drop)]
 struct Run<'a> {
     rt: &'a HostRuntime,
     asked: &'a Asked<'a>,
     options: &'a Options,
-    is_colored: bool,
+    form: Form,
     /// What is to be found, if anything is.
-    sought: Option<SoughtPath>,
-    /// The lines of a tags file, in one text: a piece of memory for each takes half as much again.
+    sought: Option<Pattern>,
+    /// The lines of a tags file behind its head, in one text: a piece of memory for each takes half as much again.
     tags: String,
+    tag_paths: TagPaths<'a>,
     status: u8,
     /// Whether any file was done.
     has_done: bool,
     /// Whether anything was written.
     has_written: bool,
+    /// Whether it was told that less is wrong in another edition.
+    has_told_edition: bool,
     progress: Progress<'a>,
 }
 
 impl Run<'_> {
-    fn find(&self, source: Source<'_>) -> Result<String, SourceError> {
+    fn find(&self, source: Source<'_>, ignores_case: bool) -> Result<String, SourceError> {
         let alloc = self.rt.alloc();
         let Some(sought) = &self.sought else {
             return Ok(String::new(alloc));
         };
         let query = Query {
-            path: sought.path.as_str(),
+            scope: sought.scope.as_str(),
+            name: sought.name.as_str(),
             is_anywhere: sought.is_anywhere,
+            ignores_case,
+            kinds: self.asked.kinds.as_slice(),
             only_active: self.options.only_active,
+            form: self.form,
         };
         find(alloc, source, self.options, query, self.asked.has_members)
     }
 
-    fn push_tags(&mut self, source: Source<'_>) -> Result<String, SourceError> {
+    fn push_tags(&mut self, source: Source<'_>, excmd: &str) -> Result<String, SourceError> {
         let (alloc, has_members) = (self.rt.alloc(), self.asked.has_members);
+        let address = match excmd {
+            "number" => Address::Number,
+            _ => Address::Pattern,
+        };
         // (all of a file's at once: where memory runs out, there are none)
         self.tags
-            .push_str(&tags(alloc, source, self.options, has_members)?)?;
+            .push_str(&tags(alloc, source, self.options, address, has_members)?)?;
         Ok(String::new(alloc))
     }
 
@@ -102,34 +83,41 @@ impl Run<'_> {
         &self,
         source: Source<'_>,
         depth: Option<usize>,
-        is_json: bool,
+        is_flat: bool,
     ) -> Result<String, SourceError> {
         let (alloc, has_members) = (self.rt.alloc(), self.asked.has_members);
-        if is_json {
-            return outline_json(alloc, source, self.options, depth, has_members);
+        match self.form {
+            Form::Json => outline_json(alloc, source, self.options, depth, has_members),
+            Form::Line { is_colored } => {
+                let options = self.options;
+                outline(alloc, source, options, depth, has_members, is_colored, is_flat)
+            }
         }
-        outline(
-            alloc,
-            source,
-            self.options,
-            depth,
-            has_members,
-            self.is_colored,
-        )
+    }
+
+    fn is_colored(&self) -> bool {
+        match self.form {
+            Form::Line { is_colored } => is_colored,
+            Form::Json => false,
+        }
     }
 
     /// What is written of a file, and whether the file is as it should be.
     fn answer(&mut self, source: Source<'_>) -> Result<(String, bool), SourceError> {
         let (alloc, options) = (self.rt.alloc(), self.options);
         let text = match self.asked.command {
-            Command::Outline { depth, is_json, .. } => self.outline(source, depth, is_json)?,
+            Command::Outline { depth, is_flat } => self.outline(source, depth, is_flat)?,
             Command::Page { has_ids } => page(alloc, source.text, options, has_ids)?,
-            Command::Imports => imports(alloc, source, options)?,
-            Command::Duplicates => duplicates(alloc, source, options)?,
-            Command::Find { .. } => self.find(source)?,
-            Command::Tags { .. } => self.push_tags(source)?,
+            Command::Imports => imports(alloc, source, options, self.form)?,
+            Command::Duplicates => {
+                let text = duplicates(alloc, source, options)?;
+                let is_none = text.is_empty();
+                return Ok((text, is_none));
+            }
+            Command::Find { ignores_case, .. } => self.find(source, ignores_case)?,
+            Command::Tags { excmd, .. } => self.push_tags(source, excmd)?,
             Command::Check | Command::Changed { .. } | Command::Request { .. } | Command::Serve => {
-                let checked = check(alloc, source, options)?;
+                let checked = check(alloc, source, options, self.is_colored())?;
                 return Ok((checked.text, checked.is_clean));
             }
         };
@@ -152,28 +140,57 @@ impl Run<'_> {
             return Ok(());
         }
         self.has_written = true;
+        if self.asked.is_quiet {
+            return Ok(());
+        }
         self.progress.clear();
         write_out(self.rt, text)
     }
 
     /// How a path is written: lists are for people, and show what terminals can.
-    fn path_of<'p>(&self, path: &'p str, shown: &'p str) -> &'p str {
+    fn path_of(&self, path: &str) -> Result<String, AllocError> {
+        let alloc = self.rt.alloc();
         match self.asked.command {
-            Command::Outline { is_json: true, .. } => path,
-            Command::Tags { .. } => path.strip_prefix("./").unwrap_or(path),
-            _ => shown,
+            _ if self.asked.is_json => String::from_str(alloc, path),
+            Command::Tags { .. } => self.tag_paths.path_of(alloc, path),
+            _ => Shown(path).text(alloc),
         }
     }
 
+    /// Tells of the first text in which less is wrong in an earlier edition, where none is asked for.
+    fn tell_edition(&mut self, source: Source<'_>, length: usize) -> Result<(), AllocError> {
+        if self.asked.is_quiet || self.asked.has_edition || self.has_told_edition {
+            return Ok(());
+        }
+        let (alloc, is_colored) = (self.rt.alloc(), self.is_colored());
+        let Some(year) = better_edition(alloc, source, is_colored, length)? else {
+            return Ok(());
+        };
+        self.has_told_edition = true;
+        self.progress.clear();
+        let path = source.path;
+        let _ = eprintln!(self.rt;
+            "itemtree: {path}: less is wrong with --edition {year}; without it, 2024 is taken"
+        );
+        Ok(())
+    }
+
     fn do_text(&mut self, path: &str, text: &str) -> Result<(), Failure> {
-        let shown = Shown(path).text(self.rt.alloc())?;
+        let written = self.path_of(path)?;
         let source = Source {
-            path: self.path_of(path, &shown),
+            path: written.as_str(),
             text,
         };
-        match self.answer(source) {
-            Ok((text, is_good)) => self.write(&text, is_good)?,
-            Err(error) => self.complain(path, error),
+        let (text, is_good) = match self.answer(source) {
+            Ok(answer) => answer,
+            Err(error) => {
+                self.complain(path, error);
+                return Ok(());
+            }
+        };
+        self.write(&text, is_good)?;
+        if let (Command::Check, false) = (self.asked.command, is_good) {
+            self.tell_edition(source, text.len())?;
         }
         Ok(())
     }
@@ -205,17 +222,25 @@ impl Run<'_> {
 }
 
 /// What is to be found, if anything is.
-fn sought_of(alloc: Global, command: Command<'_>) -> Result<Option<SoughtPath>, Failure> {
-    let Command::Find { name } = command else {
+fn sought_of(alloc: Global, command: Command<'_>) -> Result<Option<Pattern>, Failure> {
+    let Command::Find { name, ignores_case } = command else {
         return Ok(None);
     };
-    if let Some(sought) = sought_path(alloc, name)? {
+    if let Some(sought) = sought_pattern(alloc, ignores_case, name)? {
         return Ok(Some(sought));
     }
     let message = format!(in alloc;
-        "find '{name}': this is neither a name, as f or r#fn, nor a path of names, as b::f or ::a::b::f"
+        "find '{name}': this is neither a name, as f, r#fn or *Map, nor a path of names, as b::f or ::a::b::f"
     )?;
     Err(Failure::Usage(message))
+}
+
+/// What a tags file begins with, if one is written.
+fn tags_of(alloc: Global, command: Command<'_>) -> Result<String, AllocError> {
+    match command {
+        Command::Tags { excmd, .. } => head(alloc, excmd),
+        _ => Ok(String::new(alloc)),
+    }
 }
 
 /// Writes the tags. If nothing could be read, those that stand are better than none.
@@ -255,6 +280,7 @@ fn finish(run: Run<'_>) -> Result<u8, Failure> {
             output,
             is_named,
             is_appended,
+            ..
         } => {
             let file = TagsFile {
                 path: output,
@@ -291,9 +317,12 @@ pub(crate) fn or_closed(done: Result<(), Failure>, status: u8) -> Result<u8, Fai
     }
 }
 
-/// Whether the tags file can be one.
-fn refuse_output(alloc: Global, command: Command<'_>) -> Result<(), Failure> {
-    let message = match command {
+/// Whether the tags file can be one, and lines can be flat.
+fn refuse_output(alloc: Global, asked: &Asked<'_>) -> Result<(), Failure> {
+    let message = match asked.command {
+        Command::Outline { is_flat: true, .. } if asked.is_json => {
+            "--flat: the objects of --json hold what is in them"
+        }
         Command::Tags { output: "", .. } => "--output: an empty path names no file",
         Command::Tags {
             output: STDIN,
@@ -306,17 +335,19 @@ fn refuse_output(alloc: Global, command: Command<'_>) -> Result<(), Failure> {
 }
 
 fn run_files(rt: &HostRuntime, options: &Options, asked: &Asked<'_>) -> Result<u8, Failure> {
-    refuse_output(rt.alloc(), asked.command)?;
+    refuse_output(rt.alloc(), asked)?;
     let mut run = Run {
         rt,
         asked,
         options,
-        is_colored: is_colored(rt, asked.command),
+        form: form(rt, asked),
         sought: sought_of(rt.alloc(), asked.command)?,
-        tags: String::new(rt.alloc()),
+        tags: tags_of(rt.alloc(), asked.command)?,
+        tag_paths: TagPaths::new(rt, asked.command)?,
         status: 0,
         has_done: false,
         has_written: false,
+        has_told_edition: false,
         progress: Progress::new(rt),
     };
     match run.do_all() {

@@ -79,6 +79,21 @@ fn skipped_names(alloc: Global, asked: &Asked<'_>) -> Result<Vec<Name>, AllocErr
     Ok(names)
 }
 
+/// What a text is checked under in an edition.
+pub(crate) fn options_in(alloc: Global, year: EditionYear) -> Result<Options, AllocError> {
+    let krate = CrateData {
+        root: HirFileId(0),
+        cfg: CfgOptions::new(Vec::new(alloc)),
+        attrs: Vec::new(alloc),
+    };
+    Ok(Options {
+        krate,
+        skipped: Vec::new(alloc),
+        edition: edition(alloc, year)?,
+        only_active: false,
+    })
+}
+
 /// The options of a command line with these cfgs.
 pub(crate) fn options_of(
     alloc: Global,

@@ -1,8 +1,9 @@
 //! What is written on standard output, and told on standard error.
-use crate::commands::Failure;
+use crate::failure::Failure;
 use crate::escapes::Shown;
 use crate::walk::Fault;
-use itemtree_options::Command;
+use itemtree_options::Asked;
+use list_forms::Form;
 use std::alloc::Global;
 use std::env::FillError;
 use std::fmt::Display;
@@ -55,13 +56,20 @@ fn is_dumb(rt: &HostRuntime) -> bool {
 }
 
 /// Whether standard output is in colour, as `--color` says or the terminal.
-pub(crate) fn is_colored(rt: &HostRuntime, command: Command<'_>) -> bool {
-    match command {
-        Command::Outline {
-            is_colored: Some(is_colored),
-            ..
-        } => is_colored,
-        _ => rt.stdout().is_terminal() && !wants_no_color(rt) && !is_dumb(rt),
+fn is_colored(rt: &HostRuntime, wanted: Option<bool>) -> bool {
+    match wanted {
+        Some(is_colored) => is_colored,
+        None => rt.stdout().is_terminal() && !wants_no_color(rt) && !is_dumb(rt),
+    }
+}
+
+/// How the entries of lists are written, as `--json` and `--color` say.
+pub(crate) fn form(rt: &HostRuntime, asked: &Asked<'_>) -> Form {
+    if asked.is_json {
+        return Form::Json;
+    }
+    Form::Line {
+        is_colored: is_colored(rt, asked.is_colored),
     }
 }
 

@@ -1,5 +1,5 @@
 //! Regular files that are replaced as a whole, or stand as they were.
-use crate::commands::{Failure, refusal};
+use crate::failure::{Failure, refusal};
 use crate::output::write_failure;
 use crate::tags::write_lines;
 use std::fs::{File, Metadata};

@@ -1,5 +1,6 @@
 //! The request in JSON that `item_tree_tool` reads.
-use crate::commands::{FAILED, Failure};
+use crate::commands::FAILED;
+use crate::failure::Failure;
 use crate::escapes::Shown;
 use crate::files::Room;
 use crate::output::{complain, complain_of, write_out};

@@ -1,5 +1,5 @@
 //! Requests line by line, over standard input and output.
-use crate::commands::Failure;
+use crate::failure::Failure;
 use source_session::Conversation;
 use std::io::BufReader;
 

@@ -1,5 +1,5 @@
 //! The files that a command line names, each once.
-use crate::commands::Failure;
+use crate::failure::Failure;
 use crate::escapes::Shown;
 use crate::files::{Room, STDIN, is_a_folder};
 use crate::walk::{Fault, FolderId, Found, files_of_folder};

@@ -1,5 +1,5 @@
 //! The tags file.
-use crate::commands::{Failure, refusal};
+use crate::failure::{Failure, refusal};
 use crate::escapes::Shown;
 use crate::files::STDIN;
 use crate::output::{STDOUT, write_failure};
@@ -9,11 +9,6 @@ use std::fs::{File, Metadata};
 use std::io::{BufRead, BufReader, BufWriter, Read, Write};
 use std::os::unix::fs::FileTypeExt;
 use std::{fs, io};
-
-const HEAD: &str = "!_TAG_FILE_FORMAT\t2\t/extended format; --format=1 will not append ;\" to lines/
-!_TAG_FILE_SORTED\t1\t/0=unsorted, 1=sorted, 2=foldcase/
-!_TAG_PROGRAM_NAME\titemtree\t//
-";
 
 /// How the lines of a tags file's head begin.
 const OF_HEAD: &str = "!_TAG_";
@@ -42,10 +37,27 @@ impl<'a> TagsFile<'a> {
     }
 }
 
-/// Writes the head and the lines behind it.
+/// How many lines a head has.
+const HEAD_LINES: usize = 9;
+
+/// What tells other programs of the file, as Universal Ctags writes it; tags are found as `--excmd` says.
+pub(crate) fn head(alloc: Global, excmd: &str) -> Result<String, AllocError> {
+    format!(in alloc;
+        "!_TAG_FILE_ENCODING\tutf-8\t//
+!_TAG_FILE_FORMAT\t2\t/extended format; --format=1 will not append ;\" to lines/
+!_TAG_FILE_SORTED\t1\t/0=unsorted, 1=sorted, 2=foldcase/
+!_TAG_OUTPUT_EXCMD\t{excmd}\t/number, pattern, mixed, or combineV2/
+!_TAG_OUTPUT_FILESEP\tslash\t/slash or backslash/
+!_TAG_OUTPUT_MODE\tu-ctags\t/u-ctags or e-ctags/
+!_TAG_PATTERN_LENGTH_LIMIT\t96\t/0 for no limit/
+!_TAG_PROGRAM_NAME\titemtree\t//
+!_TAG_PROGRAM_VERSION\t0.2.0\t//
+"
+    )
+}
+
 pub(crate) fn write_lines(alloc: Global, out: impl Write + Drop, lines: &[&str]) -> io::Result<()> {
     let mut out = BufWriter::new(alloc, out)?;
-    out.write_all(HEAD.as_bytes())?;
     for line in lines {
         out.write_all(line.as_bytes())?;
         out.write_all(b"\n")?;
@@ -232,16 +244,20 @@ fn push_old(rt: &HostRuntime, path: &str, text: &mut String) -> Result<(), Failu
     }
 }
 
-/// The lines of a text but for those of heads, sorted and each once.
+/// The lines of tags, of a text behind a head, sorted and each once.
 fn sorted_lines(alloc: Global, text: &str) -> Result<Vec<&str>, AllocError> {
     let is_tag = |line: &&str| !line.starts_with(OF_HEAD) && !line.is_empty();
-    let mut lines: Vec<&str> = text.lines().filter(is_tag).collect(alloc)?;
+    let mut lines: Vec<&str> = text
+        .lines()
+        .skip(HEAD_LINES)
+        .filter(is_tag)
+        .collect(alloc)?;
     lines.sort()?;
     lines.dedup();
     Ok(lines)
 }
 
-/// Sorts the lines of a text and writes them behind the head, to a file or to standard output.
+/// Sorts the lines of a text behind its head, and writes all to a file or to standard output.
 pub(crate) fn write_tags(
     rt: &HostRuntime,
     file: TagsFile<'_>,
@@ -250,6 +266,8 @@ pub(crate) fn write_tags(
     if file.is_appended {
         push_old(rt, file.path, &mut text)?;
     }
-    let lines = sorted_lines(rt.alloc(), &text)?;
+    let mut lines: Vec<&str> = text.lines().take(HEAD_LINES).collect(rt.alloc())?;
+    let mut tags = sorted_lines(rt.alloc(), &text)?;
+    lines.append(&mut tags)?;
     write_to(rt, file, &lines)
 }

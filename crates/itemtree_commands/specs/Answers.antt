@@ -5,7 +5,7 @@ use Rattle.hir_input.specs.Name.{is_among}
 use Rattle.item_tree.specs.Page.{page}
 use Rattle.tree_walk.specs.Rows.{rows}
 use Rattle.source_rows.specs.Listed.{Closers, MemberReading}
-use Rattle.source_listing.specs.Imports.{import_lines}
+use Rattle.source_listing.specs.ImportLines.{import_lines}
 use Rattle.source_listing.specs.Lines.{Choice, Source, problem_lines}
 use Rattle.source_listing.specs.Outlines.{Look, outline_text}
 use Rattle.source_listing.specs.Objects.{json_line}
@@ -14,7 +14,9 @@ use Rattle.source_listing.specs.Repeated.{repeated_lines}
 use Rattle.source_listing.specs.Uses.{FilePlaces, placed}
 use Rattle.source_listing.specs.Search.{Query, found_lines}
 use Rattle.source_listing.specs.Tags.{tags}
+use Rattle.source_listing.specs.declared.tags.Address.{Address}
 use Rattle.source_problems.specs.Texts.{source_problems}
+use Rattle.list_forms.specs.declared.lines.Form.{Form}
 use Rattle.source_changes.specs.Changes.{AreLinesBetween}
 use Rattle.source_changes.specs.declared.Compared.{Compared}
 use Rattle.source_rows.specs.ListedFiles.{listed_text}
@@ -35,9 +37,9 @@ HasTree o = IsTreeOf o.krate o.skipped.items o.edition.year
 abbrev pub choice : Options → Option ℕ → Choice
 choice o depth = record { depth = depth; only_active = o.only_active }
 
--- which lines are written, and whether in colour
-abbrev pub look_of : Options → Option ℕ → Bool → Look
-look_of o depth is_colored = record { choice = choice o depth; is_colored = is_colored }
+-- which lines are written, whether in colour, and whether flat
+abbrev pub look_of : Options → Option ℕ → Bool → Bool → Look
+look_of o depth is_colored is_flat = record { choice = choice o depth; is_colored = is_colored; is_flat = is_flat }
 
 -- the cfgs under which members are listed, if they are
 abbrev pub if_members : Options → Bool → Option (List AtomView)
@@ -51,11 +53,11 @@ reading_in o has_members s c = record { text = listed_text s.text c; closers = c
 abbrev pub HasListed : Options → List ℕ → Option Closers → SourceTree → Type 0
 HasListed o = IsListedTree o.krate o.skipped.items o.edition.year
 
--- the lines of the listed items, with or without those of their listed members, and with or without colours
-abbrev pub IsOutline : Options → Option ℕ → Bool → Bool → Source → List ℕ → Type 0
-IsOutline o depth has_members is_colored s out =
+-- the lines of the listed items, with or without those of their listed members, with or without colours, and flat or not
+abbrev pub IsOutline : Options → Option ℕ → Bool → Bool → Bool → Source → List ℕ → Type 0
+IsOutline o depth has_members is_colored is_flat s out =
     (c : Option Closers) × (t : SourceTree) × HasListed o s.text c t
-    × (out ≡ outline_text s (reading_in o has_members s c) o.edition.reserved.items t.places.items (look_of o depth is_colored) (rows t.tree))
+    × (out ≡ outline_text s (reading_in o has_members s c) o.edition.reserved.items t.places.items (look_of o depth is_colored is_flat) (rows t.tree))
 
 -- their objects, on one line
 abbrev pub IsJson : Options → Option ℕ → Bool → Source → List ℕ → Type 0
@@ -68,8 +70,8 @@ abbrev pub all_places : SourceTree → FilePlaces
 all_places t = placed t.places.items t.use_trees.items
 
 -- the lines of the imports
-abbrev pub AreImports : Options → Source → List ℕ → Type 0
-AreImports o s out = (c : Option Closers) × (t : SourceTree) × HasListed o s.text c t × (out ≡ import_lines s o.edition.reserved.items (all_places t) t.tree.forest)
+abbrev pub AreImports : Options → Form → Source → List ℕ → Type 0
+AreImports o form s out = (c : Option Closers) × (t : SourceTree) × HasListed o s.text c t × (out ≡ import_lines o.edition.reserved.items form s (all_places t) t.tree.forest)
 
 -- the lines of those that repeat an earlier one
 abbrev pub AreRepeated : Options → Source → List ℕ → Type 0
@@ -81,11 +83,11 @@ AreFound o has_members q s out =
     (c : Option Closers) × (t : SourceTree) × HasListed o s.text c t
     × (out ≡ found_lines s (reading_in o has_members s c) o.edition.reserved.items t.places.items q (rows t.tree))
 
--- the tags
-abbrev pub AreTags : Options → Bool → Source → List ℕ → Type 0
-AreTags o has_members s out =
+-- the tags, with places that are found so
+abbrev pub AreTags : Options → Address → Bool → Source → List ℕ → Type 0
+AreTags o address has_members s out =
     (c : Option Closers) × (t : SourceTree) × HasListed o s.text c t
-    × (out ≡ tags s (reading_in o has_members s c) t.places.items (choice o None) (rows t.tree))
+    × (out ≡ tags s address (reading_in o has_members s c) t.places.items (choice o None) (rows t.tree))
 
 -- the debug page, with or without the lines of ids
 abbrev pub if_ids : Bool → List ℕ → List ℕ
@@ -96,9 +98,9 @@ abbrev pub IsPage : Options → Bool → List ℕ → List ℕ → Type 0
 IsPage o has_ids text out = (t : SourceTree) × HasTree o text t × (out ≡ if_ids has_ids (page o.edition.reserved.items t.tree))
 
 -- the lines of what is wrong with what is read of the text, and whether there are any
-abbrev pub IsCheck : Options → Source → Checked → Type 0
-IsCheck o s c =
-    (file : FileView) × IsFileView o.edition.year s.text file × (string_bytes c.text ≡ problem_lines s (source_problems s.text file))
+abbrev pub IsCheck : Options → Bool → Source → Checked → Type 0
+IsCheck o is_colored s c =
+    (file : FileView) × IsFileView o.edition.year s.text file × (string_bytes c.text ≡ problem_lines is_colored s (source_problems s.text file))
     × (IsTrue c.is_clean ↔ (length (source_problems s.text file) ≡ 0))
 
 -- the command has no answer: the text has no tree, or memory runs out
@@ -110,15 +112,15 @@ abbrev pub HasNoList : Options → List ℕ → SourceError → Type 0
 HasNoList o = IsListRefused o.krate o.skipped.items o.edition.year
 
 -- the lines of what became of one file in another, with documentation unless it is skipped; none where the two are the same
-abbrev pub AreLinesUnless : Bool → Options → Source → Source → List ℕ → Type 0
-AreLinesUnless true o old new lines = lines ≡ []
-AreLinesUnless false o old new lines = AreLinesBetween o.edition.year (not (is_among o.skipped.items (codes "doc"))) old new lines
+abbrev pub AreLinesUnless : Bool → Options → Form → Source → Source → List ℕ → Type 0
+AreLinesUnless true o form old new lines = lines ≡ []
+AreLinesUnless false o form old new lines = AreLinesBetween o.edition.year (not (is_among o.skipped.items (codes "doc"))) form old new lines
 
 -- whether the trees are equal, and the lines of what differs where they are not
-abbrev pub AreCompared : Options → Source → Source → Compared → Type 0
-AreCompared o old new c =
+abbrev pub AreCompared : Options → Form → Source → Source → Compared → Type 0
+AreCompared o form old new c =
     (before after : SourceTree) × HasTree o old.text before × HasTree o new.text after
-    × (IsTrue c.is_same ↔ (before.tree ≡ after.tree)) × AreLinesUnless c.is_same o old new (string_bytes c.text)
+    × (IsTrue c.is_same ↔ (before.tree ≡ after.tree)) × AreLinesUnless c.is_same o form old new (string_bytes c.text)
 
 -- the text that is said to have no tree has none, and a new one is said so only where the old one has a tree; where neither is, both have trees
 abbrev pub IsUncompared : Options → List ℕ → List ℕ → CompareError → Type 0

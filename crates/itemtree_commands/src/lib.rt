@@ -8,18 +8,17 @@ mod trees;
 
 ghost use Rattle.std.specs.Prelude.{◌≡◌, ◌≤◌, ◌^◌, length, map, IfOk, IfErr, OnOk, option_copied, string_bytes};
 ghost use Rattle.itemtree_commands.specs.Answers as spec;
-ghost use Rattle.itemtree_commands.specs.Inner.{reading_by};
-ghost use Rattle.itemtree_commands.specs.Typing.{IsSameInBody};
+ghost use Rattle.itemtree_commands.specs.{Inner.reading_by, Trees.HasOwnIds, Trees.IsTextUnread, Typing.IsSameInBody};
 ghost use Rattle.source_listing.specs.Views.{choice_view, look_view, query_view, reading_view, source_view};
-ghost use Rattle.itemtree_commands.specs.Trees.{HasOwnIds, IsTextUnread};
 
 use hir_input::{CfgOptions, Edition, Name};
 use item_tree::CrateData;
+use list_forms::Form;
 use listed::{listed_rows, listed_tree};
 pub use request::source_request;
 use rust_mended::Mended;
 use source_changes::{Compared, change_lines};
-use source_listing::{Choice, Look, Query, Reading, Source, without_ids};
+use source_listing::{Address, Choice, Look, Query, Reading, Source, without_ids};
 use source_problems::source_problems;
 use std::alloc::{AllocError, Global};
 use trees::{checked_source, skips_docs};
@@ -46,12 +45,13 @@ impl Options {
         }
     }
 
-    fn look(&self, depth: Option<usize>, is_colored: bool) -> Look
-        ensures { look_view result ≡ spec.look_of self.now depth is_colored }
+    fn look(&self, depth: Option<usize>, is_colored: bool, is_flat: bool) -> Look
+        ensures { look_view result ≡ spec.look_of self.now depth is_colored is_flat }
     {
         Look {
             choice: self.choice(depth),
             is_colored,
+            is_flat,
         }
     }
 
@@ -121,7 +121,7 @@ fn read(alloc: Global, text: &str, options: &Options) -> Result<SourceTree, Sour
 }
 
 /// `itemtree outline`: a line for each item and each member of one, or for those in fewer than so many items; with or
-/// without members, and with or without colours.
+/// without members, with or without colours, and with names of what is around them or blanks at the beginning.
 ///
 /// # Errors
 ///
@@ -134,14 +134,15 @@ pub fn outline(
     depth: Option<usize>,
     has_members: bool,
     is_colored: bool,
+    is_flat: bool,
 ) -> Result<String, SourceError>
-    ensures text { let outline = spec.IsOutline options.now depth has_members is_colored
+    ensures text { let outline = spec.IsOutline options.now depth has_members is_colored is_flat
         (source_view source.entry) in
         IfOk result (λ out. outline (string_bytes out)) }
     ensures refused { IfErr result (spec.HasNoList options.now source.entry.text.now) }
 {
     let file = listed_rows(alloc, source.text, options)?;
-    let look = options.look(depth, is_colored);
+    let look = options.look(depth, is_colored, is_flat);
     let reading = options.reading(source.text, &file.mended, has_members);
     let edition = &options.edition;
     let (places, tree) = (&file.source.places, &file.source.tree);
@@ -236,15 +237,20 @@ pub fn find(
     Ok(text)
 }
 
-/// `itemtree imports`: a line for each import.
+/// `itemtree imports`: a line or a JSON object for each import.
 ///
 /// # Errors
 ///
 /// Those of `source_tree`.
 #[tactic(auto, using(crate::proofs::Refused::no_list))]
-pub fn imports(alloc: Global, source: Source<'_>, options: &Options) -> Result<String, SourceError>
+pub fn imports(
+    alloc: Global,
+    source: Source<'_>,
+    options: &Options,
+    form: Form,
+) -> Result<String, SourceError>
     ensures text { IfOk result
-        (λ out. spec.AreImports options.now (source_view source.entry) (string_bytes out)) }
+        (λ out. spec.AreImports options.now form (source_view source.entry) (string_bytes out)) }
     ensures refused { IfErr result (spec.HasNoList options.now source.entry.text.now) }
 {
     let file = listed_tree(alloc, source.text, options)?;
@@ -256,6 +262,7 @@ pub fn imports(alloc: Global, source: Source<'_>, options: &Options) -> Result<S
         &file.source.use_trees,
         &file.source.tree,
         edition,
+        form,
     )?;
     Ok(text)
 }
@@ -288,7 +295,7 @@ pub fn duplicates(
     Ok(text)
 }
 
-/// `itemtree tags`: the tags of the file, with or without those of members.
+/// `itemtree tags`: the tags of the file, with places that are found so, with or without those of members.
 ///
 /// # Errors
 ///
@@ -298,9 +305,10 @@ pub fn tags(
     alloc: Global,
     source: Source<'_>,
     options: &Options,
+    address: Address,
     has_members: bool,
 ) -> Result<String, SourceError>
-    ensures text { let tags = spec.AreTags options.now has_members (source_view source.entry) in
+    ensures text { let tags = spec.AreTags options.now address has_members (source_view source.entry) in
         IfOk result (λ out. tags (string_bytes out)) }
     ensures refused { IfErr result (spec.HasNoList options.now source.entry.text.now) }
 {
@@ -308,7 +316,7 @@ pub fn tags(
     let choice = options.choice(None);
     let reading = options.reading(source.text, &file.mended, has_members);
     let (places, tree) = (&file.source.places, &file.source.tree);
-    let text = source_listing::tag_lines(alloc, source, places, tree, reading, choice)?;
+    let text = source_listing::tag_lines(alloc, source, address, places, tree, reading, choice)?;
     Ok(text)
 }
 
@@ -319,8 +327,9 @@ fn lines_unless(
     old: Source<'_>,
     new: Source<'_>,
     options: &Options,
+    form: Form,
 ) -> Result<String, AllocError>
-    ensures { let are_lines = spec.AreLinesUnless is_same options.now (source_view old.entry)
+    ensures { let are_lines = spec.AreLinesUnless is_same options.now form (source_view old.entry)
         (source_view new.entry) in
         IfOk result (λ text. are_lines (string_bytes text)) }
 {
@@ -328,7 +337,7 @@ fn lines_unless(
         return Ok(String::new(alloc));
     }
     let has_docs = !skips_docs(&options.skipped);
-    change_lines(alloc, old, new, options.edition.year, has_docs)
+    change_lines(alloc, old, new, options.edition.year, has_docs, form)
 }
 
 /// `itemtree changed --tree`: whether the trees are equal, as where only bodies, comments or layout became others; if
@@ -341,8 +350,9 @@ pub fn compare_trees(
     old: Source<'_>,
     new: Source<'_>,
     options: &Options,
+    form: Form,
 ) -> Result<Compared, CompareError>
-    ensures compared { let compared = spec.AreCompared options.now (source_view old.entry)
+    ensures compared { let compared = spec.AreCompared options.now form (source_view old.entry)
         (source_view new.entry) in
         IfOk result compared }
     ensures typed { let same = IsSameInBody options.now.edition.year old.entry.text.now
@@ -360,26 +370,31 @@ pub fn compare_trees(
         Err(error) => return Err(CompareError::New(error)),
     };
     let is_same = before.tree == after.tree;
-    let Ok(text) = lines_unless(alloc, is_same, old, new, options) else {
+    let Ok(text) = lines_unless(alloc, is_same, old, new, options, form) else {
         return Err(CompareError::OutOfMemory);
     };
     Ok(Compared { text, is_same })
 }
 
-/// `itemtree check`: a line for each thing that is wrong, in the order of their places.
+/// `itemtree check`: a line for each thing that is wrong, in the order of their places, in colours or not.
 ///
 /// # Errors
 ///
 /// `TooLong` exactly where the text has more than 2^32 bytes, and `OutOfMemory`: it needs no tree.
 #[tactic(auto, using(crate::proofs::Refused::no_memory_to_read))]
-pub fn check(alloc: Global, source: Source<'_>, options: &Options) -> Result<Checked, SourceError>
-    ensures checked { IfOk result (spec.IsCheck options.now (source_view source.entry)) }
+pub fn check(
+    alloc: Global,
+    source: Source<'_>,
+    options: &Options,
+    is_colored: bool,
+) -> Result<Checked, SourceError>
+    ensures checked { IfOk result (spec.IsCheck options.now is_colored (source_view source.entry)) }
     ensures refused { IfErr result (IsTextUnread source.entry.text.now) }
 {
     let file = checked_source(alloc, source.text, options.edition.year)?;
     let problems = source_problems(alloc, source.text, &file)?;
     Ok(Checked {
-        text: source_listing::problem_lines(alloc, source, &problems)?,
+        text: source_listing::problem_lines(alloc, source, &problems, is_colored)?,
         is_clean: problems.is_empty(),
     })
 }

@@ -1,7 +1,7 @@
 -- What of folders is taken.
 use Rattle.std.specs.Prelude.{ℕ, Bool, ◌-◌, ◌&&◌, ◌||◌, not, nat_eq, if◌then◌else◌, List, [], length, take, drop, codes, bytes_eq, chars}
 use Rattle.std.specs.List.{starts_with, ends_with, list_any}
-use Rattle.itemtree_options.specs.Globs.{matches}
+use Rattle.globs.specs.Globs.{matches}
 
 -- what of folders is taken: hidden entries too, or not, and not what these globs stand for
 pub record Filtering : Type 0 where

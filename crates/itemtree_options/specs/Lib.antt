@@ -1,3 +1,1 @@
 pub mod Filters
-pub mod Globs
-pub mod Inner

@@ -3,7 +3,7 @@ ghost use Rattle.std.specs.Prelude.{◌≡◌, IfOk, map};
 ghost use Rattle.std.specs.List.{list_any};
 ghost use Rattle.itemtree_options.specs.Filters as spec;
 
-use crate::globs::is_match;
+use globs::is_match;
 use std::alloc::{AllocError, Global};
 use std::marker::Model;
 
@@ -166,4 +166,30 @@ fn is_glob_of(
         return Ok(true);
     }
     is_glob_of_path(alloc, without_first_dot(plain), path, whole)
+}
+
+/// Whether a character means something in other globs than these.
+fn is_foreign(c: char) -> bool {
+    matches!(c, '[' | ']' | '{' | '}' | '\\')
+}
+
+/// What a glob names below a folder.
+fn bare(glob: &str) -> &str {
+    let path = glob.strip_suffix("/").unwrap_or(glob);
+    match path.strip_prefix("./") {
+        Some(below) => below,
+        None => path.strip_prefix("/").unwrap_or(path),
+    }
+}
+
+/// Why a glob can stand for no path, or does not mean what it seems to.
+pub(crate) fn glob_fault(glob: &str) -> Option<&'static str> {
+    if glob.starts_with("!") || glob.chars().any(is_foreign) {
+        return Some("only *, ** and ? mean something in a glob; ? stands for any other mark too");
+    }
+    let is_void = |part: &str| part.is_empty() || part == ".";
+    if glob == "./" || bare(glob).split('/').any(is_void) {
+        return Some("no file has such a name or path");
+    }
+    None
 }

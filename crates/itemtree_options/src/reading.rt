@@ -1,8 +1,7 @@
 //! What is asked on a command line.
 use crate::building::command;
-use crate::folders::Filter;
-use crate::globs::glob_fault;
-use crate::table::LIST;
+use crate::folders::{Filter, glob_fault};
+use crate::table::{HOST_CFGS, LIST};
 use clap::error::ErrorKind;
 use clap::parser::ValueSource;
 use clap::{ArgMatches, Error};
@@ -14,9 +13,8 @@ pub enum Command<'a> {
     Outline {
         /// How many levels are listed; nothing: all.
         depth: Option<usize>,
-        is_json: bool,
-        /// Whether lines are in colour; nothing: on a terminal.
-        is_colored: Option<bool>,
+        /// Whether names stand behind those of what is around them.
+        is_flat: bool,
     },
     Page {
         /// Whether ids are written.
@@ -28,6 +26,8 @@ pub enum Command<'a> {
     Find {
         /// A name, or a path of names.
         name: &'a str,
+        /// Whether letters of two cases are one.
+        ignores_case: bool,
     },
     Tags {
         /// The file to write.
@@ -36,6 +36,10 @@ pub enum Command<'a> {
         is_named: bool,
         /// Whether what stands in it is kept.
         is_appended: bool,
+        /// How editors find tags: `pattern`, `number` or `mixed`.
+        excmd: &'a str,
+        /// Whether paths begin at its folder: `no`, `yes`, `always` (absolute ones too) or `never` (all are absolute).
+        relative: &'a str,
     },
     Changed {
         old: &'a str,
@@ -64,6 +68,14 @@ pub struct Asked<'a> {
     pub follows_links: bool,
     /// The year of the edition: 2015, 2018, 2021 or 2024.
     pub edition: u16,
+    /// Whether the command line names that.
+    pub has_edition: bool,
+    /// Whether lists are written as JSON.
+    pub is_json: bool,
+    /// Whether lists are in colour; nothing: on a terminal.
+    pub is_colored: Option<bool>,
+    /// Whether nothing is written where the status is all.
+    pub is_quiet: bool,
     /// The words after `--cfg`.
     pub cfgs: Vec<&'a str>,
     /// Whether what a cfg disables is left out.
@@ -76,6 +88,8 @@ pub struct Asked<'a> {
     pub has_docs: bool,
     /// What a request asks for of each file: `page`, `tree` or `imports`.
     pub shows: Vec<&'a str>,
+    /// The words of the kinds that are looked for; none: all.
+    pub kinds: Vec<&'a str>,
 }
 
 // (Written out: what is derived is proved anew, field by field, in each crate that drops one.)
@@ -88,12 +102,17 @@ impl Drop for Asked<'_> {
             filter: _,
             follows_links: _,
             edition: _,
+            has_edition: _,
+            is_json: _,
+            is_colored: _,
+            is_quiet: _,
             cfgs: _,
             only_active: _,
             has_members: _,
             skipped: _,
             has_docs: _,
             shows: _,
+            kinds: _,
         } = self;
     }
 }
@@ -122,6 +141,11 @@ fn word<'a>(matches: &ArgMatches<'a>, id: &str) -> &'a str {
     matches.get_str(id).unwrap_or("")
 }
 
+/// Whether an argument with a default value is given.
+fn is_named(matches: &ArgMatches<'_>, id: &str) -> bool {
+    matches.value_source(id) == Some(ValueSource::CommandLine)
+}
+
 /// What `--color` says.
 fn is_colored(matches: &ArgMatches<'_>) -> Option<bool> {
     match word(matches, "color") {
@@ -134,8 +158,7 @@ fn is_colored(matches: &ArgMatches<'_>) -> Option<bool> {
 fn outline<'a>(matches: &ArgMatches<'_>) -> Command<'a> {
     Command::Outline {
         depth: matches.get_one::<usize>("depth"),
-        is_json: matches.get_flag("json"),
-        is_colored: is_colored(matches),
+        is_flat: matches.get_flag("flat"),
     }
 }
 
@@ -174,11 +197,14 @@ fn command_of<'a>(name: &str, matches: &ArgMatches<'a>) -> Command<'a> {
         "imports" => imports(matches),
         "find" => Command::Find {
             name: word(matches, "name"),
+            ignores_case: matches.get_flag("ignore-case"),
         },
         "tags" => Command::Tags {
             output: word(matches, "output"),
-            is_named: matches.value_source("output") == Some(ValueSource::CommandLine),
+            is_named: is_named(matches, "output"),
             is_appended: matches.get_flag("append"),
+            excmd: word(matches, "excmd"),
+            relative: word(matches, "tag-relative"),
         },
         "changed" => changed(matches),
         "request" => request(matches),
@@ -196,21 +222,41 @@ fn begun<'a>(alloc: Global, name: &str, matches: &ArgMatches<'a>) -> Asked<'a> {
         filter: Filter::new(alloc, matches.get_flag("hidden")),
         follows_links: matches.get_flag("follow"),
         edition: matches.get_one::<u16>("edition").unwrap_or(2024),
+        has_edition: is_named(matches, "edition"),
+        is_json: matches.get_flag("json"),
+        is_colored: is_colored(matches),
+        is_quiet: matches.get_flag("quiet"),
         cfgs: Vec::new(alloc),
         only_active: matches.get_flag("active"),
         has_members: !matches.get_flag("no-members"),
         skipped: Vec::new(alloc),
         has_docs: matches.get_flag("docs"),
         shows: Vec::new(alloc),
+        kinds: Vec::new(alloc),
     }
+}
+
+/// Adds the words of kinds as lists have them.
+fn push_kinds<'a>(matches: &ArgMatches<'a>, kinds: &mut Vec<&'a str>) -> Result<(), AllocError> {
+    for kind in matches.get_strs("kind").unwrap_or(&[]) {
+        match *kind {
+            "extern-crate" => kinds.push("extern crate")?,
+            kind => kinds.push(kind)?,
+        }
+    }
+    Ok(())
 }
 
 fn push_lists<'a>(matches: &ArgMatches<'a>, asked: &mut Asked<'a>) -> Result<(), AllocError> {
     push_words(matches, "files", &mut asked.files)?;
     push_words(matches, LIST, &mut asked.lists)?;
     push_words(matches, "exclude", &mut asked.filter.excluded)?;
+    if matches.get_flag("host-cfg") {
+        asked.cfgs.extend_from_slice(&HOST_CFGS)?;
+    }
     push_words(matches, "cfg", &mut asked.cfgs)?;
     push_words(matches, "skip", &mut asked.skipped)?;
+    push_kinds(matches, &mut asked.kinds)?;
     push_words(matches, "show", &mut asked.shows)
 }
 
@@ -235,11 +281,24 @@ fn wrong_glob(alloc: Global, globs: &[&str]) -> Result<Option<String>, AllocErro
     Ok(None)
 }
 
+/// What is wrong with options that mean nothing together.
+fn wrong_pair(asked: &Asked<'_>) -> Option<&'static str> {
+    match asked.command {
+        Command::Duplicates if asked.is_json => {
+            Some("itemtree: imports: --json does not go with --duplicates\n")
+        }
+        _ => None,
+    }
+}
+
 fn line_of<'a>(alloc: Global, matches: &ArgMatches<'a>) -> Result<CommandLine<'a>, AllocError> {
     let Some((name, inner)) = matches.subcommand() else {
         return Ok(CommandLine::Wrong(String::new(alloc)));
     };
     let asked = asked_of(alloc, name, inner)?;
+    if let Some(text) = wrong_pair(&asked) {
+        return Ok(CommandLine::Wrong(String::from_str(alloc, text)?));
+    }
     match wrong_glob(alloc, &asked.filter.excluded)? {
         Some(text) => Ok(CommandLine::Wrong(text)),
         None => Ok(CommandLine::Asked(asked)),

@@ -18,6 +18,29 @@ pub(crate) enum Form {
 /// The argument that lists files.
 pub(crate) const LIST: &str = "files-from";
 
+/// The cfgs that rustc 1.95 sets for x86-64 Linux.
+pub(crate) const HOST_CFGS: [&str; 19] = [
+    "debug_assertions",
+    "panic=\"unwind\"",
+    "target_abi=\"\"",
+    "target_arch=\"x86_64\"",
+    "target_endian=\"little\"",
+    "target_env=\"gnu\"",
+    "target_family=\"unix\"",
+    "target_feature=\"fxsr\"",
+    "target_feature=\"sse\"",
+    "target_feature=\"sse2\"",
+    "target_has_atomic=\"16\"",
+    "target_has_atomic=\"32\"",
+    "target_has_atomic=\"64\"",
+    "target_has_atomic=\"8\"",
+    "target_has_atomic=\"ptr\"",
+    "target_os=\"linux\"",
+    "target_pointer_width=\"64\"",
+    "target_vendor=\"unknown\"",
+    "unix",
+];
+
 /// An argument of a command.
 pub(crate) struct Argument {
     pub(crate) id: &'static str,
@@ -68,7 +91,7 @@ const FILES: Argument =
 const FILES_FROM: Argument = argument!(SEVERAL id: LIST, form: Form::Short('L'), value: "LIST";
     "Read the files and folders that this file names too, one on each line; - for standard input");
 
-const EDITION: Argument = argument!(ONE id: "edition", value: "YEAR",
+const EDITION: Argument = argument!(ONE id: "edition", form: Form::Short('e'), value: "YEAR",
     parser: ValueParser::Names(&["2015", "2018", "2021", "2024"]), default: &["2024"];
     "The edition of the files: its keywords cannot be names, and are written as r#NAME");
 
@@ -83,6 +106,9 @@ const EXCLUDE: Argument = argument!(SEVERAL id: "exclude", value: "GLOB";
 
 const CFG: Argument = argument!(SEVERAL id: "cfg", value: "SPEC";
     "A cfg that is set: NAME or KEY=\"VALUE\"; may be given several times");
+
+const HOST_CFG: Argument = argument!(FLAG id: "host-cfg";
+    "Set the cfgs of x86-64 Linux, as rustc --print cfg tells them");
 
 const ACTIVE: Argument = argument!(FLAG id: "active"; "Leave out what a cfg disables");
 
@@ -105,6 +131,9 @@ const COLOR: Argument = argument!(ONE id: "color", value: "WHEN",
 const JSON: Argument = argument!(FLAG id: "json";
     "Write a JSON object for each file, on a line of its own");
 
+const FLAT: Argument = argument!(FLAG id: "flat";
+    "Write lines without blanks at the beginning, and names behind those of what is around them");
+
 const IDS: Argument = argument!(ONE id: "ids", value: "WHEN",
     parser: ValueParser::Names(&["on", "off"]), default: &["on"];
     "Whether rust-analyzer's ids of items are written");
@@ -112,8 +141,29 @@ const IDS: Argument = argument!(ONE id: "ids", value: "WHEN",
 const DUPLICATES: Argument = argument!(FLAG id: "duplicates";
     "Only imports that repeat an earlier one of their module, each with its place");
 
+const IGNORE_CASE: Argument = argument!(FLAG id: "ignore-case", form: Form::Short('i');
+    "Take letters of two cases as one");
+
+const KIND: Argument = argument!(SEVERAL id: "kind", value: "KIND",
+    parser: ValueParser::Names(&["const", "enum", "extern-crate", "field", "fn", "macro", "macro_rules", "mod",
+        "static", "struct", "trait", "type", "union", "variant"]);
+    "Only what is of this kind; may be given several times");
+
+const QUIET: Argument = argument!(FLAG id: "quiet", form: Form::Short('q');
+    "Write nothing: the status tells");
+
+const JSON_CHANGES: Argument = argument!(JSON id: "json";
+    "Write a JSON object for each change, on a line of its own");
+
+const JSON_IMPORTS: Argument = argument!(JSON id: "json";
+    "Write a JSON object for each import, on a line of its own; not with --duplicates");
+
+const JSON_FOUND: Argument = argument!(JSON id: "json";
+    "Write a JSON object for each item and member that is found, on a line of its own");
+
 const NAME: Argument = argument!(WORD id: "name", value: "NAME";
-    "f or b::f at any depth, T::f in an impl of T too; ::a::b::f or crate::a::b::f from a file's top");
+    "f or b::f at any depth, T::f in an impl of T too; ::a::b::f or crate::a::b::f from a file's top.
+In the last name * is any characters, and ? any one");
 
 const OUTPUT: Argument =
     argument!(ONE id: "output", form: Form::Short('o'), value: "FILE", default: &["tags"];
@@ -121,6 +171,14 @@ const OUTPUT: Argument =
 
 const APPEND: Argument = argument!(FLAG id: "append", form: Form::Short('a');
     "Keep what stands in the tags file");
+
+const EXCMD: Argument = argument!(ONE id: "excmd", value: "HOW",
+    parser: ValueParser::Names(&["pattern", "number", "mixed"]), default: &["pattern"];
+    "How editors find tags: by a search for the line, or by its number; mixed is pattern, as for Rust in ctags");
+
+const TAG_RELATIVE: Argument = argument!(ONE id: "tag-relative", value: "HOW",
+    parser: ValueParser::Names(&["no", "yes", "always", "never"]), default: &["no"];
+    "Whether paths begin at the folder of the tags file; always: absolute ones too; never: all are absolute");
 
 const DOCS_TOO: Argument = argument!(DOCS id: "docs";
     "Compare documentation too; with --tree, if --skip is not given");
@@ -131,6 +189,11 @@ const TREE: Argument = argument!(FLAG id: "tree";
 const CFG_OF_TREE: Argument = Argument {
     needs_tree: true,
     ..CFG
+};
+
+const HOST_CFG_OF_TREE: Argument = Argument {
+    needs_tree: true,
+    ..HOST_CFG
 };
 
 const SKIP_OF_TREE: Argument = Argument {
@@ -165,8 +228,8 @@ static OUTLINE: Description = Description {
 
 Status: 0, or 2 at an error",
     arguments: &[
-        EDITION, HIDDEN, FOLLOW, EXCLUDE, CFG, ACTIVE, NO_MEMBERS, DEPTH, COLOR, JSON, FILES_FROM,
-        FILES,
+        EDITION, HIDDEN, FOLLOW, EXCLUDE, CFG, HOST_CFG, ACTIVE, NO_MEMBERS, DEPTH, COLOR, JSON,
+        FILES_FROM, FILES, FLAT,
     ],
 };
 
@@ -177,7 +240,7 @@ static PAGE: Description = Description {
 
 Status: 0, or 2 at an error",
     arguments: &[
-        EDITION, HIDDEN, FOLLOW, EXCLUDE, CFG, SKIP, DOCS, IDS, FILES_FROM, FILES,
+        EDITION, HIDDEN, FOLLOW, EXCLUDE, CFG, HOST_CFG, SKIP, DOCS, IDS, FILES_FROM, FILES,
     ],
 };
 
@@ -186,9 +249,18 @@ static IMPORTS: Description = Description {
     about: "Lists the imports of files, also those that a cfg disables",
     after: "Example: itemtree imports --duplicates src
 
-Status: 0, or 2 at an error",
+Status: 0, or 1 with --duplicates if there are some, 2 at an error",
     arguments: &[
-        EDITION, HIDDEN, FOLLOW, EXCLUDE, DUPLICATES, FILES_FROM, FILES,
+        EDITION,
+        HIDDEN,
+        FOLLOW,
+        EXCLUDE,
+        DUPLICATES,
+        COLOR,
+        JSON_IMPORTS,
+        QUIET,
+        FILES_FROM,
+        FILES,
     ],
 };
 
@@ -199,7 +271,22 @@ static FIND: Description = Description {
 
 Status: 0 if something is found, 1 if nothing is, 2 at an error",
     arguments: &[
-        EDITION, HIDDEN, FOLLOW, EXCLUDE, CFG, ACTIVE, NO_MEMBERS, FILES_FROM, NAME, FILES,
+        EDITION,
+        HIDDEN,
+        FOLLOW,
+        EXCLUDE,
+        CFG,
+        HOST_CFG,
+        ACTIVE,
+        NO_MEMBERS,
+        IGNORE_CASE,
+        KIND,
+        COLOR,
+        JSON_FOUND,
+        QUIET,
+        FILES_FROM,
+        NAME,
+        FILES,
     ],
 };
 
@@ -212,8 +299,20 @@ An old tags file is replaced where anything could be read. What is no tags file 
 
 Status: 0, or 2 at an error, or where nothing could be read",
     arguments: &[
-        EDITION, HIDDEN, FOLLOW, EXCLUDE, CFG, ACTIVE, NO_MEMBERS, OUTPUT, APPEND, FILES_FROM,
+        EDITION,
+        HIDDEN,
+        FOLLOW,
+        EXCLUDE,
+        CFG,
+        HOST_CFG,
+        ACTIVE,
+        NO_MEMBERS,
+        OUTPUT,
+        APPEND,
+        FILES_FROM,
         FILES,
+        EXCMD,
+        TAG_RELATIVE,
     ],
 };
 
@@ -234,7 +333,11 @@ Status: 0 if nothing differs, 1 if something does, 2 at an error",
         DOCS_TOO,
         TREE,
         CFG_OF_TREE,
+        HOST_CFG_OF_TREE,
         SKIP_OF_TREE,
+        COLOR,
+        JSON_CHANGES,
+        QUIET,
         OLD,
         NEW,
     ],
@@ -247,7 +350,8 @@ static REQUEST: Description = Description {
 
 Status: 0, or 2 at an error; then nothing is written",
     arguments: &[
-        EDITION, HIDDEN, FOLLOW, EXCLUDE, CFG, SKIP, DOCS, SHOW, NO_BODIES, FILES_FROM, FILES,
+        EDITION, HIDDEN, FOLLOW, EXCLUDE, CFG, HOST_CFG, SKIP, DOCS, SHOW, NO_BODIES, FILES_FROM,
+        FILES,
     ],
 };
 
@@ -269,7 +373,9 @@ This is no syntax check. It sees words that begin no item, items without an end 
 that do not pair, and paths and attributes that cannot be read; not what else signatures, types and bodies hold.
 
 Status: 0 if nothing is wrong, 1 if something is, 2 at an error",
-    arguments: &[EDITION, HIDDEN, FOLLOW, EXCLUDE, FILES_FROM, FILES],
+    arguments: &[
+        EDITION, HIDDEN, FOLLOW, EXCLUDE, COLOR, QUIET, FILES_FROM, FILES,
+    ],
 };
 
 /// The commands, as help lists them.
@@ -282,7 +388,8 @@ pub(crate) fn descriptions() -> [&'static Description; 9] {
 /// What stands behind the help of the program.
 pub(crate) const STATUSES: &str = "Statuses:
   0  done: a name is found, nothing is wrong, nothing differs
-  1  find: nothing is found; check: something is wrong; changed: something differs
+  1  find: nothing is found; check: something is wrong; changed: something differs;
+     imports --duplicates: there are some
   2  an error: the command line is wrong, a file cannot be read or has no tree,
      memory runs out or writing fails. What can be done is done all the same
   6  serve: reading or writing fails

@@ -5,16 +5,16 @@ use Rattle.std.proofs.lemmas.List.{map-append}
 use Rattle.std.proofs.lemmas.List.Elements.{Contains-append_right}
 use Rattle.std.proofs.lemmas.List.Concat.{flat_map-cons}
 use Rattle.hir_input.specs.declared.edition.EditionYear.{EditionYear}
-use Rattle.rust_lexer.proofs.Counted.{when}
+use Rattle.rust_lexer.proofs.Cases.{when}
 use Rattle.rust_edits.proofs.Common.{AreAlike, IsAlike, Moves, SameRange, both, moves, neither, no_more, one_more, unmoved}
 use Rattle.rust_paths.specs.declared.names.TextRange.{TextRange}
 use Rattle.rust_items.specs.LineEnds.{moved_range}
 use Rattle.rust_items.specs.Places.{IsNameIn}
 use Rattle.rust_items.specs.Members.{MemberRead, moved_member, range_moved_by}
 use Rattle.rust_items.specs.MemberPlaces.{ArePlaced, IsMemberPlaced}
-use Rattle.rust_items.proofs.UntilMembers.{MemberAlike}
+use Rattle.rust_items.proofs.BodyMembers.{MemberAlike}
 use Rattle.rust_edits.specs.Typing.Laws.{with_body}
-use Rattle.rust_edits.specs.Typing.Moved.{close_at, shifted, shifted_by}
+use Rattle.rust_edits.specs.Typing.Moved.{close_at, place_after_edit, shifted_by}
 use Rattle.source_rows.specs.Bodies.{hole_of}
 use Rattle.source_rows.specs.Rows.{hole_inside}
 use Rattle.source_rows.specs.declared.kept.Hole.{Hole}
@@ -28,7 +28,7 @@ use Rattle.source_changes.proofs.Typed.{back, braces_hole, contained, hole_is, l
 -- ---- places
 
 -- a place that moves so in braces moves so in the text around them
-place_shifted : (d at low by by' i j : ℕ) → 0 < low → at < by → Moves at low by by' i j → shifted (d + at) (d + by) (d + by') (d + i) ≡ d + j
+place_shifted : (d at low by by' i j : ℕ) → 0 < low → at < by → Moves at low by by' i j → place_after_edit (d + at) (d + by) (d + by') (d + i) ≡ d + j
 place_shifted d at low by by' i j some h (unmoved le e) = moving.stays (d + at) (d + by) (d + by') (d + i) (omega (arith, le)) ∙ ap (λ k. d + k) (sym e)
 place_shifted d at low by by' i j some h (moves k over e f) = omega (arith, moving.moves (d + at) (d + by) (d + by') (d + i) (omega (arith, e, over, some, h)), e, f)
 
@@ -39,7 +39,7 @@ pub record Follows (move : ℕ → ℕ) (x y : MemberRead) : Type 0 where
 
 module _ (d at low by by' : ℕ) (some : 0 < low) (apart : at < by) where
   abbrev move : ℕ → ℕ
-  move = shifted (d + at) (d + by) (d + by')
+  move = place_after_edit (d + at) (d + by) (d + by')
 
   range_shifted : (r s : TextRange) → SameRange (Moves at low by by') r s → range_moved_by d s ≡ moved_range move (range_moved_by d r)
   range_shifted r s a =

@@ -12,30 +12,31 @@ use Rattle.source_rows.specs.Outside.{outside_rows}
 use Rattle.source_rows.specs.Parts.{Part, item_parts}
 use Rattle.source_rows.specs.Rows.{part_rows}
 use Rattle.source_rows.specs.Sources.{Source}
+use Rattle.list_forms.specs.declared.lines.Form.{Form}
 use Rattle.source_changes.specs.declared.Compared.{Compared}
-use Rattle.source_changes.specs.Changes.{AreParts, seen_texts, compared_lines, lines_between, or_else, row_lines, rows_standing, IsCompared, AreLinesBetween}
+use Rattle.source_changes.specs.Changes.{AreParts, seen_texts, compared_lines, lines_between, or_else, row_texts, rows_standing, IsCompared, AreLinesBetween}
 
 -- the parts of a text with these items: what is wanted of it changes no place
 pub are_parts : {w : _} (edition : EditionYear) (text : List ℕ) (file : SourceFile) (items : List ItemPlace) (ps : List Part) → IsClippedFile w edition text (file_view file) → items ≡ file.places.items → ps ≡ item_parts edition text items → AreParts edition text ps
 are_parts edition text file items ps is same e = (is.read, is.is_read, e ∙ ap (item_parts edition text) (same ∙ ap (λ (f : FileView). f.places) is.clipped))
 
-pub compared : (edition : EditionYear) (d : Bool) (old new : Source) (c : Compared) (olds news olds_a news_a olds_b news_b : List Part) → AreParts edition old.text olds → AreParts edition new.text news → olds_a ≡ olds → news_a ≡ news → olds_b ≡ olds → news_b ≡ news
-    → (IsTrue c.is_same ↔ (seen_texts d old.text olds_a ≡ seen_texts d new.text news_a)) → string_bytes c.text ≡ compared_lines edition c.is_same d old new olds_b news_b → IsCompared edition d old new c
-compared edition d old new c olds news olds_a news_a olds_b news_b a b p q r s same text =
+pub compared : (edition : EditionYear) (d : Bool) (k : Form) (old new : Source) (c : Compared) (olds news olds_a news_a olds_b news_b : List Part) → AreParts edition old.text olds → AreParts edition new.text news → olds_a ≡ olds → news_a ≡ news → olds_b ≡ olds → news_b ≡ news
+    → (IsTrue c.is_same ↔ (seen_texts d old.text olds_a ≡ seen_texts d new.text news_a)) → string_bytes c.text ≡ compared_lines edition c.is_same d k old new olds_b news_b → IsCompared edition d k old new c
+compared edition d k old new c olds news olds_a news_a olds_b news_b a b p q r s same text =
     let before : seen_texts d old.text olds_a ≡ seen_texts d old.text olds = ap (seen_texts d old.text) p in
     let after : seen_texts d new.text news_a ≡ seen_texts d new.text news = ap (seen_texts d new.text) q in
-    (olds, news, a, b, ((λ h. sym before ∙ same.0 h ∙ after), (λ h. same.1 (before ∙ h ∙ sym after))), text ∙ (λ k. compared_lines edition c.is_same d old new (r k) (s k)))
+    (olds, news, a, b, ((λ h. sym before ∙ same.0 h ∙ after), (λ h. same.1 (before ∙ h ∙ sym after))), text ∙ (λ i. compared_lines edition c.is_same d k old new (r i) (s i)))
 
 -- the lines between two files, by what is found of each
-pub lines_compared : (edition : EditionYear) (d : Bool) (old new : Source) (lines : List ℕ) (olds news olds_a news_a : List Part) → AreParts edition old.text olds → AreParts edition new.text news → olds_a ≡ olds → news_a ≡ news
-    → lines ≡ lines_between edition d old new olds_a news_a → AreLinesBetween edition d old new lines
-lines_compared edition d old new lines olds news olds_a news_a a b p q e = (olds, news, a, b, e ∙ (λ k. lines_between edition d old new (p k) (q k)))
+pub lines_compared : (edition : EditionYear) (d : Bool) (k : Form) (old new : Source) (lines : List ℕ) (olds news olds_a news_a : List Part) → AreParts edition old.text olds → AreParts edition new.text news → olds_a ≡ olds → news_a ≡ news
+    → lines ≡ lines_between edition d k old new olds_a news_a → AreLinesBetween edition d k old new lines
+lines_compared edition d k old new lines olds news olds_a news_a a b p q e = (olds, news, a, b, e ∙ (λ i. lines_between edition d k old new (p i) (q i)))
 
 -- where nothing differs by its label, lines tell what moved
-pub moved_lines : (edition : EditionYear) (d : Bool) (old new : Source) (olds news : List Part) (items moves : List code_change.Change) → length items ≡ 0 → 1 ≤ length moves
+pub moved_lines : (edition : EditionYear) (d : Bool) (k : Form) (old new : Source) (olds news : List Part) (items moves : List code_change.Change) → length items ≡ 0 → 1 ≤ length moves
     → map row_change_view items ≡ row_changes (part_rows d old.text olds) (part_rows d new.text news) → map row_change_view moves ≡ row_moves (rows_standing d old.text olds) (rows_standing d new.text news)
-    → row_lines old new (map row_change_view moves) ≡ lines_between edition d old new olds news
-moved_lines edition d old new olds news (x ∷ xs) moves none some i g = absurd (omega (arith, none))
-moved_lines edition d old new olds news [] [] none some i g = absurd (omega (arith, some))
-moved_lines edition d old new olds news [] (m ∷ ms) none some i g =
-    λ k. row_lines old new (or_else (i k) (or_else (g k) (row_changes (outside_rows d edition old.text olds) (outside_rows d edition new.text news))))
+    → row_texts k old new (map row_change_view moves) ≡ lines_between edition d k old new olds news
+moved_lines edition d k old new olds news (x ∷ xs) moves none some i g = absurd (omega (arith, none))
+moved_lines edition d k old new olds news [] [] none some i g = absurd (omega (arith, some))
+moved_lines edition d k old new olds news [] (m ∷ ms) none some i g =
+    λ j. row_texts k old new (or_else (i j) (or_else (g j) (row_changes (outside_rows d edition old.text olds) (outside_rows d edition new.text news))))

@@ -6,3 +6,4 @@ pub mod TypedMembers
 pub mod Unseen
 pub mod Plain
 pub mod Examples
+pub mod NoFloats

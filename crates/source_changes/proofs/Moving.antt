@@ -3,7 +3,7 @@ use Rattle.std.proofs.Common.{◌≡◌, ◌≤◌, ◌<◌, ◌+◌, ◌-◌, �
 use Rattle.std.specs.List.{Contains}
 use Rattle.std.proofs.lemmas.Bool.{le-leb, lt-leb}
 use Rattle.source_rows.specs.declared.kept.Hole.{Hole}
-use Rattle.rust_edits.specs.Typing.Moved.{shifted}
+use Rattle.rust_edits.specs.Typing.Moved.{place_after_edit}
 use Rattle.source_changes.specs.Typing.{moved_hole}
 use Rattle.source_rows.proofs.Beside.{EndBy, holes_about, moved_on}
 use Rattle.source_rows.proofs.Rising.{AreRising, rising_le}
@@ -17,30 +17,30 @@ pub record HolesBeside (n c c' : ℕ) (olds news : List Hole) : Type 0 where
   pub new : news ≡ holes_about n c' before behind
 
 -- a place up to the `{`
-pub stays : (n c c' k : ℕ) → k ≤ n → shifted n c c' k ≡ k
+pub stays : (n c c' k : ℕ) → k ≤ n → place_after_edit n c c' k ≡ k
 stays n c c' k le = rw (le-leb k n le) refl
 
 -- and one behind it
-pub moves : (n c c' k : ℕ) → n < k → shifted n c c' k ≡ c' + (k - c)
+pub moves : (n c c' k : ℕ) → n < k → place_after_edit n c c' k ≡ c' + (k - c)
 moves n c c' k le = rw (lt-leb k n le) refl
 
 module _ (n c c' : ℕ) (some : n < c) where
   abbrev mv : List Hole → List Hole
-  mv hs = map (moved_hole (shifted n c c')) hs
+  mv hs = map (moved_hole (place_after_edit n c c')) hs
 
   abbrev one : ℕ → Hole
   one close = record { start = suc n; end = close }
 
-  hole_stays : (h : Hole) → 0 < h.start → h.start ≤ suc n → h.end ≤ n → moved_hole (shifted n c c') h ≡ h
+  hole_stays : (h : Hole) → 0 < h.start → h.start ≤ suc n → h.end ≤ n → moved_hole (place_after_edit n c c') h ≡ h
   hole_stays h some from to =
-      let starts : suc (shifted n c c' (h.start - 1)) ≡ h.start = omega (arith, stays n c c' (h.start - 1) (omega (arith, from)), some) in
+      let starts : suc (place_after_edit n c c' (h.start - 1)) ≡ h.start = omega (arith, stays n c c' (h.start - 1) (omega (arith, from)), some) in
       let ends = stays n c c' h.end to in
       λ i. record { start = starts i; end = ends i }
 
-  pub one_moves : moved_hole (shifted n c c') (one c) ≡ one c'
+  pub one_moves : moved_hole (place_after_edit n c c') (one c) ≡ one c'
   one_moves =
-      let starts : suc (shifted n c c' (suc n - 1)) ≡ suc n = omega (arith, stays n c c' (suc n - 1) (omega arith)) in
-      let ends : shifted n c c' c ≡ c' = moves n c c' c some ∙ omega arith in
+      let starts : suc (place_after_edit n c c' (suc n - 1)) ≡ suc n = omega (arith, stays n c c' (suc n - 1) (omega arith)) in
+      let ends : place_after_edit n c c' c ≡ c' = moves n c c' c some ∙ omega arith in
       λ i. record { start = starts i; end = ends i }
 
   abbrev rest_of : Hole → Hole
@@ -67,8 +67,8 @@ module _ (n c c' : ℕ) (some : n < c) where
   all_move low high (h ∷ hs) le r =
       let first = moves n c c' (h.start + c - 1) (omega (arith, r.0, le, some)) in
       let last = moves n c c' (h.end + c) (omega (arith, r.0, r.1, le, some)) in
-      let starts : suc (shifted n c c' (h.start + c - 1)) ≡ h.start + c' = omega (arith, first, r.0, le) in
-      let ends : shifted n c c' (h.end + c) ≡ h.end + c' = omega (arith, last) in
+      let starts : suc (place_after_edit n c c' (h.start + c - 1)) ≡ h.start + c' = omega (arith, first, r.0, le) in
+      let ends : place_after_edit n c c' (h.end + c) ≡ h.end + c' = omega (arith, last) in
       ap (λ k. k ∷ mv (map (moved_on c) hs)) (λ i. record { start = starts i; end = ends i })
       ∙ ap (λ l. moved_on c' h ∷ l) (all_move (suc (h.end + c)) high hs (omega (arith, r.0, r.1, le)) r.2)
 
@@ -85,7 +85,7 @@ module _ (n c c' : ℕ) (some : n < c) where
           behind = map rest_of hs;
           end = tt;
           old = ap (λ k. k ∷ hs) e ∙ ap (λ l. one c ∷ l) again;
-          new = ap (λ k. moved_hole (shifted n c c') k ∷ mv hs) e ∙ ap (λ k. k ∷ mv hs) one_moves
+          new = ap (λ k. moved_hole (place_after_edit n c c') k ∷ mv hs) e ∙ ap (λ k. k ∷ mv hs) one_moves
               ∙ ap (λ l. one c' ∷ l) (ap mv again ∙ all_move (suc h.end) high (map rest_of hs) low_end (subst (AreRising (suc h.end) high) again r.2));
         },
         (let starts : h.start ≡ suc n = ap (λ (h : Hole). h.start) e in omega (arith, starts, r.0)),

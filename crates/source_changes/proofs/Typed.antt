@@ -9,7 +9,7 @@ use Rattle.std.proofs.lemmas.List.{map-append}
 use Rattle.std.proofs.lemmas.List.Concat.{flat_map-cons}
 use Rattle.hir_input.specs.declared.ids.AstIdKind.{AstIdKind}
 use Rattle.hir_input.specs.declared.ids.AstIdKind.TheVariants as kind
-use Rattle.rust_lexer.proofs.Counted.{when}
+use Rattle.rust_lexer.proofs.Cases.{when}
 use Rattle.rust_paths.specs.declared.names.TextRange.{TextRange}
 use Rattle.source_rows.specs.declared.kept.Hole.{Hole}
 use Rattle.rust_items.specs.declared.source_file.ItemPlace.{ItemPlace}
@@ -18,7 +18,7 @@ use Rattle.rust_items.specs.Members.{range_moved_by}
 use Rattle.source_rows.specs.Bodies.{is_hole, hole_of}
 use Rattle.rust_items.specs.LineEnds.{moved_range}
 use Rattle.rust_edits.specs.Typing.Laws.{with_body}
-use Rattle.rust_edits.specs.Typing.Moved.{close_at, moved_place, shifted, shifted_by}
+use Rattle.rust_edits.specs.Typing.Moved.{close_at, moved_place, place_after_edit, shifted_by}
 use Rattle.hir_input.specs.declared.edition.EditionYear.{EditionYear}
 use Rattle.source_rows.specs.Parts.{fn_body}
 use Rattle.source_rows.specs.Rows.{hole_inside}
@@ -70,7 +70,7 @@ own_holes edition text braces s f = rw f.own (rw f.is_fn (append-nil (hole_insid
 
 module _ (edition : EditionYear) (n c c' : ℕ) where
   abbrev move : ℕ → ℕ
-  move = shifted n c c'
+  move = place_after_edit n c c'
 
   pub range_stays : (r : TextRange) → r.start ≤ n → r.end ≤ n → moved_range move r ≡ r
   range_stays r a b = let starts = stays n c c' r.start a in let ends = stays n c c' r.end b in λ i. record { start = starts i; end = ends i }

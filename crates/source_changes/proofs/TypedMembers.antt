@@ -9,7 +9,7 @@ use Rattle.std.proofs.lemmas.Grind.{flat_map-append}
 use Rattle.hir_input.specs.declared.edition.EditionYear.{EditionYear}
 use Rattle.hir_input.specs.declared.ids.AstIdKind.{AstIdKind}
 use Rattle.hir_input.specs.declared.ids.AstIdKind.TheVariants as kind
-use Rattle.rust_lexer.proofs.Counted.{when}
+use Rattle.rust_lexer.proofs.Cases.{when}
 use Rattle.rust_paths.specs.declared.names.TextRange.{TextRange}
 use Rattle.rust_items.specs.declared.source_file.ItemPlace.{ItemPlace}
 use Rattle.rust_items.specs.LineEnds.{moved_range}
@@ -19,12 +19,12 @@ use Rattle.rust_items.specs.MemberPlaces.{ArePlaced}
 use Rattle.rust_items.proofs.MemberCuts.{placed_moved}
 use Rattle.rust_items.proofs.MemberPlacing.{members_placed}
 use Rattle.rust_items.proofs.FoundRows.{Elsewhere}
-use Rattle.rust_items.proofs.UntilMembers.{AreElsewhere, MemberAlike, MembersUntil, alike, members_until, of_none}
+use Rattle.rust_items.proofs.BodyMembers.{AreElsewhere, MemberAlike, MembersUntil, alike, members_until, of_none}
 use Rattle.rust_edits.proofs.Common.{AreAlike, close_of, close_some, end_of, tokens_of, tokens_sound}
 use Rattle.rust_edits.proofs.Typing.Texts.{IsMoved, are_moved, begin_plain, bodies_at, tokens_beside}
 use Rattle.rust_edits.proofs.Typing.Texts as texts
 use Rattle.rust_edits.specs.Typing.Laws.{with_body, BeginsPlain}
-use Rattle.rust_edits.specs.Typing.Moved.{close_at, moved_place, shifted, shifted_by}
+use Rattle.rust_edits.specs.Typing.Moved.{close_at, moved_place, place_after_edit, shifted_by}
 use Rattle.source_rows.specs.Labels.{has_members}
 use Rattle.source_rows.specs.Parts.{body_members, fn_body}
 use Rattle.source_rows.specs.declared.kept.Hole.{Hole}
@@ -136,7 +136,7 @@ module _ (edition : EditionYear) (q p m m' r s : List ℕ) (t : AreBraces (123 �
       let close : d + (suc at + length m) ≡ c = omega (arith, front_length) in
       let close' : d + (suc at + length m') ≡ c' = omega (arith, front_length) in
       let follow = all_shifted d at (end_of (close_of (r ++ 125 ∷ []))) (suc at + length m) (suc at + length m') (close_some (r ++ 125 ∷ [])) (omega arith) xs ys a in
-      let there = subst (λ (f : ℕ → ℕ). AreAlike (Follows f) (map (moved_member d) xs) (map (moved_member d) ys)) (λ i. shifted (open_at i) (close i) (close' i)) follow in
+      let there = subst (λ (f : ℕ → ℕ). AreAlike (Follows f) (map (moved_member d) xs) (map (moved_member d) ys)) (λ i. place_after_edit (open_at i) (close i) (close' i)) follow in
       let stand = placed_moved d 0 (length (part p m r)) xs placed in
       subst (λ x. HolesTyped (map (moved_member d) xs) (map (moved_member d) ys) x (text m')) (sym (text_is q p m r s))
       (subst (λ x'. HolesTyped (map (moved_member d) xs) (map (moved_member d) ys) (with_body front m back) x') (sym (text_is q p m' r s))

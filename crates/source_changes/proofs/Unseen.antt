@@ -34,6 +34,7 @@ use Rattle.source_rows.proofs.Rising.{AreRising, all_rise}
 use Rattle.source_rows.specs.declared.kept.Hole.{Hole}
 use Rattle.source_rows.proofs.Parted.{AllStand, AreBefore, Parted, all_parted, may_hold}
 use Rattle.source_rows.specs.Sources.{Source}
+use Rattle.list_forms.specs.declared.lines.Form.{Form}
 use Rattle.source_changes.specs.Changes.{AreParts, IsCompared, seen_texts}
 use Rattle.source_changes.specs.declared.Compared.{Compared}
 use Rattle.source_changes.specs.Typing.{AreBraces, HolesAreUnseen, MemberHolesAreUnseen, MovedHolesAreUnseen, TypingInMemberIsSame, TypingIsSame, braces, has_hole, has_member_hole, moved_hole}
@@ -192,17 +193,17 @@ member_holes_are_unseen edition docs q p m m' r s olds news t a b =
     ∙ sym (ap (λ z. seen_texts docs z news) new)
 
 -- where others see the same of two texts, the answer is yes
-told_same : (edition : EditionYear) (docs : Bool) (x x' : List ℕ) (old new : Source) (c : Compared) → old.text ≡ x → new.text ≡ x' → IsCompared edition docs old new c
+told_same : (edition : EditionYear) (docs : Bool) (form : Form) (x x' : List ℕ) (old new : Source) (c : Compared) → old.text ≡ x → new.text ≡ x' → IsCompared edition docs form old new c
     → ((olds news : List Part) → AreParts edition x olds → AreParts edition x' news → seen_texts docs x olds ≡ seen_texts docs x' news) → IsTrue c.is_same
-told_same edition docs x x' _ _ c e f k same =
+told_same edition docs form x x' _ _ c e f k same =
     let before : AreParts edition x k.0 = subst (λ x. AreParts edition x k.0) e k.2 in
     let after : AreParts edition x' k.1 = subst (λ x. AreParts edition x k.1) f k.3 in
     k.4.1 (ap (λ x. seen_texts docs x k.0) e ∙ same k.0 k.1 before after ∙ sym (ap (λ x. seen_texts docs x k.1) f))
 
 pub typing_is_same : TypingIsSame
-typing_is_same edition docs q m m' s old new c t e f k =
-    told_same edition docs (with_body q m s) (with_body q m' s) old new c e f k (λ olds news a b. holes_are_unseen edition docs q m m' s olds news t a b)
+typing_is_same edition docs q m m' s form old new c t e f k =
+    told_same edition docs form (with_body q m s) (with_body q m' s) old new c e f k (λ olds news a b. holes_are_unseen edition docs q m m' s olds news t a b)
 
 pub typing_in_member_is_same : TypingInMemberIsSame
-typing_in_member_is_same edition docs q p m m' r s old new c t e f k =
-    told_same edition docs (with_body q (with_body p m r) s) (with_body q (with_body p m' r) s) old new c e f k (λ olds news a b. member_holes_are_unseen edition docs q p m m' r s olds news t a b)
+typing_in_member_is_same edition docs q p m m' r s form old new c t e f k =
+    told_same edition docs form (with_body q (with_body p m r) s) (with_body q (with_body p m' r) s) old new c e f k (λ olds news a b. member_holes_are_unseen edition docs q p m m' r s olds news t a b)

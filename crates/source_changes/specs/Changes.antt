@@ -1,15 +1,17 @@
 -- What others can see of a file became another, and the lines that tell it.
-use Rattle.std.specs.Prelude.{◌≡◌, ◌↔◌, ℕ, Bool, IsTrue, if◌then◌else◌, List, [], ◌∷◌, ◌++◌, codes, string_bytes, flat_map}
+use Rattle.std.specs.Prelude.{◌≡◌, ◌↔◌, ℕ, Bool, IsTrue, if◌then◌else◌, List, [], ◌∷◌, string_bytes, flat_map}
 use Rattle.hir_input.specs.declared.edition.EditionYear.{EditionYear}
 use Rattle.rust_items.specs.SourceFiles.{FileView, IsFileView}
-use Rattle.source_rows.specs.ChangeWords.{change_word, side_of}
+use Rattle.source_rows.specs.ChangeWords.{side_of}
 use Rattle.source_rows.specs.Changes.{RowChange, row_changes}
 use Rattle.source_rows.specs.Skeletons.{skeleton}
 use Rattle.source_rows.specs.Parts.{Part, item_parts}
 use Rattle.source_rows.specs.Outside.{outside_rows}
 use Rattle.source_rows.specs.Moves.{StandingRow, row_moves, standing_rows}
 use Rattle.source_rows.specs.Rows.{bodies, part_rows}
-use Rattle.source_rows.specs.Sources.{Source, place_at}
+use Rattle.source_rows.specs.Sources.{Source}
+use Rattle.list_forms.specs.declared.lines.Form.{Form}
+use Rattle.source_changes.specs.Told.{row_text}
 use Rattle.source_changes.specs.declared.Compared.{Compared}
 
 -- ---- what others can see
@@ -24,14 +26,11 @@ seen_texts has_docs text ps = skeleton has_docs (bodies ps) text
 
 -- ---- lines
 
-abbrev pub row_line : Source → RowChange → List ℕ
-row_line s c = place_at s c.at ++ change_word c.kind ++ c.label ++ codes "\n"
+abbrev pub row_text_between : Form → Source → Source → RowChange → List ℕ
+row_text_between form old new c = row_text form (side_of c.kind old new) c
 
-abbrev pub row_line_between : Source → Source → RowChange → List ℕ
-row_line_between old new c = row_line (side_of c.kind old new) c
-
-abbrev pub row_lines : Source → Source → List RowChange → List ℕ
-row_lines old new cs = flat_map (row_line_between old new) cs
+abbrev pub row_texts : Form → Source → Source → List RowChange → List ℕ
+row_texts form old new cs = flat_map (row_text_between form old new) cs
 
 -- ---- two files
 
@@ -51,24 +50,24 @@ changes_beside edition has_docs old new olds news =
     (row_changes (outside_rows has_docs edition old.text olds) (outside_rows has_docs edition new.text news))
 
 -- what became of items and members, and where nothing did by their labels, all else
-abbrev pub lines_between : EditionYear → Bool → Source → Source → List Part → List Part → List ℕ
-lines_between edition has_docs old new olds news =
+abbrev pub lines_between : EditionYear → Bool → Form → Source → Source → List Part → List Part → List ℕ
+lines_between edition has_docs form old new olds news =
     let items = row_changes (part_rows has_docs old.text olds) (part_rows has_docs new.text news) in
-    row_lines old new (or_else items (changes_beside edition has_docs old new olds news))
+    row_texts form old new (or_else items (changes_beside edition has_docs old new olds news))
 
 -- these are the lines of what became of one file of an edition in another
-abbrev pub AreLinesBetween : EditionYear → Bool → Source → Source → List ℕ → Type 0
-AreLinesBetween edition has_docs old new lines =
-    (olds news : List Part) × AreParts edition old.text olds × AreParts edition new.text news × (lines ≡ lines_between edition has_docs old new olds news)
+abbrev pub AreLinesBetween : EditionYear → Bool → Form → Source → Source → List ℕ → Type 0
+AreLinesBetween edition has_docs form old new lines =
+    (olds news : List Part) × AreParts edition old.text olds × AreParts edition new.text news × (lines ≡ lines_between edition has_docs form old new olds news)
 
 -- no line where nothing differs
-abbrev pub compared_lines : EditionYear → Bool → Bool → Source → Source → List Part → List Part → List ℕ
-compared_lines edition is_same has_docs old new olds news =
-    if is_same then [] else lines_between edition has_docs old new olds news
+abbrev pub compared_lines : EditionYear → Bool → Bool → Form → Source → Source → List Part → List Part → List ℕ
+compared_lines edition is_same has_docs form old new olds news =
+    if is_same then [] else lines_between edition has_docs form old new olds news
 
 -- whether others see the same of two files of an edition, and the lines of what became of the parts
-abbrev pub IsCompared : EditionYear → Bool → Source → Source → Compared → Type 0
-IsCompared edition has_docs old new c =
+abbrev pub IsCompared : EditionYear → Bool → Form → Source → Source → Compared → Type 0
+IsCompared edition has_docs form old new c =
     (olds news : List Part) × AreParts edition old.text olds × AreParts edition new.text news
     × (IsTrue c.is_same ↔ (seen_texts has_docs old.text olds ≡ seen_texts has_docs new.text news))
-    × (string_bytes c.text ≡ compared_lines edition c.is_same has_docs old new olds news)
+    × (string_bytes c.text ≡ compared_lines edition c.is_same has_docs form old new olds news)

@@ -1,3 +1,4 @@
+pub mod Told
 pub mod Changes
 pub mod Views
 pub mod Typing

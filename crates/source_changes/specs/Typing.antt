@@ -17,6 +17,7 @@ use Rattle.source_rows.specs.Rows.{bodies, hole}
 use Rattle.source_rows.specs.Sources.{Source}
 use Rattle.source_rows.specs.declared.kept.Hole.{Hole}
 use Rattle.source_changes.specs.Changes.{AreParts, seen_texts, IsCompared}
+use Rattle.list_forms.specs.declared.lines.Form.{Form}
 use Rattle.source_changes.specs.declared.Compared.{Compared}
 
 -- ---- braces that are a hole
@@ -68,8 +69,8 @@ HolesAreUnseen = (edition : EditionYear) (has_docs : Bool) (q m m' s : List ℕ)
 
 -- So the answer of a comparison is yes.
 abbrev pub TypingIsSame : Type 0
-TypingIsSame = (edition : EditionYear) (has_docs : Bool) (q m m' s : List ℕ) (old new : Source) (c : Compared) → IsTypedInHole edition q m m' s → old.text ≡ with_body q m s → new.text ≡ with_body q m' s
-    → IsCompared edition has_docs old new c → IsTrue c.is_same
+TypingIsSame = (edition : EditionYear) (has_docs : Bool) (q m m' s : List ℕ) (form : Form) (old new : Source) (c : Compared) → IsTypedInHole edition q m m' s → old.text ≡ with_body q m s → new.text ≡ with_body q m' s
+    → IsCompared edition has_docs form old new c → IsTrue c.is_same
 
 -- ---- of members too
 
@@ -116,5 +117,5 @@ MemberHolesAreUnseen = (edition : EditionYear) (has_docs : Bool) (q p m m' r s :
 
 -- So the answer of a comparison is yes.
 abbrev pub TypingInMemberIsSame : Type 0
-TypingInMemberIsSame = (edition : EditionYear) (has_docs : Bool) (q p m m' r s : List ℕ) (old new : Source) (c : Compared) → IsTypedInMember edition q p m m' r s
-    → old.text ≡ with_body q (with_body p m r) s → new.text ≡ with_body q (with_body p m' r) s → IsCompared edition has_docs old new c → IsTrue c.is_same
+TypingInMemberIsSame = (edition : EditionYear) (has_docs : Bool) (q p m m' r s : List ℕ) (form : Form) (old new : Source) (c : Compared) → IsTypedInMember edition q p m m' r s
+    → old.text ≡ with_body q (with_body p m r) s → new.text ≡ with_body q (with_body p m' r) s → IsCompared edition has_docs form old new c → IsTrue c.is_same

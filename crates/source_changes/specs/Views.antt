@@ -1,5 +1,5 @@
 -- Files as plain data.
-use Rattle.source_changes.specs.declared.Side as code_side
+use Rattle.source_changes.specs.declared.told.Side as code_side
 use Rattle.source_rows.specs.Sources.{Source}
 
 -- a file with what finds its lines, as plain data

@@ -2,6 +2,7 @@
 #![tactic(auto)]
 
 mod laws;
+mod told;
 
 ghost use Rattle.std.specs.Prelude.{◌≡◌, ◌++◌, ◌↔◌, IfOk, IsTrue, OnOk, map, string_bytes};
 ghost use Rattle.source_rows.specs.Views.{part_view, source_view};
@@ -12,19 +13,20 @@ ghost use Rattle.source_changes.specs.Changes as spec;
 ghost use Rattle.source_changes.specs.Views.{lined_view};
 
 use hir_input::EditionYear;
-use line_index::LineIndex;
+use list_forms::Form;
 use rust_items::{Wanted, WantedMetas, read_wanted};
-pub use source_rows::Source;
+pub use source_rows::{ChangeKind, Source};
 use source_rows::{
-    Change, ChangeKind, Part, Skeleton, bodies, change_word, changes, moves, outside, parts,
-    push_place, row_around, rows,
+    Change, Part, Skeleton, bodies, changes, moves, outside, parts, row_around, rows,
 };
 use std::alloc::{AllocError, Global};
+pub use told::file_change;
+use told::{Side, side_from};
 
 /// What became of a file in another.
 #[derive(Debug, Drop)]
 pub struct Compared {
-    /// A line for each change of an item or of a member of one.
+    /// A line or an object for each change of an item or of a member of one.
     pub text: String,
     /// Whether the two are the same: as others see them, or as trees.
     pub is_same: bool,
@@ -43,70 +45,42 @@ fn parts_of(alloc: Global, text: &str, edition: EditionYear) -> Result<Vec<Part>
     Ok(parts)
 }
 
-/// A file, with what finds the lines of its places.
-#[derive(Drop)]
-struct Side<'a> {
-    path: &'a str,
-    lines: LineIndex<'a>,
-}
-
-impl<'a> Side<'a> {
-    /// The line of a change.
-    fn push(&mut self, change: &Change<'_>, out: &mut String) -> Result<(), AllocError>
-        ensures text { let line = spec.row_line (lined_view self.old)
-            (row_change_view change.now) in
-            OnOk result (string_bytes out.new ≡ string_bytes out.old ++ line) }
-        ensures same { lined_view self.new ≡ lined_view self.old }
-    {
-        push_place(self.path, self.lines.position(change.at), out)?;
-        out.push_str(change_word(change.kind))?;
-        out.push_str(change.label)?;
-        out.push_str("\n")
-    }
-}
-
-/// The line of a change, from the file in which its row stands.
+/// The text of a change, from the file in which its row stands.
 fn push_between(
+    alloc: Global,
+    form: Form,
     old: &mut Side<'_>,
     new: &mut Side<'_>,
     change: &Change<'_>,
     out: &mut String,
 ) -> Result<(), AllocError>
-    ensures text { let line = spec.row_line_between (lined_view old.old) (lined_view new.old)
+    ensures text { let line = spec.row_text_between form (lined_view old.old) (lined_view new.old)
         (row_change_view change.now) in
         OnOk result (string_bytes out.new ≡ string_bytes out.old ++ line) }
     ensures old { lined_view old.new ≡ lined_view old.old }
     ensures new { lined_view new.new ≡ lined_view new.old }
 {
     match change.kind {
-        ChangeKind::Removed => old.push(change, out),
-        ChangeKind::Added | ChangeKind::Changed => new.push(change, out),
-    }
-}
-
-fn side_from<'a>(source: Source<'a>) -> Side<'a>
-    ensures { lined_view result ≡ source_view source.entry }
-{
-    Side {
-        path: source.path,
-        lines: LineIndex::new(source.text),
+        ChangeKind::Removed => old.push(alloc, form, change, out),
+        ChangeKind::Added | ChangeKind::Changed => new.push(alloc, form, change, out),
     }
 }
 
 fn lines(
     alloc: Global,
+    form: Form,
     old: Source<'_>,
     new: Source<'_>,
     changes: &[Change<'_>],
 ) -> Result<String, AllocError>
-    ensures { let lines = spec.row_lines (source_view old.entry) (source_view new.entry)
+    ensures { let lines = spec.row_texts form (source_view old.entry) (source_view new.entry)
         (map row_change_view changes.now) in
         IfOk result (λ text. string_bytes text ≡ lines) }
 {
     let (mut olds, mut news) = (side_from(old), side_from(new));
     let mut out = String::new(alloc);
     for change in changes {
-        push_between(&mut olds, &mut news, change, &mut out)?;
+        push_between(alloc, form, &mut olds, &mut news, change, &mut out)?;
     }
     Ok(out)
 }
@@ -147,6 +121,7 @@ struct Pair<'a> {
     news: &'a [Part],
     edition: EditionYear,
     has_docs: bool,
+    form: Form,
 }
 
 /// The lines of what became of what stands in none of the parts.
@@ -154,7 +129,7 @@ fn outside_lines(alloc: Global, pair: Pair<'_>) -> Result<String, AllocError>
     ensures { let p = pair.entry in
         let before = outside_rows p.has_docs p.edition p.old.text.now (map part_view p.olds.now) in
         let after = outside_rows p.has_docs p.edition p.new.text.now (map part_view p.news.now) in
-        let lines = spec.row_lines (source_view p.old) (source_view p.new) (row_changes before after) in
+        let lines = spec.row_texts p.form (source_view p.old) (source_view p.new) (row_changes before after) in
         IfOk result (λ text. string_bytes text ≡ lines) }
 {
     let before = outside(alloc, pair.old.text, pair.edition, pair.olds)?;
@@ -162,14 +137,14 @@ fn outside_lines(alloc: Global, pair: Pair<'_>) -> Result<String, AllocError>
     let old_rows = row_around(alloc, pair.old.text, &before, pair.olds, pair.has_docs)?;
     let new_rows = row_around(alloc, pair.new.text, &after, pair.news, pair.has_docs)?;
     let changes = changes(alloc, &old_rows, &new_rows)?;
-    lines(alloc, pair.old, pair.new, &changes)
+    lines(alloc, pair.form, pair.old, pair.new, &changes)
 }
 
 /// The lines of what became of the parts of a file in another, or else of what moved from a part to another of its
 /// label, or else of what stands in none.
 fn lines_between(alloc: Global, pair: Pair<'_>) -> Result<String, AllocError>
     ensures { let p = pair.entry in
-        let lines = spec.lines_between p.edition p.has_docs (source_view p.old) (source_view p.new)
+        let lines = spec.lines_between p.edition p.has_docs p.form (source_view p.old) (source_view p.new)
         (map part_view p.olds.now) (map part_view p.news.now) in
         IfOk result (λ text. string_bytes text ≡ lines) }
 {
@@ -177,11 +152,11 @@ fn lines_between(alloc: Global, pair: Pair<'_>) -> Result<String, AllocError>
     let new_rows = rows(alloc, pair.new.text, pair.news, pair.has_docs)?;
     let changes = changes(alloc, &old_rows, &new_rows)?;
     if !changes.is_empty() {
-        return lines(alloc, pair.old, pair.new, &changes);
+        return lines(alloc, pair.form, pair.old, pair.new, &changes);
     }
     let moves = moves(alloc, &old_rows, &new_rows)?;
     if !moves.is_empty() {
-        return lines(alloc, pair.old, pair.new, &moves);
+        return lines(alloc, pair.form, pair.old, pair.new, &moves);
     }
     outside_lines(alloc, pair)
 }
@@ -189,7 +164,7 @@ fn lines_between(alloc: Global, pair: Pair<'_>) -> Result<String, AllocError>
 /// The same, but no line where others see the same of both.
 fn text_of(alloc: Global, is_same: bool, pair: Pair<'_>) -> Result<String, AllocError>
     ensures { let p = pair.entry in
-        let lines = spec.compared_lines p.edition is_same p.has_docs (source_view p.old)
+        let lines = spec.compared_lines p.edition is_same p.has_docs p.form (source_view p.old)
         (source_view p.new) (map part_view p.olds.now) (map part_view p.news.now) in
         IfOk result (λ text. string_bytes text ≡ lines) }
 {
@@ -211,8 +186,9 @@ pub fn change_lines(
     new: Source<'_>,
     edition: EditionYear,
     has_docs: bool,
+    form: Form,
 ) -> Result<String, AllocError>
-    ensures { let are_lines = spec.AreLinesBetween edition has_docs (source_view old.entry)
+    ensures { let are_lines = spec.AreLinesBetween edition has_docs form (source_view old.entry)
         (source_view new.entry) in
         IfOk result (λ text. are_lines (string_bytes text)) }
 {
@@ -225,6 +201,7 @@ pub fn change_lines(
         news: &after,
         edition,
         has_docs,
+        form,
     };
     let text = lines_between(alloc, pair)?;
     Ok(text)
@@ -247,8 +224,9 @@ pub fn compare(
     new: Source<'_>,
     edition: EditionYear,
     has_docs: bool,
+    form: Form,
 ) -> Result<Compared, AllocError>
-    ensures { IfOk result (spec.IsCompared edition has_docs (source_view old.entry)
+    ensures { IfOk result (spec.IsCompared edition has_docs form (source_view old.entry)
         (source_view new.entry)) }
 {
     let olds = parts_of(alloc, old.text, edition)?;
@@ -261,6 +239,7 @@ pub fn compare(
         news: &news,
         edition,
         has_docs,
+        form,
     };
     let text = text_of(alloc, is_same, pair)?;
     Ok(Compared { text, is_same })

@@ -17,17 +17,20 @@ pub use Rattle.rust_items.specs.declared.source_file.ItemPlace.{ItemPlace}
 pub use Rattle.serde_json.specs.View.{items_of, view}
 pub use Rattle.source_rows.specs.Finders.{IsFinderOf, IsSameFinder}
 pub use Rattle.source_listing.specs.ImportObjects.{alias_form, import_form, import_object, import_objects, seen_objects}
-pub use Rattle.source_listing.specs.Imports.{import_lines, of_declared, of_seen, of_uses, placed_import_line, seen_lines, spots_of_any}
+pub use Rattle.source_listing.specs.ImportLines.{import_lines, numbered_import, seen_import, seen_lines, file_import_object}
+pub use Rattle.source_listing.specs.Imports.{of_declared, of_seen, of_uses, spots_of_any}
 pub use Rattle.source_listing.specs.Inner.{FindsFirsts, Firsts, IsPrinterOf, IsSameFile, IsSameTreeFinder, IsTreeFinderOf, NamedKey, PutsFirst, file_of, finder_text, first_in, has_named_key, id_key, is_around, item_at, key, lent_named, listed_named_view, named_at, named_key_view, objects_at, own_named, own_named_at, placed_trees_view, places_in, places_of, reserved_of, same_named_key, shown_item_view}
+pub use Rattle.source_listing.specs.Inner.{IsSameTagger, IsTaggerOf, tagged_file}
 pub use Rattle.source_listing.specs.Lines.{Choice, Source, is_chosen, is_listed}
 pub use Rattle.source_listing.specs.Objects.{Entry, ItemView, column_form, entry_object, file_form, header_form, item_entry, item_in, line_form, listed_objects, member_entry, member_object, member_objects, member_spot, name_form, node_objects, own_objects, problem_objects, range_form, subject_form, tree_objects, visibility_form, whole_object}
 pub use Rattle.source_listing.specs.Outlines.{member_line, title}
 pub use Rattle.source_rows.specs.Places.{AreDistinct, is_id, place_of, spot_at}
 pub use Rattle.source_listing.specs.Repeated.{Named, first_alike, forest_named, is_alike, leaf_named, line_if_any, named_import, node_named, repeat_lines}
-pub use Rattle.source_listing.specs.Search.{Query, found_lines, found_member, is_member_found, whole_found}
+pub use Rattle.source_listing.specs.Search.{Candidate, Query, found_lines, found_object, if_found, member_candidate, whole_found}
 pub use Rattle.source_listing.specs.Paths.{bare_segment}
+pub use Rattle.list_forms.specs.Lines.{column_number, line_number}
 unfoldable pub use Rattle.source_listing.specs.Search.{found_members}
-pub use Rattle.source_listing.specs.Tags.{if_any, path_char, scope_field, tag_inside}
+pub use Rattle.source_listing.specs.Tags.{TagFile, if_any, path_char, scope_field, tag_inside}
 unfoldable pub use Rattle.source_listing.specs.Tags.{tags_inside}
 pub use Rattle.source_listing.specs.Uses.{FilePlaces, Trees, from_place, import_spot, placed, tree_spots, use_trees_at}
 pub use Rattle.source_listing.specs.Views.{choice_view, look_view, query_view, source_view}

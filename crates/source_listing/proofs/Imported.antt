@@ -1,5 +1,6 @@
 -- Imports.
-use Rattle.source_listing.proofs.Common.{◌≡◌, ℕ, ◌<◌, ◌+◌, List, [], ◌∷◌, ◌++◌, length, map, take, ap, sym, ◌∙◌, subst, append-nil, Option, All, slice_index_or, flat_map, flat_map-append, flat_map-map, Import, Forest, Source, Spot, IsSameTreeFinder, IsTreeFinderOf, places_in, finder_text, FilePlaces, placed, get_or-map, length-map, take_more, declarations, DeclarationView, view_of, placed_import_line, import_lines, of_seen, of_uses, seen_lines}
+use Rattle.source_listing.proofs.Common.{◌≡◌, ℕ, ◌<◌, ◌+◌, List, [], ◌∷◌, ◌++◌, length, map, take, ap, sym, ◌∙◌, subst, append-nil, Option, All, slice_index_or, flat_map, flat_map-append, flat_map-map, Import, Forest, Source, Spot, IsSameTreeFinder, IsTreeFinderOf, places_in, finder_text, FilePlaces, placed, get_or-map, length-map, take_more, declarations, DeclarationView, view_of, import_lines, of_seen, of_uses, seen_lines}
+use Rattle.list_forms.specs.declared.lines.Form.{Form}
 use Rattle.source_listing.specs.declared.uses.TreeFinder.{TreeFinder}
 
 -- what is told of what is collected is what is told of what is declared
@@ -9,9 +10,11 @@ seen_of_all each see text places ds f e =
     sym (flat_map-map (of_seen each text places) see ds) ∙ ap (flat_map (of_seen each text places)) e ∙ flat_map-map (of_seen each text places) view_of (declarations f)
 
 -- the lines of what is collected are those of what is declared
-pub lines_of_all : {D : Type 0} (see : D → DeclarationView) (s : Source) (reserved : List (List ℕ)) (places : FilePlaces) (ds : List D) (f : Forest)
-    → map see ds ≡ map view_of (declarations f) → flat_map (λ d. seen_lines s reserved places (see d)) ds ≡ import_lines s reserved places f
-lines_of_all see s reserved places ds f e = seen_of_all (placed_import_line s.path reserved) see s.text places ds f e
+pub lines_of_all : {D : Type 0} (see : D → DeclarationView) (reserved : List (List ℕ)) (form : Form) (s : Source) (places : FilePlaces) (ds : List D) (f : Forest)
+    → map see ds ≡ map view_of (declarations f) → flat_map (λ d. seen_lines reserved form s places (see d)) ds ≡ import_lines reserved form s places f
+lines_of_all see reserved form s places ds f e =
+    let lines : DeclarationView → List ℕ = seen_lines reserved form s places in
+    sym (flat_map-map lines see ds) ∙ ap (flat_map lines) e ∙ flat_map-map lines view_of (declarations f)
 
 -- what is collected is contained, each by itself
 pub contained_at : {D : Type 0} (P : ℕ → Type 0) (id : D → ℕ) (ds : List D) (i : ℕ) (d : D) → All P (map id ds) → i < length ds → slice_index_or ds i d ≡ d → P (id d)

@@ -5,6 +5,7 @@ pub mod NoFloats
 pub mod Pushed
 pub mod Chosen
 pub mod Tagged
+pub mod Searches
 pub mod Imported
 pub mod Repeats
 pub mod Printers

@@ -3,7 +3,7 @@ use Rattle.std.proofs.Common.{◌≡◌, ℕ, ◌≤◌, ◌-◌, List, [], ◌�
 use Rattle.std.specs.Str.Pattern.{FindsTextPrefix, StripsPrefix}
 use Rattle.std.proofs.lemmas.Str.Pattern.{starts_text}
 use Rattle.source_listing.proofs.Common.{bare_segment}
-use Rattle.source_listing.specs.Sought.{joined_names, name_before, text_behind}
+use Rattle.source_listing.specs.Sought.{Split, name_before, split_at, split_names, text_behind}
 
 -- the clause of `strip_prefix` at a text
 pub stripped : (front text : List ℕ) (r : Option (Bor (List ℕ))) → MatchOption r (FindsTextPrefix front text None) (λ x. StripsPrefix (FindsTextPrefix front) text x.now) → option_map (λ x. x.now) r ≡ text_behind front text
@@ -13,24 +13,24 @@ stripped front text (Some x) h =
     rw (← starts, h.2, h.1.0) refl
 
 -- what is read in front of more names
-abbrev pub read_before : List ℕ → Option (List ℕ) → Option (List ℕ)
-read_before done names = option_map (λ path. done ++ path) names
+abbrev pub read_before : List ℕ → Option Split → Option Split
+read_before done names = option_map (λ s. split_at (done ++ s.scope) s.last) names
 
-pub read_first : (names : Option (List ℕ)) → read_before [] names ≡ names
+pub read_first : (names : Option Split) → read_before [] names ≡ names
 read_first None = refl
-read_first (Some path) = refl
+read_first (Some s) = refl
 
-pub read_more : (done name : List ℕ) (names : Option (List ℕ)) → read_before done (option_map (λ path. name ++ path) names) ≡ read_before (done ++ name) names
+pub read_more : (done name : List ℕ) (names : Option Split) → read_before done (read_before name names) ≡ read_before (done ++ name) names
 read_more done name None = refl
-read_more done name (Some path) = ap Some (sym (append_assoc done name path))
+read_more done name (Some s) = ap (λ scope. Some (split_at scope s.last)) (sym (append_assoc done name s.scope))
 
 -- one more name is read, and what stands behind it is left
-pub read_next : (ws : List (Bor (List ℕ))) (d e name : Bor (List ℕ)) (found : Option (Bor (List ℕ))) (all : Option (List ℕ)) (done more : List ℕ) → 2 ≤ length ws → all ≡ read_before done (joined_names (map (λ w. w.now) ws))
+pub read_next : (ws : List (Bor (List ℕ))) (d e name : Bor (List ℕ)) (found : Option (Bor (List ℕ))) (all : Option Split) (done more : List ℕ) → 2 ≤ length ws → all ≡ read_before done (split_names (map (λ w. w.now) ws))
     → option_map (λ x. x.now) found ≡ name_before (slice_index_or ws 1 d).now (slice_index_or ws 0 e).now → found ≡ Some name → more ≡ done ++ bare_segment name.now
-    → all ≡ read_before more (joined_names (map (λ w. w.now) (take (length ws - 2) (drop 2 ws))))
+    → all ≡ read_before more (split_names (map (λ w. w.now) (take (length ws - 2) (drop 2 ws))))
 read_next [] d e name found all done more l a f n m = absurd (omega arith)
 read_next (word ∷ []) d e name found all done more l a f n m = absurd (omega arith)
 read_next (word ∷ gap ∷ rest) d e name found all done more l a f n m =
     let is : name_before gap.now word.now ≡ Some name.now = sym f ∙ ap (option_map (λ x. x.now)) n in
     let left : take (length (word ∷ gap ∷ rest) - 2) (drop 2 (word ∷ gap ∷ rest)) ≡ rest = take_all (length (word ∷ gap ∷ rest) - 2) rest (omega arith) in
-    a ∙ rw (is, left, m) (read_more done (bare_segment name.now) (joined_names (map (λ w. w.now) rest)))
+    a ∙ rw (is, left, m) (read_more done (bare_segment name.now) (split_names (map (λ w. w.now) rest)))

@@ -1,5 +1,5 @@
 -- Objects by the ids of items.
-use Rattle.source_listing.proofs.Common.{◌≡◌, ℕ, ◌+◌, Bool, true, false, List, [], ◌∷◌, ◌++◌, Option, Some, None, refl, ap, sym, ◌∙◌, flat_map, option_map, option_map_or, items_of, Node, leaf, parent, Forest, empty, more, nodes, Unfolding, StandFor, is_file_enabled, children, children_at, ItemPlace, MemberReading, header_of, members_of, Choice, Source, is_chosen, place_of, spot_at, ItemView, item_in, item_entry, member_objects, entry_object, whole_object, own_objects, node_objects, listed_objects, tree_objects, Spot, Edition, Printer, node_at, flat_map_of_id, IsPrinterOf, file_of, item_at, objects_at, places_of, reserved_of}
+use Rattle.source_listing.proofs.Common.{◌≡◌, ℕ, ◌+◌, Bool, true, List, [], ◌∷◌, ◌++◌, Option, Some, None, refl, ap, sym, ◌∙◌, flat_map, option_map, option_map_or, items_of, Node, leaf, parent, Forest, empty, more, nodes, Unfolding, StandFor, is_file_enabled, children, children_at, ItemPlace, MemberReading, header_of, members_of, Choice, Source, is_chosen, place_of, spot_at, ItemView, item_in, item_entry, member_objects, entry_object, whole_object, own_objects, node_objects, listed_objects, tree_objects, Spot, Edition, Printer, node_at, flat_map_of_id, IsPrinterOf, file_of, item_at, objects_at, places_of, reserved_of}
 use Rattle.serde_json.specs.Data.{Data}
 use Rattle.source_listing.proofs.Printers.{file_is}
 

@@ -1,5 +1,6 @@
 -- What is listed holds no float.
-use Rattle.source_listing.proofs.Common.{◌≡◌, ℕ, ◌+◌, Bool, true, false, ◌||◌, if◌then◌else◌, List, [], ◌∷◌, ◌++◌, Option, Some, None, option_map, refl, filter, map, flat_map, items_of, view_of, Import, Node, leaf, parent, Forest, empty, more, node_ast, Unfolding, ItemPlace, Listed, MemberReading, header_of, members_of, Spot, FilePlaces, Choice, Source, is_chosen, place_of, spot_at, Declared, declared_name, declared_imports, declarations, Subject, no_subject, is_file_enabled, alias_form, import_form, import_object, seen_objects, import_objects, of_declared, spots_of_any, Entry, ItemView, item_in, name_form, header_form, subject_form, visibility_form, line_form, column_form, range_form, entry_object, item_entry, member_entry, member_spot, member_object, member_objects, file_form, whole_object, own_objects, node_objects, listed_objects, tree_objects, problem_objects}
+use Rattle.line_index.specs.declared.Position.{Position}
+use Rattle.source_listing.proofs.Common.{file_import_object, Candidate, column_number, found_object, line_number, ◌≡◌, ℕ, ◌+◌, Bool, true, false, ◌||◌, if◌then◌else◌, List, [], ◌∷◌, ◌++◌, Option, Some, None, option_map, refl, filter, map, flat_map, items_of, view_of, Import, Node, leaf, parent, Forest, empty, more, node_ast, Unfolding, ItemPlace, Listed, MemberReading, header_of, members_of, Spot, FilePlaces, Choice, Source, is_chosen, place_of, spot_at, Declared, declared_name, declared_imports, declarations, Subject, no_subject, is_file_enabled, alias_form, import_form, import_object, seen_objects, import_objects, of_declared, spots_of_any, Entry, ItemView, item_in, name_form, header_form, subject_form, visibility_form, line_form, column_form, range_form, entry_object, item_entry, member_entry, member_spot, member_object, member_objects, file_form, whole_object, own_objects, node_objects, listed_objects, tree_objects, problem_objects}
 use Rattle.serde_json.specs.Data.{Data, Items, no_items}
 use Rattle.serde_json.specs.Written.{has_float, items_have_float}
 use Rattle.item_tree.specs.declared.visibility.RawVisibility.{RawVisibility}
@@ -120,3 +121,22 @@ module _ (reserved : List (List ℕ)) where
 pub no_float_in_imports : (text : List ℕ) (reserved : List (List ℕ)) (places : FilePlaces) (f : Forest) → items_have_float (items_of (import_objects text reserved places f)) ≡ false
 no_float_in_imports text reserved places f = flat_none (λ d. seen_objects text reserved places (view_of d)) (declarations f)
     (λ d. declared_none reserved (spots_of_any text places (option_map node_ast (view_of d).node)) (view_of d).declared)
+
+-- ---- what is found
+
+line_number_none : (p : Option Position) → has_float (line_number p) ≡ false
+line_number_none None = refl
+line_number_none (Some p) = refl
+
+column_number_none : (p : Option Position) → has_float (column_number p) ≡ false
+column_number_none None = refl
+column_number_none (Some p) = refl
+
+pub found_none : (path : List ℕ) (p : Option Position) (c : Candidate) → has_float (found_object path p c) ≡ false
+found_none path p c = rw (column_number_none p, line_number_none p) refl
+
+-- ---- imports with what is around them
+
+pub use_none : (reserved : List (List ℕ)) (path scope : List ℕ) (v : Option RawVisibility) (spot : Option Spot) (x : Import) → has_float (file_import_object reserved path scope v spot x) ≡ false
+use_none reserved path scope v spot x =
+    rw (some_none (alias_form reserved) x.alias refl (λ a. refl), some_none column_form spot refl (λ a. refl), some_none line_form spot refl (λ a. refl), some_none range_form spot refl (λ a. refl), visibility_none reserved v) refl

@@ -1,5 +1,8 @@
 -- Texts that are pushed one after another.
-use Rattle.source_listing.proofs.Common.{◌≡◌, ℕ, List, [], ◌∷◌, ◌++◌, map, ap, codes, ◌∙◌, append_assoc, Option, filter, flat_map, flat_map-append, filter-append, RowView, ItemPlace, Source, flat_map-map, Listed, MemberReading, scope_field, Query, bare_segment, is_member_found, whole_found, found_lines, found_member, found_members}
+use Rattle.std.specs.Prelude.{bytes_eq}
+use Rattle.std.specs.List.{list_any}
+use Rattle.source_listing.specs.Outlines.{name_around}
+use Rattle.source_listing.proofs.Common.{Bor, ItemPlace, List, Listed, MemberReading, Query, RowView, Source, [], ap, append-nil, append_assoc, bare_segment, codes, flat_map, flat_map-append, flat_map-map, found_lines, found_members, get_or, if_found, length, length-map, map, map-append, member_candidate, refl, scope_field, sym, take, take_more, whole_found, ℕ, ◌++◌, ◌+◌, ◌<◌, ◌==◌, ◌||◌, ◌∙◌, ◌∷◌, ◌≡◌}
 
 -- a line, pushed part by part, of which the first has a place and blanks
 pub line_pushed : (o p i v w n e o1 o2 o3 o4 o5 : List ℕ) → o1 ≡ o ++ p ++ i → o2 ≡ o1 ++ v → o3 ≡ o2 ++ w → o4 ≡ o3 ++ n → o5 ≡ o4 ++ e
@@ -12,22 +15,42 @@ pub one_more_found : (s : Source) (x : MemberReading) (reserved : List (List ℕ
 one_more_found s x reserved places q rs r = flat_map-append (whole_found s x reserved places q) rs (r ∷ [])
 
 -- the same of a member alone
-pub one_more_found_member : (s : Source) (reserved : List (List ℕ)) (q : Query) (r : RowView) (around : Option (List ℕ)) (ms : List Listed) (m : Listed)
-    → found_members s reserved q r around (ms ++ m ∷ []) ≡ found_members s reserved q r around ms ++ found_members s reserved q r around (m ∷ [])
+pub one_more_found_member : (s : Source) (reserved : List (List ℕ)) (q : Query) (scope : List ℕ) (ms : List Listed) (m : Listed)
+    → found_members s reserved q scope (ms ++ m ∷ []) ≡ found_members s reserved q scope ms ++ found_members s reserved q scope (m ∷ [])
 unfolding found_members
-one_more_found_member s reserved q r around ms m =
-    ap (flat_map (found_member s reserved)) (filter-append (is_member_found q r around) ms (m ∷ []))
-    ∙ flat_map-append (found_member s reserved) (filter (is_member_found q r around) ms) (filter (is_member_found q r around) (m ∷ []))
+one_more_found_member s reserved q scope ms m = flat_map-append (λ x. if_found s reserved q (member_candidate scope x)) ms (m ∷ [])
 
 pub segments_of : {A : Type 0} (f : A → List ℕ) (xs : List A) → flat_map bare_segment (map f xs) ≡ flat_map (λ x. bare_segment (f x)) xs
 segments_of f xs = flat_map-map bare_segment f xs
 
+-- one more, behind the ones before it
+pub one_more : {A B : Type 0} (f : B → List ℕ) (view : A → B) (xs : List A) (i : ℕ) (x : A) (o o1 : List ℕ) → i < length xs → x ≡ get_or xs i x → o ≡ flat_map f (map view (take i xs)) → o1 ≡ o ++ f (view x)
+    → o1 ≡ flat_map f (map view (take (i + 1) xs))
+one_more f view xs i x o o1 h e d g =
+    g ∙ ap (λ l. l ++ f (view x)) d
+    ∙ sym (flat_map-append f (map view (take i xs)) (view x ∷ []) ∙ ap (λ ts. flat_map f (map view (take i xs)) ++ ts) (append-nil (f (view x))))
+    ∙ ap (flat_map f) (sym (map-append view (take i xs) (x ∷ [])) ∙ ap (λ y. map view (take i xs ++ y ∷ [])) e ∙ ap (map view) (sym (take_more xs i x h)))
+
+-- a name behind those around it, pushed part by part
+pub name_pushed_in : {A : Type 0} (f : A → List ℕ) (xs : List A) (out blank around named shown : List ℕ) → blank ≡ out ++ codes " " → around ≡ blank ++ flat_map (λ x. name_around (f x)) xs → named ≡ around ++ shown
+    → named ≡ out ++ (codes " " ++ flat_map name_around (map f xs) ++ shown)
+name_pushed_in f xs out blank around named shown a b c = let names = flat_map-map name_around f xs in rw (c, b, a, names) (simp append_assoc)
+
 -- a tag, pushed part by part
-pub tag_pushed : (o name path line letter field o1 o2 o3 o4 o5 o6 o7 o8 o9 : List ℕ) → o1 ≡ o ++ name → o2 ≡ o1 ++ codes "\t" → o3 ≡ o2 ++ path → o4 ≡ o3 ++ codes "\t" → o5 ≡ o4 ++ line → o6 ≡ o5 ++ codes ";\"\t" → o7 ≡ o6 ++ letter
-    → o8 ≡ o7 ++ field → o9 ≡ o8 ++ codes "\n" → o9 ≡ o ++ (name ++ codes "\t" ++ path ++ codes "\t" ++ line ++ codes ";\"\t" ++ letter ++ field ++ codes "\n")
-tag_pushed o name path line letter field o1 o2 o3 o4 o5 o6 o7 o8 o9 a b c d e f g h i = rw (i, h, g, f, e, d, c, b, a) (simp append_assoc)
+pub tag_pushed : (o name path place letter line field o1 o2 o3 o4 o5 o6 o7 o8 o9 o10 : List ℕ) → o1 ≡ o ++ name → o2 ≡ o1 ++ codes "\t" → o3 ≡ o2 ++ path → o4 ≡ o3 ++ codes "\t" → o5 ≡ o4 ++ place → o6 ≡ o5 ++ codes ";\"\t" → o7 ≡ o6 ++ letter
+    → o8 ≡ o7 ++ line → o9 ≡ o8 ++ field → o10 ≡ o9 ++ codes "\n" → o10 ≡ o ++ (name ++ codes "\t" ++ path ++ codes "\t" ++ place ++ codes ";\"\t" ++ letter ++ line ++ field ++ codes "\n")
+tag_pushed o name path place letter line field o1 o2 o3 o4 o5 o6 o7 o8 o9 o10 a b c d e f g h i j = rw (j, i, h, g, f, e, d, c, b, a) (simp append_assoc)
 
 -- what a tag stands in, pushed one after another
 pub scope_pushed : {A : Type 0} (f : A → List ℕ) (xs : List A) (first : A) (rest : List A) (word o o1 o2 o3 o4 o5 : List ℕ) → xs ≡ first ∷ rest → o1 ≡ o ++ codes "\t" → o2 ≡ o1 ++ word → o3 ≡ o2 ++ codes ":" → o4 ≡ o3 ++ f first → o5 ≡ o4 ++ flat_map (λ x. bare_segment (f x)) rest
     → o5 ≡ o ++ scope_field word (map f xs)
 scope_pushed f xs first rest word o o1 o2 o3 o4 o5 e a b c d g = rw (e, g, d, c, b, a, ← segments_of f rest) (simp append_assoc)
+
+-- a word is among those that some hold
+pub word_among : (word : List ℕ) (ws : List (Bor (List ℕ))) → list_any (λ other. bytes_eq word other.now) ws ≡ list_any (λ other. bytes_eq word other) (map (λ k. k.now) ws)
+word_among word [] = refl
+word_among word (w ∷ ws) = ap (λ b. bytes_eq word w.now || b) (word_among word ws)
+
+-- the same, where none stand for all
+pub kinds_told : (word : List ℕ) (ws : List (Bor (List ℕ))) → (length ws == 0 || list_any (λ other. bytes_eq word other.now) ws) ≡ (length (map (λ k. k.now) ws) == 0 || list_any (λ other. bytes_eq word other) (map (λ k. k.now) ws))
+kinds_told word ws = rw (length-map ws (λ k. k.now), word_among word ws) refl

@@ -4,7 +4,7 @@ use Rattle.std.specs.Cmp.Lexicographic.{pointwise, pointwise_decides}
 use Rattle.std.specs.List.{list_all}
 use Rattle.std.proofs.lemmas.Bool.Decides.{Decides-eqb}
 use Rattle.hir_input.specs.Name.{is_among, shown_name}
-use Rattle.rust_lexer.proofs.Counted.{when}
+use Rattle.rust_lexer.proofs.Cases.{when}
 use Rattle.rust_paths.specs.Names.{may_be_keyword}
 
 none_among : (words : List (List ℕ)) (name : List ℕ) → list_all may_be_keyword words ≡ true → may_be_keyword name ≡ false → is_among words name ≡ false

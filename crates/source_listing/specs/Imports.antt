@@ -1,4 +1,4 @@
--- Lines of imports.
+-- Imports, where they stand.
 use Rattle.std.specs.Prelude.{ℕ, List, [], ◌++◌, codes, Option, Some, None, option_map, flat_map}
 use Rattle.hir_input.specs.declared.ids.FileAstId.{FileAstId}
 use Rattle.hir_input.specs.Path.{Path, shown_path}
@@ -11,8 +11,6 @@ use Rattle.item_tree.specs.UseText.{shown_rename}
 use Rattle.tree_walk.specs.Declarations.{Declared, declared_name, declared_imports, declarations}
 use Rattle.tree_walk.specs.DeclarationView.{DeclarationView, view_of}
 use Rattle.source_rows.specs.declared.finder.Spot.{Spot}
-use Rattle.source_listing.specs.Lines.{Source}
-use Rattle.source_rows.specs.Places.{item_place}
 use Rattle.source_listing.specs.Uses.{FilePlaces, import_spot}
 
 -- an import as a use of it alone would be written
@@ -20,10 +18,6 @@ abbrev pub import_text : List (List ℕ) → ImportKind → Path → Option Impo
 import_text reserved kind.Plain path alias = shown_path reserved path ++ shown_rename reserved alias
 import_text reserved kind.Glob path alias = shown_path reserved path ++ codes "::*"
 import_text reserved kind.TypeOnly path alias = shown_path reserved path ++ codes "::{self" ++ shown_rename reserved alias ++ codes "}"
-
--- the place of its use tree, by the number of that, and the import
-abbrev pub placed_import_line : List ℕ → List (List ℕ) → (ℕ → Option Spot) → Import → List ℕ
-placed_import_line path reserved spots x = item_place path (spots x.index) ++ import_text reserved x.kind x.path x.alias ++ codes "\n"
 
 abbrev pub spots_of_any : List ℕ → FilePlaces → Option FileAstId → ℕ → Option Spot
 spots_of_any text places None index = None
@@ -43,11 +37,3 @@ module _ {A : Type 0} (each : (ℕ → Option Spot) → Import → List A) where
   -- of the imports of all uses, in the order in which they are written
   abbrev pub of_uses : List ℕ → FilePlaces → Forest → List A
   of_uses text places f = flat_map (λ d. of_seen text places (view_of d)) (declarations f)
-
--- the lines of a declaration, of which a use alone has any
-abbrev pub seen_lines : Source → List (List ℕ) → FilePlaces → DeclarationView → List ℕ
-seen_lines s reserved places d = of_seen (placed_import_line s.path reserved) s.text places d
-
--- the imports of all uses, in the order in which they are written
-abbrev pub import_lines : Source → List (List ℕ) → FilePlaces → Forest → List ℕ
-import_lines s reserved places f = of_uses (placed_import_line s.path reserved) s.text places f

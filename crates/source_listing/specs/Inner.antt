@@ -17,17 +17,23 @@ use Rattle.rust_items.specs.declared.source_file.ItemPlace.{ItemPlace}
 use Rattle.source_rows.specs.Listed.{MemberReading}
 use Rattle.source_listing.specs.declared.json.Item as code_item
 use Rattle.source_listing.specs.declared.printer.Printer.{Printer}
+use Rattle.source_listing.specs.declared.search.Candidate as code_search
+use Rattle.source_listing.specs.declared.sought.Split as code_split
 use Rattle.source_rows.specs.Finders.{IsFinderOf, IsSameFinder}
 use Rattle.source_rows.specs.declared.finder.Spot.{Spot}
 use Rattle.source_listing.specs.declared.repeated.Named as code_named
 use Rattle.source_listing.specs.declared.repeated.Key as code_key
 use Rattle.source_listing.specs.contracts.repeated.KeyPartialEq.TheImpl as keys
+use Rattle.source_listing.specs.declared.tags.Tagger.{Tagger}
 use Rattle.source_listing.specs.declared.uses.UseTrees as code_trees
 use Rattle.source_listing.specs.declared.uses.TreeFinder.{TreeFinder}
 use Rattle.source_listing.specs.Lines.{Choice, Source}
 use Rattle.source_listing.specs.Objects.{Entry, ItemView, column_form, item_in, line_form, node_objects, range_form}
 use Rattle.source_rows.specs.Places.{AreDistinct}
 use Rattle.source_listing.specs.Repeated.{Named, leaf_named, node_named}
+use Rattle.source_listing.specs.Tags.{TagFile}
+use Rattle.source_listing.specs.Search.{Candidate}
+use Rattle.source_listing.specs.Sought.{Split}
 use Rattle.source_listing.specs.Uses.{FilePlaces, placed, Trees}
 
 -- ---- printers, and what finds places for them
@@ -47,6 +53,25 @@ IsPrinterOf s places edition p = (p.path.now ≡ s.path) × (p.edition.now ≡ e
 -- nothing of the file is another
 abbrev pub IsSameFile : Printer → Printer → Type 0
 IsSameFile old new = (new.path ≡ old.path) × (new.edition ≡ old.edition) × IsSameFinder old.finder new.finder
+
+-- the file of what tags are made from
+abbrev pub tagged_file : Tagger → TagFile
+tagged_file t = record { path = t.path.now; text = t.finder.lines; shown = t.lines.text.now; address = t.address }
+
+-- nothing of it is another
+abbrev pub IsSameTagger : Tagger → Tagger → Type 0
+IsSameTagger old new = (new.path ≡ old.path) × (new.address ≡ old.address) × (new.lines.text ≡ old.lines.text) × IsSameFinder old.finder new.finder
+
+-- tags are of this file, with items at these places
+abbrev pub IsTaggerOf : TagFile → List ItemPlace → Tagger → Type 0
+IsTaggerOf f places t = (t.path.now ≡ f.path) × (t.address ≡ f.address) × (t.lines.text.now ≡ f.shown) × IsFinderOf f.text places t.finder
+-- ---- what is looked for
+
+abbrev pub split_view : code_split.Split → Split
+split_view s = record { scope = string_bytes s.scope; last = s.last.now }
+
+abbrev pub candidate_view : code_search.Candidate → Candidate
+candidate_view c = record { scope = c.scope.now; at = c.at; word = c.word.now; name = c.name.now; is_active = c.is_active }
 
 -- ---- objects by the ids of items
 

@@ -10,6 +10,7 @@ use Rattle.item_tree.specs.declared.visibility.VisibilityExplicitness.TheVariant
 use Rattle.item_tree.specs.Page.{shown_visibility}
 use Rattle.item_tree.specs.Tree.{Tree, single, glob, prefixed}
 use Rattle.item_tree.specs.UseText.{shown_prefix, shown_rename}
+use Rattle.list_forms.specs.Colors.{colored_text, faint_code, red_code}
 use Rattle.tree_walk.specs.Rows.{RowView, Subject, no_subject, used, called}
 use Rattle.rust_items.specs.declared.source_file.ItemPlace.{ItemPlace}
 use Rattle.source_problems.specs.declared.problem.SourceProblem.{SourceProblem}
@@ -107,9 +108,9 @@ message problem.UsePath = codes "a path of this use cannot be read"
 message problem.MacroPath = codes "the path of this macro call cannot be read"
 message problem.ConflictMarker = codes "a merge left this conflict marker"
 
-abbrev pub problem_line : Source → SourceProblem → List ℕ
-problem_line s p = place_at s p.at ++ message p.kind ++ codes "\n"
+abbrev pub problem_line : Bool → Source → SourceProblem → List ℕ
+problem_line is_colored s p = colored_text is_colored faint_code (place_at s p.at) ++ colored_text is_colored red_code (message p.kind) ++ codes "\n"
 
 -- the lines of problems
-abbrev pub problem_lines : Source → List SourceProblem → List ℕ
-problem_lines s ps = flat_map (problem_line s) ps
+abbrev pub problem_lines : Bool → Source → List SourceProblem → List ℕ
+problem_lines is_colored s ps = flat_map (problem_line is_colored s) ps

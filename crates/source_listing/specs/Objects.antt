@@ -1,8 +1,9 @@
 -- The objects of an outline, and of problems.
 use Rattle.std.specs.Prelude.{ℕ, ◌+◌, Bool, ◌&&◌, if◌then◌else◌, List, [], ◌∷◌, ◌++◌, codes, filter, map, Option, Some, None, option_map}
-use Rattle.serde_json.specs.Data.{Data, unsigned, null, boolean, number, string, array, object, Items, no_items, item, no_members, member}
+use Rattle.serde_json.specs.Data.{Data, null, boolean, string, array, object, Items, no_items, item, no_members, member}
 use Rattle.serde_json.specs.View.{items_of}
-use Rattle.serde_json.specs.Written.{compact_text}
+use Rattle.list_forms.specs.Lines as lines
+use Rattle.list_forms.specs.Lines.{count_form}
 use Rattle.hir_input.specs.declared.ids.FileAstId.{FileAstId}
 use Rattle.hir_input.specs.Id.{shown_id}
 use Rattle.hir_input.specs.Path.{shown_path}
@@ -41,9 +42,6 @@ abbrev pub item_in : Bool → Node → ItemView
 item_in is_active n = record { id = node_ast n; name = node_name n; subject = node_subject n; visibility = node_visibility n; is_active = is_active && is_enabled n }
 
 -- ---- members
-
-abbrev pub count_form : ℕ → Data
-count_form n = number (unsigned n)
 
 -- the header of an impl; other items have none
 abbrev pub header_form : List ℕ → Data
@@ -163,7 +161,7 @@ module _ (s : Source) (x : MemberReading) (reserved : List (List ℕ)) (places :
 
   -- the object of a file, on one line
   abbrev pub json_line : Unfolding → List ℕ
-  json_line u = compact_text (file_form s.path (items_of (tree_objects u))) ++ codes "\n"
+  json_line u = lines.value_line (file_form s.path (items_of (tree_objects u)))
 
 -- ---- problems
 

@@ -1,72 +1,128 @@
 -- Where a path of names is declared.
-use Rattle.std.specs.Prelude.{ℕ, Bool, not, ◌&&◌, ◌||◌, if◌then◌else◌, List, [], ◌++◌, codes, filter, Option, Some, None, is_some, option_map}
-use Rattle.std.specs.List.{flat_map}
+use Rattle.std.specs.Prelude.{ℕ, Bool, not, ◌==◌, ◌&&◌, ◌||◌, if◌then◌else◌, List, [], ◌++◌, codes, bytes_eq, chars, length, Option, Some, None, option_map, unwrap_or}
+use Rattle.std.specs.List.{flat_map, list_any}
 use Rattle.std.specs.Option.{option_or}
+use Rattle.globs.specs.Globs.{matches}
+use Rattle.line_index.specs.declared.Position.{Position}
+use Rattle.line_index.specs.Positions.{position_of}
+use Rattle.serde_json.specs.Data.{Data, string, object, no_members, member}
 use Rattle.tree_walk.specs.Rows.{RowView}
 use Rattle.source_rows.specs.Listed.{Listed, MemberReading, members_of, type_name_of}
 use Rattle.rust_items.specs.declared.source_file.ItemPlace.{ItemPlace}
 use Rattle.source_rows.specs.Labels.{member_word}
+use Rattle.list_forms.specs.Colors.{bold_code, colored_text, cyan_code, faint_code}
+use Rattle.list_forms.specs.declared.lines.Form.{Form}
+use Rattle.list_forms.specs.declared.lines.Form.TheVariants.{Line, Json}
 use Rattle.source_listing.specs.Lines.{Source, at_text, listed_name, item_word}
+use Rattle.list_forms.specs.Lines.{column_number, value_line, line_number}
 use Rattle.source_listing.specs.Paths.{bare_segment, is_sought_path}
+use Rattle.source_listing.specs.Patterns.{as_compared}
+use Rattle.source_listing.specs.Sought.{text_behind}
 use Rattle.source_rows.specs.Places.{place_of, stands_at}
 
--- what is looked for: names with two colons before each, from the top on or anywhere, with or without what a cfg disables
+-- what is looked for: names with two colons before each, and a glob of the last name; which of what has such names; and how it is told
 pub record Query : Type 0 where
-  pub path : List ℕ
+  pub scope : List ℕ
+  pub name : List ℕ
   pub is_anywhere : Bool
+  pub ignores_case : Bool
+  pub kinds : List (List ℕ)
   pub only_active : Bool
+  pub form : Form
+
+-- an item or a member with a name: the names around it, with two colons before each, where it stands, the word of its kind, and its name
+pub record Candidate : Type 0 where
+  pub scope : List ℕ
+  pub at : Option ℕ
+  pub word : List ℕ
+  pub name : List ℕ
+  pub is_active : Bool
+
+-- ---- what is found
+
+-- no words of kinds stand for all
+abbrev pub has_kind : Query → List ℕ → Bool
+has_kind q word = length q.kinds == 0 || list_any (λ other. bytes_eq word other) q.kinds
+
+abbrev pub is_sought_name : Query → List ℕ → Bool
+is_sought_name q name = matches (chars q.name) (chars (as_compared q.ignores_case name))
+
+abbrev pub is_sought_scope : Query → List ℕ → Bool
+is_sought_scope q scope = is_sought_path q.scope q.is_anywhere (as_compared q.ignores_case scope)
+
+abbrev pub is_shown : Query → Bool → Bool
+is_shown q is_active = not q.only_active || is_active
+
+abbrev pub is_found : Query → Candidate → Bool
+is_found q c = is_shown q c.is_active && (has_kind q c.word && (is_sought_name q c.name && is_sought_scope q c.scope))
+
+-- ---- how it is told
+
+-- a place, the word of a kind and a name
+abbrev pub found_line : Source → List (List ℕ) → Bool → Candidate → List ℕ
+found_line s reserved is_colored c =
+    colored_text is_colored faint_code (at_text s c.at) ++ colored_text is_colored cyan_code c.word
+    ++ colored_text is_colored bold_code (listed_name reserved (Some c.name)) ++ codes "\n"
+
+-- names with two colons between each two
+abbrev pub joined_scope : List ℕ → List ℕ
+joined_scope scope = unwrap_or (text_behind (codes "::") scope) scope
+
+-- the object of what stands there in the file of a path
+abbrev pub found_object : List ℕ → Option Position → Candidate → Data
+found_object path p c =
+    object
+    (member (codes "column") (column_number p)
+    (member (codes "kind") (string c.word)
+    (member (codes "line") (line_number p)
+    (member (codes "name") (string c.name)
+    (member (codes "path") (string path)
+    (member (codes "scope") (string (joined_scope c.scope)) no_members))))))
+
+abbrev pub position_at : Source → Option ℕ → Option Position
+position_at s at = option_map (position_of s.text) at
+
+abbrev pub found_text : Source → List (List ℕ) → Form → Candidate → List ℕ
+found_text s reserved (Line is_colored) c = found_line s reserved is_colored c
+found_text s reserved Json c = value_line (found_object s.path (position_at s c.at) c)
+
+abbrev pub if_found : Source → List (List ℕ) → Query → Candidate → List ℕ
+if_found s reserved q c = if is_found q c then found_text s reserved q.form c else []
+
+-- ---- items and members
 
 abbrev pub own_segment : Option (List ℕ) → List ℕ
 own_segment None = []
 own_segment (Some name) = bare_segment name
 
--- the names of the modules that an item stands in, and its own
-abbrev pub item_path : RowView → List ℕ
-item_path r = flat_map bare_segment r.scope ++ own_segment r.name
+-- the modules that an item stands in, and what its members stand in, or nothing
+abbrev pub scope_inside : RowView → Option (List ℕ) → List ℕ
+scope_inside r around = flat_map bare_segment r.scope ++ own_segment around
 
 -- what the members of an item stand in: its name, or that of an impl's type
 abbrev pub holder : MemberReading → RowView → Option ItemPlace → Option (List ℕ)
 holder x r place = option_or r.name (type_name_of x r.id.kind place)
 
--- the names of the modules that an item stands in, what members of it stand in, and the name of one
-abbrev pub path_inside : RowView → Option (List ℕ) → List ℕ → List ℕ
-path_inside r around name = flat_map bare_segment r.scope ++ own_segment around ++ bare_segment name
+abbrev pub item_candidate : RowView → Option ItemPlace → List ℕ → Candidate
+item_candidate r place name =
+    record { scope = scope_inside r None; at = option_map stands_at place; word = item_word r.id.kind; name = name; is_active = r.is_active }
 
-abbrev pub is_path : Query → List ℕ → Bool
-is_path q path = is_sought_path q.path q.is_anywhere path
-
-abbrev pub is_shown : Query → Bool → Bool
-is_shown q is_active = not q.only_active || is_active
+abbrev pub member_candidate : List ℕ → Listed → Candidate
+member_candidate scope m = record { scope = scope; at = Some m.at; word = member_word m.kind; name = m.name; is_active = m.is_active }
 
 -- what has no name is never found
-abbrev pub is_found : Query → RowView → Bool
-is_found q r = is_some r.name && (is_shown q r.is_active && is_path q (item_path r))
+abbrev pub own_found : Source → List (List ℕ) → Query → RowView → Option ItemPlace → Option (List ℕ) → List ℕ
+own_found s reserved q r place None = []
+own_found s reserved q r place (Some name) = if_found s reserved q (item_candidate r place name)
 
-abbrev pub is_member_found : Query → RowView → Option (List ℕ) → Listed → Bool
-is_member_found q r around m = is_shown q m.is_active && is_path q (path_inside r around m.name)
+-- the members in a scope
+unfoldable pub found_members : Source → List (List ℕ) → Query → List ℕ → List Listed → List ℕ
+found_members s reserved q scope ms = flat_map (λ m. if_found s reserved q (member_candidate scope m)) ms
 
--- a place, the word of a kind and a name
-abbrev pub found_text : Source → List (List ℕ) → Option ℕ → List ℕ → Option (List ℕ) → List ℕ
-found_text s reserved at word name = at_text s at ++ word ++ listed_name reserved name ++ codes "\n"
-
--- those of an item
-abbrev pub found_line : Source → List (List ℕ) → Option ItemPlace → RowView → List ℕ
-found_line s reserved place r = found_text s reserved (option_map stands_at place) (item_word r.id.kind) r.name
-
-abbrev pub if_found : Source → List (List ℕ) → Query → Option ItemPlace → RowView → List ℕ
-if_found s reserved q place r = if is_found q r then found_line s reserved place r else []
-
--- those of a member
-abbrev pub found_member : Source → List (List ℕ) → Listed → List ℕ
-found_member s reserved m = found_text s reserved (Some m.at) (member_word m.kind) (Some m.name)
-
-unfoldable pub found_members : Source → List (List ℕ) → Query → RowView → Option (List ℕ) → List Listed → List ℕ
-found_members s reserved q r around ms = flat_map (found_member s reserved) (filter (is_member_found q r around) ms)
-
--- the line of an item and those of its members, where they are looked for
+-- an item and its members, where they are looked for
 abbrev pub found_at : Source → MemberReading → List (List ℕ) → Query → RowView → Option ItemPlace → List ℕ
 found_at s x reserved q r place =
-    if_found s reserved q place r ++ found_members s reserved q r (holder x r place) (members_of x place r.is_active)
+    own_found s reserved q r place r.name ++ found_members s reserved q (scope_inside r (holder x r place)) (members_of x place r.is_active)
 
 abbrev pub whole_found : Source → MemberReading → List (List ℕ) → List ItemPlace → Query → RowView → List ℕ
 whole_found s x reserved places q r = found_at s x reserved q r (place_of r.id places)

@@ -1,5 +1,5 @@
 -- How a path of names that is looked for is written.
-use Rattle.std.specs.Prelude.{ℕ, Bool, true, false, ◌==◌, ◌&&◌, not, nat_eq, if◌then◌else◌, List, [], ◌∷◌, ◌++◌, codes, length, drop, Option, Some, None, option_map, unwrap_or}
+use Rattle.std.specs.Prelude.{ℕ, Bool, true, false, ◌==◌, ◌&&◌, not, nat_eq, if◌then◌else◌, List, [], ◌∷◌, ◌++◌, codes, length, drop, Option, Some, None, option_and_then, option_map, unwrap_or}
 use Rattle.std.specs.List.{slice_split, starts_with}
 use Rattle.std.specs.Option.{option_or}
 use Rattle.rust_lexer.specs.Identifier.{is_identifier}
@@ -34,19 +34,34 @@ sought_name word = if can_be_name (without_raw word) then Some (without_raw word
 abbrev pub name_before : List ℕ → List ℕ → Option (List ℕ)
 name_before gap word = if length gap == 0 then sought_name word else None
 
--- a name in front of others
-abbrev pub in_front : Option (List ℕ) → Option (List ℕ) → Option (List ℕ)
-in_front None names = None
-in_front (Some name) names = option_map (λ path. bare_segment name ++ path) names
+-- names with two colons before each, and a word behind them
+pub record Split : Type 0 where
+  pub scope : List ℕ
+  pub last : List ℕ
 
--- the path of the names that stand between colons, two after each but the last
-abbrev pub joined_names : List (List ℕ) → Option (List ℕ)
-joined_names [] = None
-joined_names (word ∷ []) = option_map bare_segment (sought_name word)
-joined_names (word ∷ gap ∷ words) = in_front (name_before gap word) (joined_names words)
+abbrev pub split_at : List ℕ → List ℕ → Split
+split_at scope last = record { scope = scope; last = last }
+
+-- a name in front of others
+abbrev pub in_front : Option (List ℕ) → Option Split → Option Split
+in_front None names = None
+in_front (Some name) names = option_map (λ s. split_at (bare_segment name ++ s.scope) s.last) names
+
+-- the names that stand between colons, two after each but the last word, which may be any
+abbrev pub split_names : List (List ℕ) → Option Split
+split_names [] = None
+split_names (word ∷ []) = Some (split_at [] word)
+split_names (word ∷ gap ∷ words) = in_front (name_before gap word) (split_names words)
+
+-- the path of names, if the last word is one
+abbrev pub whole_path : Split → Option (List ℕ)
+whole_path s = option_map (λ name. s.scope ++ bare_segment name) (sought_name s.last)
+
+abbrev pub split_text : List ℕ → Option Split
+split_text text = split_names (slice_split (λ b. b == 58) text)
 
 abbrev pub sought_names : List ℕ → Option (List ℕ)
-sought_names text = joined_names (slice_split (λ b. b == 58) text)
+sought_names text = option_and_then whole_path (split_text text)
 
 -- what stands behind `::` or `crate::`, with which a path from the top begins
 abbrev pub behind_top : List ℕ → Option (List ℕ)

@@ -1,14 +1,18 @@
 -- What the code holds, as plain data.
-use Rattle.std.specs.Prelude.{string_bytes}
+use Rattle.std.specs.Prelude.{map, option_map, string_bytes}
 pub use Rattle.source_rows.specs.Views.{source_view}
 pub use Rattle.source_rows.specs.ListedViews.{reading_view}
 use Rattle.source_listing.specs.declared.lines.Choice as code_choice
+use Rattle.source_listing.specs.declared.patterns.Pattern as code_pattern
 use Rattle.source_listing.specs.declared.search.Query as code_query
 use Rattle.source_listing.specs.declared.sought.SoughtPath as code_sought
 use Rattle.source_listing.specs.Sought.{Sought}
 use Rattle.source_listing.specs.Lines.{Choice}
 use Rattle.source_listing.specs.declared.outlines.Look as code_look
+use Rattle.source_listing.specs.declared.line_searches.Line as code_line
 use Rattle.source_listing.specs.Outlines.{Look}
+use Rattle.source_listing.specs.LineSearches.{TextLine}
+use Rattle.source_listing.specs.Patterns.{Pattern}
 use Rattle.source_listing.specs.Search.{Query}
 
 -- a choice of items as plain data
@@ -17,12 +21,27 @@ choice_view c = record { depth = c.depth; only_active = c.only_active }
 
 -- which lines are written and how, as plain data
 abbrev pub look_view : code_look.Look → Look
-look_view k = record { choice = choice_view k.choice; is_colored = k.is_colored }
+look_view k = record { choice = choice_view k.choice; is_colored = k.is_colored; is_flat = k.is_flat }
 
 -- what is looked for, as plain data
 abbrev pub query_view : code_query.Query → Query
-query_view q = record { path = q.path.now; is_anywhere = q.is_anywhere; only_active = q.only_active }
+query_view q = record {
+  scope = q.scope.now;
+  name = q.name.now;
+  is_anywhere = q.is_anywhere;
+  ignores_case = q.ignores_case;
+  kinds = map (λ k. k.now) q.kinds.now;
+  only_active = q.only_active;
+  form = q.form;
+}
 
 -- a path that is looked for, as plain data
 abbrev pub sought_view : code_sought.SoughtPath → Sought
 sought_view a = record { path = string_bytes a.path; is_anywhere = a.is_anywhere }
+
+-- a line as plain data
+abbrev pub line_view : code_line.Line → TextLine
+line_view l = record { text = l.text.now; behind = option_map (λ s. s.now) l.behind }
+-- the same of a path of which the last name is a glob
+abbrev pub pattern_view : code_pattern.Pattern → Pattern
+pattern_view p = record { scope = string_bytes p.scope; name = string_bytes p.name; is_anywhere = p.is_anywhere }

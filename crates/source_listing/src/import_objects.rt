@@ -47,7 +47,7 @@ fn alias_value(
 }
 
 /// Gives an object the members of an import whose use tree stands there.
-fn put_import(
+pub(crate) fn put_import(
     alloc: Global,
     edition: &Edition,
     spot: Option<Spot>,

@@ -1,22 +1,34 @@
-//! Imports as lines of text.
-ghost use Rattle.std.specs.Prelude.{◌≡◌, ◌++◌, ◌∷◌, [], Some, IfOk, OnOk, map, option_map, string_bytes, flat_map};
+//! Lists of imports.
+ghost use Rattle.std.specs.Prelude.{◌≡◌, ◌++◌, ◌∷◌, [], Some, IfOk, OnOk, map, option_copied, option_map};
+ghost use Rattle.std.specs.Prelude.{string_bytes, flat_map};
 ghost use Rattle.tree_walk.specs.DeclarationView.{declaration_view};
 ghost use Rattle.tree_walk.specs.Listed.{listed_import};
 ghost use Rattle.item_tree.specs.Shown.{IsContained};
 ghost use Rattle.item_tree.specs.UseText.{shown_rename};
-ghost use Rattle.source_listing.specs.Imports as spec;
+ghost use Rattle.list_forms.specs.declared.lines.Form.TheVariants.{Json};
+ghost use Rattle.serde_json.specs.Data.{no_members};
+ghost use Rattle.serde_json.specs.View.{members_view, view};
+ghost use Rattle.source_listing.specs.ImportLines as spec;
+ghost use Rattle.source_listing.specs.Imports.{import_text};
+ghost use Rattle.source_listing.specs.Paths.{bare_segment};
 ghost use Rattle.source_listing.specs.Inner.{FindsTrees, IsSameTreeFinder, file_in, places_in, finder_text};
 ghost use Rattle.source_listing.specs.Inner.{placed_trees_view};
 ghost use Rattle.source_rows.specs.Places.{AreDistinct};
 ghost use Rattle.source_listing.specs.Uses.{placed, tree_spots};
 ghost use Rattle.source_listing.specs.Views.{source_view};
 
+use crate::import_objects::put_import;
 use crate::lines::push_spot;
+use crate::paths::push_scope;
+use crate::sought::joined_scope;
 use crate::uses::{TreeFinder, UseTrees};
+use crate::values::{put_text, range_value, visibility_value};
 use hir_input::Edition;
-use item_tree::{ImportAlias, ImportKind, ItemTree};
+use item_tree::{ImportAlias, ImportKind, ItemTree, RawVisibility};
+use list_forms::{BOLD, FAINT, Form, USUAL, push_color, value_line};
 use rust_items::ItemPlace;
-use source_rows::Source;
+use serde_json::{Map, Value, put};
+use source_rows::{Source, Spot};
 use std::alloc::{AllocError, Global};
 use tree_walk::{Declaration, Declares, Listed, collect};
 
@@ -44,7 +56,7 @@ pub(crate) fn push_import_text(
     import: &Listed,
     out: &mut String,
 ) -> Result<(), AllocError>
-    ensures { let text = spec.import_text edition.now.reserved.items import.now.kind import.now.path
+    ensures { let text = import_text edition.now.reserved.items import.now.kind import.now.path
         import.now.alias in
         OnOk result (string_bytes out.new ≡ string_bytes out.old ++ text) }
 {
@@ -61,34 +73,141 @@ pub(crate) fn push_import_text(
     }
 }
 
-/// The lines of the imports of a use, whose use trees are these.
-fn push_imports(
-    path: &str,
+/// What the imports of a use have in common.
+#[derive(Clone, Copy)]
+struct Around<'a> {
+    form: Form,
+    path: &'a str,
+    /// The modules around it, with two colons before each.
+    scope: &'a str,
+    visibility: Option<&'a RawVisibility>,
+}
+
+#[tactic(auto, unfolding(list_forms::specs::Colors::colored_text))]
+fn push_line(
     edition: &Edition,
+    is_colored: bool,
+    path: &str,
+    spot: Option<Spot>,
+    import: &Listed,
+    out: &mut String,
+) -> Result<(), AllocError>
+    ensures { let line = spec.placed_import_line edition.now.reserved.items is_colored path.now spot
+        (listed_import import.now) in
+        OnOk result (string_bytes out.new ≡ string_bytes out.old ++ line) }
+{
+    push_color(is_colored, FAINT, out)?;
+    push_spot(path, spot, out)?;
+    push_color(is_colored, USUAL, out)?;
+    push_color(is_colored, BOLD, out)?;
+    push_import_text(edition, import, out)?;
+    push_color(is_colored, USUAL, out)?;
+    out.push_str("\n")
+}
+
+fn file_import_object(
+    alloc: Global,
+    edition: &Edition,
+    around: Around<'_>,
+    spot: Option<Spot>,
+    import: &Listed,
+) -> Result<Value, AllocError>
+    ensures { let a = around.entry in
+        let object = spec.file_import_object edition.now.reserved.items a.path.now a.scope.now in
+        let object = object (option_copied a.visibility) in
+        IfOk result (λ value. view value ≡ object spot (listed_import import.now)) }
+{
+    let mut members = Map::new(alloc);
+    put_import(alloc, edition, spot, import, &mut members)?;
+    put_text(alloc, "file", around.path, &mut members)?;
+    put_text(alloc, "module", joined_scope(around.scope), &mut members)?;
+    put(&mut members, alloc, "range", range_value(alloc, spot)?)?;
+    let visibility = visibility_value(alloc, edition, around.visibility)?;
+    put(&mut members, alloc, "visibility", visibility)?;
+    Ok(Value::Object(members))
+}
+
+#[tactic(auto, using(crate::proofs::NoFloats::use_none))]
+fn push_object(
+    alloc: Global,
+    edition: &Edition,
+    around: Around<'_>,
+    spot: Option<Spot>,
+    import: &Listed,
+    out: &mut String,
+) -> Result<(), AllocError>
+    ensures { let a = around.entry in
+        let told = spec.import_told edition.now.reserved.items Json a.path.now a.scope.now in
+        let line = told (option_copied a.visibility) spot (listed_import import.now) in
+        OnOk result (string_bytes out.new ≡ string_bytes out.old ++ line) }
+{
+    let object = file_import_object(alloc, edition, around, spot, import)?;
+    let line = value_line(alloc, &object)?;
+    out.push_str(&line)
+}
+
+fn push_import(
+    alloc: Global,
+    edition: &Edition,
+    around: Around<'_>,
+    spot: Option<Spot>,
+    import: &Listed,
+    out: &mut String,
+) -> Result<(), AllocError>
+    ensures { let a = around.entry in
+        let told = spec.import_told edition.now.reserved.items a.form a.path.now a.scope.now in
+        let line = told (option_copied a.visibility) spot (listed_import import.now) in
+        OnOk result (string_bytes out.new ≡ string_bytes out.old ++ line) }
+{
+    match around.form {
+        Form::Line { is_colored } => {
+            push_line(edition, is_colored, around.path, spot, import, out)
+        }
+        Form::Json => push_object(alloc, edition, around, spot, import, out),
+    }
+}
+
+/// The imports of a use, whose use trees are these.
+fn push_imports(
+    alloc: Global,
+    edition: &Edition,
+    around: Around<'_>,
     finder: &mut TreeFinder<'_>,
     trees: Option<UseTrees<'_>>,
     imports: &[Listed],
     out: &mut String,
 ) -> Result<(), AllocError>
-    ensures text { let spots = tree_spots (finder_text finder.old)
-        (option_map placed_trees_view trees.entry) in
-        let line = spec.placed_import_line path.now edition.now.reserved.items spots in
+    ensures text { let a = around.entry in
+        let spots = tree_spots (finder_text finder.old) (option_map placed_trees_view trees.entry) in
+        let line = spec.numbered_import edition.now.reserved.items a.form a.path.now a.scope.now in
+        let line = line (option_copied a.visibility) spots in
         OnOk result (string_bytes out.new ≡ string_bytes out.old ++ flat_map line (map listed_import imports.now)) }
     ensures same { IsSameTreeFinder finder.old finder.new }
 {
     for import in imports {
         let spot = finder.spot(trees, import.index);
-        push_spot(path, spot, out)?;
-        push_import_text(edition, import, out)?;
-        out.push_str("\n")?;
+        push_import(alloc, edition, around, spot, import, out)?;
     }
     Ok(())
 }
 
-/// The lines of the imports of an item, if that is a use.
+/// The modules around a declaration, with two colons before each.
+#[tactic(auto, using(crate::proofs::Pushed::segments_of))]
+fn scope_of(alloc: Global, declaration: &Declaration<'_>) -> Result<String, AllocError>
+    ensures { let names = map (λ n. n.now) declaration.now.path.value.items in
+        IfOk result (λ scope. string_bytes scope ≡ flat_map bare_segment names) }
+{
+    let mut scope = String::new(alloc);
+    push_scope(declaration.path.as_slice(), &mut scope)?;
+    Ok(scope)
+}
+
+/// The imports of an item, if that is a use.
 fn push_declaration(
-    path: &str,
+    alloc: Global,
     edition: &Edition,
+    form: Form,
+    path: &str,
     finder: &mut TreeFinder<'_>,
     tree: &ItemTree,
     declaration: &Declaration<'_>,
@@ -96,29 +215,37 @@ fn push_declaration(
 ) -> Result<(), AllocError>
     requires finds { FindsTrees finder.old }
     requires contained { IsContained tree.now declaration.now.id }
-    ensures text { let lines = spec.seen_lines
-        (file_in path.now finder.old) edition.now.reserved.items (places_in finder.old) in
+    ensures text { let lines = spec.seen_lines edition.now.reserved.items form
+        (file_in path.now finder.old) (places_in finder.old) in
         OnOk result (string_bytes out.new ≡ string_bytes out.old ++ lines (declaration_view tree.now declaration.now)) }
     ensures same { IsSameTreeFinder finder.old finder.new }
 {
     match &declaration.declares {
         Declares::Name(_) => Ok(()),
         Declares::Imports(imports) => {
+            let scope = scope_of(alloc, declaration)?;
+            let around = Around {
+                form,
+                path,
+                scope: &scope,
+                visibility: declaration.visibility,
+            };
             let trees = finder.find(declaration.id.ast_id(tree));
-            push_imports(path, edition, finder, trees, imports, out)
+            push_imports(alloc, edition, around, finder, trees, imports, out)
         }
     }
 }
 
-/// A line for each import of a file, in the order in which they are written: file, line and column of its own use tree,
-/// and the import as a use of it alone would be written. What a cfg disables is not left out.
+/// The imports of a file, in the order in which they are written, also what a cfg disables. Each is a line: file, line
+/// and column of its own use tree, and the import as a use of it alone would be written. Or it is a JSON object on a
+/// line: what `import_items` has, the `file`, the names of the modules around it as `module`, with two colons between
+/// each two, the `visibility` of its use, and the bytes of that, with its attributes, as `range`.
 ///
 /// The places, and those of the use trees, are what the reader gave with the syntax of the tree.
 ///
 /// # Errors
 ///
 /// Only if memory runs out.
-#[tactic(auto, using(crate::proofs::Imported::lines_of_all))]
 pub fn import_lines(
     alloc: Global,
     source: Source<'_>,
@@ -126,19 +253,23 @@ pub fn import_lines(
     use_trees: &[usize],
     tree: &ItemTree,
     edition: &Edition,
+    form: Form,
 ) -> Result<String, AllocError>
     requires { AreDistinct places.now }
     ensures { let all = placed places.now use_trees.now in
-        let lines = spec.import_lines (source_view source.entry) edition.now.reserved.items all in
+        let lines = spec.import_lines edition.now.reserved.items form (source_view source.entry) all in
         IfOk result (λ text. string_bytes text ≡ lines tree.now.forest) }
 {
     let mut finder = TreeFinder::new(source.text, places, use_trees);
     let mut out = String::new(alloc);
+    let path = source.path;
     let collected = collect(alloc, tree)?;
     for declaration in &collected.declarations {
         push_declaration(
-            source.path,
+            alloc,
             edition,
+            form,
+            path,
             &mut finder,
             tree,
             declaration,

@@ -1,9 +1,8 @@
 //! Outlines as JSON.
-ghost use Rattle.std.specs.Prelude.{◌≡◌, ◌+◌, ◌<◌, ◌^◌, ◌++◌, ◌∷◌, [], false, codes, map, IfOk, OnOk, option_copied};
+ghost use Rattle.std.specs.Prelude.{◌≡◌, ◌+◌, ◌<◌, ◌^◌, ◌++◌, ◌∷◌, [], map, IfOk, OnOk, option_copied};
 ghost use Rattle.std.specs.Prelude.{option_map, string_bytes, flat_map, sum_by};
 ghost use Rattle.serde_json.specs.Data.{no_members, object as object_of};
 ghost use Rattle.serde_json.specs.View.{items_view, members_view, view};
-ghost use Rattle.serde_json.specs.Written.{compact_text, has_float};
 ghost use Rattle.item_tree.specs.Shown.{IsContained};
 ghost use Rattle.item_tree.specs.Walk.{AreContained, count_at};
 ghost use Rattle.source_rows.specs.Listed.{header_of, members_of};
@@ -23,6 +22,7 @@ use hir_input::{Edition, FileAstId, Name};
 use hir_input_json::member::Members;
 use hir_input_json::write::object::{of_text, with};
 use item_tree::{ItemTree, ModItemId, RawVisibility};
+use list_forms::value_line;
 use rust_items::ItemPlace;
 use serde_json::{Map, Value, put};
 use source_rows::{ListedMember, Reading, Source, Spot, item_word, member_word};
@@ -302,17 +302,6 @@ fn file_value(alloc: Global, path: &str, items: Vec<Value>) -> Result<Value, All
     Ok(Value::Object(with(alloc, members, "items", Value::Array(items))?))
 }
 
-/// A value on one line.
-fn line_of(alloc: Global, value: &Value) -> Result<String, AllocError>
-    requires { has_float (view value.now) ≡ false }
-    ensures { IfOk result (λ line. string_bytes line ≡ compact_text (view value.now)
-        ++ codes "\n") }
-{
-    let mut line = value.to_string(alloc)?;
-    line.push_str("\n")?;
-    Ok(line)
-}
-
 /// The chosen items of a file's tree as values, each an object with its `id`, the word of its `kind`, its `name`, the
 /// `path` of a use, where `{..}` stands for a list, or of the macro of a macro call, where an impl has its type and its
 /// trait, as `Display for Circle`, its `visibility` as it was written, the `line` and the `column` at which it stands,
@@ -389,5 +378,5 @@ pub fn outline_json(
 {
     let items = outline_items(alloc, source, places, tree, edition, reading, choice)?;
     let file = file_value(alloc, source.path, items)?;
-    line_of(alloc, &file)
+    value_line(alloc, &file)
 }

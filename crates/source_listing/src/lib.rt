@@ -1,15 +1,17 @@
 //! Lists of the items and of the problems of Rust source, with the line and the column of each.
 #![tactic(auto)]
 
-mod colors;
+mod found_objects;
 mod import_objects;
 mod imports;
 mod json;
 mod laws;
+mod line_searches;
 mod lines;
 mod outlines;
 mod pages;
 mod paths;
+mod patterns;
 mod printer;
 mod problems;
 mod repeated;
@@ -28,9 +30,10 @@ pub use lines::Choice;
 pub use outlines::{Look, outline};
 pub use pages::without_ids;
 pub use paths::{is_sought_path, push_scope, push_segment};
+pub use patterns::{Pattern, sought_pattern};
 pub use problems::{problem_items, problem_lines};
 pub use repeated::repeated_lines;
 pub use search::{Query, found_lines};
 pub use sought::{SoughtPath, sought_path};
 pub use source_rows::{Reading, Source};
-pub use tags::tag_lines;
+pub use tags::{Address, tag_lines};

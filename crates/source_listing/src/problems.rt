@@ -1,5 +1,7 @@
 //! Problems as lines of text, and as JSON values.
-ghost use Rattle.std.specs.Prelude.{◌≡◌, IfOk, OnOk, ◌++◌, map, string_bytes};
+ghost use Rattle.std.specs.Prelude.{◌≡◌, IfOk, OnOk, ◌++◌, codes, map, string_bytes};
+ghost use Rattle.list_forms.specs.Colors.{colored_text, faint_code, red_code};
+ghost use Rattle.source_rows.specs.Sources.{place_text};
 ghost use Rattle.serde_json.specs.View.{view};
 ghost use Rattle.source_listing.specs.Lines as spec;
 ghost use Rattle.source_listing.specs.Objects.{problem_at, problem_objects};
@@ -7,6 +9,7 @@ ghost use Rattle.source_listing.specs.Views.{source_view};
 
 use hir_input_json::write::object::{of_text, with};
 use line_index::{LineIndex, Position};
+use list_forms::{FAINT, RED, USUAL, push_color, push_colored};
 use rust_items::Problem;
 use serde_json::Value;
 use source_problems::{SourceProblem, SourceProblemKind};
@@ -35,7 +38,27 @@ fn message(kind: SourceProblemKind) -> &'static str
     }
 }
 
-/// A line for each problem of a text: file, line and column, and what is wrong.
+/// The line of a problem.
+#[tactic(auto, unfolding(list_forms::specs::Colors::colored_text))]
+fn push_line(
+    is_colored: bool,
+    path: &str,
+    position: Position,
+    kind: SourceProblemKind,
+    out: &mut String,
+) -> Result<(), AllocError>
+    ensures { let place = colored_text is_colored faint_code (place_text path.now position) in
+        let message = colored_text is_colored red_code (spec.message kind) in
+        OnOk result (string_bytes out.new ≡ string_bytes out.old ++ place ++ message ++ codes "\n") }
+{
+    push_color(is_colored, FAINT, out)?;
+    push_place(path, position, out)?;
+    push_color(is_colored, USUAL, out)?;
+    push_colored(is_colored, RED, message(kind), out)?;
+    out.push_str("\n")
+}
+
+/// A line for each problem of a text: file, line and column, and what is wrong, in colours or not.
 ///
 /// # Errors
 ///
@@ -44,16 +67,16 @@ pub fn problem_lines(
     alloc: Global,
     source: Source<'_>,
     problems: &[SourceProblem],
+    is_colored: bool,
 ) -> Result<String, AllocError>
     ensures { IfOk result (λ text. string_bytes text
-        ≡ spec.problem_lines (source_view source.entry) problems.now) }
+        ≡ spec.problem_lines is_colored (source_view source.entry) problems.now) }
 {
     let mut out = String::new(alloc);
     let mut lines = LineIndex::new(source.text);
     for problem in problems {
-        push_place(source.path, lines.position(problem.at), &mut out)?;
-        let message = message(problem.kind);
-        writeln!(out, "{message}")?;
+        let position = lines.position(problem.at);
+        push_line(is_colored, source.path, position, problem.kind, &mut out)?;
     }
     Ok(out)
 }

@@ -4,6 +4,8 @@ ghost use Rattle.std.specs.List.{slice_split};
 ghost use Rattle.rust_paths.specs.Names.{is_path_keyword};
 ghost use Rattle.source_listing.specs.Sought as spec;
 ghost use Rattle.source_listing.specs.Views.{sought_view};
+ghost use Rattle.source_listing.specs.Inner.{split_view};
+ghost use Rattle.source_listing.specs.Search.{joined_scope};
 
 use crate::paths::push_segment;
 use rust_lexer::is_identifier;
@@ -29,14 +31,24 @@ impl Drop for SoughtPath {
 }
 
 /// What stands in a text behind another.
-fn text_behind<'a>(front: &str, text: &'a str) -> Option<&'a str>
+pub(crate) fn text_behind<'a>(front: &str, text: &'a str) -> Option<&'a str>
     ensures { option_map (λ rest. rest.now) result ≡ spec.text_behind front.now text.now }
 {
     text.strip_prefix(front)
 }
 
+/// Names with two colons between each two.
+pub(crate) fn joined_scope(scope: &str) -> &str
+    ensures { result.now ≡ joined_scope scope.now }
+{
+    match text_behind("::", scope) {
+        Some(names) => names,
+        None => scope,
+    }
+}
+
 /// A word without `r#`.
-fn without_raw(word: &str) -> &str
+pub(crate) fn without_raw(word: &str) -> &str
     ensures { result.now ≡ spec.without_raw word.now }
 {
     match text_behind("r#", word) {
@@ -47,7 +59,7 @@ fn without_raw(word: &str) -> &str
 
 /// Whether nothing can have this name.
 #[tactic(auto, unfolding(rust_paths::specs::Names::is_path_keyword))]
-fn is_path_keyword(name: &str) -> bool
+pub(crate) fn is_path_keyword(name: &str) -> bool
     ensures { result ≡ is_path_keyword name.now }
 {
     matches!(name, "crate" | "self" | "super" | "Self")
@@ -86,25 +98,50 @@ fn words(alloc: Global, text: &str) -> Result<Vec<&str>, AllocError>
     Ok(words)
 }
 
-/// The path of the names that stand between colons.
+/// Names with two colons before each, and a word behind them.
+#[derive(Drop)]
+pub(crate) struct Split<'a> {
+    pub(crate) scope: String,
+    pub(crate) last: &'a str,
+}
+
+/// The names that stand between colons, but for the last word.
 #[tactic(auto, using(crate::proofs::Named::read_first))]
-fn joined_names(alloc: Global, words: &[&str]) -> Result<Option<String>, AllocError>
-    ensures { IfOk result (λ path. option_map string_bytes path
-        ≡ spec.joined_names (map (λ w. w.now) words.now)) }
+fn split_names<'a>(alloc: Global, words: &[&'a str]) -> Result<Option<Split<'a>>, AllocError>
+    ensures { IfOk result (λ split. option_map split_view split
+        ≡ spec.split_names (map (λ w. w.now) words.now)) }
 {
-    let mut path = String::new(alloc);
+    let mut scope = String::new(alloc);
     let mut left = words;
     while let [word, gap, rest @ ..] = left {
         let Some(name) = name_before(gap, word) else {
             return Ok(None);
         };
-        push_segment(name, &mut path)?;
+        push_segment(name, &mut scope)?;
         left = rest;
     }
-    let [word] = left else {
+    let [last] = left else {
         return Ok(None);
     };
-    let Some(name) = sought_name(word) else {
+    Ok(Some(Split { scope, last }))
+}
+
+/// The names of a text, but for the last word.
+pub(crate) fn split_text(alloc: Global, text: &str) -> Result<Option<Split<'_>>, AllocError>
+    ensures { IfOk result (λ split. option_map split_view split ≡ spec.split_text text.now) }
+{
+    let words = words(alloc, text)?;
+    split_names(alloc, &words)
+}
+
+/// The path of names, if the last word is one.
+fn whole_path(split: Split<'_>) -> Result<Option<String>, AllocError>
+    ensures { IfOk result (λ path. option_map string_bytes path
+        ≡ spec.whole_path (split_view split.entry)) }
+{
+    let Split { scope, last } = split;
+    let mut path = scope;
+    let Some(name) = sought_name(last) else {
         return Ok(None);
     };
     push_segment(name, &mut path)?;
@@ -112,7 +149,7 @@ fn joined_names(alloc: Global, words: &[&str]) -> Result<Option<String>, AllocEr
 }
 
 /// What stands behind `::` or `crate::`.
-fn behind_top(text: &str) -> Option<&str>
+pub(crate) fn behind_top(text: &str) -> Option<&str>
     ensures { option_map (λ names. names.now) result ≡ spec.behind_top text.now }
 {
     match text_behind("::", text) {
@@ -130,8 +167,10 @@ fn sought_from(
         (spec.sought_names names.now) in
         IfOk result (λ sought. option_map sought_view sought ≡ path_is) }
 {
-    let words = words(alloc, names)?;
-    let Some(path) = joined_names(alloc, &words)? else {
+    let Some(split) = split_text(alloc, names)? else {
+        return Ok(None);
+    };
+    let Some(path) = whole_path(split)? else {
         return Ok(None);
     };
     Ok(Some(SoughtPath { path, is_anywhere }))

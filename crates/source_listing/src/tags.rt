@@ -6,13 +6,14 @@ ghost use Rattle.tree_walk.specs.Rows as rows;
 ghost use Rattle.tree_walk.specs.Views.{row_view};
 ghost use Rattle.source_rows.specs.Labels.{kind_texts};
 ghost use Rattle.source_rows.specs.ListedViews.{listed_view, reading_view};
-ghost use Rattle.source_rows.specs.Finders.{IsSameFinder};
 ghost use Rattle.source_rows.specs.Places.{AreDistinct};
+ghost use Rattle.source_listing.specs.Inner.{IsSameTagger, tagged_file};
 ghost use Rattle.source_listing.specs.Tags as spec;
 ghost use Rattle.source_listing.specs.Views.{choice_view, source_view};
 
 use crate::lines::Choice;
 use crate::paths::push_scope;
+use crate::line_searches::LineTexts;
 use crate::search::holder;
 use hir_input::{AstIdKind, Name};
 use item_tree::ItemTree;
@@ -21,6 +22,25 @@ use rust_items::{ItemPlace, MemberKind};
 use source_rows::{Finder, ListedMember, Reading, Source, kind_texts, stands_at};
 use std::alloc::{AllocError, Global};
 use tree_walk::Row;
+
+/// How an editor finds the place of a tag.
+#[derive(Clone, Copy, Debug)]
+pub enum Address {
+    /// By a search for its line, which finds it too where lines were put in above.
+    Pattern,
+    /// By its line's number.
+    Number,
+}
+
+/// What the tags of a file are made from.
+#[derive(Drop)]
+struct Tagger<'a> {
+    /// As it is written.
+    path: &'a str,
+    address: Address,
+    finder: Finder<'a>,
+    lines: LineTexts<'a>,
+}
 
 /// The letter of a member's kind.
 fn member_letter(kind: MemberKind) -> Option<&'static str>
@@ -62,6 +82,19 @@ fn push_scope_field(word: &str, scope: &[&Name], out: &mut String) -> Result<(),
     out.push_str(":")?;
     out.push_str(first.text())?;
     push_scope(rest, out)
+}
+
+/// Adds the number of a line at which a search begins, since other lines may be the same.
+fn push_line_field(address: Address, line: usize, out: &mut String) -> Result<(), AllocError>
+    ensures { OnOk result (string_bytes out.new ≡ string_bytes out.old ++ spec.line_field address line) }
+{
+    match address {
+        Address::Pattern => {
+            out.push_str("\tline:")?;
+            out.push_str(Buffer::new().format(line))
+        }
+        Address::Number => Ok(()),
+    }
 }
 
 /// A digit of a number in hexadecimal.
@@ -122,64 +155,6 @@ fn written_path(alloc: Global, path: &str) -> Result<String, AllocError>
     Ok(text)
 }
 
-/// Adds a tag, with the path as it is written.
-fn push_text(
-    name: &Name,
-    path: &str,
-    line: usize,
-    letter: &str,
-    word: &str,
-    scope: &[&Name],
-    out: &mut String,
-) -> Result<(), AllocError>
-    ensures { let tag = spec.tag_text name.now path.now line letter.now word.now
-        (map (λ n. n.now) scope.now) in
-        OnOk result (string_bytes out.new ≡ string_bytes out.old ++ tag) }
-{
-    out.push_str(name.text())?;
-    out.push_str("\t")?;
-    out.push_str(path)?;
-    out.push_str("\t")?;
-    out.push_str(Buffer::new().format(line))?;
-    out.push_str(";\"\t")?;
-    out.push_str(letter)?;
-    push_scope_field(word, scope, out)?;
-    out.push_str("\n")
-}
-
-/// Adds the tag of an item, if it has one.
-fn push_tag(
-    finder: &mut Finder<'_>,
-    path: &str,
-    row: &Row<'_>,
-    place: Option<ItemPlace>,
-    out: &mut String,
-) -> Result<(), AllocError>
-    ensures tag { let tag = spec.tag path.now finder.old.lines place (row_view row.now) in
-        OnOk result (string_bytes out.new ≡ string_bytes out.old ++ spec.if_any tag) }
-    ensures same { IsSameFinder finder.old finder.new }
-{
-    let Some(name) = row.name else {
-        return Ok(());
-    };
-    let Some(letter) = kind_texts(row.id.kind).letter else {
-        return Ok(());
-    };
-    let Some(place) = place else {
-        return Ok(());
-    };
-    let line = finder.lines.position(stands_at(place)).line;
-    push_text(
-        name,
-        path,
-        line,
-        letter,
-        "module",
-        row.scope.as_slice(),
-        out,
-    )
-}
-
 /// The same names, lent for no longer.
 fn names_in<'r: 'a, 'a>(alloc: Global, scope: &[&'r Name]) -> Result<Vec<&'a Name>, AllocError>
     ensures { IfOk result (λ v. map (λ n. n.now) v.items ≡ map (λ n. n.now) scope.now) }
@@ -192,7 +167,7 @@ fn names_in<'r: 'a, 'a>(alloc: Global, scope: &[&'r Name]) -> Result<Vec<&'a Nam
 }
 
 /// The modules around an item, and what its members stand in.
-fn names_around<'r: 'a, 'a>(
+pub(crate) fn names_around<'r: 'a, 'a>(
     alloc: Global,
     row: &Row<'r>,
     name: Option<&'a Name>,
@@ -208,84 +183,145 @@ fn names_around<'r: 'a, 'a>(
     Ok(names)
 }
 
-/// Adds the tag of a member that stands in these, of which the innermost has this word, if it has one.
-fn push_member_tag(
-    finder: &mut Finder<'_>,
-    path: &str,
-    word: &str,
-    scope: &[&Name],
-    member: &ListedMember,
-    out: &mut String,
-) -> Result<(), AllocError>
-    ensures tag { let tag = spec.tag_inside path.now finder.old.lines word.now
-        (map (λ n. n.now) scope.now) (listed_view member.now) in
-        OnOk result (string_bytes out.new ≡ string_bytes out.old ++ spec.if_any tag) }
-    ensures same { IsSameFinder finder.old finder.new }
-{
-    let Some(letter) = member_letter(member.kind) else {
-        return Ok(());
-    };
-    let line = finder.lines.position(member.at).line;
-    push_text(&member.name, path, line, letter, word, scope, out)
-}
-
-/// Adds the tags of members that stand in these, of which the innermost has this word.
-#[tactic(auto, unfolding(crate::specs::Tags::tags_inside))]
-fn push_member_tags(
-    finder: &mut Finder<'_>,
-    path: &str,
-    word: &str,
-    scope: &[&Name],
-    members: &[ListedMember],
-    out: &mut String,
-) -> Result<(), AllocError>
-    ensures tags { let all = spec.tags_inside path.now finder.old.lines word.now
-        (map (λ n. n.now) scope.now) in
-        OnOk result (string_bytes out.new ≡ string_bytes out.old ++ all (map listed_view members.now)) }
-    ensures same { IsSameFinder finder.old finder.new }
-{
-    for member in members {
-        push_member_tag(finder, path, word, scope, member, out)?;
+impl Tagger<'_> {
+    /// Adds how an editor finds a line.
+    fn push_address(&mut self, line: usize, out: &mut String) -> Result<(), AllocError>
+        ensures text { let address = spec.address_by self.old.address (tagged_file self.old) line in
+            OnOk result (string_bytes out.new ≡ string_bytes out.old ++ address) }
+        ensures same { IsSameTagger self.old self.new }
+    {
+        match self.address {
+            Address::Pattern => self.lines.push_search(line.saturating_sub(1), out),
+            Address::Number => out.push_str(Buffer::new().format(line)),
+        }
     }
-    Ok(())
-}
 
-/// Adds the tag of an item, and those of its chosen members, of all that have one.
-#[tactic(auto, unfolding(crate::specs::Tags::member_tags))]
-fn push_whole(
-    alloc: Global,
-    finder: &mut Finder<'_>,
-    path: &str,
-    reading: Reading<'_>,
-    choice: Choice,
-    row: &Row<'_>,
-    out: &mut String,
-) -> Result<(), AllocError>
-    requires { AreDistinct finder.old.places }
-    ensures tags { let all = spec.whole_tags path.now finder.old.lines
-        (reading_view reading.entry) in
-        let added = all finder.old.places (choice_view choice) (row_view row.now) in
-        OnOk result (string_bytes out.new ≡ string_bytes out.old ++ added) }
-    ensures same { IsSameFinder finder.old finder.new }
-{
-    let place = finder.places.find(row.id);
-    push_tag(finder, path, row, place, out)?;
-    let members = choice.members(alloc, reading, place, row.level, row.is_active)?;
-    if members.is_empty() {
-        return Ok(());
+    /// Adds a tag that stands in these.
+    fn push_tag(
+        &mut self,
+        name: &Name,
+        at: usize,
+        letter: &str,
+        word: &str,
+        scope: &[&Name],
+        out: &mut String,
+    ) -> Result<(), AllocError>
+        ensures text { let text = spec.tag_text (tagged_file self.old) name.now at letter.now word.now
+            (map (λ n. n.now) scope.now) in
+            OnOk result (string_bytes out.new ≡ string_bytes out.old ++ text) }
+        ensures same { IsSameTagger self.old self.new }
+    {
+        let line = self.finder.lines.position(at).line;
+        out.push_str(name.text())?;
+        out.push_str("\t")?;
+        out.push_str(self.path)?;
+        out.push_str("\t")?;
+        self.push_address(line, out)?;
+        out.push_str(";\"\t")?;
+        out.push_str(letter)?;
+        push_line_field(self.address, line, out)?;
+        push_scope_field(word, scope, out)?;
+        out.push_str("\n")
     }
-    let type_name = reading.type_name(alloc, row.id.kind, place)?;
-    let name = holder(row.name, &type_name);
-    let word = scope_word(row.id.kind, name);
-    let scope = names_around(alloc, row, name)?;
-    push_member_tags(finder, path, word, &scope, &members, out)
+
+    /// Adds the tag of an item, if it has one.
+    fn push_item_tag(
+        &mut self,
+        row: &Row<'_>,
+        place: Option<ItemPlace>,
+        out: &mut String,
+    ) -> Result<(), AllocError>
+        ensures text { let tag = spec.tag (tagged_file self.old) place (row_view row.now) in
+            OnOk result (string_bytes out.new ≡ string_bytes out.old ++ spec.if_any tag) }
+        ensures same { IsSameTagger self.old self.new }
+    {
+        let Some(name) = row.name else {
+            return Ok(());
+        };
+        let Some(letter) = kind_texts(row.id.kind).letter else {
+            return Ok(());
+        };
+        let Some(place) = place else {
+            return Ok(());
+        };
+        let scope = row.scope.as_slice();
+        self.push_tag(name, stands_at(place), letter, "module", scope, out)
+    }
+
+    /// Adds the tag of a member that stands in these, of which the innermost has this word, if it has one.
+    fn push_member_tag(
+        &mut self,
+        word: &str,
+        scope: &[&Name],
+        member: &ListedMember,
+        out: &mut String,
+    ) -> Result<(), AllocError>
+        ensures text { let tag = spec.tag_inside (tagged_file self.old) word.now
+            (map (λ n. n.now) scope.now) (listed_view member.now) in
+            OnOk result (string_bytes out.new ≡ string_bytes out.old ++ spec.if_any tag) }
+        ensures same { IsSameTagger self.old self.new }
+    {
+        let Some(letter) = member_letter(member.kind) else {
+            return Ok(());
+        };
+        self.push_tag(&member.name, member.at, letter, word, scope, out)
+    }
+
+    /// Adds the tags of members that stand in these, of which the innermost has this word.
+    #[tactic(auto, unfolding(crate::specs::Tags::tags_inside))]
+    fn push_member_tags(
+        &mut self,
+        word: &str,
+        scope: &[&Name],
+        members: &[ListedMember],
+        out: &mut String,
+    ) -> Result<(), AllocError>
+        ensures text { let all = spec.tags_inside (tagged_file self.old) word.now
+            (map (λ n. n.now) scope.now) in
+            OnOk result (string_bytes out.new ≡ string_bytes out.old ++ all (map listed_view members.now)) }
+        ensures same { IsSameTagger self.old self.new }
+    {
+        for member in members {
+            self.push_member_tag(word, scope, member, out)?;
+        }
+        Ok(())
+    }
+
+    /// Adds the tag of an item, and those of its chosen members, of all that have one.
+    #[tactic(auto, unfolding(crate::specs::Tags::member_tags))]
+    fn push_whole(
+        &mut self,
+        alloc: Global,
+        reading: Reading<'_>,
+        choice: Choice,
+        row: &Row<'_>,
+        out: &mut String,
+    ) -> Result<(), AllocError>
+        requires { AreDistinct self.old.finder.places }
+        ensures text { let all = spec.whole_tags (tagged_file self.old) (reading_view reading.entry) in
+            let added = all self.old.finder.places (choice_view choice) (row_view row.now) in
+            OnOk result (string_bytes out.new ≡ string_bytes out.old ++ added) }
+        ensures same { IsSameTagger self.old self.new }
+    {
+        let place = self.finder.places.find(row.id);
+        self.push_item_tag(row, place, out)?;
+        let members = choice.members(alloc, reading, place, row.level, row.is_active)?;
+        if members.is_empty() {
+            return Ok(());
+        }
+        let type_name = reading.type_name(alloc, row.id.kind, place)?;
+        let name = holder(row.name, &type_name);
+        let word = scope_word(row.id.kind, name);
+        let scope = names_around(alloc, row, name)?;
+        self.push_member_tags(word, &scope, &members, out)
+    }
 }
 
 /// The tags of a file: for each chosen item with a name of a kind that has a letter, and for each chosen member with a
-/// name where members are asked for, its name, the file, the line, the letter and what it stands in, as Universal Ctags
-/// writes them, in the order of the items, each before its members. A member stands in its item, and one of an impl in
-/// the type, if that is a path. A control character or a backslash in the path stands behind a backslash, as Universal
-/// Ctags has it too.
+/// name where members are asked for, its name, the file, how its place is found, the letter and what it stands in, in
+/// the form of Universal Ctags, in the order of the items, each before its members. A member stands in its item, and
+/// one of an impl in the type, if that is a path. A control character or a backslash in the path stands behind a
+/// backslash, as Universal Ctags has it too.
 ///
 /// The places are those that the reader gave with the syntax of the tree.
 ///
@@ -295,22 +331,28 @@ fn push_whole(
 pub fn tag_lines(
     alloc: Global,
     source: Source<'_>,
+    address: Address,
     places: &[ItemPlace],
     tree: &ItemTree,
     reading: Reading<'_>,
     choice: Choice,
 ) -> Result<String, AllocError>
     requires { AreDistinct places.now }
-    ensures { let tags = spec.tags (source_view source.entry) (reading_view reading.entry) places.now
+    ensures { let tags = spec.tags (source_view source.entry) address (reading_view reading.entry) places.now
         (choice_view choice) in
         IfOk result (λ text. string_bytes text ≡ tags (rows.rows tree.now)) }
 {
-    let mut finder = Finder::new(source.text, places);
-    let written = written_path(alloc, source.path)?;
+    let path = written_path(alloc, source.path)?;
+    let mut tagger = Tagger {
+        path: &path,
+        address,
+        finder: Finder::new(source.text, places),
+        lines: LineTexts::new(source.text),
+    };
     let rows = choice.rows(alloc, tree)?;
     let mut out = String::new(alloc);
     for row in &rows {
-        push_whole(alloc, &mut finder, &written, reading, choice, row, &mut out)?;
+        tagger.push_whole(alloc, reading, choice, row, &mut out)?;
     }
     Ok(out)
 }

@@ -6,7 +6,7 @@ use Rattle.std.proofs.lemmas.List.Elements.{All-head, All-tail}
 use Rattle.rust_lexer.specs.Piece.{Piece}
 use Rattle.rust_lexer.specs.Symbol.{symbol_of}
 use Rattle.rust_lexer.specs.Tokens.{ArePassed}
-use Rattle.rust_lexer.proofs.Counted.{when}
+use Rattle.rust_lexer.proofs.Cases.{when}
 use Rattle.source_rows.specs.DocAttributes.{docs_as_comments, inner_doc_list}
 use Rattle.source_rows.specs.Inner.{AreSameUntil, ComeBehind, IsBefore, IsLone, are_apart}
 use Rattle.source_rows.specs.Skeletons.{is_one_mark, kept, not_over, text_if_kept}

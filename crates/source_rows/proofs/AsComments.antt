@@ -9,7 +9,7 @@ use Rattle.rust_lexer.specs.Tokens.{is_significant, is_significant_kind}
 use Rattle.rust_lexer.specs.declared.kind.TokenKind.{TokenKind}
 use Rattle.rust_lexer.specs.declared.kind.TokenKind.TheVariants as kinds
 use Rattle.rust_cursor.proofs.Local.{both_true}
-use Rattle.rust_lexer.proofs.Counted.{when}
+use Rattle.rust_lexer.proofs.Cases.{when}
 use Rattle.source_rows.specs.DocAttributes.{as_comment, behind_tests, comment_if, doc_left, doc_length, doc_list, docs_as_comments, inner_doc_list, is_string_kind, is_symbol, names_doc}
 use Rattle.source_rows.specs.Inner.{ComeBehind, are_apart}
 

@@ -9,7 +9,7 @@ use Rattle.rust_lexer.specs.Symbol.{symbol_of}
 use Rattle.rust_lexer.specs.Tokens.{AreInPlace, is_significant}
 use Rattle.rust_lexer.specs.declared.depth.Depth.{Depth}
 use Rattle.rust_cursor.proofs.Local.{both_true}
-use Rattle.rust_lexer.proofs.Counted.{when}
+use Rattle.rust_lexer.proofs.Cases.{when}
 use Rattle.source_rows.specs.DocAttributes.{as_comment, behind_tests, comment_if, doc_left, doc_list, docs_as_comments, inner_doc_list}
 use Rattle.source_rows.specs.Inner.{ComeBehind, ends_behind}
 use Rattle.source_rows.specs.Skeletons.{counts, is_begun, is_one_mark, kept, not_over, text_if_kept}

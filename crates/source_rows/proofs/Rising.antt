@@ -6,7 +6,7 @@ use Rattle.std.proofs.lemmas.List.Concat.{flat_map-cons}
 use Rattle.hir_input.specs.Syntax.{ItemViews}
 use Rattle.hir_input.specs.declared.ids.AstIdKind.{AstIdKind}
 use Rattle.hir_input.specs.declared.ids.AstIdKind.TheVariants as kind
-use Rattle.rust_lexer.proofs.Counted.{when}
+use Rattle.rust_lexer.proofs.Cases.{when}
 use Rattle.rust_paths.specs.declared.names.TextRange.{TextRange}
 use Rattle.source_rows.specs.declared.kept.Hole.{Hole}
 use Rattle.rust_items.specs.declared.source_file.ItemPlace.{ItemPlace}

@@ -9,7 +9,7 @@ use Rattle.rust_lexer.specs.Tokens.{text_of, tokens}
 use Rattle.rust_lexer.specs.declared.kind.TokenKind.{TokenKind}
 use Rattle.rust_lexer.specs.declared.kind.TokenKind.TheVariants as kinds
 use Rattle.rust_lexer.specs.declared.lexer.Front.TheVariants as fronts
-use Rattle.rust_lexer.proofs.Counted.{when}
+use Rattle.rust_lexer.proofs.Cases.{when}
 use Rattle.rust_lexer.proofs.Laws.{lossless}
 use Rattle.source_rows.specs.Bodies.{has_const_fn, has_word, is_this_word}
 

@@ -4,7 +4,6 @@
 ghost use Rattle.std.specs.Prelude.{◌≡◌};
 ghost use Rattle.rust_cursor.specs.Angles.{is_lifetime};
 ghost use Rattle.rust_cursor.specs.Brackets.{behind_tree};
-ghost use Rattle.rust_cursor.specs.Words.{bumped};
 ghost use Rattle.source_rows.specs.Blanks as spec;
 
 use rust_cursor::{Cursor, is_among};
@@ -65,25 +64,17 @@ fn is_value(spacing: Spacing, cursor: &Cursor<'_>) -> bool
     past < spacing.values && past >= spacing.types
 }
 
-fn second<'t>(cursor: &Cursor<'t>) -> Cursor<'t>
-    ensures { result ≡ bumped cursor.now }
-{
-    let mut second = cursor.ahead();
-    second.bump();
-    second
-}
-
 /// Whether the `!` of a macro call comes next.
 fn is_call(cursor: &Cursor<'_>) -> bool
     ensures { result ≡ spec.is_call_mark cursor.now }
 {
-    cursor.symbol() == b'!' && second(cursor).is_at_open()
+    cursor.symbol() == b'!' && cursor.second().is_at_open()
 }
 
 fn has_empty_braces(cursor: &Cursor<'_>) -> bool
     ensures { result ≡ spec.has_empty_braces cursor.now }
 {
-    cursor.symbol() == b'{' && second(cursor).symbol() == b'}'
+    cursor.symbol() == b'{' && cursor.second().symbol() == b'}'
 }
 
 fn takes_equals(symbol: u8) -> bool

@@ -7,7 +7,7 @@ ghost use Rattle.source_rows.specs.Types as spec;
 use hir_input::{EditionYear, Name};
 use rust_cursor::Cursor;
 use rust_leaves::{Wanted, WantedMetas, wanted_front};
-use rust_paths::name;
+use rust_paths::{is_path_keyword, name};
 use std::alloc::{AllocError, Global};
 
 /// The type of an impl, as far as the header was read.
@@ -42,14 +42,10 @@ fn is_type_over(cursor: &Cursor<'_>) -> bool
 }
 
 /// Whether what comes next is a part of paths, but no name.
-#[tactic(auto, unfolding(rust_paths::specs::Names::is_path_keyword))]
 fn is_link(cursor: &Cursor<'_>) -> bool
     ensures { result ≡ spec.is_link cursor.now }
 {
-    if cursor.symbol() == b':' {
-        return true;
-    }
-    matches!(cursor.word(), "crate" | "self" | "super" | "Self")
+    cursor.symbol() == b':' || is_path_keyword(cursor.word())
 }
 
 /// Takes a name of a path, or passes over what is in none.

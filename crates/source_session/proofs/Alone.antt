@@ -1,6 +1,6 @@
 -- Edits inside bodies.
 use Rattle.std.proofs.Common.{◌≡◌, ◌≢◌, ℕ, zero, suc, ◌+◌, ◌<◌, ◌≤◌, ◌==◌, Bool, true, false, if◌then◌else◌, List, [], ◌∷◌, Option, Some, None, IfSome, IfNone, OnSome, is_some, Result, Ok, Err, All, slice_get, length, map, take, drop, refl, sym, ap, subst, ◌∙◌, append_assoc, arith, IsCharBoundary, nat_le, string_bytes}
-use Rattle.source_session.proofs.Common.{list_all, and_parts, nat_tests, get_or-map, length-map, EditionYear, Place, File, IsSetAgain, EditView, set, IsFooting, FitsAfter, last_number, State, present, ItemPlace, FileView, IsFileView, bare_file, HasPlaces, IsReadMoved, edited, has_item, has_place, shifted_item, shifted_place, shifted_problem, HasTextOf, IsListedFile, closers_in, is_cut, TextRange, AreDistinct, IndexView, ChangeFault, SourceText, LineEdit, set_text, change_text, CrateFiles, AreSetTo, AreTogether, IsPlaced, IsSetTo, LeavesPlaced, session_of, CanReplace, HasRoom, IsInside, IsMadeAlone, IsMadeOrNot, IsRetyped, IsRetypedIf, MakesAlone, IsEdited, TextChange, IsKept, IsReading, Texts, bytes_kept, change_fault, changed_text, spliced_text, text_after, text_in, unless_fault, Touched, IsAfter, AreMeant}
+use Rattle.source_session.proofs.Common.{list_all, and_parts, nat_tests, get_or-map, length-map, EditionYear, Place, File, IsSetAgain, EditView, set, IsFooting, FitsAfter, last_number, State, present, ItemPlace, FileView, IsFileView, bare_file, HasPlaces, IsReadMoved, edited_text, has_item, has_place, shifted_item, shifted_place, shifted_problem, HasTextOf, IsListedFile, closers_in, is_cut, TextRange, AreDistinct, IndexView, ChangeFault, SourceText, LineEdit, set_text, change_text, CrateFiles, AreSetTo, AreTogether, IsPlaced, IsSetTo, LeavesPlaced, session_of, CanReplace, HasRoom, IsInside, IsMadeAlone, IsMadeOrNot, IsRetyped, IsRetypedIf, MakesAlone, IsEdited, TextChange, IsKept, IsReading, Texts, bytes_kept, change_fault, changed_text, spliced_text, text_after, text_in, unless_fault, Touched, IsAfter, AreMeant}
 use Rattle.std.specs.String.{string_capacity, string_len}
 use Rattle.std.specs.String.Boundary.{IsSplitPoint}
 use Rattle.std.specs.declared.alloc.AllocError.{AllocError}
@@ -89,7 +89,7 @@ module _ (edition : EditionYear) (s u : State) (old new : Texts) (file : ℕ) (r
   own : (closers_in text.mended ≡ None) × IsFileView edition bytes full
   own = listed_whole edition bytes (closers_in text.mended) full read.is_kept.is_read.is_read none_before
 
-  moved : IsReadMoved inside.edit edition (edited bytes range typed) full
+  moved : IsReadMoved inside.edit edition (edited_text bytes range typed) full
   moved = is.reads edition full places_are own.1
 
   all : HasPlaces shift full

@@ -29,7 +29,7 @@ pub use Rattle.item_tree_db.specs.declared.place.Place.TheVariants.{Block, File}
 pub use Rattle.item_tree_request.specs.Named.{EditNamesCrate}
 pub use Rattle.item_tree_request.specs.Outputs.{Knows}
 unfoldable pub use Rattle.item_tree_request.specs.Outputs.{table_change_line}
-pub use Rattle.rust_edits.specs.Edits.{HasPlaces, IsReadMoved, PlacesAreKept, ReadsMoved, edited, has_item, has_place, shifted_item, shifted_place, shifted_problem}
+pub use Rattle.rust_edits.specs.Edits.{HasPlaces, IsReadMoved, PlacesAreKept, ReadsMoved, edited_text, has_item, has_place, shifted_item, shifted_place, shifted_problem}
 pub use Rattle.rust_items.specs.SourceFiles.{FileView, IsFileView, bare_file, file_view}
 pub use Rattle.rust_items.specs.declared.source_file.ItemPlace.{ItemPlace}
 pub use Rattle.rust_items.specs.MemberLists.{is_boundary, is_cut}

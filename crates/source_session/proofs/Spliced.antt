@@ -47,11 +47,11 @@ module _ (text : List ℕ) (range : TextRange) (new : List ℕ) (order : range.s
 
 -- ---- without a fault
 
-cut_by : (a b c : Bool) → (if a then Some OutsideText else (if b then (if c then Some TooLong else None) else Some CutsCharacter)) ≡ None → b ≡ true
-cut_by true b c e = absurd cc
-cut_by false true c e = refl
-cut_by false false c e = absurd cc
+cut_by : (n : ℕ) (a b c : Bool) → (if a then Some (OutsideText n) else (if b then (if c then Some TooLong else None) else Some CutsCharacter)) ≡ None → b ≡ true
+cut_by n true b c e = absurd cc
+cut_by n false true c e = refl
+cut_by n false false c e = absurd cc
 
 -- the range is cut out
 pub fault_none : (text : List ℕ) (range : TextRange) (new : List ℕ) → change_fault text range new ≡ None → is_cut text range ≡ true
-fault_none text range new e = cut_by (is_outside text range) (is_cut text range) (is_long (spliced_text text range new)) e
+fault_none text range new e = cut_by (length text) (is_outside text range) (is_cut text range) (is_long (spliced_text text range new)) e

@@ -32,8 +32,8 @@ line_keys =
     ∷ (codes "text" ∷ [], codes "a string")
     ∷ (codes "range" ∷ [], codes "two byte places")
     ∷ (codes "name" ∷ [], codes "a name or path")
-    ∷ (codes "edit" ∷ [], codes "a kind of edit")
-    ∷ (codes "show" ∷ [], codes "a kind of show")
+    ∷ (codes "edit" ∷ [], codes "a kind of edit: set_text, change_text, set_file, remove_file, set_block, remove_block or set_cfg")
+    ∷ (codes "show" ∷ [], codes "a kind of show: page, tree, imports, changed, outline, import_places, problems or find")
     ∷ (codes "as" ∷ [], codes "text or json, of tree, imports or changed")
     ∷ (codes "year" ∷ [], codes "2015, 2018, 2021 or 2024")
     ∷ (codes "id" ∷ [], codes "a value without a float")
@@ -52,7 +52,7 @@ syntax_keys =
     ∷ (codes "vis" ∷ [], codes "a visibility")
     ∷ (codes "cfg" ∷ codes "not" ∷ [], codes "a condition")
     ∷ (codes "is" ∷ [], codes "a kind of item")
-    ∷ (codes "meta" ∷ [], codes "a kind of meta")
+    ∷ (codes "meta" ∷ [], codes "a kind of meta: path, key_value, tokens, cfg, cfg_attr or unsafe")
     ∷ []
 
 -- by the keys of lists, of what stands in them

@@ -18,7 +18,7 @@ use Rattle.line_index.specs.Positions.{position_of}
 use Rattle.decl_index.specs.declared.entry.Entry.{Entry}
 use Rattle.decl_index.specs.Entries.{IsListing}
 use Rattle.rust_items.specs.declared.source_file.ItemPlace.{ItemPlace}
-use Rattle.source_listing.specs.Objects.{count_form}
+use Rattle.list_forms.specs.Lines.{count_form}
 use Rattle.source_rows.specs.Places.{place_of, stands_at}
 use Rattle.source_session.specs.declared.texts.SourceText.{SourceText}
 use Rattle.source_session.specs.Files.{CrateFiles}

@@ -14,7 +14,8 @@ use Rattle.item_tree_request.specs.declared.request.show.Show.{Show}
 use Rattle.item_tree_request.specs.declared.request.show.Show.TheVariants.{OfTree, Changed}
 use Rattle.source_listing.specs.ImportObjects.{import_objects}
 use Rattle.source_listing.specs.Lines.{Choice, Source}
-use Rattle.source_listing.specs.Objects.{count_form, tree_objects, problem_objects}
+use Rattle.list_forms.specs.Lines.{count_form}
+use Rattle.source_listing.specs.Objects.{tree_objects, problem_objects}
 use Rattle.source_session.specs.declared.show.LineShow.{LineShow}
 use Rattle.source_session.specs.declared.show.LineShow.TheVariants.{Table, Outline, TreeItems, ImportPlaces, Changes, Problems, Find}
 use Rattle.source_session.specs.Files.{CrateFiles, is_change_in}

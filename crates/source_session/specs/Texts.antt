@@ -76,7 +76,7 @@ is_long text = nat_lt (2 ^ 32) (length text)
 -- why a range of a text cannot be replaced, if it cannot
 abbrev pub change_fault : List ℕ → TextRange → List ℕ → Option ChangeFault
 change_fault text range new =
-    if is_outside text range then Some OutsideText
+    if is_outside text range then Some (OutsideText (length text))
     else (if is_cut text range then (if is_long (spliced_text text range new) then Some TooLong else None) else Some CutsCharacter)
 
 -- a text, unless there is a fault

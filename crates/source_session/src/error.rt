@@ -1,7 +1,7 @@
 //! Why a line has no shows.
 ghost use Rattle.std.specs.Prelude.{◌≡◌, IfOk};
 ghost use Rattle.serde_json.specs.View.{view};
-ghost use Rattle.source_session.specs.Errors.{cause_text, error_form, fault_text, line_error};
+ghost use Rattle.source_session.specs.Errors.{cause_text, error_form, fault_text, line_error, unchanged_form};
 ghost use Rattle.source_session.specs.declared.error.LineError.TheVariants.{OutOfMemory};
 
 use crate::expected::expected_words;
@@ -86,9 +86,22 @@ fn fault_text(cause: ChangeFault) -> &'static str
 {
     match cause {
         ChangeFault::NoText => "no text",
-        ChangeFault::OutsideText => "range not in the text",
+        ChangeFault::OutsideText { .. } => "range not in the text",
         ChangeFault::CutsCharacter => "range cuts a character",
         ChangeFault::TooLong => "text too long",
+    }
+}
+
+// The object of an edit that changes no text. Of a range outside of the text it tells how many bytes that has.
+fn unchanged_value(alloc: Global, place: usize, cause: ChangeFault) -> Result<Value, AllocError>
+    ensures { IfOk result (λ value. view value ≡ unchanged_form place cause) }
+{
+    let words = fault_text(cause);
+    match cause {
+        ChangeFault::OutsideText { length } => {
+            json!(in alloc; {"cause": words, "kind": "text not changed", "length": length, "place": place})
+        }
+        _ => json!(in alloc; {"cause": words, "kind": "text not changed", "place": place}),
     }
 }
 
@@ -111,10 +124,7 @@ pub(crate) fn error_value(
             let expected = expected_words(alloc, pointer, is_open)?;
             json!(in alloc; {"expected": expected, "kind": "not a request", "pointer": pointer})
         }
-        LineError::NotChanged { place, cause } => {
-            let cause = fault_text(cause);
-            json!(in alloc; {"cause": cause, "kind": "text not changed", "place": place})
-        }
+        LineError::NotChanged { place, cause } => unchanged_value(alloc, place, cause),
         LineError::Refused { place, cause } => {
             let cause = cause_text(cause);
             json!(in alloc; {"cause": cause, "kind": "edit refused", "place": place})

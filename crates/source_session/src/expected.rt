@@ -22,6 +22,12 @@ pub(crate) struct Steps<'a> {
 
 const OTHER: &str = "another value";
 
+const EDITS: &str =
+    "a kind of edit: set_text, change_text, set_file, remove_file, set_block, remove_block or set_cfg";
+
+const SHOWS: &str =
+    "a kind of show: page, tree, imports, changed, outline, import_places, problems or find";
+
 // By the keys of lines, and of what stands in their lists.
 fn of_line(key: &str) -> &'static str
     ensures { result.now ≡ told_by_row line_keys key.now }
@@ -43,8 +49,8 @@ fn of_line(key: &str) -> &'static str
         "text" => "a string",
         "range" => "two byte places",
         "name" => "a name or path",
-        "edit" => "a kind of edit",
-        "show" => "a kind of show",
+        "edit" => EDITS,
+        "show" => SHOWS,
         "as" => "text or json, of tree, imports or changed",
         "year" => "2015, 2018, 2021 or 2024",
         "id" => "a value without a float",
@@ -67,7 +73,7 @@ fn of_syntax(key: &str) -> &'static str
         "vis" => "a visibility",
         "cfg" | "not" => "a condition",
         "is" => "a kind of item",
-        "meta" => "a kind of meta",
+        "meta" => "a kind of meta: path, key_value, tokens, cfg, cfg_attr or unsafe",
         _ => OTHER,
     }
 }

@@ -27,6 +27,7 @@ use serde_json::{Value, json};
 use source_listing::push_segment;
 use source_rows::{Finder, stands_at};
 use std::alloc::{AllocError, Global};
+use std::collections::BTreeSet;
 
 // ---- paths of items
 
@@ -283,12 +284,12 @@ pub(crate) fn found_values(
     sources: &Sources,
     texts: &Texts,
     sought: &SoughtItem,
-    entries: &[Entry],
+    entries: &BTreeSet<Entry>,
 ) -> Result<Vec<Value>, AllocError>
-    requires declared { All (IsDeclared sources.now) entries.now }
+    requires declared { All (IsDeclared sources.now) entries.now.keys }
     requires placed { HaveDistinctIds texts.now.entries }
     ensures { let found = flat_map
-        (found_one files.now sources.now texts.now.entries sought.now) entries.now in
+        (found_one files.now sources.now texts.now.entries sought.now) entries.now.keys in
         IfOk result (λ values. map view values.items ≡ found) }
 {
     let mut values = Vec::new(alloc);

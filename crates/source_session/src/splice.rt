@@ -17,8 +17,8 @@ use std::alloc::{AllocError, Global};
 pub enum ChangeFault {
     /// The file has no text.
     NoText,
-    /// The range ends before it begins, or past the text.
-    OutsideText,
+    /// The range ends before it begins, or past the text, which has so many bytes.
+    OutsideText { length: usize },
     /// The range begins or ends inside a character.
     CutsCharacter,
     /// The text would have more than 2^32 bytes.
@@ -65,7 +65,8 @@ pub(crate) fn fault(text: &str, range: TextRange, new: &str) -> Option<ChangeFau
     ensures { result ≡ change_fault text.now range new.now }
 {
     if is_outside(text, range) {
-        return Some(ChangeFault::OutsideText);
+        let length = text.len();
+        return Some(ChangeFault::OutsideText { length });
     }
     if !cuts_none(text, range) {
         return Some(ChangeFault::CutsCharacter);

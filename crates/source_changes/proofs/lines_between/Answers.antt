@@ -5,7 +5,7 @@ use Rattle.source_rows.specs.ChangeViews.{row_change_view, row_part, text_row_vi
 use Rattle.source_rows.specs.Changes.{row_changes}
 use Rattle.source_rows.specs.Moves.{row_moves, standing_rows}
 use Rattle.source_rows.specs.Views.{part_view, source_view}
-use Rattle.source_changes.specs.Changes.{row_lines}
+use Rattle.source_changes.specs.Changes.{row_texts}
 use Rattle.source_changes.proofs.Joining.{moved_lines}
 use Rattle.source_changes.proofs.lines_between.Goals as goal
 
@@ -21,6 +21,6 @@ returns-then-not-is_empty-2 c =
     ∙ (λ k. row_moves (standing_rows ((ap (map row_part) c.deref-3.ensures.value ∙ olds.parts) k) ((ap (map text_row_view) c.deref-3.ensures.value ∙ olds.rows) k))
     (standing_rows ((ap (map row_part) c.deref-4.ensures.value ∙ news.parts) k) ((ap (map text_row_view) c.deref-4.ensures.value ∙ news.rows) k))) in
     subst (λ l. IfOk c.lines-then-not-is_empty-2.result (λ text. string_bytes text ≡ l))
-    (ap (λ cs. row_lines (source_view p.old) (source_view p.new) (map row_change_view cs)) c.deref-then-not-is_empty-2.ensures.value
-    ∙ moved_lines p.edition p.has_docs (source_view p.old) (source_view p.new) (map part_view p.olds.now) (map part_view p.news.now) c.in_ok-changes.changes.items c.in_ok-moves.moves.items none some items moves)
+    (ap (λ cs. row_texts p.form (source_view p.old) (source_view p.new) (map row_change_view cs)) c.deref-then-not-is_empty-2.ensures.value
+    ∙ moved_lines p.edition p.has_docs p.form (source_view p.old) (source_view p.new) (map part_view p.olds.now) (map part_view p.news.now) c.in_ok-changes.changes.items c.in_ok-moves.moves.items none some items moves)
     c.lines-then-not-is_empty-2.ensures

@@ -1,4 +1,4 @@
-use Rattle.source_listing.proofs.Common.{rules, ap, map, string_bytes, ◌++◌, ◌∙◌, flat_map, take_all, declaration_id, declaration_view, IsContained, placed, source_view, placed_import_line, seen_lines}
+use Rattle.source_listing.proofs.Common.{rules, ap, map, string_bytes, ◌++◌, ◌∙◌, flat_map, take_all, declaration_id, declaration_view, IsContained, placed, source_view, seen_import, seen_lines}
 use Rattle.source_listing.proofs.Imported.{contained_at, finder_same, lines_of_all, one_more_seen, seen_by_finder}
 use Rattle.source_listing.proofs.imports.import_lines.Goals as goal
 
@@ -12,8 +12,8 @@ returns c =
     let s = source_view c.args.source in
     let ds = c.deref-declaration-items.result.now in
     let whole = take_all c.loop-declaration.declaration-index ds (search rules) in
-    let all = lines_of_all see s c.args.edition.now.reserved.items (placed c.args.places.now c.args.use_trees.now) ds c.args.tree.now.forest (ap (map see) c.deref-declaration-items.ensures.value ∙ c.in_ok-collected.ensures.declared) in
-    c.loop-declaration.invariant.text ∙ ap (flat_map (λ d. seen_lines s c.args.edition.now.reserved.items (placed c.args.places.now c.args.use_trees.now) (see d))) whole ∙ all
+    let all = lines_of_all see c.args.edition.now.reserved.items c.args.form s (placed c.args.places.now c.args.use_trees.now) ds c.args.tree.now.forest (ap (map see) c.deref-declaration-items.ensures.value ∙ c.in_ok-collected.ensures.declared) in
+    c.loop-declaration.invariant.text ∙ ap (flat_map (λ d. seen_lines c.args.edition.now.reserved.items c.args.form s (placed c.args.places.now c.args.use_trees.now) (see d))) whole ∙ all
 
 pub loop-declaration-preserved : goal.loop-declaration-preserved
 loop-declaration-preserved c =
@@ -25,7 +25,7 @@ loop-declaration-preserved c =
     let see = declaration_view c.args.tree.now in
     let out = string_bytes before.out in
     record {
-      text = one_more_seen (λ x. seen_lines s reserved places (see x)) c.deref-declaration-items.result.now before.declaration-index d out (string_bytes c.push_declaration.new.out) (search rules) (search rules) before.invariant.text
-          (c.in_ok-push_declaration.ensures.text ∙ ap (λ line. out ++ line) (seen_by_finder (placed_import_line s.path reserved) s.text places before.finder (see d) before.invariant.is));
+      text = one_more_seen (λ x. seen_lines reserved c.args.form s places (see x)) c.deref-declaration-items.result.now before.declaration-index d out (string_bytes c.push_declaration.new.out) (search rules) (search rules) before.invariant.text
+          (c.in_ok-push_declaration.ensures.text ∙ ap (λ line. out ++ line) (seen_by_finder (seen_import reserved c.args.form s.path (see d)) s.text places before.finder (see d) before.invariant.is));
       is = finder_same s.text places before.finder c.push_declaration.new.finder c.in_ok-push_declaration.ensures.same before.invariant.is;
     }

@@ -1,10 +1,12 @@
--- the values so far are those of the entries so far, and what finds items finds those of a tree of the table
-use Rattle.std.proofs.Common.{◌≡◌, IfSome, map, take, flat_map}
+-- the values so far and those of what is left are those of all, and what finds items finds those of a tree of the table
+use Rattle.std.proofs.Common.{◌≡◌, ◌++◌, All, IfSome, map, flat_map}
 use Rattle.serde_json.specs.View.{view}
-use Rattle.source_session.proofs.Common.{IsFinder, found_one}
+use Rattle.source_session.proofs.Common.{IsDeclared, IsFinder, found_one}
 use Rattle.source_session.proofs.found.found_values.Given as goal
 
 abbrev pub invariant-loop-entry : goal.invariant-loop-entry
-invariant-loop-entry l =
-    (map view l.values.items ≡ flat_map (found_one l.files l.sources l.texts.entries l.sought) (take l.entry-index l.entries))
-    × IfSome l.finder (IsFinder l.sources l.texts.entries)
+invariant-loop-entry l = record {
+  declared : All (IsDeclared l.sources) l.entry-iterator;
+  values : map view l.values.items ++ flat_map (found_one l.files l.sources l.texts.entries l.sought) l.entry-iterator ≡ flat_map (found_one l.files l.sources l.texts.entries l.sought) l.entries.keys;
+  finder : IfSome l.finder (IsFinder l.sources l.texts.entries);
+}

@@ -1,0 +1,6 @@
+-- the trees have what they had and the entries so far
+use Rattle.decl_index.proofs.Common.{◌≡◌, ◌||◌, take, Entry, is_entry_among, is_filed}
+use Rattle.decl_index.proofs.by_tree.file_each.Given as goal
+
+abbrev pub invariant-loop-entry : goal.invariant-loop-entry
+invariant-loop-entry l = (q : Entry) → is_filed l.trees q ≡ (is_filed l.fn.trees q || is_entry_among q (take l.entry-index l.entries))

@@ -1,0 +1,22 @@
+use Rattle.source_listing.proofs.Common.{◌++◌, ◌∙◌, rules, string_bytes, look_view, reading_view, row_view, source_view}
+use Rattle.source_listing.specs.Outlines as spec
+use Rattle.source_listing.proofs.Printers.{file_is}
+use Rattle.source_listing.proofs.Pushed.{one_more}
+use Rattle.source_listing.proofs.outlines.outline.Goals as goal
+
+pub loop-row-preserved : goal.loop-row-preserved
+loop-row-preserved c =
+    let s = source_view c.args.source in
+    let x = reading_view c.args.reading in
+    let k = look_view c.args.look in
+    let places = c.args.places.now in
+    let edition = c.args.edition.now in
+    let before = c.loop-row in
+    let is = before.invariant.is in
+    let r = c.row-item.result in
+    let out = string_bytes before.out in
+    let whole = c.in_ok-push_whole.ensures.text ∙ (λ i. out ++ spec.whole_lines (file_is s places edition before.printer is i) x (is.1 i).reserved.items (is.2.1 i) k (row_view r)) in
+    record {
+      text = one_more (spec.whole_lines s x edition.reserved.items places k) row_view c.deref-row-items.result.now before.row-index r out (string_bytes c.push_whole.new.out) c.loop-row-test.true c.row-item.is before.invariant.text whole;
+      is = search rules;
+    }
