@@ -1,7 +1,7 @@
 //! What became of a file in another, or of the files below a folder in those below another.
 use crate::commands::{FAILED, NOT_SO, or_closed};
-use crate::failure::Failure;
 use crate::escapes::Shown;
+use crate::failure::Failure;
 use crate::files::{Room, STDIN, is_a_folder};
 use crate::output::{Progress, complain, complain_of, form, write_out};
 use crate::walk::{Found, files_of_folder, with_slash};

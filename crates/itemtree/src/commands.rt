@@ -90,7 +90,15 @@ impl Run<'_> {
             Form::Json => outline_json(alloc, source, self.options, depth, has_members),
             Form::Line { is_colored } => {
                 let options = self.options;
-                outline(alloc, source, options, depth, has_members, is_colored, is_flat)
+                outline(
+                    alloc,
+                    source,
+                    options,
+                    depth,
+                    has_members,
+                    is_colored,
+                    is_flat,
+                )
             }
         }
     }

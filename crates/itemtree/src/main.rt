@@ -22,8 +22,8 @@ mod words;
 
 use crate::arguments::words;
 use crate::commands::{FAILED, run_command};
-use crate::failure::Failure;
 use crate::escapes::Shown;
+use crate::failure::Failure;
 use crate::output::{complain, write_out};
 use itemtree_options::{CommandLine, read_command_line};
 use std::fmt::Display;

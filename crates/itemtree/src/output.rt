@@ -1,6 +1,6 @@
 //! What is written on standard output, and told on standard error.
-use crate::failure::Failure;
 use crate::escapes::Shown;
+use crate::failure::Failure;
 use crate::walk::Fault;
 use itemtree_options::Asked;
 use list_forms::Form;

@@ -1,7 +1,7 @@
 //! The request in JSON that `item_tree_tool` reads.
 use crate::commands::FAILED;
-use crate::failure::Failure;
 use crate::escapes::Shown;
+use crate::failure::Failure;
 use crate::files::Room;
 use crate::output::{complain, complain_of, write_out};
 use crate::sources::files_of;

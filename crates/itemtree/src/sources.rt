@@ -1,6 +1,6 @@
 //! The files that a command line names, each once.
-use crate::failure::Failure;
 use crate::escapes::Shown;
+use crate::failure::Failure;
 use crate::files::{Room, STDIN, is_a_folder};
 use crate::walk::{Fault, FolderId, Found, files_of_folder};
 use itemtree_options::Asked;

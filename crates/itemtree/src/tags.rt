@@ -1,6 +1,6 @@
 //! The tags file.
-use crate::failure::{Failure, refusal};
 use crate::escapes::Shown;
+use crate::failure::{Failure, refusal};
 use crate::files::STDIN;
 use crate::output::{STDOUT, write_failure};
 use crate::replacing::{is_same, replace};
@@ -247,11 +247,7 @@ fn push_old(rt: &HostRuntime, path: &str, text: &mut String) -> Result<(), Failu
 /// The lines of tags, of a text behind a head, sorted and each once.
 fn sorted_lines(alloc: Global, text: &str) -> Result<Vec<&str>, AllocError> {
     let is_tag = |line: &&str| !line.starts_with(OF_HEAD) && !line.is_empty();
-    let mut lines: Vec<&str> = text
-        .lines()
-        .skip(HEAD_LINES)
-        .filter(is_tag)
-        .collect(alloc)?;
+    let mut lines: Vec<&str> = text.lines().skip(HEAD_LINES).filter(is_tag).collect(alloc)?;
     lines.sort()?;
     lines.dedup();
     Ok(lines)

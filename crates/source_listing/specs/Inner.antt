@@ -65,6 +65,7 @@ IsSameTagger old new = (new.path ≡ old.path) × (new.address ≡ old.address) 
 -- tags are of this file, with items at these places
 abbrev pub IsTaggerOf : TagFile → List ItemPlace → Tagger → Type 0
 IsTaggerOf f places t = (t.path.now ≡ f.path) × (t.address ≡ f.address) × (t.lines.text.now ≡ f.shown) × IsFinderOf f.text places t.finder
+
 -- ---- what is looked for
 
 abbrev pub split_view : code_split.Split → Split

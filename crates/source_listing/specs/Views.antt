@@ -42,6 +42,7 @@ sought_view a = record { path = string_bytes a.path; is_anywhere = a.is_anywhere
 -- a line as plain data
 abbrev pub line_view : code_line.Line → TextLine
 line_view l = record { text = l.text.now; behind = option_map (λ s. s.now) l.behind }
+
 -- the same of a path of which the last name is a glob
 abbrev pub pattern_view : code_pattern.Pattern → Pattern
 pattern_view p = record { scope = string_bytes p.scope; name = string_bytes p.name; is_anywhere = p.is_anywhere }

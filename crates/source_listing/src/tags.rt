@@ -11,9 +11,9 @@ ghost use Rattle.source_listing.specs.Inner.{IsSameTagger, tagged_file};
 ghost use Rattle.source_listing.specs.Tags as spec;
 ghost use Rattle.source_listing.specs.Views.{choice_view, source_view};
 
+use crate::line_searches::LineTexts;
 use crate::lines::Choice;
 use crate::paths::push_scope;
-use crate::line_searches::LineTexts;
 use crate::search::holder;
 use hir_input::{AstIdKind, Name};
 use item_tree::ItemTree;
