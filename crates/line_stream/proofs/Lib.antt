@@ -1,5 +1,0 @@
-pub mod Begun
-pub mod Lines
-pub mod Parts
-pub mod Served
-pub mod Common

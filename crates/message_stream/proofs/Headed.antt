@@ -1,0 +1,114 @@
+-- Parts of a message behind a header, one after another.
+use Rattle.std.proofs.Common.{◌≡◌, ◌≢◌, inl, inr, ◌+◌, ◌<◌, ◌≤◌, ℕ, List, [], ◌++◌, Option, OnSome, Result, Ok, Err, length, length-append, refl, sym, subst, ap, ◌∙◌, arith}
+use Rattle.httparse.specs.Spans.{SectionOverflows}
+use Rattle.message_stream.proofs.Common.{Consumes, Consumes-trans, IsToldOf, Message, StreamError, message_told}
+use Rattle.message_stream.proofs.Parts.{at_end}
+use Rattle.message_stream.specs.declared.error.StreamError.TheVariants.{Header}
+use Rattle.message_stream.specs.declared.headers.Head.{Head}
+use Rattle.message_stream.specs.declared.lines.Ending.{Ending}
+use Rattle.message_stream.specs.declared.lines.Ending.TheVariants.{End}
+use Rattle.message_stream.specs.declared.message.Message.TheVariants.{Whole, TooLong, OutOfMemory}
+use Rattle.message_stream.specs.declared.message.TheConstants.{MOST_MESSAGE}
+use Rattle.message_stream.specs.declared.sections.TheConstants.{MOST_FIELDS, MOST_HEADER}
+use Rattle.message_stream.specs.Exchanged.{IsNext}
+use Rattle.message_stream.specs.Headers.{IsHeaded, IsHeadedFault, IsHeader, header_frames}
+use Rattle.message_stream.specs.Inner.{Grows, HasReadHeader, IsBodySoFar, IsEndOf, IsHead, IsHeaderPart, IsPassing, IsPiece, IsSoFar}
+use Rattle.message_stream.specs.Messages.{Told, whole, too_long, no_memory}
+use Rattle.message_stream.specs.declared.framing.Next.TheVariants.{One}
+
+-- a part of a message was read when the fault came
+abbrev pub IsCutBy : (had left : Option (List ℕ)) → StreamError → Type 0
+IsCutBy had left e = (part : List ℕ) × Consumes had left part × IsHeadedFault e part
+
+-- some bytes more, and a fault that may come behind any
+pub cut_more : (had mid left : Option (List ℕ)) (e : StreamError) (read : List ℕ) → Consumes had mid read → IsPassing mid left e → IsCutBy had left e
+cut_more had mid left e read first passing = (read ++ passing.1.0, Consumes-trans had mid left read passing.1.0 first passing.1.1, passing.0 (read ++ passing.1.0))
+
+pub passing_more : (had mid left : Option (List ℕ)) (e : StreamError) (read : List ℕ) → Consumes had mid read → IsPassing mid left e → IsPassing had left e
+passing_more had mid left e read first passing = (passing.0, (read ++ passing.1.0, Consumes-trans had mid left read passing.1.0 first passing.1.1))
+
+-- a part of a header more
+pub header_more : (had mid left : Option (List ℕ)) (old new : List ℕ) (ending : Ending) → Consumes had mid old → IsHeaderPart mid left old new ending → Consumes had left new
+header_more had mid left old new ending first part = subst (Consumes had left) (sym part.longer) (Consumes-trans had mid left old part.part first part.read)
+
+pub header_whole : (had mid left : Option (List ℕ)) (old new bytes : List ℕ) (ending : Ending) (n : ℕ) → bytes ≡ new → Consumes had mid old → IsHeaderPart mid left old new ending → IsHeader bytes n
+    → (all : List ℕ) × Consumes had left all × IsHeader all n
+header_whole had mid left old new bytes ending n same first part is = (new, header_more had mid left old new ending first part, subst (λ b. IsHeader b n) same is)
+
+-- no header begins so
+pub header_wrong : (had mid left : Option (List ℕ)) (old new bytes : List ℕ) (ending : Ending) → bytes ≡ new → Consumes had mid old → IsHeaderPart mid left old new ending → SectionOverflows MOST_FIELDS bytes
+    → IsCutBy had left Header
+header_wrong had mid left old new bytes ending same first part none = (new, header_more had mid left old new ending first part, inl (subst (SectionOverflows MOST_FIELDS) same none))
+
+pub header_long : (had mid left : Option (List ℕ)) (old new : List ℕ) (ending : Ending) → Consumes had mid old → IsHeaderPart mid left old new ending → MOST_HEADER < length new → IsCutBy had left Header
+header_long had mid left old new ending first part long = (new, header_more had mid left old new ending first part, inr long)
+
+pub header_end : (had mid left : Option (List ℕ)) (old new bytes : List ℕ) (result : Result Head StreamError) → bytes ≡ new → Consumes had mid old → IsHeaderPart mid left old new End → IsEndOf bytes result
+    → HasReadHeader had left result
+header_end had mid left old new bytes (Ok h) same first part (is, none) =
+    subst (IsHead had left) (sym is) (subst (Consumes had left) (sym same ∙ none) (header_more had mid left old new End first part), at_end had mid left old first part.at_end)
+header_end had mid left old new bytes (Err e) same first part any = (new, header_more had mid left old new End first part, any new)
+
+-- ---- bodies
+
+so_far_of : (said : ℕ) (read : List ℕ) (told : Told) → length read ≤ said → said ≤ MOST_MESSAGE → IsToldOf read told → IsSoFar said read told
+so_far_of said read (whole bytes) within short is = (is.0, short)
+so_far_of said read too_long within short is = omega (arith, within, is)
+so_far_of said read no_memory within short is = omega (arith, within, is)
+
+-- a piece more of what is told of a body
+pub piece_grows : (old new : Message) (part before : List ℕ) (said : ℕ) → Grows old part new → (old ≡ TooLong → new ≡ TooLong) → (old ≡ OutOfMemory → new ≡ OutOfMemory)
+    → length (before ++ part) ≤ said
+    → IsBodySoFar said before old → IsBodySoFar said (before ++ part) new
+piece_grows (Whole bytes) new part before said grows stays wants within is =
+    so_far_of said (before ++ part) (message_told new) within is.1
+    (grows before (is.0, omega (arith, length-append before part, within, is.1)))
+piece_grows TooLong new part before said grows stays wants within is = subst (IsBodySoFar said (before ++ part)) (sym (stays refl)) is
+piece_grows OutOfMemory new part before said grows stays wants within is = subst (IsBodySoFar said (before ++ part)) (sym (wants refl)) is
+
+within_of : (a b n m said : ℕ) → m ≡ a + b → b ≤ n → a + n ≤ said → m ≤ said
+within_of a b n m said e f h = omega (arith, e, f, h)
+
+part_within : (a c n : ℕ) → a + c ≡ n → a ≤ n
+part_within a c n e = omega (arith, e)
+
+-- the bytes of a piece
+pub piece_of : (had left : Option (List ℕ)) (old new : Message) (part : List ℕ) (wanted wants : ℕ) → Consumes had left part → length part + wants ≡ wanted
+    → Grows old part new → (old ≡ TooLong → new ≡ TooLong) → (old ≡ OutOfMemory → new ≡ OutOfMemory) → IsPiece had left old wanted new wants
+piece_of had left old new part wanted wants read fewer grows stays lacks = record {
+  part = part;
+  read = read;
+  fewer = fewer;
+  grows = λ said before within is.
+      piece_grows old new part before said grows stays lacks
+      (within_of (length before) (length part) wanted (length (before ++ part)) said (length-append before part) (part_within (length part) wants wanted fewer) within) is;
+}
+
+sum_of : (a b c n m : ℕ) → m ≡ a + b → b + c ≡ n → m + c ≡ a + n
+sum_of a b c n m e f = omega (arith, e, f)
+
+-- a piece of a body more
+pub body_more : (had mid left : Option (List ℕ)) (said wanted wants : ℕ) (old new : Message) (read : List ℕ) → Consumes had mid read → length read + wanted ≡ said → IsBodySoFar said read old
+    → IsPiece mid left old wanted new wants → (all : List ℕ) × Consumes had left all × (length all + wants ≡ said) × IsBodySoFar said all new
+body_more had mid left said wanted wants old new read first sum so_far piece = (
+  read ++ piece.part,
+  Consumes-trans had mid left read piece.part first piece.read,
+  sum_of (length read) (length piece.part) wants wanted (length (read ++ piece.part)) (length-append read piece.part) piece.fewer ∙ sum,
+  piece.grows said read (omega (arith, sum)) so_far,
+)
+
+told_of : (n : ℕ) (body : List ℕ) (told : Told) → length body ≡ n → IsSoFar n body told → IsToldOf body told
+told_of n body (whole bytes) long is = (is.0, omega (arith, long, is.1))
+told_of n body too_long long is = omega (arith, long, is)
+told_of n body no_memory long is = omega (arith, long, is)
+
+-- a whole message
+pub message_of : (had mid left : Option (List ℕ)) (n : ℕ) (told : Message) (header body : List ℕ) → Consumes had mid header → IsHeader header n → Consumes mid left body → length body ≡ n → IsBodySoFar n body told
+    → IsNext header_frames had left (One told)
+message_of had mid left n told header body first is then long so_far = (
+  header ++ body,
+  body,
+  Consumes-trans had mid left header body first then,
+  (header, refl, subst (IsHeader header) (sym long) is),
+  told_of n body (message_told told) long so_far,
+)

@@ -1,0 +1,9 @@
+pub mod Begun
+pub mod FedLines
+pub mod Parts
+pub mod Headed
+pub mod Unique
+pub mod Framed
+pub mod Served
+pub mod Each
+pub mod Common

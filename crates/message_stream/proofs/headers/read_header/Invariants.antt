@@ -1,0 +1,6 @@
+-- the bytes of the header so far were read
+use Rattle.std.specs.Io.KnownBytes.{Consumes}
+use Rattle.message_stream.proofs.headers.read_header.Given as goal
+
+abbrev pub invariant-loop-turn : goal.invariant-loop-turn
+invariant-loop-turn g l = Consumes (g.R.Read.remaining l.initial.input) (g.R.Read.remaining l.input) l.header.items

@@ -1,0 +1,19 @@
+-- What a service answers.
+use Rattle.std.specs.Prelude.{◌≡◌, ℕ, List, [], ◌∷◌, map, string_bytes}
+use Rattle.message_stream.specs.declared.service.Answer.{Answer}
+use Rattle.message_stream.specs.declared.service.Answer.TheVariants.{Made, Fixed, Several}
+use Rattle.message_stream.specs.Messages.{Told}
+
+-- the bytes of the texts of an answer
+abbrev pub answer_texts : Answer → List (List ℕ)
+answer_texts (Made text) = string_bytes text ∷ []
+answer_texts (Fixed text) = text.now ∷ []
+answer_texts (Several texts) = map string_bytes texts.items
+
+-- the answers of a service: as it stands, it may answer what it is told by these texts, and then stands so
+abbrev pub Answering : Type 0 → Type 1
+Answering S = S → Told → S → List (List ℕ) → Type 0
+
+-- those of a service that answers each message by one text
+abbrev pub OneEach : {S : Type 0} → (S → Told → S → List ℕ → Type 0) → Answering S
+OneEach Answers old said new texts = (text : List ℕ) × (texts ≡ text ∷ []) × Answers old said new text

@@ -1,0 +1,91 @@
+//! A conversation over a reader and a writer.
+ghost use Rattle.std.specs.Prelude.{flat_map, map, string_bytes};
+ghost use Rattle.message_stream.specs.Answers.{answer_texts};
+ghost use Rattle.message_stream.specs.Exchanged.{HasWritten};
+ghost use Rattle.message_stream.specs.Inner.{HasAnswered};
+ghost use Rattle.message_stream.specs.Served.{HasServed};
+
+use crate::error::StreamError;
+use crate::framing::{Framing, Next};
+use crate::message::Message;
+use crate::service::{Answer, Service};
+use std::alloc::Global;
+use std::io::{BufRead, Write};
+
+pub(crate) const MOST_MESSAGES: u64 = u64::MAX;
+
+// The texts, each as a message, or after a failure a beginning of them.
+fn write_texts<F: Framing, W: Write>(
+    framing: &F,
+    output: &mut W,
+    texts: &[String],
+) -> Result<(), StreamError>
+    ensures { HasWritten result (W.contents output.old) (W.contents output.new)
+        (flat_map F.frames.framed (map string_bytes texts.now)) }
+{
+    for text in texts {
+        framing.write(output, text.as_bytes())?;
+    }
+    Ok(())
+}
+
+fn write_answer<F: Framing, W: Write>(
+    framing: &F,
+    output: &mut W,
+    answer: &Answer,
+) -> Result<(), StreamError>
+    ensures { HasWritten result (W.contents output.old) (W.contents output.new)
+        (flat_map F.frames.framed (answer_texts answer.now)) }
+{
+    match answer {
+        Answer::Made(text) => framing.write(output, text.as_bytes()),
+        Answer::Fixed(text) => framing.write(output, text.as_bytes()),
+        Answer::Several(texts) => write_texts(framing, output, texts),
+    }
+}
+
+fn answer_message<F: Framing, W: Write, S: Service>(
+    alloc: Global,
+    framing: &F,
+    output: &mut W,
+    service: &mut S,
+    message: Message,
+) -> Result<(), StreamError>
+    ensures { HasAnswered F.frames S.answers result service.old message service.new
+        (W.contents output.old) (W.contents output.new) }
+{
+    let answer = service.answer(alloc, message);
+    write_answer(framing, output, &answer)
+}
+
+/// Answers each message of `input` on `output`, by messages that are written whole and flushed before the next one is
+/// read, up to the end of `input`.
+///
+/// A message for which there is no memory, or that is too long, is passed over, and `service` is told so. After `Write`
+/// all messages but the last one that was read have their answers on `output`, and of the last answer there is a
+/// beginning; after each other error each whole message that was read has its answer there.
+///
+/// At most 2^64 - 1 messages are read, each by at most as many reads, and a text is written by at most as many
+/// writes (law `limits`): a reader or a writer that takes more is answered as one that failed. The clause speaks of the
+/// bytes of a reader and a writer that tell them: of another reader it says that there are such bytes, of another
+/// writer nothing. That an answer is flushed no clause can say.
+pub fn serve<F: Framing, R: BufRead, W: Write, S: Service>(
+    alloc: Global,
+    framing: &F,
+    input: &mut R,
+    output: &mut W,
+    service: &mut S,
+) -> Result<(), StreamError>
+    ensures { HasServed F.frames S.answers result service.old service.new (R.remaining input.old)
+        (R.remaining input.new)
+        (W.contents output.old) (W.contents output.new) }
+{
+    for _message in 0..MOST_MESSAGES {
+        match framing.next(alloc, input)? {
+            Next::One(message) => answer_message(alloc, framing, output, service, message)?,
+            Next::Last(message) => return answer_message(alloc, framing, output, service, message),
+            Next::Nothing => return Ok(()),
+        }
+    }
+    Err(StreamError::Read)
+}

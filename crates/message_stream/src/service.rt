@@ -1,0 +1,30 @@
+//! What answers messages.
+use crate::message::Message;
+use std::alloc::Global;
+
+/// The texts of an answer.
+#[derive(Debug, Drop)]
+pub enum Answer {
+    /// A text that was made.
+    Made(String),
+    /// A fixed text, for which no memory is wanted.
+    Fixed(&'static str),
+    /// So many texts, of which there may be none.
+    Several(Vec<String>),
+}
+
+/// What answers the messages of a conversation.
+pub trait Service {
+    ghost use Rattle.message_stream.specs.Answers.{Answering, answer_texts};
+    ghost use Rattle.message_stream.specs.Messages.{message_told};
+
+    // The service before an answer, what it is told of a message, the service after it, and the texts.
+    ghost answers: { Answering Self };
+
+    /// Answers a message.
+    ///
+    /// Each text is to be a message of the framing: over lines it has no line feed. Where memory runs out for an
+    /// answer, a fixed text can say so.
+    fn answer(&mut self, alloc: Global, message: Message) -> Answer
+        ensures { answers self.old (message_told message) self.new (answer_texts result) };
+}
