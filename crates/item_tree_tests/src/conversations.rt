@@ -1,8 +1,8 @@
-//! What no clause says: that answers are flushed, and what becomes of long lines and failures at a concrete service.
+//! What no clause says: that answers are flushed, and what becomes of long messages and failures at concrete services.
 ghost use Rattle.std.specs.Prelude.{◌≡◌};
-ghost use Rattle.line_stream.specs.Lines.{Told};
+ghost use Rattle.message_stream.specs.Messages.{Told};
 
-use line_stream::{Answer, Line, MOST_LINE, Service, StreamError, serve};
+use message_stream::{Answer, Headers, Lines, MOST_MESSAGE, Message, Service, StreamError, serve};
 use std::alloc::Global;
 use std::io::{self, BufRead, BufReader, Read, Write};
 use std::test::Fail;
@@ -15,19 +15,52 @@ struct Echo {
 
 impl Service for Echo {
     ghost use Rattle.std.specs.Prelude.{codes};
-    ghost use Rattle.line_stream.specs.Lines.{Told};
+    ghost use Rattle.message_stream.specs.Messages.{Told};
 
     ghost answers = { λ _ said _ text. said ≡ Told.too_long → text ≡ codes "too long" };
 
-    fn answer(&mut self, _alloc: Global, line: Line) -> Answer {
+    fn answer(&mut self, _alloc: Global, message: Message) -> Answer {
         self.answered = self.answered.saturating_add(1);
-        match line {
-            Line::Whole(bytes) => match String::from_utf8(bytes) {
+        match message {
+            Message::Whole(bytes) => match String::from_utf8(bytes) {
                 Ok(text) => Answer::Made(text),
                 Err(_) => Answer::Fixed("no text"),
             },
-            Line::TooLong => Answer::Fixed("too long"),
-            Line::OutOfMemory => Answer::Fixed("out of memory"),
+            Message::TooLong => Answer::Fixed("too long"),
+            Message::OutOfMemory => Answer::Fixed("out of memory"),
+        }
+    }
+}
+
+// Answers a message of text by itself, twice, and `quiet` by nothing.
+#[derive(Drop)]
+struct Twice;
+
+fn doubled(alloc: Global, text: String) -> Answer {
+    let Ok(copy) = text.clone() else {
+        return Answer::Fixed("out of memory");
+    };
+    match Vec::from_array(alloc, [text, copy]) {
+        Ok(texts) => Answer::Several(texts),
+        Err(_) => Answer::Fixed("out of memory"),
+    }
+}
+
+impl Service for Twice {
+    ghost use Rattle.std.specs.Prelude.{[]};
+    ghost use Rattle.message_stream.specs.Messages.{Told};
+
+    ghost answers = { λ _ said _ texts. said ≡ Told.too_long → texts ≡ [] };
+
+    fn answer(&mut self, alloc: Global, message: Message) -> Answer {
+        match message {
+            Message::Whole(bytes) => match String::from_utf8(bytes) {
+                Ok(text) if text.as_str() == "quiet" => Answer::Several(Vec::new(alloc)),
+                Ok(text) => doubled(alloc, text),
+                Err(_) => Answer::Fixed("no text"),
+            },
+            Message::TooLong => Answer::Several(Vec::new(alloc)),
+            Message::OutOfMemory => Answer::Fixed("out of memory"),
         }
     }
 }
@@ -123,7 +156,7 @@ fn answers_each_line(rt: HostRuntime) -> Result<(), Fail> {
     ] {
         let mut echo = Echo { answered: 0 };
         let mut written = Vec::new(alloc);
-        let served = serve(alloc, &mut input.as_bytes(), &mut written, &mut echo);
+        let served = serve(alloc, &Lines, &mut input.as_bytes(), &mut written, &mut echo);
         assert!(rt; served.is_ok(), "{input}");
         assert!(rt; written.as_slice() == output.as_bytes(), "{input}");
         assert_eq!(rt; echo.answered, count, "{input}");
@@ -142,6 +175,7 @@ fn flushes_before_a_read(rt: HostRuntime) -> Result<(), Fail> {
     let mut screen = Screen::new(alloc, 100);
     let served = serve(
         alloc,
+        &Lines,
         &mut BufReader::new(alloc, failing)?,
         &mut screen,
         &mut echo,
@@ -158,6 +192,7 @@ fn stops_at_a_failed_write(rt: HostRuntime) -> Result<(), Fail> {
     let mut screen = Screen::new(alloc, 4);
     let served = serve(
         alloc,
+        &Lines,
         &mut "first\nsecond\nthird\n".as_bytes(),
         &mut screen,
         &mut echo,
@@ -172,11 +207,11 @@ fn stops_at_a_failed_write(rt: HostRuntime) -> Result<(), Fail> {
 #[test]
 fn passes_over_a_long_line(rt: HostRuntime) -> Result<(), Fail> {
     let alloc = rt.alloc();
-    let long = io::repeat(b'x').take(MOST_LINE as u64 + 1);
+    let long = io::repeat(b'x').take(MOST_MESSAGE as u64 + 1);
     let mut input = BufReader::new(alloc, long)?.chain("\nshort\n".as_bytes());
     let mut echo = Echo { answered: 0 };
     let mut written = Vec::new(alloc);
-    let served = serve(alloc, &mut input, &mut written, &mut echo);
+    let served = serve(alloc, &Lines, &mut input, &mut written, &mut echo);
     assert!(rt; served.is_ok());
     assert!(rt; written.as_slice() == "too long\nshort\n".as_bytes());
     Ok(())
@@ -190,6 +225,7 @@ fn answers_without_memory(rt: HostRuntime) -> Result<(), Fail> {
     let mut feeds = Feeds { count: 0 };
     let served = serve(
         alloc,
+        &Lines,
         &mut "one\ntwo\nthree".as_bytes(),
         &mut feeds,
         &mut echo,
@@ -197,5 +233,73 @@ fn answers_without_memory(rt: HostRuntime) -> Result<(), Fail> {
     assert!(rt; served.is_ok());
     assert_eq!(rt; feeds.count, 3);
     assert_eq!(rt; echo.answered, 3);
+    Ok(())
+}
+
+#[test]
+fn answers_behind_headers(rt: HostRuntime) -> Result<(), Fail> {
+    let alloc = rt.alloc();
+    let one = "Content-Length: 3\r\n\r\none";
+    for (input, output) in [
+        ("", ""),
+        ("CONTENT-LENGTH: +3\nOther: 4\n\none", "Content-Length: 3\r\n\r\noneContent-Length: 3\r\n\r\none"),
+        ("Content-Length: 5\r\n\r\nquiet", ""),
+        ("Content-Length: 0\r\n\r\n", "Content-Length: 0\r\n\r\nContent-Length: 0\r\n\r\n"),
+    ] {
+        let mut written = Vec::new(alloc);
+        let served = serve(alloc, &Headers, &mut input.as_bytes(), &mut written, &mut Twice);
+        assert!(rt; served.is_ok(), "{input}");
+        assert!(rt; written.as_slice() == output.as_bytes(), "{input}");
+    }
+    for (input, error) in [
+        ("Content-Length: 3\r\n\r\non", StreamError::Cut),
+        ("Content-Length: 3\r\n", StreamError::Cut),
+        ("Content-Length\r\n\r\n", StreamError::Header),
+        ("Other: 3\r\n\r\none", StreamError::Length),
+        ("Content-Length: -3\r\n\r\none", StreamError::Length),
+    ] {
+        let mut written = Vec::new(alloc);
+        let mut both = one.as_bytes().chain(input.as_bytes());
+        let served = serve(alloc, &Headers, &mut both, &mut written, &mut Twice);
+        assert!(rt; served == Err(error), "{input}");
+        assert!(rt; written.as_slice() == "Content-Length: 3\r\n\r\noneContent-Length: 3\r\n\r\none".as_bytes(), "{input}");
+    }
+    Ok(())
+}
+
+// Three bytes a write, and two a read with interruptions between them.
+#[test]
+fn reads_and_writes_in_pieces(rt: HostRuntime) -> Result<(), Fail> {
+    let alloc = rt.alloc();
+    let failing = Failing {
+        rest: b"Content-Length: 4\r\n\r\nlineContent-Length: 9",
+        is_interrupted: false,
+    };
+    let mut screen = Screen::new(alloc, 100);
+    let served = serve(
+        alloc,
+        &Headers,
+        &mut BufReader::new(alloc, failing)?,
+        &mut screen,
+        &mut Twice,
+    );
+    assert!(rt; matches!(served, Err(StreamError::Read)));
+    assert!(rt; screen.shown.as_slice() == "Content-Length: 4\r\n\r\nlineContent-Length: 4\r\n\r\nline".as_bytes());
+    Ok(())
+}
+
+#[test]
+fn passes_over_a_long_message(rt: HostRuntime) -> Result<(), Fail> {
+    let alloc = rt.alloc();
+    let long = io::repeat(b'x').take(MOST_MESSAGE as u64 + 1);
+    let mut input = "Content-Length: 67108865\r\n\r\n"
+        .as_bytes()
+        .chain(BufReader::new(alloc, long)?)
+        .chain("Content-Length: 5\r\n\r\nshort".as_bytes());
+    let mut echo = Echo { answered: 0 };
+    let mut written = Vec::new(alloc);
+    let served = serve(alloc, &Headers, &mut input, &mut written, &mut echo);
+    assert!(rt; served.is_ok());
+    assert!(rt; written.as_slice() == "Content-Length: 8\r\n\r\ntoo longContent-Length: 5\r\n\r\nshort".as_bytes());
     Ok(())
 }

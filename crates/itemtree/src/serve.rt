@@ -1,5 +1,6 @@
 //! Requests line by line, over standard input and output.
 use crate::failure::Failure;
+use message_stream::{Lines, serve};
 use source_session::Conversation;
 use std::io::BufReader;
 
@@ -12,7 +13,7 @@ pub(crate) fn answer_lines(rt: &HostRuntime) -> Result<u8, Failure> {
     // Standard input alone reads a byte at a time from a pipe.
     let mut input = BufReader::new(alloc, rt.stdin())?;
     let mut conversation = Conversation::new();
-    match line_stream::serve(alloc, &mut input, &mut rt.stdout(), &mut conversation) {
+    match serve(alloc, &Lines, &mut input, &mut rt.stdout(), &mut conversation) {
         Ok(()) => Ok(0),
         Err(error) => {
             let _ = eprintln!(rt; "itemtree: {error}");

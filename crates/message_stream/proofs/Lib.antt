@@ -3,6 +3,7 @@ pub mod FedLines
 pub mod Parts
 pub mod Headed
 pub mod Unique
+pub mod Written
 pub mod Framed
 pub mod Served
 pub mod Each

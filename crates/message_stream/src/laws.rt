@@ -1,8 +1,8 @@
 //! What holds of messages, and of the errors: `==` decides whether two are one, and a copy is its source. The functions
 //! do nothing.
-ghost use Rattle.std.specs.Prelude.{◌≡◌, ◌++◌, ◌*◌, ◌-◌, ◌^◌, ◌∷◌, [], ℕ, List, Decides};
+ghost use Rattle.std.specs.Prelude.{◌≡◌, ◌<◌, ◌++◌, ◌*◌, ◌-◌, ◌^◌, ◌∷◌, [], ℕ, List, Decides, length};
 ghost use Rattle.message_stream.specs.Frames.{AreMessages};
-ghost use Rattle.message_stream.specs.Headers.{IsHeaded};
+ghost use Rattle.message_stream.specs.Headers.{IsHeaded, headed};
 ghost use Rattle.message_stream.specs.Lines.{IsLastLine, IsWhole, line_frames, lines as lines_of};
 
 use crate::conversation::MOST_MESSAGES;
@@ -41,8 +41,9 @@ fn lines()
         → lines_of (bytes ++ rest) ≡ messages ++ line ∷ [] }
 {}
 
-// Bytes begin with one message behind a header at most, whatever follows it.
+// Bytes begin with one message behind a header at most, whatever follows it, and a text behind its header is one.
 fn headers()
-    ensures { (one other message said rest more : List ℕ) → IsHeaded one message
+    ensures one { (one other message said rest more : List ℕ) → IsHeaded one message
         → IsHeaded other said → one ++ rest ≡ other ++ more → (one ≡ other) × (message ≡ said) }
+    ensures written { (text : List ℕ) → length text < 2 ^ 64 → IsHeaded (headed text) text }
 {}

@@ -7,7 +7,8 @@ use Rattle.json.specs.Print.{escape_letter, escape_byte, escape, quoted}
 use Rattle.serde_json.specs.Data.{Num, unsigned, negative, float, Data, null, boolean, number, string, array, object, Items, no_items, item, Members, no_members, member}
 use Rattle.serde_json.specs.View.{items_of}
 use Rattle.serde_json.specs.Written.{number_text as digits_text, comma_if, compact_text, items_text, members_text}
-use Rattle.line_stream.specs.Lines.{HasNoFeed, Told}
+use Rattle.message_stream.specs.Lines.{HasNoFeed}
+use Rattle.message_stream.specs.Messages.{Told}
 use Rattle.source_session.specs.Errors.{error_form}
 use Rattle.source_session.specs.Replies.{number_text, outcome_text}
 

@@ -5,8 +5,11 @@ use Rattle.serde_json.specs.Data.{Data, Members}
 use Rattle.serde_json.specs.Find.{as_object}
 use Rattle.serde_json.specs.Written.{has_float}
 use Rattle.item_tree_request.specs.Requests.{IsJsonText}
-use Rattle.line_stream.specs.Lines.{Told, whole, too_long, no_memory, IsToldOf}
-use Rattle.line_stream.specs.Served.{IsServed}
+use Rattle.message_stream.specs.Answers.{OneEach}
+use Rattle.message_stream.specs.Lines.{IsServedEach, fed}
+use Rattle.message_stream.specs.Messages.{Told, whole, too_long, no_memory, IsToldOf}
+use Rattle.message_stream.specs.Served.{IsServed}
+use Rattle.message_stream.proofs.Each.{served_each}
 use Rattle.source_session.specs.Histories.{Says, Exchange, answer_of, AsksNext, AsksFirst, StandAll, StandFirst, Stand, StandOf, IsLedOn, AreOf, OpensNone, IsLedByAnswers, IsLedOnByAnswers}
 use Rattle.source_session.proofs.Made.{same_length}
 use Rattle.source_session.proofs.Meant.{meant_over}
@@ -216,11 +219,11 @@ are_more x xs lines text later parts are = (
   parts ∙ sym (append_assoc x.answer (10 ∷ []) later) ∙ ap (λ z. answer_of x ++ z) are.1,
 )
 
-pub goes_on : (s : Session) (lines : List (List ℕ)) (new : Open) (text : List ℕ) → IsServed Replies (Some s) lines new text → IsLedOnByAnswers s lines text new
+goes_on : (s : Session) (lines : List (List ℕ)) (new : Open) (text : List ℕ) → IsServedEach Replies (Some s) lines new text → IsLedOnByAnswers s lines text new
 goes_on s [] new text h = ([], (refl, h.1), record { session = s; is_open = h.0; edits = []; changes = []; made = made_none s; stand = (refl, refl) })
 goes_on s (line ∷ lines) new text h =
     let a = goes_line s line h.0 h.1 h.2 h.4 h.5 in
-    let rest = goes_on a.holds.0 lines new h.3 (subst (λ o. IsServed Replies o lines new h.3) a.holds.1 h.7) in (
+    let rest = goes_on a.holds.0 lines new h.3 (subst (λ o. IsServedEach Replies o lines new h.3) a.holds.1 h.7) in (
       exchange_of line h.2 a ∷ rest.0,
       are_more (exchange_of line h.2 a) rest.0 lines text h.3 h.6 rest.1,
       led_further (AsksNext s.count) s a.holds.0 (exchange_of line h.2 a) rest.0 new a.holds.2 rest.2,
@@ -239,11 +242,19 @@ opened_more x lines text later next new parts o rest =
     let led = led_further (AsksFirst o.0) (new_session o.0) o.3.0 x rest.0 new o.3.2 rest.2 in
     (x ∷ rest.0, are_more x rest.0 lines text later parts rest.1, inr (record { settings = o.0; asked = o.1; opens = o.2; led = led }))
 
-pub led_by_answers : (lines : List (List ℕ)) (new : Open) (text : List ℕ) → IsServed Replies None lines new text → IsLedByAnswers lines text new
+led_by_answers : (lines : List (List ℕ)) (new : Open) (text : List ℕ) → IsServedEach Replies None lines new text → IsLedByAnswers lines text new
 led_by_answers [] new text h = ([], (refl, h.1), h.0)
 led_by_answers (line ∷ lines) new text h =
     let a = begins_line line h.0 h.1 h.2 h.4 h.5 in
     elim a.holds as (λ _. IsLedByAnswers (line ∷ lines) text new) [
-      | inl n ↦ none_more (exchange_of line h.2 a) lines text h.3 new h.6 n.1 (led_by_answers lines new h.3 (subst (λ o. IsServed Replies o lines new h.3) n.0 h.7))
-      | inr o ↦ opened_more (exchange_of line h.2 a) lines text h.3 h.1 new h.6 o (goes_on o.3.0 lines new h.3 (subst (λ o. IsServed Replies o lines new h.3) o.3.1 h.7))
+      | inl n ↦ none_more (exchange_of line h.2 a) lines text h.3 new h.6 n.1 (led_by_answers lines new h.3 (subst (λ o. IsServedEach Replies o lines new h.3) n.0 h.7))
+      | inr o ↦ opened_more (exchange_of line h.2 a) lines text h.3 h.1 new h.6 o (goes_on o.3.0 lines new h.3 (subst (λ o. IsServedEach Replies o lines new h.3) o.3.1 h.7))
     ]
+
+-- ---- the texts of the answers, each on its line
+
+pub led_on_by_texts : (s : Session) (lines : List (List ℕ)) (new : Open) (text : List ℕ) → IsServed fed (OneEach Replies) (Some s) lines new text → IsLedOnByAnswers s lines text new
+led_on_by_texts s lines new text served = goes_on s lines new text (served_each Replies (Some s) new lines text served)
+
+pub led_by_texts : (lines : List (List ℕ)) (new : Open) (text : List ℕ) → IsServed fed (OneEach Replies) None lines new text → IsLedByAnswers lines text new
+led_by_texts lines new text served = led_by_answers lines new text (served_each Replies None new lines text served)

@@ -8,8 +8,7 @@ use Rattle.serde_json.specs.Written.{compact_text, has_float}
 use Rattle.hir_input_json.specs.Reading.{Reading, right, wrong, pointer_behind, ◌>>=◌}
 use Rattle.hir_input_json.specs.Forms.{field}
 use Rattle.item_tree_request.specs.Requests.{IsJsonText}
-use Rattle.line_stream.specs.Answers.{Answering}
-use Rattle.line_stream.specs.Lines.{Told, whole, too_long, no_memory}
+use Rattle.message_stream.specs.Messages.{Told, whole, too_long, no_memory}
 use Rattle.source_session.specs.declared.error.LineError.{LineError}
 use Rattle.source_session.specs.declared.error.LineError.TheVariants.{NotJson, NotRequest, TooLong, OutOfMemory}
 use Rattle.source_session.specs.Errors.{error_form}
@@ -135,5 +134,5 @@ IsReply old too_long new r = IsRefusedAs TooLong old new r
 IsReply old no_memory new r = IsRefusedAs OutOfMemory old new r
 
 -- the answers of a conversation: the text of a reply, or the text for out of memory
-abbrev pub Replies : Answering Open
+abbrev pub Replies : Open → Told → Open → List ℕ → Type 0
 Replies old told new text = (r : Reply) × IsReply old told new r × ((text ≡ reply_text r.id (reply_number new) r.outcome) ⊎ (text ≡ out_of_memory))

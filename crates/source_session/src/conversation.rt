@@ -4,7 +4,7 @@ ghost use Rattle.serde_json.specs.Data.{null};
 ghost use Rattle.serde_json.specs.View.{view};
 ghost use Rattle.serde_json.specs.Written.{has_float};
 ghost use Rattle.hir_input_json.specs.Held.{held};
-ghost use Rattle.line_stream.specs.Lines.{line_told};
+ghost use Rattle.message_stream.specs.Messages.{message_told};
 ghost use Rattle.source_session.specs.Inner.{IsUnfloating, outcome_view, reply_view};
 ghost use Rattle.source_session.specs.LineViews.{asked_view, IsOwn};
 ghost use Rattle.source_session.specs.Replies.{IsCarriedOut, IsOutcome, IsReply, IsReplyTo, IsValueReply, IsWanting};
@@ -18,7 +18,7 @@ use crate::session::Session;
 use hir_input_json::Fault;
 use hir_input_json::float::has_float;
 use hir_input_json::member::{members_of, taken};
-use line_stream::{Answer, Line, Service};
+use message_stream::{Answer, Message, Service};
 use serde_json::Value;
 use std::alloc::Global;
 use std::marker::Model;
@@ -140,15 +140,15 @@ impl Conversation {
     }
 
     // Answers a line.
-    fn reply(&mut self, alloc: Global, line: Line) -> Reply
-        ensures reply { IsReply self.old (line_told line) self.new (reply_view result) }
+    fn reply(&mut self, alloc: Global, line: Message) -> Reply
+        ensures reply { IsReply self.old (message_told line) self.new (reply_view result) }
         ensures id { has_float (view result.id) ≡ false }
         ensures outcome { IsUnfloating result.outcome }
     {
         let bytes = match line {
-            Line::Whole(bytes) => bytes,
-            Line::TooLong => return refused(LineError::TooLong),
-            Line::OutOfMemory => return refused(LineError::OutOfMemory),
+            Message::Whole(bytes) => bytes,
+            Message::TooLong => return refused(LineError::TooLong),
+            Message::OutOfMemory => return refused(LineError::OutOfMemory),
         };
         match Value::from_slice(alloc, &bytes) {
             Ok(value) => self.value_reply(alloc, value),
@@ -170,11 +170,12 @@ impl Conversation {
 }
 
 impl Service for Conversation {
+    ghost use Rattle.message_stream.specs.Answers.{OneEach};
     ghost use Rattle.source_session.specs.Replies.{Replies};
 
-    ghost answers = { Replies };
+    ghost answers = { OneEach Replies };
 
-    fn answer(&mut self, alloc: Global, line: Line) -> Answer {
+    fn answer(&mut self, alloc: Global, line: Message) -> Answer {
         let reply = self.reply(alloc, line);
         match reply_text(alloc, reply, self.number()) {
             Ok(text) => Answer::Made(text),

@@ -2,8 +2,10 @@
 //! nothing.
 ghost use Rattle.std.specs.Prelude.{ℕ, List, None, Some};
 ghost use Rattle.hir_input.specs.Equality.{IsCopied};
-ghost use Rattle.line_stream.specs.Lines.{HasNoFeed, Told};
-ghost use Rattle.line_stream.specs.Served.{IsServed};
+ghost use Rattle.message_stream.specs.Answers.{OneEach};
+ghost use Rattle.message_stream.specs.Lines.{HasNoFeed, fed};
+ghost use Rattle.message_stream.specs.Messages.{Told};
+ghost use Rattle.message_stream.specs.Served.{IsServed};
 ghost use Rattle.source_session.specs.Histories.{IsLedByAnswers, IsLedOnByAnswers};
 ghost use Rattle.source_session.specs.Replies.{Open, Replies};
 ghost use Rattle.source_session.specs.Sessions.{Session};
@@ -14,10 +16,10 @@ use crate::splice::ChangeFault;
 // open session.
 fn conversations()
     ensures led { (lines : List (List ℕ)) (new : Open) (text : List ℕ)
-        → IsServed Replies None lines new text
+        → IsServed fed (OneEach Replies) None lines new text
         → IsLedByAnswers lines text new }
     ensures led_on { (s : Session) (lines : List (List ℕ)) (new : Open) (text : List ℕ)
-        → IsServed Replies (Some s) lines new text
+        → IsServed fed (OneEach Replies) (Some s) lines new text
         → IsLedOnByAnswers s lines text new }
 {}
 

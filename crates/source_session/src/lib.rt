@@ -1,5 +1,5 @@
 //! Requests line by line over one table of item trees that lives from line to line, with files as Rust source:
-//! `Conversation` is a service of `line_stream`.
+//! `Conversation` is a service of `message_stream`.
 #![tactic(auto)]
 
 mod conversation;

@@ -1,5 +1,6 @@
 use Rattle.message_stream.proofs.Unique.{one_message}
+use Rattle.message_stream.proofs.Written.{headed_is}
 use Rattle.message_stream.proofs.laws.headers.Goals as goal
 
 pub returns : goal.returns
-returns c = one_message
+returns c = record { one = one_message; written = headed_is }

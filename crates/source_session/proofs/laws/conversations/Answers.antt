@@ -1,5 +1,5 @@
-use Rattle.source_session.proofs.Histories.{goes_on, led_by_answers}
+use Rattle.source_session.proofs.Histories.{led_by_texts, led_on_by_texts}
 use Rattle.source_session.proofs.laws.conversations.Goals as goal
 
 pub returns : goal.returns
-returns c = record { led = led_by_answers; led_on = goes_on }
+returns c = record { led = led_by_texts; led_on = led_on_by_texts }
