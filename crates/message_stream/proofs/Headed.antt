@@ -12,7 +12,7 @@ use Rattle.message_stream.specs.declared.message.TheConstants.{MOST_MESSAGE}
 use Rattle.message_stream.specs.declared.sections.TheConstants.{MOST_FIELDS, MOST_HEADER}
 use Rattle.message_stream.specs.Exchanged.{IsNext}
 use Rattle.message_stream.specs.Headers.{IsHeaded, IsHeadedFault, IsHeader, header_frames}
-use Rattle.message_stream.specs.Inner.{Grows, HasReadHeader, IsBodySoFar, IsEndOf, IsHead, IsHeaderPart, IsPassing, IsPiece, IsSoFar}
+use Rattle.message_stream.specs.Inner.{Grows, HasReadHeader, IsBodySoFar, IsEndOfHeader, IsHead, IsHeaderPart, IsPassing, IsPiece, IsSoFar}
 use Rattle.message_stream.specs.Messages.{Told, whole, too_long, no_memory}
 use Rattle.message_stream.specs.declared.framing.Next.TheVariants.{One}
 
@@ -43,7 +43,7 @@ header_wrong had mid left old new bytes ending same first part none = (new, head
 pub header_long : (had mid left : Option (List ℕ)) (old new : List ℕ) (ending : Ending) → Consumes had mid old → IsHeaderPart mid left old new ending → MOST_HEADER < length new → IsCutBy had left Header
 header_long had mid left old new ending first part long = (new, header_more had mid left old new ending first part, inr long)
 
-pub header_end : (had mid left : Option (List ℕ)) (old new bytes : List ℕ) (result : Result Head StreamError) → bytes ≡ new → Consumes had mid old → IsHeaderPart mid left old new End → IsEndOf bytes result
+pub header_end : (had mid left : Option (List ℕ)) (old new bytes : List ℕ) (result : Result Head StreamError) → bytes ≡ new → Consumes had mid old → IsHeaderPart mid left old new End → IsEndOfHeader bytes result
     → HasReadHeader had left result
 header_end had mid left old new bytes (Ok h) same first part (is, none) =
     subst (IsHead had left) (sym is) (subst (Consumes had left) (sym same ∙ none) (header_more had mid left old new End first part), at_end had mid left old first part.at_end)

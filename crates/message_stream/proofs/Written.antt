@@ -8,7 +8,7 @@ use Rattle.std.specs.Char.{is_ascii_digit}
 use Rattle.std.specs.Str.Parse.{AllDigits, without_leading_plus}
 use Rattle.httparse.specs.Grammar.{AllPass, Field, IsField, crlf, is_ows, is_token_byte, is_value_byte, print_section, skip_ows, trim_ows}
 use Rattle.httparse.proofs.TrimLemmas.{AllPass-reverse, trim_ows_space}
-use Rattle.message_stream.specs.Headers.{IsHeaded, IsHeader, IsNumberOf, headed, header_of}
+use Rattle.message_stream.specs.Headers.{IsHeaded, IsHeader, IsNumberOf, headed, length_header}
 
 digit_passes : (c : ℕ) (cs : List ℕ) → AllDigits 10 (c ∷ cs) → IsTrue (is_ascii_digit c)
 digit_passes c cs d = let r = digit_from_value c d.0 in grind (arith, nat_tests, r)
@@ -63,7 +63,7 @@ module _ (n : ℕ) (small : n < 2 ^ 64) where
     raw = All-cons (λ b. IsTrue (is_value_byte b)) 32 (decimal n) refl (value_bytes (decimal n) digits);
   }
 
-  same_bytes : header_of n ≡ print_section (field_of n ∷ []) crlf ++ []
+  same_bytes : length_header n ≡ print_section (field_of n ∷ []) crlf ++ []
   unfolding field_of
   same_bytes =
       ap (λ l. codes "Content-Length: " ++ l)
@@ -75,7 +75,7 @@ module _ (n : ℕ) (small : n < 2 ^ 64) where
       let whole : without_leading_plus (trim_ows (32 ∷ decimal n)) ≡ decimal n = ap without_leading_plus value ∙ no_plus (decimal n) digits in
       (rw whole (decimal_is_IsNumeral n small).0, rw whole (sym (decimal_is_IsNumeral n small).1))
 
-  is_header : IsHeader (header_of n) n
+  is_header : IsHeader (length_header n) n
   unfolding field_of
   is_header = (
     field_of n ∷ [],
@@ -86,4 +86,4 @@ module _ (n : ℕ) (small : n < 2 ^ 64) where
 
 -- a text behind its header
 pub headed_is : (text : List ℕ) → length text < 2 ^ 64 → IsHeaded (headed text) text
-headed_is text small = (header_of (length text), refl, is_header (length text) small)
+headed_is text small = (length_header (length text), refl, is_header (length text) small)

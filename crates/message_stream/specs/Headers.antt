@@ -44,12 +44,12 @@ abbrev pub length_line : ℕ → List ℕ
 length_line n = decimal n ++ 13 ∷ 10 ∷ 13 ∷ 10 ∷ []
 
 -- the header of a text of so many bytes
-abbrev pub header_of : ℕ → List ℕ
-header_of n = codes "Content-Length: " ++ length_line n
+abbrev pub length_header : ℕ → List ℕ
+length_header n = codes "Content-Length: " ++ length_line n
 
 -- a text behind its header
 abbrev pub headed : List ℕ → List ℕ
-headed text = header_of (length text) ++ text
+headed text = length_header (length text) ++ text
 
 -- a wrong header is told only where none begins so
 abbrev pub IsHeadedFault : StreamError → List ℕ → Type 0

@@ -101,8 +101,8 @@ IsHead had left (head.Length n) = (bytes : List ℕ) × Consumes had left bytes 
 IsHead had left head.Nothing = Consumes had left [] × OnSome had (IsAtEnd left)
 
 -- the end of the reader is that of nothing
-abbrev pub IsEndOf : List ℕ → Result Head StreamError → Type 0
-IsEndOf bytes result = MatchResult result (λ h. (h ≡ head.Nothing) × (bytes ≡ [])) (λ e. (part : List ℕ) → IsHeadedFault e part)
+abbrev pub IsEndOfHeader : List ℕ → Result Head StreamError → Type 0
+IsEndOfHeader bytes result = MatchResult result (λ h. (h ≡ head.Nothing) × (bytes ≡ [])) (λ e. (part : List ℕ) → IsHeadedFault e part)
 
 -- a header was read, or a part of it
 abbrev pub HasReadHeader : (had left : Option (List ℕ)) → Result Head StreamError → Type 0

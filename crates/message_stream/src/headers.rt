@@ -2,7 +2,8 @@
 ghost use Rattle.std.specs.Prelude.{[], ◌≤◌, MatchResult};
 ghost use Rattle.message_stream.specs.Exchanged.{HasRead};
 ghost use Rattle.message_stream.specs.Headers.{header_frames};
-ghost use Rattle.message_stream.specs.Inner.{HasReadBody, HasReadHeader, IsBodySoFar, IsEndOf, IsHeaderPart, IsPassing, IsPiece};
+ghost use Rattle.message_stream.specs.Inner.{HasReadBody, HasReadHeader, IsBodySoFar, IsEndOfHeader, IsHeaderPart};
+ghost use Rattle.message_stream.specs.Inner.{IsPassing, IsPiece};
 
 use crate::error::StreamError;
 use crate::framing::{Framing, Next};
@@ -50,7 +51,7 @@ fn read_line_of<R: BufRead>(input: &mut R, header: &mut Vec<u8>) -> Result<Endin
 
 // What the end of the reader leaves of a header.
 fn end_of(header: &[u8]) -> Result<Head, StreamError>
-    ensures { IsEndOf header.now result }
+    ensures { IsEndOfHeader header.now result }
 {
     if header.is_empty() {
         return Ok(Head::Nothing);

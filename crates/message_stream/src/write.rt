@@ -1,7 +1,7 @@
 //! Writing messages.
 ghost use Rattle.std.specs.Prelude.{◌++◌, ◌∷◌, []};
 ghost use Rattle.message_stream.specs.Exchanged.{HasWritten};
-ghost use Rattle.message_stream.specs.Headers.{header_of, headed, length_line};
+ghost use Rattle.message_stream.specs.Headers.{length_header, headed, length_line};
 ghost use Rattle.message_stream.specs.Lines.{fed};
 
 use crate::error::StreamError;
@@ -62,7 +62,7 @@ fn write_digits<W: Write>(output: &mut W, length: usize) -> Result<(), StreamErr
 }
 
 fn write_header<W: Write>(output: &mut W, length: usize) -> Result<(), StreamError>
-    ensures { HasWritten result (W.contents output.old) (W.contents output.new) (header_of length) }
+    ensures { HasWritten result (W.contents output.old) (W.contents output.new) (length_header length) }
 {
     write_whole(output, b"Content-Length: ")?;
     write_digits(output, length)
