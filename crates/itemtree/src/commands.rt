@@ -9,6 +9,7 @@ use crate::output::{Progress, complain, complain_of, form, write_out};
 use crate::request::write_request;
 use crate::serve::answer_lines;
 use crate::sources::files_of;
+use crate::tag_form::form_of;
 use crate::tag_paths::TagPaths;
 use crate::tags::{TagsFile, head, write_tags};
 use itemtree_commands::{
@@ -16,7 +17,7 @@ use itemtree_commands::{
 };
 use itemtree_options::{Asked, Command};
 use list_forms::Form;
-use source_listing::{Address, Pattern, Query, Source, sought_pattern};
+use source_listing::{Pattern, Query, Source, TagForm, sought_pattern};
 use std::alloc::{AllocError, Global};
 use std::fmt::Display;
 use std::io;
@@ -38,6 +39,7 @@ struct Run<'a> {
     sought: Option<Pattern>,
     /// The lines of a tags file behind its head, in one text: a piece of memory for each takes half as much again.
     tags: String,
+    tag_form: TagForm,
     tag_paths: TagPaths<'a>,
     status: u8,
     /// Whether any file was done.
@@ -67,15 +69,11 @@ impl Run<'_> {
         find(alloc, source, self.options, query, self.asked.has_members)
     }
 
-    fn push_tags(&mut self, source: Source<'_>, excmd: &str) -> Result<String, SourceError> {
+    fn push_tags(&mut self, source: Source<'_>) -> Result<String, SourceError> {
         let (alloc, has_members) = (self.rt.alloc(), self.asked.has_members);
-        let address = match excmd {
-            "number" => Address::Number,
-            _ => Address::Pattern,
-        };
         // (all of a file's at once: where memory runs out, there are none)
         self.tags
-            .push_str(&tags(alloc, source, self.options, address, has_members)?)?;
+            .push_str(&tags(alloc, source, self.options, self.tag_form, has_members)?)?;
         Ok(String::new(alloc))
     }
 
@@ -123,7 +121,7 @@ impl Run<'_> {
                 return Ok((text, is_none));
             }
             Command::Find { ignores_case, .. } => self.find(source, ignores_case)?,
-            Command::Tags { excmd, .. } => self.push_tags(source, excmd)?,
+            Command::Tags { .. } => self.push_tags(source)?,
             Command::Check | Command::Changed { .. } | Command::Request { .. } | Command::Serve => {
                 let checked = check(alloc, source, options, self.is_colored())?;
                 return Ok((checked.text, checked.is_clean));
@@ -351,6 +349,7 @@ fn run_files(rt: &HostRuntime, options: &Options, asked: &Asked<'_>) -> Result<u
         form: form(rt, asked),
         sought: sought_of(rt.alloc(), asked.command)?,
         tags: tags_of(rt.alloc(), asked.command)?,
+        tag_form: form_of(rt.alloc(), asked.command)?,
         tag_paths: TagPaths::new(rt, asked.command)?,
         status: 0,
         has_done: false,

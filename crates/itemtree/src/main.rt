@@ -15,6 +15,7 @@ mod replacing;
 mod request;
 mod serve;
 mod sources;
+mod tag_form;
 mod tag_paths;
 mod tags;
 mod walk;

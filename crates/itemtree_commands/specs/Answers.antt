@@ -14,7 +14,7 @@ use Rattle.source_listing.specs.Repeated.{repeated_lines}
 use Rattle.source_listing.specs.Uses.{FilePlaces, placed}
 use Rattle.source_listing.specs.Search.{Query, found_lines}
 use Rattle.source_listing.specs.Tags.{tags}
-use Rattle.source_listing.specs.declared.tags.Address.{Address}
+use Rattle.source_listing.specs.declared.tags.TagForm.{TagForm}
 use Rattle.source_problems.specs.Texts.{source_problems}
 use Rattle.list_forms.specs.declared.lines.Form.{Form}
 use Rattle.source_changes.specs.Changes.{AreLinesBetween}
@@ -83,11 +83,11 @@ AreFound o has_members q s out =
     (c : Option Closers) × (t : SourceTree) × HasListed o s.text c t
     × (out ≡ found_lines s (reading_in o has_members s c) o.edition.reserved.items t.places.items q (rows t.tree))
 
--- the tags, with places that are found so
-abbrev pub AreTags : Options → Address → Bool → Source → List ℕ → Type 0
-AreTags o address has_members s out =
+-- the tags in a form
+abbrev pub AreTags : Options → TagForm → Bool → Source → List ℕ → Type 0
+AreTags o form has_members s out =
     (c : Option Closers) × (t : SourceTree) × HasListed o s.text c t
-    × (out ≡ tags s address (reading_in o has_members s c) t.places.items (choice o None) (rows t.tree))
+    × (out ≡ tags s form (reading_in o has_members s c) t.places.items (choice o None) (rows t.tree))
 
 -- the debug page, with or without the lines of ids
 abbrev pub if_ids : Bool → List ℕ → List ℕ

@@ -18,7 +18,7 @@ use listed::{listed_rows, listed_tree};
 pub use request::source_request;
 use rust_mended::Mended;
 use source_changes::{Compared, change_lines};
-use source_listing::{Address, Choice, Look, Query, Reading, Source, without_ids};
+use source_listing::{Choice, Look, Query, Reading, Source, TagForm, without_ids};
 use source_problems::source_problems;
 use std::alloc::{AllocError, Global};
 use trees::{checked_source, skips_docs};
@@ -295,7 +295,7 @@ pub fn duplicates(
     Ok(text)
 }
 
-/// `itemtree tags`: the tags of the file, with places that are found so, with or without those of members.
+/// `itemtree tags`: the tags of the file in this form, with or without those of members.
 ///
 /// # Errors
 ///
@@ -305,10 +305,10 @@ pub fn tags(
     alloc: Global,
     source: Source<'_>,
     options: &Options,
-    address: Address,
+    form: TagForm,
     has_members: bool,
 ) -> Result<String, SourceError>
-    ensures text { let tags = spec.AreTags options.now address has_members (source_view source.entry) in
+    ensures text { let tags = spec.AreTags options.now form has_members (source_view source.entry) in
         IfOk result (λ out. tags (string_bytes out)) }
     ensures refused { IfErr result (spec.HasNoList options.now source.entry.text.now) }
 {
@@ -316,7 +316,7 @@ pub fn tags(
     let choice = options.choice(None);
     let reading = options.reading(source.text, &file.mended, has_members);
     let (places, tree) = (&file.source.places, &file.source.tree);
-    let text = source_listing::tag_lines(alloc, source, address, places, tree, reading, choice)?;
+    let text = source_listing::tag_lines(alloc, source, form, places, tree, reading, choice)?;
     Ok(text)
 }
 

@@ -38,6 +38,8 @@ pub enum Command<'a> {
         is_appended: bool,
         /// How editors find tags: `pattern`, `number` or `mixed`.
         excmd: &'a str,
+        /// The fields that tags have, as letters and names; nothing: the usual ones.
+        fields: Option<&'a str>,
         /// Whether paths begin at its folder: `no`, `yes`, `always` (absolute ones too) or `never` (all are absolute).
         relative: &'a str,
     },
@@ -204,6 +206,7 @@ fn command_of<'a>(name: &str, matches: &ArgMatches<'a>) -> Command<'a> {
             is_named: is_named(matches, "output"),
             is_appended: matches.get_flag("append"),
             excmd: word(matches, "excmd"),
+            fields: matches.get_str("fields"),
             relative: word(matches, "tag-relative"),
         },
         "changed" => changed(matches),

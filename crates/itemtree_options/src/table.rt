@@ -176,7 +176,10 @@ const EXCMD: Argument = argument!(ONE id: "excmd", value: "HOW",
     parser: ValueParser::Names(&["pattern", "number", "mixed"]), default: &["pattern"];
     "How editors find tags: by a search for the line, or by its number; mixed is pattern, as for Rust in ctags");
 
-const TAG_RELATIVE: Argument = argument!(ONE id: "tag-relative", value: "HOW",
+const FIELDS: Argument = argument!(ONE id: "fields", value: "FIELDS";
+    "Which of the fields k, n, l, s, a, S and e tags have; behind + or -, the usual ones with or without these");
+
+const RELATIVE: Argument = argument!(ONE id: "tag-relative", value: "HOW",
     parser: ValueParser::Names(&["no", "yes", "always", "never"]), default: &["no"];
     "Whether paths begin at the folder of the tags file; always: absolute ones too; never: all are absolute");
 
@@ -299,20 +302,8 @@ An old tags file is replaced where anything could be read. What is no tags file 
 
 Status: 0, or 2 at an error, or where nothing could be read",
     arguments: &[
-        EDITION,
-        HIDDEN,
-        FOLLOW,
-        EXCLUDE,
-        CFG,
-        HOST_CFG,
-        ACTIVE,
-        NO_MEMBERS,
-        OUTPUT,
-        APPEND,
-        FILES_FROM,
-        FILES,
-        EXCMD,
-        TAG_RELATIVE,
+        EDITION, HIDDEN, FOLLOW, EXCLUDE, CFG, HOST_CFG, ACTIVE, NO_MEMBERS, OUTPUT, APPEND,
+        FILES_FROM, FILES, EXCMD, FIELDS, RELATIVE,
     ],
 };
 

@@ -30,7 +30,8 @@ pub use Rattle.source_listing.specs.Search.{Candidate, Query, found_lines, found
 pub use Rattle.source_listing.specs.Paths.{bare_segment}
 pub use Rattle.list_forms.specs.Lines.{column_number, line_number}
 unfoldable pub use Rattle.source_listing.specs.Search.{found_members}
-pub use Rattle.source_listing.specs.Tags.{TagFile, if_any, path_char, scope_field, tag_inside}
+pub use Rattle.source_listing.specs.TagFields.{safe_char, scope_field}
+pub use Rattle.source_listing.specs.Tags.{TagFile, if_any, tag_inside}
 unfoldable pub use Rattle.source_listing.specs.Tags.{tags_inside}
 pub use Rattle.source_listing.specs.Uses.{FilePlaces, Trees, from_place, import_spot, placed, tree_spots, use_trees_at}
 pub use Rattle.source_listing.specs.Views.{choice_view, look_view, query_view, source_view}

@@ -37,9 +37,13 @@ pub name_pushed_in : {A : Type 0} (f : A → List ℕ) (xs : List A) (out blank 
 name_pushed_in f xs out blank around named shown a b c = let names = flat_map-map name_around f xs in rw (c, b, a, names) (simp append_assoc)
 
 -- a tag, pushed part by part
-pub tag_pushed : (o name path place letter line field o1 o2 o3 o4 o5 o6 o7 o8 o9 o10 : List ℕ) → o1 ≡ o ++ name → o2 ≡ o1 ++ codes "\t" → o3 ≡ o2 ++ path → o4 ≡ o3 ++ codes "\t" → o5 ≡ o4 ++ place → o6 ≡ o5 ++ codes ";\"\t" → o7 ≡ o6 ++ letter
-    → o8 ≡ o7 ++ line → o9 ≡ o8 ++ field → o10 ≡ o9 ++ codes "\n" → o10 ≡ o ++ (name ++ codes "\t" ++ path ++ codes "\t" ++ place ++ codes ";\"\t" ++ letter ++ line ++ field ++ codes "\n")
-tag_pushed o name path place letter line field o1 o2 o3 o4 o5 o6 o7 o8 o9 o10 a b c d e f g h i j = rw (j, i, h, g, f, e, d, c, b, a) (simp append_assoc)
+pub tag_pushed : (o name path place fields o1 o2 o3 o4 o5 o6 o7 : List ℕ) → o1 ≡ o ++ name → o2 ≡ o1 ++ codes "\t" → o3 ≡ o2 ++ path → o4 ≡ o3 ++ codes "\t" → o5 ≡ o4 ++ place → o6 ≡ o5 ++ fields → o7 ≡ o6 ++ codes "\n"
+    → o7 ≡ o ++ (name ++ codes "\t" ++ path ++ codes "\t" ++ place ++ fields ++ codes "\n")
+tag_pushed o name path place fields o1 o2 o3 o4 o5 o6 o7 a b c d e f g = rw (g, f, e, d, c, b, a) (simp append_assoc)
+
+-- fields, pushed one after another
+pub fields_pushed : (a b c d e f g o1 o2 o3 o4 o5 o6 o7 : List ℕ) → o1 ≡ a → o2 ≡ o1 ++ b → o3 ≡ o2 ++ c → o4 ≡ o3 ++ d → o5 ≡ o4 ++ e → o6 ≡ o5 ++ f → o7 ≡ o6 ++ g → o7 ≡ a ++ b ++ c ++ d ++ e ++ f ++ g
+fields_pushed a b c d e f g o1 o2 o3 o4 o5 o6 o7 p q r s t u v = rw (v, u, t, s, r, q, p) (simp append_assoc)
 
 -- what a tag stands in, pushed one after another
 pub scope_pushed : {A : Type 0} (f : A → List ℕ) (xs : List A) (first : A) (rest : List A) (word o o1 o2 o3 o4 o5 : List ℕ) → xs ≡ first ∷ rest → o1 ≡ o ++ codes "\t" → o2 ≡ o1 ++ word → o3 ≡ o2 ++ codes ":" → o4 ≡ o3 ++ f first → o5 ≡ o4 ++ flat_map (λ x. bare_segment (f x)) rest

@@ -1,15 +1,15 @@
 -- Tags that are pushed one after another.
 use Rattle.source_listing.proofs.Common.{◌≡◌, Bor, ℕ, ◌+◌, ◌<◌, List, [], ◌∷◌, ◌++◌, length, take, get_or, map, ap, sym, ◌∙◌, append_assoc, append-nil, flat_map, flat_map-append, take_more, map-append, Listed, if_any, tag_inside, tags_inside, TagFile, IsSameTagger, tagged_file}
-use Rattle.source_listing.specs.declared.tags.Address.{Address}
+use Rattle.source_listing.specs.declared.tags.TagForm.{TagForm}
 use Rattle.source_listing.specs.declared.tags.Tagger.{Tagger}
 
 -- nothing of the file is another
-pub same_parts : {p q x y : Bor (List ℕ)} {a b : Address} {t u : List ℕ} → p ≡ q → a ≡ b → x ≡ y → t ≡ u
-    → ◌≡◌ {A = TagFile} (record { path = p.now; text = t; shown = x.now; address = a }) (record { path = q.now; text = u; shown = y.now; address = b })
-same_parts e f g h = λ k. record { path = (e k).now; text = h k; shown = (g k).now; address = f k }
+pub same_parts : {p q x y v w : Bor (List ℕ)} {a b : TagForm} {t u : List ℕ} → p ≡ q → a ≡ b → x ≡ y → v ≡ w → t ≡ u
+    → ◌≡◌ {A = TagFile} (record { path = p.now; text = t; source = v.now; shown = x.now; form = a }) (record { path = q.now; text = u; source = w.now; shown = y.now; form = b })
+same_parts e f g h i = λ k. record { path = (e k).now; text = i k; source = (h k).now; shown = (g k).now; form = f k }
 
 pub same_file : (old new : Tagger) → IsSameTagger old new → tagged_file new ≡ tagged_file old
-same_file old new s = same_parts s.0 s.1 s.2 s.3.0
+same_file old new s = same_parts s.0 s.1 s.2 s.3 s.4.0
 
 -- the tags of one more member
 one_more_inside : (f : TagFile) (word : List ℕ) (scope : List (List ℕ)) (ms : List Listed) (m : Listed)

@@ -25,6 +25,10 @@ use Rattle.source_listing.specs.declared.repeated.Named as code_named
 use Rattle.source_listing.specs.declared.repeated.Key as code_key
 use Rattle.source_listing.specs.contracts.repeated.KeyPartialEq.TheImpl as keys
 use Rattle.source_listing.specs.declared.tags.Tagger.{Tagger}
+use Rattle.source_listing.specs.declared.tag_fields.HeadText as code_head
+use Rattle.source_listing.specs.declared.tag_fields.TagItem as code_tag_item
+use Rattle.source_listing.specs.declared.tag_fields.TagPlace as code_tag_place
+use Rattle.source_listing.specs.TagFields.{HeadText, TagItem, TagPlace}
 use Rattle.source_listing.specs.declared.uses.UseTrees as code_trees
 use Rattle.source_listing.specs.declared.uses.TreeFinder.{TreeFinder}
 use Rattle.source_listing.specs.Lines.{Choice, Source}
@@ -56,15 +60,25 @@ IsSameFile old new = (new.path ≡ old.path) × (new.edition ≡ old.edition) ×
 
 -- the file of what tags are made from
 abbrev pub tagged_file : Tagger → TagFile
-tagged_file t = record { path = t.path.now; text = t.finder.lines; shown = t.lines.text.now; address = t.address }
+tagged_file t = record { path = t.path.now; text = t.finder.lines; source = t.text.now; shown = t.lines.text.now; form = t.form }
+
+-- what one of its tags is of, and where that stands
+abbrev pub tag_item_view : code_tag_item.TagItem → TagItem
+tag_item_view t = record { name = t.name.now; at = t.at; end = t.end; letter = t.letter.now; access = option_map (λ s. s.now) t.access; is_function = t.is_function }
+
+abbrev pub tag_place_view : code_tag_place.TagPlace → TagPlace
+tag_place_view p = record { line = p.line; last = p.last; head = p.head.now }
+
+abbrev pub head_view : code_head.HeadText → HeadText
+head_view b = record { text = string_bytes b.text; is_apart = b.is_apart; depth = b.depth }
 
 -- nothing of it is another
 abbrev pub IsSameTagger : Tagger → Tagger → Type 0
-IsSameTagger old new = (new.path ≡ old.path) × (new.address ≡ old.address) × (new.lines.text ≡ old.lines.text) × IsSameFinder old.finder new.finder
+IsSameTagger old new = (new.path ≡ old.path) × (new.form ≡ old.form) × (new.lines.text ≡ old.lines.text) × (new.text ≡ old.text) × IsSameFinder old.finder new.finder
 
 -- tags are of this file, with items at these places
 abbrev pub IsTaggerOf : TagFile → List ItemPlace → Tagger → Type 0
-IsTaggerOf f places t = (t.path.now ≡ f.path) × (t.address ≡ f.address) × (t.lines.text.now ≡ f.shown) × IsFinderOf f.text places t.finder
+IsTaggerOf f places t = (t.path.now ≡ f.path) × (t.form ≡ f.form) × (t.lines.text.now ≡ f.shown) × (t.text.now ≡ f.source) × IsFinderOf f.text places t.finder
 
 -- ---- what is looked for
 

@@ -13,6 +13,7 @@ pub mod Search
 pub mod Sought
 pub mod LineSearches
 pub mod Patterns
+pub mod TagFields
 pub mod Tags
 pub mod Views
 pub mod Inner

@@ -1,20 +1,21 @@
 -- Lines of a tags file.
-use Rattle.std.specs.Prelude.{ℕ, Bool, ◌+◌, ◌/◌, ◌%◌, ◌==◌, ◌||◌, nat_lt, if◌then◌else◌, List, [], ◌∷◌, ◌++◌, ◌-◌, codes, decimal, encode_utf8, filter, Option, Some, None, option_map, option_to_list, flat_map, chars}
-use Rattle.hir_input.specs.Id.{hex_digit}
+use Rattle.std.specs.Prelude.{ℕ, Bool, true, false, ◌+◌, if◌then◌else◌, List, [], ◌∷◌, ◌++◌, ◌-◌, codes, decimal, filter, Option, Some, None, option_map, option_to_list, flat_map}
 use Rattle.tree_walk.specs.Rows.{RowView}
 use Rattle.line_index.specs.Positions.{position_of}
-use Rattle.source_rows.specs.Labels.{kind_texts}
+use Rattle.source_rows.specs.Labels.{kind_texts, text_at}
 use Rattle.source_rows.specs.Listed.{Listed, MemberReading, members_of}
 use Rattle.rust_items.specs.declared.source_file.ItemPlace.{ItemPlace}
 use Rattle.rust_items.specs.declared.member.MemberKind.{MemberKind}
 use Rattle.rust_items.specs.declared.member.MemberKind.TheVariants as member
+use Rattle.source_listing.specs.declared.tag_fields.TagFields.{TagFields}
 use Rattle.source_listing.specs.declared.tags.Address.{Address}
 use Rattle.source_listing.specs.declared.tags.Address.TheVariants.{Pattern, Number}
+use Rattle.source_listing.specs.declared.tags.TagForm.{TagForm}
 use Rattle.source_listing.specs.Lines.{Choice, Source, is_chosen, is_listed}
 use Rattle.source_listing.specs.LineSearches.{line_after, line_search, shown_text}
+use Rattle.source_listing.specs.TagFields.{TagItem, TagPlace, access_word, behind_address, fields_text, is_function, is_method, member_access, safe_text}
 use Rattle.source_rows.specs.Places.{place_of, stands_at}
 use Rattle.source_listing.specs.Search.{holder}
-use Rattle.source_listing.specs.Paths.{bare_segment}
 
 -- the letter of a member's kind; constants, which Universal Ctags passes over, have that of items
 abbrev pub member_letter : MemberKind → Option (List ℕ)
@@ -30,67 +31,88 @@ abbrev pub scope_word : Option (List ℕ) → Option (List ℕ) → List ℕ
 scope_word (Some name) (Some word) = word
 scope_word _ _ = codes "module"
 
--- what a tag stands in: the word for the innermost, and the names from the outermost on
-abbrev pub scope_field : List ℕ → List (List ℕ) → List ℕ
-scope_field word [] = []
-scope_field word (name ∷ names) = codes "\t" ++ word ++ codes ":" ++ name ++ flat_map bare_segment names
-
--- what Universal Ctags writes for a control character or a backslash in the path of a file, behind a backslash
-abbrev pub escaped_text : ℕ → List ℕ
-escaped_text c =
-    if c == 7 then codes "a" else if c == 8 then codes "b" else if c == 9 then codes "t" else if c == 10 then codes "n"
-    else if c == 11 then codes "v" else if c == 12 then codes "f" else if c == 13 then codes "r" else if c == 92 then c ∷ []
-    else codes "x" ++ hex_digit (c / 16) ∷ hex_digit (c % 16) ∷ []
-
-abbrev pub is_escaped : ℕ → Bool
-is_escaped c = nat_lt c 32 || (c == 127 || c == 92)
-
--- a character of a path
-abbrev pub path_char : ℕ → List ℕ
-path_char c = if is_escaped c then 92 ∷ escaped_text c else encode_utf8 c
-
-abbrev pub tag_path : List ℕ → List ℕ
-tag_path path = flat_map path_char (chars path)
-
--- the file that tags are of: its path as it is written, its text, what an editor shows of that; and how an editor finds places in it
+-- the file that tags are of: its path as it is written, its text, as lines are told and as signatures are cut from it, what an editor shows of that; and the form of the tags
 pub record TagFile : Type 0 where
   pub path : List ℕ
   pub text : List ℕ
+  pub source : List ℕ
   pub shown : List ℕ
-  pub address : Address
+  pub form : TagForm
 
-abbrev pub tag_file : Source → Address → TagFile
-tag_file s address = record { path = tag_path s.path; text = s.text; shown = shown_text s.text; address = address }
+abbrev pub tag_file : Source → TagForm → TagFile
+tag_file s form = record { path = safe_text s.path; text = s.text; source = s.text; shown = shown_text s.text; form = form }
 
 abbrev pub line_at : TagFile → ℕ → ℕ
 line_at f at = (position_of f.text at).line
+
+abbrev pub is_search : Address → Bool
+is_search Pattern = true
+is_search Number = false
 
 -- a line is found by a search for it, or by its number
 abbrev pub address_by : Address → TagFile → ℕ → List ℕ
 address_by Pattern f line = line_search (line_after (line - 1) f.shown)
 address_by Number f line = decimal line
 
--- a search begins at the line, since others may be the same
-abbrev pub line_field : Address → ℕ → List ℕ
-line_field Pattern line = codes "\tline:" ++ decimal line
-line_field Number line = []
+-- the fields of a tag where none are asked for: a search begins at the line, since others may be the same
+abbrev pub usual_fields : Address → TagFields
+usual_fields address = record {
+  has_kind = true;
+  has_line = is_search address;
+  has_language = false;
+  has_scope = true;
+  has_access = false;
+  has_signature = false;
+  has_end = false;
+}
 
--- name, file, place, letter, line, and what it stands in
-abbrev pub tag_text : TagFile → List ℕ → ℕ → List ℕ → List ℕ → List (List ℕ) → List ℕ
-tag_text f name at letter word scope =
-    name ++ codes "\t" ++ f.path ++ codes "\t" ++ address_by f.address f (line_at f at) ++ codes ";\"\t" ++ letter ++ line_field f.address (line_at f at) ++ scope_field word scope ++ codes "\n"
+-- where what a tag is of stands in its file
+abbrev pub tag_place : TagFile → TagItem → TagPlace
+tag_place f t = record {
+  line = line_at f t.at;
+  last = if f.form.fields.has_end then Some (line_at f t.end) else None;
+  head = text_at f.source (record { start = t.at; end = t.end });
+}
 
-abbrev pub tag_of : TagFile → List (List ℕ) → Option (List ℕ) → Option (List ℕ) → Option ℕ → Option (List ℕ)
-tag_of f scope (Some name) (Some letter) (Some at) = Some (tag_text f name at letter (codes "module") scope)
-tag_of f scope _ _ _ = None
+-- name, file, address and fields
+abbrev pub tag_by : TagFile → TagItem → TagPlace → List ℕ → List (List ℕ) → List ℕ
+tag_by f t p word scope =
+    t.name ++ codes "\t" ++ f.path ++ codes "\t" ++ address_by f.form.address f p.line ++ behind_address (fields_text f.form.fields t p word scope) ++ codes "\n"
+
+abbrev pub tag_text : TagFile → TagItem → List ℕ → List (List ℕ) → List ℕ
+tag_text f t word scope = tag_by f t (tag_place f t) word scope
+
+abbrev pub item_told : RowView → List ℕ → List ℕ → ItemPlace → TagItem
+item_told r name letter p = record {
+  name = name;
+  at = stands_at p;
+  end = p.range.end;
+  letter = letter;
+  access = option_map access_word r.visibility;
+  is_function = is_function r.id.kind;
+}
+
+abbrev pub tag_of : TagFile → RowView → Option (List ℕ) → Option (List ℕ) → Option ItemPlace → Option (List ℕ)
+tag_of f r (Some name) (Some letter) (Some p) = Some (tag_text f (item_told r name letter p) (codes "module") r.scope)
+tag_of f r _ _ _ = None
 
 -- an item has a tag if it has a name, and its kind a letter
 abbrev pub tag : TagFile → Option ItemPlace → RowView → Option (List ℕ)
-tag f place r = tag_of f r.scope r.name (kind_texts r.id.kind).letter (option_map stands_at place)
+tag f place r = tag_of f r r.name (kind_texts r.id.kind).letter place
+
+abbrev pub member_item : Listed → List ℕ → TagItem
+member_item m letter = record {
+  name = m.name;
+  at = m.at;
+  end = m.range.end;
+  letter = letter;
+  access = member_access m.kind m.visibility;
+  is_function = is_method m.kind;
+}
 
 -- a member that stands in these, of which the innermost has this word, has one if its kind has a letter
 abbrev pub tag_inside : TagFile → List ℕ → List (List ℕ) → Listed → Option (List ℕ)
-tag_inside f word scope m = option_map (λ l. tag_text f m.name m.at l word scope) (member_letter m.kind)
+tag_inside f word scope m = option_map (λ l. tag_text f (member_item m l) word scope) (member_letter m.kind)
 
 abbrev pub if_any : Option (List ℕ) → List ℕ
 if_any None = []
@@ -117,5 +139,5 @@ abbrev pub tags_under : TagFile → MemberReading → List ItemPlace → Choice 
 tags_under f x places c rs = flat_map (whole_tags f x places c) (filter (is_listed c) rs)
 
 -- those of a file
-abbrev pub tags : Source → Address → MemberReading → List ItemPlace → Choice → List RowView → List ℕ
-tags s address x places c rs = tags_under (tag_file s address) x places c rs
+abbrev pub tags : Source → TagForm → MemberReading → List ItemPlace → Choice → List RowView → List ℕ
+tags s form x places c rs = tags_under (tag_file s form) x places c rs

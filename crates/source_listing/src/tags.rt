@@ -1,25 +1,29 @@
 //! Lines of a tags file, by which editors jump to names.
-ghost use Rattle.std.specs.Prelude.{◌≡◌, ◌<◌, ◌++◌, IfOk, OnOk, map, option_copied, option_map, option_to_list};
-ghost use Rattle.std.specs.Prelude.{string_bytes};
-ghost use Rattle.hir_input.specs.Id.{hex_digit as hex_digit_of};
+ghost use Rattle.std.specs.Prelude.{◌≡◌, ◌++◌, if◌then◌else◌, IfOk, None, OnOk, Some, map, string_bytes};
+ghost use Rattle.std.specs.Prelude.{option_copied, option_map, option_to_list};
 ghost use Rattle.tree_walk.specs.Rows as rows;
 ghost use Rattle.tree_walk.specs.Views.{row_view};
 ghost use Rattle.source_rows.specs.Labels.{kind_texts};
 ghost use Rattle.source_rows.specs.ListedViews.{listed_view, reading_view};
 ghost use Rattle.source_rows.specs.Places.{AreDistinct};
-ghost use Rattle.source_listing.specs.Inner.{IsSameTagger, tagged_file};
+ghost use Rattle.source_listing.specs.Inner.{IsSameTagger, tag_item_view, tag_place_view, tagged_file};
 ghost use Rattle.source_listing.specs.Tags as spec;
 ghost use Rattle.source_listing.specs.Views.{choice_view, source_view};
 
 use crate::line_searches::LineTexts;
 use crate::lines::Choice;
-use crate::paths::push_scope;
+use crate::safe_texts::safe_text;
 use crate::search::holder;
+use crate::tag_fields::{
+    TagFields, TagItem, TagPlace, is_function, is_method, item_access, member_access,
+    push_behind_address,
+};
 use hir_input::{AstIdKind, Name};
 use item_tree::ItemTree;
 use itoa::Buffer;
 use rust_items::{ItemPlace, MemberKind};
-use source_rows::{Finder, ListedMember, Reading, Source, kind_texts, stands_at};
+use rust_paths::TextRange;
+use source_rows::{Finder, ListedMember, Reading, Source, kind_texts, stands_at, text_at};
 use std::alloc::{AllocError, Global};
 use tree_walk::Row;
 
@@ -32,12 +36,36 @@ pub enum Address {
     Number,
 }
 
+/// How tags are written.
+#[derive(Clone, Copy, Debug)]
+pub struct TagForm {
+    pub address: Address,
+    pub fields: TagFields,
+}
+
+/// The fields of a tag where none are asked for: a search begins at the line, since other lines may be the same.
+pub fn usual_fields(address: Address) -> TagFields
+    ensures { result ≡ spec.usual_fields address }
+{
+    TagFields {
+        has_kind: true,
+        has_line: matches!(address, Address::Pattern),
+        has_language: false,
+        has_scope: true,
+        has_access: false,
+        has_signature: false,
+        has_end: false,
+    }
+}
+
 /// What the tags of a file are made from.
 #[derive(Drop)]
 struct Tagger<'a> {
+    alloc: Global,
     /// As it is written.
     path: &'a str,
-    address: Address,
+    text: &'a str,
+    form: TagForm,
     finder: Finder<'a>,
     lines: LineTexts<'a>,
 }
@@ -69,92 +97,6 @@ fn scope_word(kind: AstIdKind, name: Option<&Name>) -> &'static str
     }
 }
 
-/// What a tag stands in: the word for the innermost, and the names.
-fn push_scope_field(word: &str, scope: &[&Name], out: &mut String) -> Result<(), AllocError>
-    ensures { let field = spec.scope_field word.now (map (λ n. n.now) scope.now) in
-        OnOk result (string_bytes out.new ≡ string_bytes out.old ++ field) }
-{
-    let Some((first, rest)) = scope.split_first() else {
-        return Ok(());
-    };
-    out.push_str("\t")?;
-    out.push_str(word)?;
-    out.push_str(":")?;
-    out.push_str(first.text())?;
-    push_scope(rest, out)
-}
-
-/// Adds the number of a line at which a search begins, since other lines may be the same.
-fn push_line_field(address: Address, line: usize, out: &mut String) -> Result<(), AllocError>
-    ensures { OnOk result (string_bytes out.new ≡ string_bytes out.old ++ spec.line_field address line) }
-{
-    match address {
-        Address::Pattern => {
-            out.push_str("\tline:")?;
-            out.push_str(Buffer::new().format(line))
-        }
-        Address::Number => Ok(()),
-    }
-}
-
-/// A digit of a number in hexadecimal.
-fn hex_digit(value: u8) -> char
-    requires { value < 16 }
-    ensures value { result ≡ hex_digit_of value }
-    ensures ascii { result < 128 }
-{
-    if value < 10 {
-        (b'0' + value) as char
-    } else {
-        (b'A' + (value - 10)) as char
-    }
-}
-
-/// What stands behind a backslash for a character of a path.
-fn push_escaped(byte: u8, out: &mut String) -> Result<(), AllocError>
-    ensures { OnOk result (string_bytes out.new ≡ string_bytes out.old ++ spec.escaped_text byte) }
-{
-    match byte {
-        7 => out.push_str("a"),
-        8 => out.push_str("b"),
-        b'\t' => out.push_str("t"),
-        b'\n' => out.push_str("n"),
-        11 => out.push_str("v"),
-        12 => out.push_str("f"),
-        b'\r' => out.push_str("r"),
-        b'\\' => out.push_str("\\"),
-        _ => {
-            out.push_str("x")?;
-            out.push(hex_digit(byte / 16))?;
-            out.push(hex_digit(byte % 16))
-        }
-    }
-}
-
-/// A character of a path, as Universal Ctags writes it.
-fn push_path_char(c: char, out: &mut String) -> Result<(), AllocError>
-    ensures { OnOk result (string_bytes out.new ≡ string_bytes out.old ++ spec.path_char c) }
-{
-    match c {
-        '\0'..='\x1F' | '\x7F' | '\\' => {
-            out.push_str("\\")?;
-            push_escaped(c as u8, out)
-        }
-        _ => out.push(c),
-    }
-}
-
-/// A path as Universal Ctags writes it.
-fn written_path(alloc: Global, path: &str) -> Result<String, AllocError>
-    ensures { IfOk result (λ text. string_bytes text ≡ spec.tag_path path.now) }
-{
-    let mut text = String::new(alloc);
-    for c in path.chars() {
-        push_path_char(c, &mut text)?;
-    }
-    Ok(text)
-}
-
 /// The same names, lent for no longer.
 fn names_in<'r: 'a, 'a>(alloc: Global, scope: &[&'r Name]) -> Result<Vec<&'a Name>, AllocError>
     ensures { IfOk result (λ v. map (λ n. n.now) v.items ≡ map (λ n. n.now) scope.now) }
@@ -183,45 +125,90 @@ pub(crate) fn names_around<'r: 'a, 'a>(
     Ok(names)
 }
 
+impl<'a> Tagger<'a> {
+    /// The last line of what ends there, if it is asked for.
+    fn last_line(&mut self, end: usize) -> Option<usize>
+        ensures line { let f = tagged_file self.old in
+            result ≡ (if f.form.fields.has_end then Some (spec.line_at f end) else None) }
+        ensures same { IsSameTagger self.old self.new }
+    {
+        if self.form.fields.has_end {
+            Some(self.finder.lines.position(end).line)
+        } else {
+            None
+        }
+    }
+
+    /// Where what a tag is of stands.
+    fn place(&mut self, item: TagItem<'_>) -> TagPlace<'a>
+        ensures place { tag_place_view result
+            ≡ spec.tag_place (tagged_file self.old) (tag_item_view item.entry) }
+        ensures same { IsSameTagger self.old self.new }
+    {
+        let range = TextRange {
+            start: item.at,
+            end: item.end,
+        };
+        TagPlace {
+            line: self.finder.lines.position(item.at).line,
+            last: self.last_line(item.end),
+            head: text_at(self.text, range),
+        }
+    }
+}
+
 impl Tagger<'_> {
     /// Adds how an editor finds a line.
     fn push_address(&mut self, line: usize, out: &mut String) -> Result<(), AllocError>
-        ensures text { let address = spec.address_by self.old.address (tagged_file self.old) line in
+        ensures text { let address = spec.address_by self.old.form.address (tagged_file self.old) line in
             OnOk result (string_bytes out.new ≡ string_bytes out.old ++ address) }
         ensures same { IsSameTagger self.old self.new }
     {
-        match self.address {
+        match self.form.address {
             Address::Pattern => self.lines.push_search(line.saturating_sub(1), out),
             Address::Number => out.push_str(Buffer::new().format(line)),
         }
     }
 
-    /// Adds a tag that stands in these.
-    fn push_tag(
+    /// Adds a tag of what stands there.
+    fn push_tag_at(
         &mut self,
-        name: &Name,
-        at: usize,
-        letter: &str,
+        item: TagItem<'_>,
+        place: TagPlace<'_>,
         word: &str,
         scope: &[&Name],
         out: &mut String,
     ) -> Result<(), AllocError>
-        ensures text { let text = spec.tag_text (tagged_file self.old) name.now at letter.now word.now
-            (map (λ n. n.now) scope.now) in
+        ensures text { let text = spec.tag_by (tagged_file self.old) (tag_item_view item.entry)
+            (tag_place_view place.entry) word.now (map (λ n. n.now) scope.now) in
             OnOk result (string_bytes out.new ≡ string_bytes out.old ++ text) }
         ensures same { IsSameTagger self.old self.new }
     {
-        let line = self.finder.lines.position(at).line;
-        out.push_str(name.text())?;
+        let fields = self.form.fields.text(self.alloc, item, place, word, scope)?;
+        out.push_str(item.name.text())?;
         out.push_str("\t")?;
         out.push_str(self.path)?;
         out.push_str("\t")?;
-        self.push_address(line, out)?;
-        out.push_str(";\"\t")?;
-        out.push_str(letter)?;
-        push_line_field(self.address, line, out)?;
-        push_scope_field(word, scope, out)?;
+        self.push_address(place.line, out)?;
+        push_behind_address(&fields, out)?;
         out.push_str("\n")
+    }
+
+    /// Adds a tag that stands in these.
+    fn push_tag(
+        &mut self,
+        item: TagItem<'_>,
+        word: &str,
+        scope: &[&Name],
+        out: &mut String,
+    ) -> Result<(), AllocError>
+        ensures text { let text = spec.tag_text (tagged_file self.old) (tag_item_view item.entry)
+            word.now (map (λ n. n.now) scope.now) in
+            OnOk result (string_bytes out.new ≡ string_bytes out.old ++ text) }
+        ensures same { IsSameTagger self.old self.new }
+    {
+        let place = self.place(item);
+        self.push_tag_at(item, place, word, scope, out)
     }
 
     /// Adds the tag of an item, if it has one.
@@ -244,8 +231,15 @@ impl Tagger<'_> {
         let Some(place) = place else {
             return Ok(());
         };
-        let scope = row.scope.as_slice();
-        self.push_tag(name, stands_at(place), letter, "module", scope, out)
+        let item = TagItem {
+            name,
+            at: stands_at(place),
+            end: place.range.end,
+            letter,
+            access: item_access(row.visibility),
+            is_function: is_function(row.id.kind),
+        };
+        self.push_tag(item, "module", row.scope.as_slice(), out)
     }
 
     /// Adds the tag of a member that stands in these, of which the innermost has this word, if it has one.
@@ -264,7 +258,15 @@ impl Tagger<'_> {
         let Some(letter) = member_letter(member.kind) else {
             return Ok(());
         };
-        self.push_tag(&member.name, member.at, letter, word, scope, out)
+        let item = TagItem {
+            name: &member.name,
+            at: member.at,
+            end: member.range.end,
+            letter,
+            access: member_access(member.kind, &member.visibility),
+            is_function: is_method(member.kind),
+        };
+        self.push_tag(item, word, scope, out)
     }
 
     /// Adds the tags of members that stand in these, of which the innermost has this word.
@@ -318,9 +320,9 @@ impl Tagger<'_> {
 }
 
 /// The tags of a file: for each chosen item with a name of a kind that has a letter, and for each chosen member with a
-/// name where members are asked for, its name, the file, how its place is found, the letter and what it stands in, in
-/// the form of Universal Ctags, in the order of the items, each before its members. A member stands in its item, and
-/// one of an impl in the type, if that is a path. A control character or a backslash in the path stands behind a
+/// name where members are asked for, its name, the file, how its place is found and the fields, in the form of
+/// Universal Ctags, in the order of the items, each before its members. A member stands in its item, and one of an impl
+/// in the type, if that is a path. A control character or a backslash in the path or in a signature stands behind a
 /// backslash, as Universal Ctags has it too.
 ///
 /// The places are those that the reader gave with the syntax of the tree.
@@ -331,21 +333,23 @@ impl Tagger<'_> {
 pub fn tag_lines(
     alloc: Global,
     source: Source<'_>,
-    address: Address,
+    form: TagForm,
     places: &[ItemPlace],
     tree: &ItemTree,
     reading: Reading<'_>,
     choice: Choice,
 ) -> Result<String, AllocError>
     requires { AreDistinct places.now }
-    ensures { let tags = spec.tags (source_view source.entry) address (reading_view reading.entry) places.now
+    ensures { let tags = spec.tags (source_view source.entry) form (reading_view reading.entry) places.now
         (choice_view choice) in
         IfOk result (λ text. string_bytes text ≡ tags (rows.rows tree.now)) }
 {
-    let path = written_path(alloc, source.path)?;
+    let path = safe_text(alloc, source.path)?;
     let mut tagger = Tagger {
+        alloc,
         path: &path,
-        address,
+        text: source.text,
+        form,
         finder: Finder::new(source.text, places),
         lines: LineTexts::new(source.text),
     };

@@ -31,7 +31,7 @@ returns-clause-text c =
     let members = tags_inside f (spec.scope_word around (kind_texts r.id.kind).scope) (r.scope ++ option_to_list around)
     (filter (λ m. is_chosen choice (r.level + 1) m.is_active) (members_of x place r.is_active)) in
     let same = c.in_ok-push_item_tag.ensures.same in
-    let file = same_parts same.0 same.1 same.2 same.3.0 in
+    let file = same_parts same.0 same.1 same.2 same.3 same.4.0 in
     on_ok_weaker c.push_member_tags.result (λ e. e ∙ (λ k. tagged k ++ tags_inside (file k) (word k) (scope k) (chosen k))
     ∙ append_assoc out (if_any tag) members
     ∙ ap (λ p. out ++ spec.tags_at f x choice r p) c.find-place.ensures.value) c.push_member_tags.ensures.text

@@ -1,6 +1,6 @@
 use Rattle.source_listing.proofs.Common.{rules, string_bytes, on_ok_weaker}
 use Rattle.source_listing.proofs.Pushed.{scope_pushed}
-use Rattle.source_listing.proofs.tags.push_scope_field.Goals as goal
+use Rattle.source_listing.proofs.tag_fields.push_scope_field.Goals as goal
 
 pub returns : goal.returns
 returns c =
