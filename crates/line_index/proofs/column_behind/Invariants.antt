@@ -1,9 +1,10 @@
-use Rattle.std.proofs.Common.{◌≡◌, ◌≤◌, ◌+◌, length}
+use Rattle.std.proofs.Common.{◌≡◌, ◌≤◌, ◌+◌, ◌*◌, length}
 use Rattle.line_index.specs.Positions as spec
 use Rattle.line_index.proofs.column_behind.Given as goal
 
 abbrev pub invariant-loop-left : goal.invariant-loop-left
-invariant-loop-left l = ((spec.behind l.start l.left).column + l.count ≡ (spec.behind l.start l.initial.left).column) × (l.count + length l.left ≤ length l.initial.left)
+invariant-loop-left l =
+    ((spec.behind l.units l.start l.left).column + l.count ≡ (spec.behind l.units l.start l.initial.left).column) × (l.count + 2 * length l.left ≤ 2 * length l.initial.left)
 
 abbrev pub decreases-loop-left : goal.decreases-loop-left
 decreases-loop-left l = length l.left
