@@ -8,8 +8,8 @@ ghost use Rattle.line_index.specs.Positions as spec;
 
 use std::marker::Model;
 
-/// A line and a column, both from 1. Columns count characters, as the messages of rustc do, unless other units are asked
-/// for; a byte order mark at the beginning of a text is none.
+/// A line and a column, both from 1. Columns count characters, as the messages of rustc do, or other units where these
+/// are asked for; a byte order mark at the beginning of a text takes none.
 #[derive(Clone, Copy, Debug, PartialEq, Eq)]
 pub struct Position {
     pub line: usize,
@@ -17,7 +17,7 @@ pub struct Position {
 }
 
 /// What columns count.
-#[derive(Clone, Copy, Debug, PartialEq, Eq)]
+#[derive(Clone, Copy, Debug, Eq, PartialEq)]
 pub enum Units {
     /// Characters.
     Characters,

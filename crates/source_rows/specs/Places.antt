@@ -1,7 +1,9 @@
 -- Where an item stands, by its id.
 use Rattle.std.specs.Prelude.{◌≢◌, ℕ, Bool, ◌==◌, ◌&&◌, if◌then◌else◌, List, [], ◌∷◌, ◌++◌, codes, Option, Some, None, AllPairs}
 use Rattle.hir_input.specs.declared.ids.FileAstId.{FileAstId}
-use Rattle.line_index.specs.Positions.{position_of}
+use Rattle.line_index.specs.declared.Units.{Units}
+use Rattle.line_index.specs.declared.Units.TheVariants.{Characters}
+use Rattle.line_index.specs.Positions.{position_in}
 use Rattle.source_rows.specs.Sources.{place_text}
 use Rattle.rust_ids.specs.Ids.{kind_place}
 use Rattle.rust_paths.specs.declared.names.TextRange.{TextRange}
@@ -29,9 +31,13 @@ at_name (Some name) start = name.start
 abbrev pub stands_at : ItemPlace → ℕ
 stands_at p = at_name p.name p.range.start
 
--- its line and column in a text, and its bytes
+-- its line and column in a text, by columns of these units, and its bytes
+abbrev pub spot_in : Units → List ℕ → ItemPlace → Spot
+spot_in units text p = record { position = position_in units text (stands_at p); range = p.range }
+
+-- the same by columns of characters
 abbrev pub spot_at : List ℕ → ItemPlace → Spot
-spot_at text p = record { position = position_of text (stands_at p); range = p.range }
+spot_at text p = spot_in Characters text p
 
 -- what an editor and a compiler write of the place of an item; each has a place
 abbrev pub item_place : List ℕ → Option Spot → List ℕ

@@ -4,7 +4,7 @@ ghost use Rattle.source_rows.specs.Finders.{IsFinderOf, IsSameFinder};
 ghost use Rattle.source_rows.specs.Places as spec;
 
 use crate::places::Places;
-use line_index::{LineIndex, Position};
+use line_index::{LineIndex, Position, Units};
 use rust_items::ItemPlace;
 use rust_paths::TextRange;
 
@@ -57,9 +57,17 @@ impl<'a> Finder<'a> {
         ensures spot { result ≡ option_map (spec.spot_at self.old.lines) place }
         ensures same { IsSameFinder self.old self.new }
     {
+        self.spot_in(Units::Characters, place)
+    }
+
+    /// The same by a column of these units.
+    pub fn spot_in(&mut self, units: Units, place: Option<ItemPlace>) -> Option<Spot>
+        ensures spot { result ≡ option_map (spec.spot_in units self.old.lines) place }
+        ensures same { IsSameFinder self.old self.new }
+    {
         match place {
             Some(place) => Some(Spot {
-                position: self.lines.position(stands_at(place)),
+                position: self.lines.position_in(units, stands_at(place)),
                 range: place.range,
             }),
             None => None,
