@@ -109,7 +109,10 @@ fn is_gap(token: &Token<'_>) -> bool
     ensures { result ≡ spec.is_gap token.now }
 {
     !token.is_significant()
-        || matches!(token.kind(), TokenKind::LineComment(_) | TokenKind::BlockComment(_))
+        || matches!(
+            token.kind(),
+            TokenKind::LineComment(_) | TokenKind::BlockComment(_)
+        )
 }
 
 /// Whether a symbol ends the head of a function, where so many brackets are open.
