@@ -175,11 +175,33 @@ def check_ctags(folder):
     if shutil.which('ctags') is None or 'Universal Ctags' not in run('ctags --version', folder):
         print('itemtree: Universal Ctags is not here, so no tags are compared with its own')
         return
-    for words in ('', '--excmd=number', '--excmd=mixed'):
-        field = '' if 'number' in words else '--fields=+n'
-        wanted = run(f'ctags --kinds-Rust=-c {words} {field} -f - tagged.rs', folder)
-        got = run(f"itemtree tags {words} -o - tagged.rs | grep -v '^!_TAG'", folder)
+    for words, field in (('', '--fields=+n'), ('--excmd=number', ''), ('--excmd=mixed', '--fields=+n'), ('--fields=+lS', '--fields=+nlS'),
+                         ('--fields={line}{signature}', '--fields={line}{signature}'), ('--fields=-s', '--fields=+n-s'), ('--fields=', '--fields='),
+                         ('--excmd=number --fields=+n{language}-ks+s', '--fields=+n{language}-ks+s --excmd=number'), ('--fields=Sftaxi', '--fields=Sftaxi')):
+        wanted = run(f'ctags --kinds-Rust=-c {words if "fields" not in words else ""} {field} -f - tagged.rs', folder)
+        got = run(f"itemtree tags {words.replace('Sftaxi', 'Sftxi')} -o - tagged.rs | grep -v '^!_TAG'", folder)
         tell(got == wanted, f'the tags of Universal Ctags {words}', got, wanted)
+    lines = re.findall(r'^(--(?:kinddef|regex)-Rust=.*)$', open(os.path.join(TOP, 'docs/ITEMTREE.md'), encoding='utf-8').read(), flags=re.M)
+    write_files(folder, {'constants.ctags': '\n'.join(lines).encode(), 'constants.rs': b'const A: u8 = 1;\n    pub(in crate::b) const BC_2 : &str = "";\nconst fn c() {}\n'})
+    wanted = run('ctags --options=constants.ctags --fields=+n -f - constants.rs', folder)
+    got = run("itemtree tags -o - constants.rs | grep -v '^!_TAG'", folder)
+    tell(len(lines) == 2 and got == wanted, 'constants in Universal Ctags', got, wanted)
+    os.remove(os.path.join(folder, 'constants.rs'))
+
+
+def check_fields(folder):
+    """Fields that Universal Ctags does not write of Rust, and those that are none."""
+    text = b'pub struct A {\n    a: u8,\n    pub(crate) b: u8,\n}\ntrait T {\n    fn t(\n        &self,\n    );\n}\nimpl T for A {\n    fn t(&self) {}\n    pub fn u() {}\n}\n'
+    write_files(folder, {'fields.rs': text + b'enum E {\n    V {\n        x: [u8; { 3 }],\n    },\n}\nfn f(E { x: [a, ..] }: E) -> u8 {\n    0\n}\n'})
+    got = run("itemtree tags --fields=ane{signature} --excmd=number -o - fields.rs | grep -v '^!_TAG' | cut -f1,4-", folder)
+    wanted = {'A\tline:1\taccess:public\tend:4', 'a\tline:2\taccess:private\tend:2', 'b\tline:3\taccess:protected\tend:3', 'T\tline:5\taccess:private\tend:9',
+              't\tline:6\tsignature:( &self, )\tend:8', 't\tline:11\tsignature:(&self)\tend:11', 'u\tline:12\taccess:public\tsignature:()\tend:12',
+              'E\tline:14\taccess:private\tend:18', 'V\tline:15\tend:17', 'f\tline:19\taccess:private\tsignature:(E { x: [a, ..] }: E) -> u8\tend:21'}
+    tell(set(got.splitlines()) == wanted, 'fields', got, wanted)
+    for words, letter in (('+q', 'q'), ('n{nonsense}', '{'), ('n*', '*'), ('K', 'K'), ('z', 'z')):
+        got = run(f"itemtree tags --fields='{words}' -o - fields.rs 2>&1; echo $?", folder)
+        tell(got == f"itemtree: --fields '{words}': '{letter}' is none of k, n, l, s, a, S and e, which are written\n2\n", f'--fields {words}', got)
+    os.remove(os.path.join(folder, 'fields.rs'))
 
 
 def check_request(folder):
@@ -569,6 +591,7 @@ def main():
         check_closed_pipe(folder)
         check_vim(folder)
         check_ctags(folder)
+        check_fields(folder)
         check_progress(folder)
         check_colors(folder)
         check_request(folder)

@@ -72,8 +72,7 @@ impl Run<'_> {
     fn push_tags(&mut self, source: Source<'_>) -> Result<String, SourceError> {
         let (alloc, has_members) = (self.rt.alloc(), self.asked.has_members);
         // (all of a file's at once: where memory runs out, there are none)
-        self.tags
-            .push_str(&tags(alloc, source, self.options, self.tag_form, has_members)?)?;
+        self.tags.push_str(&tags(alloc, source, self.options, self.tag_form, has_members)?)?;
         Ok(String::new(alloc))
     }
 

@@ -48,6 +48,7 @@ fn all_fields(is_asked: bool) -> TagFields {
 }
 
 /// Fields that are read letter by letter.
+#[derive(Drop)]
 struct FieldReader {
     fields: TagFields,
     /// Whether the next letters ask for their fields, or take them away.
@@ -61,7 +62,11 @@ impl FieldReader {
     fn new(letters: &str, usual: TagFields) -> Self {
         let is_beside = letters.starts_with("+") || letters.starts_with("-");
         FieldReader {
-            fields: if is_beside { usual } else { all_fields(letters.starts_with("*")) },
+            fields: if is_beside {
+                usual
+            } else {
+                all_fields(letters.starts_with("*"))
+            },
             is_asked: true,
             fault: None,
         }

@@ -15,6 +15,9 @@ use rust_items::MemberKind;
 use rust_lexer::{Lexer, Token, TokenKind};
 use std::alloc::{AllocError, Global};
 
+/// How many bytes the fields of a tag have room for before they grow.
+const ROOM: usize = 64;
+
 /// Which fields tags have.
 #[derive(Clone, Copy, Debug)]
 pub struct TagFields {
@@ -109,7 +112,10 @@ fn is_gap(token: &Token<'_>) -> bool
     ensures { result ≡ spec.is_gap token.now }
 {
     !token.is_significant()
-        || matches!(token.kind(), TokenKind::LineComment(_) | TokenKind::BlockComment(_))
+        || matches!(
+            token.kind(),
+            TokenKind::LineComment(_) | TokenKind::BlockComment(_)
+        )
 }
 
 /// Whether a symbol ends the head of a function, where so many brackets are open.
@@ -336,7 +342,7 @@ impl TagFields {
             (tag_place_view place.entry) word.now (map (λ n. n.now) scope.now) in
             IfOk result (λ text. string_bytes text ≡ fields) }
     {
-        let mut out = String::new(alloc);
+        let mut out = String::with_capacity(alloc, ROOM)?;
         push_text_field(self.has_kind, "", item.letter, &mut out)?;
         push_number_field(self.has_line, "line:", place.line, &mut out)?;
         push_text_field(self.has_language, "language:", "Rust", &mut out)?;
