@@ -46,7 +46,7 @@ abbrev mutual
   items_cfgs around no_items = []
   items_cfgs around (item_and i is) = item_cfgs around i ++ items_cfgs around is
 
--- those of a file
+-- the uses of a file that stand under cfgs, in the order of the text
 abbrev pub file_cfgs : SyntaxView → List UseCfgs
 file_cfgs (source_file attrs is) = items_cfgs (flat_map meta_cfgs attrs) is
 file_cfgs _ = []

@@ -47,7 +47,7 @@ is_one_around None (Some b) = false
 is_one_around (Some a) None = false
 is_one_around (Some a) (Some b) = is_id a b
 
--- under cfgs that are seen never to be true together
+-- the cfgs of two imports are seen never to be true together
 abbrev pub are_excluded : ImportChoice → Named → Named → Bool
 are_excluded c x y = exclude_each_other (cfgs_at c x.at) (cfgs_at c y.at)
 
