@@ -18,7 +18,7 @@ _itemtree() {
     case $command in
         outline) mapfile -t COMPREPLY < <(compgen -W '-e --edition --hidden --follow --exclude --cfg --host-cfg --active --no-members --depth --color --json -L --files-from --flat -h --help' -- "$word") ;;
         page) mapfile -t COMPREPLY < <(compgen -W '-e --edition --hidden --follow --exclude --cfg --host-cfg --skip --docs --ids -L --files-from -h --help' -- "$word") ;;
-        imports) mapfile -t COMPREPLY < <(compgen -W '-e --edition --hidden --follow --exclude --duplicates --color --json -q --quiet -L --files-from -h --help' -- "$word") ;;
+        imports) mapfile -t COMPREPLY < <(compgen -W '-e --edition --hidden --follow --exclude --cfg --host-cfg --active --duplicates --color --json -q --quiet -L --files-from -h --help' -- "$word") ;;
         find) mapfile -t COMPREPLY < <(compgen -W '-e --edition --hidden --follow --exclude --cfg --host-cfg --active --no-members -i --ignore-case --kind --color --json -q --quiet -L --files-from -h --help' -- "$word") ;;
         tags) mapfile -t COMPREPLY < <(compgen -W '-e --edition --hidden --follow --exclude --cfg --host-cfg --active --no-members -o --output -a --append -L --files-from --excmd --fields --tag-relative -h --help' -- "$word") ;;
         changed) mapfile -t COMPREPLY < <(compgen -W '-e --edition --hidden --follow --exclude --docs --tree --cfg --host-cfg --skip --color --json -q --quiet -h --help' -- "$word") ;;

@@ -115,7 +115,7 @@ impl Run<'_> {
             Command::Page { has_ids } => page(alloc, source.text, options, has_ids)?,
             Command::Imports => imports(alloc, source, options, self.form)?,
             Command::Duplicates => {
-                let text = duplicates(alloc, source, options)?;
+                let text = duplicates(alloc, source, options, self.is_colored())?;
                 let is_none = text.is_empty();
                 return Ok((text, is_none));
             }

@@ -1,5 +1,6 @@
 pub mod Typed
 pub mod ListedTrees
+pub mod ListedUses
 pub mod Refused
 pub mod BareTrees
 pub mod Common

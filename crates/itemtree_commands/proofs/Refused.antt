@@ -39,6 +39,10 @@ pub refused_short : (w : Wanted) (krate : CrateData) (skipped : List (List ℕ))
 refused_short w krate skipped edition text TooLong h is = absurd cc
 refused_short w krate skipped edition text (Lower e) h is = h.0
 
+-- memory runs out behind what is read for a list
+pub clipped_no_memory : (w : Wanted) (krate : CrateData) (skipped : List (List ℕ)) (edition : EditionYear) (text : List ℕ) → length text ≤ 2 ^ 32 → IsClippedRefused w krate skipped edition text (Lower OutOfMemory)
+clipped_no_memory w krate skipped edition text short = (short, inl refl)
+
 -- what is read passes a size
 pub large_told : (w : Wanted) (krate : CrateData) (skipped : List (List ℕ)) (edition : EditionYear) (text : List ℕ) (closers : Option Closers) (file : SourceFile) (e : LowerError) → length text ≤ 2 ^ 32 → IsListedClipped w edition text closers (file_view file)
     → IsTooLargeIn krate false skipped (syntax_view file.syntax) e → IsClippedRefused w krate skipped edition text (Lower e)

@@ -5,6 +5,7 @@ use Rattle.hir_input.specs.Name.{is_among}
 use Rattle.item_tree.specs.Page.{page}
 use Rattle.tree_walk.specs.Rows.{rows}
 use Rattle.source_rows.specs.Listed.{Closers, MemberReading}
+use Rattle.source_listing.specs.ImportCfgs.{ImportChoice, UseCfgs, file_cfgs}
 use Rattle.source_listing.specs.ImportLines.{import_lines}
 use Rattle.source_listing.specs.Lines.{Choice, Source, problem_lines}
 use Rattle.source_listing.specs.Outlines.{Look, outline_text}
@@ -69,13 +70,25 @@ IsJson o depth has_members s out =
 abbrev pub all_places : SourceTree → FilePlaces
 all_places t = placed t.places.items t.use_trees.items
 
--- the lines of the imports
+-- the cfgs that are set, if what a cfg disables is left out
+abbrev pub if_active : Options → Option (List AtomView)
+if_active o = if o.only_active then Some o.krate.cfg else None
+
+-- which imports are listed, by the uses that stand under cfgs
+abbrev pub import_choice : Options → List UseCfgs → ImportChoice
+import_choice o uses = record { uses = uses; active_under = if_active o }
+
+-- the lines of the listed imports
 abbrev pub AreImports : Options → Form → Source → List ℕ → Type 0
-AreImports o form s out = (c : Option Closers) × (t : SourceTree) × HasListed o s.text c t × (out ≡ import_lines o.edition.reserved.items form s (all_places t) t.tree.forest)
+AreImports o form s out =
+    (c : Option Closers) × (t : SourceTree) × (h : HasListed o s.text c t)
+    × (out ≡ import_lines o.edition.reserved.items form (import_choice o (file_cfgs h.file.syntax)) s (all_places t) t.tree.forest)
 
 -- the lines of those that repeat an earlier one
-abbrev pub AreRepeated : Options → Source → List ℕ → Type 0
-AreRepeated o s out = (c : Option Closers) × (t : SourceTree) × HasListed o s.text c t × (out ≡ repeated_lines s o.edition.reserved.items (all_places t) t.tree.forest)
+abbrev pub AreRepeated : Options → Bool → Source → List ℕ → Type 0
+AreRepeated o is_colored s out =
+    (c : Option Closers) × (t : SourceTree) × (h : HasListed o s.text c t)
+    × (out ≡ repeated_lines is_colored s o.edition.reserved.items (import_choice o (file_cfgs h.file.syntax)) (all_places t) t.tree.forest)
 
 -- the lines of the items that are looked for, and of their members
 abbrev pub AreFound : Options → Bool → Query → Source → List ℕ → Type 0

@@ -1,5 +1,5 @@
 -- What is read for lists of rows, and for what is wrong.
-use Rattle.std.specs.Prelude.{◌≡◌, ◌≤◌, ◌^◌, ◌⊎◌, ℕ, Bool, List, Option, false, length}
+use Rattle.std.specs.Prelude.{◌≡◌, ◌≤◌, ◌^◌, ◌⊎◌, ℕ, Bool, List, Option, false, length, map}
 use Rattle.hir_input.specs.declared.edition.EditionYear.{EditionYear}
 use Rattle.item_tree.specs.declared.crate_data.CrateData.{CrateData}
 use Rattle.item_tree.specs.declared.fault.LowerError.TheVariants.{OutOfMemory}
@@ -19,7 +19,10 @@ use Rattle.itemtree_commands.specs.declared.trees.SourceError.{SourceError}
 use Rattle.itemtree_commands.specs.declared.trees.SourceError.TheVariants.{TooLong, Lower}
 use Rattle.itemtree_commands.specs.declared.trees.SourceTree.{SourceTree}
 use Rattle.itemtree_commands.specs.declared.listed.ListedTree.{ListedTree}
-use Rattle.itemtree_commands.specs.Answers.{if_members}
+use Rattle.itemtree_commands.specs.declared.listed.ListedUses.{ListedUses}
+use Rattle.source_listing.specs.ImportCfgs.{file_cfgs}
+use Rattle.source_listing.specs.Views.{use_cfgs_view}
+use Rattle.itemtree_commands.specs.Answers.{HasListed, if_members}
 use Rattle.itemtree_commands.specs.Trees.{IsListedTree, IsTreeIn}
 
 -- neither body texts nor attributes, but for conditions
@@ -46,6 +49,18 @@ pub record IsClippedTree (w : Wanted) (krate : CrateData) (skipped : List (List 
   pub file : FileView
   pub is_clipped : IsListedClipped w edition text (closers_in x.mended) file
   pub is_tree : IsTreeIn krate skipped file x.source
+
+-- the same, with its uses that stand under cfgs
+pub record IsClippedUses (w : Wanted) (krate : CrateData) (skipped : List (List ℕ)) (edition : EditionYear) (text : List ℕ) (x : ListedUses) : Type 0 where
+  pub file : FileView
+  pub is_clipped : IsListedClipped w edition text (closers_in x.listed.mended) file
+  pub is_tree : IsTreeIn krate skipped file x.listed.source
+  pub uses : map use_cfgs_view x.uses.items ≡ file_cfgs file.syntax
+
+-- the tree that lists tell of a text, and its uses that stand under cfgs
+pub record HasUses (o : Options) (text : List ℕ) (x : ListedUses) : Type 0 where
+  pub listed : HasListed o text (closers_in x.listed.mended) x.listed.source
+  pub uses : map use_cfgs_view x.uses.items ≡ file_cfgs listed.file.syntax
 
 -- there is none: the text or its mended one is too long, or what is wanted passes a size, or memory runs out
 abbrev pub IsClippedRefused : Wanted → CrateData → List (List ℕ) → EditionYear → List ℕ → SourceError → Type 0

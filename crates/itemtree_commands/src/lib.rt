@@ -1,6 +1,7 @@
 //! What the commands of `itemtree` answer for one file, from its text on.
 #![tactic(auto)]
 
+mod import_lists;
 mod laws;
 mod listed;
 mod request;
@@ -12,6 +13,7 @@ ghost use Rattle.itemtree_commands.specs.{Inner.reading_by, Trees.HasOwnIds, Tre
 ghost use Rattle.source_listing.specs.Views.{choice_view, look_view, query_view, reading_view, source_view};
 
 use hir_input::{CfgOptions, Edition, Name};
+pub use import_lists::{duplicates, imports};
 use item_tree::CrateData;
 use list_forms::Form;
 use listed::{listed_rows, listed_tree};
@@ -234,64 +236,6 @@ pub fn find(
     let edition = &options.edition;
     let (places, tree) = (&file.source.places, &file.source.tree);
     let text = source_listing::found_lines(alloc, source, places, tree, edition, reading, query)?;
-    Ok(text)
-}
-
-/// `itemtree imports`: a line or a JSON object for each import.
-///
-/// # Errors
-///
-/// Those of `source_tree`.
-#[tactic(auto, using(crate::proofs::Refused::no_list))]
-pub fn imports(
-    alloc: Global,
-    source: Source<'_>,
-    options: &Options,
-    form: Form,
-) -> Result<String, SourceError>
-    ensures text { IfOk result
-        (λ out. spec.AreImports options.now form (source_view source.entry) (string_bytes out)) }
-    ensures refused { IfErr result (spec.HasNoList options.now source.entry.text.now) }
-{
-    let file = listed_tree(alloc, source.text, options)?;
-    let edition = &options.edition;
-    let text = source_listing::import_lines(
-        alloc,
-        source,
-        &file.source.places,
-        &file.source.use_trees,
-        &file.source.tree,
-        edition,
-        form,
-    )?;
-    Ok(text)
-}
-
-/// `itemtree imports --duplicates`: a line for each import that repeats an earlier one of its module.
-///
-/// # Errors
-///
-/// Those of `source_tree`.
-#[tactic(auto, using(crate::proofs::Refused::no_list))]
-pub fn duplicates(
-    alloc: Global,
-    source: Source<'_>,
-    options: &Options,
-) -> Result<String, SourceError>
-    ensures text { IfOk result
-        (λ out. spec.AreRepeated options.now (source_view source.entry) (string_bytes out)) }
-    ensures refused { IfErr result (spec.HasNoList options.now source.entry.text.now) }
-{
-    let file = listed_tree(alloc, source.text, options)?;
-    let edition = &options.edition;
-    let text = source_listing::repeated_lines(
-        alloc,
-        source,
-        &file.source.places,
-        &file.source.use_trees,
-        &file.source.tree,
-        edition,
-    )?;
     Ok(text)
 }
 

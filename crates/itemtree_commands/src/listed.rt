@@ -4,7 +4,8 @@ ghost use Rattle.std.specs.Prelude.{◌≡◌, ◌≤◌, ◌^◌, length, IfOk,
 ghost use Rattle.item_tree.specs.declared.fault.LowerError.TheVariants.{OutOfMemory};
 ghost use Rattle.source_rows.specs.ListedFiles.{HasTextOf, closers_in};
 ghost use Rattle.itemtree_commands.specs.Answers as spec;
-ghost use Rattle.itemtree_commands.specs.Inner.{HasListedRows, IsClippedRefused, IsClippedTree};
+ghost use Rattle.itemtree_commands.specs.Inner.{HasListedRows, HasUses, IsClippedRefused, IsClippedTree};
+ghost use Rattle.itemtree_commands.specs.Inner.{IsClippedUses};
 ghost use Rattle.itemtree_commands.specs.Trees.{HasOwnIds};
 ghost use Rattle.itemtree_commands.specs.declared.trees.SourceError.TheVariants.{Lower};
 
@@ -13,6 +14,7 @@ use crate::trees::{SourceError, SourceTree, tree_of, wanted_under};
 use item_tree::LowerError;
 use rust_items::{Wanted, WantedMetas};
 use rust_mended::Mended;
+use source_listing::{UseCfgs, file_cfgs};
 use source_rows::read_listed;
 use std::alloc::Global;
 
@@ -64,6 +66,54 @@ pub(crate) fn listed_tree(
     ensures refused { IfErr result (spec.HasNoList options.now text.now) }
 {
     clipped_tree(alloc, text, wanted_under(&options.skipped), options)
+}
+
+/// The tree that lists tell of a text, and its uses that stand under cfgs.
+#[derive(Drop)]
+pub(crate) struct ListedUses {
+    pub(crate) listed: ListedTree,
+    pub(crate) uses: Vec<UseCfgs>,
+}
+
+/// The same of what is wanted of what lists read of a text.
+#[tactic(auto, using(crate::proofs::Refused::unlisted_told, crate::proofs::Refused::large_told, crate::proofs::Refused::clipped_no_memory))]
+fn clipped_uses(
+    alloc: Global,
+    text: &str,
+    wanted: Wanted,
+    options: &Options,
+) -> Result<ListedUses, SourceError>
+    ensures tree { let are_uses = IsClippedUses wanted options.now.krate options.now.skipped.items
+        options.now.edition.year text.now in
+        IfOk result are_uses }
+    ensures ids { IfOk result (λ x. HasOwnIds x.listed.source) }
+    ensures short { OnOk result (length text.now ≤ 2 ^ 32) }
+    ensures refused { let is_refused = IsClippedRefused wanted options.now.krate
+        options.now.skipped.items options.now.edition.year text.now in
+        IfErr result is_refused }
+{
+    let read = read_listed(alloc, text, wanted, options.edition.year)?;
+    let uses = file_cfgs(alloc, &read.file.syntax)?;
+    let source = tree_of(alloc, read.file, &options.krate, &options.skipped)?;
+    let listed = ListedTree {
+        source,
+        mended: read.mended,
+    };
+    Ok(ListedUses { listed, uses })
+}
+
+/// The tree that lists tell of a text, and its uses that stand under cfgs.
+pub(crate) fn listed_uses(
+    alloc: Global,
+    text: &str,
+    options: &Options,
+) -> Result<ListedUses, SourceError>
+    ensures uses { IfOk result (HasUses options.now text.now) }
+    ensures ids { IfOk result (λ x. HasOwnIds x.listed.source) }
+    ensures short { OnOk result (length text.now ≤ 2 ^ 32) }
+    ensures refused { IfErr result (spec.HasNoList options.now text.now) }
+{
+    clipped_uses(alloc, text, wanted_under(&options.skipped), options)
 }
 
 /// A tree that has the rows of that, with conditions alone as its attributes.

@@ -249,7 +249,7 @@ Status: 0, or 2 at an error",
 
 static IMPORTS: Description = Description {
     name: "imports",
-    about: "Lists the imports of files, also those that a cfg disables",
+    about: "Lists the imports of files",
     after: "Example: itemtree imports --duplicates src
 
 Status: 0, or 1 with --duplicates if there are some, 2 at an error",
@@ -258,6 +258,9 @@ Status: 0, or 1 with --duplicates if there are some, 2 at an error",
         HIDDEN,
         FOLLOW,
         EXCLUDE,
+        CFG,
+        HOST_CFG,
+        ACTIVE,
         DUPLICATES,
         COLOR,
         JSON_IMPORTS,

@@ -34,7 +34,7 @@ pub use Rattle.source_listing.specs.TagFields.{safe_char, scope_field}
 pub use Rattle.source_listing.specs.Tags.{TagFile, if_any, tag_inside}
 unfoldable pub use Rattle.source_listing.specs.Tags.{tags_inside}
 pub use Rattle.source_listing.specs.Uses.{FilePlaces, Trees, from_place, import_spot, placed, tree_spots, use_trees_at}
-pub use Rattle.source_listing.specs.Views.{choice_view, look_view, query_view, source_view}
+pub use Rattle.source_listing.specs.Views.{choice_view, import_choice_view, look_view, query_view, source_view}
 pub use Rattle.source_rows.specs.declared.finder.Spot.{Spot}
 pub use Rattle.source_listing.specs.declared.printer.Printer.{Printer}
 pub use Rattle.source_rows.specs.Listed.{Listed, MemberReading, header_of, members_of}

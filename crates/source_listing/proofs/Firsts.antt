@@ -6,6 +6,10 @@ use Rattle.std.specs.Option.{option_eq, option_or}
 use Rattle.std.proofs.Common.{cond}
 use Rattle.std.proofs.lemmas.Bool.Decides.{Decides-eqb, Decides-and, Decides-like, same_from_decides}
 use Rattle.std.proofs.lemmas.List.Folds.{find-append}
+use Rattle.source_listing.specs.Inner.{alike_by}
+use Rattle.source_listing.specs.ImportCfgs.{ImportChoice}
+use Rattle.source_listing.specs.Repeated.{are_excluded, is_one_around}
+use Rattle.std.proofs.Common.{bytes_eq, not}
 use Rattle.hir_input.specs.Equality.{DecidesEq, DecidesEqOf}
 use Rattle.source_listing.specs.declared.repeated.Key as code_key
 use Rattle.source_listing.specs.declared.repeated.Named as code_named
@@ -86,19 +90,51 @@ finds_more old new xs k x e put finds q =
     put q ∙ ap (λ o. if same_named_key k q then option_or o (Some x) else o) (finds q)
     ∙ last_or (find p xs) p x (same_named_key k q) (key_is k q x e) ∙ sym (find-append p xs (x ∷ []))
 
--- ---- imports that are alike have one key
+-- ---- imports that are alike have one key, and are not excluded
 
-alike_around : (x y : Option FileAstId) (a b : List ℕ) → is_alike (record { around = x; spot = None; text = a }) (record { around = y; spot = None; text = b }) ≡ has_named_key (key (record { around = x; spot = None; text = a })) (record { around = y; spot = None; text = b })
-alike_around None None a b = refl
-alike_around (Some x) (Some y) a b = refl
-alike_around _ _ a b = refl
+same_around : (x y : Option FileAstId) (a b : List ℕ) → (is_one_around x y && bytes_eq a b) ≡ (is_around (option_map id_key x) y && bytes_eq a b)
+same_around None None a b = refl
+same_around (Some x) (Some y) a b = refl
+same_around None (Some y) a b = refl
+same_around (Some x) None a b = refl
 
-alike_is : (x y : Named) → is_alike x y ≡ has_named_key (key x) y
-alike_is x y = alike_around x.around y.around x.text y.text
+alike_is : (c : ImportChoice) (x y : Named) → is_alike c x y ≡ (has_named_key (key x) y && not (are_excluded c x y))
+alike_is c x y = ap (λ b. b && not (are_excluded c x y)) (same_around x.around y.around x.text y.text)
 
--- what is found of its key is the first that is alike
-pub first_is : (table : Firsts) (xs : List Named) (k : code_key.Key) (x : Named) → named_key_view k ≡ key x → FindsFirsts table xs → first_in table k ≡ first_alike x xs
-first_is table xs k x e finds = finds k ∙ ap (λ z. find (has_named_key z) xs) e ∙ (λ i. find (λ y. sym (alike_is x y) i) xs)
+-- by the test of two keys
+pub alike_by_keys : (c : ImportChoice) (k q : code_key.Key) (x y : Named) → named_key_view k ≡ key y → named_key_view q ≡ key x → is_alike c x y ≡ (same_named_key k q && not (are_excluded c x y))
+alike_by_keys c k q x y e f = alike_is c x y ∙ ap (λ b. b && not (are_excluded c x y)) (ap (λ z. has_named_key z y) (sym f) ∙ sym (key_is k q y e))
+
+-- a first one of those with a test may fail a second one
+abbrev first_or : (Named → Bool) → (Named → Bool) → Option Named → List Named → Option Named
+first_or p r None ys = None
+first_or p r (Some f) ys = if r f then find (λ y. p y && not (r y)) ys else Some f
+
+found_both : (p r : Named → Bool) (ys all : List Named) → find (λ y. p y && not (r y)) ys ≡ find (λ y. p y && not (r y)) all → first_or p r (find p ys) all ≡ find (λ y. p y && not (r y)) ys
+found_both p r [] all e = refl
+found_both p r (y ∷ ys) all e = by (found_both p r ys all) (p y) (r y) refl refl
+  where
+    by : (find (λ z. p z && not (r z)) ys ≡ find (λ z. p z && not (r z)) all → first_or p r (find p ys) all ≡ find (λ z. p z && not (r z)) ys) → (b d : Bool) → p y ≡ b → r y ≡ d → first_or p r (find p (y ∷ ys)) all ≡ find (λ z. p z && not (r z)) (y ∷ ys)
+    by more true true g h =
+        let first : first_or p r (find p (y ∷ ys)) all ≡ find (λ z. p z && not (r z)) all = rw (g, h) refl in
+        first ∙ sym e
+    by more true false g h = rw (g, h) refl
+    by more false d g h =
+        let first : first_or p r (find p (y ∷ ys)) all ≡ first_or p r (find p ys) all = rw g refl in
+        let both : find (λ z. p z && not (r z)) (y ∷ ys) ≡ find (λ z. p z && not (r z)) ys = rw g refl in
+        first ∙ more (sym both ∙ e) ∙ sym both
+
+-- what is alike by the first of its key is the first that is alike
+pub alike_is_first : (c : ImportChoice) (table : Firsts) (xs : List Named) (k : code_key.Key) (x : Named) → named_key_view k ≡ key x → FindsFirsts table xs → alike_by c x (first_in table k) xs ≡ first_alike c x xs
+alike_is_first c table xs k x e finds =
+    let p = has_named_key (key x) in
+    let r = are_excluded c x in
+    let all : first_alike c x xs ≡ find (λ y. p y && not (r y)) xs = λ i. find (λ y. alike_is c x y i) xs in
+    ap (λ o. alike_by c x o xs) (finds k ∙ ap (λ z. find (has_named_key z) xs) e) ∙ same (find p xs) ∙ found_both p r xs xs refl ∙ sym all
+  where
+    same : (o : Option Named) → alike_by c x o xs ≡ first_or (has_named_key (key x)) (are_excluded c x) o xs
+    same None = refl
+    same (Some f) = ap (λ z. if are_excluded c x f then z else Some f) (λ i. find (λ y. alike_is c x y i) xs)
 
 -- ---- along a list
 

@@ -1,6 +1,8 @@
 -- Imports.
 use Rattle.source_listing.proofs.Common.{◌≡◌, ℕ, ◌<◌, ◌+◌, List, [], ◌∷◌, ◌++◌, length, map, take, ap, sym, ◌∙◌, subst, append-nil, Option, All, slice_index_or, flat_map, flat_map-append, flat_map-map, Import, Forest, Source, Spot, IsSameTreeFinder, IsTreeFinderOf, places_in, finder_text, FilePlaces, placed, get_or-map, length-map, take_more, declarations, DeclarationView, view_of, import_lines, of_seen, of_uses, seen_lines}
 use Rattle.list_forms.specs.declared.lines.Form.{Form}
+use Rattle.source_listing.specs.ImportCfgs.{ImportChoice}
+use Rattle.source_listing.specs.Inner.{file_in}
 use Rattle.source_listing.specs.declared.uses.TreeFinder.{TreeFinder}
 
 -- what is told of what is collected is what is told of what is declared
@@ -10,10 +12,10 @@ seen_of_all each see text places ds f e =
     sym (flat_map-map (of_seen each text places) see ds) ∙ ap (flat_map (of_seen each text places)) e ∙ flat_map-map (of_seen each text places) view_of (declarations f)
 
 -- the lines of what is collected are those of what is declared
-pub lines_of_all : {D : Type 0} (see : D → DeclarationView) (reserved : List (List ℕ)) (form : Form) (s : Source) (places : FilePlaces) (ds : List D) (f : Forest)
-    → map see ds ≡ map view_of (declarations f) → flat_map (λ d. seen_lines reserved form s places (see d)) ds ≡ import_lines reserved form s places f
-lines_of_all see reserved form s places ds f e =
-    let lines : DeclarationView → List ℕ = seen_lines reserved form s places in
+pub lines_of_all : {D : Type 0} (see : D → DeclarationView) (reserved : List (List ℕ)) (form : Form) (c : ImportChoice) (s : Source) (places : FilePlaces) (ds : List D) (f : Forest)
+    → map see ds ≡ map view_of (declarations f) → flat_map (λ d. seen_lines reserved form c s places (see d)) ds ≡ import_lines reserved form c s places f
+lines_of_all see reserved form c s places ds f e =
+    let lines : DeclarationView → List ℕ = seen_lines reserved form c s places in
     sym (flat_map-map lines see ds) ∙ ap (flat_map lines) e ∙ flat_map-map lines view_of (declarations f)
 
 -- what is collected is contained, each by itself
@@ -38,6 +40,13 @@ pub seen_by_finder : {A : Type 0} (each : (ℕ → Option Spot) → Import → L
     → of_seen each (finder_text f) (places_in f) d ≡ of_seen each text places d
 seen_by_finder each text places f d is =
     ap (λ t. of_seen each t (places_in f) d) is.0.0 ∙ ap (λ ps. of_seen each text (placed ps f.uses.all.now) d) is.0.1 ∙ ap (λ us. of_seen each text (placed places.items us) d) is.1
+
+-- the same of its lines
+pub lines_by_finder : (reserved : List (List ℕ)) (form : Form) (c : ImportChoice) (s : Source) (places : FilePlaces) (f : TreeFinder) (d : DeclarationView) → IsTreeFinderOf s.text places f
+    → seen_lines reserved form c (file_in s.path f) (places_in f) d ≡ seen_lines reserved form c s places d
+lines_by_finder reserved form c s places f d is =
+    ap (λ t. seen_lines reserved form c (record { path = s.path; text = t }) (places_in f) d) is.0.0 ∙ ap (λ ps. seen_lines reserved form c s (placed ps f.uses.all.now) d) is.0.1
+    ∙ ap (λ us. seen_lines reserved form c s (placed places.items us) d) is.1
 
 -- the places are the same
 pub places_kept : (old new : TreeFinder) → IsSameTreeFinder old new → places_in new ≡ places_in old

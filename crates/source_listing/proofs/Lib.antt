@@ -6,6 +6,8 @@ pub mod Pushed
 pub mod Chosen
 pub mod Tagged
 pub mod Searches
+pub mod ImportCfgLists
+pub mod ImportExclusions
 pub mod Imported
 pub mod Repeats
 pub mod Printers

@@ -1,7 +1,9 @@
 -- What is listed holds no float.
 use Rattle.line_index.specs.declared.Position.{Position}
 use Rattle.source_listing.proofs.Common.{file_import_object, Candidate, column_number, found_object, line_number, ◌≡◌, ℕ, ◌+◌, Bool, true, false, ◌||◌, if◌then◌else◌, List, [], ◌∷◌, ◌++◌, Option, Some, None, option_map, refl, filter, map, flat_map, items_of, view_of, Import, Node, leaf, parent, Forest, empty, more, node_ast, Unfolding, ItemPlace, Listed, MemberReading, header_of, members_of, Spot, FilePlaces, Choice, Source, is_chosen, place_of, spot_at, Declared, declared_name, declared_imports, declarations, Subject, no_subject, is_file_enabled, alias_form, import_form, import_object, seen_objects, import_objects, of_declared, spots_of_any, Entry, ItemView, item_in, name_form, header_form, subject_form, visibility_form, line_form, column_form, range_form, entry_object, item_entry, member_entry, member_spot, member_object, member_objects, file_form, whole_object, own_objects, node_objects, listed_objects, tree_objects, problem_objects}
-use Rattle.serde_json.specs.Data.{Data, Items, no_items}
+use Rattle.serde_json.specs.Data.{Data, Items, no_items, string}
+use Rattle.hir_input.specs.Cfg.{CfgView, shown_cfg}
+use Rattle.source_listing.specs.ImportLines.{cfgs_form}
 use Rattle.serde_json.specs.Written.{has_float, items_have_float}
 use Rattle.item_tree.specs.declared.visibility.RawVisibility.{RawVisibility}
 use Rattle.item_tree.specs.declared.visibility.RawVisibility.TheVariants.{PubSelf}
@@ -137,6 +139,9 @@ found_none path p c = rw (column_number_none p, line_number_none p) refl
 
 -- ---- imports with what is around them
 
-pub use_none : (reserved : List (List ℕ)) (path scope : List ℕ) (v : Option RawVisibility) (spot : Option Spot) (x : Import) → has_float (file_import_object reserved path scope v spot x) ≡ false
-use_none reserved path scope v spot x =
-    rw (some_none (alias_form reserved) x.alias refl (λ a. refl), some_none column_form spot refl (λ a. refl), some_none line_form spot refl (λ a. refl), some_none range_form spot refl (λ a. refl), visibility_none reserved v) refl
+cfgs_none : (cfgs : List CfgView) → has_float (cfgs_form cfgs) ≡ false
+cfgs_none cfgs = map_none (λ c. string (shown_cfg c)) cfgs (λ c. refl)
+
+pub use_none : (reserved : List (List ℕ)) (path scope : List ℕ) (v : Option RawVisibility) (cfgs : List CfgView) (spot : Option Spot) (x : Import) → has_float (file_import_object reserved path scope v cfgs spot x) ≡ false
+use_none reserved path scope v cfgs spot x =
+    rw (cfgs_none cfgs, some_none (alias_form reserved) x.alias refl (λ a. refl), some_none column_form spot refl (λ a. refl), some_none line_form spot refl (λ a. refl), some_none range_form spot refl (λ a. refl), visibility_none reserved v) refl

@@ -34,7 +34,8 @@ use Rattle.source_listing.specs.declared.uses.TreeFinder.{TreeFinder}
 use Rattle.source_listing.specs.Lines.{Choice, Source}
 use Rattle.source_listing.specs.Objects.{Entry, ItemView, column_form, item_in, line_form, node_objects, range_form}
 use Rattle.source_rows.specs.Places.{AreDistinct}
-use Rattle.source_listing.specs.Repeated.{Named, leaf_named, node_named}
+use Rattle.source_listing.specs.Repeated.{Named, are_excluded, first_alike, leaf_named, node_named}
+use Rattle.source_listing.specs.ImportCfgs.{ImportChoice}
 use Rattle.source_listing.specs.Tags.{TagFile}
 use Rattle.source_listing.specs.Search.{Candidate}
 use Rattle.source_listing.specs.Sought.{Split}
@@ -143,17 +144,17 @@ abbrev pub IsSameTreeFinder : TreeFinder → TreeFinder → Type 0
 IsSameTreeFinder old new = IsSameFinder old.finder new.finder × (new.uses.all.now ≡ old.uses.all.now)
 
 abbrev pub listed_named_view : code_named.Named → Named
-listed_named_view x = record { around = x.around; spot = x.spot; text = string_bytes x.text }
+listed_named_view x = record { around = x.around; at = x.at; spot = x.spot; text = string_bytes x.text }
 
-module _ (text : List ℕ) (places : FilePlaces) (reserved : List (List ℕ)) where
+module _ (text : List ℕ) (places : FilePlaces) (reserved : List (List ℕ)) (c : ImportChoice) where
   -- those of a node itself
   abbrev pub own_named : Option FileAstId → Node → List Named
-  own_named around (leaf h l) = leaf_named text places reserved around (node_ast (leaf h l)) l
+  own_named around (leaf h l) = leaf_named text places reserved c around (node_ast (leaf h l)) l
   own_named around (parent h t f) = []
 
   -- those of what is lent
   abbrev pub lent_named : Option FileAstId → FileAstId → Lent → List Named
-  lent_named around at (lent_leaf a l) = leaf_named text places reserved around at l
+  lent_named around at (lent_leaf a l) = leaf_named text places reserved c around at l
   lent_named around at (lent_parent a t is) = []
 
   -- those of the item of an id itself, and of all that stand in it
@@ -161,7 +162,7 @@ module _ (text : List ℕ) (places : FilePlaces) (reserved : List (List ℕ)) wh
   own_named_at u around i = of_id u [] (own_named around) i
 
   abbrev pub named_at : Unfolding → Option FileAstId → ℕ → List Named
-  named_at u around i = of_id u [] (node_named text places reserved around) i
+  named_at u around i = of_id u [] (node_named text places reserved c around) i
 
 -- ---- the first imports that are alike, by what they have in common
 
@@ -194,6 +195,11 @@ Firsts = HashMap code_key.Key (Bor code_named.Named) (BuildHasherDefault FoldHas
 
 abbrev pub first_in : Firsts → code_key.Key → Option Named
 first_in table k = option_map (λ n. listed_named_view n.now) (get same_named_key table k)
+
+-- what is alike, by the first of its key and those before: where that is excluded, the first of those before that is alike
+abbrev pub alike_by : ImportChoice → Named → Option Named → List Named → Option Named
+alike_by c x None before = None
+alike_by c x (Some first) before = if are_excluded c x first then first_alike c x before else Some first
 
 -- this import is put in, unless one of its key is there
 abbrev pub PutsFirst : Firsts → Firsts → code_key.Key → Named → Type 0

@@ -3,6 +3,8 @@ pub mod Outlines
 pub mod Objects
 pub mod Uses
 pub mod Told
+pub mod ImportCfgs
+pub mod ImportExclusion
 pub mod Imports
 pub mod ImportLines
 pub mod ImportObjects

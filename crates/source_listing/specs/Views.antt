@@ -1,7 +1,11 @@
 -- What the code holds, as plain data.
-use Rattle.std.specs.Prelude.{map, option_map, string_bytes}
+use Rattle.std.specs.Prelude.{map, option_copied, option_map, string_bytes}
+use Rattle.hir_input.specs.Cfg.{cfg_view}
 pub use Rattle.source_rows.specs.Views.{source_view}
 pub use Rattle.source_rows.specs.ListedViews.{reading_view}
+use Rattle.source_listing.specs.declared.import_cfgs.UseCfgs as code_cfgs
+use Rattle.source_listing.specs.declared.import_cfgs.ImportChoice as code_imports
+use Rattle.source_listing.specs.ImportCfgs.{ImportChoice, UseCfgs}
 use Rattle.source_listing.specs.declared.lines.Choice as code_choice
 use Rattle.source_listing.specs.declared.patterns.Pattern as code_pattern
 use Rattle.source_listing.specs.declared.search.Query as code_query
@@ -46,3 +50,11 @@ line_view l = record { text = l.text.now; behind = option_map (λ s. s.now) l.be
 -- the same of a path of which the last name is a glob
 abbrev pub pattern_view : code_pattern.Pattern → Pattern
 pattern_view p = record { scope = string_bytes p.scope; name = string_bytes p.name; is_anywhere = p.is_anywhere }
+
+-- a use and its cfgs as plain data
+abbrev pub use_cfgs_view : code_cfgs.UseCfgs → UseCfgs
+use_cfgs_view u = record { id = u.id; cfgs = map cfg_view u.cfgs.items }
+
+-- which imports are listed, as plain data
+abbrev pub import_choice_view : code_imports.ImportChoice → ImportChoice
+import_choice_view c = record { uses = map use_cfgs_view c.uses.now; active_under = option_copied c.active_under }

@@ -1,7 +1,7 @@
 //! Lists of imports.
 ghost use Rattle.std.specs.Prelude.{◌≡◌, ◌++◌, ◌∷◌, [], Some, IfOk, OnOk, map, option_copied, option_map};
 ghost use Rattle.std.specs.Prelude.{string_bytes, flat_map};
-ghost use Rattle.tree_walk.specs.DeclarationView.{declaration_view};
+ghost use Rattle.tree_walk.specs.DeclarationView.{declaration_view, declared_by};
 ghost use Rattle.tree_walk.specs.Listed.{listed_import};
 ghost use Rattle.item_tree.specs.Shown.{IsContained};
 ghost use Rattle.item_tree.specs.UseText.{shown_rename};
@@ -9,21 +9,23 @@ ghost use Rattle.list_forms.specs.declared.lines.Form.TheVariants.{Json};
 ghost use Rattle.serde_json.specs.Data.{no_members};
 ghost use Rattle.serde_json.specs.View.{members_view, view};
 ghost use Rattle.source_listing.specs.ImportLines as spec;
-ghost use Rattle.source_listing.specs.Imports.{import_text};
+ghost use Rattle.source_listing.specs.Imports.{import_text, of_declared};
 ghost use Rattle.source_listing.specs.Paths.{bare_segment};
 ghost use Rattle.source_listing.specs.Inner.{FindsTrees, IsSameTreeFinder, file_in, places_in, finder_text};
 ghost use Rattle.source_listing.specs.Inner.{placed_trees_view};
 ghost use Rattle.source_rows.specs.Places.{AreDistinct};
-ghost use Rattle.source_listing.specs.Uses.{placed, tree_spots};
-ghost use Rattle.source_listing.specs.Views.{source_view};
+ghost use Rattle.source_listing.specs.Uses.{import_spot, placed, tree_spots};
+ghost use Rattle.source_listing.specs.Views.{import_choice_view, source_view};
+ghost use Rattle.hir_input.specs.Cfg.{cfg_view};
 
+use crate::import_cfgs::ImportChoice;
 use crate::import_objects::put_import;
 use crate::lines::push_spot;
 use crate::paths::push_scope;
 use crate::sought::joined_scope;
 use crate::uses::{TreeFinder, UseTrees};
 use crate::values::{put_text, range_value, visibility_value};
-use hir_input::Edition;
+use hir_input::{CfgExpr, Edition, FileAstId};
 use item_tree::{ImportAlias, ImportKind, ItemTree, RawVisibility};
 use list_forms::{BOLD, FAINT, Form, USUAL, push_color, value_line};
 use rust_items::ItemPlace;
@@ -81,6 +83,7 @@ struct Around<'a> {
     /// The modules around it, with two colons before each.
     scope: &'a str,
     visibility: Option<&'a RawVisibility>,
+    cfgs: &'a [CfgExpr],
 }
 
 #[tactic(auto, unfolding(list_forms::specs::Colors::colored_text))]
@@ -105,6 +108,17 @@ fn push_line(
     out.push_str("\n")
 }
 
+/// The texts of cfgs.
+fn cfgs_value(alloc: Global, cfgs: &[CfgExpr]) -> Result<Value, AllocError>
+    ensures { IfOk result (λ value. view value ≡ spec.cfgs_form (map cfg_view cfgs.now)) }
+{
+    let mut texts = Vec::new(alloc);
+    for cfg in cfgs {
+        texts.push(Value::String(cfg.to_string(alloc)?))?;
+    }
+    Ok(Value::Array(texts))
+}
+
 fn file_import_object(
     alloc: Global,
     edition: &Edition,
@@ -114,11 +128,12 @@ fn file_import_object(
 ) -> Result<Value, AllocError>
     ensures { let a = around.entry in
         let object = spec.file_import_object edition.now.reserved.items a.path.now a.scope.now in
-        let object = object (option_copied a.visibility) in
+        let object = object (option_copied a.visibility) (map cfg_view a.cfgs.now) in
         IfOk result (λ value. view value ≡ object spot (listed_import import.now)) }
 {
     let mut members = Map::new(alloc);
     put_import(alloc, edition, spot, import, &mut members)?;
+    put(&mut members, alloc, "cfg", cfgs_value(alloc, around.cfgs)?)?;
     put_text(alloc, "file", around.path, &mut members)?;
     put_text(alloc, "module", joined_scope(around.scope), &mut members)?;
     put(&mut members, alloc, "range", range_value(alloc, spot)?)?;
@@ -127,7 +142,6 @@ fn file_import_object(
     Ok(Value::Object(members))
 }
 
-#[tactic(auto, using(crate::proofs::NoFloats::use_none))]
 fn push_object(
     alloc: Global,
     edition: &Edition,
@@ -138,7 +152,7 @@ fn push_object(
 ) -> Result<(), AllocError>
     ensures { let a = around.entry in
         let told = spec.import_told edition.now.reserved.items Json a.path.now a.scope.now in
-        let line = told (option_copied a.visibility) spot (listed_import import.now) in
+        let line = told (option_copied a.visibility) (map cfg_view a.cfgs.now) spot (listed_import import.now) in
         OnOk result (string_bytes out.new ≡ string_bytes out.old ++ line) }
 {
     let object = file_import_object(alloc, edition, around, spot, import)?;
@@ -156,7 +170,7 @@ fn push_import(
 ) -> Result<(), AllocError>
     ensures { let a = around.entry in
         let told = spec.import_told edition.now.reserved.items a.form a.path.now a.scope.now in
-        let line = told (option_copied a.visibility) spot (listed_import import.now) in
+        let line = told (option_copied a.visibility) (map cfg_view a.cfgs.now) spot (listed_import import.now) in
         OnOk result (string_bytes out.new ≡ string_bytes out.old ++ line) }
 {
     match around.form {
@@ -180,7 +194,7 @@ fn push_imports(
     ensures text { let a = around.entry in
         let spots = tree_spots (finder_text finder.old) (option_map placed_trees_view trees.entry) in
         let line = spec.numbered_import edition.now.reserved.items a.form a.path.now a.scope.now in
-        let line = line (option_copied a.visibility) spots in
+        let line = line (option_copied a.visibility) (map cfg_view a.cfgs.now) spots in
         OnOk result (string_bytes out.new ≡ string_bytes out.old ++ flat_map line (map listed_import imports.now)) }
     ensures same { IsSameTreeFinder finder.old finder.new }
 {
@@ -202,22 +216,25 @@ fn scope_of(alloc: Global, declaration: &Declaration<'_>) -> Result<String, Allo
     Ok(scope)
 }
 
-/// The imports of an item, if that is a use.
-fn push_declaration(
+/// The imports of a declaration of an item under these cfgs, if that is a use.
+fn push_under(
     alloc: Global,
     edition: &Edition,
     form: Form,
     path: &str,
     finder: &mut TreeFinder<'_>,
-    tree: &ItemTree,
+    id: FileAstId,
+    cfgs: &[CfgExpr],
     declaration: &Declaration<'_>,
     out: &mut String,
 ) -> Result<(), AllocError>
     requires finds { FindsTrees finder.old }
-    requires contained { IsContained tree.now declaration.now.id }
-    ensures text { let lines = spec.seen_lines edition.now.reserved.items form
-        (file_in path.now finder.old) (places_in finder.old) in
-        OnOk result (string_bytes out.new ≡ string_bytes out.old ++ lines (declaration_view tree.now declaration.now)) }
+    ensures text { let d = declaration.now in
+        let told = spec.numbered_import edition.now.reserved.items form path.now in
+        let told = told (flat_map bare_segment (map (λ n. n.now) d.path.value.items)) (option_copied d.visibility) in
+        let told = told (map cfg_view cfgs.now) in
+        let lines = of_declared told (import_spot (finder_text finder.old) (places_in finder.old) id) in
+        OnOk result (string_bytes out.new ≡ string_bytes out.old ++ lines (declared_by d.declares)) }
     ensures same { IsSameTreeFinder finder.old finder.new }
 {
     match &declaration.declares {
@@ -229,17 +246,56 @@ fn push_declaration(
                 path,
                 scope: &scope,
                 visibility: declaration.visibility,
+                cfgs,
             };
-            let trees = finder.find(declaration.id.ast_id(tree));
+            let trees = finder.find(id);
             push_imports(alloc, edition, around, finder, trees, imports, out)
         }
     }
 }
 
-/// The imports of a file, in the order in which they are written, also what a cfg disables. Each is a line: file, line
-/// and column of its own use tree, and the import as a use of it alone would be written. Or it is a JSON object on a
-/// line: what `import_items` has, the `file`, the names of the modules around it as `module`, with two colons between
-/// each two, the `visibility` of its use, and the bytes of that, with its attributes, as `range`.
+/// The listed imports of an item, if that is a use.
+fn push_declaration(
+    alloc: Global,
+    edition: &Edition,
+    form: Form,
+    choice: ImportChoice<'_>,
+    path: &str,
+    finder: &mut TreeFinder<'_>,
+    tree: &ItemTree,
+    declaration: &Declaration<'_>,
+    out: &mut String,
+) -> Result<(), AllocError>
+    requires finds { FindsTrees finder.old }
+    requires contained { IsContained tree.now declaration.now.id }
+    ensures text { let lines = spec.seen_lines edition.now.reserved.items form (import_choice_view choice.entry)
+        (file_in path.now finder.old) (places_in finder.old) in
+        OnOk result (string_bytes out.new ≡ string_bytes out.old ++ lines (declaration_view tree.now declaration.now)) }
+    ensures same { IsSameTreeFinder finder.old finder.new }
+{
+    let id = declaration.id.ast_id(tree);
+    let cfgs = choice.cfgs(id);
+    if !choice.lists(cfgs) {
+        return Ok(());
+    }
+    push_under(
+        alloc,
+        edition,
+        form,
+        path,
+        finder,
+        id,
+        cfgs,
+        declaration,
+        out,
+    )
+}
+
+/// The listed imports of a file, in the order in which they are written. Each is a line: file, line and column of its
+/// own use tree, and the import as a use of it alone would be written. Or it is a JSON object on a line: what
+/// `import_items` has, the texts of the cfgs under which its use stands as `cfg`, the `file`, the names of the modules
+/// around it as `module`, with two colons between each two, the `visibility` of its use, and the bytes of that, with
+/// its attributes, as `range`.
 ///
 /// The places, and those of the use trees, are what the reader gave with the syntax of the tree.
 ///
@@ -254,10 +310,12 @@ pub fn import_lines(
     tree: &ItemTree,
     edition: &Edition,
     form: Form,
+    choice: ImportChoice<'_>,
 ) -> Result<String, AllocError>
     requires { AreDistinct places.now }
     ensures { let all = placed places.now use_trees.now in
-        let lines = spec.import_lines edition.now.reserved.items form (source_view source.entry) all in
+        let lines = spec.import_lines edition.now.reserved.items form (import_choice_view choice.entry) in
+        let lines = lines (source_view source.entry) all in
         IfOk result (λ text. string_bytes text ≡ lines tree.now.forest) }
 {
     let mut finder = TreeFinder::new(source.text, places, use_trees);
@@ -269,6 +327,7 @@ pub fn import_lines(
             alloc,
             edition,
             form,
+            choice,
             path,
             &mut finder,
             tree,

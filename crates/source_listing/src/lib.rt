@@ -2,7 +2,10 @@
 #![tactic(auto)]
 
 mod found_objects;
+mod import_cfgs;
+mod import_exclusion;
 mod import_objects;
+mod import_repeats;
 mod imports;
 mod json;
 mod laws;
@@ -25,6 +28,7 @@ mod use_places;
 mod uses;
 mod values;
 
+pub use import_cfgs::{ImportChoice, UseCfgs, file_cfgs};
 pub use import_objects::import_items;
 pub use imports::import_lines;
 pub use json::{outline_items, outline_json};

@@ -1,5 +1,5 @@
-//! Imports that repeat an earlier one of their module.
-ghost use Rattle.std.specs.Prelude.{◌≡◌, ◌++◌, [], map, IfOk, OnOk, option_map, string_bytes, flat_map};
+//! Imports that repeat an earlier one of their module, under cfgs that may be true together.
+ghost use Rattle.std.specs.Prelude.{◌≡◌, ◌++◌, [], Some, map, IfOk, OnOk, option_map, string_bytes, flat_map};
 ghost use Rattle.tree_walk.specs.Listed.{listed_import};
 ghost use Rattle.item_tree.specs.Shown.{IsContained};
 ghost use Rattle.item_tree.specs.Walk.{AreContained};
@@ -10,10 +10,13 @@ ghost use Rattle.source_listing.specs.Inner.{placed_trees_view};
 ghost use Rattle.source_rows.specs.Places.{AreDistinct};
 ghost use Rattle.source_listing.specs.Repeated as spec;
 ghost use Rattle.source_listing.specs.Uses.{placed, tree_spots};
-ghost use Rattle.source_listing.specs.Views.{source_view};
+ghost use Rattle.source_listing.specs.Inner.{alike_by};
+ghost use Rattle.source_listing.specs.Views.{import_choice_view, source_view};
 
+use crate::import_cfgs::ImportChoice;
+use crate::import_exclusion::exclude_each_other;
+use crate::import_repeats::push_if_any;
 use crate::imports::push_import_text;
-use crate::lines::push_spot;
 use crate::uses::{TreeFinder, UseTrees};
 use hir_input::{Edition, FileAstId};
 use item_tree::{ItemTree, ModItemId, ModItemKind};
@@ -23,28 +26,35 @@ use std::alloc::{AllocError, Global};
 use std::collections::HashMap;
 use tree_walk::{Listed, children, list_imports};
 
-/// An import: the item that its use stands in, its place, and how a use of it alone would be written.
+/// An import: the item that its use stands in, the use, its place, and how a use of it alone would be written.
 #[derive(Drop)]
 pub(crate) struct Named {
     around: Option<FileAstId>,
-    spot: Option<Spot>,
-    text: String,
+    at: FileAstId,
+    pub(crate) spot: Option<Spot>,
+    pub(crate) text: String,
 }
 
 fn named_import(
     alloc: Global,
     edition: &Edition,
     around: Option<FileAstId>,
+    at: FileAstId,
     spot: Option<Spot>,
     import: &Listed,
 ) -> Result<Named, AllocError>
     ensures { let text = import_text edition.now.reserved.items import.now.kind import.now.path
         import.now.alias in
-        IfOk result (λ n. listed_named_view n ≡ record { around = around; spot = spot; text = text }) }
+        IfOk result (λ n. listed_named_view n ≡ record { around = around; at = at; spot = spot; text = text }) }
 {
     let mut text = String::new(alloc);
     push_import_text(edition, import, &mut text)?;
-    Ok(Named { around, spot, text })
+    Ok(Named {
+        around,
+        at,
+        spot,
+        text,
+    })
 }
 
 /// The imports of a use, whose use trees are these.
@@ -52,6 +62,7 @@ fn push_listed(
     alloc: Global,
     edition: &Edition,
     around: Option<FileAstId>,
+    at: FileAstId,
     finder: &mut TreeFinder<'_>,
     trees: Option<UseTrees<'_>>,
     imports: &[Listed],
@@ -59,21 +70,22 @@ fn push_listed(
 ) -> Result<(), AllocError>
     ensures named { let spots = tree_spots (finder_text finder.old)
         (option_map placed_trees_view trees.entry) in
-        let own = map (spec.named_import edition.now.reserved.items around spots) (map listed_import imports.now) in
+        let own = map (spec.named_import edition.now.reserved.items around at spots) (map listed_import imports.now) in
         OnOk result (map listed_named_view found.new.items ≡ map listed_named_view found.old.items ++ own) }
     ensures same { IsSameTreeFinder finder.old finder.new }
 {
     for import in imports {
         let spot = finder.spot(trees, import.index);
-        found.push(named_import(alloc, edition, around, spot, import)?)?;
+        found.push(named_import(alloc, edition, around, at, spot, import)?)?;
     }
     Ok(())
 }
 
-/// The imports of an item, if that is a use.
+/// The listed imports of an item, if that is a use.
 fn push_own(
     alloc: Global,
     edition: &Edition,
+    choice: ImportChoice<'_>,
     finder: &mut TreeFinder<'_>,
     tree: &ItemTree,
     around: Option<FileAstId>,
@@ -83,15 +95,19 @@ fn push_own(
     requires finds { FindsTrees finder.old }
     requires contained { IsContained tree.now id }
     ensures named { let own = own_named_at (finder_text finder.old)
-        (places_in finder.old) edition.now.reserved.items tree.now around id in
+        (places_in finder.old) edition.now.reserved.items (import_choice_view choice.entry) tree.now around id in
         OnOk result (map listed_named_view found.new.items ≡ map listed_named_view found.old.items ++ own) }
     ensures same { IsSameTreeFinder finder.old finder.new }
 {
     match tree.index(id) {
         ModItemKind::Use(_, item) => {
+            let at = id.ast_id(tree);
+            if !choice.lists(choice.cfgs(at)) {
+                return Ok(());
+            }
             let imports = list_imports(alloc, item)?;
-            let trees = finder.find(id.ast_id(tree));
-            push_listed(alloc, edition, around, finder, trees, &imports, found)
+            let trees = finder.find(at);
+            push_listed(alloc, edition, around, at, finder, trees, &imports, found)
         }
         _ => Ok(()),
     }
@@ -102,6 +118,7 @@ fn push_own(
 fn push_all(
     alloc: Global,
     edition: &Edition,
+    choice: ImportChoice<'_>,
     finder: &mut TreeFinder<'_>,
     tree: &ItemTree,
     around: Option<FileAstId>,
@@ -112,12 +129,12 @@ fn push_all(
     requires contained { AreContained tree.now ids.now }
     ensures named { let all = flat_map
         (named_at (finder_text finder.old)
-        (places_in finder.old) edition.now.reserved.items tree.now around) ids.now in
+        (places_in finder.old) edition.now.reserved.items (import_choice_view choice.entry) tree.now around) ids.now in
         OnOk result (map listed_named_view found.new.items ≡ map listed_named_view found.old.items ++ all) }
     ensures same { IsSameTreeFinder finder.old finder.new }
 {
     for id in ids {
-        push_one(alloc, edition, finder, tree, around, *id, found)?;
+        push_one(alloc, edition, choice, finder, tree, around, *id, found)?;
     }
     Ok(())
 }
@@ -127,6 +144,7 @@ fn push_all(
 fn push_one(
     alloc: Global,
     edition: &Edition,
+    choice: ImportChoice<'_>,
     finder: &mut TreeFinder<'_>,
     tree: &ItemTree,
     around: Option<FileAstId>,
@@ -136,15 +154,16 @@ fn push_one(
     requires finds { FindsTrees finder.old }
     requires contained { IsContained tree.now id }
     ensures named { let all = named_at (finder_text finder.old)
-        (places_in finder.old) edition.now.reserved.items tree.now around id in
+        (places_in finder.old) edition.now.reserved.items (import_choice_view choice.entry) tree.now around id in
         OnOk result (map listed_named_view found.new.items ≡ map listed_named_view found.old.items ++ all) }
     ensures same { IsSameTreeFinder finder.old finder.new }
 {
-    push_own(alloc, edition, finder, tree, around, id, found)?;
+    push_own(alloc, edition, choice, finder, tree, around, id, found)?;
     let inside = Some(id.ast_id(tree));
     push_all(
         alloc,
         edition,
+        choice,
         finder,
         tree,
         inside,
@@ -175,52 +194,84 @@ fn key_of(import: &Named) -> Key<'_>
 /// The first import of each key.
 type Firsts<'n> = HashMap<Key<'n>, &'n Named>;
 
-/// Where something stands, with nothing behind it.
-fn push_spot_alone(path: &str, spot: Option<Spot>, out: &mut String) -> Result<(), AllocError>
-    ensures { OnOk result (string_bytes out.new ≡ string_bytes out.old
-        ++ spec.spot_text path.now spot) }
-{
-    match spot {
-        Some(spot) => {
-            let (line, column) = (spot.position.line, spot.position.column);
-            write!(out, "{path}:{line}:{column}")
+impl ImportChoice<'_> {
+    /// Whether two imports stand under cfgs that are seen never to be true together.
+    fn are_excluded(self, import: &Named, earlier: &Named) -> bool
+        ensures { let choice = import_choice_view self.entry in
+            result ≡ spec.are_excluded choice (listed_named_view import.now) (listed_named_view earlier.now) }
+    {
+        exclude_each_other(self.cfgs(import.at), self.cfgs(earlier.at))
+    }
+
+    /// Whether an import is written like another in its module, and not excluded by its cfgs.
+    #[tactic(auto, using(crate::proofs::Firsts::alike_by_keys))]
+    fn are_alike(self, import: &Named, earlier: &Named) -> bool
+        ensures { let choice = import_choice_view self.entry in
+            result ≡ spec.is_alike choice (listed_named_view import.now) (listed_named_view earlier.now) }
+    {
+        key_of(earlier) == key_of(import) && !self.are_excluded(import, earlier)
+    }
+
+    /// The first of these that is alike.
+    fn first_alike<'n>(self, import: &Named, before: &[&'n Named]) -> Option<&'n Named>
+        ensures { let choice = import_choice_view self.entry in
+            let all = map (λ b. listed_named_view b.now) before.now in
+            let first = spec.first_alike choice (listed_named_view import.now) all in
+            option_map (λ b. listed_named_view b.now) result ≡ first }
+    {
+        for earlier in before {
+            if self.are_alike(import, earlier) {
+                return Some(*earlier);
+            }
         }
-        None => out.push_str(path),
+        None
+    }
+
+    /// What is alike, by the first of its key and those before.
+    fn alike_by<'n>(
+        self,
+        import: &Named,
+        first: &'n Named,
+        before: &[&'n Named],
+    ) -> Option<&'n Named>
+        ensures { let choice = import_choice_view self.entry in
+            let all = map (λ b. listed_named_view b.now) before.now in
+            let first = Some (listed_named_view first.entry.now) in
+            let alike = alike_by choice (listed_named_view import.now) first all in
+            option_map (λ b. listed_named_view b.now) result ≡ alike }
+    {
+        if self.are_excluded(import, first) {
+            return self.first_alike(import, before);
+        }
+        Some(first)
     }
 }
 
-fn push_repeat(
-    path: &str,
-    import: &Named,
-    first: &Named,
-    out: &mut String,
-) -> Result<(), AllocError>
-    ensures { let line = spec.repeat_line path.now (listed_named_view import.now) (listed_named_view first.now) in
-        OnOk result (string_bytes out.new ≡ string_bytes out.old ++ line) }
-{
-    push_spot(path, import.spot, out)?;
-    out.push_str(&import.text)?;
-    out.push_str(" (again, first at ")?;
-    push_spot_alone(path, first.spot, out)?;
-    out.push_str(")\n")
-}
-
-/// The line of an import, if one before it is of its key; else it is the first.
+/// The line of an import, if one of those before it is alike. If none is of its key, it is the first.
 fn push_if_repeated<'n>(
+    choice: ImportChoice<'_>,
+    is_colored: bool,
     path: &str,
     key: Key<'n>,
     import: &'n Named,
+    before: &[&'n Named],
     firsts: &mut Firsts<'n>,
     out: &mut String,
 ) -> Result<(), AllocError>
-    ensures text { let line = spec.line_if_any path.now (listed_named_view import.now)
-        (first_in firsts.old key.entry) in
+    ensures text { let import = listed_named_view import.now in
+        let all = map (λ b. listed_named_view b.now) before.now in
+        let choice = import_choice_view choice.entry in
+        let alike = alike_by choice import (first_in firsts.old key.entry) all in
+        let line = spec.line_if_any is_colored path.now import alike in
         OnOk result (string_bytes out.new ≡ string_bytes out.old ++ line) }
     ensures first { OnOk result
         (PutsFirst firsts.old firsts.new key.entry (listed_named_view import.now)) }
 {
     match firsts.get(&key).copied() {
-        Some(first) => push_repeat(path, import, first, out),
+        Some(first) => {
+            let alike = choice.alike_by(import, first, before);
+            push_if_any(is_colored, path, import, alike, out)
+        }
         None => {
             firsts.insert(key, import)?;
             Ok(())
@@ -229,22 +280,42 @@ fn push_if_repeated<'n>(
 }
 
 /// The lines of those imports that repeat an earlier one.
-fn lines_of(alloc: Global, path: &str, imports: &[Named]) -> Result<String, AllocError>
-    ensures { let lines = spec.repeat_lines path.now [] (map listed_named_view imports.now) in
+fn lines_of(
+    alloc: Global,
+    choice: ImportChoice<'_>,
+    is_colored: bool,
+    path: &str,
+    imports: &[Named],
+) -> Result<String, AllocError>
+    ensures { let lines = spec.repeat_lines is_colored path.now (import_choice_view choice.entry) in
+        let lines = lines [] (map listed_named_view imports.now) in
         IfOk result (λ text. string_bytes text ≡ lines) }
 {
     let mut out = String::new(alloc);
     let mut firsts = HashMap::new(alloc);
+    let mut before = Vec::new(alloc);
     for import in imports {
-        push_if_repeated(path, key_of(import), import, &mut firsts, &mut out)?;
+        let key = key_of(import);
+        push_if_repeated(
+            choice,
+            is_colored,
+            path,
+            key,
+            import,
+            &before,
+            &mut firsts,
+            &mut out,
+        )?;
+        before.push(import)?;
     }
     Ok(out)
 }
 
-/// A line for each import that repeats an earlier one of the same module, in the order in which they are written: file,
-/// line and column of its own use tree, the import as a use of it alone would be written, and where the first that is
-/// written so stands. Two modules are the same only if they are one item, whatever their names; what a cfg disables
-/// counts as well.
+/// A line for each listed import that repeats an earlier one of the same module, in the order in which they are
+/// written: file, line and column of its own use tree, the import as a use of it alone would be written, and where the
+/// first that is written so stands. Two modules are the same only if they are one item, whatever their names. Imports
+/// under cfgs that are seen never to be true together do not repeat each other. In colour, places are faint and imports
+/// bold.
 ///
 /// The places, and those of the use trees, are what the reader gave with the syntax of the tree.
 ///
@@ -259,15 +330,27 @@ pub fn repeated_lines(
     use_trees: &[usize],
     tree: &ItemTree,
     edition: &Edition,
+    choice: ImportChoice<'_>,
+    is_colored: bool,
 ) -> Result<String, AllocError>
     requires { AreDistinct places.now }
     ensures { let all = placed places.now use_trees.now in
-        let lines = spec.repeated_lines (source_view source.entry) edition.now.reserved.items all in
+        let lines = spec.repeated_lines is_colored (source_view source.entry) edition.now.reserved.items in
+        let lines = lines (import_choice_view choice.entry) all in
         IfOk result (λ text. string_bytes text ≡ lines tree.now.forest) }
 {
     let mut finder = TreeFinder::new(source.text, places, use_trees);
     let ids = tree.top_level_items();
     let mut found = Vec::new(alloc);
-    push_all(alloc, edition, &mut finder, tree, None, ids, &mut found)?;
-    lines_of(alloc, source.path, &found)
+    push_all(
+        alloc,
+        edition,
+        choice,
+        &mut finder,
+        tree,
+        None,
+        ids,
+        &mut found,
+    )?;
+    lines_of(alloc, choice, is_colored, source.path, &found)
 }

@@ -1,0 +1,18 @@
+use Rattle.std.proofs.Common.{ap, map, ◌∙◌}
+use Rattle.source_rows.specs.ListedFiles.{closers_in}
+use Rattle.source_listing.specs.ImportLines.{import_lines}
+use Rattle.source_listing.specs.ImportCfgs.{ImportChoice}
+use Rattle.source_listing.specs.Views.{source_view, use_cfgs_view}
+use Rattle.itemtree_commands.specs.Answers.{all_places, import_choice}
+use Rattle.itemtree_commands.proofs.import_lists.imports.Goals as goal
+
+pub returns-clause-text : goal.returns-clause-text
+returns-clause-text c =
+    let o = c.args.options.now in
+    let s = source_view c.args.source in
+    let file = c.in_ok-file.file in
+    let has = c.in_ok-file.ensures.uses in
+    let places = all_places file.listed.source in
+    let forest = file.listed.source.tree.forest in
+    let uses = ap (map use_cfgs_view) c.deref-file.ensures.value ∙ has.uses in
+    (closers_in file.listed.mended, file.listed.source, has.listed, c.in_ok-text.ensures ∙ ap (λ (choice : ImportChoice). import_lines o.edition.reserved.items c.args.form choice s places forest) (c.import_choice-choice.ensures ∙ ap (import_choice o) uses))
