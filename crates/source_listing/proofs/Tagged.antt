@@ -1,5 +1,6 @@
 -- Tags that are pushed one after another.
-use Rattle.source_listing.proofs.Common.{◌≡◌, Bor, ℕ, ◌+◌, ◌<◌, List, [], ◌∷◌, ◌++◌, length, take, get_or, map, ap, sym, ◌∙◌, append_assoc, append-nil, flat_map, flat_map-append, take_more, map-append, Listed, if_any, tag_inside, tags_inside, TagFile, IsSameTagger, tagged_file}
+use Rattle.source_listing.proofs.Common.{◌≡◌, Bor, ItemPlace, Option, RowView, Some, codes, ℕ, ◌+◌, ◌<◌, List, [], ◌∷◌, ◌++◌, length, take, get_or, map, ap, sym, ◌∙◌, append_assoc, append-nil, flat_map, flat_map-append, take_more, map-append, Listed, if_any, tag_inside, tags_inside, TagFile, IsSameTagger, tagged_file}
+use Rattle.source_listing.specs.Tags.{item_told, tag_of, tag_text}
 use Rattle.source_listing.specs.declared.tags.TagForm.{TagForm}
 use Rattle.source_listing.specs.declared.tags.Tagger.{Tagger}
 
@@ -10,6 +11,11 @@ same_parts e f g h i = λ k. record { path = (e k).now; text = i k; source = (h 
 
 pub same_file : (old new : Tagger) → IsSameTagger old new → tagged_file new ≡ tagged_file old
 same_file old new s = same_parts s.0 s.1 s.2 s.3 s.4.0
+
+-- the tag of an item with a name, a letter and a place
+pub tag_told : (f : TagFile) (r : RowView) (name letter : List ℕ) (p : ItemPlace) (n l : Option (List ℕ)) (q : Option ItemPlace) → n ≡ Some name → l ≡ Some letter → q ≡ Some p
+    → tag_of f r n l q ≡ Some (tag_text f (item_told r name letter p) (codes "module") r.scope)
+tag_told f r name letter p n l q a b c = λ k. tag_of f r (a k) (b k) (c k)
 
 -- the tags of one more member
 one_more_inside : (f : TagFile) (word : List ℕ) (scope : List (List ℕ)) (ms : List Listed) (m : Listed)

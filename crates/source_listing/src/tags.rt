@@ -125,6 +125,39 @@ pub(crate) fn names_around<'r: 'a, 'a>(
     Ok(names)
 }
 
+/// What the tag of an item is of.
+fn item_told<'a>(
+    row: &Row<'_>,
+    name: &'a Name,
+    letter: &'static str,
+    place: ItemPlace,
+) -> TagItem<'a>
+    ensures { tag_item_view result ≡ spec.item_told (row_view row.now) name.entry.now letter.now place }
+{
+    TagItem {
+        name,
+        at: stands_at(place),
+        end: place.range.end,
+        letter,
+        access: item_access(row.visibility),
+        is_function: is_function(row.id.kind),
+    }
+}
+
+/// What the tag of a member is of.
+fn member_item<'a>(member: &'a ListedMember, letter: &'static str) -> TagItem<'a>
+    ensures { tag_item_view result ≡ spec.member_item (listed_view member.entry.now) letter.now }
+{
+    TagItem {
+        name: &member.name,
+        at: member.at,
+        end: member.range.end,
+        letter,
+        access: member_access(member.kind, &member.visibility),
+        is_function: is_method(member.kind),
+    }
+}
+
 impl<'a> Tagger<'a> {
     /// The last line of what ends there, if it is asked for.
     fn last_line(&mut self, end: usize) -> Option<usize>
@@ -231,14 +264,7 @@ impl Tagger<'_> {
         let Some(place) = place else {
             return Ok(());
         };
-        let item = TagItem {
-            name,
-            at: stands_at(place),
-            end: place.range.end,
-            letter,
-            access: item_access(row.visibility),
-            is_function: is_function(row.id.kind),
-        };
+        let item = item_told(row, name, letter, place);
         self.push_tag(item, "module", row.scope.as_slice(), out)
     }
 
@@ -258,14 +284,7 @@ impl Tagger<'_> {
         let Some(letter) = member_letter(member.kind) else {
             return Ok(());
         };
-        let item = TagItem {
-            name: &member.name,
-            at: member.at,
-            end: member.range.end,
-            letter,
-            access: member_access(member.kind, &member.visibility),
-            is_function: is_method(member.kind),
-        };
+        let item = member_item(member, letter);
         self.push_tag(item, word, scope, out)
     }
 
