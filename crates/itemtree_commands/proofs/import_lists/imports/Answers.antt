@@ -14,5 +14,5 @@ returns-clause-text c =
     let has = c.in_ok-file.ensures.uses in
     let places = all_places file.listed.source in
     let forest = file.listed.source.tree.forest in
-    let uses = ap (map use_cfgs_view) c.deref-file.ensures.value ∙ has.uses in
+    let uses = ap (map use_cfgs_view) c.deref.ensures.value ∙ has.uses in
     (closers_in file.listed.mended, file.listed.source, has.listed, c.in_ok-text.ensures ∙ ap (λ (choice : ImportChoice). import_lines o.edition.reserved.items c.args.form choice s places forest) (c.import_choice-choice.ensures ∙ ap (import_choice o) uses))
