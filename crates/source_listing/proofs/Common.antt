@@ -24,7 +24,9 @@ pub use Rattle.source_listing.specs.Inner.{IsSameTagger, IsTaggerOf, tagged_file
 pub use Rattle.source_listing.specs.Lines.{Choice, Source, is_chosen, is_listed}
 pub use Rattle.source_listing.specs.Objects.{Entry, ItemView, column_form, entry_object, file_form, header_form, item_entry, item_in, line_form, listed_objects, member_entry, member_object, member_objects, member_spot, name_form, node_objects, own_objects, problem_objects, range_form, subject_form, tree_objects, visibility_form, whole_object}
 pub use Rattle.source_listing.specs.Outlines.{member_line, title}
-pub use Rattle.source_rows.specs.Places.{AreDistinct, is_id, place_of, spot_at}
+pub use Rattle.source_rows.specs.Places.{AreDistinct, is_id, place_of, spot_at, spot_in}
+pub use Rattle.line_index.specs.declared.Units.{Units}
+pub use Rattle.line_index.specs.declared.Units.TheVariants.{Characters}
 pub use Rattle.source_listing.specs.Repeated.{Named, first_alike, forest_named, is_alike, leaf_named, line_if_any, named_import, node_named, repeat_lines}
 pub use Rattle.source_listing.specs.Search.{Candidate, Query, found_lines, found_object, if_found, member_candidate, whole_found}
 pub use Rattle.source_listing.specs.Paths.{bare_segment}

@@ -1,6 +1,6 @@
 -- What is listed holds no float.
 use Rattle.line_index.specs.declared.Position.{Position}
-use Rattle.source_listing.proofs.Common.{file_import_object, Candidate, column_number, found_object, line_number, ◌≡◌, ℕ, ◌+◌, Bool, true, false, ◌||◌, if◌then◌else◌, List, [], ◌∷◌, ◌++◌, Option, Some, None, option_map, refl, filter, map, flat_map, items_of, view_of, Import, Node, leaf, parent, Forest, empty, more, node_ast, Unfolding, ItemPlace, Listed, MemberReading, header_of, members_of, Spot, FilePlaces, Choice, Source, is_chosen, place_of, spot_at, Declared, declared_name, declared_imports, declarations, Subject, no_subject, is_file_enabled, alias_form, import_form, import_object, seen_objects, import_objects, of_declared, spots_of_any, Entry, ItemView, item_in, name_form, header_form, subject_form, visibility_form, line_form, column_form, range_form, entry_object, item_entry, member_entry, member_spot, member_object, member_objects, file_form, whole_object, own_objects, node_objects, listed_objects, tree_objects, problem_objects}
+use Rattle.source_listing.proofs.Common.{Units, spot_in, file_import_object, Candidate, column_number, found_object, line_number, ◌≡◌, ℕ, ◌+◌, Bool, true, false, ◌||◌, if◌then◌else◌, List, [], ◌∷◌, ◌++◌, Option, Some, None, option_map, refl, filter, map, flat_map, items_of, view_of, Import, Node, leaf, parent, Forest, empty, more, node_ast, Unfolding, ItemPlace, Listed, MemberReading, header_of, members_of, Spot, FilePlaces, Choice, Source, is_chosen, place_of, spot_at, Declared, declared_name, declared_imports, declarations, Subject, no_subject, is_file_enabled, alias_form, import_form, import_object, seen_objects, import_objects, of_declared, spots_of_any, Entry, ItemView, item_in, name_form, header_form, subject_form, visibility_form, line_form, column_form, range_form, entry_object, item_entry, member_entry, member_spot, member_object, member_objects, file_form, whole_object, own_objects, node_objects, listed_objects, tree_objects, problem_objects}
 use Rattle.serde_json.specs.Data.{Data, Items, no_items, string}
 use Rattle.hir_input.specs.Cfg.{CfgView, shown_cfg}
 use Rattle.source_listing.specs.ImportLines.{cfgs_form}
@@ -66,45 +66,45 @@ object_none : (is_active : Bool) (spot : Option Spot) (e : Entry) (ds : Items) �
     → has_float (entry_object is_active spot e ds) ≡ false
 object_none is_active spot e ds i n p v h = rw (h, some_none column_form spot refl (λ a. refl), i, some_none line_form spot refl (λ a. refl), n, p, some_none range_form spot refl (λ a. refl), v) refl
 
-member_none : (text : List ℕ) (reserved : List (List ℕ)) (m : Listed) → has_float (member_object text reserved m) ≡ false
-member_none text reserved m =
-    object_none m.is_active (Some (member_spot text m)) (member_entry reserved m) no_items refl refl refl (visibility_none reserved (Some m.visibility)) refl
+member_none : (units : Units) (text : List ℕ) (reserved : List (List ℕ)) (m : Listed) → has_float (member_object units text reserved m) ≡ false
+member_none units text reserved m =
+    object_none m.is_active (Some (member_spot units text m)) (member_entry reserved m) no_items refl refl refl (visibility_none reserved (Some m.visibility)) refl
 
-module _ (s : Source) (x : MemberReading) (reserved : List (List ℕ)) (places : List ItemPlace) (c : Choice) where
-  at_none : (level : ℕ) (i : ItemView) (place : Option ItemPlace) (ds : List Data) → items_have_float (items_of ds) ≡ false → has_float (whole_object s x reserved places c level i place ds) ≡ false
+module _ (units : Units) (s : Source) (x : MemberReading) (reserved : List (List ℕ)) (places : List ItemPlace) (c : Choice) where
+  at_none : (level : ℕ) (i : ItemView) (place : Option ItemPlace) (ds : List Data) → items_have_float (items_of ds) ≡ false → has_float (whole_object units s x reserved places c level i place ds) ≡ false
   at_none level i place ds e =
-      let members = member_objects s.text reserved c level (members_of x place i.is_active) in
-      let none : items_have_float (items_of members) ≡ false = map_none (member_object s.text reserved) (filter (λ m. is_chosen c (level + 1) m.is_active) (members_of x place i.is_active)) (member_none s.text reserved) in
-      object_none i.is_active (option_map (spot_at s.text) place) (item_entry reserved (header_of x i.id.kind place) i) (items_of (members ++ ds)) refl (some_none name_form i.name refl (λ a. refl)) (subject_none reserved (header_of x i.id.kind place) i.subject) (visibility_none reserved i.visibility)
+      let members = member_objects units s.text reserved c level (members_of x place i.is_active) in
+      let none : items_have_float (items_of members) ≡ false = map_none (member_object units s.text reserved) (filter (λ m. is_chosen c (level + 1) m.is_active) (members_of x place i.is_active)) (member_none units s.text reserved) in
+      object_none i.is_active (option_map (spot_in units s.text) place) (item_entry reserved (header_of x i.id.kind place) i) (items_of (members ++ ds)) refl (some_none name_form i.name refl (λ a. refl)) (subject_none reserved (header_of x i.id.kind place) i.subject) (visibility_none reserved i.visibility)
       (both_none members ds none e)
 
-  own_none : (level : ℕ) (i : ItemView) (ds : List Data) → items_have_float (items_of ds) ≡ false → items_have_float (items_of (own_objects s x reserved places c level i ds)) ≡ false
+  own_none : (level : ℕ) (i : ItemView) (ds : List Data) → items_have_float (items_of ds) ≡ false → items_have_float (items_of (own_objects units s x reserved places c level i ds)) ≡ false
   own_none level i ds e =
-      one_none (is_chosen c level i.is_active) (whole_object s x reserved places c level i (place_of i.id places) ds) (at_none level i (place_of i.id places) ds e)
+      one_none (is_chosen c level i.is_active) (whole_object units s x reserved places c level i (place_of i.id places) ds) (at_none level i (place_of i.id places) ds e)
 
   mutual
-    node_none : (level : ℕ) (a : Bool) (n : Node) → items_have_float (items_of (node_objects s x reserved places c level a n)) ≡ false
+    node_none : (level : ℕ) (a : Bool) (n : Node) → items_have_float (items_of (node_objects units s x reserved places c level a n)) ≡ false
     node_none level a (leaf h l) = own_none level (item_in a (leaf h l)) [] refl
-    node_none level a (parent h t f) = own_none level (item_in a (parent h t f)) (listed_objects s x reserved places c (level + 1) (item_in a (parent h t f)).is_active f) (forest_none (level + 1) (item_in a (parent h t f)).is_active f)
+    node_none level a (parent h t f) = own_none level (item_in a (parent h t f)) (listed_objects units s x reserved places c (level + 1) (item_in a (parent h t f)).is_active f) (forest_none (level + 1) (item_in a (parent h t f)).is_active f)
 
-    forest_none : (level : ℕ) (a : Bool) (f : Forest) → items_have_float (items_of (listed_objects s x reserved places c level a f)) ≡ false
+    forest_none : (level : ℕ) (a : Bool) (f : Forest) → items_have_float (items_of (listed_objects units s x reserved places c level a f)) ≡ false
     forest_none level a empty = refl
-    forest_none level a (more n f) = both_none (node_objects s x reserved places c level a n) (listed_objects s x reserved places c level a f) (node_none level a n) (forest_none level a f)
+    forest_none level a (more n f) = both_none (node_objects units s x reserved places c level a n) (listed_objects units s x reserved places c level a f) (node_none level a n) (forest_none level a f)
 
   -- the values of an outline hold no float
-  pub no_float_in_outline : (u : Unfolding) → items_have_float (items_of (tree_objects s x reserved places c u)) ≡ false
+  pub no_float_in_outline : (u : Unfolding) → items_have_float (items_of (tree_objects units s x reserved places c u)) ≡ false
   no_float_in_outline u = forest_none 0 (is_file_enabled u) u.forest
 
   -- nor does the object of a file
-  pub file_none : (u : Unfolding) → has_float (file_form s.path (items_of (tree_objects s x reserved places c u))) ≡ false
-  file_none u = or_none (items_have_float (items_of (tree_objects s x reserved places c u))) false (no_float_in_outline u) refl
+  pub file_none : (u : Unfolding) → has_float (file_form s.path (items_of (tree_objects units s x reserved places c u))) ≡ false
+  file_none u = or_none (items_have_float (items_of (tree_objects units s x reserved places c u))) false (no_float_in_outline u) refl
 
 -- ---- problems
 
 -- the values of problems hold no float
-pub no_float_in_problems : (text : List ℕ) (ps : List Problem) → items_have_float (items_of (problem_objects text ps)) ≡ false
-no_float_in_problems text [] = refl
-no_float_in_problems text (p ∷ ps) = no_float_in_problems text ps
+pub no_float_in_problems : (units : Units) (text : List ℕ) (ps : List Problem) → items_have_float (items_of (problem_objects units text ps)) ≡ false
+no_float_in_problems units text [] = refl
+no_float_in_problems units text (p ∷ ps) = no_float_in_problems units text ps
 
 -- ---- imports
 

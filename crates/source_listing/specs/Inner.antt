@@ -8,6 +8,7 @@ use Rattle.std.specs.declared.hash.FoldHasher.{FoldHasher}
 use Rattle.serde_json.specs.Data.{Data, boolean, string, array, Items, Members, no_members, member, put}
 use Rattle.hir_input.specs.declared.edition.Edition.{Edition}
 use Rattle.hir_input.specs.declared.ids.FileAstId.{FileAstId}
+use Rattle.line_index.specs.declared.Units.{Units}
 use Rattle.item_tree.specs.Node.{Node, leaf, parent, node_ast, Unfolding}
 use Rattle.item_tree.specs.Shown.{Lent, lent_leaf, lent_parent}
 use Rattle.item_tree.specs.Walk.{of_id}
@@ -99,8 +100,8 @@ abbrev pub item_at : Unfolding → Bool → ℕ → List ItemView
 item_at u is_active i = of_id u [] (λ n. item_in is_active n ∷ []) i
 
 -- the objects of the item of an id
-abbrev pub objects_at : Source → MemberReading → List (List ℕ) → List ItemPlace → Choice → Unfolding → ℕ → Bool → ℕ → List Data
-objects_at s x reserved places c u level is_active i = of_id u [] (node_objects s x reserved places c level is_active) i
+abbrev pub objects_at : Units → Source → MemberReading → List (List ℕ) → List ItemPlace → Choice → Unfolding → ℕ → Bool → ℕ → List Data
+objects_at units s x reserved places c u level is_active i = of_id u [] (node_objects units s x reserved places c level is_active) i
 
 -- the members of an object that tell what it is
 abbrev pub entry_members : Entry → Members

@@ -14,7 +14,9 @@ use Rattle.item_tree.specs.Node.{Node, leaf, parent, Forest, empty, more, node_a
 use Rattle.tree_walk.specs.Declarations.{node_name, node_visibility}
 use Rattle.tree_walk.specs.Rows.{Subject, no_subject, used, called, node_subject, is_enabled, is_file_enabled}
 use Rattle.line_index.specs.declared.Position.{Position}
-use Rattle.line_index.specs.Positions.{position_of}
+use Rattle.line_index.specs.declared.Units.{Units}
+use Rattle.line_index.specs.declared.Units.TheVariants.{Characters}
+use Rattle.line_index.specs.Positions.{position_in}
 use Rattle.rust_items.specs.declared.log.Problem.{Problem}
 use Rattle.rust_items.specs.declared.source_file.ItemPlace.{ItemPlace}
 use Rattle.source_rows.specs.Labels.{member_word}
@@ -23,7 +25,7 @@ use Rattle.source_problems.specs.declared.problem.SourceProblemKind.{SourceProbl
 use Rattle.source_problems.specs.Problems.{told_kind}
 use Rattle.source_rows.specs.declared.finder.Spot.{Spot}
 use Rattle.source_listing.specs.Lines.{Choice, Source, is_chosen, message, short_tree, visible_in, item_word}
-use Rattle.source_rows.specs.Places.{place_of, spot_at}
+use Rattle.source_rows.specs.Places.{place_of, spot_in}
 
 -- a name, if there is one
 abbrev pub name_form : Option (List ℕ) → Data
@@ -120,25 +122,25 @@ entry_object is_active spot e inner =
     (member (codes "visibility") e.visibility no_members))))))))))
 
 -- where a member of a text stands, and its bytes
-abbrev pub member_spot : List ℕ → Listed → Spot
-member_spot text m = record { position = position_of text m.at; range = m.range }
+abbrev pub member_spot : Units → List ℕ → Listed → Spot
+member_spot units text m = record { position = position_in units text m.at; range = m.range }
 
-abbrev pub member_object : List ℕ → List (List ℕ) → Listed → Data
-member_object text reserved m = entry_object m.is_active (Some (member_spot text m)) (member_entry reserved m) no_items
+abbrev pub member_object : Units → List ℕ → List (List ℕ) → Listed → Data
+member_object units text reserved m = entry_object m.is_active (Some (member_spot units text m)) (member_entry reserved m) no_items
 
 -- the objects of the listed members of an item in so many others
-abbrev pub member_objects : List ℕ → List (List ℕ) → Choice → ℕ → List Listed → List Data
-member_objects text reserved c level ms = map (member_object text reserved) (filter (λ m. is_chosen c (level + 1) m.is_active) ms)
+abbrev pub member_objects : Units → List ℕ → List (List ℕ) → Choice → ℕ → List Listed → List Data
+member_objects units text reserved c level ms = map (member_object units text reserved) (filter (λ m. is_chosen c (level + 1) m.is_active) ms)
 
 abbrev pub file_form : List ℕ → Items → Data
 file_form path items = object (member (codes "items") (array items) (member (codes "path") (string path) no_members))
 
-module _ (s : Source) (x : MemberReading) (reserved : List (List ℕ)) (places : List ItemPlace) (c : Choice) where
+module _ (units : Units) (s : Source) (x : MemberReading) (reserved : List (List ℕ)) (places : List ItemPlace) (c : Choice) where
   -- the object of an item that stands there, around those of its listed members and then these
   abbrev pub whole_object : ℕ → ItemView → Option ItemPlace → List Data → Data
   whole_object level i place inner =
-      entry_object i.is_active (option_map (spot_at s.text) place) (item_entry reserved (header_of x i.id.kind place) i)
-      (items_of (member_objects s.text reserved c level (members_of x place i.is_active) ++ inner))
+      entry_object i.is_active (option_map (spot_in units s.text) place) (item_entry reserved (header_of x i.id.kind place) i)
+      (items_of (member_objects units s.text reserved c level (members_of x place i.is_active) ++ inner))
 
   -- the same by its id, if it is listed; what stands in an item that is not listed is not listed either
   abbrev pub own_objects : ℕ → ItemView → List Data → List Data
@@ -159,9 +161,9 @@ module _ (s : Source) (x : MemberReading) (reserved : List (List ℕ)) (places :
   abbrev pub tree_objects : Unfolding → List Data
   tree_objects u = listed_objects 0 (is_file_enabled u) u.forest
 
-  -- the object of a file, on one line
-  abbrev pub json_line : Unfolding → List ℕ
-  json_line u = lines.value_line (file_form s.path (items_of (tree_objects u)))
+-- the object of a file, on one line, by columns of characters
+abbrev pub json_line : Source → MemberReading → List (List ℕ) → List ItemPlace → Choice → Unfolding → List ℕ
+json_line s x reserved places c u = lines.value_line (file_form s.path (items_of (tree_objects Characters s x reserved places c u)))
 
 -- ---- problems
 
@@ -174,9 +176,9 @@ problem_at at kind =
     (member (codes "message") (string (message kind)) no_members)))
 
 -- the object of what the reader of items tells of a text
-abbrev pub problem_form : List ℕ → Problem → Data
-problem_form text p = problem_at (position_of text p.at) (told_kind p.kind)
+abbrev pub problem_form : Units → List ℕ → Problem → Data
+problem_form units text p = problem_at (position_in units text p.at) (told_kind p.kind)
 
 -- the objects of problems
-abbrev pub problem_objects : List ℕ → List Problem → List Data
-problem_objects text ps = map (problem_form text) ps
+abbrev pub problem_objects : Units → List ℕ → List Problem → List Data
+problem_objects units text ps = map (problem_form units text) ps

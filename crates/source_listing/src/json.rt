@@ -10,7 +10,7 @@ ghost use Rattle.source_rows.specs.ListedViews.{listed_view, reading_view};
 ghost use Rattle.source_listing.specs.Inner.{IsSameFile, entry_members, file_of, item_at, shown_item_view, objects_at};
 ghost use Rattle.source_listing.specs.Inner.{placed_members, places_of, reserved_of, stand_members};
 ghost use Rattle.source_listing.specs.Objects as spec;
-ghost use Rattle.source_rows.specs.Places.{AreDistinct, place_of, spot_at};
+ghost use Rattle.source_rows.specs.Places.{AreDistinct, place_of, spot_in};
 ghost use Rattle.source_listing.specs.Views.{choice_view, source_view};
 
 use crate::lines::Choice;
@@ -22,6 +22,7 @@ use hir_input::{Edition, FileAstId, Name};
 use hir_input_json::member::Members;
 use hir_input_json::write::object::{of_text, with};
 use item_tree::{ItemTree, ModItemId, RawVisibility};
+use line_index::Units;
 use list_forms::value_line;
 use rust_items::ItemPlace;
 use serde_json::{Map, Value, put};
@@ -47,6 +48,7 @@ struct Listing<'a> {
     tree: &'a ItemTree,
     reading: Reading<'a>,
     choice: Choice,
+    units: Units,
 }
 
 /// How many items others stand in, and whether no cfg disables these.
@@ -64,14 +66,14 @@ struct Stand {
 }
 
 impl Printer<'_> {
-    fn stand(&mut self, id: FileAstId) -> Stand
+    fn stand(&mut self, units: Units, id: FileAstId) -> Stand
         requires { AreDistinct (places_of self.old) }
         ensures place { result.place ≡ place_of id (places_of self.old) }
-        ensures spot { result.spot ≡ option_map (spot_at (file_of self.old).text) result.place }
+        ensures spot { result.spot ≡ option_map (spot_in units (file_of self.old).text) result.place }
         ensures same { IsSameFile self.old self.new }
     {
         let place = self.finder.places.find(id);
-        let spot = self.finder.spot(place);
+        let spot = self.finder.spot_in(units, place);
         Stand { place, spot }
     }
 }
@@ -154,15 +156,16 @@ fn object(
 fn member_object(
     alloc: Global,
     printer: &mut Printer<'_>,
+    units: Units,
     member: &ListedMember,
 ) -> Result<Value, AllocError>
-    ensures object { let object = spec.member_object (file_of printer.old).text
+    ensures object { let object = spec.member_object units (file_of printer.old).text
         (reserved_of printer.old) (listed_view member.now) in
         IfOk result (λ value. view value ≡ object) }
     ensures same { IsSameFile printer.old printer.new }
 {
     let spot = Spot {
-        position: printer.finder.lines.position(member.at),
+        position: printer.finder.lines.position_in(units, member.at),
         range: member.range,
     };
     let mut members = Map::new(alloc);
@@ -185,7 +188,7 @@ fn member_values(
     level: usize,
     is_active: bool,
 ) -> Result<Vec<Value>, AllocError>
-    ensures objects { let objects = spec.member_objects (file_of printer.old).text
+    ensures objects { let objects = spec.member_objects listing.entry.units (file_of printer.old).text
         (reserved_of printer.old) (choice_view listing.entry.choice) level in
         let members = members_of (reading_view listing.entry.reading) place is_active in
         IfOk result (λ values. map view values.items ≡ objects members) }
@@ -195,7 +198,7 @@ fn member_values(
     let members = choice.members(alloc, reading, place, level, is_active)?;
     let mut values = Vec::new(alloc);
     for member in &members {
-        values.push(member_object(alloc, printer, member)?)?;
+        values.push(member_object(alloc, printer, listing.units, member)?)?;
     }
     Ok(values)
 }
@@ -246,7 +249,7 @@ fn push_objects(
     requires distinct { AreDistinct (places_of printer.old) }
     requires contained { AreContained listing.tree.now ids.now }
     requires fits { around.level + sum_by (count_at listing.tree.now) ids.now < 2 ^ 64 }
-    ensures objects { let at = objects_at (file_of printer.old) (reading_view listing.entry.reading)
+    ensures objects { let at = objects_at listing.entry.units (file_of printer.old) (reading_view listing.entry.reading)
         (reserved_of printer.old) (places_of printer.old) in
         let at = at (choice_view listing.entry.choice) listing.entry.tree.now around.level around.is_active in
         OnOk result (map view out.new.items ≡ map view out.old.items ++ flat_map at ids.now) }
@@ -271,7 +274,7 @@ fn push_object(
     requires distinct { AreDistinct (places_of printer.old) }
     requires contained { IsContained listing.tree.now id }
     requires fits { around.level + count_at listing.tree.now id < 2 ^ 64 }
-    ensures objects { let at = objects_at (file_of printer.old) (reading_view listing.entry.reading)
+    ensures objects { let at = objects_at listing.entry.units (file_of printer.old) (reading_view listing.entry.reading)
         (reserved_of printer.old) (places_of printer.old) in
         let at = at (choice_view listing.entry.choice) listing.entry.tree.now around.level around.is_active in
         OnOk result (map view out.new.items ≡ map view out.old.items ++ at id) }
@@ -281,7 +284,7 @@ fn push_object(
     if !listing.choice.takes(around.level, item.is_active) {
         return Ok(());
     }
-    let stand = printer.stand(item.id);
+    let stand = printer.stand(listing.units, item.id);
     let (level, is_active) = (around.level, item.is_active);
     let mut inner = member_values(alloc, printer, listing, stand.place, level, is_active)?;
     let below = Around {
@@ -307,7 +310,7 @@ fn file_value(alloc: Global, path: &str, items: Vec<Value>) -> Result<Value, All
 /// trait, as `Display for Circle`, its `visibility` as it was written, the `line` and the `column` at which it stands,
 /// its bytes with its attributes as a `range` (where they begin and where they end), whether no cfg disables it
 /// (`active`), and as `children` the objects of its members and then those of the items in it. What an item has not is
-/// null; names are without `r#`.
+/// null; names are without `r#`. Columns count these units.
 ///
 /// If cfgs are given for the members, those with a name are listed as far as they are chosen, as the reader reads them.
 /// The tree has none, so their `id` is null.
@@ -326,16 +329,18 @@ pub fn outline_items(
     edition: &Edition,
     reading: Reading<'_>,
     choice: Choice,
+    units: Units,
 ) -> Result<Vec<Value>, AllocError>
     requires { AreDistinct places.now }
     ensures { let s = source_view source.entry in
-        let objects = spec.tree_objects s (reading_view reading.entry) edition.now.reserved.items places.now in
+        let objects = spec.tree_objects units s (reading_view reading.entry) edition.now.reserved.items places.now in
         IfOk result (λ items. map view items.items ≡ objects (choice_view choice) tree.now) }
 {
     let listing = Listing {
         tree,
         reading,
         choice,
+        units,
     };
     let top = Around {
         level: 0,
@@ -355,7 +360,7 @@ pub fn outline_items(
 }
 
 /// The chosen items of a file's tree as one JSON object on one line: the file's `path`, and its `items`, as
-/// `outline_items` gives them.
+/// `outline_items` gives them, by columns of characters.
 ///
 /// The places are those that the reader gave with the syntax of the tree.
 ///
@@ -376,7 +381,8 @@ pub fn outline_json(
         let line = spec.json_line s (reading_view reading.entry) edition.now.reserved.items places.now in
         IfOk result (λ text. string_bytes text ≡ line (choice_view choice) tree.now) }
 {
-    let items = outline_items(alloc, source, places, tree, edition, reading, choice)?;
+    let units = Units::Characters;
+    let items = outline_items(alloc, source, places, tree, edition, reading, choice, units)?;
     let file = file_value(alloc, source.path, items)?;
     value_line(alloc, &file)
 }

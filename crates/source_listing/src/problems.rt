@@ -8,7 +8,7 @@ ghost use Rattle.source_listing.specs.Objects.{problem_at, problem_objects};
 ghost use Rattle.source_listing.specs.Views.{source_view};
 
 use hir_input_json::write::object::{of_text, with};
-use line_index::{LineIndex, Position};
+use line_index::{LineIndex, Position, Units};
 use list_forms::{FAINT, RED, USUAL, push_color, push_colored};
 use rust_items::Problem;
 use serde_json::Value;
@@ -95,7 +95,7 @@ fn problem_value(
 }
 
 /// What the reader of items tells of a text as values, each an object with the `line` and the `column` at which it
-/// stands, and a `message` that says what is wrong.
+/// stands, and a `message` that says what is wrong. Columns count these units.
 ///
 /// # Errors
 ///
@@ -104,13 +104,15 @@ pub fn problem_items(
     alloc: Global,
     text: &str,
     problems: &[Problem],
+    units: Units,
 ) -> Result<Vec<Value>, AllocError>
-    ensures { IfOk result (λ items. map view items.items ≡ problem_objects text.now problems.now) }
+    ensures { IfOk result (λ items. map view items.items
+        ≡ problem_objects units text.now problems.now) }
 {
     let mut items = Vec::new(alloc);
     let mut lines = LineIndex::new(text);
     for problem in problems {
-        let position = lines.position(problem.at);
+        let position = lines.position_in(units, problem.at);
         let kind = SourceProblemKind::from(problem.kind);
         items.push(problem_value(alloc, position, kind)?)?;
     }
