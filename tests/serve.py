@@ -79,12 +79,14 @@ def refused(number, error, told=None):
 
 EDIT_WORDS = 'a kind of edit: set_text, change_text, set_file, remove_file, set_block, remove_block or set_cfg'
 SHOW_WORDS = 'a kind of show: page, tree, imports, changed, outline, import_places, problems or find'
+UNITS_WORDS = 'characters, utf-16 or bytes, of outline, problems or find'
 META_WORDS = 'a kind of meta: path, key_value, tokens, cfg, cfg_attr or unsafe'
 # What is expected where a pointer leads, by its last step, or by the one before where that is a place in a list.
 EXPECTED_LINE = {
     'a list': 'crates skipped edits shows reserved cfg attrs stmts files', 'an object': 'edition syntax', 'two byte places': 'range',
     'a number below 2^32': 'file block root', 'a number below 2^64': 'start since', 'the number of a crate': 'crate', 'a string': 'text',
-    'a name or path': 'name', EDIT_WORDS: 'edit', SHOW_WORDS: 'show', 'text or json, of tree, imports or changed': 'as', '2015, 2018, 2021 or 2024': 'year',
+    'a name or path': 'name', EDIT_WORDS: 'edit', SHOW_WORDS: 'show', 'text or json, of tree, imports or changed': 'as', UNITS_WORDS: 'units',
+    'true or false, of outline': 'members', '2015, 2018, 2021 or 2024': 'year',
     'a value without a float': 'id',
 }
 EXPECTED_SYNTAX = {
@@ -431,9 +433,10 @@ def wrong_show(value, crates):
     krate, file, block = ('crate', number_up_to(crates - 1), True), ('file', wrong_u32, True), ('block', wrong_u32, True)
     place = file if isinstance(value, dict) and value.get('file') is not None else block
     return wrong_kind(value, 'show', {
-        **{kind: [krate, place, AS] for kind in ('tree', 'imports')}, 'page': [krate, place, ('as', one_of('text'), False)],
-        'changed': [('since', wrong_u64, True), AS], 'outline': [krate, file, NO_AS], 'import_places': [krate, file, NO_AS],
-        'problems': [file, NO_AS], 'find': [('name', wrong_asked_path, True), NO_AS]})
+        **{kind: [krate, place, *AS_USUAL, AS] for kind in ('tree', 'imports')},
+        'page': [krate, place, *AS_USUAL, ('as', one_of('text'), False)], 'changed': [('since', wrong_u64, True), *AS_USUAL, AS],
+        'outline': [krate, file, NO_AS, UNITS, ('members', wrong_truth, False)], 'import_places': [krate, file, NO_AS, *AS_USUAL],
+        'problems': [file, NO_AS, UNITS, AS_USUAL[1]], 'find': [('name', wrong_asked_path, True), UNITS, NO_AS, AS_USUAL[1]]})
 
 
 def wrong_files(value):
@@ -462,6 +465,7 @@ CFGS = {'key': [('key', wrong_name, True), ('value', wrong_string, True)], 'all'
         'any': [('any', list_of(wrong_cfg), True)], 'not': [('not', wrong_cfg, False)]}
 NAME, VIS, PATH, CTXT = ('name', wrong_name, False), ('vis', wrong_vis, False), ('path', wrong_path, False), ('ctxt', wrong_ctxt, False)
 AS, NO_AS = ('as', one_of('text', 'json'), False), ('as', lambda value: [], False)
+UNITS, AS_USUAL = ('units', one_of('characters', 'utf-16', 'bytes'), False), [(key, lambda value: [], False) for key in ('units', 'members')]
 ATTRS, ITEM_LIST, CFG = ('attrs', list_of(wrong_meta), False), ('items', list_of(wrong_item), False), ('cfg', wrong_cfg, False)
 METAS = {
     'path': [PATH, CTXT],
@@ -498,7 +502,7 @@ EDITS = {
 }
 LINE_KEYS = ['id', 'crates', 'skipped', 'edition', 'start', 'edits', 'shows']
 EDIT_KEYS = ['edit', 'file', 'block', 'crate', 'syntax', 'attrs', 'stmts', 'tail', 'cfg', 'text', 'range']
-SHOW_KEYS = ['show', 'crate', 'file', 'block', 'since', 'as', 'name']
+SHOW_KEYS = ['show', 'crate', 'file', 'block', 'since', 'as', 'name', 'units', 'members']
 
 
 # ---- errors
@@ -702,6 +706,11 @@ WRONG_SHOWS = [
     ({'show': 'outline', 'crate': 0, 'block': 1}, '/file'),
     ({'show': 'outline', 'file': 1}, '/crate'), ({'show': 'import_places', 'crate': 0}, '/file'),
     ({'show': 'import_places', 'crate': 1, 'file': 1}, '/crate'), ({'show': 'import_places', 'crate': 0, 'file': ''}, '/file'),
+    *(({**show, 'units': word}, '/units') for show in OWN for word in ('', 'UTF-16', 'utf-8', 'columns', 16, True, ['bytes'])),
+    *(({**show, 'units': word}, '/units') for show in (*REQUESTED, OWN[1]) for word in ('characters', 'bytes')),
+    *(({**show, 'members': True}, '/members') for show in (*REQUESTED, *OWN[1:])),
+    *(({**OWN[0], 'members': word}, '/members') for word in ('true', 0, 1, [], {})),
+    ({'show': 'find', 'name': '', 'units': 'x'}, '/name'), ({**PAGE, 'members': False, 'as': 'json'}, '/members'),
     ({'show': 'problems'}, '/file'), ({'show': 'problems', 'file': -1}, '/file'), ({'show': 'problems', 'block': 0}, '/file'),
     ({'show': 'find'}, '/name'), ({'show': 'find', 'name': 1}, '/name'), ({'show': 'find', 'name': None}, '/name'),
     ({'show': 'find', 'name': ''}, '/name'), ({'show': 'find', 'name': 'a\nb'}, '/name'), ({'show': 'find', 'name': 'r#'}, '/name'),
@@ -767,6 +776,8 @@ GOOD_SHOWS = [
     {'show': 'outline', 'crate': 0, 'file': 0}, {'show': 'import_places', 'crate': 0, 'file': 0, 'block': -1},
     {'show': 'problems', 'file': 0, 'crate': -1}, {'show': 'outline', 'crate': 0, 'file': 0, 'as': None},
     *({**show, 'as': word} for show in REQUESTED for word in ('text', 'json', None) if (show, word) != (PAGE, 'json')),
+    *({**show, 'units': word} for show in OWN if show['show'] != 'import_places' for word in ('characters', 'utf-16', 'bytes', None)),
+    *({**OWN[0], 'members': flag} for flag in (True, False, None)), *({**show, 'units': None, 'members': None} for show in (*REQUESTED, *OWN)),
     *({'show': 'find', 'name': name, 'as': None} for name in (
         'f', '_', 'é', 'r#fn', 'fn', 'a::b', '::a', '::a::r#b', 'crate::a')),
 ]
@@ -1171,6 +1182,10 @@ def check_text(server, program, path, file, cfg):
     outline, imports, problems, page = json.loads(got)['shows']
     items = json.loads(output(program, 'outline', '--json', '--no-members', *cfg, path))['items']
     tell(outline == items and written(outline) in got, f'the outline of {path}', written(outline), written(items))
+    items = json.loads(output(program, 'outline', '--json', *cfg, path))['items']
+    got = server.ask({'shows': [{**told_of(file)[0], 'members': True}]})
+    tell(json.loads(got)['shows'] == [items] and written(items) in got, f'the outline of {path} with members', got, written(items))
+    check_units(server, path, file, items)
     lines, wanted = ''.join(import_line(path, told) for told in imports), output(program, 'imports', path)
     tell(lines == wanted and all(list(told) == sorted(told) for told in imports), f'the imports of {path}', lines, wanted)
     lines = ''.join(f'{path}:{told["line"]}:{told["column"]}: {told["message"]}\n' for told in problems)
@@ -1180,6 +1195,34 @@ def check_text(server, program, path, file, cfg):
     wanted = output(program, 'page', *cfg, path)
     tell(page == wanted or has_wrong_bracket(program, path), f'the page of {path}', page, wanted)
     return outline
+
+
+def in_units(value, lines, units):
+    """A value whose columns count characters, with columns in other units."""
+    if isinstance(value, list):
+        return [in_units(member, lines, units) for member in value]
+    if not isinstance(value, dict):
+        return value
+    value = {key: in_units(member, lines, units) for key, member in value.items()}
+    if value.get('column') is not None:
+        before = lines[value['line'] - 1][:value['column'] - 1]
+        value['column'] = 1 + {'characters': len(before), 'bytes': len(before.encode()), 'utf-16': len(before.encode('utf-16-le')) // 2}[units]
+    return value
+
+
+def check_units(server, path, file, items):
+    """Columns in other units, beside the same ones in characters."""
+    with open(path, encoding='utf-8', newline='') as text:
+        lines = text.read().removeprefix('\ufeff').split('\n')
+    names = sorted({item['name'] for item in all_items(items) if item['name'] and item['id']})[:20]
+    shows = [{**told_of(file)[0], 'members': True}, told_of(file)[2], *({'show': 'find', 'name': name} for name in names)]
+    first = json.loads(server.ask({'shows': shows}))['shows']
+    for units in ('characters', 'utf-16', 'bytes'):
+        got = json.loads(server.ask({'shows': [{**show, 'units': units} for show in shows]}))['shows']
+        got, wanted = ([values if at < 2 else [value for value in values if value['file'] == file] for at, values in enumerate(all_values)]
+                       for all_values in (got, first))
+        wanted = in_units(wanted, lines, units)
+        tell(got == wanted, f'{units} in {path}', written(got), written(wanted))
 
 
 def check_names(server, program, outlines, paths):

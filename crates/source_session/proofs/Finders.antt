@@ -1,6 +1,7 @@
 -- Items found by their ids.
 use Rattle.std.proofs.Common.{◌≡◌, ◌≢◌, ℕ, suc, zero, ◌<◌, ◌≤◌, ◌-◌, ◌==◌, List, [], ◌∷◌, Bor, length, drop, take, map, Option, Some, None, IsSome, refl, sym, ap, ◌∙◌, subst, arith, ⊎_elim, slice_index_or, AllPairs, flat_map}
 use Rattle.source_session.proofs.Common.{option_map_or, cases_Bool, nat_tests, length-drop, take_all, Crate, FileAstId, Unfolding, Place, File, Block, State, unfolding_at, node_name, declaration_id, Entry, IsDeclared, ItemPlace, AreDistinct, bare_segment, SourceText, HaveDistinctIds, declared_scope, found_with, head_scope, found_value, IsPlaced, found_scope, text_bytes, text_places, Texts, text_of_place, text_in}
+use Rattle.line_index.specs.declared.Units.{Units}
 use Rattle.item_tree.specs.Layout.{node_at}
 use Rattle.item_tree.specs.Shown.{IsContained}
 use Rattle.tree_walk.specs.declared.collector.Declaration as code
@@ -87,6 +88,6 @@ pub contained : (s : State) (e : Entry) (u : Unfolding) → IsDeclared s e → u
 contained s e u d is = subst (λ (v : Unfolding). IsContained v e.id) (sym is) (has_some node_name (node_at (unfolding_at s e.place e.krate.0).forest e.id) e.name d.named)
 
 -- its object is that of an item of its place
-pub is_object : (texts : Texts) (place : Place) (krate : Crate) (id : Option FileAstId) → found_with (text_bytes (text_of_place texts place)) (text_places (text_of_place texts place)) place krate id ≡ found_value texts place krate id
-is_object texts (File file) krate id = refl
-is_object texts (Block block) krate id = refl
+pub is_object : (units : Units) (texts : Texts) (place : Place) (krate : Crate) (id : Option FileAstId) → found_with units (text_bytes (text_of_place texts place)) (text_places (text_of_place texts place)) place krate id ≡ found_value units texts place krate id
+is_object units texts (File file) krate id = refl
+is_object units texts (Block block) krate id = refl

@@ -1,5 +1,5 @@
 -- Crates that lines name, and values without floats.
-use Rattle.std.proofs.Common.{◌≡◌, ℕ, ◌+◌, ◌<◌, suc, false, ◌||◌, List, [], ◌∷◌, ◌++◌, Option, Some, None, is_some, option_map, All, length, map, filter, take, get_or, refl, sym, ap, subst, ◌∙◌, arith}
+use Rattle.std.proofs.Common.{◌≡◌, Bool, ℕ, ◌+◌, ◌<◌, suc, false, ◌||◌, List, [], ◌∷◌, ◌++◌, Option, Some, None, is_some, option_map, All, length, map, filter, take, get_or, refl, sym, ap, subst, ◌∙◌, arith}
 use Rattle.source_session.proofs.Common.{take_more, AllByRecursion, AllZip, Crate, FileAstId, Edit, Place, File, Block, edit_view, NamesKnown, State, change_number, Knows, Entry, ItemPlace, Table, Outline, TreeItems, ImportPlaces, Changes, Problems, Find, ast_of, found_form, found_value, id_form, in_file, place_by_id, AreUnfloating, Knowing, Session, all_items, change_form, change_with, item_objects, items_member, pathless_source, shown_tree, unset_form, unset_place, IsPresentValue, IsShowValue, IsValueUnless, is_sought, text_bytes, text_places, places_of_text, text_problems, text_reading, Texts, text_of_place, text_in}
 use Rattle.serde_json.specs.Data.{Data}
 use Rattle.serde_json.specs.Written.{has_float}
@@ -10,6 +10,9 @@ use Rattle.item_tree_request.specs.declared.request.show.Show.{Show}
 use Rattle.item_tree_request.specs.declared.request.show.Show.TheVariants.{OfTree, Changed}
 use Rattle.item_tree_request.specs.Named as request
 use Rattle.source_listing.proofs.NoFloats.{no_float_in_outline, no_float_in_imports, no_float_in_problems}
+use Rattle.line_index.specs.declared.Units.{Units}
+use Rattle.line_index.specs.declared.Units.TheVariants.{Characters}
+use Rattle.source_session.specs.Shown.{member_options}
 use Rattle.source_session.specs.declared.show.LineShow.{LineShow}
 
 -- ---- crates
@@ -35,17 +38,17 @@ no_float_id : (id : Option FileAstId) → has_float (id_form id) ≡ false
 no_float_id None = refl
 no_float_id (Some id) = refl
 
-no_float_in_file : (file : HirFileId) (krate : Crate) (id : Data) (text : List ℕ) (place : Option ItemPlace) → has_float id ≡ false → has_float (in_file file krate id text place) ≡ false
-no_float_in_file file krate id text None h = ap (λ b. b || false) h
-no_float_in_file file krate id text (Some place) h = ap (λ b. b || false) h
+no_float_in_file : (units : Units) (file : HirFileId) (krate : Crate) (id : Data) (text : List ℕ) (place : Option ItemPlace) → has_float id ≡ false → has_float (in_file units file krate id text place) ≡ false
+no_float_in_file units file krate id text None h = ap (λ b. b || false) h
+no_float_in_file units file krate id text (Some place) h = ap (λ b. b || false) h
 
-no_float_found : (texts : Texts) (place : Place) (krate : Crate) (id : Option FileAstId) → has_float (found_value texts place krate id) ≡ false
-no_float_found texts (File file) krate id = let t = text_in texts file.0 in no_float_in_file file krate (id_form id) (text_bytes t) (place_by_id t id) (no_float_id id)
-no_float_found texts (Block block) krate id = ap (λ b. b || false) (no_float_id id)
+no_float_found : (units : Units) (texts : Texts) (place : Place) (krate : Crate) (id : Option FileAstId) → has_float (found_value units texts place krate id) ≡ false
+no_float_found units texts (File file) krate id = let t = text_in texts file.0 in no_float_in_file units file krate (id_form id) (text_bytes t) (place_by_id t id) (no_float_id id)
+no_float_found units texts (Block block) krate id = ap (λ b. b || false) (no_float_id id)
 
-no_float_in_found : (s : State) (texts : Texts) (entries : List Entry) → AreUnfloating (map (found_form s texts) entries)
-no_float_in_found s texts [] = refl
-no_float_in_found s texts (e ∷ es) = rw (no_float_found texts e.place e.krate (ast_of s e), no_float_in_found s texts es) refl
+no_float_in_found : (units : Units) (s : State) (texts : Texts) (entries : List Entry) → AreUnfloating (map (found_form units s texts) entries)
+no_float_in_found units s texts [] = refl
+no_float_in_found units s texts (e ∷ es) = rw (no_float_found units texts e.place e.krate (ast_of s e), no_float_in_found units s texts es) refl
 
 -- a change holds none beside what its items hold
 no_float_change : (items : List Data) (c : Change) → AreUnfloating items → has_float (change_with (items_member items) c) ≡ false
@@ -60,22 +63,22 @@ no_float_in_changes : (changes : List Change) → AreUnfloating (map change_form
 no_float_in_changes [] = refl
 no_float_in_changes (c ∷ cs) = rw (no_float_change_form c, no_float_in_changes cs) refl
 
-no_float_items : (u : Session) (krate : Crate) (place : Place) → AreUnfloating (item_objects u krate place)
-no_float_items u krate place =
+no_float_items : (u : Session) (krate : Crate) (place : Place) (units : Units) (has_members : Bool) → AreUnfloating (item_objects u krate place units has_members)
+no_float_items u krate place units has_members =
     let t = text_of_place u.texts place in
-    let s = pathless_source (text_bytes t) in no_float_in_outline s (text_reading u.edition.0 t) u.edition.1 (text_places t) all_items (shown_tree u krate place)
+    let s = pathless_source (text_bytes t) in no_float_in_outline units s (text_reading u.edition.0 (member_options u krate has_members) t) u.edition.1 (text_places t) all_items (shown_tree u krate place)
 
 -- ---- shows
 
 no_float_present : (u : Session) (show : LineShow) (d : Data) → IsPresentValue u show d → has_float d ≡ false
 no_float_present u (Table (OfTree show)) d h = ap has_float h
 no_float_present u (Table (Changed since)) d h = ap has_float h.2
-no_float_present u (Outline krate file) d h = ap has_float h ∙ no_float_items u krate (File file)
-no_float_present u (TreeItems krate place) d h = ap has_float h ∙ no_float_change (item_objects u krate place) (place, krate, change_number u.table place krate.0) (no_float_items u krate place)
+no_float_present u (Outline krate file units has_members) d h = ap has_float h ∙ no_float_items u krate (File file) units has_members
+no_float_present u (TreeItems krate place) d h = ap has_float h ∙ no_float_change (item_objects u krate place Characters false) (place, krate, change_number u.table place krate.0) (no_float_items u krate place Characters false)
 no_float_present u (ImportPlaces krate place) d h = let t = text_of_place u.texts place in ap has_float h ∙ no_float_in_imports (text_bytes t) u.edition.1 (places_of_text t) (shown_tree u krate place).forest
 no_float_present u (Changes since) d h = ap has_float h.2 ∙ no_float_in_changes h.0
-no_float_present u (Problems file) d h = let t = text_in u.texts file.0 in ap has_float h ∙ no_float_in_problems (text_bytes t) (text_problems t)
-no_float_present u (Find q) d h = ap has_float h.2 ∙ no_float_in_found u.table u.texts (filter (is_sought u.files u.table q) h.0)
+no_float_present u (Problems file units) d h = let t = text_in u.texts file.0 in ap has_float h ∙ no_float_in_problems units (text_bytes t) (text_problems t)
+no_float_present u (Find q) d h = ap has_float h.2 ∙ no_float_in_found q.units u.table u.texts (filter (is_sought u.files u.table q) h.0)
 
 no_float_unset : (place : Place) → has_float (unset_form place) ≡ false
 no_float_unset (File file) = refl

@@ -35,6 +35,8 @@ line_keys =
     ∷ (codes "edit" ∷ [], codes "a kind of edit: set_text, change_text, set_file, remove_file, set_block, remove_block or set_cfg")
     ∷ (codes "show" ∷ [], codes "a kind of show: page, tree, imports, changed, outline, import_places, problems or find")
     ∷ (codes "as" ∷ [], codes "text or json, of tree, imports or changed")
+    ∷ (codes "units" ∷ [], codes "characters, utf-16 or bytes, of outline, problems or find")
+    ∷ (codes "members" ∷ [], codes "true or false, of outline")
     ∷ (codes "year" ∷ [], codes "2015, 2018, 2021 or 2024")
     ∷ (codes "id" ∷ [], codes "a value without a float")
     ∷ []

@@ -3,6 +3,7 @@ use Rattle.std.specs.Prelude.{◌≡◌, ◌≢◌, ℕ, List, [], ◌∷◌, ma
 use Rattle.serde_json.specs.Data.{Data}
 use Rattle.hir_input.specs.declared.ids.Crate.{Crate}
 use Rattle.hir_input.specs.declared.ids.FileAstId.{FileAstId}
+use Rattle.line_index.specs.declared.Units.{Units}
 use Rattle.item_tree.specs.Layout.{node_at}
 use Rattle.item_tree.specs.Node.{Unfolding, node_ast}
 use Rattle.item_tree_db.specs.declared.place.Place.{Place}
@@ -61,6 +62,6 @@ abbrev pub ast_in : Unfolding → ℕ → Option FileAstId
 ast_in u i = option_map node_ast (node_at u.forest i)
 
 -- the object of an item of a place with this text
-abbrev pub found_with : List ℕ → List ItemPlace → Place → Crate → Option FileAstId → Data
-found_with text places (File file) krate id = in_file file krate (id_form id) text (option_and_then (λ a. place_of a places) id)
-found_with text places (Block block) krate id = in_block block krate (id_form id)
+abbrev pub found_with : Units → List ℕ → List ItemPlace → Place → Crate → Option FileAstId → Data
+found_with units text places (File file) krate id = in_file units file krate (id_form id) text (option_and_then (λ a. place_of a places) id)
+found_with units text places (Block block) krate id = in_block block krate (id_form id)

@@ -14,7 +14,8 @@ use Rattle.item_tree_db.specs.declared.place.Place.{Place}
 use Rattle.item_tree_db.specs.declared.place.Place.TheVariants.{File, Block}
 use Rattle.item_tree_db.specs.State.{State, unfolding_at}
 use Rattle.line_index.specs.declared.Position.{Position}
-use Rattle.line_index.specs.Positions.{position_of}
+use Rattle.line_index.specs.declared.Units.{Units}
+use Rattle.line_index.specs.Positions.{position_in}
 use Rattle.decl_index.specs.declared.entry.Entry.{Entry}
 use Rattle.decl_index.specs.Entries.{IsListing}
 use Rattle.rust_items.specs.declared.source_file.ItemPlace.{ItemPlace}
@@ -49,24 +50,24 @@ placed_form file krate id at place =
     (member (codes "line") (count_form at.line)
     (member (codes "range") (array (item (count_form place.range.start) (item (count_form place.range.end) no_items))) no_members))))))
 
--- an item of a file, with its place where that is known
-abbrev pub in_file : HirFileId → Crate → Data → List ℕ → Option ItemPlace → Data
-in_file file krate id text None = object (member (codes "crate") (count_form krate.0) (member (codes "file") (count_form file.0) (member (codes "id") id no_members)))
-in_file file krate id text (Some place) = placed_form file krate id (position_of text (stands_at place)) place
+-- an item of a file, with its place where that is known, by columns of these units
+abbrev pub in_file : Units → HirFileId → Crate → Data → List ℕ → Option ItemPlace → Data
+in_file units file krate id text None = object (member (codes "crate") (count_form krate.0) (member (codes "file") (count_form file.0) (member (codes "id") id no_members)))
+in_file units file krate id text (Some place) = placed_form file krate id (position_in units text (stands_at place)) place
 
 -- an item of a block
 abbrev pub in_block : BlockId → Crate → Data → Data
 in_block block krate id = object (member (codes "block") (count_form block.0) (member (codes "crate") (count_form krate.0) (member (codes "id") id no_members)))
 
 -- an item of the tree of a place
-abbrev pub found_value : Texts → Place → Crate → Option FileAstId → Data
-found_value texts (File file) krate id = let t = text_in texts file.0 in in_file file krate (id_form id) (text_bytes t) (place_by_id t id)
-found_value texts (Block block) krate id = in_block block krate (id_form id)
+abbrev pub found_value : Units → Texts → Place → Crate → Option FileAstId → Data
+found_value units texts (File file) krate id = let t = text_in texts file.0 in in_file units file krate (id_form id) (text_bytes t) (place_by_id t id)
+found_value units texts (Block block) krate id = in_block block krate (id_form id)
 
 -- the object of an entry
-abbrev pub found_form : State → Texts → Entry → Data
-found_form s texts e = found_value texts e.place e.krate (ast_of s e)
+abbrev pub found_form : Units → State → Texts → Entry → Data
+found_form units s texts e = found_value units texts e.place e.krate (ast_of s e)
 
 -- the objects of the entries of a table that are looked for
 abbrev pub IsFound : CrateFiles → State → Texts → SoughtItem → Data → Type 0
-IsFound files s texts q d = (entries : List Entry) × IsListing s entries × (d ≡ array (items_of (map (found_form s texts) (filter (is_sought files s q) entries))))
+IsFound files s texts q d = (entries : List Entry) × IsListing s entries × (d ≡ array (items_of (map (found_form q.units s texts) (filter (is_sought files s q) entries))))

@@ -99,7 +99,7 @@ pub record AreTogether (count : ℕ) (edition : EditionYear) (table : State) (te
 
 -- the object of an entry, if it is in its crate and its item has the path that is looked for
 abbrev pub found_one : CrateFiles → State → Texts → SoughtItem → Entry → List Data
-found_one files s texts q e = if is_in_crate files e.krate e.place && is_at q.path (entry_path s e) then found_form s texts e ∷ [] else []
+found_one files s texts q e = if is_in_crate files e.krate e.place && is_at q.path (entry_path s e) then found_form q.units s texts e ∷ [] else []
 
 -- the steps of a pointer as data
 abbrev pub steps_view : code_steps.Steps → Steps

@@ -13,7 +13,7 @@ abbrev pub keys_of : LineObject → List (List ℕ)
 keys_of Whole = codes "id" ∷ codes "crates" ∷ codes "skipped" ∷ codes "edition" ∷ codes "start" ∷ codes "edits" ∷ codes "shows" ∷ []
 keys_of OfEdits =
     codes "edit" ∷ codes "file" ∷ codes "block" ∷ codes "crate" ∷ codes "syntax" ∷ codes "attrs" ∷ codes "stmts" ∷ codes "tail" ∷ codes "cfg" ∷ codes "text" ∷ codes "range" ∷ []
-keys_of OfShows = codes "show" ∷ codes "crate" ∷ codes "file" ∷ codes "block" ∷ codes "since" ∷ codes "as" ∷ codes "name" ∷ []
+keys_of OfShows = codes "show" ∷ codes "crate" ∷ codes "file" ∷ codes "block" ∷ codes "since" ∷ codes "as" ∷ codes "name" ∷ codes "units" ∷ codes "members" ∷ []
 
 abbrev pub is_known : LineObject → List ℕ → Bool
 is_known o key = list_any (bytes_eq key) (keys_of o)

@@ -17,6 +17,7 @@ pub mod Histories
 pub mod LineViews
 pub mod Refusals
 pub mod Touched
+pub mod Units
 pub mod Finders
 pub mod Inner
 pub mod Inside

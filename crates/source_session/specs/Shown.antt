@@ -1,14 +1,17 @@
 -- What is shown of a session.
-use Rattle.std.specs.Prelude.{◌≡◌, ℕ, false, List, [], codes, filter, if◌then◌else◌, is_some, map, option_and_then, Option, Some, None, flat_map}
+use Rattle.std.specs.Prelude.{◌≡◌, ℕ, Bool, false, List, [], codes, filter, if◌then◌else◌, is_some, map, option_and_then, Option, Some, None, flat_map}
 use Rattle.serde_json.specs.Data.{Data, string, array, object, Members, no_members, member}
 use Rattle.serde_json.specs.View.{items_of}
 use Rattle.hir_input.specs.declared.ids.Crate.{Crate}
 use Rattle.hir_input.specs.declared.ids.HirFileId.{HirFileId}
+use Rattle.hir_input.specs.Cfg.{AtomView}
+use Rattle.line_index.specs.declared.Units.{Units}
+use Rattle.line_index.specs.declared.Units.TheVariants.{Characters}
 use Rattle.item_tree.specs.Node.{Unfolding}
 use Rattle.item_tree_db.specs.declared.place.Place.{Place}
 use Rattle.item_tree_db.specs.declared.place.Place.TheVariants.{File, Block}
 use Rattle.item_tree_db.specs.Since.{Change, IsSince}
-use Rattle.item_tree_db.specs.State.{State, change_number, present, unfolding_at}
+use Rattle.item_tree_db.specs.State.{State, change_number, options, present, unfolding_at}
 use Rattle.item_tree_request.specs.Outputs.{table_change_line, printed}
 use Rattle.item_tree_request.specs.declared.request.show.Show.{Show}
 use Rattle.item_tree_request.specs.declared.request.show.Show.TheVariants.{OfTree, Changed}
@@ -38,24 +41,29 @@ all_items = record { depth = None; only_active = false }
 abbrev pub pathless_source : List ℕ → Source
 pathless_source text = record { path = []; text = text }
 
--- the objects of the items of a place, without members
-abbrev pub item_objects : Session → Crate → Place → List Data
-item_objects u krate place =
+-- the options of a crate, where members are asked for
+abbrev pub member_options : Session → Crate → Bool → Option (List AtomView)
+member_options u krate has_members = if has_members then options u.table krate else None
+
+-- the objects of the items of a place, by columns of these units, with members or without
+abbrev pub item_objects : Session → Crate → Place → Units → Bool → List Data
+item_objects u krate place units has_members =
     let t = text_of_place u.texts place in
     let s = pathless_source (text_bytes t) in
-    tree_objects s (text_reading u.edition.0 t) u.edition.1 (text_places t) all_items (shown_tree u krate place)
+    let read = text_reading u.edition.0 (member_options u krate has_members) t in
+    tree_objects units s read u.edition.1 (text_places t) all_items (shown_tree u krate place)
 
 -- those of a file
-abbrev pub outline_form : Session → Crate → HirFileId → Data
-outline_form u krate file = array (items_of (item_objects u krate (File file)))
+abbrev pub outline_form : Session → Crate → HirFileId → Units → Bool → Data
+outline_form u krate file units has_members = array (items_of (item_objects u krate (File file) units has_members))
 
 -- the objects of the imports of a place
 abbrev pub imports_form : Session → Crate → Place → Data
 imports_form u krate place = let t = text_of_place u.texts place in array (items_of (import_objects (text_bytes t) u.edition.1 (places_of_text t) (shown_tree u krate place).forest))
 
 -- the objects of the problems of a file's text
-abbrev pub problems_form : Session → HirFileId → Data
-problems_form u file = let t = text_in u.texts file.0 in array (items_of (problem_objects (text_bytes t) (text_problems t)))
+abbrev pub problems_form : Session → HirFileId → Units → Data
+problems_form u file units = let t = text_in u.texts file.0 in array (items_of (problem_objects units (text_bytes t) (text_problems t)))
 
 -- ---- changes
 
@@ -74,7 +82,7 @@ items_member items = member (codes "items") (array (items_of items)) no_members
 
 -- the object of a crate's tree of a place: when it changed last, and its items
 abbrev pub tree_form : Session → Crate → Place → Data
-tree_form u krate place = change_with (items_member (item_objects u krate place)) (place, krate, change_number u.table place krate.0)
+tree_form u krate place = change_with (items_member (item_objects u krate place Characters false)) (place, krate, change_number u.table place krate.0)
 
 -- all changes since a number in what the crates have
 abbrev pub AreOwnChanges : CrateFiles → State → ℕ → List Change → Type 0
@@ -98,11 +106,11 @@ IsTextOf files reserved s (Changed since) d = AreChangeLines files s since d
 -- the value of a show, if something is set at the place that it is of
 abbrev pub IsPresentValue : Session → LineShow → Data → Type 0
 IsPresentValue u (Table show) d = IsTextOf u.files u.edition.1 u.table show d
-IsPresentValue u (Outline krate file) d = d ≡ outline_form u krate file
+IsPresentValue u (Outline krate file units has_members) d = d ≡ outline_form u krate file units has_members
 IsPresentValue u (TreeItems krate place) d = d ≡ tree_form u krate place
 IsPresentValue u (ImportPlaces krate place) d = d ≡ imports_form u krate place
 IsPresentValue u (Changes since) d = AreChangeValues u.files u.table since d
-IsPresentValue u (Problems file) d = d ≡ problems_form u file
+IsPresentValue u (Problems file units) d = d ≡ problems_form u file units
 IsPresentValue u (Find sought) d = IsFound u.files u.table u.texts sought d
 
 -- ---- places at which nothing is set
@@ -111,11 +119,11 @@ IsPresentValue u (Find sought) d = IsFound u.files u.table u.texts sought d
 abbrev pub place_shown : LineShow → Option Place
 place_shown (Table (OfTree show)) = Some show.place
 place_shown (Table (Changed since)) = None
-place_shown (Outline krate file) = Some (File file)
+place_shown (Outline krate file units has_members) = Some (File file)
 place_shown (TreeItems krate place) = Some place
 place_shown (ImportPlaces krate place) = Some place
 place_shown (Changes since) = None
-place_shown (Problems file) = Some (File file)
+place_shown (Problems file units) = Some (File file)
 place_shown (Find sought) = None
 
 -- a place, if nothing is set there

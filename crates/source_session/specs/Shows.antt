@@ -19,6 +19,7 @@ use Rattle.source_session.specs.Keys.{none_at, only_known}
 use Rattle.source_session.specs.declared.show.LineShow.{LineShow}
 use Rattle.source_session.specs.declared.show.LineShow.TheVariants.{Table, Outline, TreeItems, ImportPlaces, Changes, Problems, Find}
 use Rattle.source_session.specs.Sought.{asked_path_in}
+use Rattle.source_session.specs.Units.{as_usual, members_asked, units_at}
 
 -- one of this many crates, which are numbered from 0
 abbrev pub crate_in : ℕ → Data → Reading Crate
@@ -31,31 +32,41 @@ crate_in count d = do
 abbrev pub file_named : Data → Reading HirFileId
 file_named d = reading_map (λ number. record { 0 = number }) (number_form (codes "file") d)
 
--- a show of a crate's tree of a file; it is answered in one way alone, as the two that follow are
-abbrev pub line_tree_show : (Crate → HirFileId → LineShow) → ℕ → Data → Reading LineShow
-line_tree_show of count d = do
+-- a show of the items of a crate's tree of a file, by columns of some units, with members or without; it is answered in one way alone, as those that follow are
+abbrev pub outline_show : ℕ → Data → Reading LineShow
+outline_show count d = do
   krate ← crate_in count d
   file ← file_named d
   _ ← none_at (codes "as") d
-  right (of krate file)
+  units ← units_at d
+  has_members ← members_asked d
+  right (Outline krate file units has_members)
+
+-- of the places of imports of a file
+abbrev pub import_places_show : ℕ → Data → Reading LineShow
+import_places_show count d = do
+  krate ← crate_in count d
+  file ← file_named d
+  _ ← none_at (codes "as") d
+  _ ← as_usual d
+  right (ImportPlaces krate (File file))
 
 -- of what is wrong with the text of a file
 abbrev pub problems_show : Data → Reading LineShow
 problems_show d = do
   file ← file_named d
   _ ← none_at (codes "as") d
-  right (Problems file)
+  units ← units_at d
+  _ ← none_at (codes "members") d
+  right (Problems file units)
 
 -- of the items that have a path
 abbrev pub find_show : Data → Reading LineShow
 find_show d = do
   sought ← asked_path_in d
   _ ← none_at (codes "as") d
+  _ ← none_at (codes "members") d
   right (Find sought)
-
--- the places of imports of a file
-abbrev pub import_places : Crate → HirFileId → LineShow
-import_places krate file = ImportPlaces krate (File file)
 
 -- ---- shows of a request
 
@@ -86,6 +97,7 @@ answered_by true (Changed since) = Some (Changes since)
 abbrev pub request_show : ℕ → Data → Reading LineShow
 request_show count d = do
   show ← request_shows.show count d
+  _ ← as_usual d
   by_values ← as_values d
   by_form (answered_by by_values show) right (wrong_at (codes "as"))
 
@@ -94,8 +106,8 @@ request_show count d = do
 -- by the word for what is shown
 abbrev pub line_show_by : ℕ → List ℕ → Data → Reading LineShow
 line_show_by count word d =
-    on_word word (codes "outline") (line_tree_show Outline count d)
-    (on_word word (codes "import_places") (line_tree_show import_places count d)
+    on_word word (codes "outline") (outline_show count d)
+    (on_word word (codes "import_places") (import_places_show count d)
     (on_word word (codes "problems") (problems_show d)
     (on_word word (codes "find") (find_show d)
     (request_show count d))))
@@ -121,9 +133,9 @@ IsCrateOf count krate = (krate.0 < count) × (krate.0 < 2 ^ 32)
 -- so is the one that a show names, if it names one
 abbrev pub ShowNamesCrate : ℕ → LineShow → Type 0
 ShowNamesCrate count (Table show) = request.NamesCrate count show
-ShowNamesCrate count (Outline krate file) = IsCrateOf count krate
+ShowNamesCrate count (Outline krate file units has_members) = IsCrateOf count krate
 ShowNamesCrate count (TreeItems krate place) = IsCrateOf count krate
 ShowNamesCrate count (ImportPlaces krate place) = IsCrateOf count krate
 ShowNamesCrate count (Changes since) = Unit {0}
-ShowNamesCrate count (Problems file) = Unit {0}
+ShowNamesCrate count (Problems file units) = Unit {0}
 ShowNamesCrate count (Find sought) = Unit {0}

@@ -12,12 +12,16 @@ use Rattle.decl_index.specs.Lookup.{entry_has_name}
 use Rattle.source_listing.specs.Paths.{bare_segment, is_sought_path}
 use Rattle.source_listing.specs.Sought.{Sought, sought}
 use Rattle.source_session.specs.Files.{CrateFiles, is_in_crate}
+use Rattle.line_index.specs.declared.Units.{Units}
+use Rattle.line_index.specs.declared.Units.TheVariants.{Characters}
 use Rattle.source_session.specs.Parts.{parts_between, last_part}
+use Rattle.source_session.specs.Units.{units_at}
 
--- a path that is looked for, and its last name
+-- a path that is looked for, its last name, and what columns of what is found count
 pub record SoughtItem : Type 0 where
   pub path : Sought
   pub name : List ℕ
+  pub units : Units
 
 -- ---- how it is written
 
@@ -25,17 +29,20 @@ pub record SoughtItem : Type 0 where
 abbrev pub last_name : List ℕ → Reading (List ℕ)
 last_name path = here (name_in (last_part (parts_between 58 path)))
 
--- a path as the command takes it
+-- a path as the command takes it, by columns of characters
 abbrev pub asked_path : Data → Reading SoughtItem
 asked_path d = do
   s ← text_form d
   path ← here (sought s)
   name ← last_name path.path
-  right (record { path = path; name = name })
+  right (record { path = path; name = name; units = Characters })
 
--- the path that is looked for, which is required
+-- the path that is looked for, which is required, by columns of the units that are asked for
 abbrev pub asked_path_in : Data → Reading SoughtItem
-asked_path_in = required_at (codes "name") asked_path
+asked_path_in d = do
+  item ← required_at (codes "name") asked_path d
+  units ← units_at d
+  right (record item { units = units })
 
 -- ---- what it finds
 

@@ -1,7 +1,8 @@
 -- The text of a file with what was read of it, empty where it has none.
-use Rattle.std.specs.Prelude.{ℕ, List, [], string_bytes, Option, None, option_and_then}
+use Rattle.std.specs.Prelude.{ℕ, List, [], string_bytes, Option, option_and_then}
 use Rattle.std.specs.Option.{option_map_or}
 use Rattle.hir_input.specs.declared.edition.EditionYear.{EditionYear}
+use Rattle.hir_input.specs.Cfg.{AtomView}
 use Rattle.rust_mended.specs.declared.text.Mended.{Mended}
 use Rattle.rust_items.specs.declared.source_file.ItemPlace.{ItemPlace}
 use Rattle.rust_items.specs.declared.log.Problem.{Problem}
@@ -31,6 +32,6 @@ text_problems t = option_map_or (λ x. x.problems.items) t []
 abbrev pub text_mended : Option SourceText → Option Mended
 text_mended t = option_and_then (λ x. x.mended) t
 
--- what headers are read of: the text that was read; members are not asked for
-abbrev pub text_reading : EditionYear → Option SourceText → MemberReading
-text_reading year t = record { text = text_read (text_bytes t) (text_mended t); closers = closers_in (text_mended t); edition = year; options = None }
+-- what headers and members are read of: the text that was read; under these options, where members are asked for
+abbrev pub text_reading : EditionYear → Option (List AtomView) → Option SourceText → MemberReading
+text_reading year options t = record { text = text_read (text_bytes t) (text_mended t); closers = closers_in (text_mended t); edition = year; options = options }

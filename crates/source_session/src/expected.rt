@@ -52,6 +52,8 @@ fn of_line(key: &str) -> &'static str
         "edit" => EDITS,
         "show" => SHOWS,
         "as" => "text or json, of tree, imports or changed",
+        "units" => "characters, utf-16 or bytes, of outline, problems or find",
+        "members" => "true or false, of outline",
         "year" => "2015, 2018, 2021 or 2024",
         "id" => "a value without a float",
         _ => OTHER,

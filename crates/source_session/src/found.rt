@@ -21,7 +21,7 @@ use decl_index::Entry;
 use hir_input::{BlockId, Crate, FileAstId, HirFileId, Name};
 use item_tree::{ItemTree, ModItemId};
 use item_tree_db::{Place, Sources};
-use line_index::Position;
+use line_index::{Position, Units};
 use rust_items::ItemPlace;
 use serde_json::{Value, json};
 use source_listing::push_segment;
@@ -117,8 +117,9 @@ fn placeless_value(
     id: String,
 ) -> Result<Value, AllocError>
     ensures { (text : List ℕ)
+        → (units : Units)
         → IfOk result (λ value. view value
-        ≡ spec.in_file file krate (string (string_bytes id)) text None) }
+        ≡ spec.in_file units file krate (string (string_bytes id)) text None) }
 {
     let (file, krate) = (file.0, krate.0);
     json!(in alloc; {"crate": krate, "file": file, "id": id})
@@ -130,17 +131,19 @@ fn in_file(
     krate: Crate,
     id: FileAstId,
     spots: &mut Finder<'_>,
+    units: Units,
 ) -> Result<Value, AllocError>
     requires { AreDistinct spots.old.places }
     ensures value { let place = place_of id spots.old.places in
-        IfOk result (λ value. view value ≡ spec.in_file file krate (string (shown_id id)) spots.old.lines place) }
+        IfOk result (λ value. view value
+        ≡ spec.in_file units file krate (string (shown_id id)) spots.old.lines place) }
     ensures same { IsSameFinder spots.old spots.new }
 {
     let shown = id.to_string(alloc)?;
     let Some(place) = spots.places.find(id) else {
         return placeless_value(alloc, file, krate, shown);
     };
-    let at = spots.lines.position(stands_at(place));
+    let at = spots.lines.position_in(units, stands_at(place));
     placed_value(alloc, file, krate, shown, at, place)
 }
 
@@ -158,17 +161,18 @@ fn found_value(
     tree: &ItemTree,
     entry: &Entry,
     spots: &mut Finder<'_>,
+    units: Units,
 ) -> Result<Value, AllocError>
     requires contained { IsContained tree.now entry.now.id }
     requires distinct { AreDistinct spots.old.places }
-    ensures value { let found = found_with spots.old.lines spots.old.places in
+    ensures value { let found = found_with units spots.old.lines spots.old.places in
         let form = found entry.now.place entry.now.krate (ast_in tree.now entry.now.id) in
         IfOk result (λ value. view value ≡ form) }
     ensures same { IsSameFinder spots.old spots.new }
 {
     let id = entry.id.ast_id(tree);
     match entry.place {
-        Place::File(file) => in_file(alloc, file, entry.krate, id, spots),
+        Place::File(file) => in_file(alloc, file, entry.krate, id, spots, units),
         Place::Block(block) => in_block(alloc, block, entry.krate, id),
     }
 }
@@ -268,7 +272,8 @@ fn push_found<'a>(
     if !is_found(alloc, sought, entry, finder.tree, &mut finder.scopes)? {
         return Ok(Some(finder));
     }
-    values.push(found_value(alloc, finder.tree, entry, &mut finder.spots)?)?;
+    let units = sought.units();
+    values.push(found_value(alloc, finder.tree, entry, &mut finder.spots, units)?)?;
     Ok(Some(finder))
 }
 

@@ -46,7 +46,7 @@ pub(crate) fn is_known(object: LineObject, key: &str) -> bool
         ),
         LineObject::OfShows => matches!(
             key,
-            "show" | "crate" | "file" | "block" | "since" | "as" | "name"
+            "show" | "crate" | "file" | "block" | "since" | "as" | "name" | "units" | "members"
         ),
     }
 }

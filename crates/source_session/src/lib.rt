@@ -27,6 +27,7 @@ mod splice;
 mod table_changes;
 mod texts;
 mod touched;
+mod units;
 
 pub use conversation::Conversation;
 pub use edit::LineEdit;

@@ -1,21 +1,24 @@
 //! Shows of a line, read from their forms.
-ghost use Rattle.std.specs.Prelude.{◌≡◌, ℕ, IfOk, IfSome};
+ghost use Rattle.std.specs.Prelude.{◌≡◌, ℕ, IfOk, IfSome, codes};
 ghost use Rattle.serde_json.specs.View.{view};
+ghost use Rattle.hir_input_json.specs.Forms.{required_at};
 ghost use Rattle.hir_input_json.specs.Held.{held};
 ghost use Rattle.hir_input_json.specs.Reads.{Reads};
 ghost use Rattle.item_tree_request.specs.Named as request;
-ghost use Rattle.source_session.specs.Sought.{asked_path_in};
+ghost use Rattle.source_session.specs.Sought.{asked_path, asked_path_in};
 ghost use Rattle.source_session.specs.Shows as spec;
 ghost use Rattle.source_session.specs.Shows.{ShowNamesCrate, IsCrateOf};
 
 use crate::keys::{LineObject, Members, none_in, only_known};
 use crate::sought::{SoughtItem, sought_of};
+use crate::units::{as_usual, members_asked, units_at};
 use hir_input::{Crate, HirFileId};
 use hir_input_json::float::has_float;
 use hir_input_json::member::{field, id_at, members_of, word_at};
 use hir_input_json::{Fault, ReadIn};
 use item_tree_db::Place;
 use item_tree_request::request::show::{Show, ShowKind, TreeShow, show_in};
+use line_index::Units;
 use serde_json::Value;
 use std::alloc::Global;
 
@@ -25,7 +28,13 @@ pub enum LineShow {
     /// One of a request, by its text.
     Table(Show),
     /// The items of a crate's tree of a file.
-    Outline { krate: Crate, file: HirFileId },
+    Outline {
+        krate: Crate,
+        file: HirFileId,
+        /// What columns count.
+        units: Units,
+        has_members: bool,
+    },
     /// When a crate's tree of a place changed last, and its items.
     TreeItems { krate: Crate, place: Place },
     /// The imports of a crate's tree of a place, with the places of their use trees.
@@ -33,7 +42,7 @@ pub enum LineShow {
     /// What changed since a number.
     Changes { since: u64 },
     /// What is wrong with the text of a file.
-    Problems { file: HirFileId },
+    Problems { file: HirFileId, units: Units },
     /// The items that have a path.
     Find { sought: SoughtItem },
 }
@@ -56,14 +65,23 @@ fn file_at(alloc: Global, members: &Members) -> Result<HirFileId, Fault>
     Ok(HirFileId(id_at(alloc, members, "file")?))
 }
 
-// The path that is looked for.
-fn sought_at(alloc: Global, members: &Members) -> Result<SoughtItem, Fault>
-    ensures { Reads (λ sought. sought) result (asked_path_in (held members.now)) }
+fn path_at(alloc: Global, members: &Members) -> Result<SoughtItem, Fault>
+    ensures { Reads (λ sought. sought) result
+        (required_at (codes "name") asked_path (held members.now)) }
 {
     match field(members, "name") {
         Some(found) => sought_of(alloc, found).in_member(alloc, "name"),
         None => Err(Fault::at(alloc, "name")),
     }
+}
+
+// The path that is looked for.
+fn sought_at(alloc: Global, members: &Members) -> Result<SoughtItem, Fault>
+    ensures { Reads (λ sought. sought) result (asked_path_in (held members.now)) }
+{
+    let sought = path_at(alloc, members)?;
+    let units = units_at(alloc, members)?;
+    Ok(sought.in_units(units))
 }
 
 // ---- shows of a request
@@ -125,6 +143,7 @@ fn request_show(alloc: Global, members: &Members, count: usize) -> Result<LineSh
     ensures known { IfOk result (ShowNamesCrate count) }
 {
     let show = show_in(alloc, members, count)?;
+    as_usual(alloc, members)?;
     let by_values = as_values(alloc, members)?;
     match answered_by(by_values, show) {
         Some(show) => Ok(show),
@@ -134,6 +153,56 @@ fn request_show(alloc: Global, members: &Members, count: usize) -> Result<LineSh
 
 // ---- shows
 
+fn outline_show(alloc: Global, members: &Members, count: usize) -> Result<LineShow, Fault>
+    ensures reads { Reads (λ show. show) result (spec.outline_show count (held members.now)) }
+    ensures known { IfOk result (ShowNamesCrate count) }
+{
+    let krate = crate_at(alloc, members, count)?;
+    let file = file_at(alloc, members)?;
+    none_in(alloc, members, "as")?;
+    let units = units_at(alloc, members)?;
+    let has_members = members_asked(alloc, members)?;
+    Ok(LineShow::Outline {
+        krate,
+        file,
+        units,
+        has_members,
+    })
+}
+
+fn import_places_show(alloc: Global, members: &Members, count: usize) -> Result<LineShow, Fault>
+    ensures reads { Reads (λ show. show) result
+        (spec.import_places_show count (held members.now)) }
+    ensures known { IfOk result (ShowNamesCrate count) }
+{
+    let krate = crate_at(alloc, members, count)?;
+    let place = Place::File(file_at(alloc, members)?);
+    none_in(alloc, members, "as")?;
+    as_usual(alloc, members)?;
+    Ok(LineShow::ImportPlaces { krate, place })
+}
+
+fn problems_show(alloc: Global, members: &Members) -> Result<LineShow, Fault>
+    ensures reads { Reads (λ show. show) result (spec.problems_show (held members.now)) }
+    ensures known { (count : ℕ) → IfOk result (ShowNamesCrate count) }
+{
+    let file = file_at(alloc, members)?;
+    none_in(alloc, members, "as")?;
+    let units = units_at(alloc, members)?;
+    none_in(alloc, members, "members")?;
+    Ok(LineShow::Problems { file, units })
+}
+
+fn find_show(alloc: Global, members: &Members) -> Result<LineShow, Fault>
+    ensures reads { Reads (λ show. show) result (spec.find_show (held members.now)) }
+    ensures known { (count : ℕ) → IfOk result (ShowNamesCrate count) }
+{
+    let sought = sought_at(alloc, members)?;
+    none_in(alloc, members, "as")?;
+    none_in(alloc, members, "members")?;
+    Ok(LineShow::Find { sought })
+}
+
 // A show after edits of a table of this many crates, of these members.
 fn members_show(alloc: Global, members: &Members, count: usize) -> Result<LineShow, Fault>
     ensures reads { Reads (λ show. show) result (spec.show_form count (held members.now)) }
@@ -141,28 +210,10 @@ fn members_show(alloc: Global, members: &Members, count: usize) -> Result<LineSh
 {
     only_known(alloc, members, LineObject::OfShows)?;
     match word_at(alloc, members, "show")? {
-        "outline" => {
-            let krate = crate_at(alloc, members, count)?;
-            let file = file_at(alloc, members)?;
-            none_in(alloc, members, "as")?;
-            Ok(LineShow::Outline { krate, file })
-        }
-        "import_places" => {
-            let krate = crate_at(alloc, members, count)?;
-            let place = Place::File(file_at(alloc, members)?);
-            none_in(alloc, members, "as")?;
-            Ok(LineShow::ImportPlaces { krate, place })
-        }
-        "problems" => {
-            let file = file_at(alloc, members)?;
-            none_in(alloc, members, "as")?;
-            Ok(LineShow::Problems { file })
-        }
-        "find" => {
-            let sought = sought_at(alloc, members)?;
-            none_in(alloc, members, "as")?;
-            Ok(LineShow::Find { sought })
-        }
+        "outline" => outline_show(alloc, members, count),
+        "import_places" => import_places_show(alloc, members, count),
+        "problems" => problems_show(alloc, members),
+        "find" => find_show(alloc, members),
         _ => request_show(alloc, members, count),
     }
 }

@@ -1,11 +1,13 @@
 //! The values of shows.
-ghost use Rattle.std.specs.Prelude.{◌≡◌, None, All, IfOk, is_some, map};
+ghost use Rattle.std.specs.Prelude.{◌≡◌, None, All, IfOk, is_some, map, option_copied};
 ghost use Rattle.std.specs.List.{AllZip};
 ghost use Rattle.serde_json.specs.Data.{string};
 ghost use Rattle.serde_json.specs.View.{view};
 ghost use Rattle.item_tree_db.specs.State.{IsKnown, present};
 ghost use Rattle.item_tree_request.specs.Outputs.{Knows, printed};
+ghost use Rattle.source_listing.specs.Views.{choice_view, reading_view};
 ghost use Rattle.source_session.specs.Found.{IsFound};
+ghost use Rattle.source_session.specs.SourceTexts.{text_reading};
 ghost use Rattle.source_session.specs.Shown as spec;
 ghost use Rattle.source_session.specs.Shows.{IsCrateOf, ShowNamesCrate};
 ghost use Rattle.source_session.specs.Shown.{AreChangeValues, IsPresentValue, IsShowValue, IsTextOf};
@@ -20,11 +22,12 @@ use crate::sought::SoughtItem;
 use crate::table_changes::{changes_text, changes_value, tree_value};
 use crate::texts::{text_at, text_of};
 use crate::touched::refresh;
-use hir_input::{Crate, Edition, HirFileId};
+use hir_input::{CfgOptions, Crate, Edition, EditionYear, HirFileId};
 use item_tree_db::{Place, Sources};
 use item_tree_request::request::show::{Show, TreeShow};
 use item_tree_request::show::Pages;
 use item_tree_request::show_writer::ShowWriter;
+use line_index::Units;
 use serde_json::{Value, json};
 use source_listing::{Choice, Reading, Source, import_items, outline_items, problem_items};
 use std::alloc::{AllocError, Global};
@@ -71,7 +74,7 @@ fn place_of(show: &LineShow) -> Option<Place>
     match show {
         LineShow::Table(Show::OfTree(show)) => Some(show.place),
         LineShow::TreeItems { place, .. } | LineShow::ImportPlaces { place, .. } => Some(*place),
-        LineShow::Outline { file, .. } | LineShow::Problems { file } => Some(Place::File(*file)),
+        LineShow::Outline { file, .. } | LineShow::Problems { file, .. } => Some(Place::File(*file)),
         LineShow::Table(Show::Changed { .. }) | LineShow::Changes { .. } | LineShow::Find { .. } =>
             { None }
     }
@@ -116,16 +119,55 @@ fn unset_value(alloc: Global, place: Place) -> Result<Value, AllocError>
 
 // ---- a session's
 
+// All items, at every depth, also those that a cfg disables.
+fn all_items() -> Choice
+    ensures { choice_view result ≡ spec.all_items }
+{
+    Choice {
+        depth: None,
+        only_active: false,
+    }
+}
+
+// How headers and members are read where there is no text.
+fn empty_reading(edition: EditionYear, options: Option<&CfgOptions>) -> Reading<'_>
+    ensures { reading_view result ≡ text_reading edition (option_copied options.entry) None }
+{
+    Reading {
+        text: "",
+        mended: None,
+        edition,
+        options,
+    }
+}
+
 impl Session {
-    // The objects of the items of a place.
-    fn items(&self, alloc: Global, krate: Crate, place: Place) -> Result<Vec<Value>, AllocError>
+    // The options of a crate, where members are asked for.
+    fn member_options(&self, krate: Crate, has_members: bool) -> Option<&CfgOptions>
         requires { IsCrateOf self.now.count krate }
-        ensures { IfOk result (λ items. map view items.items ≡ item_objects self.now krate place) }
+        ensures { option_copied result ≡ spec.member_options self.now krate has_members }
     {
-        let choice = Choice {
-            depth: None,
-            only_active: false,
-        };
+        if has_members {
+            return Some(self.sources.cfg_options(krate));
+        }
+        None
+    }
+
+    // The objects of the items of a place.
+    fn items(
+        &self,
+        alloc: Global,
+        krate: Crate,
+        place: Place,
+        units: Units,
+        has_members: bool,
+    ) -> Result<Vec<Value>, AllocError>
+        requires { IsCrateOf self.now.count krate }
+        ensures { IfOk result (λ items. map view items.items
+            ≡ item_objects self.now krate place units has_members) }
+    {
+        let options = self.member_options(krate, has_members);
+        let choice = all_items();
         let tree = self.sources.tree(place, krate);
         match text_at(&self.texts, place) {
             Some(text) => {
@@ -133,7 +175,7 @@ impl Session {
                     path: "",
                     text: text.text.as_str(),
                 };
-                let reading = text.reading(self.edition.year);
+                let reading = text.reading(self.edition.year, options);
                 outline_items(
                     alloc,
                     source,
@@ -142,26 +184,30 @@ impl Session {
                     &self.edition,
                     reading,
                     choice,
+                    units,
                 )
             }
             None => {
                 let source = Source { path: "", text: "" };
-                let reading = Reading {
-                    text: "",
-                    mended: None,
-                    edition: self.edition.year,
-                    options: None,
-                };
-                outline_items(alloc, source, &[], tree, &self.edition, reading, choice)
+                let reading = empty_reading(self.edition.year, options);
+                outline_items(alloc, source, &[], tree, &self.edition, reading, choice, units)
             }
         }
     }
 
-    fn outline(&self, alloc: Global, krate: Crate, file: HirFileId) -> Result<Value, AllocError>
+    fn outline(
+        &self,
+        alloc: Global,
+        krate: Crate,
+        file: HirFileId,
+        units: Units,
+        has_members: bool,
+    ) -> Result<Value, AllocError>
         requires { IsCrateOf self.now.count krate }
-        ensures { IfOk result (λ value. view value ≡ outline_form self.now krate file) }
+        ensures { IfOk result (λ value. view value
+            ≡ outline_form self.now krate file units has_members) }
     {
-        let items = self.items(alloc, krate, Place::File(file))?;
+        let items = self.items(alloc, krate, Place::File(file), units, has_members)?;
         Ok(Value::Array(items))
     }
 
@@ -169,7 +215,7 @@ impl Session {
         requires { IsCrateOf self.now.count krate }
         ensures { IfOk result (λ value. view value ≡ tree_form self.now krate place) }
     {
-        let items = self.items(alloc, krate, place)?;
+        let items = self.items(alloc, krate, place, Units::Characters, false)?;
         let change = self.sources.changed(place, krate);
         tree_value(alloc, place, krate, change, items)
     }
@@ -200,11 +246,16 @@ impl Session {
         changes_value(alloc, &self.files, &self.sources, since)
     }
 
-    fn problems(&self, alloc: Global, file: HirFileId) -> Result<Value, AllocError>
-        ensures { IfOk result (λ value. view value ≡ problems_form self.now file) }
+    fn problems(
+        &self,
+        alloc: Global,
+        file: HirFileId,
+        units: Units,
+    ) -> Result<Value, AllocError>
+        ensures { IfOk result (λ value. view value ≡ problems_form self.now file units) }
     {
         let items = match text_of(&self.texts, file.0) {
-            Some(text) => problem_items(alloc, text.text.as_str(), &text.problems)?,
+            Some(text) => problem_items(alloc, text.text.as_str(), &text.problems, units)?,
             None => Vec::new(alloc),
         };
         Ok(Value::Array(items))
@@ -239,11 +290,16 @@ impl Session {
             LineShow::Table(show) => {
                 table_value(alloc, &self.files, &self.sources, &self.edition, *show)
             }
-            LineShow::Outline { krate, file } => self.outline(alloc, *krate, *file),
+            LineShow::Outline {
+                krate,
+                file,
+                units,
+                has_members,
+            } => self.outline(alloc, *krate, *file, *units, *has_members),
             LineShow::TreeItems { krate, place } => self.tree_items(alloc, *krate, *place),
             LineShow::ImportPlaces { krate, place } => self.import_places(alloc, *krate, *place),
             LineShow::Changes { since } => self.changes(alloc, *since),
-            LineShow::Problems { file } => self.problems(alloc, *file),
+            LineShow::Problems { file, units } => self.problems(alloc, *file, *units),
             LineShow::Find { sought } => self.find(alloc, sought),
         }
     }

@@ -10,16 +10,18 @@ use crate::parts::{part_at, parts};
 use hir_input::Name;
 use hir_input_json::Fault;
 use hir_input_json::name::name_of;
+use line_index::Units;
 use serde_json::Value;
 use source_listing::{SoughtPath, is_sought_path, sought_path};
 use std::alloc::Global;
 use std::marker::Model;
 
-/// A path of names that is looked for, and its last name.
+/// A path of names that is looked for, its last name, and what columns of what is found count.
 #[derive(Debug, Drop)]
 pub struct SoughtItem {
     path: SoughtPath,
     name: Name,
+    units: Units,
 }
 
 impl Model for SoughtItem {
@@ -28,7 +30,7 @@ impl Model for SoughtItem {
 
     ghost Value = { spec.SoughtItem };
 
-    ghost view = { λ x. record { path = sought_view x.path; name = x.name } };
+    ghost view = { λ x. record { path = sought_view x.path; name = x.name; units = x.units } };
 }
 
 #[tactic(auto, using(crate::proofs::Pieces::same_count))]
@@ -50,7 +52,7 @@ fn path_of(alloc: Global, text: &str) -> Result<SoughtPath, Fault>
     }
 }
 
-/// A path that is looked for.
+/// A path that is looked for, by columns of characters.
 ///
 /// `WrongForm` comes only where it is not of its form (`Sought.asked_path`).
 pub(crate) fn sought_of(alloc: Global, value: &Value) -> Result<SoughtItem, Fault>
@@ -61,7 +63,8 @@ pub(crate) fn sought_of(alloc: Global, value: &Value) -> Result<SoughtItem, Faul
     };
     let path = path_of(alloc, text)?;
     let name = last_name(alloc, &path.path)?;
-    Ok(SoughtItem { path, name })
+    let units = Units::Characters;
+    Ok(SoughtItem { path, name, units })
 }
 
 impl SoughtItem {
@@ -70,6 +73,25 @@ impl SoughtItem {
         ensures { result.now ≡ self.now.name }
     {
         &self.name
+    }
+
+    /// The same by columns of these units.
+    pub(crate) fn in_units(self, units: Units) -> SoughtItem
+        ensures { result ≡ record self { units = units } }
+    {
+        let SoughtItem {
+            path,
+            name,
+            units: _,
+        } = self;
+        SoughtItem { path, name, units }
+    }
+
+    /// What columns of what is found count.
+    pub(crate) fn units(&self) -> Units
+        ensures { result ≡ self.now.units }
+    {
+        self.units
     }
 
     /// Whether the path may begin anywhere, and this is how it ends.

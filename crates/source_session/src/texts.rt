@@ -6,7 +6,7 @@ ghost use Rattle.source_listing.specs.Views.{reading_view};
 ghost use Rattle.source_session.specs.SourceTexts.{text_reading};
 ghost use Rattle.source_session.specs.Texts.{TextChange as ChangeView, left_text, text_after, text_of_place, text_in};
 
-use hir_input::EditionYear;
+use hir_input::{CfgOptions, EditionYear};
 use item_tree_db::Place;
 use rust_items::{ItemPlace, Problem};
 use rust_mended::Mended;
@@ -29,15 +29,20 @@ pub struct SourceText {
 }
 
 impl SourceText {
-    /// How headers are read of it. Members are not asked for.
-    pub(crate) fn reading(&self, edition: EditionYear) -> Reading<'_>
-        ensures { reading_view result ≡ text_reading edition (Some self.now) }
+    /// How headers are read of it, and members, where options are given.
+    pub(crate) fn reading<'a>(
+        &'a self,
+        edition: EditionYear,
+        options: Option<&'a CfgOptions>,
+    ) -> Reading<'a>
+        ensures { reading_view result
+            ≡ text_reading edition (option_copied options.entry) (Some self.now) }
     {
         Reading {
             text: self.text.as_str(),
             mended: self.mended.as_ref(),
             edition,
-            options: None,
+            options,
         }
     }
 }

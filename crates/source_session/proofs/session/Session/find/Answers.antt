@@ -25,6 +25,6 @@ returns-clause-found c =
     let all = c.refresh.new.index.1 in
     let looked = c.lookup-entries.ensures ∙ ap (λ name. filter (entry_has_name name) all) c.name.ensures in
     let own = ap (λ fs. flat_map (found_one fs s texts q) c.lookup-entries.result.now.keys) c.deref.ensures.value in
-    let values = c.in_ok-values.ensures ∙ own ∙ ap (flat_map (found_one files s texts q)) looked ∙ found_all (entry_has_name q.name) (λ e. is_in_crate files e.krate e.place && is_at q.path (entry_path s e)) (found_form s texts) all in
+    let values = c.in_ok-values.ensures ∙ own ∙ ap (flat_map (found_one files s texts q)) looked ∙ found_all (entry_has_name q.name) (λ e. is_in_crate files e.krate e.place && is_at q.path (entry_path s e)) (found_form q.units s texts) all in
     let made : view (Array c.in_ok-values.values) ≡ array (items_of (map view c.in_ok-values.values.items)) = search (rules, the_lemmas) in
     subst (λ u. IsFound u.files u.table u.texts q (view (Array c.in_ok-values.values))) c.self.view_is (all, c.in_ok-refresh.ensures.index.listing, made ∙ ap (λ ds. array (items_of ds)) values)

@@ -12,7 +12,7 @@ table_value-requires c =
 
 pub outline-requires : goal.outline-requires
 outline-requires c =
-    let is : c.args.show.now ≡ Outline c.in-Outline.krate c.in-Outline.file = search rules in
+    let is : c.args.show.now ≡ Outline c.in-Outline.krate c.in-Outline.file c.in-Outline.units c.in-Outline.has_members = search rules in
     subst (ShowNamesCrate c.args.self.now.count) is c.requires
 
 pub tree_items-requires : goal.tree_items-requires
@@ -27,7 +27,7 @@ import_places-requires c =
 
 pub returns-in-Outline-clause-shown : goal.returns-in-Outline-clause-shown
 returns-in-Outline-clause-shown c =
-    let is : c.args.show.now ≡ Outline c.in-Outline.krate c.in-Outline.file = search rules in
+    let is : c.args.show.now ≡ Outline c.in-Outline.krate c.in-Outline.file c.in-Outline.units c.in-Outline.has_members = search rules in
     subst (λ show. IfOk c.outline.result (λ value. IsPresentValue c.args.self.now show (view value))) (sym is) c.outline.ensures
 
 pub returns-in-TreeItems-clause-shown : goal.returns-in-TreeItems-clause-shown
