@@ -156,7 +156,13 @@ fn answers_each_line(rt: HostRuntime) -> Result<(), Fail> {
     ] {
         let mut echo = Echo { answered: 0 };
         let mut written = Vec::new(alloc);
-        let served = serve(alloc, &Lines, &mut input.as_bytes(), &mut written, &mut echo);
+        let served = serve(
+            alloc,
+            &Lines,
+            &mut input.as_bytes(),
+            &mut written,
+            &mut echo,
+        );
         assert!(rt; served.is_ok(), "{input}");
         assert!(rt; written.as_slice() == output.as_bytes(), "{input}");
         assert_eq!(rt; echo.answered, count, "{input}");
@@ -242,12 +248,24 @@ fn answers_behind_headers(rt: HostRuntime) -> Result<(), Fail> {
     let one = "Content-Length: 3\r\n\r\none";
     for (input, output) in [
         ("", ""),
-        ("CONTENT-LENGTH: +3\nOther: 4\n\none", "Content-Length: 3\r\n\r\noneContent-Length: 3\r\n\r\none"),
+        (
+            "CONTENT-LENGTH: +3\nOther: 4\n\none",
+            "Content-Length: 3\r\n\r\noneContent-Length: 3\r\n\r\none",
+        ),
         ("Content-Length: 5\r\n\r\nquiet", ""),
-        ("Content-Length: 0\r\n\r\n", "Content-Length: 0\r\n\r\nContent-Length: 0\r\n\r\n"),
+        (
+            "Content-Length: 0\r\n\r\n",
+            "Content-Length: 0\r\n\r\nContent-Length: 0\r\n\r\n",
+        ),
     ] {
         let mut written = Vec::new(alloc);
-        let served = serve(alloc, &Headers, &mut input.as_bytes(), &mut written, &mut Twice);
+        let served = serve(
+            alloc,
+            &Headers,
+            &mut input.as_bytes(),
+            &mut written,
+            &mut Twice,
+        );
         assert!(rt; served.is_ok(), "{input}");
         assert!(rt; written.as_slice() == output.as_bytes(), "{input}");
     }
@@ -262,7 +280,11 @@ fn answers_behind_headers(rt: HostRuntime) -> Result<(), Fail> {
         let mut both = one.as_bytes().chain(input.as_bytes());
         let served = serve(alloc, &Headers, &mut both, &mut written, &mut Twice);
         assert!(rt; served == Err(error), "{input}");
-        assert!(rt; written.as_slice() == "Content-Length: 3\r\n\r\noneContent-Length: 3\r\n\r\none".as_bytes(), "{input}");
+        assert!(rt;
+            written.as_slice()
+                == "Content-Length: 3\r\n\r\noneContent-Length: 3\r\n\r\none".as_bytes(),
+            "{input}"
+        );
     }
     Ok(())
 }
@@ -284,7 +306,10 @@ fn reads_and_writes_in_pieces(rt: HostRuntime) -> Result<(), Fail> {
         &mut Twice,
     );
     assert!(rt; matches!(served, Err(StreamError::Read)));
-    assert!(rt; screen.shown.as_slice() == "Content-Length: 4\r\n\r\nlineContent-Length: 4\r\n\r\nline".as_bytes());
+    assert!(rt;
+        screen.shown.as_slice()
+            == "Content-Length: 4\r\n\r\nlineContent-Length: 4\r\n\r\nline".as_bytes()
+    );
     Ok(())
 }
 
@@ -300,6 +325,9 @@ fn passes_over_a_long_message(rt: HostRuntime) -> Result<(), Fail> {
     let mut written = Vec::new(alloc);
     let served = serve(alloc, &Headers, &mut input, &mut written, &mut echo);
     assert!(rt; served.is_ok());
-    assert!(rt; written.as_slice() == "Content-Length: 8\r\n\r\ntoo longContent-Length: 5\r\n\r\nshort".as_bytes());
+    assert!(rt;
+        written.as_slice()
+            == "Content-Length: 8\r\n\r\ntoo longContent-Length: 5\r\n\r\nshort".as_bytes()
+    );
     Ok(())
 }

@@ -13,7 +13,13 @@ pub(crate) fn answer_lines(rt: &HostRuntime) -> Result<u8, Failure> {
     // Standard input alone reads a byte at a time from a pipe.
     let mut input = BufReader::new(alloc, rt.stdin())?;
     let mut conversation = Conversation::new();
-    match serve(alloc, &Lines, &mut input, &mut rt.stdout(), &mut conversation) {
+    match serve(
+        alloc,
+        &Lines,
+        &mut input,
+        &mut rt.stdout(),
+        &mut conversation,
+    ) {
         Ok(()) => Ok(0),
         Err(error) => {
             let _ = eprintln!(rt; "itemtree: {error}");

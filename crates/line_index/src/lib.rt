@@ -103,7 +103,15 @@ fn byte_units(units: Units, byte: u8) -> usize
 {
     match units {
         Units::Characters => { if is_continuation(byte) { 0 } else { 1 } }
-        Units::Utf16 => { if is_continuation(byte) { 0 } else if byte < 240 { 1 } else { 2 } }
+        Units::Utf16 => {
+            if is_continuation(byte) {
+                0
+            } else if byte < 240 {
+                1
+            } else {
+                2
+            }
+        }
         Units::Bytes => 1,
     }
 }

@@ -36,15 +36,28 @@ pub enum LineShow {
         has_members: bool,
     },
     /// When a crate's tree of a place changed last, and its items.
-    TreeItems { krate: Crate, place: Place },
+    TreeItems {
+        krate: Crate,
+        place: Place,
+    },
     /// The imports of a crate's tree of a place, with the places of their use trees.
-    ImportPlaces { krate: Crate, place: Place },
+    ImportPlaces {
+        krate: Crate,
+        place: Place,
+    },
     /// What changed since a number.
-    Changes { since: u64 },
+    Changes {
+        since: u64,
+    },
     /// What is wrong with the text of a file.
-    Problems { file: HirFileId, units: Units },
+    Problems {
+        file: HirFileId,
+        units: Units,
+    },
     /// The items that have a path.
-    Find { sought: SoughtItem },
+    Find {
+        sought: SoughtItem,
+    },
 }
 
 // One of this many crates.

@@ -74,7 +74,9 @@ fn place_of(show: &LineShow) -> Option<Place>
     match show {
         LineShow::Table(Show::OfTree(show)) => Some(show.place),
         LineShow::TreeItems { place, .. } | LineShow::ImportPlaces { place, .. } => Some(*place),
-        LineShow::Outline { file, .. } | LineShow::Problems { file, .. } => Some(Place::File(*file)),
+        LineShow::Outline { file, .. } | LineShow::Problems { file, .. } => Some(Place::File(
+            *file,
+        )),
         LineShow::Table(Show::Changed { .. }) | LineShow::Changes { .. } | LineShow::Find { .. } =>
             { None }
     }
@@ -190,7 +192,16 @@ impl Session {
             None => {
                 let source = Source { path: "", text: "" };
                 let reading = empty_reading(self.edition.year, options);
-                outline_items(alloc, source, &[], tree, &self.edition, reading, choice, units)
+                outline_items(
+                    alloc,
+                    source,
+                    &[],
+                    tree,
+                    &self.edition,
+                    reading,
+                    choice,
+                    units,
+                )
             }
         }
     }
@@ -246,12 +257,7 @@ impl Session {
         changes_value(alloc, &self.files, &self.sources, since)
     }
 
-    fn problems(
-        &self,
-        alloc: Global,
-        file: HirFileId,
-        units: Units,
-    ) -> Result<Value, AllocError>
+    fn problems(&self, alloc: Global, file: HirFileId, units: Units) -> Result<Value, AllocError>
         ensures { IfOk result (λ value. view value ≡ problems_form self.now file units) }
     {
         let items = match text_of(&self.texts, file.0) {
