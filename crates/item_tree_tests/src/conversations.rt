@@ -37,6 +37,9 @@ impl Service for Echo {
 struct Twice;
 
 fn doubled(alloc: Global, text: String) -> Answer {
+    if text.as_str() == "quiet" {
+        return Answer::Several(Vec::new(alloc));
+    }
     let Ok(copy) = text.clone() else {
         return Answer::Fixed("out of memory");
     };
@@ -55,7 +58,6 @@ impl Service for Twice {
     fn answer(&mut self, alloc: Global, message: Message) -> Answer {
         match message {
             Message::Whole(bytes) => match String::from_utf8(bytes) {
-                Ok(text) if text.as_str() == "quiet" => Answer::Several(Vec::new(alloc)),
                 Ok(text) => doubled(alloc, text),
                 Err(_) => Answer::Fixed("no text"),
             },
