@@ -14,10 +14,10 @@ struct Echo {
 }
 
 impl Service for Echo {
-    ghost use Rattle.std.specs.Prelude.{codes};
+    ghost use Rattle.std.specs.Prelude.{[], ◌∷◌, codes};
     ghost use Rattle.message_stream.specs.Messages.{Told};
 
-    ghost answers = { λ _ said _ text. said ≡ Told.too_long → text ≡ codes "too long" };
+    ghost answers = { λ _ said _ texts. said ≡ Told.too_long → texts ≡ codes "too long" ∷ [] };
 
     fn answer(&mut self, _alloc: Global, message: Message) -> Answer {
         self.answered = self.answered.saturating_add(1);
