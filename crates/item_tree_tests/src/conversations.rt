@@ -247,7 +247,6 @@ fn answers_without_memory(rt: HostRuntime) -> Result<(), Fail> {
 #[test]
 fn answers_behind_headers(rt: HostRuntime) -> Result<(), Fail> {
     let alloc = rt.alloc();
-    let one = "Content-Length: 3\r\n\r\none";
     for (input, output) in [
         ("", ""),
         (
@@ -271,6 +270,13 @@ fn answers_behind_headers(rt: HostRuntime) -> Result<(), Fail> {
         assert!(rt; served.is_ok(), "{input}");
         assert!(rt; written.as_slice() == output.as_bytes(), "{input}");
     }
+    Ok(())
+}
+
+#[test]
+fn tells_why_a_message_is_none(rt: HostRuntime) -> Result<(), Fail> {
+    let alloc = rt.alloc();
+    let one = "Content-Length: 3\r\n\r\none";
     for (input, error) in [
         ("Content-Length: 3\r\n\r\non", StreamError::Cut),
         ("Content-Length: 3\r\n", StreamError::Cut),

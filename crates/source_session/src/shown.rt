@@ -169,7 +169,7 @@ impl Session {
             ≡ item_objects self.now krate place units has_members) }
     {
         let options = self.member_options(krate, has_members);
-        let choice = all_items();
+        let (choice, edition) = (all_items(), &self.edition);
         let tree = self.sources.tree(place, krate);
         match text_at(&self.texts, place) {
             Some(text) => {
@@ -183,7 +183,7 @@ impl Session {
                     source,
                     &text.places,
                     tree,
-                    &self.edition,
+                    edition,
                     reading,
                     choice,
                     units,
@@ -192,16 +192,7 @@ impl Session {
             None => {
                 let source = Source { path: "", text: "" };
                 let reading = empty_reading(self.edition.year, options);
-                outline_items(
-                    alloc,
-                    source,
-                    &[],
-                    tree,
-                    &self.edition,
-                    reading,
-                    choice,
-                    units,
-                )
+                outline_items(alloc, source, &[], tree, edition, reading, choice, units)
             }
         }
     }
