@@ -1,7 +1,7 @@
 -- The uses that stand under cfgs of what is read for a list are those of the text.
 use Rattle.std.proofs.Common.{◌≡◌, ℕ, Bool, true, false, List, [], ◌∷◌, ◌++◌, codes, flat_map, refl, ap, ◌∙◌, subst, sym}
-use Rattle.itemtree_commands.proofs.Common.{EditionYear, ItemView, ItemViews, listed_module, use_item, no_items, item_and, SyntaxView, source_file, CrateData, metas_under, wanted_under}
-use Rattle.hir_input.specs.Attr.{MetaView, path_meta, key_value_meta, token_tree_meta, cfg_meta, cfg_attr_meta, unsafe_meta}
+use Rattle.itemtree_commands.proofs.Common.{ItemView, ItemViews, listed_module, use_item, no_items, item_and, SyntaxView, source_file, metas_under, wanted_under}
+use Rattle.hir_input.specs.Attr.{MetaView, cfg_meta, cfg_attr_meta, unsafe_meta}
 use Rattle.hir_input.specs.Cfg.{CfgView}
 use Rattle.hir_input.specs.Name.{is_among}
 unfoldable use Rattle.rust_metas.specs.Docs.{kept_metas}
@@ -10,7 +10,6 @@ use Rattle.rust_metas.specs.declared.wanted.WantedMetas.TheVariants as wanted
 use Rattle.rust_leaves.specs.Clipped.{clipped_item, clipped_list}
 use Rattle.rust_items.specs.SourceFiles.{FileView, clipped_syntax}
 use Rattle.source_listing.specs.ImportCfgs.{file_cfgs, item_cfgs, items_cfgs, meta_cfgs, use_under}
-use Rattle.source_rows.specs.ListedFiles.{closers_in}
 use Rattle.itemtree_commands.specs.declared.Options.{Options}
 use Rattle.itemtree_commands.specs.declared.listed.ListedUses.{ListedUses}
 use Rattle.itemtree_commands.specs.Inner.{HasUses, IsClippedUses}

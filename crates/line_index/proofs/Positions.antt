@@ -1,5 +1,5 @@
 -- Positions from place to place.
-use Rattle.std.proofs.Common.{◌≡◌, ◌≢◌, ℕ, Bool, true, false, cond, ⊎_elim, ◌+◌, ◌-◌, ◌*◌, ◌≤◌, ◌==◌, List, [], ◌∷◌, ◌++◌, sym, take, drop, length, length-take, length-take-le, length-drop, min, refl, ap, ◌∙◌, arith, rules, count_by, if◌then◌else◌, slice_index_or}
+use Rattle.std.proofs.Common.{◌≡◌, ◌≢◌, ℕ, true, false, cond, ⊎_elim, ◌+◌, ◌-◌, ◌*◌, ◌≤◌, ◌==◌, List, [], ◌∷◌, ◌++◌, sym, take, drop, length, length-take, length-take-le, length-drop, min, refl, ap, ◌∙◌, arith, rules, count_by, slice_index_or}
 use Rattle.std.proofs.lemmas.List.{take_min, take_all, take_more, take_rest}
 use Rattle.std.proofs.lemmas.List.Sums.{count_by-le-length, sum_by-take-drop}
 use Rattle.std.proofs.Math.Seq.{take-add}
@@ -8,7 +8,7 @@ use Rattle.std.proofs.lemmas.List.Recursion.{is_count_by}
 use Rattle.line_index.specs.declared.Position.{Position}
 use Rattle.line_index.specs.declared.Units.{Units}
 use Rattle.line_index.specs.declared.Units.TheVariants.{Characters, Utf16, Bytes}
-use Rattle.line_index.specs.Positions.{behind, behind_byte, byte_units, continues_character, mark_length, position_in, shown_at, start}
+use Rattle.line_index.specs.Positions.{behind, behind_byte, byte_units, mark_length, position_in, shown_at, start}
 
 behind_both : (units : Units) (p : Position) (a b : List ℕ) → behind units p (a ++ b) ≡ behind units (behind units p a) b
 behind_both units p [] b = refl

@@ -1,5 +1,5 @@
 -- Services that answer each message by one text.
-use Rattle.std.proofs.Common.{◌≡◌, ℕ, List, [], ◌∷◌, ◌++◌, flat_map, ap, ◌∙◌, append_assoc, append-nil}
+use Rattle.std.proofs.Common.{ℕ, List, [], ◌∷◌, ◌++◌, flat_map, ap, ◌∙◌, append_assoc, append-nil}
 use Rattle.message_stream.proofs.Common.{IsServed, Told, fed}
 use Rattle.message_stream.specs.Answers.{OneEach}
 use Rattle.message_stream.specs.Lines.{IsServedEach}

@@ -1,5 +1,5 @@
 -- Parts of a message behind a header, one after another.
-use Rattle.std.proofs.Common.{◌≡◌, ◌≢◌, inl, inr, ◌+◌, ◌<◌, ◌≤◌, ℕ, List, [], ◌++◌, Option, OnSome, Result, Ok, Err, length, length-append, refl, sym, subst, ap, ◌∙◌, arith}
+use Rattle.std.proofs.Common.{◌≡◌, inl, inr, ◌+◌, ◌<◌, ◌≤◌, ℕ, List, ◌++◌, Option, Result, Ok, Err, length, length-append, refl, sym, subst, ◌∙◌, arith}
 use Rattle.httparse.specs.Spans.{SectionOverflows}
 use Rattle.message_stream.proofs.Common.{Consumes, Consumes-trans, IsToldOf, Message, StreamError, message_told}
 use Rattle.message_stream.proofs.Parts.{at_end}
@@ -11,7 +11,7 @@ use Rattle.message_stream.specs.declared.message.Message.TheVariants.{Whole, Too
 use Rattle.message_stream.specs.declared.message.TheConstants.{MOST_MESSAGE}
 use Rattle.message_stream.specs.declared.sections.TheConstants.{MOST_FIELDS, MOST_HEADER}
 use Rattle.message_stream.specs.Exchanged.{IsNext}
-use Rattle.message_stream.specs.Headers.{IsHeaded, IsHeadedFault, IsHeader, header_frames}
+use Rattle.message_stream.specs.Headers.{IsHeadedFault, IsHeader, header_frames}
 use Rattle.message_stream.specs.Inner.{Grows, HasReadHeader, IsBodySoFar, IsEndOfHeader, IsHead, IsHeaderPart, IsPassing, IsPiece, IsSoFar}
 use Rattle.message_stream.specs.Messages.{Told, whole, too_long, no_memory}
 use Rattle.message_stream.specs.declared.framing.Next.TheVariants.{One}

@@ -1,6 +1,6 @@
 -- The parts of a line, one after another.
-use Rattle.std.proofs.Common.{◌≡◌, ◌≢◌, ℕ, List, [], ◌∷◌, ◌++◌, Option, None, Some, OnSome, length, refl, sym, subst, append_assoc, append-nil}
-use Rattle.message_stream.proofs.Common.{All-append, Consumes-trans, Consumes, IsAtEnd, IsNext, Message, HasNoFeed, fed, line_frames, message_told, IsToldOf, feed_of, EndsAt, IsNone, IsPart, IsEndIn}
+use Rattle.std.proofs.Common.{◌≡◌, ◌≢◌, ℕ, List, [], ◌∷◌, ◌++◌, Option, None, Some, OnSome, length, refl, sym, subst, append_assoc}
+use Rattle.message_stream.proofs.Common.{All-append, Consumes-trans, Consumes, IsAtEnd, IsNext, Message, HasNoFeed, line_frames, message_told, IsToldOf, feed_of, EndsAt, IsNone, IsPart, IsEndIn}
 use Rattle.message_stream.specs.declared.lines.Ending.{Ending}
 use Rattle.message_stream.specs.declared.lines.Ending.TheVariants.{Shown, Feed, End}
 use Rattle.message_stream.specs.declared.framing.Next.{Next}

@@ -1,6 +1,6 @@
 -- Histories of a service, one after another.
-use Rattle.std.proofs.Common.{◌≡◌, ◌⊎◌, inl, inr, ℕ, List, [], ◌∷◌, ◌++◌, flat_map, Option, OnSome, Result, Ok, Err, refl, sym, ap, subst, ◌∙◌, append_assoc, append-nil}
-use Rattle.message_stream.proofs.Common.{Answering, Frames, AreLast, AreMessages, Consumes-trans, Appends-trans, Consumes, Appends, IsAtEnd, Message, Told, message_told, IsToldOf, IsServed, IsEnded, IsUnread, IsUnwritten, IsWholeAt, IsBroken, HasServed, HasAnswered, TakesBeginning, StreamError}
+use Rattle.std.proofs.Common.{inl, inr, ℕ, List, [], ◌∷◌, ◌++◌, flat_map, Option, OnSome, Result, Ok, Err, refl, sym, ap, subst, ◌∙◌, append_assoc, append-nil}
+use Rattle.message_stream.proofs.Common.{Answering, Frames, AreMessages, Consumes-trans, Appends-trans, Consumes, Appends, IsAtEnd, Message, Told, message_told, IsToldOf, IsServed, IsEnded, IsUnread, IsUnwritten, IsWholeAt, IsBroken, HasServed, HasAnswered, TakesBeginning, StreamError}
 use Rattle.std.proofs.KnownBytes.{Appends-nil, Consumes-nil}
 use Rattle.message_stream.proofs.Parts.{at_end}
 use Rattle.message_stream.specs.declared.error.StreamError.TheVariants.{Read}

@@ -1,8 +1,8 @@
 -- Bytes begin with one message behind a header at most.
-use Rattle.std.proofs.Common.{◌≡◌, ◌⊎◌, inl, inr, ℕ, List, [], ◌∷◌, ◌++◌, length, map, take, refl, sym, ap, subst, ◌∙◌, append_assoc}
+use Rattle.std.proofs.Common.{◌≡◌, inl, inr, ℕ, List, [], ◌∷◌, ◌++◌, length, map, take, sym, ap, subst, ◌∙◌, append_assoc}
 use Rattle.std.proofs.Math.Seq.{take-append_seam}
 use Rattle.std.specs.Str.Parse.{digits_value, without_leading_plus}
-use Rattle.httparse.specs.Grammar.{Field, LineEnd, ReadsSection, print_section}
+use Rattle.httparse.specs.Grammar.{ReadsSection, print_section}
 use Rattle.httparse.specs.Spans.{name_and_value}
 use Rattle.httparse.proofs.GrammarLemmas.{ReadsSection-append, section_unique}
 use Rattle.message_stream.specs.Headers.{IsHeaded, IsHeader, IsLengthValue, IsNumberOf}

@@ -1,6 +1,6 @@
 -- Items found by their ids.
-use Rattle.std.proofs.Common.{◌≡◌, ◌≢◌, ℕ, suc, zero, ◌<◌, ◌≤◌, ◌-◌, ◌==◌, List, [], ◌∷◌, Bor, length, drop, take, map, Option, Some, None, IsSome, refl, sym, ap, ◌∙◌, subst, arith, ⊎_elim, slice_index_or, AllPairs, flat_map}
-use Rattle.source_session.proofs.Common.{option_map_or, cases_Bool, nat_tests, length-drop, take_all, Crate, FileAstId, Unfolding, Place, File, Block, State, unfolding_at, node_name, declaration_id, Entry, IsDeclared, ItemPlace, AreDistinct, bare_segment, SourceText, HaveDistinctIds, declared_scope, found_with, head_scope, found_value, IsPlaced, found_scope, text_bytes, text_places, Texts, text_of_place, text_in}
+use Rattle.std.proofs.Common.{◌≡◌, ◌≢◌, ℕ, suc, zero, ◌<◌, ◌-◌, ◌==◌, List, [], ◌∷◌, Bor, length, drop, take, map, Option, Some, None, IsSome, refl, sym, ap, ◌∙◌, subst, arith, ⊎_elim, slice_index_or, AllPairs, flat_map}
+use Rattle.source_session.proofs.Common.{option_map_or, cases_Bool, nat_tests, length-drop, take_all, Crate, FileAstId, Unfolding, Place, File, Block, State, unfolding_at, node_name, declaration_id, Entry, IsDeclared, AreDistinct, bare_segment, SourceText, HaveDistinctIds, declared_scope, found_with, head_scope, found_value, IsPlaced, found_scope, text_bytes, text_places, Texts, text_of_place, text_in}
 use Rattle.line_index.specs.declared.Units.{Units}
 use Rattle.item_tree.specs.Layout.{node_at}
 use Rattle.item_tree.specs.Shown.{IsContained}

@@ -1,5 +1,5 @@
-use Rattle.std.proofs.Common.{inl, inr, [], refl, subst}
-use Rattle.message_stream.proofs.Common.{IsNext, err_from_is_err_and}
+use Rattle.std.proofs.Common.{subst}
+use Rattle.message_stream.proofs.Common.{IsNext}
 use Rattle.message_stream.proofs.Served.{last_answered, message_more, none_answered, none_more, turns_over}
 use Rattle.message_stream.proofs.conversation.serve.Goals as goal
 

@@ -1,7 +1,6 @@
 use Rattle.std.proofs.Common.{subst, take}
 use Rattle.std.specs.Io.BufRead.{FillKeeps}
 use Rattle.std.proofs.BufReadLemmas.{Consumes_shown}
-use Rattle.message_stream.proofs.Parts.{ends_at}
 use Rattle.message_stream.proofs.headers.read_line_of.Goals as goal
 
 pub returns-then-is_err : goal.returns-then-is_err

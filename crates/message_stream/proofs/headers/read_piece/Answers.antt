@@ -1,4 +1,4 @@
-use Rattle.std.proofs.Common.{◌+◌, ◌-◌, subst, take, length, length-take-le, arith}
+use Rattle.std.proofs.Common.{subst, take, length-take-le, arith}
 use Rattle.std.specs.Io.BufRead.{FillKeeps}
 use Rattle.std.proofs.BufReadLemmas.{Consumes_shown}
 use Rattle.message_stream.proofs.Headed.{piece_of}

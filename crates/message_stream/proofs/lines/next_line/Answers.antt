@@ -1,5 +1,5 @@
-use Rattle.std.proofs.Common.{subst, append-nil, refl}
-use Rattle.message_stream.proofs.Common.{Consumes, IsPart, err_from_is_err_and}
+use Rattle.std.proofs.Common.{subst, append-nil}
+use Rattle.message_stream.proofs.Common.{Consumes, IsPart}
 use Rattle.message_stream.proofs.Parts.{at_end, grown, last_next, one_next}
 use Rattle.message_stream.proofs.lines.next_line.Goals as goal
 

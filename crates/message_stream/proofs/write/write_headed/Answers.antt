@@ -1,4 +1,4 @@
-use Rattle.std.proofs.Common.{[], ◌++◌, refl, sym, append-nil}
+use Rattle.std.proofs.Common.{[], refl, sym, append-nil}
 use Rattle.message_stream.proofs.Common.{Appends-kept, Appends-trans, err_from_is_err_and}
 use Rattle.message_stream.specs.Headers.{headed}
 use Rattle.message_stream.proofs.Begun.{begun_after, begun_of_more}

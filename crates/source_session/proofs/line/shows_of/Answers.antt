@@ -1,4 +1,4 @@
-use Rattle.std.proofs.Common.{◌≡◌, All, List, map, decimal, rules, sym, ap, subst, ◌∙◌, length}
+use Rattle.std.proofs.Common.{All, decimal, rules, sym, ap, subst, ◌∙◌, length}
 use Rattle.std.proofs.lemmas.List.{map-id}
 use Rattle.serde_json.specs.View.{items_view}
 use Rattle.source_session.proofs.Common.{All-push, each_from, joined, read_next, line_show, ShowNamesCrate}
