@@ -1,12 +1,12 @@
 -- The uses of a module that stand under cfgs.
-use Rattle.std.proofs.Common.{◌≡◌, ◌<◌, ◌+◌, ℕ, List, [], ◌∷◌, ◌++◌, length, map, take, flat_map, slice_index_or, append_assoc, append-nil, Option, Some, None, Vec, Global, refl, ap, sym, ◌∙◌}
+use Rattle.std.proofs.Common.{◌≡◌, ◌<◌, ◌+◌, ℕ, List, [], ◌∷◌, ◌++◌, length, map, take, flat_map, slice_index_or, append_assoc, append-nil, Some, None, Vec, Global, refl, ap, sym, ◌∙◌}
 use Rattle.std.proofs.lemmas.List.{map-append, take_more}
 use Rattle.hir_input.proofs.SyntaxViews.{module_view-fields}
 use Rattle.hir_input.specs.declared.ast.Item.{Item}
 use Rattle.hir_input.specs.declared.ast.Module as ast_module
-use Rattle.hir_input.specs.Attr.{MetaView, MetaViews, meta_and, metas_from}
+use Rattle.hir_input.specs.Attr.{MetaView, metas_from}
 use Rattle.hir_input.specs.Cfg.{CfgView}
-use Rattle.hir_input.specs.Syntax.{bare_module, listed_module, item_view, items_view, module_view, named_from, ItemView, ItemViews, item_and, items_from}
+use Rattle.hir_input.specs.Syntax.{bare_module, listed_module, item_view, items_view, module_view, named_from, ItemView, items_from}
 use Rattle.source_listing.specs.ImportCfgs.{UseCfgs, item_cfgs, items_cfgs, meta_cfgs, metas_cfgs}
 
 pub metas_are : (ms : List MetaView) → metas_cfgs (metas_from ms) ≡ flat_map meta_cfgs ms

@@ -1,5 +1,5 @@
 -- Lines of a tags file.
-use Rattle.std.specs.Prelude.{ℕ, Bool, true, false, ◌+◌, if◌then◌else◌, List, [], ◌∷◌, ◌++◌, ◌-◌, codes, decimal, filter, Option, Some, None, option_map, option_to_list, flat_map}
+use Rattle.std.specs.Prelude.{ℕ, Bool, true, false, ◌+◌, if◌then◌else◌, List, [], ◌++◌, ◌-◌, codes, decimal, filter, Option, Some, None, option_map, option_to_list, flat_map}
 use Rattle.tree_walk.specs.Rows.{RowView}
 use Rattle.line_index.specs.Positions.{position_of}
 use Rattle.source_rows.specs.Labels.{kind_texts, text_at}

@@ -1,4 +1,4 @@
-use Rattle.source_listing.proofs.Common.{rules, refl, ap, map, take, string_bytes, ◌++◌, ◌∙◌, sym, import_choice_view, listed_named_view, line_if_any}
+use Rattle.source_listing.proofs.Common.{rules, refl, ap, map, take, string_bytes, ◌++◌, ◌∙◌, import_choice_view, listed_named_view, line_if_any}
 use Rattle.source_listing.specs.Inner.{alike_by, first_in}
 use Rattle.source_listing.proofs.Firsts.{alike_is_first, finds_next}
 use Rattle.source_listing.proofs.Repeats.{line_of_more, seen_more}

@@ -1,6 +1,6 @@
 use Rattle.source_listing.proofs.Common.{ap, map, option_map, sym, ◌∙◌, on_ok_weaker, import_choice_view, listed_import, listed_named_view, places_in, finder_text, placed_trees_view}
 use Rattle.source_listing.specs.ImportCfgs.{is_import_listed}
-use Rattle.source_listing.proofs.Repeats.{own_unlisted, own_use}
+use Rattle.source_listing.proofs.Repeats.{own_use}
 use Rattle.source_listing.proofs.repeated.push_own.Goals as goal
 
 pub returns-in_ok-imports-in-Use-clause-named : goal.returns-in_ok-imports-in-Use-clause-named
