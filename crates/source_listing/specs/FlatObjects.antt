@@ -34,13 +34,13 @@ flat_object path scope is_active spot e =
     (member (codes "visibility") e.visibility no_members)))))))))))
 
 -- the item of a row
-abbrev pub row_item : RowView → ItemView
-row_item r = record { id = r.id; name = r.name; subject = r.subject; visibility = r.visibility; is_active = r.is_active }
+abbrev pub item_in_row : RowView → ItemView
+item_in_row r = record { id = r.id; name = r.name; subject = r.subject; visibility = r.visibility; is_active = r.is_active }
 
 -- the line of an item with this header, in the modules around it
 unfoldable pub flat_item : Source → List (List ℕ) → List ℕ → RowView → Option ItemPlace → List ℕ
 flat_item s reserved header r place =
-    value_line (flat_object s.path r.scope r.is_active (option_map (spot_in Characters s.text) place) (item_entry reserved header (row_item r)))
+    value_line (flat_object s.path r.scope r.is_active (option_map (spot_in Characters s.text) place) (item_entry reserved header (item_in_row r)))
 
 -- the line of a member, in these names
 unfoldable pub flat_member : Source → List (List ℕ) → List (List ℕ) → Listed → List ℕ

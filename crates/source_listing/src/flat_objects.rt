@@ -7,7 +7,8 @@ ghost use Rattle.tree_walk.specs.Views.{row_view};
 ghost use Rattle.source_rows.specs.ListedViews.{listed_view, reading_view};
 ghost use Rattle.source_rows.specs.Places.{AreDistinct};
 ghost use Rattle.source_listing.specs.FlatObjects as spec;
-ghost use Rattle.source_listing.specs.Inner.{IsSameFile, file_of, flat_members, places_of, reserved_of, shown_item_view};
+ghost use Rattle.source_listing.specs.Inner.{IsSameFile, file_of, flat_members, places_of};
+ghost use Rattle.source_listing.specs.Inner.{reserved_of, shown_item_view};
 ghost use Rattle.source_listing.specs.Objects.{item_entry, member_entry};
 ghost use Rattle.source_listing.specs.Views.{choice_view, source_view};
 
@@ -29,7 +30,7 @@ use tree_walk::Row;
 
 /// The item of a row.
 fn item_of_row<'tree>(row: &Row<'tree>) -> Item<'tree>
-    ensures { shown_item_view result ≡ spec.row_item (row_view row.now) }
+    ensures { shown_item_view result ≡ spec.item_in_row (row_view row.now) }
 {
     Item {
         id: row.id,
@@ -81,7 +82,7 @@ fn item_object(
     spot: Option<Spot>,
 ) -> Result<Value, AllocError>
     ensures { let r = row_view row.now in
-        let entry = item_entry edition.now.reserved.items header.now (spec.row_item r) in
+        let entry = item_entry edition.now.reserved.items header.now (spec.item_in_row r) in
         let form = spec.flat_object path.now r.scope r.is_active spot entry in
         IfOk result (λ object. view object ≡ form) }
 {
