@@ -180,8 +180,8 @@ pub fn outline_json(
     Ok(text)
 }
 
-/// `itemtree outline --flat --json`: a JSON object on a line for each item and each member of one, or for those in fewer
-/// than so many items; with or without members.
+/// `itemtree outline --flat --json`: a JSON object on a line for each item and each member of one, or for those in
+/// fewer than so many items; with or without members.
 ///
 /// # Errors
 ///
