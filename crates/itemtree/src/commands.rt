@@ -13,7 +13,8 @@ use crate::tag_form::form_of;
 use crate::tag_paths::TagPaths;
 use crate::tags::{TagsFile, head, write_tags};
 use itemtree_commands::{
-    Options, SourceError, check, duplicates, find, imports, outline, outline_json, page, tags,
+    Options, SourceError, check, duplicates, find, flat_json, imports, outline, outline_json, page,
+    tags,
 };
 use itemtree_options::{Asked, Command};
 use list_forms::Form;
@@ -84,6 +85,7 @@ impl Run<'_> {
     ) -> Result<String, SourceError> {
         let (alloc, has_members) = (self.rt.alloc(), self.asked.has_members);
         match self.form {
+            Form::Json if is_flat => flat_json(alloc, source, self.options, depth, has_members),
             Form::Json => outline_json(alloc, source, self.options, depth, has_members),
             Form::Line { is_colored } => {
                 let options = self.options;
@@ -322,12 +324,9 @@ pub(crate) fn or_closed(done: Result<(), Failure>, status: u8) -> Result<u8, Fai
     }
 }
 
-/// Whether the tags file can be one, and lines can be flat.
+/// Whether the tags file can be one.
 fn refuse_output(alloc: Global, asked: &Asked<'_>) -> Result<(), Failure> {
     let message = match asked.command {
-        Command::Outline { is_flat: true, .. } if asked.is_json => {
-            "--flat: the objects of --json hold what is in them"
-        }
         Command::Tags { output: "", .. } => "--output: an empty path names no file",
         Command::Tags {
             output: STDIN,

@@ -5,6 +5,7 @@ use Rattle.hir_input.specs.Name.{is_among}
 use Rattle.item_tree.specs.Page.{page}
 use Rattle.tree_walk.specs.Rows.{rows}
 use Rattle.source_rows.specs.Listed.{Closers, MemberReading}
+use Rattle.source_listing.specs.FlatObjects.{flat_lines}
 use Rattle.source_listing.specs.ImportCfgs.{ImportChoice, UseCfgs, file_cfgs}
 use Rattle.source_listing.specs.ImportLines.{import_lines}
 use Rattle.source_listing.specs.Lines.{Choice, Source, problem_lines}
@@ -65,6 +66,12 @@ abbrev pub IsJson : Options → Option ℕ → Bool → Source → List ℕ → 
 IsJson o depth has_members s out =
     (c : Option Closers) × (t : SourceTree) × HasListed o s.text c t
     × (out ≡ json_line s (reading_in o has_members s c) o.edition.reserved.items t.places.items (choice o depth) t.tree)
+
+-- the objects of a flat outline, each on a line
+abbrev pub AreFlatObjects : Options → Option ℕ → Bool → Source → List ℕ → Type 0
+AreFlatObjects o depth has_members s out =
+    (c : Option Closers) × (t : SourceTree) × HasListed o s.text c t
+    × (out ≡ flat_lines s (reading_in o has_members s c) o.edition.reserved.items t.places.items (choice o depth) (rows t.tree))
 
 -- the places of the items and of the use trees
 abbrev pub all_places : SourceTree → FilePlaces

@@ -180,6 +180,34 @@ pub fn outline_json(
     Ok(text)
 }
 
+/// `itemtree outline --flat --json`: a JSON object on a line for each item and each member of one, or for those in
+/// fewer than so many items; with or without members.
+///
+/// # Errors
+///
+/// Those of `source_tree`.
+#[tactic(auto, using(crate::proofs::Refused::no_list))]
+pub fn flat_json(
+    alloc: Global,
+    source: Source<'_>,
+    options: &Options,
+    depth: Option<usize>,
+    has_members: bool,
+) -> Result<String, SourceError>
+    ensures text { let json = spec.AreFlatObjects options.now depth has_members
+        (source_view source.entry) in
+        IfOk result (λ out. json (string_bytes out)) }
+    ensures refused { IfErr result (spec.HasNoList options.now source.entry.text.now) }
+{
+    let file = listed_rows(alloc, source.text, options)?;
+    let choice = options.choice(depth);
+    let reading = options.reading(source.text, &file.mended, has_members);
+    let edition = &options.edition;
+    let (places, tree) = (&file.source.places, &file.source.tree);
+    let text = source_listing::flat_lines(alloc, source, places, tree, edition, reading, choice)?;
+    Ok(text)
+}
+
 /// A debug page, with or without the lines of ids.
 fn shown_page(alloc: Global, page: String, has_ids: bool) -> Result<String, AllocError>
     ensures { IfOk result (λ out. string_bytes out ≡ spec.if_ids has_ids (string_bytes page)) }

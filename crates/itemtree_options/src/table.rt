@@ -132,7 +132,7 @@ const JSON: Argument = argument!(FLAG id: "json";
     "Write a JSON object for each file, on a line of its own");
 
 const FLAT: Argument = argument!(FLAG id: "flat";
-    "Write lines without blanks at the beginning, and names behind those of what is around them");
+    "Write lines without blanks in front, and names behind those around them; with --json, an object for each line");
 
 const IDS: Argument = argument!(ONE id: "ids", value: "WHEN",
     parser: ValueParser::Names(&["on", "off"]), default: &["on"];

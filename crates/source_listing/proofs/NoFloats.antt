@@ -1,8 +1,9 @@
 -- What is listed holds no float.
 use Rattle.line_index.specs.declared.Position.{Position}
-use Rattle.source_listing.proofs.Common.{Units, spot_in, file_import_object, Candidate, column_number, found_object, line_number, ◌≡◌, ℕ, ◌+◌, Bool, true, false, ◌||◌, if◌then◌else◌, List, [], ◌∷◌, ◌++◌, Option, Some, None, option_map, refl, filter, map, flat_map, items_of, view_of, Import, Node, leaf, parent, Forest, empty, more, node_ast, Unfolding, ItemPlace, Listed, MemberReading, header_of, members_of, Spot, FilePlaces, Choice, Source, is_chosen, place_of, Declared, declared_name, declared_imports, declarations, Subject, no_subject, is_file_enabled, alias_form, import_form, import_object, seen_objects, import_objects, of_declared, spots_of_any, Entry, ItemView, item_in, name_form, header_form, subject_form, visibility_form, line_form, column_form, range_form, entry_object, item_entry, member_entry, member_spot, member_object, member_objects, file_form, whole_object, own_objects, node_objects, listed_objects, tree_objects, problem_objects}
+use Rattle.source_listing.proofs.Common.{Units, spot_in, file_import_object, Candidate, column_number, found_object, line_number, ◌≡◌, ℕ, ◌+◌, Bool, true, false, ◌||◌, if◌then◌else◌, List, [], ◌∷◌, ◌++◌, Option, Some, None, option_map, refl, filter, map, flat_map, items_of, view_of, Import, Node, leaf, parent, Forest, empty, more, node_ast, Unfolding, ItemPlace, Listed, MemberReading, header_of, members_of, Spot, FilePlaces, Choice, Source, is_chosen, place_of, Declared, declared_name, declared_imports, declarations, Subject, no_subject, is_file_enabled, RowView, alias_form, import_form, import_object, seen_objects, import_objects, of_declared, spots_of_any, Entry, ItemView, item_in, name_form, header_form, subject_form, visibility_form, line_form, column_form, range_form, entry_object, item_entry, member_entry, member_spot, member_object, member_objects, file_form, whole_object, own_objects, node_objects, listed_objects, tree_objects, problem_objects}
 use Rattle.serde_json.specs.Data.{Data, Items, no_items, string}
 use Rattle.hir_input.specs.Cfg.{CfgView, shown_cfg}
+use Rattle.source_listing.specs.FlatObjects.{flat_object, names_form, item_in_row}
 use Rattle.source_listing.specs.ImportLines.{cfgs_form}
 use Rattle.serde_json.specs.Written.{has_float, items_have_float}
 use Rattle.item_tree.specs.declared.visibility.RawVisibility.{RawVisibility}
@@ -145,3 +146,19 @@ cfgs_none cfgs = map_none (λ c. string (shown_cfg c)) cfgs (λ c. refl)
 pub use_none : (reserved : List (List ℕ)) (path scope : List ℕ) (v : Option RawVisibility) (cfgs : List CfgView) (spot : Option Spot) (x : Import) → has_float (file_import_object reserved path scope v cfgs spot x) ≡ false
 use_none reserved path scope v cfgs spot x =
     rw (cfgs_none cfgs, some_none (alias_form reserved) x.alias refl (λ a. refl), some_none column_form spot refl (λ a. refl), some_none line_form spot refl (λ a. refl), some_none range_form spot refl (λ a. refl), visibility_none reserved v) refl
+
+-- ---- flat outlines
+
+names_none : (names : List (List ℕ)) → has_float (names_form names) ≡ false
+names_none names = map_none string names (λ n. refl)
+
+flat_object_none : (path : List ℕ) (scope : List (List ℕ)) (is_active : Bool) (spot : Option Spot) (e : Entry) → has_float e.id ≡ false → has_float e.name ≡ false → has_float e.path ≡ false → has_float e.visibility ≡ false
+    → has_float (flat_object path scope is_active spot e) ≡ false
+flat_object_none path scope is_active spot e i n p v = rw (i, some_none column_form spot refl (λ a. refl), some_none line_form spot refl (λ a. refl), n, p, some_none range_form spot refl (λ a. refl), names_none scope, v) refl
+
+pub flat_item_none : (path : List ℕ) (reserved : List (List ℕ)) (header : List ℕ) (r : RowView) (spot : Option Spot) → has_float (flat_object path r.scope r.is_active spot (item_entry reserved header (item_in_row r))) ≡ false
+flat_item_none path reserved header r spot =
+    flat_object_none path r.scope r.is_active spot (item_entry reserved header (item_in_row r)) refl (some_none name_form r.name refl (λ a. refl)) (subject_none reserved header r.subject) (visibility_none reserved r.visibility)
+
+pub flat_member_none : (path : List ℕ) (reserved : List (List ℕ)) (scope : List (List ℕ)) (m : Listed) (spot : Option Spot) → has_float (flat_object path scope m.is_active spot (member_entry reserved m)) ≡ false
+flat_member_none path reserved scope m spot = flat_object_none path scope m.is_active spot (member_entry reserved m) refl refl refl (visibility_none reserved (Some m.visibility))

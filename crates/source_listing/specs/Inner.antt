@@ -32,6 +32,7 @@ use Rattle.source_listing.specs.declared.tag_fields.TagPlace as code_tag_place
 use Rattle.source_listing.specs.TagFields.{HeadText, TagItem, TagPlace}
 use Rattle.source_listing.specs.declared.uses.UseTrees as code_trees
 use Rattle.source_listing.specs.declared.uses.TreeFinder.{TreeFinder}
+use Rattle.source_listing.specs.FlatObjects.{names_form}
 use Rattle.source_listing.specs.Lines.{Choice, Source}
 use Rattle.source_listing.specs.Objects.{Entry, ItemView, column_form, item_in, line_form, node_objects, range_form}
 use Rattle.source_rows.specs.Places.{AreDistinct}
@@ -117,6 +118,11 @@ stand_members spot ms =
 abbrev pub placed_members : Bool → Option Spot → Items → Members → Members
 placed_members is_active spot inner ms =
     put (codes "active") (boolean is_active) (put (codes "children") (array inner) (stand_members spot ms))
+
+-- and those of an object in a flat outline
+abbrev pub flat_members : List ℕ → List (List ℕ) → Bool → Option Spot → Members → Members
+flat_members path scope is_active spot ms =
+    put (codes "active") (boolean is_active) (put (codes "scope") (names_form scope) (put (codes "file") (string path) (stand_members spot ms)))
 
 -- ---- imports by the ids of items
 

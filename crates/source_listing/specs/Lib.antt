@@ -1,6 +1,7 @@
 pub mod Lines
 pub mod Outlines
 pub mod Objects
+pub mod FlatObjects
 pub mod Uses
 pub mod Told
 pub mod ImportCfgs

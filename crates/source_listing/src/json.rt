@@ -35,11 +35,11 @@ use tree_walk::{
 /// An item, and whether no cfg disables it, nor an item that it stands in, nor the file.
 #[derive(Drop)]
 pub(crate) struct Item<'tree> {
-    id: FileAstId,
-    name: Option<&'tree Name>,
-    subject: Subject<'tree>,
-    visibility: Option<&'tree RawVisibility>,
-    is_active: bool,
+    pub(crate) id: FileAstId,
+    pub(crate) name: Option<&'tree Name>,
+    pub(crate) subject: Subject<'tree>,
+    pub(crate) visibility: Option<&'tree RawVisibility>,
+    pub(crate) is_active: bool,
 }
 
 /// What is listed, and how.
@@ -81,7 +81,7 @@ impl Printer<'_> {
 // ---- objects
 
 /// Gives an object the members that tell what an item is.
-fn put_item(
+pub(crate) fn put_item(
     alloc: Global,
     edition: &Edition,
     item: &Item<'_>,
@@ -105,7 +105,7 @@ fn put_item(
 }
 
 /// The same of a member, for which a tree has no id.
-fn put_listed(
+pub(crate) fn put_listed(
     alloc: Global,
     edition: &Edition,
     member: &ListedMember,
@@ -124,7 +124,11 @@ fn put_listed(
 }
 
 /// Adds the members that tell where something stands.
-fn put_stand(alloc: Global, spot: Option<Spot>, members: &mut Members) -> Result<(), AllocError>
+pub(crate) fn put_stand(
+    alloc: Global,
+    spot: Option<Spot>,
+    members: &mut Members,
+) -> Result<(), AllocError>
     ensures { let old = members_view members.old.entries in
         OnOk result (members_view members.new.entries ≡ stand_members spot old) }
 {

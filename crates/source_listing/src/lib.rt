@@ -1,6 +1,7 @@
 //! Lists of the items and of the problems of Rust source, with the line and the column of each.
 #![tactic(auto)]
 
+mod flat_objects;
 mod found_objects;
 mod import_cfgs;
 mod import_exclusion;
@@ -28,6 +29,7 @@ mod use_places;
 mod uses;
 mod values;
 
+pub use flat_objects::flat_lines;
 pub use import_cfgs::{ImportChoice, UseCfgs, file_cfgs};
 pub use import_objects::import_items;
 pub use imports::import_lines;

@@ -1,0 +1,12 @@
+use Rattle.std.proofs.Common.{rules, string_bytes}
+use Rattle.source_listing.specs.FlatObjects.{flat_lines}
+use Rattle.source_listing.specs.Views.{source_view}
+use Rattle.itemtree_commands.specs.Answers.{choice}
+use Rattle.itemtree_commands.proofs.ListedRows.{listed_of_rows}
+use Rattle.itemtree_commands.proofs.flat_json.Goals as goal
+
+pub returns-clause-text : goal.returns-clause-text
+returns-clause-text c =
+    let o = c.args.options.now in
+    let s = source_view c.args.source in
+    listed_of_rows o c.args.has_members s c.in_ok-file.file (string_bytes c.in_ok-text.text) (λ x places rs. flat_lines s x o.edition.reserved.items places (choice o c.args.depth) rs) c.in_ok-file.ensures.text c.in_ok-file.ensures.tree (search rules)
