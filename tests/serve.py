@@ -1105,6 +1105,7 @@ SNIPPETS = [
     'fn before() {}\n) fn between() {}\nconst NAME: &str = "never closed;\n', 'struct S(pub u8, u8); enum E { A } impl S { fn f() {} }',
     '#![no_std]\n//! Told.\n', 'fn (', 'm! { fn f() {} }\nm!(a);', 'use Self::q; use {b, b};\n',
     '\ufefffn f() {}', 'trait f {} type g = f; static f: u8 = 1;',
+    'static A: &str = "\U0001f980\u00e9"; fn f() {} struct S; impl S { const B: char = \'\U0001f980\'; fn f() {} }\n/* \U00020000 */ use a::{b, c};',
 ]
 
 
