@@ -1,1 +1,5 @@
+pub mod Begins
+pub mod InLine
+pub mod Points
 pub mod Positions
+pub mod Replaced

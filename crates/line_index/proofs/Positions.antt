@@ -1,14 +1,20 @@
 -- Positions from place to place.
-use Rattle.std.proofs.Common.{◌≡◌, ◌≢◌, ℕ, true, false, cond, ⊎_elim, ◌+◌, ◌-◌, ◌*◌, ◌≤◌, ◌==◌, List, [], ◌∷◌, ◌++◌, sym, take, drop, length, length-take, length-take-le, length-drop, min, refl, ap, ◌∙◌, arith, rules, count_by, slice_index_or}
+use Rattle.std.proofs.Common.{◌≡◌, ◌≢◌, ℕ, zero, suc, true, false, cond, ⊎_elim, ◌+◌, ◌-◌, ◌*◌, ◌≤◌, ◌==◌, List, [], ◌∷◌, ◌++◌, sym, take, drop, length, length-take, length-take-le, length-drop, min, refl, ap, ◌∙◌, subst, arith, rules, count_by, slice_index_or}
 use Rattle.std.proofs.lemmas.List.{take_min, take_all, take_more, take_rest}
-use Rattle.std.proofs.lemmas.List.Sums.{count_by-le-length, sum_by-take-drop}
+use Rattle.std.proofs.lemmas.List.Sums.{count_by-le-length, sum_by-cons, sum_by-take-drop}
+use Rattle.std.specs.List.{sum_by}
 use Rattle.std.proofs.Math.Seq.{take-add}
-use Rattle.std.proofs.lemmas.Bool.{cases_Bool, ne_eqb}
+use Rattle.std.proofs.lemmas.Bool.{cases_Bool, eqb-true, ne_eqb}
 use Rattle.std.proofs.lemmas.List.Recursion.{is_count_by}
 use Rattle.line_index.specs.declared.Position.{Position}
+use Rattle.line_index.specs.declared.Style.{Style}
 use Rattle.line_index.specs.declared.Units.{Units}
 use Rattle.line_index.specs.declared.Units.TheVariants.{Characters, Utf16, Bytes}
-use Rattle.line_index.specs.Positions.{behind, behind_byte, byte_units, mark_length, position_in, shown_at, start}
+use Rattle.line_index.specs.declared.Point.{Point}
+use Rattle.line_index.specs.Inner.{behind, behind_byte, shown_at, start}
+use Rattle.line_index.specs.Points as points
+use Rattle.line_index.specs.Points.{begins_end, byte_units, mark_length, column_units}
+use Rattle.line_index.specs.Positions.{from_one, list_style, position_in}
 
 behind_both : (units : Units) (p : Position) (a b : List ℕ) → behind units p (a ++ b) ≡ behind units (behind units p a) b
 behind_both units p [] b = refl
@@ -65,22 +71,29 @@ line_from_feeds units p (b ∷ z) = line_from_feeds units (behind_byte units p b
 pub line_is : (units : Units) (p : Position) (z : List ℕ) → (behind units p z).line ≡ p.line + count_by (λ b. b == 10) z
 line_is units p z = line_from_feeds units p z ∙ ap (λ n. p.line + n) (feeds_counted z)
 
--- a part of k bytes is passed, of as many feeds
-pub feeds_on : (count n k : ℕ) (z : List ℕ) (total : ℕ) → n ≡ count_by (λ b. b == 10) (take k z) → count + count_by (λ b. b == 10) z ≡ total
-    → count + n + count_by (λ b. b == 10) (take (length z - k) (drop k z)) ≡ total
-feeds_on count n k z total e h =
-    let apart = sum_by-take-drop (λ b. cond (b == 10) 1 0) z k in
-    let rest = ap (λ l. count_by (λ b. b == 10) l) (take_rest z k) in
+sum_few : (f : ℕ → ℕ) (few : (x : ℕ) → f x ≤ 2) (z : List ℕ) → sum_by f z ≤ 2 * length z
+sum_few f few [] = omega arith
+sum_few f few (x ∷ z) = let first = few x in let rest = sum_few f few z in let all = sum_by-cons f x z in omega (arith, first, rest, all)
+
+-- a part of k bytes is passed, which takes so much
+pub sum_on : (f : ℕ → ℕ) (count n k : ℕ) (z : List ℕ) (total : ℕ) → n ≡ sum_by f (take k z) → count + sum_by f z ≡ total
+    → count + n + sum_by f (take (length z - k) (drop k z)) ≡ total
+sum_on f count n k z total e h =
+    let apart = sum_by-take-drop f z k in
+    let rest = ap (λ l. sum_by f l) (take_rest z k) in
     omega (arith, apart, rest, e, h)
 
-pub left_on : (count n k : ℕ) (z : List ℕ) (total : ℕ) → k ≤ length z → n ≡ count_by (λ b. b == 10) (take k z) → count + length z ≤ total
-    → count + n + length (take (length z - k) (drop k z)) ≤ total
-left_on count n k z total some e h =
-    let few = count_by-le-length (λ b. b == 10) (take k z) in
+pub left_on : (f : ℕ → ℕ) (few : (x : ℕ) → f x ≤ 2) (count n k : ℕ) (z : List ℕ) (total : ℕ) → k ≤ length z → n ≡ sum_by f (take k z) → count + 2 * length z ≤ total
+    → count + n + 2 * length (take (length z - k) (drop k z)) ≤ total
+left_on f few count n k z total some e h =
+    let most = sum_few f few (take k z) in
     let front = length-take-le k z some in
     let rest = ap length (take_rest z k) in
     let behind = length-drop k z in
-    omega (arith, few, front, rest, behind, e, h)
+    omega (arith, most, front, rest, behind, e, h)
+
+pub feed_few : (b : ℕ) → cond (b == 10) 1 0 ≤ 2
+feed_few b = ⊎_elim (λ (e : (b == 10) ≡ true). rw e (omega arith)) (λ (e : (b == 10) ≡ false). rw e (omega arith)) (cases_Bool (b == 10))
 
 pub feeds_within : (z : List ℕ) → count_by (λ b. b == 10) z ≤ length z
 feeds_within z = count_by-le-length (λ b. b == 10) z
@@ -102,6 +115,14 @@ few_units : (units : Units) (b : ℕ) → byte_units units b ≤ 2
 few_units Characters b = search rules
 few_units Utf16 b = search rules
 few_units Bytes b = search rules
+
+pub column_units_few : (style : Style) (b : ℕ) → column_units style b ≤ 2
+column_units_few style b =
+    let few = few_units style.units b in
+    ⊎_elim (λ (e : begins_end style.line_ends b ≡ true). rw e (omega arith)) (λ (e : begins_end style.line_ends b ≡ false). rw e few) (cases_Bool (begins_end style.line_ends b))
+
+pub column_units_within : (style : Style) (z : List ℕ) → sum_by (column_units style) z ≤ 2 * length z
+column_units_within style z = sum_few (column_units style) (column_units_few style) z
 
 -- at a line feed the column is the first again, which is none further on if there was one
 byte_column : (units : Units) (p : Position) (b : ℕ) → (behind_byte units p b).column ≤ p.column + 2
@@ -129,10 +150,28 @@ at_end : (units : Units) (text : List ℕ) (at : ℕ) → shown_at units text (m
 unfolding shown_at
 at_end units text at = ap (λ z. behind units start z) (take_min at text)
 
+-- lists count so what the style of lists says
+listed_byte : (units : Units) (p : Point) (b : ℕ) (bytes : List ℕ) → from_one (points.point_behind (list_style units) p b bytes) ≡ behind_byte units (from_one p) b
+unfolding points.begins_end points.is_split
+listed_byte units p b bytes =
+    ⊎_elim (λ (e : (b == 10) ≡ true). subst (λ n. from_one (points.point_behind (list_style units) p n bytes) ≡ behind_byte units (from_one p) n) (sym (eqb-true b 10 e)) refl)
+    (λ (e : (b == 10) ≡ false). rw e (ap (λ n. record { line = p.line + 1; column = n }) (omega arith)))
+    (cases_Bool (b == 10))
+
+listed_behind : (units : Units) (p : Point) (n : ℕ) (bytes : List ℕ) → from_one (points.further (list_style units) p n bytes) ≡ behind units (from_one p) (take n bytes)
+listed_behind units p zero bytes = refl
+listed_behind units p (suc n) [] = refl
+listed_behind units p (suc n) (b ∷ bytes) =
+    listed_behind units (points.point_behind (list_style units) p b bytes) n bytes ∙ ap (λ q. behind units q (take n bytes)) (listed_byte units p b bytes)
+
+is_listed : (units : Units) (text : List ℕ) (at : ℕ) → shown_at units (drop (mark_length text) text) (at - mark_length text) ≡ position_in units text at
+unfolding shown_at position_in points.point_at
+is_listed units text at = sym (listed_behind units (record { line = 0; column = 0 }) (at - mark_length text) (drop (mark_length text) text))
+
 -- a place of what is shown of a text is one of the text
 pub place_is : (units : Units) (text : List ℕ) (mark at end : ℕ) (here : Position) → mark ≡ mark_length text → end ≡ min (at - mark) (length (drop mark text)) → here ≡ shown_at units (drop mark text) end → here ≡ position_in units text at
-unfolding position_in
-place_is units text mark at end here m e h = h ∙ ap (shown_at units (drop mark text)) e ∙ at_end units (drop mark text) (at - mark) ∙ ap (λ n. shown_at units (drop n text) (at - n)) m
+place_is units text mark at end here m e h =
+    h ∙ ap (shown_at units (drop mark text)) e ∙ at_end units (drop mark text) (at - mark) ∙ ap (λ n. shown_at units (drop n text) (at - n)) m ∙ is_listed units text at
 
 pub at_start : (units : Units) (text : List ℕ) → shown_at units text 0 ≡ start
 unfolding shown_at

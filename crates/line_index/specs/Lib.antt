@@ -1,1 +1,4 @@
+pub mod Inner
+pub mod Points
 pub mod Positions
+pub mod Starts

@@ -1,6 +1,6 @@
 use Rattle.std.proofs.Common.{◌≡◌, ◌≤◌, ◌+◌, ◌*◌, length}
-use Rattle.line_index.specs.Positions as spec
-use Rattle.line_index.proofs.column_behind.Given as goal
+use Rattle.line_index.specs.Inner as spec
+use Rattle.line_index.proofs.lists.column_behind.Given as goal
 
 abbrev pub invariant-loop-left : goal.invariant-loop-left
 invariant-loop-left l =

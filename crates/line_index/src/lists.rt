@@ -1,0 +1,183 @@
+//! Where places of a text stand in lists.
+ghost use Rattle.std.specs.Prelude.{◌≡◌, ◌≤◌, ◌<◌, ◌+◌, ◌*◌, ◌^◌, ◌==◌, drop, length, List, ℕ, count_by};
+ghost use Rattle.line_index.specs.Inner as inner;
+ghost use Rattle.line_index.specs.Points as points;
+ghost use Rattle.line_index.specs.Positions as spec;
+
+use crate::bytes::{byte_units, ends_of_block, without};
+use crate::{LineEnds, Position, Units};
+use std::marker::Model;
+
+/// Tells where places of a text stand.
+///
+/// It goes from place to place, so that places in rising order cost one pass over the text in all. It takes no memory.
+#[derive(Drop)]
+pub struct LineIndex<'t> {
+    text: &'t [u8],
+    /// How many bytes the byte order mark has, if one begins the text: it is not shown, so it takes no column.
+    mark: usize,
+    /// A place behind the mark, counted from there.
+    at: usize,
+    here: Position,
+}
+
+impl<'t> Model for LineIndex<'t> {
+    ghost use Rattle.std.specs.Prelude.{ℕ, List, ◌≡◌, ◌≤◌, drop, length};
+    ghost use Rattle.std.specs.Coded.{coded_list, coded_ℕ};
+    ghost use Rattle.line_index.specs.Inner.{shown_at};
+    ghost use Rattle.line_index.specs.Points.{mark_length};
+    ghost use Rattle.line_index.specs.declared.Units.TheVariants.{Characters};
+
+    ghost Value = { List ℕ };
+
+    ghost coded = { coded_list coded_ℕ };
+
+    ghost view = { λ i. i.text.now };
+
+    ghost invariant = { λ i. let shown = drop i.mark i.text.now in
+        (i.mark ≡ mark_length i.text.now) × (i.here ≡ shown_at Characters shown i.at) × (i.at ≤ length shown) };
+}
+
+const START: Position = Position { line: 1, column: 1 };
+
+// At most so many line feeds are counted in one byte: sixteen bytes of a text are then one vector of counts.
+const BLOCK: usize = 192;
+
+/// How many line feeds stand in a text.
+#[tactic(auto, using(crate::proofs::Positions::feeds_within), unfolding(crate::specs::Points::begins_end))]
+fn feeds(text: &[u8]) -> usize
+    ensures { result ≡ count_by (λ b. b == 10) text.now }
+{
+    let mut count = 0;
+    let mut left = text;
+    while BLOCK < left.len() {
+        count += ends_of_block(LineEnds::Feeds, &left[..BLOCK]) as usize;
+        left = &left[BLOCK..];
+    }
+    count + ends_of_block(LineEnds::Feeds, left) as usize
+}
+
+/// The column behind a text, from its end back to its last line feed.
+fn column_behind(units: Units, start: Position, text: &[u8]) -> usize
+    requires { start.column + 2 * length text.now < 2 ^ 64 }
+    ensures { result ≡ (inner.behind units start text.now).column }
+{
+    let mut count = 0;
+    let mut left = text;
+    while let [rest @ .., byte] = left {
+        if *byte == b'\n' {
+            return 1 + count;
+        }
+        count += byte_units(units, *byte) as usize;
+        left = rest;
+    }
+    start.column + count
+}
+
+#[tactic(auto, using(crate::proofs::Positions::line_is))]
+fn behind(start: Position, text: &[u8]) -> Position
+    requires lines { start.line + length text.now < 2 ^ 64 }
+    requires columns { start.column + 2 * length text.now < 2 ^ 64 }
+    ensures { result ≡ inner.behind Units.Characters start text.now }
+{
+    Position {
+        line: start.line + feeds(text),
+        column: column_behind(Units::Characters, start, text),
+    }
+}
+
+/// From one place of a text to a later one.
+#[tactic(auto, unfolding(crate::specs::Inner::shown_at), using(crate::proofs::Positions::onward, crate::proofs::Positions::line_within, crate::proofs::Positions::column_within,),)]
+fn onward(text: &[u8], from: usize, here: Position, at: usize) -> Position
+    requires here { here ≡ inner.shown_at Units.Characters text.now from }
+    requires later { from ≤ at }
+    requires within { at ≤ length text.now }
+    requires small { length text.now < 2 ^ 63 }
+    ensures { result ≡ inner.shown_at Units.Characters text.now at }
+{
+    behind(here, &text[from..at])
+}
+
+/// From one place of a text to any other.
+#[tactic(auto, using(crate::proofs::Positions::at_start))]
+fn moved(text: &[u8], from: usize, here: Position, at: usize) -> Position
+    requires here { here ≡ inner.shown_at Units.Characters text.now from }
+    requires within { at ≤ length text.now }
+    requires small { length text.now < 2 ^ 63 }
+    ensures { result ≡ inner.shown_at Units.Characters text.now at }
+{
+    if from <= at {
+        onward(text, from, here, at)
+    } else {
+        onward(text, 0, START, at)
+    }
+}
+
+/// The same place of a text with its column in units.
+#[tactic(auto, using(crate::proofs::Positions::counted))]
+fn counted(units: Units, text: &[u8], at: usize, here: Position) -> Position
+    requires here { here ≡ inner.shown_at Units.Characters text.now at }
+    requires within { at ≤ length text.now }
+    requires small { length text.now < 2 ^ 63 }
+    ensures { result ≡ inner.shown_at units text.now at }
+{
+    Position {
+        line: here.line,
+        column: column_behind(units, START, &text[..at]),
+    }
+}
+
+pub(crate) fn mark_length(text: &[u8]) -> usize
+    ensures length { result ≡ points.mark_length text.now }
+    ensures within { result ≤ length text.now }
+{
+    if text.starts_with(b"\xEF\xBB\xBF") {
+        3
+    } else {
+        0
+    }
+}
+
+impl<'t> LineIndex<'t> {
+    #[tactic(auto, using(crate::proofs::Positions::at_start))]
+    pub fn new(text: &'t str) -> Self
+        ensures { result ≡ text.now }
+    {
+        let text = text.as_bytes();
+        LineIndex {
+            text,
+            mark: mark_length(text),
+            at: 0,
+            here: START,
+        }
+    }
+
+    /// Where a place of the text stands, by its byte; one past the text stands at its end.
+    #[tactic(auto, using(crate::proofs::Positions::place_is))]
+    pub fn position(&mut self, at: usize) -> Position
+        ensures value { result ≡ spec.position_of self.old at }
+        ensures same { self.new ≡ self.old }
+    {
+        let shown = without(self.text, self.mark);
+        let end = at.saturating_sub(self.mark).min(shown.len());
+        self.here = moved(shown, self.at, self.here, end);
+        self.at = end;
+        self.here
+    }
+
+    /// The same with its column in units. Other units than characters cost a pass over the line up to there.
+    #[tactic(auto, using(crate::proofs::Positions::place_is))]
+    pub fn position_in(&mut self, units: Units, at: usize) -> Position
+        ensures value { result ≡ spec.position_in units self.old at }
+        ensures same { self.new ≡ self.old }
+    {
+        let shown = without(self.text, self.mark);
+        let end = at.saturating_sub(self.mark).min(shown.len());
+        self.here = moved(shown, self.at, self.here, end);
+        self.at = end;
+        match units {
+            Units::Characters => self.here,
+            Units::Utf16 | Units::Bytes => counted(units, shown, end, self.here),
+        }
+    }
+}
