@@ -7,17 +7,20 @@ use std::alloc::Global;
 use std::io::{self, BufRead, BufReader, Read, Write};
 use std::test::Fail;
 
-// Answers a line by itself, and counts.
+// Answers a line by itself, counts, and is over when it has answered so many.
 #[derive(Drop)]
 struct Echo {
     answered: u32,
+    most: u32,
 }
 
 impl Service for Echo {
-    ghost use Rattle.std.specs.Prelude.{[], ◌∷◌, codes};
+    ghost use Rattle.std.specs.Prelude.{[], ◌∷◌, codes, nat_eq};
     ghost use Rattle.message_stream.specs.Messages.{Told};
 
     ghost answers = { λ _ said _ texts. said ≡ Told.too_long → texts ≡ codes "too long" ∷ [] };
+
+    ghost over = { λ echo. nat_eq echo.answered echo.most };
 
     fn answer(&mut self, _alloc: Global, message: Message) -> Answer {
         self.answered = self.answered.saturating_add(1);
@@ -29,6 +32,10 @@ impl Service for Echo {
             Message::TooLong => Answer::Fixed("too long"),
             Message::OutOfMemory => Answer::Fixed("out of memory"),
         }
+    }
+
+    fn is_over(&self) -> bool {
+        self.answered == self.most
     }
 }
 
@@ -50,10 +57,12 @@ fn doubled(alloc: Global, text: String) -> Answer {
 }
 
 impl Service for Twice {
-    ghost use Rattle.std.specs.Prelude.{[]};
+    ghost use Rattle.std.specs.Prelude.{[], false};
     ghost use Rattle.message_stream.specs.Messages.{Told};
 
     ghost answers = { λ _ said _ texts. said ≡ Told.too_long → texts ≡ [] };
+
+    ghost over = { λ _. false };
 
     fn answer(&mut self, alloc: Global, message: Message) -> Answer {
         match message {
@@ -64,6 +73,10 @@ impl Service for Twice {
             Message::TooLong => Answer::Several(Vec::new(alloc)),
             Message::OutOfMemory => Answer::Fixed("out of memory"),
         }
+    }
+
+    fn is_over(&self) -> bool {
+        false
     }
 }
 
@@ -156,7 +169,10 @@ fn answers_each_line(rt: HostRuntime) -> Result<(), Fail> {
         ("one\n\ntwo", "one\n\ntwo\n", 3),
         ("a\r\nb\n", "a\r\nb\n", 2),
     ] {
-        let mut echo = Echo { answered: 0 };
+        let mut echo = Echo {
+            answered: 0,
+            most: 100,
+        };
         let mut written = Vec::new(alloc);
         let served = serve(
             alloc,
@@ -173,13 +189,32 @@ fn answers_each_line(rt: HostRuntime) -> Result<(), Fail> {
 }
 
 #[test]
+fn reads_no_more_for_a_service_that_is_over(rt: HostRuntime) -> Result<(), Fail> {
+    let alloc = rt.alloc();
+    let mut echo = Echo {
+        answered: 0,
+        most: 2,
+    };
+    let mut input = "one\ntwo\nthree\n".as_bytes();
+    let mut written = Vec::new(alloc);
+    let served = serve(alloc, &Lines, &mut input, &mut written, &mut echo);
+    assert!(rt; served.is_ok());
+    assert!(rt; written.as_slice() == "one\ntwo\n".as_bytes());
+    assert!(rt; input == "three\n".as_bytes());
+    Ok(())
+}
+
+#[test]
 fn flushes_before_a_read(rt: HostRuntime) -> Result<(), Fail> {
     let alloc = rt.alloc();
     let failing = Failing {
         rest: b"first\nsecond\nthi",
         is_interrupted: false,
     };
-    let mut echo = Echo { answered: 0 };
+    let mut echo = Echo {
+        answered: 0,
+        most: 100,
+    };
     let mut screen = Screen::new(alloc, 100);
     let served = serve(
         alloc,
@@ -196,7 +231,10 @@ fn flushes_before_a_read(rt: HostRuntime) -> Result<(), Fail> {
 #[test]
 fn stops_at_a_failed_write(rt: HostRuntime) -> Result<(), Fail> {
     let alloc = rt.alloc();
-    let mut echo = Echo { answered: 0 };
+    let mut echo = Echo {
+        answered: 0,
+        most: 100,
+    };
     let mut screen = Screen::new(alloc, 4);
     let served = serve(
         alloc,
@@ -217,7 +255,10 @@ fn passes_over_a_long_line(rt: HostRuntime) -> Result<(), Fail> {
     let alloc = rt.alloc();
     let long = io::repeat(b'x').take(MOST_MESSAGE as u64 + 1);
     let mut input = BufReader::new(alloc, long)?.chain("\nshort\n".as_bytes());
-    let mut echo = Echo { answered: 0 };
+    let mut echo = Echo {
+        answered: 0,
+        most: 100,
+    };
     let mut written = Vec::new(alloc);
     let served = serve(alloc, &Lines, &mut input, &mut written, &mut echo);
     assert!(rt; served.is_ok());
@@ -229,7 +270,10 @@ fn passes_over_a_long_line(rt: HostRuntime) -> Result<(), Fail> {
 #[test]
 fn answers_without_memory(rt: HostRuntime) -> Result<(), Fail> {
     let alloc = rt.alloc();
-    let mut echo = Echo { answered: 0 };
+    let mut echo = Echo {
+        answered: 0,
+        most: 100,
+    };
     let mut feeds = Feeds { count: 0 };
     let served = serve(
         alloc,
@@ -329,7 +373,10 @@ fn passes_over_a_long_message(rt: HostRuntime) -> Result<(), Fail> {
         .as_bytes()
         .chain(BufReader::new(alloc, long)?)
         .chain("Content-Length: 5\r\n\r\nshort".as_bytes());
-    let mut echo = Echo { answered: 0 };
+    let mut echo = Echo {
+        answered: 0,
+        most: 100,
+    };
     let mut written = Vec::new(alloc);
     let served = serve(alloc, &Headers, &mut input, &mut written, &mut echo);
     assert!(rt; served.is_ok());

@@ -1,5 +1,5 @@
 -- Histories of a service, one after another.
-use Rattle.std.proofs.Common.{inl, inr, ℕ, List, [], ◌∷◌, ◌++◌, flat_map, Option, OnSome, Result, Ok, Err, refl, sym, ap, subst, ◌∙◌, append_assoc, append-nil}
+use Rattle.std.proofs.Common.{inl, inr, ◌≡◌, ℕ, Bool, true, List, [], ◌∷◌, ◌++◌, flat_map, Option, OnSome, Result, Ok, Err, refl, sym, ap, subst, ◌∙◌, append_assoc, append-nil}
 use Rattle.message_stream.proofs.Common.{Answering, Frames, AreMessages, Consumes-trans, Appends-trans, Consumes, Appends, IsAtEnd, Message, Told, message_told, IsToldOf, IsServed, IsEnded, IsUnread, IsUnwritten, IsWholeAt, IsBroken, HasServed, HasAnswered, TakesBeginning, StreamError}
 use Rattle.std.proofs.KnownBytes.{Appends-nil, Consumes-nil}
 use Rattle.message_stream.proofs.Parts.{at_end}
@@ -42,7 +42,7 @@ pub none_answered : {S : Type 0} (F : Frames) (Answers : Answering S) (old : S) 
 none_answered F Answers old had held = ([], [], [], Consumes-nil had, refl, (refl, refl), Appends-nil held)
 
 -- after messages that were answered
-module _ {S : Type 0} (F : Frames) (Answers : Answering S) (old mid : S) (had between held keeps : Option (List ℕ)) (bytes text : List ℕ) (messages : List (List ℕ))
+module _ {S : Type 0} (F : Frames) (Answers : Answering S) (is_over : S → Bool) (old mid : S) (had between held keeps : Option (List ℕ)) (bytes text : List ℕ) (messages : List (List ℕ))
     (read : Consumes had between bytes) (are : AreMessages F bytes messages) (served : IsServed F.framed Answers old messages mid text) (written : Appends held keeps text) where
   module _ (new : S) (left holds : Option (List ℕ)) where
     module _ (first message : List ℕ) (said : Told) (texts : List (List ℕ)) (more : Consumes between left first) (is : IsToldOf message said) (answered : Answers mid said new texts) where
@@ -78,7 +78,7 @@ module _ {S : Type 0} (F : Frames) (Answers : Answering S) (old mid : S) (had be
       }
 
       -- the last message, which the end of the reader ends
-      message_last : F.IsLast first message → OnSome between (IsAtEnd left) → Appends keeps holds (flat_map F.framed texts) → IsEnded F Answers old new had left held holds
+      message_last : F.IsLast first message → OnSome between (IsAtEnd left) → Appends keeps holds (flat_map F.framed texts) → IsEnded F Answers is_over old new had left held holds
       message_last last end wrote = record {
         bytes = bytes;
         rest = first;
@@ -86,7 +86,7 @@ module _ {S : Type 0} (F : Frames) (Answers : Answering S) (old mid : S) (had be
         last = message ∷ [];
         text = text ++ flat_map F.framed texts;
         read = Consumes-trans had between left bytes first read more;
-        end = at_end had between left bytes read end;
+        end = inl (at_end had between left bytes read end);
         are = are;
         are_last = (last, refl);
         served = served_more F.framed Answers old mid new messages (message ∷ []) text (flat_map F.framed texts) served (served_one F.framed Answers mid new message said texts is answered);
@@ -94,7 +94,7 @@ module _ {S : Type 0} (F : Frames) (Answers : Answering S) (old mid : S) (had be
       }
 
     pub last_answered : {A : Type 0} (result : Result A StreamError) (told : Message) (first message : List ℕ) → Consumes between left first → F.IsLast first message → IsToldOf message (message_told told)
-        → OnSome between (IsAtEnd left) → HasAnswered F Answers result mid told new keeps holds → HasServed F Answers result old new had left held holds
+        → OnSome between (IsAtEnd left) → HasAnswered F Answers result mid told new keeps holds → HasServed F Answers is_over result old new had left held holds
     last_answered (Ok _) told first message more last is end (texts, answered, wrote) = message_last first message (message_told told) texts more is answered last end wrote
     last_answered (Err e) told first message more last is end (texts, answered, failed) =
         inr (failed.0, message_cut first message (message_told told) texts more is answered (inr (last, at_end had between left bytes read end)) failed.1)
@@ -114,7 +114,7 @@ module _ {S : Type 0} (F : Frames) (Answers : Answering S) (old mid : S) (had be
   }
 
   -- nothing is left
-  pub none_more : (left : Option (List ℕ)) → Consumes between left [] → OnSome between (IsAtEnd left) → IsEnded F Answers old mid had left held keeps
+  pub none_more : (left : Option (List ℕ)) → Consumes between left [] → OnSome between (IsAtEnd left) → IsEnded F Answers is_over old mid had left held keeps
   none_more left more end = record {
     bytes = bytes;
     rest = [];
@@ -122,7 +122,23 @@ module _ {S : Type 0} (F : Frames) (Answers : Answering S) (old mid : S) (had be
     last = [];
     text = text;
     read = Consumes-trans had between left bytes [] read more;
-    end = at_end had between left bytes read end;
+    end = inl (at_end had between left bytes read end);
+    are = are;
+    are_last = refl;
+    served = subst (λ l. IsServed F.framed Answers old l mid text) (sym (append-nil messages)) served;
+    written = written;
+  }
+
+  -- the service is over
+  pub over_ended : is_over mid ≡ true → IsEnded F Answers is_over old mid had between held keeps
+  over_ended over = record {
+    bytes = bytes;
+    rest = [];
+    messages = messages;
+    last = [];
+    text = text;
+    read = subst (Consumes had between) (sym (append-nil bytes)) read;
+    end = inr over;
     are = are;
     are_last = refl;
     served = subst (λ l. IsServed F.framed Answers old l mid text) (sym (append-nil messages)) served;

@@ -1,5 +1,5 @@
 -- What a conversation has read, answered and written.
-use Rattle.std.specs.Prelude.{◌≡◌, ◌⊎◌, ℕ, List, [], ◌∷◌, ◌++◌, flat_map, Option, Result, MatchResult, OnSome}
+use Rattle.std.specs.Prelude.{◌≡◌, ◌⊎◌, ℕ, Bool, true, List, [], ◌∷◌, ◌++◌, flat_map, Option, Result, MatchResult, OnSome}
 use Rattle.std.specs.Io.KnownBytes.{Consumes, Appends, IsAtEnd}
 use Rattle.message_stream.specs.declared.error.StreamError.{StreamError}
 use Rattle.message_stream.specs.declared.error.StreamError.TheVariants.{Read, Write}
@@ -14,15 +14,15 @@ IsServed {S} framed Answers old (message ∷ more) new text =
     (said : Told) × (next : S) × (texts : List (List ℕ)) × (later : List ℕ)
     × IsToldOf message said × Answers old said next texts × (text ≡ flat_map framed texts ++ later) × IsServed framed Answers next more new later
 
--- all that the reader had left was read, each of its messages was answered, and the writer took the answers
-pub record IsEnded {S : Type 0} (F : Frames) (Answers : Answering S) (old new : S) (had left held holds : Option (List ℕ)) : Type 0 where
+-- all that the reader had left was read, or messages up to one behind which the service is over; each of them was answered, and the writer took the answers
+pub record IsEnded {S : Type 0} (F : Frames) (Answers : Answering S) (is_over : S → Bool) (old new : S) (had left held holds : Option (List ℕ)) : Type 0 where
   pub bytes : List ℕ
   pub rest : List ℕ
   pub messages : List (List ℕ)
   pub last : List (List ℕ)
   pub text : List ℕ
   pub read : Consumes had left (bytes ++ rest)
-  pub end : OnSome had (IsAtEnd left)
+  pub end : OnSome had (IsAtEnd left) ⊎ (is_over new ≡ true)
   pub are : AreMessages F bytes messages
   pub are_last : AreLast F rest last
   pub served : IsServed F.framed Answers old (messages ++ last) new text
@@ -67,6 +67,6 @@ IsBroken F Answers old new had left held holds e =
     IsUnread F Answers old new had left held holds e ⊎ ((e ≡ Write) × IsUnwritten F Answers old new had left held holds)
 
 -- what a conversation has read, answered and written when it returns
-abbrev pub HasServed : {S A : Type 0} → Frames → Answering S → Result A StreamError → (old new : S) (had left held holds : Option (List ℕ)) → Type 0
-HasServed F Answers result old new had left held holds =
-    MatchResult result (λ _. IsEnded F Answers old new had left held holds) (IsBroken F Answers old new had left held holds)
+abbrev pub HasServed : {S A : Type 0} → Frames → Answering S → (S → Bool) → Result A StreamError → (old new : S) (had left held holds : Option (List ℕ)) → Type 0
+HasServed F Answers is_over result old new had left held holds =
+    MatchResult result (λ _. IsEnded F Answers is_over old new had left held holds) (IsBroken F Answers old new had left held holds)

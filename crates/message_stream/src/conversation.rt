@@ -59,7 +59,7 @@ fn answer_message<F: Framing, W: Write, S: Service>(
 }
 
 /// Answers each message of `input` on `output`, by messages that are written whole and flushed before the next one is
-/// read, up to the end of `input`.
+/// read, up to the end of `input`, or until `service` is over.
 ///
 /// A message for which there is no memory, or that is too long, is passed over, and `service` is told so. After `Write`
 /// all messages but the last one that was read have their answers on `output`, and of the last answer there is a
@@ -76,13 +76,18 @@ pub fn serve<F: Framing, R: BufRead, W: Write, S: Service>(
     output: &mut W,
     service: &mut S,
 ) -> Result<(), StreamError>
-    ensures { HasServed F.frames S.answers result service.old service.new (R.remaining input.old)
+    ensures { HasServed F.frames S.answers S.over result service.old service.new (R.remaining input.old)
         (R.remaining input.new)
         (W.contents output.old) (W.contents output.new) }
 {
     for _message in 0..MOST_MESSAGES {
         match framing.next(alloc, input)? {
-            Next::One(message) => answer_message(alloc, framing, output, service, message)?,
+            Next::One(message) => {
+                answer_message(alloc, framing, output, service, message)?;
+                if service.is_over() {
+                    return Ok(());
+                }
+            }
             Next::Last(message) => return answer_message(alloc, framing, output, service, message),
             Next::Nothing => return Ok(()),
         }

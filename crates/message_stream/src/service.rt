@@ -15,11 +15,15 @@ pub enum Answer {
 
 /// What answers the messages of a conversation.
 pub trait Service {
+    ghost use Rattle.std.specs.Prelude.{◌≡◌, Bool};
     ghost use Rattle.message_stream.specs.Answers.{Answering, answer_texts};
     ghost use Rattle.message_stream.specs.Messages.{message_told};
 
     // The service before an answer, what it is told of a message, the service after it, and the texts.
     ghost answers: { Answering Self };
+
+    // Whether the service is over, and answers no more messages.
+    ghost over: { Self → Bool };
 
     /// Answers a message.
     ///
@@ -27,4 +31,8 @@ pub trait Service {
     /// answer, a fixed text can say so.
     fn answer(&mut self, alloc: Global, message: Message) -> Answer
         ensures { answers self.old (message_told message) self.new (answer_texts result) };
+
+    /// Whether the service is over: no more messages are read for it.
+    fn is_over(&self) -> bool
+        ensures { result ≡ over self.now };
 }

@@ -175,11 +175,17 @@ impl Service for Conversation {
 
     ghost answers = { OneEach Replies };
 
+    ghost over = { λ _. false };
+
     fn answer(&mut self, alloc: Global, line: Message) -> Answer {
         let reply = self.reply(alloc, line);
         match reply_text(alloc, reply, self.number()) {
             Ok(text) => Answer::Made(text),
             Err(_) => Answer::Fixed(OUT_OF_MEMORY),
         }
+    }
+
+    fn is_over(&self) -> bool {
+        false
     }
 }
