@@ -8,7 +8,7 @@ use crate::walk::{Found, files_of_folder, with_slash};
 use itemtree_commands::{CompareError, Options, compare_trees};
 use itemtree_options::Asked;
 use list_forms::Form;
-use source_changes::{ChangeKind, file_change};
+use source_changes::{ChangeKind, compare_public, file_change};
 use source_listing::Source;
 use std::alloc::{AllocError, Global};
 use std::cmp::Ordering;
@@ -21,14 +21,22 @@ const ONLY_ORDER: &str = "the order of items or the attributes of the file diffe
 const ONLY_IN_TREES: &str =
     "the order of items, or the attributes of the file or inside a body differ";
 
+/// What counts where two files are compared.
+#[derive(Clone, Copy)]
+pub(crate) struct Counting {
+    /// Whether nothing is told where the item trees are equal.
+    pub(crate) is_of_trees: bool,
+    /// Whether only what is seen outside of its module counts.
+    pub(crate) is_public: bool,
+}
+
 /// A comparison. Its status is that of `diff`: 0 where all is the same, 1 where something differs, 2 where something
 /// cannot be read.
 #[derive(Drop)]
 struct Comparison<'a> {
     rt: &'a HostRuntime,
     options: &'a Options,
-    /// Whether nothing is told where the item trees are equal.
-    is_of_trees: bool,
+    counting: Counting,
     /// Whether documentation is compared too.
     has_docs: bool,
     form: Form,
@@ -81,7 +89,7 @@ impl Comparison<'_> {
         if let Form::Json = self.form {
             return self.tell_file(new, ChangeKind::Changed);
         }
-        let what = if self.is_of_trees {
+        let what = if self.counting.is_of_trees {
             ONLY_IN_TREES
         } else {
             ONLY_ORDER
@@ -121,7 +129,12 @@ impl Comparison<'_> {
     /// Lists the changes of what others can see of two files.
     fn compare_seen(&mut self, old: Source<'_>, new: Source<'_>) -> Result<(), Failure> {
         let (alloc, year) = (self.rt.alloc(), self.options.edition.year);
-        match source_changes::compare(alloc, old, new, year, self.has_docs, self.form) {
+        let compared = if self.counting.is_public {
+            compare_public(alloc, old, new, year, self.has_docs, self.form)
+        } else {
+            source_changes::compare(alloc, old, new, year, self.has_docs, self.form)
+        };
+        match compared {
             Ok(compared) => self.tell(old.path, new.path, &compared.text, compared.is_same)?,
             Err(_) => self.give_up(old.path, new.path),
         }
@@ -151,7 +164,7 @@ impl Comparison<'_> {
             return Ok(());
         };
         // (Others see the same of equal texts, and no text is too long to be seen.)
-        if !self.is_of_trees && old == new {
+        if !self.counting.is_of_trees && old == new {
             return Ok(());
         }
         let old_path = self.written(old_path)?;
@@ -164,7 +177,7 @@ impl Comparison<'_> {
             path: &new_path,
             text: new,
         };
-        if self.is_of_trees {
+        if self.counting.is_of_trees {
             self.compare_trees(olds, news)
         } else {
             self.compare_seen(olds, news)
@@ -313,14 +326,14 @@ pub(crate) fn compare(
     asked: &Asked<'_>,
     old: &str,
     new: &str,
-    is_of_trees: bool,
+    counting: Counting,
 ) -> Result<u8, Failure> {
     let alloc = rt.alloc();
     refuse_wrong(alloc, old, new)?;
     let mut comparison = Comparison {
         rt,
         options,
-        is_of_trees,
+        counting,
         has_docs: asked.has_docs,
         form: form(rt, asked),
         is_quiet: asked.is_quiet,

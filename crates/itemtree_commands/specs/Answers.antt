@@ -17,6 +17,7 @@ use Rattle.source_listing.specs.Uses.{FilePlaces, placed}
 use Rattle.source_listing.specs.Search.{Query, found_lines}
 use Rattle.source_listing.specs.Tags.{tags}
 use Rattle.source_listing.specs.declared.tags.TagForm.{TagForm}
+use Rattle.source_problems.specs.declared.problem.SourceProblem.{SourceProblem}
 use Rattle.source_problems.specs.Texts.{source_problems}
 use Rattle.list_forms.specs.declared.lines.Form.{Form}
 use Rattle.source_changes.specs.Changes.{AreLinesBetween}
@@ -116,6 +117,10 @@ if_ids has_ids page = if has_ids then page else lines_without_ids page
 -- the page of a text's tree
 abbrev pub IsPage : Options → Bool → List ℕ → List ℕ → Type 0
 IsPage o has_ids text out = (t : SourceTree) × HasTree o text t × (out ≡ if_ids has_ids (page o.edition.reserved.items t.tree))
+
+-- what is wrong with what is read of the text
+abbrev pub HasProblems : Options → List ℕ → List SourceProblem → Type 0
+HasProblems o text ps = (file : FileView) × IsFileView o.edition.year text file × (ps ≡ source_problems text file)
 
 -- the lines of what is wrong with what is read of the text, and whether there are any
 abbrev pub IsCheck : Options → Bool → Source → Checked → Type 0

@@ -16,12 +16,13 @@ use hir_input::{CfgOptions, Edition, Name};
 pub use import_lists::{duplicates, imports};
 use item_tree::CrateData;
 use list_forms::Form;
-use listed::{listed_rows, listed_tree};
+use listed::listed_rows;
+pub use listed::{ListedTree, listed_tree};
 pub use request::source_request;
 use rust_mended::Mended;
 use source_changes::{Compared, change_lines};
 use source_listing::{Choice, Look, Query, Reading, Source, TagForm, without_ids};
-use source_problems::source_problems;
+use source_problems::{SourceProblem, source_problems};
 use std::alloc::{AllocError, Global};
 use trees::{checked_source, skips_docs};
 pub use trees::{SourceError, SourceTree, source_tree};
@@ -348,11 +349,31 @@ pub fn compare_trees(
     Ok(Compared { text, is_same })
 }
 
-/// `itemtree check`: a line for each thing that is wrong, in the order of their places, in colours or not.
+/// What is wrong with a text, in the order of the places.
 ///
 /// # Errors
 ///
 /// `TooLong` exactly where the text has more than 2^32 bytes, and `OutOfMemory`: it needs no tree.
+#[tactic(auto, using(crate::proofs::Refused::no_memory_to_read))]
+pub fn problems(
+    alloc: Global,
+    text: &str,
+    options: &Options,
+) -> Result<Vec<SourceProblem>, SourceError>
+    ensures problems { IfOk result (λ v. spec.HasProblems options.now text.now v.items) }
+    ensures short { OnOk result (length text.now ≤ 2 ^ 32) }
+    ensures refused { IfErr result (IsTextUnread text.now) }
+{
+    let file = checked_source(alloc, text, options.edition.year)?;
+    let problems = source_problems(alloc, text, &file)?;
+    Ok(problems)
+}
+
+/// `itemtree check`: a line for each thing that is wrong, in the order of their places, in colours or not.
+///
+/// # Errors
+///
+/// Those of `problems`.
 #[tactic(auto, using(crate::proofs::Refused::no_memory_to_read))]
 pub fn check(
     alloc: Global,
@@ -363,8 +384,7 @@ pub fn check(
     ensures checked { IfOk result (spec.IsCheck options.now is_colored (source_view source.entry)) }
     ensures refused { IfErr result (IsTextUnread source.entry.text.now) }
 {
-    let file = checked_source(alloc, source.text, options.edition.year)?;
-    let problems = source_problems(alloc, source.text, &file)?;
+    let problems = problems(alloc, source.text, options)?;
     Ok(Checked {
         text: source_listing::problem_lines(alloc, source, &problems, is_colored)?,
         is_clean: problems.is_empty(),

@@ -20,10 +20,10 @@ use std::alloc::Global;
 
 /// The tree that lists tell of a text, with the places of the text as it is.
 #[derive(Drop)]
-pub(crate) struct ListedTree {
-    pub(crate) source: SourceTree,
+pub struct ListedTree {
+    pub source: SourceTree,
     /// The mended text, if the tree is that of it.
-    pub(crate) mended: Option<Mended>,
+    pub mended: Option<Mended>,
 }
 
 /// The tree of what is wanted of what lists read of a text.
@@ -53,11 +53,11 @@ fn clipped_tree(
 }
 
 /// The tree that lists tell of a text: of what they read of it.
-pub(crate) fn listed_tree(
-    alloc: Global,
-    text: &str,
-    options: &Options,
-) -> Result<ListedTree, SourceError>
+///
+/// # Errors
+///
+/// `TooLong` exactly where the text or its mended one has more than 2^32 bytes, and those of `lower_syntax`.
+pub fn listed_tree(alloc: Global, text: &str, options: &Options) -> Result<ListedTree, SourceError>
     ensures tree { IfOk result
         (λ x. spec.HasListed options.now text.now (closers_in x.mended) x.source) }
     ensures text { IfOk result (λ x. HasTextOf text.now x.mended) }

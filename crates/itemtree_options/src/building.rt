@@ -1,5 +1,6 @@
 //! The command line, as clap takes it.
-use crate::table::{Argument, Description, Form, LIST, STATUSES, descriptions};
+use crate::statuses::STATUSES;
+use crate::table::{Argument, Description, Form, LIST, descriptions};
 use clap::{Arg, Command};
 use std::alloc::{AllocError, Global};
 
@@ -25,10 +26,12 @@ fn arg<'a>(alloc: Global, argument: &Argument) -> Result<Arg<'a>, AllocError> {
         .help(argument.help);
     let arg = valued(placed(arg, argument)?, argument);
     if argument.needs_tree {
-        arg.requires_arg("tree")
-    } else {
-        Ok(arg)
+        return arg.requires_arg("tree");
     }
+    if argument.bars_tree {
+        return arg.conflicts_with("tree");
+    }
+    Ok(arg)
 }
 
 /// A command without its arguments.

@@ -5,6 +5,7 @@ mod building;
 mod folders;
 mod laws;
 mod reading;
+mod statuses;
 mod table;
 
 pub use folders::Filter;

@@ -48,12 +48,15 @@ pub enum Command<'a> {
         new: &'a str,
         /// Whether only the item trees are compared.
         is_of_trees: bool,
+        /// Whether only what is seen outside of its module counts.
+        is_public: bool,
     },
     Request {
         /// Whether the texts of bodies are written.
         has_bodies: bool,
     },
     Serve,
+    Lsp,
     Check,
 }
 
@@ -183,6 +186,7 @@ fn changed<'a>(matches: &ArgMatches<'a>) -> Command<'a> {
         old: word(matches, "old"),
         new: word(matches, "new"),
         is_of_trees: matches.get_flag("tree"),
+        is_public: matches.get_flag("public"),
     }
 }
 
@@ -212,6 +216,7 @@ fn command_of<'a>(name: &str, matches: &ArgMatches<'a>) -> Command<'a> {
         "changed" => changed(matches),
         "request" => request(matches),
         "serve" => Command::Serve,
+        "lsp" => Command::Lsp,
         _ => Command::Check,
     }
 }

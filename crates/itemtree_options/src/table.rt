@@ -55,6 +55,8 @@ pub(crate) struct Argument {
     pub(crate) default: &'static [&'static str],
     /// Whether `--tree` has to be given too.
     pub(crate) needs_tree: bool,
+    /// Whether `--tree` must not be given too.
+    pub(crate) bars_tree: bool,
     pub(crate) help: &'static str,
 }
 
@@ -67,6 +69,7 @@ const FLAG: Argument = Argument {
     parser: ValueParser::Bool,
     default: &[],
     needs_tree: false,
+    bars_tree: false,
     help: "",
 };
 
@@ -188,6 +191,9 @@ const DOCS_TOO: Argument = argument!(DOCS id: "docs";
 
 const TREE: Argument = argument!(FLAG id: "tree";
     "Tell nothing where the item trees are equal, which keep no signatures, fields, variants, values or members");
+
+const PUBLIC: Argument = argument!(FLAG id: "public", bars_tree: true;
+    "Tell nothing of what is seen in its module alone, by the visibilities that are written; not with --tree");
 
 const CFG_OF_TREE: Argument = Argument {
     needs_tree: true,
@@ -326,6 +332,7 @@ Status: 0 if nothing differs, 1 if something does, 2 at an error",
         EXCLUDE,
         DOCS_TOO,
         TREE,
+        PUBLIC,
         CFG_OF_TREE,
         HOST_CFG_OF_TREE,
         SKIP_OF_TREE,
@@ -358,6 +365,16 @@ Status: 0 at the end of the input, 2 if the command line is wrong, 6 if reading 
     arguments: &[],
 };
 
+static LSP: Description = Description {
+    name: "lsp",
+    about: "Answers an editor about the Rust texts that are open in it: a server of the Language Server Protocol",
+    after: "Example: itemtree lsp < /dev/null
+
+Status: 0 if the editor ends it as the protocol says, 1 if not, 2 if the command line is wrong, 6 if reading or
+writing fails",
+    arguments: &[EDITION, CFG, HOST_CFG],
+};
+
 static CHECK: Description = Description {
     name: "check",
     about: "Tells which items, brackets and quotes of files could not be read",
@@ -373,19 +390,8 @@ Status: 0 if nothing is wrong, 1 if something is, 2 at an error",
 };
 
 /// The commands, as help lists them.
-pub(crate) fn descriptions() -> [&'static Description; 9] {
+pub(crate) fn descriptions() -> [&'static Description; 10] {
     [
-        &OUTLINE, &PAGE, &IMPORTS, &FIND, &TAGS, &CHANGED, &REQUEST, &SERVE, &CHECK,
+        &OUTLINE, &PAGE, &IMPORTS, &FIND, &TAGS, &CHANGED, &REQUEST, &SERVE, &LSP, &CHECK,
     ]
 }
-
-/// What stands behind the help of the program.
-pub(crate) const STATUSES: &str = "Statuses:
-  0  done: a name is found, nothing is wrong, nothing differs
-  1  find: nothing is found; check: something is wrong; changed: something differs;
-     imports --duplicates: there are some
-  2  an error: the command line is wrong, a file cannot be read or has no tree,
-     memory runs out or writing fails. What can be done is done all the same
-  6  serve: reading or writing fails
-
-'itemtree COMMAND --help' has an example and the statuses of a command.";

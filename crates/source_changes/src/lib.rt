@@ -6,8 +6,9 @@ mod told;
 
 ghost use Rattle.std.specs.Prelude.{◌≡◌, ◌++◌, ◌↔◌, IfOk, IsTrue, OnOk, map, string_bytes};
 ghost use Rattle.source_rows.specs.Views.{part_view, source_view};
-ghost use Rattle.source_rows.specs.ChangeViews.{row_change_view};
-ghost use Rattle.source_rows.specs.Changes.{row_changes};
+ghost use Rattle.source_rows.specs.ChangeViews.{row_change_view, row_part, text_row_view};
+ghost use Rattle.source_rows.specs.Changes.{row_changes, seen_changes};
+ghost use Rattle.source_rows.specs.Moves.{row_moves, standing_rows};
 ghost use Rattle.source_rows.specs.Outside.{outside_rows};
 ghost use Rattle.source_changes.specs.Changes as spec;
 ghost use Rattle.source_changes.specs.Views.{lined_view};
@@ -17,7 +18,8 @@ use list_forms::Form;
 use rust_items::{Wanted, WantedMetas, read_wanted};
 pub use source_rows::{ChangeKind, Source};
 use source_rows::{
-    Change, Part, Skeleton, bodies, changes, moves, outside, parts, row_around, rows,
+    Change, Part, Row, Skeleton, bodies, changes, moves, outside, parts, row_around, rows,
+    seen_changes,
 };
 use std::alloc::{AllocError, Global};
 pub use told::file_change;
@@ -120,6 +122,8 @@ struct Pair<'a> {
     olds: &'a [Part],
     news: &'a [Part],
     edition: EditionYear,
+    /// Whether only what is seen outside of its module counts.
+    is_public: bool,
     has_docs: bool,
     form: Form,
 }
@@ -127,34 +131,75 @@ struct Pair<'a> {
 /// The lines of what became of what stands in none of the parts.
 fn outside_lines(alloc: Global, pair: Pair<'_>) -> Result<String, AllocError>
     ensures { let p = pair.entry in
-        let before = outside_rows p.has_docs p.edition p.old.text.now (map part_view p.olds.now) in
-        let after = outside_rows p.has_docs p.edition p.new.text.now (map part_view p.news.now) in
+        let outside = outside_rows p.is_public p.has_docs p.edition in
+        let before = outside p.old.text.now (map part_view p.olds.now) in
+        let after = outside p.new.text.now (map part_view p.news.now) in
         let lines = spec.row_texts p.form (source_view p.old) (source_view p.new) (row_changes before after) in
         IfOk result (λ text. string_bytes text ≡ lines) }
 {
-    let before = outside(alloc, pair.old.text, pair.edition, pair.olds)?;
-    let after = outside(alloc, pair.new.text, pair.edition, pair.news)?;
+    let before = outside(
+        alloc,
+        pair.old.text,
+        pair.edition,
+        pair.is_public,
+        pair.olds,
+    )?;
+    let after = outside(
+        alloc,
+        pair.new.text,
+        pair.edition,
+        pair.is_public,
+        pair.news,
+    )?;
     let old_rows = row_around(alloc, pair.old.text, &before, pair.olds, pair.has_docs)?;
     let new_rows = row_around(alloc, pair.new.text, &after, pair.news, pair.has_docs)?;
     let changes = changes(alloc, &old_rows, &new_rows)?;
     lines(alloc, pair.form, pair.old, pair.new, &changes)
 }
 
-/// The lines of what became of the parts of a file in another, or else of what moved from a part to another of its
-/// label, or else of what stands in none.
+fn counted_changes<'r>(
+    alloc: Global,
+    is_public: bool,
+    old: &[Row<'r>],
+    new: &[Row<'r>],
+) -> Result<Vec<Change<'r>>, AllocError>
+    ensures { let all = row_changes (map text_row_view old.now) (map text_row_view new.now) in
+        IfOk result (λ v. map row_change_view v.items ≡ seen_changes is_public all) }
+{
+    let changes = changes(alloc, old, new)?;
+    seen_changes(alloc, is_public, changes)
+}
+
+fn counted_moves<'r>(
+    alloc: Global,
+    is_public: bool,
+    old: &[Row<'r>],
+    new: &[Row<'r>],
+) -> Result<Vec<Change<'r>>, AllocError>
+    ensures { let olds = standing_rows (map row_part old.now) (map text_row_view old.now) in
+        let news = standing_rows (map row_part new.now) (map text_row_view new.now) in
+        IfOk result
+        (λ v. map row_change_view v.items ≡ seen_changes is_public (row_moves olds news)) }
+{
+    let moves = moves(alloc, old, new)?;
+    seen_changes(alloc, is_public, moves)
+}
+
+/// The lines of what became of the parts of a file in another, as far as they count, or else of what moved from a part
+/// to another of its label, or else of what stands in none.
 fn lines_between(alloc: Global, pair: Pair<'_>) -> Result<String, AllocError>
     ensures { let p = pair.entry in
-        let lines = spec.lines_between p.edition p.has_docs p.form (source_view p.old) (source_view p.new)
-        (map part_view p.olds.now) (map part_view p.news.now) in
+        let lines = spec.lines_between p.edition p.is_public p.has_docs p.form (source_view p.old)
+        (source_view p.new) (map part_view p.olds.now) (map part_view p.news.now) in
         IfOk result (λ text. string_bytes text ≡ lines) }
 {
     let old_rows = rows(alloc, pair.old.text, pair.olds, pair.has_docs)?;
     let new_rows = rows(alloc, pair.new.text, pair.news, pair.has_docs)?;
-    let changes = changes(alloc, &old_rows, &new_rows)?;
+    let changes = counted_changes(alloc, pair.is_public, &old_rows, &new_rows)?;
     if !changes.is_empty() {
         return lines(alloc, pair.form, pair.old, pair.new, &changes);
     }
-    let moves = moves(alloc, &old_rows, &new_rows)?;
+    let moves = counted_moves(alloc, pair.is_public, &old_rows, &new_rows)?;
     if !moves.is_empty() {
         return lines(alloc, pair.form, pair.old, pair.new, &moves);
     }
@@ -164,7 +209,7 @@ fn lines_between(alloc: Global, pair: Pair<'_>) -> Result<String, AllocError>
 /// The same, but no line where others see the same of both.
 fn text_of(alloc: Global, is_same: bool, pair: Pair<'_>) -> Result<String, AllocError>
     ensures { let p = pair.entry in
-        let lines = spec.compared_lines p.edition is_same p.has_docs p.form (source_view p.old)
+        let lines = spec.compared_lines p.edition is_same p.is_public p.has_docs p.form (source_view p.old)
         (source_view p.new) (map part_view p.olds.now) (map part_view p.news.now) in
         IfOk result (λ text. string_bytes text ≡ lines) }
 {
@@ -200,6 +245,7 @@ pub fn change_lines(
         olds: &before,
         news: &after,
         edition,
+        is_public: false,
         has_docs,
         form,
     };
@@ -238,9 +284,50 @@ pub fn compare(
         olds: &olds,
         news: &news,
         edition,
+        is_public: false,
         has_docs,
         form,
     };
     let text = text_of(alloc, is_same, pair)?;
     Ok(Compared { text, is_same })
+}
+
+/// The same of what is public: what is seen outside of its module, by what is written of it, in one of the two. An item
+/// or a member is not that can have a visibility, and has none or one that ends at its module; variants and what stands
+/// in a trait are as their item. (`Hiding` says it all.)
+///
+/// Nothing is told of the order of items. The attributes of the file stand outside of all items.
+///
+/// # Errors
+///
+/// Only if memory runs out.
+pub fn compare_public(
+    alloc: Global,
+    old: Source<'_>,
+    new: Source<'_>,
+    edition: EditionYear,
+    has_docs: bool,
+    form: Form,
+) -> Result<Compared, AllocError>
+    ensures { IfOk result (spec.IsComparedInPublic edition has_docs form (source_view old.entry)
+        (source_view new.entry)) }
+{
+    let old_parts = parts_of(alloc, old.text, edition)?;
+    let new_parts = parts_of(alloc, new.text, edition)?;
+    let pair = Pair {
+        old,
+        new,
+        olds: &old_parts,
+        news: &new_parts,
+        edition,
+        is_public: true,
+        has_docs,
+        form,
+    };
+    let text = lines_between(alloc, pair)?;
+    let is_empty = text.as_str().is_empty();
+    Ok(Compared {
+        text,
+        is_same: is_empty,
+    })
 }

@@ -17,7 +17,7 @@ use source_rows::{Source, push_place};
 use std::alloc::{AllocError, Global};
 
 /// What is wrong, in words.
-fn message(kind: SourceProblemKind) -> &'static str
+pub fn problem_message(kind: SourceProblemKind) -> &'static str
     ensures { result.now ≡ spec.message kind }
 {
     match kind {
@@ -54,7 +54,7 @@ fn push_line(
     push_color(is_colored, FAINT, out)?;
     push_place(path, position, out)?;
     push_color(is_colored, USUAL, out)?;
-    push_colored(is_colored, RED, message(kind), out)?;
+    push_colored(is_colored, RED, problem_message(kind), out)?;
     out.push_str("\n")
 }
 
@@ -89,7 +89,7 @@ fn problem_value(
 ) -> Result<Value, AllocError>
     ensures { IfOk result (λ value. view value ≡ problem_at position kind) }
 {
-    let members = of_text(alloc, "message", message(kind))?;
+    let members = of_text(alloc, "message", problem_message(kind))?;
     let members = with(alloc, members, "line", Value::from(position.line))?;
     Ok(Value::Object(with(alloc, members, "column", Value::from(position.column))?))
 }

@@ -57,8 +57,12 @@ pub(crate) fn subject_value(
     }
 }
 
-/// A visibility as it was written.
-pub(crate) fn visibility_value(
+/// A visibility as it was written: a text, or null where none was.
+///
+/// # Errors
+///
+/// Only if memory runs out.
+pub fn visibility_value(
     alloc: Global,
     edition: &Edition,
     visibility: Option<&RawVisibility>,

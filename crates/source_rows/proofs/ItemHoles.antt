@@ -19,7 +19,7 @@ use Rattle.rust_items.specs.Members.{MemberRead, moved_member, range_moved_by}
 use Rattle.rust_items.specs.MemberPlaces.{ArePlaced}
 use Rattle.source_rows.specs.Labels.{Outer, has_members}
 use Rattle.source_rows.specs.Bodies.{hole_of}
-use Rattle.source_rows.specs.Parts.{Part, around_behind, body_members, fn_body, item_parts_from, member_part, member_parts, part_of_item, part_path, still_open}
+use Rattle.source_rows.specs.Parts.{Part, around_behind, body_members, fn_body, item_parts_from, member_part, member_parts, members_hidden, part_of_item, part_path, still_open}
 use Rattle.source_rows.specs.Rows.{bodies, hole_inside}
 use Rattle.source_rows.proofs.Beside.{moved_on}
 use Rattle.source_rows.proofs.Cuts.{cut_front, cut_behind, hole_front, hole_behind}
@@ -43,8 +43,8 @@ item_holes edition text k range body = hole_at text range (fn_body k body) ++ me
 abbrev pub place_holes : EditionYear → List ℕ → ItemPlace → List Hole
 place_holes edition text s = item_holes edition text s.id.kind s.range s.body
 
-parts_holes : (text path : List ℕ) (ms : List MemberRead) → bodies (map (member_part text path) ms) ≡ member_holes text ms
-parts_holes text path ms = flat_map-map (λ (p : Part). hole_inside p.body) (member_part text path) ms
+parts_holes : (text path : List ℕ) (hidden : Option Bool) (ms : List MemberRead) → bodies (map (member_part text path hidden) ms) ≡ member_holes text ms
+parts_holes text path hidden ms = flat_map-map (λ (p : Part). hole_inside p.body) (member_part text path hidden) ms
 
 -- the holes of a text's parts
 pub holes_from : (edition : EditionYear) (text : List ℕ) (around : List Outer) (ss : List ItemPlace) → bodies (item_parts_from edition text around ss) ≡ flat_map (place_holes edition text) ss
@@ -55,9 +55,9 @@ holes_from edition text around (s ∷ ss) =
     let path = part_path edition text around_it s in
     let ms = body_members edition s.id.kind text (has_members s.id.kind) s.body in
     let next = item_parts_from edition text later ss in
-    flat_map-append (λ (p : Part). hole_inside p.body) (part_of_item text path s ∷ member_parts edition text path s) next
+    flat_map-append (λ (p : Part). hole_inside p.body) (part_of_item edition text path s ∷ member_parts edition text path s) next
     ∙ ap (λ l. l ++ bodies next)
-    (flat_map-cons (λ (p : Part). hole_inside p.body) (part_of_item text path s) (member_parts edition text path s) ∙ ap (λ l. hole_at text s.range (fn_body s.id.kind s.body) ++ l) (parts_holes text path ms))
+    (flat_map-cons (λ (p : Part). hole_inside p.body) (part_of_item edition text path s) (member_parts edition text path s) ∙ ap (λ l. hole_at text s.range (fn_body s.id.kind s.body) ++ l) (parts_holes text path (members_hidden edition text s) ms))
     ∙ ap (λ l. place_holes edition text s ++ l) (holes_from edition text later ss)
     ∙ sym (flat_map-cons (place_holes edition text) s ss)
 

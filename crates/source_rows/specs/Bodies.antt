@@ -28,6 +28,14 @@ macro_words = codes "proc_macro" ∷ codes "proc_macro_derive" ∷ codes "proc_m
 abbrev pub outer_words : List (List ℕ)
 outer_words = codes "impl" ∷ codes "macro_export" ∷ codes "no_mangle" ∷ codes "export_name" ∷ codes "extern" ∷ codes "global_asm" ∷ []
 
+-- linkers see what has one of these words, whatever its visibility
+abbrev pub linked_words : List (List ℕ)
+linked_words = codes "no_mangle" ∷ codes "export_name" ∷ []
+
+-- linkers see an item of these tokens, or something in these reaches out of it
+abbrev pub is_seen_beyond : List Piece → List Piece → Bool
+is_seen_beyond item inside = list_any (has_word item) linked_words || list_any (has_word inside) outer_words
+
 -- what stands in front of a function's body makes others see the body
 abbrev pub is_run_early : List Piece → Bool
 is_run_early ts = has_const_fn false ts || list_any (has_word ts) macro_words

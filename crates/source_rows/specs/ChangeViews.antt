@@ -23,4 +23,4 @@ row_part r = part_view r.part.now
 
 -- a change as plain data
 abbrev pub row_change_view : code_change.Change → RowChange
-row_change_view c = record { kind = c.kind; label = c.label.now; at = c.at }
+row_change_view c = record { kind = c.kind; label = c.label.now; at = c.at; is_hidden = c.is_hidden }

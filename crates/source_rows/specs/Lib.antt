@@ -1,6 +1,7 @@
 pub mod Labels
 pub mod Blanks
 pub mod Headers
+pub mod Hiding
 pub mod Bodies
 pub mod Parts
 pub mod Rows

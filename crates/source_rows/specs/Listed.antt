@@ -31,18 +31,23 @@ pub record MemberReading : Type 0 where
   pub edition : EditionYear
   pub options : Option (List AtomView)
 
--- a member with a name: how it is seen, where its name begins and where all of it stands, and whether no cfg disables it, nor what it stands in
+-- a member with a name: how it is seen, where its name begins and where all of it and its body stand, and whether no cfg disables it, nor what it stands in
 pub record Listed : Type 0 where
   pub kind : MemberKind
   pub name : List ℕ
   pub visibility : RawVisibility
   pub at : ℕ
   pub range : TextRange
+  pub body : Option TextRange
   pub is_active : Bool
 
 -- in the text that is read, an item that stands there in the file
 abbrev pub moved_item : (ℕ → ℕ) → ItemPlace → ItemPlace
 moved_item place p = record { id = p.id; range = moved_range place p.range; name = option_map (moved_range place) p.name; body = option_map (moved_range place) p.body }
+
+abbrev pub read_range : Option Closers → TextRange → TextRange
+read_range None r = r
+read_range (Some c) r = moved_range (forward_by c.places) r
 
 abbrev pub read_place : Option Closers → Option ItemPlace → Option ItemPlace
 read_place None p = p
@@ -69,6 +74,7 @@ member_told closers options is_active m name at = record {
   visibility = read_visibility m.visibility;
   at = told_place closers at;
   range = told_range closers m.range;
+  body = option_map (told_range closers) m.body;
   is_active = is_active && not (any_disables options (metas_from m.attrs));
 }
 

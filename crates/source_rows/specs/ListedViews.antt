@@ -7,7 +7,7 @@ use Rattle.source_rows.specs.Listed.{Closers, Listed, MemberReading}
 
 -- a listed member as plain data
 abbrev pub listed_view : ListedMember → Listed
-listed_view m = record { kind = m.kind; name = m.name; visibility = m.visibility; at = m.at; range = m.range; is_active = m.is_active }
+listed_view m = record { kind = m.kind; name = m.name; visibility = m.visibility; at = m.at; range = m.range; body = m.body; is_active = m.is_active }
 
 -- where closers were put in a mended text, as plain data
 abbrev pub closers_view : Mended → Closers

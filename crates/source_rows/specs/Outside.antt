@@ -1,5 +1,5 @@
 -- What stands in none of the items of a text.
-use Rattle.std.specs.Prelude.{ℕ, Bool, not, ◌&&◌, if◌then◌else◌, Option, Some, None, List, [], ◌∷◌, length, codes}
+use Rattle.std.specs.Prelude.{ℕ, Bool, true, false, not, ◌&&◌, if◌then◌else◌, Option, Some, None, List, [], ◌∷◌, length, codes}
 use Rattle.hir_input.specs.declared.edition.EditionYear.{EditionYear}
 use Rattle.rust_lexer.specs.Piece.{Piece}
 use Rattle.rust_lexer.specs.Tokens.{tokens, is_significant}
@@ -20,32 +20,41 @@ first_kept holes (t ∷ ts) = if is_significant t && not (is_begun t.at (not_ove
 abbrev pub attributes_end : EditionYear → List ℕ → ℕ
 attributes_end edition text = (inner_attributes (tokens_of edition text)).1.past
 
--- the attributes of a file and its items
-abbrev pub told_elsewhere : EditionYear → List ℕ → List Part → List Hole
-told_elsewhere edition text ps = hole 0 (attributes_end edition text) ∷ holes_begun (length text) ps
+-- where a text begins, with those attributes or behind them
+abbrev pub outside_start : Bool → EditionYear → List ℕ → ℕ
+outside_start true edition text = 0
+outside_start false edition text = attributes_end edition text
 
--- all of a text behind the attributes of the file, as a part of it that is told here
-abbrev pub outside_part : EditionYear → List ℕ → ℕ → Part
-outside_part edition text at = record {
+-- what stands before that, and the items of a file
+abbrev pub told_elsewhere : ℕ → List ℕ → List Part → List Hole
+told_elsewhere start text ps = hole 0 start ∷ holes_begun (length text) ps
+
+-- all of a text from there on, as a part of it that is told here
+abbrev pub outside_part : ℕ → List ℕ → ℕ → Part
+outside_part start text at = record {
   label = codes "tokens outside of all items";
   at = at;
-  range = record { start = attributes_end edition text; end = length text };
+  range = record { start = start; end = length text };
   kept = None;
   body = None;
+  is_hidden = false;
 }
 
 -- the same if tokens stand there that are in no item
-abbrev pub part_told : EditionYear → List ℕ → Option ℕ → Option Part
-part_told edition text None = None
-part_told edition text (Some at) = Some (outside_part edition text at)
+abbrev pub part_told : ℕ → List ℕ → Option ℕ → Option Part
+part_told start text None = None
+part_told start text (Some at) = Some (outside_part start text at)
 
-abbrev pub outside_of : EditionYear → List ℕ → List Part → Option Part
-outside_of edition text ps = part_told edition text (first_kept (told_elsewhere edition text ps) (tokens text))
+abbrev pub outside_from : ℕ → List ℕ → List Part → Option Part
+outside_from start text ps = part_told start text (first_kept (told_elsewhere start text ps) (tokens text))
+
+abbrev pub outside_of : Bool → EditionYear → List ℕ → List Part → Option Part
+outside_of has_attributes edition text ps = outside_from (outside_start has_attributes edition text) text ps
 
 -- the row of that part, in which these stand
 abbrev pub row_of : Bool → List ℕ → List Part → Option Part → List TextRow
 row_of has_docs text ps None = []
 row_of has_docs text ps (Some p) = part_row has_docs text p ps ∷ []
 
-abbrev pub outside_rows : Bool → EditionYear → List ℕ → List Part → List TextRow
-outside_rows has_docs edition text ps = row_of has_docs text ps (outside_of edition text ps)
+abbrev pub outside_rows : Bool → Bool → EditionYear → List ℕ → List Part → List TextRow
+outside_rows has_attributes has_docs edition text ps = row_of has_docs text ps (outside_of has_attributes edition text ps)

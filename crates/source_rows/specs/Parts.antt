@@ -13,14 +13,16 @@ use Rattle.rust_items.specs.MemberLists.{members}
 use Rattle.source_rows.specs.Labels.{item_word, has_members, member_word, text_at, text_at_some, Outer, modules_path, label}
 use Rattle.source_rows.specs.Headers.{header}
 use Rattle.source_rows.specs.Bodies.{hole_of}
+use Rattle.source_rows.specs.Hiding.{hides_members, is_item_hidden, is_member_hidden}
 
--- a part: what it is called, where it is told, where it stands, the name that counts among the tokens around it, and the braces whose tokens do not count
+-- a part: what it is called, where it is told, where it stands, the name that counts among the tokens around it, the braces whose tokens do not count, and whether it is seen in its module alone
 pub record Part : Type 0 where
   pub label : List ℕ
   pub at : ℕ
   pub range : TextRange
   pub kept : Option TextRange
   pub body : Option TextRange
+  pub is_hidden : Bool
 
 -- at its name, or where it begins
 abbrev pub part_told_at : TextRange → Option TextRange → ℕ
@@ -38,13 +40,15 @@ kept_name _ name = None
 abbrev pub member_path : List ℕ → List ℕ → Option TextRange → List ℕ
 member_path text path name = path ++ codes "::" ++ text_at_some text name
 
-abbrev pub member_part : List ℕ → List ℕ → MemberRead → Part
-member_part text path m = record {
+-- a member of an item whose members are hidden with it or not, or each by itself
+abbrev pub member_part : List ℕ → List ℕ → Option Bool → MemberRead → Part
+member_part text path hidden m = record {
   label = label (member_word m.kind) (member_path text path m.name);
   at = part_told_at m.range m.name;
   range = m.range;
   kept = kept_name m.kind m.name;
   body = hole_of text m.range m.body;
+  is_hidden = is_member_hidden hidden text m;
 }
 
 -- the members of an item of this kind in this body, if it may have some, with their conditions alone: no list asks for other attributes
@@ -52,8 +56,11 @@ abbrev pub body_members : EditionYear → AstIdKind → List ℕ → Bool → Op
 body_members edition k text true (Some body) = members wanted.Conditions edition k text body
 body_members edition k text _ body = []
 
+abbrev pub members_hidden : EditionYear → List ℕ → ItemPlace → Option Bool
+members_hidden edition text s = hides_members edition (text_at text s.range) s.id.kind (is_item_hidden edition text s)
+
 abbrev pub member_parts : EditionYear → List ℕ → List ℕ → ItemPlace → List Part
-member_parts edition text path s = map (member_part text path) (body_members edition s.id.kind text (has_members s.id.kind) s.body)
+member_parts edition text path s = map (member_part text path (members_hidden edition text s)) (body_members edition s.id.kind text (has_members s.id.kind) s.body)
 
 -- ---- items
 
@@ -72,13 +79,14 @@ abbrev pub fn_body : AstIdKind → Option TextRange → Option TextRange
 fn_body kind.Fn body = body
 fn_body _ body = None
 
-abbrev pub part_of_item : List ℕ → List ℕ → ItemPlace → Part
-part_of_item text path s = record {
+abbrev pub part_of_item : EditionYear → List ℕ → List ℕ → ItemPlace → Part
+part_of_item edition text path s = record {
   label = label (item_word s.id.kind) path;
   at = part_told_at s.range s.name;
   range = s.range;
   kept = None;
   body = hole_of text s.range (fn_body s.id.kind s.body);
+  is_hidden = is_item_hidden edition text s;
 }
 
 abbrev pub part_path : EditionYear → List ℕ → List Outer → ItemPlace → List ℕ
@@ -86,7 +94,7 @@ part_path edition text around s = modules_path around ++ part_name edition text 
 
 -- an item, and behind it its members
 abbrev pub parts_of : EditionYear → List ℕ → List Outer → ItemPlace → List Part
-parts_of edition text around s = part_of_item text (part_path edition text around s) s ∷ member_parts edition text (part_path edition text around s) s
+parts_of edition text around s = part_of_item edition text (part_path edition text around s) s ∷ member_parts edition text (part_path edition text around s) s
 
 -- the modules that end behind a place
 abbrev pub still_open : ℕ → List Outer → List Outer

@@ -44,7 +44,7 @@ abbrev pub own_tokens : Bool → List ℕ → Part → List Part → List (List 
 own_tokens has_docs text p behind = skeleton has_docs (own_holes p behind) (text_at text p.range)
 
 abbrev pub part_row : Bool → List ℕ → Part → List Part → TextRow
-part_row has_docs text p behind = record { label = p.label; at = p.at; own = own_tokens has_docs text p behind }
+part_row has_docs text p behind = record { label = p.label; at = p.at; own = own_tokens has_docs text p behind; is_hidden = p.is_hidden }
 
 -- each part with its own tokens
 abbrev pub part_rows : Bool → List ℕ → List Part → List TextRow

@@ -9,7 +9,7 @@ use Rattle.source_rows.specs.Sources.{Source}
 
 -- a part of an item as plain data
 abbrev pub part_view : code_part.Part → Part
-part_view p = record { label = string_bytes p.label; at = p.at; range = p.range; kept = p.kept; body = p.body }
+part_view p = record { label = string_bytes p.label; at = p.at; range = p.range; kept = p.kept; body = p.body; is_hidden = p.is_hidden }
 
 abbrev pub outer_view : code_around.Around → Outer
 outer_view a = record { end = a.end; name = a.name.now }

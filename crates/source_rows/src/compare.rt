@@ -1,6 +1,6 @@
 //! What of some rows became another.
 
-ghost use Rattle.std.specs.Prelude.{◌≡◌, ◌++◌, map, IfOk, IsTrue, OnOk, flat_map};
+ghost use Rattle.std.specs.Prelude.{◌≡◌, ◌++◌, true, map, IfOk, IsTrue, OnOk, flat_map};
 ghost use Rattle.source_rows.specs.Changes as spec;
 ghost use Rattle.source_rows.specs.Inner.{found_row_change, row_match};
 ghost use Rattle.source_rows.specs.ChangeViews.{row_change_view, skeleton_view, text_row_view};
@@ -59,16 +59,26 @@ pub struct Change<'r> {
     pub label: &'r str,
     /// Its byte place in the new text, or in the old one where it was removed.
     pub at: usize,
+    /// Whether it is seen in its module alone, in each text that has it.
+    pub is_hidden: bool,
 }
 
-fn changed<'r>(kind: ChangeKind, row: Row<'r>) -> Change<'r>
-    ensures { row_change_view result ≡ spec.row_change kind (text_row_view row.entry) }
+fn changed<'r>(kind: ChangeKind, is_hidden: bool, row: Row<'r>) -> Change<'r>
+    ensures { row_change_view result ≡ spec.row_change kind is_hidden (text_row_view row.entry) }
 {
     Change {
         kind,
         label: &row.part.label,
         at: row.part.at,
+        is_hidden,
     }
+}
+
+fn in_one<'r>(kind: ChangeKind, row: Row<'r>) -> Change<'r>
+    ensures { let r = text_row_view row.entry in
+        row_change_view result ≡ spec.row_change kind r.is_hidden r }
+{
+    changed(kind, row.part.is_hidden, row)
 }
 
 /// What became of a row; none where both texts have the same tokens of it.
@@ -80,13 +90,14 @@ fn change_of<'r, K>(
         (λ change. found_row_change change ≡ spec.row_change_of (row_match found.now)) }
 {
     match *found {
-        Match::Gone(old) => Ok(Some(changed(ChangeKind::Removed, old.item))),
-        Match::Came(new) => Ok(Some(changed(ChangeKind::Added, new.item))),
+        Match::Gone(old) => Ok(Some(in_one(ChangeKind::Removed, old.item))),
+        Match::Came(new) => Ok(Some(in_one(ChangeKind::Added, new.item))),
         Match::Stays(old, new) => {
             if is_same(alloc, old.item, new.item)? {
                 return Ok(None);
             }
-            Ok(Some(changed(ChangeKind::Changed, new.item)))
+            let is_hidden = old.item.part.is_hidden && new.item.part.is_hidden;
+            Ok(Some(changed(ChangeKind::Changed, is_hidden, new.item)))
         }
     }
 }
@@ -141,4 +152,36 @@ pub fn changes<'r>(
     let news = labelled(alloc, new)?;
     let found = matched(alloc, &olds, &news)?;
     changes_of(alloc, &found)
+}
+
+fn seen_ones<'r>(alloc: Global, changes: &[Change<'r>]) -> Result<Vec<Change<'r>>, AllocError>
+    ensures { IfOk result (λ v. map row_change_view v.items
+        ≡ spec.seen_changes true (map row_change_view changes.now)) }
+{
+    let mut seen = Vec::new(alloc);
+    for change in changes {
+        if !change.is_hidden {
+            seen.push(*change)?;
+        }
+    }
+    Ok(seen)
+}
+
+/// All changes, or where only what is public counts those of what is seen outside of its module in one of the texts.
+///
+/// # Errors
+///
+/// Only if memory runs out.
+pub fn seen_changes<'r>(
+    alloc: Global,
+    is_public: bool,
+    changes: Vec<Change<'r>>,
+) -> Result<Vec<Change<'r>>, AllocError>
+    ensures { IfOk result (λ v. map row_change_view v.items
+        ≡ spec.seen_changes is_public (map row_change_view changes.entry.items)) }
+{
+    if !is_public {
+        return Ok(changes);
+    }
+    seen_ones(alloc, &changes)
 }

@@ -14,6 +14,9 @@ use rust_lexer::{Lexer, Token, TokenKind};
 /// A body of one of these functions runs while others are compiled.
 const MACRO_WORDS: [&str; 3] = ["proc_macro", "proc_macro_derive", "proc_macro_attribute"];
 
+/// Linkers see what has one of these words, whatever its visibility.
+const LINKED_WORDS: [&str; 2] = ["no_mangle", "export_name"];
+
 /// With one of these words something in a body reaches out of it.
 const OUTER_WORDS: [&str; 6] = [
     "impl",
@@ -104,6 +107,13 @@ fn is_unseen(front: &str, inside: &str) -> bool
     ensures { result ≡ spec.is_unseen (tokens front.now) (tokens inside.now) }
 {
     !is_run_early(front) && !has_any(inside, &OUTER_WORDS)
+}
+
+/// Whether linkers see an item, or something in a part of it reaches out of it.
+pub(crate) fn is_seen_beyond(item: &str, inside: &str) -> bool
+    ensures { result ≡ spec.is_seen_beyond (tokens item.now) (tokens inside.now) }
+{
+    has_any(item, &LINKED_WORDS) || has_any(inside, &OUTER_WORDS)
 }
 
 /// Whether the braces of a function, which stands there in a text, are a hole.

@@ -2,11 +2,13 @@
 
 ghost use Rattle.std.specs.Prelude.{◌≡◌, ◌++◌, ◌∷◌, [], IfOk, OnOk, map, string_bytes};
 ghost use Rattle.rust_items.specs.MemberViews.{member_view};
+ghost use Rattle.source_rows.specs.Hiding.{is_item_hidden};
 ghost use Rattle.source_rows.specs.Labels.{has_members, label, member_word, modules_path};
 ghost use Rattle.source_rows.specs.Parts as spec;
 ghost use Rattle.source_rows.specs.Views.{outer_view, part_view};
 
 use crate::headers::header;
+use crate::hiding::{hides_members, is_item_hidden, is_member_hidden};
 use crate::inside::hole_of;
 use crate::labels::{ROOM, kind_texts, member_word, push_label, text_at, text_at_some};
 use hir_input::{AstIdKind, EditionYear};
@@ -26,6 +28,8 @@ pub struct Part {
     pub kept: Option<TextRange>,
     /// The braces whose tokens do not count.
     pub body: Option<TextRange>,
+    /// Whether it is seen in its module alone, by what is written of it.
+    pub is_hidden: bool,
 }
 
 /// A module around an item: where it ends, and its name.
@@ -73,9 +77,15 @@ fn member_label(
     Ok(label)
 }
 
-fn member_part(alloc: Global, text: &str, path: &str, member: &Member) -> Result<Part, AllocError>
+fn member_part(
+    alloc: Global,
+    text: &str,
+    path: &str,
+    hidden: Option<bool>,
+    member: &Member,
+) -> Result<Part, AllocError>
     ensures { IfOk result (λ part. part_view part
-        ≡ spec.member_part text.now path.now (member_view member.now)) }
+        ≡ spec.member_part text.now path.now hidden (member_view member.now)) }
 {
     Ok(Part {
         label: member_label(alloc, text, path, member)?,
@@ -83,6 +93,7 @@ fn member_part(alloc: Global, text: &str, path: &str, member: &Member) -> Result
         range: member.range,
         kept: kept_name(member.kind, member.name),
         body: hole_of(text, member.range, member.body),
+        is_hidden: is_member_hidden(hidden, text, member),
     })
 }
 
@@ -90,14 +101,15 @@ fn push_members(
     alloc: Global,
     text: &str,
     path: &str,
+    hidden: Option<bool>,
     members: &[Member],
     parts: &mut Vec<Part>,
 ) -> Result<(), AllocError>
-    ensures { let more = map (spec.member_part text.now path.now) (map member_view members.now) in
+    ensures { let more = map (spec.member_part text.now path.now hidden) (map member_view members.now) in
         OnOk result (map part_view parts.new.items ≡ map part_view parts.old.items ++ more) }
 {
     for member in members {
-        let part = member_part(alloc, text, path, member)?;
+        let part = member_part(alloc, text, path, hidden, member)?;
         parts.push(part)?;
     }
     Ok(())
@@ -199,10 +211,17 @@ fn fn_body(kind: AstIdKind, body: Option<TextRange>) -> Option<TextRange>
     }
 }
 
-fn item_part(alloc: Global, text: &str, path: &str, item: &ItemPlace) -> Result<Part, AllocError>
+fn item_part(
+    alloc: Global,
+    text: &str,
+    edition: EditionYear,
+    path: &str,
+    item: &ItemPlace,
+) -> Result<Part, AllocError>
     ensures { IfOk result (λ part. part_view part
-        ≡ spec.part_of_item text.now path.now item.now) }
+        ≡ spec.part_of_item edition text.now path.now item.now) }
 {
+    let is_hidden = is_item_hidden(alloc, text, edition, item)?;
     let mut label = String::with_capacity(alloc, ROOM)?;
     push_label(&mut label, kind_texts(item.id.kind).word, path)?;
     Ok(Part {
@@ -211,7 +230,28 @@ fn item_part(alloc: Global, text: &str, path: &str, item: &ItemPlace) -> Result<
         range: item.range,
         kept: None,
         body: hole_of(text, item.range, fn_body(item.id.kind, item.body)),
+        is_hidden,
     })
+}
+
+/// Adds the members of an item, which is hidden or not.
+fn push_inside(
+    alloc: Global,
+    text: &str,
+    edition: EditionYear,
+    path: &str,
+    item: &ItemPlace,
+    is_hidden: bool,
+    parts: &mut Vec<Part>,
+) -> Result<(), AllocError>
+    requires { is_hidden ≡ is_item_hidden edition text.now item.now }
+    ensures { let more = spec.member_parts edition text.now path.now item.now in
+        OnOk result (map part_view parts.new.items ≡ map part_view parts.old.items ++ more) }
+{
+    let (kind, own) = (item.id.kind, text_at(text, item.range));
+    let hidden = hides_members(alloc, own, edition, kind, is_hidden)?;
+    let members = members_in(alloc, kind, text, item.body, edition)?;
+    push_members(alloc, text, path, hidden, &members, parts)
 }
 
 /// Adds an item, and behind it its members.
@@ -227,10 +267,10 @@ fn push_item(
         OnOk result (map part_view parts.new.items ≡ map part_view parts.old.items ++ more) }
 {
     let path = item_path(alloc, text, edition, around, item)?;
-    let part = item_part(alloc, text, &path, item)?;
+    let part = item_part(alloc, text, edition, &path, item)?;
+    let is_hidden = part.is_hidden;
     parts.push(part)?;
-    let members = members_in(alloc, item.id.kind, text, item.body, edition)?;
-    push_members(alloc, text, &path, &members, parts)
+    push_inside(alloc, text, edition, &path, item, is_hidden, parts)
 }
 
 /// The modules that end behind a place.

@@ -6,7 +6,7 @@ ghost use Rattle.source_rows.specs.ListedViews.{closers_view, listed_view};
 
 use crate::enabled::any_disables;
 use crate::items::members_in;
-use crate::mended::{told_place, told_range};
+use crate::mended::{told_place, told_range, told_some};
 use hir_input::{CfgOptions, EditionYear, Name};
 use item_tree::{RawVisibility, visibility_from_ast};
 use rust_cursor::push_some;
@@ -25,6 +25,8 @@ pub struct ListedMember {
     pub at: usize,
     /// Where it stands with its attributes, up to the comma of a variant or a field.
     pub range: TextRange,
+    /// The braces of a function.
+    pub body: Option<TextRange>,
     /// Whether no cfg disables it, nor its item, nor what that stands in.
     pub is_active: bool,
 }
@@ -57,7 +59,7 @@ fn listed_member(
     };
     let visibility = visibility_from_ast(alloc, member.visibility.as_ref())?;
     let is_active = around.is_active && !any_disables(&member.attrs, around.options);
-    let (kind, range) = (member.kind, member.range);
+    let (kind, range, body) = (member.kind, member.range, member.body);
     let Some(name) = member.into_identifier() else {
         return Ok(None);
     };
@@ -67,6 +69,7 @@ fn listed_member(
         visibility,
         at: told_place(around.mended, place.start),
         range: told_range(around.mended, range),
+        body: told_some(around.mended, body),
         is_active,
     }))
 }

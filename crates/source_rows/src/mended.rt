@@ -1,5 +1,5 @@
 //! Places in a text, and in the mended text that is read in its place.
-ghost use Rattle.std.specs.Prelude.{◌≡◌, Some, option_copied, option_map};
+ghost use Rattle.std.specs.Prelude.{◌≡◌, option_copied, option_map};
 ghost use Rattle.rust_items.specs.LineEnds.{moved_range};
 ghost use Rattle.rust_mended.specs.Texts.{forward_by};
 ghost use Rattle.source_rows.specs.Listed as spec;
@@ -8,7 +8,7 @@ ghost use Rattle.source_rows.specs.ListedViews.{closers_view};
 use rust_items::{ItemPlace, TextRange};
 use rust_mended::Mended;
 
-fn read_range(mended: &Mended, range: TextRange) -> TextRange
+pub(crate) fn read_range(mended: &Mended, range: TextRange) -> TextRange
     ensures { result ≡ moved_range (forward_by mended.now.places.items) range }
 {
     TextRange {
@@ -62,12 +62,13 @@ pub(crate) fn told_range(mended: Option<&Mended>, range: TextRange) -> TextRange
     }
 }
 
-fn told_some(mended: &Mended, range: Option<TextRange>) -> Option<TextRange>
-    ensures { let closers = Some (closers_view mended.now) in
+/// The same of a range that may not be there.
+pub(crate) fn told_some(mended: Option<&Mended>, range: Option<TextRange>) -> Option<TextRange>
+    ensures { let closers = option_map closers_view (option_copied mended.entry) in
         result ≡ option_map (spec.told_range closers) range }
 {
     match range {
-        Some(range) => Some(told_range(Some(mended), range)),
+        Some(range) => Some(told_range(mended, range)),
         None => None,
     }
 }
@@ -80,8 +81,8 @@ pub fn told_item(mended: Option<&Mended>, place: ItemPlace) -> ItemPlace
         Some(mended) => ItemPlace {
             id: place.id,
             range: told_range(Some(mended), place.range),
-            name: told_some(mended, place.name),
-            body: told_some(mended, place.body),
+            name: told_some(Some(mended), place.name),
+            body: told_some(Some(mended), place.body),
         },
         None => place,
     }

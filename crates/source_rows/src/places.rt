@@ -50,6 +50,13 @@ fn first_of(places: &[ItemPlace], id: FileAstId) -> (Option<ItemPlace>, &[ItemPl
     (None, left)
 }
 
+/// The first place of an id among these.
+pub fn first_place(places: &[ItemPlace], id: FileAstId) -> Option<ItemPlace>
+    ensures { result ≡ spec.place_of id places.now }
+{
+    first_of(places, id).0
+}
+
 impl<'a> Places<'a> {
     /// Those of a file.
     #[tactic(auto, using(crate::proofs::ItemPlaces::end_itself))]

@@ -1,15 +1,16 @@
 //! Where headers and members are read.
-ghost use Rattle.std.specs.Prelude.{◌≡◌, IfOk, map, string_bytes};
+ghost use Rattle.std.specs.Prelude.{◌≡◌, ◌+◌, ◌<◌, ◌^◌, IfOk, length, map, string_bytes};
+ghost use Rattle.source_rows.specs.Labels.{text_at};
 ghost use Rattle.source_rows.specs.Listed as spec;
 ghost use Rattle.source_rows.specs.ListedViews.{listed_view, reading_view};
 
 use crate::headers::header;
 use crate::labels::text_at;
 use crate::listed::{Around, ListedMember, listed_members};
-use crate::mended::read_item;
+use crate::mended::{read_item, read_range};
 use crate::types::type_name;
 use hir_input::{AstIdKind, CfgOptions, EditionYear, Name};
-use rust_items::ItemPlace;
+use rust_items::{ItemPlace, TextRange, cut_out};
 use rust_mended::Mended;
 use std::alloc::{AllocError, Global};
 
@@ -43,6 +44,32 @@ impl<'a> Reading<'a> {
         match (self.mended, place) {
             (Some(mended), Some(place)) => Some(read_item(mended, place)),
             (_, place) => place,
+        }
+    }
+
+    /// The same of a range.
+    fn range(self, range: TextRange) -> TextRange
+        ensures { result ≡ spec.read_range (reading_view self.entry).closers range }
+    {
+        match self.mended {
+            Some(mended) => read_range(mended, range),
+            None => range,
+        }
+    }
+
+    /// What stands in a range of the text as it is, in the text that is read, and where it begins there. It is empty
+    /// where the range cuts a character.
+    #[tactic(auto, using(rust_items::proofs::MemberCuts::cut_length))]
+    pub fn part(self, range: TextRange) -> (&'a str, usize)
+        ensures text { let range = spec.read_range (reading_view self.entry).closers range in
+            result.0.now ≡ text_at (reading_view self.entry).text range }
+        ensures start { result.1 ≡ (spec.read_range (reading_view self.entry).closers range).start }
+        ensures fits { 0 < length result.0.now → result.1 + length result.0.now < 2 ^ 64 }
+    {
+        let range = self.range(range);
+        match cut_out(self.read(), range) {
+            Some(part) => (part, range.start),
+            None => ("", range.start),
         }
     }
 }

@@ -41,8 +41,22 @@ fn attributes_end(alloc: Global, text: &str, edition: EditionYear) -> Result<usi
     Ok(cursor.past())
 }
 
-/// All of a text behind the attributes of the file, as a part of it, if tokens stand there that are in none of its
-/// items.
+fn outside_start(
+    alloc: Global,
+    text: &str,
+    edition: EditionYear,
+    has_attributes: bool,
+) -> Result<usize, AllocError>
+    ensures { IfOk result (λ at. at ≡ spec.outside_start has_attributes edition text.now) }
+{
+    if has_attributes {
+        return Ok(0);
+    }
+    attributes_end(alloc, text, edition)
+}
+
+/// All of a text, with or behind the attributes of the file, as a part of it, if tokens stand there that are in none of
+/// its items.
 ///
 /// # Errors
 ///
@@ -51,12 +65,13 @@ pub fn outside(
     alloc: Global,
     text: &str,
     edition: EditionYear,
+    has_attributes: bool,
     parts: &[Part],
 ) -> Result<Option<Part>, AllocError>
     ensures { IfOk result (λ part. option_map part_view part
-        ≡ spec.outside_of edition text.now (map part_view parts.now)) }
+        ≡ spec.outside_of has_attributes edition text.now (map part_view parts.now)) }
 {
-    let start = attributes_end(alloc, text, edition)?;
+    let start = outside_start(alloc, text, edition, has_attributes)?;
     let mut holes = Vec::new(alloc);
     holes.push(Hole {
         start: 0,
@@ -75,6 +90,7 @@ pub fn outside(
         },
         kept: None,
         body: None,
+        is_hidden: false,
     }))
 }
 

@@ -17,6 +17,8 @@ pub(crate) struct TypeRead {
     is_path: bool,
     /// The last name of the path.
     name: Option<Name>,
+    /// Whether a trait stands before it.
+    of_trait: bool,
 }
 
 fn begun() -> TypeRead
@@ -25,6 +27,17 @@ fn begun() -> TypeRead
     TypeRead {
         is_path: true,
         name: None,
+        of_trait: false,
+    }
+}
+
+fn behind_trait() -> TypeRead
+    ensures { result ≡ spec.behind_trait }
+{
+    TypeRead {
+        is_path: true,
+        name: None,
+        of_trait: true,
     }
 }
 
@@ -72,7 +85,7 @@ fn take_step(alloc: Global, cursor: &mut Cursor<'_>, read: &mut TypeRead) -> Res
 {
     if cursor.is_lone_for() {
         cursor.bump();
-        *read = begun();
+        *read = behind_trait();
         return Ok(());
     }
     if cursor.symbol() == b'<' {
@@ -108,14 +121,10 @@ fn path_name(read: TypeRead) -> Option<Name>
     if read.is_path { read.name } else { None }
 }
 
-/// The name of the type of an impl, which this is the text of.
-#[tactic(auto, unfolding(crate::specs::Types::type_name, rust_leaves::specs::Clipped::with_value))]
-pub(crate) fn type_name(
-    alloc: Global,
-    item: &str,
-    edition: EditionYear,
-) -> Result<Option<Name>, AllocError>
-    ensures { IfOk result (λ name. name ≡ spec.type_name edition item.now) }
+/// The type of an impl, which this is the text of.
+#[tactic(auto, unfolding(crate::specs::Types::header_type, rust_leaves::specs::Clipped::with_value))]
+fn header_type(alloc: Global, item: &str, edition: EditionYear) -> Result<TypeRead, AllocError>
+    ensures { IfOk result (λ read. read ≡ spec.header_type edition item.now) }
 {
     let mut cursor = Cursor::new(item, edition);
     let wanted = Wanted {
@@ -124,6 +133,30 @@ pub(crate) fn type_name(
     };
     let _front = wanted_front(alloc, &mut cursor, wanted)?;
     cursor.pass_angles();
-    let read = type_read(alloc, &mut cursor)?;
+    type_read(alloc, &mut cursor)
+}
+
+/// The name of the type of an impl, which this is the text of.
+#[tactic(auto, unfolding(crate::specs::Types::type_name))]
+pub(crate) fn type_name(
+    alloc: Global,
+    item: &str,
+    edition: EditionYear,
+) -> Result<Option<Name>, AllocError>
+    ensures { IfOk result (λ name. name ≡ spec.type_name edition item.now) }
+{
+    let read = header_type(alloc, item, edition)?;
     Ok(path_name(read))
+}
+
+/// Whether an impl, which this is the text of, is of a trait.
+pub(crate) fn is_of_trait(
+    alloc: Global,
+    item: &str,
+    edition: EditionYear,
+) -> Result<bool, AllocError>
+    ensures { IfOk result (λ is. is ≡ spec.is_of_trait edition item.now) }
+{
+    let read = header_type(alloc, item, edition)?;
+    Ok(read.of_trait)
 }
