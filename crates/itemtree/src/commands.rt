@@ -1,5 +1,5 @@
 //! The commands, file by file.
-use crate::changed::compare;
+use crate::changed::{Counting, compare};
 use crate::escapes::Shown;
 use crate::failure::Failure;
 use crate::files::{Room, STDIN};
@@ -7,7 +7,7 @@ use crate::hints::better_edition;
 use crate::options::{atoms_of, options_of, request_options};
 use crate::output::{Progress, complain, complain_of, form, write_out};
 use crate::request::write_request;
-use crate::serve::answer_lines;
+use crate::serve::{answer_editor, answer_lines};
 use crate::sources::files_of;
 use crate::tag_form::form_of;
 use crate::tag_paths::TagPaths;
@@ -123,7 +123,11 @@ impl Run<'_> {
             }
             Command::Find { ignores_case, .. } => self.find(source, ignores_case)?,
             Command::Tags { .. } => self.push_tags(source)?,
-            Command::Check | Command::Changed { .. } | Command::Request { .. } | Command::Serve => {
+            Command::Check
+            | Command::Changed { .. }
+            | Command::Request { .. }
+            | Command::Serve
+            | Command::Lsp => {
                 let checked = check(alloc, source, options, self.is_colored())?;
                 return Ok((checked.text, checked.is_clean));
             }
@@ -380,7 +384,15 @@ pub(crate) fn run_command(rt: &HostRuntime, asked: &Asked<'_>) -> Result<u8, Fai
             old,
             new,
             is_of_trees,
-        } => compare(rt, &options, asked, old, new, is_of_trees),
+            is_public,
+        } => {
+            let counting = Counting {
+                is_of_trees,
+                is_public,
+            };
+            compare(rt, &options, asked, old, new, counting)
+        }
+        Command::Lsp => answer_editor(rt, options),
         _ => run_files(rt, &options, asked),
     }
 }

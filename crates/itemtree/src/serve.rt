@@ -1,6 +1,8 @@
-//! Requests line by line, over standard input and output.
+//! Requests line by line, and a language server, over standard input and output.
 use crate::failure::Failure;
-use message_stream::{Lines, serve};
+use itemtree_commands::Options;
+use lsp::Server;
+use message_stream::{Headers, Lines, serve};
 use source_session::Conversation;
 use std::io::BufReader;
 
@@ -21,6 +23,20 @@ pub(crate) fn answer_lines(rt: &HostRuntime) -> Result<u8, Failure> {
         &mut conversation,
     ) {
         Ok(()) => Ok(0),
+        Err(error) => {
+            let _ = eprintln!(rt; "itemtree: {error}");
+            Ok(STREAM_FAILED)
+        }
+    }
+}
+
+/// Answers an editor, and gives the status to end with: 0 if it ended the conversation as it should, and else 1.
+pub(crate) fn answer_editor(rt: &HostRuntime, options: Options) -> Result<u8, Failure> {
+    let alloc = rt.alloc();
+    let mut input = BufReader::new(alloc, rt.stdin())?;
+    let mut server = Server::new(alloc, options);
+    match serve(alloc, &Headers, &mut input, &mut rt.stdout(), &mut server) {
+        Ok(()) => Ok(if let Some(true) = server.end() { 0 } else { 1 }),
         Err(error) => {
             let _ = eprintln!(rt; "itemtree: {error}");
             Ok(STREAM_FAILED)

@@ -1,0 +1,9 @@
+pub mod AskedRanges
+pub mod Documents
+pub mod Escapes
+pub mod Examples
+pub mod ListedParts
+pub mod Messages
+pub mod NoFloats
+pub mod PlainRanges
+pub mod Told
