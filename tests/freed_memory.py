@@ -22,7 +22,7 @@ FILES, ROUNDS, OPTIONS = 1000, 10_000, 10_000
 MADE = {
     'Asked': 'options', 'Filter': 'options', 'AttrsOwned': 'outline', 'BlockExpr': 'serve', 'CfgOptions': 'serve',
     'Conversation': 'serve', 'DeclIndex': 'serve', 'ItemTree': 'page', 'Member': 'outline', 'ModPath': 'imports', 'Name': 'outline', 'Row': 'outline',
-    'Pattern': 'find', 'SoughtPath': 'serve', 'Sources': 'serve', 'Syntax': 'outline',
+    'Pattern': 'find', 'Server': 'lsp', 'SoughtPath': 'serve', 'Sources': 'serve', 'Syntax': 'outline',
 }
 TEXT = '''//! Told.
 #![allow(a, b = "c")]
@@ -54,6 +54,14 @@ ROUND = [
                {'show': 'imports', 'crate': 0, 'file': 0}, {'show': 'find', 'name': 'f'}]},
     {'edits': [{'edit': 'remove_block', 'block': 0}, {'edit': 'remove_file', 'file': 1}, {'edit': 'set_text', 'file': 0, 'text': 'fn f() {}'}]},
     {'edits': [{'edit': 'set_text', 'file': 2, 'text': 'fn f() {}'}, {'edit': 'none'}]},
+]
+OPEN = {'uri': 'file:///a.rs'}
+# Each message of an editor that makes or drops what a document holds.
+TYPED = [
+    {'method': 'textDocument/didOpen', 'params': {'textDocument': {**OPEN, 'languageId': 'rust', 'version': 0, 'text': TEXT}}},
+    {'method': 'textDocument/didChange', 'params': {'textDocument': {**OPEN, 'version': 1}, 'contentChanges': [{'text': 'fn f() {}'}]}},
+    {'id': 1, 'method': 'textDocument/documentSymbol', 'params': {'textDocument': OPEN}},
+    {'method': 'textDocument/didClose', 'params': {'textDocument': OPEN}},
 ]
 passed = failed = 0
 
@@ -103,6 +111,11 @@ def lines(*values):
     return ''.join(json.dumps(value) + '\n' for value in values).encode()
 
 
+def messages(*values):
+    bodies = [json.dumps({'jsonrpc': '2.0', **value}).encode() for value in values]
+    return b''.join(b'Content-Length: %d\r\n\r\n' % len(body) + body for body in bodies)
+
+
 def check_types():
     """Each type whose drop is written by hand is in the list."""
     found = set()
@@ -126,6 +139,8 @@ def main():
             counted.check(['request', *[word] * OPTIONS, 'old/1.rs'])
         counted.check(['serve'], lines({'crates': [{'root': 0, 'cfg': ['test']}]}, *ROUND * ROUNDS))
         counted.check(['serve'], lines({'crates': [{'root': at, 'cfg': ['test', {'key': 'a', 'value': 'b'}]} for at in range(OPTIONS)]}))
+        start = {'id': 0, 'method': 'initialize', 'params': {'processId': None, 'rootUri': None, 'capabilities': {}}}
+        counted.check(['lsp'], messages(start, *TYPED * FILES))
     print(f'freed_memory: {passed} passed, {failed} failed')
     sys.exit(1 if failed or not passed else 0)
 

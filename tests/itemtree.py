@@ -18,7 +18,7 @@ TOP = os.path.dirname(os.path.dirname(os.path.realpath(__file__)))
 PROGRAM = os.path.join(TOP, 'crates/itemtree/out/itemtree')
 TOOL = os.path.join(TOP, 'crates/item_tree_tool/out/item_tree_tool')
 STATUSES = ['0', '1', '2', '6']
-COMMANDS = ('outline', 'page', 'imports', 'find', 'tags', 'changed', 'request', 'serve', 'check')
+COMMANDS = ('outline', 'page', 'imports', 'find', 'tags', 'changed', 'request', 'serve', 'lsp', 'check')
 passed = failed = 0
 
 
@@ -118,7 +118,7 @@ def check_documents(offered):
     tell(re.findall(r'^\| (\d) \|', page, re.M) == STATUSES, 'the statuses of docs/ITEMTREE.md')
     told = dict(re.findall(r'^\| `--([\w-]+).*?` \| (.*?) \|', page, re.M))
     wanted = {option: offered[option] for option in told}
-    tell(len(told) == 12 and {option: named(words) for option, words in told.items()} == wanted, 'the options of docs/ITEMTREE.md', told, wanted)
+    tell(len(told) == 13 and {option: named(words) for option, words in told.items()} == wanted, 'the options of docs/ITEMTREE.md', told, wanted)
 
 
 def named(words):

@@ -286,7 +286,7 @@ def main():
     parser.add_argument('program')
     parser.add_argument('folders', nargs='*')
     parser.add_argument('--count', type=int, default=100)
-    parser.add_argument('--seed', type=int, default=1)
+    parser.add_argument('--seed', type=int, default=2)
     parser.add_argument('--indent', choices=('tabs', 'column'))
     parser.add_argument('--ctags', action='store_true')
     parser.add_argument('--show', type=int, default=0)
