@@ -1,0 +1,4 @@
+pub mod Above
+pub mod Ending
+pub mod ModItems
+pub mod Wanting

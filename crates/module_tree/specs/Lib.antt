@@ -1,0 +1,5 @@
+pub mod Inner
+pub mod Laws
+pub mod Modules
+pub mod Paths
+pub mod Views
