@@ -2,9 +2,12 @@
 ghost use Rattle.std.specs.Prelude.{◌≡◌};
 ghost use Rattle.message_stream.specs.Messages.{Told};
 
-use message_stream::{Answer, Headers, Lines, MOST_MESSAGE, Message, Service, StreamError, serve};
+use crate::streams::{Failing, Feeds, Screen};
+use message_stream::{
+    Always, Answer, Headers, Lines, MOST_MESSAGE, Message, Service, StreamError, serve,
+};
 use std::alloc::Global;
-use std::io::{self, BufRead, BufReader, Read, Write};
+use std::io::{self, BufRead, BufReader, Read};
 use std::test::Fail;
 
 // Answers a line by itself, counts, and is over when it has answered so many.
@@ -15,10 +18,15 @@ struct Echo {
 }
 
 impl Service for Echo {
-    ghost use Rattle.std.specs.Prelude.{[], ◌∷◌, codes, nat_eq};
+    ghost use Rattle.std.specs.Prelude.{[], ◌∷◌, codes, nat_eq, true};
+    ghost use Rattle.message_stream.specs.Answers.{IsStill};
     ghost use Rattle.message_stream.specs.Messages.{Told};
 
     ghost answers = { λ _ said _ texts. said ≡ Told.too_long → texts ≡ codes "too long" ∷ [] };
+
+    ghost rests = { IsStill };
+
+    ghost rested = { λ _. true };
 
     ghost over = { λ echo. nat_eq echo.answered echo.most };
 
@@ -32,6 +40,14 @@ impl Service for Echo {
             Message::TooLong => Answer::Fixed("too long"),
             Message::OutOfMemory => Answer::Fixed("out of memory"),
         }
+    }
+
+    fn rest(&mut self, alloc: Global) -> Answer {
+        Answer::Several(Vec::new(alloc))
+    }
+
+    fn is_rested(&self) -> bool {
+        true
     }
 
     fn is_over(&self) -> bool {
@@ -57,10 +73,15 @@ fn doubled(alloc: Global, text: String) -> Answer {
 }
 
 impl Service for Twice {
-    ghost use Rattle.std.specs.Prelude.{[], false};
+    ghost use Rattle.std.specs.Prelude.{[], false, true};
+    ghost use Rattle.message_stream.specs.Answers.{IsStill};
     ghost use Rattle.message_stream.specs.Messages.{Told};
 
     ghost answers = { λ _ said _ texts. said ≡ Told.too_long → texts ≡ [] };
+
+    ghost rests = { IsStill };
+
+    ghost rested = { λ _. true };
 
     ghost over = { λ _. false };
 
@@ -75,88 +96,16 @@ impl Service for Twice {
         }
     }
 
+    fn rest(&mut self, alloc: Global) -> Answer {
+        Answer::Several(Vec::new(alloc))
+    }
+
+    fn is_rested(&self) -> bool {
+        true
+    }
+
     fn is_over(&self) -> bool {
         false
-    }
-}
-
-// Shows what was flushed alone.
-#[derive(Drop)]
-struct Screen {
-    waiting: Vec<u8>,
-    shown: Vec<u8>,
-    writes: u32,
-    most_writes: u32,
-}
-
-impl Screen {
-    fn new(alloc: Global, most_writes: u32) -> Screen {
-        Screen {
-            waiting: Vec::new(alloc),
-            shown: Vec::new(alloc),
-            writes: 0,
-            most_writes,
-        }
-    }
-}
-
-// Takes three bytes a write at most.
-impl Write for Screen {
-    fn write(&mut self, buf: &[u8]) -> io::Result<usize> {
-        if self.writes >= self.most_writes {
-            return Ok(0);
-        }
-        self.writes += 1;
-        let count = buf.len().min(3);
-        self.waiting.extend_from_slice(&buf[..count])?;
-        Ok(count)
-    }
-
-    fn flush(&mut self) -> io::Result<()> {
-        self.shown.extend_from_slice(&self.waiting)?;
-        self.waiting.clear();
-        Ok(())
-    }
-}
-
-// Fails after its bytes, and is interrupted before each read.
-#[derive(Drop)]
-struct Failing<'a> {
-    rest: &'a [u8],
-    is_interrupted: bool,
-}
-
-impl Read for Failing<'_> {
-    fn read(&mut self, buf: &mut [u8]) -> io::Result<usize> {
-        self.is_interrupted = !self.is_interrupted;
-        if self.is_interrupted {
-            return Err(io::Error::from(io::ErrorKind::Interrupted));
-        }
-        if self.rest.is_empty() {
-            return Err(io::Error::from(io::ErrorKind::Other));
-        }
-        let (mut piece, _) = self.rest.split_at(self.rest.len().min(2));
-        let count = piece.read(buf)?;
-        self.rest = &self.rest[count..];
-        Ok(count)
-    }
-}
-
-// Counts line feeds, for which no memory is wanted.
-#[derive(Drop)]
-struct Feeds {
-    count: usize,
-}
-
-impl Write for Feeds {
-    fn write(&mut self, buf: &[u8]) -> io::Result<usize> {
-        let count = buf.iter().filter(|byte| **byte == b'\n').count();
-        self.count = self.count.saturating_add(count);
-        Ok(buf.len())
-    }
-
-    fn flush(&mut self) -> io::Result<()> {
-        Ok(())
     }
 }
 
@@ -178,6 +127,7 @@ fn answers_each_line(rt: HostRuntime) -> Result<(), Fail> {
             alloc,
             &Lines,
             &mut input.as_bytes(),
+            &mut Always,
             &mut written,
             &mut echo,
         );
@@ -197,7 +147,14 @@ fn reads_no_more_for_a_service_that_is_over(rt: HostRuntime) -> Result<(), Fail>
     };
     let mut input = "one\ntwo\nthree\n".as_bytes();
     let mut written = Vec::new(alloc);
-    let served = serve(alloc, &Lines, &mut input, &mut written, &mut echo);
+    let served = serve(
+        alloc,
+        &Lines,
+        &mut input,
+        &mut Always,
+        &mut written,
+        &mut echo,
+    );
     assert!(rt; served.is_ok());
     assert!(rt; written.as_slice() == "one\ntwo\n".as_bytes());
     assert!(rt; input == "three\n".as_bytes());
@@ -220,6 +177,7 @@ fn flushes_before_a_read(rt: HostRuntime) -> Result<(), Fail> {
         alloc,
         &Lines,
         &mut BufReader::new(alloc, failing)?,
+        &mut Always,
         &mut screen,
         &mut echo,
     );
@@ -240,6 +198,7 @@ fn stops_at_a_failed_write(rt: HostRuntime) -> Result<(), Fail> {
         alloc,
         &Lines,
         &mut "first\nsecond\nthird\n".as_bytes(),
+        &mut Always,
         &mut screen,
         &mut echo,
     );
@@ -260,7 +219,14 @@ fn passes_over_a_long_line(rt: HostRuntime) -> Result<(), Fail> {
         most: 100,
     };
     let mut written = Vec::new(alloc);
-    let served = serve(alloc, &Lines, &mut input, &mut written, &mut echo);
+    let served = serve(
+        alloc,
+        &Lines,
+        &mut input,
+        &mut Always,
+        &mut written,
+        &mut echo,
+    );
     assert!(rt; served.is_ok());
     assert!(rt; written.as_slice() == "too long\nshort\n".as_bytes());
     Ok(())
@@ -279,6 +245,7 @@ fn answers_without_memory(rt: HostRuntime) -> Result<(), Fail> {
         alloc,
         &Lines,
         &mut "one\ntwo\nthree".as_bytes(),
+        &mut Always,
         &mut feeds,
         &mut echo,
     );
@@ -308,6 +275,7 @@ fn answers_behind_headers(rt: HostRuntime) -> Result<(), Fail> {
             alloc,
             &Headers,
             &mut input.as_bytes(),
+            &mut Always,
             &mut written,
             &mut Twice,
         );
@@ -330,7 +298,14 @@ fn tells_why_a_message_is_none(rt: HostRuntime) -> Result<(), Fail> {
     ] {
         let mut written = Vec::new(alloc);
         let mut both = one.as_bytes().chain(input.as_bytes());
-        let served = serve(alloc, &Headers, &mut both, &mut written, &mut Twice);
+        let served = serve(
+            alloc,
+            &Headers,
+            &mut both,
+            &mut Always,
+            &mut written,
+            &mut Twice,
+        );
         assert!(rt; served == Err(error), "{input}");
         assert!(rt;
             written.as_slice()
@@ -354,6 +329,7 @@ fn reads_and_writes_in_pieces(rt: HostRuntime) -> Result<(), Fail> {
         alloc,
         &Headers,
         &mut BufReader::new(alloc, failing)?,
+        &mut Always,
         &mut screen,
         &mut Twice,
     );
@@ -378,7 +354,14 @@ fn passes_over_a_long_message(rt: HostRuntime) -> Result<(), Fail> {
         most: 100,
     };
     let mut written = Vec::new(alloc);
-    let served = serve(alloc, &Headers, &mut input, &mut written, &mut echo);
+    let served = serve(
+        alloc,
+        &Headers,
+        &mut input,
+        &mut Always,
+        &mut written,
+        &mut echo,
+    );
     assert!(rt; served.is_ok());
     assert!(rt;
         written.as_slice()

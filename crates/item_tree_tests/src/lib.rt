@@ -1,6 +1,6 @@
 //! Tests of what only a call can show, of all libraries: names, metas and copies (`values`), trees and what stands on
 //! them, the table (`db`), the reader of Rust texts (`reader`), runs of a request over readers and writers that fail
-//! (`runs`), and conversations line by line (`conversations`). What a program shows of texts is in `tests/reader`. They
+//! (`runs`), and conversations (`conversations`, `rests`). What a program shows of texts is in `tests/reader`. They
 //! are one crate, since each crate that drops a tree or a syntax proves anew how each of its parts is dropped;
 //! `samples` has the syntaxes that they share.
 //!
@@ -44,6 +44,8 @@ mod items;
 #[cfg(test)]
 mod lowered;
 #[cfg(test)]
+mod modules;
+#[cfg(test)]
 mod no_memory;
 #[cfg(test)]
 mod outlines;
@@ -56,9 +58,13 @@ mod reader;
 #[cfg(test)]
 mod refusals;
 #[cfg(test)]
+mod rests;
+#[cfg(test)]
 mod runs;
 #[cfg(test)]
 mod samples;
+#[cfg(test)]
+mod streams;
 #[cfg(test)]
 mod trees;
 #[cfg(test)]

@@ -17,3 +17,11 @@ Answering S = S → Told → S → List (List ℕ) → Type 0
 -- those of a service that answers each message by one text
 abbrev pub OneEach : {S : Type 0} → (S → Told → S → List ℕ → Type 0) → Answering S
 OneEach Answers old said new texts = (text : List ℕ) × (texts ≡ text ∷ []) × Answers old said new text
+
+-- how a service rests: as it stands, it may tell these texts, and then stands so
+abbrev pub Resting : Type 0 → Type 1
+Resting S = S → S → List (List ℕ) → Type 0
+
+-- so does one that has nothing to tell
+abbrev pub IsStill : {S : Type 0} → Resting S
+IsStill old new texts = (new ≡ old) × (texts ≡ [])

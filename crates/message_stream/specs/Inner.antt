@@ -16,7 +16,7 @@ use Rattle.message_stream.specs.declared.lines.Part.{Part}
 use Rattle.message_stream.specs.declared.sections.HeaderState.{HeaderState}
 use Rattle.message_stream.specs.declared.sections.HeaderState.TheVariants.{More, Length, NoLength, Wrong}
 use Rattle.message_stream.specs.declared.sections.TheConstants.{MOST_FIELDS}
-use Rattle.message_stream.specs.Answers.{Answering}
+use Rattle.message_stream.specs.Answers.{Answering, Resting}
 use Rattle.message_stream.specs.Exchanged.{HasWritten}
 use Rattle.message_stream.specs.Frames.{Frames}
 use Rattle.message_stream.specs.Headers.{IsHeadedFault, IsHeader}
@@ -135,3 +135,7 @@ HasReadBody had left n result =
 abbrev pub HasAnswered : {S A : Type 0} → Frames → Answering S → Result A StreamError → S → Message → S → (held holds : Option (List ℕ)) → Type 0
 HasAnswered F Answers result old message new held holds =
     (texts : List (List ℕ)) × Answers old (message_told message) new texts × HasWritten result held holds (flat_map F.framed texts)
+
+-- a service rested, and the writer took what it told or a beginning of it
+abbrev pub HasRested : {S A : Type 0} → Frames → Resting S → Result A StreamError → S → S → (held holds : Option (List ℕ)) → Type 0
+HasRested F Rests result old new held holds = (texts : List (List ℕ)) × Rests old new texts × HasWritten result held holds (flat_map F.framed texts)

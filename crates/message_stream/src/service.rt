@@ -16,11 +16,17 @@ pub enum Answer {
 /// What answers the messages of a conversation.
 pub trait Service {
     ghost use Rattle.std.specs.Prelude.{◌≡◌, Bool};
-    ghost use Rattle.message_stream.specs.Answers.{Answering, answer_texts};
+    ghost use Rattle.message_stream.specs.Answers.{Answering, Resting, answer_texts};
     ghost use Rattle.message_stream.specs.Messages.{message_told};
 
     // The service before an answer, what it is told of a message, the service after it, and the texts.
     ghost answers: { Answering Self };
+
+    // The service before a rest, the service after it, and the texts.
+    ghost rests: { Resting Self };
+
+    // Whether nothing is left to tell at a rest.
+    ghost rested: { Self → Bool };
 
     // Whether the service is over, and answers no more messages.
     ghost over: { Self → Bool };
@@ -31,6 +37,14 @@ pub trait Service {
     /// answer, a fixed text can say so.
     fn answer(&mut self, alloc: Global, message: Message) -> Answer
         ensures { answers self.old (message_told message) self.new (answer_texts result) };
+
+    /// Tells something that waited for a rest, or nothing: no message waits.
+    fn rest(&mut self, alloc: Global) -> Answer
+        ensures { rests self.old self.new (answer_texts result) };
+
+    /// Whether nothing is left to tell at a rest: the next one then comes only after `PATIENCE`.
+    fn is_rested(&self) -> bool
+        ensures { result ≡ rested self.now };
 
     /// Whether the service is over: no more messages are read for it.
     fn is_over(&self) -> bool
