@@ -9,4 +9,4 @@ mod statuses;
 mod table;
 
 pub use folders::Filter;
-pub use reading::{Asked, Command, CommandLine, read_command_line};
+pub use reading::{Asked, Command, CommandLine, OutlineAsked, read_command_line};

@@ -7,15 +7,21 @@ use clap::parser::ValueSource;
 use clap::{ArgMatches, Error};
 use std::alloc::{AllocError, Global};
 
+/// What an outline tells.
+#[derive(Clone, Copy)]
+pub struct OutlineAsked {
+    /// How many levels are listed; nothing: all.
+    pub depth: Option<usize>,
+    /// Whether names stand behind those of what is around them.
+    pub is_flat: bool,
+    /// Whether the imports of uses that have a list are listed.
+    pub has_imports: bool,
+}
+
 /// A command, and what it alone is told.
 #[derive(Clone, Copy)]
 pub enum Command<'a> {
-    Outline {
-        /// How many levels are listed; nothing: all.
-        depth: Option<usize>,
-        /// Whether names stand behind those of what is around them.
-        is_flat: bool,
-    },
+    Outline(OutlineAsked),
     Page {
         /// Whether ids are written.
         has_ids: bool,
@@ -161,10 +167,11 @@ fn is_colored(matches: &ArgMatches<'_>) -> Option<bool> {
 }
 
 fn outline<'a>(matches: &ArgMatches<'_>) -> Command<'a> {
-    Command::Outline {
+    Command::Outline(OutlineAsked {
         depth: matches.get_one::<usize>("depth"),
         is_flat: matches.get_flag("flat"),
-    }
+        has_imports: matches.get_flag("imports"),
+    })
 }
 
 fn page<'a>(matches: &ArgMatches<'_>) -> Command<'a> {
@@ -294,6 +301,9 @@ fn wrong_pair(asked: &Asked<'_>) -> Option<&'static str> {
     match asked.command {
         Command::Duplicates if asked.is_json => {
             Some("itemtree: imports: --json does not go with --duplicates\n")
+        }
+        Command::Outline(outline) if outline.has_imports && !outline.is_flat && asked.is_json => {
+            Some("itemtree: outline: --json goes with --imports only if --flat is given\n")
         }
         _ => None,
     }

@@ -137,6 +137,9 @@ const JSON: Argument = argument!(FLAG id: "json";
 const FLAT: Argument = argument!(FLAG id: "flat";
     "Write lines without blanks in front, and names behind those around them; with --json, an object for each line");
 
+const OPENED: Argument = argument!(FLAG id: "imports";
+    "A line for each import of a use that has a list, too; with --json only if --flat is given");
+
 const IDS: Argument = argument!(ONE id: "ids", value: "WHEN",
     parser: ValueParser::Names(&["on", "off"]), default: &["on"];
     "Whether rust-analyzer's ids of items are written");
@@ -238,7 +241,7 @@ static OUTLINE: Description = Description {
 Status: 0, or 2 at an error",
     arguments: &[
         EDITION, HIDDEN, FOLLOW, EXCLUDE, CFG, HOST_CFG, ACTIVE, NO_MEMBERS, DEPTH, COLOR, JSON,
-        FILES_FROM, FILES, FLAT,
+        FILES_FROM, FILES, FLAT, OPENED,
     ],
 };
 

@@ -27,7 +27,7 @@ pub use Rattle.source_listing.specs.Outlines.{member_line, title}
 pub use Rattle.source_rows.specs.Places.{AreDistinct, is_id, place_of, spot_at, spot_in}
 pub use Rattle.line_index.specs.declared.Units.{Units}
 pub use Rattle.line_index.specs.declared.Units.TheVariants.{Characters}
-pub use Rattle.source_listing.specs.Repeated.{Named, first_alike, forest_named, is_alike, leaf_named, line_if_any, named_import, node_named, repeat_lines}
+pub use Rattle.source_listing.specs.Repeated.{Named, Repeat, first_alike, forest_named, is_alike, leaf_named, named_import, node_named, repeat_if_any, repeats}
 pub use Rattle.source_listing.specs.Search.{Candidate, Query, found_lines, found_object, if_found, member_candidate, whole_found}
 pub use Rattle.source_listing.specs.Paths.{bare_segment}
 pub use Rattle.list_forms.specs.Lines.{column_number, line_number}
@@ -35,7 +35,7 @@ unfoldable pub use Rattle.source_listing.specs.Search.{found_members}
 pub use Rattle.source_listing.specs.TagFields.{safe_char, scope_field}
 pub use Rattle.source_listing.specs.Tags.{TagFile, if_any, tag_inside}
 unfoldable pub use Rattle.source_listing.specs.Tags.{tags_inside}
-pub use Rattle.source_listing.specs.Uses.{FilePlaces, Trees, from_place, import_spot, placed, tree_spots, use_trees_at}
+pub use Rattle.source_listing.specs.Uses.{FilePlaces, Trees, from_place, import_spot, placed, tree_spots, tree_spots_in, use_trees_at}
 pub use Rattle.source_listing.specs.Views.{choice_view, import_choice_view, look_view, query_view, source_view}
 pub use Rattle.source_rows.specs.declared.finder.Spot.{Spot}
 pub use Rattle.source_listing.specs.declared.printer.Printer.{Printer}

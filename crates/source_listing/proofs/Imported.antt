@@ -1,15 +1,14 @@
 -- Imports.
-use Rattle.source_listing.proofs.Common.{◌≡◌, ℕ, ◌<◌, ◌+◌, List, [], ◌∷◌, ◌++◌, length, map, take, ap, sym, ◌∙◌, subst, append-nil, Option, All, slice_index_or, flat_map, flat_map-append, flat_map-map, Import, Forest, Source, Spot, IsSameTreeFinder, IsTreeFinderOf, places_in, finder_text, FilePlaces, placed, get_or-map, length-map, take_more, declarations, DeclarationView, view_of, import_lines, of_seen, of_uses, seen_lines}
+use Rattle.source_listing.proofs.Common.{◌≡◌, ℕ, ◌<◌, ◌+◌, List, [], ◌∷◌, ◌++◌, length, map, take, ap, sym, ◌∙◌, subst, append-nil, Option, All, slice_index_or, flat_map, flat_map-append, flat_map-map, Import, Forest, Source, Spot, IsSameTreeFinder, IsTreeFinderOf, Units, places_in, finder_text, FilePlaces, placed, get_or-map, length-map, take_more, declarations, DeclarationView, view_of, import_lines, of_seen, of_uses, seen_lines}
 use Rattle.list_forms.specs.declared.lines.Form.{Form}
 use Rattle.source_listing.specs.ImportCfgs.{ImportChoice}
-use Rattle.source_listing.specs.Inner.{file_in}
 use Rattle.source_listing.specs.declared.uses.TreeFinder.{TreeFinder}
 
 -- what is told of what is collected is what is told of what is declared
-pub seen_of_all : {A D : Type 0} (each : (ℕ → Option Spot) → Import → List A) (see : D → DeclarationView) (text : List ℕ) (places : FilePlaces) (ds : List D) (f : Forest)
-    → map see ds ≡ map view_of (declarations f) → flat_map (λ d. of_seen each text places (see d)) ds ≡ of_uses each text places f
-seen_of_all each see text places ds f e =
-    sym (flat_map-map (of_seen each text places) see ds) ∙ ap (flat_map (of_seen each text places)) e ∙ flat_map-map (of_seen each text places) view_of (declarations f)
+pub seen_of_all : {A D : Type 0} (each : (ℕ → Option Spot) → Import → List A) (see : D → DeclarationView) (units : Units) (text : List ℕ) (places : FilePlaces) (ds : List D) (f : Forest)
+    → map see ds ≡ map view_of (declarations f) → flat_map (λ d. of_seen each units text places (see d)) ds ≡ of_uses each units text places f
+seen_of_all each see units text places ds f e =
+    sym (flat_map-map (of_seen each units text places) see ds) ∙ ap (flat_map (of_seen each units text places)) e ∙ flat_map-map (of_seen each units text places) view_of (declarations f)
 
 -- the lines of what is collected are those of what is declared
 pub lines_of_all : {D : Type 0} (see : D → DeclarationView) (reserved : List (List ℕ)) (form : Form) (c : ImportChoice) (s : Source) (places : FilePlaces) (ds : List D) (f : Forest)
@@ -36,17 +35,16 @@ one_more_seen told ds i d before after l g e n =
 -- ---- by what finds use trees
 
 -- what is told by the places that are found in a text is told by those of the text
-pub seen_by_finder : {A : Type 0} (each : (ℕ → Option Spot) → Import → List A) (text : List ℕ) (places : FilePlaces) (f : TreeFinder) (d : DeclarationView) → IsTreeFinderOf text places f
-    → of_seen each (finder_text f) (places_in f) d ≡ of_seen each text places d
-seen_by_finder each text places f d is =
-    ap (λ t. of_seen each t (places_in f) d) is.0.0 ∙ ap (λ ps. of_seen each text (placed ps f.uses.all.now) d) is.0.1 ∙ ap (λ us. of_seen each text (placed places.items us) d) is.1
+pub seen_by_finder : {A : Type 0} (each : (ℕ → Option Spot) → Import → List A) (units : Units) (text : List ℕ) (places : FilePlaces) (f : TreeFinder) (d : DeclarationView) → IsTreeFinderOf text places f
+    → of_seen each units (finder_text f) (places_in f) d ≡ of_seen each units text places d
+seen_by_finder each units text places f d is =
+    ap (λ t. of_seen each units t (places_in f) d) is.0.0 ∙ ap (λ ps. of_seen each units text (placed ps f.uses.all.now) d) is.0.1 ∙ ap (λ us. of_seen each units text (placed places.items us) d) is.1
 
 -- the same of its lines
 pub lines_by_finder : (reserved : List (List ℕ)) (form : Form) (c : ImportChoice) (s : Source) (places : FilePlaces) (f : TreeFinder) (d : DeclarationView) → IsTreeFinderOf s.text places f
-    → seen_lines reserved form c (file_in s.path f) (places_in f) d ≡ seen_lines reserved form c s places d
+    → seen_lines reserved form c s (places_in f) d ≡ seen_lines reserved form c s places d
 lines_by_finder reserved form c s places f d is =
-    ap (λ t. seen_lines reserved form c (record { path = s.path; text = t }) (places_in f) d) is.0.0 ∙ ap (λ ps. seen_lines reserved form c s (placed ps f.uses.all.now) d) is.0.1
-    ∙ ap (λ us. seen_lines reserved form c s (placed places.items us) d) is.1
+    ap (λ ps. seen_lines reserved form c s (placed ps f.uses.all.now) d) is.0.1 ∙ ap (λ us. seen_lines reserved form c s (placed places.items us) d) is.1
 
 -- the places are the same
 pub places_kept : (old new : TreeFinder) → IsSameTreeFinder old new → places_in new ≡ places_in old

@@ -1,5 +1,6 @@
 pub mod Common
 pub mod Skips
+pub mod TreeEnds
 pub mod Nested
 pub mod NoFloats
 pub mod Pushed

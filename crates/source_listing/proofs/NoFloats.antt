@@ -3,8 +3,10 @@ use Rattle.line_index.specs.declared.Position.{Position}
 use Rattle.source_listing.proofs.Common.{Units, spot_in, file_import_object, Candidate, column_number, found_object, line_number, ◌≡◌, ℕ, ◌+◌, Bool, true, false, ◌||◌, if◌then◌else◌, List, [], ◌∷◌, ◌++◌, Option, Some, None, option_map, refl, filter, map, flat_map, items_of, view_of, Import, Node, leaf, parent, Forest, empty, more, node_ast, Unfolding, ItemPlace, Listed, MemberReading, header_of, members_of, Spot, FilePlaces, Choice, Source, is_chosen, place_of, Declared, declared_name, declared_imports, declarations, Subject, no_subject, is_file_enabled, RowView, alias_form, import_form, import_object, seen_objects, import_objects, of_declared, spots_of_any, Entry, ItemView, item_in, name_form, header_form, subject_form, visibility_form, line_form, column_form, range_form, entry_object, item_entry, member_entry, member_spot, member_object, member_objects, file_form, whole_object, own_objects, node_objects, listed_objects, tree_objects, problem_objects}
 use Rattle.serde_json.specs.Data.{Data, Items, no_items, string}
 use Rattle.hir_input.specs.Cfg.{CfgView, shown_cfg}
-use Rattle.source_listing.specs.FlatObjects.{flat_object, names_form, item_in_row}
+use Rattle.source_listing.specs.FlatObjects.{flat_object, import_entry, names_form, item_in_row}
 use Rattle.source_listing.specs.ImportLines.{cfgs_form}
+use Rattle.source_listing.specs.Objects.{bytes_form}
+use Rattle.rust_paths.specs.declared.names.TextRange.{TextRange}
 use Rattle.serde_json.specs.Written.{has_float, items_have_float}
 use Rattle.item_tree.specs.declared.visibility.RawVisibility.{RawVisibility}
 use Rattle.item_tree.specs.declared.visibility.RawVisibility.TheVariants.{PubSelf}
@@ -24,13 +26,13 @@ second_none : (a b : Bool) → (a || b) ≡ false → b ≡ false
 second_none false b e = e
 second_none true b e = absurd (cc)
 
-both_none : (xs ys : List Data) → items_have_float (items_of xs) ≡ false → items_have_float (items_of ys) ≡ false → items_have_float (items_of (xs ++ ys)) ≡ false
+pub both_none : (xs ys : List Data) → items_have_float (items_of xs) ≡ false → items_have_float (items_of ys) ≡ false → items_have_float (items_of (xs ++ ys)) ≡ false
 both_none [] ys e f = f
 both_none (x ∷ xs) ys e f =
     let here = first_none (has_float x) (items_have_float (items_of xs)) e in
     let rest = second_none (has_float x) (items_have_float (items_of xs)) e in or_none (has_float x) (items_have_float (items_of (xs ++ ys))) here (both_none xs ys rest f)
 
-one_none : (b : Bool) (d : Data) → has_float d ≡ false → items_have_float (items_of (if b then d ∷ [] else [])) ≡ false
+pub one_none : (b : Bool) (d : Data) → has_float d ≡ false → items_have_float (items_of (if b then d ∷ [] else [])) ≡ false
 one_none false d e = refl
 one_none true d e = or_none (has_float d) false e refl
 
@@ -38,7 +40,7 @@ map_none : {A : Type 0} (each : A → Data) (xs : List A) → ((x : A) → has_f
 map_none each [] h = refl
 map_none each (x ∷ xs) h = or_none (has_float (each x)) (items_have_float (items_of (map each xs))) (h x) (map_none each xs h)
 
-flat_none : {A : Type 0} (each : A → List Data) (xs : List A) → ((x : A) → items_have_float (items_of (each x)) ≡ false) → items_have_float (items_of (flat_map each xs)) ≡ false
+pub flat_none : {A : Type 0} (each : A → List Data) (xs : List A) → ((x : A) → items_have_float (items_of (each x)) ≡ false) → items_have_float (items_of (flat_map each xs)) ≡ false
 flat_none each [] h = refl
 flat_none each (x ∷ xs) h = both_none (each x) (flat_map each xs) (h x) (flat_none each xs h)
 
@@ -121,9 +123,9 @@ module _ (reserved : List (List ℕ)) where
   declared_none spots (declared_imports xs) = flat_none (import_object reserved spots) xs (each_none spots)
 
 -- the values of imports hold no float
-pub no_float_in_imports : (text : List ℕ) (reserved : List (List ℕ)) (places : FilePlaces) (f : Forest) → items_have_float (items_of (import_objects text reserved places f)) ≡ false
-no_float_in_imports text reserved places f = flat_none (λ d. seen_objects text reserved places (view_of d)) (declarations f)
-    (λ d. declared_none reserved (spots_of_any text places (option_map node_ast (view_of d).node)) (view_of d).declared)
+pub no_float_in_imports : (units : Units) (text : List ℕ) (reserved : List (List ℕ)) (places : FilePlaces) (f : Forest) → items_have_float (items_of (import_objects units text reserved places f)) ≡ false
+no_float_in_imports units text reserved places f = flat_none (λ d. seen_objects units text reserved places (view_of d)) (declarations f)
+    (λ d. declared_none reserved (spots_of_any units text places (option_map node_ast (view_of d).node)) (view_of d).declared)
 
 -- ---- what is found
 
@@ -143,9 +145,9 @@ found_none path p c = rw (column_number_none p, line_number_none p) refl
 cfgs_none : (cfgs : List CfgView) → has_float (cfgs_form cfgs) ≡ false
 cfgs_none cfgs = map_none (λ c. string (shown_cfg c)) cfgs (λ c. refl)
 
-pub use_none : (reserved : List (List ℕ)) (path scope : List ℕ) (v : Option RawVisibility) (cfgs : List CfgView) (spot : Option Spot) (x : Import) → has_float (file_import_object reserved path scope v cfgs spot x) ≡ false
-use_none reserved path scope v cfgs spot x =
-    rw (cfgs_none cfgs, some_none (alias_form reserved) x.alias refl (λ a. refl), some_none column_form spot refl (λ a. refl), some_none line_form spot refl (λ a. refl), some_none range_form spot refl (λ a. refl), visibility_none reserved v) refl
+pub use_none : (reserved : List (List ℕ)) (path scope : List ℕ) (v : Option RawVisibility) (cfgs : List CfgView) (spot : Option Spot) (removal : Option TextRange) (x : Import) → has_float (file_import_object reserved path scope v cfgs spot removal x) ≡ false
+use_none reserved path scope v cfgs spot removal x =
+    rw (cfgs_none cfgs, some_none (alias_form reserved) x.alias refl (λ a. refl), some_none column_form spot refl (λ a. refl), some_none line_form spot refl (λ a. refl), some_none range_form spot refl (λ a. refl), some_none bytes_form removal refl (λ a. refl), visibility_none reserved v) refl
 
 -- ---- flat outlines
 
@@ -162,3 +164,6 @@ flat_item_none path reserved header r spot =
 
 pub flat_member_none : (path : List ℕ) (reserved : List (List ℕ)) (scope : List (List ℕ)) (m : Listed) (spot : Option Spot) → has_float (flat_object path scope m.is_active spot (member_entry reserved m)) ≡ false
 flat_member_none path reserved scope m spot = flat_object_none path scope m.is_active spot (member_entry reserved m) refl refl refl (visibility_none reserved (Some m.visibility))
+
+pub flat_import_none : (path : List ℕ) (reserved : List (List ℕ)) (r : RowView) (i : Import) (spot : Option Spot) → has_float (flat_object path r.scope r.is_active spot (import_entry reserved r.visibility i)) ≡ false
+flat_import_none path reserved r i spot = flat_object_none path r.scope r.is_active spot (import_entry reserved r.visibility i) refl refl refl (visibility_none reserved r.visibility)

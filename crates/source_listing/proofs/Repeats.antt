@@ -1,5 +1,5 @@
--- Imports by the ids of items, and the lines of one more.
-use Rattle.source_listing.proofs.Common.{◌≡◌, ℕ, Bool, true, false, if◌then◌else◌, ◌+◌, ◌<◌, length, take, List, [], ◌∷◌, ◌++◌, map, Option, Some, None, refl, ap, sym, ◌∙◌, append_assoc, append-nil, option_map, slice_index_or, flat_map, map-append, take_more, option_map_or, FileAstId, children, children_at, place_of, leaf_map, node_at, vis_at, Leaf, plain, use_item, Node, leaf, parent, Forest, empty, more, nodes, node_ast, Unfolding, Lent, lent_leaf, lent_parent, IsLent, StandFor, flat_map_of_id, leaf_of_id, parent_of_id, Import, imports, Tree, FilePlaces, Trees, use_trees_at, tree_spots, import_spot, Named, named_import, leaf_named, node_named, forest_named, first_alike, line_if_any, repeat_lines, own_named, lent_named, own_named_at, named_at}
+-- Imports by the ids of items, and repeats of one more.
+use Rattle.source_listing.proofs.Common.{◌≡◌, ℕ, Bool, true, false, if◌then◌else◌, ◌+◌, ◌<◌, length, take, List, [], ◌∷◌, ◌++◌, map, Option, Some, None, refl, ap, sym, ◌∙◌, append_assoc, append-nil, option_map, slice_index_or, flat_map, map-append, take_more, option_map_or, FileAstId, children, children_at, place_of, leaf_map, node_at, vis_at, Leaf, plain, use_item, Node, leaf, parent, Forest, empty, more, nodes, node_ast, Unfolding, Lent, lent_leaf, lent_parent, IsLent, StandFor, flat_map_of_id, leaf_of_id, parent_of_id, Import, imports, Tree, FilePlaces, Trees, use_trees_at, tree_spots, import_spot, Named, named_import, leaf_named, node_named, forest_named, first_alike, Repeat, repeat_if_any, repeats, own_named, lent_named, own_named_at, named_at}
 use Rattle.source_listing.specs.ImportCfgs.{ImportChoice, is_use_listed}
 
 module _ (text : List ℕ) (places : FilePlaces) (reserved : List (List ℕ)) (c : ImportChoice) (around : Option FileAstId) where
@@ -66,26 +66,27 @@ named_adds text text' places places' reserved c around u i is at before mid afte
     ∙ ap (λ z. z ++ flat_map (named_at text places reserved c u (Some at)) is) f
     ∙ append_assoc before (own_named_at text places reserved c u around i) (flat_map (named_at text places reserved c u (Some at)) is) ∙ ap (λ (xs : List Named). before ++ xs) (sym (one_named text places reserved c around u is (node_at u.forest i) at e s))
 
--- ---- lines
+-- ---- repeats
 
--- the lines of one more import
-pub one_more_repeat : (c : ImportChoice) (is_colored : Bool) (path : List ℕ) (before xs : List Named) (x : Named)
-    → repeat_lines is_colored path c before (xs ++ x ∷ []) ≡ repeat_lines is_colored path c before xs ++ line_if_any is_colored path x (first_alike c x (before ++ xs))
-one_more_repeat c is_colored path before [] x = append-nil (line_if_any is_colored path x (first_alike c x before)) ∙ ap (λ b. line_if_any is_colored path x (first_alike c x b)) (sym (append-nil before))
-one_more_repeat c is_colored path before (y ∷ xs) x =
-    ap (λ ls. line_if_any is_colored path y (first_alike c y before) ++ ls) (one_more_repeat c is_colored path (before ++ y ∷ []) xs x ∙ ap (λ b. repeat_lines is_colored path c (before ++ y ∷ []) xs ++ line_if_any is_colored path x (first_alike c x b)) (append_assoc before (y ∷ []) xs))
-    ∙ sym (append_assoc (line_if_any is_colored path y (first_alike c y before)) (repeat_lines is_colored path c (before ++ y ∷ []) xs) (line_if_any is_colored path x (first_alike c x (before ++ y ∷ xs))))
+-- those of one more import
+pub one_more_repeat : (c : ImportChoice) (before xs : List Named) (x : Named) → repeats c before (xs ++ x ∷ []) ≡ repeats c before xs ++ repeat_if_any x (first_alike c x (before ++ xs))
+one_more_repeat c before [] x = append-nil (repeat_if_any x (first_alike c x before)) ∙ ap (λ b. repeat_if_any x (first_alike c x b)) (sym (append-nil before))
+one_more_repeat c before (y ∷ xs) x =
+    let mine = repeat_if_any y (first_alike c y before) in
+    let rest = repeats c (before ++ y ∷ []) xs in
+    ap (λ rs. mine ++ rs) (one_more_repeat c (before ++ y ∷ []) xs x ∙ ap (λ b. rest ++ repeat_if_any x (first_alike c x b)) (append_assoc before (y ∷ []) xs))
+    ∙ sym (append_assoc mine rest (repeat_if_any x (first_alike c x (before ++ y ∷ xs))))
 
 -- the same of one more of a list
-pub line_of_more : {A : Type 0} (f : A → Named) (c : ImportChoice) (is_colored : Bool) (path : List ℕ) (xs : List A) (i : ℕ) (x : A) (before after : List ℕ) → i < length xs → slice_index_or xs i x ≡ x
-    → before ≡ repeat_lines is_colored path c [] (map f (take i xs))
-    → after ≡ before ++ line_if_any is_colored path (f x) (first_alike c (f x) (map f (take i xs)))
-    → after ≡ repeat_lines is_colored path c [] (map f (take (i + 1) xs))
-line_of_more f c is_colored path xs i x before after l g e n =
+pub repeats_of_more : {A : Type 0} (f : A → Named) (c : ImportChoice) (xs : List A) (i : ℕ) (x : A) (before after : List Repeat) → i < length xs → slice_index_or xs i x ≡ x
+    → before ≡ repeats c [] (map f (take i xs))
+    → after ≡ before ++ repeat_if_any (f x) (first_alike c (f x) (map f (take i xs)))
+    → after ≡ repeats c [] (map f (take (i + 1) xs))
+repeats_of_more f c xs i x before after l g e n =
     let more : take (i + 1) xs ≡ take i xs ++ x ∷ [] = take_more xs i x l ∙ ap (λ y. take i xs ++ y ∷ []) g in
-    n ∙ ap (λ b. b ++ line_if_any is_colored path (f x) (first_alike c (f x) (map f (take i xs)))) e
-    ∙ sym (one_more_repeat c is_colored path [] (map f (take i xs)) (f x))
-    ∙ ap (repeat_lines is_colored path c []) (sym (map-append f (take i xs) (x ∷ [])) ∙ ap (map f) (sym more))
+    n ∙ ap (λ b. b ++ repeat_if_any (f x) (first_alike c (f x) (map f (take i xs)))) e
+    ∙ sym (one_more_repeat c [] (map f (take i xs)) (f x))
+    ∙ ap (repeats c []) (sym (map-append f (take i xs) (x ∷ [])) ∙ ap (map f) (sym more))
 
 -- one more import is seen
 pub seen_more : {A B C : Type 0} (f : A → C) (g : B → C) (before after : List A) (b : A) (xs : List B) (i : ℕ) (x : B) → i < length xs → slice_index_or xs i x ≡ x → f b ≡ g x

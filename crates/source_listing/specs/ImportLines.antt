@@ -14,14 +14,16 @@ use Rattle.serde_json.specs.Data.{Data, string, array, object, no_members, membe
 use Rattle.serde_json.specs.View.{items_of}
 use Rattle.tree_walk.specs.Declarations.{declarations}
 use Rattle.tree_walk.specs.DeclarationView.{DeclarationView, view_of}
+use Rattle.rust_paths.specs.declared.names.TextRange.{TextRange}
 use Rattle.source_rows.specs.declared.finder.Spot.{Spot}
 use Rattle.source_rows.specs.Places.{item_place}
 use Rattle.source_listing.specs.ImportCfgs.{ImportChoice, cfgs_at, is_use_listed}
 use Rattle.source_listing.specs.ImportObjects.{alias_form, import_word}
 use Rattle.source_listing.specs.Imports.{import_text, of_declared}
 use Rattle.source_listing.specs.Lines.{Source}
-use Rattle.source_listing.specs.Objects.{column_form, line_form, range_form, visibility_form}
+use Rattle.source_listing.specs.Objects.{bytes_form, column_form, line_form, range_form, visibility_form}
 use Rattle.source_listing.specs.Paths.{bare_segment}
+use Rattle.source_listing.specs.Removals.{import_removal}
 use Rattle.source_listing.specs.Search.{joined_scope}
 use Rattle.source_listing.specs.Uses.{FilePlaces, import_spot}
 
@@ -34,9 +36,9 @@ placed_import_line reserved is_colored path spot x =
 abbrev pub cfgs_form : List CfgView → Data
 cfgs_form cfgs = array (items_of (map (λ c. string (shown_cfg c)) cfgs))
 
--- the object of an import in modules, of a use with this visibility under these cfgs
-abbrev pub file_import_object : List (List ℕ) → List ℕ → List ℕ → Option RawVisibility → List CfgView → Option Spot → Import → Data
-file_import_object reserved path scope visibility cfgs spot x =
+-- the object of an import in modules, of a use with this visibility under these cfgs, that goes with these bytes
+abbrev pub file_import_object : List (List ℕ) → List ℕ → List ℕ → Option RawVisibility → List CfgView → Option Spot → Option TextRange → Import → Data
+file_import_object reserved path scope visibility cfgs spot removal x =
     object
     (member (codes "alias") (alias_form reserved x.alias)
     (member (codes "cfg") (cfgs_form cfgs)
@@ -47,25 +49,26 @@ file_import_object reserved path scope visibility cfgs spot x =
     (member (codes "module") (string (joined_scope scope))
     (member (codes "path") (string (shown_path reserved x.path))
     (member (codes "range") (range_form spot)
-    (member (codes "visibility") (visibility_form reserved visibility) no_members))))))))))
+    (member (codes "removal") (bytes_form removal)
+    (member (codes "visibility") (visibility_form reserved visibility) no_members)))))))))))
 
-abbrev pub import_told : List (List ℕ) → Form → List ℕ → List ℕ → Option RawVisibility → List CfgView → Option Spot → Import → List ℕ
-import_told reserved (Line is_colored) path scope visibility cfgs spot x = placed_import_line reserved is_colored path spot x
-import_told reserved Json path scope visibility cfgs spot x = value_line (file_import_object reserved path scope visibility cfgs spot x)
+abbrev pub import_told : List (List ℕ) → Form → List ℕ → List ℕ → Option RawVisibility → List CfgView → Option Spot → Option TextRange → Import → List ℕ
+import_told reserved (Line is_colored) path scope visibility cfgs spot removal x = placed_import_line reserved is_colored path spot x
+import_told reserved Json path scope visibility cfgs spot removal x = value_line (file_import_object reserved path scope visibility cfgs spot removal x)
 
 -- by the number of its use tree
-abbrev pub numbered_import : List (List ℕ) → Form → List ℕ → List ℕ → Option RawVisibility → List CfgView → (ℕ → Option Spot) → Import → List ℕ
-numbered_import reserved form path scope visibility cfgs spots x = import_told reserved form path scope visibility cfgs (spots x.index) x
+abbrev pub numbered_import : List (List ℕ) → Form → List ℕ → List ℕ → Option RawVisibility → List CfgView → (ℕ → Option TextRange) → (ℕ → Option Spot) → Import → List ℕ
+numbered_import reserved form path scope visibility cfgs removed spots x = import_told reserved form path scope visibility cfgs (spots x.index) (removed x.index) x
 
 -- of a declaration under these cfgs
-abbrev pub seen_import : List (List ℕ) → Form → List ℕ → List CfgView → DeclarationView → (ℕ → Option Spot) → Import → List ℕ
+abbrev pub seen_import : List (List ℕ) → Form → List ℕ → List CfgView → DeclarationView → (ℕ → Option TextRange) → (ℕ → Option Spot) → Import → List ℕ
 seen_import reserved form path cfgs d = numbered_import reserved form path (flat_map bare_segment d.path) d.visibility cfgs
 
 -- the listed imports of a declaration of this item
 abbrev pub lines_if_any : List (List ℕ) → Form → ImportChoice → Source → FilePlaces → DeclarationView → Option FileAstId → List ℕ
 lines_if_any reserved form c s places d None = []
 lines_if_any reserved form c s places d (Some id) =
-    if is_use_listed c id then of_declared (seen_import reserved form s.path (cfgs_at c id) d) (import_spot s.text places id) d.declared else []
+    if is_use_listed c id then of_declared (seen_import reserved form s.path (cfgs_at c id) d (import_removal s.text places id)) (import_spot s.text places id) d.declared else []
 
 -- the listed imports of a declaration, of which a use alone has any
 abbrev pub seen_lines : List (List ℕ) → Form → ImportChoice → Source → FilePlaces → DeclarationView → List ℕ

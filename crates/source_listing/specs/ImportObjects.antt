@@ -9,6 +9,7 @@ use Rattle.item_tree.specs.Imports.{Import}
 use Rattle.item_tree.specs.Node.{Forest}
 use Rattle.item_tree.specs.UseText.{shown_alias}
 use Rattle.tree_walk.specs.DeclarationView.{DeclarationView}
+use Rattle.line_index.specs.declared.Units.{Units}
 use Rattle.source_rows.specs.declared.finder.Spot.{Spot}
 use Rattle.source_listing.specs.Imports.{of_seen, of_uses}
 use Rattle.source_listing.specs.Objects.{column_form, line_form}
@@ -42,9 +43,9 @@ abbrev pub import_object : List (List ℕ) → (ℕ → Option Spot) → Import 
 import_object reserved spots x = import_form reserved (spots x.index) x ∷ []
 
 -- the objects of a declaration, of which a use alone has any
-abbrev pub seen_objects : List ℕ → List (List ℕ) → FilePlaces → DeclarationView → List Data
-seen_objects text reserved places d = of_seen (import_object reserved) text places d
+abbrev pub seen_objects : Units → List ℕ → List (List ℕ) → FilePlaces → DeclarationView → List Data
+seen_objects units text reserved places d = of_seen (import_object reserved) units text places d
 
 -- those of the imports of all uses, in the order in which they are written
-abbrev pub import_objects : List ℕ → List (List ℕ) → FilePlaces → Forest → List Data
-import_objects text reserved places f = of_uses (import_object reserved) text places f
+abbrev pub import_objects : Units → List ℕ → List (List ℕ) → FilePlaces → Forest → List Data
+import_objects units text reserved places f = of_uses (import_object reserved) units text places f

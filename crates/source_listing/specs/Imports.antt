@@ -10,8 +10,9 @@ use Rattle.item_tree.specs.Node.{Forest, node_ast}
 use Rattle.item_tree.specs.UseText.{shown_rename}
 use Rattle.tree_walk.specs.Declarations.{Declared, declared_name, declared_imports, declarations}
 use Rattle.tree_walk.specs.DeclarationView.{DeclarationView, view_of}
+use Rattle.line_index.specs.declared.Units.{Units}
 use Rattle.source_rows.specs.declared.finder.Spot.{Spot}
-use Rattle.source_listing.specs.Uses.{FilePlaces, import_spot}
+use Rattle.source_listing.specs.Uses.{FilePlaces, import_spot_in}
 
 -- an import as a use of it alone would be written
 abbrev pub import_text : List (List ℕ) → ImportKind → Path → Option ImportAlias → List ℕ
@@ -19,9 +20,10 @@ import_text reserved kind.Plain path alias = shown_path reserved path ++ shown_r
 import_text reserved kind.Glob path alias = shown_path reserved path ++ codes "::*"
 import_text reserved kind.TypeOnly path alias = shown_path reserved path ++ codes "::{self" ++ shown_rename reserved alias ++ codes "}"
 
-abbrev pub spots_of_any : List ℕ → FilePlaces → Option FileAstId → ℕ → Option Spot
-spots_of_any text places None index = None
-spots_of_any text places (Some id) index = import_spot text places id index
+-- by columns of these units
+abbrev pub spots_of_any : Units → List ℕ → FilePlaces → Option FileAstId → ℕ → Option Spot
+spots_of_any units text places None index = None
+spots_of_any units text places (Some id) index = import_spot_in units text places id index
 
 -- what is told of imports, by what is told of each with the places of use trees by their numbers
 module _ {A : Type 0} (each : (ℕ → Option Spot) → Import → List A) where
@@ -31,9 +33,9 @@ module _ {A : Type 0} (each : (ℕ → Option Spot) → Import → List A) where
   of_declared spots (declared_imports xs) = flat_map (each spots) xs
 
   -- of a declaration
-  abbrev pub of_seen : List ℕ → FilePlaces → DeclarationView → List A
-  of_seen text places d = of_declared (spots_of_any text places (option_map node_ast d.node)) d.declared
+  abbrev pub of_seen : Units → List ℕ → FilePlaces → DeclarationView → List A
+  of_seen units text places d = of_declared (spots_of_any units text places (option_map node_ast d.node)) d.declared
 
   -- of the imports of all uses, in the order in which they are written
-  abbrev pub of_uses : List ℕ → FilePlaces → Forest → List A
-  of_uses text places f = flat_map (λ d. of_seen text places (view_of d)) (declarations f)
+  abbrev pub of_uses : Units → List ℕ → FilePlaces → Forest → List A
+  of_uses units text places f = flat_map (λ d. of_seen units text places (view_of d)) (declarations f)

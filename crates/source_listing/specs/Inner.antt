@@ -18,7 +18,6 @@ use Rattle.rust_items.specs.declared.source_file.ItemPlace.{ItemPlace}
 use Rattle.source_rows.specs.Listed.{MemberReading}
 use Rattle.source_listing.specs.declared.json.Item as code_item
 use Rattle.source_listing.specs.declared.printer.Printer.{Printer}
-use Rattle.source_listing.specs.declared.search.Candidate as code_search
 use Rattle.source_listing.specs.declared.sought.Split as code_split
 use Rattle.source_rows.specs.Finders.{IsFinderOf, IsSameFinder}
 use Rattle.source_rows.specs.declared.finder.Spot.{Spot}
@@ -39,7 +38,6 @@ use Rattle.source_rows.specs.Places.{AreDistinct}
 use Rattle.source_listing.specs.Repeated.{Named, are_excluded, first_alike, leaf_named, node_named}
 use Rattle.source_listing.specs.ImportCfgs.{ImportChoice}
 use Rattle.source_listing.specs.Tags.{TagFile}
-use Rattle.source_listing.specs.Search.{Candidate}
 use Rattle.source_listing.specs.Sought.{Split}
 use Rattle.source_listing.specs.Uses.{FilePlaces, placed, Trees}
 
@@ -88,9 +86,6 @@ IsTaggerOf f places t = (t.path.now ≡ f.path) × (t.form ≡ f.form) × (t.lin
 abbrev pub split_view : code_split.Split → Split
 split_view s = record { scope = string_bytes s.scope; last = s.last.now }
 
-abbrev pub candidate_view : code_search.Candidate → Candidate
-candidate_view c = record { scope = c.scope.now; at = c.at; word = c.word.now; name = c.name.now; is_active = c.is_active }
-
 -- ---- objects by the ids of items
 
 abbrev pub shown_item_view : code_item.Item → ItemView
@@ -134,9 +129,6 @@ finder_text f = f.finder.lines
 
 abbrev pub places_in : TreeFinder → FilePlaces
 places_in f = placed f.finder.places f.uses.all.now
-
-abbrev pub file_in : List ℕ → TreeFinder → Source
-file_in path f = record { path = path; text = finder_text f }
 
 -- the use trees that are found are those of a text and of its items
 abbrev pub IsTreeFinderOf : List ℕ → FilePlaces → TreeFinder → Type 0

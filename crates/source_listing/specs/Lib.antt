@@ -3,6 +3,7 @@ pub mod Outlines
 pub mod Objects
 pub mod FlatObjects
 pub mod Uses
+pub mod Removals
 pub mod Told
 pub mod ImportCfgs
 pub mod ImportExclusion

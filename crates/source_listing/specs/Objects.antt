@@ -17,6 +17,7 @@ use Rattle.line_index.specs.declared.Position.{Position}
 use Rattle.line_index.specs.declared.Units.{Units}
 use Rattle.line_index.specs.declared.Units.TheVariants.{Characters}
 use Rattle.line_index.specs.Positions.{position_in}
+use Rattle.rust_paths.specs.declared.names.TextRange.{TextRange}
 use Rattle.rust_items.specs.declared.log.Problem.{Problem}
 use Rattle.rust_items.specs.declared.source_file.ItemPlace.{ItemPlace}
 use Rattle.source_rows.specs.Labels.{member_word}
@@ -72,9 +73,14 @@ abbrev pub column_form : Option Spot → Data
 column_form None = null
 column_form (Some spot) = count_form spot.position.column
 
+-- bytes, from where to where
+abbrev pub bytes_form : Option TextRange → Data
+bytes_form None = null
+bytes_form (Some range) = array (item (count_form range.start) (item (count_form range.end) no_items))
+
 abbrev pub range_form : Option Spot → Data
 range_form None = null
-range_form (Some spot) = array (item (count_form spot.range.start) (item (count_form spot.range.end) no_items))
+range_form (Some spot) = bytes_form (Some spot.range)
 
 -- ---- objects
 

@@ -1,11 +1,10 @@
 -- Imports that repeat an earlier one of their module, under cfgs that may be true together.
-use Rattle.std.specs.Prelude.{Bool, true, false, not, ◌&&◌, if◌then◌else◌, List, [], ◌∷◌, ◌++◌, ℕ, codes, decimal, map, Option, Some, None, find, bytes_eq}
+use Rattle.std.specs.Prelude.{Bool, true, false, not, ◌&&◌, if◌then◌else◌, List, [], ◌∷◌, ◌++◌, ℕ, codes, decimal, map, Option, Some, None, find, flat_map, bytes_eq}
 use Rattle.hir_input.specs.declared.ids.FileAstId.{FileAstId}
 use Rattle.item_tree.specs.Imports.{Import, imports}
 use Rattle.item_tree.specs.Node.{Leaf, use_item, Node, leaf, parent, Forest, empty, more, node_ast}
 use Rattle.line_index.specs.declared.Position.{Position}
 use Rattle.source_rows.specs.declared.finder.Spot.{Spot}
-use Rattle.source_listing.specs.Lines.{Source}
 use Rattle.source_listing.specs.Imports.{import_text}
 use Rattle.source_rows.specs.Places.{is_id, item_place}
 use Rattle.list_forms.specs.Colors.{bold_code, colored_text, faint_code}
@@ -59,6 +58,26 @@ is_alike c x y = (is_one_around x.around y.around && bytes_eq x.text y.text) && 
 abbrev pub first_alike : ImportChoice → Named → List Named → Option Named
 first_alike c x ys = find (is_alike c x) ys
 
+-- an import that repeats an earlier one: its place, how a use of it alone would be written, and where the first that is alike stands
+pub record Repeat : Type 0 where
+  pub spot : Option Spot
+  pub text : List ℕ
+  pub first : Option Spot
+
+-- an import, if there is one that is alike
+abbrev pub repeat_if_any : Named → Option Named → List Repeat
+repeat_if_any x None = []
+repeat_if_any x (Some first) = record { spot = x.spot; text = x.text; first = first.spot } ∷ []
+
+-- those among these that repeat one of them, or one of those before
+abbrev pub repeats : ImportChoice → List Named → List Named → List Repeat
+repeats c before [] = []
+repeats c before (x ∷ xs) = repeat_if_any x (first_alike c x before) ++ repeats c (before ++ x ∷ []) xs
+
+-- the listed imports of a text that repeat an earlier one of their module, in the order in which they are written
+abbrev pub repeated_imports : List ℕ → List (List ℕ) → ImportChoice → FilePlaces → Forest → List Repeat
+repeated_imports text reserved c places f = repeats c [] (forest_named text places reserved c None f)
+
 abbrev pub position_text : List ℕ → Position → List ℕ
 position_text path p = path ++ codes ":" ++ decimal p.line ++ codes ":" ++ decimal p.column
 
@@ -66,21 +85,11 @@ abbrev pub spot_text : List ℕ → Option Spot → List ℕ
 spot_text path None = path
 spot_text path (Some spot) = position_text path spot.position
 
-module _ (is_colored : Bool) (path : List ℕ) where
-  -- the place of an import, the import, and the place of the first that is alike
-  abbrev pub repeat_line : Named → Named → List ℕ
-  repeat_line x first =
-      colored_text is_colored faint_code (item_place path x.spot) ++ colored_text is_colored bold_code x.text ++ codes " (again, first at " ++ spot_text path first.spot ++ codes ")\n"
+-- the place of an import, the import, and the place of the first that is alike
+abbrev pub repeat_line : Bool → List ℕ → Repeat → List ℕ
+repeat_line is_colored path r =
+    colored_text is_colored faint_code (item_place path r.spot) ++ colored_text is_colored bold_code r.text ++ codes " (again, first at " ++ spot_text path r.first ++ codes ")\n"
 
-  abbrev pub line_if_any : Named → Option Named → List ℕ
-  line_if_any x None = []
-  line_if_any x (Some first) = repeat_line x first
-
-  -- the lines of those among these that repeat one of them, or one of those before
-  abbrev pub repeat_lines : ImportChoice → List Named → List Named → List ℕ
-  repeat_lines c before [] = []
-  repeat_lines c before (x ∷ xs) = line_if_any x (first_alike c x before) ++ repeat_lines c (before ++ x ∷ []) xs
-
--- a line for each listed import that repeats an earlier one of its module, in the order in which they are written
-abbrev pub repeated_lines : Bool → Source → List (List ℕ) → ImportChoice → FilePlaces → Forest → List ℕ
-repeated_lines is_colored s reserved c places f = repeat_lines is_colored s.path c [] (forest_named s.text places reserved c None f)
+-- a line for each
+abbrev pub repeat_lines : Bool → List ℕ → List Repeat → List ℕ
+repeat_lines is_colored path rs = flat_map (repeat_line is_colored path) rs

@@ -53,6 +53,7 @@ is_sought_scope q scope = is_sought_path q.scope q.is_anywhere (as_compared q.ig
 abbrev pub is_shown : Query → Bool → Bool
 is_shown q is_active = not q.only_active || is_active
 
+-- whether an item or a member is looked for
 abbrev pub is_found : Query → Candidate → Bool
 is_found q c = is_shown q c.is_active && (has_kind q c.word && (is_sought_name q c.name && is_sought_scope q c.scope))
 

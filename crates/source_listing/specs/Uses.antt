@@ -1,7 +1,9 @@
 -- Where imports are written.
 use Rattle.std.specs.Prelude.{ℕ, if◌then◌else◌, nat_lt, List, [], ◌∷◌, Option, option_map, slice_get, unwrap_or}
 use Rattle.hir_input.specs.declared.ids.FileAstId.{FileAstId}
-use Rattle.line_index.specs.Positions.{position_of}
+use Rattle.line_index.specs.declared.Units.{Units}
+use Rattle.line_index.specs.declared.Units.TheVariants.{Characters}
+use Rattle.line_index.specs.Positions.{position_in}
 use Rattle.rust_items.specs.declared.source_file.ItemPlace.{ItemPlace}
 use Rattle.source_rows.specs.declared.finder.Spot.{Spot}
 use Rattle.source_rows.specs.Places.{place_of, stands_at}
@@ -28,13 +30,24 @@ pub record Trees : Type 0 where
 abbrev pub use_trees_at : List ℕ → ItemPlace → Trees
 use_trees_at use_trees p = record { place = p; starts = from_place p.range.start use_trees }
 
--- a use tree stands at its first byte
-abbrev pub tree_spot : List ℕ → ℕ → Trees → Spot
-tree_spot text index t = record { position = position_of text (unwrap_or (slice_get t.starts index) (stands_at t.place)); range = t.place.range }
+-- where a use tree begins
+abbrev pub tree_start : ℕ → Trees → ℕ
+tree_start index t = unwrap_or (slice_get t.starts index) (stands_at t.place)
 
-abbrev pub tree_spots : List ℕ → Option Trees → ℕ → Option Spot
-tree_spots text trees index = option_map (tree_spot text index) trees
+-- it stands at its first byte, by columns of these units
+abbrev pub tree_spot : Units → List ℕ → ℕ → Trees → Spot
+tree_spot units text index t = record { position = position_in units text (tree_start index t); range = t.place.range }
+
+abbrev pub tree_spots_in : Units → List ℕ → Option Trees → ℕ → Option Spot
+tree_spots_in units text trees index = option_map (tree_spot units text index) trees
 
 -- where the use tree of this number stands in the item of an id
+abbrev pub import_spot_in : Units → List ℕ → FilePlaces → FileAstId → ℕ → Option Spot
+import_spot_in units text places id = tree_spots_in units text (option_map (use_trees_at places.use_trees) (place_of id places.items))
+
+-- the same by columns of characters
+abbrev pub tree_spots : List ℕ → Option Trees → ℕ → Option Spot
+tree_spots = tree_spots_in Characters
+
 abbrev pub import_spot : List ℕ → FilePlaces → FileAstId → ℕ → Option Spot
-import_spot text places id = tree_spots text (option_map (use_trees_at places.use_trees) (place_of id places.items))
+import_spot = import_spot_in Characters

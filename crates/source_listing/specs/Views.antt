@@ -8,6 +8,7 @@ use Rattle.source_listing.specs.declared.import_cfgs.ImportChoice as code_import
 use Rattle.source_listing.specs.ImportCfgs.{ImportChoice, UseCfgs}
 use Rattle.source_listing.specs.declared.lines.Choice as code_choice
 use Rattle.source_listing.specs.declared.patterns.Pattern as code_pattern
+use Rattle.source_listing.specs.declared.search.Candidate as code_candidate
 use Rattle.source_listing.specs.declared.search.Query as code_query
 use Rattle.source_listing.specs.declared.sought.SoughtPath as code_sought
 use Rattle.source_listing.specs.Sought.{Sought}
@@ -17,7 +18,9 @@ use Rattle.source_listing.specs.declared.line_searches.Line as code_line
 use Rattle.source_listing.specs.Outlines.{Look}
 use Rattle.source_listing.specs.LineSearches.{TextLine}
 use Rattle.source_listing.specs.Patterns.{Pattern}
-use Rattle.source_listing.specs.Search.{Query}
+use Rattle.source_listing.specs.Search.{Candidate, Query}
+use Rattle.source_listing.specs.declared.repeated.RepeatedImport as code_repeat
+use Rattle.source_listing.specs.Repeated.{Repeat}
 
 -- a choice of items as plain data
 abbrev pub choice_view : code_choice.Choice → Choice
@@ -25,7 +28,7 @@ choice_view c = record { depth = c.depth; only_active = c.only_active }
 
 -- which lines are written and how, as plain data
 abbrev pub look_view : code_look.Look → Look
-look_view k = record { choice = choice_view k.choice; is_colored = k.is_colored; is_flat = k.is_flat }
+look_view k = record { choice = choice_view k.choice; is_colored = k.is_colored; is_flat = k.is_flat; has_imports = k.has_imports }
 
 -- what is looked for, as plain data
 abbrev pub query_view : code_query.Query → Query
@@ -38,6 +41,10 @@ query_view q = record {
   only_active = q.only_active;
   form = q.form;
 }
+
+-- an item or a member with a name, as plain data
+abbrev pub candidate_view : code_candidate.Candidate → Candidate
+candidate_view c = record { scope = c.scope.now; at = c.at; word = c.word.now; name = c.name.now; is_active = c.is_active }
 
 -- a path that is looked for, as plain data
 abbrev pub sought_view : code_sought.SoughtPath → Sought
@@ -58,3 +65,7 @@ use_cfgs_view u = record { id = u.id; cfgs = map cfg_view u.cfgs.items }
 -- which imports are listed, as plain data
 abbrev pub import_choice_view : code_imports.ImportChoice → ImportChoice
 import_choice_view c = record { uses = map use_cfgs_view c.uses.now; active_under = option_copied c.active_under }
+
+-- an import that repeats an earlier one, as plain data
+abbrev pub repeated_import_view : code_repeat.RepeatedImport → Repeat
+repeated_import_view r = record { spot = r.spot; text = string_bytes r.text; first = r.first }

@@ -10,6 +10,7 @@ ghost use Rattle.source_listing.specs.FlatObjects as spec;
 ghost use Rattle.source_listing.specs.Inner.{IsSameFile, file_of, flat_members, places_of};
 ghost use Rattle.source_listing.specs.Inner.{reserved_of, shown_item_view};
 ghost use Rattle.source_listing.specs.Objects.{item_entry, member_entry};
+ghost use Rattle.source_listing.specs.Uses.{placed};
 ghost use Rattle.source_listing.specs.Views.{choice_view, source_view};
 
 use crate::json::{Item, put_item, put_listed, put_stand};
@@ -17,6 +18,7 @@ use crate::lines::Choice;
 use crate::printer::Printer;
 use crate::search::holder;
 use crate::tags::names_around;
+use crate::use_places::UsePlaces;
 use crate::values::put_text;
 use hir_input::{Edition, Name};
 use hir_input_json::member::Members;
@@ -53,7 +55,7 @@ fn names_value(alloc: Global, names: &[&Name]) -> Result<Value, AllocError>
 }
 
 /// The object of what these members tell of, which stands there in a file and in these names.
-fn flat_object(
+pub(crate) fn flat_object(
     alloc: Global,
     path: &str,
     scope: &[&Name],
@@ -204,10 +206,12 @@ impl Printer<'_> {
         self.push_flat_members(alloc, &scope, &members, out)
     }
 
-    /// The line of an item, and those of its chosen members.
+    /// The line of an item, and those of its chosen members and of its imports, if these are asked for.
     fn push_flat(
         &mut self,
         alloc: Global,
+        uses: &mut UsePlaces<'_>,
+        has_imports: bool,
         reading: Reading<'_>,
         choice: Choice,
         row: &Row<'_>,
@@ -216,22 +220,27 @@ impl Printer<'_> {
         requires { AreDistinct (places_of self.old) }
         ensures text { let lines = spec.flat_found (file_of self.old) (reading_view reading.entry)
             (reserved_of self.old) in
-            let lines = lines (places_of self.old) (choice_view choice) (row_view row.now) in
+            let lines = lines (placed (places_of self.old) uses.old.all.now) has_imports in
+            let lines = lines (choice_view choice) (row_view row.now) in
             OnOk result (string_bytes out.new ≡ string_bytes out.old ++ lines) }
         ensures same { IsSameFile self.old self.new }
+        ensures uses { uses.new.all.now ≡ uses.old.all.now }
     {
         let place = self.finder.places.find(row.id);
         let header = reading.header(alloc, row.id.kind, place)?;
         self.push_flat_item(alloc, &header, row, place, out)?;
-        self.push_flat_inside(alloc, reading, choice, row, place, out)
+        self.push_flat_inside(alloc, reading, choice, row, place, out)?;
+        self.push_flat_opened(alloc, uses, has_imports, choice, row, place, out)
     }
 }
 
 /// A line of JSON for each chosen item of a file's tree, before those of the items in it, and behind it those of its
 /// chosen members, if cfgs are given for these: an object as `outline_items` has it, without `children`, with the path
-/// of the `file`, and with the names of the modules around it, and of its item or the type of its impl, as `scope`.
+/// of the `file`, and with the names of the modules around it, and of its item or the type of its impl, as `scope`. If
+/// imports are asked for, each import of a use that has a list has a line too: an object without an id, whose `path` is
+/// that of a use of it alone.
 ///
-/// The places are those that the reader gave with the syntax of the tree.
+/// The places, and those of the use trees, are those that the reader gave with the syntax of the tree.
 ///
 /// # Errors
 ///
@@ -240,21 +249,33 @@ pub fn flat_lines(
     alloc: Global,
     source: Source<'_>,
     places: &[ItemPlace],
+    use_trees: &[usize],
     tree: &ItemTree,
     edition: &Edition,
     reading: Reading<'_>,
     choice: Choice,
+    has_imports: bool,
 ) -> Result<String, AllocError>
     requires { AreDistinct places.now }
     ensures { let s = source_view source.entry in
-        let lines = spec.flat_lines s (reading_view reading.entry) edition.now.reserved.items places.now in
+        let lines = spec.flat_lines s (reading_view reading.entry) edition.now.reserved.items in
+        let lines = lines (placed places.now use_trees.now) has_imports in
         IfOk result (λ text. string_bytes text ≡ lines (choice_view choice) (rows.rows tree.now)) }
 {
     let mut printer = Printer::new(source, places, edition);
+    let mut uses = UsePlaces::new(use_trees);
     let mut out = String::new(alloc);
     let rows = choice.rows(alloc, tree)?;
     for row in &rows {
-        printer.push_flat(alloc, reading, choice, row, &mut out)?;
+        printer.push_flat(
+            alloc,
+            &mut uses,
+            has_imports,
+            reading,
+            choice,
+            row,
+            &mut out,
+        )?;
     }
     Ok(out)
 }

@@ -1,8 +1,8 @@
 //! What is found, as JSON values.
 ghost use Rattle.std.specs.Prelude.{◌≡◌, IfOk};
 ghost use Rattle.serde_json.specs.View.{view};
-ghost use Rattle.source_listing.specs.Inner.{candidate_view};
 ghost use Rattle.source_listing.specs.Search as spec;
+ghost use Rattle.source_listing.specs.Views.{candidate_view};
 
 use crate::search::Candidate;
 use crate::sought::joined_scope;

@@ -8,13 +8,14 @@ ghost use Rattle.item_tree.specs.Shown.{IsContained};
 ghost use Rattle.source_listing.specs.ImportObjects as spec;
 ghost use Rattle.source_listing.specs.Inner.{FindsTrees, IsSameTreeFinder, places_in, finder_text, placed_trees_view};
 ghost use Rattle.source_rows.specs.Places.{AreDistinct};
-ghost use Rattle.source_listing.specs.Uses.{placed, tree_spots};
+ghost use Rattle.source_listing.specs.Uses.{placed, tree_spots_in};
 
 use crate::uses::{TreeFinder, UseTrees};
 use crate::values::{column_value, line_value, put_text};
 use hir_input::Edition;
 use hir_input_json::member::Members;
 use item_tree::{ImportAlias, ImportKind, ItemTree};
+use line_index::Units;
 use rust_items::ItemPlace;
 use serde_json::{Map, Value, put};
 use source_rows::Spot;
@@ -89,19 +90,20 @@ fn import_value(
 fn push_imports(
     alloc: Global,
     edition: &Edition,
+    units: Units,
     finder: &mut TreeFinder<'_>,
     trees: Option<UseTrees<'_>>,
     imports: &[Listed],
     out: &mut Vec<Value>,
 ) -> Result<(), AllocError>
-    ensures objects { let spots = tree_spots (finder_text finder.old)
+    ensures objects { let spots = tree_spots_in units (finder_text finder.old)
         (option_map placed_trees_view trees.entry) in
         let objects = flat_map (spec.import_object edition.now.reserved.items spots) (map listed_import imports.now) in
         OnOk result (map view out.new.items ≡ map view out.old.items ++ objects) }
     ensures same { IsSameTreeFinder finder.old finder.new }
 {
     for import in imports {
-        let spot = finder.spot(trees, import.index);
+        let spot = finder.spot_in(units, trees, import.index);
         out.push(import_value(alloc, edition, spot, import)?)?;
     }
     Ok(())
@@ -111,6 +113,7 @@ fn push_imports(
 fn push_declaration(
     alloc: Global,
     edition: &Edition,
+    units: Units,
     finder: &mut TreeFinder<'_>,
     tree: &ItemTree,
     declaration: &Declaration<'_>,
@@ -118,7 +121,7 @@ fn push_declaration(
 ) -> Result<(), AllocError>
     requires finds { FindsTrees finder.old }
     requires contained { IsContained tree.now declaration.now.id }
-    ensures objects { let objects = spec.seen_objects
+    ensures objects { let objects = spec.seen_objects units
         (finder_text finder.old) edition.now.reserved.items (places_in finder.old) in
         let seen = objects (declaration_view tree.now declaration.now) in
         OnOk result (map view out.new.items ≡ map view out.old.items ++ seen) }
@@ -128,15 +131,15 @@ fn push_declaration(
         Declares::Name(_) => Ok(()),
         Declares::Imports(imports) => {
             let trees = finder.find(declaration.id.ast_id(tree));
-            push_imports(alloc, edition, finder, trees, imports, out)
+            push_imports(alloc, edition, units, finder, trees, imports, out)
         }
     }
 }
 
 /// The imports of a file as values, in the order in which they are written, each an object with the `line` and the
-/// `column` of its own use tree, its `path`, the word of its `kind` (`plain`; `glob` for all names of the path; `type`
-/// for a name in the type namespace alone, by `self` in a list), and what it is renamed to as its `alias`, which is
-/// null where it is not. What a cfg disables is not left out.
+/// `column` of its own use tree, by columns of these units, its `path`, the word of its `kind` (`plain`; `glob` for all
+/// names of the path; `type` for a name in the type namespace alone, by `self` in a list), and what it is renamed to as
+/// its `alias`, which is null where it is not. What a cfg disables is not left out.
 ///
 /// The places, and those of the use trees, are what the reader gave with the syntax of the tree.
 ///
@@ -150,9 +153,10 @@ pub fn import_items(
     use_trees: &[usize],
     tree: &ItemTree,
     edition: &Edition,
+    units: Units,
 ) -> Result<Vec<Value>, AllocError>
     requires { AreDistinct places.now }
-    ensures { let objects = spec.import_objects text.now edition.now.reserved.items
+    ensures { let objects = spec.import_objects units text.now edition.now.reserved.items
         (placed places.now use_trees.now) in
         IfOk result (λ items. map view items.items ≡ objects tree.now.forest) }
 {
@@ -160,7 +164,15 @@ pub fn import_items(
     let mut out = Vec::new(alloc);
     let collected = collect(alloc, tree)?;
     for declaration in &collected.declarations {
-        push_declaration(alloc, edition, &mut finder, tree, declaration, &mut out)?;
+        push_declaration(
+            alloc,
+            edition,
+            units,
+            &mut finder,
+            tree,
+            declaration,
+            &mut out,
+        )?;
     }
     Ok(out)
 }

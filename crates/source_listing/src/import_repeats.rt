@@ -1,14 +1,14 @@
 //! Lines of imports that repeat an earlier one.
-ghost use Rattle.std.specs.Prelude.{◌≡◌, ◌++◌, OnOk, option_map, string_bytes};
+ghost use Rattle.std.specs.Prelude.{◌≡◌, ◌++◌, IfOk, OnOk, map, string_bytes};
 ghost use Rattle.list_forms.specs.Colors.{bold_code, colored_text, faint_code};
-ghost use Rattle.source_listing.specs.Inner.{listed_named_view};
 ghost use Rattle.source_listing.specs.Repeated as spec;
+ghost use Rattle.source_listing.specs.Views.{repeated_import_view};
 
 use crate::lines::push_spot;
-use crate::repeated::Named;
+use crate::repeated::RepeatedImport;
 use list_forms::{BOLD, FAINT, USUAL, push_color, push_colored};
 use source_rows::Spot;
-use std::alloc::AllocError;
+use std::alloc::{AllocError, Global};
 
 /// Where something stands, with nothing behind it.
 fn push_spot_alone(path: &str, spot: Option<Spot>, out: &mut String) -> Result<(), AllocError>
@@ -28,37 +28,40 @@ fn push_spot_alone(path: &str, spot: Option<Spot>, out: &mut String) -> Result<(
 fn push_repeat(
     is_colored: bool,
     path: &str,
-    import: &Named,
-    first: &Named,
+    repeat: &RepeatedImport,
     out: &mut String,
 ) -> Result<(), AllocError>
-    ensures { let line = spec.repeat_line is_colored path.now (listed_named_view import.now) in
-        let line = line (listed_named_view first.now) in
+    ensures { let line = spec.repeat_line is_colored path.now (repeated_import_view repeat.now) in
         OnOk result (string_bytes out.new ≡ string_bytes out.old ++ line) }
 {
     push_color(is_colored, FAINT, out)?;
-    push_spot(path, import.spot, out)?;
+    push_spot(path, repeat.spot, out)?;
     push_color(is_colored, USUAL, out)?;
-    push_colored(is_colored, BOLD, &import.text, out)?;
+    push_colored(is_colored, BOLD, &repeat.text, out)?;
     out.push_str(" (again, first at ")?;
-    push_spot_alone(path, first.spot, out)?;
+    push_spot_alone(path, repeat.first, out)?;
     out.push_str(")\n")
 }
 
-/// The line of an import, if there is one that is alike.
-pub(crate) fn push_if_any(
-    is_colored: bool,
+/// A line for each import that repeats an earlier one: file, line and column of its own use tree, the import as a use
+/// of it alone would be written, and where the first that is written so stands. In colour, places are faint and
+/// imports bold.
+///
+/// # Errors
+///
+/// Only if memory runs out.
+pub fn repeat_lines(
+    alloc: Global,
     path: &str,
-    import: &Named,
-    alike: Option<&Named>,
-    out: &mut String,
-) -> Result<(), AllocError>
-    ensures { let alike = option_map (λ b. listed_named_view b.now) alike.entry in
-        let line = spec.line_if_any is_colored path.now (listed_named_view import.now) alike in
-        OnOk result (string_bytes out.new ≡ string_bytes out.old ++ line) }
+    repeats: &[RepeatedImport],
+    is_colored: bool,
+) -> Result<String, AllocError>
+    ensures { let lines = spec.repeat_lines is_colored path.now (map repeated_import_view repeats.now) in
+        IfOk result (λ text. string_bytes text ≡ lines) }
 {
-    match alike {
-        None => Ok(()),
-        Some(first) => push_repeat(is_colored, path, import, first, out),
+    let mut out = String::new(alloc);
+    for repeat in repeats {
+        push_repeat(is_colored, path, repeat, &mut out)?;
     }
+    Ok(out)
 }

@@ -11,9 +11,10 @@ ghost use Rattle.serde_json.specs.View.{members_view, view};
 ghost use Rattle.source_listing.specs.ImportLines as spec;
 ghost use Rattle.source_listing.specs.Imports.{import_text, of_declared};
 ghost use Rattle.source_listing.specs.Paths.{bare_segment};
-ghost use Rattle.source_listing.specs.Inner.{FindsTrees, IsSameTreeFinder, file_in, places_in, finder_text};
+ghost use Rattle.source_listing.specs.Inner.{FindsTrees, IsSameTreeFinder, places_in, finder_text};
 ghost use Rattle.source_listing.specs.Inner.{placed_trees_view};
 ghost use Rattle.source_rows.specs.Places.{AreDistinct};
+ghost use Rattle.source_listing.specs.Removals.{import_removal, removals};
 ghost use Rattle.source_listing.specs.Uses.{import_spot, placed, tree_spots};
 ghost use Rattle.source_listing.specs.Views.{import_choice_view, source_view};
 ghost use Rattle.hir_input.specs.Cfg.{cfg_view};
@@ -22,13 +23,15 @@ use crate::import_cfgs::ImportChoice;
 use crate::import_objects::put_import;
 use crate::lines::push_spot;
 use crate::paths::push_scope;
+use crate::removals::removal_of;
 use crate::sought::joined_scope;
 use crate::uses::{TreeFinder, UseTrees};
-use crate::values::{put_text, range_value, visibility_value};
+use crate::values::{bytes_value, put_text, range_value, visibility_value};
 use hir_input::{CfgExpr, Edition, FileAstId};
 use item_tree::{ImportAlias, ImportKind, ItemTree, RawVisibility};
 use list_forms::{BOLD, FAINT, Form, USUAL, push_color, value_line};
 use rust_items::ItemPlace;
+use rust_paths::TextRange;
 use serde_json::{Map, Value, put};
 use source_rows::{Source, Spot};
 use std::alloc::{AllocError, Global};
@@ -79,7 +82,7 @@ pub(crate) fn push_import_text(
 #[derive(Clone, Copy)]
 struct Around<'a> {
     form: Form,
-    path: &'a str,
+    source: Source<'a>,
     /// The modules around it, with two colons before each.
     scope: &'a str,
     visibility: Option<&'a RawVisibility>,
@@ -124,19 +127,21 @@ fn file_import_object(
     edition: &Edition,
     around: Around<'_>,
     spot: Option<Spot>,
+    removal: Option<TextRange>,
     import: &Listed,
 ) -> Result<Value, AllocError>
     ensures { let a = around.entry in
-        let object = spec.file_import_object edition.now.reserved.items a.path.now a.scope.now in
+        let object = spec.file_import_object edition.now.reserved.items a.source.path.now a.scope.now in
         let object = object (option_copied a.visibility) (map cfg_view a.cfgs.now) in
-        IfOk result (λ value. view value ≡ object spot (listed_import import.now)) }
+        IfOk result (λ value. view value ≡ object spot removal (listed_import import.now)) }
 {
     let mut members = Map::new(alloc);
     put_import(alloc, edition, spot, import, &mut members)?;
     put(&mut members, alloc, "cfg", cfgs_value(alloc, around.cfgs)?)?;
-    put_text(alloc, "file", around.path, &mut members)?;
+    put_text(alloc, "file", around.source.path, &mut members)?;
     put_text(alloc, "module", joined_scope(around.scope), &mut members)?;
     put(&mut members, alloc, "range", range_value(alloc, spot)?)?;
+    put(&mut members, alloc, "removal", bytes_value(alloc, removal)?)?;
     let visibility = visibility_value(alloc, edition, around.visibility)?;
     put(&mut members, alloc, "visibility", visibility)?;
     Ok(Value::Object(members))
@@ -147,15 +152,17 @@ fn push_object(
     edition: &Edition,
     around: Around<'_>,
     spot: Option<Spot>,
+    removal: Option<TextRange>,
     import: &Listed,
     out: &mut String,
 ) -> Result<(), AllocError>
     ensures { let a = around.entry in
-        let told = spec.import_told edition.now.reserved.items Json a.path.now a.scope.now in
-        let line = told (option_copied a.visibility) (map cfg_view a.cfgs.now) spot (listed_import import.now) in
+        let told = spec.import_told edition.now.reserved.items Json a.source.path.now a.scope.now in
+        let told = told (option_copied a.visibility) (map cfg_view a.cfgs.now) in
+        let line = told spot removal (listed_import import.now) in
         OnOk result (string_bytes out.new ≡ string_bytes out.old ++ line) }
 {
-    let object = file_import_object(alloc, edition, around, spot, import)?;
+    let object = file_import_object(alloc, edition, around, spot, removal, import)?;
     let line = value_line(alloc, &object)?;
     out.push_str(&line)
 }
@@ -164,20 +171,27 @@ fn push_import(
     alloc: Global,
     edition: &Edition,
     around: Around<'_>,
+    trees: Option<UseTrees<'_>>,
     spot: Option<Spot>,
     import: &Listed,
     out: &mut String,
 ) -> Result<(), AllocError>
     ensures { let a = around.entry in
-        let told = spec.import_told edition.now.reserved.items a.form a.path.now a.scope.now in
-        let line = told (option_copied a.visibility) (map cfg_view a.cfgs.now) spot (listed_import import.now) in
+        let removed = removals a.source.text.now (option_map placed_trees_view trees.entry) in
+        let import = listed_import import.now in
+        let told = spec.import_told edition.now.reserved.items a.form a.source.path.now a.scope.now in
+        let told = told (option_copied a.visibility) (map cfg_view a.cfgs.now) in
+        let line = told spot (removed import.index) import in
         OnOk result (string_bytes out.new ≡ string_bytes out.old ++ line) }
 {
     match around.form {
         Form::Line { is_colored } => {
-            push_line(edition, is_colored, around.path, spot, import, out)
+            push_line(edition, is_colored, around.source.path, spot, import, out)
         }
-        Form::Json => push_object(alloc, edition, around, spot, import, out),
+        Form::Json => {
+            let removal = removal_of(around.source.text, trees, import.index);
+            push_object(alloc, edition, around, spot, removal, import, out)
+        }
     }
 }
 
@@ -192,15 +206,16 @@ fn push_imports(
     out: &mut String,
 ) -> Result<(), AllocError>
     ensures text { let a = around.entry in
-        let spots = tree_spots (finder_text finder.old) (option_map placed_trees_view trees.entry) in
-        let line = spec.numbered_import edition.now.reserved.items a.form a.path.now a.scope.now in
-        let line = line (option_copied a.visibility) (map cfg_view a.cfgs.now) spots in
+        let trees = option_map placed_trees_view trees.entry in
+        let line = spec.numbered_import edition.now.reserved.items a.form a.source.path.now a.scope.now in
+        let line = line (option_copied a.visibility) (map cfg_view a.cfgs.now) in
+        let line = line (removals a.source.text.now trees) (tree_spots (finder_text finder.old) trees) in
         OnOk result (string_bytes out.new ≡ string_bytes out.old ++ flat_map line (map listed_import imports.now)) }
     ensures same { IsSameTreeFinder finder.old finder.new }
 {
     for import in imports {
         let spot = finder.spot(trees, import.index);
-        push_import(alloc, edition, around, spot, import, out)?;
+        push_import(alloc, edition, around, trees, spot, import, out)?;
     }
     Ok(())
 }
@@ -221,7 +236,7 @@ fn push_under(
     alloc: Global,
     edition: &Edition,
     form: Form,
-    path: &str,
+    source: Source<'_>,
     finder: &mut TreeFinder<'_>,
     id: FileAstId,
     cfgs: &[CfgExpr],
@@ -230,9 +245,9 @@ fn push_under(
 ) -> Result<(), AllocError>
     requires finds { FindsTrees finder.old }
     ensures text { let d = declaration.now in
-        let told = spec.numbered_import edition.now.reserved.items form path.now in
+        let told = spec.numbered_import edition.now.reserved.items form source.entry.path.now in
         let told = told (flat_map bare_segment (map (λ n. n.now) d.path.value.items)) (option_copied d.visibility) in
-        let told = told (map cfg_view cfgs.now) in
+        let told = told (map cfg_view cfgs.now) (import_removal source.entry.text.now (places_in finder.old) id) in
         let lines = of_declared told (import_spot (finder_text finder.old) (places_in finder.old) id) in
         OnOk result (string_bytes out.new ≡ string_bytes out.old ++ lines (declared_by d.declares)) }
     ensures same { IsSameTreeFinder finder.old finder.new }
@@ -243,7 +258,7 @@ fn push_under(
             let scope = scope_of(alloc, declaration)?;
             let around = Around {
                 form,
-                path,
+                source,
                 scope: &scope,
                 visibility: declaration.visibility,
                 cfgs,
@@ -260,16 +275,17 @@ fn push_declaration(
     edition: &Edition,
     form: Form,
     choice: ImportChoice<'_>,
-    path: &str,
+    source: Source<'_>,
     finder: &mut TreeFinder<'_>,
     tree: &ItemTree,
     declaration: &Declaration<'_>,
     out: &mut String,
 ) -> Result<(), AllocError>
     requires finds { FindsTrees finder.old }
+    requires text { finder_text finder.old ≡ source.text.now }
     requires contained { IsContained tree.now declaration.now.id }
     ensures text { let lines = spec.seen_lines edition.now.reserved.items form (import_choice_view choice.entry)
-        (file_in path.now finder.old) (places_in finder.old) in
+        (source_view source.entry) (places_in finder.old) in
         OnOk result (string_bytes out.new ≡ string_bytes out.old ++ lines (declaration_view tree.now declaration.now)) }
     ensures same { IsSameTreeFinder finder.old finder.new }
 {
@@ -282,7 +298,7 @@ fn push_declaration(
         alloc,
         edition,
         form,
-        path,
+        source,
         finder,
         id,
         cfgs,
@@ -294,8 +310,8 @@ fn push_declaration(
 /// The listed imports of a file, in the order in which they are written. Each is a line: file, line and column of its
 /// own use tree, and the import as a use of it alone would be written. Or it is a JSON object on a line: what
 /// `import_items` has, the texts of the cfgs under which its use stands as `cfg`, the `file`, the names of the modules
-/// around it as `module`, with two colons between each two, the `visibility` of its use, and the bytes of that, with
-/// its attributes, as `range`.
+/// around it as `module`, with two colons between each two, the `visibility` of its use, the bytes of that, with its
+/// attributes, as `range`, and as `removal` those that must go for the import to go.
 ///
 /// The places, and those of the use trees, are what the reader gave with the syntax of the tree.
 ///
@@ -320,7 +336,6 @@ pub fn import_lines(
 {
     let mut finder = TreeFinder::new(source.text, places, use_trees);
     let mut out = String::new(alloc);
-    let path = source.path;
     let collected = collect(alloc, tree)?;
     for declaration in &collected.declarations {
         push_declaration(
@@ -328,7 +343,7 @@ pub fn import_lines(
             edition,
             form,
             choice,
-            path,
+            source,
             &mut finder,
             tree,
             declaration,

@@ -46,7 +46,7 @@ impl Choice {
     }
 
     /// Whether a member of an item in so many others is listed.
-    fn takes_inside(self, level: usize, is_active: bool) -> bool
+    pub(crate) fn takes_inside(self, level: usize, is_active: bool) -> bool
         ensures { result ≡ spec.is_chosen (choice_view self) (level + 1) is_active }
     {
         let is_within = match self.depth {

@@ -8,6 +8,7 @@ ghost use Rattle.source_listing.specs.Inner.{IsSameFile, file_of, places_of, res
 ghost use Rattle.source_listing.specs.Lines.{at_text, indent};
 ghost use Rattle.source_listing.specs.Outlines as spec;
 ghost use Rattle.source_rows.specs.Places.{AreDistinct};
+ghost use Rattle.source_listing.specs.Uses.{placed};
 ghost use Rattle.source_listing.specs.Views.{look_view, source_view};
 
 use crate::lines::{Choice, push_end, push_indent, push_visibility};
@@ -15,6 +16,7 @@ use crate::printer::Printer;
 use crate::search::holder;
 use crate::subjects::push_subject;
 use crate::tags::names_around;
+use crate::use_places::UsePlaces;
 use hir_input::{Edition, Name};
 use item_tree::ItemTree;
 use list_forms::{BOLD, CYAN, FAINT, USUAL, push_color, push_colored};
@@ -31,11 +33,20 @@ pub struct Look {
     pub is_colored: bool,
     /// Whether names stand behind those of what is around them, in place of blanks at the beginning.
     pub is_flat: bool,
+    /// Whether the imports of a use that has a list have lines.
+    pub has_imports: bool,
 }
 
 impl Look {
+    /// Whether the imports of an item have lines, if that is a use.
+    pub(crate) fn opens(self, row: &Row<'_>) -> bool
+        ensures { result ≡ spec.is_opened (look_view self) (row_view row.now) }
+    {
+        self.has_imports && self.choice.takes_inside(row.level, row.is_active)
+    }
+
     /// How deep a line is told to be.
-    fn level(self, level: usize) -> usize
+    pub(crate) fn level(self, level: usize) -> usize
         ensures { result ≡ spec.shown_level (look_view self) level }
     {
         if self.is_flat { 0 } else { level }
@@ -138,7 +149,7 @@ impl Printer<'_> {
     }
 
     /// The same, and four blanks for each level.
-    fn push_head(
+    pub(crate) fn push_head(
         &mut self,
         is_colored: bool,
         at: Option<usize>,
@@ -245,10 +256,11 @@ impl Printer<'_> {
         self.push_members_in(look, row.level, &scope, &members, out)
     }
 
-    /// The line of an item, and those of its chosen members.
+    /// The line of an item, and those of its chosen members and of its imports.
     fn push_whole(
         &mut self,
         alloc: Global,
+        uses: &mut UsePlaces<'_>,
         reading: Reading<'_>,
         look: Look,
         row: &Row<'_>,
@@ -257,14 +269,16 @@ impl Printer<'_> {
         requires { AreDistinct (places_of self.old) }
         ensures text { let lines = spec.whole_lines (file_of self.old) (reading_view reading.entry)
             (reserved_of self.old) in
-            let lines = lines (places_of self.old) (look_view look) (row_view row.now) in
+            let lines = lines (placed (places_of self.old) uses.old.all.now) (look_view look) (row_view row.now) in
             OnOk result (string_bytes out.new ≡ string_bytes out.old ++ lines) }
         ensures same { IsSameFile self.old self.new }
+        ensures uses { uses.new.all.now ≡ uses.old.all.now }
     {
         let place = self.finder.places.find(row.id);
         let header = reading.header(alloc, row.id.kind, place)?;
         self.push_item(look, row, place, &header, out)?;
-        self.push_members(alloc, reading, look, row, place, out)
+        self.push_members(alloc, reading, look, row, place, out)?;
+        self.push_opened(alloc, uses, look, row, place, out)
     }
 }
 
@@ -274,9 +288,10 @@ impl Printer<'_> {
 /// and an impl its type and its trait, as `Display for Circle`. If cfgs are given for the members, the chosen ones of
 /// those with a name have lines behind that of their item, one level deeper, as the reader reads them; the tree has
 /// none. In colour, places are faint, the words of kinds cyan, and what follows these bold. In a flat outline there are
-/// no blanks, and a name stands behind those of the modules around it and of its item, with two colons between them.
+/// no blanks, and a name stands behind those of the modules around it and of its item, with two colons between them. If
+/// imports are asked for, each import of a use that has a list has a line as a use of it alone, one level deeper.
 ///
-/// The places are those that the reader gave with the syntax of the tree.
+/// The places, and those of the use trees, are those that the reader gave with the syntax of the tree.
 ///
 /// # Errors
 ///
@@ -285,6 +300,7 @@ pub fn outline(
     alloc: Global,
     source: Source<'_>,
     places: &[ItemPlace],
+    use_trees: &[usize],
     tree: &ItemTree,
     edition: &Edition,
     reading: Reading<'_>,
@@ -292,15 +308,17 @@ pub fn outline(
 ) -> Result<String, AllocError>
     requires { AreDistinct places.now }
     ensures { let s = source_view source.entry in
-        let lines = spec.outline_text s (reading_view reading.entry) edition.now.reserved.items places.now in
+        let lines = spec.outline_text s (reading_view reading.entry) edition.now.reserved.items in
+        let lines = lines (placed places.now use_trees.now) in
         IfOk result (λ text. string_bytes text ≡ lines (look_view look) (rows.rows tree.now)) }
 {
     let mut printer = Printer::new(source, places, edition);
+    let mut uses = UsePlaces::new(use_trees);
     // Most outlines take less room than a quarter of their texts.
     let mut out = String::with_capacity(alloc, source.text.len() / 4)?;
     let rows = look.choice.rows(alloc, tree)?;
     for row in &rows {
-        printer.push_whole(alloc, reading, look, row, &mut out)?;
+        printer.push_whole(alloc, &mut uses, reading, look, row, &mut out)?;
     }
     Ok(out)
 }

@@ -1,5 +1,5 @@
 //! Imports that repeat an earlier one of their module, under cfgs that may be true together.
-ghost use Rattle.std.specs.Prelude.{◌≡◌, ◌++◌, [], Some, map, IfOk, OnOk, option_map, string_bytes, flat_map};
+ghost use Rattle.std.specs.Prelude.{◌≡◌, ◌++◌, [], Some, map, IfOk, OnOk, option_map, flat_map};
 ghost use Rattle.tree_walk.specs.Listed.{listed_import};
 ghost use Rattle.item_tree.specs.Shown.{IsContained};
 ghost use Rattle.item_tree.specs.Walk.{AreContained};
@@ -11,28 +11,38 @@ ghost use Rattle.source_rows.specs.Places.{AreDistinct};
 ghost use Rattle.source_listing.specs.Repeated as spec;
 ghost use Rattle.source_listing.specs.Uses.{placed, tree_spots};
 ghost use Rattle.source_listing.specs.Inner.{alike_by};
-ghost use Rattle.source_listing.specs.Views.{import_choice_view, source_view};
+ghost use Rattle.source_listing.specs.Views.{import_choice_view, repeated_import_view};
 
 use crate::import_cfgs::ImportChoice;
 use crate::import_exclusion::exclude_each_other;
-use crate::import_repeats::push_if_any;
 use crate::imports::push_import_text;
 use crate::uses::{TreeFinder, UseTrees};
 use hir_input::{Edition, FileAstId};
 use item_tree::{ItemTree, ModItemId, ModItemKind};
 use rust_items::ItemPlace;
-use source_rows::{Source, Spot};
+use source_rows::Spot;
 use std::alloc::{AllocError, Global};
 use std::collections::HashMap;
 use tree_walk::{Listed, children, list_imports};
+
+/// An import that repeats an earlier one of its module.
+#[derive(Drop)]
+pub struct RepeatedImport {
+    /// Where its own use tree stands.
+    pub spot: Option<Spot>,
+    /// How a use of it alone would be written.
+    pub text: String,
+    /// Where the first that is alike stands.
+    pub first: Option<Spot>,
+}
 
 /// An import: the item that its use stands in, the use, its place, and how a use of it alone would be written.
 #[derive(Drop)]
 pub(crate) struct Named {
     around: Option<FileAstId>,
     at: FileAstId,
-    pub(crate) spot: Option<Spot>,
-    pub(crate) text: String,
+    spot: Option<Spot>,
+    text: String,
 }
 
 fn named_import(
@@ -247,30 +257,51 @@ impl ImportChoice<'_> {
     }
 }
 
-/// The line of an import, if one of those before it is alike. If none is of its key, it is the first.
+/// Adds an import that repeats one, if there is one that is alike.
+fn push_if_any(
+    alloc: Global,
+    import: &Named,
+    alike: Option<&Named>,
+    found: &mut Vec<RepeatedImport>,
+) -> Result<(), AllocError>
+    ensures { let alike = option_map (λ b. listed_named_view b.now) alike.entry in
+        let own = spec.repeat_if_any (listed_named_view import.now) alike in
+        OnOk result (map repeated_import_view found.new.items ≡ map repeated_import_view found.old.items ++ own) }
+{
+    let Some(first) = alike else {
+        return Ok(());
+    };
+    found.push(RepeatedImport {
+        spot: import.spot,
+        text: String::from_str(alloc, &import.text)?,
+        first: first.spot,
+    })?;
+    Ok(())
+}
+
+/// Adds an import if one of those before it is alike. If none is of its key, it is the first.
 fn push_if_repeated<'n>(
+    alloc: Global,
     choice: ImportChoice<'_>,
-    is_colored: bool,
-    path: &str,
     key: Key<'n>,
     import: &'n Named,
     before: &[&'n Named],
     firsts: &mut Firsts<'n>,
-    out: &mut String,
+    found: &mut Vec<RepeatedImport>,
 ) -> Result<(), AllocError>
-    ensures text { let import = listed_named_view import.now in
+    ensures repeated { let import = listed_named_view import.now in
         let all = map (λ b. listed_named_view b.now) before.now in
         let choice = import_choice_view choice.entry in
         let alike = alike_by choice import (first_in firsts.old key.entry) all in
-        let line = spec.line_if_any is_colored path.now import alike in
-        OnOk result (string_bytes out.new ≡ string_bytes out.old ++ line) }
+        let own = spec.repeat_if_any import alike in
+        OnOk result (map repeated_import_view found.new.items ≡ map repeated_import_view found.old.items ++ own) }
     ensures first { OnOk result
         (PutsFirst firsts.old firsts.new key.entry (listed_named_view import.now)) }
 {
     match firsts.get(&key).copied() {
         Some(first) => {
             let alike = choice.alike_by(import, first, before);
-            push_if_any(is_colored, path, import, alike, out)
+            push_if_any(alloc, import, alike, found)
         }
         None => {
             firsts.insert(key, import)?;
@@ -279,43 +310,29 @@ fn push_if_repeated<'n>(
     }
 }
 
-/// The lines of those imports that repeat an earlier one.
-fn lines_of(
+/// Those of these that repeat an earlier one.
+fn repeats_of(
     alloc: Global,
     choice: ImportChoice<'_>,
-    is_colored: bool,
-    path: &str,
     imports: &[Named],
-) -> Result<String, AllocError>
-    ensures { let lines = spec.repeat_lines is_colored path.now (import_choice_view choice.entry) in
-        let lines = lines [] (map listed_named_view imports.now) in
-        IfOk result (λ text. string_bytes text ≡ lines) }
+) -> Result<Vec<RepeatedImport>, AllocError>
+    ensures { let repeats = spec.repeats (import_choice_view choice.entry) [] (map listed_named_view imports.now) in
+        IfOk result (λ found. map repeated_import_view found.items ≡ repeats) }
 {
-    let mut out = String::new(alloc);
+    let mut found = Vec::new(alloc);
     let mut firsts = HashMap::new(alloc);
     let mut before = Vec::new(alloc);
     for import in imports {
         let key = key_of(import);
-        push_if_repeated(
-            choice,
-            is_colored,
-            path,
-            key,
-            import,
-            &before,
-            &mut firsts,
-            &mut out,
-        )?;
+        push_if_repeated(alloc, choice, key, import, &before, &mut firsts, &mut found)?;
         before.push(import)?;
     }
-    Ok(out)
+    Ok(found)
 }
 
-/// A line for each listed import that repeats an earlier one of the same module, in the order in which they are
-/// written: file, line and column of its own use tree, the import as a use of it alone would be written, and where the
-/// first that is written so stands. Two modules are the same only if they are one item, whatever their names. Imports
-/// under cfgs that are seen never to be true together do not repeat each other. In colour, places are faint and imports
-/// bold.
+/// The listed imports that repeat an earlier one of the same module, in the order in which they are written. Two
+/// modules are the same only if they are one item, whatever their names. Imports under cfgs that are seen never to be
+/// true together do not repeat each other.
 ///
 /// The places, and those of the use trees, are what the reader gave with the syntax of the tree.
 ///
@@ -323,23 +340,22 @@ fn lines_of(
 ///
 /// Only if memory runs out.
 #[tactic(auto, using(item_tree::proofs::Walking::ids_contained, crate::proofs::Repeats::ids_named))]
-pub fn repeated_lines(
+pub fn repeated_imports(
     alloc: Global,
-    source: Source<'_>,
+    text: &str,
     places: &[ItemPlace],
     use_trees: &[usize],
     tree: &ItemTree,
     edition: &Edition,
     choice: ImportChoice<'_>,
-    is_colored: bool,
-) -> Result<String, AllocError>
+) -> Result<Vec<RepeatedImport>, AllocError>
     requires { AreDistinct places.now }
     ensures { let all = placed places.now use_trees.now in
-        let lines = spec.repeated_lines is_colored (source_view source.entry) edition.now.reserved.items in
-        let lines = lines (import_choice_view choice.entry) all in
-        IfOk result (λ text. string_bytes text ≡ lines tree.now.forest) }
+        let repeats = spec.repeated_imports text.now edition.now.reserved.items
+        (import_choice_view choice.entry) all tree.now.forest in
+        IfOk result (λ found. map repeated_import_view found.items ≡ repeats) }
 {
-    let mut finder = TreeFinder::new(source.text, places, use_trees);
+    let mut finder = TreeFinder::new(text, places, use_trees);
     let ids = tree.top_level_items();
     let mut found = Vec::new(alloc);
     push_all(
@@ -352,5 +368,5 @@ pub fn repeated_lines(
         ids,
         &mut found,
     )?;
-    lines_of(alloc, choice, is_colored, source.path, &found)
+    repeats_of(alloc, choice, &found)
 }

@@ -9,10 +9,10 @@ ghost use Rattle.source_rows.specs.ListedViews.{listed_view, reading_view};
 ghost use Rattle.list_forms.specs.Colors.{bold_code, colored_text};
 ghost use Rattle.list_forms.specs.declared.lines.Form.TheVariants.{Json};
 ghost use Rattle.source_listing.specs.Lines.{listed_name};
-ghost use Rattle.source_listing.specs.Inner.{IsSameFile, candidate_view, file_of, places_of, reserved_of};
+ghost use Rattle.source_listing.specs.Inner.{IsSameFile, file_of, places_of, reserved_of};
 ghost use Rattle.source_listing.specs.Search as spec;
 ghost use Rattle.source_rows.specs.Places.{AreDistinct};
-ghost use Rattle.source_listing.specs.Views.{query_view, source_view};
+ghost use Rattle.source_listing.specs.Views.{candidate_view, query_view, source_view};
 
 use crate::found_objects::found_object;
 use crate::paths::{is_sought_path, push_scope, push_segment};
@@ -48,18 +48,20 @@ pub struct Query<'a> {
 }
 
 /// An item or a member with a name.
-#[derive(Clone, Copy)]
-pub(crate) struct Candidate<'a> {
+#[derive(Clone, Copy, Debug)]
+pub struct Candidate<'a> {
     /// The names around it, with two colons before each.
-    pub(crate) scope: &'a str,
-    pub(crate) at: Option<usize>,
-    pub(crate) word: &'static str,
-    pub(crate) name: &'a Name,
-    pub(crate) is_active: bool,
+    pub scope: &'a str,
+    /// Where it stands, if that is known.
+    pub at: Option<usize>,
+    /// The word of its kind.
+    pub word: &'static str,
+    pub name: &'a Name,
+    pub is_active: bool,
 }
 
 /// The name of what the members of an item stand in: the item's, or that of an impl's type.
-pub(crate) fn holder<'a>(name: Option<&'a Name>, type_name: &'a Option<Name>) -> Option<&'a Name>
+pub fn holder<'a>(name: Option<&'a Name>, type_name: &'a Option<Name>) -> Option<&'a Name>
     ensures { option_copied result ≡ option_or (option_copied name.entry) type_name.now }
 {
     match name {
@@ -86,9 +88,13 @@ fn is_one_of(word: &str, kinds: &[&str]) -> bool
     kinds.is_empty() || is_among(word, kinds)
 }
 
-/// The modules that an item stands in, and what its members stand in.
+/// The modules that an item stands in, and what its members stand in, with two colons before each name.
+///
+/// # Errors
+///
+/// Only if memory runs out.
 #[tactic(auto, using(crate::proofs::Pushed::segments_of))]
-fn scope_of(alloc: Global, row: &Row<'_>, around: Option<&Name>) -> Result<String, AllocError>
+pub fn scope_of(alloc: Global, row: &Row<'_>, around: Option<&Name>) -> Result<String, AllocError>
     ensures { let scope_is = spec.scope_inside (row_view row.now) (option_copied around.entry) in
         IfOk result (λ scope. string_bytes scope ≡ scope_is) }
 {
@@ -125,7 +131,12 @@ impl Query<'_> {
         Ok(is_sought_path(self.scope, self.is_anywhere, &scope))
     }
 
-    fn finds(self, alloc: Global, candidate: Candidate<'_>) -> Result<bool, AllocError>
+    /// Whether an item or a member is looked for.
+    ///
+    /// # Errors
+    ///
+    /// Only if memory runs out.
+    pub fn finds(self, alloc: Global, candidate: Candidate<'_>) -> Result<bool, AllocError>
         ensures { IfOk result (λ found. found
             ≡ spec.is_found (query_view self.entry) (candidate_view candidate.entry)) }
     {

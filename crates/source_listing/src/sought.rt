@@ -37,8 +37,8 @@ pub(crate) fn text_behind<'a>(front: &str, text: &'a str) -> Option<&'a str>
     text.strip_prefix(front)
 }
 
-/// Names with two colons between each two.
-pub(crate) fn joined_scope(scope: &str) -> &str
+/// Names with two colons between each two, of such with two before each.
+pub fn joined_scope(scope: &str) -> &str
     ensures { result.now ≡ joined_scope scope.now }
 {
     match text_behind("::", scope) {

@@ -62,9 +62,9 @@ pub(crate) fn push_subject(
 {
     match subject {
         Subject::Nothing => Ok(()),
-        Subject::Use(tree) => {
+        Subject::Use(item) => {
             out.push_str(" ")?;
-            push_short_tree(edition, tree, out)
+            push_short_tree(edition, item.use_tree(), out)
         }
         Subject::Call(path) => {
             let path = path.display(edition);

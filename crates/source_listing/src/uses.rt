@@ -8,14 +8,42 @@ ghost use Rattle.source_listing.specs.Uses as spec;
 use crate::use_places::UsePlaces;
 use hir_input::FileAstId;
 use item_tree::UseTreeIdx;
+use line_index::Units;
 use rust_items::ItemPlace;
 use source_rows::{Finder, Spot, stands_at};
 
 /// A use item's place, and where its use trees begin, by their numbers.
 #[derive(Clone, Copy)]
 pub(crate) struct UseTrees<'a> {
-    place: ItemPlace,
-    starts: &'a [usize],
+    pub(crate) place: ItemPlace,
+    pub(crate) starts: &'a [usize],
+}
+
+impl UseTrees<'_> {
+    /// Where the use tree of a number begins.
+    pub(crate) fn start(self, index: usize) -> usize
+        ensures { result ≡ spec.tree_start index (placed_trees_view self.entry) }
+    {
+        let start = self.starts.get(index).copied();
+        start.unwrap_or(stands_at(self.place))
+    }
+}
+
+impl<'a> UsePlaces<'a> {
+    /// The use trees of an item that stands there.
+    pub(crate) fn trees(&mut self, place: Option<ItemPlace>) -> Option<UseTrees<'a>>
+        ensures trees { let trees = option_map (spec.use_trees_at self.old.all.now) place in
+            option_map placed_trees_view result ≡ trees }
+        ensures same { self.new.all.now ≡ self.old.all.now }
+    {
+        match place {
+            Some(place) => {
+                let starts = self.find(place.range.start);
+                Some(UseTrees { place, starts })
+            }
+            None => None,
+        }
+    }
 }
 
 /// Where a text's use trees stand, to be found by the ids of their items.
@@ -43,13 +71,8 @@ impl<'a> TreeFinder<'a> {
             option_map placed_trees_view result ≡ trees }
         ensures same { IsSameTreeFinder self.old self.new }
     {
-        match self.finder.places.find(id) {
-            Some(place) => {
-                let starts = self.uses.find(place.range.start);
-                Some(UseTrees { place, starts })
-            }
-            None => None,
-        }
+        let place = self.finder.places.find(id);
+        self.uses.trees(place)
     }
 
     /// Where the use tree of a number stands.
@@ -58,15 +81,28 @@ impl<'a> TreeFinder<'a> {
             (option_map placed_trees_view trees.entry) index.0 }
         ensures same { IsSameTreeFinder self.old self.new }
     {
+        self.spot_in(Units::Characters, trees, index)
+    }
+
+    /// The same by a column of these units.
+    pub(crate) fn spot_in(
+        &mut self,
+        units: Units,
+        trees: Option<UseTrees<'_>>,
+        index: UseTreeIdx,
+    ) -> Option<Spot>
+        ensures spot { result ≡ spec.tree_spots_in units (finder_text self.old)
+            (option_map placed_trees_view trees.entry) index.0 }
+        ensures same { IsSameTreeFinder self.old self.new }
+    {
         match trees {
-            Some(trees) => {
-                let start = trees.starts.get(index.0 as usize).copied();
-                let at = start.unwrap_or(stands_at(trees.place));
-                Some(Spot {
-                    position: self.finder.lines.position(at),
-                    range: trees.place.range,
-                })
-            }
+            Some(trees) => Some(Spot {
+                position: self
+                    .finder
+                    .lines
+                    .position_in(units, trees.start(index.0 as usize)),
+                range: trees.place.range,
+            }),
             None => None,
         }
     }

@@ -10,6 +10,7 @@ use crate::subjects::push_short_tree;
 use hir_input::{Edition, Name};
 use hir_input_json::member::Members;
 use item_tree::{RawVisibility, VisibilityExplicitness};
+use rust_paths::TextRange;
 use serde_json::{Value, put};
 use source_rows::Spot;
 use std::alloc::{AllocError, Global};
@@ -48,9 +49,9 @@ pub(crate) fn subject_value(
 {
     match subject {
         Subject::Nothing => header_value(alloc, header),
-        Subject::Use(tree) => {
+        Subject::Use(item) => {
             let mut text = String::new(alloc);
-            push_short_tree(edition, tree, &mut text)?;
+            push_short_tree(edition, item.use_tree(), &mut text)?;
             Ok(Value::String(text))
         }
         Subject::Call(path) => Ok(Value::String(path.display(edition).to_string(alloc)?)),
@@ -105,18 +106,28 @@ pub(crate) fn column_value(spot: Option<Spot>) -> Value
     }
 }
 
+/// Bytes, from where to where, or null.
+pub(crate) fn bytes_value(alloc: Global, range: Option<TextRange>) -> Result<Value, AllocError>
+    ensures { IfOk result (λ value. view value ≡ spec.bytes_form range) }
+{
+    match range {
+        None => Ok(Value::Null),
+        Some(range) => {
+            let mut ends = Vec::new(alloc);
+            ends.push(Value::from(range.start))?;
+            ends.push(Value::from(range.end))?;
+            Ok(Value::Array(ends))
+        }
+    }
+}
+
 /// The bytes of a spot, from where to where, or null.
 pub(crate) fn range_value(alloc: Global, spot: Option<Spot>) -> Result<Value, AllocError>
     ensures { IfOk result (λ value. view value ≡ spec.range_form spot) }
 {
     match spot {
         None => Ok(Value::Null),
-        Some(spot) => {
-            let mut range = Vec::new(alloc);
-            range.push(Value::from(spot.range.start))?;
-            range.push(Value::from(spot.range.end))?;
-            Ok(Value::Array(range))
-        }
+        Some(spot) => bytes_value(alloc, Some(spot.range)),
     }
 }
 

@@ -1,6 +1,5 @@
 -- What the code holds, as plain data.
 use Rattle.std.specs.Prelude.{map, option_copied}
-use Rattle.item_tree.specs.Tree.{tree_of}
 use Rattle.tree_walk.specs.declared.subject.Subject as code_subject
 use Rattle.tree_walk.specs.declared.subject.Subject.TheVariants.{Nothing, Use, Call}
 use Rattle.tree_walk.specs.declared.rows.Row as code_row
@@ -9,7 +8,7 @@ use Rattle.tree_walk.specs.Rows.{Subject, no_subject, used, called, RowView}
 -- the subject of a row as plain data
 abbrev pub subject_view : code_subject.Subject → Subject
 subject_view Nothing = no_subject
-subject_view (Use tree) = used (tree_of tree.now)
+subject_view (Use item) = used item.now.tree
 subject_view (Call path) = called path.now
 
 -- a row as plain data

@@ -5,15 +5,15 @@ ghost use Rattle.tree_walk.specs.Inner.Rows as spec;
 ghost use Rattle.tree_walk.specs.Views.{subject_view};
 
 use hir_input::ModPath;
-use item_tree::{ItemTree, ModItemId, ModItemKind, UseTree};
+use item_tree::{ItemTree, ModItemId, ModItemKind, Use};
 
 /// What an item without a name is told by.
 #[derive(Clone, Copy, Debug)]
 pub enum Subject<'tree> {
     /// It has a name, or nothing.
     Nothing,
-    /// What a use takes in.
-    Use(&'tree UseTree),
+    /// A use, by its tree.
+    Use(&'tree Use),
     /// The path of the macro that is called.
     Call(&'tree ModPath),
 }
@@ -22,7 +22,7 @@ fn subject_of(item: ModItemKind<'_>) -> Subject<'_>
     ensures { subject_view result ≡ spec.lent_subject (lent item.entry) }
 {
     match item {
-        ModItemKind::Use(_, item) => Subject::Use(item.use_tree()),
+        ModItemKind::Use(_, item) => Subject::Use(item),
         ModItemKind::MacroCall(_, item) => Subject::Call(&item.path),
         _ => Subject::Nothing,
     }

@@ -1,9 +1,10 @@
-use Rattle.source_listing.proofs.Common.{◌≡◌, map, take, string_bytes, flat_map, row_view, reading_view, choice_view, IsPrinterOf, source_view}
+use Rattle.source_listing.proofs.Common.{◌≡◌, map, take, string_bytes, flat_map, row_view, reading_view, choice_view, IsPrinterOf, placed, source_view}
 use Rattle.source_listing.specs.FlatObjects as spec
 use Rattle.source_listing.proofs.flat_objects.flat_lines.Given as goal
 
 abbrev pub invariant-loop-row : goal.invariant-loop-row
 invariant-loop-row l = let s = source_view l.fn.source in let x = reading_view l.fn.reading in record {
-  text : string_bytes l.out ≡ flat_map (spec.flat_found s x l.fn.edition.reserved.items l.fn.places (choice_view l.fn.choice)) (map row_view (take l.row-index l.row-items));
+  text : string_bytes l.out ≡ flat_map (spec.flat_found s x l.fn.edition.reserved.items (placed l.fn.places l.fn.use_trees) l.fn.has_imports (choice_view l.fn.choice)) (map row_view (take l.row-index l.row-items));
+  uses : l.uses.all.now ≡ l.fn.use_trees;
   is : IsPrinterOf s l.fn.places l.fn.edition l.printer;
 }

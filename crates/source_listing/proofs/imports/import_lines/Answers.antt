@@ -6,6 +6,9 @@ pub push_declaration-requires-clause-contained : goal.push_declaration-requires-
 push_declaration-requires-clause-contained c =
     contained_at (IsContained c.args.tree.now) declaration_id c.in_ok-collected.collected.declarations.items c.loop-declaration.declaration-index c.declaration-item.result c.in_ok-collected.ensures.contained (search rules) (search rules)
 
+pub push_declaration-requires-clause-text : goal.push_declaration-requires-clause-text
+push_declaration-requires-clause-text c = c.loop-declaration.invariant.is.0.0
+
 pub returns : goal.returns
 returns c =
     let see = declaration_view c.args.tree.now in

@@ -9,4 +9,4 @@ pub value_line-requires : goal.value_line-requires
 value_line-requires c =
     let a = c.args.around in
     ap has_float c.in_ok-object.ensures
-    ∙ use_none c.args.edition.now.reserved.items a.path.now a.scope.now (option_copied a.visibility) (map cfg_view a.cfgs.now) c.args.spot (listed_import c.args.import.now)
+    ∙ use_none c.args.edition.now.reserved.items a.source.path.now a.scope.now (option_copied a.visibility) (map cfg_view a.cfgs.now) c.args.spot c.args.removal (listed_import c.args.import.now)

@@ -1,4 +1,4 @@
-use Rattle.source_listing.proofs.Common.{◌++◌, ◌∙◌, rules, string_bytes, look_view, reading_view, row_view, source_view}
+use Rattle.source_listing.proofs.Common.{◌++◌, ◌∙◌, rules, string_bytes, look_view, placed, reading_view, row_view, source_view}
 use Rattle.source_listing.specs.Outlines as spec
 use Rattle.source_listing.proofs.Printers.{file_is}
 use Rattle.source_listing.proofs.Pushed.{one_more}
@@ -15,8 +15,10 @@ loop-row-preserved c =
     let is = before.invariant.is in
     let r = c.row-item.result in
     let out = string_bytes before.out in
-    let whole = c.in_ok-push_whole.ensures.text ∙ (λ i. out ++ spec.whole_lines (file_is s places edition before.printer is i) x (is.1 i).reserved.items (is.2.1 i) k (row_view r)) in
+    let all = placed places c.args.use_trees.now in
+    let whole = c.in_ok-push_whole.ensures.text ∙ (λ i. out ++ spec.whole_lines (file_is s places edition before.printer is i) x (is.1 i).reserved.items (placed (is.2.1 i) (before.invariant.uses i)) k (row_view r)) in
     record {
-      text = one_more (spec.whole_lines s x edition.reserved.items places k) row_view c.deref-row-items.result.now before.row-index r out (string_bytes c.push_whole.new.out) c.loop-row-test.true c.row-item.is before.invariant.text whole;
+      text = one_more (spec.whole_lines s x edition.reserved.items all k) row_view c.deref-row-items.result.now before.row-index r out (string_bytes c.push_whole.new.out) c.loop-row-test.true c.row-item.is before.invariant.text whole;
+      uses = c.in_ok-push_whole.ensures.uses ∙ before.invariant.uses;
       is = search rules;
     }
