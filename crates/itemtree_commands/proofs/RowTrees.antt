@@ -21,9 +21,10 @@ use Rattle.tree_walk.specs.Rows.{Around, RowView, row, around_inside, node_rows,
 use Rattle.rust_metas.specs.declared.wanted.WantedMetas.TheVariants.{Conditions}
 use Rattle.rust_metas.specs.Docs.{is_condition_meta, kept_metas}
 use Rattle.rust_leaves.specs.Clipped.{clipped_node, clipped_item, clipped_list}
-use Rattle.rust_items.specs.declared.source_file.ItemPlace.{ItemPlace}
 use Rattle.rust_items.specs.SourceFiles.{FileView, clipped_syntax}
 use Rattle.source_rows.specs.ListedFiles.{closers_in}
+use Rattle.source_listing.specs.Uses.{FilePlaces, placed}
+use Rattle.itemtree_commands.specs.Answers.{all_places}
 use Rattle.itemtree_commands.specs.declared.listed.ListedTree.{ListedTree}
 use Rattle.itemtree_commands.specs.Inner.{HasListedRows, IsClippedTree, row_wanted}
 use Rattle.itemtree_commands.specs.Trees.{IsListedTree}
@@ -159,13 +160,14 @@ rows_kept krate skipped edition text x b =
       };
       rows = ap rows (b.is_tree.tree ∙ ap (λ (f : FileView). kept_in krate false skipped f.syntax) clipped) ∙ same_rows krate skipped read.syntax _ _ source;
       places = refl;
+      use_trees = refl;
     }
 
 -- a tree that lists tell has its own rows
 pub own_rows : (krate : CrateData) (skipped : List (List ℕ)) (edition : EditionYear) (text : List ℕ) (x : ListedTree) → IsListedTree krate skipped edition text (closers_in x.mended) x.source → HasListedRows krate skipped edition text x
-own_rows krate skipped edition text x h = record { whole = x.source; is_listed = h; rows = refl; places = refl }
+own_rows krate skipped edition text x h = record { whole = x.source; is_listed = h; rows = refl; places = refl; use_trees = refl }
 
 -- a list of the rows and the places is that of the tree that is listed
-pub same_listed : {A : Type 0} {krate : CrateData} {skipped : List (List ℕ)} {edition : EditionYear} {text : List ℕ} {x : ListedTree} (h : HasListedRows krate skipped edition text x) (list : List ItemPlace → List RowView → A)
-    → list x.source.places.items (rows x.source.tree) ≡ list h.whole.places.items (rows h.whole.tree)
-same_listed h list = λ j. list (h.places j) (h.rows j)
+pub same_listed : {A : Type 0} {krate : CrateData} {skipped : List (List ℕ)} {edition : EditionYear} {text : List ℕ} {x : ListedTree} (h : HasListedRows krate skipped edition text x) (list : FilePlaces → List RowView → A)
+    → list (all_places x.source) (rows x.source.tree) ≡ list (all_places h.whole) (rows h.whole.tree)
+same_listed h list = λ j. list (placed (h.places j) (h.use_trees j)) (h.rows j)

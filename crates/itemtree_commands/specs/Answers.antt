@@ -12,7 +12,7 @@ use Rattle.source_listing.specs.Lines.{Choice, Source, problem_lines}
 use Rattle.source_listing.specs.Outlines.{Look, outline_text}
 use Rattle.source_listing.specs.Objects.{json_line}
 use Rattle.source_listing.specs.Pages.{lines_without_ids}
-use Rattle.source_listing.specs.Repeated.{repeated_lines}
+use Rattle.source_listing.specs.Repeated.{Repeat, repeat_lines, repeated_imports}
 use Rattle.source_listing.specs.Uses.{FilePlaces, placed}
 use Rattle.source_listing.specs.Search.{Query, found_lines}
 use Rattle.source_listing.specs.Tags.{tags}
@@ -41,8 +41,8 @@ abbrev pub choice : Options → Option ℕ → Choice
 choice o depth = record { depth = depth; only_active = o.only_active }
 
 -- which lines are written, whether in colour, and whether flat
-abbrev pub look_of : Options → Option ℕ → Bool → Bool → Look
-look_of o depth is_colored is_flat = record { choice = choice o depth; is_colored = is_colored; is_flat = is_flat }
+abbrev pub look_of : Options → Option ℕ → Bool → Bool → Bool → Look
+look_of o depth has_imports is_colored is_flat = record { choice = choice o depth; is_colored = is_colored; is_flat = is_flat; has_imports = has_imports }
 
 -- the cfgs under which members are listed, if they are
 abbrev pub if_members : Options → Bool → Option (List AtomView)
@@ -56,11 +56,15 @@ reading_in o has_members s c = record { text = listed_text s.text c; closers = c
 abbrev pub HasListed : Options → List ℕ → Option Closers → SourceTree → Type 0
 HasListed o = IsListedTree o.krate o.skipped.items o.edition.year
 
--- the lines of the listed items, with or without those of their listed members, with or without colours, and flat or not
-abbrev pub IsOutline : Options → Option ℕ → Bool → Bool → Bool → Source → List ℕ → Type 0
-IsOutline o depth has_members is_colored is_flat s out =
+-- the places of the items and of the use trees
+abbrev pub all_places : SourceTree → FilePlaces
+all_places t = placed t.places.items t.use_trees.items
+
+-- the lines of the listed items, with or without those of their listed members and imports, with or without colours, and flat or not
+abbrev pub IsOutline : Options → Option ℕ → Bool → Bool → Bool → Bool → Source → List ℕ → Type 0
+IsOutline o depth has_members has_imports is_colored is_flat s out =
     (c : Option Closers) × (t : SourceTree) × HasListed o s.text c t
-    × (out ≡ outline_text s (reading_in o has_members s c) o.edition.reserved.items t.places.items (look_of o depth is_colored is_flat) (rows t.tree))
+    × (out ≡ outline_text s (reading_in o has_members s c) o.edition.reserved.items (all_places t) (look_of o depth has_imports is_colored is_flat) (rows t.tree))
 
 -- their objects, on one line
 abbrev pub IsJson : Options → Option ℕ → Bool → Source → List ℕ → Type 0
@@ -69,14 +73,10 @@ IsJson o depth has_members s out =
     × (out ≡ json_line s (reading_in o has_members s c) o.edition.reserved.items t.places.items (choice o depth) t.tree)
 
 -- the objects of a flat outline, each on a line
-abbrev pub AreFlatObjects : Options → Option ℕ → Bool → Source → List ℕ → Type 0
-AreFlatObjects o depth has_members s out =
+abbrev pub AreFlatObjects : Options → Option ℕ → Bool → Bool → Source → List ℕ → Type 0
+AreFlatObjects o depth has_members has_imports s out =
     (c : Option Closers) × (t : SourceTree) × HasListed o s.text c t
-    × (out ≡ flat_lines s (reading_in o has_members s c) o.edition.reserved.items t.places.items (choice o depth) (rows t.tree))
-
--- the places of the items and of the use trees
-abbrev pub all_places : SourceTree → FilePlaces
-all_places t = placed t.places.items t.use_trees.items
+    × (out ≡ flat_lines s (reading_in o has_members s c) o.edition.reserved.items (all_places t) has_imports (choice o depth) (rows t.tree))
 
 -- the cfgs that are set, if what a cfg disables is left out
 abbrev pub if_active : Options → Option (List AtomView)
@@ -92,11 +92,15 @@ AreImports o form s out =
     (c : Option Closers) × (t : SourceTree) × (h : HasListed o s.text c t)
     × (out ≡ import_lines o.edition.reserved.items form (import_choice o (file_cfgs h.file.syntax)) s (all_places t) t.tree.forest)
 
--- the lines of those that repeat an earlier one
+-- the listed imports that repeat an earlier one
+abbrev pub AreRepeats : Options → List ℕ → List Repeat → Type 0
+AreRepeats o text rs =
+    (c : Option Closers) × (t : SourceTree) × (h : HasListed o text c t)
+    × (rs ≡ repeated_imports text o.edition.reserved.items (import_choice o (file_cfgs h.file.syntax)) (all_places t) t.tree.forest)
+
+-- their lines
 abbrev pub AreRepeated : Options → Bool → Source → List ℕ → Type 0
-AreRepeated o is_colored s out =
-    (c : Option Closers) × (t : SourceTree) × (h : HasListed o s.text c t)
-    × (out ≡ repeated_lines is_colored s o.edition.reserved.items (import_choice o (file_cfgs h.file.syntax)) (all_places t) t.tree.forest)
+AreRepeated o is_colored s out = (rs : List Repeat) × AreRepeats o s.text rs × (out ≡ repeat_lines is_colored s.path rs)
 
 -- the lines of the items that are looked for, and of their members
 abbrev pub AreFound : Options → Bool → Query → Source → List ℕ → Type 0

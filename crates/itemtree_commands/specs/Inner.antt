@@ -37,12 +37,13 @@ checked_wanted = record { bodies = false; metas = Undocumented }
 abbrev pub reading_by : Options → Bool → List ℕ → Option Mended → MemberReading
 reading_by o has_members text mended = record { text = text_read text mended; closers = closers_in mended; edition = o.edition.year; options = if_members o has_members }
 
--- a tree that has the rows of the tree that lists tell of a text, and the places of its items
+-- a tree that has the rows of the tree that lists tell of a text, and the places of its items and use trees
 pub record HasListedRows (krate : CrateData) (skipped : List (List ℕ)) (edition : EditionYear) (text : List ℕ) (x : ListedTree) : Type 0 where
   pub whole : SourceTree
   pub is_listed : IsListedTree krate skipped edition text (closers_in x.mended) whole
   pub rows : walk.rows x.source.tree ≡ walk.rows whole.tree
   pub places : x.source.places.items ≡ whole.places.items
+  pub use_trees : x.source.use_trees.items ≡ whole.use_trees.items
 
 -- the tree of what is wanted of what lists read of a text
 pub record IsClippedTree (w : Wanted) (krate : CrateData) (skipped : List (List ℕ)) (edition : EditionYear) (text : List ℕ) (x : ListedTree) : Type 0 where

@@ -1,14 +1,14 @@
 //! What `itemtree imports` answers for one file.
-ghost use Rattle.std.specs.Prelude.{◌≡◌, map, IfOk, IfErr, option_copied, string_bytes};
+ghost use Rattle.std.specs.Prelude.{◌≡◌, ◌≤◌, ◌^◌, length, map, IfOk, IfErr, OnOk, option_copied, string_bytes};
 ghost use Rattle.itemtree_commands.specs.Answers as spec;
-ghost use Rattle.source_listing.specs.Views.{import_choice_view, source_view, use_cfgs_view};
+ghost use Rattle.source_listing.specs.Views.{import_choice_view, repeated_import_view, source_view, use_cfgs_view};
 
 use crate::Options;
 use crate::listed::listed_uses;
 use crate::trees::SourceError;
 use hir_input::CfgOptions;
 use list_forms::Form;
-use source_listing::{ImportChoice, Source, UseCfgs};
+use source_listing::{ImportChoice, RepeatedImport, Source, UseCfgs, repeat_lines};
 use std::alloc::Global;
 
 impl Options {
@@ -68,6 +68,38 @@ pub fn imports(
     Ok(text)
 }
 
+/// The imports of a text that repeat an earlier one of their module, or of those that no cfg disables.
+///
+/// # Errors
+///
+/// Those of `source_tree`.
+#[tactic(auto, using(crate::proofs::Refused::no_list))]
+pub fn repeated_imports(
+    alloc: Global,
+    text: &str,
+    options: &Options,
+) -> Result<Vec<RepeatedImport>, SourceError>
+    ensures repeats { IfOk result
+        (λ found. spec.AreRepeats options.now text.now (map repeated_import_view found.items)) }
+    ensures short { OnOk result (length text.now ≤ 2 ^ 32) }
+    ensures refused { IfErr result (spec.HasNoList options.now text.now) }
+{
+    let file = listed_uses(alloc, text, options)?;
+    let edition = &options.edition;
+    let choice = options.import_choice(&file.uses);
+    let listed = &file.listed.source;
+    let found = source_listing::repeated_imports(
+        alloc,
+        text,
+        &listed.places,
+        &listed.use_trees,
+        &listed.tree,
+        edition,
+        choice,
+    )?;
+    Ok(found)
+}
+
 /// `itemtree imports --duplicates`: a line for each import that repeats an earlier one of its module, or for those that
 /// no cfg disables; in colours or not.
 ///
@@ -85,19 +117,7 @@ pub fn duplicates(
         (λ out. spec.AreRepeated options.now is_colored (source_view source.entry) (string_bytes out)) }
     ensures refused { IfErr result (spec.HasNoList options.now source.entry.text.now) }
 {
-    let file = listed_uses(alloc, source.text, options)?;
-    let edition = &options.edition;
-    let choice = options.import_choice(&file.uses);
-    let listed = &file.listed.source;
-    let text = source_listing::repeated_lines(
-        alloc,
-        source,
-        &listed.places,
-        &listed.use_trees,
-        &listed.tree,
-        edition,
-        choice,
-        is_colored,
-    )?;
+    let repeats = repeated_imports(alloc, source.text, options)?;
+    let text = repeat_lines(alloc, source.path, &repeats, is_colored)?;
     Ok(text)
 }

@@ -4,24 +4,24 @@
 mod import_lists;
 mod laws;
 mod listed;
+mod looks;
 mod request;
 mod trees;
 
-ghost use Rattle.std.specs.Prelude.{◌≡◌, ◌≤◌, ◌^◌, length, map, IfOk, IfErr, OnOk, option_copied, string_bytes};
+ghost use Rattle.std.specs.Prelude.{◌≡◌, ◌≤◌, ◌^◌, length, map, IfOk, IfErr, OnOk, string_bytes};
 ghost use Rattle.itemtree_commands.specs.Answers as spec;
-ghost use Rattle.itemtree_commands.specs.{Inner.reading_by, Trees.HasOwnIds, Trees.IsTextUnread, Typing.IsSameInBody};
-ghost use Rattle.source_listing.specs.Views.{choice_view, look_view, query_view, reading_view, source_view};
+ghost use Rattle.itemtree_commands.specs.{Trees.HasOwnIds, Trees.IsTextUnread, Typing.IsSameInBody};
+ghost use Rattle.source_listing.specs.Views.{choice_view, query_view, source_view};
 
-use hir_input::{CfgOptions, Edition, Name};
-pub use import_lists::{duplicates, imports};
+use hir_input::{Edition, Name};
+pub use import_lists::{duplicates, imports, repeated_imports};
 use item_tree::CrateData;
 use list_forms::Form;
 use listed::listed_rows;
 pub use listed::{ListedTree, listed_tree};
 pub use request::source_request;
-use rust_mended::Mended;
 use source_changes::{Compared, change_lines};
-use source_listing::{Choice, Look, Query, Reading, Source, TagForm, without_ids};
+use source_listing::{Choice, Query, Source, TagForm, without_ids};
 use source_problems::{SourceProblem, source_problems};
 use std::alloc::{AllocError, Global};
 use trees::{checked_source, skips_docs};
@@ -45,44 +45,6 @@ impl Options {
         Choice {
             depth,
             only_active: self.only_active,
-        }
-    }
-
-    fn look(&self, depth: Option<usize>, is_colored: bool, is_flat: bool) -> Look
-        ensures { look_view result ≡ spec.look_of self.now depth is_colored is_flat }
-    {
-        Look {
-            choice: self.choice(depth),
-            is_colored,
-            is_flat,
-        }
-    }
-
-    /// The cfgs that are set, if members are listed under them.
-    fn members(&self, has_members: bool) -> Option<&CfgOptions>
-        ensures { option_copied result ≡ spec.if_members self.now has_members }
-    {
-        if has_members {
-            Some(&self.krate.cfg)
-        } else {
-            None
-        }
-    }
-
-    /// How headers and members are read.
-    fn reading<'a>(
-        &'a self,
-        text: &'a str,
-        mended: &'a Option<Mended>,
-        has_members: bool,
-    ) -> Reading<'a>
-        ensures { reading_view result ≡ reading_by self.now has_members text.now mended.now }
-    {
-        Reading {
-            text,
-            mended: mended.as_ref(),
-            edition: self.edition.year,
-            options: self.members(has_members),
         }
     }
 }
@@ -124,7 +86,8 @@ fn read(alloc: Global, text: &str, options: &Options) -> Result<SourceTree, Sour
 }
 
 /// `itemtree outline`: a line for each item and each member of one, or for those in fewer than so many items; with or
-/// without members, with or without colours, and with names of what is around them or blanks at the beginning.
+/// without members and the imports of uses that have a list, with or without colours, and with names of what is around
+/// them or blanks at the beginning.
 ///
 /// # Errors
 ///
@@ -136,20 +99,29 @@ pub fn outline(
     options: &Options,
     depth: Option<usize>,
     has_members: bool,
+    has_imports: bool,
     is_colored: bool,
     is_flat: bool,
 ) -> Result<String, SourceError>
-    ensures text { let outline = spec.IsOutline options.now depth has_members is_colored is_flat
+    ensures text { let outline = spec.IsOutline options.now depth has_members has_imports is_colored is_flat
         (source_view source.entry) in
         IfOk result (λ out. outline (string_bytes out)) }
     ensures refused { IfErr result (spec.HasNoList options.now source.entry.text.now) }
 {
     let file = listed_rows(alloc, source.text, options)?;
-    let look = options.look(depth, is_colored, is_flat);
+    let look = options.look(depth, has_imports, is_colored, is_flat);
     let reading = options.reading(source.text, &file.mended, has_members);
-    let edition = &options.edition;
-    let (places, tree) = (&file.source.places, &file.source.tree);
-    let text = source_listing::outline(alloc, source, places, tree, edition, reading, look)?;
+    let listed = &file.source;
+    let text = source_listing::outline(
+        alloc,
+        source,
+        &listed.places,
+        &listed.use_trees,
+        &listed.tree,
+        &options.edition,
+        reading,
+        look,
+    )?;
     Ok(text)
 }
 
@@ -182,7 +154,7 @@ pub fn outline_json(
 }
 
 /// `itemtree outline --flat --json`: a JSON object on a line for each item and each member of one, or for those in
-/// fewer than so many items; with or without members.
+/// fewer than so many items; with or without members and the imports of uses that have a list.
 ///
 /// # Errors
 ///
@@ -194,8 +166,9 @@ pub fn flat_json(
     options: &Options,
     depth: Option<usize>,
     has_members: bool,
+    has_imports: bool,
 ) -> Result<String, SourceError>
-    ensures text { let json = spec.AreFlatObjects options.now depth has_members
+    ensures text { let json = spec.AreFlatObjects options.now depth has_members has_imports
         (source_view source.entry) in
         IfOk result (λ out. json (string_bytes out)) }
     ensures refused { IfErr result (spec.HasNoList options.now source.entry.text.now) }
@@ -203,9 +176,18 @@ pub fn flat_json(
     let file = listed_rows(alloc, source.text, options)?;
     let choice = options.choice(depth);
     let reading = options.reading(source.text, &file.mended, has_members);
-    let edition = &options.edition;
-    let (places, tree) = (&file.source.places, &file.source.tree);
-    let text = source_listing::flat_lines(alloc, source, places, tree, edition, reading, choice)?;
+    let listed = &file.source;
+    let text = source_listing::flat_lines(
+        alloc,
+        source,
+        &listed.places,
+        &listed.use_trees,
+        &listed.tree,
+        &options.edition,
+        reading,
+        choice,
+        has_imports,
+    )?;
     Ok(text)
 }
 

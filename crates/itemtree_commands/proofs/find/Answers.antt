@@ -8,4 +8,4 @@ pub returns-clause-text : goal.returns-clause-text
 returns-clause-text c =
     let o = c.args.options.now in
     let s = source_view c.args.source in
-    listed_of_rows o c.args.has_members s c.in_ok-file.file (string_bytes c.in_ok-text.text) (λ x places rs. found_lines s x o.edition.reserved.items places (query_view c.args.query) rs) c.in_ok-file.ensures.text c.in_ok-file.ensures.tree (search rules)
+    listed_of_rows o c.args.has_members s c.in_ok-file.file (string_bytes c.in_ok-text.text) (λ x places rs. found_lines s x o.edition.reserved.items places.items (query_view c.args.query) rs) c.in_ok-file.ensures.text c.in_ok-file.ensures.tree (search rules)

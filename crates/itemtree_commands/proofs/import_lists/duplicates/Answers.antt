@@ -1,20 +1,9 @@
 use Rattle.std.proofs.Common.{ap, map, ◌∙◌}
-use Rattle.source_rows.specs.ListedFiles.{closers_in}
-use Rattle.source_listing.specs.Repeated.{repeated_lines}
-use Rattle.source_listing.specs.ImportCfgs.{ImportChoice}
-use Rattle.source_listing.specs.Uses.{placed}
-use Rattle.source_listing.specs.Views.{import_choice_view, source_view, use_cfgs_view}
-use Rattle.itemtree_commands.specs.Answers.{all_places, import_choice}
+use Rattle.source_listing.specs.Repeated.{repeat_lines}
+use Rattle.source_listing.specs.Views.{repeated_import_view}
 use Rattle.itemtree_commands.proofs.import_lists.duplicates.Goals as goal
 
 pub returns-clause-text : goal.returns-clause-text
 returns-clause-text c =
-    let o = c.args.options.now in
-    let s = source_view c.args.source in
-    let file = c.in_ok-file.file in
-    let has = c.in_ok-file.ensures.uses in
-    let places = all_places file.listed.source in
-    let forest = file.listed.source.tree.forest in
-    let uses = ap (map use_cfgs_view) c.deref.ensures.value ∙ has.uses in
-    let first = import_choice_view c.import_choice-choice.result in
-    (closers_in file.listed.mended, file.listed.source, has.listed, c.in_ok-text.ensures ∙ (λ i. repeated_lines c.args.is_colored s o.edition.reserved.items first (placed (c.deref-2.ensures.value i) (c.deref-3.ensures.value i)) forest) ∙ ap (λ (choice : ImportChoice). repeated_lines c.args.is_colored s o.edition.reserved.items choice places forest) (c.import_choice-choice.ensures ∙ ap (import_choice o) uses))
+    let lines = repeat_lines c.args.is_colored c.args.source.path.now in
+    (map repeated_import_view c.in_ok-repeats.repeats.items, c.in_ok-repeats.ensures.repeats, c.in_ok-text.ensures ∙ ap (λ xs. lines (map repeated_import_view xs)) c.deref.ensures.value)

@@ -1,0 +1,57 @@
+//! How lists are made under the options.
+ghost use Rattle.std.specs.Prelude.{◌≡◌, option_copied};
+ghost use Rattle.itemtree_commands.specs.Answers as spec;
+ghost use Rattle.itemtree_commands.specs.Inner.{reading_by};
+ghost use Rattle.source_listing.specs.Views.{look_view, reading_view};
+
+use crate::Options;
+use hir_input::CfgOptions;
+use rust_mended::Mended;
+use source_listing::{Look, Reading};
+
+impl Options {
+    pub(crate) fn look(
+        &self,
+        depth: Option<usize>,
+        has_imports: bool,
+        is_colored: bool,
+        is_flat: bool,
+    ) -> Look
+        ensures { look_view result ≡ spec.look_of self.now depth has_imports is_colored is_flat }
+    {
+        Look {
+            choice: self.choice(depth),
+            is_colored,
+            is_flat,
+            has_imports,
+        }
+    }
+
+    /// The cfgs that are set, if members are listed under them.
+    fn members(&self, has_members: bool) -> Option<&CfgOptions>
+        ensures { option_copied result ≡ spec.if_members self.now has_members }
+    {
+        if has_members {
+            Some(&self.krate.cfg)
+        } else {
+            None
+        }
+    }
+
+    /// How headers and members are read.
+    pub(crate) fn reading<'a>(
+        &'a self,
+        text: &'a str,
+        mended: &'a Option<Mended>,
+        has_members: bool,
+    ) -> Reading<'a>
+        ensures { reading_view result ≡ reading_by self.now has_members text.now mended.now }
+    {
+        Reading {
+            text,
+            mended: mended.as_ref(),
+            edition: self.edition.year,
+            options: self.members(has_members),
+        }
+    }
+}
