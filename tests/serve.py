@@ -79,14 +79,14 @@ def refused(number, error, told=None):
 
 EDIT_WORDS = 'a kind of edit: set_text, change_text, set_file, remove_file, set_block, remove_block or set_cfg'
 SHOW_WORDS = 'a kind of show: page, tree, imports, changed, outline, import_places, problems or find'
-UNITS_WORDS = 'characters, utf-16 or bytes, of outline, problems or find'
+UNITS_WORDS = 'characters, utf-16 or bytes, of outline, import_places, problems or find, or of tree or imports as json'
 META_WORDS = 'a kind of meta: path, key_value, tokens, cfg, cfg_attr or unsafe'
 # What is expected where a pointer leads, by its last step, or by the one before where that is a place in a list.
 EXPECTED_LINE = {
     'a list': 'crates skipped edits shows reserved cfg attrs stmts files', 'an object': 'edition syntax', 'two byte places': 'range',
     'a number below 2^32': 'file block root', 'a number below 2^64': 'start since', 'the number of a crate': 'crate', 'a string': 'text',
-    'a name or path': 'name', EDIT_WORDS: 'edit', SHOW_WORDS: 'show', 'text or json, of tree, imports or changed': 'as', UNITS_WORDS: 'units',
-    'true or false, of outline': 'members', '2015, 2018, 2021 or 2024': 'year',
+    'a name, path or glob': 'name', EDIT_WORDS: 'edit', SHOW_WORDS: 'show', 'text or json, of tree, imports or changed': 'as', UNITS_WORDS: 'units',
+    'true or false, of outline or find': 'members', '2015, 2018, 2021 or 2024': 'year',
     'a value without a float': 'id',
 }
 EXPECTED_SYNTAX = {
@@ -316,11 +316,12 @@ def is_word(word):
 
 
 def wrong_asked_path(value):
-    """Names with two colons between each two, from the top on behind two more or `crate::`."""
+    """Names with two colons between each two, from the top on behind two more or `crate::`; in the last one stars and question marks too."""
     if not isinstance(value, str):
         return []
-    names = value[2:] if value.startswith('::') else value.removeprefix('crate::')
-    return None if all(map(is_word, names.split('::'))) else []
+    names = (value[2:] if value.startswith('::') else value.removeprefix('crate::')).split('::')
+    names[-1] = re.sub('[*?]', '_', names[-1])
+    return None if all(map(is_word, names)) else []
 
 
 def wrong_truth(value):
@@ -432,11 +433,12 @@ def wrong_show(value, crates):
         return [] if holds_float(value) else unknown_key(value, SHOW_KEYS)
     krate, file, block = ('crate', number_up_to(crates - 1), True), ('file', wrong_u32, True), ('block', wrong_u32, True)
     place = file if isinstance(value, dict) and value.get('file') is not None else block
+    units = UNITS if isinstance(value, dict) and value.get('as') == 'json' else NO_UNITS
     return wrong_kind(value, 'show', {
-        **{kind: [krate, place, *AS_USUAL, AS] for kind in ('tree', 'imports')},
-        'page': [krate, place, *AS_USUAL, ('as', one_of('text'), False)], 'changed': [('since', wrong_u64, True), *AS_USUAL, AS],
-        'outline': [krate, file, NO_AS, UNITS, ('members', wrong_truth, False)], 'import_places': [krate, file, NO_AS, *AS_USUAL],
-        'problems': [file, NO_AS, UNITS, AS_USUAL[1]], 'find': [('name', wrong_asked_path, True), UNITS, NO_AS, AS_USUAL[1]]})
+        **{kind: [krate, place, AS, units, NO_MEMBERS] for kind in ('tree', 'imports')},
+        'page': [krate, place, AS, units, NO_MEMBERS, ('as', one_of('text'), False)], 'changed': [('since', wrong_u64, True), AS, NO_UNITS, NO_MEMBERS],
+        'outline': [krate, file, NO_AS, UNITS, MEMBERS], 'import_places': [krate, file, NO_AS, UNITS, NO_MEMBERS],
+        'problems': [file, NO_AS, UNITS, NO_MEMBERS], 'find': [('name', wrong_asked_path, True), UNITS, NO_AS, MEMBERS]})
 
 
 def wrong_files(value):
@@ -465,7 +467,8 @@ CFGS = {'key': [('key', wrong_name, True), ('value', wrong_string, True)], 'all'
         'any': [('any', list_of(wrong_cfg), True)], 'not': [('not', wrong_cfg, False)]}
 NAME, VIS, PATH, CTXT = ('name', wrong_name, False), ('vis', wrong_vis, False), ('path', wrong_path, False), ('ctxt', wrong_ctxt, False)
 AS, NO_AS = ('as', one_of('text', 'json'), False), ('as', lambda value: [], False)
-UNITS, AS_USUAL = ('units', one_of('characters', 'utf-16', 'bytes'), False), [(key, lambda value: [], False) for key in ('units', 'members')]
+UNITS, NO_UNITS = ('units', one_of('characters', 'utf-16', 'bytes'), False), ('units', lambda value: [], False)
+MEMBERS, NO_MEMBERS = ('members', wrong_truth, False), ('members', lambda value: [], False)
 ATTRS, ITEM_LIST, CFG = ('attrs', list_of(wrong_meta), False), ('items', list_of(wrong_item), False), ('cfg', wrong_cfg, False)
 METAS = {
     'path': [PATH, CTXT],
@@ -707,16 +710,20 @@ WRONG_SHOWS = [
     ({'show': 'outline', 'file': 1}, '/crate'), ({'show': 'import_places', 'crate': 0}, '/file'),
     ({'show': 'import_places', 'crate': 1, 'file': 1}, '/crate'), ({'show': 'import_places', 'crate': 0, 'file': ''}, '/file'),
     *(({**show, 'units': word}, '/units') for show in OWN for word in ('', 'UTF-16', 'utf-8', 'columns', 16, True, ['bytes'])),
-    *(({**show, 'units': word}, '/units') for show in (*REQUESTED, OWN[1]) for word in ('characters', 'bytes')),
-    *(({**show, 'members': True}, '/members') for show in (*REQUESTED, *OWN[1:])),
-    *(({**OWN[0], 'members': word}, '/members') for word in ('true', 0, 1, [], {})),
+    *(({**show, 'units': word}, '/units') for show in (*REQUESTED, {**REQUESTED[3], 'as': 'json'}) for word in ('characters', 'bytes')),
+    *(({**show, 'units': word}, '/units') for show in ({**show, 'as': 'json'} for show in REQUESTED) for word in ('', 'utf16', 8)),
+    ({**PAGE, 'as': 'json', 'units': 'bytes'}, '/as'), ({**REQUESTED[1], 'as': 'text', 'units': 'bytes'}, '/units'),
+    ({**REQUESTED[2], 'as': 'xml', 'units': 'bytes'}, '/as'), ({**REQUESTED[2], 'as': 'json', 'units': 'bytes', 'members': True}, '/members'),
+    *(({**show, 'members': True}, '/members') for show in (*REQUESTED, *OWN[1:3])),
+    *(({**show, 'members': word}, '/members') for show in (OWN[0], OWN[3], {**OWN[3], 'name': 'f*'}) for word in ('true', 0, 1, [], {})),
     ({'show': 'find', 'name': '', 'units': 'x'}, '/name'), ({**PAGE, 'members': False, 'as': 'json'}, '/members'),
     ({'show': 'problems'}, '/file'), ({'show': 'problems', 'file': -1}, '/file'), ({'show': 'problems', 'block': 0}, '/file'),
     ({'show': 'find'}, '/name'), ({'show': 'find', 'name': 1}, '/name'), ({'show': 'find', 'name': None}, '/name'),
     ({'show': 'find', 'name': ''}, '/name'), ({'show': 'find', 'name': 'a\nb'}, '/name'), ({'show': 'find', 'name': 'r#'}, '/name'),
     *(({'show': 'find', 'name': name}, '/name') for name in (
         'r#\n', 'a b', '"', '#f', 'r#r#f', 'R#f', '::', 'a::', 'crate::', '::crate::', 'a:b', 'a:::b', 'a::::b', ':::a', 'a::b c', 'a<b>',
-        'a::r#', '1', 'a-b', ' a', 'a ', '$crate::a', 'crate', 'r#crate::a', 'crate::crate', 'self::a', 'a::crate::b', 'super::a', 'a::Self')),
+        'a::r#', '1', 'a-b', ' a', 'a ', '$crate::a', 'crate', 'r#crate::a', 'crate::crate', 'self::a', 'a::crate::b', 'super::a', 'a::Self',
+        '*::a', 'a?::b', '* a', 'a-*', '1*', '*::', '::::*', 'a:*', 'r#r#*', '#*', '[ab]', 'a{b,c}')),
     *(({**show, 'as': word}, '/as') for show in REQUESTED for word in ('', 'xml', 'JSON', 0, True, ['json'], {})),
     ({'show': 'changed', 'since': '', 'as': ''}, '/since'), ({'show': 'tree', 'crate': 0, 'as': 0}, '/block'),
     ({**PAGE, 'as': 'json'}, '/as'), ({'show': 'page', 'crate': 0, 'block': 0, 'as': 'json'}, '/as'),
@@ -776,10 +783,11 @@ GOOD_SHOWS = [
     {'show': 'outline', 'crate': 0, 'file': 0}, {'show': 'import_places', 'crate': 0, 'file': 0, 'block': -1},
     {'show': 'problems', 'file': 0, 'crate': -1}, {'show': 'outline', 'crate': 0, 'file': 0, 'as': None},
     *({**show, 'as': word} for show in REQUESTED for word in ('text', 'json', None) if (show, word) != (PAGE, 'json')),
-    *({**show, 'units': word} for show in OWN if show['show'] != 'import_places' for word in ('characters', 'utf-16', 'bytes', None)),
-    *({**OWN[0], 'members': flag} for flag in (True, False, None)), *({**show, 'units': None, 'members': None} for show in (*REQUESTED, *OWN)),
+    *({**show, 'units': word} for show in (*OWN, *({**show, 'as': 'json'} for show in REQUESTED[1:3]))
+      for word in ('characters', 'utf-16', 'bytes', None)),
+    *({**show, 'members': flag} for show in (OWN[0], OWN[3]) for flag in (True, False, None)), *({**show, 'units': None, 'members': None} for show in (*REQUESTED, *OWN)),
     *({'show': 'find', 'name': name, 'as': None} for name in (
-        'f', '_', 'é', 'r#fn', 'fn', 'a::b', '::a', '::a::r#b', 'crate::a')),
+        'f', '_', 'é', 'r#fn', 'fn', 'a::b', '::a', '::a::r#b', 'crate::a', '*', '?', 'é*', 'r#*', '**', 'a::*', '::?a', 'crate::*b?', '*1')),
 ]
 GOOD_OPENING = {
     'crates': [{'root': 0, 'noted': {}, 'files': [2**32 - 1, 0, 1, 0]},
@@ -1216,11 +1224,12 @@ def check_units(server, path, file, items):
     with open(path, encoding='utf-8', newline='') as text:
         lines = text.read().removeprefix('\ufeff').split('\n')
     names = sorted({item['name'] for item in all_items(items) if item['name'] and item['id']})[:20]
-    shows = [{**told_of(file)[0], 'members': True}, told_of(file)[2], *({'show': 'find', 'name': name} for name in names)]
+    trees = [{'show': kind, 'crate': 0, 'file': file, 'as': 'json'} for kind in ('tree', 'imports')]
+    shows = [{**told_of(file)[0], 'members': True}, *told_of(file)[1:3], *trees, *({'show': 'find', 'name': name} for name in names)]
     first = json.loads(server.ask({'shows': shows}))['shows']
     for units in ('characters', 'utf-16', 'bytes'):
         got = json.loads(server.ask({'shows': [{**show, 'units': units} for show in shows]}))['shows']
-        got, wanted = ([values if at < 2 else [value for value in values if value['file'] == file] for at, values in enumerate(all_values)]
+        got, wanted = ([values if at < 5 else [value for value in values if value['file'] == file] for at, values in enumerate(all_values)]
                        for all_values in (got, first))
         wanted = in_units(wanted, lines, units)
         tell(got == wanted, f'{units} in {path}', written(got), written(wanted))
@@ -1248,6 +1257,39 @@ def check_names(server, program, outlines, paths):
         tell(sorted(line.split(': ')[0] for line in lines) == sorted(places), f'find {path}, and itemtree find', lines, places)
     got = server.ask({'shows': [{'show': 'find', 'name': 'nowhere'}]})
     tell(json.loads(got)['shows'] == [[]], 'find nowhere', got)
+
+
+def found_of(item, file, scope):
+    """An item or a member of an outline, as a glob finds it."""
+    own = {key: item[key] for key in ('column', 'id', 'kind', 'line', 'name', 'range')}
+    return dict(sorted({**own, 'crate': 0, 'file': file, 'scope': scope}.items()))
+
+
+def check_globs(server, program, paths, cfg):
+    """What a glob finds, and members where they are asked for, beside what `itemtree find` does of the same files, in its order. All that
+    has a name is found by a star, as it stands in the outlines."""
+    names = ('*', '?', '*e*', 'a*', '??', '::*', 'crate::?', 'round::*', 'round::Circle::*', 'Circle::*', 'r#t*', 'a::b*', 'nowhere*')
+    for name, has_members in [*((name, flag) for name in names for flag in (False, True)), ('area', True), ('f', True), ('nowhere', True)]:
+        got = server.ask({'shows': [{'show': 'find', 'name': name, 'members': has_members}]})
+        found = json.loads(got)['shows'][0]
+        lines = output(program, 'find', '--json', *([] if has_members else ['--no-members']), *cfg, name, *paths).splitlines()
+        told = [{**{key: entry[key] for key in ('column', 'kind', 'line', 'name', 'scope')}, 'path': paths[entry['file']]} for entry in found]
+        tell(told == list(map(json.loads, lines)) and written(found) in got and all(list(entry) == sorted(entry) for entry in found),
+             f'find {name}, and itemtree find --json', told, lines)
+        outlines = json.loads(server.ask({'shows': [{**told_of(file)[0], 'members': has_members} for file in range(len(paths))]}))['shows']
+        if name == '*':
+            scopes = [entry['scope'] for entry in found]
+            items = [(item, file) for file, outline in enumerate(outlines) for item in all_items(outline) if item['name'] is not None]
+            wanted = [found_of(item, file, scope) for (item, file), scope in zip(items, scopes)]
+            tell(found == wanted and len(items) == len(found), 'find all', written(found), written(wanted))
+    for units in ('utf-16', 'bytes'):
+        asked = {'show': 'find', 'name': '*', 'members': True}
+        first, got = json.loads(server.ask({'shows': [asked, {**asked, 'units': units}]}))['shows']
+        wanted = []
+        for entry in first:
+            with open(paths[entry['file']], encoding='utf-8', newline='') as text:
+                wanted.append(in_units(entry, text.read().removeprefix('\ufeff').split('\n'), units))
+        tell(got == wanted, f'find all by {units}', written(got), written(wanted))
 
 
 def check_kept(server, request, count):
@@ -1338,6 +1380,48 @@ def check_found_paths(program):
                       [{**f[0], 'column': 20, 'line': 1, 'range': [16, 25]}, {**f[2], 'file': 1}, f[2]]]))])
 
 
+def check_found_globs(program):
+    """A glob finds what stands in files without a text and in blocks too, in the order of places, of crates, and as it is written. A member
+    has no id, and what is found in a mended text has its place in the text itself."""
+    module = {'is': 'module', 'name': 'a', 'items': [{**FUNCTION, 'name': 'fa'}, FUNCTION, {'is': 'use'}]}
+    edits = [{'edit': 'set_block', 'block': 1, 'stmts': [{'item': module}, {'item': FUNCTION}]},
+             {**SET, 'file': 2, 'syntax': {'root': 'source_file', 'items': [module]}},
+             {'edit': 'set_text', 'file': 0, 'text': 'impl b::C { fn f(&self) { (] } }\nstruct f { fa: u8, #[cfg(x)] fx: u8 }'},
+             {'edit': 'set_text', 'file': 1, 'text': 'fn fa() {}\nfn f() {}'}]
+    fn, id_f = {'kind': 'fn', 'name': 'f', 'scope': ''}, 'Fn[BE8F, 0]'
+    # The ids of other items are those of the outlines.
+    with Server(program) as server:
+        shows = [{'show': 'outline', 'crate': 0, 'file': 0}, {'show': 'outline', 'crate': 0, 'file': 1}]
+        got = json.loads(server.ask({**OPENED, 'edits': edits, 'shows': shows}))['shows']
+        id_struct, id_fa = got[0][1]['id'], got[1][0]['id']
+    member = {'column': 16, 'file': 0, 'id': None, 'kind': 'fn', 'line': 1, 'name': 'f', 'range': [12, 30], 'scope': 'C'}
+    struct = {'column': 8, 'file': 0, 'id': id_struct, 'kind': 'struct', 'line': 2, 'name': 'f', 'range': [33, 70], 'scope': ''}
+    field = {'column': 12, 'file': 0, 'id': None, 'kind': 'field', 'line': 2, 'name': 'fa', 'range': [44, 50], 'scope': 'f'}
+    other = {'column': 30, 'file': 0, 'id': None, 'kind': 'field', 'line': 2, 'name': 'fx', 'range': [52, 68], 'scope': 'f'}
+    first = {'column': 4, 'file': 1, 'id': id_fa, 'kind': 'fn', 'line': 1, 'name': 'fa', 'range': [0, 10], 'scope': ''}
+    second = {**fn, 'column': 4, 'file': 1, 'id': id_f, 'line': 2, 'range': [11, 20]}
+    inner = [{**fn, 'name': name, 'id': id_f, 'scope': 'a'} for name in ('fa', 'f')]
+    in_file, in_block = [{**told, 'file': 2} for told in inner], [{**told, 'block': 1} for told in (*inner, {**fn, 'id': id_f})]
+    alone = [struct, first, second, *in_file, *in_block]
+    wanted = [
+        ({'name': 'f*'}, alone), ({'name': 'f*', 'members': True}, [member, struct, field, other, *alone[1:]]),
+        ({'name': 'f', 'members': True}, [member, struct, second, in_file[1], in_block[1], in_block[2]]),
+        ({'name': '::f?'}, [first]), ({'name': '::f?', 'members': True}, [first]), ({'name': 'a::*'}, [*in_file, *in_block[:2]]),
+        ({'name': 'f::*', 'members': True}, [field, other]), ({'name': 'r#f::r#f?', 'members': True}, [field, other]),
+        ({'name': 'C::*', 'members': True}, [member]), ({'name': 'C::*'}, []), ({'name': '?::f*', 'members': True}, None)]
+    shows = [{'show': 'find', **asked} for asked, told in wanted if told is not None]
+    answers = [told for _, told in wanted if told is not None]
+    crates = [{'root': 0}, {'root': 0, 'files': [1]}]
+    of_both = [[dict(sorted({**entry, 'crate': krate}.items())) for place in ([0], [1], [2], ['block'])
+                for krate in (0, 1) for entry in told if [entry.get('file', 'block')] == place and (krate == 0 or place in ([1], ['block']))]
+               for told in answers]
+    check_lines(program, 'find by globs', [
+        ({'crates': crates, 'edits': edits, 'shows': shows}, answered(4, of_both)),
+        ({'edits': [{'edit': 'remove_file', 'file': file} for file in (0, 1, 2)], 'shows': shows[:1]},
+         answered(7, [[entry for entry in of_both[0] if 'block' in entry]])),
+        ({'shows': [{'show': 'find', 'name': wanted[-1][0]['name']}]}, no_request(7, '/shows/0/name'))])
+
+
 def check_values(program):
     """What is shown as JSON values, beside its texts."""
     text = {'edit': 'set_text', 'file': 1, 'text': 'use a::{b, c as d};\n/// e\npub fn f() {}'}
@@ -1424,9 +1508,11 @@ EXPECTED = [
     ({'edits': [file_of({'is': 'fn', 'name': ''})]}, '/edits/0/syntax/items/0/name', 'a name'),
     ({'edits': [file_of({'is': 'struct', 'fields': 1})]}, '/edits/0/syntax/items/0/fields', 'another value'),
     ({'edits': [file_of(0)]}, '/edits/0/syntax/items/0', 'an object'), ({'shows': [{'show': 'x'}]}, '/shows/0/show', SHOW_WORDS),
-    ({'shows': [{'show': 'find', 'name': 'a b'}]}, '/shows/0/name', 'a name or path'),
+    ({'shows': [{'show': 'find', 'name': 'a b'}]}, '/shows/0/name', 'a name, path or glob'),
+    ({'shows': [{'show': 'find', 'name': 'a', 'members': 1}]}, '/shows/0/members', 'true or false, of outline or find'),
     ({'shows': [{'show': 'changed', 'since': -1}]}, '/shows/0/since', 'a number below 2^64'),
     ({'shows': [{'show': 'changed', 'since': 0, 'as': 0}]}, '/shows/0/as', 'text or json, of tree, imports or changed'),
+    ({'shows': [{'show': 'problems', 'file': 0, 'units': 'utf-8'}]}, '/shows/0/units', UNITS_WORDS),
     ({'shows': [{'show': 'page', 'nam': 0}]}, '/shows/0/nam', 'no such key'),
 ]
 
@@ -1510,6 +1596,7 @@ def check_places(options):
     check_found(program)
     check_files(program)
     check_found_paths(program)
+    check_found_globs(program)
     check_values(program)
     check_unset(program)
     check_editions(program)
@@ -1525,6 +1612,7 @@ def check_places(options):
                 tell(got == answered(len(found), []), 'texts are set', got, answered(len(found), []))
                 outlines = [check_text(server, program, path, file, cfg) for file, path in enumerate(paths)]
                 check_names(server, program, outlines, paths)
+                check_globs(server, program, paths, cfg)
                 check_kept(server, request, len(found))
                 check_forgotten(server, options.program, request, outlines, paths)
                 ends_well(server, 'places')
@@ -1534,7 +1622,7 @@ def check_places(options):
 
 def check_one_changed(server, whole, file, edits, text):
     """A line of edits of one file, beside a session in which the text is set whole."""
-    shows = told_of(file) + [{'show': 'find', 'name': 'f'}]
+    shows = told_of(file) + [{'show': 'find', 'name': 'f'}, {'show': 'find', 'name': '*', 'members': True}]
     got = json.loads(server.ask({'edits': edits, 'shows': shows}))
     wanted = json.loads(whole.ask({'edits': [{'edit': 'set_text', 'file': file, 'text': text}], 'shows': shows}))
     tell(got.get('shows') == wanted['shows'], f'{shown(written(edits))} is the text {text!r}', got, wanted)
@@ -1605,7 +1693,7 @@ def check_mended_text(server, program, path, text):
     """What is told of file 0, beside the commands and a new session. The commands read what lists read."""
     with open(path, 'w', encoding='utf-8', newline='') as file:
         file.write(text)
-    finds = [{'show': 'find', 'name': name} for name in NAMES]
+    finds = [*({'show': 'find', 'name': name} for name in NAMES), {'show': 'find', 'name': '*', 'members': True}]
     shows = told_of(0) + [{'show': 'imports', 'crate': 0, 'file': 0}, *finds]
     got = json.loads(server.ask({'shows': shows}))['shows']
     items = json.loads(output(program, 'outline', '--json', '--no-members', path))['items']
@@ -1892,6 +1980,7 @@ def try_at_once(server, program, case):
     shows += [{**show, 'as': 'json'} for show in shows if show['show'] == 'tree']
     shows += [{'show': 'problems', **place} for place in places]
     finds = [{'show': 'find', 'name': path} for name in NAMES for path in (name, f'::{name}', f'a::{name}', f'crate::f::{name}')]
+    finds += [{'show': 'find', 'name': name, 'members': flag} for name in ('*', 'a::*', '::?') for flag in (False, True)]
     got = server.ask({'shows': shows + finds})
     with Server(program) as other:
         wanted = other.ask({**case.opening, 'edits': case.sent, 'shows': shows + finds})

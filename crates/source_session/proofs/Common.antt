@@ -57,7 +57,7 @@ pub use Rattle.source_session.specs.Texts.{AreMeant, Fails, FailsAt, FileTexts, 
 pub use Rattle.source_session.specs.Touched.{AreTouched, IsBehindBy, Touched, touched_keys}
 pub use Rattle.source_session.specs.declared.error.LineError.{LineError}
 pub use Rattle.source_session.specs.declared.error.LineError.TheVariants.{NotChanged, NotJson, NotRequest, OutOfMemory, Refused, TooLong}
-pub use Rattle.source_session.specs.declared.show.LineShow.TheVariants.{Changes, Find, ImportPlaces, Outline, Problems, Table, TreeItems}
+pub use Rattle.source_session.specs.declared.show.LineShow.TheVariants.{Changes, Find, ImportPlaces, Outline, Problems, Search, Table, TreeItems}
 pub use Rattle.source_session.specs.declared.splice.ChangeFault.{ChangeFault}
 pub use Rattle.source_session.specs.declared.texts.SourceText.{SourceText}
 pub use Rattle.std.proofs.Math.Seq.{drop-append-add, drop-drop}

@@ -5,10 +5,10 @@ use Rattle.serde_json.specs.Data.{Data, Members}
 use Rattle.serde_json.specs.Find.{as_object}
 use Rattle.serde_json.specs.Written.{has_float}
 use Rattle.item_tree_request.specs.Requests.{IsJsonText}
-use Rattle.message_stream.specs.Answers.{OneEach}
+use Rattle.message_stream.specs.Answers.{IsStill, OneEach}
 use Rattle.message_stream.specs.Lines.{IsServedEach, fed}
 use Rattle.message_stream.specs.Messages.{Told, whole, too_long, no_memory, IsToldOf}
-use Rattle.message_stream.specs.Served.{IsServed}
+use Rattle.message_stream.specs.Served.{Turn, IsServed, messages_of}
 use Rattle.message_stream.proofs.Each.{served_each}
 use Rattle.source_session.specs.Histories.{Says, Exchange, answer_of, AsksNext, AsksFirst, StandAll, StandFirst, Stand, StandOf, IsLedOn, AreOf, OpensNone, IsLedByAnswers, IsLedOnByAnswers}
 use Rattle.source_session.proofs.Made.{same_length}
@@ -253,8 +253,8 @@ led_by_answers (line ∷ lines) new text h =
 
 -- ---- the texts of the answers, each on its line
 
-pub led_on_by_texts : (s : Session) (lines : List (List ℕ)) (new : Open) (text : List ℕ) → IsServed fed (OneEach Replies) (Some s) lines new text → IsLedOnByAnswers s lines text new
-led_on_by_texts s lines new text served = goes_on s lines new text (served_each Replies (Some s) new lines text served)
+pub led_on_by_texts : (s : Session) (turns : List Turn) (new : Open) (text : List ℕ) → IsServed fed (OneEach Replies) IsStill (Some s) turns new text → IsLedOnByAnswers s (messages_of turns) text new
+led_on_by_texts s turns new text served = goes_on s (messages_of turns) new text (served_each Replies (Some s) new turns text served)
 
-pub led_by_texts : (lines : List (List ℕ)) (new : Open) (text : List ℕ) → IsServed fed (OneEach Replies) None lines new text → IsLedByAnswers lines text new
-led_by_texts lines new text served = led_by_answers lines new text (served_each Replies None new lines text served)
+pub led_by_texts : (turns : List Turn) (new : Open) (text : List ℕ) → IsServed fed (OneEach Replies) IsStill None turns new text → IsLedByAnswers (messages_of turns) text new
+led_by_texts turns new text served = led_by_answers (messages_of turns) new text (served_each Replies None new turns text served)

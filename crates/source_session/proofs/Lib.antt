@@ -2,6 +2,7 @@ pub mod Readings
 pub mod Pieces
 pub mod Paths
 pub mod Finders
+pub mod Matches
 pub mod Numbers
 pub mod Kept
 pub mod Ranges

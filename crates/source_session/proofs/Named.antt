@@ -1,6 +1,6 @@
 -- Crates that lines name, and values without floats.
 use Rattle.std.proofs.Common.{◌≡◌, Bool, ℕ, ◌+◌, ◌<◌, suc, false, ◌||◌, List, [], ◌∷◌, ◌++◌, Option, Some, None, is_some, option_map, All, length, map, filter, take, get_or, refl, sym, ap, subst, ◌∙◌, arith}
-use Rattle.source_session.proofs.Common.{take_more, AllByRecursion, AllZip, Crate, FileAstId, Edit, Place, File, Block, edit_view, NamesKnown, State, change_number, Knows, Entry, ItemPlace, Table, Outline, TreeItems, ImportPlaces, Changes, Problems, Find, ast_of, found_form, found_value, id_form, in_file, place_by_id, AreUnfloating, Knowing, Session, all_items, change_form, change_with, item_objects, items_member, pathless_source, shown_tree, unset_form, unset_place, IsPresentValue, IsShowValue, IsValueUnless, is_sought, text_bytes, text_places, places_of_text, text_problems, text_reading, Texts, text_of_place, text_in}
+use Rattle.source_session.proofs.Common.{take_more, AllByRecursion, AllZip, Crate, FileAstId, Edit, Place, File, Block, edit_view, NamesKnown, State, change_number, Knows, Entry, ItemPlace, Table, Outline, TreeItems, ImportPlaces, Changes, Problems, Find, Search, ast_of, found_form, found_value, id_form, in_file, place_by_id, AreUnfloating, Knowing, Session, all_items, change_form, change_with, item_objects, items_member, pathless_source, shown_tree, unset_form, unset_place, IsPresentValue, IsShowValue, IsValueUnless, is_sought, text_bytes, text_places, places_of_text, text_problems, text_reading, Texts, text_of_place, text_in}
 use Rattle.serde_json.specs.Data.{Data}
 use Rattle.serde_json.specs.Written.{has_float}
 use Rattle.hir_input.specs.declared.ids.HirFileId.{HirFileId}
@@ -11,8 +11,8 @@ use Rattle.item_tree_request.specs.declared.request.show.Show.TheVariants.{OfTre
 use Rattle.item_tree_request.specs.Named as request
 use Rattle.source_listing.proofs.NoFloats.{no_float_in_outline, no_float_in_imports, no_float_in_problems}
 use Rattle.line_index.specs.declared.Units.{Units}
-use Rattle.line_index.specs.declared.Units.TheVariants.{Characters}
-use Rattle.source_session.specs.Shown.{member_options}
+use Rattle.source_session.proofs.Matches.{no_float_id, no_float_in_matches}
+use Rattle.source_session.specs.SourceTexts.{member_options}
 use Rattle.source_session.specs.declared.show.LineShow.{LineShow}
 
 -- ---- crates
@@ -33,10 +33,6 @@ edits_known count table known [] named = tt
 edits_known count table known (e ∷ es) named = (edit_known count table known e (named 0 e (omega arith)), edits_known count table known es (λ k d within. named (suc k) d (omega (arith, within))))
 
 -- ---- floats
-
-no_float_id : (id : Option FileAstId) → has_float (id_form id) ≡ false
-no_float_id None = refl
-no_float_id (Some id) = refl
 
 no_float_in_file : (units : Units) (file : HirFileId) (krate : Crate) (id : Data) (text : List ℕ) (place : Option ItemPlace) → has_float id ≡ false → has_float (in_file units file krate id text place) ≡ false
 no_float_in_file units file krate id text None h = ap (λ b. b || false) h
@@ -66,7 +62,7 @@ no_float_in_changes (c ∷ cs) = rw (no_float_change_form c, no_float_in_changes
 no_float_items : (u : Session) (krate : Crate) (place : Place) (units : Units) (has_members : Bool) → AreUnfloating (item_objects u krate place units has_members)
 no_float_items u krate place units has_members =
     let t = text_of_place u.texts place in
-    let s = pathless_source (text_bytes t) in no_float_in_outline units s (text_reading u.edition.0 (member_options u krate has_members) t) u.edition.1 (text_places t) all_items (shown_tree u krate place)
+    let s = pathless_source (text_bytes t) in no_float_in_outline units s (text_reading u.edition.0 (member_options u.table krate has_members) t) u.edition.1 (text_places t) all_items (shown_tree u krate place)
 
 -- ---- shows
 
@@ -74,10 +70,11 @@ no_float_present : (u : Session) (show : LineShow) (d : Data) → IsPresentValue
 no_float_present u (Table (OfTree show)) d h = ap has_float h
 no_float_present u (Table (Changed since)) d h = ap has_float h.2
 no_float_present u (Outline krate file units has_members) d h = ap has_float h ∙ no_float_items u krate (File file) units has_members
-no_float_present u (TreeItems krate place) d h = ap has_float h ∙ no_float_change (item_objects u krate place Characters false) (place, krate, change_number u.table place krate.0) (no_float_items u krate place Characters false)
-no_float_present u (ImportPlaces krate place) d h = let t = text_of_place u.texts place in ap has_float h ∙ no_float_in_imports (text_bytes t) u.edition.1 (places_of_text t) (shown_tree u krate place).forest
+no_float_present u (TreeItems krate place units) d h = ap has_float h ∙ no_float_change (item_objects u krate place units false) (place, krate, change_number u.table place krate.0) (no_float_items u krate place units false)
+no_float_present u (ImportPlaces krate place units) d h = let t = text_of_place u.texts place in ap has_float h ∙ no_float_in_imports units (text_bytes t) u.edition.1 (places_of_text t) (shown_tree u krate place).forest
 no_float_present u (Changes since) d h = ap has_float h.2 ∙ no_float_in_changes h.0
 no_float_present u (Problems file units) d h = let t = text_in u.texts file.0 in ap has_float h ∙ no_float_in_problems units (text_bytes t) (text_problems t)
+no_float_present u (Search q) d h = ap has_float h.2 ∙ no_float_in_matches u q h.0
 no_float_present u (Find q) d h = ap has_float h.2 ∙ no_float_in_found q.units u.table u.texts (filter (is_sought u.files u.table q) h.0)
 
 no_float_unset : (place : Place) → has_float (unset_form place) ≡ false

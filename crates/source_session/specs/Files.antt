@@ -1,5 +1,5 @@
 -- The files that crates have.
-use Rattle.std.specs.Prelude.{ℕ, ◌^◌, Bool, true, List, codes, Option, Some, None, slice_get, unwrap_or}
+use Rattle.std.specs.Prelude.{◌≡◌, ℕ, ◌^◌, Bool, true, List, codes, filter, Option, Some, None, slice_get, unwrap_or}
 use Rattle.std.specs.Coded.{Coded, coded_ℕ, coded_list, coded_option}
 use Rattle.std.specs.FinSet as set
 use Rattle.std.specs.Ordering.{nat_cmp}
@@ -9,7 +9,8 @@ use Rattle.hir_input_json.specs.Reading.{Reading, reading_map}
 use Rattle.hir_input_json.specs.Forms.{list_of, maybe_at, whole_form}
 use Rattle.item_tree_db.specs.declared.place.Place.{Place}
 use Rattle.item_tree_db.specs.declared.place.Place.TheVariants.{File, Block}
-use Rattle.item_tree_db.specs.Since.{Change}
+use Rattle.item_tree_db.specs.Since.{Change, IsSince}
+use Rattle.item_tree_db.specs.State.{State}
 
 -- the numbers of some files
 abbrev pub Files : Type 0
@@ -40,6 +41,10 @@ is_in_crate files krate (Block block) = true
 -- a change of one of a crate's places
 abbrev pub is_change_in : CrateFiles → Change → Bool
 is_change_in files c = is_in_crate files c.1 c.0
+
+-- all changes since a number in what the crates have
+abbrev pub AreOwnChanges : CrateFiles → State → ℕ → List Change → Type 0
+AreOwnChanges files s since own = (changes : List Change) × IsSince s since changes × (own ≡ filter (is_change_in files) changes)
 
 -- files in code
 abbrev pub files_code : Coded CrateFiles

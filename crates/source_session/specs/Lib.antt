@@ -11,6 +11,7 @@ pub mod Texts
 pub mod Sessions
 pub mod SourceTexts
 pub mod Found
+pub mod Searches
 pub mod Shown
 pub mod Replies
 pub mod Histories

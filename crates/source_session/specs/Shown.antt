@@ -4,14 +4,12 @@ use Rattle.serde_json.specs.Data.{Data, string, array, object, Members, no_membe
 use Rattle.serde_json.specs.View.{items_of}
 use Rattle.hir_input.specs.declared.ids.Crate.{Crate}
 use Rattle.hir_input.specs.declared.ids.HirFileId.{HirFileId}
-use Rattle.hir_input.specs.Cfg.{AtomView}
 use Rattle.line_index.specs.declared.Units.{Units}
-use Rattle.line_index.specs.declared.Units.TheVariants.{Characters}
 use Rattle.item_tree.specs.Node.{Unfolding}
 use Rattle.item_tree_db.specs.declared.place.Place.{Place}
 use Rattle.item_tree_db.specs.declared.place.Place.TheVariants.{File, Block}
-use Rattle.item_tree_db.specs.Since.{Change, IsSince}
-use Rattle.item_tree_db.specs.State.{State, change_number, options, present, unfolding_at}
+use Rattle.item_tree_db.specs.Since.{Change}
+use Rattle.item_tree_db.specs.State.{State, change_number, present, unfolding_at}
 use Rattle.item_tree_request.specs.Outputs.{table_change_line, printed}
 use Rattle.item_tree_request.specs.declared.request.show.Show.{Show}
 use Rattle.item_tree_request.specs.declared.request.show.Show.TheVariants.{OfTree, Changed}
@@ -20,11 +18,12 @@ use Rattle.source_listing.specs.Lines.{Choice, Source}
 use Rattle.list_forms.specs.Lines.{count_form}
 use Rattle.source_listing.specs.Objects.{tree_objects, problem_objects}
 use Rattle.source_session.specs.declared.show.LineShow.{LineShow}
-use Rattle.source_session.specs.declared.show.LineShow.TheVariants.{Table, Outline, TreeItems, ImportPlaces, Changes, Problems, Find}
-use Rattle.source_session.specs.Files.{CrateFiles, is_change_in}
+use Rattle.source_session.specs.declared.show.LineShow.TheVariants.{Table, Outline, TreeItems, ImportPlaces, Changes, Problems, Find, Search}
+use Rattle.source_session.specs.Files.{AreOwnChanges, CrateFiles}
 use Rattle.source_session.specs.Found.{IsFound}
+use Rattle.source_session.specs.Searches.{IsSearchValue}
 use Rattle.source_session.specs.Sessions.{Session}
-use Rattle.source_session.specs.SourceTexts.{text_bytes, text_places, places_of_text, text_problems, text_reading}
+use Rattle.source_session.specs.SourceTexts.{member_options, text_bytes, text_places, places_of_text, text_problems, text_reading}
 use Rattle.source_session.specs.Texts.{text_of_place, text_in}
 
 -- ---- trees
@@ -41,16 +40,12 @@ all_items = record { depth = None; only_active = false }
 abbrev pub pathless_source : List ℕ → Source
 pathless_source text = record { path = []; text = text }
 
--- the options of a crate, where members are asked for
-abbrev pub member_options : Session → Crate → Bool → Option (List AtomView)
-member_options u krate has_members = if has_members then options u.table krate else None
-
 -- the objects of the items of a place, by columns of these units, with members or without
 abbrev pub item_objects : Session → Crate → Place → Units → Bool → List Data
 item_objects u krate place units has_members =
     let t = text_of_place u.texts place in
     let s = pathless_source (text_bytes t) in
-    let read = text_reading u.edition.0 (member_options u krate has_members) t in
+    let read = text_reading u.edition.0 (member_options u.table krate has_members) t in
     tree_objects units s read u.edition.1 (text_places t) all_items (shown_tree u krate place)
 
 -- those of a file
@@ -58,8 +53,8 @@ abbrev pub outline_form : Session → Crate → HirFileId → Units → Bool →
 outline_form u krate file units has_members = array (items_of (item_objects u krate (File file) units has_members))
 
 -- the objects of the imports of a place
-abbrev pub imports_form : Session → Crate → Place → Data
-imports_form u krate place = let t = text_of_place u.texts place in array (items_of (import_objects (text_bytes t) u.edition.1 (places_of_text t) (shown_tree u krate place).forest))
+abbrev pub imports_form : Session → Crate → Place → Units → Data
+imports_form u krate place units = let t = text_of_place u.texts place in array (items_of (import_objects units (text_bytes t) u.edition.1 (places_of_text t) (shown_tree u krate place).forest))
 
 -- the objects of the problems of a file's text
 abbrev pub problems_form : Session → HirFileId → Units → Data
@@ -81,12 +76,8 @@ abbrev pub items_member : List Data → Members
 items_member items = member (codes "items") (array (items_of items)) no_members
 
 -- the object of a crate's tree of a place: when it changed last, and its items
-abbrev pub tree_form : Session → Crate → Place → Data
-tree_form u krate place = change_with (items_member (item_objects u krate place Characters false)) (place, krate, change_number u.table place krate.0)
-
--- all changes since a number in what the crates have
-abbrev pub AreOwnChanges : CrateFiles → State → ℕ → List Change → Type 0
-AreOwnChanges files s since own = (changes : List Change) × IsSince s since changes × (own ≡ filter (is_change_in files) changes)
+abbrev pub tree_form : Session → Crate → Place → Units → Data
+tree_form u krate place units = change_with (items_member (item_objects u krate place units false)) (place, krate, change_number u.table place krate.0)
 
 -- their objects
 abbrev pub AreChangeValues : CrateFiles → State → ℕ → Data → Type 0
@@ -107,11 +98,12 @@ IsTextOf files reserved s (Changed since) d = AreChangeLines files s since d
 abbrev pub IsPresentValue : Session → LineShow → Data → Type 0
 IsPresentValue u (Table show) d = IsTextOf u.files u.edition.1 u.table show d
 IsPresentValue u (Outline krate file units has_members) d = d ≡ outline_form u krate file units has_members
-IsPresentValue u (TreeItems krate place) d = d ≡ tree_form u krate place
-IsPresentValue u (ImportPlaces krate place) d = d ≡ imports_form u krate place
+IsPresentValue u (TreeItems krate place units) d = d ≡ tree_form u krate place units
+IsPresentValue u (ImportPlaces krate place units) d = d ≡ imports_form u krate place units
 IsPresentValue u (Changes since) d = AreChangeValues u.files u.table since d
 IsPresentValue u (Problems file units) d = d ≡ problems_form u file units
 IsPresentValue u (Find sought) d = IsFound u.files u.table u.texts sought d
+IsPresentValue u (Search searched) d = IsSearchValue u searched d
 
 -- ---- places at which nothing is set
 
@@ -120,11 +112,12 @@ abbrev pub place_shown : LineShow → Option Place
 place_shown (Table (OfTree show)) = Some show.place
 place_shown (Table (Changed since)) = None
 place_shown (Outline krate file units has_members) = Some (File file)
-place_shown (TreeItems krate place) = Some place
-place_shown (ImportPlaces krate place) = Some place
+place_shown (TreeItems krate place units) = Some place
+place_shown (ImportPlaces krate place units) = Some place
 place_shown (Changes since) = None
 place_shown (Problems file units) = Some (File file)
 place_shown (Find sought) = None
+place_shown (Search searched) = None
 
 -- a place, if nothing is set there
 abbrev pub if_unset : State → Place → Option Place

@@ -4,6 +4,7 @@ use Rattle.serde_json.specs.Data.{Data}
 use Rattle.serde_json.specs.Written.{has_float}
 use Rattle.hir_input.specs.declared.ids.Crate.{Crate}
 use Rattle.hir_input.specs.declared.ids.HirFileId.{HirFileId}
+use Rattle.line_index.specs.declared.Units.{Units}
 use Rattle.hir_input_json.specs.Reading.{Reading, right, wrong, reading_map, here, under, ◌>>=◌}
 use Rattle.hir_input_json.specs.Forms.{required_at, optional_at, by_form, wrong_at, on_word, number_form, below, text_form, object_members}
 use Rattle.item_tree_db.specs.declared.place.Place.TheVariants.{File}
@@ -17,9 +18,9 @@ use Rattle.item_tree_request.specs.declared.request.show.TreeShow.{TreeShow}
 use Rattle.source_session.specs.declared.keys.LineObject.TheVariants.{OfShows}
 use Rattle.source_session.specs.Keys.{none_at, only_known}
 use Rattle.source_session.specs.declared.show.LineShow.{LineShow}
-use Rattle.source_session.specs.declared.show.LineShow.TheVariants.{Table, Outline, TreeItems, ImportPlaces, Changes, Problems, Find}
-use Rattle.source_session.specs.Sought.{asked_path_in}
-use Rattle.source_session.specs.Units.{as_usual, members_asked, units_at}
+use Rattle.source_session.specs.declared.show.LineShow.TheVariants.{Table, Outline, TreeItems, ImportPlaces, Changes, Problems, Find, Search}
+use Rattle.source_session.specs.Sought.{Searched, asked_path_in, asked_pattern, is_wide}
+use Rattle.source_session.specs.Units.{members_asked, units_at, units_if}
 
 -- one of this many crates, which are numbered from 0
 abbrev pub crate_in : ℕ → Data → Reading Crate
@@ -48,8 +49,9 @@ import_places_show count d = do
   krate ← crate_in count d
   file ← file_named d
   _ ← none_at (codes "as") d
-  _ ← as_usual d
-  right (ImportPlaces krate (File file))
+  units ← units_at d
+  _ ← none_at (codes "members") d
+  right (ImportPlaces krate (File file) units)
 
 -- of what is wrong with the text of a file
 abbrev pub problems_show : Data → Reading LineShow
@@ -60,13 +62,18 @@ problems_show d = do
   _ ← none_at (codes "members") d
   right (Problems file units)
 
--- of the items that have a path
+-- of what is looked for, or of the items of the path that it is
+abbrev pub find_by : Searched → Data → Reading LineShow
+find_by s d = if is_wide s then right (Search s) else reading_map Find (asked_path_in d)
+
+-- of the items that have a path, or of all that match a glob, also of members where these are asked for
 abbrev pub find_show : Data → Reading LineShow
 find_show d = do
-  sought ← asked_path_in d
+  names ← required_at (codes "name") asked_pattern d
+  units ← units_at d
   _ ← none_at (codes "as") d
-  _ ← none_at (codes "members") d
-  right (Find sought)
+  has_members ← members_asked d
+  find_by (record { pattern = names; has_members = has_members; units = units }) d
 
 -- ---- shows of a request
 
@@ -83,23 +90,30 @@ wants_values d = do
 abbrev pub as_values : Data → Reading Bool
 as_values = optional_at false (codes "as") wants_values
 
--- what is answered by values; a page has its text alone
-abbrev pub tree_values : ShowKind → TreeShow → Option LineShow
-tree_values Page show = None
-tree_values Tree show = Some (TreeItems show.krate show.place)
-tree_values Imports show = Some (ImportPlaces show.krate show.place)
+-- whether columns are told: of values alone that are of a tree
+abbrev pub tells_columns : Bool → Show → Bool
+tells_columns false show = false
+tells_columns true (OfTree show) = true
+tells_columns true (Changed since) = false
 
-abbrev pub answered_by : Bool → Show → Option LineShow
-answered_by false show = Some (Table show)
-answered_by true (OfTree show) = tree_values show.kind show
-answered_by true (Changed since) = Some (Changes since)
+-- what is answered by values, by columns of these units; a page has its text alone
+abbrev pub tree_values : ShowKind → TreeShow → Units → Option LineShow
+tree_values Page show units = None
+tree_values Tree show units = Some (TreeItems show.krate show.place units)
+tree_values Imports show units = Some (ImportPlaces show.krate show.place units)
+
+abbrev pub answered_by : Bool → Show → Units → Option LineShow
+answered_by false show units = Some (Table show)
+answered_by true (OfTree show) units = tree_values show.kind show units
+answered_by true (Changed since) units = Some (Changes since)
 
 abbrev pub request_show : ℕ → Data → Reading LineShow
 request_show count d = do
   show ← request_shows.show count d
-  _ ← as_usual d
   by_values ← as_values d
-  by_form (answered_by by_values show) right (wrong_at (codes "as"))
+  units ← units_if (tells_columns by_values show) d
+  _ ← none_at (codes "members") d
+  by_form (answered_by by_values show units) right (wrong_at (codes "as"))
 
 -- ---- shows
 
@@ -134,8 +148,9 @@ IsCrateOf count krate = (krate.0 < count) × (krate.0 < 2 ^ 32)
 abbrev pub ShowNamesCrate : ℕ → LineShow → Type 0
 ShowNamesCrate count (Table show) = request.NamesCrate count show
 ShowNamesCrate count (Outline krate file units has_members) = IsCrateOf count krate
-ShowNamesCrate count (TreeItems krate place) = IsCrateOf count krate
-ShowNamesCrate count (ImportPlaces krate place) = IsCrateOf count krate
+ShowNamesCrate count (TreeItems krate place units) = IsCrateOf count krate
+ShowNamesCrate count (ImportPlaces krate place units) = IsCrateOf count krate
 ShowNamesCrate count (Changes since) = Unit {0}
 ShowNamesCrate count (Problems file units) = Unit {0}
 ShowNamesCrate count (Find sought) = Unit {0}
+ShowNamesCrate count (Search searched) = Unit {0}

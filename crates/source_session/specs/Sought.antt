@@ -1,5 +1,6 @@
 -- Paths of names that are looked for.
-use Rattle.std.specs.Prelude.{ℕ, Bool, ◌==◌, ◌&&◌, if◌then◌else◌, List, [], ◌∷◌, ◌++◌, codes, map, Option, Some, None, flat_map, unwrap_or}
+use Rattle.std.specs.Prelude.{ℕ, Bool, false, ◌==◌, ◌&&◌, ◌||◌, if◌then◌else◌, List, [], ◌∷◌, ◌++◌, codes, map, Option, Some, None, flat_map, unwrap_or}
+use Rattle.std.specs.List.{list_any}
 use Rattle.serde_json.specs.Data.{Data}
 use Rattle.hir_input_json.specs.Reading.{Reading, right, here, ◌>>=◌}
 use Rattle.hir_input.specs.Name.{name_in}
@@ -10,6 +11,8 @@ use Rattle.tree_walk.specs.Declarations.{Declaration, declared_at}
 use Rattle.decl_index.specs.declared.entry.Entry.{Entry}
 use Rattle.decl_index.specs.Lookup.{entry_has_name}
 use Rattle.source_listing.specs.Paths.{bare_segment, is_sought_path}
+use Rattle.source_listing.specs.Patterns as globs
+use Rattle.source_listing.specs.Patterns.{Pattern}
 use Rattle.source_listing.specs.Sought.{Sought, sought}
 use Rattle.source_session.specs.Files.{CrateFiles, is_in_crate}
 use Rattle.line_index.specs.declared.Units.{Units}
@@ -23,7 +26,27 @@ pub record SoughtItem : Type 0 where
   pub name : List ℕ
   pub units : Units
 
+-- names of which the last may be a glob, whether members are looked for too, and what columns of what is found count
+pub record Searched : Type 0 where
+  pub pattern : Pattern
+  pub has_members : Bool
+  pub units : Units
+
+-- a glob of a name has a star or a question mark
+abbrev pub holds_mark : List ℕ → Bool
+holds_mark name = list_any (λ b. b == 42 || b == 63) name
+
+-- what is looked for is more than the items of one name
+abbrev pub is_wide : Searched → Bool
+is_wide s = s.has_members || holds_mark s.pattern.name
+
 -- ---- how it is written
+
+-- names as the command takes them
+abbrev pub asked_pattern : Data → Reading Pattern
+asked_pattern d = do
+  s ← text_form d
+  here (globs.pattern false s)
 
 -- the last name of a path: what stands behind its last colon
 abbrev pub last_name : List ℕ → Reading (List ℕ)

@@ -1,8 +1,10 @@
 -- The text of a file with what was read of it, empty where it has none.
-use Rattle.std.specs.Prelude.{ℕ, List, [], string_bytes, Option, option_and_then}
+use Rattle.std.specs.Prelude.{ℕ, Bool, if◌then◌else◌, List, [], string_bytes, Option, None, option_and_then}
 use Rattle.std.specs.Option.{option_map_or}
 use Rattle.hir_input.specs.declared.edition.EditionYear.{EditionYear}
+use Rattle.hir_input.specs.declared.ids.Crate.{Crate}
 use Rattle.hir_input.specs.Cfg.{AtomView}
+use Rattle.item_tree_db.specs.State.{State, options}
 use Rattle.rust_mended.specs.declared.text.Mended.{Mended}
 use Rattle.rust_items.specs.declared.source_file.ItemPlace.{ItemPlace}
 use Rattle.rust_items.specs.declared.log.Problem.{Problem}
@@ -31,6 +33,10 @@ text_problems t = option_map_or (λ x. x.problems.items) t []
 -- the mended text, if that was read
 abbrev pub text_mended : Option SourceText → Option Mended
 text_mended t = option_and_then (λ x. x.mended) t
+
+-- the options of a crate, where members are asked for
+abbrev pub member_options : State → Crate → Bool → Option (List AtomView)
+member_options s krate has_members = if has_members then options s krate else None
 
 -- what headers and members are read of: the text that was read; under these options, where members are asked for
 abbrev pub text_reading : EditionYear → Option (List AtomView) → Option SourceText → MemberReading

@@ -1,7 +1,7 @@
 -- What a show may say of how it is answered.
-use Rattle.std.specs.Prelude.{ℕ, Bool, false, List, [], codes}
+use Rattle.std.specs.Prelude.{ℕ, Bool, true, false, List, [], codes}
 use Rattle.serde_json.specs.Data.{Data}
-use Rattle.hir_input_json.specs.Reading.{Reading, right, wrong, ◌>>=◌}
+use Rattle.hir_input_json.specs.Reading.{Reading, right, wrong, reading_map, ◌>>=◌}
 use Rattle.hir_input_json.specs.Forms.{flag, on_word, optional_at, text_form}
 use Rattle.line_index.specs.declared.Units.{Units}
 use Rattle.line_index.specs.declared.Units.TheVariants.{Characters, Utf16, Bytes}
@@ -24,8 +24,7 @@ units_at = optional_at Characters (codes "units") units_form
 abbrev pub members_asked : Data → Reading Bool
 members_asked = optional_at false (codes "members") flag
 
--- nothing is said of both
-abbrev pub as_usual : Data → Reading (Unit {0})
-as_usual d = do
-  _ ← none_at (codes "units") d
-  none_at (codes "members") d
+-- where columns are told; elsewhere there is no choice
+abbrev pub units_if : Bool → Data → Reading Units
+units_if true d = units_at d
+units_if false d = reading_map (λ _. Characters) (none_at (codes "units") d)

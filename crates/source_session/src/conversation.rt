@@ -170,10 +170,15 @@ impl Conversation {
 }
 
 impl Service for Conversation {
-    ghost use Rattle.message_stream.specs.Answers.{OneEach};
+    ghost use Rattle.std.specs.Prelude.{true};
+    ghost use Rattle.message_stream.specs.Answers.{IsStill, OneEach};
     ghost use Rattle.source_session.specs.Replies.{Replies};
 
     ghost answers = { OneEach Replies };
+
+    ghost rests = { IsStill };
+
+    ghost rested = { λ _. true };
 
     ghost over = { λ _. false };
 
@@ -183,6 +188,14 @@ impl Service for Conversation {
             Ok(text) => Answer::Made(text),
             Err(_) => Answer::Fixed(OUT_OF_MEMORY),
         }
+    }
+
+    fn rest(&mut self, alloc: Global) -> Answer {
+        Answer::Several(Vec::new(alloc))
+    }
+
+    fn is_rested(&self) -> bool {
+        true
     }
 
     fn is_over(&self) -> bool {

@@ -28,6 +28,9 @@ const EDITS: &str =
 const SHOWS: &str =
     "a kind of show: page, tree, imports, changed, outline, import_places, problems or find";
 
+const UNITS: &str =
+    "characters, utf-16 or bytes, of outline, import_places, problems or find, or of tree or imports as json";
+
 // By the keys of lines, and of what stands in their lists.
 fn of_line(key: &str) -> &'static str
     ensures { result.now ≡ told_by_row line_keys key.now }
@@ -48,12 +51,12 @@ fn of_line(key: &str) -> &'static str
         "crate" => "the number of a crate",
         "text" => "a string",
         "range" => "two byte places",
-        "name" => "a name or path",
+        "name" => "a name, path or glob",
         "edit" => EDITS,
         "show" => SHOWS,
         "as" => "text or json, of tree, imports or changed",
-        "units" => "characters, utf-16 or bytes, of outline, problems or find",
-        "members" => "true or false, of outline",
+        "units" => UNITS,
+        "members" => "true or false, of outline or find",
         "year" => "2015, 2018, 2021 or 2024",
         "id" => "a value without a float",
         _ => OTHER,

@@ -190,8 +190,8 @@ pub(crate) struct EntryFinder<'a> {
     spots: Finder<'a>,
 }
 
-// What finds the items of a text, none where there is no text.
-fn finder_of(text: Option<&SourceText>) -> Finder<'_>
+/// What finds the items of a text, none where there is no text.
+pub(crate) fn finder_of(text: Option<&SourceText>) -> Finder<'_>
     ensures { let text = option_copied text.entry in
         IsFinderOf (text_bytes text) (text_places text) result }
 {

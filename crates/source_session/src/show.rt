@@ -5,13 +5,14 @@ ghost use Rattle.hir_input_json.specs.Forms.{required_at};
 ghost use Rattle.hir_input_json.specs.Held.{held};
 ghost use Rattle.hir_input_json.specs.Reads.{Reads};
 ghost use Rattle.item_tree_request.specs.Named as request;
-ghost use Rattle.source_session.specs.Sought.{asked_path, asked_path_in};
+ghost use Rattle.source_listing.specs.Views.{pattern_view};
+ghost use Rattle.source_session.specs.Sought.{asked_path, asked_path_in, asked_pattern};
 ghost use Rattle.source_session.specs.Shows as spec;
 ghost use Rattle.source_session.specs.Shows.{ShowNamesCrate, IsCrateOf};
 
 use crate::keys::{LineObject, Members, none_in, only_known};
-use crate::sought::{SoughtItem, sought_of};
-use crate::units::{as_usual, members_asked, units_at};
+use crate::sought::{Searched, SoughtItem, pattern_of, sought_of};
+use crate::units::{members_asked, units_at, units_if};
 use hir_input::{Crate, HirFileId};
 use hir_input_json::float::has_float;
 use hir_input_json::member::{field, id_at, members_of, word_at};
@@ -20,6 +21,7 @@ use item_tree_db::Place;
 use item_tree_request::request::show::{Show, ShowKind, TreeShow, show_in};
 use line_index::Units;
 use serde_json::Value;
+use source_listing::Pattern;
 use std::alloc::Global;
 
 /// A show of a line.
@@ -39,11 +41,13 @@ pub enum LineShow {
     TreeItems {
         krate: Crate,
         place: Place,
+        units: Units,
     },
     /// The imports of a crate's tree of a place, with the places of their use trees.
     ImportPlaces {
         krate: Crate,
         place: Place,
+        units: Units,
     },
     /// What changed since a number.
     Changes {
@@ -57,6 +61,10 @@ pub enum LineShow {
     /// The items that have a path.
     Find {
         sought: SoughtItem,
+    },
+    /// The items and members that match a glob.
+    Search {
+        searched: Searched,
     },
 }
 
@@ -84,6 +92,16 @@ fn path_at(alloc: Global, members: &Members) -> Result<SoughtItem, Fault>
 {
     match field(members, "name") {
         Some(found) => sought_of(alloc, found).in_member(alloc, "name"),
+        None => Err(Fault::at(alloc, "name")),
+    }
+}
+
+fn pattern_at(alloc: Global, members: &Members) -> Result<Pattern, Fault>
+    ensures { Reads pattern_view result
+        (required_at (codes "name") asked_pattern (held members.now)) }
+{
+    match field(members, "name") {
+        Some(found) => pattern_of(alloc, found).in_member(alloc, "name"),
         None => Err(Fault::at(alloc, "name")),
     }
 }
@@ -123,22 +141,37 @@ fn as_values(alloc: Global, members: &Members) -> Result<bool, Fault>
     }
 }
 
+// Whether columns are told.
+fn tells_columns(by_values: bool, show: &Show) -> bool
+    ensures { result ≡ spec.tells_columns by_values show.now }
+{
+    by_values && matches!(show, Show::OfTree(_))
+}
+
 // What a show of a tree is answered by, if by values.
-fn tree_values(show: TreeShow) -> Option<LineShow>
-    ensures shown { result ≡ spec.tree_values show.kind show }
+fn tree_values(show: TreeShow, units: Units) -> Option<LineShow>
+    ensures shown { result ≡ spec.tree_values show.kind show units }
     ensures known { (count : ℕ) → IsCrateOf count show.krate
         → IfSome result (ShowNamesCrate count) }
 {
     let (krate, place) = (show.krate, show.place);
     match show.kind {
         ShowKind::Page => None,
-        ShowKind::Tree => Some(LineShow::TreeItems { krate, place }),
-        ShowKind::Imports => Some(LineShow::ImportPlaces { krate, place }),
+        ShowKind::Tree => Some(LineShow::TreeItems {
+            krate,
+            place,
+            units,
+        }),
+        ShowKind::Imports => Some(LineShow::ImportPlaces {
+            krate,
+            place,
+            units,
+        }),
     }
 }
 
-fn answered_by(by_values: bool, show: Show) -> Option<LineShow>
-    ensures shown { result ≡ spec.answered_by by_values show }
+fn answered_by(by_values: bool, show: Show, units: Units) -> Option<LineShow>
+    ensures shown { result ≡ spec.answered_by by_values show units }
     ensures known { (count : ℕ) → request.NamesCrate count show
         → IfSome result (ShowNamesCrate count) }
 {
@@ -146,7 +179,7 @@ fn answered_by(by_values: bool, show: Show) -> Option<LineShow>
         return Some(LineShow::Table(show));
     }
     match show {
-        Show::OfTree(show) => tree_values(show),
+        Show::OfTree(show) => tree_values(show, units),
         Show::Changed { since } => Some(LineShow::Changes { since }),
     }
 }
@@ -156,9 +189,10 @@ fn request_show(alloc: Global, members: &Members, count: usize) -> Result<LineSh
     ensures known { IfOk result (ShowNamesCrate count) }
 {
     let show = show_in(alloc, members, count)?;
-    as_usual(alloc, members)?;
     let by_values = as_values(alloc, members)?;
-    match answered_by(by_values, show) {
+    let units = units_if(alloc, members, tells_columns(by_values, &show))?;
+    none_in(alloc, members, "members")?;
+    match answered_by(by_values, show, units) {
         Some(show) => Ok(show),
         None => Err(Fault::at(alloc, "as")),
     }
@@ -191,8 +225,13 @@ fn import_places_show(alloc: Global, members: &Members, count: usize) -> Result<
     let krate = crate_at(alloc, members, count)?;
     let place = Place::File(file_at(alloc, members)?);
     none_in(alloc, members, "as")?;
-    as_usual(alloc, members)?;
-    Ok(LineShow::ImportPlaces { krate, place })
+    let units = units_at(alloc, members)?;
+    none_in(alloc, members, "members")?;
+    Ok(LineShow::ImportPlaces {
+        krate,
+        place,
+        units,
+    })
 }
 
 fn problems_show(alloc: Global, members: &Members) -> Result<LineShow, Fault>
@@ -206,14 +245,28 @@ fn problems_show(alloc: Global, members: &Members) -> Result<LineShow, Fault>
     Ok(LineShow::Problems { file, units })
 }
 
+// A show of what is looked for, or of the items of the path that it is.
+fn find_by(alloc: Global, members: &Members, searched: Searched) -> Result<LineShow, Fault>
+    ensures reads { Reads (λ show. show) result (spec.find_by searched (held members.now)) }
+    ensures known { (count : ℕ) → IfOk result (ShowNamesCrate count) }
+{
+    if searched.is_wide() {
+        return Ok(LineShow::Search { searched });
+    }
+    let sought = sought_at(alloc, members)?;
+    Ok(LineShow::Find { sought })
+}
+
 fn find_show(alloc: Global, members: &Members) -> Result<LineShow, Fault>
     ensures reads { Reads (λ show. show) result (spec.find_show (held members.now)) }
     ensures known { (count : ℕ) → IfOk result (ShowNamesCrate count) }
 {
-    let sought = sought_at(alloc, members)?;
+    let pattern = pattern_at(alloc, members)?;
+    let units = units_at(alloc, members)?;
     none_in(alloc, members, "as")?;
-    none_in(alloc, members, "members")?;
-    Ok(LineShow::Find { sought })
+    let has_members = members_asked(alloc, members)?;
+    let searched = Searched::new(pattern, has_members, units);
+    find_by(alloc, members, searched)
 }
 
 // A show after edits of a table of this many crates, of these members.

@@ -7,7 +7,7 @@ ghost use Rattle.item_tree_db.specs.State.{IsKnown, present};
 ghost use Rattle.item_tree_request.specs.Outputs.{Knows, printed};
 ghost use Rattle.source_listing.specs.Views.{choice_view, reading_view};
 ghost use Rattle.source_session.specs.Found.{IsFound};
-ghost use Rattle.source_session.specs.SourceTexts.{text_reading};
+ghost use Rattle.source_session.specs.SourceTexts.{member_options, text_reading};
 ghost use Rattle.source_session.specs.Shown as spec;
 ghost use Rattle.source_session.specs.Shows.{IsCrateOf, ShowNamesCrate};
 ghost use Rattle.source_session.specs.Shown.{AreChangeValues, IsPresentValue, IsShowValue, IsTextOf};
@@ -20,7 +20,7 @@ use crate::session::Session;
 use crate::show::LineShow;
 use crate::sought::SoughtItem;
 use crate::table_changes::{changes_text, changes_value, tree_value};
-use crate::texts::{text_at, text_of};
+use crate::texts::{SourceText, text_at, text_of};
 use crate::touched::refresh;
 use hir_input::{CfgOptions, Crate, Edition, EditionYear, HirFileId};
 use item_tree_db::{Place, Sources};
@@ -77,8 +77,10 @@ fn place_of(show: &LineShow) -> Option<Place>
         LineShow::Outline { file, .. } | LineShow::Problems { file, .. } => Some(Place::File(
             *file,
         )),
-        LineShow::Table(Show::Changed { .. }) | LineShow::Changes { .. } | LineShow::Find { .. } =>
-            { None }
+        LineShow::Table(Show::Changed { .. })
+        | LineShow::Changes { .. }
+        | LineShow::Find { .. }
+        | LineShow::Search { .. } => None,
     }
 }
 
@@ -143,18 +145,37 @@ fn empty_reading(edition: EditionYear, options: Option<&CfgOptions>) -> Reading<
     }
 }
 
-impl Session {
-    // The options of a crate, where members are asked for.
-    fn member_options(&self, krate: Crate, has_members: bool) -> Option<&CfgOptions>
-        requires { IsCrateOf self.now.count krate }
-        ensures { option_copied result ≡ spec.member_options self.now krate has_members }
-    {
-        if has_members {
-            return Some(self.sources.cfg_options(krate));
-        }
-        None
+/// How headers and members are read of a text, or where there is none.
+pub(crate) fn reading_of<'a>(
+    text: Option<&'a SourceText>,
+    edition: EditionYear,
+    options: Option<&'a CfgOptions>,
+) -> Reading<'a>
+    ensures { reading_view result
+        ≡ text_reading edition (option_copied options.entry) (option_copied text.entry) }
+{
+    match text {
+        Some(text) => text.reading(edition, options),
+        None => empty_reading(edition, options),
     }
+}
 
+/// The options of a crate, where members are asked for.
+pub(crate) fn member_options(
+    sources: &Sources,
+    krate: Crate,
+    has_members: bool,
+) -> Option<&CfgOptions>
+    requires { IsKnown sources.now krate }
+    ensures { option_copied result ≡ member_options sources.now krate has_members }
+{
+    if has_members {
+        return Some(sources.cfg_options(krate));
+    }
+    None
+}
+
+impl Session {
     // The objects of the items of a place.
     fn items(
         &self,
@@ -168,7 +189,7 @@ impl Session {
         ensures { IfOk result (λ items. map view items.items
             ≡ item_objects self.now krate place units has_members) }
     {
-        let options = self.member_options(krate, has_members);
+        let options = member_options(&self.sources, krate, has_members);
         let (choice, edition) = (all_items(), &self.edition);
         let tree = self.sources.tree(place, krate);
         match text_at(&self.texts, place) {
@@ -213,18 +234,30 @@ impl Session {
         Ok(Value::Array(items))
     }
 
-    fn tree_items(&self, alloc: Global, krate: Crate, place: Place) -> Result<Value, AllocError>
+    fn tree_items(
+        &self,
+        alloc: Global,
+        krate: Crate,
+        place: Place,
+        units: Units,
+    ) -> Result<Value, AllocError>
         requires { IsCrateOf self.now.count krate }
-        ensures { IfOk result (λ value. view value ≡ tree_form self.now krate place) }
+        ensures { IfOk result (λ value. view value ≡ tree_form self.now krate place units) }
     {
-        let items = self.items(alloc, krate, place, Units::Characters, false)?;
+        let items = self.items(alloc, krate, place, units, false)?;
         let change = self.sources.changed(place, krate);
         tree_value(alloc, place, krate, change, items)
     }
 
-    fn import_places(&self, alloc: Global, krate: Crate, place: Place) -> Result<Value, AllocError>
+    fn import_places(
+        &self,
+        alloc: Global,
+        krate: Crate,
+        place: Place,
+        units: Units,
+    ) -> Result<Value, AllocError>
         requires { IsCrateOf self.now.count krate }
-        ensures { IfOk result (λ value. view value ≡ imports_form self.now krate place) }
+        ensures { IfOk result (λ value. view value ≡ imports_form self.now krate place units) }
     {
         let tree = self.sources.tree(place, krate);
         let items = match text_at(&self.texts, place) {
@@ -235,8 +268,9 @@ impl Session {
                 &text.use_trees,
                 tree,
                 &self.edition,
+                units,
             )?,
-            None => import_items(alloc, "", &[], &[], tree, &self.edition)?,
+            None => import_items(alloc, "", &[], &[], tree, &self.edition, units)?,
         };
         Ok(Value::Array(items))
     }
@@ -293,11 +327,20 @@ impl Session {
                 units,
                 has_members,
             } => self.outline(alloc, *krate, *file, *units, *has_members),
-            LineShow::TreeItems { krate, place } => self.tree_items(alloc, *krate, *place),
-            LineShow::ImportPlaces { krate, place } => self.import_places(alloc, *krate, *place),
+            LineShow::TreeItems {
+                krate,
+                place,
+                units,
+            } => self.tree_items(alloc, *krate, *place, *units),
+            LineShow::ImportPlaces {
+                krate,
+                place,
+                units,
+            } => self.import_places(alloc, *krate, *place, *units),
             LineShow::Changes { since } => self.changes(alloc, *since),
             LineShow::Problems { file, units } => self.problems(alloc, *file, *units),
             LineShow::Find { sought } => self.find(alloc, sought),
+            LineShow::Search { searched } => self.search(alloc, searched),
         }
     }
 

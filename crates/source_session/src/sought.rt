@@ -3,7 +3,8 @@ ghost use Rattle.std.specs.Prelude.{◌≡◌, ◌&&◌, nat_eq};
 ghost use Rattle.std.specs.List.{ends_with};
 ghost use Rattle.serde_json.specs.View.{view};
 ghost use Rattle.hir_input_json.specs.{Reading.here, Reads.Reads};
-ghost use Rattle.source_listing.specs.{Sought.sought, Views.sought_view};
+ghost use Rattle.source_listing.specs.{Sought.sought, Views.pattern_view, Views.query_view, Views.sought_view};
+ghost use Rattle.source_session.specs.Searches.{query_of};
 ghost use Rattle.source_session.specs.Sought as spec;
 
 use crate::parts::{part_at, parts};
@@ -11,8 +12,9 @@ use hir_input::Name;
 use hir_input_json::Fault;
 use hir_input_json::name::name_of;
 use line_index::Units;
+use list_forms::Form;
 use serde_json::Value;
-use source_listing::{SoughtPath, is_sought_path, sought_path};
+use source_listing::{Pattern, Query, SoughtPath, is_sought_path, sought_path, sought_pattern};
 use std::alloc::Global;
 use std::marker::Model;
 
@@ -31,6 +33,27 @@ impl Model for SoughtItem {
     ghost Value = { spec.SoughtItem };
 
     ghost view = { λ x. record { path = sought_view x.path; name = x.name; units = x.units } };
+}
+
+/// Names of which the last may be a glob, whether members are looked for too, and what columns of what is found count.
+#[derive(Debug, Drop)]
+pub struct Searched {
+    pattern: Pattern,
+    has_members: bool,
+    units: Units,
+}
+
+impl Model for Searched {
+    ghost use Rattle.source_listing.specs.Views.{pattern_view};
+    ghost use Rattle.source_session.specs.Sought as spec;
+
+    ghost Value = { spec.Searched };
+
+    ghost view = { λ x. record {
+      pattern = pattern_view x.pattern;
+      has_members = x.has_members;
+      units = x.units;
+    } };
 }
 
 #[tactic(auto, using(crate::proofs::Pieces::same_count))]
@@ -65,6 +88,77 @@ pub(crate) fn sought_of(alloc: Global, value: &Value) -> Result<SoughtItem, Faul
     let name = last_name(alloc, &path.path)?;
     let units = Units::Characters;
     Ok(SoughtItem { path, name, units })
+}
+
+/// Names as the command takes them.
+///
+/// `WrongForm` comes only where they are not of their form (`Sought.asked_pattern`).
+pub(crate) fn pattern_of(alloc: Global, value: &Value) -> Result<Pattern, Fault>
+    ensures { Reads pattern_view result (spec.asked_pattern (view value.now)) }
+{
+    let Some(text) = value.as_str() else {
+        return Err(Fault::here(alloc));
+    };
+    match sought_pattern(alloc, false, text)? {
+        Some(pattern) => Ok(pattern),
+        None => Err(Fault::here(alloc)),
+    }
+}
+
+// Whether a glob of a name has a star or a question mark.
+fn holds_mark(name: &str) -> bool
+    ensures { result ≡ spec.holds_mark name.now }
+{
+    name.as_bytes().iter().any(|b| *b == b'*' || *b == b'?')
+}
+
+impl Searched {
+    pub(crate) fn new(pattern: Pattern, has_members: bool, units: Units) -> Searched
+        ensures { let pattern = pattern_view pattern in
+            result ≡ record { pattern = pattern; has_members = has_members; units = units } }
+    {
+        Searched {
+            pattern,
+            has_members,
+            units,
+        }
+    }
+
+    /// Whether what is looked for is more than the items of one name.
+    pub(crate) fn is_wide(&self) -> bool
+        ensures { result ≡ spec.is_wide self.now }
+    {
+        self.has_members || holds_mark(&self.pattern.name)
+    }
+
+    /// What the command looks for.
+    pub(crate) fn query(&self) -> Query<'_>
+        ensures { query_view result ≡ query_of self.now.pattern }
+    {
+        Query {
+            scope: &self.pattern.scope,
+            name: &self.pattern.name,
+            is_anywhere: self.pattern.is_anywhere,
+            ignores_case: false,
+            kinds: &[],
+            only_active: false,
+            form: Form::Json,
+        }
+    }
+
+    /// Whether members are looked for too.
+    pub(crate) fn has_members(&self) -> bool
+        ensures { result ≡ self.now.has_members }
+    {
+        self.has_members
+    }
+
+    /// What columns of what is found count.
+    pub(crate) fn units(&self) -> Units
+        ensures { result ≡ self.now.units }
+    {
+        self.units
+    }
 }
 
 impl SoughtItem {

@@ -3,8 +3,8 @@ ghost use Rattle.std.specs.Prelude.{◌≡◌, ◌++◌, IfOk, OnOk, filter, map
 ghost use Rattle.std.specs.List.{flat_map};
 ghost use Rattle.serde_json.specs.View.{view};
 ghost use Rattle.item_tree_request.specs.Outputs.{table_change_line};
-ghost use Rattle.source_session.specs.Files.{is_change_in};
-ghost use Rattle.source_session.specs.Shown.{AreChangeLines, AreChangeValues, AreOwnChanges, change_form, change_with};
+ghost use Rattle.source_session.specs.Files.{AreOwnChanges, is_change_in};
+ghost use Rattle.source_session.specs.Shown.{AreChangeLines, AreChangeValues, change_form, change_with};
 ghost use Rattle.source_session.specs.Shown.{items_member};
 
 use crate::files::{Files, is_in_crate};
@@ -33,7 +33,11 @@ fn kept_changes(
 }
 
 /// What changed in the crates since a number.
-fn changes_since(
+///
+/// # Errors
+///
+/// Only if memory runs out.
+pub(crate) fn changes_since(
     alloc: Global,
     files: &[Option<Files>],
     sources: &Sources,

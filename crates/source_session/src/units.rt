@@ -61,12 +61,19 @@ pub(crate) fn members_asked(alloc: Global, members: &Members) -> Result<bool, Fa
     }
 }
 
-/// Nothing is said of both.
+/// The same where columns are told. Elsewhere there is no choice.
 ///
-/// `WrongForm` comes only where something is, and tells where.
-pub(crate) fn as_usual(alloc: Global, members: &Members) -> Result<(), Fault>
-    ensures { Reads (λ _. tt) result (spec.as_usual (held members.now)) }
+/// `WrongForm` comes only where there is one, or it is not of its form (`Units.units_if`), and tells where.
+pub(crate) fn units_if(
+    alloc: Global,
+    members: &Members,
+    tells_columns: bool,
+) -> Result<Units, Fault>
+    ensures { Reads (λ units. units) result (spec.units_if tells_columns (held members.now)) }
 {
+    if tells_columns {
+        return units_at(alloc, members);
+    }
     none_in(alloc, members, "units")?;
-    none_in(alloc, members, "members")
+    Ok(Units::Characters)
 }

@@ -17,12 +17,12 @@ outline-requires c =
 
 pub tree_items-requires : goal.tree_items-requires
 tree_items-requires c =
-    let is : c.args.show.now ≡ TreeItems c.in-TreeItems.krate c.in-TreeItems.place = search rules in
+    let is : c.args.show.now ≡ TreeItems c.in-TreeItems.krate c.in-TreeItems.place c.in-TreeItems.units = search rules in
     subst (ShowNamesCrate c.args.self.now.count) is c.requires
 
 pub import_places-requires : goal.import_places-requires
 import_places-requires c =
-    let is : c.args.show.now ≡ ImportPlaces c.in-ImportPlaces.krate c.in-ImportPlaces.place = search rules in
+    let is : c.args.show.now ≡ ImportPlaces c.in-ImportPlaces.krate c.in-ImportPlaces.place c.in-ImportPlaces.units = search rules in
     subst (ShowNamesCrate c.args.self.now.count) is c.requires
 
 pub returns-in-Outline-clause-shown : goal.returns-in-Outline-clause-shown
@@ -32,10 +32,10 @@ returns-in-Outline-clause-shown c =
 
 pub returns-in-TreeItems-clause-shown : goal.returns-in-TreeItems-clause-shown
 returns-in-TreeItems-clause-shown c =
-    let is : c.args.show.now ≡ TreeItems c.in-TreeItems.krate c.in-TreeItems.place = search rules in
+    let is : c.args.show.now ≡ TreeItems c.in-TreeItems.krate c.in-TreeItems.place c.in-TreeItems.units = search rules in
     subst (λ show. IfOk c.tree_items.result (λ value. IsPresentValue c.args.self.now show (view value))) (sym is) c.tree_items.ensures
 
 pub returns-in-ImportPlaces-clause-shown : goal.returns-in-ImportPlaces-clause-shown
 returns-in-ImportPlaces-clause-shown c =
-    let is : c.args.show.now ≡ ImportPlaces c.in-ImportPlaces.krate c.in-ImportPlaces.place = search rules in
+    let is : c.args.show.now ≡ ImportPlaces c.in-ImportPlaces.krate c.in-ImportPlaces.place c.in-ImportPlaces.units = search rules in
     subst (λ show. IfOk c.import_places.result (λ value. IsPresentValue c.args.self.now show (view value))) (sym is) c.import_places.ensures
