@@ -7,10 +7,14 @@ A model of documents in Python, written from the protocol's page and not from th
 symbols of a document after changes have to be those of a new server that opened its text.
 """
 import json
+import os
+import pathlib
 import random
 import re
 import subprocess
 import sys
+import tempfile
+import threading
 
 passed = failed = 0
 
@@ -29,29 +33,49 @@ def framed(message):
     return b"Content-Length: %d\r\n\r\n" % len(body) + body
 
 
+def told(method, params=None, **more):
+    return framed({"jsonrpc": "2.0", "method": method, "params": params, **more})
+
+
+def opened(uri, text, language="rust", version=0):
+    return told("textDocument/didOpen", {"textDocument": {"uri": uri, "languageId": language, "version": version, "text": text}})
+
+
+def changes_told(uri, changes, version):
+    return told("textDocument/didChange", {"textDocument": {"uri": uri, "version": version}, "contentChanges": changes})
+
+
+def closed(uri):
+    return told("textDocument/didClose", {"textDocument": {"uri": uri}})
+
+
 class Server:
     """A server, and a client of it that waits for each answer."""
 
-    def __init__(self, arguments=(), offers=("utf-8", "utf-16"), is_hierarchical=True):
-        self.process = subprocess.Popen([ITEMTREE, "lsp", *arguments], stdin=subprocess.PIPE, stdout=subprocess.PIPE, stderr=subprocess.PIPE)
+    def __init__(self, arguments=(), offers=("utf-8", "utf-16"), is_hierarchical=True, environment=None):
+        self.process = subprocess.Popen([ITEMTREE, "lsp", *arguments], stdin=subprocess.PIPE, stdout=subprocess.PIPE, stderr=subprocess.PIPE, env=environment)
         self.last = 0
         self.told = []
         general = {"general": {"positionEncodings": list(offers)}} if offers else {}
         symbols = {"documentSymbol": {"hierarchicalDocumentSymbolSupport": is_hierarchical}}
-        self.opened = self.ask("initialize", {"processId": None, "rootUri": None, "capabilities": {**general, "textDocument": symbols}})
-        self.encoding = self.opened["result"]["capabilities"]["positionEncoding"]
+        self.asked = {"processId": None, "rootUri": None, "capabilities": {**general, "textDocument": symbols}}
+        self.opened = self.insist("initialize", self.asked)
+        self.encoding = self.opened.get("result", {}).get("capabilities", {}).get("positionEncoding")
         self.tell("initialized", {})
 
     def write(self, data):
-        self.process.stdin.write(data)
-        self.process.stdin.flush()
+        try:
+            self.process.stdin.write(data)
+            self.process.stdin.flush()
+        except BrokenPipeError:
+            pass
 
     def read(self):
         length = None
         while True:
             line = self.process.stdout.readline()
             if not line:
-                return None
+                raise EOFError
             if line == b"\r\n":
                 break
             name, value = line.split(b":")
@@ -59,33 +83,63 @@ class Server:
                 length = int(value)
         return json.loads(self.process.stdout.read(length))
 
+    def next(self, seconds=10):
+        """The next message, or none where it does not come in that time."""
+        timer = threading.Timer(seconds, self.process.kill)
+        timer.start()
+        try:
+            return self.read()
+        except EOFError:
+            return None
+        finally:
+            timer.cancel()
+
     def tell(self, method, params=None):
-        self.write(framed({"jsonrpc": "2.0", "method": method, "params": params}))
+        self.write(told(method, params))
 
     def answer(self, number):
         """The answer under an id; what is told before it is kept."""
         while True:
             message = self.read()
-            if message is None or message.get("id", number if "error" in message and message["id"] is None else None) == number:
+            if "id" in message and message["id"] in (number, None):
                 return message
             self.told.append(message)
 
     def ask(self, method, params=None):
         self.last += 1
-        self.write(framed({"jsonrpc": "2.0", "id": self.last, "method": method, "params": params}))
+        self.write(told(method, params, id=self.last))
         return self.answer(self.last)
 
+    def insist(self, method, params):
+        """Asks, and again where a message was lost."""
+        while True:
+            self.last += 1
+            self.write(told(method, params, id=self.last))
+            message = self.read()
+            while message.get("method") != "window/showMessage" or message["params"]["type"] != 1:
+                if "id" in message and message["id"] in (self.last, None):
+                    return message
+                message = self.read()
+
+    def notice(self):
+        """What is told next, of problems or of memory."""
+        while True:
+            message = self.read()
+            if message["method"] in ("textDocument/publishDiagnostics", "window/showMessage"):
+                return message
+            self.told.append(message)
+
     def open(self, uri, text, language="rust", version=0):
-        self.tell("textDocument/didOpen", {"textDocument": {"uri": uri, "languageId": language, "version": version, "text": text}})
+        self.write(opened(uri, text, language, version))
 
     def change(self, uri, changes, version=1):
-        self.tell("textDocument/didChange", {"textDocument": {"uri": uri, "version": version}, "contentChanges": changes})
+        self.write(changes_told(uri, changes, version))
 
     def symbols(self, uri):
         return self.ask("textDocument/documentSymbol", {"textDocument": {"uri": uri}})
 
     def end(self):
-        self.ask("shutdown")
+        self.insist("shutdown", None)
         self.tell("exit")
         self.process.stdin.close()
         return self.process.wait(timeout=5)
@@ -193,6 +247,65 @@ def try_encodings():
         server = Server(offers=offers)
         check(server.encoding == wanted, f"{offers} gives {server.encoding}")
         server.end()
+
+
+# ---- problems
+
+TROUBLED = """\
+use std::fmt;
+mod m { use std::fmt; }
+use std::{io, fmt as f};
+/* 🦀 */ use std::{fmt};
+#[cfg(unix)] use a::b; #[cfg(not(unix))] use a::b;
+fn (
+"""
+
+
+def told_of(server, uri):
+    """What is told of a document next."""
+    while True:
+        message = server.read()
+        if message.get("method") == "textDocument/publishDiagnostics" and message["params"]["uri"] == uri:
+            return message["params"]
+        server.told.append(message)
+
+
+def try_places_of_problems():
+    uri = "file:///troubled.rs"
+    for encoding in ("utf-8", "utf-16"):
+        server = Server(offers=(encoding,))
+        server.open(uri, TROUBLED, version=7)
+        at = lambda line, start, end: {"start": {"line": line, "character": start}, "end": {"line": line, "character": end}}
+        use = 7 + width("🦀", encoding)
+        wanted = [(at(5, 0, 0), 1, "this item has no end"), (at(5, 3, 3), 1, "nothing closes this bracket"), (at(3, use, use + 15), 2, "std::fmt is imported again, first in line 1")]
+        told = told_of(server, uri)
+        got = [(it["range"], it["severity"], it["message"]) for it in told["diagnostics"]]
+        check(got == wanted and told["version"] == 7, f"problems in {encoding}: {told}, and not {wanted}")
+        server.change(uri, [{"range": at(5, 0, 4), "text": ""}, {"range": at(3, use + 10, use + 13), "text": "rc"}], 8)
+        told = told_of(server, uri)
+        check(told == {"uri": uri, "version": 8, "diagnostics": []}, f"what is mended has no problems: {told}")
+        server.change(uri, [{"text": TROUBLED}], None)
+        check(len(told_of(server, uri)["diagnostics"]) == 3, "problems of a whole text")
+        server.tell("textDocument/didClose", {"textDocument": {"uri": uri}})
+        check(told_of(server, uri) == {"uri": uri, "diagnostics": []}, "a closed document has no problems")
+        server.open(uri, TROUBLED, language="rust", version=1)
+        told_of(server, uri)
+        server.open("file:///a.txt", TROUBLED, language="plaintext")
+        check(told_of(server, "file:///a.txt")["diagnostics"] == [], "another language has no problems")
+        check(server.end() == 0, "the end of problems")
+
+
+def try_numbers():
+    """Lines and characters may be written with zeros behind a point, and with an exponent."""
+    server = Server()
+    for number, is_whole in [("1.0", True), ("10e-1", True), ("0.1e1", True), ("1", True), ("1.5", False), ("-1.0", False), ("1e300", False), ("2147483648.0", False), ('"1"', False)]:
+        server.open("file:///n.rs", "fn a() {}\nfn b() {}\n")
+        place = b'{"line":%s,"character":3.0}' % number.encode()
+        change = b'{"textDocument":{"uri":"file:///n.rs","version":1},"contentChanges":[{"range":{"start":%s,"end":%s},"text":"c"}]}' % (place, place)
+        server.write(framed(b'{"jsonrpc":"2.0","method":"textDocument/didChange","params":%s}' % change))
+        names = [it["name"] for it in server.symbols("file:///n.rs").get("result", [])]
+        check(names == (["a", "cb"] if is_whole else []), f"a line that is written {number}: {names}")
+    check(server.end() == 0, "the end of numbers")
 
 
 # ---- symbols: `«` and `»` stand around what is told, `‹` and `›` around its name
@@ -493,13 +606,49 @@ def try_edits(count):
         check(server.end() == fresh.end() == 0, f"the end after changes by seed {number}")
 
 
+# ---- problems, which are told when no message waits
+
+
+def brief(message):
+    """The id of an answer, or what a notice of problems is about: which document, in which version, and how many."""
+    if message is None or message.get("method") != "textDocument/publishDiagnostics":
+        return message and message.get("id")
+    params = message["params"]
+    return params["uri"], params.get("version"), len(params["diagnostics"])
+
+
+def try_problems():
+    server = Server()
+    a, b, t, none = "file:///a.rs", "file:///b.rs", "file:///t.txt", "file:///none.rs"
+    end = {"line": 2**31 - 1, "character": 0}
+    typed = lambda uri, text, version: changes_told(uri, [{"range": {"start": end, "end": end}, "text": text}], version)
+    symbols = lambda uri, id: told("textDocument/documentSymbol", {"textDocument": {"uri": uri}}, id=id)
+    for said, data, wanted in [
+        ("fifty changes have one notice", opened(a, "fn a() {}\n") + b"".join(typed(a, "}\n", version) for version in range(1, 51)), [(a, 50, 50)]),
+        ("a request behind a change is answered before the problems are told", typed(a, "}", 51) + symbols(a, "behind"), ["behind", (a, 51, 51)]),
+        (
+            "each document is told once, as it stands then",
+            opened(b, "fn b() {}") + typed(a, "}", 52) + typed(b, "}", 1) + typed(a, "}", 53) + typed(a, " ", 70) + opened(t, "}", "plaintext") + changes_told(none, [], 1),
+            [(b, 1, 1), (a, 70, 53), (t, 0, 0), (none, None, 0)],
+        ),
+        ("what is mended is told", changes_told(a, [{"text": "fn a() {}"}], 71), [(a, 71, 0)]),
+        ("a closed document is told at once, and that alone", typed(a, "}", 72) + closed(a) + symbols(a, "closed"), [(a, None, 0), "closed"]),
+        ("a message that is lost closes all", typed(b, "}", 2) + framed(b"{") + symbols(b, "lost"), [None, "lost"]),
+        ("nothing is told behind a shutdown", opened(a, "}") + told("shutdown", id="end"), ["end"]),
+    ]:
+        server.write(data)
+        got = [brief(server.next()) for _ in wanted]
+        check(got == wanted, f"{said}: {got}")
+    check(server.end() == 0 and server.process.stdout.read() == b"" and server.told == [], f"nothing else is told: {server.told}")
+
+
 # ---- streams
 
 
 def try_streams():
     text = "fn a() {}\nfn b() {}\n"
     server = Server()
-    data = b"".join(framed({"jsonrpc": "2.0", "method": "textDocument/didOpen", "params": {"textDocument": {"uri": f"file:///{n}.rs", "languageId": "rust", "version": 0, "text": text + f"fn n{n}() {{}}"}}}) for n in range(10))
+    data = b"".join(opened(f"file:///{n}.rs", text + f"fn n{n}() {{}}") for n in range(10))
     data += b"".join(framed({"jsonrpc": "2.0", "id": f"{n}", "method": "textDocument/documentSymbol", "params": {"textDocument": {"uri": f"file:///{n % 10}.rs"}}}) for n in range(200))
     server.write(data)
     answers = []
@@ -514,6 +663,86 @@ def try_streams():
             server.write(bytes([byte]))
         check(len(server.answer(7)["result"]) == 3, f"a message byte by byte behind {header}")
     check(server.end() == 0, "the end of streams")
+    server = Server()
+    server.process.stdout.close()
+    server.tell("shutdown")
+    server.write(told("shutdown", id=1))
+    check(server.process.wait(timeout=5) == 6, "the end where nobody reads")
+
+
+# ---- many edits
+
+
+def try_many():
+    """10,000 edits of one document, a hundred in one write: memory and time stay level."""
+    server, uri, place = Server(), "file:///many.rs", {"line": 1, "character": 4}
+    server.open(uri, "fn a() {\n    1\n}\n" + "// b\n" * 200)
+    server.notice()
+    put = {"range": {"start": place, "end": place}, "text": "x"}
+    take = {"range": {"start": place, "end": {"line": 1, "character": 5}}, "text": ""}
+    kilobytes, milliseconds = [], []
+    for number in range(100):
+        server.write(b"".join(changes_told(uri, [put if version % 2 else take], 100 * number + version) for version in range(1, 101)))
+        while server.notice()["params"].get("version") != 100 * number + 100:
+            pass
+        kilobytes.append(int(re.search(r"^VmRSS:\s+(\d+)", pathlib.Path(f"/proc/{server.process.pid}/status").read_text(), re.M)[1]))
+        milliseconds.append(int(pathlib.Path(f"/proc/{server.process.pid}/schedstat").read_text().split()[0]) / 1e6)
+    check(kilobytes[-1] <= kilobytes[9] + 100, f"the memory of 10,000 edits: {kilobytes[9]} kB, and {kilobytes[-1]} at last")
+    halves = milliseconds[49], milliseconds[-1] - milliseconds[49]
+    check(halves[1] <= 2 * halves[0] + 20, f"the time of 10,000 edits: {halves} ms")
+    check([it["name"] for it in server.symbols(uri)["result"]] == ["a"] and server.end() == 0, "the end of 10,000 edits")
+
+
+# ---- each request for memory refused in turn
+
+
+def talk(server):
+    """The answers of a conversation, and of its last two requests, each about a text that is opened anew."""
+    ask = lambda method, uri, **params: server.insist(f"textDocument/{method}", {"textDocument": {"uri": uri}, **params})
+    answers = [server.opened]
+    if "error" in server.opened:
+        answers.append(server.insist("initialize", server.asked))
+    server.open("file:///a.rs", TROUBLED)
+    server.notice()
+    answers.append(ask("documentSymbol", "file:///a.rs"))
+    server.change("file:///a.rs", [{"range": {"start": {"line": 1, "character": 0}, "end": {"line": 1, "character": 3}}, "text": "fn a() {}"}])
+    place = {"line": 1, "character": 4}
+    answers += [ask("foldingRange", "file:///a.rs"), ask("selectionRange", "file:///a.rs", positions=[place]), ask("documentHighlight", "file:///a.rs", position=place)]
+    last = []
+    for _ in range(2):
+        server.open("file:///b.rs", "mod m { struct S; }")
+        last.append(ask("documentSymbol", "file:///b.rs"))
+    return answers, last
+
+
+def try_refusals():
+    """Each answer is whole, or says that there is no memory, or that a document is not open; of the last two one is whole."""
+    with tempfile.TemporaryDirectory() as folder:
+        library, counted = f"{folder}/refuse_memory.so", f"{folder}/counted"
+        subprocess.run(["cc", "-shared", "-fPIC", "-O1", "-o", library, pathlib.Path(__file__).with_name("refuse_memory.c"), "-ldl"], check=True)
+        wholes, wanted = talk(Server())
+        number = lambda answer: {**answer, "id": None}
+        wholes, wanted = [number(it)["result"] for it in wholes], wanted[0]["result"]
+        for request in range(1, 100_000):
+            with open(counted, "w", encoding="ascii") as file:
+                file.write(" " * 42)
+            environment = {**os.environ, "LD_PRELOAD": library, "COUNT_REQUESTS": counted, "REFUSE_REQUEST": f"{request}"}
+            server = Server.__new__(Server)
+            try:
+                server.__init__(environment=environment)
+                answers, last = talk(server)
+                status = server.end()
+            except EOFError:
+                said, status = server.process.stderr.read(), server.process.wait(timeout=5)
+                check(status in (2, 6) and said == b"itemtree: out of memory\n", f"request {request} for memory refused: {status}, {said}")
+                continue
+            are_whole = [it.get("result", 0) in wholes or it["error"]["code"] in (-32603, -32602, -32600) for it in answers]
+            check(all(are_whole), f"request {request} for memory refused: {answers[are_whole.index(False) if False in are_whole else 0]}")
+            check(wanted in [it.get("result") for it in last], f"request {request} for memory refused, at last: {last}")
+            check(status in (0, 1, 6), f"request {request} for memory refused: {status}")
+            with open(counted, encoding="ascii") as file:
+                if int(file.read().split()[0]) < request:
+                    return
 
 
 if __name__ == "__main__":
@@ -521,11 +750,16 @@ if __name__ == "__main__":
     try_order()
     try_faults()
     try_encodings()
+    try_places_of_problems()
+    try_numbers()
     try_symbols()
     try_surrogates()
     try_ranges()
     try_other_ranges()
+    try_problems()
     try_streams()
+    try_many()
+    try_refusals()
     try_edits(int(sys.argv[sys.argv.index("--edits") + 1]) if "--edits" in sys.argv else 200)
     print(f"lsp: {passed} passed, {failed} failed")
     sys.exit(failed > 0)

@@ -1,10 +1,10 @@
 -- What parameters ask of where items stand.
 use Rattle.std.proofs.Common.{◌≡◌, ◌∙◌, ℕ, List, [], ◌∷◌, codes, refl, sym, ap}
 use Rattle.serde_json.specs.Data.{Data}
-use Rattle.hir_input_json.specs.Reading.{Reading, right, wrong, under, ◌>>=◌}
+use Rattle.hir_input_json.specs.Reading.{right, under, ◌>>=◌}
 use Rattle.hir_input_json.specs.Forms.{list_of, required}
 use Rattle.hir_input_json.specs.Held.{without}
-use Rattle.hir_input_json.specs.Reads.{Tells, pointer_in}
+use Rattle.hir_input_json.specs.Reads.{Tells}
 use Rattle.hir_input_json.specs.declared.fault.Fault.{Fault}
 use Rattle.hir_input_json.proofs.Held.{field_without}
 use Rattle.line_index.specs.declared.Point.{Point}

@@ -5,5 +5,7 @@ pub mod Examples
 pub mod ListedParts
 pub mod Messages
 pub mod NoFloats
+pub mod Opened
 pub mod PlainRanges
+pub mod Pushed
 pub mod Told

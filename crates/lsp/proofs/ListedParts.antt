@@ -1,5 +1,5 @@
 -- What lists read of a text has its parts.
-use Rattle.std.proofs.Common.{◌≡◌, ◌∙◌, ℕ, true, List, [], Option, Some, None, flat_map, refl, ap, string_bytes}
+use Rattle.std.proofs.Common.{◌≡◌, ◌∙◌, ℕ, true, List, [], Option, Some, None, flat_map, refl, ap}
 use Rattle.rust_items.specs.SourceFiles.{FileView}
 use Rattle.rust_items.specs.declared.source_file.ItemPlace.{ItemPlace}
 use Rattle.rust_mended.specs.declared.text.Mended.{Mended}

@@ -1,6 +1,6 @@
 -- What is answered holds no float.
-use Rattle.std.proofs.Common.{◌≡◌, ℕ, ℤ, pos, negsuc, Bool, true, false, ◌||◌, List, [], ◌∷◌, ◌++◌, Option, Some, None, refl, ap, ◌∙◌, map, flat_map}
-use Rattle.serde_json.specs.Data.{Data, Items}
+use Rattle.std.proofs.Common.{◌≡◌, ℕ, ℤ, pos, negsuc, Bool, true, false, ◌||◌, List, [], ◌∷◌, ◌++◌, Option, Some, None, refl, map, flat_map}
+use Rattle.serde_json.specs.Data.{Data}
 use Rattle.serde_json.specs.View.{items_of}
 use Rattle.serde_json.specs.Written.{has_float, items_have_float}
 use Rattle.item_tree.specs.Node.{Node, leaf, parent, Forest, empty, more, Unfolding}
@@ -10,8 +10,9 @@ use Rattle.source_rows.specs.Listed.{members_of}
 use Rattle.source_rows.specs.Places.{place_of}
 use Rattle.line_index.specs.declared.Units.{Units}
 use Rattle.source_problems.specs.declared.problem.SourceProblem.{SourceProblem}
-use Rattle.lsp.specs.Diagnostics.{diagnostic, notice}
-use Rattle.lsp.specs.Symbols.{Page, ShownItem, Symbol, symbol_called, forest_symbols, information, item_symbol, listed_symbol, member_symbols, node_symbols, own_symbols, placed_symbols, shown_in, symbol_data, protocol_kind, told, told_in, tree_symbols}
+use Rattle.source_listing.specs.Repeated.{Repeat}
+use Rattle.lsp.specs.Diagnostics.{diagnostic, diagnostics, notice, repeat_diagnostic}
+use Rattle.lsp.specs.Symbols.{Page, ShownItem, Symbol, symbol_called, forest_symbols, information, item_symbol, listed_symbol, member_symbols, node_symbols, placed_symbols, shown_in, protocol_kind, told, told_in, tree_symbols}
 use Rattle.lsp.specs.Bytes.{range_span}
 
 first_none : (a b : Bool) → (a || b) ≡ false → a ≡ false
@@ -83,5 +84,6 @@ notice_none uri None ds h = rw h refl
 notice_none uri (Some (pos n)) ds h = rw h refl
 notice_none uri (Some (negsuc n)) ds h = rw h refl
 
-pub diagnostics_none : (units : Units) (text : List ℕ) (ps : List SourceProblem) → items_have_float (items_of (map (diagnostic units text) ps)) ≡ false
-diagnostics_none units text ps = map_none (diagnostic units text) ps (λ p. refl)
+pub diagnostics_none : (units : Units) (text : List ℕ) (ps : List SourceProblem) (rs : List Repeat) → items_have_float (items_of (diagnostics units text ps rs)) ≡ false
+diagnostics_none units text ps rs =
+    both_none (map (diagnostic units text) ps) (map (repeat_diagnostic units text) rs) (map_none (diagnostic units text) ps (λ p. refl)) (map_none (repeat_diagnostic units text) rs (λ r. refl))

@@ -3,7 +3,7 @@ use Rattle.std.specs.Prelude.{ℤ, ℕ, Bool, ◌||◌, if◌then◌else◌, Lis
 use Rattle.std.specs.List.{ends_with}
 use Rattle.serde_json.specs.Data.{Data}
 use Rattle.serde_json.specs.Find.{as_number, as_i64, as_str, get}
-use Rattle.hir_input_json.specs.Reading.{Reading, right, wrong, ◌>>=◌, here, under, pointer_behind}
+use Rattle.hir_input_json.specs.Reading.{Reading, right, wrong, ◌>>=◌, pointer_behind}
 use Rattle.hir_input_json.specs.Forms.{object_members, required_at, text_form, field}
 
 -- an open document: its name, its text, whether it is Rust, and its version, where that is known
@@ -61,6 +61,10 @@ open_form d = do
 -- the name of the document that a notification is about, if it has one
 abbrev pub uri_in : Data → Option (List ℕ)
 uri_in d = option_and_then as_str (option_and_then (get (codes "uri")) (get (codes "textDocument") d))
+
+-- its version, where a whole number is given
+abbrev pub named_version : Data → Option ℤ
+named_version d = option_and_then as_i64 (option_and_then as_number (option_and_then (get (codes "version")) (get (codes "textDocument") d)))
 
 -- the name that a document is given by
 abbrev pub uri_member_form : Data → Reading (List ℕ)

@@ -81,7 +81,7 @@ OnRead (Ok a) P = P
 OnRead (Err (WrongForm pointer)) P = P
 OnRead (Err OutOfMemory) P = Unit {0}
 
--- nothing but the documents may be other
+-- nothing but the documents, and what is told of them, may be other
 abbrev pub IsSameButDocuments : ServerState → ServerState → Type 0
 IsSameButDocuments s new = (new.options ≡ s.options) × ((new.phase ≡ s.phase) × (new.client ≡ s.client))
 

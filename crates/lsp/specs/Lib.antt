@@ -15,5 +15,7 @@ pub mod Ranges
 pub mod Methods
 pub mod Responses
 pub mod Servers
+pub mod Opened
 pub mod Views
 pub mod Inner
+pub mod Untold

@@ -1,18 +1,36 @@
 -- Positions and ranges as the protocol has them.
-use Rattle.std.specs.Prelude.{ℕ, ◌^◌, List, codes}
-use Rattle.serde_json.specs.Data.{Data, object, no_members, member}
+use Rattle.std.specs.Prelude.{ℕ, pos, ◌^◌, if◌then◌else◌, codes, Option, Some, None, option_and_then}
+use Rattle.std.specs.Float.{Float, binary64, float_to_unsigned}
+use Rattle.std.specs.Float.Ieee.{eq, of_int}
+use Rattle.std.specs.Int.{w32}
+use Rattle.serde_json.specs.Data.{Num, unsigned, negative, float, Data, object, no_members, member}
+use Rattle.serde_json.specs.Find.{as_number}
 use Rattle.list_forms.specs.Lines.{count_form}
 use Rattle.line_index.specs.declared.Point.{Point}
 use Rattle.lsp.specs.declared.position.Span.{Span}
-use Rattle.hir_input_json.specs.Reading.{Reading, right, ◌>>=◌}
-use Rattle.hir_input_json.specs.Forms.{object_members, required_at, whole_form}
+use Rattle.hir_input_json.specs.Reading.{Reading, right, here, ◌>>=◌}
+use Rattle.hir_input_json.specs.Forms.{below, object_members, required_at}
+
+-- the whole number that a float is, if it is one
+abbrev pub whole_float : Float → Option ℕ
+whole_float x = let n = float_to_unsigned w32 x in if eq (of_int binary64 (pos n)) x then Some n else None
+
+-- a number that is whole, as it may also be written with zeros behind a point
+abbrev pub whole_number : Num → Option ℕ
+whole_number (unsigned n) = Some n
+whole_number (negative z) = None
+whole_number (float x) = whole_float x
+
+-- a number of lines or of characters
+abbrev pub position_number : Data → Reading ℕ
+position_number d = here (option_and_then (below (2 ^ 31)) (option_and_then whole_number (as_number d)))
 
 -- a position
 abbrev pub position_form : Data → Reading Point
 position_form d = do
   _ ← object_members d
-  line ← required_at (codes "line") (whole_form (2 ^ 31)) d
-  character ← required_at (codes "character") (whole_form (2 ^ 31)) d
+  line ← required_at (codes "line") position_number d
+  character ← required_at (codes "character") position_number d
   right (record { line = line; column = character })
 
 -- a range

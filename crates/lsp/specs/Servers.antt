@@ -1,5 +1,5 @@
 -- A server: what stands between messages, what messages do, and what they are answered with.
-use Rattle.std.specs.Prelude.{◌≡◌, ◌⊎◌, ℤ, ℕ, Bool, true, false, List, [], ◌∷◌, ◌++◌, codes, if◌then◌else◌, Option, Some, None, is_some, Result, Ok, Err}
+use Rattle.std.specs.Prelude.{◌≡◌, ◌⊎◌, ℤ, ℕ, Bool, true, false, List, [], ◌∷◌, codes, if◌then◌else◌, Option, Some, None, is_some, Ok, Err}
 use Rattle.serde_json.specs.Data.{Data, null, boolean, string, array, object, no_items, no_members, member}
 use Rattle.serde_json.specs.View.{items_of}
 use Rattle.serde_json.specs.Written.{compact_text}
@@ -16,7 +16,7 @@ use Rattle.itemtree_commands.specs.declared.trees.SourceTree.{SourceTree}
 use Rattle.itemtree_commands.specs.declared.trees.SourceError.{SourceError}
 use Rattle.lsp.specs.Messages.{Incoming, request, notification, response, no_message, incoming}
 use Rattle.lsp.specs.Clients.{client_of, encoding}
-use Rattle.lsp.specs.Documents.{Document, asked_document, document_in, in_place_of, with_document, without_document, open_form, uri_in, version_in}
+use Rattle.lsp.specs.Documents.{Document, asked_document, document_in, in_place_of, with_document, without_document, open_form, named_version, uri_in}
 use Rattle.lsp.specs.Changes.{SpanChange, text_with_changes, changes_form}
 use Rattle.lsp.specs.Diagnostics.{IsNoticeOf, closed_notice}
 use Rattle.lsp.specs.Methods.{request_method, notification_method}
@@ -24,6 +24,7 @@ use Rattle.lsp.specs.Ranges.{AreAskedRanges, asked_places}
 use Rattle.lsp.specs.Responses.{RequestOutcome, of_source, response_data}
 use Rattle.lsp.specs.Surrogates.{surrogates_mended}
 use Rattle.lsp.specs.Symbols.{Page, tree_symbols}
+use Rattle.lsp.specs.Untold.{told_at_once, untold_after, untold_text}
 use Rattle.lsp.specs.declared.client.Client.{Client}
 use Rattle.lsp.specs.declared.method.RequestMethod.{RequestMethod}
 use Rattle.lsp.specs.declared.method.RequestMethod.TheVariants.{Initialize, Shutdown, DocumentSymbol, Ranges, Unknown}
@@ -34,16 +35,17 @@ use Rattle.lsp.specs.declared.response.ResponseError.TheVariants.{NotJson, Inval
 use Rattle.lsp.specs.declared.phase.Phase.{Phase}
 use Rattle.lsp.specs.declared.phase.Phase.TheVariants.{Waiting, Running, ShutDown, Ended}
 
--- what stands between messages
+-- what stands between messages: also the names of documents whose problems are not told yet
 pub record ServerState : Type 0 where
   pub options : Options
   pub phase : Phase
   pub client : Client
   pub documents : List Document
+  pub untold : List (List ℕ)
 
 -- a server whose conversation is not opened
 abbrev pub new_server : Options → ServerState
-new_server options = record { options = options; phase = Waiting; client = record { units = Utf16; is_hierarchical = false }; documents = [] }
+new_server options = record { options = options; phase = Waiting; client = record { units = Utf16; is_hierarchical = false }; documents = []; untold = [] }
 
 -- whether the conversation is over, and if so, whether it ended as it should
 abbrev pub conversation_end : Phase → Option Bool
@@ -52,6 +54,11 @@ conversation_end _ = None
 
 abbrev pub is_conversation_over : ServerState → Bool
 is_conversation_over s = is_some (conversation_end s.phase)
+
+-- nothing is left to tell
+abbrev pub is_all_told : List (List ℕ) → Bool
+is_all_told [] = true
+is_all_told (uri ∷ uris) = false
 
 -- ---- requests
 
@@ -112,11 +119,11 @@ abbrev pub AreAskedSymbols : Options → Client → Reading Document → Request
 AreAskedSymbols o c (wrong pointer) out = out ≡ Err (InvalidParams pointer)
 AreAskedSymbols o c (right d) out = AreRustSymbols o c d.is_rust d out
 
--- what a request does that may stand where it stands
+-- what a request does that may stand where it stands: behind a shutdown nothing is told any more
 abbrev pub IsRequestDone : ServerState → RequestMethod → Data → ServerState → RequestOutcome → Type 0
 IsRequestDone s Initialize params new out =
-    (new ≡ record { options = s.options; phase = Running; client = client_of params; documents = s.documents }) × (out ≡ Ok (initialize_data (client_of params).units))
-IsRequestDone s Shutdown params new out = (new ≡ record { options = s.options; phase = ShutDown; client = s.client; documents = s.documents }) × (out ≡ Ok null)
+    (new ≡ record { options = s.options; phase = Running; client = client_of params; documents = s.documents; untold = s.untold }) × (out ≡ Ok (initialize_data (client_of params).units))
+IsRequestDone s Shutdown params new out = (new ≡ record { options = s.options; phase = ShutDown; client = s.client; documents = s.documents; untold = [] }) × (out ≡ Ok null)
 IsRequestDone s DocumentSymbol params new out = (new ≡ s) × AreAskedSymbols s.options s.client (asked_document s.documents params) out
 IsRequestDone s (Ranges kind) params new out = (new ≡ s) × AreAskedRanges s.options s.client.units kind (asked_places kind s.documents params) out
 IsRequestDone s Unknown params new out = ⊥
@@ -138,7 +145,11 @@ IsRequestAnswered s method params new out = IsOutOfMemory s new out ⊎ IsDoneUn
 
 -- these documents in the place of those that are open
 abbrev pub with_documents : ServerState → List Document → ServerState
-with_documents s ds = record { options = s.options; phase = s.phase; client = s.client; documents = ds }
+with_documents s ds = record { options = s.options; phase = s.phase; client = s.client; documents = ds; untold = s.untold }
+
+-- the problems of these documents are not told yet
+abbrev pub with_untold : ServerState → List (List ℕ) → ServerState
+with_untold s uris = record { options = s.options; phase = s.phase; client = s.client; documents = s.documents; untold = uris }
 
 -- a document after changes, by the units of the client
 abbrev pub changed_document : Units → List SpanChange → Option ℤ → Document → Document
@@ -153,7 +164,7 @@ opened_documents ds (right d) = with_document ds d
 abbrev pub asked_changes : Data → Reading (List SpanChange × Option ℤ)
 asked_changes params = do
   changes ← changes_form params
-  right (changes, version_in params)
+  right (changes, named_version params)
 
 -- after the document of a name is changed: one whose changes cannot be read is closed
 abbrev pub changed_by : Units → List Document → List ℕ → Reading (List SpanChange × Option ℤ) → Option Document → List Document
@@ -176,10 +187,14 @@ documents_by s method params (Some uri) = documents_named s method params uri
 abbrev pub documents_after : ServerState → NotificationMethod → Data → List Document
 documents_after s method params = documents_by s method params (uri_in params)
 
--- those after one in this phase
-abbrev pub documents_in : Phase → ServerState → NotificationMethod → Data → List Document
-documents_in Running s method params = documents_after s method params
-documents_in _ s method params = s.documents
+-- what a notification about documents leaves in an open conversation
+abbrev pub noticed_documents : ServerState → NotificationMethod → Data → ServerState
+noticed_documents s method params = with_untold (with_documents s (documents_after s method params)) (untold_after s.untold method (uri_in params))
+
+-- and what in this phase
+abbrev pub noticed_in : Phase → ServerState → NotificationMethod → Data → ServerState
+noticed_in Running s method params = noticed_documents s method params
+noticed_in _ s method params = s
 
 -- the conversation ended: after a shutdown as it should
 abbrev pub ended_phase : Phase → Phase
@@ -187,13 +202,15 @@ ended_phase ShutDown = Ended true
 ended_phase (Ended is_clean) = Ended is_clean
 ended_phase _ = Ended false
 
-abbrev pub phase_after : Phase → NotificationMethod → Phase
-phase_after phase Exit = ended_phase phase
-phase_after phase _ = phase
+-- the client has left
+abbrev pub client_left : ServerState → ServerState
+client_left s = record { options = s.options; phase = ended_phase s.phase; client = s.client; documents = s.documents; untold = s.untold }
 
 -- what a notification leaves
 abbrev pub noticed : ServerState → NotificationMethod → Data → ServerState
-noticed s method params = record { options = s.options; phase = phase_after s.phase method; client = s.client; documents = documents_in s.phase s method params }
+noticed s Exit params = client_left s
+noticed s Other params = s
+noticed s method params = noticed_in s.phase s method params
 
 -- ---- what is told of documents
 
@@ -202,27 +219,26 @@ abbrev pub IsToldOfOpen : ServerState → List ℕ → Option Document → List 
 IsToldOfOpen s uri None texts = texts ≡ closed_notice uri ∷ []
 IsToldOfOpen s uri (Some d) texts = (text : List ℕ) × IsNoticeOf s.options s.client.units d text × (texts ≡ text ∷ [])
 
--- what is told behind a notification about a document of a name
-abbrev pub IsToldOfNamed : ServerState → Option (List ℕ) → List (List ℕ) → Type 0
-IsToldOfNamed s None texts = texts ≡ []
-IsToldOfNamed s (Some uri) texts = IsToldOfOpen s uri (document_in s.documents uri) texts
+-- what is told at once behind a notification, in this phase
+abbrev pub told_in_phase : Phase → NotificationMethod → Data → List (List ℕ)
+told_in_phase Running method params = told_at_once method (uri_in params)
+told_in_phase _ method params = []
 
--- behind a notification that leaves this
-abbrev pub IsNotified : ServerState → NotificationMethod → Data → List (List ℕ) → Type 0
-IsNotified s Exit params texts = texts ≡ []
-IsNotified s Other params texts = texts ≡ []
-IsNotified s method params texts = IsToldOfNamed s (uri_in params) texts
+-- a rest where these are not told yet: the first is told, as it stands then, or that there is no memory for that, and the others are left
+abbrev pub IsRestOf : List (List ℕ) → ServerState → ServerState → List (List ℕ) → Type 0
+IsRestOf [] s new texts = (new ≡ s) × (texts ≡ [])
+IsRestOf (uri ∷ uris) s new texts =
+    (new ≡ with_untold s uris) × (IsToldOfOpen s uri (document_in s.documents uri) texts ⊎ (texts ≡ untold_text ∷ []))
 
--- in this phase
-abbrev pub IsToldIn : Phase → ServerState → NotificationMethod → Data → List (List ℕ) → Type 0
-IsToldIn Running s method params texts = IsNotified s method params texts
-IsToldIn _ s method params texts = texts ≡ []
+-- what is told at a rest
+abbrev pub TellsAtRest : ServerState → ServerState → List (List ℕ) → Type 0
+TellsAtRest s new texts = IsRestOf s.untold s new texts
 
 -- ---- messages
 
 -- no document is open any more
 abbrev pub forgotten : ServerState → ServerState
-forgotten s = with_documents s []
+forgotten s = with_untold (with_documents s []) []
 
 -- what the user is told where memory ran out, or a message was too long: a change may be lost, so each document is closed
 abbrev pub lost_text : List ℕ
@@ -252,7 +268,7 @@ IsRefusalText e texts = IsToldOutcome null (Err e) texts
 abbrev pub IsMessageStep : ServerState → Incoming → ServerState → List (List ℕ) → Type 0
 IsMessageStep old (request id method params) new texts = IsResponse old id (request_method method) params new texts
 IsMessageStep old (notification method params) new texts =
-    let m = notification_method method in ((new ≡ noticed old m params) × IsToldIn old.phase new m params texts) ⊎ IsLost old new texts
+    let m = notification_method method in ((new ≡ noticed old m params) × (texts ≡ told_in_phase old.phase m params)) ⊎ IsLost old new texts
 IsMessageStep old response new texts = (new ≡ old) × (texts ≡ [])
 IsMessageStep old no_message new texts = (new ≡ old) × IsRefusalText InvalidRequest texts
 

@@ -1,5 +1,5 @@
 -- What the code holds, as plain data.
-use Rattle.std.specs.Prelude.{map, string_bytes}
+use Rattle.std.specs.Prelude.{string_bytes}
 use Rattle.serde_json.specs.View.{view}
 use Rattle.lsp.specs.declared.message.Incoming as code
 use Rattle.lsp.specs.declared.message.Incoming.TheVariants as code_incoming

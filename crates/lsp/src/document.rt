@@ -44,7 +44,7 @@ pub(crate) fn text_at(alloc: Global, members: &mut Members, key: &str) -> Result
 }
 
 /// The version of a document, where a whole number is given.
-pub(crate) fn version_in(members: &Members) -> Option<i64>
+fn version_in(members: &Members) -> Option<i64>
     ensures { result ≡ spec.version_in (held members.now) }
 {
     field(members, "version").and_then(Value::as_i64)
@@ -118,6 +118,16 @@ pub(crate) fn uri_in(params: &Value) -> Option<&str>
         .get("textDocument")
         .and_then(|document| document.get("uri"))
         .and_then(Value::as_str)
+}
+
+/// Its version, where a whole number is given.
+pub(crate) fn named_version(params: &Value) -> Option<i64>
+    ensures { result ≡ spec.named_version (view params.now) }
+{
+    params
+        .get("textDocument")
+        .and_then(|document| document.get("version"))
+        .and_then(Value::as_i64)
 }
 
 /// The document of a name.

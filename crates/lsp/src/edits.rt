@@ -8,7 +8,7 @@ ghost use Rattle.lsp.specs.Servers as spec;
 ghost use Rattle.lsp.specs.Views.{change_view, document_view};
 
 use crate::change::{Change, changes_at, make_changes};
-use crate::document::{Document, document_of, put_document, take_document, version_in};
+use crate::document::{Document, document_of, named_version, put_document, take_document};
 use hir_input_json::Fault;
 use hir_input_json::member::members_of;
 use line_index::Units;
@@ -37,8 +37,8 @@ fn asked_changes(alloc: Global, params: Value) -> Result<(Vec<Change>, Option<i6
     ensures { Reads (λ asked. (map change_view asked.0.items, asked.1)) result
         (spec.asked_changes (view params)) }
 {
+    let version = named_version(&params);
     let mut members = members_of(alloc, params)?;
-    let version = version_in(&members);
     let changes = changes_at(alloc, &mut members)?;
     Ok((changes, version))
 }

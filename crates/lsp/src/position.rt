@@ -1,7 +1,8 @@
 //! Positions and ranges as the protocol has them.
-ghost use Rattle.std.specs.Prelude.{◌≡◌, ◌^◌, IfOk, OnOk};
+ghost use Rattle.std.specs.Prelude.{◌≡◌, IfOk, OnOk, option_and_then};
+ghost use Rattle.serde_json.specs.Find.{as_number};
 ghost use Rattle.serde_json.specs.View.{view};
-ghost use Rattle.hir_input_json.specs.Forms.{required_at, whole_form};
+ghost use Rattle.hir_input_json.specs.Forms.{required_at};
 ghost use Rattle.hir_input_json.specs.Held.{held, without};
 ghost use Rattle.hir_input_json.specs.Reads.{Reads};
 ghost use Rattle.lsp.specs.Positions as spec;
@@ -11,6 +12,7 @@ use hir_input_json::{Fault, ReadIn};
 use line_index::Point;
 use serde_json::{Map, Value, json, put};
 use std::alloc::{AllocError, Global};
+use std::num::saturating_f64_to_u32;
 
 /// Where something begins and ends.
 #[derive(Clone, Copy, Debug)]
@@ -22,17 +24,38 @@ pub(crate) struct Span {
 /// The numbers of lines and characters are smaller.
 const TOO_LARGE: u64 = 0x8000_0000;
 
-fn whole_of(alloc: Global, value: &Value) -> Result<usize, Fault>
-    ensures { Reads (λ n. n) result (whole_form (2 ^ 31) (view value.now)) }
+/// The whole number that a float is, if it is one: some editors write `12.0` for 12.
+fn whole_float(number: f64) -> Option<u64>
+    ensures { result ≡ spec.whole_float number }
 {
-    match value.as_u64() {
+    let whole = saturating_f64_to_u32(number);
+    if f64::from(whole) == number {
+        Some(u64::from(whole))
+    } else {
+        None
+    }
+}
+
+fn whole_number(value: &Value) -> Option<u64>
+    ensures { result ≡ option_and_then spec.whole_number (as_number (view value.now)) }
+{
+    if value.is_f64() {
+        return whole_float(value.as_f64()?);
+    }
+    value.as_u64()
+}
+
+fn whole_of(alloc: Global, value: &Value) -> Result<usize, Fault>
+    ensures { Reads (λ n. n) result (spec.position_number (view value.now)) }
+{
+    match whole_number(value) {
         Some(number) if number < TOO_LARGE => Ok(number as usize),
         _ => Err(Fault::here(alloc)),
     }
 }
 
 fn whole_at(alloc: Global, members: &Members, key: &str) -> Result<usize, Fault>
-    ensures { Reads (λ n. n) result (required_at key.now (whole_form (2 ^ 31)) (held members.now)) }
+    ensures { Reads (λ n. n) result (required_at key.now spec.position_number (held members.now)) }
 {
     match field(members, key) {
         Some(found) => whole_of(alloc, found).in_member(alloc, key),

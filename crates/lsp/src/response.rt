@@ -2,15 +2,21 @@
 ghost use Rattle.std.specs.Prelude.{◌≡◌, ◌++◌, IfOk, codes, false, string_bytes};
 ghost use Rattle.serde_json.specs.View.{view};
 ghost use Rattle.serde_json.specs.Written.{compact_text, has_float};
+ghost use Rattle.message_stream.specs.Answers.{answer_texts};
 ghost use Rattle.lsp.specs.Inner.{IsPlainOutcome, request_outcome_view};
 ghost use Rattle.lsp.specs.Responses as spec;
+ghost use Rattle.lsp.specs.Servers.{IsRefusalText, IsToldOutcome};
 
 use hir_input_json::{Fault, Pointer};
 use item_tree::LowerError;
 use itemtree_commands::SourceError;
+use message_stream::Answer;
 use serde_json::{Map, Value, json, put};
 use source_rows::ReadError;
 use std::alloc::{AllocError, AllocFailed, Global};
+
+const NO_MEMORY: &str =
+    r#"{"error":{"code":-32603,"message":"out of memory"},"id":null,"jsonrpc":"2.0"}"#;
 
 /// Why a request has no result.
 #[derive(Debug, Drop)]
@@ -175,11 +181,7 @@ fn response_value(alloc: Global, id: Value, outcome: Outcome) -> Result<Value, A
 /// # Errors
 ///
 /// Only if memory runs out.
-pub(crate) fn response_text(
-    alloc: Global,
-    id: Value,
-    outcome: Outcome,
-) -> Result<String, AllocError>
+fn response_text(alloc: Global, id: Value, outcome: Outcome) -> Result<String, AllocError>
     requires id { has_float (view id) ≡ false }
     requires outcome { IsPlainOutcome outcome }
     ensures { IfOk result (λ text. string_bytes text
@@ -187,4 +189,23 @@ pub(crate) fn response_text(
 {
     let value = response_value(alloc, id, outcome)?;
     value.to_string(alloc)
+}
+
+/// The answer to a request under an id.
+pub(crate) fn response(alloc: Global, id: Value, outcome: Outcome) -> Answer
+    requires id { has_float (view id) ≡ false }
+    requires outcome { IsPlainOutcome outcome }
+    ensures { IsToldOutcome (view id) (request_outcome_view outcome) (answer_texts result) }
+{
+    match response_text(alloc, id, outcome) {
+        Ok(text) => Answer::Made(text),
+        Err(_) => Answer::Fixed(NO_MEMORY),
+    }
+}
+
+/// The answer to what is no request.
+pub(crate) fn refused(alloc: Global, error: ResponseError) -> Answer
+    ensures { IsRefusalText error (answer_texts result) }
+{
+    response(alloc, Value::Null, Err(error))
 }

@@ -1,10 +1,9 @@
 //! A language server for open texts.
-ghost use Rattle.std.specs.Prelude.{◌≡◌, ◌⊎◌, ◌∷◌, [], Err, IfOk, OnErr, false, map, string_bytes};
+ghost use Rattle.std.specs.Prelude.{◌≡◌, ◌⊎◌, ◌∷◌, [], Err, IfOk, OnErr, Some, false, map, string_bytes};
 ghost use Rattle.serde_json.specs.Data.{null};
 ghost use Rattle.serde_json.specs.View.{view};
 ghost use Rattle.serde_json.specs.Written.{has_float};
 ghost use Rattle.message_stream.specs.Answers.{answer_texts};
-ghost use Rattle.lsp.specs.Clients.{encoding};
 ghost use Rattle.lsp.specs.Documents.{document_in as spec_document_in, uri_in};
 ghost use Rattle.lsp.specs.Inner.{IsPlainOutcome, IsSameButDocuments, OnRead, request_outcome_view};
 ghost use Rattle.lsp.specs.declared.response.ResponseError.TheVariants.{OutOfMemory};
@@ -12,6 +11,7 @@ ghost use Rattle.lsp.specs.declared.method.RequestMethod.TheVariants.{Initialize
 ghost use Rattle.lsp.specs.Messages.{incoming, notification};
 ghost use Rattle.lsp.specs.Methods.{request_method};
 ghost use Rattle.lsp.specs.Servers as spec;
+ghost use Rattle.lsp.specs.Untold.{told_at_once, untold_named};
 ghost use Rattle.lsp.specs.Views.{document_view};
 
 use crate::client::{Client, client_of};
@@ -21,16 +21,18 @@ use crate::edits::{change_document, open_document};
 use crate::listed::asked_symbols;
 use crate::message::{Incoming, message_of};
 use crate::method::{NotificationMethod, RequestMethod, notification_method, request_method};
-use crate::phase::Phase;
+use crate::opening::initialize_value;
+use crate::phase::{Phase, ended_phase, refusal};
 use crate::ranges::ranges;
-use crate::response::{Outcome, ResponseError, response_text};
+use crate::response::{Outcome, ResponseError, refused, response};
 use crate::surrogates::mend;
+use crate::untold::{put_name, take_name};
 use hir_input_json::Fault;
 use itemtree_commands::{Options, SourceError};
 use line_index::Units;
 use message_stream::{Answer, Message, Service};
-use serde_json::{Value, json};
-use std::alloc::{AllocError, Global};
+use serde_json::Value;
+use std::alloc::Global;
 use std::marker::Model;
 
 /// A language server for open texts: what stands between the messages of a conversation.
@@ -39,6 +41,8 @@ pub struct Server {
     phase: Phase,
     client: Client,
     documents: Vec<Document>,
+    /// The names of documents whose problems are not told yet.
+    untold: Vec<String>,
 }
 
 // (Written out: what is derived is proved anew, field by field, in each crate that drops one.)
@@ -49,6 +53,7 @@ impl Drop for Server {
             phase: _,
             client: _,
             documents: _,
+            untold: _,
         } = self;
     }
 }
@@ -59,7 +64,7 @@ impl Model for Server {
     ghost use Rattle.hir_input.specs.contracts.attr.Meta as meta;
     ghost use Rattle.lsp.specs.Servers.{ServerState};
     ghost use Rattle.lsp.specs.Views.{document_view};
-    ghost use Rattle.std.specs.Prelude.{map};
+    ghost use Rattle.std.specs.Prelude.{map, string_bytes};
 
     ghost Value = { ServerState };
 
@@ -70,65 +75,15 @@ impl Model for Server {
       phase = x.phase;
       client = x.client;
       documents = map document_view x.documents.items;
+      untold = map string_bytes x.untold.items;
     } };
 }
 
 const LOST: &str =
     r#"{"jsonrpc":"2.0","method":"window/showMessage","params":{"message":"open the documents again","type":1}}"#;
 
-const NO_MEMORY: &str =
-    r#"{"error":{"code":-32603,"message":"out of memory"},"id":null,"jsonrpc":"2.0"}"#;
-
-/// Why a request may not stand in a phase, if it may not.
-fn refusal(phase: Phase, method: RequestMethod) -> Option<ResponseError>
-    ensures { result ≡ spec.refusal phase method }
-{
-    match (phase, method) {
-        (Phase::Waiting, RequestMethod::Initialize) => None,
-        (Phase::Waiting, _) => Some(ResponseError::NotInitialized),
-        (Phase::Running, RequestMethod::Initialize) => Some(ResponseError::InvalidRequest),
-        (Phase::Running, RequestMethod::Unknown) => Some(ResponseError::MethodNotFound),
-        (Phase::Running, _) => None,
-        (Phase::ShutDown | Phase::Ended { .. }, _) => Some(ResponseError::InvalidRequest),
-    }
-}
-
-fn encoding(units: Units) -> &'static str
-    ensures { result.now ≡ encoding units }
-{
-    match units {
-        Units::Bytes => "utf-8",
-        _ => "utf-16",
-    }
-}
-
-/// The answer that opens a conversation.
-fn initialize_value(alloc: Global, units: Units) -> Result<Value, AllocError>
-    ensures { IfOk result (λ value. view value ≡ spec.initialize_data units) }
-{
-    let encoding = encoding(units);
-    json!(in alloc; {
-        "capabilities": {
-            "documentHighlightProvider": true,
-            "documentSymbolProvider": true,
-            "foldingRangeProvider": true,
-            "positionEncoding": encoding,
-            "selectionRangeProvider": true,
-            "textDocumentSync": {"change": 2, "openClose": true}
-        },
-        "serverInfo": {"name": "itemtree"}
-    })
-}
-
-fn ended_phase(phase: Phase) -> Phase
-    ensures { result ≡ spec.ended_phase phase }
-{
-    match phase {
-        Phase::ShutDown => Phase::Ended { is_clean: true },
-        Phase::Ended { is_clean } => Phase::Ended { is_clean },
-        Phase::Waiting | Phase::Running => Phase::Ended { is_clean: false },
-    }
-}
+const UNTOLD: &str =
+    r#"{"jsonrpc":"2.0","method":"window/showMessage","params":{"message":"no memory to tell problems","type":2}}"#;
 
 impl Server {
     /// A server of a conversation that is not opened, which reads texts under these options. Takes no memory.
@@ -143,6 +98,7 @@ impl Server {
                 is_hierarchical: false,
             },
             documents: Vec::new(alloc),
+            untold: Vec::new(alloc),
         }
     }
 
@@ -154,6 +110,13 @@ impl Server {
             Phase::Ended { is_clean } => Some(is_clean),
             _ => None,
         }
+    }
+
+    /// Ends the conversation: the client has left.
+    fn leave(&mut self)
+        ensures { self.new ≡ spec.client_left self.old }
+    {
+        self.phase = ended_phase(self.phase);
     }
 
     /// Opens the conversation.
@@ -182,6 +145,7 @@ impl Server {
             RequestMethod::Initialize => self.initialize(alloc, params),
             RequestMethod::Shutdown => {
                 self.phase = Phase::ShutDown;
+                self.untold.clear();
                 Ok(Value::Null)
             }
             RequestMethod::DocumentSymbol => {
@@ -231,6 +195,34 @@ impl Server {
         }
     }
 
+    /// Notes that the problems of the document of a name are not told yet; of one that is closed it tells none at once.
+    fn note(
+        &mut self,
+        alloc: Global,
+        method: NotificationMethod,
+        uri: String,
+    ) -> Result<Vec<String>, ResponseError>
+        ensures noted { IfOk result (λ _. self.new
+            ≡ spec.with_untold self.old (untold_named self.old.untold method (string_bytes uri))) }
+        ensures told { IfOk result
+            (λ texts. map string_bytes texts.items ≡ told_at_once method (Some (string_bytes uri))) }
+        ensures state { IsSameButDocuments self.old self.new }
+    {
+        let mut texts = Vec::new(alloc);
+        match method {
+            NotificationMethod::DidOpen | NotificationMethod::DidChange => {
+                put_name(&mut self.untold, uri)?;
+                Ok(texts)
+            }
+            NotificationMethod::DidClose => {
+                take_name(&mut self.untold, &uri);
+                texts.push(closed_text(alloc, &uri)?)?;
+                Ok(texts)
+            }
+            NotificationMethod::Exit | NotificationMethod::Other => Ok(texts),
+        }
+    }
+
     /// Does what a notification about documents tells, and gives what is told then.
     fn notice_documents(
         &mut self,
@@ -238,22 +230,19 @@ impl Server {
         method: NotificationMethod,
         params: Value,
     ) -> Result<Vec<String>, ResponseError>
-        ensures noticed { IfOk result (λ texts. self.new
-            ≡ spec.with_documents self.old (spec.documents_after self.old method (view params))) }
+        ensures noticed { IfOk result (λ _. self.new ≡ spec.noticed_documents self.old method (view params)) }
         ensures told { IfOk result
-            (λ texts. spec.IsToldOfNamed self.new (uri_in (view params)) (map string_bytes texts.items)) }
+            (λ texts. map string_bytes texts.items ≡ told_at_once method (uri_in (view params))) }
         ensures state { IsSameButDocuments self.old self.new }
     {
-        let mut texts = Vec::new(alloc);
         let Some(uri) = uri_in(&params) else {
-            return Ok(texts);
+            return Ok(Vec::new(alloc));
         };
         let uri = String::from_str(alloc, uri)?;
         if let Err(Fault::OutOfMemory) = self.edit(alloc, method, &uri, params) {
             return Err(ResponseError::OutOfMemory);
         }
-        texts.push(self.told(alloc, &uri)?)?;
-        Ok(texts)
+        self.note(alloc, method, uri)
     }
 
     /// Does what a notification tells, and gives what is told then.
@@ -263,14 +252,14 @@ impl Server {
         method: NotificationMethod,
         params: Value,
     ) -> Result<Vec<String>, ResponseError>
-        ensures noticed { IfOk result (λ texts. self.new ≡ spec.noticed self.old method (view params)) }
-        ensures told { IfOk result (λ texts.
-            spec.IsToldIn self.old.phase self.new method (view params) (map string_bytes texts.items)) }
+        ensures noticed { IfOk result (λ _. self.new ≡ spec.noticed self.old method (view params)) }
+        ensures told { IfOk result (λ texts. map string_bytes texts.items
+            ≡ spec.told_in_phase self.old.phase method (view params)) }
         ensures state { OnErr result (IsSameButDocuments self.old self.new) }
     {
         match (method, self.phase) {
-            (NotificationMethod::Exit, phase) => {
-                self.phase = ended_phase(phase);
+            (NotificationMethod::Exit, _) => {
+                self.leave();
                 Ok(Vec::new(alloc))
             }
             (NotificationMethod::Other, _) => Ok(Vec::new(alloc)),
@@ -280,10 +269,18 @@ impl Server {
     }
 
     /// Closes all documents: a change of one may be lost.
+    fn close_all(&mut self)
+        ensures { self.new ≡ spec.forgotten self.old }
+    {
+        self.documents.clear();
+        self.untold.clear();
+    }
+
+    /// Closes all documents, and tells the user.
     fn forget(&mut self) -> Answer
         ensures { spec.IsLost self.old self.new (answer_texts result) }
     {
-        self.documents.clear();
+        self.close_all();
         Answer::Fixed(LOST)
     }
 
@@ -332,36 +329,21 @@ impl Server {
             Ok(value) => self.answer_value(alloc, value),
             Err(error) if error.is_memory() => self.forget(),
             Err(_) => {
-                self.documents.clear();
+                self.close_all();
                 refused(alloc, ResponseError::NotJson)
             }
         }
     }
 }
 
-/// The answer to a request under an id.
-fn response(alloc: Global, id: Value, outcome: Outcome) -> Answer
-    requires id { has_float (view id) ≡ false }
-    requires outcome { IsPlainOutcome outcome }
-    ensures { spec.IsToldOutcome (view id) (request_outcome_view outcome) (answer_texts result) }
-{
-    match response_text(alloc, id, outcome) {
-        Ok(text) => Answer::Made(text),
-        Err(_) => Answer::Fixed(NO_MEMORY),
-    }
-}
-
-/// The answer to what is no request.
-fn refused(alloc: Global, error: ResponseError) -> Answer
-    ensures { spec.IsRefusalText error (answer_texts result) }
-{
-    response(alloc, Value::Null, Err(error))
-}
-
 impl Service for Server {
-    ghost use Rattle.lsp.specs.Servers.{Answers, is_conversation_over};
+    ghost use Rattle.lsp.specs.Servers.{Answers, TellsAtRest, is_all_told, is_conversation_over};
 
     ghost answers = { Answers };
+
+    ghost rests = { TellsAtRest };
+
+    ghost rested = { λ server. is_all_told server.untold };
 
     ghost over = { is_conversation_over };
 
@@ -373,6 +355,21 @@ impl Service for Server {
             }
             Message::TooLong | Message::OutOfMemory => self.forget(),
         }
+    }
+
+    fn rest(&mut self, alloc: Global) -> Answer {
+        if self.untold.is_empty() {
+            return Answer::Several(Vec::new(alloc));
+        }
+        let uri = self.untold.remove(0);
+        match self.told(alloc, &uri) {
+            Ok(text) => Answer::Made(text),
+            Err(_) => Answer::Fixed(UNTOLD),
+        }
+    }
+
+    fn is_rested(&self) -> bool {
+        self.untold.is_empty()
     }
 
     fn is_over(&self) -> bool {

@@ -1,4 +1,4 @@
-use Rattle.std.proofs.Common.{◌≡◌, ◌∙◌, ℕ, List, length, ap, sym}
+use Rattle.std.proofs.Common.{◌≡◌, ◌∙◌, ℕ, List, ap, sym}
 use Rattle.serde_json.specs.Data.{Data}
 use Rattle.line_index.specs.declared.Units.{Units}
 use Rattle.lsp.specs.Parts.{range_data}
