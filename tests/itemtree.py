@@ -488,6 +488,57 @@ def check_arguments(folder):
     tell(got[0] == 2 and all(f'/{name}.rs: No such file' in got[2] for name in names), 'long arguments', got)
 
 
+# Uses of each shape: items alone and with attributes; lists with and without a comma at the end, in one another, with one tree,
+# with comments, on lines of their own; `self`, stars and renames; trees that mean nothing or stand empty.
+USES = ('use a;', '#[cfg(x)]\n/// Doc.\npub use a::b as c;\nfn f() {}', 'mod m { use a::*; pub(crate) use super::b; }', 'use a::{b};', 'use a::{b,};',
+        'use a::{b, c};', 'use a::{b, c,};', 'use a::{b as c, d as _, e::*, self as g};', 'use {a, b::c, ::d};', 'use a::{b::{c}};', 'use a::{b::{c,},};',
+        'use a::{b::{c}, d};', 'use a::{d, b::{c}};', 'use a::{d, b::{c,},};', 'use a::{b::{c::{d}}, e::{f, g::{h}}};', 'use a::{b::{c, d}, e};',
+        'use a::self;', 'use a::self as b;', 'use a::{b::self, c};', 'use a::{c, b::self};', 'use a::{b::self};', 'use a::{b::{self}, c::{self, d}};',
+        'use a::{*, b};', 'use a::{{b, c}, {d}};', 'use a::{{}, b};', 'use a::{b, {}};', 'use {Self::q, b::{Self, c}, d, Self::{e, f}, {{}, g}};',
+        'use a::{\n    b, // of b {\n    /* , */ c /* } */ ,\n    d::{\n        e,\n    },\n};\nuse f;\n', 'use a /* { */ ::{ // ,\r\n  b,\r\n  c\r\n};\r\n',
+        '#![cfg(x)]\nuse é::{ö as ä, ü};', 'use r#a::{r#b, c}; use a::{b, c};')
+
+
+def check_removals(folder):
+    """What is left of a text without the bytes of an import's `removal` has all its imports but that one, and nothing is wrong with it."""
+    def told(text):
+        got = subprocess.run([PROGRAM, 'imports', '--json', '-'], cwd=folder, input=text, stdout=subprocess.PIPE, timeout=60).stdout
+        return [json.loads(line) for line in got.splitlines()]
+
+    def meant(imports):
+        return [{key: it[key] for key in ('path', 'kind', 'alias', 'cfg', 'module', 'visibility')} for it in imports]
+
+    for text in USES:
+        text = text.encode()
+        imports = told(text)
+        tell(len(imports) > 0, f'{text!r} has imports')
+        for number, it in enumerate(imports):
+            start, end = it['removal']
+            left = text[:start] + text[end:]
+            wanted = meant(imports[:number] + imports[number + 1:])
+            checked = subprocess.run([PROGRAM, 'check', '-'], cwd=folder, input=left, stdout=subprocess.PIPE, timeout=60)
+            is_wrong = b'Self' not in text and checked.returncode != 0
+            tell(meant(told(left)) == wanted and not is_wrong, f'{text!r} without {it["path"]}: {left!r}', meant(told(left)), wanted)
+
+
+def check_opened(folder):
+    """Under each use with a list an outline has its imports, as they are listed, with its visibility."""
+    def lines(text, *words):
+        return subprocess.run([PROGRAM, *words, '-'], cwd=folder, input=text.encode(), stdout=subprocess.PIPE, timeout=60).stdout.decode().splitlines()
+
+    for text in USES:
+        imports = list(zip(map(json.loads, lines(text, 'imports', '--json')), lines(text, 'imports')))
+        wanted = []
+        for closed, item in zip(lines(text, 'outline', '--flat'), map(json.loads, lines(text, 'outline', '--flat', '--json'))):
+            wanted.append(closed)
+            if item['kind'] != 'use' or not item['path'].endswith('{..}'):
+                continue
+            seen, end = item['visibility'], '' if item['active'] else ' (inactive)'
+            wanted += [line.replace(': ', f': {seen} use ' if seen else ': use ', 1) + end for it, line in imports if it['range'] == item['range']]
+        got = lines(text, 'outline', '--flat', '--imports')
+        tell(got == wanted, f'{text!r} opened', got, wanted)
+
+
 def check_not_text(folder):
     """The first byte of a file that is not UTF-8 is told by its place."""
     texts = {b'fn f() {}\nfn \xc3\xa4() { \xe4 }\n\xff': (2, 10), b'\xef\xbb\xbffn \xff': (1, 4), b'// a\r\n\r\n// \xf0\x9f\x98': (3, 4),
@@ -608,6 +659,8 @@ def main():
         check_unwritten(folder)
         check_arguments(folder)
         check_not_text(folder)
+        check_removals(folder)
+        check_opened(folder)
     print(f'itemtree: {passed} passed, {failed} failed')
     return failed > 0
 

@@ -16,7 +16,7 @@ use itemtree_commands::{
     Options, SourceError, check, duplicates, find, flat_json, imports, outline, outline_json, page,
     tags,
 };
-use itemtree_options::{Asked, Command};
+use itemtree_options::{Asked, Command, OutlineAsked};
 use list_forms::Form;
 use source_listing::{Pattern, Query, Source, TagForm, sought_pattern};
 use std::alloc::{AllocError, Global};
@@ -77,28 +77,25 @@ impl Run<'_> {
         Ok(String::new(alloc))
     }
 
-    fn outline(
-        &self,
-        source: Source<'_>,
-        depth: Option<usize>,
-        is_flat: bool,
-    ) -> Result<String, SourceError> {
-        let (alloc, has_members) = (self.rt.alloc(), self.asked.has_members);
+    fn outline(&self, source: Source<'_>, look: OutlineAsked) -> Result<String, SourceError> {
+        let (alloc, options) = (self.rt.alloc(), self.options);
+        let has_members = self.asked.has_members;
+        let (depth, has_imports) = (look.depth, look.has_imports);
         match self.form {
-            Form::Json if is_flat => flat_json(alloc, source, self.options, depth, has_members),
-            Form::Json => outline_json(alloc, source, self.options, depth, has_members),
-            Form::Line { is_colored } => {
-                let options = self.options;
-                outline(
-                    alloc,
-                    source,
-                    options,
-                    depth,
-                    has_members,
-                    is_colored,
-                    is_flat,
-                )
+            Form::Json if look.is_flat => {
+                flat_json(alloc, source, options, depth, has_members, has_imports)
             }
+            Form::Json => outline_json(alloc, source, options, depth, has_members),
+            Form::Line { is_colored } => outline(
+                alloc,
+                source,
+                options,
+                depth,
+                has_members,
+                has_imports,
+                is_colored,
+                look.is_flat,
+            ),
         }
     }
 
@@ -113,7 +110,7 @@ impl Run<'_> {
     fn answer(&mut self, source: Source<'_>) -> Result<(String, bool), SourceError> {
         let (alloc, options) = (self.rt.alloc(), self.options);
         let text = match self.asked.command {
-            Command::Outline { depth, is_flat } => self.outline(source, depth, is_flat)?,
+            Command::Outline(look) => self.outline(source, look)?,
             Command::Page { has_ids } => page(alloc, source.text, options, has_ids)?,
             Command::Imports => imports(alloc, source, options, self.form)?,
             Command::Duplicates => {

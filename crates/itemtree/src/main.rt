@@ -5,6 +5,7 @@
 mod arguments;
 mod changed;
 mod commands;
+mod editor;
 mod escapes;
 mod failure;
 mod files;
