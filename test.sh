@@ -88,6 +88,7 @@ try_programs() {
     part 'requests line by line' tests/serve.py "$itemtree" "$program" --sessions "$2"
     part 'texts in the making' tests/typed.py "$itemtree"
     part 'an editor' tests/lsp.py "$itemtree"
+    part 'real editors' tests/editors.py "$itemtree"
     part 'time that grows' tests/growth.py "$itemtree"
     part 'freed memory' tests/freed_memory.py "$itemtree"
     part 'refused memory' tests/refused_memory.sh "$program" "$itemtree" "${tests[@]}"
@@ -110,7 +111,7 @@ if [ -n "$is_quick" ]; then
     mapfile -t tests < <(find "${tests[@]}" -executable 2> /dev/null)
 fi
 
-planned=$((is_quick ? 23 : 25))
+planned=$((is_quick ? 24 : 26))
 part 'the closed words' tests/closed_words.sh
 part 'words with one meaning' tests/one_meaning.py
 part 'the length of documents' tests/sentences.py

@@ -1,18 +1,41 @@
 #!/usr/bin/env python3
-"""Draws the README's two pictures from a real run: draw.py ITEMTREE, the built program. It needs rsvg-convert (librsvg2-bin).
+"""Draws the README's pictures from a real run: draw.py ITEMTREE, the built program. It needs rsvg-convert (librsvg2-bin), tmux and Neovim.
 
-outline.png is a file in an editor with its outline beside it; edit.png is what `changed` says of two edits.
+outline.png is a file with its outline beside it; edit.png is what `changed` says of two edits; editor.png is Neovim's screen.
 """
+import os
 import pathlib
 import subprocess
 import sys
 import tempfile
+import time
 from xml.sax.saxutils import escape
 
 HERE = pathlib.Path(__file__).resolve().parent
 FILE = HERE.parent.parent / "tests" / "itemtree" / "shapes.rs"
 WIDE, HIGH = 7.83, 19  # of a character of the font, in pixels
-INK, PALE, EDGE, BLUE, GREEN, RED = "#1f2328", "#8c959f", "#d0d7de", "#0969da", "#1a7f37", "#cf222e"
+INK, PALE, EDGE, BLUE, GREEN, RED, BROWN = "#1f2328", "#8c959f", "#d0d7de", "#0969da", "#1a7f37", "#cf222e", "#9a6700"
+
+TYPED = """\
+use std::fmt;
+
+pub struct Circle {
+    radius: f64,
+}
+
+impl Circle {
+    pub fn area(&self) -> f64 {
+        3.0 * self.radius * self.radius
+    }
+}
+
+use std::fmt;
+
+fn perimeter(
+
+#[cfg(test)]
+mod tests;
+"""
 
 
 class Picture:
@@ -97,5 +120,37 @@ def draw_edit(program):
     picture.write("edit.png")
 
 
+def screen_of(program):
+    """The lines of Neovim's screen, over TYPED."""
+    with tempfile.TemporaryDirectory() as folder:
+        at = pathlib.Path(folder)
+        (at / "typed.rs").write_text(TYPED)
+        words = ["tmux", "-L", "itemtree", "-f", "/dev/null"]
+        editor = ["env", f"ITEMTREE={program}", "nvim", "-u", "NONE", "-n", "-S", str(HERE / "editor.lua")]
+        subprocess.run([*words, "new-session", "-d", "-x", "100", "-y", "27", *editor], cwd=folder, env={**os.environ, "TERM": "xterm"}, check=True)
+        while not (at / "shown").exists():
+            time.sleep(0.1)
+        time.sleep(0.5)
+        said = subprocess.run([*words, "capture-pane", "-p"], capture_output=True, text=True, check=True).stdout
+        subprocess.run([*words, "kill-server"], check=True)
+    return said.rstrip().splitlines()
+
+
+def draw_editor(program):
+    lines = screen_of(os.path.abspath(program))
+    picture = Picture(832, HIGH * len(lines) + 32)
+    picture.box(8, 8, 816, HIGH * len(lines) + 16)
+    for at, line in enumerate(lines):
+        y = 30 + HIGH * at
+        code, mark, told = line.partition("■")
+        color = {"E": RED, "W": BROWN}.get(line[:1], PALE)
+        is_bar = line.startswith(("typed.rs ", "[Quickfix"))
+        picture.text(20, y, code[:5] if code[:5].strip(" EW0123456789") == "" else "", color)
+        picture.text(20, y, code if code[:5].strip(" EW0123456789") else " " * 5 + code[5:], PALE if is_bar or line == "~" else INK)
+        picture.text(20 + WIDE * len(code), y, mark + told, color)
+    picture.write("editor.png")
+
+
 draw_outline(sys.argv[1])
 draw_edit(sys.argv[1])
+draw_editor(sys.argv[1])
