@@ -16,7 +16,7 @@ _itemtree() {
     fi
     [[ $word = -* ]] || return
     case $command in
-        outline) mapfile -t COMPREPLY < <(compgen -W '-e --edition --hidden --follow --exclude --cfg --host-cfg --active --no-members --depth --color --json -L --files-from --flat -h --help' -- "$word") ;;
+        outline) mapfile -t COMPREPLY < <(compgen -W '-e --edition --hidden --follow --exclude --cfg --host-cfg --active --no-members --depth --color --json -L --files-from --flat --imports -h --help' -- "$word") ;;
         page) mapfile -t COMPREPLY < <(compgen -W '-e --edition --hidden --follow --exclude --cfg --host-cfg --skip --docs --ids -L --files-from -h --help' -- "$word") ;;
         imports) mapfile -t COMPREPLY < <(compgen -W '-e --edition --hidden --follow --exclude --cfg --host-cfg --active --duplicates --color --json -q --quiet -L --files-from -h --help' -- "$word") ;;
         find) mapfile -t COMPREPLY < <(compgen -W '-e --edition --hidden --follow --exclude --cfg --host-cfg --active --no-members -i --ignore-case --kind --color --json -q --quiet -L --files-from -h --help' -- "$word") ;;
