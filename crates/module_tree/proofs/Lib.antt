@@ -1,4 +1,5 @@
 pub mod Above
-pub mod Ending
+pub mod Growing
+pub mod Limits
 pub mod ModItems
 pub mod Wanting

@@ -1,11 +1,12 @@
--- The modules of a crate: from the tree of its root file on, each `mod` that no cfg disables, in the order in which they are written.
-use Rattle.std.specs.Prelude.{ℕ, zero, suc, ◌==◌, List, [], ◌∷◌, ◌++◌, length, map, filter, flat_map, codes, Option, Some, None, option_map, if◌then◌else◌}
+-- The modules of a crate: from the tree of its root file on, each `mod` that is followed, in the order in which they are written.
+use Rattle.std.specs.Prelude.{ℕ, zero, suc, ◌^◌, ◌==◌, Bool, true, List, [], ◌∷◌, ◌++◌, length, map, filter, flat_map, codes, Option, Some, None, option_map, if◌then◌else◌}
 use Rattle.std.specs.List.{filter_map, list_any}
 use Rattle.hir_input.specs.{Attr.string_with_span_of, declared.attr.Attr.Attr, declared.ids.FileAstId.FileAstId}
 use Rattle.item_tree.specs.Node.{outline, inline, Head, Node, leaf, parent, Forest, empty, more, node_ast, Unfolding}
 use Rattle.item_tree_attrs.specs.{Collected.first, Key.has_key}
 use Rattle.tree_walk.specs.Rows.{hold_no_false, is_file_enabled}
-use Rattle.module_tree.specs.declared.data.{ModuleData.ModuleData, ModuleId.ModuleId, UnresolvedReason.UnresolvedReason}
+use Rattle.module_tree.specs.declared.data.{ModuleChoice.ModuleChoice, ModuleData.ModuleData, ModuleId.ModuleId, ModuleOrigin.ModuleOrigin, UnresolvedReason.UnresolvedReason}
+use Rattle.module_tree.specs.declared.data.ModuleChoice.TheVariants.{Enabled, All}
 use Rattle.module_tree.specs.declared.data.ModuleOrigin.TheVariants.{CrateRoot, File as file_origin, Inline as inline_origin}
 use Rattle.module_tree.specs.declared.data.UnresolvedReason.TheVariants.{NoFile, TwoFiles, Circle, TooDeep}
 use Rattle.module_tree.specs.declared.known.KnownPath.{KnownPath}
@@ -77,55 +78,31 @@ candidate_path c = c.path
 
 -- ---- what is found
 
--- a `mod` without a module: the module that it stands in, its name and id, why, and the paths that were looked for
-pub record Unresolved : Type 0 where
-  pub parent : ModuleId
-  pub name : List ℕ
-  pub id : FileAstId
-  pub reason : UnresolvedReason
-  pub paths : List (List ℕ)
+-- what is found where items stand, in the order in which it is written
+pub data Findings : Type 0 where
+  nothing_found : Findings
+  -- a module, by its name, where it comes from and its file: what is found in it, and behind it
+  found_module : List ℕ → ModuleOrigin → ℕ → (inside behind : Findings) → Findings
+  -- a `mod` without a module: why, and the paths that were looked for
+  unresolved_mod : ModItem → UnresolvedReason → List (List ℕ) → (behind : Findings) → Findings
+  -- paths of which nothing is known
+  wanted_paths : List (List ℕ) → (behind : Findings) → Findings
 
--- modules, each after the one that it stands in, whose place in the list is its id; and paths of which nothing is known
-pub record FoundModules : Type 0 where
-  pub modules : List ModuleData
-  pub unresolved : List Unresolved
-  pub wanted : List (List ℕ)
-
--- where items stand: in a module, in a file, with the files around them, this one too
+-- where items stand: in a file, with the files around them, this one too
 pub record ModulePlace : Type 0 where
-  pub module_id : ModuleId
   pub file : ℕ
   pub files : List ℕ
   pub dir : Dir
 
--- the id of the next module
-abbrev pub next_id : FoundModules → ModuleId
-next_id s = record { 0 = length s.modules }
+abbrev pub inside_inline : ModulePlace → ModItem → ModulePlace
+inside_inline p m = record { file = p.file; files = p.files; dir = inline_dir p.dir m }
 
-abbrev pub with_module : ModuleData → FoundModules → FoundModules
-with_module m s = record { modules = s.modules ++ m ∷ []; unresolved = s.unresolved; wanted = s.wanted }
+abbrev pub inside_file : ModulePlace → ℕ → Dir → ModulePlace
+inside_file p file dir = record { file = file; files = p.files ++ file ∷ []; dir = dir }
 
-abbrev pub with_unresolved : ModulePlace → ModItem → UnresolvedReason → FoundModules → FoundModules
-with_unresolved p m reason s =
-    let u : Unresolved = record { parent = p.module_id; name = m.name; id = m.id; reason = reason; paths = map candidate_path (candidates p.dir m) } in
-    record { modules = s.modules; unresolved = s.unresolved ++ u ∷ []; wanted = s.wanted }
-
-abbrev pub with_wanted : List (List ℕ) → FoundModules → FoundModules
-with_wanted paths s = record { modules = s.modules; unresolved = s.unresolved; wanted = s.wanted ++ paths }
-
--- the module of an inline `mod`, and of one whose file was found
-abbrev pub inline_module : ModulePlace → ModItem → ModuleData
-inline_module p m = record { parent = Some p.module_id; name = Some m.name; origin = inline_origin m.id; file = p.file }
-
-abbrev pub file_module : ModulePlace → ModItem → ℕ → ModuleData
-file_module p m file = record { parent = Some p.module_id; name = Some m.name; origin = file_origin m.id; file = file }
-
--- where their items stand, if so many modules were found before
-abbrev pub inside_inline : ModulePlace → ModItem → FoundModules → ModulePlace
-inside_inline p m s = record { module_id = next_id s; file = p.file; files = p.files; dir = inline_dir p.dir m }
-
-abbrev pub inside_file : ModulePlace → ℕ → Dir → FoundModules → ModulePlace
-inside_file p file dir s = record { module_id = next_id s; file = file; files = p.files ++ file ∷ []; dir = dir }
+-- a `mod` without a module, in front of what is found behind it
+abbrev pub no_module : ModulePlace → ModItem → UnresolvedReason → Findings → Findings
+no_module p m reason behind = unresolved_mod m reason (map candidate_path (candidates p.dir m)) behind
 
 -- a path, if nothing is known of it
 abbrev pub unknown_path : Option KnownPath → List ℕ → List (List ℕ)
@@ -163,57 +140,107 @@ resolution_of files around cs = resolution_by around (unknown_paths files cs) (f
 abbrev pub resolution : ModuleFiles → ModulePlace → ModItem → Resolution
 resolution files p m = resolution_of files p.files (candidates p.dir m)
 
--- what is done with a file that a `mod` means
+-- what is found of a file that a `mod` means, in front of what is found behind the `mod`
 abbrev pub Enter : Type 0
-Enter = ModulePlace → ModItem → ℕ → Dir → FoundModules → FoundModules
+Enter = ModulePlace → ModItem → ℕ → Dir → Findings → Findings
 
-abbrev pub outlined : Enter → ModulePlace → ModItem → Resolution → FoundModules → FoundModules
-outlined enter p m (wants paths) s = with_wanted paths s
-outlined enter p m (fails reason) s = with_unresolved p m reason s
-outlined enter p m (finds file dir) s = enter p m file dir s
+abbrev pub outlined : Enter → ModulePlace → ModItem → Resolution → Findings → Findings
+outlined enter p m (wants paths) behind = wanted_paths paths behind
+outlined enter p m (fails reason) behind = no_module p m reason behind
+outlined enter p m (finds file dir) behind = enter p m file dir behind
 
--- ---- the walk of the trees
-
--- what an item, and what the items of a forest add to what was found before
-abbrev mutual
-  pub node_modules : ModuleFiles → Enter → ModulePlace → Node → FoundModules → FoundModules
-  node_modules files enter p (leaf h (outline name v)) s =
-      let m = mod_item (leaf h (outline name v)) name h in
-      if hold_no_false h.attrs then outlined enter p m (resolution files p m) s else s
-  node_modules files enter p (parent h (inline name v) f) s =
-      let m = mod_item (parent h (inline name v) f) name h in
-      if hold_no_false h.attrs then forest_modules files enter (inside_inline p m s) f (with_module (inline_module p m) s) else s
-  node_modules files enter p _ s = s
-
-  pub forest_modules : ModuleFiles → Enter → ModulePlace → Forest → FoundModules → FoundModules
-  forest_modules files enter p empty s = s
-  forest_modules files enter p (more n f) s = forest_modules files enter p f (node_modules files enter p n s)
-
--- a file is a module with all in it, unless a cfg disables the file; so many files may stand in one another
-abbrev pub entered : ModuleFiles → ℕ → Enter
-entered files zero p m file dir s = with_unresolved p m TooDeep s
-entered files (suc depth) p m file dir s =
-    if is_file_enabled (files.tree file)
-    then forest_modules files (entered files depth) (inside_file p file dir s) (files.tree file).forest (with_module (file_module p m file) s)
-    else s
+-- whether an item, or a file, is followed, by whether no cfg disables it
+abbrev pub is_followed : ModuleChoice → Bool → Bool
+is_followed Enabled is_enabled = is_enabled
+is_followed All is_enabled = true
 
 -- how deep files may stand in the root file
 abbrev pub depth_limit : ℕ
 depth_limit = 128
 
--- the root file, which looks beside itself
-abbrev pub root_module : ℕ → ModuleData
-root_module root = record { parent = None; name = None; origin = CrateRoot; file = root }
-
+-- the root file looks beside itself
 abbrev pub root_place : ℕ → List ℕ → ModulePlace
-root_place root path = record { module_id = record { 0 = 0 }; file = root; files = root ∷ []; dir = (file_at [] path).dir }
+root_place root path = record { file = root; files = root ∷ []; dir = (file_at [] path).dir }
 
+module _ (choice : ModuleChoice) (files : ModuleFiles) where
+  -- what is found in an item, in front of what is found behind it, and in the items of a forest
+  abbrev mutual
+    pub node_found : Enter → ModulePlace → Node → Findings → Findings
+    node_found enter p (leaf h (outline name v)) behind =
+        let m = mod_item (leaf h (outline name v)) name h in
+        if is_followed choice (hold_no_false h.attrs) then outlined enter p m (resolution files p m) behind else behind
+    node_found enter p (parent h (inline name v) f) behind =
+        let m = mod_item (parent h (inline name v) f) name h in
+        if is_followed choice (hold_no_false h.attrs) then found_module name (inline_origin m.id) p.file (forest_found enter (inside_inline p m) f) behind else behind
+    node_found enter p _ behind = behind
+
+    pub forest_found : Enter → ModulePlace → Forest → Findings
+    forest_found enter p empty = nothing_found
+    forest_found enter p (more n f) = node_found enter p n (forest_found enter p f)
+
+  -- a file is a module with all in it, if it is followed; so many files may stand in one another
+  abbrev pub entered : ℕ → Enter
+  entered zero p m file dir behind = no_module p m TooDeep behind
+  entered (suc depth) p m file dir behind =
+      if is_followed choice (is_file_enabled (files.tree file))
+      then found_module m.name (file_origin m.id) file (forest_found (entered depth) (inside_file p file dir) (files.tree file).forest) behind
+      else behind
+
+  -- what is found in a crate, by the number and the path of its root file
+  abbrev pub crate_found : ℕ → List ℕ → Findings
+  crate_found root path =
+      if is_followed choice (is_file_enabled (files.tree root)) then forest_found (entered depth_limit) (root_place root path) (files.tree root).forest else nothing_found
+
+-- ---- the same as lists
+
+-- a `mod` without a module: the module that it stands in, its name and id, why, and the paths that were looked for
+pub record Unresolved : Type 0 where
+  pub parent : ModuleId
+  pub name : List ℕ
+  pub id : FileAstId
+  pub reason : UnresolvedReason
+  pub paths : List (List ℕ)
+
+-- modules, each after the one that it stands in, whose place in the list is its id; and paths of which nothing is known
+pub record FoundModules : Type 0 where
+  pub modules : List ModuleData
+  pub unresolved : List Unresolved
+  pub wanted : List (List ℕ)
+
+-- the id of the next module
+abbrev pub next_id : FoundModules → ModuleId
+next_id s = record { 0 = length s.modules }
+
+abbrev pub module_in : ModuleId → List ℕ → ModuleOrigin → ℕ → ModuleData
+module_in id name origin file = record { parent = Some id; name = Some name; origin = origin; file = file }
+
+abbrev pub with_module : ModuleData → FoundModules → FoundModules
+with_module m s = record { modules = s.modules ++ m ∷ []; unresolved = s.unresolved; wanted = s.wanted }
+
+abbrev pub with_unresolved : Unresolved → FoundModules → FoundModules
+with_unresolved u s = record { modules = s.modules; unresolved = s.unresolved ++ u ∷ []; wanted = s.wanted }
+
+abbrev pub with_wanted : List (List ℕ) → FoundModules → FoundModules
+with_wanted paths s = record { modules = s.modules; unresolved = s.unresolved; wanted = s.wanted ++ paths }
+
+-- what was found before, and then this in the module of this id
+abbrev pub with_found : ModuleId → Findings → FoundModules → FoundModules
+with_found id nothing_found s = s
+with_found id (found_module name origin file inside behind) s = with_found id behind (with_found (next_id s) inside (with_module (module_in id name origin file) s))
+with_found id (unresolved_mod m reason paths behind) s = with_found id behind (with_unresolved (record { parent = id; name = m.name; id = m.id; reason = reason; paths = paths }) s)
+with_found id (wanted_paths paths behind) s = with_found id behind (with_wanted paths s)
+
+abbrev pub root_id : ModuleId
+root_id = record { 0 = 0 }
+
+-- the root module alone
 abbrev pub root_found : ℕ → FoundModules
-root_found root = record { modules = root_module root ∷ []; unresolved = []; wanted = [] }
+root_found root = record { modules = record { parent = None; name = None; origin = CrateRoot; file = root } ∷ []; unresolved = []; wanted = [] }
 
 -- the modules of a crate, by the number and the path of its root file
-abbrev pub crate_modules : ModuleFiles → ℕ → List ℕ → FoundModules
-crate_modules files root path =
-    if is_file_enabled (files.tree root)
-    then forest_modules files (entered files depth_limit) (root_place root path) (files.tree root).forest (root_found root)
-    else root_found root
+abbrev pub crate_modules : ModuleChoice → ModuleFiles → ℕ → List ℕ → FoundModules
+crate_modules choice files root path = with_found root_id (crate_found choice files root path) (root_found root)
+
+-- the most modules of a crate
+abbrev pub most_modules : ℕ
+most_modules = 2 ^ 20

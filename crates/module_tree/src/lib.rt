@@ -7,11 +7,13 @@ mod known;
 mod laws;
 mod mod_dir;
 mod paths;
+mod place;
 mod resolve;
 mod walk;
 
 pub use data::{
-    ModuleData, ModuleId, ModuleOrigin, ModuleTree, UnresolvedModule, UnresolvedReason,
+    MOST_MODULES, ModuleChoice, ModuleData, ModuleId, ModuleOrigin, ModuleTree, ModuleTreeError,
+    UnresolvedModule, UnresolvedReason,
 };
 pub use known::{KnownFiles, KnownPath};
 pub use walk::module_tree;

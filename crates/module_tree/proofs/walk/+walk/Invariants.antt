@@ -1,7 +1,7 @@
-use Rattle.std.proofs.Common.{◌≡◌, ◌+◌, ◌*◌, ◌^◌, take, sum_by}
+use Rattle.std.proofs.Common.{◌≡◌, ◌≤◌, ◌+◌, ◌*◌, ◌^◌, length, take, sum_by}
 use Rattle.std.specs.List.{fold}
 use Rattle.item_tree.specs.Walk.{count_at}
-use Rattle.module_tree.specs.{Inner.id_modules, Inner.place_view, Modules.entered, Views.files_of, Views.modules_view}
+use Rattle.module_tree.specs.{Inner.id_modules_in, Modules.most_modules, Views.modules_view}
 use Rattle.module_tree.proofs.walk.+walk.Given as goal
 
 abbrev pub decreases-push_items : goal.decreases-push_items
@@ -17,6 +17,7 @@ abbrev pub decreases-push_file : goal.decreases-push_file
 decreases-push_file l = l.depth * 2 ^ 33
 
 abbrev pub invariant-push_items-loop-id : goal.invariant-push_items-loop-id
-invariant-push_items-loop-id l =
-    let files = files_of l.known in
-    modules_view l.found ≡ fold (id_modules files (entered files l.depth) (place_view l.place) l.tree) (modules_view l.initial.found) (take l.id-index l.ids)
+invariant-push_items-loop-id l = record {
+  found : modules_view l.found ≡ fold (id_modules_in l.ctx l.depth l.place l.tree) (modules_view l.initial.found) (take l.id-index l.ids);
+  few : length (modules_view l.found).modules ≤ most_modules;
+}
