@@ -1,0 +1,5 @@
+mod Enabling
+mod Entries
+mod Lists
+mod Names
+mod Settling

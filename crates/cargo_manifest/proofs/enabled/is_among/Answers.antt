@@ -1,0 +1,10 @@
+use Rattle.std.proofs.Common.{bytes_eq, rules, tests, sym, ◌∙◌}
+use Rattle.std.proofs.lemmas.Iterator.{YieldsList-from_slice}
+use Rattle.std.proofs.lemmas.Iterator.Search.{any_from_yields_List}
+use Rattle.cargo_manifest.proofs.Lists.{any_of_map}
+use Rattle.cargo_manifest.proofs.enabled.is_among.Goals as goal
+
+pub returns : goal.returns
+returns c =
+    any_from_yields_List (λ t. bytes_eq t.now c.args.text.now) _ _ _ c.any.ensures.ran (YieldsList-from_slice c.args.texts.now cc) (λ x b q k. search (rules, tests))
+    ∙ sym (any_of_map (λ t. bytes_eq t c.args.text.now) (λ t. t.now) c.args.texts.now)
