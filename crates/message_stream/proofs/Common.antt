@@ -1,11 +1,11 @@
 -- The names that most proofs here cite, passed on from one place. Declares nothing.
-pub use Rattle.message_stream.specs.Answers.{Answering, Resting}
+pub use Rattle.message_stream.specs.Answers.{Conduct}
 pub use Rattle.message_stream.specs.Exchanged.{HasRead, HasWritten, IsNext, TakesBeginning}
-pub use Rattle.message_stream.specs.Frames.{Frames, AreLast, AreMessages}
-pub use Rattle.message_stream.specs.Inner.{EndsAt, HasAnswered, HasRested, IsEndIn, IsNone, IsPart, feed_of}
-pub use Rattle.message_stream.specs.Lines.{HasNoFeed, IsLastLine, IsWhole, begin, fed, line_frames, lines}
+pub use Rattle.message_stream.specs.Frames.{Frames}
+pub use Rattle.message_stream.specs.Inner.{EndsAt, HasTurned, IsEndIn, IsNone, IsPart, feed_of}
+pub use Rattle.message_stream.specs.Lines.{HasNoFeed, begin, fed, line_frames, lines}
 pub use Rattle.message_stream.specs.Messages.{IsToldOf, Told, message_told}
-pub use Rattle.message_stream.specs.Served.{Turn, HasServed, IsBroken, IsEnded, IsTurnAt, IsServed, IsTurn, IsUnread, IsUnwritten, messages_of, rested, took}
+pub use Rattle.message_stream.specs.Served.{Turn, HasServed, HasTold, IsReady, IsServed, IsTurn, messages_of, rested, took}
 pub use Rattle.message_stream.specs.declared.error.StreamError.{StreamError}
 pub use Rattle.message_stream.specs.declared.message.Message.{Message}
 pub use Rattle.std.proofs.KnownBytes.{Appends-kept, Appends-trans, Consumes-trans}

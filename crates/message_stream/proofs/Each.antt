@@ -1,42 +1,62 @@
--- Services that have nothing to tell at a rest.
-use Rattle.std.proofs.Common.{◌≡◌, ℕ, List, [], ◌∷◌, ◌++◌, flat_map, map, ap, sym, subst, ◌∙◌, append_assoc, append-nil}
-use Rattle.message_stream.proofs.Common.{Answering, Turn, IsServed, Told, fed, messages_of, rested, took}
-use Rattle.message_stream.specs.Answers.{IsStill, OneEach}
+-- Services that have nothing to tell at a rest, and histories over lines.
+use Rattle.std.proofs.Common.{true≢false, true, ◌≡◌, inl, inr, ◌∷◌, ◌++◌, ℕ, List, [], flat_map, map, Option, None, Some, refl, ap, sym, subst, ◌∙◌, append_assoc, append-nil}
+use Rattle.message_stream.proofs.Common.{Conduct, Frames, IsServed, Told, Turn, fed, line_frames, lines, messages_of, rested, took}
+use Rattle.message_stream.proofs.FedLines.{lines_fed, lines_last}
+use Rattle.message_stream.specs.Answers.{OneEach}
+use Rattle.message_stream.specs.Exchanged.{IsMessageAt}
 use Rattle.message_stream.specs.Lines.{IsServedEach}
 
--- nothing is written at a rest
-none_written : (framed : List ℕ → List ℕ) (text later : List ℕ) (texts : List (List ℕ)) → texts ≡ [] → text ≡ flat_map framed texts ++ later → later ≡ text
-none_written framed text later texts none is = sym (is ∙ ap (λ t. flat_map framed t ++ later) none)
-
--- their histories are those of their messages
-pub still_served : (S : Type 0) (framed : List ℕ → List ℕ) (Answers : Answering S) (old new : S) (turns : List Turn) (text : List ℕ)
-    → IsServed framed Answers IsStill old turns new text → IsServed framed Answers IsStill old (map took (messages_of turns)) new text
-still_served S framed Answers old new [] text served = served
-still_served S framed Answers old new (took message ∷ turns) text served =
-    let (next, texts, later, step, whole, others) = served in (next, texts, later, step, whole, still_served S framed Answers next new turns later others)
-still_served S framed Answers old new (rested ∷ turns) text served =
-    let (next, texts, later, still, whole, others) = served in
-    let left = still_served S framed Answers next new turns later others in
-    subst (λ l. IsServed framed Answers IsStill old (map took (messages_of turns)) new l) (none_written framed text later texts still.1 whole)
-    (subst (λ s. IsServed framed Answers IsStill s (map took (messages_of turns)) new later) still.0 left)
+-- they never rest
+pub never_rests : {S I : Type 0} (F : Frames) (C : Conduct S) (left : I → Option (List ℕ)) (waiting : I → List ℕ) → ((s : S) → C.is_rested s ≡ true)
+    → (old new : S) (from to : I) (turns : List Turn) (text : List ℕ) → IsServed F C left waiting old from turns new to text → map took (messages_of turns) ≡ turns
+never_rests F C left waiting still old new from to [] text served = refl
+never_rests F C left waiting still old new from to (took message ∷ turns) text served =
+    let (next, at, texts, later, step, whole, others) = served in ap (λ l. took message ∷ l) (never_rests F C left waiting still next new at to turns later others)
+never_rests F C left waiting still old new from to (rested ∷ turns) text served =
+    let (next, at, texts, later, step, whole, others) = served in absurd (true≢false (sym (still old) ∙ step.0.1))
 
 -- over lines they have one line for each, where each message is answered by one text
-pub served_each : {S : Type 0} (Answers : S → Told → S → List ℕ → Type 0) (old new : S) (turns : List Turn) (text : List ℕ)
-    → IsServed fed (OneEach Answers) IsStill old turns new text → IsServedEach Answers old (messages_of turns) new text
-served_each Answers old new [] text served = served
-served_each Answers old new (took line ∷ turns) text served =
-    let (next, texts, later, (said, is, (answer, one, answered)), whole, others) = served in (
+pub served_each : {S I : Type 0} (C : Conduct S) (left : I → Option (List ℕ)) (waiting : I → List ℕ) (Answers : S → Told → S → List ℕ → Type 0)
+    → ((old new : S) (told : Told) (texts : List (List ℕ)) → C.Answers old told new texts → OneEach Answers old told new texts) → ((s : S) → C.is_rested s ≡ true)
+    → (old new : S) (from to : I) (turns : List Turn) (text : List ℕ) → IsServed line_frames C left waiting old from turns new to text → IsServedEach Answers old (messages_of turns) new text
+served_each C left waiting Answers ones still old new from to [] text served = (served.0, served.2)
+served_each C left waiting Answers ones still old new from to (took line ∷ turns) text served =
+    let (next, at, texts, later, step, whole, others) = served in
+    let (ready, read, said, is, answered) = step in
+    let (answer, one, by) = ones old next said texts answered in (
       said,
       next,
       answer,
       later,
       is,
-      answered,
+      by,
       whole ∙ ap (λ t. flat_map fed t ++ later) one ∙ ap (λ l. l ++ later) (append-nil (answer ++ 10 ∷ [])) ∙ append_assoc answer (10 ∷ []) later,
-      served_each Answers next new turns later others,
+      served_each C left waiting Answers ones still next new at to turns later others,
     )
-served_each Answers old new (rested ∷ turns) text served =
-    let (next, texts, later, still, whole, others) = served in
-    let left = served_each Answers next new turns later others in
-    subst (λ l. IsServedEach Answers old (messages_of turns) new l) (none_written fed text later texts still.1 whole)
-    (subst (λ s. IsServedEach Answers s (messages_of turns) new later) still.0 left)
+served_each C left waiting Answers ones still old new from to (rested ∷ turns) text served =
+    let (next, at, texts, later, step, whole, others) = served in absurd (true≢false (sym (still old) ∙ step.0.1))
+
+-- what is left of known bytes, and their lines
+abbrev IsLinesTo : List ℕ → Option (List ℕ) → List (List ℕ) → Type 0
+IsLinesTo all left messages = (rest : List ℕ) × (left ≡ Some rest) × (lines all ≡ messages ++ lines rest)
+
+line_read : (all : List ℕ) (left : Option (List ℕ)) (line : List ℕ) → IsMessageAt line_frames (Some all) left line → IsLinesTo all left (line ∷ [])
+line_read all None line (bytes, read, is) = absurd read
+line_read all (Some more) line (bytes, read, inl (same, no_feed)) =
+    (more, refl, ap lines (read ∙ ap (λ b. b ++ more) same ∙ append_assoc line (10 ∷ []) more) ∙ lines_fed line more no_feed)
+line_read all (Some more) line (bytes, read, inr ((same, no_feed, some), end)) = (
+  more,
+  refl,
+  ap lines (read ∙ ap (λ m. bytes ++ m) end ∙ append-nil bytes ∙ same) ∙ lines_last line no_feed some ∙ ap (λ m. line ∷ lines m) (sym end),
+)
+
+pub lines_served : {S I : Type 0} (C : Conduct S) (left : I → Option (List ℕ)) (waiting : I → List ℕ) (old new : S) (from to : I) (turns : List Turn) (text all : List ℕ)
+    → IsServed line_frames C left waiting old from turns new to text → left from ≡ Some all → IsLinesTo all (left to) (messages_of turns)
+lines_served C left waiting old new from to [] text all served known = (all, ap left served.1 ∙ known, refl)
+lines_served C left waiting old new from to (took line ∷ turns) text all served known =
+    let (next, at, texts, later, step, whole, others) = served in
+    let (more, between, first) = line_read all (left at) line (subst (λ l. IsMessageAt line_frames l (left at) line) known step.1) in
+    let (rest, end, then) = lines_served C left waiting next new at to turns later more others between in (rest, end, first ∙ ap (λ l. line ∷ l) then)
+lines_served C left waiting old new from to (rested ∷ turns) text all served known =
+    let (next, at, texts, later, step, whole, others) = served in
+    lines_served C left waiting next new at to turns later all others (ap left step.1 ∙ known)

@@ -1,5 +1,5 @@
 -- Parts of a message behind a header, one after another.
-use Rattle.std.proofs.Common.{◌≡◌, inl, inr, ◌+◌, ◌<◌, ◌≤◌, ℕ, List, ◌++◌, Option, Result, Ok, Err, length, length-append, refl, sym, subst, ◌∙◌, arith}
+use Rattle.std.proofs.Common.{◌≡◌, inl, inr, ◌+◌, ◌<◌, ◌≤◌, ℕ, List, ◌++◌, Option, Some, Result, Ok, Err, length, length-append, refl, sym, subst, ◌∙◌, arith}
 use Rattle.httparse.specs.Spans.{SectionOverflows}
 use Rattle.message_stream.proofs.Common.{Consumes, Consumes-trans, IsToldOf, Message, StreamError, message_told}
 use Rattle.message_stream.proofs.Parts.{at_end}
@@ -14,7 +14,6 @@ use Rattle.message_stream.specs.Exchanged.{IsNext}
 use Rattle.message_stream.specs.Headers.{IsHeadedFault, IsHeader, header_frames}
 use Rattle.message_stream.specs.Inner.{Grows, HasReadHeader, IsBodySoFar, IsEndOfHeader, IsHead, IsHeaderPart, IsPassing, IsPiece, IsSoFar}
 use Rattle.message_stream.specs.Messages.{Told, whole, too_long, no_memory}
-use Rattle.message_stream.specs.declared.framing.Next.TheVariants.{One}
 
 -- a part of a message was read when the fault came
 abbrev pub IsCutBy : (had left : Option (List ℕ)) → StreamError → Type 0
@@ -104,11 +103,9 @@ told_of n body no_memory long is = omega (arith, long, is)
 
 -- a whole message
 pub message_of : (had mid left : Option (List ℕ)) (n : ℕ) (told : Message) (header body : List ℕ) → Consumes had mid header → IsHeader header n → Consumes mid left body → length body ≡ n → IsBodySoFar n body told
-    → IsNext header_frames had left (One told)
+    → IsNext header_frames had left (Some told)
 message_of had mid left n told header body first is then long so_far = (
-  header ++ body,
   body,
-  Consumes-trans had mid left header body first then,
-  (header, refl, subst (IsHeader header) (sym long) is),
+  (header ++ body, Consumes-trans had mid left header body first then, inl (header, refl, subst (IsHeader header) (sym long) is)),
   told_of n body (message_told told) long so_far,
 )

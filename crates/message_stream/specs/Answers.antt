@@ -1,5 +1,5 @@
--- What a service answers.
-use Rattle.std.specs.Prelude.{◌≡◌, ℕ, List, [], ◌∷◌, map, string_bytes}
+-- What a service does.
+use Rattle.std.specs.Prelude.{◌≡◌, ℕ, Bool, List, [], ◌∷◌, map, string_bytes}
 use Rattle.message_stream.specs.declared.service.Answer.{Answer}
 use Rattle.message_stream.specs.declared.service.Answer.TheVariants.{Made, Fixed, Several}
 use Rattle.message_stream.specs.Messages.{Told}
@@ -25,3 +25,10 @@ Resting S = S → S → List (List ℕ) → Type 0
 -- so does one that has nothing to tell
 abbrev pub IsStill : {S : Type 0} → Resting S
 IsStill old new texts = (new ≡ old) × (texts ≡ [])
+
+-- what a service does: how it answers and rests, whether nothing is left to tell at a rest, and whether it is over
+pub record Conduct (S : Type 0) : Type 1 where
+  pub Answers : Answering S
+  pub Rests : Resting S
+  pub is_rested : S → Bool
+  pub is_over : S → Bool

@@ -1,13 +1,11 @@
 -- Words that private contracts alone cite.
-use Rattle.std.specs.Prelude.{◌≡◌, ◌≤◌, ◌<◌, ◌+◌, ℕ, List, [], ◌∷◌, ◌++◌, length, take, flat_map, Option, Result, MatchResult, OnSome}
-use Rattle.std.specs.Io.KnownBytes.{Consumes, IsAtEnd}
+use Rattle.std.specs.Prelude.{◌≡◌, ◌≤◌, ◌<◌, ◌+◌, ℕ, List, [], ◌∷◌, ◌++◌, length, take, flat_map, true, false, Bool, Option, Some, None, Result, Ok, Err, MatchResult, OnSome}
+use Rattle.std.specs.Io.KnownBytes.{Consumes, Appends, IsAtEnd}
 use Rattle.httparse.specs.Grammar.{MayBecomeSection}
 use Rattle.httparse.specs.Spans.{SectionOverflows}
 use Rattle.message_stream.specs.declared.error.StreamError.{StreamError}
 use Rattle.message_stream.specs.declared.message.Message.{Message}
 use Rattle.message_stream.specs.declared.message.TheConstants.{MOST_MESSAGE}
-use Rattle.message_stream.specs.declared.framing.Next.{Next}
-use Rattle.message_stream.specs.declared.framing.Next.TheVariants.{One, Last, Nothing}
 use Rattle.message_stream.specs.declared.headers.Head.{Head}
 use Rattle.message_stream.specs.declared.headers.Head.TheVariants as head
 use Rattle.message_stream.specs.declared.lines.Ending.{Ending}
@@ -16,12 +14,13 @@ use Rattle.message_stream.specs.declared.lines.Part.{Part}
 use Rattle.message_stream.specs.declared.sections.HeaderState.{HeaderState}
 use Rattle.message_stream.specs.declared.sections.HeaderState.TheVariants.{More, Length, NoLength, Wrong}
 use Rattle.message_stream.specs.declared.sections.TheConstants.{MOST_FIELDS}
-use Rattle.message_stream.specs.Answers.{Answering, Resting}
+use Rattle.message_stream.specs.Answers.{Answering, Conduct, Resting}
 use Rattle.message_stream.specs.Exchanged.{HasWritten}
 use Rattle.message_stream.specs.Frames.{Frames}
 use Rattle.message_stream.specs.Headers.{IsHeadedFault, IsHeader}
 use Rattle.message_stream.specs.Lines.{HasNoFeed}
 use Rattle.message_stream.specs.Messages.{Told, whole, too_long, no_memory, IsToldOf, message_told}
+use Rattle.message_stream.specs.Served.{Turn, IsTurn, HasEnded}
 
 -- what is told of the bytes that were read of a message is told of them with these bytes too
 abbrev pub Grows : Message → List ℕ → Message → Type 0
@@ -66,13 +65,12 @@ pub record IsPart (had left : Option (List ℕ)) (old new : Message) (ending : E
   pub at_end : EndsAt ending had left
 
 -- what follows the last line feed
-abbrev pub IsEndIn : List ℕ → Next → Type 0
-IsEndIn read (One line) = ⊥
-IsEndIn read (Last line) = IsToldOf read (message_told line) × (0 < length read)
-IsEndIn read Nothing = read ≡ []
+abbrev pub IsEndIn : List ℕ → Option Message → Type 0
+IsEndIn read (Some line) = IsToldOf read (message_told line) × (0 < length read)
+IsEndIn read None = read ≡ []
 
 -- the line that the end of the reader ends
-abbrev pub EndsLine : Message → Next → Type 0
+abbrev pub EndsLine : Message → Option Message → Type 0
 EndsLine line next = (read : List ℕ) → IsToldOf read (message_told line) → IsEndIn read next
 
 -- ---- messages behind headers
@@ -139,3 +137,10 @@ HasAnswered F Answers result old message new held holds =
 -- a service rested, and the writer took what it told or a beginning of it
 abbrev pub HasRested : {S A : Type 0} → Frames → Resting S → Result A StreamError → S → S → (held holds : Option (List ℕ)) → Type 0
 HasRested F Rests result old new held holds = (texts : List (List ℕ)) × Rests old new texts × HasWritten result held holds (flat_map F.framed texts)
+
+-- one turn more was made, or the conversation ends
+abbrev pub HasTurned : {S I : Type 0} → Frames → Conduct S → (I → Option (List ℕ)) → (I → List ℕ) → Result Bool StreamError → (old new : S) (from to : I) (held holds : Option (List ℕ)) → Type 0
+HasTurned F C left waiting (Ok true) old new from to held holds =
+    (turn : Turn) × (texts : List (List ℕ)) × IsTurn F C left waiting turn old new from to texts × Appends held holds (flat_map F.framed texts)
+HasTurned F C left waiting (Ok false) old new from to held holds = HasEnded F C left waiting (Ok false) old new from to held holds
+HasTurned F C left waiting (Err e) old new from to held holds = HasEnded F C left waiting {A = Bool} (Err e) old new from to held holds

@@ -17,10 +17,6 @@ abbrev pub lines : List ℕ → List (List ℕ)
 lines [] = []
 lines (byte ∷ bytes) = if byte == 10 then [] ∷ lines bytes else begin byte (lines bytes)
 
--- the bytes end where a line ends: whatever follows them begins a line
-abbrev pub IsWhole : List ℕ → Type 0
-IsWhole bytes = (more : List ℕ) → lines (bytes ++ more) ≡ lines bytes ++ lines more
-
 -- none of the bytes is a line feed
 abbrev pub HasNoFeed : List ℕ → Type 0
 HasNoFeed bytes = All (λ byte. byte ≢ 10) bytes

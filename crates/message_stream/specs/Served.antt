@@ -1,11 +1,12 @@
--- What a conversation has read, answered and written.
-use Rattle.std.specs.Prelude.{◌≡◌, ◌⊎◌, ℕ, Bool, true, List, [], ◌∷◌, ◌++◌, flat_map, map, Option, Result, MatchResult, OnSome}
-use Rattle.std.specs.Io.KnownBytes.{Consumes, Appends, IsAtEnd}
+-- What a conversation has read, told and written.
+use Rattle.std.specs.Prelude.{◌≡◌, ◌<◌, ◌⊎◌, ℕ, true, false, List, [], ◌∷◌, ◌++◌, length, flat_map, Option, Result, Ok, Err}
+use Rattle.std.specs.Io.KnownBytes.{Appends}
 use Rattle.message_stream.specs.declared.error.StreamError.{StreamError}
 use Rattle.message_stream.specs.declared.error.StreamError.TheVariants.{Read, Write}
-use Rattle.message_stream.specs.Frames.{Frames, AreMessages, AreLast}
+use Rattle.message_stream.specs.Answers.{Conduct}
+use Rattle.message_stream.specs.Exchanged.{IsMessageAt, IsEndAt, IsFaultAt, TakesBeginning}
+use Rattle.message_stream.specs.Frames.{Frames}
 use Rattle.message_stream.specs.Messages.{Told, IsToldOf}
-use Rattle.message_stream.specs.Answers.{Answering, Resting}
 
 -- what happens to a service: it takes a message, or it rests
 pub data Turn : Type 0 where
@@ -18,76 +19,54 @@ messages_of [] = []
 messages_of (took message ∷ more) = message ∷ messages_of more
 messages_of (rested ∷ more) = messages_of more
 
--- what a service makes of a turn, and tells: each by its rule
-abbrev pub IsTurn : {S : Type 0} → Answering S → Resting S → Turn → S → S → List (List ℕ) → Type 0
-IsTurn Answers Rests (took message) old new texts = (said : Told) × IsToldOf message said × Answers old said new texts
-IsTurn Answers Rests rested old new texts = Rests old new texts
+module _ {S I : Type 0} (C : Conduct S) (waiting : I → List ℕ) where
+  -- it is time to rest: something is left to tell, and no byte waits in the reader's buffer
+  abbrev pub IsIdle : S → I → Type 0
+  IsIdle service from = (C.is_over service ≡ false) × (C.is_rested service ≡ false) × (waiting from ≡ [])
 
--- the history of a service: this happened to it in order, and the texts that it told, each as a message, make this text
-abbrev pub IsServed : {S : Type 0} → (List ℕ → List ℕ) → Answering S → Resting S → S → List Turn → S → List ℕ → Type 0
-IsServed framed Answers Rests old [] new text = (new ≡ old) × (text ≡ [])
-IsServed {S} framed Answers Rests old (turn ∷ more) new text =
-    (next : S) × (texts : List (List ℕ)) × (later : List ℕ)
-    × IsTurn Answers Rests turn old next texts × (text ≡ flat_map framed texts ++ later) × IsServed framed Answers Rests next more new later
+  -- it is time to read: nothing is left to tell, or bytes wait
+  abbrev pub IsReady : S → I → Type 0
+  IsReady service from = (C.is_over service ≡ false) × ((C.is_rested service ≡ true) ⊎ (0 < length (waiting from)))
 
--- all that the reader had left was read, or messages up to a turn behind which the service is over; each of them was answered, and the writer took the answers
-pub record IsEnded {S : Type 0} (F : Frames) (Answers : Answering S) (Rests : Resting S) (is_over : S → Bool) (old new : S) (had left held holds : Option (List ℕ)) : Type 0 where
-  pub bytes : List ℕ
-  pub rest : List ℕ
-  pub turns : List Turn
-  pub last : List (List ℕ)
-  pub text : List ℕ
-  pub read : Consumes had left (bytes ++ rest)
-  pub end : OnSome had (IsAtEnd left) ⊎ (is_over new ≡ true)
-  pub are : AreMessages F bytes (messages_of turns)
-  pub are_last : AreLast F rest last
-  pub served : IsServed F.framed Answers Rests old (turns ++ map took last) new text
-  pub written : Appends held holds text
+-- a conversation, by its messages, its service, what a reader has left, where that is known, and what waits in its buffer
+module _ {S I : Type 0} (F : Frames) (C : Conduct S) (left : I → Option (List ℕ)) (waiting : I → List ℕ) where
+  -- a turn, as the service and the reader stand, what it tells, and how they stand then: no byte is read at a rest
+  abbrev pub IsTurn : Turn → (old new : S) (from to : I) → List (List ℕ) → Type 0
+  IsTurn (took message) old new from to texts =
+      IsReady C waiting old from × IsMessageAt F (left from) (left to) message × (said : Told) × IsToldOf message said × C.Answers old said new texts
+  IsTurn rested old new from to texts = IsIdle C waiting old from × (to ≡ from) × C.Rests old new texts
 
--- messages and a part of one were read, each of these messages was answered, and the writer took the answers; where so many turns were made that no more can be counted, nothing of one
-pub record IsUnread {S : Type 0} (F : Frames) (Answers : Answering S) (Rests : Resting S) (old new : S) (had left held holds : Option (List ℕ)) (e : StreamError) : Type 0 where
-  pub bytes : List ℕ
-  pub part : List ℕ
-  pub turns : List Turn
-  pub text : List ℕ
-  pub read : Consumes had left (bytes ++ part)
-  pub are : AreMessages F bytes (messages_of turns)
-  pub fault : F.IsFault e part ⊎ ((e ≡ Read) × (part ≡ []))
-  pub served : IsServed F.framed Answers Rests old turns new text
-  pub written : Appends held holds text
+  -- the history of a conversation: these turns in order, and the texts that they told, each as a message, make this text
+  abbrev pub IsServed : (old : S) (from : I) → List Turn → (new : S) (to : I) → List ℕ → Type 0
+  IsServed old from [] new to text = (new ≡ old) × (to ≡ from) × (text ≡ [])
+  IsServed old from (turn ∷ more) new to text =
+      (next : S) × (at : I) × (texts : List (List ℕ)) × (later : List ℕ)
+      × IsTurn turn old next from at texts × (text ≡ flat_map F.framed texts ++ later) × IsServed next at more new to later
 
--- the bytes are one message, which ends by itself or with the reader
-abbrev pub IsWholeAt : Frames → (had left : Option (List ℕ)) → List ℕ → List ℕ → Type 0
-IsWholeAt F had left bytes message = F.IsFramed bytes message ⊎ (F.IsLast bytes message × OnSome had (IsAtEnd left))
+  -- it ends well: the service is over, or it is time to read and nothing is left
+  abbrev pub IsWellEnded : S → (from to : I) → Type 0
+  IsWellEnded service from to = ((C.is_over service ≡ true) × (to ≡ from)) ⊎ (IsReady C waiting service from × IsEndAt (left from) (left to))
 
--- the bytes are those of a turn: of a rest there are none
-abbrev pub IsTurnAt : Frames → (had left : Option (List ℕ)) → List ℕ → Turn → Type 0
-IsTurnAt F had left bytes (took message) = IsWholeAt F had left bytes message
-IsTurnAt F had left bytes rested = bytes ≡ []
+  -- reading fails, or so many turns were made that no more can be counted
+  abbrev pub IsUnread : StreamError → S → (from to : I) → Type 0
+  IsUnread e service from to = (IsReady C waiting service from × IsFaultAt F (left from) (left to) e) ⊎ ((e ≡ Read) × (to ≡ from))
 
--- this happened and one turn more, and the writer took what was told at the first ones and a beginning of what was told at the last
-pub record IsUnwritten {S : Type 0} (F : Frames) (Answers : Answering S) (Rests : Resting S) (old new : S) (had left held holds : Option (List ℕ)) : Type 0 where
-  pub bytes : List ℕ
-  pub last : List ℕ
-  pub turns : List Turn
-  pub turn : Turn
-  pub read : Consumes had left (bytes ++ last)
-  pub are : AreMessages F bytes (messages_of turns)
-  pub is_last : IsTurnAt F had left last turn
-  pub between : S
-  pub text : List ℕ
-  pub served : IsServed F.framed Answers Rests old turns between text
-  pub taken : List ℕ
-  pub rest : List ℕ
-  pub last_served : IsServed F.framed Answers Rests between (turn ∷ []) new (taken ++ rest)
-  pub written : Appends held holds (text ++ taken)
+  -- a turn more of which the writer took but a beginning of what it told
+  abbrev pub IsUnwritten : (old new : S) (from to : I) (held holds : Option (List ℕ)) → Type 0
+  IsUnwritten old new from to held holds =
+      (turn : Turn) × (texts : List (List ℕ)) × IsTurn turn old new from to texts × TakesBeginning held holds (flat_map F.framed texts)
 
--- what stands after an error
-abbrev pub IsBroken : {S : Type 0} → Frames → Answering S → Resting S → (old new : S) (had left held holds : Option (List ℕ)) → StreamError → Type 0
-IsBroken F Answers Rests old new had left held holds e =
-    IsUnread F Answers Rests old new had left held holds e ⊎ ((e ≡ Write) × IsUnwritten F Answers Rests old new had left held holds)
+  -- how a conversation ends
+  abbrev pub HasEnded : {A : Type 0} → Result A StreamError → (old new : S) (from to : I) (held holds : Option (List ℕ)) → Type 0
+  HasEnded (Ok _) old new from to held holds = (new ≡ old) × (holds ≡ held) × IsWellEnded old from to
+  HasEnded (Err e) old new from to held holds =
+      ((new ≡ old) × (holds ≡ held) × IsUnread e old from to) ⊎ ((e ≡ Write) × IsUnwritten old new from to held holds)
 
--- what a conversation has read, answered and written when it returns
-abbrev pub HasServed : {S A : Type 0} → Frames → Answering S → Resting S → (S → Bool) → Result A StreamError → (old new : S) (had left held holds : Option (List ℕ)) → Type 0
-HasServed F Answers Rests is_over result old new had left held holds =
-    MatchResult result (λ _. IsEnded F Answers Rests is_over old new had left held holds) (IsBroken F Answers Rests old new had left held holds)
+  -- turns, and the writer took all that they told
+  abbrev pub HasTold : (old new : S) (from to : I) (held holds : Option (List ℕ)) → Type 0
+  HasTold old new from to held holds = (turns : List Turn) × (text : List ℕ) × IsServed old from turns new to text × Appends held holds text
+
+  -- what a conversation has read, told and written when it returns: turns, and then it ended
+  abbrev pub HasServed : {A : Type 0} → Result A StreamError → (old new : S) (from to : I) (held holds : Option (List ℕ)) → Type 0
+  HasServed result old new from to held holds =
+      (last : S) × (at : I) × (holding : Option (List ℕ)) × HasTold old last from at held holding × HasEnded result last new at to holding holds

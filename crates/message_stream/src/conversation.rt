@@ -1,17 +1,17 @@
 //! A conversation over a reader and a writer.
 ghost use Rattle.std.specs.Prelude.{flat_map, map, string_bytes};
+ghost use Rattle.std.specs.Io.Buffered.{reader_buffer, reader_remaining};
 ghost use Rattle.message_stream.specs.Answers.{answer_texts};
 ghost use Rattle.message_stream.specs.Exchanged.{HasWritten};
-ghost use Rattle.message_stream.specs.Inner.{HasAnswered, HasRested};
+ghost use Rattle.message_stream.specs.Inner.{HasAnswered, HasRested, HasTurned};
 ghost use Rattle.message_stream.specs.Served.{HasServed};
 
 use crate::error::StreamError;
-use crate::framing::{Framing, Next};
+use crate::framing::Framing;
 use crate::message::Message;
 use crate::service::{Answer, Service};
-use crate::waits::{PATIENCE, Waiting, Waits};
 use std::alloc::Global;
-use std::io::{BufRead, Write};
+use std::io::{BufReader, Read, Write};
 
 pub(crate) const MOST_TURNS: u64 = u64::MAX;
 
@@ -52,7 +52,7 @@ fn answer_message<F: Framing, W: Write, S: Service>(
     service: &mut S,
     message: Message,
 ) -> Result<(), StreamError>
-    ensures { HasAnswered F.frames S.answers result service.old message service.new
+    ensures { HasAnswered F.frames S.conduct.Answers result service.old message service.new
         (W.contents output.old) (W.contents output.new) }
 {
     let answer = service.answer(alloc, message);
@@ -65,22 +65,43 @@ fn rest_service<F: Framing, W: Write, S: Service>(
     output: &mut W,
     service: &mut S,
 ) -> Result<(), StreamError>
-    ensures { HasRested F.frames S.rests result service.old service.new
+    ensures { HasRested F.frames S.conduct.Rests result service.old service.new
         (W.contents output.old) (W.contents output.new) }
 {
     let told = service.rest(alloc);
     write_answer(framing, output, &told)
 }
 
-// Whether no message waits, not even after a while where nothing is left to tell.
-fn has_time<R, P: Waits<R>, S: Service>(input: &R, waits: &mut P, service: &S) -> bool {
-    let patience = if service.is_rested() { PATIENCE } else { 0 };
-    waits.wait(input, patience) == Waiting::Nothing
+// One turn, or `false` where the conversation ends.
+fn take_turn<F: Framing, R: Read, W: Write, S: Service>(
+    alloc: Global,
+    framing: &F,
+    input: &mut BufReader<R>,
+    output: &mut W,
+    service: &mut S,
+) -> Result<bool, StreamError>
+    ensures { HasTurned F.frames S.conduct (reader_remaining R.remaining) reader_buffer result service.old
+        service.new input.old input.new (W.contents output.old) (W.contents output.new) }
+{
+    if service.is_over() {
+        return Ok(false);
+    }
+    if !service.is_rested() && input.buffer().is_empty() {
+        rest_service(alloc, framing, output, service)?;
+        return Ok(true);
+    }
+    match framing.next(alloc, input)? {
+        Some(message) => {
+            answer_message(alloc, framing, output, service, message)?;
+            Ok(true)
+        }
+        None => Ok(false),
+    }
 }
 
 /// Answers each message of `input` on `output`, by messages that are written whole and flushed before the next one is
-/// read, up to the end of `input`, or until `service` is over. Where `waits` tells that no message waits, `service`
-/// rests: at once if something is left to tell, and else once in `PATIENCE`.
+/// read, up to the end of `input`, or until `service` is over. Where something is left to tell and the buffer of
+/// `input` is empty, `service` rests before more is read.
 ///
 /// A message for which there is no memory, or that is too long, is passed over, and `service` is told so. After `Write`
 /// all that was told but for the last message or rest is on `output`, and of that there is a beginning; after each
@@ -89,36 +110,20 @@ fn has_time<R, P: Waits<R>, S: Service>(input: &R, waits: &mut P, service: &S) -
 /// At most 2^64 - 1 times a message is read or `service` rests. A message is read by at most as many reads, and a text
 /// written by at most as many writes (law `limits`): a reader or a writer that takes more is answered as one that
 /// failed. The clause speaks of the bytes of a reader and a writer that tell them: of another reader it says that there
-/// are such bytes, of another writer nothing. That an answer is flushed no clause can say, nor when `service` rests.
-pub fn serve<F: Framing, R: BufRead, P: Waits<R>, W: Write, S: Service>(
+/// are such bytes, of another writer nothing. That an answer is flushed no clause can say.
+pub fn serve<F: Framing, R: Read, W: Write, S: Service>(
     alloc: Global,
     framing: &F,
-    input: &mut R,
-    waits: &mut P,
+    input: &mut BufReader<R>,
     output: &mut W,
     service: &mut S,
 ) -> Result<(), StreamError>
-    ensures { HasServed F.frames S.answers S.rests S.over result service.old service.new
-        (R.remaining input.old) (R.remaining input.new)
-        (W.contents output.old) (W.contents output.new) }
+    ensures { HasServed F.frames S.conduct (reader_remaining R.remaining) reader_buffer result service.old
+        service.new input.old input.new (W.contents output.old) (W.contents output.new) }
 {
     for _turn in 0..MOST_TURNS {
-        if has_time(input, waits, service) {
-            rest_service(alloc, framing, output, service)?;
-            if service.is_over() {
-                return Ok(());
-            }
-            continue;
-        }
-        match framing.next(alloc, input)? {
-            Next::One(message) => {
-                answer_message(alloc, framing, output, service, message)?;
-                if service.is_over() {
-                    return Ok(());
-                }
-            }
-            Next::Last(message) => return answer_message(alloc, framing, output, service, message),
-            Next::Nothing => return Ok(()),
+        if !take_turn(alloc, framing, input, output, service)? {
+            return Ok(());
         }
     }
     Err(StreamError::Read)

@@ -4,17 +4,6 @@ use crate::message::Message;
 use std::alloc::Global;
 use std::io::{BufRead, Write};
 
-/// The next message of a reader.
-#[derive(Debug, Drop)]
-pub enum Next {
-    /// A message that ends by itself.
-    One(Message),
-    /// A message that the end of the reader ends.
-    Last(Message),
-    /// There is none.
-    Nothing,
-}
-
 /// How messages stand among bytes.
 pub trait Framing {
     ghost use Rattle.message_stream.specs.Frames.{Frames};
@@ -23,12 +12,12 @@ pub trait Framing {
     // What messages are among bytes, and why reading one fails.
     ghost frames: { Frames };
 
-    /// The next message of a reader. Reads that a signal interrupts are made again.
+    /// The next message of a reader, or none at its end. Reads that a signal interrupts are made again.
     ///
     /// # Errors
     ///
     /// Those of the framing; then a part of a message was read.
-    fn next<R: BufRead>(&self, alloc: Global, input: &mut R) -> Result<Next, StreamError>
+    fn next<R: BufRead>(&self, alloc: Global, input: &mut R) -> Result<Option<Message>, StreamError>
         ensures { HasRead frames (R.remaining input.old) (R.remaining input.new) result };
 
     /// Writes a text as a message, and flushes it. Writes that a signal interrupts are made again.

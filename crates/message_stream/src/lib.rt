@@ -1,5 +1,5 @@
 //! A conversation of messages: each message of a reader is answered by messages, written whole and flushed before the
-//! next one is read, up to the end of the reader; where none waits the service may rest. Messages are lines, or stand
+//! next one is read, up to the end of the reader; where none waits the service rests. Messages are lines, or stand
 //! behind headers that say how long they are, as the Language Server Protocol has them.
 #![tactic(auto)]
 
@@ -12,15 +12,13 @@ mod lines;
 mod message;
 mod sections;
 mod service;
-mod waits;
 mod write;
 
 pub use conversation::serve;
 pub use error::StreamError;
-pub use framing::{Framing, Next};
+pub use framing::Framing;
 pub use headers::Headers;
 pub use lines::Lines;
 pub use message::{MOST_MESSAGE, Message};
 pub use sections::{MOST_FIELDS, MOST_HEADER};
 pub use service::{Answer, Service};
-pub use waits::{Always, PATIENCE, Waiting, Waits};

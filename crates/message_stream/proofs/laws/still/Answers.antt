@@ -1,4 +1,4 @@
-use Rattle.message_stream.proofs.Each.{still_served}
+use Rattle.message_stream.proofs.Each.{never_rests}
 use Rattle.message_stream.proofs.Served.{messages_join, messages_took}
 use Rattle.message_stream.proofs.laws.still.Goals as goal
 
@@ -6,5 +6,5 @@ pub returns : goal.returns
 returns g c = record {
   taken = messages_took;
   joined = messages_join;
-  served = λ framed old new turns text. still_served _ framed g.S.Service.answers old new turns text;
+  never = λ left waiting old new from to turns text still served. never_rests g.F.Framing.frames g.S.Service.conduct left waiting still old new from to turns text served;
 }
