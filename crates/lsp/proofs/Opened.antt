@@ -1,11 +1,14 @@
 -- A document is answered as one that was just opened.
-use Rattle.std.proofs.Common.{◌≡◌, ◌↔◌, ℕ, ℤ, Bool, true, false, if◌then◌else◌, List, [], ◌∷◌, Option, Some, None, Ok, Err, codes, bytes_eq, option_and_then, ⊎_elim, inl, inr, refl, ap, sym, subst, ◌∙◌}
+use Rattle.std.proofs.Common.{◌≡◌, ◌↔◌, ℕ, ℤ, Bool, true, false, cond, List, [], ◌∷◌, Option, Some, None, Ok, Err, codes, option_and_then, ⊎_elim, inl, inr, refl, ap, sym, subst, ◌∙◌}
+use Rattle.std.proofs.lemmas.Map.Text.{is_eq-slice_cmp}
+use Rattle.std.proofs.lemmas.Slice.Eq.{bytes_eq-Decides}
 use Rattle.serde_json.specs.Data.{Data, null, boolean, number, string, array, object}
 use Rattle.serde_json.specs.Find.{as_str, get}
 use Rattle.hir_input_json.specs.Reading.{Reading, right, wrong, under, ◌>>=◌}
 use Rattle.hir_input_json.specs.Forms.{field, object_members, required, text_form, unless_null}
 use Rattle.line_index.specs.declared.Point.{Point}
-use Rattle.lsp.specs.Documents.{Document, asked_document, document_in, has_uri, open_document, open_form, opened_form, uri_form, uri_in}
+use Rattle.lsp.specs.Documents.{Document, Documents, asked_document, document_in, open_document, open_form, opened_form, uri_form, uri_in}
+use Rattle.lsp.proofs.Documents.{document_asked}
 use Rattle.lsp.specs.Opened.{AreAnsweredAlike, HasJustOpened, IsAboutDocument, IsSameText}
 use Rattle.lsp.specs.Ranges.{AreAskedRanges, AreRanges, asked_places, places_form}
 use Rattle.lsp.specs.Responses.{RequestOutcome}
@@ -58,17 +61,17 @@ text_is (number n) text e = absurd cc
 text_is (array ds) text e = absurd cc
 text_is (object ms) text e = absurd cc
 
-named_by : (d : Data) (o : Document) → opened_form d ≡ right o → option_and_then as_str (get (codes "uri") d) ≡ Some o.uri
+named_by : (d : Data) (o : List ℕ × Document) → opened_form d ≡ right o → option_and_then as_str (get (codes "uri") d) ≡ Some o.0
 named_by d o e =
     let (ms, _, after) = after_right (object_members d) _ o e in
     let (uri, reads, rest) = after_right (under (codes "uri") (required text_form (field (codes "uri") d))) _ o after in
     let (language, _, later) = after_right (under (codes "languageId") (required text_form (field (codes "languageId") d))) _ o rest in
     let (text, _, last) = after_right (under (codes "text") (required text_form (field (codes "text") d))) _ o later in
     let (value, at, is) = read_at (codes "uri") text_form d uri reads in
-    let same : uri ≡ o.uri = cc in
+    let same : uri ≡ o.0 = cc in
     ap (option_and_then as_str) at ∙ text_is value uri is ∙ ap Some same
 
-pub opening_names : (params : Data) (d : Document) → open_form params ≡ right d → uri_in params ≡ Some d.uri
+pub opening_names : (params : Data) (d : List ℕ × Document) → open_form params ≡ right d → uri_in params ≡ Some d.0
 opening_names params d e =
     let (ms, _, after) = after_right (object_members params) _ d e in
     let (value, at, is) = read_at (codes "textDocument") opened_form params d after in
@@ -78,12 +81,12 @@ opening_names params d e =
 
 -- a document of this version
 abbrev of_version : Document → Option ℤ → Document
-of_version d version = record { uri = d.uri; text = d.text; is_rust = d.is_rust; version = version }
+of_version d version = record { text = d.text; is_rust = d.is_rust; version = version }
 
-symbols_of_version : (o : Options) (c : Client) (d : Document) (version : Option ℤ) (b : Bool) (out : RequestOutcome) → AreRustSymbols o c b (of_version d version) out ↔ AreRustSymbols o c b d out
-symbols_of_version o c d version true (Ok symbols) = (λ h. h, λ h. h)
-symbols_of_version o c d version true (Err e) = (λ h. h, λ h. h)
-symbols_of_version o c d version false out = (λ h. h, λ h. h)
+symbols_of_version : (o : Options) (c : Client) (uri : List ℕ) (d : Document) (version : Option ℤ) (b : Bool) (out : RequestOutcome) → AreRustSymbols o c b uri (of_version d version) out ↔ AreRustSymbols o c b uri d out
+symbols_of_version o c uri d version true (Ok symbols) = (λ h. h, λ h. h)
+symbols_of_version o c uri d version true (Err e) = (λ h. h, λ h. h)
+symbols_of_version o c uri d version false out = (λ h. h, λ h. h)
 
 ranges_of_version : (o : Options) (units : Units) (kind : RangeKind) (d : Document) (version : Option ℤ) (places : List Point) (out : RequestOutcome) → AreRanges o units kind (of_version d version) places out ↔ AreRanges o units kind d places out
 ranges_of_version o units kind d version places (Ok a) = (λ h. h, λ h. h)
@@ -95,33 +98,22 @@ asked_of_version o units kind d version (right places) out = ranges_of_version o
 asked_of_version o units kind d version (wrong pointer) out = (λ h. h, λ h. h)
 
 is_version : (d e : Document) → IsSameText e d → e ≡ of_version d e.version
-is_version d e same = λ i. record { uri = same.uri i; text = same.text i; is_rust = same.is_rust i; version = e.version }
+is_version d e same = λ i. record { text = same.text i; is_rust = same.is_rust i; version = e.version }
 
 -- ---- what parameters ask about is the document of their name
 
-document_asked : (ds : List Document) (params : Data) (uri : List ℕ) (d : Document) → uri_form params ≡ right uri → document_in ds uri ≡ Some d → asked_document ds params ≡ right d
-document_asked ds params uri d u f = ap (λ r. ◌>>=◌ r (λ uri. open_document (document_in ds uri))) u ∙ ap open_document f
-
-places_asked : (kind : RangeKind) (ds : List Document) (params : Data) (uri : List ℕ) (d : Document) → uri_form params ≡ right uri → document_in ds uri ≡ Some d
+places_asked : (kind : RangeKind) (ds : Documents) (params : Data) (uri : List ℕ) (d : Document) → uri_form params ≡ right uri → document_in ds uri ≡ Some d
     → asked_places kind ds params ≡ ◌>>=◌ (places_form kind params) (λ places. right (d, places))
 places_asked kind ds params uri d u f =
     ap (λ r. ◌>>=◌ r (λ uri. ◌>>=◌ (places_form kind params) (λ places. ◌>>=◌ (open_document (document_in ds uri)) (λ d. right (d, places))))) u
     ∙ ap (λ o. ◌>>=◌ (places_form kind params) (λ places. ◌>>=◌ (open_document o) (λ d. right (d, places)))) f
 
-found_by : (b : Bool) (x d : Document) (ds : List Document) (uri : List ℕ) → has_uri uri x ≡ b → (if b then Some x else document_in ds uri) ≡ Some d → (document_in ds uri ≡ Some d → has_uri uri d ≡ true) → has_uri uri d ≡ true
-found_by true x d ds uri is e later = let same : x ≡ d = cc in ap (has_uri uri) (sym same) ∙ is
-found_by false x d ds uri is e later = later e
-
-found_has : (ds : List Document) (uri : List ℕ) (d : Document) → document_in ds uri ≡ Some d → has_uri uri d ≡ true
-found_has (x ∷ ds) uri d e = found_by (has_uri uri x) x d ds uri refl e (found_has ds uri d)
-found_has [] uri d e = absurd cc
-
-only_one : (uri : List ℕ) (d e : Document) → e.uri ≡ d.uri → has_uri uri d ≡ true → document_in (e ∷ []) uri ≡ Some e
-only_one uri d e same is = let has : has_uri uri e ≡ true = ap (λ u. bytes_eq u uri) same ∙ is in ap (λ b. if b then Some e else None) has
+only_one : (uri : List ℕ) (d : Document) → document_in ((uri, d) ∷ []) uri ≡ Some d
+only_one uri d = ap (λ b. cond b (Some d) None) (is_eq-slice_cmp uri uri ∙ (bytes_eq-Decides uri uri).1 refl)
 
 -- ---- a server that has just opened a document
 
-module _ (o : Options) (c : Client) (d : Document) (fresh : ServerState) (h : HasJustOpened o c d fresh) where
+module _ (o : Options) (c : Client) (uri : List ℕ) (d : Document) (fresh : ServerState) (h : HasJustOpened o c uri d fresh) where
   is_noticed : fresh ≡ noticed_documents h.between DidOpen h.opening
   is_noticed = h.is ∙ ap (λ p. noticed_in p h.between DidOpen h.opening) (ap (λ s. s.phase) h.initialized.0)
 
@@ -134,9 +126,9 @@ module _ (o : Options) (c : Client) (d : Document) (fresh : ServerState) (h : Ha
   is_running : fresh.phase ≡ Running
   is_running = ap (λ s. s.phase) is_noticed ∙ ap (λ s. s.phase) h.initialized.0
 
-  has_opened : fresh.documents ≡ h.document ∷ []
+  has_opened : fresh.documents ≡ (uri, h.document) ∷ []
   has_opened =
-      ap (λ s. s.documents) is_noticed ∙ ap (documents_by h.between DidOpen h.opening) (opening_names h.opening h.document h.opens)
+      ap (λ s. s.documents) is_noticed ∙ ap (documents_by h.between DidOpen h.opening) (opening_names h.opening (uri, h.document) h.opens)
       ∙ ap (λ ds. opened_documents ds (open_form h.opening)) (ap (λ s. s.documents) h.initialized.0) ∙ ap (opened_documents []) h.opens
 
 -- ---- the law
@@ -149,11 +141,11 @@ done_alike : (s t : ServerState) (uri : List ℕ) (d e : Document) (method : Req
     → document_in s.documents uri ≡ Some d → document_in t.documents uri ≡ Some e → IsAboutDocument method → uri_form params ≡ right uri
     → IsDoneUnless (refusal Running method) s method params s out ↔ IsDoneUnless (refusal Running method) t method params t out
 done_alike s t uri d e DocumentSymbol params out o c same f g about u =
-    let version = symbols_of_version t.options t.client d e.version d.is_rust out in
-    let mine : AreAskedSymbols s.options s.client (asked_document s.documents params) out ≡ AreRustSymbols t.options t.client d.is_rust d out =
-    (λ i. AreAskedSymbols (o i) (c i) (document_asked s.documents params uri d u f i) out) in
-    let theirs : AreAskedSymbols t.options t.client (asked_document t.documents params) out ≡ AreRustSymbols t.options t.client d.is_rust (of_version d e.version) out =
-    ap (λ r. AreAskedSymbols t.options t.client r out) (document_asked t.documents params uri e u g ∙ ap right (is_version d e same)) in
+    let version = symbols_of_version t.options t.client uri d e.version d.is_rust out in
+    let mine : AreAskedSymbols s.options s.client (asked_document s.documents params) out ≡ AreRustSymbols t.options t.client d.is_rust uri d out =
+    (λ i. AreAskedSymbols (o i) (c i) (document_asked s.documents params uri d u (ap open_document f) i) out) in
+    let theirs : AreAskedSymbols t.options t.client (asked_document t.documents params) out ≡ AreRustSymbols t.options t.client d.is_rust uri (of_version d e.version) out =
+    ap (λ r. AreAskedSymbols t.options t.client r out) (document_asked t.documents params uri e u (ap open_document g) ∙ ap (λ d. right (uri, d)) (is_version d e same)) in
     (λ h. (refl, cast (sym theirs) (version.1 (cast mine h.1))), λ h. (refl, cast (sym mine) (version.0 (cast theirs h.1))))
 done_alike s t uri d e (Ranges kind) params out o c same f g about u =
     let version = asked_of_version t.options t.client.units kind d e.version (places_form kind params) out in
@@ -167,12 +159,12 @@ done_alike s t uri d e (Ranges kind) params out o c same f g about u =
 done_alike s t uri d e _ params out o c same f g about u = absurd about
 
 -- a document is answered as one that was just opened
-pub as_just_opened : (s fresh : ServerState) (d : Document) (uri : List ℕ) → s.phase ≡ Running → document_in s.documents uri ≡ Some d → HasJustOpened s.options s.client d fresh → AreAnsweredAlike s fresh uri
+pub as_just_opened : (s fresh : ServerState) (d : Document) (uri : List ℕ) → s.phase ≡ Running → document_in s.documents uri ≡ Some d → HasJustOpened s.options s.client uri d fresh → AreAnsweredAlike s fresh uri
 as_just_opened s fresh d uri running f h method params out about u =
-    let opened = has_opened s.options s.client d fresh h in
-    let one = ap (λ ds. document_in ds uri) opened ∙ only_one uri d h.document h.same.uri (found_has s.documents uri d f) in
-    let done = done_alike s fresh uri d h.document method params out (sym (has_options s.options s.client d fresh h)) (sym (has_client s.options s.client d fresh h)) h.same f one about u in
+    let opened = has_opened s.options s.client uri d fresh h in
+    let one = ap (λ ds. document_in ds uri) opened ∙ only_one uri h.document in
+    let done = done_alike s fresh uri d h.document method params out (sym (has_options s.options s.client uri d fresh h)) (sym (has_client s.options s.client uri d fresh h)) h.same f one about u in
     let mine : IsDoneUnless (refusal s.phase method) s method params s out ≡ IsDoneUnless (refusal Running method) s method params s out = ap (λ p. IsDoneUnless (refusal p method) s method params s out) running in
     let theirs : IsDoneUnless (refusal fresh.phase method) fresh method params fresh out ≡ IsDoneUnless (refusal Running method) fresh method params fresh out =
-    ap (λ p. IsDoneUnless (refusal p method) fresh method params fresh out) (is_running s.options s.client d fresh h) in
+    ap (λ p. IsDoneUnless (refusal p method) fresh method params fresh out) (is_running s.options s.client uri d fresh h) in
     (λ a. ⊎_elim (λ x. inl (refl, x.1)) (λ x. inr (cast (sym theirs) (done.0 (cast mine x)))) a, λ a. ⊎_elim (λ x. inl (refl, x.1)) (λ x. inr (cast (sym mine) (done.1 (cast theirs x)))) a)

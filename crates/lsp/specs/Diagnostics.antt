@@ -89,8 +89,8 @@ AreRepeatsTold o false text rs = rs ≡ []
 abbrev pub diagnostics : Units → List ℕ → List SourceProblem → List Repeat → List Data
 diagnostics units text ps rs = map (diagnostic units text) ps ++ map (repeat_diagnostic units text) rs
 
--- what is told of a document
-abbrev pub IsNoticeOf : Options → Units → Document → List ℕ → Type 0
-IsNoticeOf o units d out =
+-- what is told of the document of a name
+abbrev pub IsNoticeOf : Options → Units → List ℕ → Document → List ℕ → Type 0
+IsNoticeOf o units uri d out =
     (ps : List SourceProblem) × AreTold o d.is_rust d.text ps × (rs : List Repeat) × AreRepeatsTold o d.is_rust d.text rs
-    × (out ≡ compact_text (notice d.uri d.version (diagnostics units d.text ps rs)))
+    × (out ≡ compact_text (notice uri d.version (diagnostics units d.text ps rs)))

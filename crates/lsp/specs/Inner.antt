@@ -1,5 +1,5 @@
 -- Words that private contracts alone cite.
-use Rattle.std.specs.Prelude.{◌≡◌, ℕ, Bool, false, List, [], ◌∷◌, Option, Some, None, suc, if◌then◌else◌, option_copied, Result, Ok, Err, IfOk}
+use Rattle.std.specs.Prelude.{◌≡◌, ℕ, Bool, false, List, [], ◌∷◌, Option, Some, None, option_copied, Result, Ok, Err, IfOk}
 use Rattle.serde_json.specs.Data.{Data}
 use Rattle.item_tree.specs.Node.{Unfolding}
 use Rattle.item_tree.specs.Walk.{of_id}
@@ -16,7 +16,6 @@ use Rattle.source_rows.specs.ListedViews.{reading_view, text_read}
 use Rattle.rust_mended.specs.declared.text.Mended.{Mended}
 use Rattle.serde_json.specs.declared.value.Value.{Value}
 use Rattle.lsp.specs.declared.response.ResponseError.{ResponseError}
-use Rattle.lsp.specs.Documents.{Document, has_uri}
 use Rattle.lsp.specs.Highlight.{highlight_ranges}
 use Rattle.lsp.specs.Responses.{RequestOutcome}
 use Rattle.lsp.specs.declared.parts.Part.{Part}
@@ -49,13 +48,6 @@ page_view p = record { units = p.units; text = p.text.now; flat_in = option_copi
 -- the symbols of the item of an id, in what is called so, or in nothing
 abbrev pub symbols_at : Page → List ItemPlace → Unfolding → Option (List ℕ) → Bool → ℕ → List Data
 symbols_at p places u container is_active i = of_id u [] (node_symbols p places container is_active) i
-
--- ---- documents
-
--- where the document of a name stands, counted from a number on
-abbrev pub place_from : ℕ → List Document → List ℕ → Option ℕ
-place_from n [] uri = None
-place_from n (d ∷ ds) uri = if has_uri uri d then Some n else place_from (suc n) ds uri
 
 -- ---- ranges
 

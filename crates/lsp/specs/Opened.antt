@@ -12,14 +12,13 @@ use Rattle.lsp.specs.declared.method.RequestMethod.{RequestMethod}
 use Rattle.lsp.specs.declared.method.RequestMethod.TheVariants.{Initialize, DocumentSymbol, Ranges}
 use Rattle.lsp.specs.declared.method.NotificationMethod.TheVariants.{DidOpen}
 
--- the name, the text and the kind of a document are those of another
+-- the text and the kind of a document are those of another
 pub record IsSameText (d e : Document) : Type 0 where
-  pub uri : d.uri ≡ e.uri
   pub text : d.text ≡ e.text
   pub is_rust : d.is_rust ≡ e.is_rust
 
--- a new server for this client has opened a document of the same text, and nothing else
-pub record HasJustOpened (o : Options) (c : Client) (d : Document) (fresh : ServerState) : Type 0 where
+-- a new server for this client has opened a document of the same name and text, and nothing else
+pub record HasJustOpened (o : Options) (c : Client) (uri : List ℕ) (d : Document) (fresh : ServerState) : Type 0 where
   pub init : Data
   pub between : ServerState
   pub outcome : RequestOutcome
@@ -27,7 +26,7 @@ pub record HasJustOpened (o : Options) (c : Client) (d : Document) (fresh : Serv
   pub initialized : IsRequestDone (new_server o) Initialize init between outcome
   pub opening : Data
   pub document : Document
-  pub opens : open_form opening ≡ right document
+  pub opens : open_form opening ≡ right (uri, document)
   pub same : IsSameText document d
   pub is : fresh ≡ noticed between DidOpen opening
 

@@ -9,7 +9,7 @@ use Rattle.line_index.specs.declared.Units.{Units}
 use Rattle.source_rows.specs.ListedFiles.{IsUnlisted}
 use Rattle.source_rows.specs.declared.read_texts.ReadError.{ReadError}
 use Rattle.itemtree_commands.specs.declared.Options.{Options}
-use Rattle.lsp.specs.Documents.{Document, document_in, open_document, uri_form}
+use Rattle.lsp.specs.Documents.{Document, Documents, document_in, open_document, uri_form}
 use Rattle.lsp.specs.Folding.{fold_data}
 use Rattle.lsp.specs.Highlight.{highlights_at}
 use Rattle.lsp.specs.Parts.{AreTextParts}
@@ -30,7 +30,7 @@ places_form Highlight params = do
   right (place ∷ [])
 
 -- the document that parameters are about, and these
-abbrev pub asked_places : RangeKind → List Document → Data → Reading (Document × List Point)
+abbrev pub asked_places : RangeKind → Documents → Data → Reading (Document × List Point)
 asked_places kind ds params = do
   uri ← uri_form params
   places ← places_form kind params

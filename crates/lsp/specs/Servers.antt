@@ -1,11 +1,12 @@
 -- A server: what stands between messages, what messages do, and what they are answered with.
-use Rattle.std.specs.Prelude.{◌≡◌, ◌⊎◌, ℤ, ℕ, Bool, true, false, List, [], ◌∷◌, codes, if◌then◌else◌, Option, Some, None, is_some, Ok, Err}
+use Rattle.std.specs.Prelude.{◌≡◌, ◌⊎◌, ℕ, Bool, true, false, List, [], ◌∷◌, codes, if◌then◌else◌, Option, Some, None, is_some, option_map, Ok, Err}
 use Rattle.serde_json.specs.Data.{Data, null, boolean, string, array, object, no_items, no_members, member}
 use Rattle.serde_json.specs.View.{items_of}
 use Rattle.serde_json.specs.Written.{compact_text}
 use Rattle.list_forms.specs.Lines.{count_form}
 use Rattle.hir_input_json.specs.Reading.{Reading, right, wrong, ◌>>=◌}
 use Rattle.item_tree_request.specs.Requests.{IsJsonText}
+use Rattle.message_stream.specs.Answers.{Conduct}
 use Rattle.message_stream.specs.Messages.{Told, whole, too_long, no_memory}
 use Rattle.line_index.specs.declared.Units.{Units}
 use Rattle.line_index.specs.declared.Units.TheVariants.{Utf16}
@@ -16,8 +17,8 @@ use Rattle.itemtree_commands.specs.declared.trees.SourceTree.{SourceTree}
 use Rattle.itemtree_commands.specs.declared.trees.SourceError.{SourceError}
 use Rattle.lsp.specs.Messages.{Incoming, request, notification, response, no_message, incoming}
 use Rattle.lsp.specs.Clients.{client_of, encoding}
-use Rattle.lsp.specs.Documents.{Document, asked_document, document_in, in_place_of, with_document, without_document, open_form, named_version, uri_in}
-use Rattle.lsp.specs.Changes.{SpanChange, text_with_changes, changes_form}
+use Rattle.lsp.specs.Documents.{Document, Documents, asked_document, document_in, with_document, without_document, open_form, named_version, uri_in}
+use Rattle.lsp.specs.Changes.{text_with_changes, changes_form}
 use Rattle.lsp.specs.Diagnostics.{IsNoticeOf, closed_notice}
 use Rattle.lsp.specs.Methods.{request_method, notification_method}
 use Rattle.lsp.specs.Ranges.{AreAskedRanges, asked_places}
@@ -40,7 +41,7 @@ pub record ServerState : Type 0 where
   pub options : Options
   pub phase : Phase
   pub client : Client
-  pub documents : List Document
+  pub documents : Documents
   pub untold : List (List ℕ)
 
 -- a server whose conversation is not opened
@@ -93,31 +94,31 @@ abbrev pub flat_in : Client → List ℕ → Option (List ℕ)
 flat_in c uri = if c.is_hierarchical then None else Some uri
 
 -- what symbols of a document are told of
-abbrev pub page_of : Options → Client → Document → Option Closers → Page
-page_of o c d closers = record {
+abbrev pub page_of : Options → Client → List ℕ → Document → Option Closers → Page
+page_of o c uri d closers = record {
   units = c.units;
   text = d.text;
-  flat_in = flat_in c d.uri;
+  flat_in = flat_in c uri;
   reading = reading_in o true (record { path = []; text = d.text }) closers;
   reserved = o.edition.reserved.items;
 }
 
 -- the symbols of a document, by what lists read of its text, or that this has no tree
-abbrev pub AreSymbolsOf : Options → Client → Document → RequestOutcome → Type 0
-AreSymbolsOf o c d (Ok symbols) =
+abbrev pub AreSymbolsOf : Options → Client → List ℕ → Document → RequestOutcome → Type 0
+AreSymbolsOf o c uri d (Ok symbols) =
     (closers : Option Closers) × (t : SourceTree) × HasListed o d.text closers t
-    × (symbols ≡ array (items_of (tree_symbols (page_of o c d closers) t.places.items t.tree)))
-AreSymbolsOf o c d (Err e) = (why : SourceError) × HasNoList o d.text why × (e ≡ of_source why)
+    × (symbols ≡ array (items_of (tree_symbols (page_of o c uri d closers) t.places.items t.tree)))
+AreSymbolsOf o c uri d (Err e) = (why : SourceError) × HasNoList o d.text why × (e ≡ of_source why)
 
 -- those of a document that is Rust, or not
-abbrev pub AreRustSymbols : Options → Client → Bool → Document → RequestOutcome → Type 0
-AreRustSymbols o c true d out = AreSymbolsOf o c d out
-AreRustSymbols o c false d out = out ≡ Ok (array no_items)
+abbrev pub AreRustSymbols : Options → Client → Bool → List ℕ → Document → RequestOutcome → Type 0
+AreRustSymbols o c true uri d out = AreSymbolsOf o c uri d out
+AreRustSymbols o c false uri d out = out ≡ Ok (array no_items)
 
 -- those that parameters ask for
-abbrev pub AreAskedSymbols : Options → Client → Reading Document → RequestOutcome → Type 0
+abbrev pub AreAskedSymbols : Options → Client → Reading (List ℕ × Document) → RequestOutcome → Type 0
 AreAskedSymbols o c (wrong pointer) out = out ≡ Err (InvalidParams pointer)
-AreAskedSymbols o c (right d) out = AreRustSymbols o c d.is_rust d out
+AreAskedSymbols o c (right (uri, d)) out = AreRustSymbols o c d.is_rust uri d out
 
 -- what a request does that may stand where it stands: behind a shutdown nothing is told any more
 abbrev pub IsRequestDone : ServerState → RequestMethod → Data → ServerState → RequestOutcome → Type 0
@@ -144,47 +145,43 @@ IsRequestAnswered s method params new out = IsOutOfMemory s new out ⊎ IsDoneUn
 -- ---- notifications
 
 -- these documents in the place of those that are open
-abbrev pub with_documents : ServerState → List Document → ServerState
+abbrev pub with_documents : ServerState → Documents → ServerState
 with_documents s ds = record { options = s.options; phase = s.phase; client = s.client; documents = ds; untold = s.untold }
 
 -- the problems of these documents are not told yet
 abbrev pub with_untold : ServerState → List (List ℕ) → ServerState
 with_untold s uris = record { options = s.options; phase = s.phase; client = s.client; documents = s.documents; untold = uris }
 
--- a document after changes, by the units of the client
-abbrev pub changed_document : Units → List SpanChange → Option ℤ → Document → Document
-changed_document units changes version d = record { uri = d.uri; text = text_with_changes units changes d.text; is_rust = d.is_rust; version = version }
+-- a document after the changes that parameters ask for, by the units of the client
+abbrev pub changed_document : Units → Data → Document → Reading Document
+changed_document units params d = do
+  changes ← changes_form params
+  right (record { text = text_with_changes units changes d.text; is_rust = d.is_rust; version = named_version params })
 
 -- the documents after one is opened
-abbrev pub opened_documents : List Document → Reading Document → List Document
+abbrev pub opened_documents : Documents → Reading (List ℕ × Document) → Documents
 opened_documents ds (wrong pointer) = ds
-opened_documents ds (right d) = with_document ds d
-
--- what parameters ask of a document: its changes, and its version behind them
-abbrev pub asked_changes : Data → Reading (List SpanChange × Option ℤ)
-asked_changes params = do
-  changes ← changes_form params
-  right (changes, named_version params)
+opened_documents ds (right (uri, d)) = with_document ds uri d
 
 -- after the document of a name is changed: one whose changes cannot be read is closed
-abbrev pub changed_by : Units → List Document → List ℕ → Reading (List SpanChange × Option ℤ) → Option Document → List Document
-changed_by units ds uri asked None = ds
-changed_by units ds uri (wrong pointer) (Some d) = without_document ds uri
-changed_by units ds uri (right (changes, version)) (Some d) = in_place_of ds uri (changed_document units changes version d)
+abbrev pub changed_by : Documents → List ℕ → Option (Reading Document) → Documents
+changed_by ds uri None = ds
+changed_by ds uri (Some (wrong pointer)) = without_document ds uri
+changed_by ds uri (Some (right d)) = with_document (without_document ds uri) uri d
 
 -- the documents after a notification about that of a name, in an open conversation
-abbrev pub documents_named : ServerState → NotificationMethod → Data → List ℕ → List Document
+abbrev pub documents_named : ServerState → NotificationMethod → Data → List ℕ → Documents
 documents_named s DidOpen params uri = opened_documents s.documents (open_form params)
-documents_named s DidChange params uri = changed_by s.client.units s.documents uri (asked_changes params) (document_in s.documents uri)
+documents_named s DidChange params uri = changed_by s.documents uri (option_map (changed_document s.client.units params) (document_in s.documents uri))
 documents_named s DidClose params uri = without_document s.documents uri
 documents_named s _ params uri = s.documents
 
 -- one that names none does nothing
-abbrev pub documents_by : ServerState → NotificationMethod → Data → Option (List ℕ) → List Document
+abbrev pub documents_by : ServerState → NotificationMethod → Data → Option (List ℕ) → Documents
 documents_by s method params None = s.documents
 documents_by s method params (Some uri) = documents_named s method params uri
 
-abbrev pub documents_after : ServerState → NotificationMethod → Data → List Document
+abbrev pub documents_after : ServerState → NotificationMethod → Data → Documents
 documents_after s method params = documents_by s method params (uri_in params)
 
 -- what a notification about documents leaves in an open conversation
@@ -217,7 +214,7 @@ noticed s method params = noticed_in s.phase s method params
 -- what is told of a document that is open, or not: what is wrong with it, or nothing
 abbrev pub IsToldOfOpen : ServerState → List ℕ → Option Document → List (List ℕ) → Type 0
 IsToldOfOpen s uri None texts = texts ≡ closed_notice uri ∷ []
-IsToldOfOpen s uri (Some d) texts = (text : List ℕ) × IsNoticeOf s.options s.client.units d text × (texts ≡ text ∷ [])
+IsToldOfOpen s uri (Some d) texts = (text : List ℕ) × IsNoticeOf s.options s.client.units uri d text × (texts ≡ text ∷ [])
 
 -- what is told at once behind a notification, in this phase
 abbrev pub told_in_phase : Phase → NotificationMethod → Data → List (List ℕ)
@@ -293,3 +290,7 @@ abbrev pub Answers : ServerState → Told → ServerState → List (List ℕ) �
 Answers old (whole bytes) new texts = AnswersBytes (surrogates_mended bytes) old new texts
 Answers old too_long new texts = IsLost old new texts
 Answers old no_memory new texts = IsLost old new texts
+
+-- what a server does: it answers by `Answers`, and tells by `TellsAtRest`
+abbrev pub server_conduct : Conduct ServerState
+server_conduct = record { Answers = Answers; Rests = TellsAtRest; is_rested = λ s. is_all_told s.untold; is_over = is_conversation_over }

@@ -1,5 +1,7 @@
 -- What the code holds, as plain data.
-use Rattle.std.specs.Prelude.{string_bytes}
+use Rattle.std.specs.Prelude.{List, ℕ, String, map, string_bytes}
+use Rattle.std.specs.declared.alloc.Global.{Global}
+use Rattle.std.specs.BTreeMap.{BTreeMap}
 use Rattle.serde_json.specs.View.{view}
 use Rattle.lsp.specs.declared.message.Incoming as code
 use Rattle.lsp.specs.declared.message.Incoming.TheVariants as code_incoming
@@ -10,7 +12,7 @@ use Rattle.lsp.specs.Symbols.{Symbol}
 use Rattle.lsp.specs.declared.selection.Chain as code_chain
 use Rattle.lsp.specs.Selection.{Chain}
 use Rattle.lsp.specs.Messages.{Incoming, request, notification, response, no_message}
-use Rattle.lsp.specs.Documents.{Document}
+use Rattle.lsp.specs.Documents.{Document, Documents}
 use Rattle.lsp.specs.Changes.{SpanChange}
 
 -- a message as plain data
@@ -22,7 +24,15 @@ incoming_view code_incoming.NoMessage = no_message
 
 -- a document as plain data
 abbrev pub document_view : code_document.Document → Document
-document_view d = record { uri = string_bytes d.uri; text = d.text; is_rust = d.is_rust; version = d.version }
+document_view d = record { text = d.text; is_rust = d.is_rust; version = d.version }
+
+-- a document with its name as plain data
+abbrev pub document_entry_view : String Global × code_document.Document → List ℕ × Document
+document_entry_view d = (string_bytes d.0, document_view d.1)
+
+-- the open documents as plain data
+abbrev pub documents_view : BTreeMap (String Global) code_document.Document → Documents
+documents_view ds = map document_entry_view ds.entries
 
 -- a change as plain data
 abbrev pub change_view : code_change.Change → SpanChange

@@ -237,7 +237,7 @@ fn plain_text(alloc: Global, value: &Value) -> Result<String, AllocError>
     value.to_string(alloc)
 }
 
-/// The text of the notification of what is wrong with a document.
+/// The text of the notification of what is wrong with the document of a name.
 ///
 /// # Errors
 ///
@@ -246,15 +246,17 @@ pub(crate) fn notice_text(
     alloc: Global,
     options: &Options,
     units: Units,
+    uri: &str,
     document: &Document,
 ) -> Result<String, SourceError>
-    ensures { IfOk result (λ text. spec.IsNoticeOf options.now units (document_view document.now) (string_bytes text)) }
+    ensures { let d = document_view document.now in
+        IfOk result (λ text. spec.IsNoticeOf options.now units uri.now d (string_bytes text)) }
 {
     let problems = problems_of(alloc, options, document)?;
     let repeats = repeats_of(alloc, options, document)?;
     let mut told = diagnostics(alloc, units, &document.text, &problems)?;
     push_repeats(alloc, units, &document.text, &repeats, &mut told)?;
-    let value = notice(alloc, &document.uri, document.version, told)?;
+    let value = notice(alloc, uri, document.version, told)?;
     let text = plain_text(alloc, &value)?;
     Ok(text)
 }

@@ -1,29 +1,31 @@
 //! Open documents.
-ghost use Rattle.std.specs.Prelude.{◌≡◌, IfOk, codes, option_and_then, option_map, string_bytes, OnOk, map};
+ghost use Rattle.std.specs.Prelude.{◌≡◌, codes, option_and_then, option_map, string_bytes, OnOk};
 ghost use Rattle.serde_json.specs.View.{view};
 ghost use Rattle.hir_input_json.specs.Forms.{required_at as required_form, text_form};
 ghost use Rattle.hir_input_json.specs.Held.{held, without};
 ghost use Rattle.hir_input_json.specs.Reads.{Reads};
 ghost use Rattle.lsp.specs.Documents as spec;
-ghost use Rattle.lsp.specs.Inner.{place_from};
-ghost use Rattle.lsp.specs.Views.{document_view};
+ghost use Rattle.lsp.specs.Views.{document_view, documents_view, document_entry_view};
 
 use crate::text::LinedText;
 use hir_input_json::member::{Members, field, members_of, required_at, taken};
 use hir_input_json::{Fault, ReadIn};
 use serde_json::Value;
 use std::alloc::{AllocError, Global};
+use std::collections::BTreeMap;
 
 /// An open document.
 #[derive(Drop)]
 pub(crate) struct Document {
-    pub(crate) uri: String,
     pub(crate) text: LinedText,
     /// Whether its text is Rust.
     pub(crate) is_rust: bool,
     /// The version that the client gave last, if it gave one.
     pub(crate) version: Option<i64>,
 }
+
+/// The open documents, by their names.
+pub(crate) type Documents = BTreeMap<String, Document>;
 
 /// Whether a text is Rust, by what the client calls its language, or else by its name.
 fn is_rust(language: &str, uri: &str) -> bool
@@ -50,10 +52,10 @@ fn version_in(members: &Members) -> Option<i64>
     field(members, "version").and_then(Value::as_i64)
 }
 
-/// A document that is opened.
+/// A document that is opened, with its name.
 #[tactic(auto, using(hir_input_json::proofs::Held::field_without))]
-fn opened_document(alloc: Global, value: Value) -> Result<Document, Fault>
-    ensures { Reads document_view result (spec.opened_form (view value)) }
+fn opened_document(alloc: Global, value: Value) -> Result<(String, Document), Fault>
+    ensures { Reads document_entry_view result (spec.opened_form (view value)) }
 {
     let mut members = members_of(alloc, value)?;
     let uri = text_at(alloc, &mut members, "uri")?;
@@ -61,26 +63,26 @@ fn opened_document(alloc: Global, value: Value) -> Result<Document, Fault>
     let text = text_at(alloc, &mut members, "text")?;
     let is_rust = is_rust(&language, &uri);
     let version = version_in(&members);
-    Ok(Document {
-        uri,
+    let document = Document {
         text: LinedText::new(alloc, text)?,
         is_rust,
         version,
-    })
+    };
+    Ok((uri, document))
 }
 
 /// Takes a document out that is opened.
-fn opened_at(alloc: Global, members: &mut Members, key: &str) -> Result<Document, Fault>
-    ensures reads { Reads document_view result (required_form key.now spec.opened_form (held members.old)) }
+fn opened_at(alloc: Global, members: &mut Members, key: &str) -> Result<(String, Document), Fault>
+    ensures reads { Reads document_entry_view result (required_form key.now spec.opened_form (held members.old)) }
     ensures left { OnOk result (held members.new ≡ without key.now (held members.old)) }
 {
     let found = required_at(alloc, members, key)?;
     opened_document(alloc, found).in_member(alloc, key)
 }
 
-/// The document that parameters open.
-pub(crate) fn document_of(alloc: Global, params: Value) -> Result<Document, Fault>
-    ensures { Reads document_view result (spec.open_form (view params)) }
+/// The document that parameters open, with its name.
+pub(crate) fn document_of(alloc: Global, params: Value) -> Result<(String, Document), Fault>
+    ensures { Reads document_entry_view result (spec.open_form (view params)) }
 {
     let mut members = members_of(alloc, params)?;
     opened_at(alloc, &mut members, "textDocument")
@@ -131,26 +133,21 @@ pub(crate) fn named_version(params: &Value) -> Option<i64>
 }
 
 /// The document of a name.
-pub(crate) fn document_in<'d>(documents: &'d [Document], uri: &str) -> Option<&'d Document>
+pub(crate) fn document_in<'d>(documents: &'d Documents, uri: &str) -> Option<&'d Document>
     ensures { option_map (λ d. document_view d.now) result
-        ≡ spec.document_in (map document_view documents.now) uri.now }
+        ≡ spec.document_in (documents_view documents.now) uri.now }
 {
-    for document in documents {
-        if document.uri.as_str() == uri {
-            return Some(document);
-        }
-    }
-    None
+    documents.get(uri)
 }
 
 /// The document of a name, which has to be open.
 pub(crate) fn open_document<'d>(
     alloc: Global,
-    documents: &'d [Document],
+    documents: &'d Documents,
     uri: &str,
 ) -> Result<&'d Document, Fault>
     ensures { Reads (λ d. document_view d.now) result
-        (spec.open_document (spec.document_in (map document_view documents.now) uri.now)) }
+        (spec.open_document (spec.document_in (documents_view documents.now) uri.now)) }
 {
     match document_in(documents, uri) {
         Some(document) => Ok(document),
@@ -158,57 +155,40 @@ pub(crate) fn open_document<'d>(
     }
 }
 
-/// The document that parameters are about.
+/// The document that parameters are about, with its name.
 pub(crate) fn asked_document(
     alloc: Global,
-    documents: &[Document],
+    documents: &Documents,
     params: Value,
-) -> Result<&Document, Fault>
-    ensures { Reads (λ d. document_view d.now) result
-        (spec.asked_document (map document_view documents.now) (view params)) }
+) -> Result<(String, &Document), Fault>
+    ensures { Reads (λ asked. (string_bytes asked.0, document_view asked.1.now)) result
+        (spec.asked_document (documents_view documents.now) (view params)) }
 {
     let uri = asked_uri(alloc, params)?;
-    open_document(alloc, documents, &uri)
+    let document = open_document(alloc, documents, &uri)?;
+    Ok((uri, document))
 }
 
-/// Where the document of a name stands.
-fn place_in(documents: &[Document], uri: &str) -> Option<usize>
-    ensures { result ≡ place_from 0 (map document_view documents.now) uri.now }
+/// Closes the document of a name, if it is open.
+pub(crate) fn close_document(documents: &mut Documents, uri: &str)
+    ensures { documents_view documents.new ≡ spec.without_document (documents_view documents.old) uri.now }
 {
-    let mut place = 0;
-    for document in documents {
-        if document.uri.as_str() == uri {
-            return Some(place);
-        }
-        place += 1;
-    }
-    None
+    let _ = documents.remove(uri);
 }
 
-/// Takes the document of a name out, if there is one.
-pub(crate) fn take_document(documents: &mut Vec<Document>, uri: &str) -> Option<Document>
-    ensures taken { option_map document_view result
-        ≡ spec.document_in (map document_view documents.old.items) uri.now }
-    ensures left { map document_view documents.new.items
-        ≡ spec.without_document (map document_view documents.old.items) uri.now }
-{
-    let place = place_in(documents, uri)?;
-    Some(documents.remove(place))
-}
-
-/// Adds a document behind the others, and takes an earlier one of its name out.
+/// Opens a document, in the place of an earlier one of its name.
 ///
 /// # Errors
 ///
 /// Only if memory runs out.
 pub(crate) fn put_document(
-    documents: &mut Vec<Document>,
+    documents: &mut Documents,
+    uri: String,
     document: Document,
 ) -> Result<(), AllocError>
-    ensures { OnOk result (map document_view documents.new.items
-        ≡ spec.with_document (map document_view documents.old.items) (document_view document)) }
+    ensures { OnOk result (documents_view documents.new
+        ≡ spec.with_document (documents_view documents.old) (string_bytes uri) (document_view document)) }
 {
-    let _ = take_document(documents, &document.uri);
-    documents.push(document)?;
+    documents.insert(uri, document)?;
     Ok(())
 }

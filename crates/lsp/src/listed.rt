@@ -8,11 +8,11 @@ ghost use Rattle.itemtree_commands.specs.Answers.{HasNoList};
 ghost use Rattle.lsp.specs.Documents.{asked_document as asked};
 ghost use Rattle.lsp.specs.Inner.{IsPlainOutcome, request_outcome_view, listed_reading};
 ghost use Rattle.lsp.specs.Servers as spec;
-ghost use Rattle.lsp.specs.Views.{document_view};
+ghost use Rattle.lsp.specs.Views.{document_view, documents_view};
 ghost use Rattle.lsp.specs.declared.response.ResponseError.TheVariants.{OutOfMemory};
 
 use crate::client::Client;
-use crate::document::{Document, asked_document};
+use crate::document::{Document, Documents, asked_document};
 use crate::response::Outcome;
 use crate::symbols::{Page, tree_symbols};
 use itemtree_commands::{Options, SourceError, listed_tree};
@@ -55,16 +55,17 @@ fn list_value(values: Vec<Value>) -> Value
     Value::Array(values)
 }
 
-/// The symbols of a Rust document.
+/// The symbols of a Rust document of a name.
 #[tactic(auto, using(itemtree_commands::proofs::Refused::no_list))]
 pub(crate) fn document_symbols(
     alloc: Global,
     options: &Options,
     client: Client,
+    uri: &str,
     document: &Document,
 ) -> Result<Value, SourceError>
     ensures symbols { let d = document_view document.now in
-        IfOk result (λ value. spec.AreSymbolsOf options.now client d (Ok (view value))) }
+        IfOk result (λ value. spec.AreSymbolsOf options.now client uri.now d (Ok (view value))) }
     ensures plain { IfOk result (λ value. has_float (view value) ≡ false) }
     ensures refused { IfErr result (HasNoList options.now document.now.text) }
 {
@@ -73,7 +74,7 @@ pub(crate) fn document_symbols(
     let page = Page {
         units: client.units,
         text,
-        flat_in: flat_in(client, &document.uri),
+        flat_in: flat_in(client, uri),
         tree: &listed.source.tree,
         reading: reading_of(options, text.text(), listed.mended.as_ref()),
         edition: &options.edition,
@@ -87,17 +88,17 @@ pub(crate) fn asked_symbols(
     alloc: Global,
     options: &Options,
     client: Client,
-    documents: &[Document],
+    documents: &Documents,
     params: Value,
 ) -> Outcome
-    ensures symbols { let out = request_outcome_view result in let ds = map document_view documents.now in
+    ensures symbols { let out = request_outcome_view result in let ds = documents_view documents.now in
         (out ≡ Err OutOfMemory) ⊎ spec.AreAskedSymbols options.now client (asked ds (view params)) out }
     ensures plain { IsPlainOutcome result }
 {
-    let document = asked_document(alloc, documents, params)?;
+    let (uri, document) = asked_document(alloc, documents, params)?;
     if !document.is_rust {
         return Ok(list_value(Vec::new(alloc)));
     }
-    let symbols = document_symbols(alloc, options, client, document)?;
+    let symbols = document_symbols(alloc, options, client, &uri, document)?;
     Ok(symbols)
 }

@@ -7,10 +7,10 @@ ghost use Rattle.hir_input_json.specs.Reads.{Reads};
 ghost use Rattle.lsp.specs.Inner.{IsPlainOutcome, request_outcome_view};
 ghost use Rattle.lsp.specs.Positions.{position_form};
 ghost use Rattle.lsp.specs.Ranges as spec;
-ghost use Rattle.lsp.specs.Views.{document_view};
+ghost use Rattle.lsp.specs.Views.{document_view, documents_view};
 ghost use Rattle.lsp.specs.declared.response.ResponseError.TheVariants.{OutOfMemory};
 
-use crate::document::{Document, named_at, open_document};
+use crate::document::{Document, Documents, named_at, open_document};
 use crate::folding::folds;
 use crate::highlight::highlights;
 use crate::method::RangeKind;
@@ -67,11 +67,11 @@ fn places_at(alloc: Global, kind: RangeKind, members: &mut Members) -> Result<Ve
 fn asked_places(
     alloc: Global,
     kind: RangeKind,
-    documents: &[Document],
+    documents: &Documents,
     params: Value,
 ) -> Result<(&Document, Vec<Point>), Fault>
     ensures { Reads (λ asked. (document_view asked.0.now, asked.1.items)) result
-        (spec.asked_places kind (map document_view documents.now) (view params)) }
+        (spec.asked_places kind (documents_view documents.now) (view params)) }
 {
     let mut members = members_of(alloc, params)?;
     let uri = named_at(alloc, &mut members, "textDocument")?;
@@ -103,12 +103,12 @@ pub(crate) fn ranges(
     options: &Options,
     units: Units,
     kind: RangeKind,
-    documents: &[Document],
+    documents: &Documents,
     params: Value,
 ) -> Outcome
     ensures ranges { let out = request_outcome_view result in
         (out ≡ Err OutOfMemory) ⊎ spec.AreAskedRanges options.now units kind
-        (spec.asked_places kind (map document_view documents.now) (view params)) out }
+        (spec.asked_places kind (documents_view documents.now) (view params)) out }
     ensures plain { IsPlainOutcome result }
 {
     let (document, places) = asked_places(alloc, kind, documents, params)?;

@@ -12,11 +12,10 @@ ghost use Rattle.lsp.specs.Messages.{incoming, notification};
 ghost use Rattle.lsp.specs.Methods.{request_method};
 ghost use Rattle.lsp.specs.Servers as spec;
 ghost use Rattle.lsp.specs.Untold.{told_at_once, untold_named};
-ghost use Rattle.lsp.specs.Views.{document_view};
 
 use crate::client::{Client, client_of};
 use crate::diagnostics::{closed_text, notice_text};
-use crate::document::{Document, document_in, take_document, uri_in};
+use crate::document::{Documents, close_document, document_in, uri_in};
 use crate::edits::{change_document, open_document};
 use crate::listed::asked_symbols;
 use crate::message::{Incoming, message_of};
@@ -33,6 +32,7 @@ use line_index::Units;
 use message_stream::{Answer, Message, Service};
 use serde_json::Value;
 use std::alloc::Global;
+use std::collections::BTreeMap;
 use std::marker::Model;
 
 /// A language server for open texts: what stands between the messages of a conversation.
@@ -40,7 +40,7 @@ pub struct Server {
     options: Options,
     phase: Phase,
     client: Client,
-    documents: Vec<Document>,
+    documents: Documents,
     /// The names of documents whose problems are not told yet.
     untold: Vec<String>,
 }
@@ -63,7 +63,7 @@ impl Model for Server {
     ghost use Rattle.hir_input.specs.Code.Attr.{options_code};
     ghost use Rattle.hir_input.specs.contracts.attr.Meta as meta;
     ghost use Rattle.lsp.specs.Servers.{ServerState};
-    ghost use Rattle.lsp.specs.Views.{document_view};
+    ghost use Rattle.lsp.specs.Views.{documents_view};
     ghost use Rattle.std.specs.Prelude.{map, string_bytes};
 
     ghost Value = { ServerState };
@@ -74,7 +74,7 @@ impl Model for Server {
       options = x.options;
       phase = x.phase;
       client = x.client;
-      documents = map document_view x.documents.items;
+      documents = documents_view x.documents;
       untold = map string_bytes x.untold.items;
     } };
 }
@@ -97,7 +97,7 @@ impl Server {
                 units: Units::Utf16,
                 is_hierarchical: false,
             },
-            documents: Vec::new(alloc),
+            documents: BTreeMap::new(alloc),
             untold: Vec::new(alloc),
         }
     }
@@ -177,7 +177,7 @@ impl Server {
                 change_document(alloc, self.client.units, &mut self.documents, uri, params)
             }
             NotificationMethod::DidClose => {
-                let _ = take_document(&mut self.documents, uri);
+                close_document(&mut self.documents, uri);
                 Ok(())
             }
             NotificationMethod::Exit | NotificationMethod::Other => Ok(()),
@@ -190,7 +190,7 @@ impl Server {
             spec.IsToldOfOpen self.now uri.now (spec_document_in docs uri.now) (string_bytes text ∷ [])) }
     {
         match document_in(&self.documents, uri) {
-            Some(document) => notice_text(alloc, &self.options, self.client.units, document),
+            Some(document) => notice_text(alloc, &self.options, self.client.units, uri, document),
             None => Ok(closed_text(alloc, uri)?),
         }
     }
@@ -337,15 +337,9 @@ impl Server {
 }
 
 impl Service for Server {
-    ghost use Rattle.lsp.specs.Servers.{Answers, TellsAtRest, is_all_told, is_conversation_over};
+    ghost use Rattle.lsp.specs.Servers.{server_conduct};
 
-    ghost answers = { Answers };
-
-    ghost rests = { TellsAtRest };
-
-    ghost rested = { λ server. is_all_told server.untold };
-
-    ghost over = { is_conversation_over };
+    ghost conduct = { server_conduct };
 
     fn answer(&mut self, alloc: Global, message: Message) -> Answer {
         match message {

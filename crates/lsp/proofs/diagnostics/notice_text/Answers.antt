@@ -12,16 +12,16 @@ plain_text-requires c =
     let d = document_view c.args.document.now in
     let ps = c.in_ok-problems.problems.items in
     let rs = map repeated_import_view c.in_ok-repeats.repeats.items in
-    let value : view c.in_ok-value.value ≡ notice d.uri d.version (map view c.push_repeats.new.values.items) = search rules in
+    let value : view c.in_ok-value.value ≡ notice c.args.uri.now d.version (map view c.push_repeats.new.values.items) = search rules in
     let told : map view c.push_repeats.new.values.items ≡ diagnostics c.args.units d.text ps rs = search rules in
-    ap has_float (value ∙ ap (notice d.uri d.version) told) ∙ notice_none d.uri d.version (diagnostics c.args.units d.text ps rs) (diagnostics_none c.args.units d.text ps rs)
+    ap has_float (value ∙ ap (notice c.args.uri.now d.version) told) ∙ notice_none c.args.uri.now d.version (diagnostics c.args.units d.text ps rs) (diagnostics_none c.args.units d.text ps rs)
 
 pub returns : goal.returns
 returns c =
     let d = document_view c.args.document.now in
     let ps = c.in_ok-problems.problems.items in
     let rs = map repeated_import_view c.in_ok-repeats.repeats.items in
-    let value : view c.in_ok-value.value ≡ notice d.uri d.version (map view c.push_repeats.new.values.items) = search rules in
+    let value : view c.in_ok-value.value ≡ notice c.args.uri.now d.version (map view c.push_repeats.new.values.items) = search rules in
     let told : map view c.push_repeats.new.values.items ≡ diagnostics c.args.units d.text ps rs = search rules in
     let text : string_bytes c.in_ok-text.text ≡ compact_text (view c.in_ok-value.value) = search rules in
-    (ps, c.in_ok-problems.ensures, rs, c.in_ok-repeats.ensures, text ∙ ap compact_text (value ∙ ap (notice d.uri d.version) told))
+    (ps, c.in_ok-problems.ensures, rs, c.in_ok-repeats.ensures, text ∙ ap compact_text (value ∙ ap (notice c.args.uri.now d.version) told))
