@@ -6,6 +6,7 @@ pub mod NoFloats
 pub mod Pushed
 pub mod Chosen
 pub mod Tagged
+pub mod Blocks
 pub mod Searches
 pub mod ImportCfgLists
 pub mod ImportExclusions

@@ -1,5 +1,5 @@
 -- For the crate's own functions.
-use Rattle.std.specs.Prelude.{◌≡◌, ◌==◌, ◌&&◌, if◌then◌else◌, ℕ, Bool, true, false, List, [], ◌∷◌, codes, Option, Some, None, option_copied, option_map, string_bytes, find, bytes_eq}
+use Rattle.std.specs.Prelude.{◌≡◌, ◌<◌, ◌+◌, ◌^◌, length, map, ◌==◌, ◌&&◌, if◌then◌else◌, ℕ, Bool, true, false, List, [], ◌∷◌, codes, Option, Some, None, option_copied, option_map, string_bytes, find, bytes_eq}
 use Rattle.std.specs.Borrow.{Bor}
 use Rattle.std.specs.HashMap.{get, HashMap}
 use Rattle.std.specs.Option.{option_or}
@@ -37,6 +37,13 @@ use Rattle.source_listing.specs.Objects.{Entry, ItemView, column_form, item_in, 
 use Rattle.source_rows.specs.Places.{AreDistinct}
 use Rattle.source_listing.specs.Repeated.{Named, are_excluded, first_alike, leaf_named, node_named}
 use Rattle.source_listing.specs.ImportCfgs.{ImportChoice}
+use Rattle.rust_metas.specs.declared.wanted.WantedMetas.TheVariants.{Conditions}
+use Rattle.rust_leaves.specs.declared.wanted.Wanted.{Wanted}
+use Rattle.rust_items.specs.MemberPlaces.{FitsMoved}
+use Rattle.source_listing.specs.BlockItems.{BlockItem, FnBlock, Holder}
+use Rattle.source_listing.specs.declared.block_items.FnBlock as code_block
+use Rattle.source_listing.specs.declared.block_items.BlockItem as code_block_item
+use Rattle.source_listing.specs.declared.block_items.Holder as code_holder
 use Rattle.source_listing.specs.Tags.{TagFile}
 use Rattle.source_listing.specs.Sought.{Split}
 use Rattle.source_listing.specs.Uses.{FilePlaces, placed, Trees}
@@ -80,6 +87,33 @@ IsSameTagger old new = (new.path ≡ old.path) × (new.form ≡ old.form) × (ne
 -- tags are of this file, with items at these places
 abbrev pub IsTaggerOf : TagFile → List ItemPlace → Tagger → Type 0
 IsTaggerOf f places t = (t.path.now ≡ f.path) × (t.form ≡ f.form) × (t.lines.text.now ≡ f.shown) × (t.text.now ≡ f.source) × IsFinderOf f.text places t.finder
+
+-- ---- blocks in bodies
+
+abbrev pub fn_block_view : code_block.FnBlock → FnBlock
+fn_block_view b = record { word = b.word.now; scope = map (λ n. n.now) b.scope.now; is_active = b.is_active; base = b.base; text = b.text.now }
+
+abbrev pub block_item_view : code_block_item.BlockItem → BlockItem
+block_item_view i = record { name = i.name; visibility = i.visibility; is_enabled = i.is_enabled }
+
+abbrev pub holder_view : code_holder.Holder → Holder
+holder_view h = record { end = h.end; name = h.name; is_enabled = h.is_enabled }
+
+-- conditions are wanted of what stands in front of an item
+abbrev pub condition_wanted : Wanted
+condition_wanted = record { bodies = false; metas = Conditions }
+
+-- the places of an item fit into numbers behind so many bytes
+abbrev pub FitsPlace : ℕ → ItemPlace → Type 0
+FitsPlace by p = FitsMoved by (Some p.range) × (FitsMoved by p.name × FitsMoved by p.body)
+
+-- and those of a text
+abbrev pub FitsText : ℕ → List ℕ → Type 0
+FitsText by text = 0 < length text → by + length text < 2 ^ 64
+
+-- all that stands in a block fits where that stands
+abbrev pub FitsBlock : FnBlock → Type 0
+FitsBlock b = FitsText b.base b.text
 
 -- ---- what is looked for
 

@@ -17,6 +17,7 @@ pub mod Search
 pub mod Sought
 pub mod LineSearches
 pub mod Patterns
+pub mod BlockItems
 pub mod TagFields
 pub mod Tags
 pub mod Views

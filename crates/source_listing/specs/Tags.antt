@@ -1,9 +1,14 @@
 -- Lines of a tags file.
-use Rattle.std.specs.Prelude.{ℕ, Bool, true, false, ◌+◌, if◌then◌else◌, List, [], ◌++◌, ◌-◌, codes, decimal, filter, Option, Some, None, option_map, option_to_list, flat_map}
+use Rattle.std.specs.Prelude.{ℕ, zero, suc, Bool, true, false, ◌+◌, if◌then◌else◌, List, [], ◌∷◌, ◌++◌, ◌-◌, codes, decimal, filter, Option, Some, None, option_map, option_to_list, flat_map}
+use Rattle.hir_input.specs.Cfg.{AtomView}
+use Rattle.hir_input.specs.declared.ids.AstIdKind.{AstIdKind}
+use Rattle.hir_input.specs.declared.ids.AstIdKind.TheVariants as kind
 use Rattle.tree_walk.specs.Rows.{RowView}
 use Rattle.line_index.specs.Positions.{position_of}
 use Rattle.source_rows.specs.Labels.{kind_texts, text_at}
-use Rattle.source_rows.specs.Listed.{Listed, MemberReading, members_of}
+use Rattle.source_rows.specs.Listed.{Listed, MemberReading, members_of, read_range, told_item}
+use Rattle.rust_paths.specs.declared.names.TextRange.{TextRange}
+use Rattle.rust_items.specs.MemberLists.{cut_out}
 use Rattle.rust_items.specs.declared.source_file.ItemPlace.{ItemPlace}
 use Rattle.rust_items.specs.declared.member.MemberKind.{MemberKind}
 use Rattle.rust_items.specs.declared.member.MemberKind.TheVariants as member
@@ -11,6 +16,7 @@ use Rattle.source_listing.specs.declared.tag_fields.TagFields.{TagFields}
 use Rattle.source_listing.specs.declared.tags.Address.{Address}
 use Rattle.source_listing.specs.declared.tags.Address.TheVariants.{Pattern, Number}
 use Rattle.source_listing.specs.declared.tags.TagForm.{TagForm}
+use Rattle.source_listing.specs.BlockItems.{BlockItem, FnBlock, Holder, block_item, block_places, block_row, holders_behind, inner_blocks, modules_of, place_moved_by, still_around, word_inside}
 use Rattle.source_listing.specs.Lines.{Choice, Source, is_chosen, is_listed}
 use Rattle.source_listing.specs.LineSearches.{line_after, line_search, shown_text}
 use Rattle.source_listing.specs.TagFields.{TagItem, TagPlace, access_word, behind_address, fields_text, is_function, is_method, member_access, safe_text}
@@ -26,10 +32,10 @@ member_letter member.MacroCall = None
 member_letter member.Variant = Some (codes "e")
 member_letter member.Field = Some (codes "m")
 
--- what members stand in, if that has a name, is called by this word; without one they stand in modules alone
-abbrev pub scope_word : Option (List ℕ) → Option (List ℕ) → List ℕ
-scope_word (Some name) (Some word) = word
-scope_word _ _ = codes "module"
+-- what members stand in, if that has a name, is called by this word; without one they stand in what is around it alone
+abbrev pub scope_word : List ℕ → Option (List ℕ) → Option (List ℕ) → List ℕ
+scope_word around (Some name) (Some word) = word
+scope_word around _ _ = around
 
 -- the file that tags are of: its path as it is written, its text, as lines are told and as signatures are cut from it, what an editor shows of that; and the form of the tags
 pub record TagFile : Type 0 where
@@ -92,13 +98,13 @@ item_told r name letter p = record {
   is_function = is_function r.id.kind;
 }
 
-abbrev pub tag_of : TagFile → RowView → Option (List ℕ) → Option (List ℕ) → Option ItemPlace → Option (List ℕ)
-tag_of f r (Some name) (Some letter) (Some p) = Some (tag_text f (item_told r name letter p) (codes "module") r.scope)
-tag_of f r _ _ _ = None
+abbrev pub tag_of : TagFile → List ℕ → RowView → Option (List ℕ) → Option (List ℕ) → Option ItemPlace → Option (List ℕ)
+tag_of f word r (Some name) (Some letter) (Some p) = Some (tag_text f (item_told r name letter p) word r.scope)
+tag_of f word r _ _ _ = None
 
--- an item has a tag if it has a name, and its kind a letter
-abbrev pub tag : TagFile → Option ItemPlace → RowView → Option (List ℕ)
-tag f place r = tag_of f r r.name (kind_texts r.id.kind).letter place
+-- an item in what has this word has a tag if it has a name, and its kind a letter
+abbrev pub tag : TagFile → List ℕ → Option ItemPlace → RowView → Option (List ℕ)
+tag f word place r = tag_of f word r r.name (kind_texts r.id.kind).letter place
 
 abbrev pub member_item : Listed → List ℕ → TagItem
 member_item m letter = record {
@@ -118,26 +124,106 @@ abbrev pub if_any : Option (List ℕ) → List ℕ
 if_any None = []
 if_any (Some text) = text
 
-unfoldable pub tags_inside : TagFile → List ℕ → List (List ℕ) → List Listed → List ℕ
-tags_inside f word scope ms = flat_map (λ m. if_any (tag_inside f word scope m)) ms
+-- ---- bodies
 
--- the tags of the listed members of an item, which is called so for its members
-unfoldable pub member_tags : TagFile → Choice → RowView → Option (List ℕ) → List Listed → List ℕ
-member_tags f c r name ms =
-    tags_inside f (scope_word name (kind_texts r.id.kind).scope) (r.scope ++ option_to_list name) (filter (λ m. is_chosen c (r.level + 1) m.is_active) ms)
+-- what has tags: members as they are read and chosen, and what stands in bodies, under these cfgs, if it is asked for
+pub record TagChoice : Type 0 where
+  pub reading : MemberReading
+  pub choice : Choice
+  pub bodies : Option (List AtomView)
 
--- the tag of an item, and behind it those of its listed members
-abbrev pub tags_at : TagFile → MemberReading → Choice → RowView → Option ItemPlace → List ℕ
-tags_at f x c r place =
-    if_any (tag f place r) ++ member_tags f c r (holder x r place) (members_of x place r.is_active)
+-- the tags of what stands in a block are added
+abbrev pub BlockTags : Type 0
+BlockTags = FnBlock → List ℕ
 
-abbrev pub whole_tags : TagFile → MemberReading → List ItemPlace → Choice → RowView → List ℕ
-whole_tags f x places c r = tags_at f x c r (place_of r.id places)
+-- what stands there in a file, in these, of which the innermost has this word
+abbrev pub told_block : MemberReading → List ℕ → List (List ℕ) → Bool → TextRange → FnBlock
+told_block x word scope is_active told = let range = read_range x.closers told in
+    record { word = word; scope = scope; is_active = is_active; base = range.start; text = text_at x.text range }
+
+-- what stands in the body of a function that is called so and stands in these
+
+abbrev pub body_tags : BlockTags → TagChoice → List ℕ → List (List ℕ) → Bool → Option (List ℕ) → Option TextRange → List ℕ
+body_tags block a word scope is_active (Some name) (Some body) = block (told_block a.reading word (scope ++ name ∷ []) is_active body)
+body_tags block a word scope is_active _ _ = []
+
+-- a block that stands in another
+abbrev pub inner_block : FnBlock → ℕ → List ℕ → FnBlock
+inner_block b start text = record { word = b.word; scope = b.scope; is_active = b.is_active; base = b.base + start; text = text }
+
+abbrev pub inner_tags_of : BlockTags → FnBlock → TextRange → Option (List ℕ) → List ℕ
+inner_tags_of block b range None = []
+inner_tags_of block b range (Some text) = block (inner_block b range.start text)
+
+abbrev pub inner_tags : BlockTags → FnBlock → TextRange → List ℕ
+inner_tags block b range = inner_tags_of block b range (cut_out b.text range)
+
+-- what stands in the braces of a value, where bodies are asked for
+abbrev pub value_tags : BlockTags → TagChoice → Option (List AtomView) → FnBlock → List ℕ
+value_tags block a None b = []
+value_tags block a (Some options) b = flat_map (inner_tags block b) (inner_blocks a.reading.edition [] b.text)
+
+-- what stands in an item of this kind, but for its members
+abbrev pub own_tags : BlockTags → TagChoice → List ℕ → RowView → AstIdKind → Option ItemPlace → List ℕ
+own_tags block a word r kind.Fn (Some p) = body_tags block a (codes "function") r.scope r.is_active r.name p.body
+own_tags block a word r kind.Const (Some p) = value_tags block a a.bodies (told_block a.reading word r.scope r.is_active p.range)
+own_tags block a word r kind.Static (Some p) = value_tags block a a.bodies (told_block a.reading word r.scope r.is_active p.range)
+own_tags block a word r k p = []
+
+-- the tag of a member, and those of what stands in its body
+abbrev pub member_tags : BlockTags → TagFile → TagChoice → List ℕ → List (List ℕ) → Listed → List ℕ
+member_tags block f a word scope m = if_any (tag_inside f word scope m) ++ body_tags block a (codes "method") scope m.is_active (Some m.name) m.body
+
+unfoldable pub tags_inside : BlockTags → TagFile → TagChoice → List ℕ → List (List ℕ) → List Listed → List ℕ
+tags_inside block f a word scope ms = flat_map (member_tags block f a word scope) ms
+
+-- those of the listed members of an item, which is called so for its members
+unfoldable pub all_member_tags : BlockTags → TagFile → TagChoice → List ℕ → RowView → Option (List ℕ) → List Listed → List ℕ
+all_member_tags block f a word r name ms =
+    tags_inside block f a (scope_word word name (kind_texts r.id.kind).scope) (r.scope ++ option_to_list name) (filter (λ m. is_chosen a.choice (r.level + 1) m.is_active) ms)
+
+-- the tag of an item in what has this word, and behind it those of what stands in its body or its value, and of its listed members
+unfoldable pub tags_at : BlockTags → TagFile → TagChoice → List ℕ → RowView → Option ItemPlace → List ℕ
+tags_at block f a word r place =
+    if_any (tag f word place r) ++ (own_tags block a word r r.id.kind place
+    ++ all_member_tags block f a word r (holder a.reading r place) (members_of a.reading place r.is_active))
+
+-- ---- blocks
+
+-- in the file, an item of a block
+abbrev pub block_told : TagChoice → FnBlock → ItemPlace → ItemPlace
+block_told a b p = told_item a.reading.closers (place_moved_by b.base p)
+
+-- those of an item of a block in these, if it is listed
+unfoldable pub block_item_tags : BlockTags → TagFile → TagChoice → FnBlock → List Holder → BlockItem → ItemPlace → List ℕ
+block_item_tags block f a b hs i p = let r = block_row b hs i p in
+    if is_listed a.choice r then tags_at block f a (word_inside b.word (modules_of hs)) r (Some (block_told a b p)) else []
+
+-- those of the items of a block, which stand so in it
+abbrev pub block_items_tags : BlockTags → TagFile → TagChoice → List AtomView → FnBlock → List Holder → List ItemPlace → List ℕ
+block_items_tags block f a options b hs [] = []
+block_items_tags block f a options b hs (p ∷ ps) =
+    let around = still_around p.range.start hs in
+    let i = block_item a.reading.edition options b.text p in
+    block_item_tags block f a b around i p ++ block_items_tags block f a options b (holders_behind p.id.kind p.range.end i around) ps
+
+-- The tags of what stands in a block: of its items, and in the blocks of its expressions. The number bounds how many bodies and blocks stand in one another.
+unfoldable pub block_tags : Option (List AtomView) → ℕ → TagFile → TagChoice → BlockTags
+block_tags None n f a b = []
+block_tags (Some options) zero f a b = []
+block_tags (Some options) (suc n) f a b =
+    let ps = block_places a.reading.edition b.text in
+    block_items_tags (block_tags (Some options) n f a) f a options b [] ps ++ flat_map (inner_tags (block_tags (Some options) n f a) b) (inner_blocks a.reading.edition ps b.text)
+
+-- ---- a file
+
+abbrev pub whole_tags : TagFile → TagChoice → List ItemPlace → RowView → List ℕ
+whole_tags f a places r = tags_at (block_tags a.bodies 128 f a) f a (codes "module") r (place_of r.id places)
 
 -- the tags of the listed items, in their order
-abbrev pub tags_under : TagFile → MemberReading → List ItemPlace → Choice → List RowView → List ℕ
-tags_under f x places c rs = flat_map (whole_tags f x places c) (filter (is_listed c) rs)
+abbrev pub tags_under : TagFile → TagChoice → List ItemPlace → List RowView → List ℕ
+tags_under f a places rs = flat_map (whole_tags f a places) (filter (is_listed a.choice) rs)
 
 -- those of a file
-abbrev pub tags : Source → TagForm → MemberReading → List ItemPlace → Choice → List RowView → List ℕ
-tags s form x places c rs = tags_under (tag_file s form) x places c rs
+abbrev pub tags : Source → TagForm → TagChoice → List ItemPlace → List RowView → List ℕ
+tags s form a places rs = tags_under (tag_file s form) a places rs

@@ -21,10 +21,16 @@ use Rattle.source_listing.specs.Patterns.{Pattern}
 use Rattle.source_listing.specs.Search.{Candidate, Query}
 use Rattle.source_listing.specs.declared.repeated.RepeatedImport as code_repeat
 use Rattle.source_listing.specs.Repeated.{Repeat}
+use Rattle.source_listing.specs.declared.tag_bodies.TagChoice as code_tags
+use Rattle.source_listing.specs.Tags.{TagChoice}
 
 -- a choice of items as plain data
 abbrev pub choice_view : code_choice.Choice → Choice
 choice_view c = record { depth = c.depth; only_active = c.only_active }
+
+-- which tags a file has, as plain data
+abbrev pub tag_choice_view : code_tags.TagChoice → TagChoice
+tag_choice_view a = record { reading = reading_view a.reading; choice = choice_view a.choice; bodies = option_copied a.bodies }
 
 -- which lines are written and how, as plain data
 abbrev pub look_view : code_look.Look → Look

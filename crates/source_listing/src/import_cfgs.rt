@@ -272,3 +272,16 @@ impl<'a> ImportChoice<'a> {
         }
     }
 }
+
+/// Whether none of the cfgs of metas is false.
+pub(crate) fn are_enabled(
+    alloc: Global,
+    metas: &[Meta],
+    options: &CfgOptions,
+) -> Result<bool, AllocError>
+    ensures { IfOk result (λ is. is
+        ≡ spec.holds_no_false options.now (flat_map spec.meta_cfgs (map meta_view metas.now))) }
+{
+    let cfgs = cfgs_inside(alloc, &[], metas)?;
+    Ok(holds_no_false(options, &cfgs))
+}

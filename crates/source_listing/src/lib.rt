@@ -1,6 +1,7 @@
 //! Lists of the items and of the problems of Rust source, with the line and the column of each.
 #![tactic(auto)]
 
+mod block_items;
 mod flat_imports;
 mod flat_objects;
 mod found_objects;
@@ -26,6 +27,7 @@ mod safe_texts;
 mod search;
 mod sought;
 mod subjects;
+mod tag_bodies;
 mod tag_fields;
 mod tags;
 mod use_places;
@@ -48,6 +50,7 @@ pub use repeated::{RepeatedImport, repeated_imports};
 pub use search::{Candidate, Query, found_lines, holder, scope_of};
 pub use sought::{SoughtPath, joined_scope, sought_path};
 pub use source_rows::{Reading, Source};
+pub use tag_bodies::TagChoice;
 pub use tag_fields::TagFields;
 pub use tags::{Address, TagForm, tag_lines, usual_fields};
 pub use values::visibility_value;

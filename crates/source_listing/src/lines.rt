@@ -39,7 +39,7 @@ impl Choice {
         is_within && (!self.only_active || is_active)
     }
 
-    fn lists(self, row: &Row<'_>) -> bool
+    pub(crate) fn lists(self, row: &Row<'_>) -> bool
         ensures { result ≡ spec.is_listed (choice_view self) (row_view row.now) }
     {
         self.takes(row.level, row.is_active)

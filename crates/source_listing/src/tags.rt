@@ -1,19 +1,18 @@
 //! Lines of a tags file, by which editors jump to names.
-ghost use Rattle.std.specs.Prelude.{◌≡◌, ◌++◌, if◌then◌else◌, IfOk, None, OnOk, Some, map, string_bytes};
+ghost use Rattle.std.specs.Prelude.{◌≡◌, ◌++◌, if◌then◌else◌, IfOk, OnOk, None, Some, map, string_bytes};
 ghost use Rattle.std.specs.Prelude.{option_copied, option_map, option_to_list};
 ghost use Rattle.tree_walk.specs.Rows as rows;
 ghost use Rattle.tree_walk.specs.Views.{row_view};
 ghost use Rattle.source_rows.specs.Labels.{kind_texts};
-ghost use Rattle.source_rows.specs.ListedViews.{listed_view, reading_view};
+ghost use Rattle.source_rows.specs.ListedViews.{listed_view};
 ghost use Rattle.source_rows.specs.Places.{AreDistinct};
 ghost use Rattle.source_listing.specs.Inner.{IsSameTagger, tag_item_view, tag_place_view, tagged_file};
 ghost use Rattle.source_listing.specs.Tags as spec;
-ghost use Rattle.source_listing.specs.Views.{choice_view, source_view};
+ghost use Rattle.source_listing.specs.Views.{source_view, tag_choice_view};
 
 use crate::line_searches::LineTexts;
-use crate::lines::Choice;
 use crate::safe_texts::safe_text;
-use crate::search::holder;
+use crate::tag_bodies::{MOST_BLOCKS, TagChoice};
 use crate::tag_fields::{
     TagFields, TagItem, TagPlace, is_function, is_method, item_access, member_access,
     push_behind_address,
@@ -23,7 +22,7 @@ use item_tree::ItemTree;
 use itoa::Buffer;
 use rust_items::{ItemPlace, MemberKind};
 use rust_paths::TextRange;
-use source_rows::{Finder, ListedMember, Reading, Source, kind_texts, stands_at, text_at};
+use source_rows::{Finder, ListedMember, Source, kind_texts, stands_at, text_at};
 use std::alloc::{AllocError, Global};
 use tree_walk::Row;
 
@@ -60,8 +59,8 @@ pub fn usual_fields(address: Address) -> TagFields
 
 /// What the tags of a file are made from.
 #[derive(Drop)]
-struct Tagger<'a> {
-    alloc: Global,
+pub(crate) struct Tagger<'a> {
+    pub(crate) alloc: Global,
     /// As it is written.
     path: &'a str,
     text: &'a str,
@@ -84,21 +83,24 @@ fn member_letter(kind: MemberKind) -> Option<&'static str>
     }
 }
 
-/// The word for what members of an item stand in.
-fn scope_word(kind: AstIdKind, name: Option<&Name>) -> &'static str
-    ensures { result.now ≡ spec.scope_word (option_copied name.entry) (kind_texts kind).scope }
+/// The word for what members of an item stand in, where that for what it stands in is this.
+pub(crate) fn scope_word<'a>(around: &'a str, kind: AstIdKind, name: Option<&Name>) -> &'a str
+    ensures { result.now ≡ spec.scope_word around.now (option_copied name.entry) (kind_texts kind).scope }
 {
     match name {
-        None => "module",
+        None => around,
         Some(_) => match kind_texts(kind).scope {
             Some(word) => word,
-            None => "module",
+            None => around,
         },
     }
 }
 
 /// The same names, lent for no longer.
-fn names_in<'r: 'a, 'a>(alloc: Global, scope: &[&'r Name]) -> Result<Vec<&'a Name>, AllocError>
+pub(crate) fn names_in<'r: 'a, 'a>(
+    alloc: Global,
+    scope: &[&'r Name],
+) -> Result<Vec<&'a Name>, AllocError>
     ensures { IfOk result (λ v. map (λ n. n.now) v.items ≡ map (λ n. n.now) scope.now) }
 {
     let mut names = Vec::with_capacity(alloc, scope.len())?;
@@ -244,14 +246,15 @@ impl Tagger<'_> {
         self.push_tag_at(item, place, word, scope, out)
     }
 
-    /// Adds the tag of an item, if it has one.
-    fn push_item_tag(
+    /// Adds the tag of an item in what has this word, if it has one.
+    pub(crate) fn push_item_tag(
         &mut self,
+        word: &str,
         row: &Row<'_>,
         place: Option<ItemPlace>,
         out: &mut String,
     ) -> Result<(), AllocError>
-        ensures text { let tag = spec.tag (tagged_file self.old) place (row_view row.now) in
+        ensures text { let tag = spec.tag (tagged_file self.old) word.now place (row_view row.now) in
             OnOk result (string_bytes out.new ≡ string_bytes out.old ++ spec.if_any tag) }
         ensures same { IsSameTagger self.old self.new }
     {
@@ -265,11 +268,11 @@ impl Tagger<'_> {
             return Ok(());
         };
         let item = item_told(row, name, letter, place);
-        self.push_tag(item, "module", row.scope.as_slice(), out)
+        self.push_tag(item, word, row.scope.as_slice(), out)
     }
 
     /// Adds the tag of a member that stands in these, of which the innermost has this word, if it has one.
-    fn push_member_tag(
+    pub(crate) fn push_member_tag(
         &mut self,
         word: &str,
         scope: &[&Name],
@@ -288,61 +291,30 @@ impl Tagger<'_> {
         self.push_tag(item, word, scope, out)
     }
 
-    /// Adds the tags of members that stand in these, of which the innermost has this word.
-    #[tactic(auto, unfolding(crate::specs::Tags::tags_inside))]
-    fn push_member_tags(
-        &mut self,
-        word: &str,
-        scope: &[&Name],
-        members: &[ListedMember],
-        out: &mut String,
-    ) -> Result<(), AllocError>
-        ensures text { let all = spec.tags_inside (tagged_file self.old) word.now
-            (map (λ n. n.now) scope.now) in
-            OnOk result (string_bytes out.new ≡ string_bytes out.old ++ all (map listed_view members.now)) }
-        ensures same { IsSameTagger self.old self.new }
-    {
-        for member in members {
-            self.push_member_tag(word, scope, member, out)?;
-        }
-        Ok(())
-    }
-
-    /// Adds the tag of an item, and those of its chosen members, of all that have one.
-    #[tactic(auto, unfolding(crate::specs::Tags::member_tags))]
+    /// Adds the tag of an item of a file, and those of what stands in it.
     fn push_whole(
         &mut self,
-        alloc: Global,
-        reading: Reading<'_>,
-        choice: Choice,
+        asked: TagChoice<'_>,
         row: &Row<'_>,
         out: &mut String,
     ) -> Result<(), AllocError>
         requires { AreDistinct self.old.finder.places }
-        ensures text { let all = spec.whole_tags (tagged_file self.old) (reading_view reading.entry) in
-            let added = all self.old.finder.places (choice_view choice) (row_view row.now) in
+        ensures text { let whole = spec.whole_tags (tagged_file self.old) (tag_choice_view asked.entry) in
+            let added = whole self.old.finder.places (row_view row.now) in
             OnOk result (string_bytes out.new ≡ string_bytes out.old ++ added) }
         ensures same { IsSameTagger self.old self.new }
     {
         let place = self.finder.places.find(row.id);
-        self.push_item_tag(row, place, out)?;
-        let members = choice.members(alloc, reading, place, row.level, row.is_active)?;
-        if members.is_empty() {
-            return Ok(());
-        }
-        let type_name = reading.type_name(alloc, row.id.kind, place)?;
-        let name = holder(row.name, &type_name);
-        let word = scope_word(row.id.kind, name);
-        let scope = names_around(alloc, row, name)?;
-        self.push_member_tags(word, &scope, &members, out)
+        self.push_placed(asked, MOST_BLOCKS, "module", row, place, out)
     }
 }
 
 /// The tags of a file: for each chosen item with a name of a kind that has a letter, and for each chosen member with a
 /// name where members are asked for, its name, the file, how its place is found and the fields, in the form of
 /// Universal Ctags, in the order of the items, each before its members. A member stands in its item, and one of an impl
-/// in the type, if that is a path. A control character or a backslash in the path or in a signature stands behind a
-/// backslash, as Universal Ctags has it too.
+/// in the type, if that is a path. What stands in the body of a function has tags behind that of the function, if they
+/// are asked for. A control character or a backslash in the path or in a signature stands behind a backslash, as
+/// Universal Ctags has it too.
 ///
 /// The places are those that the reader gave with the syntax of the tree.
 ///
@@ -355,12 +327,10 @@ pub fn tag_lines(
     form: TagForm,
     places: &[ItemPlace],
     tree: &ItemTree,
-    reading: Reading<'_>,
-    choice: Choice,
+    asked: TagChoice<'_>,
 ) -> Result<String, AllocError>
     requires { AreDistinct places.now }
-    ensures { let tags = spec.tags (source_view source.entry) form (reading_view reading.entry) places.now
-        (choice_view choice) in
+    ensures { let tags = spec.tags (source_view source.entry) form (tag_choice_view asked.entry) places.now in
         IfOk result (λ text. string_bytes text ≡ tags (rows.rows tree.now)) }
 {
     let path = safe_text(alloc, source.path)?;
@@ -372,10 +342,10 @@ pub fn tag_lines(
         finder: Finder::new(source.text, places),
         lines: LineTexts::new(source.text),
     };
-    let rows = choice.rows(alloc, tree)?;
+    let rows = asked.choice.rows(alloc, tree)?;
     let mut out = String::new(alloc);
     for row in &rows {
-        tagger.push_whole(alloc, reading, choice, row, &mut out)?;
+        tagger.push_whole(asked, row, &mut out)?;
     }
     Ok(out)
 }

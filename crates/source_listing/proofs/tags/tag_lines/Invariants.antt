@@ -1,9 +1,10 @@
-use Rattle.source_listing.proofs.Common.{◌≡◌, map, take, string_bytes, flat_map, row_view, reading_view, source_view, choice_view, IsTaggerOf}
+use Rattle.source_listing.proofs.Common.{◌≡◌, map, take, string_bytes, flat_map, row_view, source_view, IsTaggerOf}
 use Rattle.source_listing.specs.Tags as spec
+use Rattle.source_listing.specs.Views.{tag_choice_view}
 use Rattle.source_listing.proofs.tags.tag_lines.Given as goal
 
 abbrev pub invariant-loop-row : goal.invariant-loop-row
 invariant-loop-row l = let f = spec.tag_file (source_view l.fn.source) l.fn.form in record {
-  tags : string_bytes l.out ≡ flat_map (spec.whole_tags f (reading_view l.fn.reading) l.fn.places (choice_view l.fn.choice)) (map row_view (take l.row-index l.row-items));
+  tags : string_bytes l.out ≡ flat_map (spec.whole_tags f (tag_choice_view l.fn.asked) l.fn.places) (map row_view (take l.row-index l.row-items));
   is : IsTaggerOf f l.fn.places l.tagger;
 }

@@ -14,5 +14,5 @@ returns-clause-text c =
     let lettered : (kind_texts r.id.kind).letter ≡ Some c.in-Some-letter.letter.now = search rules in
     let placed : c.args.place ≡ Some c.in-Some-place.place = search rules in
     let scope : map (λ (n : Bor Name). n.now) c.as_slice.result.now ≡ r.scope = search rules in
-    let tagged = tag_told f r c.in-Some.name.now c.in-Some-letter.letter.now c.in-Some-place.place r.name (kind_texts r.id.kind).letter c.args.place named lettered placed in
-    on_ok_weaker c.push_tag.result (λ e. e ∙ (λ k. out ++ tag_text f (c.item_told-item.ensures k) (codes "module") (scope k)) ∙ ap (λ t. out ++ if_any t) (sym tagged)) c.push_tag.ensures.text
+    let tagged = tag_told f c.args.word.now r c.in-Some.name.now c.in-Some-letter.letter.now c.in-Some-place.place r.name (kind_texts r.id.kind).letter c.args.place named lettered placed in
+    on_ok_weaker c.push_tag.result (λ e. e ∙ (λ k. out ++ tag_text f (c.item_told-item.ensures k) c.args.word.now (scope k)) ∙ ap (λ t. out ++ if_any t) (sym tagged)) c.push_tag.ensures.text
