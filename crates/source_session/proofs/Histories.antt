@@ -5,11 +5,11 @@ use Rattle.serde_json.specs.Data.{Data, Members}
 use Rattle.serde_json.specs.Find.{as_object}
 use Rattle.serde_json.specs.Written.{has_float}
 use Rattle.item_tree_request.specs.Requests.{IsJsonText}
-use Rattle.message_stream.specs.Answers.{IsStill, OneEach}
-use Rattle.message_stream.specs.Lines.{IsServedEach, fed}
+use Rattle.message_stream.specs.Lines.{IsServedEach, line_frames}
 use Rattle.message_stream.specs.Messages.{Told, whole, too_long, no_memory, IsToldOf}
 use Rattle.message_stream.specs.Served.{Turn, IsServed, messages_of}
 use Rattle.message_stream.proofs.Each.{served_each}
+use Rattle.source_session.specs.Replies.{session_conduct}
 use Rattle.source_session.specs.Histories.{Says, Exchange, answer_of, AsksNext, AsksFirst, StandAll, StandFirst, Stand, StandOf, IsLedOn, AreOf, OpensNone, IsLedByAnswers, IsLedOnByAnswers}
 use Rattle.source_session.proofs.Made.{same_length}
 use Rattle.source_session.proofs.Meant.{meant_over}
@@ -251,10 +251,14 @@ led_by_answers (line ∷ lines) new text h =
       | inr o ↦ opened_more (exchange_of line h.2 a) lines text h.3 h.1 new h.6 o (goes_on o.3.0 lines new h.3 (subst (λ o. IsServedEach Replies o lines new h.3) o.3.1 h.7))
     ]
 
--- ---- the texts of the answers, each on its line
+-- ---- what a reader gives
 
-pub led_on_by_texts : (s : Session) (turns : List Turn) (new : Open) (text : List ℕ) → IsServed fed (OneEach Replies) IsStill (Some s) turns new text → IsLedOnByAnswers s (messages_of turns) text new
-led_on_by_texts s turns new text served = goes_on s (messages_of turns) new text (served_each Replies (Some s) new turns text served)
+module _ {I : Type 0} (left : I → Option (List ℕ)) (waiting : I → List ℕ) where
+  each_line : (old new : Open) (from to : I) (turns : List Turn) (text : List ℕ) → IsServed line_frames session_conduct left waiting old from turns new to text → IsServedEach Replies old (messages_of turns) new text
+  each_line = served_each session_conduct left waiting Replies (λ _ _ _ _ answers. answers) (λ _. refl)
 
-pub led_by_texts : (turns : List Turn) (new : Open) (text : List ℕ) → IsServed fed (OneEach Replies) IsStill None turns new text → IsLedByAnswers (messages_of turns) text new
-led_by_texts turns new text served = led_by_answers (messages_of turns) new text (served_each Replies None new turns text served)
+  pub led_on_by_texts : (s : Session) (new : Open) (from to : I) (turns : List Turn) (text : List ℕ) → IsServed line_frames session_conduct left waiting (Some s) from turns new to text → IsLedOnByAnswers s (messages_of turns) text new
+  led_on_by_texts s new from to turns text served = goes_on s (messages_of turns) new text (each_line (Some s) new from to turns text served)
+
+  pub led_by_texts : (new : Open) (from to : I) (turns : List Turn) (text : List ℕ) → IsServed line_frames session_conduct left waiting None from turns new to text → IsLedByAnswers (messages_of turns) text new
+  led_by_texts new from to turns text served = led_by_answers (messages_of turns) new text (each_line None new from to turns text served)

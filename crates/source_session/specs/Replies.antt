@@ -8,6 +8,7 @@ use Rattle.serde_json.specs.Written.{compact_text, has_float}
 use Rattle.hir_input_json.specs.Reading.{Reading, right, wrong, pointer_behind, ◌>>=◌}
 use Rattle.hir_input_json.specs.Forms.{field}
 use Rattle.item_tree_request.specs.Requests.{IsJsonText}
+use Rattle.message_stream.specs.Answers.{Conduct, IsStill, OneEach}
 use Rattle.message_stream.specs.Messages.{Told, whole, too_long, no_memory}
 use Rattle.source_session.specs.declared.error.LineError.{LineError}
 use Rattle.source_session.specs.declared.error.LineError.TheVariants.{NotJson, NotRequest, TooLong, OutOfMemory}
@@ -136,3 +137,7 @@ IsReply old no_memory new r = IsRefusedAs OutOfMemory old new r
 -- the answers of a conversation: the text of a reply, or the text for out of memory
 abbrev pub Replies : Open → Told → Open → List ℕ → Type 0
 Replies old told new text = (r : Reply) × IsReply old told new r × ((text ≡ reply_text r.id (reply_number new) r.outcome) ⊎ (text ≡ out_of_memory))
+
+-- what a conversation does: it answers each line by `Replies`, and has nothing to tell at rests
+abbrev pub session_conduct : Conduct Open
+session_conduct = record { Answers = OneEach Replies; Rests = IsStill; is_rested = λ _. true; is_over = λ _. false }

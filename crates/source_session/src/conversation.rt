@@ -170,17 +170,9 @@ impl Conversation {
 }
 
 impl Service for Conversation {
-    ghost use Rattle.std.specs.Prelude.{true};
-    ghost use Rattle.message_stream.specs.Answers.{IsStill, OneEach};
-    ghost use Rattle.source_session.specs.Replies.{Replies};
+    ghost use Rattle.source_session.specs.Replies.{session_conduct};
 
-    ghost answers = { OneEach Replies };
-
-    ghost rests = { IsStill };
-
-    ghost rested = { λ _. true };
-
-    ghost over = { λ _. false };
+    ghost conduct = { session_conduct };
 
     fn answer(&mut self, alloc: Global, line: Message) -> Answer {
         let reply = self.reply(alloc, line);

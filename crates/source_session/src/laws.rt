@@ -1,25 +1,26 @@
 //! What holds of whole conversations and of answers, and that a copy of a fault is its source. The functions do
 //! nothing.
-ghost use Rattle.std.specs.Prelude.{ℕ, List, None, Some};
+ghost use Rattle.std.specs.Prelude.{ℕ, List, Option, None, Some};
 ghost use Rattle.hir_input.specs.Equality.{IsCopied};
-ghost use Rattle.message_stream.specs.Answers.{IsStill, OneEach};
-ghost use Rattle.message_stream.specs.Lines.{HasNoFeed, fed};
+ghost use Rattle.message_stream.specs.Lines.{HasNoFeed, line_frames};
 ghost use Rattle.message_stream.specs.Messages.{Told};
 ghost use Rattle.message_stream.specs.Served.{Turn, IsServed, messages_of};
 ghost use Rattle.source_session.specs.Histories.{IsLedByAnswers, IsLedOnByAnswers};
-ghost use Rattle.source_session.specs.Replies.{Open, Replies};
+ghost use Rattle.source_session.specs.Replies.{Open, Replies, session_conduct};
 ghost use Rattle.source_session.specs.Sessions.{Session};
 
 use crate::splice::ChangeFault;
 
 // A conversation, whatever its lines, is where the edits lead that stand by its answers: a new one, and one over an
 // open session.
-fn conversations()
-    ensures led { (turns : List Turn) (new : Open) (text : List ℕ)
-        → IsServed fed (OneEach Replies) IsStill None turns new text
+fn conversations<I>()
+    ensures led { (left : I → Option (List ℕ)) (waiting : I → List ℕ) (new : Open) (from to : I)
+        (turns : List Turn) (text : List ℕ)
+        → IsServed line_frames session_conduct left waiting None from turns new to text
         → IsLedByAnswers (messages_of turns) text new }
-    ensures led_on { (s : Session) (turns : List Turn) (new : Open) (text : List ℕ)
-        → IsServed fed (OneEach Replies) IsStill (Some s) turns new text
+    ensures led_on { (left : I → Option (List ℕ)) (waiting : I → List ℕ) (s : Session) (new : Open) (from to : I)
+        (turns : List Turn) (text : List ℕ)
+        → IsServed line_frames session_conduct left waiting (Some s) from turns new to text
         → IsLedOnByAnswers s (messages_of turns) text new }
 {}
 
