@@ -1,13 +1,11 @@
 //! The commands, file by file.
-use crate::changed::{Counting, compare};
+use crate::crate_commands::crates_found;
 use crate::escapes::Shown;
 use crate::failure::Failure;
 use crate::files::{Room, STDIN};
 use crate::hints::better_edition;
-use crate::options::{atoms_of, options_of, request_options};
 use crate::output::{Progress, complain, complain_of, form, write_out};
-use crate::request::write_request;
-use crate::serve::{answer_editor, answer_lines};
+use crate::packages::Crates;
 use crate::sources::files_of;
 use crate::tag_form::form_of;
 use crate::tag_paths::TagPaths;
@@ -35,6 +33,8 @@ struct Run<'a> {
     rt: &'a HostRuntime,
     asked: &'a Asked<'a>,
     options: &'a Options,
+    /// The crates whose files are taken.
+    crates: Option<&'a Crates>,
     form: Form,
     /// What is to be found, if anything is.
     sought: Option<Pattern>,
@@ -70,10 +70,10 @@ impl Run<'_> {
         find(alloc, source, self.options, query, self.asked.has_members)
     }
 
-    fn push_tags(&mut self, source: Source<'_>) -> Result<String, SourceError> {
-        let (alloc, has_members) = (self.rt.alloc(), self.asked.has_members);
+    fn push_tags(&mut self, source: Source<'_>, has_bodies: bool) -> Result<String, SourceError> {
+        let (alloc, has_members, form) = (self.rt.alloc(), self.asked.has_members, self.tag_form);
         // (all of a file's at once: where memory runs out, there are none)
-        self.tags.push_str(&tags(alloc, source, self.options, self.tag_form, has_members)?)?;
+        self.tags.push_str(&tags(alloc, source, self.options, form, has_members, has_bodies)?)?;
         Ok(String::new(alloc))
     }
 
@@ -119,8 +119,9 @@ impl Run<'_> {
                 return Ok((text, is_none));
             }
             Command::Find { ignores_case, .. } => self.find(source, ignores_case)?,
-            Command::Tags { .. } => self.push_tags(source)?,
+            Command::Tags { has_bodies, .. } => self.push_tags(source, has_bodies)?,
             Command::Check
+            | Command::Modules { .. }
             | Command::Changed { .. }
             | Command::Request { .. }
             | Command::Serve
@@ -167,7 +168,11 @@ impl Run<'_> {
 
     /// Tells of the first text in which less is wrong in an earlier edition, where none is asked for.
     fn tell_edition(&mut self, source: Source<'_>, length: usize) -> Result<(), AllocError> {
-        if self.asked.is_quiet || self.asked.has_edition || self.has_told_edition {
+        if self.asked.is_quiet
+            || self.asked.has_edition
+            || self.crates.is_some()
+            || self.has_told_edition
+        {
             return Ok(());
         }
         let (alloc, is_colored) = (self.rt.alloc(), self.is_colored());
@@ -213,19 +218,32 @@ impl Run<'_> {
         }
     }
 
-    fn do_all(&mut self) -> Result<(), Failure> {
+    /// The files that are asked for, and what is told behind them: the modules of crates that have no file.
+    fn sources(&mut self) -> Result<(Vec<String>, String), Failure> {
+        if let Some(crates) = self.crates {
+            let found = crates_found(self.rt, self.options, &crates.roots, self.is_colored())?;
+            return Ok((found.files, found.unresolved));
+        }
         let found = files_of(self.rt, self.asked)?;
         if !found.faults.is_empty() {
             self.status = FAILED;
             complain_of(self.rt, &found.faults);
         }
+        Ok((found.files, String::new(self.rt.alloc())))
+    }
+
+    fn do_all(&mut self) -> Result<(), Failure> {
+        let (files, unresolved) = self.sources()?;
         let mut room = Room::new(self.rt.alloc());
-        for (before, file) in found.files.iter().enumerate() {
+        for (before, file) in files.iter().enumerate() {
             self.do_file(file, &mut room)?;
-            self.progress.tell(before + 1, found.files.len());
+            self.progress.tell(before + 1, files.len());
         }
         self.progress.clear();
-        Ok(())
+        match self.asked.command {
+            Command::Check if !unresolved.is_empty() => self.write(&unresolved, false),
+            _ => Ok(()),
+        }
     }
 }
 
@@ -302,21 +320,6 @@ fn finish(run: Run<'_>) -> Result<u8, Failure> {
     }
 }
 
-/// The word after `--cfg` is none; a shell takes quotes away that stand in no others.
-fn no_cfg(alloc: Global, word: &str) -> Result<Failure, AllocError> {
-    let (key, value) = word.split_once('=').unwrap_or(("", ""));
-    let value = value.trim_matches('"');
-    let has_hint = !key.trim().is_empty() && !value.contains('"') && !value.contains('\\');
-    let message = if has_hint {
-        format!(in alloc;
-            "--cfg {word}: this is neither NAME nor KEY=\"VALUE\"; in a shell, write --cfg '{key}=\"{value}\"'"
-        )?
-    } else {
-        format!(in alloc; "--cfg {word}: this is neither NAME nor KEY=\"VALUE\"")?
-    };
-    Ok(Failure::Usage(message))
-}
-
 /// The status of a run. Where nobody reads on, it ends with that which stands.
 pub(crate) fn or_closed(done: Result<(), Failure>, status: u8) -> Result<u8, Failure> {
     match done {
@@ -339,12 +342,19 @@ fn refuse_output(alloc: Global, asked: &Asked<'_>) -> Result<(), Failure> {
     Err(Failure::Usage(String::from_str(alloc, message)?))
 }
 
-fn run_files(rt: &HostRuntime, options: &Options, asked: &Asked<'_>) -> Result<u8, Failure> {
+/// Does a command over files, which may be those of crates, and gives the status to end with.
+pub(crate) fn run_files(
+    rt: &HostRuntime,
+    options: &Options,
+    asked: &Asked<'_>,
+    crates: Option<&Crates>,
+) -> Result<u8, Failure> {
     refuse_output(rt.alloc(), asked)?;
     let mut run = Run {
         rt,
         asked,
         options,
+        crates,
         form: form(rt, asked),
         sought: sought_of(rt.alloc(), asked.command)?,
         tags: tags_of(rt.alloc(), asked.command)?,
@@ -359,37 +369,5 @@ fn run_files(rt: &HostRuntime, options: &Options, asked: &Asked<'_>) -> Result<u
     match run.do_all() {
         Ok(()) => finish(run),
         closed => or_closed(closed, run.status),
-    }
-}
-
-/// Does what a command line asks, and gives the status to end with.
-pub(crate) fn run_command(rt: &HostRuntime, asked: &Asked<'_>) -> Result<u8, Failure> {
-    if let Command::Serve = asked.command {
-        return answer_lines(rt);
-    }
-    let atoms = match atoms_of(rt.alloc(), &asked.cfgs)? {
-        Ok(atoms) => atoms,
-        Err(word) => return Err(no_cfg(rt.alloc(), word)?),
-    };
-    if let Command::Request { has_bodies } = asked.command {
-        let options = request_options(rt.alloc(), asked, atoms, has_bodies)?;
-        return write_request(rt, &options, asked);
-    }
-    let options = options_of(rt.alloc(), asked, atoms)?;
-    match asked.command {
-        Command::Changed {
-            old,
-            new,
-            is_of_trees,
-            is_public,
-        } => {
-            let counting = Counting {
-                is_of_trees,
-                is_public,
-            };
-            compare(rt, &options, asked, old, new, counting)
-        }
-        Command::Lsp => answer_editor(rt, options),
-        _ => run_files(rt, &options, asked),
     }
 }

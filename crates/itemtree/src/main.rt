@@ -5,13 +5,16 @@
 mod arguments;
 mod changed;
 mod commands;
-mod editor;
+mod crate_commands;
+mod crate_sources;
+mod dispatch;
 mod escapes;
 mod failure;
 mod files;
 mod hints;
 mod options;
 mod output;
+mod packages;
 mod replacing;
 mod request;
 mod serve;
@@ -23,7 +26,8 @@ mod walk;
 mod words;
 
 use crate::arguments::words;
-use crate::commands::{FAILED, run_command};
+use crate::commands::FAILED;
+use crate::dispatch::run_command;
 use crate::escapes::Shown;
 use crate::failure::Failure;
 use crate::output::{complain, write_out};

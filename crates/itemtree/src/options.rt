@@ -94,12 +94,18 @@ pub(crate) fn options_in(alloc: Global, year: EditionYear) -> Result<Options, Al
     })
 }
 
-/// The options of a command line with these cfgs.
+/// The options of a command line with these cfgs. The edition is that of a manifest, if it tells one and the command
+/// line names none.
 pub(crate) fn options_of(
     alloc: Global,
     asked: &Asked<'_>,
     atoms: Vec<CfgAtom>,
+    told: Option<EditionYear>,
 ) -> Result<Options, AllocError> {
+    let year = match told {
+        Some(year) if !asked.has_edition => year,
+        _ => year(asked.edition),
+    };
     let krate = CrateData {
         root: HirFileId(0),
         cfg: CfgOptions::new(atoms),
@@ -108,7 +114,7 @@ pub(crate) fn options_of(
     Ok(Options {
         krate,
         skipped: skipped_names(alloc, asked)?,
-        edition: edition(alloc, year(asked.edition))?,
+        edition: edition(alloc, year)?,
         only_active: asked.only_active,
     })
 }

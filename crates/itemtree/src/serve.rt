@@ -1,9 +1,8 @@
 //! Requests line by line, and a language server, over standard input and output.
-use crate::editor::ReadAhead;
 use crate::failure::Failure;
 use itemtree_commands::Options;
 use lsp::Server;
-use message_stream::{Always, Headers, Lines, serve};
+use message_stream::{Headers, Lines, serve};
 use source_session::Conversation;
 use std::io::BufReader;
 
@@ -20,7 +19,6 @@ pub(crate) fn answer_lines(rt: &HostRuntime) -> Result<u8, Failure> {
         alloc,
         &Lines,
         &mut input,
-        &mut Always,
         &mut rt.stdout(),
         &mut conversation,
     ) {
@@ -37,14 +35,7 @@ pub(crate) fn answer_editor(rt: &HostRuntime, options: Options) -> Result<u8, Fa
     let alloc = rt.alloc();
     let mut input = BufReader::new(alloc, rt.stdin())?;
     let mut server = Server::new(alloc, options);
-    match serve(
-        alloc,
-        &Headers,
-        &mut input,
-        &mut ReadAhead,
-        &mut rt.stdout(),
-        &mut server,
-    ) {
+    match serve(alloc, &Headers, &mut input, &mut rt.stdout(), &mut server) {
         Ok(()) => Ok(if let Some(true) = server.end() { 0 } else { 1 }),
         Err(error) => {
             let _ = eprintln!(rt; "itemtree: {error}");

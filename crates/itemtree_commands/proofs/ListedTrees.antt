@@ -9,7 +9,7 @@ use Rattle.itemtree_commands.specs.declared.Options.{Options}
 use Rattle.itemtree_commands.specs.declared.listed.ListedTree.{ListedTree}
 use Rattle.itemtree_commands.specs.declared.trees.SourceError.{SourceError}
 use Rattle.itemtree_commands.specs.declared.trees.SourceError.TheVariants.{TooLong}
-use Rattle.itemtree_commands.specs.Answers.{if_members, reading_in}
+use Rattle.itemtree_commands.specs.Answers.{cfgs_if, reading_in}
 use Rattle.itemtree_commands.specs.Inner.{IsClippedRefused, IsClippedTree, reading_by}
 use Rattle.itemtree_commands.specs.Trees.{IsListRefused, IsListedTree}
 use Rattle.itemtree_commands.proofs.BareTrees.{large_whole, tree_whole}
@@ -34,4 +34,4 @@ module _ (krate : CrateData) (skipped : List (List ℕ)) (edition : EditionYear)
 -- what headers and members are read of
 pub same_reading : (o : Options) (has_members : Bool) (s : Source) (m : Option Mended) → HasTextOf s.text m → reading_by o has_members s.text m ≡ reading_in o has_members s (closers_in m)
 same_reading o has_members s None h = refl
-same_reading o has_members s (Some m) h = ap (λ (z : List ℕ). record { text = z; closers = closers_in (Some m); edition = o.edition.year; options = if_members o has_members }) h
+same_reading o has_members s (Some m) h = ap (λ (z : List ℕ). record { text = z; closers = closers_in (Some m); edition = o.edition.year; options = cfgs_if o has_members }) h

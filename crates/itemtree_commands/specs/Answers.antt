@@ -15,7 +15,7 @@ use Rattle.source_listing.specs.Pages.{lines_without_ids}
 use Rattle.source_listing.specs.Repeated.{Repeat, repeat_lines, repeated_imports}
 use Rattle.source_listing.specs.Uses.{FilePlaces, placed}
 use Rattle.source_listing.specs.Search.{Query, found_lines}
-use Rattle.source_listing.specs.Tags.{tags}
+use Rattle.source_listing.specs.Tags.{TagChoice, tags}
 use Rattle.source_listing.specs.declared.tags.TagForm.{TagForm}
 use Rattle.source_problems.specs.declared.problem.SourceProblem.{SourceProblem}
 use Rattle.source_problems.specs.Texts.{source_problems}
@@ -44,13 +44,13 @@ choice o depth = record { depth = depth; only_active = o.only_active }
 abbrev pub look_of : Options → Option ℕ → Bool → Bool → Bool → Look
 look_of o depth has_imports is_colored is_flat = record { choice = choice o depth; is_colored = is_colored; is_flat = is_flat; has_imports = has_imports }
 
--- the cfgs under which members are listed, if they are
-abbrev pub if_members : Options → Bool → Option (List AtomView)
-if_members o has_members = if has_members then Some o.krate.cfg else None
+-- the cfgs under which members, or what stands in bodies, are listed, if they are
+abbrev pub cfgs_if : Options → Bool → Option (List AtomView)
+cfgs_if o is_asked = if is_asked then Some o.krate.cfg else None
 
 -- what headers and members are read of: the text that was read for the list
 abbrev pub reading_in : Options → Bool → Source → Option Closers → MemberReading
-reading_in o has_members s c = record { text = listed_text s.text c; closers = c; edition = o.edition.year; options = if_members o has_members }
+reading_in o has_members s c = record { text = listed_text s.text c; closers = c; edition = o.edition.year; options = cfgs_if o has_members }
 
 -- the tree that lists tell of a text under the options
 abbrev pub HasListed : Options → List ℕ → Option Closers → SourceTree → Type 0
@@ -108,11 +108,15 @@ AreFound o has_members q s out =
     (c : Option Closers) × (t : SourceTree) × HasListed o s.text c t
     × (out ≡ found_lines s (reading_in o has_members s c) o.edition.reserved.items t.places.items q (rows t.tree))
 
+-- which tags there are
+abbrev pub tag_choice : Options → Bool → Bool → Source → Option Closers → TagChoice
+tag_choice o has_members has_bodies s c = record { reading = reading_in o has_members s c; choice = choice o None; bodies = cfgs_if o has_bodies }
+
 -- the tags in a form
-abbrev pub AreTags : Options → TagForm → Bool → Source → List ℕ → Type 0
-AreTags o form has_members s out =
+abbrev pub AreTags : Options → TagForm → Bool → Bool → Source → List ℕ → Type 0
+AreTags o form has_members has_bodies s out =
     (c : Option Closers) × (t : SourceTree) × HasListed o s.text c t
-    × (out ≡ tags s form (reading_in o has_members s c) t.places.items (choice o None) (rows t.tree))
+    × (out ≡ tags s form (tag_choice o has_members has_bodies s c) t.places.items (rows t.tree))
 
 -- the debug page, with or without the lines of ids
 abbrev pub if_ids : Bool → List ℕ → List ℕ

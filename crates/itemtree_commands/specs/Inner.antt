@@ -1,5 +1,10 @@
 -- What is read for lists of rows, and for what is wrong.
-use Rattle.std.specs.Prelude.{◌≡◌, ◌≤◌, ◌^◌, ◌⊎◌, ℕ, Bool, List, Option, false, length, map}
+use Rattle.std.specs.Prelude.{◌≡◌, ◌≤◌, ◌^◌, ◌⊎◌, ℕ, Bool, List, Option, false, length, map, refl, string_bytes}
+use Rattle.std.specs.Coded.{Coded, code_by, coded×, coded_list, coded_ℕ}
+use Rattle.item_tree.specs.Code.Node.{unfolding_code}
+use Rattle.item_tree.specs.Node.{Unfolding}
+use Rattle.rust_items.specs.contracts.source_file.ItemPlace as place
+use Rattle.rust_items.specs.declared.source_file.ItemPlace.{ItemPlace}
 use Rattle.hir_input.specs.declared.edition.EditionYear.{EditionYear}
 use Rattle.item_tree.specs.declared.crate_data.CrateData.{CrateData}
 use Rattle.item_tree.specs.declared.fault.LowerError.TheVariants.{OutOfMemory}
@@ -20,9 +25,11 @@ use Rattle.itemtree_commands.specs.declared.trees.SourceError.TheVariants.{TooLo
 use Rattle.itemtree_commands.specs.declared.trees.SourceTree.{SourceTree}
 use Rattle.itemtree_commands.specs.declared.listed.ListedTree.{ListedTree}
 use Rattle.itemtree_commands.specs.declared.listed.ListedUses.{ListedUses}
+use Rattle.itemtree_commands.specs.declared.module_paths.PathedModule.{PathedModule}
 use Rattle.source_listing.specs.ImportCfgs.{file_cfgs}
 use Rattle.source_listing.specs.Views.{use_cfgs_view}
-use Rattle.itemtree_commands.specs.Answers.{HasListed, if_members}
+use Rattle.itemtree_commands.specs.Answers.{HasListed, cfgs_if}
+use Rattle.itemtree_commands.specs.ModuleLists.{CrateFile, Pathed, PlacedText}
 use Rattle.itemtree_commands.specs.Trees.{IsListedTree, IsTreeIn}
 
 -- neither body texts nor attributes, but for conditions
@@ -35,7 +42,7 @@ checked_wanted = record { bodies = false; metas = Undocumented }
 
 -- how a text is read, or the mended one in its place
 abbrev pub reading_by : Options → Bool → List ℕ → Option Mended → MemberReading
-reading_by o has_members text mended = record { text = text_read text mended; closers = closers_in mended; edition = o.edition.year; options = if_members o has_members }
+reading_by o has_members text mended = record { text = text_read text mended; closers = closers_in mended; edition = o.edition.year; options = cfgs_if o has_members }
 
 -- a tree that has the rows of the tree that lists tell of a text, and the places of its items and use trees
 pub record HasListedRows (krate : CrateData) (skipped : List (List ℕ)) (edition : EditionYear) (text : List ℕ) (x : ListedTree) : Type 0 where
@@ -73,3 +80,22 @@ IsClippedRefused w krate skipped edition text (Lower e) =
 abbrev pub error_told : ReadError → SourceError
 error_told read.TooLong = TooLong
 error_told read.OutOfMemory = Lower OutOfMemory
+
+-- texts with places in code
+abbrev pub placed_text_code : Coded PlacedText
+placed_text_code =
+    code_by (List ℕ × List ItemPlace) (coded× (coded_list coded_ℕ) (coded_list place.the_row.coded))
+    (λ t. (t.text, t.places)) (λ p. record { text = p.0; places = p.1 }) (λ _. refl)
+
+-- files in code
+abbrev pub crate_file_code : Coded CrateFile
+crate_file_code =
+    code_by (List ℕ × (List ℕ × (List ItemPlace × Unfolding)))
+    (coded× (coded_list coded_ℕ) (coded× (coded_list coded_ℕ) (coded× (coded_list place.the_row.coded) unfolding_code)))
+    (λ f. (f.path, (f.text, (f.places, f.tree))))
+    (λ p. record { path = p.0; text = p.1.0; places = p.1.1.0; tree = p.1.1.1 })
+    (λ _. refl)
+
+-- a module with its path as plain data
+abbrev pub pathed_view : PathedModule → Pathed
+pathed_view p = (p.module_data.now, string_bytes p.path)

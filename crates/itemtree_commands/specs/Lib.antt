@@ -3,3 +3,4 @@ pub mod Typing
 pub mod Trees
 pub mod Inner
 pub mod RequestTexts
+pub mod ModuleLists

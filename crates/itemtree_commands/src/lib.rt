@@ -1,10 +1,13 @@
 //! What the commands of `itemtree` answer for one file, from its text on.
 #![tactic(auto)]
 
+mod crate_file;
 mod import_lists;
 mod laws;
 mod listed;
 mod looks;
+mod module_lists;
+mod module_paths;
 mod request;
 mod trees;
 
@@ -13,15 +16,17 @@ ghost use Rattle.itemtree_commands.specs.Answers as spec;
 ghost use Rattle.itemtree_commands.specs.{Trees.HasOwnIds, Trees.IsTextUnread, Typing.IsSameInBody};
 ghost use Rattle.source_listing.specs.Views.{choice_view, query_view, source_view};
 
+pub use crate_file::CrateFile;
 use hir_input::{Edition, Name};
 pub use import_lists::{duplicates, imports, repeated_imports};
 use item_tree::CrateData;
 use list_forms::Form;
 use listed::listed_rows;
 pub use listed::{ListedTree, listed_tree};
+pub use module_lists::{modules, unresolved_modules};
 pub use request::source_request;
 use source_changes::{Compared, change_lines};
-use source_listing::{Choice, Query, Source, TagForm, without_ids};
+use source_listing::{Choice, Query, Source, TagChoice, TagForm, without_ids};
 use source_problems::{SourceProblem, source_problems};
 use std::alloc::{AllocError, Global};
 use trees::{checked_source, skips_docs};
@@ -250,7 +255,8 @@ pub fn find(
     Ok(text)
 }
 
-/// `itemtree tags`: the tags of the file in this form, with or without those of members.
+/// `itemtree tags`: the tags of the file in this form, with or without those of members and of what stands in the
+/// bodies of functions.
 ///
 /// # Errors
 ///
@@ -262,16 +268,20 @@ pub fn tags(
     options: &Options,
     form: TagForm,
     has_members: bool,
+    has_bodies: bool,
 ) -> Result<String, SourceError>
-    ensures text { let tags = spec.AreTags options.now form has_members (source_view source.entry) in
+    ensures text { let tags = spec.AreTags options.now form has_members has_bodies (source_view source.entry) in
         IfOk result (λ out. tags (string_bytes out)) }
     ensures refused { IfErr result (spec.HasNoList options.now source.entry.text.now) }
 {
     let file = listed_rows(alloc, source.text, options)?;
-    let choice = options.choice(None);
-    let reading = options.reading(source.text, &file.mended, has_members);
+    let asked = TagChoice {
+        reading: options.reading(source.text, &file.mended, has_members),
+        choice: options.choice(None),
+        bodies: options.cfgs_if(has_bodies),
+    };
     let (places, tree) = (&file.source.places, &file.source.tree);
-    let text = source_listing::tag_lines(alloc, source, form, places, tree, reading, choice)?;
+    let text = source_listing::tag_lines(alloc, source, form, places, tree, asked)?;
     Ok(text)
 }
 

@@ -27,11 +27,11 @@ impl Options {
         }
     }
 
-    /// The cfgs that are set, if members are listed under them.
-    fn members(&self, has_members: bool) -> Option<&CfgOptions>
-        ensures { option_copied result ≡ spec.if_members self.now has_members }
+    /// The cfgs that are set, if members, or the items in bodies, are listed under them.
+    pub(crate) fn cfgs_if(&self, is_asked: bool) -> Option<&CfgOptions>
+        ensures { option_copied result ≡ spec.cfgs_if self.now is_asked }
     {
-        if has_members {
+        if is_asked {
             Some(&self.krate.cfg)
         } else {
             None
@@ -51,7 +51,7 @@ impl Options {
             text,
             mended: mended.as_ref(),
             edition: self.edition.year,
-            options: self.members(has_members),
+            options: self.cfgs_if(has_members),
         }
     }
 }

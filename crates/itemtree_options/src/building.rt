@@ -1,6 +1,7 @@
 //! The command line, as clap takes it.
+use crate::arguments::{Argument, CRATE, Form, LIST};
 use crate::statuses::STATUSES;
-use crate::table::{Argument, Description, Form, LIST, descriptions};
+use crate::table::{Description, descriptions};
 use clap::{Arg, Command};
 use std::alloc::{AllocError, Global};
 
@@ -10,6 +11,7 @@ fn placed<'a>(arg: Arg<'a>, argument: &Argument) -> Result<Arg<'a>, AllocError> 
         Form::Short(letter) => Ok(arg.long(argument.id).short(letter)),
         Form::Word => Ok(arg.required(true)),
         Form::Unlisted => arg.required_unless_present(LIST),
+        Form::Uncrated => arg.required_unless_present_any(&[LIST, CRATE]),
     }
 }
 
@@ -24,14 +26,9 @@ fn arg<'a>(alloc: Global, argument: &Argument) -> Result<Arg<'a>, AllocError> {
     let arg = Arg::new(alloc, argument.id)
         .action(argument.action)
         .help(argument.help);
-    let arg = valued(placed(arg, argument)?, argument);
-    if argument.needs_tree {
-        return arg.requires_arg("tree");
-    }
-    if argument.bars_tree {
-        return arg.conflicts_with("tree");
-    }
-    Ok(arg)
+    valued(placed(arg, argument)?, argument)
+        .requires_all(argument.needs)?
+        .conflicts_with_all(argument.bars)
 }
 
 /// A command without its arguments.

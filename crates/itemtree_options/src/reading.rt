@@ -1,7 +1,7 @@
 //! What is asked on a command line.
+use crate::arguments::{CRATE, HOST_CFGS, LIST};
 use crate::building::command;
 use crate::folders::{Filter, glob_fault};
-use crate::table::{HOST_CFGS, LIST};
 use clap::error::ErrorKind;
 use clap::parser::ValueSource;
 use clap::{ArgMatches, Error};
@@ -46,8 +46,14 @@ pub enum Command<'a> {
         excmd: &'a str,
         /// The fields that tags have, as letters and names; nothing: the usual ones.
         fields: Option<&'a str>,
+        /// Whether the items in the bodies of functions have tags.
+        has_bodies: bool,
         /// Whether paths begin at its folder: `no`, `yes`, `always` (absolute ones too) or `never` (all are absolute).
         relative: &'a str,
+    },
+    Modules {
+        /// Whether the files without a module are listed instead.
+        has_orphans: bool,
     },
     Changed {
         old: &'a str,
@@ -66,6 +72,17 @@ pub enum Command<'a> {
     Check,
 }
 
+/// A crate whose files are taken.
+#[derive(Clone, Copy)]
+pub struct CrateAsked<'a> {
+    /// Its root file, or the folder of its manifest.
+    pub root: &'a str,
+    /// Whether all features of the manifest are enabled.
+    pub has_all_features: bool,
+    /// Whether its default features are.
+    pub has_default_features: bool,
+}
+
 /// What a command is told. An option that it does not know is as one that is not given.
 pub struct Asked<'a> {
     pub command: Command<'a>,
@@ -73,6 +90,10 @@ pub struct Asked<'a> {
     pub files: Vec<&'a str>,
     /// The files that list more of them.
     pub lists: Vec<&'a str>,
+    /// The crate whose files are taken instead.
+    pub krate: Option<CrateAsked<'a>>,
+    /// The features of its manifest that are enabled: names with commas between them.
+    pub features: Vec<&'a str>,
     /// What of folders is taken.
     pub filter: Filter<'a>,
     /// Whether links to folders are followed.
@@ -110,6 +131,8 @@ impl Drop for Asked<'_> {
             command: _,
             files: _,
             lists: _,
+            krate: _,
+            features: _,
             filter: _,
             follows_links: _,
             edition: _,
@@ -218,7 +241,11 @@ fn command_of<'a>(name: &str, matches: &ArgMatches<'a>) -> Command<'a> {
             is_appended: matches.get_flag("append"),
             excmd: word(matches, "excmd"),
             fields: matches.get_str("fields"),
+            has_bodies: matches.get_flag("bodies"),
             relative: word(matches, "tag-relative"),
+        },
+        "modules" => Command::Modules {
+            has_orphans: matches.get_flag("orphans"),
         },
         "changed" => changed(matches),
         "request" => request(matches),
@@ -228,12 +255,23 @@ fn command_of<'a>(name: &str, matches: &ArgMatches<'a>) -> Command<'a> {
     }
 }
 
+/// The crate whose files are taken.
+fn krate<'a>(matches: &ArgMatches<'a>) -> Option<CrateAsked<'a>> {
+    Some(CrateAsked {
+        root: matches.get_str(CRATE)?,
+        has_all_features: matches.get_flag("all-features"),
+        has_default_features: !matches.get_flag("no-default-features"),
+    })
+}
+
 /// What a command is told but for the words of options that may be given several times.
 fn begun<'a>(alloc: Global, name: &str, matches: &ArgMatches<'a>) -> Asked<'a> {
     Asked {
         command: command_of(name, matches),
         files: Vec::new(alloc),
         lists: Vec::new(alloc),
+        krate: krate(matches),
+        features: Vec::new(alloc),
         filter: Filter::new(alloc, matches.get_flag("hidden")),
         follows_links: matches.get_flag("follow"),
         edition: matches.get_one::<u16>("edition").unwrap_or(2024),
@@ -262,14 +300,24 @@ fn push_kinds<'a>(matches: &ArgMatches<'a>, kinds: &mut Vec<&'a str>) -> Result<
     Ok(())
 }
 
+/// Adds the cfgs of the host, which those of a crate are where none are given.
+fn push_host_cfgs<'a>(cfgs: &mut Vec<&'a str>) -> Result<(), AllocError> {
+    for cfg in &HOST_CFGS {
+        cfgs.push(*cfg)?;
+    }
+    Ok(())
+}
+
 fn push_lists<'a>(matches: &ArgMatches<'a>, asked: &mut Asked<'a>) -> Result<(), AllocError> {
     push_words(matches, "files", &mut asked.files)?;
     push_words(matches, LIST, &mut asked.lists)?;
     push_words(matches, "exclude", &mut asked.filter.excluded)?;
-    if matches.get_flag("host-cfg") {
-        asked.cfgs.extend_from_slice(&HOST_CFGS)?;
+    let is_usual = asked.krate.is_some() && matches.get_strs("cfg").is_none();
+    if is_usual || matches.get_flag("host-cfg") {
+        push_host_cfgs(&mut asked.cfgs)?;
     }
     push_words(matches, "cfg", &mut asked.cfgs)?;
+    push_words(matches, "features", &mut asked.features)?;
     push_words(matches, "skip", &mut asked.skipped)?;
     push_kinds(matches, &mut asked.kinds)?;
     push_words(matches, "show", &mut asked.shows)

@@ -1,0 +1,215 @@
+//! The files of a crate, as its `mod` items lead to them from the root file on.
+use crate::failure::Failure;
+use crate::files::Room;
+use crate::walk::{Fault, Found};
+use item_tree::ItemTree;
+use itemtree_commands::{CrateFile, Options};
+use module_tree::{KnownFiles, KnownPath, ModuleChoice, ModuleTree, ModuleTreeError, module_tree};
+use std::alloc::{AllocError, Global};
+use std::collections::{BTreeMap, BTreeSet};
+use std::fs;
+use std::fs::Metadata;
+use std::os::unix::fs::MetadataExt;
+
+/// A file, by the numbers of its device and of itself.
+type FileId = (u64, u64);
+
+fn id_of(found: &Metadata) -> FileId {
+    (found.dev(), found.ino())
+}
+
+/// What is known of the files of a crate.
+#[derive(Drop)]
+pub(crate) struct CrateSources<'a> {
+    rt: &'a HostRuntime,
+    options: &'a Options,
+    /// Which `mod` items are followed.
+    choice: ModuleChoice,
+    paths: BTreeMap<String, KnownPath>,
+    numbers: BTreeMap<FileId, u32>,
+    files: Vec<CrateFile>,
+    room: Room,
+    /// What could not be read.
+    faults: Found,
+}
+
+impl<'a> CrateSources<'a> {
+    pub(crate) fn new(
+        rt: &'a HostRuntime,
+        options: &'a Options,
+        choice: ModuleChoice,
+    ) -> CrateSources<'a> {
+        let alloc = rt.alloc();
+        CrateSources {
+            rt,
+            options,
+            choice,
+            paths: BTreeMap::new(alloc),
+            numbers: BTreeMap::new(alloc),
+            files: Vec::new(alloc),
+            room: Room::new(alloc),
+            faults: Found::new(alloc),
+        }
+    }
+
+    /// The text of a file; that of one that cannot be read is empty.
+    fn text_of(&mut self, path: &str) -> Result<String, AllocError> {
+        let alloc = self.rt.alloc();
+        match self.room.read(self.rt, path) {
+            Ok(text) => String::from_str(alloc, text),
+            Err(error) => {
+                self.faults.push_fault(alloc, path, error)?;
+                Ok(String::new(alloc))
+            }
+        }
+    }
+
+    /// What is read of a file. One that has no tree is as an empty one.
+    fn read(&mut self, path: &str) -> Result<CrateFile, Failure> {
+        let alloc = self.rt.alloc();
+        let text = self.text_of(path)?;
+        let error = match CrateFile::read(
+            alloc,
+            String::from_str(alloc, path)?,
+            text,
+            self.options,
+        ) {
+            Ok(file) => return Ok(file),
+            Err(error) => error,
+        };
+        self.faults.push_fault(alloc, path, error)?;
+        let empty = String::new(alloc);
+        match CrateFile::read(alloc, String::from_str(alloc, path)?, empty, self.options) {
+            Ok(file) => Ok(file),
+            Err(_) => Err(Failure::from(AllocError)),
+        }
+    }
+
+    /// Reads a file, and gives its number.
+    fn push_file(&mut self, path: &str) -> Result<u32, Failure> {
+        let number = u32::try_from(self.files.len()).unwrap_or(u32::MAX);
+        let file = self.read(path)?;
+        self.files.push(file).map_err(AllocError::from)?;
+        Ok(number)
+    }
+
+    /// The number of a file, which is read once.
+    fn number_of(&mut self, path: &str, found: &Metadata) -> Result<u32, Failure> {
+        let id = id_of(found);
+        if let Some(number) = self.numbers.get(&id) {
+            return Ok(*number);
+        }
+        let number = self.push_file(path)?;
+        self.numbers.insert(id, number).map_err(AllocError::from)?;
+        Ok(number)
+    }
+
+    /// What stands at a path: a folder, a pipe and a device are no files.
+    fn look_up(&mut self, path: &str) -> Result<KnownPath, Failure> {
+        match fs::metadata(self.rt, path) {
+            Ok(found) if found.is_file() => Ok(KnownPath::File(self.number_of(path, &found)?)),
+            _ => Ok(KnownPath::Missing),
+        }
+    }
+
+    fn look_up_all(&mut self, wanted: &[String]) -> Result<(), Failure> {
+        for path in wanted {
+            if !self.paths.contains_key(path.as_str()) {
+                let known = self.look_up(path)?;
+                self.paths
+                    .insert(path.clone()?, known)
+                    .map_err(AllocError::from)?;
+            }
+        }
+        Ok(())
+    }
+
+    /// The modules that are known.
+    fn known_modules(&self, root: u32, path: &str) -> Result<ModuleTree, ModuleTreeError> {
+        let alloc = self.rt.alloc();
+        let mut trees: Vec<&ItemTree> = Vec::new(alloc);
+        for file in &self.files {
+            trees.push(file.tree())?;
+        }
+        let known = KnownFiles {
+            paths: &self.paths,
+            trees: trees.as_slice(),
+        };
+        module_tree(alloc, root, path, &known, self.choice)
+    }
+
+    /// The number of the root file of a crate, if it can be looked at.
+    fn root(&mut self, path: &str) -> Result<Option<u32>, Failure> {
+        match fs::metadata(self.rt, path) {
+            Ok(found) => Ok(Some(self.number_of(path, &found)?)),
+            Err(error) => {
+                self.faults.push_fault(self.rt.alloc(), path, error)?;
+                Ok(None)
+            }
+        }
+    }
+
+    /// The modules that are known, if there are not too many.
+    fn few_modules(&mut self, root: u32, path: &str) -> Result<Option<ModuleTree>, Failure> {
+        match self.known_modules(root, path) {
+            Ok(tree) => Ok(Some(tree)),
+            Err(ModuleTreeError::OutOfMemory) => Err(Failure::from(AllocError)),
+            Err(error) => {
+                self.faults.push_fault(self.rt.alloc(), path, error)?;
+                Ok(None)
+            }
+        }
+    }
+
+    /// The modules of the crate with this root file, if they can be told: what is wanted is looked up.
+    pub(crate) fn modules(&mut self, path: &str) -> Result<Option<ModuleTree>, Failure> {
+        let Some(root) = self.root(path)? else {
+            return Ok(None);
+        };
+        let mut known = self.few_modules(root, path)?;
+        for _turn in 0..u64::MAX {
+            let Some(tree) = known else {
+                return Ok(None);
+            };
+            if tree.wanted.is_empty() {
+                return Ok(Some(tree));
+            }
+            self.look_up_all(&tree.wanted)?;
+            known = self.few_modules(root, path)?;
+        }
+        Ok(known)
+    }
+
+    /// The files by their numbers.
+    pub(crate) fn files(&self) -> &[CrateFile] {
+        &self.files
+    }
+
+    /// What could not be read.
+    pub(crate) fn faults(&self) -> &[Fault] {
+        &self.faults.faults
+    }
+
+    /// Whether a path leads to a file that was read.
+    pub(crate) fn has_read(&self, path: &str) -> bool {
+        fs::metadata(self.rt, path).is_ok_and(|found| self.numbers.contains_key(&id_of(&found)))
+    }
+
+    /// Adds the paths of the files that modules stand in, in the order of the modules, each once.
+    pub(crate) fn push_paths(
+        &self,
+        tree: &ModuleTree,
+        seen: &mut BTreeSet<u32>,
+        paths: &mut Vec<String>,
+    ) -> Result<(), AllocError> {
+        for module in &tree.modules {
+            if let (true, Some(file)) = (
+                seen.insert(module.file)?,
+                self.files.get(module.file as usize),
+            ) {
+                paths.push(String::from_str(self.rt.alloc(), file.path())?)?;
+            }
+        }
+        Ok(())
+    }
+}

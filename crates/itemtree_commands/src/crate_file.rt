@@ -1,0 +1,131 @@
+//! The files of a crate.
+ghost use Rattle.std.specs.Prelude.{◌≡◌, IfErr, IfOk, string_bytes};
+ghost use Rattle.itemtree_commands.specs.Answers.{HasNoList};
+ghost use Rattle.itemtree_commands.specs.ModuleLists.{IsCrateFile, placed_text, position_in_text};
+
+use crate::Options;
+use crate::listed::{ListedTree, listed_tree};
+use crate::trees::SourceError;
+use hir_input::FileAstId;
+use item_tree::ItemTree;
+use line_index::Position;
+use source_rows::{Finder, stands_at};
+use std::alloc::Global;
+use std::marker::Model;
+
+/// A file of a crate: its path, its text, and the tree that lists tell of it.
+pub struct CrateFile {
+    path: String,
+    text: String,
+    listed: ListedTree,
+}
+
+// (Written out: what is derived is proved anew, field by field, in each crate that drops one.)
+impl Drop for CrateFile {
+    fn drop(self) {
+        let CrateFile {
+            path: _,
+            text: _,
+            listed: _,
+        } = self;
+    }
+}
+
+impl Model for CrateFile {
+    ghost use Rattle.std.specs.Prelude.{string_bytes};
+    ghost use Rattle.itemtree_commands.specs.Inner.{crate_file_code};
+    ghost use Rattle.itemtree_commands.specs.ModuleLists as spec;
+    ghost use Rattle.itemtree_commands.specs.Trees.{HasOwnIds};
+
+    ghost Value = { spec.CrateFile };
+
+    ghost coded = { crate_file_code };
+
+    ghost view = { λ x. record {
+      path = string_bytes x.path;
+      text = string_bytes x.text;
+      places = x.listed.source.places.items;
+      tree = x.listed.source.tree;
+    } };
+
+    ghost invariant = { λ x. HasOwnIds x.listed.source };
+}
+
+impl CrateFile {
+    /// Reads a file.
+    ///
+    /// # Errors
+    ///
+    /// Those of `listed_tree`.
+    pub fn read(
+        alloc: Global,
+        path: String,
+        text: String,
+        options: &Options,
+    ) -> Result<CrateFile, SourceError>
+        ensures read { IfOk result (IsCrateFile options.now (string_bytes path) (string_bytes text)) }
+        ensures refused { IfErr result (HasNoList options.now (string_bytes text)) }
+    {
+        let listed = listed_tree(alloc, &text, options)?;
+        Ok(CrateFile { path, text, listed })
+    }
+
+    /// The path.
+    pub fn path(&self) -> &str
+        ensures { result.now ≡ self.now.path }
+    {
+        &self.path
+    }
+
+    /// The item tree.
+    pub fn tree(&self) -> &ItemTree
+        ensures { result.now ≡ self.now.tree }
+    {
+        &self.listed.source.tree
+    }
+}
+
+/// What finds the places of a file's items.
+pub(crate) struct FileFinder<'a> {
+    finder: Finder<'a>,
+}
+
+impl Drop for FileFinder<'_> {
+    fn drop(self) {
+        let FileFinder { finder: _ } = self;
+    }
+}
+
+impl<'a> Model for FileFinder<'a> {
+    ghost use Rattle.itemtree_commands.specs.Inner.{placed_text_code};
+    ghost use Rattle.itemtree_commands.specs.ModuleLists.{PlacedText};
+    ghost use Rattle.source_rows.specs.Places.{AreDistinct};
+
+    ghost Value = { PlacedText };
+
+    ghost coded = { placed_text_code };
+
+    ghost view = { λ x. record { text = x.finder.lines; places = x.finder.places } };
+
+    ghost invariant = { λ x. AreDistinct x.finder.places };
+}
+
+impl<'a> FileFinder<'a> {
+    /// What finds those of a file.
+    pub(crate) fn new(file: &'a CrateFile) -> FileFinder<'a>
+        ensures { result ≡ placed_text file.now }
+    {
+        FileFinder {
+            finder: Finder::new(&file.text, &file.listed.source.places),
+        }
+    }
+
+    /// Where an item stands.
+    pub(crate) fn position(&mut self, id: FileAstId) -> Option<Position>
+        ensures position { result ≡ position_in_text id self.old }
+        ensures same { self.new ≡ self.old }
+    {
+        let place = self.finder.places.find(id)?;
+        Some(self.finder.lines.position(stands_at(place)))
+    }
+}
