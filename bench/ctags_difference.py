@@ -5,16 +5,16 @@ r"""Counts the tags that Universal Ctags and `itemtree tags` have of a folder's 
     ctags_difference.py --list PROGRAM FOLDER   tells each tag that only one has too
 
 A tag is a name on a line of a file, with the letter of its kind. Of the library of rustc 1.63 Universal Ctags 5.9 has 54,089 tags, and
-`itemtree tags` 49,860. Both have 45,491 of them; of these 793 stand in another scope: where an impl is of no path, as `*mut T`, ctags takes a
-name in it (689), and of headers with `->`, `>>` or brackets behind `where` it often takes none (104). The others are:
+`itemtree tags --bodies` 52,949. Both have 48,088 of them; of these 864 stand in another scope: where an impl is of no path, as `*mut T`, ctags
+takes a name in it, and of headers with `->`, `>>` or brackets behind `where` it often takes none. The others are:
 
     only Universal Ctags     5,166   impls, which have no name of their own
-                             2,644   items in the bodies of functions, which are not read
                                774   members of impls with such headers, as functions
-                                14   `str` of `&'static str` as a static, and items in bodies behind such headers
-    only itemtree            3,358   constants, which ctags passes over
-                               774   those members as members
-                               195   what stands behind `"\\"`, `br"\"`, `<<` and more that ctags does not read, often up to the end of a file
+                                51   items in the bodies of functions, most of them in what macros are given
+                                10   `str` of `&'static str` as a static, and items in bodies behind such headers
+    only itemtree            3,803   constants, which ctags passes over
+                               786   those members as members
+                               230   what stands behind `"\\"`, `br"\"`, `<<` and more that ctags does not read, often up to the end of a file
                                 42   macros of the keyword `macro`
 """
 import collections
@@ -83,7 +83,7 @@ def main():
     is_listed = sys.argv[1:2] == ["--list"]
     program, folder = sys.argv[1 + is_listed:]
     theirs = tags_of(["ctags", "--languages=Rust", "--fields=ks", "--excmd=number", "--sort=no", "-f", "-", "-R", folder])
-    ours = tags_of([program, "tags", "--edition", "2021", "--fields=ks", "--excmd", "number", "-o", "-", folder])
+    ours = tags_of([program, "tags", "--bodies", "--edition", "2021", "--fields=ks", "--excmd", "number", "-o", "-", folder])
     texts, bodies = {}, bodies_of(theirs)
     print(f"Universal Ctags {len(theirs)}, itemtree {len(ours)}, both {len(theirs.keys() & ours.keys())}")
     print(f"both, with another scope: {sum(theirs[tag] != ours[tag] for tag in theirs.keys() & ours.keys())}")

@@ -21,7 +21,7 @@ FILES, ROUNDS, OPTIONS = 1000, 10_000, 10_000
 # The types whose drop is written by hand, each with a run that makes many of it, or one that holds many values.
 MADE = {
     'Asked': 'options', 'Filter': 'options', 'AttrsOwned': 'outline', 'BlockExpr': 'serve', 'CfgOptions': 'serve',
-    'Conversation': 'serve', 'DeclIndex': 'serve', 'ItemTree': 'page', 'Member': 'outline', 'ModPath': 'imports', 'Name': 'outline', 'Row': 'outline',
+    'Conversation': 'serve', 'CrateFile': 'modules', 'DeclIndex': 'serve', 'FileFinder': 'modules', 'ItemTree': 'page', 'Member': 'outline', 'ModPath': 'imports', 'Name': 'outline', 'Row': 'outline',
     'Pattern': 'find', 'Server': 'lsp', 'SoughtPath': 'serve', 'Sources': 'serve', 'Syntax': 'outline',
 }
 TEXT = '''//! Told.
@@ -107,6 +107,13 @@ def fill(folder, name, count, text):
             file.write(text)
 
 
+def fill_crate(folder, name, count, text):
+    """A crate whose root has a module in a file for each of these."""
+    fill(folder, name, count, text)
+    with open(os.path.join(folder, name, 'lib.rs'), 'w', encoding='utf-8') as file:
+        file.writelines(f'#[path = "{at}.rs"] mod m{at};\n' for at in range(count))
+
+
 def lines(*values):
     return ''.join(json.dumps(value) + '\n' for value in values).encode()
 
@@ -133,6 +140,9 @@ def main():
         fill(folder, 'new', FILES, TEXT.replace('struct S', 'pub struct S').replace('extern "C" {', 'extern "C" { fn more();'))
         for words in ('outline', 'outline --json --active', 'page', 'imports', 'imports --duplicates', 'find m::S', 'tags -o -', 'request --show page', 'check'):
             counted.check([*words.split(), 'old'])
+        fill_crate(folder, 'whole', FILES, TEXT)
+        for words in ('modules', 'modules --json', 'modules --orphans', 'outline --crate', 'imports --crate', 'check --crate'):
+            counted.check([*words.split(), 'whole/lib.rs'])
         for words in ('changed', 'changed --tree'):
             counted.check([*words.split(), 'old', 'new'])
         for word in ('--exclude=a', '--cfg=a', '--skip=a', '--show=page'):

@@ -18,7 +18,7 @@ TOP = os.path.dirname(os.path.dirname(os.path.realpath(__file__)))
 PROGRAM = os.path.join(TOP, 'crates/itemtree/out/itemtree')
 TOOL = os.path.join(TOP, 'crates/item_tree_tool/out/item_tree_tool')
 STATUSES = ['0', '1', '2', '6']
-COMMANDS = ('outline', 'page', 'imports', 'find', 'tags', 'changed', 'request', 'serve', 'lsp', 'check')
+COMMANDS = ('outline', 'page', 'imports', 'find', 'tags', 'modules', 'changed', 'request', 'serve', 'lsp', 'check')
 passed = failed = 0
 
 
@@ -118,7 +118,7 @@ def check_documents(offered):
     tell(re.findall(r'^\| (\d) \|', page, re.M) == STATUSES, 'the statuses of docs/ITEMTREE.md')
     told = dict(re.findall(r'^\| `--([\w-]+).*?` \| (.*?) \|', page, re.M))
     wanted = {option: offered[option] for option in told}
-    tell(len(told) == 13 and {option: named(words) for option, words in told.items()} == wanted, 'the options of docs/ITEMTREE.md', told, wanted)
+    tell(len(told) == 16 and {option: named(words) for option, words in told.items()} == wanted, 'the options of docs/ITEMTREE.md', told, wanted)
 
 
 def named(words):
@@ -181,6 +181,9 @@ def check_ctags(folder):
         wanted = run(f'ctags --kinds-Rust=-c {words if "fields" not in words else ""} {field} -f - tagged.rs', folder)
         got = run(f"itemtree tags {words.replace('Sftaxi', 'Sftxi')} -o - tagged.rs | grep -v '^!_TAG'", folder)
         tell(got == wanted, f'the tags of Universal Ctags {words}', got, wanted)
+    wanted = run('ctags --kinds-Rust=-c --fields=+nS -f - bodies.rs', folder)
+    got = run("itemtree tags --bodies --fields=+S -o - bodies.rs | grep -v '^!_TAG'", folder)
+    tell(got == wanted, 'the tags of Universal Ctags in bodies', got, wanted)
     lines = re.findall(r'^(--(?:kinddef|regex)-Rust=.*)$', open(os.path.join(TOP, 'docs/ITEMTREE.md'), encoding='utf-8').read(), flags=re.M)
     write_files(folder, {'constants.ctags': '\n'.join(lines).encode(), 'constants.rs': b'const A: u8 = 1;\n    pub(in crate::b) const BC_2 : &str = "";\nconst fn c() {}\n'})
     wanted = run('ctags --options=constants.ctags --fields=+n -f - constants.rs', folder)

@@ -3,11 +3,9 @@ ghost use Rattle.std.specs.Prelude.{◌≡◌};
 ghost use Rattle.message_stream.specs.Messages.{Told};
 
 use crate::streams::{Failing, Feeds, Screen};
-use message_stream::{
-    Always, Answer, Headers, Lines, MOST_MESSAGE, Message, Service, StreamError, serve,
-};
+use message_stream::{Answer, Headers, Lines, MOST_MESSAGE, Message, Service, StreamError, serve};
 use std::alloc::Global;
-use std::io::{self, BufRead, BufReader, Read};
+use std::io::{self, BufReader, Read};
 use std::test::Fail;
 
 // Answers a line by itself, counts, and is over when it has answered so many.
@@ -22,13 +20,12 @@ impl Service for Echo {
     ghost use Rattle.message_stream.specs.Answers.{IsStill};
     ghost use Rattle.message_stream.specs.Messages.{Told};
 
-    ghost answers = { λ _ said _ texts. said ≡ Told.too_long → texts ≡ codes "too long" ∷ [] };
-
-    ghost rests = { IsStill };
-
-    ghost rested = { λ _. true };
-
-    ghost over = { λ echo. nat_eq echo.answered echo.most };
+    ghost conduct = { record {
+      Answers = λ _ said _ texts. said ≡ Told.too_long → texts ≡ codes "too long" ∷ [];
+      Rests = IsStill;
+      is_rested = λ _. true;
+      is_over = λ echo. nat_eq echo.answered echo.most;
+    } };
 
     fn answer(&mut self, _alloc: Global, message: Message) -> Answer {
         self.answered = self.answered.saturating_add(1);
@@ -77,13 +74,12 @@ impl Service for Twice {
     ghost use Rattle.message_stream.specs.Answers.{IsStill};
     ghost use Rattle.message_stream.specs.Messages.{Told};
 
-    ghost answers = { λ _ said _ texts. said ≡ Told.too_long → texts ≡ [] };
-
-    ghost rests = { IsStill };
-
-    ghost rested = { λ _. true };
-
-    ghost over = { λ _. false };
+    ghost conduct = { record {
+      Answers = λ _ said _ texts. said ≡ Told.too_long → texts ≡ [];
+      Rests = IsStill;
+      is_rested = λ _. true;
+      is_over = λ _. false;
+    } };
 
     fn answer(&mut self, alloc: Global, message: Message) -> Answer {
         match message {
@@ -126,8 +122,7 @@ fn answers_each_line(rt: HostRuntime) -> Result<(), Fail> {
         let served = serve(
             alloc,
             &Lines,
-            &mut input.as_bytes(),
-            &mut Always,
+            &mut BufReader::new(alloc, input.as_bytes())?,
             &mut written,
             &mut echo,
         );
@@ -145,19 +140,12 @@ fn reads_no_more_for_a_service_that_is_over(rt: HostRuntime) -> Result<(), Fail>
         answered: 0,
         most: 2,
     };
-    let mut input = "one\ntwo\nthree\n".as_bytes();
+    let mut input = BufReader::new(alloc, "one\ntwo\nthree\n".as_bytes())?;
     let mut written = Vec::new(alloc);
-    let served = serve(
-        alloc,
-        &Lines,
-        &mut input,
-        &mut Always,
-        &mut written,
-        &mut echo,
-    );
+    let served = serve(alloc, &Lines, &mut input, &mut written, &mut echo);
     assert!(rt; served.is_ok());
     assert!(rt; written.as_slice() == "one\ntwo\n".as_bytes());
-    assert!(rt; input == "three\n".as_bytes());
+    assert!(rt; input.buffer() == "three\n".as_bytes());
     Ok(())
 }
 
@@ -177,7 +165,6 @@ fn flushes_before_a_read(rt: HostRuntime) -> Result<(), Fail> {
         alloc,
         &Lines,
         &mut BufReader::new(alloc, failing)?,
-        &mut Always,
         &mut screen,
         &mut echo,
     );
@@ -197,8 +184,7 @@ fn stops_at_a_failed_write(rt: HostRuntime) -> Result<(), Fail> {
     let served = serve(
         alloc,
         &Lines,
-        &mut "first\nsecond\nthird\n".as_bytes(),
-        &mut Always,
+        &mut BufReader::new(alloc, "first\nsecond\nthird\n".as_bytes())?,
         &mut screen,
         &mut echo,
     );
@@ -213,20 +199,13 @@ fn stops_at_a_failed_write(rt: HostRuntime) -> Result<(), Fail> {
 fn passes_over_a_long_line(rt: HostRuntime) -> Result<(), Fail> {
     let alloc = rt.alloc();
     let long = io::repeat(b'x').take(MOST_MESSAGE as u64 + 1);
-    let mut input = BufReader::new(alloc, long)?.chain("\nshort\n".as_bytes());
+    let mut input = BufReader::new(alloc, long.chain("\nshort\n".as_bytes()))?;
     let mut echo = Echo {
         answered: 0,
         most: 100,
     };
     let mut written = Vec::new(alloc);
-    let served = serve(
-        alloc,
-        &Lines,
-        &mut input,
-        &mut Always,
-        &mut written,
-        &mut echo,
-    );
+    let served = serve(alloc, &Lines, &mut input, &mut written, &mut echo);
     assert!(rt; served.is_ok());
     assert!(rt; written.as_slice() == "too long\nshort\n".as_bytes());
     Ok(())
@@ -244,8 +223,7 @@ fn answers_without_memory(rt: HostRuntime) -> Result<(), Fail> {
     let served = serve(
         alloc,
         &Lines,
-        &mut "one\ntwo\nthree".as_bytes(),
-        &mut Always,
+        &mut BufReader::new(alloc, "one\ntwo\nthree".as_bytes())?,
         &mut feeds,
         &mut echo,
     );
@@ -274,8 +252,7 @@ fn answers_behind_headers(rt: HostRuntime) -> Result<(), Fail> {
         let served = serve(
             alloc,
             &Headers,
-            &mut input.as_bytes(),
-            &mut Always,
+            &mut BufReader::new(alloc, input.as_bytes())?,
             &mut written,
             &mut Twice,
         );
@@ -297,15 +274,8 @@ fn tells_why_a_message_is_none(rt: HostRuntime) -> Result<(), Fail> {
         ("Content-Length: -3\r\n\r\none", StreamError::Length),
     ] {
         let mut written = Vec::new(alloc);
-        let mut both = one.as_bytes().chain(input.as_bytes());
-        let served = serve(
-            alloc,
-            &Headers,
-            &mut both,
-            &mut Always,
-            &mut written,
-            &mut Twice,
-        );
+        let mut both = BufReader::new(alloc, one.as_bytes().chain(input.as_bytes()))?;
+        let served = serve(alloc, &Headers, &mut both, &mut written, &mut Twice);
         assert!(rt; served == Err(error), "{input}");
         assert!(rt;
             written.as_slice()
@@ -329,7 +299,6 @@ fn reads_and_writes_in_pieces(rt: HostRuntime) -> Result<(), Fail> {
         alloc,
         &Headers,
         &mut BufReader::new(alloc, failing)?,
-        &mut Always,
         &mut screen,
         &mut Twice,
     );
@@ -345,23 +314,15 @@ fn reads_and_writes_in_pieces(rt: HostRuntime) -> Result<(), Fail> {
 fn passes_over_a_long_message(rt: HostRuntime) -> Result<(), Fail> {
     let alloc = rt.alloc();
     let long = io::repeat(b'x').take(MOST_MESSAGE as u64 + 1);
-    let mut input = "Content-Length: 67108865\r\n\r\n"
-        .as_bytes()
-        .chain(BufReader::new(alloc, long)?)
-        .chain("Content-Length: 5\r\n\r\nshort".as_bytes());
+    let body = "Content-Length: 67108865\r\n\r\n".as_bytes().chain(long);
+    let all = body.chain("Content-Length: 5\r\n\r\nshort".as_bytes());
+    let mut input = BufReader::new(alloc, all)?;
     let mut echo = Echo {
         answered: 0,
         most: 100,
     };
     let mut written = Vec::new(alloc);
-    let served = serve(
-        alloc,
-        &Headers,
-        &mut input,
-        &mut Always,
-        &mut written,
-        &mut echo,
-    );
+    let served = serve(alloc, &Headers, &mut input, &mut written, &mut echo);
     assert!(rt; served.is_ok());
     assert!(rt;
         written.as_slice()

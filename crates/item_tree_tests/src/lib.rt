@@ -44,6 +44,8 @@ mod items;
 #[cfg(test)]
 mod lowered;
 #[cfg(test)]
+mod manifests;
+#[cfg(test)]
 mod modules;
 #[cfg(test)]
 mod no_memory;

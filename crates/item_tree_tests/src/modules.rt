@@ -3,13 +3,24 @@
 use crate::lowered::bare_crate;
 use hir_input::EditionYear;
 use item_tree::{ItemTree, lower_syntax};
-use module_tree::{KnownFiles, KnownPath, ModuleTree, module_tree};
+use module_tree::{KnownFiles, KnownPath, ModuleChoice, ModuleTree, ModuleTreeError, module_tree};
 use rust_items::read_source_file;
 use std::alloc::{AllocError, Global};
 use std::collections::BTreeMap;
 use std::fmt::Write;
 
 type Files = &'static [(&'static str, &'static str)];
+
+// Files of which cfgs disable some.
+const DISABLED: Files = &[
+    (
+        "lib.rs",
+        "#[cfg(any())] mod a; #[cfg(all())] mod b; mod c; #[cfg(any())] mod d { mod e; }",
+    ),
+    ("b.rs", ""),
+    ("c.rs", "#![cfg(any())] mod f;"),
+    ("d/e.rs", ""),
+];
 
 // Files by path and text, the root first; and what is found: a module by the place of the one that it stands in, its
 // name and the place of its file, and what has no module, by its paths.
@@ -95,17 +106,7 @@ const CRATES: &[(Files, &str)] = &[
         "0 crate; 1 a in 0; 1 b in 0; Circle c in 1: src/lib.rs; Circle d in 1: src/a.rs; \
          Circle c in 2: src/lib.rs; Circle d in 2: src/a.rs; ",
     ),
-    (
-        &[
-            (
-                "lib.rs",
-                "#[cfg(any())] mod a; #[cfg(all())] mod b; mod c; #[cfg(any())] mod d { mod e; }",
-            ),
-            ("b.rs", ""),
-            ("c.rs", "#![cfg(any())] mod f;"),
-        ],
-        "0 crate; 1 b in 0; ",
-    ),
+    (DISABLED, "0 crate; 1 b in 0; "),
     (
         &[
             (
@@ -141,6 +142,14 @@ fn trees_of(alloc: Global, files: Files) -> Result<Vec<ItemTree>, AllocError> {
     Ok(trees)
 }
 
+fn lent_of(alloc: Global, trees: &[ItemTree]) -> Result<Vec<&ItemTree>, AllocError> {
+    let mut lent = Vec::new(alloc);
+    for tree in trees {
+        lent.push(tree)?;
+    }
+    Ok(lent)
+}
+
 fn known_at(files: Files, path: &str) -> KnownPath {
     let Some(place) = files.iter().position(|file| file.0 == path) else {
         return KnownPath::Missing;
@@ -164,9 +173,14 @@ fn look_up(
 }
 
 // Looks up what is wanted, until nothing is.
-fn found_in(alloc: Global, files: Files, trees: &[&ItemTree]) -> Result<ModuleTree, AllocError> {
+fn found_in(
+    alloc: Global,
+    files: Files,
+    trees: &[&ItemTree],
+    choice: ModuleChoice,
+) -> Result<ModuleTree, ModuleTreeError> {
     let Some(root) = files.first() else {
-        return Err(AllocError);
+        return Err(ModuleTreeError::OutOfMemory);
     };
     let mut paths = BTreeMap::new(alloc);
     for _round in 0..20 {
@@ -174,13 +188,13 @@ fn found_in(alloc: Global, files: Files, trees: &[&ItemTree]) -> Result<ModuleTr
             paths: &paths,
             trees: &*trees,
         };
-        let found = module_tree(alloc, 0, root.0, &known)?;
+        let found = module_tree(alloc, 0, root.0, &known, choice)?;
         if found.wanted.is_empty() {
             return Ok(found);
         }
         look_up(files, found.wanted, &mut paths)?;
     }
-    Err(AllocError)
+    Err(ModuleTreeError::OutOfMemory)
 }
 
 fn shown(alloc: Global, found: &ModuleTree) -> Result<String, AllocError> {
@@ -208,27 +222,66 @@ fn shown(alloc: Global, found: &ModuleTree) -> Result<String, AllocError> {
     Ok(text)
 }
 
-fn has_modules(alloc: Global, files: Files, wanted: &str) -> Result<bool, AllocError> {
+fn has_modules(
+    alloc: Global,
+    files: Files,
+    choice: ModuleChoice,
+    wanted: &str,
+) -> Result<bool, ModuleTreeError> {
     let trees = trees_of(alloc, files)?;
-    let mut lent = Vec::new(alloc);
-    for tree in &trees {
-        lent.push(tree)?;
-    }
-    let found = found_in(alloc, files, &lent)?;
+    let lent = lent_of(alloc, &trees)?;
+    let found = found_in(alloc, files, &lent, choice)?;
     let text = shown(alloc, &found)?;
     Ok(text.as_str() == wanted)
 }
 
-fn first_other(alloc: Global) -> Result<Option<usize>, AllocError> {
+fn first_other(alloc: Global) -> Result<Option<usize>, ModuleTreeError> {
     for (place, &(files, wanted)) in CRATES.iter().enumerate() {
-        if !has_modules(alloc, files, wanted)? {
+        if !has_modules(alloc, files, ModuleChoice::Enabled, wanted)? {
             return Ok(Some(place));
         }
     }
     Ok(None)
 }
 
+// Each file has the next one twice, and so the last one stands at 2^29 places.
+fn found_on_ladder(alloc: Global) -> Result<usize, ModuleTreeError> {
+    let mut trees = Vec::new(alloc);
+    let mut paths = BTreeMap::new(alloc);
+    for file in 0..30_u32 {
+        let next = file + 1;
+        let text = format!(in alloc; "#[path = \"{next}\"] mod a; #[path = \"{next}\"] mod b;")?;
+        trees.push(tree_of(alloc, text.as_str())?)?;
+        paths.insert(format!(in alloc; "{file}")?, KnownPath::File(file))?;
+    }
+    let lent = lent_of(alloc, &trees)?;
+    let known = KnownFiles {
+        paths: &paths,
+        trees: &lent,
+    };
+    let found = module_tree(alloc, 0, "0", &known, ModuleChoice::Enabled)?;
+    Ok(found.modules.len())
+}
+
 #[test]
 fn crates_have_the_modules_of_the_reference(rt: HostRuntime) {
     assert_eq!(rt; first_other(rt.alloc()).unwrap_or(Some(99)), None);
+}
+
+#[test]
+fn disabled_modules_are_followed_where_all_are(rt: HostRuntime) {
+    let wanted =
+        "0 crate; 1 b in 0; 2 c in 0; 0 d in 0; 3 e in 3; NoFile a in 0: a.rs a/mod.rs; NoFile f in 2: c/f.rs c/f/mod.rs; ";
+    assert_eq!(rt;
+        has_modules(rt.alloc(), DISABLED, ModuleChoice::All, wanted),
+        Ok(true)
+    );
+}
+
+#[test]
+fn a_ladder_of_paths_has_too_many_modules(rt: HostRuntime) {
+    assert_eq!(rt;
+        found_on_ladder(rt.alloc()),
+        Err(ModuleTreeError::TooManyModules)
+    );
 }

@@ -1,9 +1,8 @@
-//! What no clause says: when a service rests, and what becomes of failures then.
+//! What no clause says: what a service tells at rests, read by read, and what becomes of failures then.
 use crate::streams::{Feeds, Screen};
-use message_stream::{
-    Answer, Lines, Message, PATIENCE, Service, StreamError, Waiting, Waits, serve,
-};
+use message_stream::{Answer, Lines, Message, Service, StreamError, serve};
 use std::alloc::Global;
+use std::io::{self, BufReader, Read};
 use std::test::Fail;
 
 // Answers no message, and tells a note of each that it took at a rest.
@@ -15,13 +14,12 @@ struct Notes {
 impl Service for Notes {
     ghost use Rattle.std.specs.Prelude.{◌≡◌, ◌≤◌, [], false, nat_eq};
 
-    ghost answers = { λ _ _ _ texts. texts ≡ [] };
-
-    ghost rests = { λ old new _. new.left ≤ old.left };
-
-    ghost rested = { λ notes. nat_eq notes.left 0 };
-
-    ghost over = { λ _. false };
+    ghost conduct = { record {
+      Answers = λ _ _ _ texts. texts ≡ [];
+      Rests = λ old new _. new.left ≤ old.left;
+      is_rested = λ notes. nat_eq notes.left 0;
+      is_over = λ _. false;
+    } };
 
     fn answer(&mut self, alloc: Global, _message: Message) -> Answer {
         self.left = self.left.saturating_add(1);
@@ -45,89 +43,73 @@ impl Service for Notes {
     }
 }
 
-// Tells these in turn, and then that input waits. Counts how often it was asked with no patience, and with all.
+// Gives one of these at a read, and then fails, or ends.
 #[derive(Drop)]
-struct Script<'s> {
-    rest: &'s [Waiting],
-    hasty: u32,
-    patient: u32,
+struct Pieces<'p> {
+    pieces: &'p [&'static str],
+    next: usize,
+    fails: bool,
 }
 
-impl Script<'_> {
-    fn new(rest: &[Waiting]) -> Script<'_> {
-        Script {
-            rest,
-            hasty: 0,
-            patient: 0,
-        }
-    }
-}
-
-impl<R> Waits<R> for Script<'_> {
-    fn wait(&mut self, _input: &R, milliseconds: u16) -> Waiting {
-        match milliseconds {
-            0 => self.hasty = self.hasty.saturating_add(1),
-            PATIENCE => self.patient = self.patient.saturating_add(1),
-            _ => {}
-        }
-        match self.rest.split_first() {
-            Some((first, rest)) => {
-                self.rest = rest;
-                *first
+impl Read for Pieces<'_> {
+    fn read(&mut self, buf: &mut [u8]) -> io::Result<usize> {
+        match self.pieces.get(self.next) {
+            Some(piece) => {
+                self.next = self.next.saturating_add(1);
+                let mut bytes = piece.as_bytes();
+                bytes.read(buf)
             }
-            None => Waiting::Input,
+            None if self.fails => Err(io::Error::from(io::ErrorKind::Other)),
+            None => Ok(0),
         }
     }
 }
 
 #[test]
-fn rests_where_no_message_waits(rt: HostRuntime) -> Result<(), Fail> {
+fn rests_before_more_is_read(rt: HostRuntime) -> Result<(), Fail> {
     let alloc = rt.alloc();
-    let (input, nothing) = (Waiting::Input, Waiting::Nothing);
-    // The last note is left, since the end of the reader waits.
-    let waits = [
-        nothing,
-        input,
-        Waiting::Failed,
-        nothing,
-        nothing,
-        nothing,
-        input,
-    ];
-    let mut script = Script::new(&waits);
-    let mut notes = Notes { left: 0 };
-    let mut written = Vec::new(alloc);
-    let served = serve(
-        alloc,
-        &Lines,
-        &mut "one\ntwo\nthree\n".as_bytes(),
-        &mut script,
-        &mut written,
-        &mut notes,
-    );
-    assert!(rt; served.is_ok());
-    assert!(rt; written.as_slice() == "note\nnote\n".as_bytes());
-    assert_eq!(rt; (notes.left, script.hasty, script.patient), (1, 4, 4));
+    for (pieces, fails, output) in [
+        // Both messages wait in the buffer.
+        (&["one\ntwo\n"][..], true, "note\nnote\n"),
+        // The beginning of the second waits.
+        (&["one\ntw", "o\nthree\n"][..], true, "note\nnote\nnote\n"),
+        // The last line ends with the reader.
+        (&["one\n", "two"][..], false, "note\nnote\n"),
+        // It has not ended.
+        (&["one\n", "two"][..], true, "note\n"),
+    ] {
+        let mut notes = Notes { left: 0 };
+        let mut written = Vec::new(alloc);
+        let served = serve(
+            alloc,
+            &Lines,
+            &mut BufReader::new(
+                alloc,
+                Pieces {
+                    pieces,
+                    next: 0,
+                    fails,
+                },
+            )?,
+            &mut written,
+            &mut notes,
+        );
+        assert_eq!(rt; served.is_err(), fails, "{output}");
+        assert!(rt; written.as_slice() == output.as_bytes(), "{output}");
+        assert_eq!(rt; notes.left, 0, "{output}");
+    }
     Ok(())
 }
 
 #[test]
 fn stops_at_a_failed_write_at_a_rest(rt: HostRuntime) -> Result<(), Fail> {
     let alloc = rt.alloc();
-    let waits = [
-        Waiting::Input,
-        Waiting::Input,
-        Waiting::Nothing,
-        Waiting::Nothing,
-    ];
-    let mut script = Script::new(&waits);
     let mut notes = Notes { left: 0 };
     let mut screen = Screen::new(alloc, 4);
     let served = serve(
         alloc,
         &Lines,
-        &mut "one\ntwo\nthree\n".as_bytes(),
-        &mut script,
+        &mut BufReader::new(alloc, "one\ntwo\nthree\n".as_bytes())?,
         &mut screen,
         &mut notes,
     );
@@ -140,23 +122,12 @@ fn stops_at_a_failed_write_at_a_rest(rt: HostRuntime) -> Result<(), Fail> {
 #[test]
 fn rests_when_memory_is_refused(rt: HostRuntime) -> Result<(), Fail> {
     let alloc = rt.alloc();
-    let waits = [
-        Waiting::Input,
-        Waiting::Input,
-        Waiting::Nothing,
-        Waiting::Nothing,
-    ];
-    let mut script = Script::new(&waits);
+    let Ok(mut input) = BufReader::new(alloc, "one\ntwo\n".as_bytes()) else {
+        return Ok(());
+    };
     let mut notes = Notes { left: 0 };
     let mut feeds = Feeds { count: 0 };
-    let served = serve(
-        alloc,
-        &Lines,
-        &mut "one\ntwo\n".as_bytes(),
-        &mut script,
-        &mut feeds,
-        &mut notes,
-    );
+    let served = serve(alloc, &Lines, &mut input, &mut feeds, &mut notes);
     assert!(rt; served.is_ok());
     assert_eq!(rt; (feeds.count, notes.left), (2, 0));
     Ok(())
