@@ -12,6 +12,8 @@ import sys
 HOME = os.path.dirname(os.path.dirname(os.path.abspath(__file__)))
 COLUMNS, FUNCTION, FILE = 120, 40, 400
 LONGER = {
+    "crates/def_map/proofs/Alike.antt": 569,
+    "crates/def_map/proofs/Numbered.antt": 582,
     "crates/item_tree/src/items.rt": 540,
     "crates/rust_cursor/src/cursor/nest.rt": 415,
     "crates/rust_cursor/src/cursor/texts.rt": 596,

@@ -1,0 +1,18 @@
+use Rattle.std.proofs.Common.{length, subst, sym}
+use Rattle.def_map.specs.Closing.{AreSeeds}
+use Rattle.def_map.specs.CrateView.{rows_view}
+use Rattle.def_map.specs.Found.{AreVerdicts}
+use Rattle.def_map.specs.Lowering.{crate_by}
+use Rattle.def_map.specs.Numbering.{number_in, item_number}
+use Rattle.def_map.proofs.Resolving.{verdicts_hold}
+use Rattle.def_map.proofs.def_map.verdicts_of.Goals as goal
+
+pub returns : goal.returns
+returns c =
+    let n = c.in_ok-numbers.numbers in
+    let t = c.in_ok-table.table in
+    let found = c.in_ok-closure.closure.facts.keys in
+    verdicts_hold (number_in n.symbols.keys) (item_number n.items.keys) (rows_view c.args.rows.now) t c.deref.result.now found c.in_ok-told.told.items
+    c.in_ok-numbers.ensures.numbering c.in_ok-table.ensures (subst (AreSeeds (crate_by n c.args.rows.now)) (sym c.deref.ensures.value) c.in_ok-seeds.ensures.seeds)
+    c.in_ok-closure.ensures.sound c.in_ok-closure.ensures.complete
+    (subst (λ facts. AreVerdicts t (length t.imports.items) facts c.in_ok-told.told.items) c.as_slice.ensures.keys c.in_ok-told.ensures)
