@@ -1,11 +1,12 @@
 //! The commands, file by file.
-use crate::crate_commands::crates_found;
+use crate::crate_commands::{CratesFound, crates_found};
 use crate::escapes::Shown;
 use crate::failure::Failure;
 use crate::files::{Room, STDIN};
 use crate::hints::better_edition;
-use crate::output::{Progress, complain, complain_of, form, write_out};
+use crate::output::complain;
 use crate::packages::Crates;
+use crate::report::Report;
 use crate::sources::files_of;
 use crate::tag_form::form_of;
 use crate::tag_paths::TagPaths;
@@ -18,7 +19,6 @@ use itemtree_options::{Asked, Command, OutlineAsked};
 use list_forms::Form;
 use source_listing::{Pattern, Query, Source, TagForm, sought_pattern};
 use std::alloc::{AllocError, Global};
-use std::fmt::Display;
 use std::io;
 
 /// The status where a name is not found, a file is not clean, or files differ, as that of `grep` and `diff`.
@@ -30,31 +30,26 @@ pub(crate) const FAILED: u8 = 2;
 /// A command over files.
 #[derive(Drop)]
 struct Run<'a> {
-    rt: &'a HostRuntime,
+    report: Report<'a>,
     asked: &'a Asked<'a>,
     options: &'a Options,
     /// The crates whose files are taken.
     crates: Option<&'a Crates>,
-    form: Form,
     /// What is to be found, if anything is.
     sought: Option<Pattern>,
     /// The lines of a tags file behind its head, in one text: a piece of memory for each takes half as much again.
     tags: String,
     tag_form: TagForm,
     tag_paths: TagPaths<'a>,
-    status: u8,
     /// Whether any file was done.
     has_done: bool,
-    /// Whether anything was written.
-    has_written: bool,
     /// Whether it was told that less is wrong in another edition.
     has_told_edition: bool,
-    progress: Progress<'a>,
 }
 
 impl Run<'_> {
     fn find(&self, source: Source<'_>, ignores_case: bool) -> Result<String, SourceError> {
-        let alloc = self.rt.alloc();
+        let alloc = self.report.rt.alloc();
         let Some(sought) = &self.sought else {
             return Ok(String::new(alloc));
         };
@@ -65,23 +60,27 @@ impl Run<'_> {
             ignores_case,
             kinds: self.asked.kinds.as_slice(),
             only_active: self.options.only_active,
-            form: self.form,
+            form: self.report.form,
         };
         find(alloc, source, self.options, query, self.asked.has_members)
     }
 
     fn push_tags(&mut self, source: Source<'_>, has_bodies: bool) -> Result<String, SourceError> {
-        let (alloc, has_members, form) = (self.rt.alloc(), self.asked.has_members, self.tag_form);
+        let (alloc, has_members, form) = (
+            self.report.rt.alloc(),
+            self.asked.has_members,
+            self.tag_form,
+        );
         // (all of a file's at once: where memory runs out, there are none)
         self.tags.push_str(&tags(alloc, source, self.options, form, has_members, has_bodies)?)?;
         Ok(String::new(alloc))
     }
 
     fn outline(&self, source: Source<'_>, look: OutlineAsked) -> Result<String, SourceError> {
-        let (alloc, options) = (self.rt.alloc(), self.options);
+        let (alloc, options) = (self.report.rt.alloc(), self.options);
         let has_members = self.asked.has_members;
         let (depth, has_imports) = (look.depth, look.has_imports);
-        match self.form {
+        match self.report.form {
             Form::Json if look.is_flat => {
                 flat_json(alloc, source, options, depth, has_members, has_imports)
             }
@@ -99,22 +98,15 @@ impl Run<'_> {
         }
     }
 
-    fn is_colored(&self) -> bool {
-        match self.form {
-            Form::Line { is_colored } => is_colored,
-            Form::Json => false,
-        }
-    }
-
     /// What is written of a file, and whether the file is as it should be.
     fn answer(&mut self, source: Source<'_>) -> Result<(String, bool), SourceError> {
-        let (alloc, options) = (self.rt.alloc(), self.options);
+        let (alloc, options) = (self.report.rt.alloc(), self.options);
         let text = match self.asked.command {
             Command::Outline(look) => self.outline(source, look)?,
             Command::Page { has_ids } => page(alloc, source.text, options, has_ids)?,
-            Command::Imports => imports(alloc, source, options, self.form)?,
+            Command::Imports => imports(alloc, source, options, self.report.form)?,
             Command::Duplicates => {
-                let text = duplicates(alloc, source, options, self.is_colored())?;
+                let text = duplicates(alloc, source, options, self.report.is_colored())?;
                 let is_none = text.is_empty();
                 return Ok((text, is_none));
             }
@@ -126,43 +118,17 @@ impl Run<'_> {
             | Command::Request { .. }
             | Command::Serve
             | Command::Lsp => {
-                let checked = check(alloc, source, options, self.is_colored())?;
+                let checked = check(alloc, source, options, self.report.is_colored())?;
                 return Ok((checked.text, checked.is_clean));
             }
         };
         Ok((text, true))
     }
 
-    /// Tells on standard error that a file is not done.
-    fn complain(&mut self, path: &str, error: impl Display + Drop) {
-        self.status = FAILED;
-        self.progress.clear();
-        complain(self.rt, Shown(path), error);
-    }
-
-    fn write(&mut self, text: &str, is_good: bool) -> Result<(), Failure> {
-        self.has_done = true;
-        if !is_good {
-            self.status = self.status.max(NOT_SO);
-        }
-        if text.is_empty() {
-            return Ok(());
-        }
-        self.has_written = true;
-        if self.asked.is_quiet {
-            return Ok(());
-        }
-        self.progress.clear();
-        write_out(self.rt, text)
-    }
-
-    /// How a path is written: lists are for people, and show what terminals can.
     fn path_of(&self, path: &str) -> Result<String, AllocError> {
-        let alloc = self.rt.alloc();
         match self.asked.command {
-            _ if self.asked.is_json => String::from_str(alloc, path),
-            Command::Tags { .. } => self.tag_paths.path_of(alloc, path),
-            _ => Shown(path).text(alloc),
+            Command::Tags { .. } => self.tag_paths.path_of(self.report.rt.alloc(), path),
+            _ => self.report.path_of(path),
         }
     }
 
@@ -175,14 +141,14 @@ impl Run<'_> {
         {
             return Ok(());
         }
-        let (alloc, is_colored) = (self.rt.alloc(), self.is_colored());
+        let (alloc, is_colored) = (self.report.rt.alloc(), self.report.is_colored());
         let Some(year) = better_edition(alloc, source, is_colored, length)? else {
             return Ok(());
         };
         self.has_told_edition = true;
-        self.progress.clear();
+        self.report.clear();
         let path = source.path;
-        let _ = eprintln!(self.rt;
+        let _ = eprintln!(self.report.rt;
             "itemtree: {path}: less is wrong with --edition {year}; without it, 2024 is taken"
         );
         Ok(())
@@ -197,51 +163,60 @@ impl Run<'_> {
         let (text, is_good) = match self.answer(source) {
             Ok(answer) => answer,
             Err(error) => {
-                self.complain(path, error);
+                self.report.complain(Shown(path), error);
                 return Ok(());
             }
         };
-        self.write(&text, is_good)?;
-        if let (Command::Check, false) = (self.asked.command, is_good) {
+        self.has_done = true;
+        if is_good {
+            return self.report.write(&text);
+        }
+        self.report.write_wrong(&text)?;
+        if let Command::Check = self.asked.command {
             self.tell_edition(source, text.len())?;
         }
         Ok(())
     }
 
-    fn do_file(&mut self, path: &str, room: &mut Room) -> Result<(), Failure> {
-        match room.read(self.rt, path) {
-            Ok(text) => self.do_text(path, text),
-            Err(error) => {
-                self.complain(path, error);
-                Ok(())
-            }
+    /// The files that are asked for, and what is told behind them.
+    fn sources(&mut self) -> Result<CratesFound, Failure> {
+        let rt = self.report.rt;
+        if let Some(crates) = self.crates {
+            let wants_imports = matches!(self.asked.command, Command::Check);
+            return crates_found(&mut self.report, self.options, crates, wants_imports);
         }
+        let found = files_of(rt, self.asked)?;
+        self.report.complain_of(&found.faults);
+        Ok(CratesFound {
+            files: found.files,
+            unresolved: String::new(rt.alloc()),
+            imports: String::new(rt.alloc()),
+        })
     }
 
-    /// The files that are asked for, and what is told behind them: the modules of crates that have no file.
-    fn sources(&mut self) -> Result<(Vec<String>, String), Failure> {
-        if let Some(crates) = self.crates {
-            let found = crates_found(self.rt, self.options, &crates.roots, self.is_colored())?;
-            return Ok((found.files, found.unresolved));
+    /// Tells what is wrong with modules, and with imports if nothing is wrong with the files: what is missing there may
+    /// be what is damaged.
+    fn tell_crates(&mut self, found: &CratesFound) -> Result<(), Failure> {
+        if self.report.status == 0 && !found.imports.is_empty() {
+            self.report.write_wrong(&found.imports)?;
         }
-        let found = files_of(self.rt, self.asked)?;
-        if !found.faults.is_empty() {
-            self.status = FAILED;
-            complain_of(self.rt, &found.faults);
+        if !found.unresolved.is_empty() {
+            self.report.write_wrong(&found.unresolved)?;
         }
-        Ok((found.files, String::new(self.rt.alloc())))
+        Ok(())
     }
 
     fn do_all(&mut self) -> Result<(), Failure> {
-        let (files, unresolved) = self.sources()?;
-        let mut room = Room::new(self.rt.alloc());
-        for (before, file) in files.iter().enumerate() {
-            self.do_file(file, &mut room)?;
-            self.progress.tell(before + 1, files.len());
+        let found = self.sources()?;
+        let mut room = Room::new(self.report.rt.alloc());
+        for (before, file) in found.files.iter().enumerate() {
+            if let Some(text) = self.report.read(file, &mut room) {
+                self.do_text(file, text)?;
+            }
+            self.report.tell_progress(before + 1, found.files.len());
         }
-        self.progress.clear();
         match self.asked.command {
-            Command::Check if !unresolved.is_empty() => self.write(&unresolved, false),
+            Command::Check => self.tell_crates(&found),
             _ => Ok(()),
         }
     }
@@ -293,14 +268,13 @@ fn finish_tags(
 /// Ends a run: writes the tags, and gives the status.
 fn finish(run: Run<'_>) -> Result<u8, Failure> {
     let Run {
-        rt,
+        report,
         asked,
         tags,
-        status,
         has_done,
-        has_written,
         ..
     } = run;
+    let (rt, status) = (report.rt, report.status);
     match asked.command {
         Command::Tags {
             output,
@@ -315,7 +289,7 @@ fn finish(run: Run<'_>) -> Result<u8, Failure> {
             };
             finish_tags(rt, file, tags, status, has_done)
         }
-        Command::Find { .. } if !has_written => Ok(status.max(NOT_SO)),
+        Command::Find { .. } if !report.has_written => Ok(status.max(NOT_SO)),
         _ => Ok(status),
     }
 }
@@ -351,23 +325,19 @@ pub(crate) fn run_files(
 ) -> Result<u8, Failure> {
     refuse_output(rt.alloc(), asked)?;
     let mut run = Run {
-        rt,
+        report: Report::new(rt, asked),
         asked,
         options,
         crates,
-        form: form(rt, asked),
         sought: sought_of(rt.alloc(), asked.command)?,
         tags: tags_of(rt.alloc(), asked.command)?,
         tag_form: form_of(rt.alloc(), asked.command)?,
         tag_paths: TagPaths::new(rt, asked.command)?,
-        status: 0,
         has_done: false,
-        has_written: false,
         has_told_edition: false,
-        progress: Progress::new(rt),
     };
     match run.do_all() {
         Ok(()) => finish(run),
-        closed => or_closed(closed, run.status),
+        closed => or_closed(closed, run.report.status),
     }
 }

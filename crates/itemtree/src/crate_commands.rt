@@ -1,23 +1,16 @@
 //! What commands are told of crates: their files, and their modules.
-use crate::commands::{FAILED, NOT_SO};
 use crate::crate_sources::CrateSources;
 use crate::escapes::Shown;
 use crate::failure::Failure;
-use crate::output::{complain_of, form, write_out};
+use crate::packages::Crates;
+use crate::report::Report;
 use crate::walk::files_of_folder;
-use itemtree_commands::{Options, modules, unresolved_modules};
+use def_map::{DefMapError, Manifest};
+use itemtree_commands::{Options, modules, unresolved_modules, wrong_imports};
 use itemtree_options::Asked;
-use list_forms::Form;
 use module_tree::{ModuleChoice, ModuleTree};
 use std::alloc::{AllocError, Global};
 use std::collections::BTreeSet;
-
-/// The files of crates, and the lines of the modules that have none.
-#[derive(Drop)]
-pub(crate) struct CratesFound {
-    pub(crate) files: Vec<String>,
-    pub(crate) unresolved: String,
-}
 
 /// The modules of each crate.
 fn trees_of(
@@ -50,72 +43,89 @@ fn unresolved_in(
     Ok(lines)
 }
 
-/// The files of crates, in the order of their modules, and the lines of the modules that have none.
+/// The lines of the imports of crates that are wrong.
+fn wrong_imports_in(
+    report: &mut Report<'_>,
+    sources: &CrateSources<'_>,
+    manifest: &Manifest,
+    trees: &[ModuleTree],
+) -> Result<String, Failure> {
+    let (alloc, is_colored) = (report.rt.alloc(), report.is_colored());
+    let mut lines = String::new(alloc);
+    for tree in trees {
+        match sources.resolved_imports(tree, manifest) {
+            Ok(imports) => {
+                let files = sources.files();
+                lines.push_str(&wrong_imports(alloc, &imports, tree, files, is_colored)?)?;
+            }
+            Err(DefMapError::OutOfMemory) => return Err(Failure::from(AllocError)),
+            Err(error) => report.complain("imports", error),
+        }
+    }
+    Ok(lines)
+}
+
+/// What is found of crates.
+#[derive(Drop)]
+pub(crate) struct CratesFound {
+    /// Their files, in the order of their modules.
+    pub(crate) files: Vec<String>,
+    /// The lines of the modules that have no file.
+    pub(crate) unresolved: String,
+    /// The lines of the imports that are wrong, if these are asked for.
+    pub(crate) imports: String,
+}
+
+/// What is found of crates, with the imports that are wrong if these are wanted.
 pub(crate) fn crates_found(
-    rt: &HostRuntime,
+    report: &mut Report<'_>,
     options: &Options,
-    roots: &[String],
-    is_colored: bool,
+    crates: &Crates,
+    wants_imports: bool,
 ) -> Result<CratesFound, Failure> {
-    let alloc = rt.alloc();
-    let mut sources = CrateSources::new(rt, options, ModuleChoice::Enabled);
-    let trees = trees_of(&mut sources, alloc, roots)?;
+    let alloc = report.rt.alloc();
+    let mut sources = CrateSources::new(report.rt, options, ModuleChoice::Enabled);
+    let trees = trees_of(&mut sources, alloc, &crates.roots)?;
+    report.complain_of(sources.faults());
     let (mut files, mut seen) = (Vec::new(alloc), BTreeSet::new(alloc));
     for tree in &trees {
         sources.push_paths(tree, &mut seen, &mut files)?;
     }
-    let unresolved = unresolved_in(&sources, alloc, options, &trees, is_colored)?;
-    Ok(CratesFound { files, unresolved })
+    let unresolved = unresolved_in(&sources, alloc, options, &trees, report.is_colored())?;
+    let imports = if wants_imports {
+        wrong_imports_in(report, &sources, &crates.facts, &trees)?
+    } else {
+        String::new(alloc)
+    };
+    Ok(CratesFound {
+        files,
+        unresolved,
+        imports,
+    })
 }
 
-/// Writes the modules of crates.
-fn write_modules(
-    rt: &HostRuntime,
-    sources: &CrateSources<'_>,
-    options: &Options,
-    trees: &[ModuleTree],
-    form: Form,
-) -> Result<(), Failure> {
-    for tree in trees {
-        write_out(
-            rt,
-            &modules(rt.alloc(), tree, sources.files(), &options.edition, form)?,
-        )?;
-    }
-    Ok(())
-}
-
-/// Writes the files below the folder of a root file that were not read, and tells whether there are any.
+/// Writes the files below the folder of a root file that were not read.
 fn write_orphans(
-    rt: &HostRuntime,
+    report: &mut Report<'_>,
     sources: &CrateSources<'_>,
     asked: &Asked<'_>,
     root: &str,
-) -> Result<bool, Failure> {
+) -> Result<(), Failure> {
     let folder = match root.rsplit_once('/') {
         Some(("", _)) => "/",
         Some((folder, _)) => folder,
         None => ".",
     };
-    let mut has_orphans = false;
-    for file in files_of_folder(rt, folder, asked)?.files {
+    let found = files_of_folder(report.rt, folder, asked)?;
+    report.complain_of(&found.faults);
+    for file in found.files {
         if !sources.has_read(&file) {
-            has_orphans = true;
             let shown = Shown(file.strip_prefix("./").unwrap_or(&file));
-            write_out(rt, &format!(in rt.alloc(); "{shown}\n")?)?;
+            let line = format!(in report.rt.alloc(); "{shown}\n")?;
+            report.write_wrong(&line)?;
         }
     }
-    Ok(has_orphans)
-}
-
-/// The status of a list of crates.
-fn status(rt: &HostRuntime, sources: &CrateSources<'_>, is_wrong: bool) -> u8 {
-    complain_of(rt, sources.faults());
-    match (sources.faults(), is_wrong) {
-        ([], false) => 0,
-        ([], true) => NOT_SO,
-        _ => FAILED,
-    }
+    Ok(())
 }
 
 /// `itemtree modules`: lists the modules of crates, and gives the status to end with.
@@ -126,14 +136,16 @@ pub(crate) fn list_modules(
     roots: &[String],
 ) -> Result<u8, Failure> {
     let alloc = rt.alloc();
+    let mut report = Report::new(rt, asked);
     let mut sources = CrateSources::new(rt, options, ModuleChoice::Enabled);
     let trees = trees_of(&mut sources, alloc, roots)?;
-    if !asked.is_quiet {
-        write_modules(rt, &sources, options, &trees, form(rt, asked))?;
+    for tree in &trees {
+        let form = report.form;
+        report.write(&modules(alloc, tree, sources.files(), &options.edition, form)?)?;
     }
-    let unresolved = unresolved_in(&sources, alloc, options, &trees, false)?;
-    let _ = eprint!(rt; "{unresolved}");
-    Ok(status(rt, &sources, !unresolved.is_empty()))
+    report.tell_wrong(&unresolved_in(&sources, alloc, options, &trees, false)?);
+    report.complain_of(sources.faults());
+    Ok(report.status)
 }
 
 /// `itemtree modules --orphans`: lists the files that no `mod` names, and gives the status to end with.
@@ -143,11 +155,12 @@ pub(crate) fn list_orphans(
     asked: &Asked<'_>,
     roots: &[String],
 ) -> Result<u8, Failure> {
+    let mut report = Report::new(rt, asked);
     let mut sources = CrateSources::new(rt, options, ModuleChoice::All);
     let _trees = trees_of(&mut sources, rt.alloc(), roots)?;
-    let mut has_orphans = false;
     for root in roots {
-        has_orphans |= write_orphans(rt, &sources, asked, root)?;
+        write_orphans(&mut report, &sources, asked, root)?;
     }
-    Ok(status(rt, &sources, has_orphans))
+    report.complain_of(sources.faults());
+    Ok(report.status)
 }

@@ -2,6 +2,7 @@
 use crate::failure::Failure;
 use crate::files::Room;
 use crate::walk::{Fault, Found};
+use def_map::{DefMapError, Manifest, ResolvedImport, resolve_imports};
 use item_tree::ItemTree;
 use itemtree_commands::{CrateFile, Options};
 use module_tree::{KnownFiles, KnownPath, ModuleChoice, ModuleTree, ModuleTreeError, module_tree};
@@ -11,11 +12,57 @@ use std::fs;
 use std::fs::Metadata;
 use std::os::unix::fs::MetadataExt;
 
+/// The attribute by which a macro is known outside of its module.
+const EXPORT_WORD: &str = "macro_export";
+
+/// The lint that forbids to name macros by paths that other macros make, and its group.
+const EXPANDED_WORDS: [&str; 2] = [
+    "macro_expanded_macro_exports_accessed_by_absolute_paths",
+    "future_incompatible",
+];
+
 /// A file, by the numbers of its device and of itself.
 type FileId = (u64, u64);
 
 fn id_of(found: &Metadata) -> FileId {
     (found.dev(), found.ino())
+}
+
+/// Whether a text behind the word `mod` goes on as a module does.
+fn is_module(rest: &str) -> bool {
+    let name = rest.trim_start();
+    let behind = name.trim_start_matches(|c: char| c == '_' || c == '#' || c.is_alphanumeric());
+    name.len() < rest.len()
+        && behind.len() < name.len()
+        && behind.trim_start().starts_with(|c| c == ';' || c == '{')
+}
+
+/// How often a text exports a macro: as often as can be if it has a module in a body, whose file is not read.
+fn export_words(file: &CrateFile) -> u32 {
+    let modules = file
+        .text()
+        .split("mod")
+        .skip(1)
+        .filter(|rest| is_module(rest));
+    if modules.count() > file.tree().item_tree_stats().mods {
+        return u32::MAX;
+    }
+    let count = file.text().split(EXPORT_WORD).skip(1).count();
+    u32::try_from(count).unwrap_or(u32::MAX)
+}
+
+/// Whether a text has a use whose list stands behind `::`, which its tree does not tell.
+fn has_global_list(text: &str) -> bool {
+    let mut uses = text.split("use").skip(1);
+    uses.any(|rest| {
+        let behind = rest.trim_start().strip_prefix("::").unwrap_or("");
+        behind.trim_start().starts_with('{')
+    })
+}
+
+/// Whether a text may allow to name macros by paths that other macros make.
+fn allows_expanded(text: &str) -> bool {
+    EXPANDED_WORDS.iter().any(|word| text.contains(word))
 }
 
 /// What is known of the files of a crate.
@@ -31,6 +78,8 @@ pub(crate) struct CrateSources<'a> {
     room: Room,
     /// What could not be read.
     faults: Found,
+    /// The numbers of the files among it.
+    unread: BTreeSet<u32>,
 }
 
 impl<'a> CrateSources<'a> {
@@ -49,6 +98,7 @@ impl<'a> CrateSources<'a> {
             files: Vec::new(alloc),
             room: Room::new(alloc),
             faults: Found::new(alloc),
+            unread: BTreeSet::new(alloc),
         }
     }
 
@@ -88,8 +138,12 @@ impl<'a> CrateSources<'a> {
     /// Reads a file, and gives its number.
     fn push_file(&mut self, path: &str) -> Result<u32, Failure> {
         let number = u32::try_from(self.files.len()).unwrap_or(u32::MAX);
+        let before = self.faults.faults.len();
         let file = self.read(path)?;
         self.files.push(file).map_err(AllocError::from)?;
+        if self.faults.faults.len() > before {
+            self.unread.insert(number).map_err(AllocError::from)?;
+        }
         Ok(number)
     }
 
@@ -124,13 +178,19 @@ impl<'a> CrateSources<'a> {
         Ok(())
     }
 
-    /// The modules that are known.
-    fn known_modules(&self, root: u32, path: &str) -> Result<ModuleTree, ModuleTreeError> {
-        let alloc = self.rt.alloc();
-        let mut trees: Vec<&ItemTree> = Vec::new(alloc);
+    /// The trees of the files.
+    fn trees(&self) -> Result<Vec<&ItemTree>, AllocError> {
+        let mut trees: Vec<&ItemTree> = Vec::new(self.rt.alloc());
         for file in &self.files {
             trees.push(file.tree())?;
         }
+        Ok(trees)
+    }
+
+    /// The modules that are known.
+    fn known_modules(&self, root: u32, path: &str) -> Result<ModuleTree, ModuleTreeError> {
+        let alloc = self.rt.alloc();
+        let trees = self.trees()?;
         let known = KnownFiles {
             paths: &self.paths,
             trees: trees.as_slice(),
@@ -180,6 +240,35 @@ impl<'a> CrateSources<'a> {
         Ok(known)
     }
 
+    /// How often the word stands in each file that makes a macro known outside of its module.
+    fn export_words(&self) -> Result<Vec<u32>, AllocError> {
+        let mut words = Vec::new(self.rt.alloc());
+        for file in &self.files {
+            words.push(export_words(file))?;
+        }
+        Ok(words)
+    }
+
+    /// What is told of the imports of a crate with these modules: nothing if a tree does not tell where one begins.
+    pub(crate) fn resolved_imports(
+        &self,
+        tree: &ModuleTree,
+        manifest: &Manifest,
+    ) -> Result<Vec<ResolvedImport>, DefMapError> {
+        if self.files.iter().any(|file| has_global_list(file.text())) {
+            return Ok(Vec::new(self.rt.alloc()));
+        }
+        let (trees, export_words) = (self.trees()?, self.export_words()?);
+        let sources = def_map::CrateSources {
+            modules: &tree.modules,
+            trees: &trees,
+            export_words: &export_words,
+            allows_expanded: self.files.iter().any(|file| allows_expanded(file.text())),
+            manifest,
+        };
+        resolve_imports(self.rt.alloc(), sources)
+    }
+
     /// The files by their numbers.
     pub(crate) fn files(&self) -> &[CrateFile] {
         &self.files
@@ -195,7 +284,7 @@ impl<'a> CrateSources<'a> {
         fs::metadata(self.rt, path).is_ok_and(|found| self.numbers.contains_key(&id_of(&found)))
     }
 
-    /// Adds the paths of the files that modules stand in, in the order of the modules, each once.
+    /// Adds the paths of the files that modules stand in and that were read, in the order of the modules, each once.
     pub(crate) fn push_paths(
         &self,
         tree: &ModuleTree,
@@ -203,10 +292,8 @@ impl<'a> CrateSources<'a> {
         paths: &mut Vec<String>,
     ) -> Result<(), AllocError> {
         for module in &tree.modules {
-            if let (true, Some(file)) = (
-                seen.insert(module.file)?,
-                self.files.get(module.file as usize),
-            ) {
+            let is_new = seen.insert(module.file)? && !self.unread.contains(&module.file);
+            if let (true, Some(file)) = (is_new, self.files.get(module.file as usize)) {
                 paths.push(String::from_str(self.rt.alloc(), file.path())?)?;
             }
         }

@@ -1,6 +1,7 @@
 //! What ends a run early.
 use crate::escapes::Shown;
 use std::alloc::{AllocError, Global};
+use std::fmt::Display;
 use std::io;
 
 /// Why a run ends early.
@@ -31,8 +32,12 @@ impl From<AllocError> for Failure {
     }
 }
 
-/// Why a file is not written.
-pub(crate) fn refusal(alloc: Global, path: &str, reason: &str) -> Result<Failure, AllocError> {
+/// Why a file cannot be read or written as it is asked.
+pub(crate) fn refusal(
+    alloc: Global,
+    path: &str,
+    reason: impl Display + Drop,
+) -> Result<Failure, AllocError> {
     let path = Shown(path);
     Ok(Failure::Usage(format!(in alloc; "{path}: {reason}")?))
 }

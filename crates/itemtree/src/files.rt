@@ -6,9 +6,6 @@ use std::io::Read;
 use std::{fs, io};
 use thiserror::Error;
 
-/// The room that is taken for the first file at least, in bytes.
-const LEAST_ROOM: usize = 1 << 16;
-
 /// What stands for standard input.
 pub(crate) const STDIN: &str = "-";
 
@@ -34,7 +31,7 @@ fn not_text(bytes: &[u8], count: usize) -> ReadError {
     ReadError::NotText { line, column }
 }
 
-/// Room for the texts of files, one after another: none of it is cleared again.
+/// Room for the texts of files, one after another.
 #[derive(Drop)]
 pub(crate) struct Room {
     bytes: Vec<u8>,
@@ -47,37 +44,17 @@ impl Room {
         }
     }
 
-    /// Reads to the end, and tells how many bytes there are.
-    fn fill(&mut self, mut file: impl Read + Drop) -> io::Result<usize> {
-        let mut len = 0usize;
-        for _turn in 0..u64::MAX {
-            if len == self.bytes.len() {
-                self.bytes.resize(len.saturating_mul(2).max(LEAST_ROOM), 0)?;
-            }
-            let Some(left) = self.bytes.as_mut_slice().get_mut(len..) else {
-                break;
-            };
-            match file.read(left) {
-                Ok(0) => break,
-                Ok(count) => len = len.saturating_add(count),
-                Err(error) if error.kind() == io::ErrorKind::Interrupted => {}
-                Err(error) => return Err(error),
-            }
-        }
-        Ok(len)
-    }
-
     /// The text of a file, or of standard input.
     pub(crate) fn read(&mut self, rt: &HostRuntime, path: &str) -> Result<&str, ReadError> {
-        let len = if path == STDIN {
-            self.fill(rt.stdin())?
+        self.bytes.clear();
+        if path == STDIN {
+            rt.stdin().read_to_end(&mut self.bytes)?;
         } else {
-            self.fill(File::open(rt, path)?)?
-        };
-        let bytes = self.bytes.get(..len).unwrap_or(&[]);
-        match str::from_utf8(bytes) {
+            File::open(rt, path)?.read_to_end(&mut self.bytes)?;
+        }
+        match str::from_utf8(&self.bytes) {
             Ok(text) => Ok(text),
-            Err(error) => Err(not_text(bytes, error.valid_up_to())),
+            Err(error) => Err(not_text(&self.bytes, error.valid_up_to())),
         }
     }
 }

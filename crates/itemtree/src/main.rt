@@ -16,6 +16,7 @@ mod options;
 mod output;
 mod packages;
 mod replacing;
+mod report;
 mod request;
 mod serve;
 mod sources;

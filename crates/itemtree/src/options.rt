@@ -94,18 +94,22 @@ pub(crate) fn options_in(alloc: Global, year: EditionYear) -> Result<Options, Al
     })
 }
 
-/// The options of a command line with these cfgs. The edition is that of a manifest, if it tells one and the command
-/// line names none.
+/// The edition that is asked for, or else that of a manifest, if that tells one.
+pub(crate) fn edition_of(asked: &Asked<'_>, told: Option<EditionYear>) -> EditionYear {
+    match told {
+        Some(year) if !asked.has_edition => year,
+        _ => year(asked.edition),
+    }
+}
+
+/// The options of a command line with these cfgs, and what a manifest tells of the edition.
 pub(crate) fn options_of(
     alloc: Global,
     asked: &Asked<'_>,
     atoms: Vec<CfgAtom>,
     told: Option<EditionYear>,
 ) -> Result<Options, AllocError> {
-    let year = match told {
-        Some(year) if !asked.has_edition => year,
-        _ => year(asked.edition),
-    };
+    let year = edition_of(asked, told);
     let krate = CrateData {
         root: HirFileId(0),
         cfg: CfgOptions::new(atoms),

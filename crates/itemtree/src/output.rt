@@ -1,7 +1,5 @@
 //! What is written on standard output, and told on standard error.
-use crate::escapes::Shown;
 use crate::failure::Failure;
-use crate::walk::Fault;
 use itemtree_options::Asked;
 use list_forms::Form;
 use std::alloc::Global;
@@ -76,13 +74,6 @@ pub(crate) fn form(rt: &HostRuntime, asked: &Asked<'_>) -> Form {
 /// Tells on standard error what there is to say of a file.
 pub(crate) fn complain(rt: &HostRuntime, path: impl Display + Drop, what: impl Display + Drop) {
     let _ = eprintln!(rt; "itemtree: {path}: {what}");
-}
-
-/// Tells on standard error of each fault.
-pub(crate) fn complain_of(rt: &HostRuntime, faults: &[Fault]) {
-    for fault in faults {
-        complain(rt, Shown(&fault.path), fault.reason.as_str());
-    }
 }
 
 /// How many files are done: told on standard error once a second, where that is a terminal, and taken away before

@@ -1,16 +1,15 @@
 //! The crates that a command line names: a root file, or those of a package.
 use crate::escapes::Shown;
 use crate::failure::{Failure, refusal};
-use crate::files::{Room, is_a_folder};
-use crate::walk::{files_of_folder, with_slash};
-use cargo_manifest::{FeatureChoice, FeatureError, Manifest, ManifestError, Root};
+use crate::files::{ReadError, Room, is_a_folder};
+use crate::options::edition_of;
+use crate::walk::{MANIFEST, files_of_folder, is_file, with_slash};
+use cargo_manifest::{FeatureChoice, Root};
+use def_map::Manifest;
 use hir_input::{CfgAtom, EditionYear, Name};
 use itemtree_options::{Asked, CrateAsked};
 use std::alloc::{AllocError, Global};
-use std::fs;
-
-/// The file that tells of a package.
-const MANIFEST: &str = "Cargo.toml";
+use std::io;
 
 /// How far above a package its workspace is looked for.
 const MOST_ABOVE: usize = 32;
@@ -24,6 +23,8 @@ pub(crate) struct Crates {
     pub(crate) edition: Option<EditionYear>,
     /// The cfgs of the features that are enabled.
     pub(crate) features: Vec<CfgAtom>,
+    /// What bears on their imports.
+    pub(crate) facts: Manifest,
 }
 
 /// The folder of a package, with a slash behind it; nothing for the working directory.
@@ -32,10 +33,6 @@ struct Package<'a> {
     rt: &'a HostRuntime,
     top: String,
     roots: Vec<String>,
-}
-
-fn is_file(rt: &HostRuntime, path: &str) -> bool {
-    fs::metadata(rt, path).is_ok_and(|found| found.is_file())
 }
 
 /// A crate that a manifest declares has no root file.
@@ -75,14 +72,18 @@ impl Package<'_> {
     }
 
     /// Adds the root files in the folder of binaries.
-    fn push_binaries(&mut self, asked: &Asked<'_>) -> Result<(), AllocError> {
+    fn push_binaries(&mut self, asked: &Asked<'_>) -> Result<(), Failure> {
         let (alloc, rt) = (self.rt.alloc(), self.rt);
         let top = &self.top;
         let folder = format!(in alloc; "{top}src/bin/")?;
         if !is_a_folder(rt, &folder) {
             return Ok(());
         }
-        for file in files_of_folder(rt, &folder, asked)?.files {
+        let found = files_of_folder(rt, &folder, asked)?;
+        if let Some(fault) = found.faults.first() {
+            return Err(refusal(alloc, &fault.path, fault.reason.as_str())?);
+        }
+        for file in found.files {
             let below = file.strip_prefix(folder.as_str()).unwrap_or(&file);
             let is_root = match below.split_once('/') {
                 Some((_, name)) => name == "main.rs",
@@ -96,32 +97,12 @@ impl Package<'_> {
     }
 }
 
-/// Why a manifest tells nothing.
-fn manifest_failure(alloc: Global, path: &str, error: ManifestError) -> Failure {
-    let path = Shown(path);
-    match format!(in alloc; "{path}: {error}") {
-        Ok(message) => Failure::Usage(message),
-        Err(error) => Failure::from(error),
-    }
-}
-
-fn feature_failure(alloc: Global, path: &str, error: FeatureError) -> Failure {
-    let path = Shown(path);
-    match format!(in alloc; "{path}: {error}") {
-        Ok(message) => Failure::Usage(message),
-        Err(error) => Failure::from(error),
-    }
-}
-
 /// The text of a manifest.
 fn manifest_text(rt: &HostRuntime, path: &str) -> Result<String, Failure> {
     let mut room = Room::new(rt.alloc());
     match room.read(rt, path) {
         Ok(text) => Ok(String::from_str(rt.alloc(), text)?),
-        Err(error) => {
-            let path = Shown(path);
-            Err(Failure::Usage(format!(in rt.alloc(); "{path}: {error}")?))
-        }
+        Err(error) => Err(refusal(rt.alloc(), path, error)?),
     }
 }
 
@@ -132,22 +113,30 @@ fn workspace_text(rt: &HostRuntime, top: &str) -> Result<Option<String>, AllocEr
         above.push_str("../")?;
         let path = format!(in rt.alloc(); "{above}{MANIFEST}")?;
         let mut room = Room::new(rt.alloc());
-        if let Ok(text) = room.read(rt, &path)
-            && text.contains("[workspace")
-        {
-            return Ok(Some(String::from_str(rt.alloc(), text)?));
+        match room.read(rt, &path) {
+            Ok(text) if text.contains("[workspace") => {
+                return Ok(Some(String::from_str(rt.alloc(), text)?));
+            }
+            Err(ReadError::Unread(error)) if error.kind() == io::ErrorKind::OutOfMemory => {
+                return Err(AllocError);
+            }
+            _ => {}
         }
     }
     Ok(None)
 }
 
 /// What the manifest at a path tells, also by its workspace.
-fn manifest_at(rt: &HostRuntime, top: &str, path: &str) -> Result<Manifest, Failure> {
+fn manifest_at(
+    rt: &HostRuntime,
+    top: &str,
+    path: &str,
+) -> Result<cargo_manifest::Manifest, Failure> {
     let alloc = rt.alloc();
     let text = manifest_text(rt, path)?;
-    let manifest = match Manifest::from_text(alloc, &text, None) {
+    let manifest = match cargo_manifest::Manifest::from_text(alloc, &text, None) {
         Ok(manifest) => manifest,
-        Err(error) => return Err(manifest_failure(alloc, path, error)),
+        Err(error) => return Err(refusal(alloc, path, error)?),
     };
     if manifest.edition.is_some() {
         return Ok(manifest);
@@ -155,9 +144,9 @@ fn manifest_at(rt: &HostRuntime, top: &str, path: &str) -> Result<Manifest, Fail
     let Some(workspace) = workspace_text(rt, top)? else {
         return Ok(manifest);
     };
-    match Manifest::from_text(alloc, &text, Some(&workspace)) {
+    match cargo_manifest::Manifest::from_text(alloc, &text, Some(&workspace)) {
         Ok(manifest) => Ok(manifest),
-        Err(error) => Err(manifest_failure(alloc, path, error)),
+        Err(error) => Err(refusal(alloc, path, error)?),
     }
 }
 
@@ -199,7 +188,7 @@ fn named_features<'a>(alloc: Global, asked: &Asked<'a>) -> Result<Vec<&'a str>, 
 fn feature_atoms(
     alloc: Global,
     path: &str,
-    manifest: &Manifest,
+    manifest: &cargo_manifest::Manifest,
     asked: &Asked<'_>,
     krate: CrateAsked<'_>,
 ) -> Result<Vec<CfgAtom>, Failure> {
@@ -212,9 +201,59 @@ fn feature_atoms(
     let mut atoms = Vec::new(alloc);
     match manifest.enabled_features(alloc, &choice) {
         Ok(names) => push_features(alloc, &names, &mut atoms)?,
-        Err(error) => return Err(feature_failure(alloc, path, error)),
+        Err(error) => return Err(refusal(alloc, path, error)?),
     }
     Ok(atoms)
+}
+
+fn push_name(alloc: Global, text: &str, names: &mut Vec<Name>) -> Result<(), AllocError> {
+    if let Some(name) = Name::new(String::from_str(alloc, text)?) {
+        names.push(name)?;
+    }
+    Ok(())
+}
+
+/// The names of other crates, if they are known: a dependency that is not renamed may call its library otherwise.
+fn other_crates(
+    alloc: Global,
+    manifest: &cargo_manifest::Manifest,
+) -> Result<Option<Vec<Name>>, AllocError> {
+    let mut names = Vec::new(alloc);
+    for dependency in &manifest.dependencies {
+        if dependency.package_name.is_none() {
+            return Ok(None);
+        }
+        push_name(alloc, &dependency.name, &mut names)?;
+    }
+    if let Some(library) = manifest.roots.first() {
+        push_name(alloc, &library.name, &mut names)?;
+    }
+    Ok(Some(names))
+}
+
+fn feature_names(
+    alloc: Global,
+    manifest: &cargo_manifest::Manifest,
+) -> Result<Vec<String>, AllocError> {
+    let mut names = Vec::new(alloc);
+    for feature in &manifest.features {
+        names.push(feature.name.clone()?)?;
+    }
+    Ok(names)
+}
+
+/// What a manifest says that bears on imports.
+fn import_facts(
+    alloc: Global,
+    asked: &Asked<'_>,
+    manifest: &cargo_manifest::Manifest,
+) -> Result<Manifest, AllocError> {
+    let (features, crates) = (
+        feature_names(alloc, manifest)?,
+        other_crates(alloc, manifest)?,
+    );
+    let is_2015 = edition_of(asked, manifest.edition) == EditionYear::E2015;
+    Manifest::new(alloc, is_2015, features, crates)
 }
 
 /// The root files of a package, whose folder has a slash behind it.
@@ -222,7 +261,7 @@ fn package_roots(
     rt: &HostRuntime,
     asked: &Asked<'_>,
     top: String,
-    manifest: &Manifest,
+    manifest: &cargo_manifest::Manifest,
 ) -> Result<Vec<String>, Failure> {
     let mut package = Package {
         rt,
@@ -251,6 +290,7 @@ fn package_crates(
     let path = format!(in alloc; "{top}{MANIFEST}")?;
     let manifest = manifest_at(rt, &top, &path)?;
     let features = feature_atoms(alloc, &path, &manifest, asked, krate)?;
+    let facts = import_facts(alloc, asked, &manifest)?;
     let roots = package_roots(rt, asked, top, &manifest)?;
     if roots.is_empty() {
         return Err(refusal(alloc, &path, "no crate of this package has a root file")?);
@@ -259,6 +299,7 @@ fn package_crates(
         roots,
         edition: manifest.edition,
         features,
+        facts,
     })
 }
 
@@ -272,10 +313,12 @@ pub(crate) fn crates_of(
         return package_crates(rt, asked, krate);
     }
     let alloc = rt.alloc();
+    let is_2015 = edition_of(asked, None) == EditionYear::E2015;
     let mut crates = Crates {
         roots: Vec::new(alloc),
         edition: None,
         features: Vec::new(alloc),
+        facts: Manifest::new(alloc, is_2015, Vec::new(alloc), None)?,
     };
     push_features(alloc, &named_features(alloc, asked)?, &mut crates.features)?;
     crates

@@ -1,9 +1,9 @@
 //! The request in JSON that `item_tree_tool` reads.
 use crate::commands::FAILED;
-use crate::escapes::Shown;
 use crate::failure::Failure;
 use crate::files::Room;
-use crate::output::{complain, complain_of, write_out};
+use crate::output::write_out;
+use crate::report::Report;
 use crate::sources::files_of;
 use hir_input::{Crate, HirFileId};
 use item_tree_db::Place;
@@ -41,26 +41,21 @@ fn shows_of(alloc: Global, words: &[&str], count: usize) -> Result<Vec<Show>, Al
 
 /// The texts of the files, and of those below folders; nothing if one of them cannot be read, which is told on standard
 /// error.
-fn texts_of(rt: &HostRuntime, asked: &Asked<'_>) -> Result<Option<Vec<String>>, Failure> {
-    let found = files_of(rt, asked)?;
-    if !found.faults.is_empty() {
-        complain_of(rt, &found.faults);
-        return Ok(None);
-    }
-    let mut room = Room::new(rt.alloc());
-    let mut texts = Vec::new(rt.alloc());
+fn texts_of(report: &mut Report<'_>, asked: &Asked<'_>) -> Result<Option<Vec<String>>, Failure> {
+    let alloc = report.rt.alloc();
+    let found = files_of(report.rt, asked)?;
+    report.complain_of(&found.faults);
+    let (mut room, mut texts) = (Room::new(alloc), Vec::new(alloc));
     for file in &found.files {
-        match room.read(rt, file) {
-            Ok(text) => texts
-                .push(String::from_str(rt.alloc(), text)?)
-                .map_err(AllocError::from)?,
-            Err(error) => {
-                complain(rt, Shown(file), error);
-                return Ok(None);
-            }
+        if report.status == 0
+            && let Some(text) = report.read(file, &mut room)
+        {
+            texts
+                .push(String::from_str(alloc, text)?)
+                .map_err(AllocError::from)?;
         }
     }
-    Ok(Some(texts))
+    Ok((report.status == 0).then_some(texts))
 }
 
 /// Writes the request. Where a file cannot be read, or the request cannot be written, nothing is.
@@ -70,8 +65,9 @@ pub(crate) fn write_request(
     asked: &Asked<'_>,
 ) -> Result<u8, Failure> {
     let alloc = rt.alloc();
-    let Some(texts) = texts_of(rt, asked)? else {
-        return Ok(FAILED);
+    let mut report = Report::new(rt, asked);
+    let Some(texts) = texts_of(&mut report, asked)? else {
+        return Ok(report.status);
     };
     let shows = shows_of(alloc, &asked.shows, texts.len())?;
     match source_request(alloc, &texts, options, &shows) {

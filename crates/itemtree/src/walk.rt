@@ -13,8 +13,8 @@ use std::{fs, io};
 /// The file by which cargo marks a folder that it builds in.
 const CACHE_TAG: &str = "CACHEDIR.TAG";
 
-/// The file beside which cargo makes a folder to build in.
-const MANIFEST: &str = "Cargo.toml";
+/// The file that tells of a package, beside which cargo makes a folder to build in.
+pub(crate) const MANIFEST: &str = "Cargo.toml";
 
 /// What cannot be read.
 #[derive(PartialEq, Eq, PartialOrd, Ord, Drop)]
@@ -156,9 +156,8 @@ fn may_have_unnamed(rt: &HostRuntime, folder: &str, names: &[Vec<u8>]) -> Result
     Ok(found.nlink() < 2 || found.nlink() > count)
 }
 
-fn is_file(rt: &HostRuntime, folder: &str, name: &str) -> Result<bool, AllocError> {
-    let path = format!(in rt.alloc(); "{folder}{name}")?;
-    Ok(fs::metadata(rt, path).is_ok_and(|found| found.is_file()))
+pub(crate) fn is_file(rt: &HostRuntime, path: &str) -> bool {
+    fs::metadata(rt, path).is_ok_and(|found| found.is_file())
 }
 
 /// A way through all folders below one.
@@ -187,8 +186,10 @@ impl Walk<'_, '_, '_, '_> {
         if !self.asked.filter.excludes_built(name) {
             return Ok(false);
         }
+        let manifest = format!(in self.rt.alloc(); "{parent}{MANIFEST}")?;
         let folder = with_slash(self.rt.alloc(), path)?;
-        Ok(is_file(self.rt, parent, MANIFEST)? || is_file(self.rt, &folder, CACHE_TAG)?)
+        let tag = format!(in self.rt.alloc(); "{folder}{CACHE_TAG}")?;
+        Ok(is_file(self.rt, &manifest) || is_file(self.rt, &tag))
     }
 
     fn push_folder(&mut self, mut path: String) -> Result<(), AllocError> {

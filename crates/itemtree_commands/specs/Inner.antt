@@ -84,16 +84,16 @@ error_told read.OutOfMemory = Lower OutOfMemory
 -- texts with places in code
 abbrev pub placed_text_code : Coded PlacedText
 placed_text_code =
-    code_by (List ℕ × List ItemPlace) (coded× (coded_list coded_ℕ) (coded_list place.the_row.coded))
-    (λ t. (t.text, t.places)) (λ p. record { text = p.0; places = p.1 }) (λ _. refl)
+    code_by (List ℕ × (List ItemPlace × List ℕ)) (coded× (coded_list coded_ℕ) (coded× (coded_list place.the_row.coded) (coded_list coded_ℕ)))
+    (λ t. (t.text, (t.places, t.use_trees))) (λ p. record { text = p.0; places = p.1.0; use_trees = p.1.1 }) (λ _. refl)
 
 -- files in code
 abbrev pub crate_file_code : Coded CrateFile
 crate_file_code =
-    code_by (List ℕ × (List ℕ × (List ItemPlace × Unfolding)))
-    (coded× (coded_list coded_ℕ) (coded× (coded_list coded_ℕ) (coded× (coded_list place.the_row.coded) unfolding_code)))
-    (λ f. (f.path, (f.text, (f.places, f.tree))))
-    (λ p. record { path = p.0; text = p.1.0; places = p.1.1.0; tree = p.1.1.1 })
+    code_by (List ℕ × (List ℕ × (List ItemPlace × (List ℕ × Unfolding))))
+    (coded× (coded_list coded_ℕ) (coded× (coded_list coded_ℕ) (coded× (coded_list place.the_row.coded) (coded× (coded_list coded_ℕ) unfolding_code))))
+    (λ f. (f.path, (f.text, (f.places, (f.use_trees, f.tree)))))
+    (λ p. record { path = p.0; text = p.1.0; places = p.1.1.0; use_trees = p.1.1.1.0; tree = p.1.1.1.1 })
     (λ _. refl)
 
 -- a module with its path as plain data

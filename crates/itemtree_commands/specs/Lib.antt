@@ -4,3 +4,4 @@ pub mod Trees
 pub mod Inner
 pub mod RequestTexts
 pub mod ModuleLists
+pub mod ImportChecks

@@ -21,6 +21,7 @@ use Rattle.module_tree.specs.declared.data.UnresolvedReason.TheVariants.{NoFile,
 use Rattle.module_tree.specs.Modules.{FoundModules, Unresolved}
 use Rattle.rust_items.specs.declared.source_file.ItemPlace.{ItemPlace}
 use Rattle.serde_json.specs.Data.{Data, null, boolean, string, object, no_members, member}
+use Rattle.source_listing.specs.Uses.{import_spot, placed}
 use Rattle.source_rows.specs.Listed.{Closers}
 use Rattle.source_rows.specs.Places.{place_of, stands_at}
 use Rattle.source_rows.specs.Sources.{place_text}
@@ -28,11 +29,12 @@ use Rattle.itemtree_commands.specs.Answers.{HasListed}
 use Rattle.itemtree_commands.specs.declared.Options.{Options}
 use Rattle.itemtree_commands.specs.declared.trees.SourceTree.{SourceTree}
 
--- a file: its path, its text, the places of its items, and its tree
+-- a file: its path, its text, the places of its items and of its use trees, and its tree
 pub record CrateFile : Type 0 where
   pub path : List ℕ
   pub text : List ℕ
   pub places : List ItemPlace
+  pub use_trees : List ℕ
   pub tree : Unfolding
 
 -- the file of a path, as it is read
@@ -43,16 +45,18 @@ pub record IsCrateFile (o : Options) (path text : List ℕ) (f : CrateFile) : Ty
   pub source : SourceTree
   pub listed : HasListed o text closers source
   pub places : f.places ≡ source.places.items
+  pub use_trees : f.use_trees ≡ source.use_trees.items
   pub tree : f.tree ≡ source.tree
 
--- a text, and the places of its items
+-- a text, and the places of its items and of its use trees
 pub record PlacedText : Type 0 where
   pub text : List ℕ
   pub places : List ItemPlace
+  pub use_trees : List ℕ
 
 -- those of a file
 abbrev pub placed_text : CrateFile → PlacedText
-placed_text f = record { text = f.text; places = f.places }
+placed_text f = record { text = f.text; places = f.places; use_trees = f.use_trees }
 
 -- ---- paths
 
@@ -94,6 +98,10 @@ file_of_module ms m = option_map_or (λ d. d.file) (slice_get ms m.0) 0
 -- where an item of a file stands
 abbrev pub position_in_text : FileAstId → PlacedText → Option Position
 position_in_text id t = option_map (λ p. position_in Characters t.text (stands_at p)) (place_of id t.places)
+
+-- where the use tree of this number in an item begins
+abbrev pub tree_position_in_text : FileAstId → ℕ → PlacedText → Option Position
+tree_position_in_text id index t = option_map (λ spot. spot.position) (import_spot t.text (placed t.places t.use_trees) id index)
 
 abbrev pub item_position : List PlacedText → ℕ → FileAstId → Option Position
 item_position texts file id = option_and_then (position_in_text id) (slice_get texts file)
@@ -173,14 +181,14 @@ candidates_text (path ∷ paths) = path ++ flat_map behind_comma paths
 abbrev pub unresolved_message : List ℕ → UnresolvedReason → List (List ℕ) → List ℕ
 unresolved_message path reason paths = path ++ reason_words reason ++ candidates_text paths
 
--- its line, if it stands there
-abbrev pub unresolved_line : Bool → List ℕ → Option Position → List ℕ → UnresolvedReason → List (List ℕ) → List ℕ
-unresolved_line is_colored declared_in position path reason paths =
-    colored_text is_colored faint_code (module_place_text declared_in position)
-    ++ colored_text is_colored red_code (unresolved_message path reason paths) ++ codes "\n"
+-- the line of what is wrong there
+abbrev pub fault_line : Bool → List ℕ → Option Position → List ℕ → List ℕ
+fault_line is_colored path position message =
+    colored_text is_colored faint_code (module_place_text path position) ++ colored_text is_colored red_code message ++ codes "\n"
 
 -- that of one of these modules
 abbrev pub unresolved_in : Bool → List (List ℕ) → List CrateFile → List ModuleData → Unresolved → List ℕ
 unresolved_in is_colored reserved files ms u =
     let file = file_of_module ms u.parent in
-    unresolved_line is_colored (file_path files file) (item_position (map placed_text files) file u.id) (inner_path reserved (known_module_path (pathed_modules reserved ms) u.parent) u.name) u.reason u.paths
+    fault_line is_colored (file_path files file) (item_position (map placed_text files) file u.id)
+    (unresolved_message (inner_path reserved (known_module_path (pathed_modules reserved ms) u.parent) u.name) u.reason u.paths)

@@ -1,7 +1,9 @@
 //! The files of a crate.
 ghost use Rattle.std.specs.Prelude.{◌≡◌, IfErr, IfOk, string_bytes};
 ghost use Rattle.itemtree_commands.specs.Answers.{HasNoList};
+ghost use Rattle.source_listing.specs.Uses.{from_place as spec_from_place};
 ghost use Rattle.itemtree_commands.specs.ModuleLists.{IsCrateFile, placed_text, position_in_text};
+ghost use Rattle.itemtree_commands.specs.ModuleLists.{tree_position_in_text};
 
 use crate::Options;
 use crate::listed::{ListedTree, listed_tree};
@@ -45,6 +47,7 @@ impl Model for CrateFile {
       path = string_bytes x.path;
       text = string_bytes x.text;
       places = x.listed.source.places.items;
+      use_trees = x.listed.source.use_trees.items;
       tree = x.listed.source.tree;
     } };
 
@@ -77,6 +80,13 @@ impl CrateFile {
         &self.path
     }
 
+    /// The text.
+    pub fn text(&self) -> &str
+        ensures { result.now ≡ self.now.text }
+    {
+        &self.text
+    }
+
     /// The item tree.
     pub fn tree(&self) -> &ItemTree
         ensures { result.now ≡ self.now.tree }
@@ -85,14 +95,33 @@ impl CrateFile {
     }
 }
 
+/// From the first place on that does not stand before another.
+fn from_place(places: &[usize], start: usize) -> &[usize]
+    ensures { result.now ≡ spec_from_place start places.now }
+{
+    let mut left = places;
+    while let [first, rest @ ..] = left {
+        if *first >= start {
+            return left;
+        }
+        left = rest;
+    }
+    left
+}
+
 /// What finds the places of a file's items.
 pub(crate) struct FileFinder<'a> {
     finder: Finder<'a>,
+    /// Where use trees begin.
+    use_trees: &'a [usize],
 }
 
 impl Drop for FileFinder<'_> {
     fn drop(self) {
-        let FileFinder { finder: _ } = self;
+        let FileFinder {
+            finder: _,
+            use_trees: _,
+        } = self;
     }
 }
 
@@ -105,7 +134,7 @@ impl<'a> Model for FileFinder<'a> {
 
     ghost coded = { placed_text_code };
 
-    ghost view = { λ x. record { text = x.finder.lines; places = x.finder.places } };
+    ghost view = { λ x. record { text = x.finder.lines; places = x.finder.places; use_trees = x.use_trees.now } };
 
     ghost invariant = { λ x. AreDistinct x.finder.places };
 }
@@ -117,6 +146,7 @@ impl<'a> FileFinder<'a> {
     {
         FileFinder {
             finder: Finder::new(&file.text, &file.listed.source.places),
+            use_trees: &file.listed.source.use_trees,
         }
     }
 
@@ -127,5 +157,16 @@ impl<'a> FileFinder<'a> {
     {
         let place = self.finder.places.find(id)?;
         Some(self.finder.lines.position(stands_at(place)))
+    }
+
+    /// Where the use tree of this number in an item begins.
+    pub(crate) fn tree_position(&mut self, id: FileAstId, index: usize) -> Option<Position>
+        ensures position { result ≡ tree_position_in_text id index self.old }
+        ensures same { self.new ≡ self.old }
+    {
+        let place = self.finder.places.find(id)?;
+        let starts = from_place(self.use_trees, place.range.start);
+        let at = starts.get(index).copied().unwrap_or(stands_at(place));
+        Some(self.finder.lines.position(at))
     }
 }

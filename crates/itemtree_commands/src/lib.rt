@@ -2,6 +2,7 @@
 #![tactic(auto)]
 
 mod crate_file;
+mod import_checks;
 mod import_lists;
 mod laws;
 mod listed;
@@ -18,6 +19,7 @@ ghost use Rattle.source_listing.specs.Views.{choice_view, query_view, source_vie
 
 pub use crate_file::CrateFile;
 use hir_input::{Edition, Name};
+pub use import_checks::wrong_imports;
 pub use import_lists::{duplicates, imports, repeated_imports};
 use item_tree::CrateData;
 use list_forms::Form;

@@ -19,7 +19,7 @@ use source_rows::push_place;
 use std::alloc::{AllocError, Global};
 
 /// The path of a file, by its number.
-fn file_path(files: &[CrateFile], file: u32) -> &str
+pub(crate) fn file_path(files: &[CrateFile], file: u32) -> &str
     ensures { result.now ≡ spec.file_path files.now file }
 {
     match files.get(file as usize) {
@@ -29,7 +29,7 @@ fn file_path(files: &[CrateFile], file: u32) -> &str
 }
 
 /// What finds the places of each file.
-fn finders(alloc: Global, files: &[CrateFile]) -> Result<Vec<FileFinder<'_>>, AllocError>
+pub(crate) fn finders(alloc: Global, files: &[CrateFile]) -> Result<Vec<FileFinder<'_>>, AllocError>
     ensures { IfOk result (λ v. v.items ≡ map spec.placed_text files.now) }
 {
     let mut finders = Vec::new(alloc);
@@ -53,7 +53,7 @@ fn item_position(finders: &mut [FileFinder<'_>], file: u32, id: FileAstId) -> Op
 }
 
 /// The file of a module, by its place.
-fn file_of(modules: &[ModuleData], id: ModuleId) -> u32
+pub(crate) fn file_of(modules: &[ModuleData], id: ModuleId) -> u32
     ensures { result ≡ spec.file_of_module modules.now id }
 {
     match modules.get(id.0) {
@@ -265,41 +265,38 @@ fn push_candidates(paths: &[String], out: &mut String) -> Result<(), AllocError>
     push_others(others, out)
 }
 
-/// Adds what is wrong with a `mod` of this path.
-fn push_message(
+/// What is wrong with a `mod` of this path.
+fn unresolved_message(
+    alloc: Global,
     path: &str,
     reason: UnresolvedReason,
     candidates: &[String],
-    out: &mut String,
-) -> Result<(), AllocError>
+) -> Result<String, AllocError>
     ensures { let message = spec.unresolved_message path.now reason (map string_bytes candidates.now) in
-        OnOk result (string_bytes out.new ≡ string_bytes out.old ++ message) }
+        IfOk result (λ text. string_bytes text ≡ message) }
 {
-    out.push_str(path)?;
+    let mut out = String::from_str(alloc, path)?;
     out.push_str(reason_words(reason))?;
-    push_candidates(candidates, out)
+    push_candidates(candidates, &mut out)?;
+    Ok(out)
 }
 
-/// The line of a `mod` without a file, which stands there.
+/// The line of what is wrong there.
 #[tactic(auto, unfolding(list_forms::specs::Colors::colored_text))]
-fn push_unresolved(
+pub(crate) fn push_problem(
     is_colored: bool,
-    declared_in: &str,
-    position: Option<Position>,
     path: &str,
-    reason: UnresolvedReason,
-    candidates: &[String],
+    position: Option<Position>,
+    message: &str,
     out: &mut String,
 ) -> Result<(), AllocError>
-    ensures { let line = spec.unresolved_line is_colored declared_in.now position path.now reason in
-        OnOk result (string_bytes out.new ≡ string_bytes out.old ++ line (map string_bytes candidates.now)) }
+    ensures { OnOk result (string_bytes out.new ≡ string_bytes out.old
+        ++ spec.fault_line is_colored path.now position message.now) }
 {
     push_color(is_colored, FAINT, out)?;
-    push_position(declared_in, position, out)?;
+    push_position(path, position, out)?;
     push_color(is_colored, USUAL, out)?;
-    push_color(is_colored, RED, out)?;
-    push_message(path, reason, candidates, out)?;
-    push_color(is_colored, USUAL, out)?;
+    push_colored(is_colored, RED, message, out)?;
     out.push_str("\n")
 }
 
@@ -333,13 +330,12 @@ pub fn unresolved_modules(
             known_path(pathed.as_slice(), unresolved.parent),
             &unresolved.name,
         )?;
-        push_unresolved(
+        let message = unresolved_message(alloc, &path, unresolved.reason, &unresolved.candidates)?;
+        push_problem(
             is_colored,
             file_path(files, file),
             position,
-            &path,
-            unresolved.reason,
-            &unresolved.candidates,
+            &message,
             &mut out,
         )?;
     }

@@ -12,5 +12,6 @@ returns-clause-read c =
       source = found.source;
       listed = subst (λ t. HasListed c.args.options.now t (closers_in found.mended) found.source) c.deref.ensures c.in_ok-listed.ensures.tree;
       places = refl;
+      use_trees = refl;
       tree = refl;
     }
