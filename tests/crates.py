@@ -2,7 +2,7 @@
 """Small crates, each with the modules that it has by the Reference: crates.py PROGRAM [RUSTC]
 
 With a rustc, each crate is held against that too: the files that it reads are those of the modules, and it refuses a
-crate exactly where a module has no file. Prints `N passed, M failed`."""
+crate exactly where a module has no file. Prints `crates: N passed, M failed`."""
 import json
 import os
 import re
@@ -237,6 +237,50 @@ def packages(folder):
         yield out == "" and status == 2 and err.startswith(f"itemtree: {top}/Cargo.toml: "), "a manifest that tells nothing", err
 
 
+# Manifests by the Cargo book: what one says, the files beside it, further words, and the files of the modules; or a fault.
+NAMED = '[package]\nname = "p"\n'
+MANIFESTS = [
+    ("no table but the package's", NAMED, ["src/lib.rs"], [], ["src/lib.rs"]),
+    ("a library and a binary", NAMED, ["src/lib.rs", "src/main.rs"], [], ["src/lib.rs", "src/main.rs"]),
+    ("a library elsewhere", NAMED + '[lib]\npath = "l.rs"\n', ["l.rs", "src/lib.rs"], [], ["l.rs"]),
+    ("a library of another name", NAMED + '[lib]\nname = "q"\n', ["src/lib.rs"], [], ["src/lib.rs"]),
+    ("a library that is not there", NAMED + "[lib]\n", ["src/main.rs"], [], "the crate p has no root file"),
+    ("a binary elsewhere", NAMED + '[[bin]]\nname = "b"\npath = "x/b.rs"\n', ["x/b.rs"], [], ["x/b.rs"]),
+    ("a binary by its name", NAMED + '[[bin]]\nname = "b"\n', ["src/bin/b.rs"], [], ["src/bin/b.rs"]),
+    ("a binary by its folder", NAMED + '[[bin]]\nname = "b"\n', ["src/bin/b/main.rs"], [], ["src/bin/b/main.rs"]),
+    ("the binary of the package", NAMED + '[[bin]]\nname = "p"\n', ["src/main.rs"], [], ["src/main.rs"]),
+    ("a binary that is not there", NAMED + '[[bin]]\nname = "b"\n', ["src/lib.rs"], [], "the crate b has no root file"),
+    ("no binaries by their places", NAMED + 'autobins = false\n[[bin]]\nname = "b"\n', ["src/bin/b.rs", "src/bin/c.rs"], [], ["src/bin/b.rs"]),
+    ("no crate", NAMED, ["x.rs"], [], "no crate of this package has a root file"),
+    ("a workspace alone", '[workspace]\nmembers = ["m"]\n', ["m/src/lib.rs"], [], ""),
+    ("an unknown edition", NAMED + 'edition = "2016"\n', ["src/lib.rs"], [], ""),
+    ("a feature that enables itself", NAMED + '[features]\na = ["b"]\nb = ["a"]\n', ["src/lib.rs", "src/a.rs", "src/b.rs"], ["--features", "a"],
+     ["src/lib.rs", "src/a.rs", "src/b.rs"]),
+    ("an optional dependency", NAMED + '[dependencies]\na = { version = "1", optional = true }\n', ["src/lib.rs", "src/a.rs"], ["--features", "a"],
+     ["src/lib.rs", "src/a.rs"]),
+    ("one that a feature enables", NAMED + '[features]\nb = ["dep:a"]\n[dependencies]\na = { version = "1", optional = true }\n',
+     ["src/lib.rs", "src/a.rs", "src/b.rs"], ["--features", "b"], ["src/lib.rs", "src/b.rs"]),
+    ("a feature of a dependency", NAMED + '[features]\nb = ["a/c"]\n[dependencies]\na = { version = "1", optional = true }\n',
+     ["src/lib.rs", "src/a.rs", "src/b.rs"], ["--features", "b"], ["src/lib.rs", "src/a.rs", "src/b.rs"]),
+    ("a weak one", NAMED + '[features]\nb = ["a?/c"]\n[dependencies]\na = { version = "1", optional = true }\n',
+     ["src/lib.rs", "src/a.rs", "src/b.rs"], ["--features", "b"], ["src/lib.rs", "src/b.rs"]),
+    ("a feature that is none, in one", NAMED + '[features]\na = ["b"]\n', ["src/lib.rs", "src/a.rs"], ["--features", "a"], ["src/lib.rs", "src/a.rs"]),
+]
+
+
+def manifests(folder):
+    modules = "".join(f'#[cfg(feature = "{name}")] mod {name};' for name in "ab")
+    for at, (what, text, files, words, wanted) in enumerate(MANIFESTS):
+        top = f"{folder}/{at}"
+        write(top, {"Cargo.toml": text} | {name: "" if name.endswith(("/a.rs", "/b.rs")) and "src/lib.rs" in files else modules * ("lib" in name) for name in files})
+        out, err, status = run(top, "modules", *words, ".")
+        listed = [line.rsplit(" ", 1)[1] for line in out.splitlines()]
+        if isinstance(wanted, list):
+            yield listed == wanted and status == 0, what, (listed, err)
+        else:
+            yield out == "" and err.startswith("itemtree: Cargo.toml: ") and err.endswith(wanted + "\n") and status == 2, what, err
+
+
 def many(folder):
     write(folder, {"lib.rs": "".join(f"mod m{k} {{}}\n" for k in range(100_000))})
     out, err, status = run(folder, "modules", "lib.rs")
@@ -275,7 +319,7 @@ def orphans(folder):
 
 def main():
     passed = failed = 0
-    for check in (links, no_files, unread, deep, packages, many, cases_of_letters, of_a_crate, orphans):
+    for check in (links, no_files, unread, deep, packages, manifests, many, cases_of_letters, of_a_crate, orphans):
         with tempfile.TemporaryDirectory() as folder:
             for is_right, what, got in check(folder):
                 passed += is_right
@@ -290,7 +334,7 @@ def main():
         failed += bool(wrong)
         for it in wrong:
             print(f"{case[0]}: {it}")
-    print(f"{passed} passed, {failed} failed")
+    print(f"crates: {passed} passed, {failed} failed")
     sys.exit(failed > 0)
 
 

@@ -6,7 +6,8 @@
 #
 # The program on each request of tests/requests that it answers, and with --outline on each of tests/outlines, has to end with status 5,
 # the line `out of memory` and nothing written, or to do without and write all that it writes else. ITEMTREE with each of its commands on a
-# small file has to end with status 2, a line that ends so, and nothing written but the head of a tags file, or to do without as well. ITEMTREE's serve on tests/itemtree/session.jsonl may end so before it
+# small file has to end with status 2, a line that ends so, and nothing written but the head of a tags file, or to do without as well; on a
+# package it may have told of the other files. ITEMTREE's serve on tests/itemtree/session.jsonl may end so before it
 # reads a line; otherwise it has to answer each line with one, one of them at most with an error of want of memory, and to go on.
 # Each test of the binaries TESTS whose name holds `when_memory_is_refused` has to pass in every run. Each whose name holds
 # `where_no_memory_is_left` has to pass where all requests between its marks are refused, and to make only the one there by
@@ -89,6 +90,28 @@ try_damaged() {
     file=$own/damaged.rs try_command "$1" "$2"
 }
 
+# A command of itemtree on a package. Where one of its files has no tree for want of memory, the others are still told of.
+try_crate() {
+    local request command wanted top=$own/package
+    read -ra command <<< "$2"
+    mkdir -p "$top/src/b"
+    printf '[package]\nname = "p"\nedition = "2021"\n[features]\ndefault = ["f"]\nf = ["dep:d"]\n[dependencies]\nd = { version = "1", optional = true }\n' > "$top/Cargo.toml"
+    printf '#[cfg(feature = "f")] mod a;\nmod b { pub mod c; }\nmod gone;\nuse b::c::D;\n' > "$top/src/lib.rs"
+    printf 'pub fn f() {}\n' > "$top/src/a.rs"
+    printf 'pub struct D;\n' > "$top/src/b/c.rs"
+    printf 'fn orphan() {}\n' > "$top/src/orphan.rs"
+    "$1" "${command[@]}" "$top" > "$own/whole" 2> "$own/err"
+    wanted=$?
+    for ((request = 1; ; request++)); do
+        refuse "$request" "$1" "${command[@]}" "$top"
+        [ "$made" -ge "$request" ] || break
+        if [ "$status" = 2 ]; then grep -q 'out of memory$' "$own/err"; else [ "$status" = "$wanted" ] && cmp -s "$own/out" "$own/whole"; fi
+        judge $? "itemtree $2: status $status with request $request for memory refused"
+    done
+    [ "$status" = "$wanted" ] && [ "$wanted" -lt 2 ] && [ -s "$own/whole" ]
+    judge $? "itemtree $2: status $status with no request for memory refused"
+}
+
 # Whether that run answered each line, at most one of them with want of memory, and went on: the last two lines ask the same, and set
 # all that they ask of, so one of them is answered as where nothing is refused.
 went_on() {
@@ -139,7 +162,7 @@ try() {
     "$@"
     echo "counts: $1 $passed $failed"
 }
-export -f refuse ended_out_of_memory answered judge try_request try_outline try_command try_damaged went_on try_session try_test try_marked try
+export -f refuse ended_out_of_memory answered judge try_request try_outline try_command try_damaged try_crate went_on try_session try_test try_marked try
 
 # Each subject is three words, ended by a null byte each, since a path may hold any other.
 subjects() {
@@ -149,6 +172,7 @@ subjects() {
     for name in outlines/*/*.out; do printf '%s\0' try_outline "$program" "${name%.out}"; done
     for name in outline page imports 'find area' 'imports --duplicates' 'outline --json' 'page --ids off' 'tags -o -' 'changed FILE' 'request --show page' check; do printf '%s\0' try_command "$itemtree" "$name"; done
     for name in outline imports 'find A::b' 'outline --json' 'tags -o -'; do printf '%s\0' try_damaged "$itemtree" "$name"; done
+    for name in modules 'modules --json' 'modules --orphans' 'check --crate' 'outline --crate' 'imports --crate' 'tags -o - --crate'; do printf '%s\0' try_crate "$itemtree" "$name"; done
     printf '%s\0' try_session "$itemtree" session
     for binary in "${binaries[@]}"; do
         while IFS= read -r name; do
@@ -168,6 +192,7 @@ awk '/^counts: / { passed += $3; failed += $4; subjects[$2]++; refused[$2] += $3
          printf "%d requests: %d times memory was refused\n", subjects["try_request"], refused["try_request"]
          printf "%d of outlines: %d times memory was refused\n", subjects["try_outline"], refused["try_outline"]
          printf "%d commands of itemtree: %d times memory was refused\n", subjects["try_command"], refused["try_command"]
+         printf "%d on a package: %d times memory was refused\n", subjects["try_crate"], refused["try_crate"]
          printf "%d of damaged texts: %d times memory was refused\n", subjects["try_damaged"], refused["try_damaged"]
          printf "%d sessions of itemtree: %d times memory was refused\n", subjects["try_session"], refused["try_session"]
          printf "%d tests: %d times memory was refused\n", subjects["try_test"], refused["try_test"]
