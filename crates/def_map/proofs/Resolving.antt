@@ -1,12 +1,21 @@
 -- What is told of the imports of a crate follows from its parts.
-use Rattle.std.proofs.Common.{◌≡◌, ◌<◌, ◌⊎◌, inl, inr, ⊎_elim, ℕ, zero, suc, Bool, true, false, append_assoc, List, [], ◌∷◌, ◌++◌, Option, Some, None, slice_get, refl, sym, ap, subst, ◌∙◌, length, arith, flat_map, unwrap_or, append-nil}
+use Rattle.std.proofs.Common.{◌≡◌, ◌<◌, ◌≤◌, ◌+◌, ◌⊎◌, inl, inr, ⊎_elim, ℕ, zero, suc, Bool, true, false, append_assoc, List, [], ◌∷◌, ◌++◌, Option, Some, None, Result, Err, IfErr, slice_get, refl, sym, ap, subst, ◌∙◌, length, arith, map, flat_map, unwrap_or, append-nil, length-append}
 use Rattle.std.specs.Option.{option_map_or}
 use Rattle.std.proofs.lemmas.Option.{none-some, same_Some, slice_get_within}
 use Rattle.std.proofs.lemmas.Bool.{true≢false}
 use Rattle.std.proofs.lemmas.List.{length-map, map-append}
+use Rattle.hir_input.specs.declared.ids.FileAstId.{FileAstId}
 use Rattle.def_map.specs.declared.verdict.Verdict.{Verdict}
-use Rattle.def_map.specs.declared.verdict.Verdict.TheVariants.{Unknown}
+use Rattle.def_map.specs.declared.verdict.Verdict.TheVariants.{Unknown, Nameless}
 use Rattle.def_map.specs.declared.def_map.ResolvedImport.{ResolvedImport}
+use Rattle.def_map.specs.declared.def_map.DefMapError.{DefMapError}
+use Rattle.def_map.specs.declared.def_map.DefMapError.TheVariants.{OutOfMemory}
+use Rattle.def_map.specs.declared.numbers.NumbersError.{NumbersError}
+use Rattle.def_map.specs.declared.numbers.NumbersError.TheVariants as numbers_code
+use Rattle.def_map.specs.declared.seeds.SeedsError.{SeedsError}
+use Rattle.def_map.specs.declared.seeds.SeedsError.TheVariants as seeds_code
+use Rattle.def_map.specs.declared.closure.ClosureError.{ClosureError}
+use Rattle.def_map.specs.declared.closure.ClosureError.TheVariants as closure_code
 use Rattle.def_map.specs.declared.facts as code
 use Rattle.def_map.specs.declared.rows.ItemKey.{ItemKey}
 use Rattle.def_map.specs.Crates.{Crate, Binding, a_glob, a_name, underscore, nameless, PathImport}
@@ -18,7 +27,7 @@ use Rattle.def_map.specs.Closing.{table_import, loop_import, IsLowered, AreSeeds
 use Rattle.def_map.specs.Found.{verdict_of, AreVerdicts}
 use Rattle.def_map.specs.Told.{IsVerdict}
 use Rattle.def_map.specs.Tables.{CrateSources, CrateRow, declares, imports, veil, macro_veil, defines_macro, names_crate, rows_of, crate_of, row_imports}
-use Rattle.def_map.specs.Resolved.{IsTold, named, without_name, AreVerdictsOf, row_places, import_place, AreResolved, verdict_told, verdict_at, TellsMore, IsToldSoFar}
+use Rattle.def_map.specs.Resolved.{is_of_modules, numbers_error, seeds_error, closure_error, IsTold, named, without_name, AreVerdictsOf, row_places, import_place, AreResolved, verdict_told, verdict_at, resolved_by, TellsMore, IsToldSoFar}
 use Rattle.def_map.proofs.Numbered.{from_verdict}
 use Rattle.def_map.proofs.Telling.{finds_all, told_rightly}
 
@@ -127,3 +136,27 @@ resolved_hold s c verdicts resolved same all so = record {
       subst (IsTold c i) (sym (so.told i r is ∙ ap (λ o. option_map_or (λ (z : PathImport (List ℕ)). verdict_told z.binding (unwrap_or (slice_get verdicts i) Unknown)) o Unknown) u.1
       ∙ ap (λ o. verdict_told u.0.binding (unwrap_or o Unknown)) v.1)) (told_is c i u.0 v.0 u.1 (all.told i v.0 v.1)));
 }
+
+-- ---- errors
+
+pub numbers_apart : (e : NumbersError) → is_of_modules (numbers_error e) ≡ false
+numbers_apart numbers_code.OutOfMemory = refl
+numbers_apart numbers_code.TooManyNames = refl
+numbers_apart numbers_code.TooManyItems = refl
+
+pub seeds_apart : (e : SeedsError) → is_of_modules (seeds_error e) ≡ false
+seeds_apart seeds_code.OutOfMemory = refl
+seeds_apart seeds_code.TooManyImports = refl
+seeds_apart seeds_code.TooManyPairs = refl
+
+pub closure_apart : (e : ClosureError) → is_of_modules (closure_error e) ≡ false
+closure_apart closure_code.OutOfMemory = refl
+closure_apart closure_code.TooManyFacts = refl
+closure_apart closure_code.TooManyJoins = refl
+
+-- so what refuses apart from the modules is none of these
+pub apart : {X : Type 0} (r : Result X DefMapError) (e : DefMapError) → IfErr r (λ x. is_of_modules x ≡ false) → is_of_modules e ≡ true → r ≡ Err e → ⊥
+apart r e less more same = true≢false (sym more ∙ subst (λ x. IfErr x (λ y. is_of_modules y ≡ false)) same less)
+
+pub memory_apart : (e : DefMapError) → e ≡ OutOfMemory → is_of_modules e ≡ false
+memory_apart e same = ap is_of_modules same

@@ -1,5 +1,5 @@
 -- What is told of the imports of a crate.
-use Rattle.std.specs.Prelude.{◌≡◌, ℕ, List, [], ◌∷◌, ◌++◌, Some, map, flat_map, length, slice_get}
+use Rattle.std.specs.Prelude.{◌≡◌, ℕ, Bool, true, false, List, [], ◌∷◌, ◌++◌, Option, Some, None, map, flat_map, length, slice_get}
 use Rattle.std.specs.Option.{option_map_or, unwrap_or}
 use Rattle.hir_input.specs.declared.ids.FileAstId.{FileAstId}
 use Rattle.def_map.specs.declared.verdict.Verdict.{Verdict}
@@ -18,7 +18,7 @@ use Rattle.def_map.specs.declared.closure.ClosureError.TheVariants as closure_co
 use Rattle.def_map.specs.Crates.{Crate, Binding, a_glob, a_name, underscore, nameless, PathImport}
 use Rattle.def_map.specs.Verdicts.{HasNoName}
 use Rattle.def_map.specs.Told.{IsVerdict}
-use Rattle.def_map.specs.Tables.{CrateSources, CrateRow, imports, rows_of, crate_of}
+use Rattle.def_map.specs.Tables.{CrateSources, CrateRow, declares, imports, veil, macro_veil, defines_macro, names_crate, rows_of, crate_of}
 
 module _ {N I : Type 0} (c : Crate N I) where
   -- what is told of an import: that it has no name, or its verdict
@@ -93,3 +93,9 @@ abbrev pub closure_error : ClosureError → DefMapError
 closure_error closure_code.OutOfMemory = OutOfMemory
 closure_error closure_code.TooManyFacts = TooManyFacts
 closure_error closure_code.TooManyJoins = TooManyJoins
+
+-- it is told of the modules that a crate is made of
+abbrev pub is_of_modules : DefMapError → Bool
+is_of_modules TooManyModules = true
+is_of_modules OutOfOrder = true
+is_of_modules _ = false

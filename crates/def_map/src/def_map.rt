@@ -1,10 +1,15 @@
 //! What is told of the imports of a crate.
-ghost use Rattle.std.specs.Prelude.{◌≡◌, IfOk, OnOk, map, option_copied, unwrap_or};
+ghost use Rattle.std.specs.Prelude.{◌≡◌, ◌<◌, false, IfErr, IfOk, IsErrOf, OnOk, length, map, option_copied, unwrap_or};
 ghost use Rattle.def_map.specs.CrateView.{bound_view, rows_view, import_view};
+ghost use Rattle.def_map.specs.Laws.{IsWhole};
+ghost use Rattle.def_map.specs.ModuleOrder.{are_behind};
 ghost use Rattle.def_map.specs.Resolved as spec;
-ghost use Rattle.def_map.specs.Resolved.{AreResolved, AreVerdictsOf, IsToldSoFar, TellsMore};
+ghost use Rattle.def_map.specs.Resolved.{AreResolved, AreVerdictsOf, IsToldSoFar, TellsMore, is_of_modules};
+ghost use Rattle.def_map.specs.Tables.{crate_of, parents_of};
 ghost use Rattle.def_map.specs.Views.{crate_row_view, sources_view};
+ghost use Rattle.def_map.specs.declared.def_map.DefMapError.TheVariants.{OutOfOrder, TooManyModules};
 ghost use Rattle.def_map.specs.declared.verdict.Verdict.TheVariants.{Unknown};
+ghost use Rattle.module_tree.specs.Modules.{most_modules};
 
 use crate::closure::{ClosureError, find_closure};
 use crate::collect::{CollectError, collect};
@@ -209,8 +214,10 @@ fn resolve_rows(
 }
 
 /// A verdict for each import.
+#[tactic(auto, using(crate::proofs::Resolving::numbers_apart, crate::proofs::Resolving::seeds_apart, crate::proofs::Resolving::closure_apart, crate::proofs::Resolving::memory_apart))]
 fn verdicts_of(alloc: Global, rows: &CrateRows<'_>) -> Result<Vec<Verdict>, DefMapError>
-    ensures { IfOk result (λ told. AreVerdictsOf (rows_view rows.now) told.items) }
+    ensures told { IfOk result (λ told. AreVerdictsOf (rows_view rows.now) told.items) }
+    ensures refused { IfErr result (λ e. is_of_modules e ≡ false) }
 {
     let numbers = number_crate(alloc, rows)?;
     let table = lower_crate(alloc, rows, &numbers)?;
@@ -230,7 +237,11 @@ pub fn resolve_imports(
     alloc: Global,
     sources: CrateSources<'_>,
 ) -> Result<Vec<ResolvedImport>, DefMapError>
-    ensures { IfOk result (λ imports. AreResolved (sources_view sources.entry) imports.items) }
+    ensures resolved { IfOk result (λ imports. AreResolved (sources_view sources.entry) imports.items) }
+    ensures whole { OnOk result (0 < length sources.entry.modules.now
+        → IsWhole (crate_of (sources_view sources.entry))) }
+    ensures many { IsErrOf result TooManyModules → most_modules < length sources.entry.modules.now }
+    ensures unordered { IsErrOf result OutOfOrder → are_behind 0 (parents_of sources.entry.modules.now) ≡ false }
 {
     let collected = collect(alloc, &sources)?;
     let rows = crate_rows(alloc, &collected.parents, sources.manifest, &collected.rows)?;

@@ -1,7 +1,7 @@
-use Rattle.std.proofs.Common.{map, take, subst, sym, ◌∙◌, ap, [], ◌∷◌, ◌++◌}
+use Rattle.std.proofs.Common.{map, take, subst, sym, ◌∙◌, ap, get_or, [], ◌∷◌, ◌++◌}
 use Rattle.std.proofs.lemmas.List.{take_more, map-append}
 use Rattle.def_map.specs.CrateView.{import_view}
-use Rattle.def_map.specs.Resolved.{IsToldSoFar}
+use Rattle.def_map.specs.Resolved.{IsToldSoFar, TellsMore}
 use Rattle.def_map.specs.Views.{crate_row_view}
 use Rattle.def_map.proofs.Resolving.{tells_behind}
 use Rattle.def_map.proofs.def_map.resolve_rows.Goals as goal
