@@ -78,6 +78,6 @@ module _ (c : Crate ℕ ℕ) where
   SaysOf (Gives i ns t v) = Derives c (gives i ns (thing_of t) v)
   SaysOf (Copies from into v) = (i : ℕ) × (u : PathImport ℕ) × IsImport c i u × (is_glob_import u ≡ true) × (u.parent ≡ into) × (u.visibility ≡ v) × Derives c (stands i (length u.names) (a_module from))
 
--- what the loop finds is what the ten rules derive
+-- what the loop finds is what the rules derive
 abbrev pub ClosesAlike : Crate ℕ ℕ → code.ImportTable.ImportTable → List code.Fact.Fact → Type 0
 ClosesAlike c t seeds = IsLowered c t → AreSeeds c seeds → (f : code.Fact.Fact) → Closes t seeds f ↔ SaysOf c f

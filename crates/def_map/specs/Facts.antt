@@ -1,4 +1,4 @@
--- What the names of a crate stand for, and where the paths of its imports lead: by ten rules, each of which only adds.
+-- What the names of a crate stand for, and where the paths of its imports lead: by rules, each of which only adds.
 use Rattle.std.specs.Prelude.{◌≡◌, ℕ, suc, ltb, Bool, true, false, List, [], Option, Some, None, slice_get, if◌then◌else◌, length, Contains}
 use Rattle.def_map.specs.declared.kinds.Namespace.{Namespace}
 use Rattle.def_map.specs.declared.kinds.Namespace.TheVariants.{Types, Values, Macros}
