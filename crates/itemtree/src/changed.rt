@@ -118,7 +118,8 @@ impl Comparison<'_> {
         &mut self,
         old_path: &str,
         new_path: &str,
-        (old_room, new_room): (&mut Room, &mut Room),
+        old_room: &mut Room,
+        new_room: &mut Room,
     ) -> Result<(), Failure> {
         let old = self.report.read(old_path, old_room);
         let new = self.report.read(new_path, new_room);
@@ -167,7 +168,7 @@ impl Comparison<'_> {
         for (before, (below, pair)) in pairs.iter().enumerate() {
             match *pair {
                 (Some(old), Some(new)) => {
-                    self.compare_files(old, new, (&mut old_room, &mut new_room))?;
+                    self.compare_files(old, new, &mut old_room, &mut new_room)?;
                 }
                 (Some(old), None) if !news.may_have(alloc, below)? => {
                     self.tell_single(old, ChangeKind::Removed)?;
@@ -281,8 +282,8 @@ pub(crate) fn compare(
     };
     let done = match (is_a_folder(rt, old), is_a_folder(rt, new)) {
         (false, false) => {
-            let rooms = (&mut Room::new(alloc), &mut Room::new(alloc));
-            comparison.compare_files(old, new, rooms)
+            let (mut old_room, mut new_room) = (Room::new(alloc), Room::new(alloc));
+            comparison.compare_files(old, new, &mut old_room, &mut new_room)
         }
         (true, true) => comparison.compare_folders(old, new, asked),
         (true, false) => Err(no_folder(alloc, old, new)?),
