@@ -48,6 +48,15 @@ trap close EXIT
 trap 'exit 130' INT
 trap 'exit 143' TERM HUP
 
+# How many crates the gate may prove side by side: one a processor, and one for each four gigabytes, of which a check takes
+# less. (By its own reckoning, which is of the worst crate of so many lines, it works on one or two at the end.)
+count_lanes() {
+    local gigabytes processors
+    gigabytes=$(awk '/^MemTotal:/ { print int($2 / 1000000) }' /proc/meminfo)
+    processors=$(nproc)
+    echo $((gigabytes / 4 < 1 ? 1 : gigabytes / 4 < processors ? gigabytes / 4 : processors))
+}
+
 lack() {
     echo "test.sh: $1" >&2
     is_missing=69
@@ -123,7 +132,7 @@ part 'the list of definitions' tests/definitions.py --check
 part 'where wrong bodies are planted' tests/wrong_bodies.sh --check
 if [ -n "$is_quick" ]; then
     try_programs 2000 100
-elif part 'the merge gate' rt ci; then
+elif part 'the merge gate' env RT_JOBS="$(count_lanes)" rt ci; then
     part 'what must not compile' tests/must_not_compile.sh
     try_programs 8000 1000
 else
