@@ -13,7 +13,7 @@ HOME = os.path.dirname(os.path.dirname(os.path.abspath(__file__)))
 COLUMNS, FUNCTION, FILE = 120, 40, 400
 LONGER = {
     "crates/def_map/proofs/Alike.antt": 569,
-    "crates/def_map/proofs/Numbered.antt": 582,
+    "crates/def_map/proofs/Numbered.antt": 533,
     "crates/item_tree/src/items.rt": 540,
     "crates/rust_cursor/src/cursor/nest.rt": 415,
     "crates/rust_cursor/src/cursor/texts.rt": 596,

@@ -14,6 +14,7 @@ use Rattle.def_map.specs.Facts.{Fact, names, stands, gives, is_glob_import, is_g
 use Rattle.def_map.specs.Closure as loop
 use Rattle.def_map.specs.Closure.{are_types, are_macros, hides, passed, way_on, glob_of, path_end, named_fact, stand_of, follows, step_by, step_by_name, step_by_veil, step_of, copy_of, concludes, Closes, given, followed, concluded}
 use Rattle.def_map.specs.Closing.{thing_of, binding_of, table_import, loop_thing, loop_binding, loop_import, loop_fact, Begins, by_declaration, by_veil, by_start, by_first, IsLowered, AreSeeds, SaysOf, ClosesAlike}
+use Rattle.def_map.proofs.Numbered.{map_source}
 use Rattle.def_map.proofs.Reading.{reading_inner, reading_last, reading_cases}
 
 pub back_again : (t : Thing ℕ) → thing_of (loop_thing t) ≡ t
@@ -22,7 +23,7 @@ back_again (an_item x) = refl
 back_again (a_scope x) = refl
 back_again unseen = refl
 
-there_again : (t : code.Thing.Thing) → loop_thing (thing_of t) ≡ t
+pub there_again : (t : code.Thing.Thing) → loop_thing (thing_of t) ≡ t
 there_again (module_thing m) = refl
 there_again (Item x) = refl
 there_again (Scope x) = refl
@@ -43,10 +44,6 @@ namespace_itself : (ns : Namespace) → loop.same_namespace ns ns ≡ true
 namespace_itself Types = refl
 namespace_itself Values = refl
 namespace_itself Macros = refl
-
-map_source : {X Y : Type 0} (h : X → Y) (o : Option X) (y : Y) → option_map h o ≡ Some y → (x : X) × (o ≡ Some x) × (h x ≡ y)
-map_source h None y e = absurd (none-some y e)
-map_source h (Some x) y e = (x, refl, same_Some (h x) y e)
 
 abbrev bound : Binding ℕ → Option ℕ
 bound a_glob = None

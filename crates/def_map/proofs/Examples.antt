@@ -9,7 +9,7 @@ use Rattle.def_map.specs.declared.kinds.Visibility.TheVariants.{Public, Module}
 use Rattle.def_map.specs.Crates.{Crate, Thing, a_module, unseen, NameDeclaration, Binding, a_glob, a_name, PathImport, Veil, Hides}
 use Rattle.def_map.specs.Facts.{Fact, names, stands, gives, IsImport, Derives, IsOpen, import_start, may_leave, is_glob_import, declared, veiled, begins, elsewhere, leads, ends, gives_start, copies, imports, opens, exports, passes}
 use Rattle.def_map.proofs.Telling.{of_any}
-use Rattle.def_map.specs.Verdicts.{LeadsTo, to_given, to_glob, LeadsNowhere, ResolvesTo}
+use Rattle.def_map.specs.Verdicts.{LeadsTo, to_given, to_glob, LeadsNowhere}
 
 abbrev public : ℕ → Namespace → ℕ → Thing ℕ → NameDeclaration ℕ ℕ
 public m ns n t = record { parent = m; namespace = ns; name = n; thing = t; visibility = Public; is_sure = true }
@@ -47,21 +47,17 @@ round_p : Derives round (names 6 Types (Some 3) (a_module 4) (Module 6))
 round_p = copies (use_in 6 from_root (0 ∷ []) a_glob) refl refl round_glob (declared (public 1 Types 3 (a_module 4)) (3, omega arith, refl)) refl (round_free Types 3)
 
 -- so both imports resolve, and none hides what the other needs
-round_k : ResolvesTo round 1 (a_module 3)
-round_k = (
-  to_given (ends {name = Some 2} (use_in 6 (Super 0) (1 ∷ 2 ∷ []) (a_name 3)) refl
-      (leads {name = Some 1} (use_in 6 (Super 0) (1 ∷ 2 ∷ []) (a_name 3)) refl (begins (use_in 6 (Super 0) (1 ∷ 2 ∷ []) (a_name 3)) refl refl) refl refl round_n refl refl)
-      refl refl refl (declared (public 2 Types 2 (a_module 3)) (2, omega arith, refl)) refl refl),
-  tt,
-)
+round_k : LeadsTo round 1 (a_module 3)
+round_k =
+    to_given (ends {name = Some 2} (use_in 6 (Super 0) (1 ∷ 2 ∷ []) (a_name 3)) refl
+    (leads {name = Some 1} (use_in 6 (Super 0) (1 ∷ 2 ∷ []) (a_name 3)) refl (begins (use_in 6 (Super 0) (1 ∷ 2 ∷ []) (a_name 3)) refl refl) refl refl round_n refl refl)
+    refl refl refl (declared (public 2 Types 2 (a_module 3)) (2, omega arith, refl)) refl refl)
 
-round_q : ResolvesTo round 2 (a_module 5)
-round_q = (
-  to_given (ends {name = Some 4} (use_in 6 (Super 0) (3 ∷ 4 ∷ []) (a_name 1)) refl
-      (leads {name = Some 3} (use_in 6 (Super 0) (3 ∷ 4 ∷ []) (a_name 1)) refl (begins (use_in 6 (Super 0) (3 ∷ 4 ∷ []) (a_name 1)) refl refl) refl refl round_p refl refl)
-      refl refl refl (declared (public 4 Types 4 (a_module 5)) (4, omega arith, refl)) refl refl),
-  tt,
-)
+round_q : LeadsTo round 2 (a_module 5)
+round_q =
+    to_given (ends {name = Some 4} (use_in 6 (Super 0) (3 ∷ 4 ∷ []) (a_name 1)) refl
+    (leads {name = Some 3} (use_in 6 (Super 0) (3 ∷ 4 ∷ []) (a_name 1)) refl (begins (use_in 6 (Super 0) (3 ∷ 4 ∷ []) (a_name 1)) refl refl) refl refl round_p refl refl)
+    refl refl refl (declared (public 4 Types 4 (a_module 5)) (4, omega arith, refl)) refl refl)
 
 -- ---- `use crate::a;`, where the root has nothing, or a macro call
 

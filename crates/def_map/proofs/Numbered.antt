@@ -1,5 +1,5 @@
 -- The rules say the same of a crate by numbers.
-use Rattle.std.proofs.Common.{◌≡◌, ◌↔◌, ◌⊎◌, inl, inr, ⊎_elim, ℕ, zero, suc, Bool, true, false, List, [], ◌∷◌, Option, Some, None, slice_get, if◌then◌else◌, refl, sym, ap, subst, ◌∙◌, length, Contains, arith, ltb, option_map, filter_map}
+use Rattle.std.proofs.Common.{◌≡◌, ◌↔◌, ℕ, zero, suc, Bool, true, false, List, [], ◌∷◌, Option, Some, None, slice_get, if◌then◌else◌, refl, sym, ap, subst, ◌∙◌, length, Contains, arith, ltb, option_map, filter_map}
 use Rattle.std.specs.Option.{option_map_or}
 use Rattle.std.specs.List.{cons_option}
 use Rattle.std.proofs.lemmas.Option.{none-some, same_Some, slice_get-map}
@@ -10,50 +10,16 @@ use Rattle.def_map.specs.declared.kinds.PathStart.TheVariants.{Crate as from_roo
 use Rattle.def_map.specs.declared.kinds.Visibility.{Visibility}
 use Rattle.def_map.specs.declared.kinds.Visibility.TheVariants.{Public}
 use Rattle.def_map.specs.Crates.{Crate, Thing, a_module, an_item, a_scope, unseen, NameDeclaration, Binding, a_glob, a_name, underscore, nameless, PathImport, Veil, module_above, module_sees, narrower, Hides}
-use Rattle.def_map.specs.Facts.{Fact, names, stands, gives, is_glob_import, is_glob_binding, is_inner_name, is_wanted, reading, IsOpen, IsImport, start_by, import_start, may_leave, IsOther, IsElsewhere, an_other, any_other, a_macro, Covers, IsFree, Derives, declared, veiled, begins, elsewhere, leads, ends, gives_start, copies, imports, opens, exports, passes}
-use Rattle.def_map.specs.declared.verdict.Verdict.{Verdict}
-use Rattle.def_map.specs.Verdicts.{IsSeen, HasNames, is_at_least, LeadsTo, to_given, to_glob, LeadsNowhere, IsTooWide, IsPrivate, Asks, asks_inner, asks_last}
-use Rattle.def_map.specs.Told.{IsVerdict, unresolved, too_wide, unknown, resolved}
+use Rattle.def_map.specs.Facts.{Fact, names, stands, gives, is_glob_import, is_glob_binding, is_inner_name, is_wanted, reading, IsOpen, IsImport, IsGlobCopy, start_by, import_start, may_leave, IsOther, IsElsewhere, an_other, any_other, a_macro, Covers, IsFree, Derives, declared, veiled, begins, elsewhere, leads, ends, gives_start, copies, imports, opens, exports, passes}
+use Rattle.def_map.specs.Verdicts.{IsSeen, HasNames, is_at_least, LeadsTo, to_given, to_glob, IsTooWide, IsPrivate, Asks, asks_inner, asks_last}
 use Rattle.def_map.specs.Numbers.{numbered_thing, numbered_declaration, numbered_binding, renumbered_import, numbered_macro, numbered_other, renumbered, IsNumbering, numbered_fact, DerivesAlike}
+use Rattle.def_map.proofs.Listing.{contains_here, contains_there, contains_kept, contains_source}
 use Rattle.def_map.proofs.Things.{same_module, not_module}
 use Rattle.def_map.proofs.Reading.{reading_inner, reading_last, reading_cases}
 
 -- ---- lists
 
-pub contains_here : {X : Type 0} (x : X) (xs : List X) → Contains (x ∷ xs) x
-contains_here x xs = (0, omega arith, refl)
-
-pub contains_there : {X : Type 0} (x : X) (xs : List X) (y : X) → Contains xs y → Contains (x ∷ xs) y
-contains_there x xs y (k, low, e) = (suc k, omega (arith, low), e)
-
-pub contains_cases : {X : Type 0} (x : X) (xs : List X) (y : X) → Contains (x ∷ xs) y → (x ≡ y) ⊎ Contains xs y
-contains_cases x xs y (zero, low, e) = inl e
-contains_cases x xs y (suc k, low, e) = inr (k, omega (arith, low), e)
-
-pub not_in_nil : {X : Type 0} (y : X) → Contains [] y → ⊥
-not_in_nil y (k, low, e) = omega (arith, low)
-
-consed : {Y : Type 0} (o : Option Y) (ys : List Y) (y : Y) → (o ≡ Some y) ⊎ Contains ys y → Contains (cons_option o ys) y
-consed None ys y (inl e) = absurd (none-some y e)
-consed None ys y (inr has) = has
-consed (Some z) ys y (inl e) = subst (Contains (z ∷ ys)) (same_Some z y e) (contains_here z ys)
-consed (Some z) ys y (inr has) = contains_there z ys y has
-
-consed_cases : {Y : Type 0} (o : Option Y) (ys : List Y) (y : Y) → Contains (cons_option o ys) y → (o ≡ Some y) ⊎ Contains ys y
-consed_cases None ys y has = inr has
-consed_cases (Some z) ys y has = ⊎_elim (λ (e : z ≡ y). inl (ap Some e)) (λ (h : Contains ys y). inr h) (contains_cases z ys y has)
-
-pub contains_kept : {X Y : Type 0} (h : X → Option Y) (xs : List X) (x : X) (y : Y) → Contains xs x → h x ≡ Some y → Contains (filter_map h xs) y
-contains_kept h [] x y has e = absurd (not_in_nil x has)
-contains_kept h (z ∷ xs) x y has e = ⊎_elim (λ (same : z ≡ x). consed (h z) (filter_map h xs) y (inl (ap h same ∙ e)))
-    (λ (more : Contains xs x). consed (h z) (filter_map h xs) y (inr (contains_kept h xs x y more e))) (contains_cases z xs x has)
-
-pub contains_source : {X Y : Type 0} (h : X → Option Y) (xs : List X) (y : Y) → Contains (filter_map h xs) y → (x : X) × Contains xs x × (h x ≡ Some y)
-contains_source h [] y has = absurd (not_in_nil y has)
-contains_source h (z ∷ xs) y has = ⊎_elim (λ (e : h z ≡ Some y). (z, contains_here z xs, e))
-    (λ (more : Contains (filter_map h xs) y). let s = contains_source h xs y more in (s.0, contains_there z xs s.0 s.1, s.2)) (consed_cases (h z) (filter_map h xs) y has)
-
-map_source : {X Y : Type 0} (h : X → Y) (o : Option X) (y : Y) → option_map h o ≡ Some y → (x : X) × (o ≡ Some x) × (h x ≡ y)
+pub map_source : {X Y : Type 0} (h : X → Y) (o : Option X) (y : Y) → option_map h o ≡ Some y → (x : X) × (o ≡ Some x) × (h x ≡ y)
 map_source h None y e = absurd (none-some y e)
 map_source h (Some x) y e = (x, refl, same_Some (h x) y e)
 
@@ -83,7 +49,7 @@ kept_source h (z ∷ xs) zero y all e = let one = all z (contains_here z xs) in
 kept_source h (z ∷ xs) (suc k) y all e = let one = all z (contains_here z xs) in
     kept_source h xs k y (λ y has. all y (contains_there z xs y has)) (ap (λ o. slice_get (cons_option o (filter_map h xs)) (suc k)) (sym one.1) ∙ e)
 
-got : {X : Type 0} (xs : List X) (k : ℕ) (x : X) → slice_get xs k ≡ Some x → Contains xs x
+pub got : {X : Type 0} (xs : List X) (k : ℕ) (x : X) → slice_get xs k ≡ Some x → Contains xs x
 got [] k x e = absurd (none-some x e)
 got (z ∷ xs) zero x e = subst (Contains (z ∷ xs)) (same_Some z x e) (contains_here z xs)
 got (z ∷ xs) (suc k) x e = contains_there z xs x (got xs k x e)
@@ -282,7 +248,7 @@ module _ {N I M J : Type 0} (R : N → M → Type 0) (S : Thing I → Thing J �
       let (w, is', l) = like.imports i u is in
       (t', s, to_glob w is' (l.glob ∙ glob) (subst (λ z. Derives e (stands i z t')) (sym l.length) h) (names_too x t' s has))
 
-  wide_like : (seen_back : (t : Thing I) (t' : Thing J) → S t t' → IsSeen t' → IsSeen t) (i : ℕ) (u : PathImport N) → IsImport c i u → IsTooWide e i → IsTooWide c i
+  pub wide_like : (seen_back : (t : Thing I) (t' : Thing J) → S t t' → IsSeen t' → IsSeen t) (i : ℕ) (u : PathImport N) → IsImport c i u → IsTooWide e i → IsTooWide c i
   wide_like seen_back i u is (w, is', glob, wide) =
       let (x, x_is, l) = like.imports i u is in
       let same : x ≡ w = same_Some x w (sym x_is ∙ is') in (
@@ -305,7 +271,7 @@ module _ {N I M J : Type 0} (R : N → M → Type 0) (S : Thing I → Thing J �
       let (y, has', r) = l.names k x has in
       (y, r, asks_last w s is' (stand_like i k at (goes (stands i k (a_module at)) stand)) has' (inner_like u w k l ∙ last) (wanted_like u w s l ∙ wanted))
 
-  private_like : (i : ℕ) → IsPrivate c i → IsPrivate e i
+  pub private_like : (i : ℕ) → IsPrivate c i → IsPrivate e i
   private_like i (u, m, ns, n, t, v, is, asks, named, hidden) =
       let (w, is', l) = like.imports i u is in
       let (k, r, asks') = asks_like i m ns n asks in
@@ -396,7 +362,7 @@ module _ {N I M J : Type 0} (number : N → Option M) (item : I → J) (c : Crat
         ap (λ (z : NameDeclaration M J). z.is_sure) same ∙ sure,
       )
 
-  import_to : (i : ℕ) (u : PathImport N) → IsImport c i u → (w : PathImport M) × IsImport e i w × IsImportLike IsNumber u w
+  pub import_to : (i : ℕ) (u : PathImport N) → IsImport c i u → (w : PathImport M) × IsImport e i w × IsImportLike IsNumber u w
   import_to i u is = (
     nu u,
     slice_get-map nu c.imports i ∙ ap (option_map nu) is,
@@ -414,7 +380,7 @@ module _ {N I M J : Type 0} (number : N → Option M) (item : I → J) (c : Crat
     },
   )
 
-  import_from : (i : ℕ) (w : PathImport M) → IsImport e i w → (u : PathImport N) × IsImport c i u × IsImportLike IsName w u
+  pub import_from : (i : ℕ) (w : PathImport M) → IsImport e i w → (u : PathImport N) × IsImport c i u × IsImportLike IsName w u
   import_from i w is =
       let (u, from, same) = map_source nu (slice_get c.imports i) w (sym (slice_get-map nu c.imports i) ∙ is) in (
         u,
@@ -454,7 +420,7 @@ module _ {N I M J : Type 0} (number : N → Option M) (item : I → J) (c : Crat
       let (j, numbers, same) = map_source (λ (z : M). (z, item p.1)) (number p.0) (k, y) says in
       (p.1, subst (λ (z : N). Contains c.macro_rules (z, p.1)) (ok.different p.0 n k (numbers ∙ ap Some (ap (λ (q : M × J). q.0) same)) is) from, ap (λ (q : M × J). an_item q.1) same)
 
-  like_to : IsLike IsNumber To c e
+  pub like_to : IsLike IsNumber To c e
   like_to = record {
     modules = λ m. refl;
     module_alone = λ m t same. sym same;
@@ -473,7 +439,7 @@ module _ {N I M J : Type 0} (number : N → Option M) (item : I → J) (c : Crat
       hides_from' : (m : ℕ) (ns : Namespace) (n : N) (k : M) → number n ≡ Some k → Hides e m ns k → Hides c m ns n
       hides_from' m ns n k is h = hides_from m ns k n is h
 
-  like_from : IsLike IsName From e c
+  pub like_from : IsLike IsName From e c
   like_from = record {
     modules = λ m. refl;
     module_alone = module_from;
@@ -508,75 +474,60 @@ module _ {N I M J : Type 0} (number : N → Option M) (item : I → J) (c : Crat
   to_fact (stands i k t) g is (t', same, h) = subst (Derives e) (ap (λ z. stands i k z) (sym same) ∙ same_Some (stands i k (nt t)) g is) h
   to_fact (gives i ns t v) g is (t', same, h) = subst (Derives e) (ap (λ z. gives i ns z v) (sym same) ∙ same_Some (gives i ns (nt t) v) g is) h
 
-  Back : Fact M J → Type 0
+  abbrev pub Back : Fact M J → Type 0
   Back g = (same : Fact N I) × (numbered_fact number item same ≡ Some g) × Derives c same
 
-  from_fact : (f : Fact N I) (g : Fact M J) → numbered_fact number item f ≡ Some g → Derives e g → Back g
-  unfolding Back
-  from_fact (names m ns None t v) g is h =
-      let (x, same, named) = goes IsName From e c like_from (names m ns None (nt t) v) (subst (Derives e) (sym (same_Some (names m ns None (nt t) v) g is)) h) in
-      (names m ns None x v, ap (λ z. Some (names m ns None z v)) same ∙ is, named)
-  from_fact (names m ns (Some n) t v) g is h =
-      let (name, some, is_g) = map_source (λ (x : Option M). names m ns x (nt t) v) (option_map Some (number n)) g is in
-      let (k, numbers, is_name) = map_source Some (number n) name some in
-      let (x, same, named) = goes IsName From e c like_from (names m ns (Some k) (nt t) v) (subst (Derives e) (sym (ap (λ z. names m ns z (nt t) v) is_name ∙ is_g)) h) n numbers in
-      (names m ns (Some n) x v, ap (λ z. option_map (λ (y : Option M). names m ns y z v) (option_map Some (number n))) same ∙ is, named)
-  from_fact (stands i k t) g is h =
-      let (x, same, stand) = goes IsName From e c like_from (stands i k (nt t)) (subst (Derives e) (sym (same_Some (stands i k (nt t)) g is)) h) in
-      (stands i k x, ap (λ z. Some (stands i k z)) same ∙ is, stand)
-  from_fact (gives i ns t v) g is h =
-      let (x, same, given) = goes IsName From e c like_from (gives i ns (nt t) v) (subst (Derives e) (sym (same_Some (gives i ns (nt t) v) g is)) h) in
-      (gives i ns x v, ap (λ z. Some (gives i ns z v)) same ∙ is, given)
+  -- each name that is derived is a number
+  abbrev IsNumbered : Fact M J → Type 0
+  IsNumbered (names m ns None t v) = Unit {0}
+  IsNumbered (names m ns (Some k) t v) = (n : N) × (number n ≡ Some k)
+  IsNumbered (stands i k t) = Unit {0}
+  IsNumbered (gives i ns t v) = Unit {0}
+
+  bound_number : (b : Binding N) (k : M) → numbered_binding number item b ≡ a_name k → (n : N) × (number n ≡ Some k)
+  bound_number a_glob k binds = absurd (none-some k (ap bound binds))
+  bound_number (a_name n) k binds = (n, by (number n) binds)
+    where
+      by : (o : Option M) → option_map_or a_name o underscore ≡ a_name k → o ≡ Some k
+      by None h = absurd (none-some k (ap bound h))
+      by (Some j) h = ap bound h
+  bound_number underscore k binds = absurd (none-some k (ap bound binds))
+  bound_number nameless k binds = absurd (none-some k (ap bound binds))
+
+  copied_name : (m into : ℕ) (ns : Namespace) (name : Option M) (t : Thing J) (v w : Visibility) → IsNumbered (names m ns name t v) → IsNumbered (names into ns name t w)
+  copied_name m into ns None t v w h = tt
+  copied_name m into ns (Some k) t v w h = h
+
+  numbered : (g : Fact M J) → Derives e g → IsNumbered g
+  numbered g (declared x has) = let (y, k, from, is, same) = declaration_from x has in (y.name, is ∙ ap Some (ap (λ (z : NameDeclaration M J). z.name) same))
+  numbered g (veiled x has) = tt
+  numbered g (begins u is start) = tt
+  numbered g (elsewhere {ns = ns} {t = t} {v = v} {f = f} i u is leave first other free says) = reading_cases IsNumbered i u 0 ns t v f says (λ inner types. tt) (λ last wanted. tt)
+  numbered g (leads u is stand has inner named covers seen) = tt
+  numbered g (ends u is stand has last wanted named covers seen) = tt
+  numbered g (gives_start u is glob none stand) = tt
+  numbered g (copies {m = m} {ns = ns} {name = name} {t = t} {v = v} u is glob stand named seen free) =
+      copied_name m u.parent ns name t v (narrower e.parents v u.visibility) (numbered (names m ns name t v) named)
+  numbered g (imports {n = k} u is binds given) =
+      let (w, from, same) = map_source nu (slice_get c.imports _) u (sym (slice_get-map nu c.imports _) ∙ is) in bound_number w.binding k (ap (λ (z : PathImport M). z.binding) same ∙ binds)
+  numbered g (opens u ns is glob stand open') = tt
+  numbered g (exports u is glob stand) = tt
+  numbered g (passes {i = i} {k = k} {f = f} u ns is stand open' has says) = reading_cases IsNumbered i u k ns unseen Public f says (λ inner types. tt) (λ last wanted. tt)
+
+  pub derived_back : (g : Fact M J) → Derives e g → Back g
+  derived_back (names m ns None t v) h = let (x, same, named) = goes IsName From e c like_from (names m ns None t v) h in (names m ns None x v, ap (λ z. Some (names m ns None z v)) same, named)
+  derived_back (names m ns (Some k) t v) h =
+      let (n, is) = numbered (names m ns (Some k) t v) h in
+      let (x, same, named) = goes IsName From e c like_from (names m ns (Some k) t v) h n is in
+      (names m ns (Some n) x v, ap (λ z. option_map (λ (y : Option M). names m ns y z v) (option_map Some (number n))) same ∙ ap (λ o. option_map (λ (y : Option M). names m ns y t v) (option_map Some o)) is, named)
+  derived_back (stands i k t) h = let (x, same, stand) = goes IsName From e c like_from (stands i k t) h in (stands i k x, ap (λ z. Some (stands i k z)) same, stand)
+  derived_back (gives i ns t v) h = let (x, same, given) = goes IsName From e c like_from (gives i ns t v) h in (gives i ns x v, ap (λ z. Some (gives i ns z v)) same, given)
+
+  pub copied_back : (from into : ℕ) (v : Visibility) → IsGlobCopy e from into v → IsGlobCopy c from into v
+  copied_back from into v (i, w, is', glob, parent, visibility, stand) =
+      let (u, is, l) = import_from i w is' in
+      let (t, same, h) = goes IsName From e c like_from (stands i (length w.names) (a_module from)) stand in
+      (i, u, is, l.glob ∙ glob, l.parent ∙ parent, l.visibility ∙ visibility, subst (λ z. Derives c (stands i z (a_module from))) (sym l.length) (subst (λ z. Derives c (stands i (length w.names) z)) (module_from from t same) h))
 
   pub derives_alike : DerivesAlike number item c
-  unfolding Back
-  derives_alike = record { to_numbers = λ f g is h. to_fact f g is (goes IsNumber To c e like_to f h); from_numbers = λ f g is h. from_fact f g is h }
-
-  -- ---- verdicts
-
-  names_to : (t : Thing I) → HasNames t ↔ HasNames (nt t)
-  names_to (a_module m) = (λ h. h, λ h. h)
-  names_to (an_item x) = (λ h. h, λ h. h)
-  names_to (a_scope x) = (λ h. h, λ h. h)
-  names_to unseen = (λ h. h, λ h. h)
-
-  seen_to : (t : Thing I) → IsSeen t ↔ IsSeen (nt t)
-  seen_to (a_module m) = (λ h. h, λ h. h)
-  seen_to (an_item x) = (λ h. h, λ h. h)
-  seen_to (a_scope x) = (λ h. h, λ h. h)
-  seen_to unseen = (λ h. h, λ h. h)
-
-  unseen_from : (t : Thing I) → nt t ≡ unseen → t ≡ unseen
-  unseen_from (a_module m) same = absurd (subst IsSeen same tt)
-  unseen_from (an_item x) same = absurd (subst IsSeen same tt)
-  unseen_from (a_scope x) same = absurd (subst IsSeen same tt)
-  unseen_from unseen same = refl
-
-  leads_on : (i : ℕ) (t : Thing I) → LeadsTo c i t → (t' : Thing J) × To t t' × LeadsTo e i t'
-  leads_on i t h = leads_like IsNumber To c e like_to (λ x y same n. subst HasNames same ((names_to x).0 n)) i t h
-
-  leads_back : (i : ℕ) (t' : Thing J) → LeadsTo e i t' → (t : Thing I) × From t' t × LeadsTo c i t
-  leads_back i t' h = leads_like IsName From e c like_from (λ y x same n. (names_to x).1 (subst HasNames (sym same) n)) i t' h
-
-  narrow_back : (i : ℕ) (u : PathImport N) → IsImport c i u → IsTooWide e i → IsTooWide c i
-  narrow_back i u is wide = wide_like IsNumber To c e like_to (λ x y same s. (seen_to x).1 (subst IsSeen (sym same) s)) i u is wide
-
-  wide_on : (i : ℕ) → IsTooWide c i → IsTooWide e i
-  wide_on i wide = let (w, is', l) = import_to i wide.0 wide.1 in wide_like IsName From e c like_from (λ y x same s. subst IsSeen same ((seen_to x).0 s)) i w is' wide
-
-  from_fails : (i : ℕ) → LeadsNowhere e i → LeadsNowhere c i
-  from_fails i (w, is', fails) = let (u, is, l) = import_from i w is' in (u, is, λ t h. let (t', same, h') = leads_on i t h in fails t' h')
-
-  pub from_verdict : (i : ℕ) (verdict : Verdict) → IsVerdict e i verdict → IsVerdict c i verdict
-  from_verdict i verdict (unresolved fails) = unresolved (from_fails i fails)
-  from_verdict i verdict (too_wide {t = t} leads' wide) =
-      let (u, is, l) = import_from i wide.0 wide.1 in
-      let (x, same, h) = leads_back i t leads' in too_wide h (narrow_back i u is wide)
-  from_verdict i verdict (unknown leads' all) =
-      let (x, same, h) = leads_back i unseen leads' in
-      unknown (subst (LeadsTo c i) (unseen_from x same) h) (λ t k. let (t', like', k') = leads_on i t k in unseen_from t (like' ∙ all t' k'))
-  from_verdict i verdict (resolved {t = t} leads' seen narrow) =
-      let (x, same, h) = leads_back i t leads' in resolved h ((seen_to x).1 (subst IsSeen (sym same) seen)) (λ wide. narrow (wide_on i wide))
-
-  pub private_alike : (i : ℕ) → IsPrivate e i ↔ IsPrivate c i
-  private_alike i = (private_like IsName From e c like_from i, private_like IsNumber To c e like_to i)
+  derives_alike = record { to_numbers = λ f g is h. to_fact f g is (goes IsNumber To c e like_to f h); from_numbers = λ g h. derived_back g h }

@@ -57,11 +57,11 @@ module _ (n : Numbers) {V : Type 0} (items : V → List (Bor (List ℕ))) (q : �
 
 -- ---- pairs
 
-map_twice : {X Y Z : Type 0} (f : Y → Z) (g : X → Y) (xs : List X) → map f (map g xs) ≡ map (λ x. f (g x)) xs
+pub map_twice : {X Y Z : Type 0} (f : Y → Z) (g : X → Y) (xs : List X) → map f (map g xs) ≡ map (λ x. f (g x)) xs
 map_twice f g [] = refl
 map_twice f g (x ∷ xs) = ap (λ l. f (g x) ∷ l) (map_twice f g xs)
 
-sum_of_map : {X Y : Type 0} (f : Y → ℕ) (g : X → Y) (xs : List X) → sum_by f (map g xs) ≡ sum_by (λ x. f (g x)) xs
+pub sum_of_map : {X Y : Type 0} (f : Y → ℕ) (g : X → Y) (xs : List X) → sum_by f (map g xs) ≡ sum_by (λ x. f (g x)) xs
 sum_of_map f g xs = sym (sum-map f (map g xs)) ∙ ap sum (map_twice f g xs) ∙ sum-map (λ x. f (g x)) xs
 
 pub pairs_of : (macros named : ℕ → List ℕ) → ((n : ℕ) → macros n ≡ named n) → (ws : List code.Import.Import) (us : List (PathImport ℕ)) → map table_import ws ≡ map loop_import us

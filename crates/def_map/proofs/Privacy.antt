@@ -17,17 +17,13 @@ use Rattle.def_map.specs.Closing.{thing_of, loop_thing, IsLowered}
 use Rattle.def_map.specs.Private as facts_say
 use Rattle.def_map.specs.Private.{private_imports}
 use Rattle.def_map.specs.Told.{AreFactsFound, ArePrivate}
-use Rattle.def_map.proofs.Telling.{any_of, of_any, and_parts}
-use Rattle.def_map.proofs.Numbered.{contains_kept, contains_source}
+use Rattle.def_map.proofs.Telling.{any_of, of_any, and_parts, if_source}
+use Rattle.def_map.proofs.Listing.{contains_kept, contains_source}
 use Rattle.def_map.proofs.Alike.{back_again, IsRow, row_inner, row_wanted, row_of, import_at}
 
 module _ (c : Crate ℕ ℕ) (t : code.ImportTable.ImportTable) (facts : List code.Fact.Fact) (table : IsLowered c t) (found : AreFactsFound c facts) where
   same_import : (i : ℕ) (u w : PathImport ℕ) → IsImport c i u → IsImport c i w → w ≡ u
   same_import i u w a b = same_Some w u (sym b ∙ a)
-
-  if_source : {Y : Type 0} (b : Bool) (o : Option Y) (y : Y) → (if b then o else None) ≡ Some y → (b ≡ true) × (o ≡ Some y)
-  if_source true o y e = (refl, e)
-  if_source false o y e = absurd (none-some y e)
 
   map_or_source : {X : Type 0} (test : X → Bool) (o : Option X) → option_map_or test o false ≡ true → (x : X) × (o ≡ Some x) × (test x ≡ true)
   map_or_source test None e = absurd (false≢true e)

@@ -2,7 +2,7 @@
 use Rattle.std.proofs.Common.{◌≡◌, ◌==◌, ◌&&◌, ◌||◌, ◌⊎◌, inl, inr, ⊎_elim, ℕ, suc, ltb, Bool, true, false, not, List, [], ◌∷◌, Option, Some, None, slice_get, if◌then◌else◌, refl, sym, ap, subst, ◌∙◌, length, Contains, option_map, option_and_then, eqb-true, eq-eqb}
 use Rattle.std.specs.List.{list_any}
 use Rattle.std.proofs.lemmas.Bool.{false≢true, true≢false}
-use Rattle.std.proofs.lemmas.Option.{same_Some}
+use Rattle.std.proofs.lemmas.Option.{none-some, same_Some}
 use Rattle.def_map.specs.declared.kinds.{Namespace.Namespace, Visibility.Visibility}
 use Rattle.def_map.specs.declared.kinds.Visibility.TheVariants.{Public}
 use Rattle.def_map.specs.declared.facts as code
@@ -19,8 +19,9 @@ use Rattle.std.proofs.lemmas.List.Elements.{All-contains}
 use Rattle.def_map.specs.Closing.{thing_of, loop_thing, IsLowered}
 use Rattle.def_map.specs.Found as facts_say
 use Rattle.def_map.specs.Found.{lead_by, no_lead, lead_for, lead_of, verdict_by}
+use Rattle.def_map.specs.Targets.{fact_thing}
 use Rattle.def_map.specs.Told.{IsVerdict, unresolved, too_wide, unknown, resolved, AreFactsFound, FindsAllFacts, IsToldRightly}
-use Rattle.def_map.proofs.Numbered.{contains_here, contains_there, contains_cases, not_in_nil}
+use Rattle.def_map.proofs.Listing.{contains_here, contains_there, contains_cases, not_in_nil}
 use Rattle.def_map.proofs.Reading.{reading_cases}
 use Rattle.def_map.proofs.Alike.{closes_alike, back_again, row_glob, row_of, import_at}
 
@@ -76,22 +77,26 @@ pub and_parts : (a b : Bool) → (a && b) ≡ true → (a ≡ true) × (b ≡ tr
 and_parts true b e = (refl, e)
 and_parts false b e = absurd (false≢true e)
 
-module _ (c : Crate ℕ ℕ) (t : code.ImportTable.ImportTable) (facts : List code.Fact.Fact) (table : IsLowered c t) (found : AreFactsFound c facts) where
+pub if_source : {Y : Type 0} (b : Bool) (o : Option Y) (y : Y) → (if b then o else None) ≡ Some y → (b ≡ true) × (o ≡ Some y)
+if_source true o y e = (refl, e)
+if_source false o y e = absurd (none-some y e)
+
+module _ (t : code.ImportTable.ImportTable) where
   -- what a fact says of an import
-  data View (i : ℕ) : code.Fact.Fact → Lead → Type 0 where
+  pub data View (i : ℕ) : code.Fact.Fact → Lead → Type 0 where
     view_gives : (ns : Namespace) (x : code.Thing.Thing) (v : Visibility) (w : code.Import.Import) → slice_get t.imports.items i ≡ Some w
         → View i (Gives i ns x v) (record { leads = true; is_seen = facts_say.is_seen x; is_wide = not (facts_say.is_seen x) || is_at_least t.parents.items v w.visibility })
     view_stands : (k : ℕ) (x : code.Thing.Thing) (w : code.Import.Import) → slice_get t.imports.items i ≡ Some w → loop.is_glob_name w.name ≡ true → k ≡ length w.path.items → facts_say.has_names x ≡ true
         → View i (Stands i k x) (record { leads = true; is_seen = facts_say.is_seen x; is_wide = true })
     view_none : (f : code.Fact.Fact) → View i f no_lead
 
-  abbrev given_lead : code.Thing.Thing → Visibility → code.Import.Import → Lead
+  abbrev pub given_lead : code.Thing.Thing → Visibility → code.Import.Import → Lead
   given_lead x v w = record { leads = true; is_seen = facts_say.is_seen x; is_wide = not (facts_say.is_seen x) || is_at_least t.parents.items v w.visibility }
 
-  abbrev placed_lead : code.Thing.Thing → Lead
+  abbrev pub placed_lead : code.Thing.Thing → Lead
   placed_lead x = record { leads = true; is_seen = facts_say.is_seen x; is_wide = true }
 
-  view_of : (i : ℕ) (f : code.Fact.Fact) → View i f (lead_for i (lead_by t f))
+  pub view_of : (i : ℕ) (f : code.Fact.Fact) → View i f (lead_for i (lead_by t f))
   unfolding lead_by
   view_of i (Gives j ns x v) = by (slice_get t.imports.items j) refl
     where
@@ -128,6 +133,7 @@ module _ (c : Crate ℕ ℕ) (t : code.ImportTable.ImportTable) (facts : List co
   view_of i (EveryName m ns v) = view_none (EveryName m ns v)
   view_of i (Copies from into v) = view_none (Copies from into v)
 
+module _ (c : Crate ℕ ℕ) (t : code.ImportTable.ImportTable) (facts : List code.Fact.Fact) (table : IsLowered c t) (found : AreFactsFound c facts) where
   -- a glob gives nothing
   not_inner : (u : PathImport ℕ) (k : ℕ) → is_inner_name u k ≡ false → is_glob_import u ≡ false
   not_inner u k e = by (is_glob_import u) refl e
@@ -166,47 +172,51 @@ module _ (c : Crate ℕ ℕ) (t : code.ImportTable.ImportTable) (facts : List co
 
   -- ---- the three answers
 
-  leads_by : (i : ℕ) (f : code.Fact.Fact) (l : Lead) → View i f l → Contains facts f → l.leads ≡ true → (x : code.Thing.Thing) × LeadsTo c i (thing_of x) × (l.is_seen ≡ facts_say.is_seen x)
-  leads_by i f l (view_gives ns x v w is) has e = (x, to_given ((found (Gives i ns x v)).0 has), refl)
+  pub leads_by : (i : ℕ) (f : code.Fact.Fact) (l : Lead) → View t i f l → Contains facts f → l.leads ≡ true
+      → (x : code.Thing.Thing) × LeadsTo c i (thing_of x) × (l.is_seen ≡ facts_say.is_seen x) × (fact_thing f ≡ Some x)
+  leads_by i f l (view_gives ns x v w is) has e = (x, to_given ((found (Gives i ns x v)).0 has), refl, refl)
   leads_by i f l (view_stands k x w is glob end named) has e =
       let r = import_at c t table i w is in
-      (x, to_glob r.0 r.1 (sym (row_glob r.0 w r.2) ∙ glob) (subst (λ z. Derives c (stands i z (thing_of x))) (end ∙ ap (λ (z : List ℕ). length z) r.2.names) ((found (Stands i k x)).0 has)) (has_names_of x named), refl)
+      (x, to_glob r.0 r.1 (sym (row_glob r.0 w r.2) ∙ glob) (subst (λ z. Derives c (stands i z (thing_of x))) (end ∙ ap (λ (z : List ℕ). length z) r.2.names) ((found (Stands i k x)).0 has)) (has_names_of x named), refl, refl)
   leads_by i f l (view_none g) has e = absurd (false≢true e)
 
   -- what it leads to has a fact
-  FactFor : ℕ → Thing ℕ → Type 0
-  FactFor i x = (f : code.Fact.Fact) × Contains facts f × ((lead_for i (lead_by t f)).leads ≡ true) × ((lead_for i (lead_by t f)).is_seen ≡ facts_say.is_seen (loop_thing x))
+  abbrev pub FactFor : ℕ → Thing ℕ → Type 0
+  FactFor i x =
+      (f : code.Fact.Fact) × Contains facts f × ((lead_for i (lead_by t f)).leads ≡ true) × ((lead_for i (lead_by t f)).is_seen ≡ facts_say.is_seen (loop_thing x)) × (fact_thing f ≡ Some (loop_thing x))
 
-  fact_for : (i : ℕ) (x : Thing ℕ) (u : PathImport ℕ) → IsImport c i u → LeadsTo c i x → FactFor i x
-  unfolding FactFor lead_by
+  pub fact_for : (i : ℕ) (x : Thing ℕ) (u : PathImport ℕ) → IsImport c i u → LeadsTo c i x → FactFor i x
+  unfolding lead_by
   fact_for i x u is (to_given {ns = ns} {t = y} {v = v} given) =
       let r = row_of c t table i u is in
-      let lead : lead_for i (lead_by t (Gives i ns (loop_thing y) v)) ≡ given_lead (loop_thing y) v r.0 =
-      ap (λ o. lead_for i (option_map (λ w. (i, given_lead (loop_thing y) v w)) o)) r.1 ∙ ap (λ (b : Bool). if b then given_lead (loop_thing y) v r.0 else no_lead) (eq-eqb i i refl) in (
+      let lead : lead_for i (lead_by t (Gives i ns (loop_thing y) v)) ≡ given_lead t (loop_thing y) v r.0 =
+      ap (λ o. lead_for i (option_map (λ w. (i, given_lead t (loop_thing y) v w)) o)) r.1 ∙ ap (λ (b : Bool). if b then given_lead t (loop_thing y) v r.0 else no_lead) (eq-eqb i i refl) in (
         Gives i ns (loop_thing y) v,
         (found (Gives i ns (loop_thing y) v)).1 (subst (λ z. Derives c (gives i ns z v)) (sym (back_again y)) given),
         ap (λ (l : Lead). l.leads) lead,
         ap (λ (l : Lead). l.is_seen) lead,
+        refl,
       )
   fact_for i x u is (to_glob {t = y} w old glob stand named) =
       let r = row_of c t table i w old in
       let end = ap (λ (z : List ℕ). length z) r.2.names in
-      let lead : lead_for i (lead_by t (Stands i (length w.names) (loop_thing y))) ≡ placed_lead (loop_thing y) =
-      ap (λ o. lead_for i (option_and_then (λ z. if loop.is_glob_name z.name && (length w.names == length z.path.items) && facts_say.has_names (loop_thing y) then Some (i, placed_lead (loop_thing y)) else None) o)) r.1
-      ∙ ap (λ (b : Bool). lead_for i (if b && (length w.names == length r.0.path.items) && facts_say.has_names (loop_thing y) then Some (i, placed_lead (loop_thing y)) else None)) (row_glob w r.0 r.2 ∙ glob)
-      ∙ ap (λ (b : Bool). lead_for i (if b && facts_say.has_names (loop_thing y) then Some (i, placed_lead (loop_thing y)) else None)) (eq-eqb (length w.names) (length r.0.path.items) (sym end))
-      ∙ ap (λ (b : Bool). lead_for i (if b then Some (i, placed_lead (loop_thing y)) else None)) (names_are y named)
-      ∙ ap (λ (b : Bool). if b then placed_lead (loop_thing y) else no_lead) (eq-eqb i i refl) in (
+      let lead : lead_for i (lead_by t (Stands i (length w.names) (loop_thing y))) ≡ placed_lead t (loop_thing y) =
+      ap (λ o. lead_for i (option_and_then (λ z. if loop.is_glob_name z.name && (length w.names == length z.path.items) && facts_say.has_names (loop_thing y) then Some (i, placed_lead t (loop_thing y)) else None) o)) r.1
+      ∙ ap (λ (b : Bool). lead_for i (if b && (length w.names == length r.0.path.items) && facts_say.has_names (loop_thing y) then Some (i, placed_lead t (loop_thing y)) else None)) (row_glob w r.0 r.2 ∙ glob)
+      ∙ ap (λ (b : Bool). lead_for i (if b && facts_say.has_names (loop_thing y) then Some (i, placed_lead t (loop_thing y)) else None)) (eq-eqb (length w.names) (length r.0.path.items) (sym end))
+      ∙ ap (λ (b : Bool). lead_for i (if b then Some (i, placed_lead t (loop_thing y)) else None)) (names_are y named)
+      ∙ ap (λ (b : Bool). if b then placed_lead t (loop_thing y) else no_lead) (eq-eqb i i refl) in (
         Stands i (length w.names) (loop_thing y),
         (found (Stands i (length w.names) (loop_thing y))).1 (subst (λ z. Derives c (stands i (length w.names) z)) (sym (back_again y)) stand),
         ap (λ (l : Lead). l.leads) lead,
         ap (λ (l : Lead). l.is_seen) lead,
+        refl,
       )
 
   -- ---- the verdict
 
   -- a fact that is not against `too wide`
-  narrow_by : (i : ℕ) (f : code.Fact.Fact) (l : Lead) → View i f l → Contains facts f → l.is_wide ≡ true → IsTooWide c i → ⊥
+  narrow_by : (i : ℕ) (f : code.Fact.Fact) (l : Lead) → View t i f l → Contains facts f → l.is_wide ≡ true → IsTooWide c i → ⊥
   narrow_by i f l (view_gives ns x v w is) has e (u, old, glob, wide) =
       let r = import_at c t table i w is in
       let h = wide ns (thing_of x) v ((found (Gives i ns x v)).0 has) in
@@ -231,10 +241,10 @@ module _ (c : Crate ℕ ℕ) (t : code.ImportTable.ImportTable) (facts : List co
   unfolding lead_by
   wide_given i u ns x v is none given =
       let r = row_of c t table i u is in
-      let lead : lead_for i (lead_by t (Gives i ns (loop_thing x) v)) ≡ given_lead (loop_thing x) v r.0 =
-      ap (λ o. lead_for i (option_map (λ w. (i, given_lead (loop_thing x) v w)) o)) r.1 ∙ ap (λ (b : Bool). if b then given_lead (loop_thing x) v r.0 else no_lead) (eq-eqb i i refl) in
+      let lead : lead_for i (lead_by t (Gives i ns (loop_thing x) v)) ≡ given_lead t (loop_thing x) v r.0 =
+      ap (λ o. lead_for i (option_map (λ w. (i, given_lead t (loop_thing x) v w)) o)) r.1 ∙ ap (λ (b : Bool). if b then given_lead t (loop_thing x) v r.0 else no_lead) (eq-eqb i i refl) in
       let has : Contains facts (Gives i ns (loop_thing x) v) = (found (Gives i ns (loop_thing x) v)).1 (subst (λ z. Derives c (gives i ns z v)) (sym (back_again x)) given) in
-      let never : (given_lead (loop_thing x) v r.0).is_wide ≡ true → ⊥ =
+      let never : (given_lead t (loop_thing x) v r.0).is_wide ≡ true → ⊥ =
       λ e. false≢true (sym none ∙ of_any (λ f. (lead_for i (lead_by t f)).is_wide) facts (Gives i ns (loop_thing x) v) has (ap (λ (l : Lead). l.is_wide) lead ∙ e)) in (
         ⊎_elim (λ (s : IsSeen x). s) (λ (s : x ≡ unseen). absurd (never (ap (λ (z : Thing ℕ). not (facts_say.is_seen (loop_thing z)) || is_at_least t.parents.items v r.0.visibility) s))) (seen_or x),
         by (is_at_least c.parents v u.visibility) refl (λ e. never (ap (λ (b : Bool). not (facts_say.is_seen (loop_thing x)) || b)
@@ -250,7 +260,7 @@ module _ (c : Crate ℕ ℕ) (t : code.ImportTable.ImportTable) (facts : List co
       by false e n = e
 
   -- where it leads and nothing is wide, it is no glob
-  wide_by_name : (i : ℕ) (u : PathImport ℕ) → IsImport c i u → list_any (λ f. (lead_for i (lead_by t f)).is_wide) facts ≡ false → (f : code.Fact.Fact) (l : Lead) → View i f l → Contains facts f
+  wide_by_name : (i : ℕ) (u : PathImport ℕ) → IsImport c i u → list_any (λ f. (lead_for i (lead_by t f)).is_wide) facts ≡ false → (f : code.Fact.Fact) (l : Lead) → View t i f l → Contains facts f
       → lead_for i (lead_by t f) ≡ l → l.leads ≡ true → is_glob_import u ≡ false
   wide_by_name i u is none f l (view_gives ns x v w at) has same e = gives_by_name (gives i ns (thing_of x) v) ((found (Gives i ns x v)).0 has) u is
   wide_by_name i u is none f l (view_stands k x w at glob end named) has same e =
@@ -261,22 +271,22 @@ module _ (c : Crate ℕ ℕ) (t : code.ImportTable.ImportTable) (facts : List co
   Picks test i b = list_any (λ f. test (lead_for i (lead_by t f))) facts ≡ b
 
   tells_seen : (i : ℕ) (u : PathImport ℕ) → IsImport c i u → (b : Bool) → Picks (λ l. l.is_seen) i b → Picks (λ l. l.leads) i true → Picks (λ l. l.is_wide) i true → IsVerdict c i (if b then Resolved else Unknown)
-  unfolding Picks FactFor
+  unfolding Picks
   tells_seen i u is true e leads' wide =
       let f = any_of (λ f. (lead_for i (lead_by t f)).is_seen) facts e in
       let w = any_of (λ f. (lead_for i (lead_by t f)).is_wide) facts wide in
-      let x = leads_seen f.0 (lead_for i (lead_by t f.0)) (view_of i f.0) f.1 f.2 in
-      resolved x.1 x.2 (narrow_by i w.0 (lead_for i (lead_by t w.0)) (view_of i w.0) w.1 w.2)
+      let x = leads_seen f.0 (lead_for i (lead_by t f.0)) (view_of t i f.0) f.1 f.2 in
+      resolved x.1 x.2 (narrow_by i w.0 (lead_for i (lead_by t w.0)) (view_of t i w.0) w.1 w.2)
     where
-      leads_seen : (f : code.Fact.Fact) (l : Lead) → View i f l → Contains facts f → l.is_seen ≡ true → (x : Thing ℕ) × LeadsTo c i x × IsSeen x
-      leads_seen f l (view_gives ns x v w at) has h = let z = leads_by i (Gives i ns x v) (given_lead x v w) (view_gives ns x v w at) has refl in
+      leads_seen : (f : code.Fact.Fact) (l : Lead) → View t i f l → Contains facts f → l.is_seen ≡ true → (x : Thing ℕ) × LeadsTo c i x × IsSeen x
+      leads_seen f l (view_gives ns x v w at) has h = let z = leads_by i (Gives i ns x v) (given_lead t x v w) (view_gives ns x v w at) has refl in
           (thing_of z.0, z.1, is_seen_of z.0 (sym z.2 ∙ h))
-      leads_seen f l (view_stands k x w at glob end named) has h = let z = leads_by i (Stands i k x) (placed_lead x) (view_stands k x w at glob end named) has refl in
+      leads_seen f l (view_stands k x w at glob end named) has h = let z = leads_by i (Stands i k x) (placed_lead t x) (view_stands k x w at glob end named) has refl in
           (thing_of z.0, z.1, is_seen_of z.0 (sym z.2 ∙ h))
       leads_seen f l (view_none g) has h = absurd (false≢true h)
   tells_seen i u is false e leads' wide =
       let f = any_of (λ f. (lead_for i (lead_by t f)).leads) facts leads' in
-      let x = leads_by i f.0 (lead_for i (lead_by t f.0)) (view_of i f.0) f.1 f.2 in
+      let x = leads_by i f.0 (lead_for i (lead_by t f.0)) (view_of t i f.0) f.1 f.2 in
       unknown (subst (LeadsTo c i) (none (thing_of x.0) x.1) x.1) none
     where
       none : (x : Thing ℕ) → LeadsTo c i x → x ≡ unseen
@@ -289,12 +299,12 @@ module _ (c : Crate ℕ ℕ) (t : code.ImportTable.ImportTable) (facts : List co
   tells_wide i u is true e leads' = tells_seen i u is (list_any (λ f. (lead_for i (lead_by t f)).is_seen) facts) refl leads' e
   tells_wide i u is false e leads' =
       let f = any_of (λ f. (lead_for i (lead_by t f)).leads) facts leads' in
-      let x = leads_by i f.0 (lead_for i (lead_by t f.0)) (view_of i f.0) f.1 f.2 in
-      too_wide x.1 (u, is, wide_by_name i u is e f.0 (lead_for i (lead_by t f.0)) (view_of i f.0) f.1 refl f.2, λ ns y v given. wide_given i u ns y v is e given)
+      let x = leads_by i f.0 (lead_for i (lead_by t f.0)) (view_of t i f.0) f.1 f.2 in
+      too_wide x.1 (u, is, wide_by_name i u is e f.0 (lead_for i (lead_by t f.0)) (view_of t i f.0) f.1 refl f.2, λ ns y v given. wide_given i u ns y v is e given)
 
   tells : (i : ℕ) (u : PathImport ℕ) → IsImport c i u → (b : Bool) → Picks (λ l. l.leads) i b
       → IsVerdict c i (if not b then Unresolved else (if not (list_any (λ f. (lead_for i (lead_by t f)).is_wide) facts) then TooWide else (if list_any (λ f. (lead_for i (lead_by t f)).is_seen) facts then Resolved else Unknown)))
-  unfolding Picks FactFor
+  unfolding Picks
   tells i u is true e = tells_wide i u is (list_any (λ f. (lead_for i (lead_by t f)).is_wide) facts) refl e
   tells i u is false e = unresolved (u, is, λ x h. let f = fact_for i x u is h in false≢true (sym e ∙ of_any (λ f. (lead_for i (lead_by t f)).leads) facts f.0 f.1 f.2))
 

@@ -1,8 +1,8 @@
 -- Where a name that a path asks for is for others.
-use Rattle.std.proofs.Common.{◌≡◌, ◌==◌, ◌||◌, ◌&&◌, not, ℕ, Bool, true, false, List, [], ◌∷◌, ◌++◌, Option, Some, None, slice_get, take, ◌+◌, refl, sym, ap, subst, ◌∙◌, arith}
-use Rattle.std.specs.List.{All, Contains, list_any, filter_map, cons_option}
-use Rattle.std.specs.Option.{option_to_list, option_map, option_and_then, option_map_or}
-use Rattle.std.proofs.lemmas.List.Elements.{filter_map-append, All-contains, Contains-get_or, Contains-append_right}
+use Rattle.std.proofs.Common.{◌≡◌, ◌==◌, ◌||◌, ◌&&◌, not, ℕ, Bool, true, false, List, [], ◌∷◌, Option, Some, None, slice_get, refl, sym, ap, subst, ◌∙◌, arith}
+use Rattle.std.specs.List.{All, Contains, list_any}
+use Rattle.std.specs.Option.{option_map, option_and_then, option_map_or}
+use Rattle.std.proofs.lemmas.List.Elements.{All-contains, Contains-get_or, Contains-append_right}
 use Rattle.std.proofs.lemmas.List.Folds.{list_any-from_Any}
 use Rattle.std.proofs.lemmas.Option.{same_Some}
 use Rattle.std.proofs.lemmas.Bool.{or_left, eqb-true, false≢true}
@@ -18,17 +18,6 @@ use Rattle.def_map.specs.Private.{asks_in, is_for_others, is_name_hidden, waits_
 use Rattle.def_map.proofs.Closing.{is_in}
 use Rattle.def_map.proofs.Deciding.{both_of, both as both_true, itself}
 use Rattle.def_map.proofs.Meeting.{none_some}
-
-one : {Y : Type 0} (o : Option Y) → option_to_list o ≡ cons_option o []
-one None = refl
-one (Some y) = refl
-
--- what one more item gives is pushed
-pub filter_step : {X Y : Type 0} (h : X → Option Y) (items : List X) (i : ℕ) (x : X) (said : Option Y) (found new : List Y) → said ≡ h x → take (i + 1) items ≡ take i items ++ x ∷ []
-    → found ≡ filter_map h (take i items) → new ≡ found ++ option_to_list said → new ≡ filter_map h (take (i + 1) items)
-filter_step h items i x said found new is more so pushed =
-    pushed ∙ ap (λ o. found ++ option_to_list o) is ∙ ap (λ l. l ++ option_to_list (h x)) so ∙ ap (λ l. filter_map h (take i items) ++ l) (one (h x))
-    ∙ sym (filter_map-append h (take i items) (x ∷ [])) ∙ ap (filter_map h) (sym more)
 
 -- what waits for a name that is for others, that name stands at its key
 for_others : (t : ImportTable) (i k : ℕ) (ns : Namespace) (name : ℕ) (v : Visibility) → is_for_others t i k ns name v ≡ true → name_at t i k ≡ Some name

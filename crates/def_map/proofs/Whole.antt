@@ -13,10 +13,12 @@ use Rattle.item_tree.specs.Node.{Leaf, plain, constant, struct_item, outline, us
 use Rattle.item_tree.specs.Tree.{Tree}
 use Rattle.module_tree.specs.declared.data.{ModuleData.ModuleData, ModuleOrigin.ModuleOrigin, ModuleOrigin.TheVariants.CrateRoot, ModuleOrigin.TheVariants.File as file_origin, ModuleOrigin.TheVariants.Inline as inline_origin}
 use Rattle.def_map.specs.declared.{push.Owner.Owner, push.Place.Place, kinds.Visibility.Visibility}
+use Rattle.def_map.specs.declared.kinds.Namespace.TheVariants.{Values}
 use Rattle.def_map.specs.declared.kinds.Visibility.TheVariants as seen_by
 use Rattle.def_map.specs.declared.attributes.Marks.{Marks}
 use Rattle.def_map.specs.declared.rows.ItemKey.{ItemKey}
-use Rattle.def_map.specs.Crates.{Thing, parent_of, module_above, module_sees}
+use Rattle.def_map.specs.Crates.{Thing, an_item, unseen, parent_of, module_above, module_sees}
+use Rattle.def_map.specs.Verdicts.{is_at_least}
 use Rattle.def_map.specs.Attributes.{attr_marks}
 use Rattle.def_map.specs.Facts.{IsOther}
 use Rattle.def_map.specs.Language.{root_crates}
@@ -148,7 +150,7 @@ module _ (parents : List (Option ℕ)) where
   -- the modules that a row speaks of are the crate's
   abbrev pub IsFine : CrateRow → Type 0
   IsFine (declares d) = IsModuleOf parents d.thing
-  IsFine (imports a index u) = (u.parent < length parents) × (module_sees parents u.parent u.visibility ≡ true)
+  IsFine (imports at a v x) = (at < length parents) × (module_sees parents at v ≡ true)
   IsFine (veil at v) = Unit {0}
   IsFine macro_veil = Unit {0}
   IsFine (defines_macro name key) = Unit {0}
@@ -191,9 +193,10 @@ module _ (parents : List (Option ℕ)) where
       fine_const None v = tt
       fine_const (Some name) v = (tt, tt)
 
-      fine_ctor : (name : List ℕ) (v : Option Visibility) → AreFine (spec.ctor_rows o name v)
-      fine_ctor name None = tt
-      fine_ctor name (Some v) = (tt, tt)
+      fine_ctor : (name : List ℕ) (own : Visibility) (v : Option Visibility) → AreFine (spec.ctor_rows parents o name own v)
+      fine_ctor name own None = tt
+      fine_ctor name own (Some v) =
+          fine_if (is_at_least parents v own) (spec.declared o Values name (an_item (spec.owner_key o)) v ∷ []) (spec.declared o Values name unseen own ∷ []) (tt, tt) (tt, tt)
 
       fine_crate : (name : Option (List ℕ)) (v : Visibility) → AreFine (spec.crate_rows o name v)
       fine_crate None v = tt
@@ -210,7 +213,7 @@ module _ (parents : List (Option ℕ)) where
       fine_leaf : {V : Type 0} (see : V → Visibility) → ((v : V) → module_sees parents o.place.at (see v) ≡ true) → (l : Leaf V) → AreFine (spec.leaf_rows parents s o see l)
       fine_leaf see h (plain k name v) = (fine_plain k name (see v), tt)
       fine_leaf see h (constant name v) = fine_const name (see v)
-      fine_leaf see h (struct_item name v shape c) = (tt, fine_ctor name (option_map (spec.ctor_limit parents o.marks) (spec.ctor_visibility parents see c)))
+      fine_leaf see h (struct_item name v shape c) = (tt, fine_ctor name (spec.ctor_limit parents o.marks (see v)) (option_map (spec.ctor_limit parents o.marks) (spec.ctor_visibility parents see c)))
       fine_leaf see h (outline name v) = fine_mod name (see v) (spec.module_of s.modules o.place.at o.id) refl
       fine_leaf see h (use_item v t) = fine_use (see v) t (h v)
       fine_leaf see h (extern_crate name v alias) = fine_crate _ (see v)
@@ -293,7 +296,7 @@ module _ (parents : List (Option ℕ)) where
   declared_fine : (rows : List CrateRow) → AreFine parents rows → AllByRecursion (λ d. IsModuleOf parents d.thing) (flat_map spec.row_declarations rows)
   declared_fine [] f = tt
   declared_fine (declares d ∷ rows) f = (f.0, declared_fine rows f.1)
-  declared_fine (imports a i u ∷ rows) f = declared_fine rows f.1
+  declared_fine (imports at a v x ∷ rows) f = declared_fine rows f.1
   declared_fine (veil at v ∷ rows) f = declared_fine rows f.1
   declared_fine (macro_veil ∷ rows) f = declared_fine rows f.1
   declared_fine (defines_macro name key ∷ rows) f = declared_fine rows f.1
@@ -302,7 +305,7 @@ module _ (parents : List (Option ℕ)) where
   imports_fine : (rows : List CrateRow) → AreFine parents rows → AllByRecursion (λ u. (u.parent < length parents) × (module_sees parents u.parent u.visibility ≡ true)) (flat_map spec.row_imports rows)
   imports_fine [] f = tt
   imports_fine (declares d ∷ rows) f = imports_fine rows f.1
-  imports_fine (imports a i u ∷ rows) f = (f.0, imports_fine rows f.1)
+  imports_fine (imports at a v x ∷ rows) f = (f.0, imports_fine rows f.1)
   imports_fine (veil at v ∷ rows) f = imports_fine rows f.1
   imports_fine (macro_veil ∷ rows) f = imports_fine rows f.1
   imports_fine (defines_macro name key ∷ rows) f = imports_fine rows f.1

@@ -1,5 +1,5 @@
 -- The loop's table and seeds for a crate by numbers, and what its facts say of the crate.
-use Rattle.std.specs.Prelude.{◌≡◌, ◌↔◌, ℕ, true, List, Some, None, slice_get, map, length, Contains}
+use Rattle.std.specs.Prelude.{◌≡◌, ◌↔◌, ℕ, true, List, Some, None, slice_get, map, Contains}
 use Rattle.def_map.specs.declared.kinds.{Namespace.Namespace, Visibility.Visibility}
 use Rattle.def_map.specs.declared.kinds.PathStart.TheVariants.{Plain}
 use Rattle.def_map.specs.declared.facts as code
@@ -7,7 +7,7 @@ use Rattle.def_map.specs.declared.facts.Fact.TheVariants.{Names, EveryName, Stan
 use Rattle.def_map.specs.declared.facts.ImportName.TheVariants.{Glob, Named, Unnamed}
 use Rattle.def_map.specs.declared.facts.Thing.TheVariants.{Module as module_thing, Item, Scope, Unseen}
 use Rattle.def_map.specs.Crates.{Crate, Thing, a_module, an_item, a_scope, unseen, NameDeclaration, Binding, a_glob, a_name, underscore, nameless, PathImport, Veil, Hides}
-use Rattle.def_map.specs.Facts.{Fact, names, stands, gives, is_glob_import, reading, IsImport, import_start, may_leave, IsElsewhere, Derives}
+use Rattle.def_map.specs.Facts.{Fact, names, stands, gives, reading, IsImport, import_start, may_leave, IsElsewhere, IsGlobCopy, Derives}
 use Rattle.def_map.specs.Closure.{hides, Closes}
 
 -- ---- from the code's values
@@ -70,13 +70,13 @@ module _ (c : Crate ℕ ℕ) where
     pub begin : (f : code.Fact.Fact) → Contains seeds f → (g : Fact ℕ ℕ) × Begins g × (f ≡ loop_fact g)
     pub whole : (g : Fact ℕ ℕ) → Begins g → Contains seeds (loop_fact g)
 
-  -- what a fact of the loop says of the crate; a glob of a module copies to its own what another names
+  -- what a fact of the loop says of the crate
   abbrev pub SaysOf : code.Fact.Fact → Type 0
   SaysOf (Names m ns n t v) = Derives c (names m ns (Some n) (thing_of t) v)
   SaysOf (EveryName m ns v) = Derives c (names m ns None unseen v)
   SaysOf (Stands i k t) = Derives c (stands i k (thing_of t))
   SaysOf (Gives i ns t v) = Derives c (gives i ns (thing_of t) v)
-  SaysOf (Copies from into v) = (i : ℕ) × (u : PathImport ℕ) × IsImport c i u × (is_glob_import u ≡ true) × (u.parent ≡ into) × (u.visibility ≡ v) × Derives c (stands i (length u.names) (a_module from))
+  SaysOf (Copies from into v) = IsGlobCopy c from into v
 
 -- what the loop finds is what the rules derive
 abbrev pub ClosesAlike : Crate ℕ ℕ → code.ImportTable.ImportTable → List code.Fact.Fact → Type 0

@@ -193,7 +193,7 @@ abbrev pub most_facts : ℕ
 most_facts = 2 ^ 21
 
 abbrev pub most_joins : ℕ
-most_joins = 2 ^ 24
+most_joins = 2 ^ 23
 
 -- different facts that all follow
 pub record FoundFacts (t : ImportTable) (seeds : List Fact) : Type 0 where

@@ -132,3 +132,7 @@ module _ {N I : Type 0} (c : Crate N I) where
     -- 10. a path through what is unseen, or through a scope, leads to what is unseen
     passes : {i k : ℕ} {n : N} {t : Thing I} {f : Fact N I} (u : PathImport N) (ns : Namespace) → IsImport i u → Derives (stands i k t) → IsOpen t
         → slice_get u.names k ≡ Some n → reading i u k ns unseen Public ≡ Some f → Derives f
+
+  -- a glob of a module copies to its own, for these, what another names
+  abbrev pub IsGlobCopy : ℕ → ℕ → Visibility → Type 0
+  IsGlobCopy from into v = (i : ℕ) × (u : PathImport N) × IsImport i u × (is_glob_import u ≡ true) × (u.parent ≡ into) × (u.visibility ≡ v) × Derives (stands i (length u.names) (a_module from))

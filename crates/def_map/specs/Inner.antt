@@ -1,2 +1,4 @@
 pub mod Closing
+pub mod Modules
+pub mod Told
 pub mod Walking

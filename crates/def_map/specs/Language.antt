@@ -33,7 +33,7 @@ core_derives =
 abbrev pub compiler_cfgs : List (List ℕ)
 compiler_cfgs =
     codes "clippy" ∷ codes "debug_assertions" ∷ codes "doc" ∷ codes "doctest" ∷ codes "false" ∷ codes "fmt_debug" ∷ codes "miri" ∷ codes "overflow_checks"
-    ∷ codes "panic" ∷ codes "proc_macro" ∷ codes "relocation_model" ∷ codes "rustfmt" ∷ codes "sanitize" ∷ codes "target_abi" ∷ codes "target_arch"
+    ∷ codes "panic" ∷ codes "relocation_model" ∷ codes "rustfmt" ∷ codes "sanitize" ∷ codes "target_abi" ∷ codes "target_arch"
     ∷ codes "target_endian" ∷ codes "target_env" ∷ codes "target_family" ∷ codes "target_feature" ∷ codes "target_has_atomic" ∷ codes "target_object_format"
     ∷ codes "target_os" ∷ codes "target_pointer_width" ∷ codes "target_thread_local" ∷ codes "target_vendor" ∷ codes "test" ∷ codes "true" ∷ codes "ub_checks"
     ∷ codes "unix" ∷ codes "windows" ∷ []

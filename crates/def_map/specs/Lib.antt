@@ -4,7 +4,6 @@ pub mod Closure
 pub mod CrateView
 pub mod Crates
 pub mod Facts
-pub mod Followers
 pub mod Found
 pub mod Inner
 pub mod Language
@@ -14,6 +13,7 @@ pub mod ModuleOrder
 pub mod Numbering
 pub mod Numbers
 pub mod Private
+pub mod Refused
 pub mod Seeding
 pub mod SeedsOf
 pub mod Tables

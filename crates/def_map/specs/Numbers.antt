@@ -67,7 +67,7 @@ module _ {N I M J : Type 0} (number : N → Option M) (item : I → J) where
   -- what is derived of the one is derived of the other, if it is asked for
   pub record DerivesAlike (c : Crate N I) : Type 0 where
     pub to_numbers : (f : Fact N I) (g : Fact M J) → numbered_fact f ≡ Some g → Derives c f → Derives (renumbered c) g
-    pub from_numbers : (f : Fact N I) (g : Fact M J) → numbered_fact f ≡ Some g → Derives (renumbered c) g → (same : Fact N I) × (numbered_fact same ≡ Some g) × Derives c same
+    pub from_numbers : (g : Fact M J) → Derives (renumbered c) g → (same : Fact N I) × (numbered_fact same ≡ Some g) × Derives c same
 
   abbrev pub NumbersKeep : Crate N I → Type 0
   NumbersKeep c = IsNumbering c → DerivesAlike c

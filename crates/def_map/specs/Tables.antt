@@ -26,6 +26,7 @@ use Rattle.def_map.specs.declared.attributes.Marks.{Marks}
 use Rattle.def_map.specs.Attributes.{attr_marks, has_unknown}
 use Rattle.def_map.specs.Crates.{Thing, a_module, an_item, a_scope, unseen, NameDeclaration, Binding, a_glob, a_name, underscore, nameless, PathImport, Veil, Crate, module_above, parent_of, narrower}
 use Rattle.def_map.specs.UseLeaves.{leaf_count}
+use Rattle.def_map.specs.Verdicts.{is_at_least}
 use Rattle.def_map.specs.Language.{builtin_crates, prelude_types, root_crates, tools}
 
 -- what the manifest says: the features, and the names of other crates, if they are known
@@ -48,8 +49,8 @@ pub record CrateSources : Type 0 where
 
 pub data CrateRow : Type 0 where
   declares : NameDeclaration (List ℕ) ItemKey → CrateRow
-  -- an import, by the id of its use and the index of its leaf
-  imports : FileAstId → ℕ → PathImport (List ℕ) → CrateRow
+  -- an import of a use in a module, by the id of the use, for those who see it
+  imports : ℕ → FileAstId → Visibility → kept.Import → CrateRow
   -- a module may have names in each namespace that are not seen
   veil : ℕ → Visibility → CrateRow
   -- the root may have macros that are not seen
@@ -141,10 +142,6 @@ module _ (o : Owner) where
   const_rows None v = []
   const_rows (Some name) v = declared Values name (an_item owner_key) v ∷ []
 
-  abbrev pub ctor_rows : List ℕ → Option Visibility → List CrateRow
-  ctor_rows name None = []
-  ctor_rows name (Some v) = declared Values name (an_item owner_key) v ∷ []
-
   -- the root names another crate by an `extern crate`
   abbrev pub crate_rows : Option (List ℕ) → Visibility → List CrateRow
   crate_rows None v = []
@@ -162,7 +159,7 @@ module _ (o : Owner) where
 
   -- ---- imports
   abbrev pub import_row : Visibility → kept.Import → CrateRow
-  import_row v x = imports o.id x.index (import_in o.place.at v x)
+  import_row v x = imports o.place.at o.id v x
 
   -- of a use: where an attribute may rewrite it, nothing; a leaf that gives no import (`use *`) is a veil for those who see the use
   abbrev pub use_rows : Visibility → Tree → List CrateRow
@@ -207,6 +204,12 @@ module _ (parents : List (Option ℕ)) where
   -- nobody outside of the crate, if it is `#[non_exhaustive]`
   abbrev pub ctor_limit : Marks → Visibility → Visibility
   ctor_limit m v = if m.is_non_exhaustive then narrower parents (seen_by.Module 0) v else v
+
+  -- the constructor of a struct that these see; a cfg may take a field away that fewer see, and then it is not known who sees the constructor
+  abbrev pub ctor_rows : Owner → List ℕ → Visibility → Option Visibility → List CrateRow
+  ctor_rows o name own None = []
+  ctor_rows o name own (Some v) =
+      if is_at_least parents v own then declared o Values name (an_item (owner_key o)) v ∷ [] else declared o Values name unseen own ∷ []
 
 -- ---- attributes
 
@@ -278,7 +281,7 @@ module _ (parents : List (Option ℕ)) (s : CrateSources) where
   abbrev pub leaf_rows : {V : Type 0} → Owner → (V → Visibility) → Leaf V → List CrateRow
   leaf_rows o see (plain k name v) = plain_declared o k name (see v) ∷ []
   leaf_rows o see (constant name v) = const_rows o name (see v)
-  leaf_rows o see (struct_item name v shape c) = declared o Types name (an_item (owner_key o)) (see v) ∷ ctor_rows o name (option_map (ctor_limit parents o.marks) (ctor_visibility parents see c))
+  leaf_rows o see (struct_item name v shape c) = declared o Types name (an_item (owner_key o)) (see v) ∷ ctor_rows parents o name (ctor_limit parents o.marks (see v)) (option_map (ctor_limit parents o.marks) (ctor_visibility parents see c))
   leaf_rows o see (outline name v) = mod_rows o name (see v) (module_of s.modules o.place.at o.id)
   leaf_rows o see (use_item v t) = use_rows o (see v) t
   leaf_rows o see (extern_crate name v alias) = crate_rows o (crate_name name alias) (see v)
@@ -349,7 +352,7 @@ row_declarations (declares d) = d ∷ []
 row_declarations _ = []
 
 abbrev pub row_imports : CrateRow → List (PathImport (List ℕ))
-row_imports (imports a index u) = u ∷ []
+row_imports (imports at a v x) = import_in at v x ∷ []
 row_imports _ = []
 
 abbrev pub row_veils : CrateRow → List Veil

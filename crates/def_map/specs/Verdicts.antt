@@ -4,7 +4,7 @@ use Rattle.def_map.specs.declared.kinds.Namespace.{Namespace}
 use Rattle.def_map.specs.declared.kinds.Namespace.TheVariants.{Types}
 use Rattle.def_map.specs.declared.kinds.Visibility.{Visibility}
 use Rattle.def_map.specs.declared.kinds.Visibility.TheVariants.{Public, Module}
-use Rattle.def_map.specs.Crates.{Crate, Thing, a_module, an_item, a_scope, unseen, a_name, nameless, PathImport, is_module_within, module_sees}
+use Rattle.def_map.specs.Crates.{Crate, Thing, a_module, an_item, a_scope, unseen, nameless, PathImport, is_module_within, module_sees}
 use Rattle.def_map.specs.Facts.{Derives, names, stands, gives, is_glob_import, is_inner_name, is_wanted, IsImport}
 
 module _ {I : Type 0} where
@@ -46,14 +46,6 @@ module _ {N I : Type 0} (c : Crate N I) where
   abbrev pub HasNoName : ℕ → Type 0
   HasNoName i = (u : PathImport N) × IsImport c i u × (u.binding ≡ nameless)
 
-  -- unknown: all that it leads to is unseen
-  abbrev pub LeadsUnseen : ℕ → Type 0
-  LeadsUnseen i = (u : PathImport N) × IsImport c i u × ((t : Thing I) → LeadsTo i t → t ≡ unseen)
-
-  -- resolved: it leads to what is seen
-  abbrev pub ResolvesTo : ℕ → Thing I → Type 0
-  ResolvesTo i t = LeadsTo i t × IsSeen t
-
   -- the path of an import asks in a module for a name in a namespace
   pub data Asks (i : ℕ) : ℕ → Namespace → N → Type 0 where
     asks_inner : {k m : ℕ} {n : N} (u : PathImport N) → IsImport c i u → Derives c (stands i k (a_module m)) → slice_get u.names k ≡ Some n → is_inner_name u k ≡ true
@@ -65,8 +57,3 @@ module _ {N I : Type 0} (c : Crate N I) where
   abbrev pub IsPrivate : ℕ → Type 0
   IsPrivate i = (u : PathImport N) × (m : ℕ) × (ns : Namespace) × (n : N) × (t : Thing I) × (v : Visibility)
       × IsImport c i u × Asks i m ns n × Derives c (names m ns (Some n) t v) × (module_sees c.parents u.parent v ≡ false)
-
-  -- an import follows another that gives nothing: it asks in the module of the other for the name which that would bind
-  abbrev pub Follows : ℕ → ℕ → Type 0
-  Follows i other = (u w : PathImport N) × (ns : Namespace) × (n : N)
-      × IsImport c i u × IsImport c other w × LeadsNowhere other × (w.binding ≡ a_name n) × Asks i w.parent ns n × (is_wanted w ns ≡ true) × (module_sees c.parents u.parent w.visibility ≡ true)

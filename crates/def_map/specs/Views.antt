@@ -6,7 +6,7 @@ use Rattle.def_map.specs.declared.push.Row.TheVariants.{Declares, Imports, Veil,
 use Rattle.def_map.specs.declared.sources.CrateSources as sources_code
 use Rattle.def_map.specs.declared.sources.Manifest as manifest_code
 use Rattle.def_map.specs.CrateView.{declared_view}
-use Rattle.def_map.specs.Tables.{Manifest, CrateSources, CrateRow, declares, imports, veil, macro_veil, defines_macro, names_crate, import_in}
+use Rattle.def_map.specs.Tables.{Manifest, CrateSources, CrateRow, declares, imports, veil, macro_veil, defines_macro, names_crate}
 
 abbrev pub crate_manifest_view : manifest_code.Manifest → Manifest
 crate_manifest_view m = record { is_2015 = m.is_2015; features = map string_bytes m.features.items; crates = option_map (λ names. names.items) m.crates }
@@ -16,7 +16,7 @@ sources_view s = record { modules = s.modules.now; trees = map (λ tree. tree.no
 
 abbrev pub crate_row_view : row_code.Row → CrateRow
 crate_row_view (Declares d) = declares (declared_view d)
-crate_row_view (Imports u) = imports u.id (listed_import u.listed).index (import_in u.parent u.visibility (listed_import u.listed))
+crate_row_view (Imports u) = imports u.parent u.id u.visibility (listed_import u.listed)
 crate_row_view (Veil at v) = veil at v
 crate_row_view MacroVeil = macro_veil
 crate_row_view (DefinesMacro name key) = defines_macro name.now key

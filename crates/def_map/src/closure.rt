@@ -19,7 +19,7 @@ use thiserror::Error;
 pub const MOST_FACTS: usize = 1 << 21;
 
 /// How often two facts meet, at most.
-pub const MOST_JOINS: usize = 1 << 24;
+pub const MOST_JOINS: usize = 1 << 23;
 
 /// Why it was not found what follows.
 #[derive(Clone, Copy, Debug, PartialEq, Eq, Error)]

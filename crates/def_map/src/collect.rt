@@ -9,6 +9,7 @@ ghost use Rattle.module_tree.specs.Modules.{most_modules};
 
 use crate::ctx::Ctx;
 use crate::files::rows_with;
+use crate::module_index::index_modules;
 use crate::push::Row;
 use crate::sources::CrateSources;
 use module_tree::{MOST_MODULES, ModuleData};
@@ -104,10 +105,12 @@ fn rows_of<'t>(
     ensures { IfOk result (λ rows. map crate_row_view rows.items
         ≡ spec.rows_with parents.now (sources_view sources.entry)) }
 {
+    let index = index_modules(alloc, sources.modules)?;
     let ctx = Ctx {
         alloc,
         parents,
         sources,
+        index: &index,
     };
     rows_with(&ctx)
 }

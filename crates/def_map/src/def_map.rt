@@ -1,30 +1,33 @@
 //! What is told of the imports of a crate.
-ghost use Rattle.std.specs.Prelude.{◌≡◌, ◌<◌, false, IfErr, IfOk, IsErrOf, OnOk, length, map, option_copied, unwrap_or};
-ghost use Rattle.def_map.specs.CrateView.{bound_view, rows_view, import_view};
+ghost use Rattle.std.specs.Prelude.{◌≡◌, ◌++◌, ◌<◌, IfErr, IfOk, OnOk, length, map};
+ghost use Rattle.std.specs.Vec.Iter.{into_iter_items};
+ghost use Rattle.def_map.specs.CrateView.{rows_view};
+ghost use Rattle.def_map.specs.Inner.Told as spec;
+ghost use Rattle.def_map.specs.Inner.Told.{AreAnswers, collected_crate, resolved_answer};
 ghost use Rattle.def_map.specs.Laws.{IsWhole};
-ghost use Rattle.def_map.specs.ModuleOrder.{are_behind};
-ghost use Rattle.def_map.specs.Resolved as spec;
-ghost use Rattle.def_map.specs.Resolved.{AreResolved, AreVerdictsOf, IsToldSoFar, TellsMore, is_of_modules};
-ghost use Rattle.def_map.specs.Tables.{crate_of, parents_of};
+ghost use Rattle.def_map.specs.Refused.{IsCrateRefused, AreImportsRefused};
+ghost use Rattle.def_map.specs.Resolved.{AreResolved};
+ghost use Rattle.def_map.specs.Tables.{crate_of};
 ghost use Rattle.def_map.specs.Views.{crate_row_view, sources_view};
-ghost use Rattle.def_map.specs.declared.def_map.DefMapError.TheVariants.{OutOfOrder, TooManyModules};
-ghost use Rattle.def_map.specs.declared.verdict.Verdict.TheVariants.{Unknown};
-ghost use Rattle.module_tree.specs.Modules.{most_modules};
 
 use crate::closure::{ClosureError, find_closure};
-use crate::collect::{CollectError, collect};
+use crate::collect::{CollectError, Collected, collect};
 use crate::gather::crate_rows;
 use crate::lower::lower_crate;
 use crate::numbers::{NumbersError, number_crate};
 use crate::push::Row;
-use crate::rows::{Bound, CrateRows, NamedImport};
+use crate::rows::CrateRows;
 use crate::seeds::{SeedsError, find_seeds};
-use crate::sources::CrateSources;
-use crate::verdict::{Verdict, verdicts};
+use crate::sources::{CrateSources, Manifest};
+use crate::targets::Target;
+use crate::told::{Told, tell_imports};
+use crate::verdict::Verdict;
 use hir_input::FileAstId;
 use module_tree::ModuleId;
 use std::alloc::{AllocError, AllocFailed, Global};
+use std::vec::IntoIter;
 use thiserror::Error;
+use tree_walk::Listed;
 
 /// Why nothing is told of the imports of a crate.
 #[derive(Clone, Copy, Debug, PartialEq, Eq, Error)]
@@ -82,7 +85,7 @@ impl<T: Drop> From<AllocFailed<T>> for DefMapError {
 
 impl From<CollectError> for DefMapError {
     ghost use Rattle.std.specs.Prelude.{◌≡◌};
-    ghost use Rattle.def_map.specs.Resolved.{collect_error};
+    ghost use Rattle.def_map.specs.Refused.{collect_error};
 
     ghost from_gives = { λ refused e. e ≡ collect_error refused };
 
@@ -97,7 +100,7 @@ impl From<CollectError> for DefMapError {
 
 impl From<NumbersError> for DefMapError {
     ghost use Rattle.std.specs.Prelude.{◌≡◌};
-    ghost use Rattle.def_map.specs.Resolved.{numbers_error};
+    ghost use Rattle.def_map.specs.Refused.{numbers_error};
 
     ghost from_gives = { λ refused e. e ≡ numbers_error refused };
 
@@ -112,7 +115,7 @@ impl From<NumbersError> for DefMapError {
 
 impl From<SeedsError> for DefMapError {
     ghost use Rattle.std.specs.Prelude.{◌≡◌};
-    ghost use Rattle.def_map.specs.Resolved.{seeds_error};
+    ghost use Rattle.def_map.specs.Refused.{seeds_error};
 
     ghost from_gives = { λ refused e. e ≡ seeds_error refused };
 
@@ -127,7 +130,7 @@ impl From<SeedsError> for DefMapError {
 
 impl From<ClosureError> for DefMapError {
     ghost use Rattle.std.specs.Prelude.{◌≡◌};
-    ghost use Rattle.def_map.specs.Resolved.{closure_error};
+    ghost use Rattle.def_map.specs.Refused.{closure_error};
 
     ghost from_gives = { λ refused e. e ≡ closure_error refused };
 
@@ -141,98 +144,98 @@ impl From<ClosureError> for DefMapError {
 }
 
 /// An import of a crate, and what is told of it. rust-analyzer's `Import` has no verdict.
-#[derive(Clone, Copy, Debug, PartialEq, Eq)]
+#[derive(Debug, Drop)]
 pub struct ResolvedImport {
     pub module: ModuleId,
     /// The `use` or `extern crate` that it is written in, in the file of its module.
     pub item: FileAstId,
-    /// The number of its use tree there.
-    pub index: u32,
+    /// The import itself, with the number of its use tree there.
+    pub import: Listed,
     pub verdict: Verdict,
+    /// A name that it asks for stands where it asks, but for others.
+    pub is_private: bool,
+    /// All that it leads to, each once.
+    pub targets: Vec<Target>,
 }
 
-/// What is told of an import that is bound so, by its verdict.
-fn told(bound: Bound<'_>, verdict: Option<&Verdict>) -> Verdict
-    ensures { result ≡ spec.verdict_told (bound_view bound.entry) (unwrap_or (option_copied verdict.entry) Unknown) }
-{
-    match bound {
-        Bound::Nameless => Verdict::Nameless,
-        _ => match verdict {
-            Some(verdict) => *verdict,
-            None => Verdict::Unknown,
-        },
-    }
-}
-
-/// What is told of the import of a number.
-fn verdict_at(imports: &[NamedImport<'_>], verdicts: &[Verdict], at: usize) -> Verdict
-    ensures { result ≡ spec.verdict_at (map import_view imports.now) verdicts.now at }
-{
-    let Some(import) = imports.get(at) else {
-        return Verdict::Unknown;
-    };
-    told(import.bound, verdicts.get(at))
-}
-
-/// Adds what is told of the import of a row, if it is one.
+/// Adds the import of a row, if it is one, with what is told next.
 fn push_resolved(
-    row: &Row<'_>,
-    imports: &[NamedImport<'_>],
-    verdicts: &[Verdict],
+    row: Row<'_>,
+    told: &mut IntoIter<Told>,
     resolved: &mut Vec<ResolvedImport>,
 ) -> Result<(), AllocError>
-    ensures { OnOk result (TellsMore (map import_view imports.now) verdicts.now (crate_row_view row.now)
-        resolved.old.items resolved.new.items) }
+    ensures answers { OnOk result (map resolved_answer resolved.new.items ≡ map resolved_answer resolved.old.items
+        ++ spec.row_answers (crate_row_view row.entry) (into_iter_items told.old)) }
+    ensures left { OnOk result
+        (into_iter_items told.new ≡ spec.told_left (crate_row_view row.entry) (into_iter_items told.old)) }
 {
-    if let Row::Imports(used) = row {
-        let verdict = verdict_at(imports, verdicts, resolved.len());
-        resolved.push(ResolvedImport {
-            module: ModuleId(used.parent as usize),
-            item: used.id,
-            index: used.listed.index.0,
-            verdict,
-        })?;
-    }
+    let Row::Imports(used) = row else {
+        return Ok(());
+    };
+    let Some(told) = told.next() else {
+        return Ok(());
+    };
+    resolved.push(ResolvedImport {
+        module: ModuleId(used.parent as usize),
+        item: used.id,
+        import: used.listed,
+        verdict: told.verdict,
+        is_private: told.is_private,
+        targets: told.targets,
+    })?;
     Ok(())
 }
 
-/// What is told of each import, where it is written.
+/// Each import, where it is written, with what is told of it.
 fn resolve_rows(
     alloc: Global,
-    rows: &[Row<'_>],
-    imports: &[NamedImport<'_>],
-    verdicts: &[Verdict],
+    rows: Vec<Row<'_>>,
+    told: Vec<Told>,
 ) -> Result<Vec<ResolvedImport>, AllocError>
-    ensures { IfOk result (λ resolved. IsToldSoFar (map import_view imports.now) verdicts.now
-        (map crate_row_view rows.now) resolved.items) }
+    ensures { IfOk result (λ resolved.
+        map resolved_answer resolved.items
+        ≡ spec.rows_answers (map crate_row_view rows.entry.items) told.items) }
 {
+    let mut told = told.into_iter();
     let mut resolved = Vec::new(alloc);
     for row in rows {
-        push_resolved(row, imports, verdicts, &mut resolved)?;
+        push_resolved(row, &mut told, &mut resolved)?;
     }
     Ok(resolved)
 }
 
-/// A verdict for each import.
-#[tactic(auto, using(crate::proofs::Resolving::numbers_apart, crate::proofs::Resolving::seeds_apart, crate::proofs::Resolving::closure_apart, crate::proofs::Resolving::memory_apart))]
-fn verdicts_of(alloc: Global, rows: &CrateRows<'_>) -> Result<Vec<Verdict>, DefMapError>
-    ensures told { IfOk result (λ told. AreVerdictsOf (rows_view rows.now) told.items) }
-    ensures refused { IfErr result (λ e. is_of_modules e ≡ false) }
+/// What is told of each import of a crate.
+fn tell_crate(alloc: Global, rows: &CrateRows<'_>) -> Result<Vec<Told>, DefMapError>
+    ensures told { IfOk result (λ told. AreAnswers (rows_view rows.now) told.items) }
+    ensures refused { IfErr result (IsCrateRefused (rows_view rows.now)) }
 {
     let numbers = number_crate(alloc, rows)?;
     let table = lower_crate(alloc, rows, &numbers)?;
     let seeds = find_seeds(alloc, rows, &numbers, &table)?;
     let closure = find_closure(alloc, &table, &seeds)?;
-    let told = verdicts(alloc, &table, closure.facts.as_slice())?;
+    let told = tell_imports(alloc, rows, &numbers, &table, &closure)?;
     Ok(told)
 }
 
-/// What is told of the imports of a crate, in the order in which they are written.
+/// What is told of the imports that rows have.
+fn tell_rows(
+    alloc: Global,
+    collected: &Collected<'_>,
+    manifest: &Manifest,
+) -> Result<Vec<Told>, DefMapError>
+    ensures told { IfOk result (λ told. AreAnswers (collected_crate collected.now manifest.now) told.items) }
+    ensures refused { IfErr result (IsCrateRefused (collected_crate collected.now manifest.now)) }
+{
+    let rows = crate_rows(alloc, &collected.parents, manifest, &collected.rows)?;
+    tell_crate(alloc, &rows)
+}
+
+/// The imports of a crate, in the order in which they are written, and what is told of each.
 ///
 /// # Errors
 ///
 /// `TooManyModules` only of more than `module_tree::MOST_MODULES`, `OutOfOrder` only if a module does not stand behind
-/// the one that it is in (those of a `ModuleTree` do).
+/// the one that it is in (those of a `ModuleTree` do), and the others only of more than they name.
 pub fn resolve_imports(
     alloc: Global,
     sources: CrateSources<'_>,
@@ -240,12 +243,10 @@ pub fn resolve_imports(
     ensures resolved { IfOk result (λ imports. AreResolved (sources_view sources.entry) imports.items) }
     ensures whole { OnOk result (0 < length sources.entry.modules.now
         → IsWhole (crate_of (sources_view sources.entry))) }
-    ensures many { IsErrOf result TooManyModules → most_modules < length sources.entry.modules.now }
-    ensures unordered { IsErrOf result OutOfOrder → are_behind 0 (parents_of sources.entry.modules.now) ≡ false }
+    ensures refused { IfErr result (AreImportsRefused (sources_view sources.entry)) }
 {
     let collected = collect(alloc, &sources)?;
-    let rows = crate_rows(alloc, &collected.parents, sources.manifest, &collected.rows)?;
-    let told = verdicts_of(alloc, &rows)?;
-    let imports = resolve_rows(alloc, &collected.rows, &rows.imports, &told)?;
+    let told = tell_rows(alloc, &collected, sources.manifest)?;
+    let imports = resolve_rows(alloc, collected.rows, told)?;
     Ok(imports)
 }

@@ -92,7 +92,7 @@ const CORE_DERIVES: [&str; 9] = [
     "PartialOrd",
 ];
 
-const COMPILER_CFGS: [&str; 30] = [
+const COMPILER_CFGS: [&str; 29] = [
     "clippy",
     "debug_assertions",
     "doc",
@@ -102,7 +102,6 @@ const COMPILER_CFGS: [&str; 30] = [
     "miri",
     "overflow_checks",
     "panic",
-    "proc_macro",
     "relocation_model",
     "rustfmt",
     "sanitize",

@@ -1,4 +1,4 @@
-//! The imports of a crate: what each resolves to, and which lead nowhere whatever macros and other crates hold.
+//! The imports of a crate: what each leads to, and which lead nowhere whatever macros and other crates hold.
 #![tactic(auto)]
 
 mod attributes;
@@ -9,13 +9,13 @@ mod def_map;
 mod fact_index;
 mod facts;
 mod files;
-mod followers;
 mod gather;
 mod kinds;
 mod language;
 mod laws;
 mod leaves;
 mod lower;
+mod module_index;
 mod numbers;
 mod outside;
 mod private;
@@ -27,6 +27,7 @@ mod seeds;
 mod sight;
 mod sources;
 mod targets;
+mod told;
 mod verdict;
 mod visibility;
 mod walk;
@@ -36,4 +37,5 @@ pub use def_map::{DefMapError, ResolvedImport, resolve_imports};
 pub use kinds::{Namespace, Visibility};
 pub use numbers::NumbersError;
 pub use sources::{CrateSources, Manifest};
+pub use targets::Target;
 pub use verdict::Verdict;

@@ -1,6 +1,6 @@
 //! Names and items as numbers.
-ghost use Rattle.std.specs.Prelude.{ℕ, List, Err, Some, true, option_copied, ◌≡◌, ◌≢◌, ◌<◌, ◌≤◌, ◌^◌, length, IfOk};
-ghost use Rattle.std.specs.Prelude.{IfErr, OnOk, filter_map, flat_map, map};
+ghost use Rattle.std.specs.Prelude.{ℕ, List, Err, ◌≡◌, ◌≢◌, ◌<◌, ◌≤◌, ◌^◌, length, IfOk, IfErr, OnOk};
+ghost use Rattle.std.specs.Prelude.{filter_map, flat_map, map, slice_get};
 ghost use Rattle.std.specs.{List.list_any, Option.option_to_list, Str.bytes_eq};
 ghost use Rattle.def_map.specs.CrateView.{rows_view, declared_view, macro_view, meaning_view};
 ghost use Rattle.def_map.specs.Numbering as spec;
@@ -83,20 +83,9 @@ impl Numbers<'_> {
         }
     }
 
-    /// The name of a number.
-    #[tactic(auto, using(crate::proofs::NumberLaws::name_of_number))]
-    pub(crate) fn name(&self, number: u32) -> Option<&str>
-        ensures { (name : List ℕ) → number_in self.now.symbols.keys name ≡ Some number
-            → option_copied result ≡ Some name }
-    {
-        self.symbols.get_index(number as usize).copied()
-    }
-
     /// The item of a number.
-    #[tactic(auto, using(crate::proofs::NumberLaws::item_of_number))]
     pub(crate) fn item_key(&self, number: u32) -> Option<ItemKey>
-        ensures { (key : ItemKey) → is_item_numbered self.now.items.keys key ≡ true
-            → number ≡ item_number self.now.items.keys key → result ≡ Some key }
+        ensures { result ≡ slice_get self.now.items.keys number }
     {
         self.items.get_index(number as usize).copied()
     }

@@ -83,7 +83,8 @@ impl Outside {
     }
 }
 
-fn push_other(number: Option<u32>, others: &mut IndexSet<u32>) -> Result<(), AllocError>
+/// Puts a number, if there is one.
+pub(crate) fn put_number(number: Option<u32>, others: &mut IndexSet<u32>) -> Result<(), AllocError>
     ensures { OnOk result (Interns nat_eq (λ n. n) others.old.keys others.new.keys (option_to_list number)) }
 {
     let Some(number) = number else {
@@ -102,7 +103,7 @@ fn push_others(
         (filter_map (λ name. number_by numbers.now name.now) names.now)) }
 {
     for name in names {
-        push_other(numbers.symbol(*name), others)?;
+        put_number(numbers.symbol(*name), others)?;
     }
     Ok(())
 }

@@ -1,6 +1,6 @@
 //! Imports that ask for a name which is there, but for others.
 
-ghost use Rattle.std.specs.Prelude.{◌≡◌, ◌<◌, ◌++◌, IfOk, OnOk, length, slice_get, option_to_list};
+ghost use Rattle.std.specs.Prelude.{◌≡◌, ◌<◌, ℕ, IfOk, length, nat_eq, slice_get};
 ghost use Rattle.std.specs.List.{list_any};
 ghost use Rattle.def_map.specs.Inner.Closing.{IsIndexed};
 ghost use Rattle.def_map.specs.Private as spec;
@@ -9,35 +9,27 @@ use crate::closure::Closure;
 use crate::fact_index::Key;
 use crate::facts::{Fact, Import, ImportTable, Thing};
 use crate::kinds::{Namespace, Visibility};
+use crate::outside::put_number;
 use crate::rules::{are_types, is_glob};
 use crate::sight::sees;
 use indexmap::IndexSet;
 use std::alloc::{AllocError, Global};
 
-/// The imports from which a name is hidden that they ask for, in order of their paths' facts; one may be there more
-/// than once.
-pub fn private_imports(
+/// The imports from which a name is hidden that they ask for.
+pub(crate) fn private_imports(
     alloc: Global,
     table: &ImportTable,
     closure: &Closure,
-) -> Result<Vec<u32>, AllocError>
+) -> Result<IndexSet<u32>, AllocError>
     requires { IsIndexed table.now closure.now.facts.keys closure.now.index }
-    ensures { IfOk result (λ found. found.items ≡ spec.private_imports table.now closure.now.facts.keys) }
+    ensures { let hidden = spec.private_imports table.now closure.now.facts.keys in
+        IfOk result (λ found. (i : ℕ) → list_any (nat_eq i) found.keys ≡ list_any (nat_eq i) hidden) }
 {
-    let mut found = Vec::new(alloc);
+    let mut found = IndexSet::new(alloc);
     for fact in closure.facts.as_slice() {
-        push_some(hidden_from(table, closure, *fact), &mut found)?;
+        put_number(hidden_from(table, closure, *fact), &mut found)?;
     }
     Ok(found)
-}
-
-fn push_some(said: Option<u32>, found: &mut Vec<u32>) -> Result<(), AllocError>
-    ensures { OnOk result (found.new.items ≡ found.old.items ++ option_to_list said) }
-{
-    let Some(import) = said else {
-        return Ok(());
-    };
-    found.push(import).map_err(AllocError::from)
 }
 
 fn hidden_from(table: &ImportTable, closure: &Closure, fact: Fact) -> Option<u32>
@@ -51,7 +43,7 @@ fn hidden_from(table: &ImportTable, closure: &Closure, fact: Fact) -> Option<u32
 }
 
 #[tactic(auto, unfolding(crate::specs::Private::import_of_path))]
-pub(crate) fn import_of_path(fact: Fact) -> Option<u32>
+fn import_of_path(fact: Fact) -> Option<u32>
     ensures { result ≡ spec.import_of_path fact }
 {
     match fact {
@@ -87,7 +79,7 @@ fn hidden_at(table: &ImportTable, facts: &IndexSet<Fact>, fact: Fact, place: u32
 
 // The module and the name for which a path waits.
 #[tactic(auto, unfolding(crate::specs::Private::waits_at))]
-pub(crate) fn waits_at(table: &ImportTable, fact: Fact) -> Option<(u32, u32)>
+fn waits_at(table: &ImportTable, fact: Fact) -> Option<(u32, u32)>
     ensures { result ≡ spec.waits_at table.now fact }
 {
     match fact {

@@ -13,6 +13,7 @@ use crate::kinds::{Namespace, Visibility};
 use crate::leaves::leaf_count;
 use crate::rows::{DeclaredName, ItemKey, Meaning};
 use crate::sight::narrower;
+use crate::verdict::is_at_least;
 use crate::visibility::{ctor_visibility, seen_by};
 use hir_input::ast::PlainKind;
 use hir_input::{FileAstId, Name};
@@ -161,24 +162,30 @@ fn ctor_limit(ctx: &Ctx<'_, '_>, marks: &Marks, visibility: Visibility) -> Visib
     visibility
 }
 
-/// Adds the name of a constructor, if there is one.
+/// Adds the name of a constructor, if there is one, of a struct that these see.
 fn push_ctor<'t>(
     ctx: &Ctx<'_, '_>,
     owner: &Owner,
     name: &'t Name,
+    own: Visibility,
     visibility: Option<Visibility>,
     rows: &mut Vec<Row<'t>>,
 ) -> Result<(), AllocError>
     ensures { let limit = spec.ctor_limit ctx.now.parents.now owner.now.marks in
         OnOk result (AddsRows rows.old.items rows.new.items
-        (spec.ctor_rows owner.now name.now (option_map limit visibility))) }
+        (spec.ctor_rows ctx.now.parents.now owner.now name.now (limit own) (option_map limit visibility))) }
 {
     let Some(visibility) = visibility else {
         return Ok(());
     };
+    let own = ctor_limit(ctx, &owner.marks, own);
     let limit = ctor_limit(ctx, &owner.marks, visibility);
-    let meaning = Meaning::Item(owner.key());
-    rows.push(owner.declared(Namespace::Values, name, meaning, limit))?;
+    if is_at_least(ctx.parents, limit, own) {
+        let meaning = Meaning::Item(owner.key());
+        rows.push(owner.declared(Namespace::Values, name, meaning, limit))?;
+        return Ok(());
+    }
+    rows.push(owner.declared(Namespace::Values, name, Meaning::Unseen, own))?;
     Ok(())
 }
 
@@ -197,10 +204,10 @@ pub(crate) fn push_struct<'t>(
 {
     let at = owner.place.at;
     let meaning = Meaning::Item(owner.key());
-    let visibility = seen_by(ctx, tree, at, item.visibility);
-    rows.push(owner.declared(Namespace::Types, &item.name, meaning, visibility))?;
+    let own = seen_by(ctx, tree, at, item.visibility);
+    rows.push(owner.declared(Namespace::Types, &item.name, meaning, own))?;
     let visibility = ctor_visibility(ctx, tree, at, &item.value_ns_ctor);
-    push_ctor(ctx, owner, &item.name, visibility, rows)
+    push_ctor(ctx, owner, &item.name, own, visibility, rows)
 }
 
 /// Adds the name of a `mod`, whose module is this one.

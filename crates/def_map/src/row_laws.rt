@@ -1,14 +1,19 @@
-//! What holds of the types of rows, numbers and seeds. The functions do nothing.
+//! What holds of the types of rows, numbers, seeds and targets. The functions do nothing.
 ghost use Rattle.hir_input.specs.Equality.{DecidesEq, IsCopied, IsKey};
 
 use crate::numbers::NumbersError;
 use crate::rows::ItemKey;
 use crate::seeds::SeedsError;
+use crate::targets::Target;
 use std::hash::Hash;
 
 // `==` is true exactly where two keys are one, a copy is its source, and equal keys are hashed alike.
 fn item_keys()
     ensures { IsKey ⟦<ItemKey as PartialEq>⟧.eq ⟦<ItemKey as Clone>⟧.is_clone ⟦<ItemKey as Hash>⟧.hash_input }
+{}
+
+fn targets()
+    ensures { IsKey ⟦<Target as PartialEq>⟧.eq ⟦<Target as Clone>⟧.is_clone ⟦<Target as Hash>⟧.hash_input }
 {}
 
 fn refusals()

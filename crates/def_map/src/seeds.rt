@@ -377,6 +377,7 @@ pub(crate) fn find_seeds(
 ) -> Result<Vec<Fact>, SeedsError>
     requires { IsLowered (crate_by numbers.now rows.now) table.now }
     ensures seeds { IfOk result (λ seeds. AreSeeds (crate_by numbers.now rows.now) seeds.items) }
+    ensures few { OnOk result (length rows.now.imports.items ≤ 2 ^ 32) }
     ensures too_many_imports { result ≡ Err TooManyImports → 2 ^ 32 < length rows.now.imports.items }
     ensures too_many_pairs { result ≡ Err TooManyPairs → 2 ^ 21 < pair_count (crate_by numbers.now rows.now) }
 {

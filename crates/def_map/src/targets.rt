@@ -1,59 +1,144 @@
-//! What an import gives, and where its path is at its end.
-
-ghost use Rattle.std.specs.Prelude.{◌≡◌, ◌++◌, IfOk, OnOk, option_to_list, slice_get};
-ghost use Rattle.def_map.specs.Closure.{is_key};
+//! What imports lead to.
+ghost use Rattle.std.specs.Prelude.{◌≡◌, IfOk, OnOk};
+ghost use Rattle.std.specs.Option.{option_to_list};
 ghost use Rattle.def_map.specs.Inner.Closing.{IsIndexed};
-ghost use Rattle.def_map.specs.Targets.{AreTargets, target_of};
-ghost use Rattle.def_map.specs.declared.fact_index.Key.TheVariants.{EndOf};
+ghost use Rattle.def_map.specs.Numbering.{Interns};
+ghost use Rattle.def_map.specs.Targets as spec;
+ghost use Rattle.def_map.specs.Targets.{AreTargetsBy, target_eq};
 
 use crate::closure::Closure;
 use crate::fact_index::Key;
-use crate::facts::{Fact, ImportTable};
+use crate::facts::{Fact, ImportTable, Thing};
+use crate::numbers::Numbers;
+use crate::rows::ItemKey;
+use crate::verdict::lead_by;
+use hir_input::FileAstId;
 use indexmap::IndexSet;
+use module_tree::ModuleId;
 use std::alloc::{AllocError, Global};
+use std::hash::{Hash, Hasher};
 
-/// The facts that say what an import gives, or where its path is at its end.
-pub fn import_targets(
-    alloc: Global,
-    table: &ImportTable,
-    closure: &Closure,
-    number: u32,
-) -> Result<Vec<Fact>, AllocError>
-    requires { IsIndexed table.now closure.now.facts.keys closure.now.index }
-    ensures { IfOk result (λ found. AreTargets table.now number closure.now.facts.keys found.items) }
-{
-    let mut found = Vec::new(alloc);
-    for place in closure.index.places(Some(Key::EndOf(number))) {
-        push_fact(target_at(table, number, &closure.facts, *place), &mut found)?;
+/// What an import leads to.
+#[derive(Clone, Copy, Debug, PartialEq, Eq)]
+pub enum Target {
+    Module(ModuleId),
+    /// An item, by its module and its id in the file of that; also an enum or a trait.
+    Item { module: ModuleId, item: FileAstId },
+    /// What a macro or another crate may hold.
+    Unseen,
+}
+
+// (By hand, as that of `ItemKey`.)
+impl Hash for Target {
+    ghost use Rattle.std.specs.Cmp.Rules.{hashing};
+    ghost use Rattle.std.proofs.Common.{rules};
+    ghost use Rattle.def_map.specs.Targets.{hashed};
+
+    ghost hash_input = { hashed };
+
+    ghost respects_eq = { Prim.search (hashing, rules) };
+
+    fn hash<H: Hasher>(&self, state: &mut H) {
+        match self {
+            Target::Module(id) => id.0.hash(state),
+            Target::Item { module, item } => {
+                module.0.hash(state);
+                item.hash.hash(state);
+                item.number.hash(state);
+            }
+            Target::Unseen => {}
+        }
     }
-    Ok(found)
 }
 
-fn push_fact(said: Option<Fact>, found: &mut Vec<Fact>) -> Result<(), AllocError>
-    ensures { OnOk result (found.new.items ≡ found.old.items ++ option_to_list said) }
+fn item_target(key: ItemKey) -> Target
+    ensures { result ≡ spec.item_target key }
 {
-    let Some(fact) = said else {
-        return Ok(());
+    Target::Item {
+        module: ModuleId(key.at as usize),
+        item: key.id,
+    }
+}
+
+// What stands behind a thing by numbers.
+fn target_by(numbers: &Numbers<'_>, thing: Thing) -> Target
+    ensures { result ≡ spec.target_by numbers.now.items.keys thing }
+{
+    match thing {
+        Thing::Module(at) => Target::Module(ModuleId(at as usize)),
+        Thing::Item(number) | Thing::Scope(number) => match numbers.item_key(number) {
+            Some(key) => item_target(key),
+            None => Target::Unseen,
+        },
+        Thing::Unseen => Target::Unseen,
+    }
+}
+
+fn thing_of(fact: Fact) -> Option<Thing>
+    ensures { result ≡ spec.fact_thing fact }
+{
+    match fact {
+        Fact::Stands(_, _, thing) | Fact::Gives(_, _, thing, _) => Some(thing),
+        _ => None,
+    }
+}
+
+// The thing to which an import leads by a fact.
+fn led_thing(table: &ImportTable, number: u32, fact: Fact) -> Option<Thing>
+    ensures { result ≡ spec.led_thing table.now number fact }
+{
+    let Some((own, lead)) = lead_by(table, fact) else {
+        return None;
     };
-    found.push(fact).map_err(AllocError::from)
-}
-
-fn target_at(table: &ImportTable, number: u32, facts: &IndexSet<Fact>, place: u32) -> Option<Fact>
-    ensures { result ≡ target_of table.now number (slice_get facts.now.keys place) }
-{
-    let fact = facts.get_index(place as usize)?;
-    let keys = table.own_keys(*fact);
-    if is_end(keys.0, number) {
-        return Some(*fact);
+    if own == number && lead.leads {
+        return thing_of(fact);
     }
     None
 }
 
-fn is_end(key: Option<Key>, number: u32) -> bool
-    ensures { result ≡ is_key (EndOf number) key }
+fn target_at(
+    table: &ImportTable,
+    numbers: &Numbers<'_>,
+    facts: &IndexSet<Fact>,
+    number: u32,
+    place: u32,
+) -> Option<Target>
+    ensures { result ≡ spec.place_target table.now numbers.now.items.keys facts.now.keys number place }
 {
-    match key {
-        Some(Key::EndOf(own)) => own == number,
-        _ => false,
+    let fact = facts.get_index(place as usize)?;
+    let thing = led_thing(table, number, *fact)?;
+    Some(target_by(numbers, thing))
+}
+
+fn put_target(target: Option<Target>, found: &mut IndexSet<Target>) -> Result<(), AllocError>
+    ensures { OnOk result
+        (Interns target_eq (λ x. x) found.old.keys found.new.keys (option_to_list target)) }
+{
+    let Some(target) = target else {
+        return Ok(());
+    };
+    found.insert(target)?;
+    Ok(())
+}
+
+/// All that an import leads to, by all facts that follow.
+pub(crate) fn import_targets(
+    alloc: Global,
+    table: &ImportTable,
+    numbers: &Numbers<'_>,
+    closure: &Closure,
+    number: u32,
+) -> Result<Vec<Target>, AllocError>
+    requires { IsIndexed table.now closure.now.facts.keys closure.now.index }
+    ensures { IfOk result (λ found.
+        AreTargetsBy table.now numbers.now.items.keys closure.now.facts.keys number found.items) }
+{
+    let mut found = IndexSet::new(alloc);
+    for place in closure.index.places(Some(Key::EndOf(number))) {
+        put_target(
+            target_at(table, numbers, &closure.facts, number, *place),
+            &mut found,
+        )?;
     }
+    Vec::from_slice(alloc, found.as_slice())
 }

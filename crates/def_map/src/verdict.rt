@@ -1,4 +1,4 @@
-//! What is told of each import.
+//! The verdict on each import.
 
 ghost use Rattle.std.specs.Prelude.{◌≡◌, IfOk, length, map, replicate};
 ghost use Rattle.def_map.specs.Verdicts.{is_at_least};
@@ -21,7 +21,7 @@ pub enum Verdict {
     Unknown,
     /// It leads to what is seen.
     Resolved,
-    /// It has no name; that is told by its rows.
+    /// It has no name.
     Nameless,
 }
 
@@ -36,7 +36,7 @@ pub struct Lead {
     pub is_wide: bool,
 }
 
-/// What is told of each import, by all facts that follow.
+/// The verdict on each import, by all facts that follow.
 pub fn verdicts(
     alloc: Global,
     table: &ImportTable,
@@ -122,7 +122,7 @@ fn join(a: Lead, b: Lead) -> Lead
 
 // What a fact says of an import.
 #[tactic(auto, unfolding(crate::specs::Found::lead_by))]
-fn lead_by(table: &ImportTable, fact: Fact) -> Option<(u32, Lead)>
+pub(crate) fn lead_by(table: &ImportTable, fact: Fact) -> Option<(u32, Lead)>
     ensures { result ≡ spec.lead_by table.now fact }
 {
     match fact {
@@ -170,8 +170,8 @@ fn has_names(thing: Thing) -> bool
     !matches!(thing, Thing::Item(_))
 }
 
-// Whether who sees the second has the first.
-fn is_at_least(parents: &[Option<u32>], first: Visibility, second: Visibility) -> bool
+/// Whether who sees the second has the first.
+pub(crate) fn is_at_least(parents: &[Option<u32>], first: Visibility, second: Visibility) -> bool
     ensures { result ≡ is_at_least parents.now first second }
 {
     let Visibility::Module(outer) = first else {

@@ -1,5 +1,5 @@
 //! The walk of a crate's trees: what each item adds to its table.
-ghost use Rattle.std.specs.Prelude.{◌≡◌, ◌<◌, IfSome, OnOk, Some, length, option_map, flat_map};
+ghost use Rattle.std.specs.Prelude.{◌≡◌, OnOk, Some, option_map, flat_map};
 ghost use Rattle.hir_input.specs.Cfg.{cfg_view};
 ghost use Rattle.item_tree.specs.{Shown.IsContained, Shown.lent, Walk.AreContained};
 ghost use Rattle.def_map.specs.Inner.Walking.{collected_in, id_rows, lent_inside, lent_other, lent_own, lent_plain};
@@ -19,7 +19,6 @@ use hir_input::ast::PlainKind;
 use hir_input::{Attr, CfgExpr, FileAstId, Name};
 use item_tree::{ItemTree, ModItemId, ModItemKind, ModKind, RawVisibilityId};
 use item_tree_attrs::AttrsOrCfg;
-use module_tree::{ModuleData, ModuleOrigin};
 use std::alloc::AllocError;
 use tree_walk::children;
 
@@ -44,41 +43,11 @@ pub(crate) fn false_cfg_in(lent: Option<&AttrsOrCfg>) -> Option<&CfgExpr>
     }
 }
 
-fn is_module_of(found: &ModuleData, at: u32, id: FileAstId) -> bool
-    ensures { result ≡ spec.is_module_of at id found.now }
-{
-    let Some(parent) = found.parent else {
-        return false;
-    };
-    if parent.0 != at as usize {
-        return false;
-    }
-    match found.origin {
-        ModuleOrigin::CrateRoot => false,
-        ModuleOrigin::File { declaration } => {
-            declaration.hash == id.hash && declaration.number == id.number
-        }
-        ModuleOrigin::Inline { definition } => {
-            definition.hash == id.hash && definition.number == id.number
-        }
-    }
-}
-
-fn position_of(modules: &[ModuleData], at: u32, id: FileAstId) -> Option<usize>
-    ensures value { result ≡ spec.module_of modules.now at id }
-    ensures within { IfSome result (λ place. place < length modules.now) }
-{
-    modules.iter().position(|found| is_module_of(found, at, id))
-}
-
 /// The module of a `mod` in a module.
 fn module_of(ctx: &Ctx<'_, '_>, at: u32, id: FileAstId) -> Option<u32>
     ensures { result ≡ spec.module_of ctx.now.sources.modules.now at id }
 {
-    match position_of(ctx.sources.modules, at, id) {
-        Some(place) => Some(place as u32),
-        None => None,
-    }
+    ctx.index.module_of(at, id)
 }
 
 /// Adds what is not seen of an item behind a false cfg.

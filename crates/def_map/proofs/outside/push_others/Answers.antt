@@ -11,6 +11,6 @@ loop-name-preserved c =
     let number = λ (name : Bor (List ℕ)). number_by c.args.numbers.now name.now in
     let i = c.loop-name.name-index in let names = c.args.names.now in
     let done = filter_map number (take i names) in
-    subst (Interns nat_eq of c.args.others.now.keys c.push_other.new.others.keys)
+    subst (Interns nat_eq of c.args.others.now.keys c.put_number.new.others.keys)
     (ap (λ o. done ++ option_to_list o) c.symbol.ensures ∙ sym (kept_more number names i _ c.loop-name-test.true))
-    (interns_both nat_eq of c.args.others.now.keys c.loop-name.others.keys c.push_other.new.others.keys done _ c.loop-name.invariant c.in_ok-push_other.ensures)
+    (interns_both nat_eq of c.args.others.now.keys c.loop-name.others.keys c.put_number.new.others.keys done _ c.loop-name.invariant c.in_ok-put_number.ensures)

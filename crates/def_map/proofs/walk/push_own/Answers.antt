@@ -1,4 +1,4 @@
-use Rattle.std.proofs.Common.{◌≡◌, List, Some, None, option_map, sym, ap, subst, ◌∙◌}
+use Rattle.std.proofs.Common.{List, option_map, sym, ap, subst, ◌∙◌}
 use Rattle.std.specs.Result.{OnOk}
 use Rattle.item_tree.specs.Shown.{lent}
 use Rattle.def_map.specs.{Inner.Walking.plain_view, Inner.Walking.AddsRows, Tables.CrateRow}
