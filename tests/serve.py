@@ -83,7 +83,7 @@ UNITS_WORDS = 'characters, utf-16 or bytes, of outline, import_places, problems 
 META_WORDS = 'a kind of meta: path, key_value, tokens, cfg, cfg_attr or unsafe'
 # What is expected where a pointer leads, by its last step, or by the one before where that is a place in a list.
 EXPECTED_LINE = {
-    'a list': 'crates skipped edits shows reserved cfg attrs stmts files', 'an object': 'edition syntax', 'two byte places': 'range',
+    'a list': 'crates skipped edits shows reserved cfg attrs stmts', 'an object': 'edition syntax', 'two byte places': 'range',
     'a number below 2^32': 'file block root', 'a number below 2^64': 'start since', 'the number of a crate': 'crate', 'a string': 'text',
     'a name, path or glob': 'name', EDIT_WORDS: 'edit', SHOW_WORDS: 'show', 'text or json, of tree, imports or changed': 'as', UNITS_WORDS: 'units',
     'true or false, of outline or find': 'members', '2015, 2018, 2021 or 2024': 'year',
@@ -96,7 +96,7 @@ EXPECTED_SYNTAX = {
 }
 EXPECTED_IN = {
     'an object without a float': 'edits shows', 'an object': 'crates attrs items metas list', 'a name': 'skipped reserved',
-    'a number below 2^64': 'range', 'a number below 2^32': 'files',
+    'a number below 2^64': 'range',
 }
 
 
@@ -441,11 +441,6 @@ def wrong_show(value, crates):
         'problems': [file, NO_AS, UNITS, NO_MEMBERS], 'find': [('name', wrong_asked_path, True), UNITS, NO_AS, MEMBERS]})
 
 
-def wrong_files(value):
-    """The files of a crate, which are read first."""
-    return wrong_keys(value, [('files', list_of(wrong_u32), False)]) if isinstance(value, dict) else None
-
-
 def wrong_crate(value):
     return wrong_keys(value, [('root', wrong_u32, True), ('cfg', list_of(wrong_atom), False), ATTRS])
 
@@ -457,7 +452,7 @@ def wrong_edition(value):
 def wrong_opening(value):
     """The keys of a first line that set up its session."""
     return unknown_key(value, LINE_KEYS) or wrong_keys(value, [
-        ('crates', list_of(wrong_files), False), ('crates', list_of(wrong_crate), False), ('skipped', list_of(wrong_name), False),
+        ('crates', list_of(wrong_crate), False), ('skipped', list_of(wrong_name), False),
         ('edition', wrong_edition, False), ('start', wrong_u64, False)])
 
 
@@ -536,10 +531,6 @@ WRONG_SETTINGS = {
         ([{'root': 0, 'cfg': 'test'}], '/0/cfg'), ([{'root': 0, 'cfg': ['']}], '/0/cfg/0'), ([{'root': 0, 'attrs': {}}], '/0/attrs'),
         ([{'root': 0, 'attrs': [{}]}], '/0/attrs/0/meta'), ([{'attrs': 0, 'cfg': 0, 'root': ''}], '/0/root'),
         ([{'attrs': 0, 'cfg': [{'value': 0}], 'root': 0}], '/0/cfg/0/key'), ([{'root': 0, 'attrs': [0]}, {}], '/0/attrs/0'),
-        ([{'root': 0, 'files': 0}], '/0/files'), ([{'root': 0, 'files': {}}], '/0/files'), ([{'root': 0, 'files': ''}], '/0/files'),
-        ([{'root': 0, 'files': [2**32]}], '/0/files/0'), ([{'root': 0, 'files': [0, 0, -1]}], '/0/files/2'),
-        ([{'root': 0, 'files': [None]}], '/0/files/0'), ([{'root': 0, 'files': [0.5]}], '/0/files/0'),
-        ([0, {'files': ['0']}], '/1/files/0'), ([{'files': []}, {'root': 0, 'files': True}], '/1/files'), ([{'files': []}], '/0/root'),
     ],
     'skipped': [('doc', ''), ({}, ''), ([''], '/0'), ([1], '/0'), (['a\nb'], '/0'), ([None], '/0'), (['a', 'b', ['c']], '/2')],
     'edition': [
@@ -790,9 +781,8 @@ GOOD_SHOWS = [
         'f', '_', 'é', 'r#fn', 'fn', 'a::b', '::a', '::a::r#b', 'crate::a', '*', '?', 'é*', 'r#*', '**', 'a::*', '::?a', 'crate::*b?', '*1')),
 ]
 GOOD_OPENING = {
-    'crates': [{'root': 0, 'noted': {}, 'files': [2**32 - 1, 0, 1, 0]},
-               {'root': 2**32 - 1, 'cfg': ['a', {'key': 'a', 'value': ''}], 'attrs': GOOD_METAS, 'files': []},
-               {'root': 0, 'cfg': None, 'attrs': None, 'files': None}],
+    'crates': [{'root': 0, 'noted': {}}, {'root': 2**32 - 1, 'cfg': ['a', {'key': 'a', 'value': ''}], 'attrs': GOOD_METAS},
+               {'root': 0, 'cfg': None, 'attrs': None}],
     'skipped': ['doc', 'a'], 'edition': {'year': 2018, 'reserved': ['f', 'é']}, 'start': 2**63,
 }
 GOOD_OPENINGS = [GOOD_OPENING, {}, {'edition': {}, 'crates': []}, {'edition': {'reserved': [], 'year': None}, 'skipped': [], 'start': LAST},
@@ -1326,30 +1316,6 @@ def check_found(program):
          answered(9, [found[0] + found[3]]))])
 
 
-def check_files(program):
-    """Of a crate with files, only these are told of where changes and items are listed. A macro's result is a file, and blocks stay."""
-    items = {'root': 'macro_items', 'items': [FUNCTION]}
-    edits = [{'edit': 'set_text', 'file': 0, 'text': 'fn f() {}'}, {**SET, 'file': 2, 'syntax': items}, {**SET, 'file': 3, 'syntax': items},
-             {'edit': 'set_block', 'block': 3, 'stmts': [{'item': FUNCTION}]}]
-    crates = [{'root': 0, 'files': [3, 0, 7, 0]}, {'root': 0}, {'root': 0, 'files': []}]
-    own = [(0, 'file', 0), (1, 'file', 0), (1, 'file', 2), (0, 'file', 3), (1, 'file', 3), *((krate, 'block', 3) for krate in (0, 1, 2))]
-    number = {('file', 0): 1, ('file', 2): 2, ('file', 3): 3, ('block', 3): 4}
-    at = {('file', 0): {'line': 1, 'column': 4, 'range': [0, 9]}}
-    found = [dict(sorted({kind: place, 'crate': krate, 'id': 'Fn[BE8F, 0]', **at.get((kind, place), {})}.items())) for krate, kind, place in own]
-    changes = [(f'crate {krate} {kind} {place} change {number[kind, place]}\n',
-                dict(sorted({kind: place, 'crate': krate, 'change': number[kind, place]}.items()))) for krate, kind, place in own]
-    shows = [{'show': 'find', 'name': 'f'}, {'show': 'find', 'name': '::f'}, {'show': 'find', 'name': 'a::f'}, {'show': 'changed', 'since': 0},
-             {'show': 'changed', 'since': 2}, {'show': 'changed', 'since': 0, 'as': 'json'}, {**PAGE, 'file': 2}]
-    check_lines(program, 'files of crates', [
-        ({'crates': crates, 'edits': edits, 'shows': shows}, answered(4, [
-            found, found, [], ''.join(line for line, _ in changes), ''.join(line for line, told in changes if told['change'] > 2),
-            [told for _, told in changes], PAGED])),
-        ({'edits': [{'edit': 'set_text', 'file': 0, 'text': ''}, {'edit': 'set_text', 'file': 2, 'text': 'fn f() {}'}], 'shows': shows[:1]},
-         answered(6, [[dict(sorted({**at['file', 0], **told}.items())) if told.get('file') == 2 else told for told in found
-                       if told.get('file') != 0]])),
-        ({'crates': crates}, no_request(6, '/crates'))])
-
-
 def check_found_paths(program):
     """Paths are those of the modules around an item. What a text sets has its place in it."""
     module = {'is': 'module', 'name': 'a', 'items': [FUNCTION, {'is': 'extern_block', 'items': [{**FUNCTION, 'name': 'g'}]}]}
@@ -1411,12 +1377,10 @@ def check_found_globs(program):
         ({'name': 'C::*', 'members': True}, [member]), ({'name': 'C::*'}, []), ({'name': '?::f*', 'members': True}, None)]
     shows = [{'show': 'find', **asked} for asked, told in wanted if told is not None]
     answers = [told for _, told in wanted if told is not None]
-    crates = [{'root': 0}, {'root': 0, 'files': [1]}]
-    of_both = [[dict(sorted({**entry, 'crate': krate}.items())) for place in ([0], [1], [2], ['block'])
-                for krate in (0, 1) for entry in told if [entry.get('file', 'block')] == place and (krate == 0 or place in ([1], ['block']))]
-               for told in answers]
+    of_both = [[dict(sorted({**entry, 'crate': krate}.items())) for place in (0, 1, 2, 'block')
+                for krate in (0, 1) for entry in told if entry.get('file', 'block') == place] for told in answers]
     check_lines(program, 'find by globs', [
-        ({'crates': crates, 'edits': edits, 'shows': shows}, answered(4, of_both)),
+        ({'crates': [{'root': 0}] * 2, 'edits': edits, 'shows': shows}, answered(4, of_both)),
         ({'edits': [{'edit': 'remove_file', 'file': file} for file in (0, 1, 2)], 'shows': shows[:1]},
          answered(7, [[entry for entry in of_both[0] if 'block' in entry]])),
         ({'shows': [{'show': 'find', 'name': wanted[-1][0]['name']}]}, no_request(7, '/shows/0/name'))])
@@ -1490,8 +1454,6 @@ EXPECTED = [
     (b'[]', '', 'an object'), ({'id': 0.5}, '/id', 'a value without a float'), ({'crates': 1}, '/crates', 'a list'),
     ({'crates': [1]}, '/crates/0', 'an object'), ({'crates': [{}]}, '/crates/0/root', 'a number below 2^32'),
     ({'crates': [{'root': 0, 'cfg': 0}]}, '/crates/0/cfg', 'a list'), ({'skipped': ['']}, '/skipped/0', 'a name'),
-    ({'crates': [{'root': 0, 'files': 0}]}, '/crates/0/files', 'a list'),
-    ({'crates': [{'root': 0, 'files': [0, -1]}]}, '/crates/0/files/1', 'a number below 2^32'),
     ({'edition': 1}, '/edition', 'an object'), ({'edition': {'year': 1}}, '/edition/year', '2015, 2018, 2021 or 2024'),
     ({'edition': {'reserved': [0]}}, '/edition/reserved/0', 'a name'), ({'start': -1}, '/start', 'a number below 2^64'),
     ({'edit': []}, '/edit', 'no such key'), ({'5': []}, '/5', 'no such key'), ({'edits': {}}, '/edits', 'a list'),
@@ -1594,7 +1556,6 @@ def check_skipped(program):
 def check_places(options):
     program, found = options.program, texts()
     check_found(program)
-    check_files(program)
     check_found_paths(program)
     check_found_globs(program)
     check_values(program)
@@ -1796,7 +1757,7 @@ class Random:
     def __init__(self, material, seed, number):
         self.material, self.chance = material, random.Random(f'{seed} {number}')
         self.start = self.chance.choice([0, 0, 5, 2**63, LAST - 3])
-        self.crates = [{'root': 0, 'cfg': self.flags(), **self.files()} for _ in range(self.chance.choice([0, 1, 1, 1, 2, 2, 3]))]
+        self.crates = [{'root': 0, 'cfg': self.flags()} for _ in range(self.chance.choice([0, 1, 1, 1, 2, 2, 3]))]
         self.opening = {'crates': self.crates, 'start': self.start, 'skipped': self.chance.choice([[], ['a'], ['doc', 'b']]),
                         'edition': self.chance.choice([{}, {'year': 2015}, {'reserved': ['f', 'type']}])}
         # The edits that stand, as they were sent, and as TOOL reads them.
@@ -1804,14 +1765,6 @@ class Random:
 
     def flags(self):
         return self.chance.sample(FLAGS, self.chance.randrange(3))
-
-    def files(self):
-        """The files of half of the crates, in any order and some of them twice."""
-        return {'files': self.chance.choices(range(5), k=self.chance.randrange(5))} if self.chance.random() < 0.5 else {}
-
-    def is_told(self, krate, file):
-        """Whether what stands in a file, or in a block where that is None, is told of in a crate."""
-        return file is None or file in self.crates[krate].get('files', [file])
 
     def item(self, depth=0):
         kind = self.chance.choice(['fn', 'struct', 'const', 'module', 'use', 'impl', 'static', 'enum'])
@@ -1911,7 +1864,7 @@ def tool_texts(tool, case, shows):
     text = done.stdout.decode()
     # Without crates nothing changes.
     texts = text.split(mark)[:-1] if case.crates else [text] * len(shows)
-    return [unset_of(case, show) or as_asked(case, show, text) for show, text in zip(shows, texts)]
+    return [unset_of(case, show) or as_asked(show, text) for show, text in zip(shows, texts)]
 
 
 def unset_of(case, show):
@@ -1923,12 +1876,8 @@ def unset_of(case, show):
     return None
 
 
-def as_asked(case, show, text):
-    """The text of a show, or the values that it tells of if these are asked for. TOOL passes over the files of crates."""
-    if show['show'] == 'changed':
-        lines = [(line, line.split(' ')) for line in text.splitlines(True)]
-        text = ''.join(line for line, (_, krate, place, number, *_) in lines
-                       if case.is_told(int(krate), int(number) if place == 'file' else None))
+def as_asked(show, text):
+    """The text of a show, or the values that it tells of if these are asked for."""
     if show.get('as') != 'json':
         return text
     told = (line.split(' ') for line in text.splitlines())
@@ -1985,12 +1934,6 @@ def try_at_once(server, program, case):
     with Server(program) as other:
         wanted = other.ask({**case.opening, 'edits': case.sent, 'shows': shows + finds})
     want(got == wanted, 'all edits at once', got, wanted)
-    with Server(program) as other:
-        crates = [{**krate, 'files': None} for krate in case.crates]
-        whole = json.loads(other.ask({**case.opening, 'crates': crates, 'edits': case.sent, 'shows': finds}))['shows']
-    found = json.loads(got)['shows'][len(shows):]
-    wanted = [[told for told in entries if case.is_told(told['crate'], told.get('file'))] for entries in whole]
-    want(found == wanted, 'what is found, beside crates with all files', found, wanted)
 
 
 def try_session(program, tool, material, seed, number):
@@ -2055,7 +1998,7 @@ ODD = [{}, [], 0, -1, 65536, 2**32, LAST, -2**63, True, 'x', '', 'a\nb', None, [
        'unreadable', ['plain', 'a'], ['super', 1], {'in': ['abs']}, {'not': None}, {'key': 'a'}, {'item': FUNCTION}, {'call': {}},
        {'meta': 'path'}, FUNCTION]
 FLOATS = [0.5, 1e300, LAST + 1, -2**63 - 1]
-ADDED = ['noted', 'is', 'name', 'vis', 'items', 'attrs', 'item', 'call', 'key', 'all', 'not', 'in', 'span', 'file', 'files', 'block']
+ADDED = ['noted', 'is', 'name', 'vis', 'items', 'attrs', 'item', 'call', 'key', 'all', 'not', 'in', 'span', 'file', 'block']
 
 
 def places(value):

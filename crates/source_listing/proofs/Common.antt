@@ -28,10 +28,9 @@ pub use Rattle.source_rows.specs.Places.{AreDistinct, is_id, place_of, spot_at, 
 pub use Rattle.line_index.specs.declared.Units.{Units}
 pub use Rattle.line_index.specs.declared.Units.TheVariants.{Characters}
 pub use Rattle.source_listing.specs.Repeated.{Named, Repeat, first_alike, forest_named, is_alike, leaf_named, named_import, node_named, repeat_if_any, repeats}
-pub use Rattle.source_listing.specs.Search.{Candidate, Query, found_lines, found_object, if_found, member_candidate, whole_found}
+pub use Rattle.source_listing.specs.Search.{Candidate, found_object}
 pub use Rattle.source_listing.specs.Paths.{bare_segment}
 pub use Rattle.list_forms.specs.Lines.{column_number, line_number}
-unfoldable pub use Rattle.source_listing.specs.Search.{found_members}
 pub use Rattle.source_listing.specs.TagFields.{safe_char, scope_field}
 pub use Rattle.source_listing.specs.Tags.{TagFile, if_any, tag_inside}
 unfoldable pub use Rattle.source_listing.specs.Tags.{tags_inside}

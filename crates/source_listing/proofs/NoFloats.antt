@@ -36,7 +36,7 @@ pub one_none : (b : Bool) (d : Data) → has_float d ≡ false → items_have_fl
 one_none false d e = refl
 one_none true d e = or_none (has_float d) false e refl
 
-map_none : {A : Type 0} (each : A → Data) (xs : List A) → ((x : A) → has_float (each x) ≡ false) → items_have_float (items_of (map each xs)) ≡ false
+pub map_none : {A : Type 0} (each : A → Data) (xs : List A) → ((x : A) → has_float (each x) ≡ false) → items_have_float (items_of (map each xs)) ≡ false
 map_none each [] h = refl
 map_none each (x ∷ xs) h = or_none (has_float (each x)) (items_have_float (items_of (map each xs))) (h x) (map_none each xs h)
 

@@ -2,23 +2,12 @@
 use Rattle.std.specs.Prelude.{bytes_eq}
 use Rattle.std.specs.List.{list_any}
 use Rattle.source_listing.specs.Outlines.{name_around}
-use Rattle.source_listing.proofs.Common.{Bor, ItemPlace, List, Listed, MemberReading, Query, RowView, Source, [], ap, append-nil, append_assoc, bare_segment, codes, flat_map, flat_map-append, flat_map-map, found_lines, found_members, get_or, if_found, length, length-map, map, map-append, member_candidate, refl, scope_field, sym, take, take_more, whole_found, ℕ, ◌++◌, ◌+◌, ◌<◌, ◌==◌, ◌||◌, ◌∙◌, ◌∷◌, ◌≡◌}
+use Rattle.source_listing.proofs.Common.{Bor, List, [], ap, append-nil, append_assoc, bare_segment, codes, flat_map, flat_map-append, flat_map-map, get_or, length, length-map, map, map-append, refl, scope_field, sym, take, take_more, ℕ, ◌++◌, ◌+◌, ◌<◌, ◌==◌, ◌||◌, ◌∙◌, ◌∷◌, ◌≡◌}
 
 -- a line, pushed part by part, of which the first has a place and blanks
 pub line_pushed : (o p i v w n e o1 o2 o3 o4 o5 : List ℕ) → o1 ≡ o ++ p ++ i → o2 ≡ o1 ++ v → o3 ≡ o2 ++ w → o4 ≡ o3 ++ n → o5 ≡ o4 ++ e
     → o5 ≡ o ++ (p ++ i ++ v ++ w ++ n ++ e)
 line_pushed o p i v w n e o1 o2 o3 o4 o5 a b c d f = rw (f, d, c, b, a) (simp append_assoc)
-
--- the lines of one more item and its members that are looked for
-pub one_more_found : (s : Source) (x : MemberReading) (reserved : List (List ℕ)) (places : List ItemPlace) (q : Query) (rs : List RowView) (r : RowView)
-    → found_lines s x reserved places q (rs ++ r ∷ []) ≡ found_lines s x reserved places q rs ++ found_lines s x reserved places q (r ∷ [])
-one_more_found s x reserved places q rs r = flat_map-append (whole_found s x reserved places q) rs (r ∷ [])
-
--- the same of a member alone
-pub one_more_found_member : (s : Source) (reserved : List (List ℕ)) (q : Query) (scope : List ℕ) (ms : List Listed) (m : Listed)
-    → found_members s reserved q scope (ms ++ m ∷ []) ≡ found_members s reserved q scope ms ++ found_members s reserved q scope (m ∷ [])
-unfolding found_members
-one_more_found_member s reserved q scope ms m = flat_map-append (λ x. if_found s reserved q (member_candidate scope x)) ms (m ∷ [])
 
 pub segments_of : {A : Type 0} (f : A → List ℕ) (xs : List A) → flat_map bare_segment (map f xs) ≡ flat_map (λ x. bare_segment (f x)) xs
 segments_of f xs = flat_map-map bare_segment f xs

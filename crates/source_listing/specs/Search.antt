@@ -1,13 +1,15 @@
 -- Where a path of names is declared.
-use Rattle.std.specs.Prelude.{ℕ, Bool, not, ◌==◌, ◌&&◌, ◌||◌, if◌then◌else◌, List, [], ◌++◌, codes, bytes_eq, chars, length, Option, Some, None, option_map, unwrap_or}
+use Rattle.std.specs.Prelude.{ℕ, Bool, not, ◌==◌, ◌&&◌, ◌||◌, if◌then◌else◌, List, [], ◌∷◌, ◌++◌, codes, bytes_eq, chars, length, Option, Some, None, option_map, unwrap_or}
 use Rattle.std.specs.List.{flat_map, list_any}
 use Rattle.std.specs.Option.{option_or}
 use Rattle.globs.specs.Globs.{matches}
+use Rattle.hir_input.specs.declared.ids.FileAstId.{FileAstId}
 use Rattle.line_index.specs.declared.Position.{Position}
 use Rattle.line_index.specs.Positions.{position_of}
 use Rattle.serde_json.specs.Data.{Data, string, object, no_members, member}
 use Rattle.tree_walk.specs.Rows.{RowView}
 use Rattle.source_rows.specs.Listed.{Listed, MemberReading, members_of, type_name_of}
+use Rattle.rust_paths.specs.declared.names.TextRange.{TextRange}
 use Rattle.rust_items.specs.declared.source_file.ItemPlace.{ItemPlace}
 use Rattle.source_rows.specs.Labels.{member_word}
 use Rattle.list_forms.specs.Colors.{bold_code, colored_text, cyan_code, faint_code}
@@ -30,11 +32,13 @@ pub record Query : Type 0 where
   pub only_active : Bool
   pub form : Form
 
--- an item or a member with a name: the names around it, with two colons before each, where it stands, the word of its kind, and its name
+-- an item or a member with a name: the id of an item, where it stands and its bytes, if they are known, the word of its kind, the names around it, with two colons before each, and its name
 pub record Candidate : Type 0 where
-  pub scope : List ℕ
+  pub id : Option FileAstId
   pub at : Option ℕ
+  pub range : Option TextRange
   pub word : List ℕ
+  pub scope : List ℕ
   pub name : List ℕ
   pub is_active : Bool
 
@@ -87,9 +91,6 @@ abbrev pub found_text : Source → List (List ℕ) → Form → Candidate → Li
 found_text s reserved (Line is_colored) c = found_line s reserved is_colored c
 found_text s reserved Json c = value_line (found_object s.path (position_at s c.at) c)
 
-abbrev pub if_found : Source → List (List ℕ) → Query → Candidate → List ℕ
-if_found s reserved q c = if is_found q c then found_text s reserved q.form c else []
-
 -- ---- items and members
 
 abbrev pub own_segment : Option (List ℕ) → List ℕ
@@ -106,28 +107,36 @@ holder x r place = option_or r.name (type_name_of x r.id.kind place)
 
 abbrev pub item_candidate : RowView → Option ItemPlace → List ℕ → Candidate
 item_candidate r place name =
-    record { scope = scope_inside r None; at = option_map stands_at place; word = item_word r.id.kind; name = name; is_active = r.is_active }
+    record { id = Some r.id; at = option_map stands_at place; range = option_map (λ p. p.range) place; word = item_word r.id.kind; scope = scope_inside r None; name = name; is_active = r.is_active }
 
 abbrev pub member_candidate : List ℕ → Listed → Candidate
-member_candidate scope m = record { scope = scope; at = Some m.at; word = member_word m.kind; name = m.name; is_active = m.is_active }
+member_candidate scope m = record { id = None; at = Some m.at; range = Some m.range; word = member_word m.kind; scope = scope; name = m.name; is_active = m.is_active }
 
--- what has no name is never found
-abbrev pub own_found : Source → List (List ℕ) → Query → RowView → Option ItemPlace → Option (List ℕ) → List ℕ
-own_found s reserved q r place None = []
-own_found s reserved q r place (Some name) = if_found s reserved q (item_candidate r place name)
+-- a candidate alone in a list, if it is looked for
+abbrev pub if_found : Query → Candidate → List Candidate
+if_found q c = if is_found q c then c ∷ [] else []
 
--- the members in a scope
-unfoldable pub found_members : Source → List (List ℕ) → Query → List ℕ → List Listed → List ℕ
-found_members s reserved q scope ms = flat_map (λ m. if_found s reserved q (member_candidate scope m)) ms
+-- an item; what has no name is never found
+abbrev pub own_found : Query → RowView → Option ItemPlace → Option (List ℕ) → List Candidate
+own_found q r place None = []
+own_found q r place (Some name) = if_found q (item_candidate r place name)
+
+-- a member in a scope
+abbrev pub member_found : Query → List ℕ → Listed → List Candidate
+member_found q scope m = if_found q (member_candidate scope m)
 
 -- an item and its members, where they are looked for
-abbrev pub found_at : Source → MemberReading → List (List ℕ) → Query → RowView → Option ItemPlace → List ℕ
-found_at s x reserved q r place =
-    own_found s reserved q r place r.name ++ found_members s reserved q (scope_inside r (holder x r place)) (members_of x place r.is_active)
+abbrev pub found_at : MemberReading → Query → RowView → Option ItemPlace → List Candidate
+found_at x q r place = own_found q r place r.name ++ flat_map (member_found q (scope_inside r (holder x r place))) (members_of x place r.is_active)
 
-abbrev pub whole_found : Source → MemberReading → List (List ℕ) → List ItemPlace → Query → RowView → List ℕ
-whole_found s x reserved places q r = found_at s x reserved q r (place_of r.id places)
+-- the same by the item's id
+abbrev pub row_found : MemberReading → List ItemPlace → Query → RowView → List Candidate
+row_found x places q r = found_at x q r (place_of r.id places)
 
--- the lines of the rows that are looked for
+-- of all rows
+abbrev pub found_in_rows : MemberReading → List ItemPlace → Query → List RowView → List Candidate
+found_in_rows x places q rs = flat_map (row_found x places q) rs
+
+-- their lines
 abbrev pub found_lines : Source → MemberReading → List (List ℕ) → List ItemPlace → Query → List RowView → List ℕ
-found_lines s x reserved places q rs = flat_map (whole_found s x reserved places q) rs
+found_lines s x reserved places q rs = flat_map (found_text s reserved q.form) (found_in_rows x places q rs)

@@ -50,7 +50,7 @@ query_view q = record {
 
 -- an item or a member with a name, as plain data
 abbrev pub candidate_view : code_candidate.Candidate → Candidate
-candidate_view c = record { scope = c.scope.now; at = c.at; word = c.word.now; name = c.name.now; is_active = c.is_active }
+candidate_view c = record { id = c.id; at = c.at; range = c.range; word = c.word.now; scope = string_bytes c.scope; name = c.name; is_active = c.is_active }
 
 -- a path that is looked for, as plain data
 abbrev pub sought_view : code_sought.SoughtPath → Sought

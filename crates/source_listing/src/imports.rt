@@ -55,8 +55,12 @@ pub(crate) fn push_rename(
     }
 }
 
-/// An import as a use of it alone would be written.
-pub(crate) fn push_import_text(
+/// Adds an import as a use of it alone would be written.
+///
+/// # Errors
+///
+/// Only if memory runs out.
+pub fn push_import_text(
     edition: &Edition,
     import: &Listed,
     out: &mut String,

@@ -1,31 +1,24 @@
 //! Where a path of names is declared.
-ghost use Rattle.std.specs.Prelude.{◌≡◌, ◌++◌, ◌∷◌, [], IfOk, OnOk, Some, map, option_copied, option_map, string_bytes};
-ghost use Rattle.std.specs.Prelude.{◌==◌, ◌||◌, bytes_eq, length};
+ghost use Rattle.std.specs.Prelude.{◌≡◌, ◌++◌, IfOk, OnOk, Some, map, option_copied, option_map, string_bytes};
+ghost use Rattle.std.specs.Prelude.{◌==◌, ◌||◌, bytes_eq, flat_map, length};
 ghost use Rattle.std.specs.List.{list_any};
 ghost use Rattle.std.specs.Option.{option_or};
 ghost use Rattle.tree_walk.specs.Views.{row_view};
 ghost use Rattle.tree_walk.specs.Rows as rows;
 ghost use Rattle.source_rows.specs.ListedViews.{listed_view, reading_view};
-ghost use Rattle.list_forms.specs.Colors.{bold_code, colored_text};
-ghost use Rattle.list_forms.specs.declared.lines.Form.TheVariants.{Json};
-ghost use Rattle.source_listing.specs.Lines.{listed_name};
-ghost use Rattle.source_listing.specs.Inner.{IsSameFile, file_of, places_of, reserved_of};
 ghost use Rattle.source_listing.specs.Search as spec;
 ghost use Rattle.source_rows.specs.Places.{AreDistinct};
-ghost use Rattle.source_listing.specs.Views.{candidate_view, query_view, source_view};
+ghost use Rattle.source_listing.specs.Views.{candidate_view, query_view};
 
-use crate::found_objects::found_object;
 use crate::paths::{is_sought_path, push_scope, push_segment};
 use crate::patterns::compared_text;
-use crate::printer::Printer;
 use globs::is_match;
-use hir_input::{Edition, Name};
+use hir_input::{FileAstId, Name};
 use item_tree::ItemTree;
-use line_index::Position;
-use list_forms::{BOLD, CYAN, Form, USUAL, push_color, push_colored, value_line};
+use list_forms::Form;
 use rust_cursor::is_among;
-use rust_items::ItemPlace;
-use source_rows::{ListedMember, Reading, Source, item_word, member_word, stand_of};
+use rust_items::{ItemPlace, TextRange};
+use source_rows::{ListedMember, Places, Reading, item_word, member_word, stand_of};
 use std::alloc::{AllocError, Global};
 use tree_walk::{Row, item_rows};
 
@@ -48,20 +41,24 @@ pub struct Query<'a> {
 }
 
 /// An item or a member with a name.
-#[derive(Clone, Copy, Debug)]
-pub struct Candidate<'a> {
-    /// The names around it, with two colons before each.
-    pub scope: &'a str,
+#[derive(Debug, Drop)]
+pub struct Candidate {
+    /// That of an item; a member has none.
+    pub id: Option<FileAstId>,
     /// Where it stands, if that is known.
     pub at: Option<usize>,
+    /// Its bytes, if they are known.
+    pub range: Option<TextRange>,
     /// The word of its kind.
     pub word: &'static str,
-    pub name: &'a Name,
+    /// The names around it, with two colons before each.
+    pub scope: String,
+    pub name: Name,
     pub is_active: bool,
 }
 
 /// The name of what the members of an item stand in: the item's, or that of an impl's type.
-pub fn holder<'a>(name: Option<&'a Name>, type_name: &'a Option<Name>) -> Option<&'a Name>
+pub(crate) fn holder<'a>(name: Option<&'a Name>, type_name: &'a Option<Name>) -> Option<&'a Name>
     ensures { option_copied result ≡ option_or (option_copied name.entry) type_name.now }
 {
     match name {
@@ -89,12 +86,8 @@ fn is_one_of(word: &str, kinds: &[&str]) -> bool
 }
 
 /// The modules that an item stands in, and what its members stand in, with two colons before each name.
-///
-/// # Errors
-///
-/// Only if memory runs out.
 #[tactic(auto, using(crate::proofs::Pushed::segments_of))]
-pub fn scope_of(alloc: Global, row: &Row<'_>, around: Option<&Name>) -> Result<String, AllocError>
+fn scope_of(alloc: Global, row: &Row<'_>, around: Option<&Name>) -> Result<String, AllocError>
     ensures { let scope_is = spec.scope_inside (row_view row.now) (option_copied around.entry) in
         IfOk result (λ scope. string_bytes scope ≡ scope_is) }
 {
@@ -132,261 +125,182 @@ impl Query<'_> {
     }
 
     /// Whether an item or a member is looked for.
-    ///
-    /// # Errors
-    ///
-    /// Only if memory runs out.
-    pub fn finds(self, alloc: Global, candidate: Candidate<'_>) -> Result<bool, AllocError>
+    fn finds(self, alloc: Global, candidate: &Candidate) -> Result<bool, AllocError>
         ensures { IfOk result (λ found. found
-            ≡ spec.is_found (query_view self.entry) (candidate_view candidate.entry)) }
+            ≡ spec.is_found (query_view self.entry) (candidate_view candidate.now)) }
     {
         if !self.shows(candidate.is_active) || !self.has_kind(candidate.word) {
             return Ok(false);
         }
-        if !self.is_sought_name(alloc, candidate.name)? {
+        if !self.is_sought_name(alloc, &candidate.name)? {
             return Ok(false);
         }
-        self.is_sought_scope(alloc, candidate.scope)
+        self.is_sought_scope(alloc, &candidate.scope)
     }
 }
 
-impl Printer<'_> {
-    fn position_at(&mut self, at: Option<usize>) -> Option<Position>
-        ensures position { result ≡ spec.position_at (file_of self.old) at }
-        ensures same { IsSameFile self.old self.new }
-    {
-        match at {
-            Some(at) => Some(self.finder.lines.position(at)),
-            None => None,
-        }
+/// Adds a candidate, if it is looked for.
+fn push_if_found(
+    alloc: Global,
+    query: Query<'_>,
+    candidate: Candidate,
+    found: &mut Vec<Candidate>,
+) -> Result<(), AllocError>
+    ensures { let own = spec.if_found (query_view query.entry) (candidate_view candidate) in
+        OnOk result (map candidate_view found.new.items ≡ map candidate_view found.old.items ++ own) }
+{
+    if !query.finds(alloc, &candidate)? {
+        return Ok(());
     }
+    found.push(candidate)?;
+    Ok(())
+}
 
-    /// A name behind a blank, bold if colours are wanted.
-    #[tactic(auto, unfolding(list_forms::specs::Colors::colored_text))]
-    fn push_bold_name(
-        &self,
-        is_colored: bool,
-        name: &Name,
-        out: &mut String,
-    ) -> Result<(), AllocError>
-        ensures { let name = listed_name (reserved_of self.now) (Some name.now) in
-            OnOk result (string_bytes out.new ≡ string_bytes out.old ++ colored_text is_colored bold_code name) }
-    {
-        push_color(is_colored, BOLD, out)?;
-        self.push_name(Some(name), out)?;
-        push_color(is_colored, USUAL, out)
-    }
-
-    /// A place, the word of a kind and a name.
-    fn push_found_line(
-        &mut self,
-        is_colored: bool,
-        candidate: Candidate<'_>,
-        out: &mut String,
-    ) -> Result<(), AllocError>
-        ensures text { let line = spec.found_line (file_of self.old) (reserved_of self.old)
-            is_colored (candidate_view candidate.entry) in
-            OnOk result (string_bytes out.new ≡ string_bytes out.old ++ line) }
-        ensures same { IsSameFile self.old self.new }
-    {
-        self.push_stand(is_colored, candidate.at, out)?;
-        push_colored(is_colored, CYAN, candidate.word, out)?;
-        self.push_bold_name(is_colored, candidate.name, out)?;
-        out.push_str("\n")
-    }
-
-    /// The same as an object.
-    #[tactic(auto, using(crate::proofs::NoFloats::found_none))]
-    fn push_found_object(
-        &mut self,
-        alloc: Global,
-        candidate: Candidate<'_>,
-        out: &mut String,
-    ) -> Result<(), AllocError>
-        ensures text { let line = spec.found_text (file_of self.old) (reserved_of self.old)
-            Json (candidate_view candidate.entry) in
-            OnOk result (string_bytes out.new ≡ string_bytes out.old ++ line) }
-        ensures same { IsSameFile self.old self.new }
-    {
-        let position = self.position_at(candidate.at);
-        let object = found_object(alloc, self.path, position, candidate)?;
-        let line = value_line(alloc, &object)?;
-        out.push_str(&line)
-    }
-
-    /// The text of an item or a member, if that is looked for.
-    fn push_if_found(
-        &mut self,
-        alloc: Global,
-        query: Query<'_>,
-        candidate: Candidate<'_>,
-        out: &mut String,
-    ) -> Result<(), AllocError>
-        ensures text { let text = spec.if_found (file_of self.old) (reserved_of self.old)
-            (query_view query.entry) (candidate_view candidate.entry) in
-            OnOk result (string_bytes out.new ≡ string_bytes out.old ++ text) }
-        ensures same { IsSameFile self.old self.new }
-    {
-        if !query.finds(alloc, candidate)? {
-            return Ok(());
-        }
-        match query.form {
-            Form::Line { is_colored } => self.push_found_line(is_colored, candidate, out),
-            Form::Json => self.push_found_object(alloc, candidate, out),
-        }
-    }
-
-    /// The text of an item in some modules, if it has a name that is looked for.
-    fn push_own_found(
-        &mut self,
-        alloc: Global,
-        query: Query<'_>,
-        row: &Row<'_>,
-        place: Option<ItemPlace>,
-        out: &mut String,
-    ) -> Result<(), AllocError>
-        ensures text { let text = spec.own_found (file_of self.old) (reserved_of self.old)
-            (query_view query.entry) (row_view row.now) place (option_copied row.now.name) in
-            OnOk result (string_bytes out.new ≡ string_bytes out.old ++ text) }
-        ensures same { IsSameFile self.old self.new }
-    {
-        let Some(name) = row.name else {
-            return Ok(());
-        };
-        let scope = scope_of(alloc, row, None)?;
-        let candidate = Candidate {
-            scope: &scope,
-            at: stand_of(place),
-            word: item_word(row.id.kind),
-            name,
-            is_active: row.is_active,
-        };
-        self.push_if_found(alloc, query, candidate, out)
-    }
-
-    /// The text of a member in a scope, if that is looked for.
-    #[tactic(auto, unfolding(crate::specs::Search::found_members))]
-    fn push_if_member(
-        &mut self,
-        alloc: Global,
-        query: Query<'_>,
-        scope: &str,
-        member: &ListedMember,
-        out: &mut String,
-    ) -> Result<(), AllocError>
-        ensures text { let text = spec.found_members (file_of self.old) (reserved_of self.old)
-            (query_view query.entry) scope.now (listed_view member.now ∷ []) in
-            OnOk result (string_bytes out.new ≡ string_bytes out.old ++ text) }
-        ensures same { IsSameFile self.old self.new }
-    {
-        let candidate = Candidate {
-            scope,
-            at: Some(member.at),
-            word: member_word(member.kind),
-            name: &member.name,
-            is_active: member.is_active,
-        };
-        self.push_if_found(alloc, query, candidate, out)
-    }
-
-    /// The texts of the members in a scope that are looked for.
-    #[tactic(auto, unfolding(crate::specs::Search::found_members), using(crate::proofs::Pushed::one_more_found_member))]
-    fn push_found_members(
-        &mut self,
-        alloc: Global,
-        query: Query<'_>,
-        scope: &str,
-        members: &[ListedMember],
-        out: &mut String,
-    ) -> Result<(), AllocError>
-        ensures text { let text = spec.found_members (file_of self.old) (reserved_of self.old)
-            (query_view query.entry) scope.now (map listed_view members.now) in
-            OnOk result (string_bytes out.new ≡ string_bytes out.old ++ text) }
-        ensures same { IsSameFile self.old self.new }
-    {
-        for member in members {
-            self.push_if_member(alloc, query, scope, member, out)?;
-        }
-        Ok(())
-    }
-
-    /// The texts of the members of an item that are looked for.
-    fn push_found_inside(
-        &mut self,
-        alloc: Global,
-        query: Query<'_>,
-        row: &Row<'_>,
-        around: Option<&Name>,
-        members: &[ListedMember],
-        out: &mut String,
-    ) -> Result<(), AllocError>
-        ensures text { let scope = spec.scope_inside (row_view row.now) (option_copied around.entry) in
-            let text = spec.found_members (file_of self.old) (reserved_of self.old)
-            (query_view query.entry) scope (map listed_view members.now) in
-            OnOk result (string_bytes out.new ≡ string_bytes out.old ++ text) }
-        ensures same { IsSameFile self.old self.new }
-    {
-        let scope = scope_of(alloc, row, around)?;
-        self.push_found_members(alloc, query, &scope, members, out)
-    }
-
-    /// The texts of an item and of its members, where they are looked for.
-    fn push_all_found(
-        &mut self,
-        alloc: Global,
-        reading: Reading<'_>,
-        query: Query<'_>,
-        row: &Row<'_>,
-        out: &mut String,
-    ) -> Result<(), AllocError>
-        requires { AreDistinct (places_of self.old) }
-        ensures text { let lines = spec.whole_found (file_of self.old) (reading_view reading.entry)
-            (reserved_of self.old) in
-            let lines = lines (places_of self.old) (query_view query.entry) (row_view row.now) in
-            OnOk result (string_bytes out.new ≡ string_bytes out.old ++ lines) }
-        ensures same { IsSameFile self.old self.new }
-    {
-        let place = self.finder.places.find(row.id);
-        self.push_own_found(alloc, query, row, place, out)?;
-        let members = reading.members(alloc, place, row.is_active)?;
-        let type_name = reading.type_name(alloc, row.id.kind, place)?;
-        let around = holder(row.name, &type_name);
-        self.push_found_inside(alloc, query, row, around, &members, out)
+fn range_of(place: Option<ItemPlace>) -> Option<TextRange>
+    ensures { result ≡ option_map (λ p. p.range) place }
+{
+    match place {
+        Some(place) => Some(place.range),
+        None => None,
     }
 }
 
-/// A line for each item that is looked for, and for each member where members are asked for, each item before its
-/// members: file, line and column, the word of its kind, and its name, in colours or not. Or a JSON object on a line
-/// for each: the `path` of the file, `line` and `column`, its `kind` and `name`, and the names around it as `scope`,
-/// with two colons between each two. Around a member are the modules, and its item's name, or for a member of an impl
-/// the last name of the type's path, if the type is one.
+/// Adds an item that stands there, if it has a name that is looked for.
+fn push_own_found(
+    alloc: Global,
+    query: Query<'_>,
+    row: &Row<'_>,
+    place: Option<ItemPlace>,
+    found: &mut Vec<Candidate>,
+) -> Result<(), AllocError>
+    ensures { let own = spec.own_found (query_view query.entry) (row_view row.now) place (option_copied row.now.name) in
+        OnOk result (map candidate_view found.new.items ≡ map candidate_view found.old.items ++ own) }
+{
+    let Some(name) = row.name else {
+        return Ok(());
+    };
+    let scope = scope_of(alloc, row, None)?;
+    let name = name.clone()?;
+    let candidate = Candidate {
+        id: Some(row.id),
+        at: stand_of(place),
+        range: range_of(place),
+        word: item_word(row.id.kind),
+        scope,
+        name,
+        is_active: row.is_active,
+    };
+    push_if_found(alloc, query, candidate, found)
+}
+
+/// Adds a member in a scope, if it is looked for.
+fn push_if_member(
+    alloc: Global,
+    query: Query<'_>,
+    scope: &str,
+    member: &ListedMember,
+    found: &mut Vec<Candidate>,
+) -> Result<(), AllocError>
+    ensures { let own = spec.member_found (query_view query.entry) scope.now (listed_view member.now) in
+        OnOk result (map candidate_view found.new.items ≡ map candidate_view found.old.items ++ own) }
+{
+    let scope = String::from_str(alloc, scope)?;
+    let name = member.name.clone()?;
+    let candidate = Candidate {
+        id: None,
+        at: Some(member.at),
+        range: Some(member.range),
+        word: member_word(member.kind),
+        scope,
+        name,
+        is_active: member.is_active,
+    };
+    push_if_found(alloc, query, candidate, found)
+}
+
+/// Adds the members in a scope that are looked for.
+fn push_found_members(
+    alloc: Global,
+    query: Query<'_>,
+    scope: &str,
+    members: &[ListedMember],
+    found: &mut Vec<Candidate>,
+) -> Result<(), AllocError>
+    ensures { let all = flat_map (spec.member_found (query_view query.entry) scope.now) (map listed_view members.now) in
+        OnOk result (map candidate_view found.new.items ≡ map candidate_view found.old.items ++ all) }
+{
+    for member in members {
+        push_if_member(alloc, query, scope, member, found)?;
+    }
+    Ok(())
+}
+
+/// Adds the members of an item, in this, that are looked for.
+fn push_found_inside(
+    alloc: Global,
+    query: Query<'_>,
+    row: &Row<'_>,
+    around: Option<&Name>,
+    members: &[ListedMember],
+    found: &mut Vec<Candidate>,
+) -> Result<(), AllocError>
+    ensures { let scope = spec.scope_inside (row_view row.now) (option_copied around.entry) in
+        let all = flat_map (spec.member_found (query_view query.entry) scope) (map listed_view members.now) in
+        OnOk result (map candidate_view found.new.items ≡ map candidate_view found.old.items ++ all) }
+{
+    let scope = scope_of(alloc, row, around)?;
+    push_found_members(alloc, query, &scope, members, found)
+}
+
+/// Adds an item and its members, where they are looked for.
+fn push_row_found(
+    alloc: Global,
+    query: Query<'_>,
+    places: &mut Places<'_>,
+    reading: Reading<'_>,
+    row: &Row<'_>,
+    found: &mut Vec<Candidate>,
+) -> Result<(), AllocError>
+    requires { AreDistinct places.old }
+    ensures found { let all = spec.row_found (reading_view reading.entry) places.old (query_view query.entry)
+        (row_view row.now) in
+        OnOk result (map candidate_view found.new.items ≡ map candidate_view found.old.items ++ all) }
+    ensures same { places.new ≡ places.old }
+{
+    let place = places.find(row.id);
+    push_own_found(alloc, query, row, place, found)?;
+    let members = reading.members(alloc, place, row.is_active)?;
+    let type_name = reading.type_name(alloc, row.id.kind, place)?;
+    let around = holder(row.name, &type_name);
+    push_found_inside(alloc, query, row, around, &members, found)
+}
+
+/// The items of a tree that are looked for, and the members where members are asked for, each item before its members.
+/// Around a member are the modules, and its item's name, or for a member of an impl the last name of the type's path,
+/// if the type is one. Members are listed under the cfgs that are given, and only where these are.
 ///
-/// Members are listed under the cfgs that are given, and only where these are. The places are those that the reader
-/// gave with the syntax of the tree.
+/// The places are those that the reader gave with the syntax of the tree.
 ///
 /// # Errors
 ///
 /// Only if memory runs out.
-#[tactic(auto, using(crate::proofs::Pushed::one_more_found))]
-pub fn found_lines(
+pub fn found_in(
     alloc: Global,
-    source: Source<'_>,
-    places: &[ItemPlace],
     tree: &ItemTree,
-    edition: &Edition,
+    places: &mut Places<'_>,
     reading: Reading<'_>,
     query: Query<'_>,
-) -> Result<String, AllocError>
-    requires { AreDistinct places.now }
-    ensures { let s = source_view source.entry in
-        let lines = spec.found_lines s (reading_view reading.entry) edition.now.reserved.items places.now in
-        IfOk result (λ text. string_bytes text ≡ lines (query_view query.entry) (rows.rows tree.now)) }
+) -> Result<Vec<Candidate>, AllocError>
+    requires { AreDistinct places.old }
+    ensures found { let all = spec.found_in_rows (reading_view reading.entry) places.old (query_view query.entry)
+        (rows.rows tree.now) in
+        IfOk result (λ found. map candidate_view found.items ≡ all) }
+    ensures same { places.new ≡ places.old }
 {
-    let mut printer = Printer::new(source, places, edition);
-    let mut out = String::new(alloc);
+    let mut found = Vec::new(alloc);
     let rows = item_rows(alloc, tree)?;
     for row in &rows {
-        printer.push_all_found(alloc, reading, query, row, &mut out)?;
+        push_row_found(alloc, query, places, reading, row, &mut found)?;
     }
-    Ok(out)
+    Ok(found)
 }

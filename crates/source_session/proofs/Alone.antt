@@ -1,6 +1,6 @@
 -- Edits inside bodies.
 use Rattle.std.proofs.Common.{◌≡◌, ◌≢◌, ℕ, zero, suc, ◌+◌, ◌<◌, ◌≤◌, ◌==◌, Bool, true, false, if◌then◌else◌, List, [], ◌∷◌, Option, Some, None, IfSome, IfNone, OnSome, is_some, Result, Ok, Err, All, slice_get, length, map, take, drop, refl, sym, ap, subst, ◌∙◌, append_assoc, arith, IsCharBoundary, nat_le, string_bytes}
-use Rattle.source_session.proofs.Common.{list_all, and_parts, nat_tests, get_or-map, length-map, EditionYear, Place, File, IsSetAgain, EditView, set, IsFooting, FitsAfter, last_number, State, present, ItemPlace, FileView, IsFileView, bare_file, HasPlaces, IsReadMoved, edited_text, has_item, has_place, shifted_item, shifted_place, shifted_problem, HasTextOf, IsListedFile, closers_in, is_cut, TextRange, AreDistinct, IndexView, ChangeFault, SourceText, LineEdit, set_text, change_text, CrateFiles, AreSetTo, AreTogether, IsPlaced, IsSetTo, LeavesPlaced, session_of, CanReplace, HasRoom, IsInside, IsMadeAlone, IsMadeOrNot, IsRetyped, IsRetypedIf, MakesAlone, IsEdited, TextChange, IsKept, IsReading, Texts, bytes_kept, change_fault, changed_text, spliced_text, text_after, text_in, unless_fault, Touched, IsAfter, AreMeant}
+use Rattle.source_session.proofs.Common.{list_all, and_parts, nat_tests, get_or-map, length-map, EditionYear, Place, File, IsSetAgain, EditView, set, IsFooting, FitsAfter, last_number, State, present, ItemPlace, FileView, IsFileView, bare_file, HasPlaces, IsReadMoved, edited_text, has_item, has_place, shifted_item, shifted_place, shifted_problem, HasTextOf, IsListedFile, closers_in, is_cut, TextRange, AreDistinct, IndexView, ChangeFault, SourceText, LineEdit, set_text, change_text, AreSetTo, AreTogether, IsPlaced, IsSetTo, LeavesPlaced, session_of, CanReplace, HasRoom, IsInside, IsMadeAlone, IsMadeOrNot, IsRetyped, IsRetypedIf, MakesAlone, IsEdited, TextChange, IsKept, IsReading, Texts, bytes_kept, change_fault, changed_text, spliced_text, text_after, text_in, unless_fault, Touched, IsAfter, AreMeant}
 use Rattle.std.specs.String.{string_capacity, string_len}
 use Rattle.std.specs.String.Boundary.{IsSplitPoint}
 use Rattle.std.specs.declared.alloc.AllocError.{AllocError}
@@ -245,12 +245,12 @@ module _ (edition : EditionYear) (s u : State) (old new : Texts) (asked : List L
   fits_alone zero less = m.fits
   fits_alone (suc n) less = absurd (omega (arith, less))
 
-  pub edited_alone : (count : ℕ) (files : CrateFiles) (reserved : List (List ℕ)) → IsEdited (session_of count files (edition, reserved) s old) asked (session_of count files (edition, reserved) u new)
-  edited_alone count files reserved = record {
+  pub edited_alone : (count : ℕ) (reserved : List (List ℕ)) → IsEdited (session_of count (edition, reserved) s old) asked (session_of count (edition, reserved) u new)
+  edited_alone count reserved = record {
     edits = m.edit ∷ [];
     changes = m.change ∷ [];
     meant = m.meant;
-    made = record { count = refl; files = refl; edition = refl; table = m.after; texts = m.texts };
+    made = record { count = refl; edition = refl; table = m.after; texts = m.texts };
     none_passes = record { numbers = omega (arith, m.after.number, m.number); trees = fits_alone };
   }
 

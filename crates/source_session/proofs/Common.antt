@@ -9,7 +9,7 @@ pub use Rattle.hir_input.specs.declared.ids.FileAstId.{FileAstId}
 pub use Rattle.hir_input_json.proofs.Held.{field_without}
 pub use Rattle.hir_input_json.proofs.Lists.{joined, read_next}
 pub use Rattle.hir_input_json.specs.Editions.{EditionView}
-pub use Rattle.hir_input_json.specs.Forms.{array_items, each, each_from, unless_null, whole_form}
+pub use Rattle.hir_input_json.specs.Forms.{array_items, each, each_from, unless_null}
 unfoldable pub use Rattle.hir_input_json.specs.Forms.{field}
 pub use Rattle.hir_input_json.specs.Held.{held, with_null}
 unfoldable pub use Rattle.hir_input_json.specs.Held.{without}
@@ -28,7 +28,6 @@ pub use Rattle.item_tree_db.specs.declared.place.Place.{Place}
 pub use Rattle.item_tree_db.specs.declared.place.Place.TheVariants.{Block, File}
 pub use Rattle.item_tree_request.specs.Named.{EditNamesCrate}
 pub use Rattle.item_tree_request.specs.Outputs.{Knows}
-unfoldable pub use Rattle.item_tree_request.specs.Outputs.{table_change_line}
 pub use Rattle.rust_edits.specs.Edits.{HasPlaces, IsReadMoved, PlacesAreKept, ReadsMoved, edited_text, has_item, has_place, shifted_item, shifted_place, shifted_problem}
 pub use Rattle.rust_items.specs.SourceFiles.{FileView, IsFileView, bare_file, file_view}
 pub use Rattle.rust_items.specs.declared.source_file.ItemPlace.{ItemPlace}
@@ -38,7 +37,6 @@ pub use Rattle.source_rows.specs.Places.{AreDistinct, place_of, stands_at}
 pub use Rattle.source_listing.specs.Paths.{bare_segment}
 pub use Rattle.source_rows.specs.ListedFiles.{HasTextOf, IsListedBare, IsListedFile, closers_in}
 pub use Rattle.source_session.specs.Edits.{IsShort, IsUsable, LineEdit, change_text, line_edit, line_edit_view, of_table, range_in, set_text}
-pub use Rattle.source_session.specs.Files.{CrateFiles, crate_files, is_change_in, is_in_crate}
 pub use Rattle.source_session.specs.Finders.{HaveDistinctIds, IsFinder, declared_scope, found_with, head_scope}
 pub use Rattle.source_session.specs.Found.{IsFound, ast_of, found_form, found_value, id_form, in_file, place_by_id}
 pub use Rattle.source_session.specs.Inner.{AreSetTo, AreTogether, AreUnfloating, HasSlot, HasSlotFor, IsFailing, IsPlaced, IsSetTo, Knowing, LeavesPlaced, TellsFault, found_one, outcome_view, reply_view, session_of}
@@ -64,11 +62,9 @@ pub use Rattle.std.proofs.Math.Seq.{drop-append-add, drop-drop}
 pub use Rattle.std.proofs.lemmas.Bool.{and_parts, cases_Bool}
 pub use Rattle.std.proofs.lemmas.Bool.Decides.{Decides-eqb, nat_tests}
 pub use Rattle.std.proofs.lemmas.List.{append_assoc, get_or-map, length-append, length-drop, length-map, length-take, length-take-le, map-append, take_all, take_more}
-pub use Rattle.std.proofs.lemmas.List.Elements.{All-cons, All-filter, All-from_get_or, All-nil, All-push, All-take, All-weaker}
-pub use Rattle.std.proofs.lemmas.List.Sorted.{IsNonDecreasingBy-from_sort, list_any-IsPermutation, searched}
+pub use Rattle.std.proofs.lemmas.List.Elements.{All-cons, All-filter, All-nil, All-push, All-take, All-weaker}
 pub use Rattle.std.proofs.lemmas.Slice.Eq.{bytes_eq-Decides}
 pub use Rattle.std.specs.Cmp.Lexicographic.{pointwise, pointwise_decides, slice_cmp}
-pub use Rattle.std.specs.List.{AllByRecursion, AllZip, ends_with, flat_map, list_all, list_any}
-pub use Rattle.std.specs.List.Sorted.{IsBinarySearchResult, IsNonDecreasing, IsPermutation}
+pub use Rattle.std.specs.List.{AllByRecursion, AllZip, ends_with, flat_map, list_all}
 pub use Rattle.std.specs.Option.{option_and_then, option_copied_mut, option_map, option_map_or, option_or, unwrap_or}
 pub use Rattle.std.specs.Ordering.{is_eq, match_ordering}

@@ -18,7 +18,6 @@ use Rattle.source_session.proofs.Meant.{meant_over}
 pub made_join : (s u v : Session) (es fs : List EditView) (cs ds : List TextChange) → AreMade s es cs u → AreMade u fs ds v → AreMade s (es ++ fs) (cs ++ ds) v
 made_join s u v es fs cs ds a b = record {
   count = b.count ∙ a.count;
-  files = b.files ∙ a.files;
   edition = b.edition ∙ a.edition;
   table = after_join s.table u.table v.table es fs a.table b.table;
   texts = λ file.
@@ -30,7 +29,7 @@ made_join s u v es fs cs ds a b = record {
 
 -- none
 made_none : (s : Session) → AreMade s [] [] s
-made_none s = record { count = refl; files = refl; edition = refl; table = after_none s.table; texts = λ file. refl }
+made_none s = record { count = refl; edition = refl; table = after_none s.table; texts = λ file. refl }
 
 -- ---- what a line leads to, by its answer
 

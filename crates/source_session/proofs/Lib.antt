@@ -3,7 +3,6 @@ pub mod Pieces
 pub mod Paths
 pub mod Finders
 pub mod Matches
-pub mod Numbers
 pub mod Kept
 pub mod Ranges
 pub mod Spliced

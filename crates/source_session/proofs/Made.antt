@@ -1,6 +1,6 @@
 -- What the edits of a line make of a session.
 use Rattle.std.proofs.Common.{◌≡◌, ℕ, ◌≤◌, ◌==◌, suc, true, false, if◌then◌else◌, inl, inr, List, [], ◌∷◌, Option, Some, None, IfSome, All, Result, Ok, Err, OnOk, IfOk, IfErr, MatchResult, slice_get, length, map, take, refl, sym, ap, subst, ◌∙◌, arith}
-use Rattle.source_session.proofs.Common.{length-map, take_all, All-take, option_or, unwrap_or, EditionYear, EditionView, Edit, EditView, edit_view, edits_before, last_number, FirstFit, IsRefusal, IsAfter, IsFooting, last_some, State, after_none, IndexView, LineEdit, CrateFiles, LineError, NotChanged, IsPlaced, LeavesPlaced, AreTogether, TellsFault, session_of, line_refusal, made_count, outcome_of, Session, AreMade, IsEdited, IsStopped, IsUnedited, AreTouched, IsBehindBy, Touched, Texts, FileTexts, TextChange, text_in, text_after, left_text, AreMeant, FailsAt}
+use Rattle.source_session.proofs.Common.{length-map, take_all, All-take, option_or, unwrap_or, EditionYear, EditionView, Edit, EditView, edit_view, edits_before, last_number, FirstFit, IsRefusal, IsAfter, IsFooting, last_some, State, after_none, IndexView, LineEdit, LineError, NotChanged, IsPlaced, LeavesPlaced, AreTogether, TellsFault, session_of, line_refusal, made_count, outcome_of, Session, AreMade, IsEdited, IsStopped, IsUnedited, AreTouched, IsBehindBy, Touched, Texts, FileTexts, TextChange, text_in, text_after, left_text, AreMeant, FailsAt}
 use Rattle.item_tree.specs.declared.fault.EditFault.{EditFault}
 use Rattle.item_tree.specs.declared.fault.EditFault.TheVariants.{TooManyEdits, Lower}
 use Rattle.item_tree.specs.declared.fault.LowerError.TheVariants.{TooManyItems, TooManyVisibilities, TooManyUseTrees, TooManyAttributes, TooManySupers, OutOfMemory}
@@ -53,16 +53,16 @@ same_length edition texts (l ∷ ls) (e ∷ es) (c ∷ cs) h = ap suc (same_leng
 same_length edition texts ls es cs h = absurd h
 
 -- nothing is made
-pub made_none : (s u : Session) → u.count ≡ s.count → u.files ≡ s.files → u.edition ≡ s.edition → u.table ≡ s.table → ((file : ℕ) → text_in u.texts file ≡ text_in s.texts file) → AreMade s [] [] u
-made_none s u count files edition table texts = record { count = count; files = files; edition = edition; table = subst (IsAfter s.table []) (sym table) (after_none s.table); texts = texts }
+pub made_none : (s u : Session) → u.count ≡ s.count → u.edition ≡ s.edition → u.table ≡ s.table → ((file : ℕ) → text_in u.texts file ≡ text_in s.texts file) → AreMade s [] [] u
+made_none s u count edition table texts = record { count = count; edition = edition; table = subst (IsAfter s.table []) (sym table) (after_none s.table); texts = texts }
 
-pub stopped_none : (s : Session) (asked : List LineEdit) (u : Session) → u.count ≡ s.count → u.files ≡ s.files → u.edition ≡ s.edition → u.table ≡ s.table → ((file : ℕ) → text_in u.texts file ≡ text_in s.texts file) → IsStopped s asked u
-stopped_none s asked u count files edition table texts = record { edits = []; changes = []; count = 0; meant = inl refl; made = made_none s u count files edition table texts }
+pub stopped_none : (s : Session) (asked : List LineEdit) (u : Session) → u.count ≡ s.count → u.edition ≡ s.edition → u.table ≡ s.table → ((file : ℕ) → text_in u.texts file ≡ text_in s.texts file) → IsStopped s asked u
+stopped_none s asked u count edition table texts = record { edits = []; changes = []; count = 0; meant = inl refl; made = made_none s u count edition table texts }
 
 -- memory runs out, or an edit means nothing
 pub unmeant : (s : Session) (asked : List LineEdit) (e : LineError) → TellsFault (FailsAt s.edition.0 (text_in s.texts) asked) e → IsUnedited s asked s e
 unmeant s asked (NotChanged place cause) h = (h, refl)
-unmeant s asked why.OutOfMemory h = stopped_none s asked s refl refl refl refl (λ file. refl)
+unmeant s asked why.OutOfMemory h = stopped_none s asked s refl refl refl (λ file. refl)
 unmeant s asked e h = absurd h
 
 -- all is made, and memory runs out behind it
@@ -129,9 +129,9 @@ module _ (s u : State) (old room new : Texts) (edits : List Edit) (changes : Lis
   texts_after : (file : ℕ) → text_in new file ≡ text_after (text_in old) (take (made_count (length edits) made) changes) file
   texts_after file = put file ∙ text_over old room (take n changes) same file ∙ ap (λ k. text_after (text_in old) (take k changes) file) count_is
 
-  pub files_made : (count : ℕ) (files : CrateFiles) (edition : EditionView)
-      → AreMade (session_of count files edition s old) (take (made_count (length edits) made) (map edit_view edits)) (take (made_count (length edits) made) changes) (session_of count files edition u new)
-  files_made count files edition = record { count = refl; files = refl; edition = refl; table = after_first s u edits made ok refused; texts = texts_after }
+  pub files_made : (count : ℕ) (edition : EditionView)
+      → AreMade (session_of count edition s old) (take (made_count (length edits) made) (map edit_view edits)) (take (made_count (length edits) made) changes) (session_of count edition u new)
+  files_made count edition = record { count = refl; edition = refl; table = after_first s u edits made ok refused; texts = texts_after }
 
   pub files_together : (count : ℕ) (edition : EditionYear) (asked : List LineEdit) (were are : Touched) → AreMeant edition (text_in old) asked (map edit_view edits) changes → AreTouched (map edit_view edits) were are → (index : IndexView) → AreTogether count edition s old index were
       → IsFooting s u → All LeavesPlaced changes → AreTogether count edition u new index are

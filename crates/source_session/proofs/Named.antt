@@ -67,15 +67,14 @@ no_float_items u krate place units has_members =
 -- ---- shows
 
 no_float_present : (u : Session) (show : LineShow) (d : Data) → IsPresentValue u show d → has_float d ≡ false
-no_float_present u (Table (OfTree show)) d h = ap has_float h
-no_float_present u (Table (Changed since)) d h = ap has_float h.2
+no_float_present u (Table show) d h = ap has_float h.2
 no_float_present u (Outline krate file units has_members) d h = ap has_float h ∙ no_float_items u krate (File file) units has_members
 no_float_present u (TreeItems krate place units) d h = ap has_float h ∙ no_float_change (item_objects u krate place units false) (place, krate, change_number u.table place krate.0) (no_float_items u krate place units false)
 no_float_present u (ImportPlaces krate place units) d h = let t = text_of_place u.texts place in ap has_float h ∙ no_float_in_imports units (text_bytes t) u.edition.1 (places_of_text t) (shown_tree u krate place).forest
 no_float_present u (Changes since) d h = ap has_float h.2 ∙ no_float_in_changes h.0
 no_float_present u (Problems file units) d h = let t = text_in u.texts file.0 in ap has_float h ∙ no_float_in_problems units (text_bytes t) (text_problems t)
 no_float_present u (Search q) d h = ap has_float h.2 ∙ no_float_in_matches u q h.0
-no_float_present u (Find q) d h = ap has_float h.2 ∙ no_float_in_found q.units u.table u.texts (filter (is_sought u.files u.table q) h.0)
+no_float_present u (Find q) d h = ap has_float h.2 ∙ no_float_in_found q.units u.table u.texts (filter (is_sought u.table q) h.0)
 
 no_float_unset : (place : Place) → has_float (unset_form place) ≡ false
 no_float_unset (File file) = refl

@@ -1,5 +1,5 @@
 -- Paths that are looked for.
-use Rattle.std.proofs.Common.{◌≡◌, ℕ, ◌+◌, ◌-◌, ◌&&◌, Bool, true, false, if◌then◌else◌, List, [], ◌∷◌, ◌++◌, length, drop, map, filter, refl, sym, ap, append_assoc, ◌∙◌, arith, nat_eq}
+use Rattle.std.proofs.Common.{◌≡◌, ℕ, ◌+◌, ◌-◌, ◌&&◌, Bool, true, false, if◌then◌else◌, List, [], ◌∷◌, ◌++◌, length, drop, map, filter, refl, ap, ◌∙◌, arith, nat_eq}
 use Rattle.source_session.proofs.Common.{pointwise, pointwise_decides, ends_with, flat_map, and_parts, Decides-eqb, length-append, length-drop, drop-append-add, Unfolding, Declaration, declared_at, DeclarationView, collected_declaration, defined, bare_segment, declared_scope, own_scope, scope_at, path_within, is_at}
 use Rattle.tree_walk.specs.declared.collector.Declaration as code
 use Rattle.source_listing.specs.Sought.{Sought}
@@ -38,13 +38,6 @@ pub all_scopes : (u : Unfolding) (ds : List code.Declaration) → map (collected
 all_scopes u ds e = scopes_of u ds ∙ ap (map (λ (d : ℕ × DeclarationView). (d.0, d.1.path))) e ∙ scopes_are (declared_at u)
 
 -- ---- lists
-
--- the next of those that pass a test
-pub is_kept : {A : Type 0} (p : A → Bool) (done : List A) (x : A) (rest : List A) → p x ≡ true → done ++ filter p (x ∷ rest) ≡ (done ++ x ∷ []) ++ filter p rest
-is_kept p done x rest e = rw e (sym (append_assoc done (x ∷ []) (filter p rest)))
-
-pub is_left : {A : Type 0} (p : A → Bool) (done : List A) (x : A) (rest : List A) → p x ≡ false → done ++ filter p (x ∷ rest) ≡ done ++ filter p rest
-is_left p done x rest e = rw e refl
 
 one_of : {A B : Type 0} (b : Bool) (f : A → B) (x : A) (xs : List A) (ys : List B) → ys ≡ map f xs → (if b then f x ∷ [] else []) ++ ys ≡ map f (if b then x ∷ xs else xs)
 one_of true f x xs ys e = ap (λ l. f x ∷ l) e

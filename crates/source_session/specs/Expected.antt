@@ -24,7 +24,7 @@ told_by_row (row ∷ rows) word = if list_any (bytes_eq word) row.0 then row.1 e
 -- by the keys of lines, and of what stands in their lists
 abbrev pub line_keys : List ExpectedRow
 line_keys =
-    (codes "crates" ∷ codes "skipped" ∷ codes "edits" ∷ codes "shows" ∷ codes "reserved" ∷ codes "cfg" ∷ codes "attrs" ∷ codes "stmts" ∷ codes "files" ∷ [], codes "a list")
+    (codes "crates" ∷ codes "skipped" ∷ codes "edits" ∷ codes "shows" ∷ codes "reserved" ∷ codes "cfg" ∷ codes "attrs" ∷ codes "stmts" ∷ [], codes "a list")
     ∷ (codes "edition" ∷ codes "syntax" ∷ [], codes "an object")
     ∷ (codes "file" ∷ codes "block" ∷ codes "root" ∷ [], codes "a number below 2^32")
     ∷ (codes "start" ∷ codes "since" ∷ [], codes "a number below 2^64")
@@ -64,7 +64,6 @@ lists =
     ∷ (codes "crates" ∷ codes "attrs" ∷ codes "items" ∷ codes "metas" ∷ codes "list" ∷ [], codes "an object")
     ∷ (codes "skipped" ∷ codes "reserved" ∷ [], codes "a name")
     ∷ (codes "range" ∷ [], codes "a number below 2^64")
-    ∷ (codes "files" ∷ [], codes "a number below 2^32")
     ∷ []
 
 -- ---- pointers

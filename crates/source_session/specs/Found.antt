@@ -22,7 +22,6 @@ use Rattle.rust_items.specs.declared.source_file.ItemPlace.{ItemPlace}
 use Rattle.list_forms.specs.Lines.{count_form}
 use Rattle.source_rows.specs.Places.{place_of, stands_at}
 use Rattle.source_session.specs.declared.texts.SourceText.{SourceText}
-use Rattle.source_session.specs.Files.{CrateFiles}
 use Rattle.source_session.specs.SourceTexts.{text_bytes, text_places}
 use Rattle.source_session.specs.Sought.{SoughtItem, is_sought}
 use Rattle.source_session.specs.Texts.{Texts, text_in}
@@ -69,5 +68,5 @@ abbrev pub found_form : Units → State → Texts → Entry → Data
 found_form units s texts e = found_value units texts e.place e.krate (ast_of s e)
 
 -- the objects of the entries of a table that are looked for
-abbrev pub IsFound : CrateFiles → State → Texts → SoughtItem → Data → Type 0
-IsFound files s texts q d = (entries : List Entry) × IsListing s entries × (d ≡ array (items_of (map (found_form q.units s texts) (filter (is_sought files s q) entries))))
+abbrev pub IsFound : State → Texts → SoughtItem → Data → Type 0
+IsFound s texts q d = (entries : List Entry) × IsListing s entries × (d ≡ array (items_of (map (found_form q.units s texts) (filter (is_sought s q) entries))))

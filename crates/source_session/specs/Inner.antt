@@ -1,5 +1,5 @@
 -- Words that private contracts alone cite.
-use Rattle.std.specs.Prelude.{◌≡◌, ℕ, ◌<◌, ◌^◌, ◌&&◌, false, if◌then◌else◌, List, [], ◌∷◌, codes, length, map, Option, Some, None, IsSome, IfSome, Result, Ok, Err, MatchResult, IfOk, string_bytes}
+use Rattle.std.specs.Prelude.{◌≡◌, ℕ, ◌<◌, ◌^◌, false, if◌then◌else◌, List, [], ◌∷◌, codes, length, map, Option, Some, None, IsSome, IfSome, Result, Ok, Err, MatchResult, IfOk, string_bytes}
 use Rattle.std.specs.declared.alloc.Global.{Global}
 use Rattle.std.specs.declared.vec.Vec.{Vec}
 use Rattle.serde_json.specs.declared.value.Value.{Value}
@@ -8,7 +8,6 @@ use Rattle.serde_json.specs.View.{items_of, view}
 use Rattle.serde_json.specs.Written.{items_have_float}
 use Rattle.hir_input.specs.declared.edition.EditionYear.{EditionYear}
 use Rattle.hir_input.specs.declared.ids.Crate.{Crate}
-use Rattle.hir_input.specs.declared.ids.FileAstId.{FileAstId}
 use Rattle.hir_input.specs.Syntax.{SyntaxView}
 use Rattle.hir_input_json.specs.Editions.{EditionView}
 use Rattle.item_tree_db.specs.declared.place.Place.TheVariants.{File}
@@ -17,7 +16,6 @@ use Rattle.rust_items.specs.SourceFiles.{FileView}
 use Rattle.source_rows.specs.Places.{AreDistinct}
 use Rattle.list_forms.specs.Lines.{count_form}
 use Rattle.source_listing.specs.Search.{Candidate, joined_scope}
-use Rattle.source_listing.specs.Views.{query_view}
 use Rattle.decl_index.specs.declared.entry.Entry.{Entry}
 use Rattle.decl_index.specs.Entries.{IndexView}
 use Rattle.source_session.specs.declared.error.LineError.{LineError}
@@ -26,10 +24,7 @@ use Rattle.source_session.specs.declared.splice.ChangeFault.{ChangeFault}
 use Rattle.source_session.specs.Edits.{LineEdit}
 use Rattle.source_session.specs.declared.expected.Steps as code_steps
 use Rattle.source_session.specs.Expected.{Steps}
-use Rattle.source_session.specs.Files.{CrateFiles, is_in_crate}
-use Rattle.source_session.specs.declared.searched.TreeSearch as code_search
 use Rattle.source_session.specs.Found.{found_form, id_form}
-use Rattle.source_session.specs.Searches.{TreeSearch}
 use Rattle.source_session.specs.Sought.{SoughtItem, is_at, entry_path}
 use Rattle.source_session.specs.declared.texts.SourceText.{SourceText}
 use Rattle.source_session.specs.declared.reply.Reply as reply
@@ -78,13 +73,13 @@ abbrev pub Knowing : ℕ → State → Type 0
 Knowing count table = (n : ℕ) → n < count → n < 2 ^ 32 → n < length table.crates
 
 -- the session of these parts
-abbrev pub session_of : ℕ → CrateFiles → EditionView → State → Texts → Session
-session_of count files edition table texts = record { count = count; files = files; edition = edition; table = table; texts = texts }
+abbrev pub session_of : ℕ → EditionView → State → Texts → Session
+session_of count edition table texts = record { count = count; edition = edition; table = table; texts = texts }
 
 -- in each session of these the edits of a line are all made, and lead to this table and these texts, or it is told why not
 abbrev pub LeadsBy : ℕ → EditionYear → State → Texts → List LineEdit → State → Texts → Result (Unit {0}) LineError → Type 0
 LeadsBy count edition s old asked u new result =
-    (files : CrateFiles) (reserved : List (List ℕ)) → let over = session_of count files (edition, reserved) in
+    (reserved : List (List ℕ)) → let over = session_of count (edition, reserved) in
     MatchResult result (λ _. IsEdited (over s old) asked (over u new)) (IsUnedited (over s old) asked (over u new))
 
 -- the syntax of a file with this text is that which lists read of it in an edition, without the texts of bodies
@@ -104,22 +99,18 @@ pub record AreTogether (count : ℕ) (edition : EditionYear) (table : State) (te
   pub placed : (file : ℕ) → IsPlaced (text_in texts file)
   pub read : AreSetTo edition table texts
 
--- the object of an entry, if it is in its crate and its item has the path that is looked for
-abbrev pub found_one : CrateFiles → State → Texts → SoughtItem → Entry → List Data
-found_one files s texts q e = if is_in_crate files e.krate e.place && is_at q.path (entry_path s e) then found_form q.units s texts e ∷ [] else []
+-- the object of an entry, if its item has the path that is looked for
+abbrev pub found_one : State → Texts → SoughtItem → Entry → List Data
+found_one s texts q e = if is_at q.path (entry_path s e) then found_form q.units s texts e ∷ [] else []
 
 -- the members of each object of what is found, in the order of their keys
-abbrev pub match_names : Crate → Option FileAstId → Candidate → Members
-match_names krate id c =
+abbrev pub match_names : Crate → Candidate → Members
+match_names krate c =
     member (codes "crate") (count_form krate.0)
-    (member (codes "id") (id_form id)
+    (member (codes "id") (id_form c.id)
     (member (codes "kind") (string c.word)
     (member (codes "name") (string c.name)
     (member (codes "scope") (string (joined_scope c.scope)) no_members))))
-
--- what is looked for in a tree as data
-abbrev pub tree_search_view : code_search.TreeSearch → TreeSearch
-tree_search_view s = record { query = query_view s.query; place = s.place; krate = s.krate; units = s.units }
 
 -- the steps of a pointer as data
 abbrev pub steps_view : code_steps.Steps → Steps

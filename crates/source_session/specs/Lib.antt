@@ -3,7 +3,6 @@ pub mod Edits
 pub mod Parts
 pub mod Sought
 pub mod Shows
-pub mod Files
 pub mod Lines
 pub mod Expected
 pub mod Errors

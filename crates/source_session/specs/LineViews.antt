@@ -10,7 +10,7 @@ use Rattle.source_session.specs.Lines.{Asked, Settings}
 use Rattle.source_session.specs.Shows.{ShowNamesCrate}
 
 abbrev pub settings_view : code_settings.Settings → Settings
-settings_view s = record { crates = map crate_view s.crates.items; files = s.files.items; skipped = s.skipped.items; edition = edition_view s.edition; start = s.start }
+settings_view s = record { crates = map crate_view s.crates.items; skipped = s.skipped.items; edition = edition_view s.edition; start = s.start }
 
 abbrev pub asked_view : code_asked.Asked → Asked
 asked_view a = record { edits = map line_edit_view a.edits.items; shows = a.shows.items }

@@ -10,14 +10,11 @@ use Rattle.source_session.specs.declared.keys.LineObject.TheVariants.{Whole}
 use Rattle.source_session.specs.Keys.{none_at, only_known}
 use Rattle.source_session.specs.declared.show.LineShow.{LineShow}
 use Rattle.source_session.specs.Edits.{LineEdit, line_edit}
-use Rattle.source_session.specs.Files.{CrateFiles, crate_files}
 use Rattle.source_session.specs.Shows.{line_show}
 
 -- what opens a session
 pub record Settings : Type 0 where
   pub crates : List CrateView
-  -- the files that they have
-  pub files : CrateFiles
   -- the names of attributes that no tree has
   pub skipped : List (List ℕ)
   pub edition : EditionView
@@ -35,12 +32,11 @@ skipped_at d = by_form (field (codes "skipped") d) (λ _. list_at identifier_for
 -- each by its form, in this order
 abbrev pub settings : Data → Reading Settings
 settings d = do
-  files ← list_at crate_files (codes "crates") d
   crates ← list_at crate_data (codes "crates") d
   skipped ← skipped_at d
   language ← edition_at d
   start ← optional_at 0 (codes "start") (whole_form (2 ^ 64)) d
-  right (record { crates = crates; files = files; skipped = skipped; edition = language; start = start })
+  right (record { crates = crates; skipped = skipped; edition = language; start = start })
 
 -- what is asked of a session
 pub record Asked : Type 0 where

@@ -10,7 +10,6 @@ use Rattle.source_session.specs.declared.error.LineError.{LineError}
 use Rattle.source_session.specs.declared.error.LineError.TheVariants.{NotJson, NotRequest, NotChanged, Refused, TooLong, OutOfMemory}
 use Rattle.source_session.specs.declared.splice.ChangeFault.{ChangeFault}
 use Rattle.source_session.specs.Edits.{LineEdit}
-use Rattle.source_session.specs.Files.{CrateFiles}
 use Rattle.source_session.specs.Lines.{Settings}
 use Rattle.source_session.specs.Texts.{Texts, TextChange, text_in, text_after, AreMeant, FailsAt}
 
@@ -18,19 +17,17 @@ use Rattle.source_session.specs.Texts.{Texts, TextChange, text_in, text_after, A
 pub record Session : Type 0 where
   -- how many crates the first line named
   pub count : ℕ
-  pub files : CrateFiles
   pub edition : EditionView
   pub table : State
   pub texts : Texts
 
 -- the session that a line opens
 abbrev pub new_session : Settings → Session
-new_session s = record { count = length s.crates; files = s.files; edition = s.edition; table = new_table s.crates s.skipped s.start; texts = [] }
+new_session s = record { count = length s.crates; edition = s.edition; table = new_table s.crates s.skipped s.start; texts = [] }
 
 -- these edits of the table, which leave this of the texts, lead from the session s to u
 pub record AreMade (s : Session) (edits : List EditView) (changes : List TextChange) (u : Session) : Type 0 where
   pub count : u.count ≡ s.count
-  pub files : u.files ≡ s.files
   pub edition : u.edition ≡ s.edition
   pub table : IsAfter s.table edits u.table
   pub texts : (file : ℕ) → text_in u.texts file ≡ text_after (text_in s.texts) changes file

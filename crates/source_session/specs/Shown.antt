@@ -1,5 +1,5 @@
 -- What is shown of a session.
-use Rattle.std.specs.Prelude.{◌≡◌, ℕ, Bool, false, List, [], codes, filter, if◌then◌else◌, is_some, map, option_and_then, Option, Some, None, flat_map}
+use Rattle.std.specs.Prelude.{◌≡◌, ℕ, Bool, false, List, [], codes, if◌then◌else◌, is_some, map, option_and_then, Option, Some, None}
 use Rattle.serde_json.specs.Data.{Data, string, array, object, Members, no_members, member}
 use Rattle.serde_json.specs.View.{items_of}
 use Rattle.hir_input.specs.declared.ids.Crate.{Crate}
@@ -8,9 +8,9 @@ use Rattle.line_index.specs.declared.Units.{Units}
 use Rattle.item_tree.specs.Node.{Unfolding}
 use Rattle.item_tree_db.specs.declared.place.Place.{Place}
 use Rattle.item_tree_db.specs.declared.place.Place.TheVariants.{File, Block}
-use Rattle.item_tree_db.specs.Since.{Change}
+use Rattle.item_tree_db.specs.Since.{Change, IsSince}
 use Rattle.item_tree_db.specs.State.{State, change_number, present, unfolding_at}
-use Rattle.item_tree_request.specs.Outputs.{table_change_line, printed}
+use Rattle.item_tree_request.specs.Outputs.{IsPrinted}
 use Rattle.item_tree_request.specs.declared.request.show.Show.{Show}
 use Rattle.item_tree_request.specs.declared.request.show.Show.TheVariants.{OfTree, Changed}
 use Rattle.source_listing.specs.ImportObjects.{import_objects}
@@ -19,7 +19,6 @@ use Rattle.list_forms.specs.Lines.{count_form}
 use Rattle.source_listing.specs.Objects.{tree_objects, problem_objects}
 use Rattle.source_session.specs.declared.show.LineShow.{LineShow}
 use Rattle.source_session.specs.declared.show.LineShow.TheVariants.{Table, Outline, TreeItems, ImportPlaces, Changes, Problems, Find, Search}
-use Rattle.source_session.specs.Files.{AreOwnChanges, CrateFiles}
 use Rattle.source_session.specs.Found.{IsFound}
 use Rattle.source_session.specs.Searches.{IsSearchValue}
 use Rattle.source_session.specs.Sessions.{Session}
@@ -79,30 +78,25 @@ items_member items = member (codes "items") (array (items_of items)) no_members
 abbrev pub tree_form : Session → Crate → Place → Units → Data
 tree_form u krate place units = change_with (items_member (item_objects u krate place units false)) (place, krate, change_number u.table place krate.0)
 
--- their objects
-abbrev pub AreChangeValues : CrateFiles → State → ℕ → Data → Type 0
-AreChangeValues files s since d = (changes : List Change) × AreOwnChanges files s since changes × (d ≡ array (items_of (map change_form changes)))
-
--- their lines
-abbrev pub AreChangeLines : CrateFiles → State → ℕ → Data → Type 0
-AreChangeLines files s since d = (changes : List Change) × AreOwnChanges files s since changes × (d ≡ string (flat_map table_change_line changes))
+-- the objects of all changes since a number
+abbrev pub AreChangeValues : State → ℕ → Data → Type 0
+AreChangeValues s since d = (changes : List Change) × IsSince s since changes × (d ≡ array (items_of (map change_form changes)))
 
 -- ---- shows
 
 -- the text of a show of a request, under these reserved words
-abbrev pub IsTextOf : CrateFiles → List (List ℕ) → State → Show → Data → Type 0
-IsTextOf files reserved s (OfTree show) d = d ≡ string (printed reserved s show)
-IsTextOf files reserved s (Changed since) d = AreChangeLines files s since d
+abbrev pub IsTextOf : List (List ℕ) → State → Show → Data → Type 0
+IsTextOf reserved s show d = (text : List ℕ) × IsPrinted reserved s show text × (d ≡ string text)
 
 -- the value of a show, if something is set at the place that it is of
 abbrev pub IsPresentValue : Session → LineShow → Data → Type 0
-IsPresentValue u (Table show) d = IsTextOf u.files u.edition.1 u.table show d
+IsPresentValue u (Table show) d = IsTextOf u.edition.1 u.table show d
 IsPresentValue u (Outline krate file units has_members) d = d ≡ outline_form u krate file units has_members
 IsPresentValue u (TreeItems krate place units) d = d ≡ tree_form u krate place units
 IsPresentValue u (ImportPlaces krate place units) d = d ≡ imports_form u krate place units
-IsPresentValue u (Changes since) d = AreChangeValues u.files u.table since d
+IsPresentValue u (Changes since) d = AreChangeValues u.table since d
 IsPresentValue u (Problems file units) d = d ≡ problems_form u file units
-IsPresentValue u (Find sought) d = IsFound u.files u.table u.texts sought d
+IsPresentValue u (Find sought) d = IsFound u.table u.texts sought d
 IsPresentValue u (Search searched) d = IsSearchValue u searched d
 
 -- ---- places at which nothing is set

@@ -14,7 +14,6 @@ use Rattle.source_listing.specs.Paths.{bare_segment, is_sought_path}
 use Rattle.source_listing.specs.Patterns as globs
 use Rattle.source_listing.specs.Patterns.{Pattern}
 use Rattle.source_listing.specs.Sought.{Sought, sought}
-use Rattle.source_session.specs.Files.{CrateFiles, is_in_crate}
 use Rattle.line_index.specs.declared.Units.{Units}
 use Rattle.line_index.specs.declared.Units.TheVariants.{Characters}
 use Rattle.source_session.specs.Parts.{parts_between, last_part}
@@ -97,6 +96,6 @@ entry_path s e = path_within (unfolding_at s e.place e.krate.0) e.id e.name
 abbrev pub is_at : Sought → List ℕ → Bool
 is_at q path = is_sought_path q.path q.is_anywhere path
 
--- whether the entry has the last name and is in its crate, and its item has the path
-abbrev pub is_sought : CrateFiles → State → SoughtItem → Entry → Bool
-is_sought files s q e = entry_has_name q.name e && (is_in_crate files e.krate e.place && is_at q.path (entry_path s e))
+-- whether the entry has the last name, and its item has the path
+abbrev pub is_sought : State → SoughtItem → Entry → Bool
+is_sought s q e = entry_has_name q.name e && is_at q.path (entry_path s e)

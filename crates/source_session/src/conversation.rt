@@ -38,12 +38,11 @@ impl Drop for Conversation {
 impl Model for Conversation {
     ghost use Rattle.std.specs.Coded.{codes};
     ghost use Rattle.item_tree_db.specs.Codes.{state_code};
-    ghost use Rattle.source_session.specs.Files.{files_code};
     ghost use Rattle.source_session.specs.Replies.{Open};
 
     ghost Value = { Open };
 
-    ghost coded = { Prim.hlevel (codes, state_code, files_code) };
+    ghost coded = { Prim.hlevel (codes, state_code) };
 
     ghost view = { λ x. x.session };
 }

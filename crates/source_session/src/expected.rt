@@ -36,15 +36,8 @@ fn of_line(key: &str) -> &'static str
     ensures { result.now ≡ told_by_row line_keys key.now }
 {
     match key {
-        "crates"
-        | "skipped"
-        | "edits"
-        | "shows"
-        | "reserved"
-        | "cfg"
-        | "attrs"
-        | "stmts"
-        | "files" => "a list",
+        "crates" | "skipped" | "edits" | "shows" | "reserved" | "cfg" | "attrs" | "stmts" =>
+            "a list",
         "edition" | "syntax" => "an object",
         "file" | "block" | "root" => "a number below 2^32",
         "start" | "since" => "a number below 2^64",
@@ -92,7 +85,6 @@ fn of_list(key: &str) -> &'static str
         "crates" | "attrs" | "items" | "metas" | "list" => "an object",
         "skipped" | "reserved" => "a name",
         "range" => "a number below 2^64",
-        "files" => "a number below 2^32",
         _ => OTHER,
     }
 }

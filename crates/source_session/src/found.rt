@@ -13,7 +13,6 @@ ghost use Rattle.source_session.specs.Found as spec;
 ghost use Rattle.source_session.specs.{Inner.found_one, Sought.is_at, Sought.path_within};
 ghost use Rattle.source_session.specs.SourceTexts.{text_bytes, text_places};
 
-use crate::files::{Files, is_in_crate};
 use crate::scopes::Scopes;
 use crate::sought::SoughtItem;
 use crate::texts::{SourceText, Texts, text_at};
@@ -243,12 +242,10 @@ fn finder_for<'a>(
     }
 }
 
-// Adds the object of an entry, if it is in its crate and its item has the path, and hands on what finds the items of
-// its tree.
+// Adds the object of an entry, if its item has the path, and hands on what finds the items of its tree.
 #[tactic(auto, using(crate::proofs::Finders::is_object, crate::proofs::Finders::contained))]
 fn push_found<'a>(
     alloc: Global,
-    files: &[Option<Files>],
     sources: &'a Sources,
     texts: &'a Texts,
     sought: &SoughtItem,
@@ -259,15 +256,11 @@ fn push_found<'a>(
     requires declared { IsDeclared sources.now entry.now }
     requires placed { HaveDistinctIds texts.now.entries }
     requires last { IfSome last (IsFinder sources.now texts.now.entries) }
-    ensures found { let found = found_one files.now sources.now texts.now.entries sought.now
-        entry.now in
+    ensures found { let found = found_one sources.now texts.now.entries sought.now entry.now in
         OnOk result (map view values.new.items ≡ map view values.old.items ++ found) }
     ensures finder { IfOk result
         (λ finder. IfSome finder (IsFinder sources.now texts.now.entries)) }
 {
-    if !is_in_crate(files, entry.krate, entry.place) {
-        return Ok(last);
-    }
     let mut finder = finder_for(sources, texts, entry, last);
     if !is_found(alloc, sought, entry, finder.tree, &mut finder.scopes)? {
         return Ok(Some(finder));
@@ -277,15 +270,13 @@ fn push_found<'a>(
     Ok(Some(finder))
 }
 
-/// The objects of the entries that are in their crates and whose items have the path that is looked for, of some with
-/// its last name.
+/// The objects of the entries whose items have the path that is looked for, of some with its last name.
 ///
 /// # Errors
 ///
 /// Only if memory runs out.
 pub(crate) fn found_values(
     alloc: Global,
-    files: &[Option<Files>],
     sources: &Sources,
     texts: &Texts,
     sought: &SoughtItem,
@@ -293,23 +284,14 @@ pub(crate) fn found_values(
 ) -> Result<Vec<Value>, AllocError>
     requires declared { All (IsDeclared sources.now) entries.now.keys }
     requires placed { HaveDistinctIds texts.now.entries }
-    ensures { let found = flat_map
-        (found_one files.now sources.now texts.now.entries sought.now) entries.now.keys in
+    ensures { let found = flat_map (found_one sources.now texts.now.entries sought.now)
+        entries.now.keys in
         IfOk result (λ values. map view values.items ≡ found) }
 {
     let mut values = Vec::new(alloc);
     let mut finder = None;
     for entry in entries {
-        finder = push_found(
-            alloc,
-            files,
-            sources,
-            texts,
-            sought,
-            entry,
-            finder,
-            &mut values,
-        )?;
+        finder = push_found(alloc, sources, texts, sought, entry, finder, &mut values)?;
     }
     Ok(values)
 }

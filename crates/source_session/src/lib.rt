@@ -7,7 +7,6 @@ mod difference;
 mod edit;
 mod error;
 mod expected;
-mod files;
 mod found;
 mod inside;
 mod keys;

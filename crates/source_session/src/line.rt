@@ -11,7 +11,6 @@ ghost use Rattle.source_session.specs.LineViews.{asked_view, first_view, setting
 ghost use Rattle.source_session.specs.Shows.{ShowNamesCrate, line_show};
 
 use crate::edit::{LineEdit, edit_of};
-use crate::files::{Files, crate_files_at};
 use crate::keys::{LineObject, Members, none_in, only_known};
 use crate::list::each_read;
 use crate::show::{LineShow, show_of};
@@ -29,8 +28,6 @@ use std::alloc::{AllocError, Global};
 #[derive(Drop)]
 pub(crate) struct Settings {
     pub(crate) crates: Vec<CrateData>,
-    /// The files that they have; one without any given has all.
-    pub(crate) files: Vec<Option<Files>>,
     pub(crate) skipped: Vec<Name>,
     pub(crate) edition: Edition,
     pub(crate) start: u64,
@@ -109,14 +106,12 @@ fn settings_in(alloc: Global, members: &mut Members) -> Result<Settings, Fault>
     ensures left { OnOk result (held members.new
         ≡ without (codes "edition") (without (codes "skipped") (without (codes "crates") (held members.old)))) }
 {
-    let files = crate_files_at(alloc, members)?;
     let crates = crates_at(alloc, members)?;
     let skipped = skipped_at(alloc, members)?;
     let edition = edition_at(alloc, members)?;
     let start = u64_at(alloc, members, "start")?;
     Ok(Settings {
         crates,
-        files,
         skipped,
         edition,
         start,

@@ -11,7 +11,6 @@ ghost use Rattle.source_session.specs.Touched.{touched_keys};
 
 use crate::edit::LineEdit;
 use crate::error::LineError;
-use crate::files::Files;
 use crate::inside::edit_inside_body;
 use crate::line::Settings;
 use crate::meaning::meanings_of;
@@ -29,7 +28,6 @@ use std::marker::Model;
 #[derive(Drop)]
 pub(crate) struct Session {
     pub(crate) count: usize,
-    pub(crate) files: Vec<Option<Files>>,
     pub(crate) edition: Edition,
     pub(crate) sources: Sources,
     pub(crate) texts: Texts,
@@ -41,18 +39,16 @@ impl Model for Session {
     ghost use Rattle.hir_input.specs.Edition.{edition_view};
     ghost use Rattle.std.specs.Coded.{codes};
     ghost use Rattle.item_tree_db.specs.Codes.{state_code};
-    ghost use Rattle.source_session.specs.Files.{files_code};
     ghost use Rattle.source_session.specs.Inner.{AreTogether};
     ghost use Rattle.source_session.specs.Sessions as spec;
     ghost use Rattle.source_session.specs.Touched.{touched_keys};
 
     ghost Value = { spec.Session };
 
-    ghost coded = { Prim.hlevel (codes, state_code, files_code) };
+    ghost coded = { Prim.hlevel (codes, state_code) };
 
     ghost view = { λ x. record {
       count = x.count;
-      files = x.files.items;
       edition = edition_view x.edition;
       table = x.sources;
       texts = x.texts.entries;
@@ -146,7 +142,6 @@ impl Session {
     {
         Session {
             count: settings.crates.len(),
-            files: settings.files,
             edition: settings.edition,
             sources: Sources::new(alloc, settings.crates, settings.skipped, settings.start),
             texts: BTreeMap::new(alloc),

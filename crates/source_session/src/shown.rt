@@ -1,10 +1,9 @@
 //! The values of shows.
 ghost use Rattle.std.specs.Prelude.{◌≡◌, None, All, IfOk, is_some, map, option_copied};
 ghost use Rattle.std.specs.List.{AllZip};
-ghost use Rattle.serde_json.specs.Data.{string};
 ghost use Rattle.serde_json.specs.View.{view};
 ghost use Rattle.item_tree_db.specs.State.{IsKnown, present};
-ghost use Rattle.item_tree_request.specs.Outputs.{Knows, printed};
+ghost use Rattle.item_tree_request.specs.Outputs.{Knows};
 ghost use Rattle.source_listing.specs.Views.{choice_view, reading_view};
 ghost use Rattle.source_session.specs.Found.{IsFound};
 ghost use Rattle.source_session.specs.SourceTexts.{member_options, text_reading};
@@ -14,17 +13,16 @@ ghost use Rattle.source_session.specs.Shown.{AreChangeValues, IsPresentValue, Is
 ghost use Rattle.source_session.specs.Shown.{imports_form, item_objects, outline_form, place_shown};
 ghost use Rattle.source_session.specs.Shown.{problems_form, tree_form, unset_form};
 
-use crate::files::Files;
 use crate::found::found_values;
 use crate::session::Session;
 use crate::show::LineShow;
 use crate::sought::SoughtItem;
-use crate::table_changes::{changes_text, changes_value, tree_value};
+use crate::table_changes::{changes_value, tree_value};
 use crate::texts::{SourceText, text_at, text_of};
 use crate::touched::refresh;
 use hir_input::{CfgOptions, Crate, Edition, EditionYear, HirFileId};
 use item_tree_db::{Place, Sources};
-use item_tree_request::request::show::{Show, TreeShow};
+use item_tree_request::request::show::Show;
 use item_tree_request::show::Pages;
 use item_tree_request::show_writer::ShowWriter;
 use line_index::Units;
@@ -32,38 +30,20 @@ use serde_json::{Value, json};
 use source_listing::{Choice, Reading, Source, import_items, outline_items, problem_items};
 use std::alloc::{AllocError, Global};
 
-// ---- shows of a request, by their texts
-
-fn tree_text(
-    alloc: Global,
-    sources: &Sources,
-    edition: &Edition,
-    show: TreeShow,
-) -> Result<Value, AllocError>
-    requires { IsKnown sources.now show.krate }
-    ensures { IfOk result (λ value. view value
-        ≡ string (printed edition.now.reserved.items sources.now show)) }
-{
-    let mut text = String::new(alloc);
-    Pages.push_show(alloc, sources, edition, Show::OfTree(show), &mut text)?;
-    Ok(Value::String(text))
-}
-
+// The text of a show of a request.
 fn table_value(
     alloc: Global,
-    files: &[Option<Files>],
     sources: &Sources,
     edition: &Edition,
     show: Show,
 ) -> Result<Value, AllocError>
     requires { Knows sources.now show }
-    ensures { IfOk result (λ value. IsTextOf files.now edition.now.reserved.items sources.now show
-        (view value)) }
+    ensures { IfOk result
+        (λ value. IsTextOf edition.now.reserved.items sources.now show (view value)) }
 {
-    match show {
-        Show::OfTree(show) => tree_text(alloc, sources, edition, show),
-        Show::Changed { since } => changes_text(alloc, files, sources, since),
-    }
+    let mut text = String::new(alloc);
+    Pages.push_show(alloc, sources, edition, show, &mut text)?;
+    Ok(Value::String(text))
 }
 
 // ---- places at which nothing is set
@@ -276,10 +256,9 @@ impl Session {
     }
 
     fn changes(&self, alloc: Global, since: u64) -> Result<Value, AllocError>
-        ensures { IfOk result (λ value. AreChangeValues self.now.files self.now.table since
-            (view value)) }
+        ensures { IfOk result (λ value. AreChangeValues self.now.table since (view value)) }
     {
-        changes_value(alloc, &self.files, &self.sources, since)
+        changes_value(alloc, &self.sources, since)
     }
 
     fn problems(&self, alloc: Global, file: HirFileId, units: Units) -> Result<Value, AllocError>
@@ -294,20 +273,12 @@ impl Session {
 
     fn find(&mut self, alloc: Global, sought: &SoughtItem) -> Result<Value, AllocError>
         ensures found { IfOk result
-            (λ value. IsFound self.old.files self.old.table self.old.texts sought.now
-            (view value)) }
+            (λ value. IsFound self.old.table self.old.texts sought.now (view value)) }
         ensures same { self.new ≡ self.old }
     {
         refresh(alloc, &mut self.index, &self.sources, &mut self.touched)?;
         let entries = self.index.lookup(sought.name());
-        let values = found_values(
-            alloc,
-            &self.files,
-            &self.sources,
-            &self.texts,
-            sought,
-            entries,
-        )?;
+        let values = found_values(alloc, &self.sources, &self.texts, sought, entries)?;
         Ok(Value::Array(values))
     }
 
@@ -318,9 +289,7 @@ impl Session {
         ensures same { self.new ≡ self.old }
     {
         match show {
-            LineShow::Table(show) => {
-                table_value(alloc, &self.files, &self.sources, &self.edition, *show)
-            }
+            LineShow::Table(show) => table_value(alloc, &self.sources, &self.edition, *show),
             LineShow::Outline {
                 krate,
                 file,

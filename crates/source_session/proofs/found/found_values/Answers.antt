@@ -13,7 +13,7 @@ push_found-requires-clause-declared c =
 pub loop-entry-preserved : goal.loop-entry-preserved
 loop-entry-preserved c =
     let known = IsDeclared c.args.sources.now in
-    let found = found_one c.args.files.now c.args.sources.now c.args.texts.now.entries c.args.sought.now in
+    let found = found_one c.args.sources.now c.args.texts.now.entries c.args.sought.now in
     let x = c.in-Some.entry.now in
     let left = c.next.new.self in
     let old = map view c.loop-entry.values.items in

@@ -6,33 +6,33 @@ use Rattle.source_session.proofs.Named.{edits_known}
 use Rattle.source_session.proofs.session.edit_files.Goals as goal
 
 pub returns-in_err-meanings-clause-edited : goal.returns-in_err-meanings-clause-edited
-returns-in_err-meanings-clause-edited c = λ files reserved.
+returns-in_err-meanings-clause-edited c = λ reserved.
     let edition : EditionView = (c.args.edition, reserved) in
-    let s = session_of c.args.count files edition c.args.sources.now c.args.texts.now.entries in
+    let s = session_of c.args.count edition c.args.sources.now c.args.texts.now.entries in
     let asked = map line_edit_view c.args.edits.items in
     let e = c.in_err-meanings.field-0.0 in
     let is : c.from_residual.result ≡ Err e = search rules in
     subst (λ r. MatchResult r (λ _. IsEdited s asked s) (IsUnedited s asked s)) (sym is) (unmeant s asked e c.in_err-meanings.ensures.fails)
 
 pub returns-in_err-make_room-clause-edited : goal.returns-in_err-make_room-clause-edited
-returns-in_err-make_room-clause-edited c = λ files reserved.
+returns-in_err-make_room-clause-edited c = λ reserved.
     let edition : EditionView = (c.args.edition, reserved) in
-    let s = session_of c.args.count files edition c.args.sources.now c.args.texts.now.entries in
-    let u = session_of c.args.count files edition c.args.sources.now c.make_room.new.texts.entries in
+    let s = session_of c.args.count edition c.args.sources.now c.args.texts.now.entries in
+    let u = session_of c.args.count edition c.args.sources.now c.make_room.new.texts.entries in
     let asked = map line_edit_view c.args.edits.items in
     let is : c.from_residual-in_err-make_room.result ≡ Err OutOfMemory = search rules in
-    subst (λ r. MatchResult r (λ _. IsEdited s asked u) (IsUnedited s asked u)) (sym is) (stopped_none s asked u refl refl refl refl c.make_room.ensures.texts)
+    subst (λ r. MatchResult r (λ _. IsEdited s asked u) (IsUnedited s asked u)) (sym is) (stopped_none s asked u refl refl refl c.make_room.ensures.texts)
 
 pub edit_all-made-requires : goal.edit_all-made-requires
 edit_all-made-requires c = edits_known c.args.count c.args.sources.now c.requires.known c.in_ok-meanings.meanings.edits.items c.in_ok-meanings.ensures.known
 
 pub returns-clause-edited : goal.returns-clause-edited
-returns-clause-edited c = λ files reserved.
+returns-clause-edited c = λ reserved.
     let edition : EditionView = (c.args.edition, reserved) in
     let old = c.args.texts.now.entries in
     let new = c.put_first.new.texts.entries in
-    let s = session_of c.args.count files edition c.args.sources.now old in
-    let u = session_of c.args.count files edition c.edit_all-made.new.self new in
+    let s = session_of c.args.count edition c.args.sources.now old in
+    let u = session_of c.args.count edition c.edit_all-made.new.self new in
     let edits = c.in_ok-meanings.meanings.edits.items in
     let changes = c.in_ok-meanings.meanings.changes.items in
     let asked = map line_edit_view c.args.edits.items in
@@ -41,7 +41,7 @@ returns-clause-edited c = λ files reserved.
     let most : c.len-most.result ≡ length edits = search rules in
     let n : c.made_count.result ≡ made_count (length edits) made = c.made_count.ensures ∙ ap (λ k. made_count k made) most in
     let small : IfOk made (λ number. number ≤ last_number) = search rules in
-    let first = files_made c.args.sources.now c.edit_all-made.new.self old c.make_room.new.texts.entries new edits changes made c.made_count.result e.ok e.refused n c.make_room.ensures.texts c.put_first.ensures c.args.count files edition in
+    let first = files_made c.args.sources.now c.edit_all-made.new.self old c.make_room.new.texts.entries new edits changes made c.made_count.result e.ok e.refused n c.make_room.ensures.texts c.put_first.ensures c.args.count edition in
     let told = outcome_by s u asked edits changes c.in_ok-meanings.ensures.meant made first e.number small e.fits e.place e.fits_before e.cause e.full e.in_range in
     subst (λ r. MatchResult r (λ _. IsEdited s asked u) (IsUnedited s asked u)) (sym c.outcome.ensures) told
 

@@ -5,18 +5,18 @@ use Rattle.source_session.proofs.Made.{stopped_none}
 use Rattle.source_session.proofs.session.edit_texts.Goals as goal
 
 pub returns-in_err-edit_inside_body-clause-edited : goal.returns-in_err-edit_inside_body-clause-edited
-returns-in_err-edit_inside_body-clause-edited c = λ files reserved.
+returns-in_err-edit_inside_body-clause-edited c = λ reserved.
     let s = c.args.sources.now in
     let u = c.edit_inside_body.new.sources in
     let old = c.args.texts.now.entries in
     let new = c.edit_inside_body.new.texts.entries in
     let asked = map line_edit_view c.args.edits.items in
-    let over = session_of c.args.count files (c.args.edition, reserved) in
+    let over = session_of c.args.count (c.args.edition, reserved) in
     let makes = subst (λ es. MakesAlone s old (map line_edit_view es) u new c.edit_inside_body.result) c.deref.ensures.value c.edit_inside_body.ensures in
     let none = none_if c.args.edition s u old new asked c.edit_inside_body.result c.requires.read c.requires.placed makes c.in_err-edit_inside_body.field-0.0 c.in_err-edit_inside_body.was in
     let is : c.from_residual.result ≡ Err OutOfMemory = search rules in
     subst (λ r. MatchResult r (λ _. IsEdited (over s old) asked (over u new)) (IsUnedited (over s old) asked (over u new))) (sym is)
-    (stopped_none (over s old) asked (over u new) refl refl refl none.0 (λ file. ap (λ t. text_in t file) none.1))
+    (stopped_none (over s old) asked (over u new) refl refl none.0 (λ file. ap (λ t. text_in t file) none.1))
 
 pub returns-in_err-edit_inside_body-clause-together : goal.returns-in_err-edit_inside_body-clause-together
 returns-in_err-edit_inside_body-clause-together c = λ index t.
@@ -28,7 +28,7 @@ returns-in_err-edit_inside_body-clause-together c = λ index t.
     subst (λ v. AreTogether c.args.count c.args.edition v new index (touched_keys c.args.touched.now)) (sym none.0) (subst (λ texts. AreTogether c.args.count c.args.edition s texts index (touched_keys c.args.touched.now)) (sym none.1) t)
 
 pub returns-then-branch-clause-edited : goal.returns-then-branch-clause-edited
-returns-then-branch-clause-edited c = λ files reserved.
+returns-then-branch-clause-edited c = λ reserved.
     let s = c.args.sources.now in
     let u = c.edit_inside_body.new.sources in
     let old = c.args.texts.now.entries in
@@ -36,7 +36,7 @@ returns-then-branch-clause-edited c = λ files reserved.
     let asked = map line_edit_view c.args.edits.items in
     let makes = subst (λ es. MakesAlone s old (map line_edit_view es) u new c.edit_inside_body.result) c.deref.ensures.value c.edit_inside_body.ensures in
     let made = made_by c.args.edition s u old new asked c.edit_inside_body.result c.requires.read c.requires.placed makes c.in_ok-edit_inside_body.field-0 c.in_ok-edit_inside_body.was c.if-branch.true in
-    edited_alone c.args.edition s u old new asked made c.args.count files reserved
+    edited_alone c.args.edition s u old new asked made c.args.count reserved
 
 pub returns-then-branch-clause-together : goal.returns-then-branch-clause-together
 returns-then-branch-clause-together c =

@@ -1,8 +1,12 @@
--- the objects so far are those of the trees so far
-use Rattle.std.proofs.Common.{◌≡◌, map, take, flat_map}
+-- the objects so far and those of the trees that are left are those of all, and these are of known crates
+use Rattle.std.proofs.Common.{◌≡◌, ◌++◌, All, map, flat_map}
 use Rattle.serde_json.specs.View.{view}
+use Rattle.item_tree_db.specs.State.{IsKnown}
 use Rattle.source_session.specs.Searches.{change_matches}
 use Rattle.source_session.proofs.session.Session.matches.Given as goal
 
 abbrev pub invariant-loop-place : goal.invariant-loop-place
-invariant-loop-place l = map view l.values.items ≡ flat_map (change_matches l.fn.self l.fn.searched) (take l.place-index l.changes)
+invariant-loop-place l = record {
+  known : All (λ c. IsKnown l.fn.self.table c.1) l.place-iterator;
+  values : map view l.values.items ++ flat_map (change_matches l.fn.self l.fn.searched) l.place-iterator ≡ flat_map (change_matches l.fn.self l.fn.searched) l.fn.changes;
+}

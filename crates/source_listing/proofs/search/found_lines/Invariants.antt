@@ -1,9 +1,0 @@
-use Rattle.source_listing.proofs.Common.{◌≡◌, map, take, string_bytes, row_view, reading_view, IsPrinterOf, query_view, source_view}
-use Rattle.source_listing.specs.Search as spec
-use Rattle.source_listing.proofs.search.found_lines.Given as goal
-
-abbrev pub invariant-loop-row : goal.invariant-loop-row
-invariant-loop-row l = let s = source_view l.fn.source in let x = reading_view l.fn.reading in record {
-  text : string_bytes l.out ≡ spec.found_lines s x l.fn.edition.reserved.items l.fn.places (query_view l.fn.query) (map row_view (take l.row-index l.row-items));
-  is : IsPrinterOf s l.fn.places l.fn.edition l.printer;
-}
