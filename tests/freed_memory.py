@@ -21,7 +21,7 @@ FILES, ROUNDS, OPTIONS = 1000, 10_000, 10_000
 # The types whose drop is written by hand, each with a run that makes many of it, or one that holds many values.
 MADE = {
     'Asked': 'options', 'Filter': 'options', 'AttrsOwned': 'outline', 'BlockExpr': 'serve', 'CfgOptions': 'serve',
-    'Conversation': 'serve', 'CrateFile': 'modules', 'DeclIndex': 'serve', 'FileFinder': 'modules', 'ItemTree': 'page', 'Member': 'outline', 'ModPath': 'imports', 'Name': 'outline', 'Row': 'outline',
+    'Conversation': 'serve', 'CrateFile': 'modules', 'DeclaredItems': 'imports --resolve', 'DeclIndex': 'serve', 'FileFinder': 'modules', 'ItemTree': 'page', 'Member': 'outline', 'ModPath': 'imports', 'Name': 'outline', 'Row': 'outline',
     'Pattern': 'find', 'Server': 'lsp', 'SoughtPath': 'serve', 'Sources': 'serve', 'Syntax': 'outline',
 }
 TEXT = '''//! Told.
@@ -141,7 +141,7 @@ def main():
         for words in ('outline', 'outline --json --active', 'page', 'imports', 'imports --duplicates', 'find m::S', 'tags -o -', 'request --show page', 'check'):
             counted.check([*words.split(), 'old'])
         fill_crate(folder, 'whole', FILES, TEXT)
-        for words in ('modules', 'modules --json', 'modules --orphans', 'outline --crate', 'imports --crate', 'check --crate'):
+        for words in ('modules', 'modules --json', 'modules --orphans', 'outline --crate', 'imports --crate', 'imports --resolve --crate', 'check --crate'):
             counted.check([*words.split(), 'whole/lib.rs'])
         for words in ('changed', 'changed --tree'):
             counted.check([*words.split(), 'old', 'new'])

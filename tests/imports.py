@@ -28,19 +28,20 @@ class Case:
     """A crate: what it shows, its files, the verdicts of its imports; what else rustc refuses (codes, or words of messages);
     the options of the program and the cfgs of rustc; and other crates by their names, of which some are proc macros. One that
     is not held is not shown to rustc, which says nothing of the imports of a module whose macro calls fail.
-    Of one that is premised the program may tell what rustc takes: there another's macro has the name of one of the language's."""
+    Of one that is premised the program may tell what rustc takes: there another's macro has the name of one of the language's.
+    If it has `leads`, these are what its imports lead to: the words and paths of modules and items, with commas between them."""
 
-    def __init__(self, what, files, verdicts, edition, refused, options, cfgs, others, roots, is_held, is_premised):
-        self.what, self.verdicts, self.edition, self.refused = what, verdicts, edition, refused
+    def __init__(self, what, files, verdicts, edition, refused, options, cfgs, others, roots, is_held, is_premised, leads):
+        self.what, self.verdicts, self.edition, self.refused, self.leads = what, verdicts, edition, refused, leads
         self.files = {"lib.rs": files} if isinstance(files, str) else files
         self.options, self.cfgs, self.others, self.is_held, self.is_premised = options, cfgs, others, is_held, is_premised
         self.is_package = "Cargo.toml" in self.files
         self.roots = roots or (["src/lib.rs"] if self.is_package else [next(iter(self.files))])
 
 
-def crate(what, files, *verdicts, edition="2021", refused=(), options=(), cfgs=(), others=None, roots=(), is_held=True, is_premised=False):
+def crate(what, files, *verdicts, edition="2021", refused=(), options=(), cfgs=(), others=None, roots=(), is_held=True, is_premised=False, leads=None):
     refused = [refused] if isinstance(refused, str) else refused
-    CASES.append(Case(what, files, list(verdicts), edition, list(refused), list(options), list(cfgs), others or {}, list(roots), is_held, is_premised))
+    CASES.append(Case(what, files, list(verdicts), edition, list(refused), list(options), list(cfgs), others or {}, list(roots), is_held, is_premised, leads))
 
 
 def package(what, text, lib, *verdicts, edition="2021", more=None, **rest):
@@ -268,6 +269,8 @@ crate("private in all", "mod a { mod f {} fn f() {} } use a::f;", "private")
 crate("a private constructor",
       "mod a { pub struct S(u8); pub struct T(pub u8, pub(crate) u8); #[non_exhaustive] pub struct U(pub u8); } pub use a::{S, T, U};",
       *["resolved"] * 3)
+crate("a field that a cfg disables narrows no constructor", "mod a { pub struct S(#[cfg(any())] u8); } mod b { pub use super::a::*; struct S {} } "
+      "use b::S;", "resolved", "unknown")
 crate("a constructor hides as its struct does", "mod a { pub fn S() {} } mod b { pub use super::a::*; pub struct S(u8); } pub use b::S;", "resolved",
       "resolved")
 crate("private items of an extern block", 'mod a { extern "C" { pub fn f(); fn g(); pub static S: u8; static T: u8; } } use a::{f, g, S, T};',
@@ -534,6 +537,8 @@ package("the standard crates of a manifest", "", "use std::fmt; use core::mem; u
       *["unknown"] * 5, refused="E0432")
 package("a name of no crate", "", "use serde::Serialize; use ::serde::de; mod a { use serde::*; use serde::{self as s, de}; }", *["unresolved"] * 3,
       "unknown", "unresolved", refused="E0432")
+package("a cfg of crates of macros", "[lib]\nproc-macro = true\n", "extern crate proc_macro; #[cfg(proc_macro)] fn f() {} mod a { use crate::f; }",
+        "unknown", "unknown", is_held=False)
 package("a name alone", "", "use nothing; use ::nothing as n;", "unknown", "unknown", refused="E0432")
 package("a dependency", '[dependencies]\nmore = "1"\n', "use more::f; use more::none; use ::more::m; use more::*; use less::f as g;",
       *["unknown"] * 4, "unknown/unresolved", others=MORE, refused="E0432")
@@ -636,6 +641,32 @@ crate("a script's first line", "#!/usr/bin/env run\nuse crate::none;\n", "unreso
 crate("a root in a folder", {"src/main.rs": "mod a; use a::f; fn main() {}", "src/a.rs": "pub fn f() {} use crate::none;"}, "resolved", "unresolved")
 EVEN, ALL = " ".join(f"pub fn f{k}() {{}}" for k in range(0, 200, 2)), ", ".join(f"f{k}" for k in range(200))
 crate("many imports", f"mod a {{ {EVEN} }} use a::{{{ALL}}};", *["resolved", "unresolved"] * 100)
+
+# ---- what they lead to
+crate("items of each kind", "mod a { pub mod b {} pub struct S { f: u8 } pub enum E { V } pub trait T {} pub fn f() {} pub const C: u8 = 0; pub static X: u8 = 0; "
+      "pub type A = u8; pub union U { f: u8 } #[macro_export] macro_rules! m { () => {} } } use a::{b, S, E, T, f, C, X, A, U}; use crate::m as n;", *["resolved"] * 10,
+      leads=["mod crate::a::b", "struct crate::a::S", "enum crate::a::E", "trait crate::a::T", "fn crate::a::f", "const crate::a::C", "static crate::a::X",
+             "type crate::a::A", "union crate::a::U", "macro_rules crate::a::m"])
+crate("a name in two namespaces", "mod a { pub mod b {} pub fn b() {} pub struct S; pub struct T(pub u8); } use a::{b, S, T}; use a::b::{self as c};", *["resolved"] * 4,
+      leads=["fn crate::a::b, mod crate::a::b", "struct crate::a::S", "struct crate::a::T", "mod crate::a::b"])
+crate("through other imports", "mod a { pub use self::b::f as g; pub mod b { pub fn f() {} } } mod c { pub use super::a::*; } use a::g; use c::g as h; use c::b::f;",
+      *["resolved"] * 5, leads=["fn crate::a::b::f", "mod crate::a", "fn crate::a::b::f", "fn crate::a::b::f", "fn crate::a::b::f"])
+crate("globs", "mod a { pub mod b {} } use a::*; use self::b::*; mod c { use super::*; use crate::*; }", *["resolved"] * 4,
+      leads=["mod crate::a", "mod crate::a::b", "mod crate", "mod crate"])
+crate("modules around", "use crate as r; mod a { use super as p; use self as s; mod b { use super::super as q; use q::a as t; } }", *["resolved"] * 5,
+      leads=["mod crate", "mod crate", "mod crate::a", "mod crate", "mod crate::a"])
+crate("what is seen beside what is not", f"{MAKE} mod a {{ pub fn f() {{}} make! {{ pub mod f {{}} }} }} use a::f; use a::g;", "resolved", "unknown", refused="E0432",
+      leads=["fn crate::a::f", ""])
+crate("what is not seen", "mod a { pub enum E { V } } use a::E::V; use a::E::*; use std::fmt;", "unknown", "resolved", "unknown", leads=["", "enum crate::a::E", ""])
+crate("what leads nowhere", "mod a { fn f() {} } use a::f; use a::g; use a;", "private", "unresolved", "resolved", refused="E0255", leads=["", "", "mod crate::a"])
+crate("too wide and without a name", "mod a { pub(crate) fn f() {} use super; } pub use a::f;", "nameless", "too_wide", leads=["mod crate", "fn crate::a::f"])
+crate("items of an extern block", 'mod a { unsafe extern "C" { pub fn f(); pub static X: u8; } } use a::{f, X};', "resolved", "resolved",
+      leads=["fn crate::a::f", "static crate::a::X"])
+crate("the one that no cfg disables", "mod a { #[cfg(any())] pub fn f() {} #[cfg(all())] pub fn f() {} } use a::f;", "resolved", leads=["fn crate::a::f"])
+crate("raw names", {"lib.rs": "mod r#type; use r#type::{r#fn, r#mod};", "type.rs": "pub fn r#fn() {} pub mod r#mod {}"}, "resolved", "resolved",
+      leads=["fn crate::r#type::r#fn", "mod crate::r#type::r#mod"])
+crate("an item of two modules", {"lib.rs": '#[path = "x.rs"] mod a; #[path = "x.rs"] mod b; use a::f; use b::{f as g, m};', "x.rs": "pub fn f() {} pub mod m {}"},
+      *["resolved"] * 3, leads=["fn crate::a::f", "fn crate::b::f", "mod crate::b::m"])
 
 # ---- the imports of a text
 SPACE = re.compile(r"\s+|//[^\n]*|/\*.*?\*/", re.S)
@@ -742,37 +773,99 @@ def imports_of(case):
 
 # ---- the program
 # What is said of an import that is told.
-WORDS = {"this import leads to nothing": {"unresolved", "private", "follows"}, "what this import names is seen by fewer than the import": {"too_wide"},
-         "this import has no name": {"nameless"}}
+WORDS = {"this import leads to nothing": {"unresolved", "follows"}, "this import names what it does not see": {"private"},
+         "what this import names is seen by fewer than the import": {"too_wide"}, "this import has no name": {"nameless"}}
+# And what is said of each import where all are listed.
+VERDICTS = {"resolved": {"resolved"}, "unknown": {"unknown"}, "unresolved": {"unresolved", "follows"}, "private": {"private"}, "too wide": {"too_wide"},
+            "nameless": {"nameless"}}
 OF_MODULES = re.compile(r" has (no file|two files): | is a file that it stands in: ")
+
+
+def ran(case, folder, *words):
+    """What the program writes of the crate."""
+    edition = [] if case.is_package else ["--edition", case.edition]
+    words = [PROGRAM, *words, *edition, *case.options, "--crate", "." if case.is_package else case.roots[0]]
+    done = subprocess.run(words, cwd=folder, capture_output=True, text=True, timeout=120)
+    return done.stdout.splitlines(), done.stderr.splitlines()
+
+
+def place_in(file, line, column):
+    return os.path.normpath(file), int(line), int(column)
 
 
 def rows_of(case, folder):
     """The lines of the imports that the program tells, by their places, and the others."""
-    root = "." if case.is_package else case.roots[0]
-    words = [PROGRAM, "check", *([] if case.is_package else ["--edition", case.edition]), *case.options, "--crate", root]
-    ran = subprocess.run(words, cwd=folder, capture_output=True, text=True, timeout=120)
+    lines, errors = ran(case, folder, "check")
     rows, others = {}, []
-    for line in ran.stdout.splitlines():
-        file, row, column, said = line.split(":", 3)
+    for line in lines:
+        *where, said = line.split(":", 3)
         if said[1:] in WORDS:
-            rows.setdefault((os.path.normpath(file), int(row), int(column)), []).append(WORDS[said[1:]])
+            rows.setdefault(place_in(*where), []).append(WORDS[said[1:]])
         elif not OF_MODULES.search(said):
             others.append(line)
-    return rows, others + ran.stderr.splitlines()
+    return rows, others + errors
+
+
+def allowed(case, it):
+    """What may be said of an import, by the modules of its file."""
+    return [words | {"unresolved"} if case.is_premised and "unknown" in words else words for words in it.verdicts]
 
 
 def verdicts_of(case, imports, folder):
     """What is wrong with what the program says: an import of a file that is several modules has a line for each of them."""
     rows, others = rows_of(case, folder)
+    left = dict(rows)
     for it in imports:
-        told = rows.pop(it.place, [])
-        verdicts = [words | {"unresolved"} if case.is_premised and "unknown" in words else words for words in it.verdicts]
+        told = left.pop(it.place, [])
+        verdicts = allowed(case, it)
         most, least = sum(bool(words & TOLD) for words in verdicts), sum(words <= TOLD for words in verdicts)
         if not least <= len(told) <= most or not all(any(words & said for words in verdicts) for said in told):
             yield f"{it.place}: {told}, expected {it.verdicts}"
-    if rows or others and not case.refused:
-        yield f"more is told: {sorted(rows)} {others}"
+    if left or others and not case.refused:
+        yield f"more is told: {sorted(left)} {others}"
+    if not others:
+        yield from leads_of(case, imports, folder, rows)
+
+
+# ---- and what they lead to
+def is_written_there(target, folder):
+    """Whether a target is declared where it is said to be: the root at the top of its file, all else at its name."""
+    with open(os.path.join(folder, target["file"]), newline="", encoding="utf-8") as it:
+        line = it.read().split("\n")[target["line"] - 1]
+    if target["path"] == "crate":
+        return (target["line"], target["column"]) == (1, 1)
+    return line[target["column"] - 1:].startswith(target["path"].rsplit("::", 1)[1])
+
+
+def leads_of(case, imports, folder, told):
+    """What is wrong with the list of what the imports lead to, by what is told of some."""
+    lines, errors = ran(case, folder, "imports", "--resolve", "--json")
+    if errors == ["itemtree: imports: not resolved, because a use begins with ::{"]:
+        return
+    rows = {}
+    for row in map(json.loads, lines):
+        rows.setdefault(place_in(row["file"], row["line"], row["column"]), []).append(row)
+    for number, it in enumerate(imports):
+        found = rows.pop(it.place, [])
+        verdicts = [words for words in allowed(case, it) if words != {"absent"} and not it.is_extern]
+        if not found and all("absent" in words for words in verdicts):
+            continue
+        if len(found) != len(verdicts) or not all(words & VERDICTS[row["verdict"]] for words, row in zip(verdicts, found)):
+            yield f"{it.place}: {[row['verdict'] for row in found]}, expected {it.verdicts}"
+        if [VERDICTS[row["verdict"]] for row in found if VERDICTS[row["verdict"]] & TOLD] != told.get(it.place, []):
+            yield f"{it.place}: {found}, where check tells {told.get(it.place)}"
+        for row in found:
+            leads = sorted(f"{target['kind']} {target['path']}" for target in row["targets"])
+            may_lead = {row["verdict"] in ("resolved", "too wide"), row["verdict"] in ("resolved", "too wide", "nameless")}
+            if bool(leads) not in may_lead or not all(is_written_there(target, folder) for target in row["targets"]):
+                yield f"{it.place}: {row}"
+            if case.leads and ", ".join(leads) != case.leads[number]:
+                yield f"{it.place}: {leads}, expected {case.leads[number]}"
+    if rows or errors:
+        yield f"more is listed: {sorted(rows)} {errors}"
+    only, _ = ran(case, folder, "imports", "--unresolved", "--json")
+    if only != [line for line in lines if VERDICTS[json.loads(line)["verdict"]] & TOLD]:
+        yield f"--unresolved lists {only}"
 
 
 # ---- rustc

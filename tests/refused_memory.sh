@@ -172,7 +172,7 @@ subjects() {
     for name in outlines/*/*.out; do printf '%s\0' try_outline "$program" "${name%.out}"; done
     for name in outline page imports 'find area' 'imports --duplicates' 'outline --json' 'page --ids off' 'tags -o -' 'changed FILE' 'request --show page' check; do printf '%s\0' try_command "$itemtree" "$name"; done
     for name in outline imports 'find A::b' 'outline --json' 'tags -o -'; do printf '%s\0' try_damaged "$itemtree" "$name"; done
-    for name in modules 'modules --json' 'modules --orphans' 'check --crate' 'outline --crate' 'imports --crate' 'tags -o - --crate'; do printf '%s\0' try_crate "$itemtree" "$name"; done
+    for name in modules 'modules --json' 'modules --orphans' 'check --crate' 'outline --crate' 'imports --crate' 'imports --resolve --crate' 'tags -o - --crate'; do printf '%s\0' try_crate "$itemtree" "$name"; done
     printf '%s\0' try_session "$itemtree" session
     for binary in "${binaries[@]}"; do
         while IFS= read -r name; do

@@ -113,6 +113,7 @@ impl Run<'_> {
             Command::Find { ignores_case, .. } => self.find(source, ignores_case)?,
             Command::Tags { has_bodies, .. } => self.push_tags(source, has_bodies)?,
             Command::Check
+            | Command::Resolve { .. }
             | Command::Modules { .. }
             | Command::Changed { .. }
             | Command::Request { .. }

@@ -249,15 +249,17 @@ impl<'a> CrateSources<'a> {
         Ok(words)
     }
 
-    /// What is told of the imports of a crate with these modules: nothing if a tree does not tell where one begins.
+    /// Whether the trees tell where the path of each import begins.
+    pub(crate) fn tells_paths(&self) -> bool {
+        !self.files.iter().any(|file| has_global_list(file.text()))
+    }
+
+    /// What is told of the imports of a crate with these modules.
     pub(crate) fn resolved_imports(
         &self,
         tree: &ModuleTree,
         manifest: &Manifest,
     ) -> Result<Vec<ResolvedImport>, DefMapError> {
-        if self.files.iter().any(|file| has_global_list(file.text())) {
-            return Ok(Vec::new(self.rt.alloc()));
-        }
         let (trees, export_words) = (self.trees()?, self.export_words()?);
         let sources = def_map::CrateSources {
             modules: &tree.modules,
@@ -284,19 +286,29 @@ impl<'a> CrateSources<'a> {
         fs::metadata(self.rt, path).is_ok_and(|found| self.numbers.contains_key(&id_of(&found)))
     }
 
-    /// Adds the paths of the files that modules stand in and that were read, in the order of the modules, each once.
-    pub(crate) fn push_paths(
-        &self,
+    /// Adds the files that the modules of a crate stand in and that were read, but those that are there.
+    fn push_files<'f>(
+        &'f self,
         tree: &ModuleTree,
         seen: &mut BTreeSet<u32>,
-        paths: &mut Vec<String>,
+        files: &mut Vec<&'f CrateFile>,
     ) -> Result<(), AllocError> {
         for module in &tree.modules {
             let is_new = seen.insert(module.file)? && !self.unread.contains(&module.file);
             if let (true, Some(file)) = (is_new, self.files.get(module.file as usize)) {
-                paths.push(String::from_str(self.rt.alloc(), file.path())?)?;
+                files.push(file)?;
             }
         }
         Ok(())
+    }
+
+    /// The files that modules stand in and that were read, in the order of the modules, each once.
+    pub(crate) fn files_of(&self, trees: &[ModuleTree]) -> Result<Vec<&CrateFile>, AllocError> {
+        let alloc = self.rt.alloc();
+        let (mut files, mut seen) = (Vec::new(alloc), BTreeSet::new(alloc));
+        for tree in trees {
+            self.push_files(tree, &mut seen, &mut files)?;
+        }
+        Ok(files)
     }
 }

@@ -1,7 +1,7 @@
 //! What a command line asks, done.
 use crate::changed::{Counting, compare};
 use crate::commands::run_files;
-use crate::crate_commands::{list_modules, list_orphans};
+use crate::crate_commands::{list_modules, list_orphans, list_resolved};
 use crate::failure::Failure;
 use crate::options::{atoms_of, options_of, request_options};
 use crate::packages::{Crates, crates_of};
@@ -36,6 +36,7 @@ fn run_crates(
     match asked.command {
         Command::Modules { has_orphans: true } => list_orphans(rt, options, asked, &crates.roots),
         Command::Modules { .. } => list_modules(rt, options, asked, &crates.roots),
+        Command::Resolve { only_wrong } => list_resolved(rt, options, asked, crates, only_wrong),
         _ => run_files(rt, options, asked, Some(crates)),
     }
 }

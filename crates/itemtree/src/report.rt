@@ -70,13 +70,20 @@ impl Report<'_> {
         self.write(text)
     }
 
-    /// Tells on standard error that all is not as it should be, if there is anything to tell.
-    pub(crate) fn tell_wrong(&mut self, lines: &str) {
+    /// Tells on standard error what there is to tell, if anything.
+    pub(crate) fn tell(&mut self, lines: &str) {
         if !lines.is_empty() {
-            self.status = self.status.max(NOT_SO);
             self.progress.clear();
             let _ = eprint!(self.rt; "{lines}");
         }
+    }
+
+    /// Tells so that all is not as it should be, if there is anything to tell.
+    pub(crate) fn tell_wrong(&mut self, lines: &str) {
+        if !lines.is_empty() {
+            self.status = self.status.max(NOT_SO);
+        }
+        self.tell(lines);
     }
 
     /// Takes away what is told of the progress.

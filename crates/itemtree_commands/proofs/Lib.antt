@@ -8,3 +8,5 @@ pub mod RowTrees
 pub mod ListedRows
 pub mod Checks
 pub mod RequestTexts
+pub mod ItemsFound
+pub mod NoFloats

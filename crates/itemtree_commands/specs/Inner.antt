@@ -1,11 +1,16 @@
 -- What is read for lists of rows, and for what is wrong.
-use Rattle.std.specs.Prelude.{◌≡◌, ◌≤◌, ◌^◌, ◌⊎◌, ℕ, Bool, List, Option, false, length, map, refl, string_bytes}
+use Rattle.std.specs.Prelude.{◌≡◌, ◌≤◌, ◌^◌, ◌⊎◌, ℕ, Bool, List, Option, false, length, map, refl, string_bytes, ◌==◌, ◌&&◌, Some, None, if◌then◌else◌, option_map}
+use Rattle.std.specs.HashMap.{HashMap, get}
+use Rattle.std.specs.Option.{option_or}
+use Rattle.std.specs.declared.hash.BuildHasherDefault.{BuildHasherDefault}
+use Rattle.std.specs.declared.hash.FoldHasher.{FoldHasher}
 use Rattle.std.specs.Coded.{Coded, code_by, coded×, coded_list, coded_ℕ}
 use Rattle.item_tree.specs.Code.Node.{unfolding_code}
 use Rattle.item_tree.specs.Node.{Unfolding}
 use Rattle.rust_items.specs.contracts.source_file.ItemPlace as place
 use Rattle.rust_items.specs.declared.source_file.ItemPlace.{ItemPlace}
 use Rattle.hir_input.specs.declared.edition.EditionYear.{EditionYear}
+use Rattle.hir_input.specs.declared.ids.FileAstId.{FileAstId}
 use Rattle.item_tree.specs.declared.crate_data.CrateData.{CrateData}
 use Rattle.item_tree.specs.declared.fault.LowerError.TheVariants.{OutOfMemory}
 use Rattle.item_tree.specs.Lowered.{IsTooLargeIn}
@@ -14,6 +19,7 @@ use Rattle.rust_metas.specs.declared.wanted.WantedMetas.TheVariants.{Conditions,
 use Rattle.rust_leaves.specs.declared.wanted.Wanted.{Wanted}
 use Rattle.rust_mended.specs.declared.text.Mended.{Mended}
 use Rattle.rust_items.specs.SourceFiles.{FileView}
+use Rattle.source_rows.specs.Places.{is_id, place_of}
 use Rattle.source_rows.specs.Listed.{Closers, MemberReading}
 use Rattle.source_rows.specs.ListedViews.{text_read}
 use Rattle.source_rows.specs.ListedFiles.{IsListedClipped, IsUnlisted, closers_in}
@@ -27,8 +33,13 @@ use Rattle.itemtree_commands.specs.declared.listed.ListedTree.{ListedTree}
 use Rattle.itemtree_commands.specs.declared.listed.ListedUses.{ListedUses}
 use Rattle.itemtree_commands.specs.declared.module_paths.PathedModule.{PathedModule}
 use Rattle.source_listing.specs.ImportCfgs.{file_cfgs}
+use Rattle.source_listing.specs.Inner.{id_key}
 use Rattle.source_listing.specs.Views.{use_cfgs_view}
+use Rattle.itemtree_commands.specs.declared.declarations.Declared as code_items
 use Rattle.itemtree_commands.specs.Answers.{HasListed, cfgs_if}
+use Rattle.itemtree_commands.specs.declared.import_entries.ToldImport as code_entries
+use Rattle.itemtree_commands.specs.declared.import_targets.PlacedTarget as code_targets
+use Rattle.itemtree_commands.specs.ImportTargets.{DeclaredItem, PlacedTarget, ToldImport, written_item}
 use Rattle.itemtree_commands.specs.ModuleLists.{CrateFile, Pathed, PlacedText}
 use Rattle.itemtree_commands.specs.Trees.{IsListedTree, IsTreeIn}
 
@@ -99,3 +110,36 @@ crate_file_code =
 -- a module with its path as plain data
 abbrev pub pathed_view : PathedModule → Pathed
 pathed_view p = (p.module_data.now, string_bytes p.path)
+
+-- ---- the items of a file by their ids
+
+abbrev pub written_view : code_items.Declared → DeclaredItem
+written_view d = record { position = d.position; name = d.name.now }
+
+abbrev pub ItemKey : Type 0
+ItemKey = ℕ × ℕ × ℕ
+
+abbrev pub same_item : ItemKey → ItemKey → Bool
+same_item a b = (a.0 == b.0 && a.1 == b.1) && a.2 == b.2
+
+abbrev pub ItemsById : Type 0
+ItemsById = HashMap ItemKey code_items.Declared (BuildHasherDefault FoldHasher)
+
+abbrev pub found_by : ItemsById → FileAstId → Option DeclaredItem
+found_by items id = option_map written_view (get same_item items (id_key id))
+
+-- each id that had no item has this one, if it is that of the item
+abbrev pub PutsItem : List ℕ → ItemsById → ItemsById → ItemPlace → Type 0
+PutsItem text old new p = (id : FileAstId) → found_by new id ≡ option_or (found_by old id) (if is_id id p.id then Some (written_item text p) else None)
+
+-- the item of each id is the first of these that has it
+abbrev pub FindsItems : List ℕ → ItemsById → List ItemPlace → Type 0
+FindsItems text items places = (id : FileAstId) → found_by items id ≡ option_map (written_item text) (place_of id places)
+
+-- ---- imports where they lead
+
+abbrev pub target_view : code_targets.PlacedTarget → PlacedTarget
+target_view t = record { kind = t.kind.now; path = string_bytes t.path; file = t.file.now; position = t.position }
+
+abbrev pub told_import_view : code_entries.ToldImport → ToldImport
+told_import_view t = record { file = t.file.now; position = t.position; text = string_bytes t.text; verdict = t.verdict; is_private = t.is_private; targets = map target_view t.targets.items }

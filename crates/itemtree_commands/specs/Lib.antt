@@ -5,3 +5,4 @@ pub mod Inner
 pub mod RequestTexts
 pub mod ModuleLists
 pub mod ImportChecks
+pub mod ImportTargets

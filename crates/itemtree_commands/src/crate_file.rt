@@ -11,6 +11,7 @@ use crate::trees::SourceError;
 use hir_input::FileAstId;
 use item_tree::ItemTree;
 use line_index::Position;
+use rust_items::ItemPlace;
 use source_rows::{Finder, stands_at};
 use std::alloc::Global;
 use std::marker::Model;
@@ -87,6 +88,13 @@ impl CrateFile {
         &self.text
     }
 
+    /// The places of its items.
+    pub(crate) fn places(&self) -> &[ItemPlace]
+        ensures { result.now ≡ self.now.places }
+    {
+        &self.listed.source.places
+    }
+
     /// The item tree.
     pub fn tree(&self) -> &ItemTree
         ensures { result.now ≡ self.now.tree }
@@ -114,6 +122,9 @@ pub(crate) struct FileFinder<'a> {
     finder: Finder<'a>,
     /// Where use trees begin.
     use_trees: &'a [usize],
+    /// From the place on that was asked for last, so that items in the order of the text cost one pass in all.
+    from: usize,
+    left: &'a [usize],
 }
 
 impl Drop for FileFinder<'_> {
@@ -121,6 +132,8 @@ impl Drop for FileFinder<'_> {
         let FileFinder {
             finder: _,
             use_trees: _,
+            from: _,
+            left: _,
         } = self;
     }
 }
@@ -128,7 +141,9 @@ impl Drop for FileFinder<'_> {
 impl<'a> Model for FileFinder<'a> {
     ghost use Rattle.itemtree_commands.specs.Inner.{placed_text_code};
     ghost use Rattle.itemtree_commands.specs.ModuleLists.{PlacedText};
+    ghost use Rattle.source_listing.specs.Uses.{from_place};
     ghost use Rattle.source_rows.specs.Places.{AreDistinct};
+    ghost use Rattle.std.specs.Prelude.{◌≡◌};
 
     ghost Value = { PlacedText };
 
@@ -136,17 +151,21 @@ impl<'a> Model for FileFinder<'a> {
 
     ghost view = { λ x. record { text = x.finder.lines; places = x.finder.places; use_trees = x.use_trees.now } };
 
-    ghost invariant = { λ x. AreDistinct x.finder.places };
+    ghost invariant = { λ x. AreDistinct x.finder.places × (x.left.now ≡ from_place x.from x.use_trees.now) };
 }
 
 impl<'a> FileFinder<'a> {
     /// What finds those of a file.
+    #[tactic(auto, using(source_listing::proofs::Skips::from_none))]
     pub(crate) fn new(file: &'a CrateFile) -> FileFinder<'a>
         ensures { result ≡ placed_text file.now }
     {
+        let use_trees = file.listed.source.use_trees.as_slice();
         FileFinder {
             finder: Finder::new(&file.text, &file.listed.source.places),
-            use_trees: &file.listed.source.use_trees,
+            use_trees,
+            from: 0,
+            left: use_trees,
         }
     }
 
@@ -159,13 +178,34 @@ impl<'a> FileFinder<'a> {
         Some(self.finder.lines.position(stands_at(place)))
     }
 
+    #[tactic(auto, using(source_listing::proofs::Skips::from_twice))]
+    fn ahead(&self, start: usize) -> &'a [usize]
+        ensures { result.now ≡ spec_from_place start self.now.use_trees }
+    {
+        if start < self.from {
+            return from_place(self.use_trees, start);
+        }
+        from_place(self.left, start)
+    }
+
+    /// Where the use trees begin of the item that begins at this place, and those behind it.
+    fn starts_from(&mut self, start: usize) -> &'a [usize]
+        ensures starts { result.now ≡ spec_from_place start self.old.use_trees }
+        ensures same { self.new ≡ self.old }
+    {
+        let left = self.ahead(start);
+        self.from = start;
+        self.left = left;
+        left
+    }
+
     /// Where the use tree of this number in an item begins.
     pub(crate) fn tree_position(&mut self, id: FileAstId, index: usize) -> Option<Position>
         ensures position { result ≡ tree_position_in_text id index self.old }
         ensures same { self.new ≡ self.old }
     {
         let place = self.finder.places.find(id)?;
-        let starts = from_place(self.use_trees, place.range.start);
+        let starts = self.starts_from(place.range.start);
         let at = starts.get(index).copied().unwrap_or(stands_at(place));
         Some(self.finder.lines.position(at))
     }

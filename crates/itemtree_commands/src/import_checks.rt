@@ -10,12 +10,22 @@ use line_index::Position;
 use module_tree::{ModuleData, ModuleTree};
 use std::alloc::{AllocError, Global};
 
+fn unresolved_words(is_private: bool) -> &'static str
+    ensures { result.now ≡ spec.unresolved_words is_private }
+{
+    if is_private {
+        "this import names what it does not see"
+    } else {
+        "this import leads to nothing"
+    }
+}
+
 /// What is wrong with an import, if anything is.
-fn fault_words(verdict: Verdict) -> Option<&'static str>
-    ensures { option_map (λ words. words.now) result ≡ spec.fault_words verdict }
+fn fault_words(verdict: Verdict, is_private: bool) -> Option<&'static str>
+    ensures { option_map (λ words. words.now) result ≡ spec.fault_words verdict is_private }
 {
     match verdict {
-        Verdict::Unresolved => Some("this import leads to nothing"),
+        Verdict::Unresolved => Some(unresolved_words(is_private)),
         Verdict::TooWide => Some("what this import names is seen by fewer than the import"),
         Verdict::Nameless => Some("this import has no name"),
         Verdict::Unknown | Verdict::Resolved => None,
@@ -23,7 +33,7 @@ fn fault_words(verdict: Verdict) -> Option<&'static str>
 }
 
 /// Where an import of a file stands.
-fn import_position(
+pub(crate) fn import_position(
     finders: &mut [FileFinder<'_>],
     file: u32,
     import: &ResolvedImport,
@@ -33,7 +43,7 @@ fn import_position(
 {
     let place = file as usize;
     if place < finders.len() {
-        finders[place].tree_position(import.item, import.index as usize)
+        finders[place].tree_position(import.item, import.import.index.0 as usize)
     } else {
         None
     }
@@ -52,7 +62,7 @@ fn push_import(
         OnOk result (string_bytes out.new ≡ string_bytes out.old ++ line) }
     ensures same { finders.new ≡ finders.old }
 {
-    let Some(words) = fault_words(import.verdict) else {
+    let Some(words) = fault_words(import.verdict, import.is_private) else {
         return Ok(());
     };
     let file = file_of(modules, import.module);

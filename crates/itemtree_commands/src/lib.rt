@@ -2,8 +2,11 @@
 #![tactic(auto)]
 
 mod crate_file;
+mod declarations;
 mod import_checks;
+mod import_entries;
 mod import_lists;
+mod import_targets;
 mod laws;
 mod listed;
 mod looks;
@@ -18,8 +21,10 @@ ghost use Rattle.itemtree_commands.specs.{Trees.HasOwnIds, Trees.IsTextUnread, T
 ghost use Rattle.source_listing.specs.Views.{choice_view, query_view, source_view};
 
 pub use crate_file::CrateFile;
+pub use declarations::{DeclaredItems, declared_items};
 use hir_input::{Edition, Name};
 pub use import_checks::wrong_imports;
+pub use import_entries::{ImportLook, resolved_imports};
 pub use import_lists::{duplicates, imports, repeated_imports};
 use item_tree::CrateData;
 use list_forms::Form;

@@ -63,7 +63,7 @@ pub(crate) fn file_of(modules: &[ModuleData], id: ModuleId) -> u32
 }
 
 /// The item by which a module is declared, unless it is the root.
-fn declaration(origin: ModuleOrigin) -> Option<FileAstId>
+pub(crate) fn declaration(origin: ModuleOrigin) -> Option<FileAstId>
     ensures { result ≡ spec.declaration origin }
 {
     match origin {
@@ -73,10 +73,10 @@ fn declaration(origin: ModuleOrigin) -> Option<FileAstId>
     }
 }
 
-const TOP: Position = Position { line: 1, column: 1 };
+pub(crate) const TOP: Position = Position { line: 1, column: 1 };
 
 /// The number of the file in which a module is declared; the root stands in its own.
-fn declaring_file(modules: &[ModuleData], module_data: &ModuleData) -> u32
+pub(crate) fn declaring_file(modules: &[ModuleData], module_data: &ModuleData) -> u32
     ensures { result ≡ spec.declaring_file modules.now module_data.now.parent module_data.now.file }
 {
     match module_data.parent {
@@ -97,7 +97,11 @@ fn declared_at(finders: &mut [FileFinder<'_>], file: u32, origin: ModuleOrigin) 
 }
 
 /// File, line and column.
-fn push_position(path: &str, position: Option<Position>, out: &mut String) -> Result<(), AllocError>
+pub(crate) fn push_position(
+    path: &str,
+    position: Option<Position>,
+    out: &mut String,
+) -> Result<(), AllocError>
     ensures { OnOk result (string_bytes out.new ≡ string_bytes out.old ++ spec.module_place_text path.now position) }
 {
     match position {
@@ -254,7 +258,7 @@ fn push_others(paths: &[String], out: &mut String) -> Result<(), AllocError>
 }
 
 /// Adds paths, with commas between them.
-fn push_candidates(paths: &[String], out: &mut String) -> Result<(), AllocError>
+pub(crate) fn push_candidates(paths: &[String], out: &mut String) -> Result<(), AllocError>
     ensures { OnOk result (string_bytes out.new ≡ string_bytes out.old
         ++ spec.candidates_text (map string_bytes paths.now)) }
 {

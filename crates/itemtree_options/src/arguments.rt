@@ -185,6 +185,12 @@ pub(crate) const IDS: Argument = argument!(ONE id: "ids", value: "WHEN",
 pub(crate) const DUPLICATES: Argument = argument!(FLAG id: "duplicates";
     "Only imports that repeat an earlier one of their module, each with its place");
 
+pub(crate) const RESOLVE: Argument = argument!(FLAG id: "resolve", needs: &[CRATE],
+    bars: &["files", LIST, "duplicates"]; "Tell what each import of the crate resolves to");
+
+pub(crate) const UNRESOLVED: Argument = argument!(FLAG id: "unresolved", needs: &[CRATE],
+    bars: &["files", LIST, "duplicates"]; "As --resolve, but only the imports that check --crate tells");
+
 pub(crate) const IGNORE_CASE: Argument = argument!(FLAG id: "ignore-case", form: Form::Short('i');
     "Take letters of two cases as one");
 

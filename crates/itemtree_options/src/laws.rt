@@ -2,7 +2,7 @@
 
 ghost use Rattle.std.specs.Prelude.{◌≡◌};
 
-use crate::reading::Command;
+use crate::commands::Command;
 
 fn commands()
     ensures copied { (source copy : Command) → ⟦<Command<'static> as Clone>⟧.is_clone source copy

@@ -3,11 +3,13 @@
 
 mod arguments;
 mod building;
+mod commands;
 mod folders;
 mod laws;
 mod reading;
 mod statuses;
 mod table;
 
+pub use commands::{Command, OutlineAsked};
 pub use folders::Filter;
-pub use reading::{Asked, Command, CommandLine, CrateAsked, OutlineAsked, read_command_line};
+pub use reading::{Asked, CommandLine, CrateAsked, read_command_line};

@@ -5,7 +5,7 @@ use crate::arguments::{
     FILES_OR_CRATE, FLAT, FOLLOW, HIDDEN, HOST_CFG, HOST_CFG_OF_CRATE, HOST_CFG_OF_TREE, IDS,
     IGNORE_CASE, JSON, JSON_CHANGES, JSON_FOUND, JSON_IMPORTS, JSON_MODULES, KIND, KRATE, NAME,
     NEW, NO_BODIES, NO_DEFAULT_FEATURES, NO_MEMBERS, OLD, OPENED, ORPHANS, OUTPUT, PUBLIC, QUIET,
-    RELATIVE, ROOT, SHOW, SKIP, SKIP_OF_TREE, TREE,
+    RELATIVE, RESOLVE, ROOT, SHOW, SKIP, SKIP_OF_TREE, TREE, UNRESOLVED,
 };
 
 /// A command, with what stands behind its help.
@@ -75,7 +75,7 @@ static IMPORTS: Description = Description {
     about: "Lists the imports of files",
     after: "Example: itemtree imports --duplicates src
 
-Status: 0, or 1 with --duplicates if there are some, 2 at an error",
+Status: 0, or 1 with --duplicates or --unresolved if there are some, 2 at an error",
     arguments: &[
         EDITION,
         HIDDEN,
@@ -85,6 +85,8 @@ Status: 0, or 1 with --duplicates if there are some, 2 at an error",
         HOST_CFG,
         ACTIVE,
         DUPLICATES,
+        RESOLVE,
+        UNRESOLVED,
         COLOR,
         JSON_IMPORTS,
         QUIET,
