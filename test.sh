@@ -90,6 +90,7 @@ try_programs() {
     part 'the command line' tests/itemtree.py
     part 'crates' tests/crates.py "$itemtree"
     part 'imports' tests/imports.py "$itemtree"
+    part 'random crates' tests/random_crates.py "$itemtree"
     part 'the manual page' docs/man/make.py --check "$itemtree" docs/man
     part 'edits that a dependent sees' tests/changed.py "$itemtree"
     part 'recipes for git' tests/recipes.py "$itemtree"
@@ -122,7 +123,7 @@ if [ -n "$is_quick" ]; then
     mapfile -t tests < <(find "${tests[@]}" -executable 2> /dev/null)
 fi
 
-planned=$((is_quick ? 26 : 28))
+planned=$((is_quick ? 27 : 29))
 part 'the closed words' tests/closed_words.sh
 part 'words with one meaning' tests/one_meaning.py
 part 'the length of documents' tests/sentences.py
