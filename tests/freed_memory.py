@@ -22,7 +22,7 @@ FILES, ROUNDS, OPTIONS = 1000, 10_000, 10_000
 MADE = {
     'Asked': 'options', 'Filter': 'options', 'AttrsOwned': 'outline', 'BlockExpr': 'serve', 'CfgOptions': 'serve',
     'Conversation': 'serve', 'CrateFile': 'modules', 'DeclaredItems': 'imports --resolve', 'DeclIndex': 'serve', 'FileFinder': 'modules', 'ItemTree': 'page', 'Member': 'outline', 'ModPath': 'imports', 'Name': 'outline', 'Row': 'outline',
-    'Pattern': 'find', 'Server': 'lsp', 'SoughtPath': 'serve', 'Sources': 'serve', 'Syntax': 'outline',
+    'Pattern': 'find', 'Server': 'lsp', 'Session': 'serve', 'SoughtPath': 'serve', 'Sources': 'serve', 'Syntax': 'outline',
 }
 TEXT = '''//! Told.
 #![allow(a, b = "c")]

@@ -17,7 +17,8 @@ use itemtree_commands::{
 };
 use itemtree_options::{Asked, Command, OutlineAsked};
 use list_forms::Form;
-use source_listing::{Pattern, Query, Source, TagForm, sought_pattern};
+use source_listing::{Pattern, Query, Source, sought_pattern};
+use source_tags::TagForm;
 use std::alloc::{AllocError, Global};
 use std::io;
 

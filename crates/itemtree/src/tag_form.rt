@@ -1,7 +1,7 @@
 //! The form of tags, as a command line asks for it.
 use crate::failure::Failure;
 use itemtree_options::Command;
-use source_listing::{Address, TagFields, TagForm, usual_fields};
+use source_tags::{Address, TagFields, TagForm, usual_fields};
 use std::alloc::{AllocError, Global};
 
 /// What Universal Ctags calls fields in braces, with their letters.

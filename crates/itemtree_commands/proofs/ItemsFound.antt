@@ -6,7 +6,7 @@ use Rattle.std.proofs.lemmas.Bool.Decides.{nat_tests}
 use Rattle.std.proofs.lemmas.List.{take_more}
 use Rattle.hir_input.specs.declared.ids.FileAstId.{FileAstId}
 use Rattle.rust_items.specs.declared.source_file.ItemPlace.{ItemPlace}
-use Rattle.source_listing.specs.Inner.{id_key}
+use Rattle.source_imports.specs.Inner.{id_key}
 use Rattle.source_rows.specs.Places.{is_id, place_of}
 use Rattle.itemtree_commands.specs.declared.declarations.Declared as code_items
 use Rattle.itemtree_commands.specs.ImportTargets.{written_item}

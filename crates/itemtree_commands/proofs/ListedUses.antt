@@ -9,7 +9,8 @@ use Rattle.rust_metas.specs.Docs.{is_doc_meta}
 use Rattle.rust_metas.specs.declared.wanted.WantedMetas.TheVariants as wanted
 use Rattle.rust_leaves.specs.Clipped.{clipped_item, clipped_list}
 use Rattle.rust_items.specs.SourceFiles.{FileView, clipped_syntax}
-use Rattle.source_listing.specs.ImportCfgs.{file_cfgs, item_cfgs, items_cfgs, meta_cfgs, use_under}
+use Rattle.source_imports.specs.ImportCfgs.{file_cfgs, item_cfgs, items_cfgs, use_under}
+use Rattle.source_listing.specs.MetaCfgs.{meta_cfgs}
 use Rattle.itemtree_commands.specs.declared.Options.{Options}
 use Rattle.itemtree_commands.specs.declared.listed.ListedUses.{ListedUses}
 use Rattle.itemtree_commands.specs.Inner.{HasUses, IsClippedUses}

@@ -6,17 +6,17 @@ use Rattle.item_tree.specs.Page.{page}
 use Rattle.tree_walk.specs.Rows.{rows}
 use Rattle.source_rows.specs.Listed.{Closers, MemberReading}
 use Rattle.source_listing.specs.FlatObjects.{flat_lines}
-use Rattle.source_listing.specs.ImportCfgs.{ImportChoice, UseCfgs, file_cfgs}
-use Rattle.source_listing.specs.ImportLines.{import_lines}
+use Rattle.source_imports.specs.ImportCfgs.{ImportChoice, UseCfgs, file_cfgs}
+use Rattle.source_imports.specs.ImportLines.{import_lines}
 use Rattle.source_listing.specs.Lines.{Choice, Source, problem_lines}
 use Rattle.source_listing.specs.Outlines.{Look, outline_text}
 use Rattle.source_listing.specs.Objects.{json_line}
 use Rattle.source_listing.specs.Pages.{lines_without_ids}
-use Rattle.source_listing.specs.Repeated.{Repeat, repeat_lines, repeated_imports}
+use Rattle.source_imports.specs.Repeated.{Repeat, repeat_lines, repeated_imports}
 use Rattle.source_listing.specs.Uses.{FilePlaces, placed}
 use Rattle.source_listing.specs.Search.{Query, found_lines}
-use Rattle.source_listing.specs.Tags.{TagChoice, tags}
-use Rattle.source_listing.specs.declared.tags.TagForm.{TagForm}
+use Rattle.source_tags.specs.Tags.{TagChoice, tags}
+use Rattle.source_tags.specs.declared.tags.TagForm.{TagForm}
 use Rattle.source_problems.specs.declared.problem.SourceProblem.{SourceProblem}
 use Rattle.source_problems.specs.Texts.{source_problems}
 use Rattle.list_forms.specs.declared.lines.Form.{Form}

@@ -21,7 +21,7 @@ use Rattle.module_tree.specs.declared.data.ModuleId.{ModuleId}
 use Rattle.rust_items.specs.declared.source_file.ItemPlace.{ItemPlace}
 use Rattle.serde_json.specs.Data.{Data, array, string, object, no_members, member}
 use Rattle.serde_json.specs.View.{items_of}
-use Rattle.source_listing.specs.Imports.{import_text}
+use Rattle.source_listing.specs.ImportTexts.{import_text}
 use Rattle.source_rows.specs.Labels.{item_word, text_at_some}
 use Rattle.source_rows.specs.Places.{place_of, stands_at}
 use Rattle.tree_walk.specs.Listed.{listed_import}

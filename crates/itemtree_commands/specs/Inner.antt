@@ -32,9 +32,9 @@ use Rattle.itemtree_commands.specs.declared.trees.SourceTree.{SourceTree}
 use Rattle.itemtree_commands.specs.declared.listed.ListedTree.{ListedTree}
 use Rattle.itemtree_commands.specs.declared.listed.ListedUses.{ListedUses}
 use Rattle.itemtree_commands.specs.declared.module_paths.PathedModule.{PathedModule}
-use Rattle.source_listing.specs.ImportCfgs.{file_cfgs}
-use Rattle.source_listing.specs.Inner.{id_key}
-use Rattle.source_listing.specs.Views.{use_cfgs_view}
+use Rattle.source_imports.specs.ImportCfgs.{file_cfgs}
+use Rattle.source_imports.specs.Inner.{id_key}
+use Rattle.source_imports.specs.Views.{use_cfgs_view}
 use Rattle.itemtree_commands.specs.declared.declarations.Declared as code_items
 use Rattle.itemtree_commands.specs.Answers.{HasListed, cfgs_if}
 use Rattle.itemtree_commands.specs.declared.import_entries.ToldImport as code_entries

@@ -1,6 +1,6 @@
 //! Where the items of files are declared.
 ghost use Rattle.std.specs.Prelude.{◌≡◌, IfOk, OnOk, Some, map, option_map};
-ghost use Rattle.source_listing.specs.Inner.{id_key};
+ghost use Rattle.source_imports.specs.Inner.{id_key};
 ghost use Rattle.source_rows.specs.Labels.{text_at_some};
 ghost use Rattle.itemtree_commands.specs.ImportTargets as spec;
 ghost use Rattle.itemtree_commands.specs.Inner.{FindsItems, PutsItem, written_view};

@@ -1,14 +1,16 @@
 //! What `itemtree imports` answers for one file.
 ghost use Rattle.std.specs.Prelude.{◌≡◌, ◌≤◌, ◌^◌, length, map, IfOk, IfErr, OnOk, option_copied, string_bytes};
 ghost use Rattle.itemtree_commands.specs.Answers as spec;
-ghost use Rattle.source_listing.specs.Views.{import_choice_view, repeated_import_view, source_view, use_cfgs_view};
+ghost use Rattle.source_imports.specs.Views.{import_choice_view, repeated_import_view, use_cfgs_view};
+ghost use Rattle.source_listing.specs.Views.{source_view};
 
 use crate::Options;
 use crate::listed::listed_uses;
 use crate::trees::SourceError;
 use hir_input::CfgOptions;
 use list_forms::Form;
-use source_listing::{ImportChoice, RepeatedImport, Source, UseCfgs, repeat_lines};
+use source_imports::{ImportChoice, RepeatedImport, UseCfgs, repeat_lines};
+use source_listing::Source;
 use std::alloc::Global;
 
 impl Options {
@@ -55,7 +57,7 @@ pub fn imports(
     let edition = &options.edition;
     let choice = options.import_choice(&file.uses);
     let listed = &file.listed.source;
-    let text = source_listing::import_lines(
+    let text = source_imports::import_lines(
         alloc,
         source,
         &listed.places,
@@ -88,7 +90,7 @@ pub fn repeated_imports(
     let edition = &options.edition;
     let choice = options.import_choice(&file.uses);
     let listed = &file.listed.source;
-    let found = source_listing::repeated_imports(
+    let found = source_imports::repeated_imports(
         alloc,
         text,
         &listed.places,

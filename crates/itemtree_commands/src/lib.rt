@@ -33,8 +33,9 @@ pub use listed::{ListedTree, listed_tree};
 pub use module_lists::{modules, unresolved_modules};
 pub use request::source_request;
 use source_changes::{Compared, change_lines};
-use source_listing::{Choice, Query, Source, TagChoice, TagForm, without_ids};
+use source_listing::{Choice, Query, Source, without_ids};
 use source_problems::{SourceProblem, source_problems};
+use source_tags::{TagChoice, TagForm};
 use std::alloc::{AllocError, Global};
 use trees::{checked_source, skips_docs};
 pub use trees::{SourceError, SourceTree, source_tree};
@@ -288,7 +289,7 @@ pub fn tags(
         bodies: options.cfgs_if(has_bodies),
     };
     let (places, tree) = (&file.source.places, &file.source.tree);
-    let text = source_listing::tag_lines(alloc, source, form, places, tree, asked)?;
+    let text = source_tags::tag_lines(alloc, source, form, places, tree, asked)?;
     Ok(text)
 }
 

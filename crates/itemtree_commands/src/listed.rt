@@ -14,7 +14,7 @@ use crate::trees::{SourceError, SourceTree, tree_of, wanted_under};
 use item_tree::LowerError;
 use rust_items::{Wanted, WantedMetas};
 use rust_mended::Mended;
-use source_listing::{UseCfgs, file_cfgs};
+use source_imports::{UseCfgs, file_cfgs};
 use source_rows::read_listed;
 use std::alloc::Global;
 

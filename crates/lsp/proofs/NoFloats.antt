@@ -10,7 +10,7 @@ use Rattle.source_rows.specs.Listed.{members_of}
 use Rattle.source_rows.specs.Places.{place_of}
 use Rattle.line_index.specs.declared.Units.{Units}
 use Rattle.source_problems.specs.declared.problem.SourceProblem.{SourceProblem}
-use Rattle.source_listing.specs.Repeated.{Repeat}
+use Rattle.source_imports.specs.Repeated.{Repeat}
 use Rattle.lsp.specs.Diagnostics.{diagnostic, diagnostics, notice, repeat_diagnostic}
 use Rattle.lsp.specs.Symbols.{Page, ShownItem, Symbol, symbol_called, forest_symbols, information, item_symbol, listed_symbol, member_symbols, node_symbols, placed_symbols, shown_in, protocol_kind, told, told_in, tree_symbols}
 use Rattle.lsp.specs.Bytes.{range_span}

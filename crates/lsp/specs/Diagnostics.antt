@@ -8,7 +8,7 @@ use Rattle.list_forms.specs.Lines.{count_form}
 use Rattle.line_index.specs.declared.Units.{Units}
 use Rattle.source_problems.specs.declared.problem.SourceProblem.{SourceProblem}
 use Rattle.source_listing.specs.Lines.{message}
-use Rattle.source_listing.specs.Repeated.{Repeat}
+use Rattle.source_imports.specs.Repeated.{Repeat}
 use Rattle.source_rows.specs.declared.finder.Spot.{Spot}
 use Rattle.rust_paths.specs.declared.names.TextRange.{TextRange}
 use Rattle.item_tree.specs.declared.fault.LowerError.TheVariants.{OutOfMemory}

@@ -2,7 +2,7 @@
 ghost use Rattle.std.specs.Prelude.{◌≡◌, ◌++◌, IfErr, IfOk, OnOk, false, map, string_bytes};
 ghost use Rattle.serde_json.specs.View.{items_view, view};
 ghost use Rattle.serde_json.specs.Written.{compact_text, has_float};
-ghost use Rattle.source_listing.specs.Views.{repeated_import_view};
+ghost use Rattle.source_imports.specs.Views.{repeated_import_view};
 ghost use Rattle.itemtree_commands.specs.Trees.{IsTextUnread};
 ghost use Rattle.lsp.specs.Diagnostics as spec;
 ghost use Rattle.lsp.specs.Views.{document_view};
@@ -15,7 +15,8 @@ use itemtree_commands::{Options, SourceError, problems, repeated_imports};
 use line_index::Units;
 use rust_paths::TextRange;
 use serde_json::{Map, Value, json, put};
-use source_listing::{RepeatedImport, problem_message};
+use source_imports::RepeatedImport;
+use source_listing::problem_message;
 use source_problems::SourceProblem;
 use source_rows::Spot;
 use std::alloc::{AllocError, Global};

@@ -4,13 +4,13 @@ use Rattle.hir_input.specs.declared.edition.EditionYear.{EditionYear}
 use Rattle.rust_items.specs.declared.source_file.ItemPlace.{ItemPlace}
 use Rattle.rust_items.specs.declared.source_file.SourceFile.{SourceFile}
 use Rattle.rust_items.specs.SourceFiles.{FileView, IsClippedFile, file_view}
-use Rattle.source_rows.specs.declared.compare.Change as code_change
-use Rattle.source_rows.specs.ChangeViews.{row_change_view}
-use Rattle.source_rows.specs.Changes.{row_changes, seen_changes}
-use Rattle.source_rows.specs.Moves.{row_moves}
-use Rattle.source_rows.specs.Outside.{outside_rows}
+use Rattle.source_changes.specs.declared.row_changes.Change as code_change
+use Rattle.source_changes.specs.ChangeViews.{row_change_view}
+use Rattle.source_changes.specs.RowChanges.{row_changes, seen_changes}
+use Rattle.source_changes.specs.Moves.{row_moves}
+use Rattle.source_changes.specs.Outside.{outside_rows}
 use Rattle.source_rows.specs.Parts.{Part, item_parts}
-use Rattle.source_rows.specs.Rows.{part_rows}
+use Rattle.source_changes.specs.Rows.{part_rows}
 use Rattle.source_rows.specs.Sources.{Source}
 use Rattle.list_forms.specs.declared.lines.Form.{Form}
 use Rattle.source_changes.specs.declared.Compared.{Compared}

@@ -2,11 +2,11 @@
 use Rattle.std.proofs.Common.{◌≡◌, ◌≤◌, ◌<◌, ◌+◌, ◌-◌, ℕ, suc, zero, List, [], ◌∷◌, refl, ap, ◌∙◌, subst, arith, map}
 use Rattle.std.specs.List.{Contains}
 use Rattle.std.proofs.lemmas.Bool.{le-leb, lt-leb}
-use Rattle.source_rows.specs.declared.kept.Hole.{Hole}
+use Rattle.source_changes.specs.declared.kept.Hole.{Hole}
 use Rattle.rust_edits.specs.Typing.Moved.{place_after_edit}
 use Rattle.source_changes.specs.Typing.{moved_hole}
-use Rattle.source_rows.proofs.Beside.{EndBy, holes_about, moved_on}
-use Rattle.source_rows.proofs.Rising.{AreRising, rising_le}
+use Rattle.source_changes.proofs.Beside.{EndBy, holes_about, moved_on}
+use Rattle.source_changes.proofs.Rising.{AreRising, rising_le}
 
 -- holes of two texts: those before the braces, the braces, and those behind them
 pub record HolesBeside (n c c' : ℕ) (olds news : List Hole) : Type 0 where

@@ -3,7 +3,7 @@ use Rattle.std.proofs.Common.{◌≡◌, ℕ, false, List, Option, Some, None, r
 use Rattle.line_index.specs.declared.Position.{Position}
 use Rattle.list_forms.specs.Lines.{column_number, line_number}
 use Rattle.serde_json.specs.Written.{has_float}
-use Rattle.source_rows.specs.declared.change_kind.ChangeKind.{ChangeKind}
+use Rattle.source_changes.specs.declared.change_kind.ChangeKind.{ChangeKind}
 use Rattle.source_changes.specs.Told.{change_object, item_form}
 
 line_none : (p : Option Position) → has_float (line_number p) ≡ false

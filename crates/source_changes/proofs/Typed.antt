@@ -11,7 +11,7 @@ use Rattle.hir_input.specs.declared.ids.AstIdKind.{AstIdKind}
 use Rattle.hir_input.specs.declared.ids.AstIdKind.TheVariants as kind
 use Rattle.rust_lexer.proofs.Cases.{when}
 use Rattle.rust_paths.specs.declared.names.TextRange.{TextRange}
-use Rattle.source_rows.specs.declared.kept.Hole.{Hole}
+use Rattle.source_changes.specs.declared.kept.Hole.{Hole}
 use Rattle.rust_items.specs.declared.source_file.ItemPlace.{ItemPlace}
 use Rattle.rust_items.specs.Places.{IsNameIn}
 use Rattle.rust_items.specs.Members.{range_moved_by}
@@ -21,13 +21,13 @@ use Rattle.rust_edits.specs.Typing.Laws.{with_body}
 use Rattle.rust_edits.specs.Typing.Moved.{close_at, moved_place, place_after_edit, shifted_by}
 use Rattle.hir_input.specs.declared.edition.EditionYear.{EditionYear}
 use Rattle.source_rows.specs.Parts.{fn_body}
-use Rattle.source_rows.specs.Rows.{hole_inside}
+use Rattle.source_changes.specs.Rows.{hole_inside}
 use Rattle.source_changes.specs.Typing.{is_range, has_hole, braces, moved_hole}
-use Rattle.source_rows.proofs.Beside.{moved_on}
+use Rattle.source_changes.proofs.Beside.{moved_on}
 use Rattle.source_changes.proofs.Moving.{all_move, all_stay, moves, one_moves, stays}
-use Rattle.source_rows.proofs.Rising.{AreRising, as_name, rising_item, rising_within}
-use Rattle.source_rows.proofs.ItemHoles.{item_holes, place_holes, item_front, item_behind, none_held}
-use Rattle.source_rows.proofs.Parted.{Stands, AllStand, AreBefore, may_hold}
+use Rattle.source_changes.proofs.Rising.{AreRising, as_name, rising_item, rising_within}
+use Rattle.source_changes.proofs.ItemHoles.{item_holes, place_holes, item_front, item_behind, none_held}
+use Rattle.source_changes.proofs.Parted.{Stands, AllStand, AreBefore, may_hold}
 
 -- ---- the braces that are a hole
 

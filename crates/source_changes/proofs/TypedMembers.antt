@@ -27,10 +27,10 @@ use Rattle.rust_edits.specs.Typing.Laws.{with_body, BeginsPlain}
 use Rattle.rust_edits.specs.Typing.Moved.{close_at, moved_place, place_after_edit, shifted_by}
 use Rattle.source_rows.specs.Labels.{has_members}
 use Rattle.source_rows.specs.Parts.{body_members, fn_body}
-use Rattle.source_rows.specs.declared.kept.Hole.{Hole}
-use Rattle.source_rows.proofs.ItemHoles.{item_holes, member_holes, none_held, place_holes}
-use Rattle.source_rows.proofs.Parted.{AllStand, AreBefore, Stands, may_hold}
-use Rattle.source_rows.proofs.Rising.{AreRising, rising_item, rising_within}
+use Rattle.source_changes.specs.declared.kept.Hole.{Hole}
+use Rattle.source_changes.proofs.ItemHoles.{item_holes, member_holes, none_held, place_holes}
+use Rattle.source_changes.proofs.Parted.{AllStand, AreBefore, Stands, may_hold}
+use Rattle.source_changes.proofs.Rising.{AreRising, rising_item, rising_within}
 use Rattle.source_changes.specs.Typing.{AreBraces, braces, has_member_hole, is_member_hole, moved_hole}
 use Rattle.source_changes.proofs.InMembers.{Follows, all_shifted, member_is, members_typed}
 use Rattle.source_changes.proofs.Moving as moving

@@ -21,18 +21,18 @@ use Rattle.rust_edits.specs.Typing.Moved.{close_at, moved_place, shifted_by}
 use Rattle.rust_edits.proofs.Beside.Behind.{plain_back, plain_on, plain_tokens}
 use Rattle.rust_edits.proofs.Typing.Moved.{places_move}
 use Rattle.rust_edits.proofs.Typing.Typing.{same_ids}
-use Rattle.source_rows.specs.DocAttributes.{docs_as_comments}
-use Rattle.source_rows.specs.Inner.{ComeBehind}
+use Rattle.source_changes.specs.DocAttributes.{docs_as_comments}
+use Rattle.source_changes.specs.Inner.{ComeBehind}
 use Rattle.source_rows.specs.Parts.{Part}
-use Rattle.source_rows.specs.Rows.{bodies, hole}
-use Rattle.source_rows.specs.Skeletons.{kept, skeleton}
-use Rattle.source_rows.proofs.AsComments.{in_braces, placed, still_behind}
-use Rattle.source_rows.proofs.Beside.{AreInside, holes_about, typed_alike}
-use Rattle.source_rows.proofs.Holes.{after_all}
-use Rattle.source_rows.proofs.ItemHoles.{holes_from, place_holes}
-use Rattle.source_rows.proofs.Rising.{AreRising, all_rise}
-use Rattle.source_rows.specs.declared.kept.Hole.{Hole}
-use Rattle.source_rows.proofs.Parted.{AllStand, AreBefore, Parted, all_parted, may_hold}
+use Rattle.source_changes.specs.Rows.{bodies, hole}
+use Rattle.source_changes.specs.Skeletons.{kept, skeleton}
+use Rattle.source_changes.proofs.AsComments.{in_braces, placed, still_behind}
+use Rattle.source_changes.proofs.Beside.{AreInside, holes_about, typed_alike}
+use Rattle.source_changes.proofs.Holes.{after_all}
+use Rattle.source_changes.proofs.ItemHoles.{holes_from, place_holes}
+use Rattle.source_changes.proofs.Rising.{AreRising, all_rise}
+use Rattle.source_changes.specs.declared.kept.Hole.{Hole}
+use Rattle.source_changes.proofs.Parted.{AllStand, AreBefore, Parted, all_parted, may_hold}
 use Rattle.source_rows.specs.Sources.{Source}
 use Rattle.list_forms.specs.declared.lines.Form.{Form}
 use Rattle.source_changes.specs.Changes.{AreParts, IsCompared, seen_texts}

@@ -2,13 +2,13 @@
 use Rattle.std.specs.Prelude.{◌≡◌, ◌↔◌, ◌==◌, ℕ, Bool, false, true, length, IsTrue, if◌then◌else◌, List, [], ◌∷◌, string_bytes, flat_map}
 use Rattle.hir_input.specs.declared.edition.EditionYear.{EditionYear}
 use Rattle.rust_items.specs.SourceFiles.{FileView, IsFileView}
-use Rattle.source_rows.specs.ChangeWords.{side_of}
-use Rattle.source_rows.specs.Changes.{RowChange, row_changes, seen_changes}
-use Rattle.source_rows.specs.Skeletons.{skeleton}
+use Rattle.source_changes.specs.ChangeWords.{side_of}
+use Rattle.source_changes.specs.RowChanges.{RowChange, row_changes, seen_changes}
+use Rattle.source_changes.specs.Skeletons.{skeleton}
 use Rattle.source_rows.specs.Parts.{Part, item_parts}
-use Rattle.source_rows.specs.Outside.{outside_rows}
-use Rattle.source_rows.specs.Moves.{StandingRow, row_moves, standing_rows}
-use Rattle.source_rows.specs.Rows.{bodies, part_rows}
+use Rattle.source_changes.specs.Outside.{outside_rows}
+use Rattle.source_changes.specs.Moves.{StandingRow, row_moves, standing_rows}
+use Rattle.source_changes.specs.Rows.{bodies, part_rows}
 use Rattle.source_rows.specs.Sources.{Source}
 use Rattle.list_forms.specs.declared.lines.Form.{Form}
 use Rattle.source_changes.specs.Told.{row_text}

@@ -1,3 +1,13 @@
+pub mod DocAttributes
+pub mod Skeletons
+pub mod Matches
+pub mod ChangeWords
+pub mod RowChanges
+pub mod Rows
+pub mod ChangeViews
+pub mod Inner
+pub mod Outside
+pub mod Moves
 pub mod Told
 pub mod Changes
 pub mod Views

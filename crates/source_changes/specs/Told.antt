@@ -7,10 +7,10 @@ use Rattle.list_forms.specs.Lines.{column_number, value_line, line_number}
 use Rattle.list_forms.specs.declared.lines.Form.{Form}
 use Rattle.list_forms.specs.declared.lines.Form.TheVariants.{Line, Json}
 use Rattle.serde_json.specs.Data.{Data, null, string, object, no_members, member}
-use Rattle.source_rows.specs.ChangeWords.{change_word}
-use Rattle.source_rows.specs.Changes.{RowChange}
+use Rattle.source_changes.specs.ChangeWords.{change_word}
+use Rattle.source_changes.specs.RowChanges.{RowChange}
 use Rattle.source_rows.specs.Sources.{Source, place_text}
-use Rattle.source_rows.specs.declared.change_kind.ChangeKind.{ChangeKind, TheVariants.Removed, TheVariants.Added, TheVariants.Changed}
+use Rattle.source_changes.specs.declared.change_kind.ChangeKind.{ChangeKind, TheVariants.Removed, TheVariants.Added, TheVariants.Changed}
 
 -- ---- lines
 

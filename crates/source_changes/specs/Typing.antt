@@ -13,9 +13,9 @@ use Rattle.rust_items.specs.Members.{MemberRead}
 use Rattle.source_rows.specs.Bodies.{hole_of}
 use Rattle.source_rows.specs.Labels.{has_members}
 use Rattle.source_rows.specs.Parts.{Part, body_members, fn_body}
-use Rattle.source_rows.specs.Rows.{bodies, hole}
+use Rattle.source_changes.specs.Rows.{bodies, hole}
 use Rattle.source_rows.specs.Sources.{Source}
-use Rattle.source_rows.specs.declared.kept.Hole.{Hole}
+use Rattle.source_changes.specs.declared.kept.Hole.{Hole}
 use Rattle.source_changes.specs.Changes.{AreParts, seen_texts, IsCompared}
 use Rattle.list_forms.specs.declared.lines.Form.{Form}
 use Rattle.source_changes.specs.declared.Compared.{Compared}

@@ -1,27 +1,40 @@
 //! What others can see of a file became another.
 #![tactic(auto)]
 
+mod change_kind;
+mod doc_attributes;
+mod kept;
+mod labelled;
 mod laws;
+mod line_texts;
+mod matching;
+mod moved;
+mod row_changes;
+mod strays;
+mod tokens;
 mod told;
 
 ghost use Rattle.std.specs.Prelude.{◌≡◌, ◌++◌, ◌↔◌, IfOk, IsTrue, OnOk, map, string_bytes};
 ghost use Rattle.source_rows.specs.Views.{part_view, source_view};
-ghost use Rattle.source_rows.specs.ChangeViews.{row_change_view, row_part, text_row_view};
-ghost use Rattle.source_rows.specs.Changes.{row_changes, seen_changes};
-ghost use Rattle.source_rows.specs.Moves.{row_moves, standing_rows};
-ghost use Rattle.source_rows.specs.Outside.{outside_rows};
+ghost use Rattle.source_changes.specs.ChangeViews.{row_change_view, row_part, text_row_view};
+ghost use Rattle.source_changes.specs.RowChanges.{row_changes, seen_changes};
+ghost use Rattle.source_changes.specs.Moves.{row_moves, standing_rows};
+ghost use Rattle.source_changes.specs.Outside.{outside_rows};
 ghost use Rattle.source_changes.specs.Changes as spec;
 ghost use Rattle.source_changes.specs.Views.{lined_view};
 
+pub use change_kind::{ChangeKind, change_word};
 use hir_input::EditionYear;
+pub use kept::{Hole, Skeleton};
 use list_forms::Form;
+pub use moved::moves;
+pub use row_changes::{Change, Row, changes, seen_changes};
 use rust_items::{Wanted, WantedMetas, read_wanted};
-pub use source_rows::{ChangeKind, Source};
-use source_rows::{
-    Change, Part, Row, Skeleton, bodies, changes, moves, outside, parts, row_around, rows,
-    seen_changes,
-};
+pub use source_rows::Source;
+use source_rows::{Part, parts};
 use std::alloc::{AllocError, Global};
+pub use strays::{outside, row_around};
+pub use tokens::{bodies, rows};
 pub use told::file_change;
 use told::{Side, side_from};
 

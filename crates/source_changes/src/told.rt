@@ -4,9 +4,11 @@ ghost use Rattle.list_forms.specs.declared.lines.Form.TheVariants.{Json};
 ghost use Rattle.serde_json.specs.View.{view};
 ghost use Rattle.source_changes.specs.Told as spec;
 ghost use Rattle.source_changes.specs.Views.{lined_view};
-ghost use Rattle.source_rows.specs.ChangeViews.{row_change_view};
+ghost use Rattle.source_changes.specs.ChangeViews.{row_change_view};
 ghost use Rattle.source_rows.specs.Views.{source_view};
 
+use crate::change_kind::{ChangeKind, change_word};
+use crate::row_changes::Change;
 use hir_input_json::write::object::{of_text, with, with_text};
 use line_index::{LineIndex, Position};
 use list_forms::{
@@ -14,7 +16,7 @@ use list_forms::{
     push_colored, value_line,
 };
 use serde_json::Value;
-use source_rows::{Change, ChangeKind, Source, change_word, push_place};
+use source_rows::{Source, push_place};
 use std::alloc::{AllocError, Global};
 
 /// A file, with what finds the lines of its places.

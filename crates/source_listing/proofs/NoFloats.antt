@@ -1,12 +1,8 @@
 -- What is listed holds no float.
 use Rattle.line_index.specs.declared.Position.{Position}
-use Rattle.source_listing.proofs.Common.{Units, spot_in, file_import_object, Candidate, column_number, found_object, line_number, ◌≡◌, ℕ, ◌+◌, Bool, true, false, ◌||◌, if◌then◌else◌, List, [], ◌∷◌, ◌++◌, Option, Some, None, option_map, refl, filter, map, flat_map, items_of, view_of, Import, Node, leaf, parent, Forest, empty, more, node_ast, Unfolding, ItemPlace, Listed, MemberReading, header_of, members_of, Spot, FilePlaces, Choice, Source, is_chosen, place_of, Declared, declared_name, declared_imports, declarations, Subject, no_subject, is_file_enabled, RowView, alias_form, import_form, import_object, seen_objects, import_objects, of_declared, spots_of_any, Entry, ItemView, item_in, name_form, header_form, subject_form, visibility_form, line_form, column_form, range_form, entry_object, item_entry, member_entry, member_spot, member_object, member_objects, file_form, whole_object, own_objects, node_objects, listed_objects, tree_objects, problem_objects}
+use Rattle.source_listing.proofs.Common.{Units, spot_in, Candidate, column_number, found_object, line_number, ◌≡◌, ℕ, ◌+◌, Bool, true, false, ◌||◌, if◌then◌else◌, List, [], ◌∷◌, ◌++◌, Option, Some, None, option_map, refl, filter, map, flat_map, items_of, Import, Node, leaf, parent, Forest, empty, more, Unfolding, ItemPlace, Listed, MemberReading, header_of, members_of, Spot, Choice, Source, is_chosen, place_of, Subject, no_subject, is_file_enabled, RowView, Entry, ItemView, item_in, name_form, header_form, subject_form, visibility_form, line_form, column_form, range_form, entry_object, item_entry, member_entry, member_spot, member_object, member_objects, file_form, whole_object, own_objects, node_objects, listed_objects, tree_objects, problem_objects}
 use Rattle.serde_json.specs.Data.{Data, Items, no_items, string}
-use Rattle.hir_input.specs.Cfg.{CfgView, shown_cfg}
 use Rattle.source_listing.specs.FlatObjects.{flat_object, import_entry, names_form, item_in_row}
-use Rattle.source_listing.specs.ImportLines.{cfgs_form}
-use Rattle.source_listing.specs.Objects.{bytes_form}
-use Rattle.rust_paths.specs.declared.names.TextRange.{TextRange}
 use Rattle.serde_json.specs.Written.{has_float, items_have_float}
 use Rattle.item_tree.specs.declared.visibility.RawVisibility.{RawVisibility}
 use Rattle.item_tree.specs.declared.visibility.RawVisibility.TheVariants.{PubSelf}
@@ -47,7 +43,7 @@ flat_none each (x ∷ xs) h = both_none (each x) (flat_map each xs) (h x) (flat_
 -- ---- members
 
 -- of what there may be
-some_none : {A : Type 0} (form : Option A → Data) (o : Option A) → has_float (form None) ≡ false → ((a : A) → has_float (form (Some a)) ≡ false) → has_float (form o) ≡ false
+pub some_none : {A : Type 0} (form : Option A → Data) (o : Option A) → has_float (form None) ≡ false → ((a : A) → has_float (form (Some a)) ≡ false) → has_float (form o) ≡ false
 some_none form None e f = e
 some_none form (Some a) e f = f a
 
@@ -59,7 +55,7 @@ subject_none : (reserved : List (List ℕ)) (header : List ℕ) (x : Subject) �
 subject_none reserved header no_subject = header_none header
 subject_none reserved header _ = refl
 
-visibility_none : (reserved : List (List ℕ)) (o : Option RawVisibility) → has_float (visibility_form reserved o) ≡ false
+pub visibility_none : (reserved : List (List ℕ)) (o : Option RawVisibility) → has_float (visibility_form reserved o) ≡ false
 visibility_none reserved (Some (PubSelf Implicit)) = refl
 visibility_none reserved _ = refl
 
@@ -109,24 +105,6 @@ pub no_float_in_problems : (units : Units) (text : List ℕ) (ps : List Problem)
 no_float_in_problems units text [] = refl
 no_float_in_problems units text (p ∷ ps) = no_float_in_problems units text ps
 
--- ---- imports
-
-module _ (reserved : List (List ℕ)) where
-  import_none : (spot : Option Spot) (x : Import) → has_float (import_form reserved spot x) ≡ false
-  import_none spot x = rw (some_none (alias_form reserved) x.alias refl (λ a. refl), some_none column_form spot refl (λ a. refl), some_none line_form spot refl (λ a. refl)) refl
-
-  each_none : (spots : ℕ → Option Spot) (x : Import) → items_have_float (items_of (import_object reserved spots x)) ≡ false
-  each_none spots x = or_none (has_float (import_form reserved (spots x.index) x)) false (import_none (spots x.index) x) refl
-
-  declared_none : (spots : ℕ → Option Spot) (d : Declared) → items_have_float (items_of (of_declared (import_object reserved) spots d)) ≡ false
-  declared_none spots (declared_name name) = refl
-  declared_none spots (declared_imports xs) = flat_none (import_object reserved spots) xs (each_none spots)
-
--- the values of imports hold no float
-pub no_float_in_imports : (units : Units) (text : List ℕ) (reserved : List (List ℕ)) (places : FilePlaces) (f : Forest) → items_have_float (items_of (import_objects units text reserved places f)) ≡ false
-no_float_in_imports units text reserved places f = flat_none (λ d. seen_objects units text reserved places (view_of d)) (declarations f)
-    (λ d. declared_none reserved (spots_of_any units text places (option_map node_ast (view_of d).node)) (view_of d).declared)
-
 -- ---- what is found
 
 line_number_none : (p : Option Position) → has_float (line_number p) ≡ false
@@ -139,15 +117,6 @@ column_number_none (Some p) = refl
 
 pub found_none : (path : List ℕ) (p : Option Position) (c : Candidate) → has_float (found_object path p c) ≡ false
 found_none path p c = rw (column_number_none p, line_number_none p) refl
-
--- ---- imports with what is around them
-
-cfgs_none : (cfgs : List CfgView) → has_float (cfgs_form cfgs) ≡ false
-cfgs_none cfgs = map_none (λ c. string (shown_cfg c)) cfgs (λ c. refl)
-
-pub use_none : (reserved : List (List ℕ)) (path scope : List ℕ) (v : Option RawVisibility) (cfgs : List CfgView) (spot : Option Spot) (removal : Option TextRange) (x : Import) → has_float (file_import_object reserved path scope v cfgs spot removal x) ≡ false
-use_none reserved path scope v cfgs spot removal x =
-    rw (cfgs_none cfgs, some_none (alias_form reserved) x.alias refl (λ a. refl), some_none column_form spot refl (λ a. refl), some_none line_form spot refl (λ a. refl), some_none range_form spot refl (λ a. refl), some_none bytes_form removal refl (λ a. refl), visibility_none reserved v) refl
 
 -- ---- flat outlines
 

@@ -2,7 +2,7 @@
 use Rattle.std.specs.Prelude.{bytes_eq}
 use Rattle.std.specs.List.{list_any}
 use Rattle.source_listing.specs.Outlines.{name_around}
-use Rattle.source_listing.proofs.Common.{Bor, List, [], ap, append-nil, append_assoc, bare_segment, codes, flat_map, flat_map-append, flat_map-map, get_or, length, length-map, map, map-append, refl, scope_field, sym, take, take_more, ℕ, ◌++◌, ◌+◌, ◌<◌, ◌==◌, ◌||◌, ◌∙◌, ◌∷◌, ◌≡◌}
+use Rattle.source_listing.proofs.Common.{Bor, List, [], ap, append-nil, append_assoc, bare_segment, codes, flat_map, flat_map-append, flat_map-map, get_or, length, length-map, map, map-append, refl, sym, take, take_more, ℕ, ◌++◌, ◌+◌, ◌<◌, ◌==◌, ◌||◌, ◌∙◌, ◌∷◌, ◌≡◌}
 
 -- a line, pushed part by part, of which the first has a place and blanks
 pub line_pushed : (o p i v w n e o1 o2 o3 o4 o5 : List ℕ) → o1 ≡ o ++ p ++ i → o2 ≡ o1 ++ v → o3 ≡ o2 ++ w → o4 ≡ o3 ++ n → o5 ≡ o4 ++ e
@@ -24,20 +24,6 @@ one_more f view xs i x o o1 h e d g =
 pub name_pushed_in : {A : Type 0} (f : A → List ℕ) (xs : List A) (out blank around named shown : List ℕ) → blank ≡ out ++ codes " " → around ≡ blank ++ flat_map (λ x. name_around (f x)) xs → named ≡ around ++ shown
     → named ≡ out ++ (codes " " ++ flat_map name_around (map f xs) ++ shown)
 name_pushed_in f xs out blank around named shown a b c = let names = flat_map-map name_around f xs in rw (c, b, a, names) (simp append_assoc)
-
--- a tag, pushed part by part
-pub tag_pushed : (o name path place fields o1 o2 o3 o4 o5 o6 o7 : List ℕ) → o1 ≡ o ++ name → o2 ≡ o1 ++ codes "\t" → o3 ≡ o2 ++ path → o4 ≡ o3 ++ codes "\t" → o5 ≡ o4 ++ place → o6 ≡ o5 ++ fields → o7 ≡ o6 ++ codes "\n"
-    → o7 ≡ o ++ (name ++ codes "\t" ++ path ++ codes "\t" ++ place ++ fields ++ codes "\n")
-tag_pushed o name path place fields o1 o2 o3 o4 o5 o6 o7 a b c d e f g = rw (g, f, e, d, c, b, a) (simp append_assoc)
-
--- fields, pushed one after another
-pub fields_pushed : (a b c d e f g o1 o2 o3 o4 o5 o6 o7 : List ℕ) → o1 ≡ a → o2 ≡ o1 ++ b → o3 ≡ o2 ++ c → o4 ≡ o3 ++ d → o5 ≡ o4 ++ e → o6 ≡ o5 ++ f → o7 ≡ o6 ++ g → o7 ≡ a ++ b ++ c ++ d ++ e ++ f ++ g
-fields_pushed a b c d e f g o1 o2 o3 o4 o5 o6 o7 p q r s t u v = rw (v, u, t, s, r, q, p) (simp append_assoc)
-
--- what a tag stands in, pushed one after another
-pub scope_pushed : {A : Type 0} (f : A → List ℕ) (xs : List A) (first : A) (rest : List A) (word o o1 o2 o3 o4 o5 : List ℕ) → xs ≡ first ∷ rest → o1 ≡ o ++ codes "\t" → o2 ≡ o1 ++ word → o3 ≡ o2 ++ codes ":" → o4 ≡ o3 ++ f first → o5 ≡ o4 ++ flat_map (λ x. bare_segment (f x)) rest
-    → o5 ≡ o ++ scope_field word (map f xs)
-scope_pushed f xs first rest word o o1 o2 o3 o4 o5 e a b c d g = rw (e, g, d, c, b, a, ← segments_of f rest) (simp append_assoc)
 
 -- a word is among those that some hold
 pub word_among : (word : List ℕ) (ws : List (Bor (List ℕ))) → list_any (λ other. bytes_eq word other.now) ws ≡ list_any (λ other. bytes_eq word other) (map (λ k. k.now) ws)

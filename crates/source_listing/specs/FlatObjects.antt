@@ -12,7 +12,7 @@ use Rattle.source_rows.specs.Listed.{Listed, MemberReading, header_of, members_o
 use Rattle.source_rows.specs.declared.finder.Spot.{Spot}
 use Rattle.source_rows.specs.Places.{place_of, spot_in}
 use Rattle.source_listing.specs.Lines.{Choice, Source, is_chosen, is_listed}
-use Rattle.source_listing.specs.Imports.{import_text}
+use Rattle.source_listing.specs.ImportTexts.{import_text}
 use Rattle.source_listing.specs.Objects.{Entry, ItemView, column_form, item_entry, line_form, member_entry, member_spot, range_form, visibility_form}
 use Rattle.source_listing.specs.Outlines.{names_around_members, opened_imports}
 use Rattle.source_listing.specs.Uses.{FilePlaces, Trees, tree_spots, use_trees_at}

@@ -8,7 +8,7 @@ use Rattle.rust_items.specs.declared.source_file.ItemPlace.{ItemPlace}
 use Rattle.source_rows.specs.Labels.{member_word}
 use Rattle.source_rows.specs.Listed.{Listed, MemberReading, header_of, members_of}
 use Rattle.list_forms.specs.Colors.{bold_code, colored_text, cyan_code, faint_code}
-use Rattle.source_listing.specs.Imports.{import_text}
+use Rattle.source_listing.specs.ImportTexts.{import_text}
 use Rattle.source_listing.specs.Lines.{Choice, Source, at_text, indent, is_chosen, is_listed, line_end, place_at, stand_text, subject_text, visibility_text, item_word}
 use Rattle.source_listing.specs.Search.{holder}
 use Rattle.source_listing.specs.Uses.{FilePlaces, Trees, tree_start, use_trees_at}

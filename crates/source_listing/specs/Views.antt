@@ -1,11 +1,7 @@
 -- What the code holds, as plain data.
-use Rattle.std.specs.Prelude.{map, option_copied, option_map, string_bytes}
-use Rattle.hir_input.specs.Cfg.{cfg_view}
+use Rattle.std.specs.Prelude.{map, string_bytes}
 pub use Rattle.source_rows.specs.Views.{source_view}
 pub use Rattle.source_rows.specs.ListedViews.{reading_view}
-use Rattle.source_listing.specs.declared.import_cfgs.UseCfgs as code_cfgs
-use Rattle.source_listing.specs.declared.import_cfgs.ImportChoice as code_imports
-use Rattle.source_listing.specs.ImportCfgs.{ImportChoice, UseCfgs}
 use Rattle.source_listing.specs.declared.lines.Choice as code_choice
 use Rattle.source_listing.specs.declared.patterns.Pattern as code_pattern
 use Rattle.source_listing.specs.declared.search.Candidate as code_candidate
@@ -14,23 +10,15 @@ use Rattle.source_listing.specs.declared.sought.SoughtPath as code_sought
 use Rattle.source_listing.specs.Sought.{Sought}
 use Rattle.source_listing.specs.Lines.{Choice}
 use Rattle.source_listing.specs.declared.outlines.Look as code_look
-use Rattle.source_listing.specs.declared.line_searches.Line as code_line
 use Rattle.source_listing.specs.Outlines.{Look}
-use Rattle.source_listing.specs.LineSearches.{TextLine}
 use Rattle.source_listing.specs.Patterns.{Pattern}
 use Rattle.source_listing.specs.Search.{Candidate, Query}
-use Rattle.source_listing.specs.declared.repeated.RepeatedImport as code_repeat
-use Rattle.source_listing.specs.Repeated.{Repeat}
-use Rattle.source_listing.specs.declared.tag_bodies.TagChoice as code_tags
-use Rattle.source_listing.specs.Tags.{TagChoice}
+use Rattle.source_listing.specs.declared.uses.UseTrees as code_trees
+use Rattle.source_listing.specs.Uses.{Trees}
 
 -- a choice of items as plain data
 abbrev pub choice_view : code_choice.Choice → Choice
 choice_view c = record { depth = c.depth; only_active = c.only_active }
-
--- which tags a file has, as plain data
-abbrev pub tag_choice_view : code_tags.TagChoice → TagChoice
-tag_choice_view a = record { reading = reading_view a.reading; choice = choice_view a.choice; bodies = option_copied a.bodies }
 
 -- which lines are written and how, as plain data
 abbrev pub look_view : code_look.Look → Look
@@ -56,22 +44,10 @@ candidate_view c = record { id = c.id; at = c.at; range = c.range; word = c.word
 abbrev pub sought_view : code_sought.SoughtPath → Sought
 sought_view a = record { path = string_bytes a.path; is_anywhere = a.is_anywhere }
 
--- a line as plain data
-abbrev pub line_view : code_line.Line → TextLine
-line_view l = record { text = l.text.now; behind = option_map (λ s. s.now) l.behind }
-
 -- the same of a path of which the last name is a glob
 abbrev pub pattern_view : code_pattern.Pattern → Pattern
 pattern_view p = record { scope = string_bytes p.scope; name = string_bytes p.name; is_anywhere = p.is_anywhere }
 
--- a use and its cfgs as plain data
-abbrev pub use_cfgs_view : code_cfgs.UseCfgs → UseCfgs
-use_cfgs_view u = record { id = u.id; cfgs = map cfg_view u.cfgs.items }
-
--- which imports are listed, as plain data
-abbrev pub import_choice_view : code_imports.ImportChoice → ImportChoice
-import_choice_view c = record { uses = map use_cfgs_view c.uses.now; active_under = option_copied c.active_under }
-
--- an import that repeats an earlier one, as plain data
-abbrev pub repeated_import_view : code_repeat.RepeatedImport → Repeat
-repeated_import_view r = record { spot = r.spot; text = string_bytes r.text; first = r.first }
+-- a use item's place and where its use trees begin, as plain data
+abbrev pub placed_trees_view : code_trees.UseTrees → Trees
+placed_trees_view t = record { place = t.place; starts = t.starts.now }

@@ -5,13 +5,13 @@ ghost use Rattle.serde_json.specs.View.{members_view, view};
 ghost use Rattle.tree_walk.specs.Listed.{listed_import};
 ghost use Rattle.tree_walk.specs.Views.{row_view};
 ghost use Rattle.source_listing.specs.FlatObjects as spec;
-ghost use Rattle.source_listing.specs.Imports.{import_text};
-ghost use Rattle.source_listing.specs.Inner.{IsSameFile, entry_members, file_of, placed_trees_view, reserved_of};
+ghost use Rattle.source_listing.specs.ImportTexts.{import_text};
+ghost use Rattle.source_listing.specs.Inner.{IsSameFile, entry_members, file_of, reserved_of};
+ghost use Rattle.source_listing.specs.Views.{choice_view, placed_trees_view};
 ghost use Rattle.source_listing.specs.Uses.{tree_spots};
-ghost use Rattle.source_listing.specs.Views.{choice_view};
 
 use crate::flat_objects::flat_object;
-use crate::imports::push_import_text;
+use crate::import_texts::push_import_text;
 use crate::lines::Choice;
 use crate::opened_uses::opened_imports;
 use crate::printer::Printer;

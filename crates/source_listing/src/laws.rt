@@ -7,6 +7,7 @@ ghost use Rattle.source_listing.specs.Told.{AreToldFor};
 use crate::lines::Choice;
 use crate::outlines::Look;
 use crate::search::Query;
+use crate::uses::UseTrees;
 
 // Where use trees begin is told of the trees that are kept, in their order: reading from the place of a number gives
 // the tree of that number, so each import stands at its own.
@@ -18,4 +19,5 @@ fn copies()
     ensures choices { IsCopied ⟦<Choice as Clone>⟧.is_clone }
     ensures looks { IsCopied ⟦<Look as Clone>⟧.is_clone }
     ensures queries { IsCopied ⟦<Query<'static> as Clone>⟧.is_clone }
+    ensures use_trees { IsCopied ⟦<UseTrees<'static> as Clone>⟧.is_clone }
 {}

@@ -39,7 +39,8 @@ impl Choice {
         is_within && (!self.only_active || is_active)
     }
 
-    pub(crate) fn lists(self, row: &Row<'_>) -> bool
+    /// Whether an item is listed.
+    pub fn lists(self, row: &Row<'_>) -> bool
         ensures { result ≡ spec.is_listed (choice_view self) (row_view row.now) }
     {
         self.takes(row.level, row.is_active)
@@ -57,11 +58,11 @@ impl Choice {
     }
 
     /// The rows of a tree that are listed.
-    pub(crate) fn rows<'t>(
-        self,
-        alloc: Global,
-        tree: &'t ItemTree,
-    ) -> Result<Vec<Row<'t>>, AllocError>
+    ///
+    /// # Errors
+    ///
+    /// Only if memory runs out.
+    pub fn rows<'t>(self, alloc: Global, tree: &'t ItemTree) -> Result<Vec<Row<'t>>, AllocError>
         ensures { let listed = filter (spec.is_listed (choice_view self)) (rows.rows tree.now) in
             IfOk result (λ v. map row_view v.items ≡ listed) }
     {
@@ -71,7 +72,11 @@ impl Choice {
     }
 
     /// The members that are listed of an item in so many others, which stands there.
-    pub(crate) fn members(
+    ///
+    /// # Errors
+    ///
+    /// Only if memory runs out.
+    pub fn members(
         self,
         alloc: Global,
         reading: Reading<'_>,
@@ -90,7 +95,11 @@ impl Choice {
 }
 
 /// File, line and column of what stands in a file, as compilers write them.
-pub(crate) fn push_spot(path: &str, spot: Option<Spot>, out: &mut String) -> Result<(), AllocError>
+///
+/// # Errors
+///
+/// Only if memory runs out.
+pub fn push_spot(path: &str, spot: Option<Spot>, out: &mut String) -> Result<(), AllocError>
     ensures { OnOk result (string_bytes out.new ≡ string_bytes out.old
         ++ item_place path.now spot) }
 {

@@ -3,13 +3,13 @@ ghost use Rattle.std.specs.Prelude.{◌≡◌, ◌++◌, IfOk, OnOk, codes, flat
 ghost use Rattle.list_forms.specs.Colors.{bold_code, colored_text};
 ghost use Rattle.tree_walk.specs.Listed.{listed_import};
 ghost use Rattle.tree_walk.specs.Views.{row_view, subject_view};
-ghost use Rattle.source_listing.specs.Imports.{import_text};
-ghost use Rattle.source_listing.specs.Inner.{IsSameFile, file_of, placed_trees_view, reserved_of};
+ghost use Rattle.source_listing.specs.ImportTexts.{import_text};
+ghost use Rattle.source_listing.specs.Inner.{IsSameFile, file_of, reserved_of};
+ghost use Rattle.source_listing.specs.Views.{look_view, placed_trees_view};
 ghost use Rattle.source_listing.specs.Outlines as spec;
 ghost use Rattle.source_listing.specs.Uses.{tree_start};
-ghost use Rattle.source_listing.specs.Views.{look_view};
 
-use crate::imports::push_import_text;
+use crate::import_texts::push_import_text;
 use crate::lines::{push_end, push_indent, push_visibility};
 use crate::outlines::Look;
 use crate::printer::Printer;

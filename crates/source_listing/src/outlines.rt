@@ -13,9 +13,9 @@ ghost use Rattle.source_listing.specs.Views.{look_view, source_view};
 
 use crate::lines::{Choice, push_end, push_indent, push_visibility};
 use crate::printer::Printer;
+use crate::scopes::names_around;
 use crate::search::holder;
 use crate::subjects::push_subject;
-use crate::tags::names_around;
 use crate::use_places::UsePlaces;
 use hir_input::{Edition, Name};
 use item_tree::ItemTree;

@@ -58,7 +58,7 @@ pub struct Candidate {
 }
 
 /// The name of what the members of an item stand in: the item's, or that of an impl's type.
-pub(crate) fn holder<'a>(name: Option<&'a Name>, type_name: &'a Option<Name>) -> Option<&'a Name>
+pub fn holder<'a>(name: Option<&'a Name>, type_name: &'a Option<Name>) -> Option<&'a Name>
     ensures { option_copied result ≡ option_or (option_copied name.entry) type_name.now }
 {
     match name {

@@ -5,7 +5,7 @@ ghost use Rattle.item_tree.specs.Tree.{tree_of};
 ghost use Rattle.item_tree.specs.UseText.{shown_prefix};
 ghost use Rattle.source_listing.specs.Lines as spec;
 
-use crate::imports::push_rename;
+use crate::import_texts::push_rename;
 use hir_input::{Edition, ModPath};
 use item_tree::{UseTree, UseTreeKind};
 use std::alloc::AllocError;

@@ -19,16 +19,17 @@ fn from_place(places: &[usize], start: usize) -> &[usize]
 /// Where a file's use trees begin, to be found from the place of their item on. It goes on from the item that was asked
 /// for last, so that items in the order of the text cost one pass over them in all.
 #[derive(Drop)]
-pub(crate) struct UsePlaces<'a> {
-    pub(crate) all: &'a [usize],
+pub struct UsePlaces<'a> {
+    pub all: &'a [usize],
     from: usize,
     left: &'a [usize],
     ghost left_is: { left.now ≡ spec.from_place from all.now },
 }
 
 impl<'a> UsePlaces<'a> {
+    /// Finds those of a file, which begin at these places.
     #[tactic(auto, using(crate::proofs::Skips::from_none))]
-    pub(crate) fn new(all: &'a [usize]) -> Self
+    pub fn new(all: &'a [usize]) -> Self
         ensures { result.all.now ≡ all.now }
     {
         UsePlaces {

@@ -87,7 +87,7 @@ pub fn visibility_value(
 }
 
 /// The line of a spot, or null.
-pub(crate) fn line_value(spot: Option<Spot>) -> Value
+pub fn line_value(spot: Option<Spot>) -> Value
     ensures { view result ≡ spec.line_form spot }
 {
     match spot {
@@ -97,7 +97,7 @@ pub(crate) fn line_value(spot: Option<Spot>) -> Value
 }
 
 /// The column of a spot, or null.
-pub(crate) fn column_value(spot: Option<Spot>) -> Value
+pub fn column_value(spot: Option<Spot>) -> Value
     ensures { view result ≡ spec.column_form spot }
 {
     match spot {
@@ -107,7 +107,11 @@ pub(crate) fn column_value(spot: Option<Spot>) -> Value
 }
 
 /// Bytes, from where to where, or null.
-pub(crate) fn bytes_value(alloc: Global, range: Option<TextRange>) -> Result<Value, AllocError>
+///
+/// # Errors
+///
+/// Only if memory runs out.
+pub fn bytes_value(alloc: Global, range: Option<TextRange>) -> Result<Value, AllocError>
     ensures { IfOk result (λ value. view value ≡ spec.bytes_form range) }
 {
     match range {
@@ -122,7 +126,11 @@ pub(crate) fn bytes_value(alloc: Global, range: Option<TextRange>) -> Result<Val
 }
 
 /// The bytes of a spot, from where to where, or null.
-pub(crate) fn range_value(alloc: Global, spot: Option<Spot>) -> Result<Value, AllocError>
+///
+/// # Errors
+///
+/// Only if memory runs out.
+pub fn range_value(alloc: Global, spot: Option<Spot>) -> Result<Value, AllocError>
     ensures { IfOk result (λ value. view value ≡ spec.range_form spot) }
 {
     match spot {
@@ -132,7 +140,11 @@ pub(crate) fn range_value(alloc: Global, spot: Option<Spot>) -> Result<Value, Al
 }
 
 /// Adds a text to the members of an object.
-pub(crate) fn put_text(
+///
+/// # Errors
+///
+/// Only if memory runs out.
+pub fn put_text(
     alloc: Global,
     key: &str,
     text: &str,

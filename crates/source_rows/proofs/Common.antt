@@ -2,17 +2,11 @@
 pub use Rattle.rust_cursor.proofs.Nesting.{not_first, shorter}
 pub use Rattle.rust_cursor.specs.Tokens.{Tokens}
 pub use Rattle.rust_items.specs.MemberViews.{member_view}
-pub use Rattle.source_rows.specs.ChangeViews.{row_change_view, row_part, text_row_view}
-pub use Rattle.source_rows.specs.Changes.{row_change_of, same_text, same_texts}
 pub use Rattle.source_rows.specs.Blanks.{first_spacing, gap_text, spacing_behind}
 pub use Rattle.source_rows.specs.declared.blanks.Spacing.{Spacing}
 pub use Rattle.source_rows.specs.Headers.{is_over, spaced_from, spaced_tokens}
-pub use Rattle.source_rows.specs.Inner.{labelled_view, row_match, with_label}
-pub use Rattle.source_rows.specs.Labels.{Outer, modules_path, text_at}
+pub use Rattle.source_rows.specs.Labels.{Outer, modules_path}
 pub use Rattle.source_rows.specs.Parts.{Part, around_behind, item_parts, item_parts_from, member_part, parts_of, still_open}
-pub use Rattle.source_rows.specs.Rows.{bodies, holes_begun, moved_back, outside, part_rows}
-pub use Rattle.source_rows.specs.Skeletons.{kept, not_over, skeleton}
 pub use Rattle.source_rows.specs.Types.{is_type_over, type_from, type_step}
 unfoldable pub use Rattle.source_rows.specs.Types.{type_read}
 pub use Rattle.source_rows.specs.Views.{outer_view, part_view}
-pub use Rattle.std.proofs.lemmas.Bool.Decides.{Decides-and, Decides-eqb, Decides-like, nat_tests, same_from_decides}

@@ -1,13 +1,11 @@
 -- Steps of what is done in turns.
-use Rattle.std.proofs.Common.{◌≡◌, ◌<◌, ◌≤◌, ◌+◌, ℕ, suc, true, false, List, [], ◌∷◌, ◌++◌, length, map, drop, get_or, refl, ap, sym, ◌∙◌, arith, append_assoc, append-nil, Option, Bool, nat_le, codes}
+use Rattle.std.proofs.Common.{◌≡◌, ◌<◌, ◌+◌, ℕ, suc, true, false, List, [], ◌∷◌, ◌++◌, length, drop, get_or, refl, ap, sym, ◌∙◌, arith, append_assoc, Option, Bool, codes}
 use Rattle.std.proofs.Math.Seq.{drop-cons}
-use Rattle.source_rows.proofs.Common.{nat_tests, Tokens, not_first, Spacing, gap_text, is_over, spacing_behind, spaced_tokens, spaced_from, Outer, Part, still_open, parts_of, around_behind, item_parts_from, outside, holes_begun, part_view}
+use Rattle.source_rows.proofs.Common.{Tokens, not_first, Spacing, gap_text, is_over, spacing_behind, spaced_tokens, spaced_from, Outer, Part, still_open, parts_of, around_behind, item_parts_from}
 use Rattle.hir_input.specs.declared.edition.EditionYear.{EditionYear}
 use Rattle.rust_lexer.specs.Piece.{Piece}
 use Rattle.source_rows.specs.Labels.{label}
 use Rattle.rust_cursor.specs.Words.{text, is_empty, bumped}
-use Rattle.source_rows.specs.declared.kept.Hole.{Hole}
-use Rattle.source_rows.specs.declared.items.Part as code_part
 use Rattle.rust_items.specs.declared.source_file.ItemPlace.{ItemPlace}
 
 -- ---- headers
@@ -49,7 +47,7 @@ path_label word path name =
 -- ---- lists
 
 -- what stands behind a place of a list
-drop_next : {A : Type 0} (xs : List A) (i : ℕ) (x : A) → i < length xs → x ≡ get_or xs i x → drop i xs ≡ x ∷ drop (i + 1) xs
+pub drop_next : {A : Type 0} (xs : List A) (i : ℕ) (x : A) → i < length xs → x ≡ get_or xs i x → drop i xs ≡ x ∷ drop (i + 1) xs
 drop_next xs i x h e = let one : suc i ≡ i + 1 = omega arith in drop-cons xs i x h ∙ (λ k. sym e k ∷ drop (one k) xs)
 
 -- one more item
@@ -61,34 +59,3 @@ parts_more edition text done pushed around open_around next items i s all h e o 
     (λ k. p k ++ item_parts_from edition text (n k) rest) ∙ append_assoc done (parts_of edition text open_around s) (item_parts_from edition text (around_behind text open_around s.id.kind s) rest)
     ∙ (λ k. done ++ (parts_of edition text (o k) s ++ item_parts_from edition text (around_behind text (o k) s.id.kind s) rest))
     ∙ ap (λ (ss : List ItemPlace). done ++ item_parts_from edition text around ss) (sym (drop_next items i s h e)) ∙ inv
-
--- ---- what of parts are no tokens of those around them
-
-later : (place start : ℕ) → start < place → nat_le place start ≡ false
-later place start h = grind (arith, nat_tests)
-
-there : (place start : ℕ) → place ≤ start → nat_le place start ≡ true
-there place start h = grind (arith, nat_tests)
-
-begun_first : (place : ℕ) (q : Part) (qs : List Part) → q.range.start < place → holes_begun place (q ∷ qs) ≡ outside q.range q.kept ++ holes_begun place qs
-begun_first place q qs h = rw (later place q.range.start h) refl
-
-begun_none : (place : ℕ) (q : Part) (qs : List Part) → place ≤ q.range.start → holes_begun place (q ∷ qs) ≡ []
-begun_none place q qs h = rw (there place q.range.start h) refl
-
--- one more part
-pub begun_more : (place : ℕ) (done pushed : List Hole) (parts : List code_part.Part) (i : ℕ) (q : code_part.Part) (all : List Hole) → i < length parts → q ≡ get_or parts i q → q.range.start < place
-    → pushed ≡ done ++ outside q.range q.kept → done ++ holes_begun place (map part_view (drop i parts)) ≡ all → pushed ++ holes_begun place (map part_view (drop (i + 1) parts)) ≡ all
-begun_more place done pushed parts i q all h e b p inv =
-    let rest : List Part = map part_view (drop (i + 1) parts) in
-    ap (λ (hs : List Hole). hs ++ holes_begun place rest) p ∙ append_assoc done (outside q.range q.kept) (holes_begun place rest)
-    ∙ ap (λ (hs : List Hole). done ++ hs) (sym (begun_first place (part_view q) rest b))
-    ∙ ap (λ (qs : List code_part.Part). done ++ holes_begun place (map part_view qs)) (sym (drop_next parts i q h e)) ∙ inv
-
--- the first part that does not begin before the place
-pub begun_stop : (place : ℕ) (done : List Hole) (parts : List code_part.Part) (i : ℕ) (q : code_part.Part) (all : List Hole) → i < length parts → q ≡ get_or parts i q → place ≤ q.range.start
-    → done ++ holes_begun place (map part_view (drop i parts)) ≡ all → done ≡ all
-begun_stop place done parts i q all h e b inv =
-    let rest : List Part = map part_view (drop (i + 1) parts) in
-    sym (append-nil done) ∙ ap (λ (hs : List Hole). done ++ hs) (sym (begun_none place (part_view q) rest b))
-    ∙ ap (λ (qs : List code_part.Part). done ++ holes_begun place (map part_view qs)) (sym (drop_next parts i q h e)) ∙ inv

@@ -1,10 +1,10 @@
+pub mod Comments
 pub mod Labels
 pub mod Blanks
 pub mod Headers
 pub mod Hiding
 pub mod Bodies
 pub mod Parts
-pub mod Rows
 pub mod Sources
 pub mod Ends
 pub mod Places
@@ -14,13 +14,4 @@ pub mod Enabled
 pub mod Types
 pub mod Listed
 pub mod ListedViews
-pub mod DocAttributes
-pub mod Skeletons
-pub mod Matches
-pub mod ChangeWords
-pub mod Changes
-pub mod Inner
-pub mod ChangeViews
-pub mod Outside
-pub mod Moves
 pub mod ListedFiles

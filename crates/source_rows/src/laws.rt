@@ -1,16 +1,13 @@
 //! What holds of the types here. Each derive is held to it by a clause; the functions do nothing.
 
-ghost use Rattle.hir_input.specs.Equality.{IsByValue, IsCopied};
-ghost use Rattle.std.specs.Prelude.{◌≡◌, List, Decides};
+ghost use Rattle.hir_input.specs.Equality.{IsCopied};
+ghost use Rattle.std.specs.Prelude.{◌≡◌, List};
 ghost use Rattle.hir_input.specs.Attr.{MetaView, metas_from};
 ghost use Rattle.hir_input.specs.Cfg.{AtomView};
 ghost use Rattle.rust_metas.specs.Docs.{kept_metas};
 ghost use Rattle.rust_metas.specs.declared.wanted.WantedMetas.TheVariants as wanted;
 ghost use Rattle.source_rows.specs.Enabled.{any_disables};
 
-use crate::change_kind::ChangeKind;
-use crate::compare::{Change, Row};
-use crate::kept::{Hole, Skeleton};
 use crate::labels::KindTexts;
 use crate::reading::Reading;
 use crate::source::Source;
@@ -25,28 +22,6 @@ fn kinds()
 
 fn sources()
     ensures { IsCopied ⟦<Source<'static> as Clone>⟧.is_clone }
-{}
-
-fn holes()
-    ensures equal { (a b : Hole) → Decides (⟦<Hole as PartialEq>⟧.eq a b) (a ≡ b) }
-    ensures copied { (source copy : Hole) → ⟦<Hole as Clone>⟧.is_clone source copy → copy ≡ source }
-{}
-
-fn rows()
-    ensures { IsCopied ⟦<Row<'static> as Clone>⟧.is_clone }
-{}
-
-fn skeletons()
-    ensures { IsCopied ⟦<Skeleton<'static> as Clone>⟧.is_clone }
-{}
-
-fn changes()
-    ensures copied { (source copy : Change) → ⟦<Change<'static> as Clone>⟧.is_clone source copy
-        → copy ≡ source }
-{}
-
-fn change_kinds()
-    ensures { IsByValue ⟦<ChangeKind as PartialEq>⟧.eq ⟦<ChangeKind as Clone>⟧.is_clone }
 {}
 
 /// What a cfg disables is told by the metas that tell conditions.

@@ -1,6 +1,6 @@
 -- Items found by their ids.
 use Rattle.std.proofs.Common.{◌≡◌, ◌≢◌, ℕ, suc, zero, ◌<◌, ◌-◌, ◌==◌, List, [], ◌∷◌, Bor, length, drop, take, map, Option, Some, None, IsSome, refl, sym, ap, ◌∙◌, subst, arith, ⊎_elim, slice_index_or, AllPairs, flat_map}
-use Rattle.source_session.proofs.Common.{option_map_or, cases_Bool, nat_tests, length-drop, take_all, Crate, FileAstId, Unfolding, Place, File, Block, State, unfolding_at, node_name, declaration_id, Entry, IsDeclared, AreDistinct, bare_segment, SourceText, HaveDistinctIds, declared_scope, found_with, head_scope, found_value, IsPlaced, found_scope, text_bytes, text_places, Texts, text_of_place, text_in}
+use Rattle.source_session.proofs.Common.{option_map_or, cases_Bool, nat_tests, length-drop, take_all, Crate, FileAstId, Unfolding, Place, File, Block, State, unfolding_at, node_name, declaration_id, Entry, IsDeclared, bare_segment, declared_scope, found_with, head_scope, found_value, found_scope, text_bytes, text_places, Texts, text_of_place}
 use Rattle.line_index.specs.declared.Units.{Units}
 use Rattle.item_tree.specs.Layout.{node_at}
 use Rattle.item_tree.specs.Shown.{IsContained}
@@ -66,16 +66,6 @@ scope_later id k ds (d ∷ found) once some e =
 -- names one after another
 pub segments_are : (names : List (Bor (List ℕ))) → flat_map (λ n. bare_segment n.now) names ≡ flat_map bare_segment (map (λ n. n.now) names)
 segments_are names = sym (segments_of (λ n. n.now) names)
-
--- ---- where items stand
-
-places_distinct : (t : Option SourceText) → IsPlaced t → AreDistinct (text_places t)
-places_distinct None h = λ i j p less within. absurd (omega (arith, less, within))
-places_distinct (Some t) h = h
-
-pub all_placed : (texts : Texts) → ((file : ℕ) → IsPlaced (text_in texts file)) → HaveDistinctIds texts
-all_placed texts h (File file) = places_distinct (text_in texts file.0) (h file.0)
-all_placed texts h (Block block) = places_distinct None tt
 
 -- ---- entries
 

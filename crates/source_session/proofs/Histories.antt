@@ -1,6 +1,6 @@
--- Edits of two goes, and whole conversations.
+-- Whole conversations.
 use Rattle.std.proofs.Common.{◌≡◌, ◌⊎◌, ℕ, inl, inr, List, [], ◌∷◌, ◌++◌, Bool, true, false, Option, Some, None, Ok, Err, codes, length, take, refl, sym, ap, subst, ◌∙◌, append_assoc, arith}
-use Rattle.source_session.proofs.Common.{take_all, unwrap_or, EditionYear, EditionView, Reading, right, wrong, pointer_behind, EditView, last_some, after_join, after_none, last_append, or_else, LineError, NotJson, NotRequest, NotChanged, Refused, TooLong, OutOfMemory, Settings, Asked, first_line, later_line, Open, Outcome, Reply, Replies, IsCarriedOut, IsOutcome, IsRefusedAs, IsReplyUnless, IsReplyOf, IsReply, asked_of, of_session, of_opened, id_value, reply_number, reply_text, out_of_memory, Session, new_session, AreMade, IsUnedited, TextChange, FileTexts, text_in, text_after, left_text, AreMeant}
+use Rattle.source_session.proofs.Common.{take_all, unwrap_or, EditionYear, EditionView, Reading, right, wrong, pointer_behind, EditView, last_some, after_none, LineError, NotJson, NotRequest, NotChanged, Refused, TooLong, OutOfMemory, Settings, Asked, first_line, later_line, Open, Outcome, Reply, Replies, IsCarriedOut, IsOutcome, IsRefusedAs, IsReplyUnless, IsReplyOf, IsReply, asked_of, crate_count, of_session, of_opened, opened_session, id_value, reply_number, reply_text, out_of_memory, Session, AreMade, IsUnedited, TextChange, FileTexts, text_in, text_after, left_text, AreMeant}
 use Rattle.serde_json.specs.Data.{Data, Members}
 use Rattle.serde_json.specs.Find.{as_object}
 use Rattle.serde_json.specs.Written.{has_float}
@@ -11,25 +11,16 @@ use Rattle.message_stream.specs.Served.{Turn, IsServed, messages_of}
 use Rattle.message_stream.proofs.Each.{served_each}
 use Rattle.source_session.specs.Replies.{session_conduct}
 use Rattle.source_session.specs.Histories.{Says, Exchange, answer_of, AsksNext, AsksFirst, StandAll, StandFirst, Stand, StandOf, IsLedOn, AreOf, OpensNone, IsLedByAnswers, IsLedOnByAnswers}
-use Rattle.source_session.proofs.Made.{same_length}
-use Rattle.source_session.proofs.Meant.{meant_over}
-
--- edits in two goes
-pub made_join : (s u v : Session) (es fs : List EditView) (cs ds : List TextChange) → AreMade s es cs u → AreMade u fs ds v → AreMade s (es ++ fs) (cs ++ ds) v
-made_join s u v es fs cs ds a b = record {
-  count = b.count ∙ a.count;
-  edition = b.edition ∙ a.edition;
-  table = after_join s.table u.table v.table es fs a.table b.table;
-  texts = λ file.
-      b.texts file
-      ∙ ap (unwrap_or (last_some (left_text file) ds)) (a.texts file)
-      ∙ sym (or_else (last_some (left_text file) ds) (last_some (left_text file) cs) (text_in s.texts file))
-      ∙ ap (λ o. unwrap_or o (text_in s.texts file)) (sym (last_append (left_text file) cs ds));
-}
+use Rattle.source_session.specs.Errors.{edit_error}
+use Rattle.text_session.specs.declared.error.EditError.{EditError}
+use Rattle.text_session.specs.declared.error.EditError.TheVariants as edits
+use Rattle.text_session.proofs.Made.{made_join}
+use Rattle.text_session.proofs.Read.{same_length}
+use Rattle.text_session.proofs.Meant.{meant_over}
 
 -- none
 made_none : (s : Session) → AreMade s [] [] s
-made_none s = record { count = refl; edition = refl; table = after_none s.table; texts = λ file. refl }
+made_none s = record { edition = refl; table = after_none s.table; texts = λ file. refl }
 
 -- ---- what a line leads to, by its answer
 
@@ -48,17 +39,14 @@ module _ (s : Session) (Asks : Asked → Type 0) (a : Asked) (asks : Asks a) whe
   stand_stopped es cs n (inl z) = inl (ap (λ k. take k es) z, ap (λ k. take k cs) z)
   stand_stopped es cs n (inr meant) = inr (n, (es, cs, (a, asks, meant), refl, refl))
 
-  led_undone : (u : Session) (e : LineError) → IsUnedited s a.edits u e → LedOn s u Asks (Err e)
-  led_undone u (Refused place cause) h = record { edits = take place h.edits; changes = take place h.changes; made = h.made; stand = (h.edits, h.changes, (a, asks, h.meant), refl, refl) }
-  led_undone u (NotChanged place cause) h = led_still s u Asks (Err (NotChanged place cause)) h.1 (refl, refl)
-  led_undone u OutOfMemory h = record { edits = take h.count h.edits; changes = take h.count h.changes; made = h.made; stand = stand_stopped h.edits h.changes h.count h.meant }
-  led_undone u (NotJson column) h = absurd h
-  led_undone u (NotRequest pointer) h = absurd h
-  led_undone u TooLong h = absurd h
+  led_undone : (u : Session) (why : EditError) → IsUnedited s a.edits u why → LedOn s u Asks (Err (edit_error why))
+  led_undone u (edits.Refused place cause) h = record { edits = take place h.edits; changes = take place h.changes; made = h.made; stand = (h.edits, h.changes, (a, asks, h.meant), refl, refl) }
+  led_undone u (edits.NotChanged place cause) h = led_still s u Asks (Err (NotChanged place cause)) h.1 (refl, refl)
+  led_undone u edits.OutOfMemory h = record { edits = take h.count h.edits; changes = take h.count h.changes; made = h.made; stand = stand_stopped h.edits h.changes h.count h.meant }
 
   led_done : (u : Session) (outcome : Outcome) → IsCarriedOut s a u outcome → LedOn s u Asks outcome
   led_done u (Ok values) h = record { edits = h.0.edits; changes = h.0.changes; made = h.0.made; stand = (a, asks, h.0.meant) }
-  led_done u (Err e) h = led_undone u e h
+  led_done u (Err e) h = subst (λ x. LedOn s u Asks (Err x)) (sym h.1) (led_undone u h.0 h.2)
 
 -- if there is no memory for the answer
 stand_unsaid : (Asks : Asked → Type 0) (edition : EditionYear) (texts : FileTexts) (outcome : Outcome) (es : List EditView) (cs : List TextChange) → Stand outcome Asks edition texts es cs → Stand (Err OutOfMemory) Asks edition texts es cs
@@ -124,37 +112,37 @@ exchange_of line text a = record { line = line; answer = text; outcome = a.outco
 
 -- of an open session
 abbrev GoesOn : Session → List ℕ → Open → Outcome → Type 0
-GoesOn s line new outcome = (u : Session) × (new ≡ Some u) × LedOn s u (AsksNext s.count line) outcome
+GoesOn s line new outcome = (u : Session) × (new ≡ Some u) × LedOn s u (AsksNext (crate_count s) line) outcome
 
 goes_refused : (s : Session) (line : List ℕ) (new : Open) (e : LineError) → OpensNone (Err e) → new ≡ Some s → GoesOn s line new (Err e)
-goes_refused s line new e none same = (s, same, led_still s s (AsksNext s.count line) (Err e) refl (none_stand (AsksNext s.count line) s.edition.0 (text_in s.texts) e none))
+goes_refused s line new e none same = (s, same, led_still s s (AsksNext (crate_count s) line) (Err e) refl (none_stand (AsksNext (crate_count s) line) s.edition.0 (text_in s.texts) e none))
 
-goes_asked : (s : Session) (line : List ℕ) (d : Data) → IsJsonText line d → (r : Reading Asked) → later_line s.count d ≡ r → (new : Open) (outcome : Outcome) → IsOutcome (Some s) (of_session s r) new outcome → GoesOn s line new outcome
-goes_asked s line d text (right a) e new outcome h = (h.0, h.1, led_done s (AsksNext s.count line) a (d, text, e) h.0 outcome h.2)
+goes_asked : (s : Session) (line : List ℕ) (d : Data) → IsJsonText line d → (r : Reading Asked) → later_line (crate_count s) d ≡ r → (new : Open) (outcome : Outcome) → IsOutcome (Some s) (of_session s r) new outcome → GoesOn s line new outcome
+goes_asked s line d text (right a) e new outcome h = (h.0, h.1, led_done s (AsksNext (crate_count s) line) a (d, text, e) h.0 outcome h.2)
 goes_asked s line d text (wrong pointer) e new outcome h =
     subst (λ o. GoesOn s line new o) (sym h.1) (goes_refused s line new (NotRequest pointer) tt h.0)
 
 goes_line : (s : Session) (line : List ℕ) (told : Told) (new : Open) (text : List ℕ) → IsToldOf line told → Replies (Some s) told new text → Answered (GoesOn s line new) text
 goes_line s line told new text t h =
-    let goes = by_told (Some s) line new h.0 (GoesOn s line new) (goes_refused s line new) (λ d is o. goes_asked s line d is (later_line s.count d) refl new h.0.outcome o) told t h.1 in
-    answered (GoesOn s line new) new h.0 text goes (λ g. (g.0, g.1, led_unsaid s g.0 (AsksNext s.count line) h.0.outcome g.2)) h.2
+    let goes = by_told (Some s) line new h.0 (GoesOn s line new) (goes_refused s line new) (λ d is o. goes_asked s line d is (later_line (crate_count s) d) refl new h.0.outcome o) told t h.1 in
+    answered (GoesOn s line new) new h.0 text goes (λ g. (g.0, g.1, led_unsaid s g.0 (AsksNext (crate_count s) line) h.0.outcome g.2)) h.2
 
 -- of a conversation without a session
 abbrev Opens : List ℕ → Open → Outcome → Type 0
 Opens line new outcome =
-    (settings : Settings) × (asked : Asked) × AsksFirst settings line asked × ((u : Session) × (new ≡ Some u) × LedOn (new_session settings) u (AsksFirst settings line) outcome)
+    (settings : Settings) × (asked : Asked) × AsksFirst settings line asked × ((u : Session) × (new ≡ Some u) × LedOn (opened_session settings) u (AsksFirst settings line) outcome)
 
 abbrev Begins : List ℕ → Open → Outcome → Type 0
 Begins line new outcome = ((new ≡ None) × OpensNone outcome) ⊎ Opens line new outcome
 
 begins_asked : (line : List ℕ) (d : Data) → IsJsonText line d → (r : Reading (Settings × Asked)) → first_line d ≡ r → (new : Open) (outcome : Outcome) → IsOutcome None (of_opened r) new outcome → Begins line new outcome
 begins_asked line d text (right (settings, a)) e new outcome h =
-    inr (settings, a, (d, text, e), (h.0, h.1, led_done (new_session settings) (AsksFirst settings line) a (d, text, e) h.0 outcome h.2))
+    inr (settings, a, (d, text, e), (h.0, h.1, led_done (opened_session settings) (AsksFirst settings line) a (d, text, e) h.0 outcome h.2))
 begins_asked line d text (wrong pointer) e new outcome h = subst (λ o. Begins line new o) (sym h.1) (inl (h.0, tt))
 
 begins_unsaid : (line : List ℕ) (new : Open) (outcome : Outcome) → Begins line new outcome → Begins line new (Err OutOfMemory)
 begins_unsaid line new outcome (inl n) = inl (n.0, tt)
-begins_unsaid line new outcome (inr o) = inr (o.0, o.1, o.2, (o.3.0, o.3.1, led_unsaid (new_session o.0) o.3.0 (AsksFirst o.0 line) outcome o.3.2))
+begins_unsaid line new outcome (inr o) = inr (o.0, o.1, o.2, (o.3.0, o.3.1, led_unsaid (opened_session o.0) o.3.0 (AsksFirst o.0 line) outcome o.3.2))
 
 begins_line : (line : List ℕ) (told : Told) (new : Open) (text : List ℕ) → IsToldOf line told → Replies None told new text → Answered (Begins line new) text
 begins_line line told new text t h =
@@ -198,11 +186,11 @@ stand_of_over count edition old new same (x ∷ xs) es cs h = (
 
 -- ---- all lines
 
-led_further : (Asks : List ℕ → Asked → Type 0) (s u : Session) (x : Exchange) (xs : List Exchange) (new : Open) → LedOn s u (Asks x.line) x.outcome → IsLedOn (AsksNext u.count) u xs new → IsLedOn Asks s (x ∷ xs) new
+led_further : (Asks : List ℕ → Asked → Type 0) (s u : Session) (x : Exchange) (xs : List Exchange) (new : Open) → LedOn s u (Asks x.line) x.outcome → IsLedOn (AsksNext (crate_count u)) u xs new → IsLedOn Asks s (x ∷ xs) new
 led_further Asks s u x xs new led rest =
-    let by_count = subst (λ k. StandOf (AsksNext k) k u.edition.0 (text_in u.texts) xs rest.edits rest.changes) led.made.count rest.stand in
-    let by_edition = subst (λ (e : EditionView). StandOf (AsksNext s.count) s.count e.0 (text_in u.texts) xs rest.edits rest.changes) led.made.edition by_count in
-    let by_texts = stand_of_over s.count s.edition.0 (text_in u.texts) (text_after (text_in s.texts) led.changes) led.made.texts xs rest.edits rest.changes by_edition in
+    let by_count = subst (λ k. StandOf (AsksNext k) k u.edition.0 (text_in u.texts) xs rest.edits rest.changes) led.made.table.count rest.stand in
+    let by_edition = subst (λ (e : EditionView). StandOf (AsksNext (crate_count s)) (crate_count s) e.0 (text_in u.texts) xs rest.edits rest.changes) led.made.edition by_count in
+    let by_texts = stand_of_over (crate_count s) s.edition.0 (text_in u.texts) (text_after (text_in s.texts) led.changes) led.made.texts xs rest.edits rest.changes by_edition in
     record {
       session = rest.session;
       is_open = rest.is_open;
@@ -225,7 +213,7 @@ goes_on s (line ∷ lines) new text h =
     let rest = goes_on a.holds.0 lines new h.3 (subst (λ o. IsServedEach Replies o lines new h.3) a.holds.1 h.7) in (
       exchange_of line h.2 a ∷ rest.0,
       are_more (exchange_of line h.2 a) rest.0 lines text h.3 h.6 rest.1,
-      led_further (AsksNext s.count) s a.holds.0 (exchange_of line h.2 a) rest.0 new a.holds.2 rest.2,
+      led_further (AsksNext (crate_count s)) s a.holds.0 (exchange_of line h.2 a) rest.0 new a.holds.2 rest.2,
     )
 
 -- behind a line that opens no session
@@ -238,7 +226,7 @@ opened_more : (x : Exchange) (lines : List (List ℕ)) (text later : List ℕ) (
     → IsLedOnByAnswers o.3.0 lines later new
     → IsLedByAnswers (x.line ∷ lines) text new
 opened_more x lines text later next new parts o rest =
-    let led = led_further (AsksFirst o.0) (new_session o.0) o.3.0 x rest.0 new o.3.2 rest.2 in
+    let led = led_further (AsksFirst o.0) (opened_session o.0) o.3.0 x rest.0 new o.3.2 rest.2 in
     (x ∷ rest.0, are_more x rest.0 lines text later parts rest.1, inr (record { settings = o.0; asked = o.1; opens = o.2; led = led }))
 
 led_by_answers : (lines : List (List ℕ)) (new : Open) (text : List ℕ) → IsServedEach Replies None lines new text → IsLedByAnswers lines text new

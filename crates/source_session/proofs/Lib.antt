@@ -3,15 +3,9 @@ pub mod Pieces
 pub mod Paths
 pub mod Finders
 pub mod Matches
-pub mod Kept
 pub mod Ranges
-pub mod Spliced
-pub mod Meant
-pub mod Read
-pub mod Touching
-pub mod Made
-pub mod Alone
 pub mod Named
+pub mod Sizes
 pub mod Histories
 pub mod Feeds
 pub mod Common

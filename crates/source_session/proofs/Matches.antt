@@ -11,7 +11,7 @@ use Rattle.source_listing.proofs.NoFloats.{flat_none, map_none}
 use Rattle.source_session.proofs.Common.{All-weaker, AreUnfloating, Block, Crate, File, FileAstId, Place, Session, State, id_form, text_bytes, text_of_place, text_places, text_reading, unfolding_at}
 use Rattle.source_session.specs.Searches.{change_matches, match_at, match_form, match_in_file, match_spot, query_of}
 use Rattle.source_session.specs.Sought.{Searched}
-use Rattle.source_session.specs.SourceTexts.{member_options}
+use Rattle.source_session.specs.ShownTexts.{member_options}
 
 -- ---- trees
 

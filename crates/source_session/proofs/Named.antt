@@ -1,6 +1,6 @@
 -- Crates that lines name, and values without floats.
-use Rattle.std.proofs.Common.{◌≡◌, Bool, ℕ, ◌+◌, ◌<◌, suc, false, ◌||◌, List, [], ◌∷◌, ◌++◌, Option, Some, None, is_some, option_map, All, length, map, filter, take, get_or, refl, sym, ap, subst, ◌∙◌, arith}
-use Rattle.source_session.proofs.Common.{take_more, AllByRecursion, AllZip, Crate, FileAstId, Edit, Place, File, Block, edit_view, NamesKnown, State, change_number, Knows, Entry, ItemPlace, Table, Outline, TreeItems, ImportPlaces, Changes, Problems, Find, Search, ast_of, found_form, found_value, id_form, in_file, place_by_id, AreUnfloating, Knowing, Session, all_items, change_form, change_with, item_objects, items_member, pathless_source, shown_tree, unset_form, unset_place, IsPresentValue, IsShowValue, IsValueUnless, is_sought, text_bytes, text_places, places_of_text, text_problems, text_reading, Texts, text_of_place, text_in}
+use Rattle.std.proofs.Common.{◌≡◌, Bool, ℕ, ◌+◌, ◌<◌, ◌^◌, suc, false, ◌||◌, List, [], ◌∷◌, ◌++◌, Option, Some, None, is_some, option_map, All, length, map, filter, take, get_or, refl, sym, ap, subst, ◌∙◌, arith}
+use Rattle.source_session.proofs.Common.{take_more, AllByRecursion, AllZip, Crate, FileAstId, Edit, Place, File, Block, edit_view, NamesKnown, State, change_number, Knows, Entry, ItemPlace, Table, Outline, TreeItems, ImportPlaces, Changes, Problems, Find, Search, ast_of, found_form, found_value, id_form, in_file, place_by_id, AreUnfloating, IsOwn, IsUsable, NamesCrateOf, text_edit_view, crate_limit, crate_count, opened_session, settings_view, crate_view, length-map, length-take, All-weaker, IsCrateOf, ShowNamesCrate, Session, all_items, change_form, change_with, item_objects, items_member, pathless_source, shown_tree, unset_form, unset_place, IsPresentValue, IsShowValue, IsValueUnless, is_sought, text_bytes, text_places, places_of_text, text_problems, text_reading, Texts, text_of_place, text_in}
 use Rattle.serde_json.specs.Data.{Data}
 use Rattle.serde_json.specs.Written.{has_float}
 use Rattle.hir_input.specs.declared.ids.HirFileId.{HirFileId}
@@ -9,28 +9,83 @@ use Rattle.item_tree_db.specs.Since.{Change}
 use Rattle.item_tree_request.specs.declared.request.show.Show.{Show}
 use Rattle.item_tree_request.specs.declared.request.show.Show.TheVariants.{OfTree, Changed}
 use Rattle.item_tree_request.specs.Named as request
-use Rattle.source_listing.proofs.NoFloats.{no_float_in_outline, no_float_in_imports, no_float_in_problems}
+use Rattle.source_listing.proofs.NoFloats.{no_float_in_outline, no_float_in_problems}
+use Rattle.source_imports.proofs.NoFloats.{no_float_in_imports}
 use Rattle.line_index.specs.declared.Units.{Units}
 use Rattle.source_session.proofs.Matches.{no_float_id, no_float_in_matches}
-use Rattle.source_session.specs.SourceTexts.{member_options}
+use Rattle.source_session.specs.ShownTexts.{member_options}
+use Rattle.source_session.specs.declared.line.Asked as code_asked
+use Rattle.source_session.specs.declared.line.Settings as code_settings
+use Rattle.text_session.specs.declared.edit.TextEdit as code
+use Rattle.text_session.specs.declared.edit.TextEdit.TheVariants.{SetText, ChangeText}
+use Rattle.text_session.specs.declared.edit.TextEdit.TheVariants as edits
 use Rattle.source_session.specs.declared.show.LineShow.{LineShow}
 
 -- ---- crates
 
-pub show_known : (count : ℕ) (table : State) → Knowing count table → (show : Show) → request.NamesCrate count show → Knows table show
-show_known count table known (OfTree show) named = known show.krate.0 named.0 named.1
-show_known count table known (Changed since) named = tt
+pub show_known : (table : State) (show : Show) → request.NamesCrate (length table.crates) show → Knows table show
+show_known table (OfTree show) named = named.0
+show_known table (Changed since) named = tt
 
-edit_known : (count : ℕ) (table : State) → Knowing count table → (e : Edit) → request.EditNamesCrate count e → NamesKnown table (edit_view e)
-edit_known count table known (SetFile file syntax) named = tt
-edit_known count table known (RemoveFile file) named = tt
-edit_known count table known (SetBlock block syntax) named = tt
-edit_known count table known (RemoveBlock block) named = tt
-edit_known count table known (SetCfg krate options) named = known krate.0 named.0 named.1
+edit_known : (table : State) (e : Edit) → request.EditNamesCrate (length table.crates) e → NamesKnown table (edit_view e)
+edit_known table (SetFile file syntax) named = tt
+edit_known table (RemoveFile file) named = tt
+edit_known table (SetBlock block syntax) named = tt
+edit_known table (RemoveBlock block) named = tt
+edit_known table (SetCfg krate options) named = named.0
 
-pub edits_known : (count : ℕ) (table : State) → Knowing count table → (es : List Edit) → All (request.EditNamesCrate count) es → AllByRecursion (NamesKnown table) (map edit_view es)
-edits_known count table known [] named = tt
-edits_known count table known (e ∷ es) named = (edit_known count table known e (named 0 e (omega arith)), edits_known count table known es (λ k d within. named (suc k) d (omega (arith, within))))
+usable_known : (table : State) (e : code.TextEdit) → IsUsable (length table.crates) e → NamesCrateOf table (text_edit_view e)
+usable_known table (edits.Table e) named = edit_known table e named
+usable_known table (SetText file text) named = tt
+usable_known table (ChangeText file range text) named = tt
+
+pub edits_known : (table : State) (es : List code.TextEdit) → All (IsUsable (length table.crates)) es → AllByRecursion (NamesCrateOf table) (map text_edit_view es)
+edits_known table [] named = tt
+edits_known table (e ∷ es) named = (usable_known table e (named 0 e (omega arith)), edits_known table es (λ k d within. named (suc k) d (omega (arith, within))))
+
+-- ---- a list of crates of which those that have a number are taken
+
+module _ (m n : ℕ) (fewer : (k : ℕ) → k < m → k < 2 ^ 32 → k < n) where
+  edit_over : (e : Edit) → request.EditNamesCrate m e → request.EditNamesCrate n e
+  edit_over (SetFile file syntax) h = tt
+  edit_over (RemoveFile file) h = tt
+  edit_over (SetBlock block syntax) h = tt
+  edit_over (RemoveBlock block) h = tt
+  edit_over (SetCfg krate options) h = (fewer krate.0 h.0 h.1, h.1)
+
+  usable_over : (e : code.TextEdit) → IsUsable m e → IsUsable n e
+  usable_over (edits.Table e) h = edit_over e h
+  usable_over (SetText file text) h = h
+  usable_over (ChangeText file range text) h = h
+
+  crate_over : (krate : Crate) → IsCrateOf m krate → IsCrateOf n krate
+  crate_over krate h = (fewer krate.0 h.0 h.1, h.1)
+
+  table_show_over : (show : Show) → request.NamesCrate m show → request.NamesCrate n show
+  table_show_over (OfTree show) h = (fewer show.krate.0 h.0 h.1, h.1)
+  table_show_over (Changed since) h = tt
+
+  show_over : (show : LineShow) → ShowNamesCrate m show → ShowNamesCrate n show
+  show_over (Table show) h = table_show_over show h
+  show_over (Outline krate file units has_members) h = crate_over krate h
+  show_over (TreeItems krate place units) h = crate_over krate h
+  show_over (ImportPlaces krate place units) h = crate_over krate h
+  show_over (Changes since) h = tt
+  show_over (Problems file units) h = tt
+  show_over (Find sought) h = tt
+  show_over (Search searched) h = tt
+
+  own_over : (a : code_asked.Asked) → IsOwn m a → IsOwn n a
+  own_over a h = record {
+    edits = All-weaker (IsUsable m) (IsUsable n) usable_over a.edits.items h.edits;
+    shows = All-weaker (ShowNamesCrate m) (ShowNamesCrate n) show_over a.shows.items h.shows;
+  }
+
+-- what the first line asks for names crates of the session that it opens
+pub own_opened : (s : code_settings.Settings) (a : code_asked.Asked) → IsOwn (length s.crates.items) a → IsOwn (crate_count (opened_session (settings_view s))) a
+own_opened s a own =
+    let views = map crate_view s.crates.items in
+    own_over (length s.crates.items) (length (take crate_limit views)) (λ k less small. omega (arith, less, small, length-take crate_limit views, length-map s.crates.items crate_view)) a own
 
 -- ---- floats
 
@@ -42,9 +97,9 @@ no_float_found : (units : Units) (texts : Texts) (place : Place) (krate : Crate)
 no_float_found units texts (File file) krate id = let t = text_in texts file.0 in no_float_in_file units file krate (id_form id) (text_bytes t) (place_by_id t id) (no_float_id id)
 no_float_found units texts (Block block) krate id = ap (λ b. b || false) (no_float_id id)
 
-no_float_in_found : (units : Units) (s : State) (texts : Texts) (entries : List Entry) → AreUnfloating (map (found_form units s texts) entries)
-no_float_in_found units s texts [] = refl
-no_float_in_found units s texts (e ∷ es) = rw (no_float_found units texts e.place e.krate (ast_of s e), no_float_in_found units s texts es) refl
+no_float_in_found : (units : Units) (u : Session) (entries : List Entry) → AreUnfloating (map (found_form units u) entries)
+no_float_in_found units u [] = refl
+no_float_in_found units u (e ∷ es) = rw (no_float_found units u.texts e.place e.krate (ast_of u.table e), no_float_in_found units u es) refl
 
 -- a change holds none beside what its items hold
 no_float_change : (items : List Data) (c : Change) → AreUnfloating items → has_float (change_with (items_member items) c) ≡ false
@@ -74,7 +129,7 @@ no_float_present u (ImportPlaces krate place units) d h = let t = text_of_place 
 no_float_present u (Changes since) d h = ap has_float h.2 ∙ no_float_in_changes h.0
 no_float_present u (Problems file units) d h = let t = text_in u.texts file.0 in ap has_float h ∙ no_float_in_problems units (text_bytes t) (text_problems t)
 no_float_present u (Search q) d h = ap has_float h.2 ∙ no_float_in_matches u q h.0
-no_float_present u (Find q) d h = ap has_float h.2 ∙ no_float_in_found q.units u.table u.texts (filter (is_sought u.table q) h.0)
+no_float_present u (Find q) d h = ap has_float h.2 ∙ no_float_in_found q.units u (filter (is_sought u.table q) h.0)
 
 no_float_unset : (place : Place) → has_float (unset_form place) ≡ false
 no_float_unset (File file) = refl

@@ -1,7 +1,7 @@
 -- Lines without what is read of them elsewhere.
 use Rattle.std.proofs.Common.{◌≡◌, ℕ, true, false, ◌||◌, if◌then◌else◌, bytes_eq, List, Option, Some, None, Ordering, Less, Equal, Greater, nat_cmp, is_eq, length, codes, is_none, refl, ap, sym, subst, ◌∙◌}
 use Rattle.std.proofs.lemmas.Map.Text.{is_eq-slice_cmp}
-use Rattle.source_session.proofs.Common.{bytes_eq-Decides, slice_cmp, match_ordering, option_map, unwrap_or, right, wrong, Tells, pointer_in, field, unless_null, with_null, without, field_without, is_known, unknown_key, only_known, Settings, settings, Asked, line_asked, first_line, later_line, Open, asked_of, of_opened, of_session}
+use Rattle.source_session.proofs.Common.{bytes_eq-Decides, slice_cmp, match_ordering, option_map, unwrap_or, right, wrong, Tells, pointer_in, field, unless_null, with_null, without, field_without, is_known, unknown_key, only_known, Settings, settings, Asked, line_asked, first_line, later_line, Open, asked_of, crate_count, of_opened, of_session}
 use Rattle.serde_json.specs.declared.value.Value.{Value}
 use Rattle.serde_json.specs.Data.{Data, null, boolean, number, string, array, object, Members, no_members, member}
 use Rattle.serde_json.specs.View.{view}
@@ -73,7 +73,7 @@ later_no_id count d =
 
 pub asked_no_id : (open_one : Open) (d : Data) → asked_of open_one (without (codes "id") d) ≡ asked_of open_one d
 asked_no_id None d = ap of_opened (first_no_id d)
-asked_no_id (Some s) d = ap (of_session s) (later_no_id s.count d)
+asked_no_id (Some s) d = ap (of_session s) (later_no_id (crate_count s) d)
 
 -- a value, or a null where there is none
 pub view_or_null : (o : Option Value) (v : Value) → view v ≡ null → view (unwrap_or o v) ≡ unwrap_or (option_map view o) null

@@ -4,20 +4,14 @@ use Rattle.serde_json.specs.Data.{Data, Items, no_items, item}
 use Rattle.serde_json.specs.Written.{has_float}
 use Rattle.hir_input_json.specs.Reading.{Reading, right, wrong, reading_map, here, under, ◌>>=◌}
 use Rattle.hir_input_json.specs.Forms.{required_at, on_word, number_form, whole_form, text_form, array_items, object_members}
-use Rattle.item_tree_db.specs.Edits as table
 use Rattle.item_tree_request.specs.Edits as request
 use Rattle.item_tree_request.specs.Named.{EditNamesCrate}
 use Rattle.rust_paths.specs.declared.names.TextRange.{TextRange}
 use Rattle.source_session.specs.declared.keys.LineObject.TheVariants.{OfEdits}
 use Rattle.source_session.specs.Keys.{only_known}
-use Rattle.source_session.specs.declared.edit.LineEdit as code
-use Rattle.source_session.specs.declared.edit.LineEdit.TheVariants.{Table, SetText, ChangeText}
-
--- an edit of a line: one of a request, a file set to what is read of a text, or a range of the text of a file replaced
-pub data LineEdit : Type 0 where
-  of_table : table.EditView → LineEdit
-  set_text : ℕ → List ℕ → LineEdit
-  change_text : ℕ → TextRange → List ℕ → LineEdit
+use Rattle.text_session.specs.declared.edit.TextEdit as code
+use Rattle.text_session.specs.declared.edit.TextEdit.TheVariants.{Table, SetText, ChangeText}
+use Rattle.text_session.specs.Edits.{TextEdit, of_table, set_text, change_text}
 
 -- so many bytes as the ids of items are distinct for
 abbrev pub IsShort : List ℕ → Type 0
@@ -34,7 +28,7 @@ short_text d = do
   here (if_short s)
 
 -- a file set to a text
-abbrev pub text_edit : Data → Reading LineEdit
+abbrev pub text_edit : Data → Reading TextEdit
 text_edit d = do
   file ← number_form (codes "file") d
   written ← required_at (codes "text") short_text d
@@ -57,7 +51,7 @@ range d = do
   range_in ds
 
 -- a range of the text of a file replaced
-abbrev pub change_edit : Data → Reading LineEdit
+abbrev pub change_edit : Data → Reading TextEdit
 change_edit d = do
   file ← number_form (codes "file") d
   place ← required_at (codes "range") range d
@@ -65,7 +59,7 @@ change_edit d = do
   right (change_text file place written)
 
 -- an edit of a table of this many crates, by its word
-abbrev pub edit_form : ℕ → Data → Reading LineEdit
+abbrev pub edit_form : ℕ → Data → Reading TextEdit
 edit_form count d = do
   _ ← object_members d
   _ ← only_known OfEdits d
@@ -73,19 +67,13 @@ edit_form count d = do
   on_word word (codes "set_text") (text_edit d) (on_word word (codes "change_text") (change_edit d) (reading_map of_table (request.edit count d)))
 
 -- the same of a value without a float
-abbrev pub line_edit : ℕ → Data → Reading LineEdit
+abbrev pub line_edit : ℕ → Data → Reading TextEdit
 line_edit count d = if has_float d then wrong [] else edit_form count d
 
 -- ---- what was read
 
--- an edit of a line as data
-abbrev pub line_edit_view : code.LineEdit → LineEdit
-line_edit_view (Table e) = of_table (table.edit_view e)
-line_edit_view (SetText file text) = set_text file.0 (string_bytes text)
-line_edit_view (ChangeText file range text) = change_text file.0 range (string_bytes text)
-
 -- a crate that it names is one of this many, and a text is short
-abbrev pub IsUsable : ℕ → code.LineEdit → Type 0
+abbrev pub IsUsable : ℕ → code.TextEdit → Type 0
 IsUsable count (Table e) = EditNamesCrate count e
 IsUsable count (SetText file text) = IsShort (string_bytes text)
 IsUsable count (ChangeText file range text) = IsShort (string_bytes text)

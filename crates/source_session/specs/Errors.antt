@@ -10,8 +10,10 @@ use Rattle.item_tree.specs.declared.fault.LowerError.TheVariants as lowering
 use Rattle.list_forms.specs.Lines.{count_form}
 use Rattle.source_session.specs.Expected.{expected_words}
 use Rattle.source_session.specs.declared.error.LineError.{LineError}
-use Rattle.source_session.specs.declared.splice.ChangeFault.{ChangeFault}
-use Rattle.source_session.specs.declared.splice.ChangeFault.TheVariants as change
+use Rattle.text_session.specs.declared.error.EditError.{EditError}
+use Rattle.text_session.specs.declared.error.EditError.TheVariants as edits
+use Rattle.text_session.specs.declared.splice.ChangeFault.{ChangeFault}
+use Rattle.text_session.specs.declared.splice.ChangeFault.TheVariants as change
 use Rattle.source_session.specs.declared.error.LineError.TheVariants.{NotJson, NotRequest, NotChanged, Refused, TooLong, OutOfMemory}
 
 -- the size that an edit passes, in words
@@ -39,6 +41,12 @@ kind_form kind = object (member (codes "kind") (string kind) no_members)
 abbrev pub line_error : Fault → LineError
 line_error (WrongForm pointer) = NotRequest pointer
 line_error fault.OutOfMemory = OutOfMemory
+
+-- what an error of edits is told as
+abbrev pub edit_error : EditError → LineError
+edit_error (edits.NotChanged place cause) = NotChanged place cause
+edit_error (edits.Refused place cause) = Refused place cause
+edit_error edits.OutOfMemory = OutOfMemory
 
 -- the object of an edit that changes no text
 abbrev pub unchanged_form : ℕ → ChangeFault → Data

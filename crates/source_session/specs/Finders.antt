@@ -8,7 +8,7 @@ use Rattle.item_tree.specs.Layout.{node_at}
 use Rattle.item_tree.specs.Node.{Unfolding, node_ast}
 use Rattle.item_tree_db.specs.declared.place.Place.{Place}
 use Rattle.item_tree_db.specs.declared.place.Place.TheVariants.{File, Block}
-use Rattle.item_tree_db.specs.State.{State, unfolding_at}
+use Rattle.item_tree_db.specs.State.{unfolding_at}
 use Rattle.tree_walk.specs.Declarations.{declared_at}
 use Rattle.tree_walk.specs.DeclarationView.{declaration_id}
 use Rattle.tree_walk.specs.declared.collector.Declaration as code
@@ -18,8 +18,9 @@ use Rattle.source_session.specs.declared.scopes.Scopes.{Scopes}
 use Rattle.source_session.specs.declared.found.EntryFinder.{EntryFinder}
 use Rattle.source_session.specs.Found.{id_form, in_block, in_file}
 use Rattle.source_session.specs.Sought.{own_scope}
-use Rattle.source_session.specs.SourceTexts.{text_bytes, text_places}
-use Rattle.source_session.specs.Texts.{Texts, text_of_place}
+use Rattle.text_session.specs.SourceTexts.{text_bytes, text_places}
+use Rattle.text_session.specs.Sessions.{Session}
+use Rattle.text_session.specs.Texts.{text_of_place}
 
 -- ---- what is around items
 
@@ -40,22 +41,18 @@ pub record KnowsScopes (u : Unfolding) (x : Scopes) : Type 0 where
 -- ---- and where they stand
 
 -- what finds items finds those of a crate's tree of a place
-pub record FindsIn (s : State) (texts : Texts) (at : Place) (of : Crate) (f : EntryFinder) : Type 0 where
+pub record FindsIn (u : Session) (at : Place) (of : Crate) (f : EntryFinder) : Type 0 where
   pub place : f.place ≡ at
   pub krate : f.krate ≡ of
-  pub tree : f.tree.now ≡ unfolding_at s at of.0
+  pub tree : f.tree.now ≡ unfolding_at u.table at of.0
   pub scopes : IfSome f.scopes (KnowsScopes f.tree.now)
-  pub lines : f.spots.lines ≡ text_bytes (text_of_place texts at)
-  pub places : f.spots.places ≡ text_places (text_of_place texts at)
+  pub lines : f.spots.lines ≡ text_bytes (text_of_place u.texts at)
+  pub places : f.spots.places ≡ text_places (text_of_place u.texts at)
   pub distinct : AreDistinct f.spots.places
 
 -- those of some place
-abbrev pub IsFinder : State → Texts → EntryFinder → Type 0
-IsFinder s texts f = FindsIn s texts f.place f.krate f
-
--- no two items of one text have the same id
-abbrev pub HaveDistinctIds : Texts → Type 0
-HaveDistinctIds texts = (place : Place) → AreDistinct (text_places (text_of_place texts place))
+abbrev pub IsFinder : Session → EntryFinder → Type 0
+IsFinder u f = FindsIn u f.place f.krate f
 
 -- the id of an item in its file
 abbrev pub ast_in : Unfolding → ℕ → Option FileAstId

@@ -21,10 +21,11 @@ use Rattle.decl_index.specs.Entries.{IsListing}
 use Rattle.rust_items.specs.declared.source_file.ItemPlace.{ItemPlace}
 use Rattle.list_forms.specs.Lines.{count_form}
 use Rattle.source_rows.specs.Places.{place_of, stands_at}
-use Rattle.source_session.specs.declared.texts.SourceText.{SourceText}
-use Rattle.source_session.specs.SourceTexts.{text_bytes, text_places}
+use Rattle.text_session.specs.declared.texts.SourceText.{SourceText}
+use Rattle.text_session.specs.SourceTexts.{text_bytes, text_places}
 use Rattle.source_session.specs.Sought.{SoughtItem, is_sought}
-use Rattle.source_session.specs.Texts.{Texts, text_in}
+use Rattle.text_session.specs.Sessions.{Session}
+use Rattle.text_session.specs.Texts.{Texts, text_in}
 
 -- the id of an entry's item in its file
 abbrev pub ast_of : State → Entry → Option FileAstId
@@ -64,9 +65,9 @@ found_value units texts (File file) krate id = let t = text_in texts file.0 in i
 found_value units texts (Block block) krate id = in_block block krate (id_form id)
 
 -- the object of an entry
-abbrev pub found_form : Units → State → Texts → Entry → Data
-found_form units s texts e = found_value units texts e.place e.krate (ast_of s e)
+abbrev pub found_form : Units → Session → Entry → Data
+found_form units u e = found_value units u.texts e.place e.krate (ast_of u.table e)
 
--- the objects of the entries of a table that are looked for
-abbrev pub IsFound : State → Texts → SoughtItem → Data → Type 0
-IsFound s texts q d = (entries : List Entry) × IsListing s entries × (d ≡ array (items_of (map (found_form q.units s texts) (filter (is_sought s q) entries))))
+-- the objects of the entries of the table that are looked for
+abbrev pub IsFound : Session → SoughtItem → Data → Type 0
+IsFound u q d = (entries : List Entry) × IsListing u.table entries × (d ≡ array (items_of (map (found_form q.units u) (filter (is_sought u.table q) entries))))

@@ -7,9 +7,9 @@ use Rattle.item_tree_db.specs.Edits.{EditView}
 use Rattle.item_tree_request.specs.Requests.{IsJsonText}
 use Rattle.source_session.specs.declared.error.LineError.TheVariants.{NotJson, NotRequest, NotChanged, Refused, TooLong, OutOfMemory}
 use Rattle.source_session.specs.Lines.{Settings, Asked, first_line, later_line}
-use Rattle.source_session.specs.Replies.{Open, Outcome, reply_text, out_of_memory}
-use Rattle.source_session.specs.Sessions.{Session, new_session, AreMade}
-use Rattle.source_session.specs.Texts.{TextChange, FileTexts, text_in, text_after, AreMeant}
+use Rattle.source_session.specs.Replies.{Open, Outcome, crate_count, opened_session, reply_text, out_of_memory}
+use Rattle.text_session.specs.Sessions.{Session, AreMade}
+use Rattle.text_session.specs.Texts.{TextChange, FileTexts, text_in, text_after, AreMeant}
 
 -- an answer says this outcome, under some id and number; or there was no memory for an answer
 abbrev pub Says : List ℕ → Outcome → Type 0
@@ -88,14 +88,14 @@ pub record IsLedOn (Asks : List ℕ → Asked → Type 0) (s : Session) (xs : Li
   pub edits : List EditView
   pub changes : List TextChange
   pub made : AreMade s edits changes session
-  pub stand : StandOf Asks s.count s.edition.0 (text_in s.texts) xs edits changes
+  pub stand : StandOf Asks (crate_count s) s.edition.0 (text_in s.texts) xs edits changes
 
 -- a line opens a session, which it and the later lines lead here
 pub record IsOpenedBy (x : Exchange) (later : List Exchange) (new : Open) : Type 0 where
   pub settings : Settings
   pub asked : Asked
   pub opens : AsksFirst settings x.line asked
-  pub led : IsLedOn (AsksFirst settings) (new_session settings) (x ∷ later) new
+  pub led : IsLedOn (AsksFirst settings) (opened_session settings) (x ∷ later) new
 
 -- a new conversation leads here: some lines open no session, and the next one opens it
 abbrev pub IsLedBy : List Exchange → Open → Type 0
@@ -112,4 +112,4 @@ IsLedByAnswers lines text new = (xs : List Exchange) × AreOf lines text xs × I
 
 -- so does one over an open session
 abbrev pub IsLedOnByAnswers : Session → List (List ℕ) → List ℕ → Open → Type 0
-IsLedOnByAnswers s lines text new = (xs : List Exchange) × AreOf lines text xs × IsLedOn (AsksNext s.count) s xs new
+IsLedOnByAnswers s lines text new = (xs : List Exchange) × AreOf lines text xs × IsLedOn (AsksNext (crate_count s)) s xs new

@@ -9,7 +9,8 @@ use Rattle.item_tree_request.specs.Edits.{crate_data}
 use Rattle.source_session.specs.declared.keys.LineObject.TheVariants.{Whole}
 use Rattle.source_session.specs.Keys.{none_at, only_known}
 use Rattle.source_session.specs.declared.show.LineShow.{LineShow}
-use Rattle.source_session.specs.Edits.{LineEdit, line_edit}
+use Rattle.source_session.specs.Edits.{line_edit}
+use Rattle.text_session.specs.Edits.{TextEdit}
 use Rattle.source_session.specs.Shows.{line_show}
 
 -- what opens a session
@@ -40,7 +41,7 @@ settings d = do
 
 -- what is asked of a session
 pub record Asked : Type 0 where
-  pub edits : List LineEdit
+  pub edits : List TextEdit
   pub shows : List LineShow
 
 -- of one with this many crates

@@ -1,5 +1,5 @@
 -- What a line is answered with, and what it leaves of a session.
-use Rattle.std.specs.Prelude.{◌≡◌, ◌⊎◌, ℕ, ◌++◌, List, [], codes, decimal, Bool, true, false, Option, Some, None, is_some, Result, Ok, Err, unwrap_or}
+use Rattle.std.specs.Prelude.{◌≡◌, ◌⊎◌, ℕ, ◌++◌, List, [], length, codes, decimal, Bool, true, false, Option, Some, None, is_some, Result, Ok, Err, unwrap_or}
 use Rattle.std.specs.List.{AllZip}
 use Rattle.serde_json.specs.Data.{Data, Members, null, array}
 use Rattle.serde_json.specs.Find.{as_object}
@@ -12,9 +12,10 @@ use Rattle.message_stream.specs.Answers.{Conduct, IsStill, OneEach}
 use Rattle.message_stream.specs.Messages.{Told, whole, too_long, no_memory}
 use Rattle.source_session.specs.declared.error.LineError.{LineError}
 use Rattle.source_session.specs.declared.error.LineError.TheVariants.{NotJson, NotRequest, TooLong, OutOfMemory}
-use Rattle.source_session.specs.Errors.{error_form}
+use Rattle.source_session.specs.Errors.{edit_error, error_form}
 use Rattle.source_session.specs.Lines.{Settings, Asked, first_line, later_line}
-use Rattle.source_session.specs.Sessions.{Session, new_session, IsEdited, IsUnedited}
+use Rattle.text_session.specs.declared.error.EditError.{EditError}
+use Rattle.text_session.specs.Sessions.{Session, new_session, IsEdited, IsUnedited}
 use Rattle.source_session.specs.Shown.{IsShowValue}
 
 -- ---- texts
@@ -52,6 +53,14 @@ abbrev pub reply_number : Open → Option ℕ
 reply_number None = None
 reply_number (Some u) = Some u.table.number
 
+-- how many crates the table has
+abbrev pub crate_count : Session → ℕ
+crate_count s = length s.table.crates
+
+-- the session that a line opens
+abbrev pub opened_session : Settings → Session
+opened_session s = new_session s.crates s.skipped s.edition s.start
+
 -- what is asked of a session
 abbrev pub of_session : Session → Reading Asked → Reading (Session × Asked)
 of_session s reading = do
@@ -62,17 +71,17 @@ of_session s reading = do
 abbrev pub of_opened : Reading (Settings × Asked) → Reading (Session × Asked)
 of_opened reading = do
   first ← reading
-  right (new_session first.0, first.1)
+  right (opened_session first.0, first.1)
 
 -- what is asked, and of which session: the open one, or the one that the line opens
 abbrev pub asked_of : Open → Data → Reading (Session × Asked)
 asked_of None d = of_opened (first_line d)
-asked_of (Some s) d = of_session s (later_line s.count d)
+asked_of (Some s) d = of_session s (later_line (crate_count s) d)
 
--- the edits are made, and the values are those of the shows
+-- the edits are made, and the values are those of the shows; or it is told why they are not
 abbrev pub IsCarriedOut : Session → Asked → Session → Outcome → Type 0
 IsCarriedOut s a u (Ok values) = IsEdited s a.edits u × AllZip (IsShowValue u) a.shows values
-IsCarriedOut s a u (Err e) = IsUnedited s a.edits u e
+IsCarriedOut s a u (Err e) = (why : EditError) × (e ≡ edit_error why) × IsUnedited s a.edits u why
 
 -- what is asked is done, or a line of wrong form changes nothing
 abbrev pub IsOutcome : Open → Reading (Session × Asked) → Open → Outcome → Type 0

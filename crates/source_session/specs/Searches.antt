@@ -19,10 +19,11 @@ use Rattle.list_forms.specs.Lines.{count_form}
 use Rattle.source_listing.specs.Patterns.{Pattern}
 use Rattle.source_listing.specs.Search.{Candidate, Query, found_in_rows, joined_scope}
 use Rattle.source_session.specs.Found.{id_form}
-use Rattle.source_session.specs.Sessions.{Session}
+use Rattle.text_session.specs.Sessions.{Session}
 use Rattle.source_session.specs.Sought.{Searched}
-use Rattle.source_session.specs.SourceTexts.{member_options, text_bytes, text_places, text_reading}
-use Rattle.source_session.specs.Texts.{text_of_place}
+use Rattle.source_session.specs.ShownTexts.{member_options}
+use Rattle.text_session.specs.SourceTexts.{text_bytes, text_places, text_reading}
+use Rattle.text_session.specs.Texts.{text_of_place}
 
 -- as the command looks for it: letters of two cases are two, and all kinds count, and what a cfg disables
 abbrev pub query_of : Pattern → Query

@@ -13,7 +13,7 @@ use Rattle.item_tree_db.specs.State.{State, change_number, present, unfolding_at
 use Rattle.item_tree_request.specs.Outputs.{IsPrinted}
 use Rattle.item_tree_request.specs.declared.request.show.Show.{Show}
 use Rattle.item_tree_request.specs.declared.request.show.Show.TheVariants.{OfTree, Changed}
-use Rattle.source_listing.specs.ImportObjects.{import_objects}
+use Rattle.source_imports.specs.ImportObjects.{import_objects}
 use Rattle.source_listing.specs.Lines.{Choice, Source}
 use Rattle.list_forms.specs.Lines.{count_form}
 use Rattle.source_listing.specs.Objects.{tree_objects, problem_objects}
@@ -21,9 +21,10 @@ use Rattle.source_session.specs.declared.show.LineShow.{LineShow}
 use Rattle.source_session.specs.declared.show.LineShow.TheVariants.{Table, Outline, TreeItems, ImportPlaces, Changes, Problems, Find, Search}
 use Rattle.source_session.specs.Found.{IsFound}
 use Rattle.source_session.specs.Searches.{IsSearchValue}
-use Rattle.source_session.specs.Sessions.{Session}
-use Rattle.source_session.specs.SourceTexts.{member_options, text_bytes, text_places, places_of_text, text_problems, text_reading}
-use Rattle.source_session.specs.Texts.{text_of_place, text_in}
+use Rattle.text_session.specs.Sessions.{Session}
+use Rattle.source_session.specs.ShownTexts.{member_options, places_of_text}
+use Rattle.text_session.specs.SourceTexts.{text_bytes, text_places, text_problems, text_reading}
+use Rattle.text_session.specs.Texts.{text_of_place, text_in}
 
 -- ---- trees
 
@@ -96,7 +97,7 @@ IsPresentValue u (TreeItems krate place units) d = d ≡ tree_form u krate place
 IsPresentValue u (ImportPlaces krate place units) d = d ≡ imports_form u krate place units
 IsPresentValue u (Changes since) d = AreChangeValues u.table since d
 IsPresentValue u (Problems file units) d = d ≡ problems_form u file units
-IsPresentValue u (Find sought) d = IsFound u.table u.texts sought d
+IsPresentValue u (Find sought) d = IsFound u sought d
 IsPresentValue u (Search searched) d = IsSearchValue u searched d
 
 -- ---- places at which nothing is set

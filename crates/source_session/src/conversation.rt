@@ -6,15 +6,15 @@ ghost use Rattle.serde_json.specs.Written.{has_float};
 ghost use Rattle.hir_input_json.specs.Held.{held};
 ghost use Rattle.message_stream.specs.Messages.{message_told};
 ghost use Rattle.source_session.specs.Inner.{IsUnfloating, outcome_view, reply_view};
-ghost use Rattle.source_session.specs.LineViews.{asked_view, IsOwn};
+ghost use Rattle.source_session.specs.LineViews.{asked_view, settings_view, IsOwn};
 ghost use Rattle.source_session.specs.Replies.{IsCarriedOut, IsOutcome, IsReply, IsReplyTo, IsValueReply, IsWanting};
-ghost use Rattle.source_session.specs.Replies.{asked_of, reply_number};
+ghost use Rattle.source_session.specs.Replies.{asked_of, crate_count, opened_session, reply_number};
 
 use crate::error::LineError;
 use crate::keys::Members;
-use crate::line::{Asked, first_line, later_line};
+use crate::line::{Asked, Settings, first_line, later_line};
 use crate::reply::{Outcome, Reply, reply_text};
-use crate::session::Session;
+use crate::shown::show_all;
 use hir_input_json::Fault;
 use hir_input_json::float::has_float;
 use hir_input_json::member::{members_of, taken};
@@ -22,6 +22,7 @@ use message_stream::{Answer, Message, Service};
 use serde_json::Value;
 use std::alloc::Global;
 use std::marker::Model;
+use text_session::Session;
 
 /// A conversation, whose first request opens a session: a table of item trees, which lives as long as it.
 pub struct Conversation {
@@ -38,13 +39,14 @@ impl Drop for Conversation {
 impl Model for Conversation {
     ghost use Rattle.std.specs.Coded.{codes};
     ghost use Rattle.item_tree_db.specs.Codes.{state_code};
+    ghost use Rattle.std.specs.Option.{option_map};
     ghost use Rattle.source_session.specs.Replies.{Open};
 
     ghost Value = { Open };
 
     ghost coded = { Prim.hlevel (codes, state_code) };
 
-    ghost view = { λ x. x.session };
+    ghost view = { λ x. option_map (λ s. s.session) x.session };
 }
 
 const OUT_OF_MEMORY: &str = "{\"id\":null,\"number\":null,\"error\":{\"kind\":\"out of memory\"}}";
@@ -60,17 +62,29 @@ fn refused(error: LineError) -> Reply
     }
 }
 
-impl Session {
-    // Makes the edits that are asked for, and shows what is asked for.
-    fn perform(&mut self, alloc: Global, asked: Asked) -> Outcome
-        requires { IsOwn self.old.count asked }
-        ensures done { IsCarriedOut self.old (asked_view asked) self.new (outcome_view result) }
-        ensures no_float { IsUnfloating result }
-    {
-        self.edit(alloc, asked.edits)?;
-        let values = self.show_all(alloc, &asked.shows)?;
-        Ok(values)
-    }
+// Makes the edits that are asked for, and shows what is asked for.
+fn perform(alloc: Global, session: &mut Session, asked: Asked) -> Outcome
+    requires { IsOwn (crate_count session.old.session) asked }
+    ensures done { IsCarriedOut session.old.session (asked_view asked) session.new.session
+        (outcome_view result) }
+    ensures no_float { IsUnfloating result }
+{
+    session.edit(alloc, asked.edits)?;
+    let values = show_all(alloc, session, &asked.shows)?;
+    Ok(values)
+}
+
+// The session that a line opens.
+fn opened(alloc: Global, settings: Settings) -> Session
+    ensures { result.session ≡ opened_session (settings_view settings) }
+{
+    let Settings {
+        crates,
+        skipped,
+        edition,
+        start,
+    } = settings;
+    Session::new(alloc, crates, skipped, edition, start)
 }
 
 impl Conversation {
@@ -89,8 +103,8 @@ impl Conversation {
         ensures no_float { IsUnfloating result }
     {
         let first = first_line(alloc, members)?;
-        let mut session = Session::new(alloc, first.settings);
-        let outcome = session.perform(alloc, first.asked);
+        let mut session = opened(alloc, first.settings);
+        let outcome = perform(alloc, &mut session, first.asked);
         self.session = Some(session);
         outcome
     }
@@ -104,8 +118,8 @@ impl Conversation {
         let Some(mut session) = self.session.take() else {
             return self.open(alloc, members);
         };
-        let outcome = match later_line(alloc, members, session.count) {
-            Ok(asked) => session.perform(alloc, asked),
+        let outcome = match later_line(alloc, members, session.crate_count()) {
+            Ok(asked) => perform(alloc, &mut session, asked),
             Err(fault) => Err(fault.into()),
         };
         self.session = Some(session);

@@ -5,39 +5,19 @@ ghost use Rattle.hir_input_json.specs.Forms.{required_at as required_form, whole
 ghost use Rattle.hir_input_json.specs.Held.{held};
 ghost use Rattle.hir_input_json.specs.Reads.{Reads};
 ghost use Rattle.source_session.specs.Edits.{edit_form as edit_form, line_edit, text_edit, change_edit};
-ghost use Rattle.source_session.specs.Edits.{range as range_form, short_text, line_edit_view, IsUsable, IsShort};
+ghost use Rattle.source_session.specs.Edits.{range as range_form, short_text, IsUsable, IsShort};
+ghost use Rattle.text_session.specs.Edits.{text_edit_view};
 
 use crate::keys::{LineObject, Members, only_known};
 use hir_input::HirFileId;
 use hir_input_json::float::has_float;
 use hir_input_json::member::{field, id_at, members_of, taken, word_at};
 use hir_input_json::{Fault, ReadIn};
-use item_tree_db::Edit;
 use item_tree_request::request::edit::edit_in;
 use rust_items::TextRange;
 use serde_json::Value;
 use std::alloc::Global;
-
-/// An edit of a line.
-#[derive(Debug, Drop)]
-pub enum LineEdit {
-    /// One of a request.
-    Table(Edit),
-    /// A file set to what is read of a Rust text.
-    SetText {
-        file: HirFileId,
-        text: String,
-    },
-    /// What stands in a range of the text of a file, replaced.
-    ChangeText {
-        file: HirFileId,
-        range: TextRange,
-        text: String,
-    },
-}
-
-/// As many bytes as the ids of items are distinct for.
-pub(crate) const MOST_BYTES: usize = 0x1_0000_0000;
+use text_session::{MOST_BYTES, TextEdit};
 
 // Takes a text of at most 2^32 bytes out.
 fn text_at(alloc: Global, members: &mut Members) -> Result<String, Fault>
@@ -56,13 +36,13 @@ fn text_at(alloc: Global, members: &mut Members) -> Result<String, Fault>
     }
 }
 
-fn set_text_of(alloc: Global, members: &mut Members) -> Result<LineEdit, Fault>
-    ensures reads { Reads line_edit_view result (text_edit (held members.old)) }
+fn set_text_of(alloc: Global, members: &mut Members) -> Result<TextEdit, Fault>
+    ensures reads { Reads text_edit_view result (text_edit (held members.old)) }
     ensures usable { (count : ℕ) → IfOk result (IsUsable count) }
 {
     let file = HirFileId(id_at(alloc, members, "file")?);
     let text = text_at(alloc, members)?;
-    Ok(LineEdit::SetText { file, text })
+    Ok(TextEdit::SetText { file, text })
 }
 
 // A place in a text.
@@ -99,34 +79,34 @@ fn range_at(alloc: Global, members: &Members) -> Result<TextRange, Fault>
     }
 }
 
-fn change_text_of(alloc: Global, members: &mut Members) -> Result<LineEdit, Fault>
-    ensures reads { Reads line_edit_view result (change_edit (held members.old)) }
+fn change_text_of(alloc: Global, members: &mut Members) -> Result<TextEdit, Fault>
+    ensures reads { Reads text_edit_view result (change_edit (held members.old)) }
     ensures usable { (count : ℕ) → IfOk result (IsUsable count) }
 {
     let file = HirFileId(id_at(alloc, members, "file")?);
     let range = range_at(alloc, members)?;
     let text = text_at(alloc, members)?;
-    Ok(LineEdit::ChangeText { file, range, text })
+    Ok(TextEdit::ChangeText { file, range, text })
 }
 
 // An edit of a table of this many crates, whose members are taken out.
-fn members_edit(alloc: Global, members: &mut Members, count: usize) -> Result<LineEdit, Fault>
-    ensures reads { Reads line_edit_view result (edit_form count (held members.old)) }
+fn members_edit(alloc: Global, members: &mut Members, count: usize) -> Result<TextEdit, Fault>
+    ensures reads { Reads text_edit_view result (edit_form count (held members.old)) }
     ensures usable { IfOk result (IsUsable count) }
 {
     only_known(alloc, members, LineObject::OfEdits)?;
     match word_at(alloc, members, "edit")? {
         "set_text" => set_text_of(alloc, members),
         "change_text" => change_text_of(alloc, members),
-        _ => Ok(LineEdit::Table(edit_in(alloc, members, count)?)),
+        _ => Ok(TextEdit::Table(edit_in(alloc, members, count)?)),
     }
 }
 
 /// An edit of a table of this many crates.
 ///
 /// `WrongForm` comes only where it is not of its form (`Edits.line_edit`), and tells where.
-pub(crate) fn edit_of(alloc: Global, value: Value, count: usize) -> Result<LineEdit, Fault>
-    ensures reads { Reads line_edit_view result (line_edit count (view value)) }
+pub(crate) fn edit_of(alloc: Global, value: Value, count: usize) -> Result<TextEdit, Fault>
+    ensures reads { Reads text_edit_view result (line_edit count (view value)) }
     ensures usable { IfOk result (IsUsable count) }
 {
     if has_float(&value) {

@@ -1,16 +1,16 @@
 //! Why a line has no shows.
 ghost use Rattle.std.specs.Prelude.{◌≡◌, IfOk};
 ghost use Rattle.serde_json.specs.View.{view};
-ghost use Rattle.source_session.specs.Errors.{cause_text, error_form, fault_text, line_error, unchanged_form};
+ghost use Rattle.source_session.specs.Errors.{cause_text, edit_error, error_form, fault_text, line_error};
+ghost use Rattle.source_session.specs.Errors.{unchanged_form};
 ghost use Rattle.source_session.specs.declared.error.LineError.TheVariants.{OutOfMemory};
 
 use crate::expected::expected_words;
-use crate::splice::ChangeFault;
 use hir_input_json::{Fault, Pointer};
 use item_tree::{EditFault, LowerError};
 use serde_json::{Value, json};
-use source_rows::ReadError;
 use std::alloc::{AllocError, AllocFailed, Global};
+use text_session::{ChangeFault, EditError};
 
 /// Why a line is answered with an error.
 #[derive(Debug, Drop)]
@@ -46,11 +46,15 @@ impl<T: Drop> From<AllocFailed<T>> for LineError {
     }
 }
 
-impl From<ReadError> for LineError {
-    ghost from_gives = { λ _ e. e ≡ OutOfMemory };
+impl From<EditError> for LineError {
+    ghost from_gives = { λ error e. e ≡ edit_error error };
 
-    fn from(_error: ReadError) -> LineError {
-        LineError::OutOfMemory
+    fn from(error: EditError) -> LineError {
+        match error {
+            EditError::NotChanged { place, cause } => LineError::NotChanged { place, cause },
+            EditError::Refused { place, cause } => LineError::Refused { place, cause },
+            EditError::OutOfMemory => LineError::OutOfMemory,
+        }
     }
 }
 

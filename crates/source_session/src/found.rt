@@ -8,18 +8,17 @@ ghost use Rattle.item_tree_db.specs.State.{IsKnown};
 ghost use Rattle.decl_index.specs.Entries.{IsDeclared};
 ghost use Rattle.source_rows.specs.Places.{AreDistinct, place_of};
 ghost use Rattle.source_rows.specs.Finders.{IsFinderOf, IsSameFinder};
-ghost use Rattle.source_session.specs.Finders.{HaveDistinctIds, IsFinder, FindsIn, KnowsScopes, ast_in, found_with};
+ghost use Rattle.source_session.specs.Finders.{IsFinder, FindsIn, KnowsScopes, ast_in, found_with};
 ghost use Rattle.source_session.specs.Found as spec;
 ghost use Rattle.source_session.specs.{Inner.found_one, Sought.is_at, Sought.path_within};
-ghost use Rattle.source_session.specs.SourceTexts.{text_bytes, text_places};
+ghost use Rattle.text_session.specs.SourceTexts.{text_bytes, text_places};
 
 use crate::scopes::Scopes;
 use crate::sought::SoughtItem;
-use crate::texts::{SourceText, Texts, text_at};
 use decl_index::Entry;
 use hir_input::{BlockId, Crate, FileAstId, HirFileId, Name};
 use item_tree::{ItemTree, ModItemId};
-use item_tree_db::{Place, Sources};
+use item_tree_db::Place;
 use line_index::{Position, Units};
 use rust_items::ItemPlace;
 use serde_json::{Value, json};
@@ -27,6 +26,7 @@ use source_listing::push_segment;
 use source_rows::{Finder, stands_at};
 use std::alloc::{AllocError, Global};
 use std::collections::BTreeSet;
+use text_session::{Session, SourceText};
 
 // ---- paths of items
 
@@ -210,35 +210,32 @@ impl EntryFinder<'_> {
     }
 }
 
-fn new_finder<'a>(sources: &'a Sources, texts: &'a Texts, entry: &Entry) -> EntryFinder<'a>
-    requires known { IsKnown sources.now entry.now.krate }
-    requires placed { HaveDistinctIds texts.now.entries }
-    ensures { FindsIn sources.now texts.now.entries entry.now.place entry.now.krate result }
+fn new_finder<'a>(session: &'a Session, entry: &Entry) -> EntryFinder<'a>
+    requires { IsKnown session.now.session.table entry.now.krate }
+    ensures { FindsIn session.now.session entry.now.place entry.now.krate result }
 {
     EntryFinder {
         place: entry.place,
         krate: entry.krate,
-        tree: sources.tree(entry.place, entry.krate),
+        tree: session.sources().tree(entry.place, entry.krate),
         scopes: None,
-        spots: finder_of(text_at(texts, entry.place)),
+        spots: finder_of(session.text_at(entry.place)),
     }
 }
 
 // The last one, if it is of the entry's tree, or else a new one.
 fn finder_for<'a>(
-    sources: &'a Sources,
-    texts: &'a Texts,
+    session: &'a Session,
     entry: &Entry,
     last: Option<EntryFinder<'a>>,
 ) -> EntryFinder<'a>
-    requires known { IsKnown sources.now entry.now.krate }
-    requires placed { HaveDistinctIds texts.now.entries }
-    requires last { IfSome last (IsFinder sources.now texts.now.entries) }
-    ensures { FindsIn sources.now texts.now.entries entry.now.place entry.now.krate result }
+    requires known { IsKnown session.now.session.table entry.now.krate }
+    requires last { IfSome last (IsFinder session.now.session) }
+    ensures { FindsIn session.now.session entry.now.place entry.now.krate result }
 {
     match last {
         Some(finder) if finder.is_of(entry) => finder,
-        _ => new_finder(sources, texts, entry),
+        _ => new_finder(session, entry),
     }
 }
 
@@ -246,22 +243,19 @@ fn finder_for<'a>(
 #[tactic(auto, using(crate::proofs::Finders::is_object, crate::proofs::Finders::contained))]
 fn push_found<'a>(
     alloc: Global,
-    sources: &'a Sources,
-    texts: &'a Texts,
+    session: &'a Session,
     sought: &SoughtItem,
     entry: &Entry,
     last: Option<EntryFinder<'a>>,
     values: &mut Vec<Value>,
 ) -> Result<Option<EntryFinder<'a>>, AllocError>
-    requires declared { IsDeclared sources.now entry.now }
-    requires placed { HaveDistinctIds texts.now.entries }
-    requires last { IfSome last (IsFinder sources.now texts.now.entries) }
-    ensures found { let found = found_one sources.now texts.now.entries sought.now entry.now in
+    requires declared { IsDeclared session.now.session.table entry.now }
+    requires last { IfSome last (IsFinder session.now.session) }
+    ensures found { let found = found_one session.now.session sought.now entry.now in
         OnOk result (map view values.new.items ≡ map view values.old.items ++ found) }
-    ensures finder { IfOk result
-        (λ finder. IfSome finder (IsFinder sources.now texts.now.entries)) }
+    ensures finder { IfOk result (λ finder. IfSome finder (IsFinder session.now.session)) }
 {
-    let mut finder = finder_for(sources, texts, entry, last);
+    let mut finder = finder_for(session, entry, last);
     if !is_found(alloc, sought, entry, finder.tree, &mut finder.scopes)? {
         return Ok(Some(finder));
     }
@@ -277,21 +271,18 @@ fn push_found<'a>(
 /// Only if memory runs out.
 pub(crate) fn found_values(
     alloc: Global,
-    sources: &Sources,
-    texts: &Texts,
+    session: &Session,
     sought: &SoughtItem,
     entries: &BTreeSet<Entry>,
 ) -> Result<Vec<Value>, AllocError>
-    requires declared { All (IsDeclared sources.now) entries.now.keys }
-    requires placed { HaveDistinctIds texts.now.entries }
-    ensures { let found = flat_map (found_one sources.now texts.now.entries sought.now)
-        entries.now.keys in
+    requires { All (IsDeclared session.now.session.table) entries.now.keys }
+    ensures { let found = flat_map (found_one session.now.session sought.now) entries.now.keys in
         IfOk result (λ values. map view values.items ≡ found) }
 {
     let mut values = Vec::new(alloc);
     let mut finder = None;
     for entry in entries {
-        finder = push_found(alloc, sources, texts, sought, entry, finder, &mut values)?;
+        finder = push_found(alloc, session, sought, entry, finder, &mut values)?;
     }
     Ok(values)
 }

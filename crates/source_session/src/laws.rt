@@ -1,15 +1,14 @@
-//! What holds of whole conversations and of answers, and that a copy of a fault is its source. The functions do
-//! nothing.
-ghost use Rattle.std.specs.Prelude.{ℕ, List, Option, None, Some};
-ghost use Rattle.hir_input.specs.Equality.{IsCopied};
+//! What holds of whole conversations, of answers and of sizes. The functions do nothing.
+ghost use Rattle.std.specs.Prelude.{ℕ, List, Option, None, Some, length};
 ghost use Rattle.message_stream.specs.Lines.{HasNoFeed, line_frames};
 ghost use Rattle.message_stream.specs.Messages.{Told};
 ghost use Rattle.message_stream.specs.Served.{Turn, IsServed, messages_of};
+ghost use Rattle.item_tree.specs.declared.fault.EditFault.{EditFault};
+ghost use Rattle.item_tree_request.specs.Outputs.{NonePasses, PassesAt};
 ghost use Rattle.source_session.specs.Histories.{IsLedByAnswers, IsLedOnByAnswers};
 ghost use Rattle.source_session.specs.Replies.{Open, Replies, session_conduct};
-ghost use Rattle.source_session.specs.Sessions.{Session};
-
-use crate::splice::ChangeFault;
+ghost use Rattle.text_session.specs.Edits.{TextEdit};
+ghost use Rattle.text_session.specs.Sessions.{IsEdited, IsRefused, Session};
 
 // A conversation, whatever its lines, is where the edits lead that stand by its answers: a new one, and one over an
 // open session.
@@ -30,6 +29,12 @@ fn answers()
         → Replies old told new text → HasNoFeed text }
 {}
 
-fn faults()
-    ensures { IsCopied ⟦<ChangeFault as Clone>⟧.is_clone }
+// What passes a size is what requests tell of: no edit where all are made, and else the first is told.
+#[tactic(auto, using(crate::proofs::Sizes::edited_sizes, crate::proofs::Sizes::refused_sizes))]
+fn sizes()
+    ensures edited { (s u : Session) (asked : List TextEdit) (e : IsEdited s asked u)
+        → NonePasses s.table e.edits (length e.edits) }
+    ensures refused { (s u : Session) (asked : List TextEdit) (place : ℕ) (cause : EditFault)
+        (r : IsRefused s asked u place cause)
+        → NonePasses s.table r.edits place × PassesAt s.table r.edits place cause }
 {}

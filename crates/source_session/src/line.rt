@@ -5,12 +5,13 @@ ghost use Rattle.hir_input.specs.Name.{name_in};
 ghost use Rattle.hir_input_json.specs.Forms.{each, list_at as each_at};
 ghost use Rattle.hir_input_json.specs.Held.{held, without};
 ghost use Rattle.hir_input_json.specs.Reads.{Reads};
-ghost use Rattle.source_session.specs.Edits.{line_edit_view, line_edit, IsUsable};
+ghost use Rattle.text_session.specs.Edits.{text_edit_view};
+ghost use Rattle.source_session.specs.Edits.{line_edit, IsUsable};
 ghost use Rattle.source_session.specs.Lines as spec;
 ghost use Rattle.source_session.specs.LineViews.{asked_view, first_view, settings_view, IsOwn};
 ghost use Rattle.source_session.specs.Shows.{ShowNamesCrate, line_show};
 
-use crate::edit::{LineEdit, edit_of};
+use crate::edit::edit_of;
 use crate::keys::{LineObject, Members, none_in, only_known};
 use crate::list::each_read;
 use crate::show::{LineShow, show_of};
@@ -23,6 +24,7 @@ use item_tree::CrateData;
 use item_tree_request::request::crates::crates_at;
 use serde_json::Value;
 use std::alloc::{AllocError, Global};
+use text_session::TextEdit;
 
 /// What opens a session.
 #[derive(Drop)]
@@ -36,7 +38,7 @@ pub(crate) struct Settings {
 /// What is asked of a session.
 #[derive(Drop)]
 pub(crate) struct Asked {
-    pub(crate) edits: Vec<LineEdit>,
+    pub(crate) edits: Vec<TextEdit>,
     pub(crate) shows: Vec<LineShow>,
 }
 
@@ -129,8 +131,8 @@ fn no_settings_in(alloc: Global, members: &Members) -> Result<(), Fault>
 
 // ---- edits and shows
 
-fn edits_of(alloc: Global, items: Vec<Value>, count: usize) -> Result<Vec<LineEdit>, Fault>
-    ensures reads { Reads (λ v. map line_edit_view v.items) result
+fn edits_of(alloc: Global, items: Vec<Value>, count: usize) -> Result<Vec<TextEdit>, Fault>
+    ensures reads { Reads (λ v. map text_edit_view v.items) result
         (each (line_edit count) (items_view items.items)) }
     ensures usable { IfOk result (λ v. All (IsUsable count) v.items) }
 {
@@ -144,8 +146,8 @@ fn shows_of(alloc: Global, items: Vec<Value>, count: usize) -> Result<Vec<LineSh
     each_read!(alloc, item in items, show_of(alloc, item, count))
 }
 
-fn edits_in(alloc: Global, members: &mut Members, count: usize) -> Result<Vec<LineEdit>, Fault>
-    ensures reads { Reads (λ v. map line_edit_view v.items) result
+fn edits_in(alloc: Global, members: &mut Members, count: usize) -> Result<Vec<TextEdit>, Fault>
+    ensures reads { Reads (λ v. map text_edit_view v.items) result
         (each_at (line_edit count) (codes "edits") (held members.old)) }
     ensures usable { IfOk result (λ v. All (IsUsable count) v.items) }
     ensures left { OnOk result (held members.new ≡ without (codes "edits") (held members.old)) }

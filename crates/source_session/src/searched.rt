@@ -3,17 +3,14 @@ ghost use Rattle.std.specs.Prelude.{◌≡◌, ◌++◌, All, IfOk, OnOk, flat_m
 ghost use Rattle.serde_json.specs.View.{members_view, view};
 ghost use Rattle.item_tree_db.specs.State.{IsKnown};
 ghost use Rattle.source_listing.specs.Views.{candidate_view};
-ghost use Rattle.source_session.specs.Finders.{HaveDistinctIds};
 ghost use Rattle.source_session.specs.Found.{id_form};
 ghost use Rattle.source_session.specs.Inner.{match_names};
 ghost use Rattle.source_session.specs.Searches as spec;
 
 use crate::found::finder_of;
 use crate::keys::Members;
-use crate::session::Session;
 use crate::shown::{member_options, reading_of};
 use crate::sought::Searched;
-use crate::texts::text_at;
 use hir_input::{BlockId, Crate, FileAstId, HirFileId};
 use hir_input_json::write::object::{of_text, with, with_text};
 use item_tree_db::{ChangedSince, Place};
@@ -22,6 +19,7 @@ use serde_json::{Value, json};
 use source_listing::{Candidate, found_in, joined_scope};
 use source_rows::Spot;
 use std::alloc::{AllocError, Global};
+use text_session::Session;
 
 // ---- objects
 
@@ -134,67 +132,68 @@ fn push_matches(
 
 // ---- all trees
 
-impl Session {
-    // Adds the objects of what is looked for in a crate's tree of a place.
-    fn push_place_matches(
-        &self,
-        alloc: Global,
-        searched: &Searched,
-        place: Place,
-        krate: Crate,
-        values: &mut Vec<Value>,
-    ) -> Result<(), AllocError>
-        requires known { IsKnown self.now.table krate }
-        requires placed { HaveDistinctIds self.now.texts }
-        ensures { let found = spec.place_matches self.now searched.now place krate in
-            OnOk result (map view values.new.items ≡ map view values.old.items ++ found) }
-    {
-        let text = text_at(&self.texts, place);
-        let mut finder = finder_of(text);
-        let options = member_options(&self.sources, krate, searched.has_members());
-        let reading = reading_of(text, self.edition.year, options);
-        let (tree, query) = (self.sources.tree(place, krate), searched.query());
-        let found = found_in(alloc, tree, &mut finder.places, reading, query)?;
-        let units = searched.units();
-        push_matches(
-            alloc,
-            units,
-            place,
-            krate,
-            &mut finder.lines,
-            &found,
-            values,
-        )
-    }
+// Adds the objects of what is looked for in a crate's tree of a place.
+fn push_place_matches(
+    alloc: Global,
+    session: &Session,
+    searched: &Searched,
+    place: Place,
+    krate: Crate,
+    values: &mut Vec<Value>,
+) -> Result<(), AllocError>
+    requires { IsKnown session.now.session.table krate }
+    ensures { let found = spec.place_matches session.now.session searched.now place krate in
+        OnOk result (map view values.new.items ≡ map view values.old.items ++ found) }
+{
+    let (sources, text) = (session.sources(), session.text_at(place));
+    let mut finder = finder_of(text);
+    let options = member_options(sources, krate, searched.has_members());
+    let reading = reading_of(text, session.edition().year, options);
+    let (tree, query) = (sources.tree(place, krate), searched.query());
+    let found = found_in(alloc, tree, &mut finder.places, reading, query)?;
+    let units = searched.units();
+    push_matches(
+        alloc,
+        units,
+        place,
+        krate,
+        &mut finder.lines,
+        &found,
+        values,
+    )
+}
 
-    // The objects of what is looked for in some trees.
-    fn matches(
-        &self,
-        alloc: Global,
-        searched: &Searched,
-        changes: ChangedSince<'_>,
-    ) -> Result<Vec<Value>, AllocError>
-        requires known { All (λ c. IsKnown self.now.table c.1) changes }
-        requires placed { HaveDistinctIds self.now.texts }
-        ensures { let found = flat_map (spec.change_matches self.now searched.now) changes.entry in
-            IfOk result (λ values. map view values.items ≡ found) }
-    {
-        let mut values = Vec::new(alloc);
-        for (place, krate, _) in changes {
-            self.push_place_matches(alloc, searched, place, krate, &mut values)?;
-        }
-        Ok(values)
+// The objects of what is looked for in some trees.
+fn matches(
+    alloc: Global,
+    session: &Session,
+    searched: &Searched,
+    changes: ChangedSince<'_>,
+) -> Result<Vec<Value>, AllocError>
+    requires { All (λ c. IsKnown session.now.session.table c.1) changes }
+    ensures { let found = flat_map (spec.change_matches session.now.session searched.now) changes.entry in
+        IfOk result (λ values. map view values.items ≡ found) }
+{
+    let mut values = Vec::new(alloc);
+    for (place, krate, _) in changes {
+        push_place_matches(alloc, session, searched, place, krate, &mut values)?;
     }
+    Ok(values)
+}
 
-    /// The objects of all that is looked for.
-    ///
-    /// # Errors
-    ///
-    /// Only if memory runs out.
-    pub(crate) fn search(&self, alloc: Global, searched: &Searched) -> Result<Value, AllocError>
-        ensures { IfOk result (λ value. spec.IsSearchValue self.now searched.now (view value)) }
-    {
-        let values = self.matches(alloc, searched, self.sources.changed_since(0))?;
-        Ok(Value::Array(values))
-    }
+/// The objects of all that is looked for.
+///
+/// # Errors
+///
+/// Only if memory runs out.
+pub(crate) fn search(
+    alloc: Global,
+    session: &Session,
+    searched: &Searched,
+) -> Result<Value, AllocError>
+    ensures { IfOk result
+        (λ value. spec.IsSearchValue session.now.session searched.now (view value)) }
+{
+    let values = matches(alloc, session, searched, session.sources().changed_since(0))?;
+    Ok(Value::Array(values))
 }

@@ -6,20 +6,20 @@ ghost use Rattle.item_tree_db.specs.State.{IsKnown, present};
 ghost use Rattle.item_tree_request.specs.Outputs.{Knows};
 ghost use Rattle.source_listing.specs.Views.{choice_view, reading_view};
 ghost use Rattle.source_session.specs.Found.{IsFound};
-ghost use Rattle.source_session.specs.SourceTexts.{member_options, text_reading};
+ghost use Rattle.source_session.specs.Replies.{crate_count};
+ghost use Rattle.source_session.specs.ShownTexts.{member_options};
 ghost use Rattle.source_session.specs.Shown as spec;
-ghost use Rattle.source_session.specs.Shows.{IsCrateOf, ShowNamesCrate};
-ghost use Rattle.source_session.specs.Shown.{AreChangeValues, IsPresentValue, IsShowValue, IsTextOf};
+ghost use Rattle.source_session.specs.Shows.{ShowNamesCrate};
+ghost use Rattle.source_session.specs.Shown.{IsPresentValue, IsShowValue, IsTextOf};
 ghost use Rattle.source_session.specs.Shown.{imports_form, item_objects, outline_form, place_shown};
 ghost use Rattle.source_session.specs.Shown.{problems_form, tree_form, unset_form};
+ghost use Rattle.text_session.specs.SourceTexts.{text_reading};
 
 use crate::found::found_values;
-use crate::session::Session;
+use crate::searched::search;
 use crate::show::LineShow;
 use crate::sought::SoughtItem;
 use crate::table_changes::{changes_value, tree_value};
-use crate::texts::{SourceText, text_at, text_of};
-use crate::touched::refresh;
 use hir_input::{CfgOptions, Crate, Edition, EditionYear, HirFileId};
 use item_tree_db::{Place, Sources};
 use item_tree_request::request::show::Show;
@@ -27,8 +27,10 @@ use item_tree_request::show::Pages;
 use item_tree_request::show_writer::ShowWriter;
 use line_index::Units;
 use serde_json::{Value, json};
-use source_listing::{Choice, Reading, Source, import_items, outline_items, problem_items};
+use source_imports::import_items;
+use source_listing::{Choice, Reading, Source, outline_items, problem_items};
 use std::alloc::{AllocError, Global};
+use text_session::{Session, SourceText};
 
 // The text of a show of a request.
 fn table_value(
@@ -101,7 +103,7 @@ fn unset_value(alloc: Global, place: Place) -> Result<Value, AllocError>
     }
 }
 
-// ---- a session's
+// ---- what is read of texts
 
 // All items, at every depth, also those that a cfg disables.
 fn all_items() -> Choice
@@ -155,195 +157,194 @@ pub(crate) fn member_options(
     None
 }
 
-impl Session {
-    // The objects of the items of a place.
-    fn items(
-        &self,
-        alloc: Global,
-        krate: Crate,
-        place: Place,
-        units: Units,
-        has_members: bool,
-    ) -> Result<Vec<Value>, AllocError>
-        requires { IsCrateOf self.now.count krate }
-        ensures { IfOk result (λ items. map view items.items
-            ≡ item_objects self.now krate place units has_members) }
-    {
-        let options = member_options(&self.sources, krate, has_members);
-        let (choice, edition) = (all_items(), &self.edition);
-        let tree = self.sources.tree(place, krate);
-        match text_at(&self.texts, place) {
-            Some(text) => {
-                let source = Source {
-                    path: "",
-                    text: text.text.as_str(),
-                };
-                let reading = text.reading(self.edition.year, options);
-                outline_items(
-                    alloc,
-                    source,
-                    &text.places,
-                    tree,
-                    edition,
-                    reading,
-                    choice,
-                    units,
-                )
-            }
-            None => {
-                let source = Source { path: "", text: "" };
-                let reading = empty_reading(self.edition.year, options);
-                outline_items(alloc, source, &[], tree, edition, reading, choice, units)
-            }
-        }
-    }
-
-    fn outline(
-        &self,
-        alloc: Global,
-        krate: Crate,
-        file: HirFileId,
-        units: Units,
-        has_members: bool,
-    ) -> Result<Value, AllocError>
-        requires { IsCrateOf self.now.count krate }
-        ensures { IfOk result (λ value. view value
-            ≡ outline_form self.now krate file units has_members) }
-    {
-        let items = self.items(alloc, krate, Place::File(file), units, has_members)?;
-        Ok(Value::Array(items))
-    }
-
-    fn tree_items(
-        &self,
-        alloc: Global,
-        krate: Crate,
-        place: Place,
-        units: Units,
-    ) -> Result<Value, AllocError>
-        requires { IsCrateOf self.now.count krate }
-        ensures { IfOk result (λ value. view value ≡ tree_form self.now krate place units) }
-    {
-        let items = self.items(alloc, krate, place, units, false)?;
-        let change = self.sources.changed(place, krate);
-        tree_value(alloc, place, krate, change, items)
-    }
-
-    fn import_places(
-        &self,
-        alloc: Global,
-        krate: Crate,
-        place: Place,
-        units: Units,
-    ) -> Result<Value, AllocError>
-        requires { IsCrateOf self.now.count krate }
-        ensures { IfOk result (λ value. view value ≡ imports_form self.now krate place units) }
-    {
-        let tree = self.sources.tree(place, krate);
-        let items = match text_at(&self.texts, place) {
-            Some(text) => import_items(
+// The objects of the items of a place.
+fn items(
+    alloc: Global,
+    session: &Session,
+    krate: Crate,
+    place: Place,
+    units: Units,
+    has_members: bool,
+) -> Result<Vec<Value>, AllocError>
+    requires { IsKnown session.now.session.table krate }
+    ensures { let objects = item_objects session.now.session krate place units has_members in
+        IfOk result (λ items. map view items.items ≡ objects) }
+{
+    let (sources, edition) = (session.sources(), session.edition());
+    let options = member_options(sources, krate, has_members);
+    let (tree, choice) = (sources.tree(place, krate), all_items());
+    match session.text_at(place) {
+        Some(text) => {
+            let source = Source {
+                path: "",
+                text: text.text.as_str(),
+            };
+            let reading = text.reading(edition.year, options);
+            outline_items(
                 alloc,
-                text.text.as_str(),
+                source,
                 &text.places,
-                &text.use_trees,
                 tree,
-                &self.edition,
+                edition,
+                reading,
+                choice,
                 units,
-            )?,
-            None => import_items(alloc, "", &[], &[], tree, &self.edition, units)?,
-        };
-        Ok(Value::Array(items))
-    }
-
-    fn changes(&self, alloc: Global, since: u64) -> Result<Value, AllocError>
-        ensures { IfOk result (λ value. AreChangeValues self.now.table since (view value)) }
-    {
-        changes_value(alloc, &self.sources, since)
-    }
-
-    fn problems(&self, alloc: Global, file: HirFileId, units: Units) -> Result<Value, AllocError>
-        ensures { IfOk result (λ value. view value ≡ problems_form self.now file units) }
-    {
-        let items = match text_of(&self.texts, file.0) {
-            Some(text) => problem_items(alloc, text.text.as_str(), &text.problems, units)?,
-            None => Vec::new(alloc),
-        };
-        Ok(Value::Array(items))
-    }
-
-    fn find(&mut self, alloc: Global, sought: &SoughtItem) -> Result<Value, AllocError>
-        ensures found { IfOk result
-            (λ value. IsFound self.old.table self.old.texts sought.now (view value)) }
-        ensures same { self.new ≡ self.old }
-    {
-        refresh(alloc, &mut self.index, &self.sources, &mut self.touched)?;
-        let entries = self.index.lookup(sought.name());
-        let values = found_values(alloc, &self.sources, &self.texts, sought, entries)?;
-        Ok(Value::Array(values))
-    }
-
-    // The value of a show, if something is set at the place that it is of.
-    fn present_value(&mut self, alloc: Global, show: &LineShow) -> Result<Value, AllocError>
-        requires { ShowNamesCrate self.old.count show.now }
-        ensures shown { IfOk result (λ value. IsPresentValue self.old show.now (view value)) }
-        ensures same { self.new ≡ self.old }
-    {
-        match show {
-            LineShow::Table(show) => table_value(alloc, &self.sources, &self.edition, *show),
-            LineShow::Outline {
-                krate,
-                file,
-                units,
-                has_members,
-            } => self.outline(alloc, *krate, *file, *units, *has_members),
-            LineShow::TreeItems {
-                krate,
-                place,
-                units,
-            } => self.tree_items(alloc, *krate, *place, *units),
-            LineShow::ImportPlaces {
-                krate,
-                place,
-                units,
-            } => self.import_places(alloc, *krate, *place, *units),
-            LineShow::Changes { since } => self.changes(alloc, *since),
-            LineShow::Problems { file, units } => self.problems(alloc, *file, *units),
-            LineShow::Find { sought } => self.find(alloc, sought),
-            LineShow::Search { searched } => self.search(alloc, searched),
+            )
+        }
+        None => {
+            let source = Source { path: "", text: "" };
+            let reading = empty_reading(edition.year, options);
+            outline_items(alloc, source, &[], tree, edition, reading, choice, units)
         }
     }
+}
 
-    // The value of a show.
-    fn show(&mut self, alloc: Global, show: &LineShow) -> Result<Value, AllocError>
-        requires { ShowNamesCrate self.old.count show.now }
-        ensures shown { IfOk result (λ value. IsShowValue self.old show.now (view value)) }
-        ensures same { self.new ≡ self.old }
-    {
-        match unset_place(&self.sources, show) {
-            Some(place) => unset_value(alloc, place),
-            None => self.present_value(alloc, show),
-        }
-    }
+fn outline(
+    alloc: Global,
+    session: &Session,
+    krate: Crate,
+    file: HirFileId,
+    units: Units,
+    has_members: bool,
+) -> Result<Value, AllocError>
+    requires { IsKnown session.now.session.table krate }
+    ensures { let form = outline_form session.now.session krate file units has_members in
+        IfOk result (λ value. view value ≡ form) }
+{
+    let items = items(alloc, session, krate, Place::File(file), units, has_members)?;
+    Ok(Value::Array(items))
+}
 
-    /// The values of shows, in their order.
-    ///
-    /// # Errors
-    ///
-    /// Only if memory runs out.
-    pub(crate) fn show_all(
-        &mut self,
-        alloc: Global,
-        shows: &[LineShow],
-    ) -> Result<Vec<Value>, AllocError>
-        requires { All (ShowNamesCrate self.old.count) shows.now }
-        ensures shown { IfOk result
-            (λ values. AllZip (IsShowValue self.old) shows.now (map view values.items)) }
-        ensures same { self.new ≡ self.old }
-    {
-        let mut values = Vec::with_capacity(alloc, shows.len())?;
-        for show in shows {
-            values.push(self.show(alloc, show)?)?;
-        }
-        Ok(values)
+fn tree_items(
+    alloc: Global,
+    session: &Session,
+    krate: Crate,
+    place: Place,
+    units: Units,
+) -> Result<Value, AllocError>
+    requires { IsKnown session.now.session.table krate }
+    ensures { IfOk result (λ value. view value ≡ tree_form session.now.session krate place units) }
+{
+    let items = items(alloc, session, krate, place, units, false)?;
+    let change = session.sources().changed(place, krate);
+    tree_value(alloc, place, krate, change, items)
+}
+
+fn import_places(
+    alloc: Global,
+    session: &Session,
+    krate: Crate,
+    place: Place,
+    units: Units,
+) -> Result<Value, AllocError>
+    requires { IsKnown session.now.session.table krate }
+    ensures { let form = imports_form session.now.session krate place units in
+        IfOk result (λ value. view value ≡ form) }
+{
+    let (tree, edition) = (session.sources().tree(place, krate), session.edition());
+    let items = match session.text_at(place) {
+        Some(text) => import_items(
+            alloc,
+            text.text.as_str(),
+            &text.places,
+            &text.use_trees,
+            tree,
+            edition,
+            units,
+        )?,
+        None => import_items(alloc, "", &[], &[], tree, edition, units)?,
+    };
+    Ok(Value::Array(items))
+}
+
+fn problems(
+    alloc: Global,
+    session: &Session,
+    file: HirFileId,
+    units: Units,
+) -> Result<Value, AllocError>
+    ensures { IfOk result (λ value. view value ≡ problems_form session.now.session file units) }
+{
+    let items = match session.text(file) {
+        Some(text) => problem_items(alloc, text.text.as_str(), &text.problems, units)?,
+        None => Vec::new(alloc),
+    };
+    Ok(Value::Array(items))
+}
+
+fn find(alloc: Global, session: &mut Session, sought: &SoughtItem) -> Result<Value, AllocError>
+    ensures found { IfOk result
+        (λ value. IsFound session.old.session sought.now (view value)) }
+    ensures same { session.new.session ≡ session.old.session }
+{
+    session.refresh(alloc)?;
+    let entries = session.index().lookup(sought.name());
+    let values = found_values(alloc, session, sought, entries)?;
+    Ok(Value::Array(values))
+}
+
+// The value of a show, if something is set at the place that it is of.
+fn present_value(alloc: Global, session: &mut Session, show: &LineShow) -> Result<Value, AllocError>
+    requires { ShowNamesCrate (crate_count session.old.session) show.now }
+    ensures shown { IfOk result
+        (λ value. IsPresentValue session.old.session show.now (view value)) }
+    ensures same { session.new.session ≡ session.old.session }
+{
+    match show {
+        LineShow::Table(show) => { table_value(alloc, session.sources(), session.edition(), *show) }
+        LineShow::Outline {
+            krate,
+            file,
+            units,
+            has_members,
+        } => outline(alloc, session, *krate, *file, *units, *has_members),
+        LineShow::TreeItems {
+            krate,
+            place,
+            units,
+        } => tree_items(alloc, session, *krate, *place, *units),
+        LineShow::ImportPlaces {
+            krate,
+            place,
+            units,
+        } => import_places(alloc, session, *krate, *place, *units),
+        LineShow::Changes { since } => changes_value(alloc, session.sources(), *since),
+        LineShow::Problems { file, units } => problems(alloc, session, *file, *units),
+        LineShow::Find { sought } => find(alloc, session, sought),
+        LineShow::Search { searched } => search(alloc, session, searched),
     }
+}
+
+// The value of a show.
+fn show_one(alloc: Global, session: &mut Session, show: &LineShow) -> Result<Value, AllocError>
+    requires { ShowNamesCrate (crate_count session.old.session) show.now }
+    ensures shown { IfOk result (λ value. IsShowValue session.old.session show.now (view value)) }
+    ensures same { session.new.session ≡ session.old.session }
+{
+    match unset_place(session.sources(), show) {
+        Some(place) => unset_value(alloc, place),
+        None => present_value(alloc, session, show),
+    }
+}
+
+/// The values of shows, in their order.
+///
+/// # Errors
+///
+/// Only if memory runs out.
+pub(crate) fn show_all(
+    alloc: Global,
+    session: &mut Session,
+    shows: &[LineShow],
+) -> Result<Vec<Value>, AllocError>
+    requires { All (ShowNamesCrate (crate_count session.old.session)) shows.now }
+    ensures shown { IfOk result
+        (λ values. AllZip (IsShowValue session.old.session) shows.now (map view values.items)) }
+    ensures same { session.new.session ≡ session.old.session }
+{
+    let mut values = Vec::with_capacity(alloc, shows.len())?;
+    for show in shows {
+        values.push(show_one(alloc, session, show)?)?;
+    }
+    Ok(values)
 }

@@ -1,5 +1,5 @@
 use Rattle.std.proofs.Common.{None, rules, string_bytes}
-use Rattle.source_listing.specs.Tags as listing
+use Rattle.source_tags.specs.Tags as listing
 use Rattle.source_listing.specs.Views.{source_view}
 use Rattle.itemtree_commands.specs.Answers.{cfgs_if, choice}
 use Rattle.itemtree_commands.proofs.ListedRows.{listed_of_rows}

@@ -1,5 +1,5 @@
 use Rattle.std.proofs.Common.{◌≡◌, map, take, string_bytes}
-use Rattle.source_rows.specs.ChangeViews.{row_change_view}
+use Rattle.source_changes.specs.ChangeViews.{row_change_view}
 use Rattle.source_changes.specs.Changes.{row_texts}
 use Rattle.source_changes.specs.Views.{lined_view}
 use Rattle.source_rows.specs.Views.{source_view}

@@ -1,6 +1,6 @@
 use Rattle.std.proofs.Common.{ap, map, ◌∙◌}
-use Rattle.source_listing.specs.Repeated.{repeat_lines}
-use Rattle.source_listing.specs.Views.{repeated_import_view}
+use Rattle.source_imports.specs.Repeated.{repeat_lines}
+use Rattle.source_imports.specs.Views.{repeated_import_view}
 use Rattle.itemtree_commands.proofs.import_lists.duplicates.Goals as goal
 
 pub returns-clause-text : goal.returns-clause-text

@@ -1,9 +1,10 @@
 use Rattle.std.proofs.Common.{ap, map, ◌∙◌}
 use Rattle.source_rows.specs.ListedFiles.{closers_in}
-use Rattle.source_listing.specs.ImportLines.{import_lines}
-use Rattle.source_listing.specs.ImportCfgs.{ImportChoice}
+use Rattle.source_imports.specs.ImportLines.{import_lines}
+use Rattle.source_imports.specs.ImportCfgs.{ImportChoice}
 use Rattle.source_listing.specs.Uses.{placed}
-use Rattle.source_listing.specs.Views.{import_choice_view, source_view, use_cfgs_view}
+use Rattle.source_imports.specs.Views.{import_choice_view, use_cfgs_view}
+use Rattle.source_listing.specs.Views.{source_view}
 use Rattle.itemtree_commands.specs.Answers.{all_places, import_choice}
 use Rattle.itemtree_commands.proofs.import_lists.imports.Goals as goal
 

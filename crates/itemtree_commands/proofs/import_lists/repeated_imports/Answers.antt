@@ -1,9 +1,9 @@
 use Rattle.std.proofs.Common.{ap, map, ◌∙◌}
 use Rattle.source_rows.specs.ListedFiles.{closers_in}
-use Rattle.source_listing.specs.Repeated.{repeated_imports}
-use Rattle.source_listing.specs.ImportCfgs.{ImportChoice}
+use Rattle.source_imports.specs.Repeated.{repeated_imports}
+use Rattle.source_imports.specs.ImportCfgs.{ImportChoice}
 use Rattle.source_listing.specs.Uses.{placed}
-use Rattle.source_listing.specs.Views.{import_choice_view, use_cfgs_view}
+use Rattle.source_imports.specs.Views.{import_choice_view, use_cfgs_view}
 use Rattle.itemtree_commands.specs.Answers.{all_places, import_choice}
 use Rattle.itemtree_commands.proofs.import_lists.repeated_imports.Goals as goal
 

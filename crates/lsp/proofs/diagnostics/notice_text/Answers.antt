@@ -1,7 +1,7 @@
 use Rattle.std.proofs.Common.{◌≡◌, map, string_bytes, rules, ap, ◌∙◌}
 use Rattle.serde_json.specs.View.{view}
 use Rattle.serde_json.specs.Written.{compact_text, has_float}
-use Rattle.source_listing.specs.Views.{repeated_import_view}
+use Rattle.source_imports.specs.Views.{repeated_import_view}
 use Rattle.lsp.specs.Diagnostics.{diagnostics, notice}
 use Rattle.lsp.specs.Views.{document_view}
 use Rattle.lsp.proofs.NoFloats.{diagnostics_none, notice_none}

@@ -1,6 +1,6 @@
 use Rattle.std.proofs.Common.{◌≡◌, ◌++◌, map, take}
 use Rattle.serde_json.specs.View.{view}
-use Rattle.source_listing.specs.Views.{repeated_import_view}
+use Rattle.source_imports.specs.Views.{repeated_import_view}
 use Rattle.lsp.specs.Diagnostics.{repeat_diagnostic}
 use Rattle.lsp.proofs.diagnostics.push_repeats.Given as goal
 

@@ -1,5 +1,5 @@
 use Rattle.std.proofs.Common.{◌≡◌, true, map, inl, rules, subst, sym}
-use Rattle.source_listing.specs.Views.{repeated_import_view}
+use Rattle.source_imports.specs.Views.{repeated_import_view}
 use Rattle.itemtree_commands.specs.Answers.{AreRepeats}
 use Rattle.lsp.specs.Diagnostics.{AreRepeatsTold}
 use Rattle.lsp.proofs.diagnostics.repeats_of.Goals as goal

@@ -7,13 +7,14 @@ use Rattle.source_session.proofs.found.found_values.Goals as goal
 
 pub push_found-requires-clause-declared : goal.push_found-requires-clause-declared
 push_found-requires-clause-declared c =
-    let known = IsDeclared c.args.sources.now in
+    let known = IsDeclared c.args.session.now.session.table in
     All-head known c.in-Some.entry.now c.next.new.self (subst (All known) c.in-Some.ensures.steps c.loop-entry.invariant.declared)
 
 pub loop-entry-preserved : goal.loop-entry-preserved
 loop-entry-preserved c =
-    let known = IsDeclared c.args.sources.now in
-    let found = found_one c.args.sources.now c.args.texts.now.entries c.args.sought.now in
+    let u = c.args.session.now.session in
+    let known = IsDeclared u.table in
+    let found = found_one u c.args.sought.now in
     let x = c.in-Some.entry.now in
     let left = c.next.new.self in
     let old = map view c.loop-entry.values.items in

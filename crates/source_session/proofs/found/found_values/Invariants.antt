@@ -6,7 +6,7 @@ use Rattle.source_session.proofs.found.found_values.Given as goal
 
 abbrev pub invariant-loop-entry : goal.invariant-loop-entry
 invariant-loop-entry l = record {
-  declared : All (IsDeclared l.sources) l.entry-iterator;
-  values : map view l.values.items ++ flat_map (found_one l.sources l.texts.entries l.sought) l.entry-iterator ≡ flat_map (found_one l.sources l.texts.entries l.sought) l.entries.keys;
-  finder : IfSome l.finder (IsFinder l.sources l.texts.entries);
+  declared : All (IsDeclared l.session.session.table) l.entry-iterator;
+  values : map view l.values.items ++ flat_map (found_one l.session.session l.sought) l.entry-iterator ≡ flat_map (found_one l.session.session l.sought) l.entries.keys;
+  finder : IfSome l.finder (IsFinder l.session.session);
 }

@@ -1,0 +1,8 @@
+pub mod Common
+pub mod TreeEnds
+pub mod NoFloats
+pub mod ImportCfgLists
+pub mod ImportExclusions
+pub mod Imported
+pub mod Repeats
+pub mod Firsts

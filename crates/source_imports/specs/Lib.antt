@@ -1,0 +1,9 @@
+pub mod Removals
+pub mod ImportCfgs
+pub mod ImportExclusion
+pub mod Imports
+pub mod ImportLines
+pub mod ImportObjects
+pub mod Repeated
+pub mod Views
+pub mod Inner

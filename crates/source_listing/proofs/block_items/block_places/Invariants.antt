@@ -1,6 +1,0 @@
-use Rattle.source_listing.proofs.Common.{◌≡◌, map, take}
-use Rattle.source_listing.specs.BlockItems.{bare_place}
-use Rattle.source_listing.proofs.block_items.block_places.Given as goal
-
-abbrev pub invariant-loop-place : goal.invariant-loop-place
-invariant-loop-place l = l.places.items ≡ map bare_place (take l.place-index l.place-items)

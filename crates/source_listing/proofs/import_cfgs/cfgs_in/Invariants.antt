@@ -1,7 +1,0 @@
-use Rattle.std.proofs.Common.{◌≡◌, map, drop}
-use Rattle.source_listing.specs.ImportCfgs.{cfgs_in}
-use Rattle.source_listing.specs.Views.{use_cfgs_view}
-use Rattle.source_listing.proofs.import_cfgs.cfgs_in.Given as goal
-
-abbrev pub invariant-loop-item : goal.invariant-loop-item
-invariant-loop-item l = cfgs_in (map use_cfgs_view (drop l.item-index l.uses)) l.id ≡ cfgs_in (map use_cfgs_view l.uses) l.id

@@ -1,9 +1,0 @@
-use Rattle.std.proofs.Common.{take}
-use Rattle.source_rows.specs.Matches.{CountsAll, FindsAll}
-use Rattle.source_rows.proofs.matching.table.Given as goal
-
-abbrev pub invariant-loop-one : goal.invariant-loop-one
-invariant-loop-one g l = record {
-  finds : FindsAll g.K.PartialEq.eq l.table (take l.one-index l.list);
-  counted : CountsAll g.K.PartialEq.eq l.counts (take l.one-index l.list);
-}

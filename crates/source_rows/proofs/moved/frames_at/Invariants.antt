@@ -1,7 +1,0 @@
-use Rattle.std.proofs.Common.{◌≡◌, map, take}
-use Rattle.source_rows.specs.Inner.{frame_view}
-use Rattle.source_rows.specs.Moves.{frames_at}
-use Rattle.source_rows.proofs.moved.frames_at.Given as goal
-
-abbrev pub invariant-loop-frame : goal.invariant-loop-frame
-invariant-loop-frame l = map frame_view l.left.items ≡ frames_at l.place (map frame_view (take l.frame-index l.frames))

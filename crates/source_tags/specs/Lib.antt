@@ -1,0 +1,6 @@
+pub mod LineSearches
+pub mod BlockItems
+pub mod TagFields
+pub mod Tags
+pub mod Views
+pub mod Inner

@@ -1,0 +1,5 @@
+use Rattle.text_session.proofs.Read.{set_edited}
+use Rattle.text_session.proofs.laws.readings.Goals as goal
+
+pub returns : goal.returns
+returns c = set_edited
