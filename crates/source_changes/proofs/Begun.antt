@@ -1,6 +1,6 @@
 -- What of parts are no tokens of those around them, one part at a time.
 use Rattle.std.proofs.Common.{◌≡◌, ◌<◌, ◌≤◌, ◌+◌, ℕ, true, false, List, [], ◌∷◌, ◌++◌, length, map, drop, get_or, refl, ap, sym, ◌∙◌, arith, append_assoc, append-nil, nat_le}
-use Rattle.source_rows.specs.declared.items.Part as code_part
+use Rattle.source_changes.specs.declared.text_parts.Part as code_part
 use Rattle.source_rows.proofs.Steps.{drop_next}
 use Rattle.source_changes.specs.declared.kept.Hole.{Hole}
 use Rattle.source_changes.proofs.Common.{nat_tests, Part, part_view, outside, holes_begun}

@@ -1,7 +1,7 @@
 -- The names that most proofs here cite, passed on from one place. Declares nothing.
 pub use Rattle.source_rows.specs.Labels.{text_at}
-pub use Rattle.source_rows.specs.Parts.{Part}
-pub use Rattle.source_rows.specs.Views.{part_view}
+pub use Rattle.source_changes.specs.Parts.{Part}
+pub use Rattle.source_changes.specs.Views.{part_view}
 pub use Rattle.source_changes.specs.ChangeViews.{row_change_view, row_part, text_row_view}
 pub use Rattle.source_changes.specs.Inner.{labelled_view, row_match, with_label}
 pub use Rattle.source_changes.specs.RowChanges.{row_change_of, same_text, same_texts}

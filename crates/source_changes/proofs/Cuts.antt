@@ -8,7 +8,7 @@ use Rattle.rust_lexer.proofs.Cases.{when}
 use Rattle.rust_paths.specs.declared.names.TextRange.{TextRange}
 use Rattle.rust_items.specs.MemberLists.{cut_out, is_boundary}
 use Rattle.rust_items.specs.Members.{range_moved_by}
-use Rattle.source_rows.specs.Bodies.{is_hole, hole_of}
+use Rattle.source_changes.specs.Bodies.{is_hole, hole_of}
 
 -- ---- at the beginning
 

@@ -15,7 +15,7 @@ use Rattle.rust_items.specs.MemberPlaces.{ArePlaced, IsMemberPlaced}
 use Rattle.rust_items.proofs.BodyMembers.{MemberAlike}
 use Rattle.rust_edits.specs.Typing.Laws.{with_body}
 use Rattle.rust_edits.specs.Typing.Moved.{close_at, place_after_edit, shifted_by}
-use Rattle.source_rows.specs.Bodies.{hole_of}
+use Rattle.source_changes.specs.Bodies.{hole_of}
 use Rattle.source_changes.specs.Rows.{hole_inside}
 use Rattle.source_changes.specs.declared.kept.Hole.{Hole}
 use Rattle.source_changes.proofs.Beside.{moved_on}

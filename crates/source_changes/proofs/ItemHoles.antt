@@ -17,9 +17,10 @@ use Rattle.rust_metas.specs.declared.wanted.WantedMetas.TheVariants as wanted
 use Rattle.rust_items.specs.MemberLists.{cut_out, members, members_at, members_in}
 use Rattle.rust_items.specs.Members.{MemberRead, moved_member, range_moved_by}
 use Rattle.rust_items.specs.MemberPlaces.{ArePlaced}
-use Rattle.source_rows.specs.Labels.{Outer, has_members}
-use Rattle.source_rows.specs.Bodies.{hole_of}
-use Rattle.source_rows.specs.Parts.{Part, around_behind, body_members, fn_body, item_parts_from, member_part, member_parts, members_hidden, part_of_item, part_path, still_open}
+use Rattle.source_rows.specs.Labels.{has_members}
+use Rattle.source_changes.specs.Bodies.{hole_of}
+use Rattle.source_rows.specs.Listed.{body_members}
+use Rattle.source_changes.specs.Parts.{Part, around_behind, fn_body, item_parts_from, member_part, member_parts, members_hidden, part_of_item, part_path, still_open, Outer}
 use Rattle.source_changes.specs.Rows.{bodies, hole_inside}
 use Rattle.source_changes.proofs.Beside.{moved_on}
 use Rattle.source_changes.proofs.Cuts.{cut_front, cut_behind, hole_front, hole_behind}

@@ -9,7 +9,7 @@ use Rattle.source_changes.specs.ChangeViews.{row_change_view}
 use Rattle.source_changes.specs.RowChanges.{row_changes, seen_changes}
 use Rattle.source_changes.specs.Moves.{row_moves}
 use Rattle.source_changes.specs.Outside.{outside_rows}
-use Rattle.source_rows.specs.Parts.{Part, item_parts}
+use Rattle.source_changes.specs.Parts.{Part, item_parts}
 use Rattle.source_changes.specs.Rows.{part_rows}
 use Rattle.source_rows.specs.Sources.{Source}
 use Rattle.list_forms.specs.declared.lines.Form.{Form}

@@ -1,4 +1,6 @@
 pub mod Common
+pub mod Words
+pub mod PartSteps
 pub mod Begun
 pub mod Texts
 pub mod AsComments

@@ -17,8 +17,8 @@ use Rattle.rust_items.specs.MemberLists.{members}
 use Rattle.rust_items.specs.Members.{MemberRead}
 use Rattle.rust_items.specs.MemberPlaces.{ArePlaced}
 use Rattle.source_rows.specs.Labels.{has_members}
-use Rattle.source_rows.specs.Bodies.{is_hole}
-use Rattle.source_rows.specs.Parts.{body_members}
+use Rattle.source_changes.specs.Bodies.{is_hole}
+use Rattle.source_rows.specs.Listed.{body_members}
 use Rattle.source_changes.specs.Rows.{hole_inside}
 use Rattle.source_changes.proofs.ItemHoles.{hole_at, item_holes, place_holes, member_holes, members_are, none_held}
 use Rattle.source_changes.proofs.Parted.{held_none, may_hold, none_placed}

@@ -15,12 +15,12 @@ use Rattle.source_changes.specs.declared.kept.Hole.{Hole}
 use Rattle.rust_items.specs.declared.source_file.ItemPlace.{ItemPlace}
 use Rattle.rust_items.specs.Places.{IsNameIn}
 use Rattle.rust_items.specs.Members.{range_moved_by}
-use Rattle.source_rows.specs.Bodies.{is_hole, hole_of}
+use Rattle.source_changes.specs.Bodies.{is_hole, hole_of}
 use Rattle.rust_items.specs.LineEnds.{moved_range}
 use Rattle.rust_edits.specs.Typing.Laws.{with_body}
 use Rattle.rust_edits.specs.Typing.Moved.{close_at, moved_place, place_after_edit, shifted_by}
 use Rattle.hir_input.specs.declared.edition.EditionYear.{EditionYear}
-use Rattle.source_rows.specs.Parts.{fn_body}
+use Rattle.source_changes.specs.Parts.{fn_body}
 use Rattle.source_changes.specs.Rows.{hole_inside}
 use Rattle.source_changes.specs.Typing.{is_range, has_hole, braces, moved_hole}
 use Rattle.source_changes.proofs.Beside.{moved_on}

@@ -26,7 +26,8 @@ use Rattle.rust_edits.proofs.Typing.Texts as texts
 use Rattle.rust_edits.specs.Typing.Laws.{with_body, BeginsPlain}
 use Rattle.rust_edits.specs.Typing.Moved.{close_at, moved_place, place_after_edit, shifted_by}
 use Rattle.source_rows.specs.Labels.{has_members}
-use Rattle.source_rows.specs.Parts.{body_members, fn_body}
+use Rattle.source_rows.specs.Listed.{body_members}
+use Rattle.source_changes.specs.Parts.{fn_body}
 use Rattle.source_changes.specs.declared.kept.Hole.{Hole}
 use Rattle.source_changes.proofs.ItemHoles.{item_holes, member_holes, none_held, place_holes}
 use Rattle.source_changes.proofs.Parted.{AllStand, AreBefore, Stands, may_hold}

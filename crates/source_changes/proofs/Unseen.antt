@@ -23,7 +23,7 @@ use Rattle.rust_edits.proofs.Typing.Moved.{places_move}
 use Rattle.rust_edits.proofs.Typing.Typing.{same_ids}
 use Rattle.source_changes.specs.DocAttributes.{docs_as_comments}
 use Rattle.source_changes.specs.Inner.{ComeBehind}
-use Rattle.source_rows.specs.Parts.{Part}
+use Rattle.source_changes.specs.Parts.{Part}
 use Rattle.source_changes.specs.Rows.{bodies, hole}
 use Rattle.source_changes.specs.Skeletons.{kept, skeleton}
 use Rattle.source_changes.proofs.AsComments.{in_braces, placed, still_behind}

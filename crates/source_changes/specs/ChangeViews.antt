@@ -4,10 +4,10 @@ use Rattle.source_changes.specs.declared.row_changes.Row as code_row
 use Rattle.source_changes.specs.declared.row_changes.Change as code_change
 use Rattle.source_changes.specs.declared.kept.Skeleton as code_skeleton
 use Rattle.source_changes.specs.RowChanges.{TextRow, RowChange}
-use Rattle.source_rows.specs.Parts.{Part}
+use Rattle.source_changes.specs.Parts.{Part}
 use Rattle.source_changes.specs.Rows.{part_row}
 use Rattle.source_changes.specs.Skeletons.{skeleton}
-use Rattle.source_rows.specs.Views.{part_view}
+use Rattle.source_changes.specs.Views.{part_view}
 
 -- the texts of the tokens that tell a text
 abbrev pub skeleton_view : code_skeleton.Skeleton → List (List ℕ)

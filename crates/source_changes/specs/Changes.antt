@@ -5,7 +5,7 @@ use Rattle.rust_items.specs.SourceFiles.{FileView, IsFileView}
 use Rattle.source_changes.specs.ChangeWords.{side_of}
 use Rattle.source_changes.specs.RowChanges.{RowChange, row_changes, seen_changes}
 use Rattle.source_changes.specs.Skeletons.{skeleton}
-use Rattle.source_rows.specs.Parts.{Part, item_parts}
+use Rattle.source_changes.specs.Parts.{Part, item_parts}
 use Rattle.source_changes.specs.Outside.{outside_rows}
 use Rattle.source_changes.specs.Moves.{StandingRow, row_moves, standing_rows}
 use Rattle.source_changes.specs.Rows.{bodies, part_rows}

@@ -1,3 +1,6 @@
+pub mod Bodies
+pub mod Hiding
+pub mod Parts
 pub mod DocAttributes
 pub mod Skeletons
 pub mod Matches

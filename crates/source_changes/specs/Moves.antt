@@ -3,7 +3,7 @@ use Rattle.std.specs.Prelude.{ℕ, Bool, ◌==◌, ◌&&◌, nat_lt, List, [], �
 use Rattle.std.specs.List.{zip}
 use Rattle.source_changes.specs.Matches.{match_map, matched, ranks}
 use Rattle.source_changes.specs.RowChanges.{RowChange, TextRow, row_change_of, same_text}
-use Rattle.source_rows.specs.Parts.{Part}
+use Rattle.source_changes.specs.Parts.{Part}
 
 -- ---- where parts stand
 

@@ -7,7 +7,7 @@ use Rattle.rust_cursor.specs.Tokens.{tokens_of}
 use Rattle.rust_metas.specs.Attributes.{inner_attributes}
 use Rattle.source_changes.specs.declared.kept.Hole.{Hole}
 use Rattle.source_changes.specs.RowChanges.{TextRow}
-use Rattle.source_rows.specs.Parts.{Part}
+use Rattle.source_changes.specs.Parts.{Part}
 use Rattle.source_changes.specs.Rows.{hole, holes_begun, part_row}
 use Rattle.source_changes.specs.Skeletons.{is_begun, not_over}
 

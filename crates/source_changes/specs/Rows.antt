@@ -5,7 +5,7 @@ use Rattle.source_changes.specs.declared.kept.Hole.{Hole}
 use Rattle.source_changes.specs.RowChanges.{TextRow}
 use Rattle.source_changes.specs.Skeletons.{skeleton}
 use Rattle.source_rows.specs.Labels.{text_at}
-use Rattle.source_rows.specs.Parts.{Part}
+use Rattle.source_changes.specs.Parts.{Part}
 
 abbrev pub hole : ℕ → ℕ → Hole
 hole start end = record { start = start; end = end }

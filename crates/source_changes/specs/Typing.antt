@@ -10,9 +10,10 @@ use Rattle.rust_items.specs.SourceFiles.{FileView, IsFileView}
 use Rattle.rust_edits.specs.Typing.Laws.{with_body, BeginsPlain, OpensAt, IsTyped}
 use Rattle.rust_edits.specs.Typing.Moved.{close_at, shifted_by}
 use Rattle.rust_items.specs.Members.{MemberRead}
-use Rattle.source_rows.specs.Bodies.{hole_of}
+use Rattle.source_changes.specs.Bodies.{hole_of}
 use Rattle.source_rows.specs.Labels.{has_members}
-use Rattle.source_rows.specs.Parts.{Part, body_members, fn_body}
+use Rattle.source_rows.specs.Listed.{body_members}
+use Rattle.source_changes.specs.Parts.{Part, fn_body}
 use Rattle.source_changes.specs.Rows.{bodies, hole}
 use Rattle.source_rows.specs.Sources.{Source}
 use Rattle.source_changes.specs.declared.kept.Hole.{Hole}

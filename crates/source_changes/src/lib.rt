@@ -3,6 +3,8 @@
 
 mod change_kind;
 mod doc_attributes;
+mod hiding;
+mod inside;
 mod kept;
 mod labelled;
 mod laws;
@@ -11,11 +13,13 @@ mod matching;
 mod moved;
 mod row_changes;
 mod strays;
+mod text_parts;
 mod tokens;
 mod told;
 
 ghost use Rattle.std.specs.Prelude.{◌≡◌, ◌++◌, ◌↔◌, IfOk, IsTrue, OnOk, map, string_bytes};
-ghost use Rattle.source_rows.specs.Views.{part_view, source_view};
+ghost use Rattle.source_changes.specs.Views.{part_view};
+ghost use Rattle.source_rows.specs.Views.{source_view};
 ghost use Rattle.source_changes.specs.ChangeViews.{row_change_view, row_part, text_row_view};
 ghost use Rattle.source_changes.specs.RowChanges.{row_changes, seen_changes};
 ghost use Rattle.source_changes.specs.Moves.{row_moves, standing_rows};
@@ -31,9 +35,9 @@ pub use moved::moves;
 pub use row_changes::{Change, Row, changes, seen_changes};
 use rust_items::{Wanted, WantedMetas, read_wanted};
 pub use source_rows::Source;
-use source_rows::{Part, parts};
 use std::alloc::{AllocError, Global};
 pub use strays::{outside, row_around};
+pub use text_parts::{Part, parts};
 pub use tokens::{bodies, rows};
 pub use told::file_change;
 use told::{Side, side_from};

@@ -6,12 +6,12 @@ ghost use Rattle.source_changes.specs.Matches.{ranks};
 ghost use Rattle.source_changes.specs.ChangeViews.{row_change_view, row_part, text_row_view};
 ghost use Rattle.source_changes.specs.Inner.{frame_view, standing_row_view, standing_view};
 ghost use Rattle.source_changes.specs.Moves as spec;
-ghost use Rattle.source_rows.specs.Views.{part_view};
+ghost use Rattle.source_changes.specs.Views.{part_view};
 
 use crate::labelled::labelled;
 use crate::matching::{Keyed, matched, ranks};
 use crate::row_changes::{Change, Row, changes_of};
-use source_rows::Part;
+use crate::text_parts::Part;
 use std::alloc::{AllocError, Global};
 
 /// A part around others: where it ends, what it is called, and how many parts of that label come before it.

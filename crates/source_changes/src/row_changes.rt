@@ -11,8 +11,9 @@ use crate::change_kind::ChangeKind;
 use crate::kept::{Hole, Skeleton};
 use crate::labelled::labelled;
 use crate::matching::{Keyed, Match, matched};
+use crate::text_parts::Part;
 use crate::tokens::own_holes;
-use source_rows::{Part, text_at};
+use source_rows::text_at;
 use std::alloc::{AllocError, Global};
 
 /// A part of a text that is told by itself.

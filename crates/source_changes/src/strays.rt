@@ -4,17 +4,17 @@ ghost use Rattle.std.specs.Prelude.{◌≡◌, ◌++◌, ◌∷◌, [], IfOk, On
 ghost use Rattle.rust_lexer.specs.Tokens.{tokens};
 ghost use Rattle.source_changes.specs.ChangeViews.{text_row_view};
 ghost use Rattle.source_changes.specs.Outside as spec;
-ghost use Rattle.source_rows.specs.Views.{part_view};
+ghost use Rattle.source_changes.specs.Views.{part_view};
 
 use crate::kept::{Hole, is_begun, not_over};
 use crate::row_changes::Row;
+use crate::text_parts::Part;
 use crate::tokens::push_begun;
 use hir_input::EditionYear;
 use rust_cursor::Cursor;
 use rust_items::TextRange;
 use rust_lexer::Lexer;
 use rust_metas::{WantedMetas, kept_inner_attributes};
-use source_rows::Part;
 use std::alloc::{AllocError, Global};
 
 /// The place of the first token that stands in none of some parts.

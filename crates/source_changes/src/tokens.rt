@@ -3,12 +3,12 @@
 ghost use Rattle.std.specs.Prelude.{◌≡◌, ◌++◌, IfOk, OnOk, map, flat_map};
 ghost use Rattle.source_changes.specs.ChangeViews.{row_part, text_row_view};
 ghost use Rattle.source_changes.specs.Rows as spec;
-ghost use Rattle.source_rows.specs.Views.{part_view};
+ghost use Rattle.source_changes.specs.Views.{part_view};
 
 use crate::kept::Hole;
 use crate::row_changes::Row;
+use crate::text_parts::Part;
 use rust_items::TextRange;
-use source_rows::Part;
 use std::alloc::{AllocError, Global};
 
 /// Adds what stands between braces.

@@ -5,8 +5,5 @@ pub use Rattle.rust_items.specs.MemberViews.{member_view}
 pub use Rattle.source_rows.specs.Blanks.{first_spacing, gap_text, spacing_behind}
 pub use Rattle.source_rows.specs.declared.blanks.Spacing.{Spacing}
 pub use Rattle.source_rows.specs.Headers.{is_over, spaced_from, spaced_tokens}
-pub use Rattle.source_rows.specs.Labels.{Outer, modules_path}
-pub use Rattle.source_rows.specs.Parts.{Part, around_behind, item_parts, item_parts_from, member_part, parts_of, still_open}
 pub use Rattle.source_rows.specs.Types.{is_type_over, type_from, type_step}
 unfoldable pub use Rattle.source_rows.specs.Types.{type_read}
-pub use Rattle.source_rows.specs.Views.{outer_view, part_view}

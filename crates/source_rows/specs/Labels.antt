@@ -1,5 +1,5 @@
 -- The words of kinds, and paths.
-use Rattle.std.specs.Prelude.{List, ℕ, Bool, [], ◌∷◌, ◌++◌, codes, Option, Some, None, is_some, unwrap_or, flat_map}
+use Rattle.std.specs.Prelude.{List, ℕ, Bool, [], codes, Option, Some, None, is_some, unwrap_or}
 use Rattle.hir_input.specs.declared.ids.AstIdKind.{AstIdKind}
 use Rattle.hir_input.specs.declared.ids.AstIdKind.TheVariants as kind
 use Rattle.rust_paths.specs.declared.names.TextRange.{TextRange}
@@ -56,17 +56,3 @@ text_at text range = unwrap_or (cut_out text range) []
 abbrev pub text_at_some : List ℕ → Option TextRange → List ℕ
 text_at_some text None = []
 text_at_some text (Some range) = text_at text range
-
--- a module around an item: where it ends, and its name
-pub record Outer : Type 0 where
-  pub end : ℕ
-  pub name : List ℕ
-
--- the names of modules, from the outermost on, with `::` behind each
-abbrev pub modules_path : List Outer → List ℕ
-modules_path around = flat_map (λ a. a.name ++ codes "::") around
-
--- a word, and a text with a blank in front if it is not empty
-abbrev pub label : List ℕ → List ℕ → List ℕ
-label word [] = word
-label word (b ∷ bs) = word ++ 32 ∷ b ∷ bs

@@ -2,9 +2,6 @@ pub mod Comments
 pub mod Labels
 pub mod Blanks
 pub mod Headers
-pub mod Hiding
-pub mod Bodies
-pub mod Parts
 pub mod Sources
 pub mod Ends
 pub mod Places

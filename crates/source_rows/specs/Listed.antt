@@ -1,5 +1,5 @@
 -- What lists tell of items beside their tree: the headers of impls, and members.
-use Rattle.std.specs.Prelude.{ℕ, Bool, not, ◌&&◌, List, [], Option, Some, None, option_map, filter_map}
+use Rattle.std.specs.Prelude.{ℕ, Bool, true, not, ◌&&◌, List, [], Option, Some, None, option_map, filter_map}
 use Rattle.hir_input.specs.declared.edition.EditionYear.{EditionYear}
 use Rattle.hir_input.specs.declared.ids.AstIdKind.{AstIdKind}
 use Rattle.hir_input.specs.declared.ids.AstIdKind.TheVariants as kind
@@ -12,12 +12,18 @@ use Rattle.rust_paths.specs.declared.names.TextRange.{TextRange}
 use Rattle.rust_items.specs.declared.source_file.ItemPlace.{ItemPlace}
 use Rattle.rust_items.specs.LineEnds.{moved_range}
 use Rattle.rust_items.specs.declared.member.MemberKind.{MemberKind}
+use Rattle.rust_items.specs.MemberLists.{members}
 use Rattle.rust_items.specs.Members.{MemberRead}
+use Rattle.rust_metas.specs.declared.wanted.WantedMetas.TheVariants as wanted
 use Rattle.source_rows.specs.Headers.{header}
 use Rattle.source_rows.specs.Labels.{has_members, text_at}
-use Rattle.source_rows.specs.Parts.{body_members}
 use Rattle.source_rows.specs.Enabled.{any_disables}
 use Rattle.source_rows.specs.Types.{type_name}
+
+-- the members of an item of this kind in this body, if it may have some, with their conditions alone: no list asks for other attributes
+abbrev pub body_members : EditionYear → AstIdKind → List ℕ → Bool → Option TextRange → List MemberRead
+body_members edition k text true (Some body) = members wanted.Conditions edition k text body
+body_members edition k text _ body = []
 
 -- Where closers were put in the text that is read of a file: their places in that text, and in the file's.
 pub record Closers : Type 0 where

@@ -7,12 +7,15 @@ ghost use Rattle.source_rows.specs.Blanks as blanks;
 ghost use Rattle.source_rows.specs.Headers as spec;
 
 use crate::blanks::{Spacing, first_spacing, spacing_behind, stands_close};
-use crate::labels::{ROOM, text_at};
+use crate::labels::text_at;
 use hir_input::EditionYear;
 use rust_cursor::Cursor;
 use rust_items::TextRange;
 use rust_leaves::{Wanted, WantedMetas, wanted_front};
 use std::alloc::{AllocError, Global};
+
+// Most headers are shorter than so many bytes: they take memory once.
+const ROOM: usize = 64;
 
 /// Adds the text of the next token, which stands there.
 fn push_token(out: &mut String, spacing: Spacing, cursor: &Cursor<'_>) -> Result<(), AllocError>

@@ -1,14 +1,10 @@
 //! The words of kinds, and parts of a text.
 
-ghost use Rattle.std.specs.Prelude.{◌≡◌, ◌++◌, OnOk, is_some, option_map, string_bytes};
+ghost use Rattle.std.specs.Prelude.{◌≡◌, is_some, option_map};
 ghost use Rattle.source_rows.specs.Labels as spec;
 
 use hir_input::AstIdKind;
 use rust_items::{MemberKind, TextRange, cut_out};
-use std::alloc::AllocError;
-
-// Most labels are shorter than so many bytes: they take memory once.
-pub(crate) const ROOM: usize = 64;
 
 /// What is written of the items of a kind.
 #[derive(Clone, Copy)]
@@ -89,24 +85,12 @@ pub fn text_at(text: &str, range: TextRange) -> &str
     }
 }
 
-pub(crate) fn text_at_some(text: &str, range: Option<TextRange>) -> &str
+/// The same of a range that there may be; nothing without one.
+pub fn text_at_some(text: &str, range: Option<TextRange>) -> &str
     ensures { result.now ≡ spec.text_at_some text.now range }
 {
     match range {
         Some(range) => text_at(text, range),
         None => "",
     }
-}
-
-/// Adds a word, and a text with a blank in front if it is not empty.
-pub(crate) fn push_label(out: &mut String, word: &str, text: &str) -> Result<(), AllocError>
-    ensures { OnOk result (string_bytes out.new ≡ string_bytes out.old
-        ++ spec.label word.now text.now) }
-{
-    out.push_str(word)?;
-    if text.is_empty() {
-        return Ok(());
-    }
-    out.push_str(" ")?;
-    out.push_str(text)
 }

@@ -1,5 +1,4 @@
-//! The items of a text and their members as its parts, with what each is called and whether it is hidden; and what
-//! lists read of a text, also of a damaged one, and tell of items beside the tree, as the type and the trait of an
+//! What lists read of a text, also of a damaged one, and tell of items beside the tree, as the type and the trait of an
 //! impl, and members that have a name.
 #![tactic(auto)]
 
@@ -7,13 +6,11 @@ mod blanks;
 mod enabled;
 mod finder;
 mod headers;
-mod hiding;
-mod inside;
-mod items;
 mod labels;
 mod laws;
 mod listed;
 mod listed_files;
+mod members;
 mod mended;
 mod places;
 mod read_texts;
@@ -23,12 +20,13 @@ mod types;
 
 pub use finder::{Finder, Spot, stand_of, stands_at};
 pub use headers::header;
-pub use items::{Part, members_in, parts};
-pub use labels::{KindTexts, item_word, kind_texts, member_word, text_at};
+pub use labels::{KindTexts, item_word, kind_texts, member_word, text_at, text_at_some};
 pub use listed::ListedMember;
 pub use listed_files::{ListedFile, read_listed};
+pub use members::members_in;
 pub use mended::{told_item, told_place};
 pub use places::{Places, first_place};
 pub use read_texts::{ReadError, read_text};
 pub use reading::Reading;
 pub use source::{Source, push_place};
+pub use types::is_of_trait;

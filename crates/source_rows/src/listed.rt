@@ -5,7 +5,7 @@ ghost use Rattle.source_rows.specs.Listed as spec;
 ghost use Rattle.source_rows.specs.ListedViews.{closers_view, listed_view};
 
 use crate::enabled::any_disables;
-use crate::items::members_in;
+use crate::members::members_in;
 use crate::mended::{told_place, told_range, told_some};
 use hir_input::{CfgOptions, EditionYear, Name};
 use item_tree::{RawVisibility, visibility_from_ast};

@@ -150,11 +150,11 @@ pub(crate) fn type_name(
 }
 
 /// Whether an impl, which this is the text of, is of a trait.
-pub(crate) fn is_of_trait(
-    alloc: Global,
-    item: &str,
-    edition: EditionYear,
-) -> Result<bool, AllocError>
+///
+/// # Errors
+///
+/// Only if memory runs out.
+pub fn is_of_trait(alloc: Global, item: &str, edition: EditionYear) -> Result<bool, AllocError>
     ensures { IfOk result (λ is. is ≡ spec.is_of_trait edition item.now) }
 {
     let read = header_type(alloc, item, edition)?;

@@ -1,5 +1,6 @@
 use Rattle.std.proofs.Common.{ap, map, string_bytes}
-use Rattle.source_rows.specs.Views.{part_view, source_view}
+use Rattle.source_changes.specs.Views.{part_view}
+use Rattle.source_rows.specs.Views.{source_view}
 use Rattle.source_changes.proofs.Joining.{lines_compared}
 use Rattle.source_changes.proofs.change_lines.Goals as goal
 

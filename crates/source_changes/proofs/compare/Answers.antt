@@ -1,5 +1,6 @@
 use Rattle.std.proofs.Common.{ap, map}
-use Rattle.source_rows.specs.Views.{part_view, source_view}
+use Rattle.source_changes.specs.Views.{part_view}
+use Rattle.source_rows.specs.Views.{source_view}
 use Rattle.source_changes.proofs.Joining.{compared}
 use Rattle.source_changes.proofs.compare.Goals as goal
 

@@ -1,5 +1,6 @@
 use Rattle.std.proofs.Common.{◌==◌, ◌∙◌, ap, length, map}
-use Rattle.source_rows.specs.Views.{part_view, source_view}
+use Rattle.source_changes.specs.Views.{part_view}
+use Rattle.source_rows.specs.Views.{source_view}
 use Rattle.source_changes.proofs.Joining.{in_public}
 use Rattle.source_changes.proofs.compare_public.Goals as goal
 

@@ -4,7 +4,8 @@ use Rattle.std.proofs.lemmas.Bool.Decides.{nat_tests}
 use Rattle.source_changes.specs.ChangeViews.{row_change_view, row_part, text_row_view}
 use Rattle.source_changes.specs.RowChanges.{row_changes, seen_changes}
 use Rattle.source_changes.specs.Moves.{row_moves, standing_rows}
-use Rattle.source_rows.specs.Views.{part_view, source_view}
+use Rattle.source_changes.specs.Views.{part_view}
+use Rattle.source_rows.specs.Views.{source_view}
 use Rattle.source_changes.specs.Changes.{row_texts}
 use Rattle.source_changes.proofs.Joining.{moved_lines}
 use Rattle.source_changes.proofs.lines_between.Goals as goal

@@ -1,5 +1,5 @@
 use Rattle.std.proofs.Common.{map}
-use Rattle.source_rows.specs.Views.{part_view}
+use Rattle.source_changes.specs.Views.{part_view}
 use Rattle.source_changes.proofs.Joining.{are_parts}
 use Rattle.source_changes.proofs.parts_of.Goals as goal
 

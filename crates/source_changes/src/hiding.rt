@@ -2,16 +2,15 @@
 
 ghost use Rattle.std.specs.Prelude.{◌≡◌, IfOk, None, Some, false, if◌then◌else◌, option_copied};
 ghost use Rattle.rust_items.specs.MemberViews.{member_view};
-ghost use Rattle.source_rows.specs.Hiding as spec;
+ghost use Rattle.source_changes.specs.Hiding as spec;
 
 use crate::inside::is_seen_beyond;
-use crate::labels::text_at;
-use crate::types::is_of_trait;
 use hir_input::ast::Visibility;
 use hir_input::{AstIdKind, EditionYear};
 use rust_cursor::Cursor;
 use rust_items::{ItemPlace, Member, MemberKind, TextRange};
 use rust_leaves::{Wanted, WantedMetas, wanted_front};
+use source_rows::{is_of_trait, text_at};
 use std::alloc::{AllocError, Global};
 
 /// Whether a visibility ends at the module around it.

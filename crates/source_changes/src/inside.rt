@@ -4,12 +4,12 @@ ghost use Rattle.std.specs.Prelude.{◌≡◌, false, map};
 ghost use Rattle.std.specs.List.{list_any};
 ghost use Rattle.rust_cursor.specs.Words.{word_by};
 ghost use Rattle.rust_lexer.specs.Tokens.{tokens};
-ghost use Rattle.source_rows.specs.Bodies as spec;
+ghost use Rattle.source_changes.specs.Bodies as spec;
 
-use crate::labels::text_at;
 use memchr::memmem;
 use rust_items::TextRange;
 use rust_lexer::{Lexer, Token, TokenKind};
+use source_rows::text_at;
 
 /// A body of one of these functions runs while others are compiled.
 const MACRO_WORDS: [&str; 3] = ["proc_macro", "proc_macro_derive", "proc_macro_attribute"];

@@ -13,7 +13,7 @@ use Rattle.rust_items.specs.declared.source_file.ItemPlace.{ItemPlace}
 use Rattle.rust_items.specs.declared.member.MemberKind.{MemberKind}
 use Rattle.rust_items.specs.declared.member.MemberKind.TheVariants as member
 use Rattle.rust_items.specs.Members.{MemberRead}
-use Rattle.source_rows.specs.Bodies.{is_seen_beyond}
+use Rattle.source_changes.specs.Bodies.{is_seen_beyond}
 use Rattle.source_rows.specs.Labels.{text_at}
 use Rattle.source_rows.specs.Types.{is_of_trait}
 

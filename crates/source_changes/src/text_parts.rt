@@ -2,19 +2,20 @@
 
 ghost use Rattle.std.specs.Prelude.{◌≡◌, ◌++◌, ◌∷◌, [], IfOk, OnOk, map, string_bytes};
 ghost use Rattle.rust_items.specs.MemberViews.{member_view};
-ghost use Rattle.source_rows.specs.Hiding.{is_item_hidden};
-ghost use Rattle.source_rows.specs.Labels.{has_members, label, member_word, modules_path};
-ghost use Rattle.source_rows.specs.Parts as spec;
-ghost use Rattle.source_rows.specs.Views.{outer_view, part_view};
+ghost use Rattle.source_rows.specs.Labels.{member_word};
+ghost use Rattle.source_changes.specs.Hiding.{is_item_hidden};
+ghost use Rattle.source_changes.specs.Parts as spec;
+ghost use Rattle.source_changes.specs.Views.{outer_view, part_view};
 
-use crate::headers::header;
 use crate::hiding::{hides_members, is_item_hidden, is_member_hidden};
 use crate::inside::hole_of;
-use crate::labels::{ROOM, kind_texts, member_word, push_label, text_at, text_at_some};
 use hir_input::{AstIdKind, EditionYear};
-use rust_items::{ItemPlace, Member, MemberKind, TextRange, read_members};
-use rust_metas::WantedMetas;
+use rust_items::{ItemPlace, Member, MemberKind, TextRange};
+use source_rows::{header, kind_texts, member_word, members_in, text_at, text_at_some};
 use std::alloc::{AllocError, Global};
+
+// Most labels are shorter than so many bytes: they take memory once.
+const ROOM: usize = 64;
 
 /// An item or a member of one, as a part of a text.
 #[derive(Debug, Drop)]
@@ -57,7 +58,7 @@ fn kept_name(kind: MemberKind, name: Option<TextRange>) -> Option<TextRange>
     }
 }
 
-#[tactic(auto, using(crate::proofs::Steps::path_label))]
+#[tactic(auto, using(crate::proofs::PartSteps::path_label))]
 fn member_label(
     alloc: Global,
     text: &str,
@@ -66,7 +67,7 @@ fn member_label(
 ) -> Result<String, AllocError>
     ensures { let m = member_view member.now in
         IfOk result (λ out. string_bytes out
-        ≡ label (member_word m.kind) (spec.member_path text.now path.now m.name)) }
+        ≡ spec.label (member_word m.kind) (spec.member_path text.now path.now m.name)) }
 {
     let mut label = String::with_capacity(alloc, ROOM)?;
     label.push_str(member_word(member.kind))?;
@@ -115,37 +116,6 @@ fn push_members(
     Ok(())
 }
 
-fn has_members(kind: AstIdKind) -> bool
-    ensures { result ≡ has_members kind }
-{
-    kind_texts(kind).scope.is_some()
-}
-
-/// The members of an item of a text, which has these braces: none, where items of its kind have none. Of their
-/// attributes they have those that tell conditions.
-///
-/// # Errors
-///
-/// Only if memory runs out.
-pub fn members_in(
-    alloc: Global,
-    kind: AstIdKind,
-    text: &str,
-    body: Option<TextRange>,
-    edition: EditionYear,
-) -> Result<Vec<Member>, AllocError>
-    ensures { let read = spec.body_members edition kind text.now (has_members kind) body in
-        IfOk result (λ v. map member_view v.items ≡ read) }
-{
-    if !has_members(kind) {
-        return Ok(Vec::new(alloc));
-    }
-    match body {
-        Some(body) => read_members(alloc, kind, text, body, edition, WantedMetas::Conditions),
-        None => Ok(Vec::new(alloc)),
-    }
-}
-
 fn impl_braces(kind: AstIdKind, body: Option<TextRange>) -> Option<TextRange>
     ensures { result ≡ spec.impl_braces kind body }
 {
@@ -177,7 +147,7 @@ fn push_name(
 
 fn push_path(around: &[Around<'_>], out: &mut String) -> Result<(), AllocError>
     ensures { OnOk result (string_bytes out.new ≡ string_bytes out.old
-        ++ modules_path (map outer_view around.now)) }
+        ++ spec.modules_path (map outer_view around.now)) }
 {
     for module in around {
         out.push_str(module.name)?;
@@ -200,6 +170,19 @@ fn item_path(
     push_path(around, &mut out)?;
     push_name(alloc, text, edition, item, &mut out)?;
     Ok(out)
+}
+
+/// Adds a word, and a text with a blank in front if it is not empty.
+fn push_label(out: &mut String, word: &str, text: &str) -> Result<(), AllocError>
+    ensures { OnOk result (string_bytes out.new ≡ string_bytes out.old
+        ++ spec.label word.now text.now) }
+{
+    out.push_str(word)?;
+    if text.is_empty() {
+        return Ok(());
+    }
+    out.push_str(" ")?;
+    out.push_str(text)
 }
 
 fn fn_body(kind: AstIdKind, body: Option<TextRange>) -> Option<TextRange>
@@ -313,7 +296,7 @@ fn enter<'t>(
 }
 
 /// The items of a text of an edition, which stand so in preorder, and behind each its members.
-#[tactic(auto, using(crate::proofs::Steps::parts_more))]
+#[tactic(auto, using(crate::proofs::PartSteps::parts_more))]
 pub fn parts(
     alloc: Global,
     text: &str,

@@ -1,19 +1,18 @@
 -- The items of a text and their members, as parts of it.
-use Rattle.std.specs.Prelude.{ℕ, Bool, true, nat_lt, List, [], ◌∷◌, ◌++◌, map, filter, codes, Option, Some, None}
+use Rattle.std.specs.Prelude.{ℕ, Bool, nat_lt, List, [], ◌∷◌, ◌++◌, flat_map, map, filter, codes, Option, Some, None}
 use Rattle.hir_input.specs.declared.edition.EditionYear.{EditionYear}
 use Rattle.hir_input.specs.declared.ids.AstIdKind.{AstIdKind}
 use Rattle.hir_input.specs.declared.ids.AstIdKind.TheVariants as kind
 use Rattle.rust_paths.specs.declared.names.TextRange.{TextRange}
 use Rattle.rust_items.specs.declared.source_file.ItemPlace.{ItemPlace}
-use Rattle.rust_metas.specs.declared.wanted.WantedMetas.TheVariants as wanted
 use Rattle.rust_items.specs.declared.member.MemberKind.{MemberKind}
 use Rattle.rust_items.specs.declared.member.MemberKind.TheVariants as member
 use Rattle.rust_items.specs.Members.{MemberRead}
-use Rattle.rust_items.specs.MemberLists.{members}
-use Rattle.source_rows.specs.Labels.{item_word, has_members, member_word, text_at, text_at_some, Outer, modules_path, label}
 use Rattle.source_rows.specs.Headers.{header}
-use Rattle.source_rows.specs.Bodies.{hole_of}
-use Rattle.source_rows.specs.Hiding.{hides_members, is_item_hidden, is_member_hidden}
+use Rattle.source_rows.specs.Labels.{item_word, has_members, member_word, text_at, text_at_some}
+use Rattle.source_rows.specs.Listed.{body_members}
+use Rattle.source_changes.specs.Bodies.{hole_of}
+use Rattle.source_changes.specs.Hiding.{hides_members, is_item_hidden, is_member_hidden}
 
 -- a part: what it is called, where it is told, where it stands, the name that counts among the tokens around it, the braces whose tokens do not count, and whether it is seen in its module alone
 pub record Part : Type 0 where
@@ -23,6 +22,20 @@ pub record Part : Type 0 where
   pub kept : Option TextRange
   pub body : Option TextRange
   pub is_hidden : Bool
+
+-- a module around an item: where it ends, and its name
+pub record Outer : Type 0 where
+  pub end : ℕ
+  pub name : List ℕ
+
+-- the names of modules, from the outermost on, with `::` behind each
+abbrev pub modules_path : List Outer → List ℕ
+modules_path around = flat_map (λ a. a.name ++ codes "::") around
+
+-- a word, and a text with a blank in front if it is not empty
+abbrev pub label : List ℕ → List ℕ → List ℕ
+label word [] = word
+label word (b ∷ bs) = word ++ 32 ∷ b ∷ bs
 
 -- at its name, or where it begins
 abbrev pub part_told_at : TextRange → Option TextRange → ℕ
@@ -50,11 +63,6 @@ member_part text path hidden m = record {
   body = hole_of text m.range m.body;
   is_hidden = is_member_hidden hidden text m;
 }
-
--- the members of an item of this kind in this body, if it may have some, with their conditions alone: no list asks for other attributes
-abbrev pub body_members : EditionYear → AstIdKind → List ℕ → Bool → Option TextRange → List MemberRead
-body_members edition k text true (Some body) = members wanted.Conditions edition k text body
-body_members edition k text _ body = []
 
 abbrev pub members_hidden : EditionYear → List ℕ → ItemPlace → Option Bool
 members_hidden edition text s = hides_members edition (text_at text s.range) s.id.kind (is_item_hidden edition text s)

@@ -1,7 +1,7 @@
 use Rattle.std.proofs.Common.{◌≡◌, false, length}
 use Rattle.rust_lexer.specs.Tokens.{tokens}
-use Rattle.source_rows.specs.Bodies.{has_const_fn}
-use Rattle.source_rows.proofs.inside.has_const_fn_tokens.Given as goal
+use Rattle.source_changes.specs.Bodies.{has_const_fn}
+use Rattle.source_changes.proofs.inside.has_const_fn_tokens.Given as goal
 
 abbrev pub invariant-tokens : goal.invariant-tokens
 invariant-tokens l = has_const_fn l.has_const l.lexer ≡ has_const_fn false (tokens l.text)

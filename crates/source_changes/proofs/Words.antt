@@ -11,7 +11,7 @@ use Rattle.rust_lexer.specs.declared.kind.TokenKind.TheVariants as kinds
 use Rattle.rust_lexer.specs.declared.lexer.Front.TheVariants as fronts
 use Rattle.rust_lexer.proofs.Cases.{when}
 use Rattle.rust_lexer.proofs.Laws.{lossless}
-use Rattle.source_rows.specs.Bodies.{has_const_fn, has_word, is_this_word}
+use Rattle.source_changes.specs.Bodies.{has_const_fn, has_word, is_this_word}
 
 abbrev Absent : List ℕ → List ℕ → Type 0
 Absent w z = (k : ℕ) → OccursAt z w k → ⊥

@@ -1,8 +1,8 @@
 use Rattle.std.proofs.Common.{sym, ap, ◌∙◌}
 use Rattle.rust_lexer.specs.Tokens.{tokens}
-use Rattle.source_rows.specs.Bodies.{is_seen_beyond}
-use Rattle.source_rows.specs.Hiding.{reaches_out}
-use Rattle.source_rows.proofs.hiding.reaches_out.Goals as goal
+use Rattle.source_changes.specs.Bodies.{is_seen_beyond}
+use Rattle.source_changes.specs.Hiding.{reaches_out}
+use Rattle.source_changes.proofs.hiding.reaches_out.Goals as goal
 
 pub returns-in-Some : goal.returns-in-Some
 returns-in-Some c =
