@@ -1,6 +1,6 @@
 -- What a session tells of sizes, in the words of requests.
-use Rattle.std.proofs.Common.{◌≡◌, ◌≢◌, ℕ, List, length, refl, arith}
-use Rattle.source_session.proofs.Common.{EditView, IsEdited, IsRefused, Session, State, TextEdit, last_number}
+use Rattle.std.proofs.Common.{◌≢◌, ℕ, List, length, refl, arith}
+use Rattle.source_session.proofs.Common.{EditView, IsEdited, IsRefused, Session, State, TextEdit}
 use Rattle.item_tree.specs.declared.fault.EditFault.{EditFault}
 use Rattle.item_tree.specs.declared.fault.EditFault.TheVariants.{TooManyEdits, Lower}
 use Rattle.item_tree.specs.declared.fault.LowerError.TheVariants.{TooManyItems, TooManyVisibilities, TooManyUseTrees, TooManyAttributes, TooManySupers, OutOfMemory}

@@ -30,7 +30,7 @@ fn answers()
 {}
 
 // What passes a size is what requests tell of: no edit where all are made, and else the first is told.
-#[tactic(auto, using(crate::proofs::Sizes::edited_sizes, crate::proofs::Sizes::refused_sizes))]
+#[tactic(auto, using(crate::proofs::Sizes::edited_sizes))]
 fn sizes()
     ensures edited { (s u : Session) (asked : List TextEdit) (e : IsEdited s asked u)
         → NonePasses s.table e.edits (length e.edits) }

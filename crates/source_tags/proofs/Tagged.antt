@@ -1,5 +1,5 @@
 -- Tags that are pushed one after another.
-use Rattle.source_tags.proofs.Common.{◌≡◌, Bool, Bor, ItemPlace, Option, RowView, Some, None, ℕ, suc, ◌+◌, ◌-◌, ◌<◌, List, [], ◌∷◌, ◌++◌, length, take, get_or, map, ap, refl, sym, ◌∙◌, append_assoc, append-nil, flat_map, flat_map-append, take_more, arith, TagFile, IsSameTagger, tagged_file}
+use Rattle.source_tags.proofs.Common.{◌≡◌, Bool, Bor, ItemPlace, Option, RowView, Some, None, ℕ, suc, ◌+◌, ◌-◌, ◌<◌, List, [], ◌∷◌, ◌++◌, length, take, get_or, ap, refl, sym, ◌∙◌, append_assoc, append-nil, flat_map, flat_map-append, take_more, arith, TagFile, IsSameTagger, tagged_file}
 use Rattle.std.proofs.Common.{drop, zero}
 use Rattle.std.proofs.Math.Seq.{drop-cons}
 use Rattle.hir_input.specs.Cfg.{AtomView}

@@ -1,7 +1,6 @@
 use Rattle.std.proofs.Common.{rules, ◌≡◌, Err, None, Some, option_map, string_bytes, map, sym, ap, ◌∙◌}
 use Rattle.std.specs.BTreeMap.{get_by_text}
 use Rattle.serde_json.specs.View.{view}
-use Rattle.hir_input_json.specs.Reading.{right}
 use Rattle.lsp.specs.Documents.{document_in, with_document, without_document}
 use Rattle.lsp.specs.Servers.{changed_by, changed_document}
 use Rattle.lsp.specs.Views.{document_entry_view, document_view, documents_view}

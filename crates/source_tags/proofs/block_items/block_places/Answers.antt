@@ -1,4 +1,4 @@
-use Rattle.source_tags.proofs.Common.{rules, ◌≡◌, ◌∙◌, All, List, ap, map, subst, sym, take, take_all, ItemPlace}
+use Rattle.source_tags.proofs.Common.{rules, ◌∙◌, All, List, ap, map, subst, sym, take, take_all, ItemPlace}
 use Rattle.source_tags.specs.BlockItems.{bare_place}
 use Rattle.source_tags.specs.Inner.{FitsPlace}
 use Rattle.source_tags.proofs.Blocks.{bare_block, places_fit}

@@ -1,4 +1,4 @@
-use Rattle.source_tags.proofs.Common.{rules, ◌≡◌, ◌+◌, ◌∷◌, ◌++◌, Bor, List, ℕ, Option, suc, map, option_map, ap, sym, ◌∙◌, arith}
+use Rattle.source_tags.proofs.Common.{rules, ◌≡◌, ◌+◌, ◌∷◌, ◌++◌, Bor, List, ℕ, suc, map, option_map, ap, sym, ◌∙◌, arith}
 use Rattle.std.proofs.Common.{drop}
 use Rattle.std.proofs.Math.Seq.{drop-cons}
 use Rattle.hir_input.specs.declared.name.Name.{Name}

@@ -1,4 +1,4 @@
-use Rattle.source_tags.proofs.Common.{◌≡◌, ◌+◌, ◌-◌, ◌++◌, ◌∙◌, ◌<◌, Bor, Bool, List, ℕ, None, Option, Some, [], All, subst, ap, append-nil, append_assoc, arith, codes, filter, flat_map, length, map, nat_eq, on_ok_weaker, option_copied, option_map, rules, string_bytes, sym, false, true, take_all, Listed, RowView, TagFile, choice_view, if_any, is_chosen, is_listed, listed_view, members_of, reading_view, row_view, tag_inside, tagged_file, take, flat_map-map}
+use Rattle.source_tags.proofs.Common.{◌≡◌, ◌+◌, ◌-◌, ◌++◌, ◌∙◌, ◌<◌, Bor, List, ℕ, None, Some, [], All, subst, ap, append-nil, append_assoc, arith, filter, flat_map, length, map, on_ok_weaker, option_copied, rules, string_bytes, sym, false, true, take_all, TagFile, choice_view, if_any, is_chosen, is_listed, listed_view, members_of, row_view, tagged_file, flat_map-map}
 use Rattle.std.proofs.lemmas.List.{nil_from_length}
 use Rattle.std.proofs.lemmas.Bool.Decides.{nat_tests}
 use Rattle.std.specs.Option.{option_or}
@@ -6,7 +6,7 @@ use Rattle.std.specs.Prelude.{option_to_list}
 use Rattle.hir_input.specs.declared.name.Name.{Name}
 use Rattle.source_rows.specs.Labels.{kind_texts}
 use Rattle.source_rows.specs.declared.listed.ListedMember.{ListedMember}
-use Rattle.source_tags.specs.BlockItems.{FnBlock, Holder, block_places, block_row, inner_blocks, modules_of, word_inside}
+use Rattle.source_tags.specs.BlockItems.{block_places, block_row, inner_blocks, modules_of, word_inside}
 use Rattle.source_tags.specs.Inner.{FitsPlace, block_item_view, fn_block_view, holder_view}
 use Rattle.source_listing.specs.Search.{holder}
 use Rattle.source_tags.specs.Tags as spec

@@ -1,4 +1,4 @@
-use Rattle.source_tags.proofs.Common.{◌≡◌, ◌++◌, ◌∙◌, Bor, Some, ap, codes, map, on_ok_weaker, rules, string_bytes, sym, if_any, row_view, tagged_file}
+use Rattle.source_tags.proofs.Common.{◌≡◌, ◌++◌, ◌∙◌, Bor, Some, ap, map, on_ok_weaker, rules, string_bytes, sym, if_any, row_view, tagged_file}
 use Rattle.hir_input.specs.declared.name.Name.{Name}
 use Rattle.source_rows.specs.Labels.{kind_texts}
 use Rattle.source_tags.specs.Tags.{tag_text}
