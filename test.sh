@@ -99,7 +99,7 @@ try_programs() {
     part 'damaged requests' tests/hostile_bytes.py "$program" --seconds 60 --count "$1"
     part 'requests line by line' tests/serve.py "$itemtree" "$program" --sessions "$2"
     part 'texts in the making' tests/typed.py "$itemtree"
-    part 'an editor' tests/lsp.py "$itemtree"
+    part 'an editor' tests/lsp.py "$itemtree" --edits "$2"
     part 'real editors' tests/editors.py "$itemtree"
     part 'time that grows' tests/growth.py "$itemtree"
     part 'freed memory' tests/freed_memory.py "$itemtree"
