@@ -12,8 +12,7 @@ use crate::tag_form::form_of;
 use crate::tag_paths::TagPaths;
 use crate::tags::{TagsFile, head, write_tags};
 use itemtree_commands::{
-    Options, SourceError, check, duplicates, find, flat_json, imports, outline, outline_json, page,
-    tags,
+    Options, SourceError, check, duplicates, find, imports, outline, outline_json, page, tags,
 };
 use itemtree_options::{Asked, Command, OutlineAsked};
 use list_forms::Form;
@@ -80,20 +79,18 @@ impl Run<'_> {
     fn outline(&self, source: Source<'_>, look: OutlineAsked) -> Result<String, SourceError> {
         let (alloc, options) = (self.report.rt.alloc(), self.options);
         let has_members = self.asked.has_members;
-        let (depth, has_imports) = (look.depth, look.has_imports);
         match self.report.form {
-            Form::Json if look.is_flat => {
-                flat_json(alloc, source, options, depth, has_members, has_imports)
+            Form::Json if !look.is_flat => {
+                outline_json(alloc, source, options, look.depth, has_members)
             }
-            Form::Json => outline_json(alloc, source, options, depth, has_members),
-            Form::Line { is_colored } => outline(
+            form => outline(
                 alloc,
                 source,
                 options,
-                depth,
+                look.depth,
                 has_members,
-                has_imports,
-                is_colored,
+                look.has_imports,
+                form,
                 look.is_flat,
             ),
         }

@@ -14,7 +14,7 @@ use Rattle.item_tree.specs.declared.fault.LowerError.{LowerError}
 use Rattle.item_tree.specs.declared.visibility.RawVisibility.{RawVisibility}
 use Rattle.item_tree.specs.Constructor.{ctor_of}
 use Rattle.item_tree.specs.KeptUse.{alias_of, kept_tree}
-use Rattle.item_tree.specs.Node.{Leaf, Head, Forest, leaf, parent, add, empty, extern_block}
+use Rattle.item_tree.specs.Node.{Leaf, leaf, parent, add, empty, extern_block}
 use Rattle.item_tree.specs.Node as node
 use Rattle.item_tree.specs.Size.{IsPassed, Sizes, if_some, item_written, items_written, most_written, sizes_of}
 use Rattle.item_tree.specs.Visibility.{read_visibility}

@@ -1,5 +1,5 @@
 -- What is listed of imports holds no float.
-use Rattle.std.proofs.Common.{◌≡◌, Bool, false, List, [], ◌∷◌, Option, Some, None, map, refl}
+use Rattle.std.proofs.Common.{◌≡◌, false, List, [], ◌∷◌, Option, Some, None, map, refl}
 use Rattle.line_index.specs.declared.Position.{Position}
 use Rattle.list_forms.specs.Lines.{column_number, line_number}
 use Rattle.serde_json.specs.View.{items_of}

@@ -14,7 +14,7 @@ use Rattle.item_tree_attrs.specs.Collected.{Event, is_skipped, attr_events, even
 use Rattle.item_tree.specs.declared.visibility.RawVisibility.{RawVisibility}
 use Rattle.item_tree.specs.Constructor.{ctor_of}
 use Rattle.item_tree.specs.KeptUse.{alias_of, kept_tree}
-use Rattle.item_tree.specs.Node.{Leaf, Trunk, Node, Forest, leaf, parent, add, empty, Unfolding}
+use Rattle.item_tree.specs.Node.{Leaf, Trunk, Node, Forest, leaf, parent, add, empty}
 use Rattle.item_tree.specs.Node as node
 use Rattle.item_tree.specs.Visibility.{read_visibility}
 use Rattle.tree_walk.specs.Rows.{Around, RowView, row, around_inside, node_rows, forest_rows, rows}

@@ -5,7 +5,6 @@ use Rattle.hir_input.specs.Name.{is_among}
 use Rattle.item_tree.specs.Page.{page}
 use Rattle.tree_walk.specs.Rows.{rows}
 use Rattle.source_rows.specs.Listed.{Closers, MemberReading}
-use Rattle.source_listing.specs.FlatObjects.{flat_lines}
 use Rattle.source_imports.specs.ImportCfgs.{ImportChoice, UseCfgs, file_cfgs}
 use Rattle.source_imports.specs.ImportLines.{import_lines}
 use Rattle.source_listing.specs.Lines.{Choice, Source, problem_lines}
@@ -40,9 +39,9 @@ HasTree o = IsTreeOf o.krate o.skipped.items o.edition.year
 abbrev pub choice : Options → Option ℕ → Choice
 choice o depth = record { depth = depth; only_active = o.only_active }
 
--- which lines are written, whether in colour, and whether flat
-abbrev pub look_of : Options → Option ℕ → Bool → Bool → Bool → Look
-look_of o depth has_imports is_colored is_flat = record { choice = choice o depth; is_colored = is_colored; is_flat = is_flat; has_imports = has_imports }
+-- what is told, in which form, and whether lines are flat
+abbrev pub look_of : Options → Option ℕ → Bool → Form → Bool → Look
+look_of o depth has_imports form is_flat = record { choice = choice o depth; form = form; is_flat = is_flat; has_imports = has_imports }
 
 -- the cfgs under which members, or what stands in bodies, are listed, if they are
 abbrev pub cfgs_if : Options → Bool → Option (List AtomView)
@@ -60,23 +59,17 @@ HasListed o = IsListedTree o.krate o.skipped.items o.edition.year
 abbrev pub all_places : SourceTree → FilePlaces
 all_places t = placed t.places.items t.use_trees.items
 
--- the lines of the listed items, with or without those of their listed members and imports, with or without colours, and flat or not
-abbrev pub IsOutline : Options → Option ℕ → Bool → Bool → Bool → Bool → Source → List ℕ → Type 0
-IsOutline o depth has_members has_imports is_colored is_flat s out =
+-- the lines or flat objects of the listed items, with or without those of their listed members and imports
+abbrev pub IsOutline : Options → Option ℕ → Bool → Bool → Form → Bool → Source → List ℕ → Type 0
+IsOutline o depth has_members has_imports form is_flat s out =
     (c : Option Closers) × (t : SourceTree) × HasListed o s.text c t
-    × (out ≡ outline_text s (reading_in o has_members s c) o.edition.reserved.items (all_places t) (look_of o depth has_imports is_colored is_flat) (rows t.tree))
+    × (out ≡ outline_text s o.edition.reserved.items (look_of o depth has_imports form is_flat) (reading_in o has_members s c) (all_places t) (rows t.tree))
 
 -- their objects, on one line
 abbrev pub IsJson : Options → Option ℕ → Bool → Source → List ℕ → Type 0
 IsJson o depth has_members s out =
     (c : Option Closers) × (t : SourceTree) × HasListed o s.text c t
     × (out ≡ json_line s (reading_in o has_members s c) o.edition.reserved.items t.places.items (choice o depth) t.tree)
-
--- the objects of a flat outline, each on a line
-abbrev pub AreFlatObjects : Options → Option ℕ → Bool → Bool → Source → List ℕ → Type 0
-AreFlatObjects o depth has_members has_imports s out =
-    (c : Option Closers) × (t : SourceTree) × HasListed o s.text c t
-    × (out ≡ flat_lines s (reading_in o has_members s c) o.edition.reserved.items (all_places t) has_imports (choice o depth) (rows t.tree))
 
 -- the cfgs that are set, if what a cfg disables is left out
 abbrev pub if_active : Options → Option (List AtomView)

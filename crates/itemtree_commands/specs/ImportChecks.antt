@@ -1,5 +1,5 @@
 -- What is told of the imports of a crate that are wrong.
-use Rattle.std.specs.Prelude.{ℕ, Bool, if◌then◌else◌, List, [], ◌++◌, codes, map, slice_get, Option, Some, None, option_and_then}
+use Rattle.std.specs.Prelude.{ℕ, Bool, if◌then◌else◌, List, [], codes, map, slice_get, Option, Some, None, option_and_then}
 use Rattle.std.specs.Option.{option_map_or}
 use Rattle.def_map.specs.declared.def_map.ResolvedImport.{ResolvedImport}
 use Rattle.def_map.specs.declared.verdict.Verdict.{Verdict}
@@ -7,7 +7,8 @@ use Rattle.def_map.specs.declared.verdict.Verdict.TheVariants.{Unresolved, TooWi
 use Rattle.line_index.specs.declared.Position.{Position}
 use Rattle.module_tree.specs.declared.data.ModuleData.{ModuleData}
 use Rattle.tree_walk.specs.Listed.{listed_import}
-use Rattle.itemtree_commands.specs.ModuleLists.{CrateFile, PlacedText, placed_text, file_path, file_of_module, tree_position_in_text, fault_line}
+use Rattle.source_listing.specs.Uses.{PlacedText}
+use Rattle.itemtree_commands.specs.ModuleLists.{CrateFile, placed_text, file_path, file_of_module, tree_position_in_text, fault_line}
 
 abbrev pub unresolved_words : Bool → List ℕ
 unresolved_words is_private = if is_private then codes "this import names what it does not see" else codes "this import leads to nothing"

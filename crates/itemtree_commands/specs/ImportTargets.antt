@@ -1,5 +1,5 @@
 -- What the imports of a crate lead to, as a list.
-use Rattle.std.specs.Prelude.{ℕ, Bool, true, false, not, ◌&&◌, if◌then◌else◌, List, [], ◌∷◌, ◌++◌, codes, flat_map, is_some, map, slice_get, Option, Some, None, option_map, option_and_then}
+use Rattle.std.specs.Prelude.{ℕ, Bool, false, not, ◌&&◌, if◌then◌else◌, List, [], ◌∷◌, ◌++◌, codes, flat_map, is_some, map, slice_get, Option, Some, None, option_map, option_and_then}
 use Rattle.std.specs.Option.{option_map_or, option_to_list}
 use Rattle.def_map.specs.declared.def_map.ResolvedImport.{ResolvedImport}
 use Rattle.def_map.specs.declared.targets.Target.{Target}
@@ -22,11 +22,12 @@ use Rattle.rust_items.specs.declared.source_file.ItemPlace.{ItemPlace}
 use Rattle.serde_json.specs.Data.{Data, array, string, object, no_members, member}
 use Rattle.serde_json.specs.View.{items_of}
 use Rattle.source_listing.specs.ImportTexts.{import_text}
+use Rattle.source_listing.specs.Uses.{PlacedText}
 use Rattle.source_rows.specs.Labels.{item_word, text_at_some}
 use Rattle.source_rows.specs.Places.{place_of, stands_at}
 use Rattle.tree_walk.specs.Listed.{listed_import}
 use Rattle.itemtree_commands.specs.ImportChecks.{fault_words, import_position}
-use Rattle.itemtree_commands.specs.ModuleLists.{CrateFile, Pathed, PlacedText, placed_text, known_module_path, pathed_modules, file_path, file_of_module, declaration, declaring_file, module_place_text, candidates_text}
+use Rattle.itemtree_commands.specs.ModuleLists.{CrateFile, Pathed, placed_text, known_module_path, pathed_modules, file_path, file_of_module, declaration, declaring_file, module_place_text, candidates_text}
 use Rattle.itemtree_commands.specs.declared.import_entries.ImportLook.{ImportLook}
 
 -- ---- where items are declared

@@ -40,7 +40,7 @@ use Rattle.itemtree_commands.specs.Answers.{HasListed, cfgs_if}
 use Rattle.itemtree_commands.specs.declared.import_entries.ToldImport as code_entries
 use Rattle.itemtree_commands.specs.declared.import_targets.PlacedTarget as code_targets
 use Rattle.itemtree_commands.specs.ImportTargets.{DeclaredItem, PlacedTarget, ToldImport, written_item}
-use Rattle.itemtree_commands.specs.ModuleLists.{CrateFile, Pathed, PlacedText}
+use Rattle.itemtree_commands.specs.ModuleLists.{CrateFile, Pathed}
 use Rattle.itemtree_commands.specs.Trees.{IsListedTree, IsTreeIn}
 
 -- neither body texts nor attributes, but for conditions
@@ -91,12 +91,6 @@ IsClippedRefused w krate skipped edition text (Lower e) =
 abbrev pub error_told : ReadError → SourceError
 error_told read.TooLong = TooLong
 error_told read.OutOfMemory = Lower OutOfMemory
-
--- texts with places in code
-abbrev pub placed_text_code : Coded PlacedText
-placed_text_code =
-    code_by (List ℕ × (List ItemPlace × List ℕ)) (coded× (coded_list coded_ℕ) (coded× (coded_list place.the_row.coded) (coded_list coded_ℕ)))
-    (λ t. (t.text, (t.places, t.use_trees))) (λ p. record { text = p.0; places = p.1.0; use_trees = p.1.1 }) (λ _. refl)
 
 -- files in code
 abbrev pub crate_file_code : Coded CrateFile

@@ -1,5 +1,5 @@
 -- The modules of a crate as a list, and what is told of those that have no file.
-use Rattle.std.specs.Prelude.{◌≡◌, ℕ, Bool, true, false, if◌then◌else◌, List, [], ◌∷◌, ◌++◌, codes, flat_map, get_or, map, slice_get, Option, Some, None, option_map, option_and_then}
+use Rattle.std.specs.Prelude.{◌≡◌, ℕ, Bool, List, [], ◌∷◌, ◌++◌, codes, flat_map, map, slice_get, Option, Some, None, option_map, option_and_then}
 use Rattle.std.specs.List.{fold}
 use Rattle.std.specs.Option.{option_map_or}
 use Rattle.hir_input.specs.declared.ids.FileAstId.{FileAstId}
@@ -18,10 +18,10 @@ use Rattle.module_tree.specs.declared.data.ModuleOrigin.{ModuleOrigin}
 use Rattle.module_tree.specs.declared.data.ModuleOrigin.TheVariants.{CrateRoot, File, Inline}
 use Rattle.module_tree.specs.declared.data.UnresolvedReason.{UnresolvedReason}
 use Rattle.module_tree.specs.declared.data.UnresolvedReason.TheVariants.{NoFile, TwoFiles, Circle, TooDeep}
-use Rattle.module_tree.specs.Modules.{FoundModules, Unresolved}
+use Rattle.module_tree.specs.Modules.{Unresolved}
 use Rattle.rust_items.specs.declared.source_file.ItemPlace.{ItemPlace}
-use Rattle.serde_json.specs.Data.{Data, null, boolean, string, object, no_members, member}
-use Rattle.source_listing.specs.Uses.{import_spot, placed}
+use Rattle.serde_json.specs.Data.{Data, string, object, no_members, member}
+use Rattle.source_listing.specs.Uses.{PlacedText, import_spot, placed, with_places}
 use Rattle.source_rows.specs.Listed.{Closers}
 use Rattle.source_rows.specs.Places.{place_of, stands_at}
 use Rattle.source_rows.specs.Sources.{place_text}
@@ -48,15 +48,9 @@ pub record IsCrateFile (o : Options) (path text : List ℕ) (f : CrateFile) : Ty
   pub use_trees : f.use_trees ≡ source.use_trees.items
   pub tree : f.tree ≡ source.tree
 
--- a text, and the places of its items and of its use trees
-pub record PlacedText : Type 0 where
-  pub text : List ℕ
-  pub places : List ItemPlace
-  pub use_trees : List ℕ
-
--- those of a file
+-- the text of a file, with where its items and use trees stand
 abbrev pub placed_text : CrateFile → PlacedText
-placed_text f = record { text = f.text; places = f.places; use_trees = f.use_trees }
+placed_text f = with_places f.text (placed f.places f.use_trees)
 
 -- ---- paths
 
@@ -97,11 +91,11 @@ file_of_module ms m = option_map_or (λ d. d.file) (slice_get ms m.0) 0
 
 -- where an item of a file stands
 abbrev pub position_in_text : FileAstId → PlacedText → Option Position
-position_in_text id t = option_map (λ p. position_in Characters t.text (stands_at p)) (place_of id t.places)
+position_in_text id t = option_map (λ p. position_in Characters t.text (stands_at p)) (place_of id t.places.items)
 
 -- where the use tree of this number in an item begins
 abbrev pub tree_position_in_text : FileAstId → ℕ → PlacedText → Option Position
-tree_position_in_text id index t = option_map (λ spot. spot.position) (import_spot t.text (placed t.places t.use_trees) id index)
+tree_position_in_text id index t = option_map (λ spot. spot.position) (import_spot t.text t.places id index)
 
 abbrev pub item_position : List PlacedText → ℕ → FileAstId → Option Position
 item_position texts file id = option_and_then (position_in_text id) (slice_get texts file)

@@ -6,10 +6,11 @@ ghost use Rattle.itemtree_commands.specs.ImportTargets as spec;
 ghost use Rattle.itemtree_commands.specs.Inner.{FindsItems, PutsItem, written_view};
 ghost use Rattle.itemtree_commands.specs.ModuleLists.{placed_text};
 
-use crate::crate_file::{CrateFile, FileFinder};
+use crate::crate_file::CrateFile;
 use hir_input::FileAstId;
 use line_index::{LineIndex, Position};
 use rust_items::{ItemPlace, TextRange};
+use source_listing::PlaceFinder;
 use source_rows::{stands_at, text_at};
 use std::alloc::{AllocError, Global};
 use std::collections::HashMap;
@@ -124,10 +125,10 @@ impl<'a> DeclaredItems<'a> {
     }
 
     /// What finds the places of the file.
-    pub(crate) fn finder(&self) -> FileFinder<'a>
+    pub(crate) fn finder(&self) -> PlaceFinder<'a>
         ensures { result ≡ placed_text self.now }
     {
-        FileFinder::new(self.file)
+        self.file.finder()
     }
 
     /// The item of an id.

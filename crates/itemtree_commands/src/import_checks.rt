@@ -3,11 +3,12 @@ ghost use Rattle.std.specs.Prelude.{◌≡◌, ◌++◌, IfOk, OnOk, flat_map, m
 ghost use Rattle.itemtree_commands.specs.ImportChecks as spec;
 ghost use Rattle.itemtree_commands.specs.ModuleLists.{placed_text};
 
-use crate::crate_file::{CrateFile, FileFinder};
+use crate::crate_file::{CrateFile, tree_position_of};
 use crate::module_lists::{file_of, file_path, finders, push_problem};
 use def_map::{ResolvedImport, Verdict};
 use line_index::Position;
 use module_tree::{ModuleData, ModuleTree};
+use source_listing::PlaceFinder;
 use std::alloc::{AllocError, Global};
 
 fn unresolved_words(is_private: bool) -> &'static str
@@ -34,7 +35,7 @@ fn fault_words(verdict: Verdict, is_private: bool) -> Option<&'static str>
 
 /// Where an import of a file stands.
 pub(crate) fn import_position(
-    finders: &mut [FileFinder<'_>],
+    finders: &mut [PlaceFinder<'_>],
     file: u32,
     import: &ResolvedImport,
 ) -> Option<Position>
@@ -43,7 +44,7 @@ pub(crate) fn import_position(
 {
     let place = file as usize;
     if place < finders.len() {
-        finders[place].tree_position(import.item, import.import.index.0 as usize)
+        tree_position_of(&mut finders[place], import.item, import.import.index)
     } else {
         None
     }
@@ -54,7 +55,7 @@ fn push_import(
     is_colored: bool,
     modules: &[ModuleData],
     files: &[CrateFile],
-    finders: &mut [FileFinder<'_>],
+    finders: &mut [PlaceFinder<'_>],
     import: &ResolvedImport,
     out: &mut String,
 ) -> Result<(), AllocError>

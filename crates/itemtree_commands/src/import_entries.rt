@@ -6,7 +6,6 @@ ghost use Rattle.itemtree_commands.specs.ImportTargets as spec;
 ghost use Rattle.itemtree_commands.specs.Inner.{pathed_view, target_view, told_import_view};
 ghost use Rattle.itemtree_commands.specs.ModuleLists.{candidates_text, placed_text};
 
-use crate::crate_file::FileFinder;
 use crate::declarations::DeclaredItems;
 use crate::import_checks::import_position;
 use crate::import_targets::{PlacedTarget, path_in, placed_targets};
@@ -21,7 +20,7 @@ use list_forms::{
 };
 use module_tree::{ModuleData, ModuleTree};
 use serde_json::Value;
-use source_listing::push_import_text;
+use source_listing::{PlaceFinder, push_import_text};
 use std::alloc::{AllocError, Global};
 use tree_walk::Listed;
 
@@ -238,7 +237,7 @@ fn told_import<'f>(
     modules: &[ModuleData],
     pathed: &[PathedModule<'_>],
     files: &[DeclaredItems<'f>],
-    finders: &mut [FileFinder<'_>],
+    finders: &mut [PlaceFinder<'_>],
     verdict: Verdict,
     import: &ResolvedImport,
 ) -> Result<ToldImport<'f>, AllocError>
@@ -265,7 +264,7 @@ fn push_import(
     modules: &[ModuleData],
     pathed: &[PathedModule<'_>],
     files: &[DeclaredItems<'_>],
-    finders: &mut [FileFinder<'_>],
+    finders: &mut [PlaceFinder<'_>],
     look: ImportLook,
     import: &ResolvedImport,
     out: &mut String,
@@ -292,7 +291,7 @@ fn push_imports(
     modules: &[ModuleData],
     pathed: &[PathedModule<'_>],
     files: &[DeclaredItems<'_>],
-    finders: &mut [FileFinder<'_>],
+    finders: &mut [PlaceFinder<'_>],
     look: ImportLook,
     imports: &[ResolvedImport],
     out: &mut String,
@@ -314,7 +313,7 @@ fn push_imports(
 fn finders_of<'a>(
     alloc: Global,
     files: &[DeclaredItems<'a>],
-) -> Result<Vec<FileFinder<'a>>, AllocError>
+) -> Result<Vec<PlaceFinder<'a>>, AllocError>
     ensures { IfOk result (λ v. v.items ≡ map placed_text files.now) }
 {
     let mut finders = Vec::new(alloc);

@@ -98,9 +98,9 @@ fn read(alloc: Global, text: &str, options: &Options) -> Result<SourceTree, Sour
     )
 }
 
-/// `itemtree outline`: a line for each item and each member of one, or for those in fewer than so many items; with or
-/// without members and the imports of uses that have a list, with or without colours, and with names of what is around
-/// them or blanks at the beginning.
+/// `itemtree outline`, but for nested JSON: a line of text, or an object on a line, for each item and each member of
+/// one, or for those in fewer than so many items; with or without members and the imports of uses that have a list.
+/// Lines have names of what is around them, or blanks at the beginning.
 ///
 /// # Errors
 ///
@@ -113,16 +113,16 @@ pub fn outline(
     depth: Option<usize>,
     has_members: bool,
     has_imports: bool,
-    is_colored: bool,
+    form: Form,
     is_flat: bool,
 ) -> Result<String, SourceError>
-    ensures text { let outline = spec.IsOutline options.now depth has_members has_imports is_colored is_flat
+    ensures text { let outline = spec.IsOutline options.now depth has_members has_imports form is_flat
         (source_view source.entry) in
         IfOk result (λ out. outline (string_bytes out)) }
     ensures refused { IfErr result (spec.HasNoList options.now source.entry.text.now) }
 {
     let file = listed_rows(alloc, source.text, options)?;
-    let look = options.look(depth, has_imports, is_colored, is_flat);
+    let look = options.look(depth, has_imports, form, is_flat);
     let reading = options.reading(source.text, &file.mended, has_members);
     let listed = &file.source;
     let text = source_listing::outline(
@@ -163,44 +163,6 @@ pub fn outline_json(
     let edition = &options.edition;
     let (places, tree) = (&file.source.places, &file.source.tree);
     let text = source_listing::outline_json(alloc, source, places, tree, edition, reading, choice)?;
-    Ok(text)
-}
-
-/// `itemtree outline --flat --json`: a JSON object on a line for each item and each member of one, or for those in
-/// fewer than so many items; with or without members and the imports of uses that have a list.
-///
-/// # Errors
-///
-/// Those of `source_tree`.
-#[tactic(auto, using(crate::proofs::Refused::no_list))]
-pub fn flat_json(
-    alloc: Global,
-    source: Source<'_>,
-    options: &Options,
-    depth: Option<usize>,
-    has_members: bool,
-    has_imports: bool,
-) -> Result<String, SourceError>
-    ensures text { let json = spec.AreFlatObjects options.now depth has_members has_imports
-        (source_view source.entry) in
-        IfOk result (λ out. json (string_bytes out)) }
-    ensures refused { IfErr result (spec.HasNoList options.now source.entry.text.now) }
-{
-    let file = listed_rows(alloc, source.text, options)?;
-    let choice = options.choice(depth);
-    let reading = options.reading(source.text, &file.mended, has_members);
-    let listed = &file.source;
-    let text = source_listing::flat_lines(
-        alloc,
-        source,
-        &listed.places,
-        &listed.use_trees,
-        &listed.tree,
-        &options.edition,
-        reading,
-        choice,
-        has_imports,
-    )?;
     Ok(text)
 }
 

@@ -6,6 +6,7 @@ ghost use Rattle.source_listing.specs.Views.{look_view, reading_view};
 
 use crate::Options;
 use hir_input::CfgOptions;
+use list_forms::Form;
 use rust_mended::Mended;
 use source_listing::{Look, Reading};
 
@@ -14,14 +15,14 @@ impl Options {
         &self,
         depth: Option<usize>,
         has_imports: bool,
-        is_colored: bool,
+        form: Form,
         is_flat: bool,
     ) -> Look
-        ensures { look_view result ≡ spec.look_of self.now depth has_imports is_colored is_flat }
+        ensures { look_view result ≡ spec.look_of self.now depth has_imports form is_flat }
     {
         Look {
             choice: self.choice(depth),
-            is_colored,
+            form,
             is_flat,
             has_imports,
         }

@@ -5,7 +5,7 @@ ghost use Rattle.serde_json.specs.View.{view};
 ghost use Rattle.itemtree_commands.specs.Inner.{pathed_view};
 ghost use Rattle.itemtree_commands.specs.ModuleLists as spec;
 
-use crate::crate_file::{CrateFile, FileFinder};
+use crate::crate_file::{CrateFile, position_of};
 use crate::module_paths::{PathedModule, inner_path, known_path, pathed_modules};
 use hir_input::{Edition, FileAstId};
 use hir_input_json::write::object::{of_text, with, with_text};
@@ -15,6 +15,7 @@ use list_forms::{
 };
 use module_tree::{ModuleData, ModuleId, ModuleOrigin, ModuleTree, UnresolvedReason};
 use serde_json::Value;
+use source_listing::PlaceFinder;
 use source_rows::push_place;
 use std::alloc::{AllocError, Global};
 
@@ -29,24 +30,27 @@ pub(crate) fn file_path(files: &[CrateFile], file: u32) -> &str
 }
 
 /// What finds the places of each file.
-pub(crate) fn finders(alloc: Global, files: &[CrateFile]) -> Result<Vec<FileFinder<'_>>, AllocError>
+pub(crate) fn finders(
+    alloc: Global,
+    files: &[CrateFile],
+) -> Result<Vec<PlaceFinder<'_>>, AllocError>
     ensures { IfOk result (λ v. v.items ≡ map spec.placed_text files.now) }
 {
     let mut finders = Vec::new(alloc);
     for file in files {
-        finders.push(FileFinder::new(file))?;
+        finders.push(file.finder())?;
     }
     Ok(finders)
 }
 
 /// Where an item of a file stands.
-fn item_position(finders: &mut [FileFinder<'_>], file: u32, id: FileAstId) -> Option<Position>
+fn item_position(finders: &mut [PlaceFinder<'_>], file: u32, id: FileAstId) -> Option<Position>
     ensures position { result ≡ spec.item_position finders.old file id }
     ensures same { finders.new ≡ finders.old }
 {
     let place = file as usize;
     if place < finders.len() {
-        finders[place].position(id)
+        position_of(&mut finders[place], id)
     } else {
         None
     }
@@ -86,7 +90,7 @@ pub(crate) fn declaring_file(modules: &[ModuleData], module_data: &ModuleData) -
 }
 
 /// Where a module is declared; the root stands at the top of its file.
-fn declared_at(finders: &mut [FileFinder<'_>], file: u32, origin: ModuleOrigin) -> Option<Position>
+fn declared_at(finders: &mut [PlaceFinder<'_>], file: u32, origin: ModuleOrigin) -> Option<Position>
     ensures position { result ≡ spec.module_position finders.old file (spec.declaration origin) }
     ensures same { finders.new ≡ finders.old }
 {
@@ -184,7 +188,7 @@ fn push_entry(
     files: &[CrateFile],
     modules: &[ModuleData],
     one: &PathedModule<'_>,
-    finders: &mut [FileFinder<'_>],
+    finders: &mut [PlaceFinder<'_>],
     out: &mut String,
 ) -> Result<(), AllocError>
     ensures text { let entry = spec.placed_entry form files.now finders.old modules.now (pathed_view one.now) in

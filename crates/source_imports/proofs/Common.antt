@@ -15,14 +15,14 @@ pub use Rattle.serde_json.specs.View.{items_of, view}
 pub use Rattle.source_imports.specs.ImportObjects.{alias_form, import_form, import_object, import_objects, seen_objects}
 pub use Rattle.source_imports.specs.ImportLines.{import_lines, numbered_import, seen_lines, file_import_object}
 pub use Rattle.source_imports.specs.Imports.{of_declared, of_seen, of_uses, spots_of_any}
-pub use Rattle.source_imports.specs.Inner.{FindsFirsts, Firsts, IsSameTreeFinder, IsTreeFinderOf, NamedKey, PutsFirst, finder_text, first_in, has_named_key, id_key, is_around, key, lent_named, listed_named_view, named_at, named_key_view, own_named, own_named_at, places_in, same_named_key}
+pub use Rattle.source_imports.specs.Inner.{FindsFirsts, Firsts, NamedKey, PutsFirst, first_in, has_named_key, id_key, is_around, key, lent_named, listed_named_view, named_at, named_key_view, own_named, own_named_at, same_named_key}
 pub use Rattle.source_listing.specs.Views.{placed_trees_view, source_view}
 pub use Rattle.source_listing.specs.Lines.{Source}
 pub use Rattle.source_listing.specs.Objects.{column_form, line_form, range_form}
 pub use Rattle.source_rows.specs.Places.{place_of}
 pub use Rattle.line_index.specs.declared.Units.{Units}
 pub use Rattle.source_imports.specs.Repeated.{Named, Repeat, first_alike, forest_named, is_alike, leaf_named, named_import, node_named, repeat_if_any, repeats}
-pub use Rattle.source_listing.specs.Uses.{FilePlaces, Trees, import_spot, placed, tree_spots, tree_spots_in, use_trees_at}
+pub use Rattle.source_listing.specs.Uses.{FilePlaces, PlacedText, Trees, import_spot, placed, tree_spots, tree_spots_in, use_trees_at, with_places}
 pub use Rattle.source_imports.specs.Views.{import_choice_view}
 pub use Rattle.source_rows.specs.declared.finder.Spot.{Spot}
 pub use Rattle.std.proofs.Common.{All, Bool, Bor, Decides, List, None, Option, Some, [], ap, append-nil, append_assoc, arith, false, find, flat_map, if◌then◌else◌, length, length-append, map, nat_eq, option_copied, option_map, refl, rules, slice_index_or, string_bytes, subst, suc, sum_by, sym, take, take_all, true, ℕ, ⊎_elim, ◌&&◌, ◌*◌, ◌++◌, ◌+◌, ◌-◌, ◌<◌, ◌==◌, ◌∙◌, ◌∷◌, ◌≡◌, ◌≤◌}

@@ -1,8 +1,7 @@
 -- Imports.
-use Rattle.source_imports.proofs.Common.{◌≡◌, ℕ, ◌<◌, ◌+◌, List, [], ◌∷◌, ◌++◌, length, map, take, ap, sym, ◌∙◌, subst, append-nil, Option, All, slice_index_or, flat_map, flat_map-append, flat_map-map, Import, Forest, Source, Spot, IsSameTreeFinder, IsTreeFinderOf, Units, places_in, finder_text, FilePlaces, placed, get_or-map, length-map, take_more, declarations, DeclarationView, view_of, import_lines, of_seen, of_uses, seen_lines}
+use Rattle.source_imports.proofs.Common.{◌≡◌, ℕ, ◌<◌, ◌+◌, List, [], ◌∷◌, ◌++◌, length, map, take, ap, sym, ◌∙◌, subst, append-nil, Option, All, slice_index_or, flat_map, flat_map-append, flat_map-map, Import, Forest, Source, Spot, Units, FilePlaces, get_or-map, length-map, take_more, declarations, DeclarationView, view_of, import_lines, of_seen, of_uses, seen_lines}
 use Rattle.list_forms.specs.declared.lines.Form.{Form}
 use Rattle.source_imports.specs.ImportCfgs.{ImportChoice}
-use Rattle.source_imports.specs.declared.tree_finder.TreeFinder.{TreeFinder}
 
 -- what is told of what is collected is what is told of what is declared
 pub seen_of_all : {A D : Type 0} (each : (ℕ → Option Spot) → Import → List A) (see : D → DeclarationView) (units : Units) (text : List ℕ) (places : FilePlaces) (ds : List D) (f : Forest)
@@ -31,24 +30,3 @@ one_more_seen told ds i d before after l g e n =
     let more : take (i + 1) ds ≡ take i ds ++ d ∷ [] = take_more ds i d l ∙ ap (λ y. take i ds ++ y ∷ []) g in
     n ∙ ap (λ b. b ++ told d) e ∙ ap (λ b. flat_map told (take i ds) ++ b) (sym (append-nil (told d)))
     ∙ sym (flat_map-append told (take i ds) (d ∷ [])) ∙ ap (flat_map told) (sym more)
-
--- ---- by what finds use trees
-
--- what is told by the places that are found in a text is told by those of the text
-pub seen_by_finder : {A : Type 0} (each : (ℕ → Option Spot) → Import → List A) (units : Units) (text : List ℕ) (places : FilePlaces) (f : TreeFinder) (d : DeclarationView) → IsTreeFinderOf text places f
-    → of_seen each units (finder_text f) (places_in f) d ≡ of_seen each units text places d
-seen_by_finder each units text places f d is =
-    ap (λ t. of_seen each units t (places_in f) d) is.0.0 ∙ ap (λ ps. of_seen each units text (placed ps f.uses.all.now) d) is.0.1 ∙ ap (λ us. of_seen each units text (placed places.items us) d) is.1
-
--- the same of its lines
-pub lines_by_finder : (reserved : List (List ℕ)) (form : Form) (c : ImportChoice) (s : Source) (places : FilePlaces) (f : TreeFinder) (d : DeclarationView) → IsTreeFinderOf s.text places f
-    → seen_lines reserved form c s (places_in f) d ≡ seen_lines reserved form c s places d
-lines_by_finder reserved form c s places f d is =
-    ap (λ ps. seen_lines reserved form c s (placed ps f.uses.all.now) d) is.0.1 ∙ ap (λ us. seen_lines reserved form c s (placed places.items us) d) is.1
-
--- the places are the same
-pub places_kept : (old new : TreeFinder) → IsSameTreeFinder old new → places_in new ≡ places_in old
-places_kept old new same = ap (λ ps. placed ps new.uses.all.now) same.0.1 ∙ ap (placed old.finder.places) same.1
-
-pub finder_same : (text : List ℕ) (places : FilePlaces) (old new : TreeFinder) → IsSameTreeFinder old new → IsTreeFinderOf text places old → IsTreeFinderOf text places new
-finder_same text places old new same is = ((same.0.0 ∙ is.0.0, same.0.1 ∙ is.0.1), same.1 ∙ is.1)

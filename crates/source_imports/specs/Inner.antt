@@ -10,35 +10,14 @@ use Rattle.item_tree.specs.Node.{Node, leaf, parent, node_ast, Unfolding}
 use Rattle.item_tree.specs.Shown.{Lent, lent_leaf, lent_parent}
 use Rattle.item_tree.specs.Walk.{of_id}
 use Rattle.rust_ids.specs.Ids.{kind_place}
-use Rattle.source_rows.specs.Finders.{IsFinderOf, IsSameFinder}
 use Rattle.source_imports.specs.declared.repeated.Named as code_named
 use Rattle.source_imports.specs.declared.repeated.Key as code_key
 use Rattle.source_imports.specs.contracts.repeated.KeyPartialEq.TheImpl as keys
-use Rattle.source_imports.specs.declared.tree_finder.TreeFinder.{TreeFinder}
-use Rattle.source_rows.specs.Places.{AreDistinct}
 use Rattle.source_imports.specs.Repeated.{Named, are_excluded, first_alike, leaf_named, node_named}
 use Rattle.source_imports.specs.ImportCfgs.{ImportChoice}
-use Rattle.source_listing.specs.Uses.{FilePlaces, placed}
+use Rattle.source_listing.specs.Uses.{FilePlaces}
 
 -- ---- imports by the ids of items
-
-abbrev pub finder_text : TreeFinder → List ℕ
-finder_text f = f.finder.lines
-
-abbrev pub places_in : TreeFinder → FilePlaces
-places_in f = placed f.finder.places f.uses.all.now
-
--- the use trees that are found are those of a text and of its items
-abbrev pub IsTreeFinderOf : List ℕ → FilePlaces → TreeFinder → Type 0
-IsTreeFinderOf text places f = IsFinderOf text places.items f.finder × (f.uses.all.now ≡ places.use_trees)
-
--- no two items have one id
-abbrev pub FindsTrees : TreeFinder → Type 0
-FindsTrees f = AreDistinct (places_in f).items
-
--- nothing of the file is another
-abbrev pub IsSameTreeFinder : TreeFinder → TreeFinder → Type 0
-IsSameTreeFinder old new = IsSameFinder old.finder new.finder × (new.uses.all.now ≡ old.uses.all.now)
 
 abbrev pub listed_named_view : code_named.Named → Named
 listed_named_view x = record { around = x.around; at = x.at; spot = x.spot; text = string_bytes x.text }

@@ -6,19 +6,17 @@ ghost use Rattle.tree_walk.specs.DeclarationView.{declaration_view};
 ghost use Rattle.tree_walk.specs.Listed.{listed_import};
 ghost use Rattle.item_tree.specs.Shown.{IsContained};
 ghost use Rattle.source_imports.specs.ImportObjects as spec;
-ghost use Rattle.source_imports.specs.Inner.{FindsTrees, IsSameTreeFinder, places_in, finder_text};
 ghost use Rattle.source_listing.specs.Views.{placed_trees_view};
 ghost use Rattle.source_rows.specs.Places.{AreDistinct};
 ghost use Rattle.source_listing.specs.Uses.{placed, tree_spots_in};
 
-use crate::tree_finder::TreeFinder;
 use hir_input::Edition;
 use hir_input_json::member::Members;
 use item_tree::{ImportAlias, ImportKind, ItemTree};
 use line_index::Units;
 use rust_items::ItemPlace;
 use serde_json::{Map, Value, put};
-use source_listing::{UseTrees, column_value, line_value, put_text};
+use source_listing::{PlaceFinder, UseTrees, column_value, line_value, put_text};
 use source_rows::Spot;
 use std::alloc::{AllocError, Global};
 use tree_walk::{Declaration, Declares, Listed, collect};
@@ -92,19 +90,19 @@ fn push_imports(
     alloc: Global,
     edition: &Edition,
     units: Units,
-    finder: &mut TreeFinder<'_>,
+    finder: &mut PlaceFinder<'_>,
     trees: Option<UseTrees<'_>>,
     imports: &[Listed],
     out: &mut Vec<Value>,
 ) -> Result<(), AllocError>
-    ensures objects { let spots = tree_spots_in units (finder_text finder.old)
+    ensures objects { let spots = tree_spots_in units finder.old.text
         (option_map placed_trees_view trees.entry) in
         let objects = flat_map (spec.import_object edition.now.reserved.items spots) (map listed_import imports.now) in
         OnOk result (map view out.new.items ≡ map view out.old.items ++ objects) }
-    ensures same { IsSameTreeFinder finder.old finder.new }
+    ensures same { finder.new ≡ finder.old }
 {
     for import in imports {
-        let spot = finder.spot_in(units, trees, import.index);
+        let spot = finder.tree_spot(units, trees, import.index);
         out.push(import_value(alloc, edition, spot, import)?)?;
     }
     Ok(())
@@ -115,23 +113,22 @@ fn push_declaration(
     alloc: Global,
     edition: &Edition,
     units: Units,
-    finder: &mut TreeFinder<'_>,
+    finder: &mut PlaceFinder<'_>,
     tree: &ItemTree,
     declaration: &Declaration<'_>,
     out: &mut Vec<Value>,
 ) -> Result<(), AllocError>
-    requires finds { FindsTrees finder.old }
-    requires contained { IsContained tree.now declaration.now.id }
+    requires { IsContained tree.now declaration.now.id }
     ensures objects { let objects = spec.seen_objects units
-        (finder_text finder.old) edition.now.reserved.items (places_in finder.old) in
+        finder.old.text edition.now.reserved.items finder.old.places in
         let seen = objects (declaration_view tree.now declaration.now) in
         OnOk result (map view out.new.items ≡ map view out.old.items ++ seen) }
-    ensures same { IsSameTreeFinder finder.old finder.new }
+    ensures same { finder.new ≡ finder.old }
 {
     match &declaration.declares {
         Declares::Name(_) => Ok(()),
         Declares::Imports(imports) => {
-            let trees = finder.find(declaration.id.ast_id(tree));
+            let trees = finder.trees_of(declaration.id.ast_id(tree));
             push_imports(alloc, edition, units, finder, trees, imports, out)
         }
     }
@@ -161,7 +158,7 @@ pub fn import_items(
         (placed places.now use_trees.now) in
         IfOk result (λ items. map view items.items ≡ objects tree.now.forest) }
 {
-    let mut finder = TreeFinder::new(text, places, use_trees);
+    let mut finder = PlaceFinder::new(text, places, use_trees);
     let mut out = Vec::new(alloc);
     let collected = collect(alloc, tree)?;
     for declaration in &collected.declarations {

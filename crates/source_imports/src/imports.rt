@@ -11,7 +11,6 @@ ghost use Rattle.source_imports.specs.ImportLines as spec;
 ghost use Rattle.source_listing.specs.ImportTexts.{import_text};
 ghost use Rattle.source_imports.specs.Imports.{of_declared};
 ghost use Rattle.source_listing.specs.Paths.{bare_segment};
-ghost use Rattle.source_imports.specs.Inner.{FindsTrees, IsSameTreeFinder, places_in, finder_text};
 ghost use Rattle.source_listing.specs.Views.{placed_trees_view, source_view};
 ghost use Rattle.source_rows.specs.Places.{AreDistinct};
 ghost use Rattle.source_imports.specs.Removals.{import_removal, removals};
@@ -22,16 +21,16 @@ ghost use Rattle.hir_input.specs.Cfg.{cfg_view};
 use crate::import_cfgs::ImportChoice;
 use crate::import_objects::put_import;
 use crate::removals::removal_of;
-use crate::tree_finder::TreeFinder;
 use hir_input::{CfgExpr, Edition, FileAstId};
 use item_tree::{ItemTree, RawVisibility};
+use line_index::Units;
 use list_forms::{BOLD, FAINT, Form, USUAL, push_color, value_line};
 use rust_items::ItemPlace;
 use rust_paths::TextRange;
 use serde_json::{Map, Value, put};
 use source_listing::{
-    UseTrees, bytes_value, joined_scope, push_import_text, push_scope, push_spot, put_text,
-    range_value, visibility_value,
+    PlaceFinder, UseTrees, bytes_value, joined_scope, push_import_text, push_scope, push_spot,
+    put_text, range_value, visibility_value,
 };
 use source_rows::{Source, Spot};
 use std::alloc::{AllocError, Global};
@@ -159,7 +158,7 @@ fn push_imports(
     alloc: Global,
     edition: &Edition,
     around: Around<'_>,
-    finder: &mut TreeFinder<'_>,
+    finder: &mut PlaceFinder<'_>,
     trees: Option<UseTrees<'_>>,
     imports: &[Listed],
     out: &mut String,
@@ -168,12 +167,12 @@ fn push_imports(
         let trees = option_map placed_trees_view trees.entry in
         let line = spec.numbered_import edition.now.reserved.items a.form a.source.path.now a.scope.now in
         let line = line (option_copied a.visibility) (map cfg_view a.cfgs.now) in
-        let line = line (removals a.source.text.now trees) (tree_spots (finder_text finder.old) trees) in
+        let line = line (removals a.source.text.now trees) (tree_spots finder.old.text trees) in
         OnOk result (string_bytes out.new ≡ string_bytes out.old ++ flat_map line (map listed_import imports.now)) }
-    ensures same { IsSameTreeFinder finder.old finder.new }
+    ensures same { finder.new ≡ finder.old }
 {
     for import in imports {
-        let spot = finder.spot(trees, import.index);
+        let spot = finder.tree_spot(Units::Characters, trees, import.index);
         push_import(alloc, edition, around, trees, spot, import, out)?;
     }
     Ok(())
@@ -196,20 +195,19 @@ fn push_under(
     edition: &Edition,
     form: Form,
     source: Source<'_>,
-    finder: &mut TreeFinder<'_>,
+    finder: &mut PlaceFinder<'_>,
     id: FileAstId,
     cfgs: &[CfgExpr],
     declaration: &Declaration<'_>,
     out: &mut String,
 ) -> Result<(), AllocError>
-    requires finds { FindsTrees finder.old }
     ensures text { let d = declaration.now in
         let told = spec.numbered_import edition.now.reserved.items form source.entry.path.now in
         let told = told (flat_map bare_segment (map (λ n. n.now) d.path.value.items)) (option_copied d.visibility) in
-        let told = told (map cfg_view cfgs.now) (import_removal source.entry.text.now (places_in finder.old) id) in
-        let lines = of_declared told (import_spot (finder_text finder.old) (places_in finder.old) id) in
+        let told = told (map cfg_view cfgs.now) (import_removal source.entry.text.now finder.old.places id) in
+        let lines = of_declared told (import_spot finder.old.text finder.old.places id) in
         OnOk result (string_bytes out.new ≡ string_bytes out.old ++ lines (declared_by d.declares)) }
-    ensures same { IsSameTreeFinder finder.old finder.new }
+    ensures same { finder.new ≡ finder.old }
 {
     match &declaration.declares {
         Declares::Name(_) => Ok(()),
@@ -222,7 +220,7 @@ fn push_under(
                 visibility: declaration.visibility,
                 cfgs,
             };
-            let trees = finder.find(id);
+            let trees = finder.trees_of(id);
             push_imports(alloc, edition, around, finder, trees, imports, out)
         }
     }
@@ -235,18 +233,17 @@ fn push_declaration(
     form: Form,
     choice: ImportChoice<'_>,
     source: Source<'_>,
-    finder: &mut TreeFinder<'_>,
+    finder: &mut PlaceFinder<'_>,
     tree: &ItemTree,
     declaration: &Declaration<'_>,
     out: &mut String,
 ) -> Result<(), AllocError>
-    requires finds { FindsTrees finder.old }
-    requires text { finder_text finder.old ≡ source.text.now }
+    requires text { finder.old.text ≡ source.text.now }
     requires contained { IsContained tree.now declaration.now.id }
     ensures text { let lines = spec.seen_lines edition.now.reserved.items form (import_choice_view choice.entry)
-        (source_view source.entry) (places_in finder.old) in
+        (source_view source.entry) finder.old.places in
         OnOk result (string_bytes out.new ≡ string_bytes out.old ++ lines (declaration_view tree.now declaration.now)) }
-    ensures same { IsSameTreeFinder finder.old finder.new }
+    ensures same { finder.new ≡ finder.old }
 {
     let id = declaration.id.ast_id(tree);
     let cfgs = choice.cfgs(id);
@@ -293,7 +290,7 @@ pub fn import_lines(
         let lines = lines (source_view source.entry) all in
         IfOk result (λ text. string_bytes text ≡ lines tree.now.forest) }
 {
-    let mut finder = TreeFinder::new(source.text, places, use_trees);
+    let mut finder = PlaceFinder::new(source.text, places, use_trees);
     let mut out = String::new(alloc);
     let collected = collect(alloc, tree)?;
     for declaration in &collected.declarations {

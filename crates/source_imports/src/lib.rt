@@ -10,7 +10,6 @@ mod imports;
 mod laws;
 mod removals;
 mod repeated;
-mod tree_finder;
 
 pub use import_cfgs::{ImportChoice, UseCfgs, file_cfgs};
 pub use import_objects::import_items;

@@ -4,8 +4,8 @@ ghost use Rattle.tree_walk.specs.Listed.{listed_import};
 ghost use Rattle.item_tree.specs.Shown.{IsContained};
 ghost use Rattle.item_tree.specs.Walk.{AreContained};
 ghost use Rattle.source_listing.specs.ImportTexts.{import_text};
-ghost use Rattle.source_imports.specs.Inner.{FindsTrees, IsSameTreeFinder, PutsFirst, first_in, key, named_key_view};
-ghost use Rattle.source_imports.specs.Inner.{named_at, listed_named_view, own_named_at, places_in, finder_text};
+ghost use Rattle.source_imports.specs.Inner.{PutsFirst, first_in, key, named_key_view};
+ghost use Rattle.source_imports.specs.Inner.{named_at, listed_named_view, own_named_at};
 ghost use Rattle.source_listing.specs.Views.{placed_trees_view};
 ghost use Rattle.source_rows.specs.Places.{AreDistinct};
 ghost use Rattle.source_imports.specs.Repeated as spec;
@@ -15,11 +15,11 @@ ghost use Rattle.source_imports.specs.Views.{import_choice_view, repeated_import
 
 use crate::import_cfgs::ImportChoice;
 use crate::import_exclusion::exclude_each_other;
-use crate::tree_finder::TreeFinder;
 use hir_input::{Edition, FileAstId};
 use item_tree::{ItemTree, ModItemId, ModItemKind};
+use line_index::Units;
 use rust_items::ItemPlace;
-use source_listing::{UseTrees, push_import_text};
+use source_listing::{PlaceFinder, UseTrees, push_import_text};
 use source_rows::Spot;
 use std::alloc::{AllocError, Global};
 use std::collections::HashMap;
@@ -73,19 +73,19 @@ fn push_listed(
     edition: &Edition,
     around: Option<FileAstId>,
     at: FileAstId,
-    finder: &mut TreeFinder<'_>,
+    finder: &mut PlaceFinder<'_>,
     trees: Option<UseTrees<'_>>,
     imports: &[Listed],
     found: &mut Vec<Named>,
 ) -> Result<(), AllocError>
-    ensures named { let spots = tree_spots (finder_text finder.old)
+    ensures named { let spots = tree_spots finder.old.text
         (option_map placed_trees_view trees.entry) in
         let own = map (spec.named_import edition.now.reserved.items around at spots) (map listed_import imports.now) in
         OnOk result (map listed_named_view found.new.items ≡ map listed_named_view found.old.items ++ own) }
-    ensures same { IsSameTreeFinder finder.old finder.new }
+    ensures same { finder.new ≡ finder.old }
 {
     for import in imports {
-        let spot = finder.spot(trees, import.index);
+        let spot = finder.tree_spot(Units::Characters, trees, import.index);
         found.push(named_import(alloc, edition, around, at, spot, import)?)?;
     }
     Ok(())
@@ -96,18 +96,17 @@ fn push_own(
     alloc: Global,
     edition: &Edition,
     choice: ImportChoice<'_>,
-    finder: &mut TreeFinder<'_>,
+    finder: &mut PlaceFinder<'_>,
     tree: &ItemTree,
     around: Option<FileAstId>,
     id: ModItemId,
     found: &mut Vec<Named>,
 ) -> Result<(), AllocError>
-    requires finds { FindsTrees finder.old }
     requires contained { IsContained tree.now id }
-    ensures named { let own = own_named_at (finder_text finder.old)
-        (places_in finder.old) edition.now.reserved.items (import_choice_view choice.entry) tree.now around id in
+    ensures named { let own = own_named_at finder.old.text
+        finder.old.places edition.now.reserved.items (import_choice_view choice.entry) tree.now around id in
         OnOk result (map listed_named_view found.new.items ≡ map listed_named_view found.old.items ++ own) }
-    ensures same { IsSameTreeFinder finder.old finder.new }
+    ensures same { finder.new ≡ finder.old }
 {
     match tree.index(id) {
         ModItemKind::Use(_, item) => {
@@ -116,7 +115,7 @@ fn push_own(
                 return Ok(());
             }
             let imports = list_imports(alloc, item)?;
-            let trees = finder.find(at);
+            let trees = finder.trees_of(at);
             push_listed(alloc, edition, around, at, finder, trees, &imports, found)
         }
         _ => Ok(()),
@@ -129,19 +128,18 @@ fn push_all(
     alloc: Global,
     edition: &Edition,
     choice: ImportChoice<'_>,
-    finder: &mut TreeFinder<'_>,
+    finder: &mut PlaceFinder<'_>,
     tree: &ItemTree,
     around: Option<FileAstId>,
     ids: &[ModItemId],
     found: &mut Vec<Named>,
 ) -> Result<(), AllocError>
-    requires finds { FindsTrees finder.old }
     requires contained { AreContained tree.now ids.now }
     ensures named { let all = flat_map
-        (named_at (finder_text finder.old)
-        (places_in finder.old) edition.now.reserved.items (import_choice_view choice.entry) tree.now around) ids.now in
+        (named_at finder.old.text
+        finder.old.places edition.now.reserved.items (import_choice_view choice.entry) tree.now around) ids.now in
         OnOk result (map listed_named_view found.new.items ≡ map listed_named_view found.old.items ++ all) }
-    ensures same { IsSameTreeFinder finder.old finder.new }
+    ensures same { finder.new ≡ finder.old }
 {
     for id in ids {
         push_one(alloc, edition, choice, finder, tree, around, *id, found)?;
@@ -155,18 +153,17 @@ fn push_one(
     alloc: Global,
     edition: &Edition,
     choice: ImportChoice<'_>,
-    finder: &mut TreeFinder<'_>,
+    finder: &mut PlaceFinder<'_>,
     tree: &ItemTree,
     around: Option<FileAstId>,
     id: ModItemId,
     found: &mut Vec<Named>,
 ) -> Result<(), AllocError>
-    requires finds { FindsTrees finder.old }
     requires contained { IsContained tree.now id }
-    ensures named { let all = named_at (finder_text finder.old)
-        (places_in finder.old) edition.now.reserved.items (import_choice_view choice.entry) tree.now around id in
+    ensures named { let all = named_at finder.old.text
+        finder.old.places edition.now.reserved.items (import_choice_view choice.entry) tree.now around id in
         OnOk result (map listed_named_view found.new.items ≡ map listed_named_view found.old.items ++ all) }
-    ensures same { IsSameTreeFinder finder.old finder.new }
+    ensures same { finder.new ≡ finder.old }
 {
     push_own(alloc, edition, choice, finder, tree, around, id, found)?;
     let inside = Some(id.ast_id(tree));
@@ -355,7 +352,7 @@ pub fn repeated_imports(
         (import_choice_view choice.entry) all tree.now.forest in
         IfOk result (λ found. map repeated_import_view found.items ≡ repeats) }
 {
-    let mut finder = TreeFinder::new(text, places, use_trees);
+    let mut finder = PlaceFinder::new(text, places, use_trees);
     let ids = tree.top_level_items();
     let mut found = Vec::new(alloc);
     push_all(

@@ -14,15 +14,15 @@ pub use Rattle.serde_json.specs.View.{items_of, view}
 pub use Rattle.source_listing.specs.Inner.{IsPrinterOf, IsSameFile, file_of, item_at, objects_at, places_of, reserved_of, shown_item_view}
 pub use Rattle.source_listing.specs.Views.{placed_trees_view, choice_view, look_view, query_view, source_view}
 pub use Rattle.source_listing.specs.Lines.{Choice, Source, is_chosen, is_listed}
-pub use Rattle.source_listing.specs.Objects.{Entry, ItemView, column_form, entry_object, file_form, header_form, item_entry, item_in, line_form, listed_objects, member_entry, member_object, member_objects, member_spot, name_form, node_objects, own_objects, problem_objects, range_form, subject_form, tree_objects, visibility_form, whole_object}
-pub use Rattle.source_listing.specs.Outlines.{member_line, title}
+pub use Rattle.source_listing.specs.Entries.{Entry, EntryKind, ItemView, item_entry, item_in, member_entry, of_import, of_item, of_member}
+pub use Rattle.source_listing.specs.Objects.{column_form, entry_object, file_form, flat_object, header_form, entry_id, line_form, listed_objects, member_object, member_objects, member_spot, name_form, names_form, node_objects, own_objects, entry_subject, problem_objects, range_form, subject_form, tree_objects, visibility_form, whole_object}
 pub use Rattle.source_rows.specs.Places.{place_of, spot_in}
 pub use Rattle.line_index.specs.declared.Units.{Units}
 pub use Rattle.line_index.specs.declared.Units.TheVariants.{Characters}
 pub use Rattle.source_listing.specs.Search.{Candidate, found_object}
 pub use Rattle.source_listing.specs.Paths.{bare_segment}
 pub use Rattle.list_forms.specs.Lines.{column_number, line_number}
-pub use Rattle.source_listing.specs.Uses.{from_place, placed}
+pub use Rattle.source_listing.specs.Uses.{FilePlaces, PlacedText, from_place, placed, with_places}
 pub use Rattle.source_rows.specs.declared.finder.Spot.{Spot}
 pub use Rattle.source_listing.specs.declared.printer.Printer.{Printer}
 pub use Rattle.source_rows.specs.Listed.{Listed, MemberReading, header_of, members_of}

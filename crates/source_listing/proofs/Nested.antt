@@ -1,7 +1,7 @@
 -- Objects by the ids of items.
-use Rattle.source_listing.proofs.Common.{Units, ◌≡◌, ℕ, ◌+◌, Bool, true, List, [], ◌∷◌, ◌++◌, Option, Some, None, refl, ap, sym, ◌∙◌, flat_map, option_map, option_map_or, items_of, Node, leaf, parent, Forest, empty, more, nodes, Unfolding, StandFor, is_file_enabled, children, children_at, ItemPlace, MemberReading, header_of, members_of, Choice, Source, is_chosen, place_of, spot_in, ItemView, item_in, item_entry, member_objects, entry_object, whole_object, own_objects, node_objects, listed_objects, tree_objects, Spot, Edition, Printer, node_at, flat_map_of_id, IsPrinterOf, file_of, item_at, objects_at, places_of, reserved_of}
+use Rattle.source_listing.proofs.Common.{Units, ◌≡◌, ℕ, ◌+◌, Bool, true, List, [], ◌∷◌, ◌++◌, Option, Some, None, refl, ap, sym, ◌∙◌, flat_map, option_map, option_map_or, items_of, Node, leaf, parent, Forest, empty, more, nodes, Unfolding, StandFor, is_file_enabled, children, children_at, ItemPlace, MemberReading, header_of, members_of, Choice, Source, is_chosen, place_of, spot_in, ItemView, item_in, item_entry, member_objects, entry_object, whole_object, own_objects, node_objects, listed_objects, tree_objects, Spot, Edition, Printer, node_at, flat_map_of_id, IsPrinterOf, file_of, item_at, objects_at, places_of, reserved_of, FilePlaces}
 use Rattle.serde_json.specs.Data.{Data}
-use Rattle.source_listing.proofs.Printers.{file_is}
+use Rattle.source_listing.proofs.Printers.{file_is, places_are}
 
 module _ (units : Units) (s : Source) (x : MemberReading) (reserved : List (List ℕ)) (places : List ItemPlace) (c : Choice) where
   forest_is : (level : ℕ) (a : Bool) (f : Forest) → flat_map (node_objects units s x reserved places c level a) (nodes f) ≡ listed_objects units s x reserved places c level a f
@@ -48,19 +48,19 @@ module _ (units : Units) (s : Source) (x : MemberReading) (reserved : List (List
   pub object_is : (u : Unfolding) (level : ℕ) (is : List ℕ) (y : ItemView) (place : Option ItemPlace) (spot : Option Spot) (members inner : List Data) (d : Data)
       → place ≡ place_of y.id places → spot ≡ option_map (spot_in units s.text) place → members ≡ member_objects units s.text reserved c level (members_of x place y.is_active)
       → inner ≡ members ++ flat_map (objects_at units s x reserved places c u (level + 1) y.is_active) is
-      → d ≡ entry_object y.is_active spot (item_entry reserved (header_of x y.id.kind place) y) (items_of inner)
+      → d ≡ entry_object reserved (item_entry (header_of x y.id.kind place) spot y) (items_of inner)
       → d ≡ whole_object units s x reserved places c level y (place_of y.id places) (flat_map (objects_at units s x reserved places c u (level + 1) y.is_active) is)
   object_is u level is y place spot members inner d e f g h k = rw (k, h, g, f, e) refl
 
 -- ---- under printers
 
 -- of all ids by a printer that is made for a file
-pub objects_are : (units : Units) (s : Source) (places : List ItemPlace) (edition : Edition) (p : Printer) (x : MemberReading) (c : Choice) (u : Unfolding) (a : Bool) (is : List ℕ) (none ds : List Data) → IsPrinterOf s places edition p
-    → StandFor u is u.forest → a ≡ is_file_enabled u → none ≡ [] → ds ≡ none ++ flat_map (objects_at units (file_of p) x (reserved_of p) (places_of p) c u 0 a) is → ds ≡ tree_objects units s x edition.reserved.items places c u
+pub objects_are : (units : Units) (s : Source) (places : FilePlaces) (edition : Edition) (p : Printer) (x : MemberReading) (c : Choice) (u : Unfolding) (a : Bool) (is : List ℕ) (none ds : List Data) → IsPrinterOf s places edition p
+    → StandFor u is u.forest → a ≡ is_file_enabled u → none ≡ [] → ds ≡ none ++ flat_map (objects_at units (file_of p) x (reserved_of p) (places_of p).items c u 0 a) is → ds ≡ tree_objects units s x edition.reserved.items places.items c u
 objects_are units s places edition p x c u a is none ds h f t g e =
-    e ∙ ap (λ xs. xs ++ flat_map (objects_at units (file_of p) x (reserved_of p) (places_of p) c u 0 a) is) g
-    ∙ ids_objects units (file_of p) x (reserved_of p) (places_of p) c u 0 a is u.forest f
-    ∙ ap (λ b. listed_objects units (file_of p) x (reserved_of p) (places_of p) c 0 b u.forest) t
-    ∙ ap (λ file. tree_objects units file x (reserved_of p) (places_of p) c u) (file_is s places edition p h)
-    ∙ ap (λ (z : Edition). tree_objects units s x z.reserved.items (places_of p) c u) h.1
-    ∙ ap (λ ps. tree_objects units s x edition.reserved.items ps c u) h.2.1
+    e ∙ ap (λ xs. xs ++ flat_map (objects_at units (file_of p) x (reserved_of p) (places_of p).items c u 0 a) is) g
+    ∙ ids_objects units (file_of p) x (reserved_of p) (places_of p).items c u 0 a is u.forest f
+    ∙ ap (λ b. listed_objects units (file_of p) x (reserved_of p) (places_of p).items c 0 b u.forest) t
+    ∙ ap (λ file. tree_objects units file x (reserved_of p) (places_of p).items c u) (file_is s places edition p h)
+    ∙ ap (λ (z : Edition). tree_objects units s x z.reserved.items (places_of p).items c u) h.1
+    ∙ ap (λ (ps : FilePlaces). tree_objects units s x edition.reserved.items ps.items c u) (places_are s places edition p h)

@@ -1,8 +1,7 @@
 -- What is listed holds no float.
 use Rattle.line_index.specs.declared.Position.{Position}
-use Rattle.source_listing.proofs.Common.{Units, spot_in, Candidate, column_number, found_object, line_number, ◌≡◌, ℕ, ◌+◌, Bool, true, false, ◌||◌, if◌then◌else◌, List, [], ◌∷◌, ◌++◌, Option, Some, None, option_map, refl, filter, map, flat_map, items_of, Import, Node, leaf, parent, Forest, empty, more, Unfolding, ItemPlace, Listed, MemberReading, header_of, members_of, Spot, Choice, Source, is_chosen, place_of, Subject, no_subject, is_file_enabled, RowView, Entry, ItemView, item_in, name_form, header_form, subject_form, visibility_form, line_form, column_form, range_form, entry_object, item_entry, member_entry, member_spot, member_object, member_objects, file_form, whole_object, own_objects, node_objects, listed_objects, tree_objects, problem_objects}
+use Rattle.source_listing.proofs.Common.{Units, spot_in, Candidate, column_number, found_object, line_number, ◌≡◌, ℕ, ◌+◌, Bool, true, false, ◌||◌, if◌then◌else◌, List, [], ◌∷◌, ◌++◌, Option, Some, None, option_map, refl, filter, map, flat_map, items_of, Node, leaf, parent, Forest, empty, more, Unfolding, ItemPlace, Listed, MemberReading, header_of, members_of, Choice, Source, is_chosen, place_of, Subject, no_subject, is_file_enabled, Entry, EntryKind, of_item, ItemView, item_in, name_form, entry_id, entry_subject, header_form, subject_form, visibility_form, line_form, column_form, names_form, range_form, entry_object, flat_object, item_entry, member_entry, member_spot, member_object, member_objects, file_form, whole_object, own_objects, node_objects, listed_objects, tree_objects, problem_objects}
 use Rattle.serde_json.specs.Data.{Data, Items, no_items, string}
-use Rattle.source_listing.specs.FlatObjects.{flat_object, import_entry, names_form, item_in_row}
 use Rattle.serde_json.specs.Written.{has_float, items_have_float}
 use Rattle.item_tree.specs.declared.visibility.RawVisibility.{RawVisibility}
 use Rattle.item_tree.specs.declared.visibility.RawVisibility.TheVariants.{PubSelf}
@@ -61,21 +60,37 @@ visibility_none reserved _ = refl
 
 -- ---- outlines
 
-object_none : (is_active : Bool) (spot : Option Spot) (e : Entry) (ds : Items) → has_float e.id ≡ false → has_float e.name ≡ false → has_float e.path ≡ false → has_float e.visibility ≡ false → items_have_float ds ≡ false
-    → has_float (entry_object is_active spot e ds) ≡ false
-object_none is_active spot e ds i n p v h = rw (h, some_none column_form spot refl (λ a. refl), i, some_none line_form spot refl (λ a. refl), n, p, some_none range_form spot refl (λ a. refl), v) refl
+name_none : (name : Option (List ℕ)) → has_float (name_form name) ≡ false
+name_none name = some_none name_form name refl (λ a. refl)
+
+id_none : (k : EntryKind) → has_float (entry_id k) ≡ false
+id_none (of_item _ _ _) = refl
+id_none _ = refl
+
+path_none : (reserved : List (List ℕ)) (k : EntryKind) → has_float (entry_subject reserved k) ≡ false
+path_none reserved (of_item id header subject) = subject_none reserved header subject
+path_none reserved _ = refl
+
+object_none : (reserved : List (List ℕ)) (e : Entry) (ds : Items) → items_have_float ds ≡ false → has_float (entry_object reserved e ds) ≡ false
+object_none reserved e ds h =
+    rw (h, some_none column_form e.spot refl (λ a. refl), id_none e.kind, some_none line_form e.spot refl (λ a. refl), name_none e.name, path_none reserved e.kind, some_none range_form e.spot refl (λ a. refl), visibility_none reserved e.visibility) refl
+
+names_none : (names : List (List ℕ)) → has_float (names_form names) ≡ false
+names_none names = map_none string names (λ n. refl)
+
+pub flat_object_none : (path : List ℕ) (reserved scope : List (List ℕ)) (e : Entry) → has_float (flat_object path reserved scope e) ≡ false
+flat_object_none path reserved scope e =
+    rw (some_none column_form e.spot refl (λ a. refl), id_none e.kind, some_none line_form e.spot refl (λ a. refl), name_none e.name, path_none reserved e.kind, some_none range_form e.spot refl (λ a. refl), names_none scope, visibility_none reserved e.visibility) refl
 
 member_none : (units : Units) (text : List ℕ) (reserved : List (List ℕ)) (m : Listed) → has_float (member_object units text reserved m) ≡ false
-member_none units text reserved m =
-    object_none m.is_active (Some (member_spot units text m)) (member_entry reserved m) no_items refl refl refl (visibility_none reserved (Some m.visibility)) refl
+member_none units text reserved m = object_none reserved (member_entry (member_spot units text m) m) no_items refl
 
 module _ (units : Units) (s : Source) (x : MemberReading) (reserved : List (List ℕ)) (places : List ItemPlace) (c : Choice) where
   at_none : (level : ℕ) (i : ItemView) (place : Option ItemPlace) (ds : List Data) → items_have_float (items_of ds) ≡ false → has_float (whole_object units s x reserved places c level i place ds) ≡ false
   at_none level i place ds e =
       let members = member_objects units s.text reserved c level (members_of x place i.is_active) in
       let none : items_have_float (items_of members) ≡ false = map_none (member_object units s.text reserved) (filter (λ m. is_chosen c (level + 1) m.is_active) (members_of x place i.is_active)) (member_none units s.text reserved) in
-      object_none i.is_active (option_map (spot_in units s.text) place) (item_entry reserved (header_of x i.id.kind place) i) (items_of (members ++ ds)) refl (some_none name_form i.name refl (λ a. refl)) (subject_none reserved (header_of x i.id.kind place) i.subject) (visibility_none reserved i.visibility)
-      (both_none members ds none e)
+      object_none reserved (item_entry (header_of x i.id.kind place) (option_map (spot_in units s.text) place) i) (items_of (members ++ ds)) (both_none members ds none e)
 
   own_none : (level : ℕ) (i : ItemView) (ds : List Data) → items_have_float (items_of ds) ≡ false → items_have_float (items_of (own_objects units s x reserved places c level i ds)) ≡ false
   own_none level i ds e =
@@ -117,22 +132,3 @@ column_number_none (Some p) = refl
 
 pub found_none : (path : List ℕ) (p : Option Position) (c : Candidate) → has_float (found_object path p c) ≡ false
 found_none path p c = rw (column_number_none p, line_number_none p) refl
-
--- ---- flat outlines
-
-names_none : (names : List (List ℕ)) → has_float (names_form names) ≡ false
-names_none names = map_none string names (λ n. refl)
-
-flat_object_none : (path : List ℕ) (scope : List (List ℕ)) (is_active : Bool) (spot : Option Spot) (e : Entry) → has_float e.id ≡ false → has_float e.name ≡ false → has_float e.path ≡ false → has_float e.visibility ≡ false
-    → has_float (flat_object path scope is_active spot e) ≡ false
-flat_object_none path scope is_active spot e i n p v = rw (i, some_none column_form spot refl (λ a. refl), some_none line_form spot refl (λ a. refl), n, p, some_none range_form spot refl (λ a. refl), names_none scope, v) refl
-
-pub flat_item_none : (path : List ℕ) (reserved : List (List ℕ)) (header : List ℕ) (r : RowView) (spot : Option Spot) → has_float (flat_object path r.scope r.is_active spot (item_entry reserved header (item_in_row r))) ≡ false
-flat_item_none path reserved header r spot =
-    flat_object_none path r.scope r.is_active spot (item_entry reserved header (item_in_row r)) refl (some_none name_form r.name refl (λ a. refl)) (subject_none reserved header r.subject) (visibility_none reserved r.visibility)
-
-pub flat_member_none : (path : List ℕ) (reserved : List (List ℕ)) (scope : List (List ℕ)) (m : Listed) (spot : Option Spot) → has_float (flat_object path scope m.is_active spot (member_entry reserved m)) ≡ false
-flat_member_none path reserved scope m spot = flat_object_none path scope m.is_active spot (member_entry reserved m) refl refl refl (visibility_none reserved (Some m.visibility))
-
-pub flat_import_none : (path : List ℕ) (reserved : List (List ℕ)) (r : RowView) (i : Import) (spot : Option Spot) → has_float (flat_object path r.scope r.is_active spot (import_entry reserved r.visibility i)) ≡ false
-flat_import_none path reserved r i spot = flat_object_none path r.scope r.is_active spot (import_entry reserved r.visibility i) refl refl refl (visibility_none reserved r.visibility)

@@ -1,8 +1,9 @@
 pub mod Lines
-pub mod Outlines
+pub mod Entries
 pub mod Objects
-pub mod FlatObjects
+pub mod Outlines
 pub mod Uses
+pub mod Codes
 pub mod Told
 pub mod MetaCfgs
 pub mod ImportTexts

@@ -1,5 +1,5 @@
 -- What lines are made of, and those of problems.
-use Rattle.std.specs.Prelude.{ℕ, Bool, true, false, not, ◌&&◌, ◌||◌, ◌*◌, ◌==◌, nat_lt, if◌then◌else◌, List, [], ◌++◌, codes, length, replicate, Option, Some, None, option_map, flat_map}
+use Rattle.std.specs.Prelude.{ℕ, Bool, true, false, not, ◌&&◌, ◌||◌, ◌*◌, ◌==◌, nat_lt, if◌then◌else◌, List, [], ◌++◌, codes, length, replicate, Option, Some, None, flat_map}
 use Rattle.hir_input.specs.Name.{shown_name}
 use Rattle.hir_input.specs.declared.mod_path.PathKind.{PathKind}
 use Rattle.hir_input.specs.declared.mod_path.PathKind.TheVariants.{Super, Crate}
@@ -12,22 +12,16 @@ use Rattle.item_tree.specs.Tree.{Tree, single, glob, prefixed}
 use Rattle.item_tree.specs.UseText.{shown_prefix, shown_rename}
 use Rattle.list_forms.specs.Colors.{colored_text, faint_code, red_code}
 use Rattle.tree_walk.specs.Rows.{RowView, Subject, no_subject, used, called}
-use Rattle.rust_items.specs.declared.source_file.ItemPlace.{ItemPlace}
 use Rattle.source_problems.specs.declared.problem.SourceProblem.{SourceProblem}
 use Rattle.source_problems.specs.declared.problem.SourceProblemKind.{SourceProblemKind}
 use Rattle.source_problems.specs.declared.problem.SourceProblemKind.TheVariants as problem
 pub use Rattle.source_rows.specs.Labels.{item_word}
 pub use Rattle.source_rows.specs.Sources.{Source, place_at}
-use Rattle.source_rows.specs.Places.{stands_at}
 
 -- where something stands in a file; all has a place
 abbrev pub at_text : Source → Option ℕ → List ℕ
 at_text s None = s.path ++ codes ": "
 at_text s (Some at) = place_at s at
-
--- the same of an item
-abbrev pub stand_text : Source → Option ItemPlace → List ℕ
-stand_text s place = at_text s (option_map stands_at place)
 
 -- ---- items
 

@@ -1,18 +1,16 @@
 -- The objects of an outline, and of problems.
-use Rattle.std.specs.Prelude.{ℕ, ◌+◌, Bool, ◌&&◌, if◌then◌else◌, List, [], ◌∷◌, ◌++◌, codes, filter, map, Option, Some, None, option_map}
+use Rattle.std.specs.Prelude.{ℕ, ◌+◌, Bool, if◌then◌else◌, List, [], ◌∷◌, ◌++◌, codes, filter, map, Option, Some, None, option_map}
 use Rattle.serde_json.specs.Data.{Data, null, boolean, string, array, object, Items, no_items, item, no_members, member}
 use Rattle.serde_json.specs.View.{items_of}
 use Rattle.list_forms.specs.Lines as lines
 use Rattle.list_forms.specs.Lines.{count_form}
-use Rattle.hir_input.specs.declared.ids.FileAstId.{FileAstId}
 use Rattle.hir_input.specs.Id.{shown_id}
 use Rattle.hir_input.specs.Path.{shown_path}
 use Rattle.item_tree.specs.declared.visibility.RawVisibility.{RawVisibility}
 use Rattle.item_tree.specs.declared.visibility.RawVisibility.TheVariants.{Module, PubSelf, PubCrate, Public}
 use Rattle.item_tree.specs.declared.visibility.VisibilityExplicitness.TheVariants.{Explicit, Implicit}
-use Rattle.item_tree.specs.Node.{Node, leaf, parent, Forest, empty, more, node_ast, Unfolding}
-use Rattle.tree_walk.specs.Declarations.{node_name, node_visibility}
-use Rattle.tree_walk.specs.Rows.{Subject, no_subject, used, called, node_subject, is_enabled, is_file_enabled}
+use Rattle.item_tree.specs.Node.{Node, leaf, parent, Forest, empty, more, Unfolding}
+use Rattle.tree_walk.specs.Rows.{Subject, no_subject, used, called, is_file_enabled}
 use Rattle.line_index.specs.declared.Position.{Position}
 use Rattle.line_index.specs.declared.Units.{Units}
 use Rattle.line_index.specs.declared.Units.TheVariants.{Characters}
@@ -20,12 +18,13 @@ use Rattle.line_index.specs.Positions.{position_in}
 use Rattle.rust_paths.specs.declared.names.TextRange.{TextRange}
 use Rattle.rust_items.specs.declared.log.Problem.{Problem}
 use Rattle.rust_items.specs.declared.source_file.ItemPlace.{ItemPlace}
-use Rattle.source_rows.specs.Labels.{member_word}
 use Rattle.source_rows.specs.Listed.{Listed, MemberReading, header_of, members_of}
 use Rattle.source_problems.specs.declared.problem.SourceProblemKind.{SourceProblemKind}
 use Rattle.source_problems.specs.Problems.{told_kind}
 use Rattle.source_rows.specs.declared.finder.Spot.{Spot}
-use Rattle.source_listing.specs.Lines.{Choice, Source, is_chosen, message, short_tree, visible_in, item_word}
+use Rattle.source_listing.specs.Entries.{Entry, EntryKind, ItemView, of_item, of_member, of_import, entry_word, item_entry, item_in, member_entry}
+use Rattle.source_listing.specs.ImportTexts.{import_text}
+use Rattle.source_listing.specs.Lines.{Choice, Source, is_chosen, message, short_tree, visible_in}
 use Rattle.source_rows.specs.Places.{place_of, spot_in}
 
 -- a name, if there is one
@@ -33,18 +32,7 @@ abbrev pub name_form : Option (List ℕ) → Data
 name_form None = null
 name_form (Some name) = string name
 
--- an item, and whether no cfg disables it, nor an item that it stands in, nor the file
-pub record ItemView : Type 0 where
-  pub id : FileAstId
-  pub name : Option (List ℕ)
-  pub subject : Subject
-  pub visibility : Option RawVisibility
-  pub is_active : Bool
-
-abbrev pub item_in : Bool → Node → ItemView
-item_in is_active n = record { id = node_ast n; name = node_name n; subject = node_subject n; visibility = node_visibility n; is_active = is_active && is_enabled n }
-
--- ---- members
+-- ---- what is told
 
 -- the header of an impl; other items have none
 abbrev pub header_form : List ℕ → Data
@@ -84,55 +72,58 @@ range_form (Some spot) = bytes_form (Some spot.range)
 
 -- ---- objects
 
--- what an item or a member is
-pub record Entry : Type 0 where
-  pub id : Data
-  pub kind : List ℕ
-  pub name : Data
-  pub path : Data
-  pub visibility : Data
+-- members and imports have no id in a tree
+abbrev pub entry_id : EntryKind → Data
+entry_id (of_item id _ _) = string (shown_id id)
+entry_id _ = null
 
--- an item with this header
-abbrev pub item_entry : List (List ℕ) → List ℕ → ItemView → Entry
-item_entry reserved header i = record {
-  id = string (shown_id i.id);
-  kind = item_word i.id.kind;
-  name = name_form i.name;
-  path = subject_form reserved header i.subject;
-  visibility = visibility_form reserved i.visibility;
-}
+-- what an entry without a name is told by; an import is told as a use of it alone
+abbrev pub entry_subject : List (List ℕ) → EntryKind → Data
+entry_subject reserved (of_item id header subject) = subject_form reserved header subject
+entry_subject reserved (of_member kind) = null
+entry_subject reserved (of_import i) = string (import_text reserved i.kind i.path i.alias)
 
--- a member, for which a tree has no id
-abbrev pub member_entry : List (List ℕ) → Listed → Entry
-member_entry reserved m = record {
-  id = null;
-  kind = member_word m.kind;
-  name = string m.name;
-  path = null;
-  visibility = visibility_form reserved (Some m.visibility);
-}
-
--- the object of what stands there, which a cfg disables or not, around others; the members of an object are in the order of their keys
-abbrev pub entry_object : Bool → Option Spot → Entry → Items → Data
-entry_object is_active spot e inner =
+-- the object of an entry around others; the members of an object are in the order of their keys
+abbrev pub entry_object : List (List ℕ) → Entry → Items → Data
+entry_object reserved e inner =
     object
-    (member (codes "active") (boolean is_active)
+    (member (codes "active") (boolean e.is_active)
     (member (codes "children") (array inner)
-    (member (codes "column") (column_form spot)
-    (member (codes "id") e.id
-    (member (codes "kind") (string e.kind)
-    (member (codes "line") (line_form spot)
-    (member (codes "name") e.name
-    (member (codes "path") e.path
-    (member (codes "range") (range_form spot)
-    (member (codes "visibility") e.visibility no_members))))))))))
+    (member (codes "column") (column_form e.spot)
+    (member (codes "id") (entry_id e.kind)
+    (member (codes "kind") (string (entry_word e.kind))
+    (member (codes "line") (line_form e.spot)
+    (member (codes "name") (name_form e.name)
+    (member (codes "path") (entry_subject reserved e.kind)
+    (member (codes "range") (range_form e.spot)
+    (member (codes "visibility") (visibility_form reserved e.visibility) no_members))))))))))
+
+-- names, from the outermost on
+abbrev pub names_form : List (List ℕ) → Data
+names_form names = array (items_of (map string names))
+
+-- the object of an entry that stands alone, in a file and in these names
+abbrev pub flat_object : List ℕ → List (List ℕ) → List (List ℕ) → Entry → Data
+flat_object path reserved scope e =
+    object
+    (member (codes "active") (boolean e.is_active)
+    (member (codes "column") (column_form e.spot)
+    (member (codes "file") (string path)
+    (member (codes "id") (entry_id e.kind)
+    (member (codes "kind") (string (entry_word e.kind))
+    (member (codes "line") (line_form e.spot)
+    (member (codes "name") (name_form e.name)
+    (member (codes "path") (entry_subject reserved e.kind)
+    (member (codes "range") (range_form e.spot)
+    (member (codes "scope") (names_form scope)
+    (member (codes "visibility") (visibility_form reserved e.visibility) no_members)))))))))))
 
 -- where a member of a text stands, and its bytes
 abbrev pub member_spot : Units → List ℕ → Listed → Spot
 member_spot units text m = record { position = position_in units text m.at; range = m.range }
 
 abbrev pub member_object : Units → List ℕ → List (List ℕ) → Listed → Data
-member_object units text reserved m = entry_object m.is_active (Some (member_spot units text m)) (member_entry reserved m) no_items
+member_object units text reserved m = entry_object reserved (member_entry (member_spot units text m) m) no_items
 
 -- the objects of the listed members of an item in so many others
 abbrev pub member_objects : Units → List ℕ → List (List ℕ) → Choice → ℕ → List Listed → List Data
@@ -145,7 +136,7 @@ module _ (units : Units) (s : Source) (x : MemberReading) (reserved : List (List
   -- the object of an item that stands there, around those of its listed members and then these
   abbrev pub whole_object : ℕ → ItemView → Option ItemPlace → List Data → Data
   whole_object level i place inner =
-      entry_object i.is_active (option_map (spot_in units s.text) place) (item_entry reserved (header_of x i.id.kind place) i)
+      entry_object reserved (item_entry (header_of x i.id.kind place) (option_map (spot_in units s.text) place) i)
       (items_of (member_objects units s.text reserved c level (members_of x place i.is_active) ++ inner))
 
   -- the same by its id, if it is listed; what stands in an item that is not listed is not listed either

@@ -17,6 +17,14 @@ pub record FilePlaces : Type 0 where
 abbrev pub placed : List ItemPlace → List ℕ → FilePlaces
 placed items use_trees = record { items = items; use_trees = use_trees }
 
+-- a text, with where its items and use trees stand
+pub record PlacedText : Type 0 where
+  pub text : List ℕ
+  pub places : FilePlaces
+
+abbrev pub with_places : List ℕ → FilePlaces → PlacedText
+with_places text places = record { text = text; places = places }
+
 -- from the first on that does not stand before this place
 abbrev pub from_place : ℕ → List ℕ → List ℕ
 from_place start [] = []

@@ -20,9 +20,9 @@ use Rattle.source_listing.specs.Uses.{Trees}
 abbrev pub choice_view : code_choice.Choice → Choice
 choice_view c = record { depth = c.depth; only_active = c.only_active }
 
--- which lines are written and how, as plain data
+-- what is told and how, as plain data
 abbrev pub look_view : code_look.Look → Look
-look_view k = record { choice = choice_view k.choice; is_colored = k.is_colored; is_flat = k.is_flat; has_imports = k.has_imports }
+look_view k = record { choice = choice_view k.choice; form = k.form; is_flat = k.is_flat; has_imports = k.has_imports }
 
 -- what is looked for, as plain data
 abbrev pub query_view : code_query.Query → Query

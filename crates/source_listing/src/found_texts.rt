@@ -4,10 +4,10 @@ ghost use Rattle.serde_json.specs.View.{view};
 ghost use Rattle.tree_walk.specs.Rows as rows;
 ghost use Rattle.source_rows.specs.ListedViews.{reading_view};
 ghost use Rattle.source_rows.specs.Places.{AreDistinct};
-ghost use Rattle.list_forms.specs.Colors.{bold_code, colored_text};
+ghost use Rattle.list_forms.specs.Colors.{bold_code, colored_text, faint_code};
 ghost use Rattle.list_forms.specs.declared.lines.Form.TheVariants.{Json};
 ghost use Rattle.source_listing.specs.Inner.{IsSameFile, file_of, reserved_of};
-ghost use Rattle.source_listing.specs.Lines.{listed_name};
+ghost use Rattle.source_listing.specs.Lines.{at_text, listed_name};
 ghost use Rattle.source_listing.specs.Search as spec;
 ghost use Rattle.source_listing.specs.Views.{candidate_view, query_view, source_view};
 
@@ -17,9 +17,10 @@ use crate::sought::joined_scope;
 use hir_input::{Edition, Name};
 use hir_input_json::write::object::{of_text, with, with_text};
 use item_tree::ItemTree;
-use line_index::Position;
+use line_index::{Position, Units};
 use list_forms::{
-    BOLD, CYAN, Form, USUAL, column_number, line_number, push_color, push_colored, value_line,
+    BOLD, CYAN, FAINT, Form, USUAL, column_number, line_number, push_color, push_colored,
+    value_line,
 };
 use rust_items::ItemPlace;
 use serde_json::Value;
@@ -50,9 +51,26 @@ impl Printer<'_> {
         ensures same { IsSameFile self.old self.new }
     {
         match at {
-            Some(at) => Some(self.finder.lines.position(at)),
+            Some(at) => Some(self.finder.position(Units::Characters, at)),
             None => None,
         }
+    }
+
+    /// Where something stands, faint if colours are wanted.
+    #[tactic(auto, unfolding(list_forms::specs::Colors::colored_text))]
+    fn push_faint_at(
+        &mut self,
+        is_colored: bool,
+        at: Option<usize>,
+        out: &mut String,
+    ) -> Result<(), AllocError>
+        ensures text { let place = colored_text is_colored faint_code (at_text (file_of self.old) at) in
+            OnOk result (string_bytes out.new ≡ string_bytes out.old ++ place) }
+        ensures same { IsSameFile self.old self.new }
+    {
+        push_color(is_colored, FAINT, out)?;
+        self.push_at(at, out)?;
+        push_color(is_colored, USUAL, out)
     }
 
     /// A name behind a blank, bold if colours are wanted.
@@ -83,7 +101,7 @@ impl Printer<'_> {
             OnOk result (string_bytes out.new ≡ string_bytes out.old ++ line) }
         ensures same { IsSameFile self.old self.new }
     {
-        self.push_stand(is_colored, candidate.at, out)?;
+        self.push_faint_at(is_colored, candidate.at, out)?;
         push_colored(is_colored, CYAN, candidate.word, out)?;
         self.push_bold_name(is_colored, &candidate.name, out)?;
         out.push_str("\n")
@@ -154,7 +172,7 @@ pub fn found_lines(
 {
     let mut spots = Places::new(places);
     let found = found_in(alloc, tree, &mut spots, reading, query)?;
-    let mut printer = Printer::new(source, places, edition);
+    let mut printer = Printer::new(source, places, &[], edition);
     let mut out = String::new(alloc);
     for candidate in &found {
         printer.push_found(alloc, query.form, candidate, &mut out)?;

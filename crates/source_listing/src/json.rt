@@ -1,46 +1,32 @@
 //! Outlines as JSON.
-ghost use Rattle.std.specs.Prelude.{◌≡◌, ◌+◌, ◌<◌, ◌^◌, ◌++◌, ◌∷◌, [], map, IfOk, OnOk, option_copied};
+ghost use Rattle.std.specs.Prelude.{◌≡◌, ◌+◌, ◌<◌, ◌^◌, ◌++◌, ◌∷◌, [], map, IfOk, OnOk};
 ghost use Rattle.std.specs.Prelude.{option_map, string_bytes, flat_map, sum_by};
-ghost use Rattle.serde_json.specs.Data.{no_members, object as object_of};
-ghost use Rattle.serde_json.specs.View.{items_view, members_view, view};
+ghost use Rattle.serde_json.specs.View.{items_view, view};
 ghost use Rattle.item_tree.specs.Shown.{IsContained};
 ghost use Rattle.item_tree.specs.Walk.{AreContained, count_at};
 ghost use Rattle.source_rows.specs.Listed.{header_of, members_of};
 ghost use Rattle.source_rows.specs.ListedViews.{listed_view, reading_view};
-ghost use Rattle.source_listing.specs.Inner.{IsSameFile, entry_members, file_of, item_at, shown_item_view, objects_at};
-ghost use Rattle.source_listing.specs.Inner.{placed_members, places_of, reserved_of, stand_members};
+ghost use Rattle.source_listing.specs.Entries as entries;
+ghost use Rattle.source_listing.specs.Inner.{IsSameFile, file_of, item_at, shown_item_view, objects_at};
+ghost use Rattle.source_listing.specs.Inner.{places_of, reserved_of};
 ghost use Rattle.source_listing.specs.Objects as spec;
 ghost use Rattle.source_rows.specs.Places.{AreDistinct, place_of, spot_in};
 ghost use Rattle.source_listing.specs.Views.{choice_view, source_view};
 
+use crate::entries::{Item, item_entry, member_entry};
 use crate::lines::Choice;
+use crate::objects::object;
 use crate::printer::Printer;
-use crate::values::{
-    column_value, line_value, name_value, put_text, range_value, subject_value, visibility_value,
-};
-use hir_input::{Edition, FileAstId, Name};
-use hir_input_json::member::Members;
+use hir_input::{Edition, FileAstId};
 use hir_input_json::write::object::{of_text, with};
-use item_tree::{ItemTree, ModItemId, RawVisibility};
+use item_tree::{ItemTree, ModItemId};
 use line_index::Units;
 use list_forms::value_line;
 use rust_items::ItemPlace;
-use serde_json::{Map, Value, put};
-use source_rows::{ListedMember, Reading, Source, Spot, item_word, member_word};
+use serde_json::Value;
+use source_rows::{ListedMember, Reading, Source, Spot};
 use std::alloc::{AllocError, Global};
-use tree_walk::{
-    Subject, children, is_enabled, is_file_enabled, name_at, subject_at, visibility_at,
-};
-
-/// An item, and whether no cfg disables it, nor an item that it stands in, nor the file.
-#[derive(Drop)]
-pub(crate) struct Item<'tree> {
-    pub(crate) id: FileAstId,
-    pub(crate) name: Option<&'tree Name>,
-    pub(crate) subject: Subject<'tree>,
-    pub(crate) visibility: Option<&'tree RawVisibility>,
-    pub(crate) is_active: bool,
-}
+use tree_walk::{children, is_enabled, is_file_enabled, name_at, subject_at, visibility_at};
 
 /// What is listed, and how.
 #[derive(Clone, Copy)]
@@ -67,93 +53,14 @@ struct Stand {
 
 impl Printer<'_> {
     fn stand(&mut self, units: Units, id: FileAstId) -> Stand
-        requires { AreDistinct (places_of self.old) }
-        ensures place { result.place ≡ place_of id (places_of self.old) }
+        ensures place { result.place ≡ place_of id (places_of self.old).items }
         ensures spot { result.spot ≡ option_map (spot_in units (file_of self.old).text) result.place }
         ensures same { IsSameFile self.old self.new }
     {
-        let place = self.finder.places.find(id);
-        let spot = self.finder.spot_in(units, place);
+        let place = self.finder.place(id);
+        let spot = self.finder.spot(units, place);
         Stand { place, spot }
     }
-}
-
-// ---- objects
-
-/// Gives an object the members that tell what an item is.
-pub(crate) fn put_item(
-    alloc: Global,
-    edition: &Edition,
-    item: &Item<'_>,
-    header: &str,
-    members: &mut Members,
-) -> Result<(), AllocError>
-    requires { members_view members.old.entries ≡ no_members }
-    ensures { let entry = spec.item_entry edition.now.reserved.items header.now
-        (shown_item_view item.now) in
-        OnOk result (members_view members.new.entries ≡ entry_members entry) }
-{
-    let visibility = visibility_value(alloc, edition, item.visibility)?;
-    put(members, alloc, "visibility", visibility)?;
-    let path = subject_value(alloc, edition, header, item.subject)?;
-    put(members, alloc, "path", path)?;
-    let name = name_value(alloc, item.name)?;
-    put(members, alloc, "name", name)?;
-    put_text(alloc, "kind", item_word(item.id.kind), members)?;
-    let id = item.id.to_string(alloc)?;
-    put(members, alloc, "id", Value::String(id))
-}
-
-/// The same of a member, for which a tree has no id.
-pub(crate) fn put_listed(
-    alloc: Global,
-    edition: &Edition,
-    member: &ListedMember,
-    members: &mut Members,
-) -> Result<(), AllocError>
-    requires { members_view members.old.entries ≡ no_members }
-    ensures { let entry = spec.member_entry edition.now.reserved.items (listed_view member.now) in
-        OnOk result (members_view members.new.entries ≡ entry_members entry) }
-{
-    let visibility = visibility_value(alloc, edition, Some(&member.visibility))?;
-    put(members, alloc, "visibility", visibility)?;
-    put(members, alloc, "path", Value::Null)?;
-    put_text(alloc, "name", member.name.text(), members)?;
-    put_text(alloc, "kind", member_word(member.kind), members)?;
-    put(members, alloc, "id", Value::Null)
-}
-
-/// Adds the members that tell where something stands.
-pub(crate) fn put_stand(
-    alloc: Global,
-    spot: Option<Spot>,
-    members: &mut Members,
-) -> Result<(), AllocError>
-    ensures { let old = members_view members.old.entries in
-        OnOk result (members_view members.new.entries ≡ stand_members spot old) }
-{
-    let range = range_value(alloc, spot)?;
-    put(members, alloc, "range", range)?;
-    put(members, alloc, "line", line_value(spot))?;
-    put(members, alloc, "column", column_value(spot))
-}
-
-/// The object of what stands there, with these members and around these objects.
-fn object(
-    alloc: Global,
-    mut members: Members,
-    spot: Option<Spot>,
-    is_active: bool,
-    inner: Vec<Value>,
-) -> Result<Value, AllocError>
-    ensures { let members = placed_members is_active spot (items_view inner.items)
-        (members_view members.entries) in
-        IfOk result (λ object. view object ≡ object_of members) }
-{
-    put_stand(alloc, spot, &mut members)?;
-    put(&mut members, alloc, "children", Value::Array(inner))?;
-    put(&mut members, alloc, "active", Value::Bool(is_active))?;
-    Ok(Value::Object(members))
 }
 
 /// The object of a member.
@@ -168,17 +75,11 @@ fn member_object(
         IfOk result (λ value. view value ≡ object) }
     ensures same { IsSameFile printer.old printer.new }
 {
-    let spot = Spot {
-        position: printer.finder.lines.position_in(units, member.at),
-        range: member.range,
-    };
-    let mut members = Map::new(alloc);
-    put_listed(alloc, printer.edition, member, &mut members)?;
+    let spot = printer.member_spot(units, member);
     object(
         alloc,
-        members,
-        Some(spot),
-        member.is_active,
+        printer.edition,
+        member_entry(spot, member),
         Vec::new(alloc),
     )
 }
@@ -230,14 +131,13 @@ fn item_object(
     inner: Vec<Value>,
 ) -> Result<Value, AllocError>
     ensures { let header = header_of (reading_view reading.entry) item.now.id.kind stand.place in
-        let entry = spec.item_entry edition.now.reserved.items header (shown_item_view item.now) in
-        let form = spec.entry_object item.now.is_active stand.spot entry (items_view inner.items) in
+        let entry = entries.item_entry header stand.spot (shown_item_view item.now) in
+        let form = spec.entry_object edition.now.reserved.items entry (items_view inner.items) in
         IfOk result (λ object. view object ≡ form) }
 {
     let header = reading.header(alloc, item.id.kind, stand.place)?;
-    let mut members = Map::new(alloc);
-    put_item(alloc, edition, item, &header, &mut members)?;
-    object(alloc, members, stand.spot, item.is_active, inner)
+    let entry = item_entry(&header, stand.spot, item);
+    object(alloc, edition, entry, inner)
 }
 
 /// Adds the objects of items, those that are chosen.
@@ -250,11 +150,10 @@ fn push_objects(
     around: Around,
     out: &mut Vec<Value>,
 ) -> Result<(), AllocError>
-    requires distinct { AreDistinct (places_of printer.old) }
     requires contained { AreContained listing.tree.now ids.now }
     requires fits { around.level + sum_by (count_at listing.tree.now) ids.now < 2 ^ 64 }
     ensures objects { let at = objects_at listing.entry.units (file_of printer.old) (reading_view listing.entry.reading)
-        (reserved_of printer.old) (places_of printer.old) in
+        (reserved_of printer.old) (places_of printer.old).items in
         let at = at (choice_view listing.entry.choice) listing.entry.tree.now around.level around.is_active in
         OnOk result (map view out.new.items ≡ map view out.old.items ++ flat_map at ids.now) }
     ensures same { IsSameFile printer.old printer.new }
@@ -275,11 +174,10 @@ fn push_object(
     around: Around,
     out: &mut Vec<Value>,
 ) -> Result<(), AllocError>
-    requires distinct { AreDistinct (places_of printer.old) }
     requires contained { IsContained listing.tree.now id }
     requires fits { around.level + count_at listing.tree.now id < 2 ^ 64 }
     ensures objects { let at = objects_at listing.entry.units (file_of printer.old) (reading_view listing.entry.reading)
-        (reserved_of printer.old) (places_of printer.old) in
+        (reserved_of printer.old) (places_of printer.old).items in
         let at = at (choice_view listing.entry.choice) listing.entry.tree.now around.level around.is_active in
         OnOk result (map view out.new.items ≡ map view out.old.items ++ at id) }
     ensures same { IsSameFile printer.old printer.new }
@@ -291,11 +189,11 @@ fn push_object(
     let stand = printer.stand(listing.units, item.id);
     let (level, is_active) = (around.level, item.is_active);
     let mut inner = member_values(alloc, printer, listing, stand.place, level, is_active)?;
+    let ids = children(listing.tree, id);
     let below = Around {
         level: level + 1,
         is_active,
     };
-    let ids = children(listing.tree, id);
     push_objects(alloc, printer, listing, ids, below, &mut inner)?;
     let object = item_object(alloc, printer.edition, listing.reading, &item, stand, inner)?;
     out.push(object)?;
@@ -350,7 +248,7 @@ pub fn outline_items(
         level: 0,
         is_active: is_file_enabled(tree),
     };
-    let mut printer = Printer::new(source, places, edition);
+    let mut printer = Printer::new(source, places, &[], edition);
     let mut items = Vec::new(alloc);
     push_objects(
         alloc,

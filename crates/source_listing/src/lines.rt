@@ -6,15 +6,19 @@ ghost use Rattle.source_rows.specs.Listed.{members_of};
 ghost use Rattle.source_rows.specs.ListedViews.{listed_view, reading_view};
 ghost use Rattle.source_listing.specs.Inner.{IsPrinterOf, IsSameFile, file_of, reserved_of};
 ghost use Rattle.source_listing.specs.Lines as spec;
-ghost use Rattle.source_rows.specs.Places.{item_place};
+ghost use Rattle.source_listing.specs.Objects.{member_spot};
+ghost use Rattle.source_rows.specs.Places.{AreDistinct, item_place};
+ghost use Rattle.source_listing.specs.Uses.{placed};
 ghost use Rattle.source_listing.specs.Views.{choice_view, source_view};
 
+use crate::place_finder::PlaceFinder;
 use crate::printer::{Printer, are_keywords};
 use hir_input::{Edition, ModPath, Name, PathKind};
 use item_tree::{ItemTree, RawVisibility, VisibilityExplicitness};
+use line_index::Units;
 use rust_items::ItemPlace;
 use rust_paths::may_be_keyword;
-use source_rows::{Finder, ListedMember, Reading, Source, Spot, push_place};
+use source_rows::{ListedMember, Reading, Source, Spot, push_place};
 use std::alloc::{AllocError, Global};
 use tree_walk::{Row, item_rows};
 
@@ -181,13 +185,20 @@ pub(crate) fn push_end(is_active: bool, out: &mut String) -> Result<(), AllocErr
 }
 
 impl<'a> Printer<'a> {
-    pub(crate) fn new(source: Source<'a>, places: &'a [ItemPlace], edition: &'a Edition) -> Self
-        ensures { IsPrinterOf (source_view source.entry) places.entry.now edition.entry.now result }
+    pub(crate) fn new(
+        source: Source<'a>,
+        places: &'a [ItemPlace],
+        use_trees: &'a [usize],
+        edition: &'a Edition,
+    ) -> Self
+        requires { AreDistinct places.now }
+        ensures { let all = placed places.entry.now use_trees.entry.now in
+            IsPrinterOf (source_view source.entry) all edition.entry.now result }
     {
         Printer {
             path: source.path,
             edition,
-            finder: Finder::new(source.text, places),
+            finder: PlaceFinder::new(source.text, places, use_trees),
             has_keywords: are_keywords(&edition.reserved),
         }
     }
@@ -211,6 +222,17 @@ impl Printer<'_> {
         write!(out, "{name}")
     }
 
+    /// Where a member stands, by a column of these units.
+    pub(crate) fn member_spot(&mut self, units: Units, member: &ListedMember) -> Spot
+        ensures spot { result ≡ member_spot units (file_of self.old).text (listed_view member.now) }
+        ensures same { IsSameFile self.old self.new }
+    {
+        Spot {
+            position: self.finder.position(units, member.at),
+            range: member.range,
+        }
+    }
+
     /// Where something stands in the file.
     pub(crate) fn push_at(&mut self, at: Option<usize>, out: &mut String) -> Result<(), AllocError>
         ensures text { OnOk result (string_bytes out.new ≡ string_bytes out.old
@@ -219,7 +241,7 @@ impl Printer<'_> {
     {
         match at {
             Some(at) => {
-                let position = self.finder.lines.position(at);
+                let position = self.finder.position(Units::Characters, at);
                 push_place(self.path, position, out)
             }
             None => push_spot(self.path, None, out),

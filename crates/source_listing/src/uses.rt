@@ -27,9 +27,9 @@ impl UseTrees<'_> {
 impl<'a> UsePlaces<'a> {
     /// The use trees of an item that stands there.
     pub fn trees(&mut self, place: Option<ItemPlace>) -> Option<UseTrees<'a>>
-        ensures trees { let trees = option_map (spec.use_trees_at self.old.all.now) place in
+        ensures trees { let trees = option_map (spec.use_trees_at self.old) place in
             option_map placed_trees_view result ≡ trees }
-        ensures same { self.new.all.now ≡ self.old.all.now }
+        ensures same { self.new ≡ self.old }
     {
         match place {
             Some(place) => {

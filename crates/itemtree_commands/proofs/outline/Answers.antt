@@ -9,4 +9,4 @@ pub returns-clause-text : goal.returns-clause-text
 returns-clause-text c =
     let o = c.args.options.now in
     let s = source_view c.args.source in
-    listed_of_rows o c.args.has_members s c.in_ok-file.file (string_bytes c.in_ok-text.text) (λ x places rs. outline_text s x o.edition.reserved.items places (look_of o c.args.depth c.args.has_imports c.args.is_colored c.args.is_flat) rs) c.in_ok-file.ensures.text c.in_ok-file.ensures.tree (search rules)
+    listed_of_rows o c.args.has_members s c.in_ok-file.file (string_bytes c.in_ok-text.text) (λ x places rs. outline_text s o.edition.reserved.items (look_of o c.args.depth c.args.has_imports c.args.form c.args.is_flat) x places rs) c.in_ok-file.ensures.text c.in_ok-file.ensures.tree (search rules)

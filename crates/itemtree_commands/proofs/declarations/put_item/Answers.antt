@@ -1,4 +1,4 @@
-use Rattle.std.proofs.Common.{ap, sym, ◌∙◌}
+use Rattle.std.proofs.Common.{sym, ◌∙◌}
 use Rattle.line_index.specs.declared.Units.TheVariants.{Characters}
 use Rattle.line_index.specs.Positions.{position_in}
 use Rattle.source_rows.specs.Places.{stands_at}

@@ -1,4 +1,4 @@
-use Rattle.std.proofs.Common.{◌≡◌, List, ℕ, map, take, flat_map, string_bytes}
+use Rattle.std.proofs.Common.{◌≡◌, map, take, flat_map, string_bytes}
 use Rattle.itemtree_commands.specs.ImportChecks.{wrong_import_line}
 use Rattle.itemtree_commands.specs.ModuleLists.{placed_text}
 use Rattle.itemtree_commands.proofs.import_checks.wrong_imports.Given as goal

@@ -1,4 +1,4 @@
-use Rattle.std.proofs.Common.{◌≡◌, List, ℕ, map, take, flat_map, string_bytes}
+use Rattle.std.proofs.Common.{◌≡◌, map, take, flat_map, string_bytes}
 use Rattle.itemtree_commands.specs.Inner.{pathed_view}
 use Rattle.itemtree_commands.specs.ModuleLists.{entry_of_module, placed_text}
 use Rattle.itemtree_commands.proofs.module_lists.modules.Given as goal

@@ -1,4 +1,4 @@
-use Rattle.std.proofs.Common.{◌≡◌, List, ℕ, map, take, flat_map, string_bytes}
+use Rattle.std.proofs.Common.{◌≡◌, map, take, flat_map, string_bytes}
 use Rattle.module_tree.specs.Views.{unresolved_view}
 use Rattle.itemtree_commands.specs.ModuleLists.{unresolved_in, placed_text}
 use Rattle.itemtree_commands.proofs.module_lists.unresolved_modules.Given as goal

@@ -1,9 +1,9 @@
-use Rattle.source_imports.proofs.Common.{rules, ap, map, ◌++◌, ◌∙◌, flat_map, take_all, view, declaration_id, declaration_view, IsContained, placed, import_object, seen_objects}
-use Rattle.source_imports.proofs.Imported.{contained_at, finder_same, one_more_seen, seen_by_finder, seen_of_all}
+use Rattle.source_imports.proofs.Common.{PlacedText, rules, ap, map, ◌++◌, ◌∙◌, flat_map, take_all, view, declaration_id, declaration_view, IsContained, placed, import_object, seen_objects}
+use Rattle.source_imports.proofs.Imported.{contained_at, one_more_seen, seen_of_all}
 use Rattle.source_imports.proofs.import_objects.import_items.Goals as goal
 
-pub push_declaration-requires-clause-contained : goal.push_declaration-requires-clause-contained
-push_declaration-requires-clause-contained c =
+pub push_declaration-requires : goal.push_declaration-requires
+push_declaration-requires c =
     contained_at (IsContained c.args.tree.now) declaration_id c.in_ok-collected.collected.declarations.items c.loop-declaration.declaration-index c.declaration-item.result c.in_ok-collected.ensures.contained (search rules) (search rules)
 
 pub returns : goal.returns
@@ -30,6 +30,6 @@ loop-declaration-preserved c =
     let out = map view before.out.items in
     record {
       objects = one_more_seen (λ x. seen_objects units text reserved places (see x)) c.deref-declaration-items.result.now before.declaration-index d out (map view c.push_declaration.new.out.items) (search rules) (search rules) before.invariant.objects
-          (c.in_ok-push_declaration.ensures.objects ∙ ap (λ ds. out ++ ds) (seen_by_finder (import_object reserved) units text places before.finder (see d) before.invariant.is));
-      is = finder_same text places before.finder c.push_declaration.new.finder c.in_ok-push_declaration.ensures.same before.invariant.is;
+          (c.in_ok-push_declaration.ensures.objects ∙ ap (λ (t : PlacedText). out ++ seen_objects units t.text reserved t.places (see d)) before.invariant.is);
+      is = c.in_ok-push_declaration.ensures.same ∙ before.invariant.is;
     }

@@ -1,5 +1,5 @@
-use Rattle.source_imports.proofs.Common.{rules, ap, map, string_bytes, ◌++◌, ◌∙◌, flat_map, take_all, declaration_id, declaration_view, IsContained, placed, source_view, import_choice_view, seen_lines}
-use Rattle.source_imports.proofs.Imported.{contained_at, finder_same, lines_by_finder, lines_of_all, one_more_seen}
+use Rattle.source_imports.proofs.Common.{PlacedText, rules, ap, map, string_bytes, ◌++◌, ◌∙◌, flat_map, take_all, declaration_id, declaration_view, IsContained, placed, source_view, import_choice_view, seen_lines}
+use Rattle.source_imports.proofs.Imported.{contained_at, lines_of_all, one_more_seen}
 use Rattle.source_imports.proofs.imports.import_lines.Goals as goal
 
 pub push_declaration-requires-clause-contained : goal.push_declaration-requires-clause-contained
@@ -7,7 +7,7 @@ push_declaration-requires-clause-contained c =
     contained_at (IsContained c.args.tree.now) declaration_id c.in_ok-collected.collected.declarations.items c.loop-declaration.declaration-index c.declaration-item.result c.in_ok-collected.ensures.contained (search rules) (search rules)
 
 pub push_declaration-requires-clause-text : goal.push_declaration-requires-clause-text
-push_declaration-requires-clause-text c = c.loop-declaration.invariant.is.0.0
+push_declaration-requires-clause-text c = ap (λ (t : PlacedText). t.text) c.loop-declaration.invariant.is
 
 pub returns : goal.returns
 returns c =
@@ -31,6 +31,6 @@ loop-declaration-preserved c =
     let out = string_bytes before.out in
     record {
       text = one_more_seen (λ x. seen_lines reserved c.args.form choice s places (see x)) c.deref-declaration-items.result.now before.declaration-index d out (string_bytes c.push_declaration.new.out) (search rules) (search rules) before.invariant.text
-          (c.in_ok-push_declaration.ensures.text ∙ ap (λ line. out ++ line) (lines_by_finder reserved c.args.form choice s places before.finder (see d) before.invariant.is));
-      is = finder_same s.text places before.finder c.push_declaration.new.finder c.in_ok-push_declaration.ensures.same before.invariant.is;
+          (c.in_ok-push_declaration.ensures.text ∙ ap (λ (t : PlacedText). out ++ seen_lines reserved c.args.form choice s t.places (see d)) before.invariant.is);
+      is = c.in_ok-push_declaration.ensures.same ∙ before.invariant.is;
     }

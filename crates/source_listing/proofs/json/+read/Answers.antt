@@ -22,10 +22,10 @@ push_object-returns-clause-objects t c =
     let last = same_through p c.member_values.new.printer c.push_objects.new.printer behind c.in_ok-push_objects.ensures.same in
     let are_members = c.in_ok-inner.ensures.objects ∙ ap (λ (t : Setting). member_objects units t.file.text t.reserved choice level (members_of x place y.is_active)) (setting_same p c.stand-stand.new.self here) in
     let are_inner = c.in_ok-push_objects.ensures.objects
-    ∙ ap (λ (t : Setting). members ++ flat_map (objects_at units t.file x t.reserved t.places choice u (level + 1) y.is_active) is) (setting_same p c.member_values.new.printer behind) in
+    ∙ ap (λ (t : Setting). members ++ flat_map (objects_at units t.file x t.reserved t.places.items choice u (level + 1) y.is_active) is) (setting_same p c.member_values.new.printer behind) in
     let is_object = c.in_ok-object.ensures
-    ∙ ap (λ (t : Setting). entry_object y.is_active spot (item_entry t.reserved (header_of x y.id.kind place) y) (items_of inner)) (setting_same p c.push_objects.new.printer last) in
-    object_adds units (file_of p) x (reserved_of p) (places_of p) choice u level c.args.around.is_active c.args.id is y (view c.in_ok-object.object) (map view c.args.out.now.items) (map view c.push.new.self.items)
+    ∙ ap (λ (t : Setting). entry_object t.reserved (item_entry (header_of x y.id.kind place) spot y) (items_of inner)) (setting_same p c.push_objects.new.printer last) in
+    object_adds units (file_of p) x (reserved_of p) (places_of p).items choice u level c.args.around.is_active c.args.id is y (view c.in_ok-object.object) (map view c.args.out.now.items) (map view c.push.new.self.items)
     c.item_of-item.ensures c.children-ids.ensures.stand (search rules)
-    (object_is units (file_of p) x (reserved_of p) (places_of p) choice u level is y place spot members inner (view c.in_ok-object.object) c.stand-stand.ensures.place c.stand-stand.ensures.spot are_members are_inner is_object)
+    (object_is units (file_of p) x (reserved_of p) (places_of p).items choice u level is y place spot members inner (view c.in_ok-object.object) c.stand-stand.ensures.place c.stand-stand.ensures.spot are_members are_inner is_object)
     (ap (map view) c.in_ok-push.ensures.items ∙ map-append view c.args.out.now.items (c.in_ok-object.object ∷ []))

@@ -9,6 +9,6 @@ decreases-push_object l = 2 * count_at l.listing.tree.now l.id
 
 abbrev pub invariant-push_objects-loop-id : goal.invariant-push_objects-loop-id
 invariant-push_objects-loop-id l = let p = l.fn.printer in let x = l.listing in record {
-  objects : map view l.out.items ≡ map view l.fn.out.items ++ flat_map (objects_at x.units (file_of p) (reading_view x.reading) (reserved_of p) (places_of p) (choice_view x.choice) x.tree.now l.around.level l.around.is_active) (take l.id-index l.ids);
+  objects : map view l.out.items ≡ map view l.fn.out.items ++ flat_map (objects_at x.units (file_of p) (reading_view x.reading) (reserved_of p) (places_of p).items (choice_view x.choice) x.tree.now l.around.level l.around.is_active) (take l.id-index l.ids);
   same : IsSameFile p l.printer;
 }

@@ -1,4 +1,4 @@
-use Rattle.std.proofs.Common.{refl, subst, string_bytes}
+use Rattle.std.proofs.Common.{refl, subst}
 use Rattle.source_rows.specs.ListedFiles.{closers_in}
 use Rattle.itemtree_commands.specs.Answers.{HasListed}
 use Rattle.itemtree_commands.proofs.crate_file.CrateFile.read.Goals as goal

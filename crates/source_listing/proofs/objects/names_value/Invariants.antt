@@ -1,7 +1,7 @@
 use Rattle.std.proofs.Common.{◌≡◌, map, take}
 use Rattle.serde_json.specs.Data.{string}
 use Rattle.serde_json.specs.View.{view}
-use Rattle.source_listing.proofs.flat_objects.names_value.Given as goal
+use Rattle.source_listing.proofs.objects.names_value.Given as goal
 
 abbrev pub invariant-loop-name : goal.invariant-loop-name
 invariant-loop-name l = map view l.values.items ≡ map string (map (λ n. n.now) (take l.name-index l.names))
