@@ -21,7 +21,7 @@ FILES, ROUNDS, OPTIONS = 1000, 10_000, 10_000
 # The types whose drop is written by hand, each with a run that makes many of it, or one that holds many values.
 MADE = {
     'Asked': 'options', 'Filter': 'options', 'AttrsOwned': 'outline', 'BlockExpr': 'serve', 'CfgOptions': 'serve',
-    'Conversation': 'serve', 'CrateFile': 'modules', 'DeclaredItems': 'imports --resolve', 'DeclIndex': 'serve', 'FileFinder': 'modules', 'ItemTree': 'page', 'Member': 'outline', 'ModPath': 'imports', 'Name': 'outline', 'Row': 'outline',
+    'Conversation': 'serve', 'CrateFile': 'modules', 'DeclaredItems': 'imports --resolve', 'DeclIndex': 'serve', 'ItemTree': 'page', 'Member': 'outline', 'ModPath': 'imports', 'Name': 'outline', 'Row': 'outline',
     'Pattern': 'find', 'Server': 'lsp', 'Session': 'serve', 'SoughtPath': 'serve', 'Sources': 'serve', 'Syntax': 'outline',
 }
 TEXT = '''//! Told.
