@@ -12,7 +12,8 @@ use Rattle.line_index.specs.declared.Units.{Units}
 use Rattle.source_problems.specs.declared.problem.SourceProblem.{SourceProblem}
 use Rattle.source_imports.specs.Repeated.{Repeat}
 use Rattle.lsp.specs.Diagnostics.{diagnostic, diagnostics, notice, repeat_diagnostic}
-use Rattle.lsp.specs.Symbols.{Page, ShownItem, Symbol, symbol_called, forest_symbols, information, item_symbol, listed_symbol, member_symbols, node_symbols, placed_symbols, shown_in, protocol_kind, told, told_in, tree_symbols}
+use Rattle.source_listing.specs.Entries.{ItemView, item_in}
+use Rattle.lsp.specs.Symbols.{Page, Symbol, symbol_called, forest_symbols, information, item_symbol, listed_symbol, member_symbols, node_symbols, placed_symbols, protocol_kind, told, told_in, tree_symbols}
 use Rattle.lsp.specs.Bytes.{range_span}
 
 first_none : (a b : Bool) → (a || b) ≡ false → a ≡ false
@@ -53,7 +54,7 @@ members_none p name is_active place =
     flat_none (λ m. told p (Some name) (listed_symbol p.text p.reserved m) []) (members_of p.reading (Some place) is_active) (λ m. told_none p (Some name) (listed_symbol p.text p.reserved m) [] refl)
 
 module _ (p : Page) (places : List ItemPlace) where
-  placed_none : (c : Option (List ℕ)) (i : ShownItem) (number : Option ℕ) (place : Option ItemPlace) (inner : List Data) → items_have_float (items_of inner) ≡ false → items_have_float (items_of (placed_symbols p places c i number place inner)) ≡ false
+  placed_none : (c : Option (List ℕ)) (i : ItemView) (number : Option ℕ) (place : Option ItemPlace) (inner : List Data) → items_have_float (items_of inner) ≡ false → items_have_float (items_of (placed_symbols p places c i number place inner)) ≡ false
   placed_none c i (Some number) (Some place) inner h =
       let s = item_symbol p.reading p.reserved i number place in told_none p c s (member_symbols p s.name i.is_active place ++ inner) (both_none (member_symbols p s.name i.is_active place) inner (members_none p s.name i.is_active place) h)
   placed_none c i (Some number) None inner h = refl
@@ -61,9 +62,9 @@ module _ (p : Page) (places : List ItemPlace) where
 
   mutual
     node_none : (c : Option (List ℕ)) (a : Bool) (n : Node) → items_have_float (items_of (node_symbols p places c a n)) ≡ false
-    node_none c a (leaf h l) = let i = shown_in a (leaf h l) in placed_none c i (protocol_kind i.id.kind) (place_of i.id places) [] refl
+    node_none c a (leaf h l) = let i = item_in a (leaf h l) in placed_none c i (protocol_kind i.id.kind) (place_of i.id places) [] refl
     node_none c a (parent h t f) =
-        let i = shown_in a (parent h t f) in placed_none c i (protocol_kind i.id.kind) (place_of i.id places) (forest_symbols p places (Some (symbol_called p places i)) i.is_active f) (forest_none (Some (symbol_called p places i)) i.is_active f)
+        let i = item_in a (parent h t f) in placed_none c i (protocol_kind i.id.kind) (place_of i.id places) (forest_symbols p places (Some (symbol_called p places i)) i.is_active f) (forest_none (Some (symbol_called p places i)) i.is_active f)
 
     forest_none : (c : Option (List ℕ)) (a : Bool) (f : Forest) → items_have_float (items_of (forest_symbols p places c a f)) ≡ false
     forest_none c a empty = refl

@@ -6,7 +6,6 @@ use Rattle.item_tree.specs.Walk.{of_id}
 use Rattle.rust_items.specs.declared.source_file.ItemPlace.{ItemPlace}
 use Rattle.rust_paths.specs.declared.names.TextRange.{TextRange}
 use Rattle.source_rows.specs.Listed.{MemberReading}
-use Rattle.lsp.specs.declared.symbols.Item as code_item
 use Rattle.lsp.specs.declared.symbols.Page as code_symbols
 use Rattle.hir_input_json.specs.declared.fault.Fault.{Fault}
 use Rattle.hir_input_json.specs.declared.fault.Fault.TheVariants.{WrongForm, OutOfMemory}
@@ -20,7 +19,7 @@ use Rattle.lsp.specs.Highlight.{highlight_ranges}
 use Rattle.lsp.specs.Responses.{RequestOutcome}
 use Rattle.lsp.specs.declared.parts.Part.{Part}
 use Rattle.lsp.specs.Servers.{ServerState}
-use Rattle.lsp.specs.Symbols.{Page, ShownItem, shown_in, node_symbols}
+use Rattle.lsp.specs.Symbols.{Page, node_symbols}
 use Rattle.serde_json.specs.View.{view}
 use Rattle.serde_json.specs.Written.{has_float}
 use Rattle.lsp.specs.declared.message.Incoming.{Incoming}
@@ -32,14 +31,6 @@ HasPlainId (Request id method params) = has_float (view id) ≡ false
 HasPlainId (Notification method params) = Unit {0}
 HasPlainId Response = Unit {0}
 HasPlainId NoMessage = Unit {0}
-
--- an item as plain data
-abbrev pub shown_symbol_view : code_item.Item → ShownItem
-shown_symbol_view x = record { id = x.id; name = option_copied x.name; visibility = option_copied x.visibility; is_active = x.is_active }
-
--- the item of an id, alone in a list
-abbrev pub symbol_item_at : Unfolding → Bool → ℕ → List ShownItem
-symbol_item_at u is_active i = of_id u [] (λ n. shown_in is_active n ∷ []) i
 
 -- what symbols are told of, as plain data
 abbrev pub page_view : code_symbols.Page → Page

@@ -1,17 +1,15 @@
 -- The symbols of a document.
-use Rattle.std.specs.Prelude.{ℕ, ◌+◌, Bool, ◌&&◌, if◌then◌else◌, List, [], ◌∷◌, ◌++◌, codes, drop, flat_map, length, min, nat_eq, Option, Some, None, unwrap_or}
+use Rattle.std.specs.Prelude.{ℕ, ◌+◌, Bool, if◌then◌else◌, List, [], ◌∷◌, ◌++◌, codes, drop, flat_map, length, min, nat_eq, Option, Some, None, unwrap_or}
 use Rattle.std.specs.List.{starts_with}
 use Rattle.serde_json.specs.Data.{Data, string, array, object, Items, Members, no_members, member}
 use Rattle.serde_json.specs.Find.{as_str}
 use Rattle.serde_json.specs.View.{items_of}
 use Rattle.list_forms.specs.Lines.{count_form}
-use Rattle.hir_input.specs.declared.ids.FileAstId.{FileAstId}
 use Rattle.hir_input.specs.declared.ids.AstIdKind.{AstIdKind}
 use Rattle.hir_input.specs.declared.ids.AstIdKind.TheVariants as kind
 use Rattle.item_tree.specs.declared.visibility.RawVisibility.{RawVisibility}
-use Rattle.item_tree.specs.Node.{Node, node_ast, leaf, parent, Forest, empty, more, Unfolding}
-use Rattle.tree_walk.specs.Declarations.{node_name, node_visibility}
-use Rattle.tree_walk.specs.Rows.{is_enabled, is_file_enabled}
+use Rattle.item_tree.specs.Node.{Node, leaf, parent, Forest, empty, more, Unfolding}
+use Rattle.tree_walk.specs.Rows.{is_file_enabled}
 use Rattle.line_index.specs.declared.Units.{Units}
 use Rattle.rust_paths.specs.declared.names.TextRange.{TextRange}
 use Rattle.rust_items.specs.declared.member.MemberKind.{MemberKind}
@@ -20,6 +18,7 @@ use Rattle.rust_items.specs.declared.source_file.ItemPlace.{ItemPlace}
 use Rattle.source_rows.specs.Labels.{item_word}
 use Rattle.source_rows.specs.Listed.{Listed, MemberReading, header_of, members_of}
 use Rattle.source_rows.specs.Places.{place_of}
+use Rattle.source_listing.specs.Entries.{ItemView, item_in}
 use Rattle.source_listing.specs.Objects.{visibility_form}
 use Rattle.lsp.specs.Bytes.{range_span}
 use Rattle.lsp.specs.Positions.{span_object}
@@ -52,16 +51,6 @@ member_symbol member_kind.TypeAlias = 26
 member_symbol member_kind.MacroCall = 12
 member_symbol member_kind.Variant = 22
 member_symbol member_kind.Field = 8
-
--- an item, and whether no cfg disables it, nor an item that it stands in, nor the file
-pub record ShownItem : Type 0 where
-  pub id : FileAstId
-  pub name : Option (List ℕ)
-  pub visibility : Option RawVisibility
-  pub is_active : Bool
-
-abbrev pub shown_in : Bool → Node → ShownItem
-shown_in is_active n = record { id = node_ast n; name = node_name n; visibility = node_visibility n; is_active = is_active && is_enabled n }
 
 -- a symbol: its name, what it is called, how it is seen, and where it and its name stand
 pub record Symbol : Type 0 where
@@ -132,7 +121,7 @@ abbrev pub listed_symbol : List ℕ → List (List ℕ) → Listed → Symbol
 listed_symbol text reserved m = record { name = m.name; detail = detail_words reserved (Some m.visibility) m.is_active; kind = member_symbol m.kind; range = m.range; selection = member_selection text m }
 
 -- an item that stands there, called so
-abbrev pub item_symbol : MemberReading → List (List ℕ) → ShownItem → ℕ → ItemPlace → Symbol
+abbrev pub item_symbol : MemberReading → List (List ℕ) → ItemView → ℕ → ItemPlace → Symbol
 item_symbol x reserved i number p = record {
   name = symbol_name i.id.kind (header_of x i.id.kind (Some p)) i.name;
   detail = detail_words reserved i.visibility i.is_active;
@@ -163,24 +152,24 @@ member_symbols p name is_active place = flat_map (λ m. told p (Some name) (list
 
 module _ (p : Page) (places : List ItemPlace) where
   -- what an item is called
-  abbrev pub symbol_called : ShownItem → List ℕ
+  abbrev pub symbol_called : ItemView → List ℕ
   symbol_called i = symbol_name i.id.kind (header_of p.reading i.id.kind (place_of i.id places)) i.name
 
   -- the symbol of an item, if it is one and its place is known, with those of its members and then with these
-  abbrev pub placed_symbols : Option (List ℕ) → ShownItem → Option ℕ → Option ItemPlace → List Data → List Data
+  abbrev pub placed_symbols : Option (List ℕ) → ItemView → Option ℕ → Option ItemPlace → List Data → List Data
   placed_symbols container i (Some number) (Some place) inner =
       let s = item_symbol p.reading p.reserved i number place in told p container s (member_symbols p s.name i.is_active place ++ inner)
   placed_symbols container i _ _ inner = []
 
-  abbrev pub own_symbols : Option (List ℕ) → ShownItem → List Data → List Data
+  abbrev pub own_symbols : Option (List ℕ) → ItemView → List Data → List Data
   own_symbols container i inner = placed_symbols container i (protocol_kind i.id.kind) (place_of i.id places) inner
 
   -- those of a node and of a forest, in what is called so, or in nothing
   abbrev mutual
     pub node_symbols : Option (List ℕ) → Bool → Node → List Data
-    node_symbols container is_active (leaf h l) = own_symbols container (shown_in is_active (leaf h l)) []
+    node_symbols container is_active (leaf h l) = own_symbols container (item_in is_active (leaf h l)) []
     node_symbols container is_active (parent h t f) =
-        let i = shown_in is_active (parent h t f) in own_symbols container i (forest_symbols (Some (symbol_called i)) i.is_active f)
+        let i = item_in is_active (parent h t f) in own_symbols container i (forest_symbols (Some (symbol_called i)) i.is_active f)
 
     pub forest_symbols : Option (List ℕ) → Bool → Forest → List Data
     forest_symbols container is_active empty = []

@@ -1,11 +1,12 @@
 //! The symbols of a document.
-ghost use Rattle.std.specs.Prelude.{◌≡◌, ◌++◌, ◌∷◌, [], IfOk, None, OnOk, Some, flat_map, map, option_copied};
+ghost use Rattle.std.specs.Prelude.{◌≡◌, ◌++◌, IfOk, None, OnOk, Some, flat_map, map, option_copied};
 ghost use Rattle.serde_json.specs.View.{view};
 ghost use Rattle.item_tree.specs.Shown.{IsContained};
 ghost use Rattle.item_tree.specs.Walk.{AreContained, count_at};
 ghost use Rattle.source_rows.specs.ListedViews.{reading_view};
 ghost use Rattle.source_rows.specs.Places.{AreDistinct, place_of};
-ghost use Rattle.lsp.specs.Inner.{symbol_item_at, page_view, shown_symbol_view, symbols_at};
+ghost use Rattle.lsp.specs.Inner.{page_view, symbols_at};
+ghost use Rattle.source_listing.specs.Views.{shown_item_view};
 ghost use Rattle.lsp.specs.Symbols as spec;
 ghost use Rattle.lsp.specs.Views.{symbol_view};
 
@@ -14,14 +15,15 @@ use crate::symbol::{
     symbol_name, symbol_value,
 };
 use crate::text::LinedText;
-use hir_input::{Edition, FileAstId, Name};
-use item_tree::{ItemTree, ModItemId, RawVisibility};
+use hir_input::Edition;
+use item_tree::{ItemTree, ModItemId};
 use line_index::Units;
 use rust_items::ItemPlace;
 use serde_json::Value;
+use source_listing::{Item, item_of};
 use source_rows::{Places, Reading};
 use std::alloc::{AllocError, Global};
-use tree_walk::{children, is_enabled, is_file_enabled, name_at, visibility_at};
+use tree_walk::{children, is_file_enabled};
 
 /// What symbols are told of.
 #[derive(Clone, Copy)]
@@ -35,27 +37,6 @@ pub(crate) struct Page<'a> {
     pub(crate) edition: &'a Edition,
 }
 
-/// An item, and whether no cfg disables it, nor what it stands in.
-#[derive(Clone, Copy)]
-pub(crate) struct Item<'tree> {
-    pub(crate) id: FileAstId,
-    pub(crate) name: Option<&'tree Name>,
-    pub(crate) visibility: Option<&'tree RawVisibility>,
-    pub(crate) is_active: bool,
-}
-
-fn item_of(tree: &ItemTree, id: ModItemId, is_active: bool) -> Item<'_>
-    requires { IsContained tree.now id }
-    ensures { shown_symbol_view result ∷ [] ≡ symbol_item_at tree.now is_active id }
-{
-    Item {
-        id: id.ast_id(tree),
-        name: name_at(tree, id),
-        visibility: visibility_at(tree, id),
-        is_active: is_active && is_enabled(tree, id),
-    }
-}
-
 /// The symbol of an item that stands there.
 fn item_symbol(
     alloc: Global,
@@ -65,7 +46,7 @@ fn item_symbol(
     place: ItemPlace,
 ) -> Result<Symbol, AllocError>
     ensures { let p = page_view page.entry in
-        let symbol = spec.item_symbol p.reading p.reserved (shown_symbol_view item.entry) kind place in
+        let symbol = spec.item_symbol p.reading p.reserved (shown_item_view item.entry) kind place in
         IfOk result (λ s. symbol_view s ≡ symbol) }
 {
     let header = page.reading.header(alloc, item.id.kind, Some(place))?;

@@ -11,10 +11,10 @@ pub use Rattle.item_tree.specs.Walk.{children, children_at, count_at}
 pub use Rattle.rust_cursor.proofs.Leads.{LeadsTo, behind_closed_leads, behind_tree_leads, beyond_leads, bumped_leads, eat_pair_leads, here, through, when}
 pub use Rattle.rust_items.specs.declared.source_file.ItemPlace.{ItemPlace}
 pub use Rattle.serde_json.specs.View.{items_of, view}
-pub use Rattle.source_listing.specs.Inner.{IsPrinterOf, IsSameFile, file_of, item_at, objects_at, places_of, reserved_of, shown_item_view}
-pub use Rattle.source_listing.specs.Views.{placed_trees_view, choice_view, look_view, query_view, source_view}
+pub use Rattle.source_listing.specs.Inner.{IsPrinterOf, IsSameFile, file_of, objects_at, places_of, reserved_of}
+pub use Rattle.source_listing.specs.Views.{placed_trees_view, choice_view, look_view, query_view, shown_item_view, source_view}
 pub use Rattle.source_listing.specs.Lines.{Choice, Source, is_chosen, is_listed}
-pub use Rattle.source_listing.specs.Entries.{Entry, EntryKind, ItemView, item_entry, item_in, member_entry, of_import, of_item, of_member}
+pub use Rattle.source_listing.specs.Entries.{Entry, EntryKind, ItemView, item_at, item_entry, item_in, member_entry, of_import, of_item, of_member}
 pub use Rattle.source_listing.specs.Objects.{column_form, entry_object, file_form, flat_object, header_form, entry_id, line_form, listed_objects, member_object, member_objects, member_spot, name_form, names_form, node_objects, own_objects, entry_subject, problem_objects, range_form, subject_form, tree_objects, visibility_form, whole_object}
 pub use Rattle.source_rows.specs.Places.{place_of, spot_in}
 pub use Rattle.line_index.specs.declared.Units.{Units}

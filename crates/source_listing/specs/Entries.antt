@@ -1,9 +1,10 @@
 -- What outlines tell of: items, members and imports.
-use Rattle.std.specs.Prelude.{ℕ, Bool, ◌&&◌, List, codes, Option, Some, None}
+use Rattle.std.specs.Prelude.{ℕ, Bool, ◌&&◌, List, [], ◌∷◌, codes, Option, Some, None}
 use Rattle.hir_input.specs.declared.ids.FileAstId.{FileAstId}
 use Rattle.item_tree.specs.declared.visibility.RawVisibility.{RawVisibility}
 use Rattle.item_tree.specs.Imports.{Import}
-use Rattle.item_tree.specs.Node.{Node, node_ast}
+use Rattle.item_tree.specs.Node.{Node, Unfolding, node_ast}
+use Rattle.item_tree.specs.Walk.{of_id}
 use Rattle.tree_walk.specs.Declarations.{node_name, node_visibility}
 use Rattle.tree_walk.specs.Rows.{RowView, Subject, node_subject, is_enabled}
 use Rattle.rust_items.specs.declared.member.MemberKind.{MemberKind}
@@ -41,10 +42,15 @@ pub record ItemView : Type 0 where
   pub visibility : Option RawVisibility
   pub is_active : Bool
 
--- that of a node, and that of a row
+-- that of a node
 abbrev pub item_in : Bool → Node → ItemView
 item_in is_active n = record { id = node_ast n; name = node_name n; subject = node_subject n; visibility = node_visibility n; is_active = is_active && is_enabled n }
 
+-- that of an id, alone in a list
+abbrev pub item_at : Unfolding → Bool → ℕ → List ItemView
+item_at u is_active i = of_id u [] (λ n. item_in is_active n ∷ []) i
+
+-- that of a row
 abbrev pub item_in_row : RowView → ItemView
 item_in_row r = record { id = r.id; name = r.name; subject = r.subject; visibility = r.visibility; is_active = r.is_active }
 

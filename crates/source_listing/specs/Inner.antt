@@ -12,11 +12,10 @@ use Rattle.source_rows.specs.Listed.{MemberReading}
 use Rattle.source_listing.specs.declared.entries.Entry as code_entry
 use Rattle.source_listing.specs.declared.entries.EntryKind as code_kind
 use Rattle.source_listing.specs.declared.entries.EntryKind.TheVariants.{Import, Item, Member}
-use Rattle.source_listing.specs.declared.entries.Item as code_item
 use Rattle.source_listing.specs.declared.printer.Printer.{Printer}
 use Rattle.source_listing.specs.declared.sought.Split as code_split
 use Rattle.source_rows.specs.declared.finder.Spot.{Spot}
-use Rattle.source_listing.specs.Entries.{Entry, EntryKind, ItemView, of_item, of_member, of_import, entry_word, item_in}
+use Rattle.source_listing.specs.Entries.{Entry, EntryKind, of_item, of_member, of_import, entry_word}
 use Rattle.source_listing.specs.Lines.{Choice, Source}
 use Rattle.source_listing.specs.Objects.{column_form, entry_id, line_form, name_form, node_objects, entry_subject, range_form, visibility_form}
 use Rattle.source_listing.specs.Sought.{Split}
@@ -46,13 +45,6 @@ abbrev pub split_view : code_split.Split → Split
 split_view s = record { scope = string_bytes s.scope; last = s.last.now }
 
 -- ---- objects by the ids of items
-
-abbrev pub shown_item_view : code_item.Item → ItemView
-shown_item_view x = record { id = x.id; name = option_copied x.name; subject = subject_view x.subject; visibility = option_copied x.visibility; is_active = x.is_active }
-
--- the item of an id, alone in a list
-abbrev pub item_at : Unfolding → Bool → ℕ → List ItemView
-item_at u is_active i = of_id u [] (λ n. item_in is_active n ∷ []) i
 
 -- the objects of the item of an id
 abbrev pub objects_at : Units → Source → MemberReading → List (List ℕ) → List ItemPlace → Choice → Unfolding → ℕ → Bool → ℕ → List Data

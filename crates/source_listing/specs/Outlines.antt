@@ -134,6 +134,6 @@ module _ (s : Source) (reserved : List (List ℕ)) (k : Look) where
   abbrev pub row_outline : MemberReading → FilePlaces → RowView → List ℕ
   row_outline x places r = placed_outline x places.use_trees r (place_of r.id places.items)
 
-  -- all rows that are listed
+  -- the outline of a tree, of its rows: those that are listed, each with its listed members and imports
   abbrev pub outline_text : MemberReading → FilePlaces → List RowView → List ℕ
   outline_text x places rs = flat_map (row_outline x places) (filter (is_listed k.choice) rs)

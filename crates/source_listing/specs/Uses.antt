@@ -22,6 +22,7 @@ pub record PlacedText : Type 0 where
   pub text : List ℕ
   pub places : FilePlaces
 
+-- the text with these places
 abbrev pub with_places : List ℕ → FilePlaces → PlacedText
 with_places text places = record { text = text; places = places }
 

@@ -1,13 +1,16 @@
 -- What the code holds, as plain data.
-use Rattle.std.specs.Prelude.{map, string_bytes}
+use Rattle.std.specs.Prelude.{map, option_copied, string_bytes}
+use Rattle.tree_walk.specs.Views.{subject_view}
 pub use Rattle.source_rows.specs.Views.{source_view}
 pub use Rattle.source_rows.specs.ListedViews.{reading_view}
+use Rattle.source_listing.specs.declared.entries.Item as code_item
 use Rattle.source_listing.specs.declared.lines.Choice as code_choice
 use Rattle.source_listing.specs.declared.patterns.Pattern as code_pattern
 use Rattle.source_listing.specs.declared.search.Candidate as code_candidate
 use Rattle.source_listing.specs.declared.search.Query as code_query
 use Rattle.source_listing.specs.declared.sought.SoughtPath as code_sought
 use Rattle.source_listing.specs.Sought.{Sought}
+use Rattle.source_listing.specs.Entries.{ItemView}
 use Rattle.source_listing.specs.Lines.{Choice}
 use Rattle.source_listing.specs.declared.outlines.Look as code_look
 use Rattle.source_listing.specs.Outlines.{Look}
@@ -15,6 +18,10 @@ use Rattle.source_listing.specs.Patterns.{Pattern}
 use Rattle.source_listing.specs.Search.{Candidate, Query}
 use Rattle.source_listing.specs.declared.uses.UseTrees as code_trees
 use Rattle.source_listing.specs.Uses.{Trees}
+
+-- an item as plain data
+abbrev pub shown_item_view : code_item.Item → ItemView
+shown_item_view x = record { id = x.id; name = option_copied x.name; subject = subject_view x.subject; visibility = option_copied x.visibility; is_active = x.is_active }
 
 -- a choice of items as plain data
 abbrev pub choice_view : code_choice.Choice → Choice

@@ -1,27 +1,32 @@
 //! What outlines tell of: items, members and imports.
-ghost use Rattle.std.specs.Prelude.{◌≡◌, IfOk, map};
+ghost use Rattle.std.specs.Prelude.{◌≡◌, ◌∷◌, [], IfOk, map};
+ghost use Rattle.item_tree.specs.Shown.{IsContained};
 ghost use Rattle.tree_walk.specs.Listed.{listed_import};
 ghost use Rattle.tree_walk.specs.Views.{row_view, subject_view};
 ghost use Rattle.source_rows.specs.ListedViews.{listed_view};
 ghost use Rattle.source_listing.specs.Entries as spec;
-ghost use Rattle.source_listing.specs.Inner.{entry_view, kind_view, shown_item_view};
+ghost use Rattle.source_listing.specs.Inner.{entry_view, kind_view};
 ghost use Rattle.source_listing.specs.Outlines as outlines;
+ghost use Rattle.source_listing.specs.Views.{shown_item_view};
 
 use hir_input::{FileAstId, Name};
-use item_tree::{RawVisibility, Use, UseTreeKind};
+use item_tree::{ItemTree, ModItemId, RawVisibility, Use, UseTreeKind};
 use rust_items::MemberKind;
 use source_rows::{ListedMember, Spot, item_word, member_word};
 use std::alloc::{AllocError, Global};
-use tree_walk::{Listed, Row, Subject, list_imports};
+use tree_walk::{
+    Listed, Row, Subject, is_enabled, list_imports, name_at, subject_at, visibility_at,
+};
 
-/// An item, and whether no cfg disables it, nor an item that it stands in, nor the file.
-#[derive(Drop)]
-pub(crate) struct Item<'tree> {
-    pub(crate) id: FileAstId,
-    pub(crate) name: Option<&'tree Name>,
-    pub(crate) subject: Subject<'tree>,
-    pub(crate) visibility: Option<&'tree RawVisibility>,
-    pub(crate) is_active: bool,
+/// An item of a tree, and whether no cfg disables it, nor an item that it stands in, nor the file.
+#[derive(Clone, Copy)]
+pub struct Item<'tree> {
+    pub id: FileAstId,
+    pub name: Option<&'tree Name>,
+    /// What it is told by if it has no name.
+    pub subject: Subject<'tree>,
+    pub visibility: Option<&'tree RawVisibility>,
+    pub is_active: bool,
 }
 
 /// What an entry is.
@@ -53,6 +58,20 @@ pub(crate) fn entry_word(kind: EntryKind<'_, '_>) -> &'static str
         EntryKind::Item(id, _, _) => item_word(id.kind),
         EntryKind::Member(kind) => member_word(kind),
         EntryKind::Import(_) => "use",
+    }
+}
+
+/// The item of an id that the tree has, in items of which a cfg disables one or none.
+pub fn item_of(tree: &ItemTree, id: ModItemId, is_active: bool) -> Item<'_>
+    requires { IsContained tree.now id }
+    ensures { shown_item_view result ∷ [] ≡ spec.item_at tree.now is_active id }
+{
+    Item {
+        id: id.ast_id(tree),
+        name: name_at(tree, id),
+        subject: subject_at(tree, id),
+        visibility: visibility_at(tree, id),
+        is_active: is_active && is_enabled(tree, id),
     }
 }
 

@@ -7,13 +7,13 @@ ghost use Rattle.item_tree.specs.Walk.{AreContained, count_at};
 ghost use Rattle.source_rows.specs.Listed.{header_of, members_of};
 ghost use Rattle.source_rows.specs.ListedViews.{listed_view, reading_view};
 ghost use Rattle.source_listing.specs.Entries as entries;
-ghost use Rattle.source_listing.specs.Inner.{IsSameFile, file_of, item_at, shown_item_view, objects_at};
+ghost use Rattle.source_listing.specs.Inner.{IsSameFile, file_of, objects_at};
 ghost use Rattle.source_listing.specs.Inner.{places_of, reserved_of};
 ghost use Rattle.source_listing.specs.Objects as spec;
 ghost use Rattle.source_rows.specs.Places.{AreDistinct, place_of, spot_in};
-ghost use Rattle.source_listing.specs.Views.{choice_view, source_view};
+ghost use Rattle.source_listing.specs.Views.{choice_view, shown_item_view, source_view};
 
-use crate::entries::{Item, item_entry, member_entry};
+use crate::entries::{Item, item_entry, item_of, member_entry};
 use crate::lines::Choice;
 use crate::objects::object;
 use crate::printer::Printer;
@@ -26,7 +26,7 @@ use rust_items::ItemPlace;
 use serde_json::Value;
 use source_rows::{ListedMember, Reading, Source, Spot};
 use std::alloc::{AllocError, Global};
-use tree_walk::{children, is_enabled, is_file_enabled, name_at, subject_at, visibility_at};
+use tree_walk::{children, is_file_enabled};
 
 /// What is listed, and how.
 #[derive(Clone, Copy)]
@@ -106,19 +106,6 @@ fn member_values(
         values.push(member_object(alloc, printer, listing.units, member)?)?;
     }
     Ok(values)
-}
-
-fn item_of(tree: &ItemTree, id: ModItemId, is_active: bool) -> Item<'_>
-    requires { IsContained tree.now id }
-    ensures { shown_item_view result ∷ [] ≡ item_at tree.now is_active id }
-{
-    Item {
-        id: id.ast_id(tree),
-        name: name_at(tree, id),
-        subject: subject_at(tree, id),
-        visibility: visibility_at(tree, id),
-        is_active: is_active && is_enabled(tree, id),
-    }
 }
 
 /// The object of an item that stands there, around these.

@@ -4,6 +4,7 @@ ghost use Rattle.hir_input.specs.Equality.{IsCopied};
 ghost use Rattle.rust_cursor.specs.Tokens.{Tokens};
 ghost use Rattle.source_listing.specs.Told.{AreToldFor};
 
+use crate::entries::Item;
 use crate::lines::Choice;
 use crate::outlines::Look;
 use crate::search::Query;
@@ -17,6 +18,7 @@ fn starts_are_told()
 
 fn copies()
     ensures choices { IsCopied ⟦<Choice as Clone>⟧.is_clone }
+    ensures items { IsCopied ⟦<Item<'static> as Clone>⟧.is_clone }
     ensures looks { IsCopied ⟦<Look as Clone>⟧.is_clone }
     ensures queries { IsCopied ⟦<Query<'static> as Clone>⟧.is_clone }
     ensures use_trees { IsCopied ⟦<UseTrees<'static> as Clone>⟧.is_clone }

@@ -25,6 +25,7 @@ mod use_places;
 mod uses;
 mod values;
 
+pub use entries::{Item, item_of};
 pub use found_texts::found_lines;
 pub use import_texts::push_import_text;
 pub use json::{outline_items, outline_json};

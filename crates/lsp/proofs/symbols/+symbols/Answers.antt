@@ -1,6 +1,7 @@
 use Rattle.std.proofs.Common.{◌≡◌, ◌++◌, ◌∙◌, OnOk, Some, ap, flat_map, map, option_copied, subst, sym}
 use Rattle.serde_json.specs.View.{view}
-use Rattle.lsp.specs.Inner.{page_view, shown_symbol_view, symbols_at}
+use Rattle.lsp.specs.Inner.{page_view, symbols_at}
+use Rattle.source_listing.specs.Views.{shown_item_view}
 use Rattle.lsp.specs.Symbols.{member_symbols, told}
 use Rattle.lsp.specs.Views.{symbol_view}
 use Rattle.lsp.proofs.Told.{item_symbols}
@@ -12,7 +13,7 @@ push_symbol-returns-clause-symbols t c =
     let places = c.args.places.now in
     let u = c.args.page.tree.now in
     let container = option_copied c.args.container in
-    let y = shown_symbol_view c.item_of-item.result in
+    let y = shown_item_view c.item_of-item.result in
     let place = c.in-Some-find.place in
     let s = symbol_view c.in_ok-symbol.symbol in
     let is = c.children-ids.result.now in
