@@ -27,12 +27,12 @@ expecting expected (Some a) = Ok a
 expecting expected None = Err (misfit [] expected)
 
 -- keys with one in front, dots between them
-abbrev pub dotted : List ℕ → List ℕ → List ℕ
-dotted key keys = if length keys == 0 then key else key ++ codes "." ++ keys
+abbrev pub dotted_key : List ℕ → List ℕ → List ℕ
+dotted_key key keys = if length keys == 0 then key else key ++ codes "." ++ keys
 
 -- a refusal of a value, told of the table that has it at this key
 abbrev pub refusal_behind : List ℕ → Refusal → Refusal
-refusal_behind key (misfit keys expected) = misfit (dotted key keys) expected
+refusal_behind key (misfit keys expected) = misfit (dotted_key key keys) expected
 refusal_behind key refusal = refusal
 
 -- what is read of a value that stands at a key

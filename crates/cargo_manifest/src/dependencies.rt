@@ -9,7 +9,7 @@ ghost use Rattle.cargo_manifest.specs.Views.{dependency_view};
 
 use crate::error::{Expected, ManifestError, in_key};
 use crate::read::{flag_at, misfit, table_at, table_of, text_at, workspace_value};
-use crate::texts::{kept, rust_name};
+use crate::texts::{copy_of, rust_name};
 use std::alloc::{AllocError, Global};
 use toml::{Table, Value};
 
@@ -62,9 +62,9 @@ fn make_dependency(
     Ok(Dependency {
         key: String::from_str(alloc, key)?,
         name: rust_name(alloc, key)?,
-        package_name: kept(alloc, package_name)?,
+        package_name: copy_of(alloc, package_name)?,
         kind: section.kind,
-        target: kept(alloc, section.target)?,
+        target: copy_of(alloc, section.target)?,
         is_optional,
     })
 }
@@ -79,7 +79,7 @@ fn workspace_package<'w>(workspace: Option<&'w Table>, key: &str) -> Option<&'w 
         .as_str()
 }
 
-fn detailed(
+fn detailed_dependency(
     alloc: Global,
     section: &Section<'_>,
     key: &str,
@@ -111,13 +111,13 @@ fn dependency_of(
         return Ok(make_dependency(alloc, section, key, None, false)?);
     }
     match value.as_table() {
-        Some(table) => detailed(alloc, section, key, table),
+        Some(table) => detailed_dependency(alloc, section, key, table),
         None => Err(misfit(alloc, Expected::Dependency)),
     }
 }
 
 // The dependencies of a section's table.
-fn listed(
+fn dependencies_of(
     alloc: Global,
     section: &Section<'_>,
     table: &Table,
@@ -144,7 +144,7 @@ fn section_at(
         (table_members key.now (spec.dependency_at (section_view section.now)) (table_view table.now)) }
 {
     match table_at(alloc, table, key)? {
-        Some(inside) => in_key(alloc, key, listed(alloc, section, inside)),
+        Some(inside) => in_key(alloc, key, dependencies_of(alloc, section, inside)),
         None => Ok(Vec::new(alloc)),
     }
 }

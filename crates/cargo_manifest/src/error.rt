@@ -1,7 +1,7 @@
 //! Why a manifest has no answer.
 ghost use Rattle.std.specs.Prelude.{◌≡◌, IfOk, string_bytes};
 ghost use Rattle.cargo_manifest.specs.Inner.{IsReadBehind, IsToldBehind};
-ghost use Rattle.cargo_manifest.specs.Readings.{dotted};
+ghost use Rattle.cargo_manifest.specs.Readings.{dotted_key};
 ghost use Rattle.cargo_manifest.specs.declared.error.ManifestError.TheVariants.{OutOfMemory};
 
 use std::alloc::{AllocError, AllocFailed, Global};
@@ -79,7 +79,7 @@ impl From<AllocError> for ManifestError {
 
 // Keys with one in front, and a dot between them.
 fn dotted_keys(alloc: Global, key: &str, keys: &str) -> Result<String, AllocError>
-    ensures { IfOk result (λ all. string_bytes all ≡ dotted key.now keys.now) }
+    ensures { IfOk result (λ all. string_bytes all ≡ dotted_key key.now keys.now) }
 {
     let mut all = String::from_str(alloc, key)?;
     if keys.is_empty() {

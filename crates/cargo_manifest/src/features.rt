@@ -20,7 +20,7 @@ pub struct Feature {
     pub entries: Vec<String>,
 }
 
-fn listed(alloc: Global, table: &Table) -> Result<Vec<Feature>, ManifestError>
+fn features_of(alloc: Global, table: &Table) -> Result<Vec<Feature>, ManifestError>
     ensures { ReadsAs (λ v. map feature_view v.items) result
         (each_member spec.feature_at (table_view table.now)) }
 {
@@ -38,7 +38,7 @@ pub(crate) fn written_features(alloc: Global, table: &Table) -> Result<Vec<Featu
     ensures { ReadsAs (λ v. map feature_view v.items) result (spec.written_features (table_view table.now)) }
 {
     match table_at(alloc, table, "features")? {
-        Some(inside) => in_key(alloc, "features", listed(alloc, inside)),
+        Some(inside) => in_key(alloc, "features", features_of(alloc, inside)),
         None => Ok(Vec::new(alloc)),
     }
 }

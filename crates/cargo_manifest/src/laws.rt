@@ -8,7 +8,7 @@ use crate::roots::RootKind;
 
 // As many steps as there are features enable all that any number of steps does.
 #[tactic(auto, using(crate::proofs::Settling::closes_in_time))]
-fn enabled()
+fn features_close()
     ensures { ClosesInTime }
 {}
 

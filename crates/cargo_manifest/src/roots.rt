@@ -14,7 +14,7 @@ use crate::error::{Expected, ManifestError, in_key};
 use crate::features::is_text_among;
 use crate::package_fields::Fields;
 use crate::read::{items_of, member, misfit, required_text, table_of, text_at};
-use crate::texts::{between, only, rust_name};
+use crate::texts::{only, rust_name, text_between};
 use hir_input::EditionYear;
 use std::alloc::{AllocError, Global};
 use toml::{Table, Value};
@@ -113,8 +113,8 @@ fn binary_paths(
         return only(alloc, path);
     }
     let mut paths = main_paths(alloc, name == package_name)?;
-    paths.push(between(alloc, "src/bin/", name, ".rs")?)?;
-    paths.push(between(alloc, "src/bin/", name, "/main.rs")?)?;
+    paths.push(text_between(alloc, "src/bin/", name, ".rs")?)?;
+    paths.push(text_between(alloc, "src/bin/", name, "/main.rs")?)?;
     Ok(paths)
 }
 

@@ -6,7 +6,7 @@ ghost use Rattle.cargo_manifest.specs.Views.{texts_view};
 
 use std::alloc::{AllocError, Global};
 
-pub(crate) fn kept(alloc: Global, text: Option<&str>) -> Result<Option<String>, AllocError>
+pub(crate) fn copy_of(alloc: Global, text: Option<&str>) -> Result<Option<String>, AllocError>
     ensures { IfOk result (λ copy. option_map string_bytes copy ≡ option_copied text.entry) }
 {
     match text {
@@ -25,7 +25,7 @@ pub(crate) fn only(alloc: Global, text: &str) -> Result<Vec<String>, AllocError>
 }
 
 // A text between two others.
-pub(crate) fn between(
+pub(crate) fn text_between(
     alloc: Global,
     front: &str,
     text: &str,

@@ -1,6 +1,6 @@
 -- What is listed after entries were added or taken out.
 use Rattle.decl_index.proofs.Common.{◌≡◌, ◌↔◌, ◌⊎◌, ◌||◌, ◌&&◌, inl, inr, not, Bool, true, false, true≢false, List, Contains, filter, refl, sym, ◌∙◌, Entry, Shelves, FiledTrees, is_shelved, shelf_entries, is_entry_among, is_filed, AreShelved}
-use Rattle.decl_index.proofs.Listed.{listed_standing, stands_listed}
+use Rattle.decl_index.proofs.ShelfOrder.{listed_standing, stands_listed}
 use Rattle.decl_index.proofs.Lists.{filter_contains, filter_from}
 use Rattle.decl_index.proofs.Order.{among, is_among_from}
 

@@ -1,9 +1,9 @@
 pub mod Common
 pub mod Lists
 pub mod Order
-pub mod Listed
-pub mod Filed
+pub mod ShelfOrder
+pub mod TreeChanges
 pub mod Catalogs
 pub mod Trees
-pub mod Refreshed
+pub mod Refreshes
 pub mod Laws

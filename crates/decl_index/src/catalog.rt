@@ -83,7 +83,7 @@ impl Catalog {
     }
 
     /// Those that the table does not declare.
-    pub fn gone(&self, alloc: Global, sources: &Sources) -> Result<Vec<Entry>, AllocError>
+    pub fn gone_entries(&self, alloc: Global, sources: &Sources) -> Result<Vec<Entry>, AllocError>
         ensures { IfOk result (λ gone. AreGone sources.now self.now gone.items) }
     {
         let all = self.entries(alloc)?;

@@ -103,7 +103,7 @@ impl DeclIndex {
     {
         let since = self.number.unwrap_or(0);
         let fresh = read_late(alloc, sources, since, sources.changed_since(since))?;
-        let gone = self.entries.gone(alloc, sources)?;
+        let gone = self.entries.gone_entries(alloc, sources)?;
         self.renew(alloc, sources, fresh, &gone)
     }
 

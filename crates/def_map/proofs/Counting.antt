@@ -11,11 +11,11 @@ use Rattle.def_map.specs.declared.rows.ItemKey.{ItemKey}
 use Rattle.def_map.specs.Closing.{thing_of, loop_fact, SaysOf}
 use Rattle.def_map.specs.Crates.{Crate, unseen}
 use Rattle.def_map.specs.Facts.{Fact, names, stands, gives, IsGlobCopy, Derives}
-use Rattle.def_map.specs.Numbers.{renumbered, numbered_fact, IsNumbering}
+use Rattle.def_map.specs.Numbers.{crate_by_numbers, numbered_fact, IsNumbering}
 use Rattle.def_map.specs.Refused.{Counted}
-use Rattle.def_map.proofs.Alike.{there_again}
+use Rattle.def_map.proofs.LoopFacts.{there_again}
 use Rattle.def_map.proofs.Listing.{contains_here, contains_there, contains_cases, not_in_nil}
-use Rattle.def_map.proofs.Numbered.{derived_back, copied_back}
+use Rattle.def_map.proofs.CrateNumbers.{derived_back, copied_back}
 
 -- ---- different elements
 
@@ -38,7 +38,7 @@ module _ (number : List ℕ → Option ℕ) (item : ItemKey → ℕ) (c : Crate 
   Copy = ℕ × ℕ × Visibility
 
   abbrev e : Crate ℕ ℕ
-  e = renumbered number item c
+  e = crate_by_numbers number item c
 
   abbrev image : Named → Option code.Fact.Fact
   image f = option_map loop_fact (numbered_fact number item f)

@@ -17,18 +17,18 @@ use Rattle.def_map.specs.Facts.{IsImport}
 use Rattle.def_map.specs.Found.{lead_by, lead_for}
 use Rattle.def_map.specs.Inner.Closing.{IsIndexed, places_at, path_stands_at}
 use Rattle.def_map.specs.Numbering.{Interns, item_number, is_item_numbered}
-use Rattle.def_map.specs.Numbers.{numbered_thing, renumbered, IsNumbering}
+use Rattle.def_map.specs.Numbers.{numbered_thing, crate_by_numbers, IsNumbering}
 use Rattle.def_map.specs.Targets.{target_of, item_target, AreTargets, target_eq, fact_thing, led_thing, target_by, fact_target, place_target, AreTargetsBy}
 use Rattle.def_map.specs.Told.{AreFactsFound}
 use Rattle.def_map.specs.Verdicts.{LeadsTo}
-use Rattle.def_map.proofs.Alike.{there_again}
+use Rattle.def_map.proofs.LoopFacts.{there_again}
 use Rattle.def_map.proofs.Closing.{is_in}
 use Rattle.def_map.proofs.Deciding.{itself}
 use Rattle.def_map.proofs.Interning.{all_known}
-use Rattle.def_map.proofs.Known.{IsKnown}
+use Rattle.def_map.proofs.ReachedItems.{IsKnown}
 use Rattle.def_map.proofs.Listing.{contains_kept, contains_source}
 use Rattle.def_map.proofs.NumberLaws.{item_of_number, target_decides}
-use Rattle.def_map.proofs.Numbered.{map_source, import_to}
+use Rattle.def_map.proofs.CrateNumbers.{map_source, import_to}
 use Rattle.def_map.proofs.NumberedVerdicts.{leads_on, leads_back}
 use Rattle.def_map.proofs.Telling.{View, view_gives, view_stands, view_none, view_of, any_of, of_any, if_source, leads_by, fact_for}
 
@@ -82,10 +82,10 @@ module _ (t : code.ImportTable.ImportTable) (items : List ItemKey) (facts : List
 -- ---- what the facts say is so
 
 module _ {N : Type 0} (number : N → Option ℕ) (items : List ItemKey) (c : Crate N ItemKey) (ok : IsNumbering number (item_number items) c) (t : code.ImportTable.ImportTable) (facts : List code.Fact.Fact)
-    (table : IsLowered (renumbered number (item_number items) c) t) (found : AreFactsFound (renumbered number (item_number items) c) facts)
+    (table : IsLowered (crate_by_numbers number (item_number items) c) t) (found : AreFactsFound (crate_by_numbers number (item_number items) c) facts)
     (known : (i : ℕ) (y : Thing ItemKey) → LeadsTo c i y → IsKnown (λ key. is_item_numbered items key ≡ true) y) where
   abbrev e : Crate ℕ ℕ
-  e = renumbered number (item_number items) c
+  e = crate_by_numbers number (item_number items) c
 
   abbrev nt : Thing ItemKey → Thing ℕ
   nt = numbered_thing number (item_number items)

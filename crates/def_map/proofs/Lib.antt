@@ -1,4 +1,4 @@
-mod Alike
+mod LoopFacts
 mod Cfgs
 mod Closing
 mod Completing
@@ -9,15 +9,15 @@ mod Examples
 mod Exports
 mod Gathering
 mod Interning
-mod Known
+mod ReachedItems
 mod Leading
 mod LeafForms
-mod Lent
+mod LentItems
 mod Listing
 mod Meeting
 mod Noting
 mod NumberLaws
-mod Numbered
+mod CrateNumbers
 mod NumberedVerdicts
 mod Order
 mod Outsiders
@@ -27,9 +27,9 @@ mod Reading
 mod Refusing
 mod RootVeils
 mod SeedLaws
-mod Sure
+mod SureNames
 mod Telling
 mod Things
 mod Waiting
-mod Whole
+mod RowModules
 mod Resolving

@@ -6,7 +6,7 @@ use Rattle.def_map.specs.declared.{facts.Fact.Fact, facts.Import.Import, facts.I
 use Rattle.def_map.specs.declared.facts.Fact.TheVariants.{Names, EveryName, Stands, Gives, Copies}
 use Rattle.def_map.specs.declared.facts.Thing.TheVariants.{Module as module_thing, Item, Scope, Unseen}
 use Rattle.def_map.specs.declared.fact_index.Key.TheVariants.{Name, Veil, Step, AnyStep, EndOf}
-use Rattle.def_map.specs.Closure.{passed, step_by, step_of, copy_of, concludes, Closes, concluded, name_at, path_keys, step_keys, own_keys, met_keys, is_key}
+use Rattle.def_map.specs.Closure.{passed_name, step_by, step_of, copy_of, concludes, Closes, concluded, name_at, path_keys, step_keys, own_keys, met_keys, is_key}
 use Rattle.def_map.specs.Inner.Closing.{is_naming, meets, path_stands_at}
 use Rattle.def_map.proofs.Deciding.{both_of, both, itself}
 
@@ -41,7 +41,7 @@ Steps t i k test = (import : Import) × (wanted : ℕ) × (name_at t i k ≡ Som
 
 module _ (t : ImportTable) (i k : ℕ) (test : Import → ℕ → Bool) (ns : Namespace) (thing : Thing) (v : Visibility) (h : Fact) where
   abbrev inner : Import → ℕ → Option Fact
-  inner import wanted = if test import wanted then passed import i k ns thing v else None
+  inner import wanted = if test import wanted then passed_name import i k ns thing v else None
 
   abbrev outer : Import → Option Fact
   outer import = option_and_then (inner import) (slice_get import.path.items k)

@@ -2,15 +2,15 @@
 use Rattle.std.proofs.Common.{◌≡◌, ◌↔◌, ℕ, Option, Some, refl, sym, subst, ◌∙◌}
 use Rattle.def_map.specs.Crates.{Crate, Thing, a_module, an_item, a_scope, unseen, PathImport}
 use Rattle.def_map.specs.Facts.{IsImport}
-use Rattle.def_map.specs.Numbers.{numbered_thing, renumbered, IsNumbering}
+use Rattle.def_map.specs.Numbers.{numbered_thing, crate_by_numbers, IsNumbering}
 use Rattle.def_map.specs.Told.{IsVerdict, unresolved, too_wide, unknown, resolved}
 use Rattle.def_map.specs.Verdicts.{IsSeen, HasNames, LeadsTo, LeadsNowhere, IsTooWide, IsPrivate}
 use Rattle.def_map.specs.declared.verdict.Verdict.{Verdict}
-use Rattle.def_map.proofs.Numbered.{leads_like, wide_like, private_like, import_to, import_from, like_to, like_from}
+use Rattle.def_map.proofs.CrateNumbers.{leads_like, wide_like, private_like, import_to, import_from, like_to, like_from}
 
 module _ {N I M J : Type 0} (number : N → Option M) (item : I → J) (c : Crate N I) (ok : IsNumbering number item c) where
   abbrev e : Crate M J
-  e = renumbered number item c
+  e = crate_by_numbers number item c
 
   abbrev nt : Thing I → Thing J
   nt = numbered_thing number item

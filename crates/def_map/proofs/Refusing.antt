@@ -22,13 +22,13 @@ use Rattle.def_map.specs.Closing.{IsLowered, AreSeeds}
 use Rattle.def_map.specs.Closure.{Closes, HasTooManyFacts, HasTooManyJoins}
 use Rattle.def_map.specs.Crates.{Crate, PathImport}
 use Rattle.def_map.specs.Numbering.{path_names, asked_items}
-use Rattle.def_map.specs.Numbers.{renumbered, renumbered_import, numbered_macro, IsNumbering}
+use Rattle.def_map.specs.Numbers.{crate_by_numbers, renumbered_import, numbered_macro, IsNumbering}
 use Rattle.def_map.specs.Refused.{macros_called, macro_pair_count, IsCrateRefused, AreImportsRefused, collect_error, numbers_error, seeds_error, closure_error}
 use Rattle.def_map.specs.Seeding.{macro_count, macro_named, macros_named, pair_count}
 use Rattle.def_map.specs.ModuleOrder.{are_behind}
 use Rattle.def_map.specs.Tables.{CrateSources, crate_of, parents_of}
 use Rattle.std.proofs.lemmas.List.Elements.{All-contains}
-use Rattle.def_map.proofs.Alike.{closes_alike}
+use Rattle.def_map.proofs.LoopFacts.{closes_alike}
 use Rattle.def_map.proofs.Counting.{counted_of}
 use Rattle.def_map.proofs.Listing.{contains_here, contains_there}
 use Rattle.def_map.proofs.Outsiders.{sum_of_map}
@@ -45,7 +45,7 @@ numbers_refused c numbers_code.TooManyItems names items = items refl
 
 module _ (number : List ℕ → Option ℕ) (item : ItemKey → ℕ) (c : Crate (List ℕ) ItemKey) (ok : IsNumbering number item c) where
   abbrev e : Crate ℕ ℕ
-  e = renumbered number item c
+  e = crate_by_numbers number item c
 
   -- ---- pairs of imports and macros
 

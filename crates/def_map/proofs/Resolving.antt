@@ -18,7 +18,7 @@ use Rattle.def_map.specs.Crates.{Crate, Thing, Binding, a_glob, a_name, undersco
 use Rattle.def_map.specs.Facts.{IsImport}
 use Rattle.def_map.specs.Verdicts.{HasNoName, IsPrivate, LeadsTo}
 use Rattle.def_map.specs.Numbering.{item_number, is_item_numbered}
-use Rattle.def_map.specs.Numbers.{renumbered, renumbered_import, IsNumbering}
+use Rattle.def_map.specs.Numbers.{crate_by_numbers, renumbered_import, IsNumbering}
 use Rattle.def_map.specs.Closure.{AreClosed, AreWhole}
 use Rattle.def_map.specs.Closing.{table_import, loop_import, IsLowered, AreSeeds}
 use Rattle.def_map.specs.Found.{verdict_of, AreVerdicts}
@@ -28,9 +28,9 @@ use Rattle.def_map.specs.Resolved.{IsTold, named, without_name, IsAnswer, Import
 use Rattle.def_map.specs.Tables.{CrateSources, CrateRow, declares, imports, veil, macro_veil, defines_macro, names_crate, rows_of, parents_of, crate_from, crate_of, row_imports}
 use Rattle.def_map.specs.Targets.{AreTargetsBy}
 use Rattle.def_map.specs.Told.{IsVerdict, AreFactsFound}
-use Rattle.def_map.proofs.Known.{IsKnown}
+use Rattle.def_map.proofs.ReachedItems.{IsKnown}
 use Rattle.def_map.proofs.Leading.{targets_hold}
-use Rattle.def_map.proofs.Numbered.{import_to}
+use Rattle.def_map.proofs.CrateNumbers.{import_to}
 use Rattle.def_map.proofs.NumberedVerdicts.{from_verdict, private_alike}
 use Rattle.def_map.proofs.Outsiders.{map_twice}
 use Rattle.def_map.proofs.Privacy.{are_private}
@@ -93,10 +93,10 @@ told_is {N = N} c i u verdict is holds = by u.binding refl
     by underscore same = named (other underscore (λ e. true≢false (ap is_nameless e)) same) holds
 
 module _ {N : Type 0} (number : N → Option ℕ) (items : List ItemKey) (c : Crate N ItemKey) (ok : IsNumbering number (item_number items) c) (t : code.ImportTable.ImportTable) (seeds facts : List code.Fact.Fact)
-    (table : IsLowered (renumbered number (item_number items) c) t) (begun : AreSeeds (renumbered number (item_number items) c) seeds) (closed : AreClosed t seeds facts) (whole : AreWhole t seeds facts)
+    (table : IsLowered (crate_by_numbers number (item_number items) c) t) (begun : AreSeeds (crate_by_numbers number (item_number items) c) seeds) (closed : AreClosed t seeds facts) (whole : AreWhole t seeds facts)
     (known : (i : ℕ) (y : Thing ItemKey) → LeadsTo c i y → IsKnown (λ key. is_item_numbered items key ≡ true) y) where
   abbrev e : Crate ℕ ℕ
-  e = renumbered number (item_number items) c
+  e = crate_by_numbers number (item_number items) c
 
   found : AreFactsFound e facts
   found = finds_all e t seeds facts table begun closed whole

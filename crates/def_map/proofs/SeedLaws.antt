@@ -17,7 +17,7 @@ use Rattle.def_map.specs.Closing.{loop_fact, loop_import, table_import, loop_bin
 use Rattle.def_map.specs.Closure.{hides}
 use Rattle.def_map.specs.Crates.{Crate, Thing, a_module, an_item, unseen, Binding, a_glob, a_name, underscore, nameless, PathImport, Hides}
 use Rattle.def_map.specs.Facts.{Fact, names, stands, gives, is_inner_name, is_wanted, read_inner, reading, IsImport, import_start, may_leave, IsOther, IsElsewhere, an_other, any_other, a_macro}
-use Rattle.def_map.specs.Seeding.{is_other_name, macro_named, macros_named, is_plain, declaration_seed, veil_seed, macro_seed, is_path_hidden, inner_seed, last_seed, last_seeds, gives_macros, macro_seeds, name_seeds, first_seeds, start_seed, import_seeds, imports_seeds, all_seeds, started}
+use Rattle.def_map.specs.Seeding.{is_other_name, macro_named, macros_named, is_plain, declaration_seed, veil_seed, macro_seed, is_path_hidden, inner_seed, last_seed, last_seeds, gives_macros, macro_seeds, name_seeds, first_seeds, start_seed, import_seeds, imports_seeds, all_seeds, started_import}
 use Rattle.def_map.proofs.Deciding.{both_of, both, itself}
 use Rattle.def_map.proofs.Listing.{contains_here, contains_there, contains_cases, not_in_nil, contains_kept, contains_source, contains_mapped, mapped_source}
 
@@ -304,14 +304,14 @@ module _ (c : Crate ℕ ℕ) (other : ℕ → Bool) (macros : ℕ → List ℕ) 
   any_name i parent start path types v underscore = refl
   any_name i parent start path types v nameless = refl
 
-  of_table : (i : ℕ) (u : PathImport ℕ) (w : code.Import.Import) → table_import w ≡ loop_import u → of_one i (started u.start w) ≡ of_one i u
+  of_table : (i : ℕ) (u : PathImport ℕ) (w : code.Import.Import) → table_import w ≡ loop_import u → of_one i (started_import u.start w) ≡ of_one i u
   of_table i u w e =
       (λ j. of_one i (record { parent = (e j).parent; start = u.start; names = (e j).names; binding = (e j).binding; of_types = (e j).of_types; visibility = (e j).visibility }))
       ∙ any_name i u.parent u.start u.names u.of_types u.visibility u.binding
 
   -- one import more
   pub imports_more : (t : code.ImportTable.ImportTable) → map table_import t.imports.items ≡ map loop_import c.imports → (k : ℕ) (w : code.Import.Import) (u : PathImport ℕ)
-      → slice_get t.imports.items k ≡ Some w → slice_get c.imports k ≡ Some u → of_all 0 (take (k + 1) c.imports) ≡ of_all 0 (take k c.imports) ++ of_one k (started u.start w)
+      → slice_get t.imports.items k ≡ Some w → slice_get c.imports k ≡ Some u → of_all 0 (take (k + 1) c.imports) ≡ of_all 0 (take k c.imports) ++ of_one k (started_import u.start w)
   imports_more t same k w u at_w at_u =
       let within : k < length c.imports = slice_get_within c.imports k u at_u in
       let is : k ≡ 0 + length (take k c.imports) = omega (arith, length-take k c.imports, within) in

@@ -23,7 +23,7 @@ use Rattle.def_map.specs.Targets.{fact_thing}
 use Rattle.def_map.specs.Told.{IsVerdict, unresolved, too_wide, unknown, resolved, AreFactsFound, FindsAllFacts, IsToldRightly}
 use Rattle.def_map.proofs.Listing.{contains_here, contains_there, contains_cases, not_in_nil}
 use Rattle.def_map.proofs.Reading.{reading_cases}
-use Rattle.def_map.proofs.Alike.{closes_alike, back_again, row_glob, row_of, import_at}
+use Rattle.def_map.proofs.LoopFacts.{closes_alike, back_again, row_glob, row_of, import_at}
 
 or_parts : (a b : Bool) → (a || b) ≡ true → (a ≡ true) ⊎ (b ≡ true)
 or_parts true b e = inl refl

@@ -41,16 +41,16 @@ hides t home ns name = list_any (same_declared (record { home = home; namespace 
 -- ---- what follows from one fact, in a namespace
 
 -- the name of a path behind k others stands for a thing: 5, the path goes on there, or 6, the import gives it
-abbrev pub passed : Import → ℕ → ℕ → Namespace → Thing → Visibility → Option Fact
-passed import i k ns thing v =
+abbrev pub passed_name : Import → ℕ → ℕ → Namespace → Thing → Visibility → Option Fact
+passed_name import i k ns thing v =
     if is_glob_name import.name || nat_lt (k + 1) (length import.path.items)
     then (if are_types ns then Some (Stands i (k + 1) thing) else None)
     else (if are_types ns || not import.types_alone then Some (Gives i ns thing v) else None)
 
 -- 10, a path through what is not seen leads to what is unseen
 abbrev pub way_on : Import → ℕ → ℕ → Namespace → Thing → Option Fact
-way_on import i k ns (Scope scope) = passed import i k ns Unseen Public
-way_on import i k ns Unseen = passed import i k ns Unseen Public
+way_on import i k ns (Scope scope) = passed_name import i k ns Unseen Public
+way_on import i k ns Unseen = passed_name import i k ns Unseen Public
 way_on import i k ns _ = None
 
 -- 7, a glob of a module copies what that names, and of the root also what macros may export there; 9, one of what is not seen is a veil
@@ -85,7 +85,7 @@ follows t ns _ = None
 -- the name of a path behind k others stands for a thing, if the import and this name pass a test
 abbrev pub step_by : ImportTable → ℕ → ℕ → (Import → ℕ → Bool) → Namespace → Thing → Visibility → Option Fact
 step_by t i k test ns thing v =
-    option_and_then (λ import. option_and_then (λ wanted. if test import wanted then passed import i k ns thing v else None) (slice_get import.path.items k)) (slice_get t.imports.items i)
+    option_and_then (λ import. option_and_then (λ wanted. if test import wanted then passed_name import i k ns thing v else None) (slice_get import.path.items k)) (slice_get t.imports.items i)
 
 -- 5 and 6, where a path stands in the module of a name that the module of its import module_sees
 abbrev pub step_by_name : ImportTable → ℕ → ℕ → Namespace → ℕ → Thing → Visibility → Option Fact

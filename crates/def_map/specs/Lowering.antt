@@ -8,7 +8,7 @@ use Rattle.def_map.specs.contracts.facts.DeclaredPartialEq.TheImpl as declared_k
 use Rattle.def_map.specs.Crates.{Crate, Thing, NameDeclaration, PathImport}
 use Rattle.def_map.specs.CrateView.{rows_view}
 use Rattle.def_map.specs.Numbering.{number_in, item_number}
-use Rattle.def_map.specs.Numbers.{renumbered, numbered_thing, numbered_declaration, renumbered_import, numbered_macro}
+use Rattle.def_map.specs.Numbers.{crate_by_numbers, numbered_thing, numbered_declaration, renumbered_import, numbered_macro}
 
 module _ (n : Numbers) where
   abbrev pub number_by : List ℕ → Option ℕ
@@ -30,7 +30,7 @@ module _ (n : Numbers) where
   macro_by = numbered_macro number_by item_by
 
   abbrev pub crate_by : CrateRows → Crate ℕ ℕ
-  crate_by rows = renumbered number_by item_by (rows_view rows)
+  crate_by rows = crate_by_numbers number_by item_by (rows_view rows)
 
 -- ---- what is declared for sure
 

@@ -39,8 +39,8 @@ module _ {N I M J : Type 0} (number : N → Option M) (item : I → J) where
   abbrev pub numbered_other : N × Thing I → Option (M × Thing J)
   numbered_other p = option_map (λ n. (n, numbered_thing p.1)) (number p.0)
 
-  abbrev pub renumbered : Crate N I → Crate M J
-  renumbered c = record {
+  abbrev pub crate_by_numbers : Crate N I → Crate M J
+  crate_by_numbers c = record {
     parents = c.parents;
     declarations = filter_map numbered_declaration c.declarations;
     imports = map renumbered_import c.imports;
@@ -66,8 +66,8 @@ module _ {N I M J : Type 0} (number : N → Option M) (item : I → J) where
 
   -- what is derived of the one is derived of the other, if it is asked for
   pub record DerivesAlike (c : Crate N I) : Type 0 where
-    pub to_numbers : (f : Fact N I) (g : Fact M J) → numbered_fact f ≡ Some g → Derives c f → Derives (renumbered c) g
-    pub from_numbers : (g : Fact M J) → Derives (renumbered c) g → (same : Fact N I) × (numbered_fact same ≡ Some g) × Derives c same
+    pub to_numbers : (f : Fact N I) (g : Fact M J) → numbered_fact f ≡ Some g → Derives c f → Derives (crate_by_numbers c) g
+    pub from_numbers : (g : Fact M J) → Derives (crate_by_numbers c) g → (same : Fact N I) × (numbered_fact same ≡ Some g) × Derives c same
 
   abbrev pub NumbersKeep : Crate N I → Type 0
   NumbersKeep c = IsNumbering c → DerivesAlike c

@@ -21,7 +21,7 @@ use Rattle.def_map.specs.declared.kinds.Visibility.{Visibility}
 use Rattle.def_map.specs.Facts.{Fact, Derives, IsGlobCopy}
 use Rattle.def_map.specs.ModuleOrder.{are_behind}
 use Rattle.def_map.specs.Numbering.{path_names, asked_items}
-use Rattle.def_map.specs.Numbers.{renumbered, IsNumbering}
+use Rattle.def_map.specs.Numbers.{crate_by_numbers, IsNumbering}
 use Rattle.def_map.specs.Tables.{CrateSources, crate_of, parents_of}
 
 -- how many `macro_rules` have the only name of a path
@@ -51,8 +51,8 @@ module _ (c : Crate (List ℕ) ItemKey) where
     pub table : code.ImportTable.ImportTable
     pub seeds : List code.Fact.Fact
     pub numbering : IsNumbering number item c
-    pub lowered : IsLowered (renumbered number item c) table
-    pub begun : AreSeeds (renumbered number item c) seeds
+    pub lowered : IsLowered (crate_by_numbers number item c) table
+    pub begun : AreSeeds (crate_by_numbers number item c) seeds
 
   -- when each error comes that is of the crate's contents
   abbrev pub IsCrateRefused : DefMapError → Type 0

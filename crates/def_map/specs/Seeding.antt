@@ -90,8 +90,8 @@ module _ (c : Crate ℕ ℕ) (other : ℕ → Bool) (macros : ℕ → List ℕ) 
   all_seeds = map declaration_seed c.declarations ++ map veil_seed c.veils ++ imports_seeds 0 c.imports
 
 -- the import of a table, with where its path begins
-abbrev pub started : PathStart → code.Import.Import → PathImport ℕ
-started start w = record { parent = w.home; start = start; names = w.path.items; binding = binding_of w.name; of_types = w.types_alone; visibility = w.visibility }
+abbrev pub started_import : PathStart → code.Import.Import → PathImport ℕ
+started_import start w = record { parent = w.home; start = start; names = w.path.items; binding = binding_of w.name; of_types = w.types_alone; visibility = w.visibility }
 
 -- ---- how many there are
 

@@ -7,10 +7,10 @@ use Rattle.def_map.specs.Closure.{hides}
 use Rattle.def_map.specs.Crates.{Crate, PathImport}
 use Rattle.def_map.specs.Lowering.{crate_by}
 use Rattle.def_map.specs.Seeding as spec
-use Rattle.def_map.specs.Seeding.{other_in, macros_in, started}
+use Rattle.def_map.specs.Seeding.{other_in, macros_in, started_import}
 
 abbrev pub first_import : FirstName → PathImport ℕ
-first_import first = started first.start first.import.now
+first_import first = started_import first.start first.import.now
 
 module _ (l : Lowered) where
   abbrev pub lowered_crate : Crate ℕ ℕ

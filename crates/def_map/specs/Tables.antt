@@ -126,26 +126,26 @@ module _ (o : Owner) where
   is_sure = o.place.is_certain && not o.marks.is_foreign && not o.marks.is_test
 
   -- a name that the item declares in its module
-  abbrev pub declared : Namespace → List ℕ → Thing ItemKey → Visibility → CrateRow
-  declared ns name t v = declares (record { parent = o.place.at; namespace = ns; name = name; thing = t; visibility = v; is_sure = is_sure })
+  abbrev pub name_row : Namespace → List ℕ → Thing ItemKey → Visibility → CrateRow
+  name_row ns name t v = declares (record { parent = o.place.at; namespace = ns; name = name; thing = t; visibility = v; is_sure = is_sure })
 
   abbrev pub plain_declared : PlainKind → List ℕ → Visibility → CrateRow
-  plain_declared plain_kind.Fn name v = declared Values name (an_item owner_key) v
-  plain_declared plain_kind.Static name v = declared Values name (an_item owner_key) v
-  plain_declared plain_kind.MacroDef name v = declared Macros name (an_item owner_key) v
-  plain_declared plain_kind.Enum name v = declared Types name (a_scope owner_key) v
-  plain_declared plain_kind.Trait name v = declared Types name (a_scope owner_key) v
-  plain_declared plain_kind.TypeAlias name v = declared Types name (an_item owner_key) v
-  plain_declared plain_kind.Union name v = declared Types name (an_item owner_key) v
+  plain_declared plain_kind.Fn name v = name_row Values name (an_item owner_key) v
+  plain_declared plain_kind.Static name v = name_row Values name (an_item owner_key) v
+  plain_declared plain_kind.MacroDef name v = name_row Macros name (an_item owner_key) v
+  plain_declared plain_kind.Enum name v = name_row Types name (a_scope owner_key) v
+  plain_declared plain_kind.Trait name v = name_row Types name (a_scope owner_key) v
+  plain_declared plain_kind.TypeAlias name v = name_row Types name (an_item owner_key) v
+  plain_declared plain_kind.Union name v = name_row Types name (an_item owner_key) v
 
   abbrev pub const_rows : Option (List ℕ) → Visibility → List CrateRow
   const_rows None v = []
-  const_rows (Some name) v = declared Values name (an_item owner_key) v ∷ []
+  const_rows (Some name) v = name_row Values name (an_item owner_key) v ∷ []
 
   -- the root names another crate by an `extern crate`
   abbrev pub crate_rows : Option (List ℕ) → Visibility → List CrateRow
   crate_rows None v = []
-  crate_rows (Some name) v = declared Types name unseen v ∷ (if o.place.at == 0 then names_crate name ∷ [] else [])
+  crate_rows (Some name) v = name_row Types name unseen v ∷ (if o.place.at == 0 then names_crate name ∷ [] else [])
 
   -- a `macro_rules` is in no module, but in the root if it is exported
   abbrev pub macro_rows : List ℕ → List CrateRow
@@ -177,7 +177,7 @@ module _ (o : Owner) where
   -- a `mod` whose module is found, or is not: it has no file, or its file is disabled
   abbrev pub mod_rows : List ℕ → Visibility → Option ℕ → List CrateRow
   mod_rows name v None = declares (record { parent = o.place.at; namespace = Types; name = name; thing = unseen; visibility = v; is_sure = false }) ∷ macro_veil ∷ []
-  mod_rows name v (Some at) = declared Types name (a_module at) v ∷ (if (inner_place at).is_certain then [] else veil at seen_by.Public ∷ [])
+  mod_rows name v (Some at) = name_row Types name (a_module at) v ∷ (if (inner_place at).is_certain then [] else veil at seen_by.Public ∷ [])
 
 -- ---- who sees what
 
@@ -192,14 +192,14 @@ module _ (parents : List (Option ℕ)) where
   child_toward m (suc steps) at = option_and_then (λ above. if above == m then Some at else child_toward m steps above) (parent_of parents at)
 
   -- who sees what needs all of these
-  abbrev pub least : List Visibility → Visibility
-  least vs = fold (narrower parents) seen_by.Public vs
+  abbrev pub least_visibility : List Visibility → Visibility
+  least_visibility vs = fold (narrower parents) seen_by.Public vs
 
   -- who sees the constructor of a struct, by what is read of its visibilities
   abbrev pub ctor_visibility : {V : Type 0} → (V → Visibility) → Ctor V → Option Visibility
   ctor_visibility see no_ctor = None
   ctor_visibility see (ctor_with v) = Some (see v)
-  ctor_visibility see (ctor_with_min vs) = Some (least (map see vs))
+  ctor_visibility see (ctor_with_min vs) = Some (least_visibility (map see vs))
 
   -- nobody outside of the crate, if it is `#[non_exhaustive]`
   abbrev pub ctor_limit : Marks → Visibility → Visibility
@@ -209,7 +209,7 @@ module _ (parents : List (Option ℕ)) where
   abbrev pub ctor_rows : Owner → List ℕ → Visibility → Option Visibility → List CrateRow
   ctor_rows o name own None = []
   ctor_rows o name own (Some v) =
-      if is_at_least parents v own then declared o Values name (an_item (owner_key o)) v ∷ [] else declared o Values name unseen own ∷ []
+      if is_at_least parents v own then name_row o Values name (an_item (owner_key o)) v ∷ [] else name_row o Values name unseen own ∷ []
 
 -- ---- attributes
 
@@ -281,7 +281,7 @@ module _ (parents : List (Option ℕ)) (s : CrateSources) where
   abbrev pub leaf_rows : {V : Type 0} → Owner → (V → Visibility) → Leaf V → List CrateRow
   leaf_rows o see (plain k name v) = plain_declared o k name (see v) ∷ []
   leaf_rows o see (constant name v) = const_rows o name (see v)
-  leaf_rows o see (struct_item name v shape c) = declared o Types name (an_item (owner_key o)) (see v) ∷ ctor_rows parents o name (ctor_limit parents o.marks (see v)) (option_map (ctor_limit parents o.marks) (ctor_visibility parents see c))
+  leaf_rows o see (struct_item name v shape c) = name_row o Types name (an_item (owner_key o)) (see v) ∷ ctor_rows parents o name (ctor_limit parents o.marks (see v)) (option_map (ctor_limit parents o.marks) (ctor_visibility parents see c))
   leaf_rows o see (outline name v) = mod_rows o name (see v) (module_of s.modules o.place.at o.id)
   leaf_rows o see (use_item v t) = use_rows o (see v) t
   leaf_rows o see (extern_crate name v alias) = crate_rows o (crate_name name alias) (see v)

@@ -34,10 +34,10 @@ abbrev pub target_eq : Target → Target → Bool
 target_eq = targets.ghosts.eq
 
 -- what a target is hashed by
-abbrev pub hashed : Target → fed.HashWrites
-hashed (Module m) = fed.usize m.0
-hashed (Item m a) = fed.usize m.0 ++ fed.u16 a.hash ++ fed.u32 a.number
-hashed Unseen = []
+abbrev pub target_writes : Target → fed.HashWrites
+target_writes (Module m) = fed.usize m.0
+target_writes (Item m a) = fed.usize m.0 ++ fed.u16 a.hash ++ fed.u32 a.number
+target_writes Unseen = []
 
 abbrev pub fact_thing : code.Fact.Fact → Option code.Thing.Thing
 fact_thing (Stands i k thing) = Some thing

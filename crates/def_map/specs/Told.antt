@@ -6,7 +6,7 @@ use Rattle.def_map.specs.declared.verdict.Verdict.TheVariants.{Unresolved, TooWi
 use Rattle.def_map.specs.Crates.{Crate, Thing, unseen, PathImport}
 use Rattle.def_map.specs.Facts.{IsImport}
 use Rattle.def_map.specs.Verdicts.{LeadsTo, IsSeen, LeadsNowhere, IsPrivate, IsTooWide}
-use Rattle.def_map.specs.Numbers.{renumbered, IsNumbering}
+use Rattle.def_map.specs.Numbers.{crate_by_numbers, IsNumbering}
 use Rattle.def_map.specs.Closing.{IsLowered, AreSeeds, SaysOf}
 use Rattle.def_map.specs.Closure.{AreClosed, AreWhole}
 use Rattle.def_map.specs.Found.{verdict_of}
@@ -42,4 +42,4 @@ ArePrivate c t facts = IsLowered c t → AreFactsFound c facts → (i : ℕ) →
 -- and of the crate by names as by numbers
 abbrev pub VerdictsAlike : {N I M J : Type 0} → (N → Option M) → (I → J) → Crate N I → Type 0
 VerdictsAlike number item c = IsNumbering number item c → (i : ℕ)
-    → ((verdict : Verdict) → IsVerdict (renumbered number item c) i verdict → IsVerdict c i verdict) × (IsPrivate (renumbered number item c) i ↔ IsPrivate c i)
+    → ((verdict : Verdict) → IsVerdict (crate_by_numbers number item c) i verdict → IsVerdict c i verdict) × (IsPrivate (crate_by_numbers number item c) i ↔ IsPrivate c i)

@@ -89,7 +89,7 @@ fn hides_exports(alloc: Global, tree: &ItemTree, words: Option<&u32>) -> Result<
 }
 
 /// The tree of a file, if it has one.
-#[tactic(auto, using(crate::proofs::Lent::tree_lent))]
+#[tactic(auto, using(crate::proofs::LentItems::tree_lent))]
 fn tree_of<'t>(ctx: &Ctx<'_, 't>, file: u32) -> Option<&'t ItemTree>
     ensures { option_copied result ≡ slice_get (sources_view ctx.now.sources).trees file }
 {

@@ -12,7 +12,7 @@ use crate::ctx::Ctx;
 use crate::kinds::{Namespace, Visibility};
 use crate::leaves::leaf_count;
 use crate::rows::{DeclaredName, ItemKey, Meaning};
-use crate::sight::narrower;
+use crate::sight::smaller_visibility;
 use crate::verdict::is_at_least;
 use crate::visibility::{ctor_visibility, seen_by};
 use hir_input::ast::PlainKind;
@@ -82,7 +82,7 @@ impl Owner {
     }
 
     /// Where the items in it stand, if that is this module.
-    pub(crate) fn inside(&self, at: u32) -> Place
+    pub(crate) fn inner_place(&self, at: u32) -> Place
         ensures { result ≡ spec.inner_place self.now at }
     {
         Place {
@@ -92,14 +92,14 @@ impl Owner {
     }
 
     /// A name that it declares in its module.
-    pub(crate) fn declared<'t>(
+    pub(crate) fn name_row<'t>(
         &self,
         namespace: Namespace,
         name: &'t Name,
         meaning: Meaning,
         visibility: Visibility,
     ) -> Row<'t>
-        ensures { crate_row_view result ≡ spec.declared self.now namespace name.now (meaning_view meaning) visibility }
+        ensures { crate_row_view result ≡ spec.name_row self.now namespace name.now (meaning_view meaning) visibility }
     {
         Row::Declares(DeclaredName {
             parent: self.place.at,
@@ -122,14 +122,14 @@ impl Owner {
         let key = self.key();
         match kind {
             PlainKind::Fn | PlainKind::Static => {
-                self.declared(Namespace::Values, name, Meaning::Item(key), v)
+                self.name_row(Namespace::Values, name, Meaning::Item(key), v)
             }
-            PlainKind::MacroDef => self.declared(Namespace::Macros, name, Meaning::Item(key), v),
+            PlainKind::MacroDef => self.name_row(Namespace::Macros, name, Meaning::Item(key), v),
             PlainKind::Enum | PlainKind::Trait => {
-                self.declared(Namespace::Types, name, Meaning::Scope(key), v)
+                self.name_row(Namespace::Types, name, Meaning::Scope(key), v)
             }
             PlainKind::TypeAlias | PlainKind::Union => {
-                self.declared(Namespace::Types, name, Meaning::Item(key), v)
+                self.name_row(Namespace::Types, name, Meaning::Item(key), v)
             }
         }
     }
@@ -149,7 +149,7 @@ pub(crate) fn push_const<'t>(
         return Ok(());
     };
     let meaning = Meaning::Item(owner.key());
-    rows.push(owner.declared(Namespace::Values, name, meaning, visibility))?;
+    rows.push(owner.name_row(Namespace::Values, name, meaning, visibility))?;
     Ok(())
 }
 
@@ -157,7 +157,7 @@ fn ctor_limit(ctx: &Ctx<'_, '_>, marks: &Marks, visibility: Visibility) -> Visib
     ensures { result ≡ spec.ctor_limit ctx.now.parents.now marks.now visibility }
 {
     if marks.is_non_exhaustive {
-        return narrower(ctx.parents, Visibility::Module(0), visibility);
+        return smaller_visibility(ctx.parents, Visibility::Module(0), visibility);
     }
     visibility
 }
@@ -182,10 +182,10 @@ fn push_ctor<'t>(
     let limit = ctor_limit(ctx, &owner.marks, visibility);
     if is_at_least(ctx.parents, limit, own) {
         let meaning = Meaning::Item(owner.key());
-        rows.push(owner.declared(Namespace::Values, name, meaning, limit))?;
+        rows.push(owner.name_row(Namespace::Values, name, meaning, limit))?;
         return Ok(());
     }
-    rows.push(owner.declared(Namespace::Values, name, Meaning::Unseen, own))?;
+    rows.push(owner.name_row(Namespace::Values, name, Meaning::Unseen, own))?;
     Ok(())
 }
 
@@ -205,7 +205,7 @@ pub(crate) fn push_struct<'t>(
     let at = owner.place.at;
     let meaning = Meaning::Item(owner.key());
     let own = seen_by(ctx, tree, at, item.visibility);
-    rows.push(owner.declared(Namespace::Types, &item.name, meaning, own))?;
+    rows.push(owner.name_row(Namespace::Types, &item.name, meaning, own))?;
     let visibility = ctor_visibility(ctx, tree, at, &item.value_ns_ctor);
     push_ctor(ctx, owner, &item.name, own, visibility, rows)
 }
@@ -232,7 +232,7 @@ pub(crate) fn push_mod<'t>(
         rows.push(Row::MacroVeil)?;
         return Ok(());
     };
-    rows.push(owner.declared(Namespace::Types, name, Meaning::Module(at), visibility))?;
+    rows.push(owner.name_row(Namespace::Types, name, Meaning::Module(at), visibility))?;
     if !owner.is_certain_inside() {
         rows.push(Row::Veil(at, Visibility::Public))?;
     }
@@ -306,7 +306,7 @@ pub(crate) fn push_crate<'t>(
     let Some(name) = name else {
         return Ok(());
     };
-    rows.push(owner.declared(Namespace::Types, name, Meaning::Unseen, visibility))?;
+    rows.push(owner.name_row(Namespace::Types, name, Meaning::Unseen, visibility))?;
     if owner.place.at == 0 {
         rows.push(Row::NamesCrate(name))?;
     }

@@ -5,7 +5,7 @@ ghost use Rattle.def_map.specs.Closure as spec;
 
 use crate::facts::{Declared, Fact, Import, ImportName, ImportTable, Thing};
 use crate::kinds::{Namespace, Visibility};
-use crate::sight::{narrower, sees};
+use crate::sight::{sees, smaller_visibility};
 
 impl ImportTable {
     // Whether a module declares a name for sure.
@@ -33,7 +33,7 @@ impl ImportTable {
         let ImportName::Named(name) = import.name else {
             return None;
         };
-        let visibility = narrower(&self.parents, visibility, import.visibility);
+        let visibility = smaller_visibility(&self.parents, visibility, import.visibility);
         Some(Fact::Names(import.home, namespace, name, thing, visibility))
     }
 
@@ -128,14 +128,14 @@ impl ImportTable {
                     && sees(&self.parents, into, visibility)
                     && !self.hides(into, namespace, name)
                 {
-                    let least = narrower(&self.parents, visibility, glob);
+                    let least = smaller_visibility(&self.parents, visibility, glob);
                     return Some(Fact::Names(into, namespace, name, thing, least));
                 }
                 None
             }
             Fact::EveryName(home, namespace, visibility) => {
                 if home == from && sees(&self.parents, into, visibility) {
-                    let least = narrower(&self.parents, visibility, glob);
+                    let least = smaller_visibility(&self.parents, visibility, glob);
                     return Some(Fact::EveryName(into, namespace, least));
                 }
                 None
@@ -198,7 +198,7 @@ fn pass(
     visibility: Visibility,
 ) -> Option<Fact>
     requires { count < length import.now.path.items }
-    ensures { result ≡ spec.passed import.now number count namespace thing visibility }
+    ensures { result ≡ spec.passed_name import.now number count namespace thing visibility }
 {
     if is_glob(import.name) || count + 1 < import.path.len() {
         if are_types(namespace) {

@@ -8,7 +8,7 @@ ghost use Rattle.def_map.specs.CrateView.{declared_view, meaning_view, veil_view
 ghost use Rattle.def_map.specs.Facts as rules;
 ghost use Rattle.def_map.specs.Lowering.{crate_by, declaration_by, thing_by};
 ghost use Rattle.def_map.specs.Seeding.{declaration_seed, is_plain, macro_count, macro_pairs, macro_seed, macros_in};
-ghost use Rattle.def_map.specs.Seeding.{pair_count, started, veil_seed};
+ghost use Rattle.def_map.specs.Seeding.{pair_count, started_import, veil_seed};
 ghost use Rattle.def_map.specs.SeedsOf as spec;
 ghost use Rattle.def_map.specs.SeedsOf.{lowered_crate, first_import};
 ghost use Rattle.def_map.specs.declared.seeds.SeedsError.TheVariants.{TooManyImports, TooManyPairs};
@@ -161,7 +161,7 @@ fn start_of(lowered: &Lowered<'_>, start: PathStart, home: u32) -> Option<u32>
 }
 
 fn start_seed(lowered: &Lowered<'_>, number: u32, start: PathStart, import: &Import) -> Option<Fact>
-    ensures { result ≡ spec.lowered_start_seed lowered.now number (started start import.now) }
+    ensures { result ≡ spec.lowered_start_seed lowered.now number (started_import start import.now) }
 {
     let at = start_of(lowered, start, import.home)?;
     Some(Fact::Stands(number, 0, Thing::Module(at)))
@@ -298,7 +298,7 @@ fn push_first(
     seeds: &mut Vec<Fact>,
 ) -> Result<(), AllocError>
     ensures { OnOk result (seeds.new.items ≡ seeds.old.items
-        ++ spec.lowered_first_seeds lowered.now number (started start import.now)) }
+        ++ spec.lowered_first_seeds lowered.now number (started_import start import.now)) }
 {
     if !may_leave(start) {
         return Ok(());
@@ -323,7 +323,7 @@ fn push_import(
     seeds: &mut Vec<Fact>,
 ) -> Result<(), AllocError>
     ensures { OnOk result (seeds.new.items ≡ seeds.old.items
-        ++ spec.lowered_import_seeds lowered.now number (started start import.now)) }
+        ++ spec.lowered_import_seeds lowered.now number (started_import start import.now)) }
 {
     push_seed(start_seed(lowered, number, start, import), seeds)?;
     push_first(lowered, number, start, import, seeds)

@@ -50,7 +50,11 @@ pub(crate) fn sees(parents: &[Option<u32>], m: u32, visibility: Visibility) -> b
 }
 
 /// The smaller of two visibilities.
-pub(crate) fn narrower(parents: &[Option<u32>], a: Visibility, b: Visibility) -> Visibility
+pub(crate) fn smaller_visibility(
+    parents: &[Option<u32>],
+    a: Visibility,
+    b: Visibility,
+) -> Visibility
     ensures { result ≡ spec.narrower parents.now a b }
 {
     match (a, b) {

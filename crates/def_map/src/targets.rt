@@ -32,9 +32,9 @@ pub enum Target {
 impl Hash for Target {
     ghost use Rattle.std.specs.Cmp.Rules.{hashing};
     ghost use Rattle.std.proofs.Common.{rules};
-    ghost use Rattle.def_map.specs.Targets.{hashed};
+    ghost use Rattle.def_map.specs.Targets.{target_writes};
 
-    ghost hash_input = { hashed };
+    ghost hash_input = { target_writes };
 
     ghost respects_eq = { Prim.search (hashing, rules) };
 

@@ -8,7 +8,7 @@ ghost use Rattle.def_map.specs.Views.{sources_view};
 
 use crate::ctx::Ctx;
 use crate::kinds::Visibility;
-use crate::sight::{module_above, narrower, parent_of};
+use crate::sight::{module_above, parent_of, smaller_visibility};
 use hir_input::{ModPath, Name, PathKind};
 use item_tree::{ItemTree, RawVisibility, RawVisibilityId, StructValueNsCtor};
 use module_tree::ModuleData;
@@ -121,12 +121,17 @@ pub(crate) fn seen_by(
 }
 
 /// Who sees what needs all of these.
-fn least(ctx: &Ctx<'_, '_>, tree: &ItemTree, at: u32, ids: &[RawVisibilityId]) -> Visibility
-    ensures { result ≡ spec.least ctx.now.parents.now (map (seen_at ctx.now tree.now at) ids.now) }
+fn least_visibility(
+    ctx: &Ctx<'_, '_>,
+    tree: &ItemTree,
+    at: u32,
+    ids: &[RawVisibilityId],
+) -> Visibility
+    ensures { result ≡ spec.least_visibility ctx.now.parents.now (map (seen_at ctx.now tree.now at) ids.now) }
 {
     let mut all = Visibility::Public;
     for id in ids {
-        all = narrower(ctx.parents, all, seen_by(ctx, tree, at, *id));
+        all = smaller_visibility(ctx.parents, all, seen_by(ctx, tree, at, *id));
     }
     all
 }
@@ -144,7 +149,7 @@ pub(crate) fn ctor_visibility(
         StructValueNsCtor::NoValueNsCtor => None,
         StructValueNsCtor::ValueNsCtorWithVis(id) => Some(seen_by(ctx, tree, at, *id)),
         StructValueNsCtor::ValueNsCtorWithMinVis(ids) => {
-            let all = least(ctx, tree, at, ids);
+            let all = least_visibility(ctx, tree, at, ids);
             Some(all)
         }
     }

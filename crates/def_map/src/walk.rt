@@ -1,7 +1,7 @@
 //! The walk of a crate's trees: what each item adds to its table.
 ghost use Rattle.std.specs.Prelude.{◌≡◌, OnOk, Some, option_map, flat_map};
 ghost use Rattle.hir_input.specs.Cfg.{cfg_view};
-ghost use Rattle.item_tree.specs.{Shown.IsContained, Shown.lent, Walk.AreContained};
+ghost use Rattle.item_tree.specs.{Shown.IsContained, Shown.lent_kind, Walk.AreContained};
 ghost use Rattle.def_map.specs.Inner.Walking.{collected_in, id_rows, lent_inside, lent_other, lent_own, lent_plain};
 ghost use Rattle.def_map.specs.Inner.Walking.{plain_rows, plain_view, AddsRows};
 ghost use Rattle.def_map.specs.Tables as spec;
@@ -85,7 +85,11 @@ pub(crate) struct PlainItem<'t> {
     visibility: RawVisibilityId,
 }
 
-fn named<'t>(kind: PlainKind, name: &'t Name, visibility: RawVisibilityId) -> Option<PlainItem<'t>>
+fn named_item<'t>(
+    kind: PlainKind,
+    name: &'t Name,
+    visibility: RawVisibilityId,
+) -> Option<PlainItem<'t>>
     ensures { option_map plain_view result ≡ Some (kind, name.now, visibility) }
 {
     Some(PlainItem {
@@ -97,16 +101,16 @@ fn named<'t>(kind: PlainKind, name: &'t Name, visibility: RawVisibilityId) -> Op
 
 /// Such an item, if it is one.
 fn plain_item<'t>(item: ModItemKind<'t>) -> Option<PlainItem<'t>>
-    ensures { option_map plain_view result ≡ lent_plain (lent item.entry) }
+    ensures { option_map plain_view result ≡ lent_plain (lent_kind item.entry) }
 {
     match item {
-        ModItemKind::Function(_, x) => named(PlainKind::Fn, &x.name, x.visibility),
-        ModItemKind::Union(_, x) => named(PlainKind::Union, &x.name, x.visibility),
-        ModItemKind::Enum(_, x) => named(PlainKind::Enum, &x.name, x.visibility),
-        ModItemKind::Static(_, x) => named(PlainKind::Static, &x.name, x.visibility),
-        ModItemKind::Trait(_, x) => named(PlainKind::Trait, &x.name, x.visibility),
-        ModItemKind::TypeAlias(_, x) => named(PlainKind::TypeAlias, &x.name, x.visibility),
-        ModItemKind::Macro2(_, x) => named(PlainKind::MacroDef, &x.name, x.visibility),
+        ModItemKind::Function(_, x) => named_item(PlainKind::Fn, &x.name, x.visibility),
+        ModItemKind::Union(_, x) => named_item(PlainKind::Union, &x.name, x.visibility),
+        ModItemKind::Enum(_, x) => named_item(PlainKind::Enum, &x.name, x.visibility),
+        ModItemKind::Static(_, x) => named_item(PlainKind::Static, &x.name, x.visibility),
+        ModItemKind::Trait(_, x) => named_item(PlainKind::Trait, &x.name, x.visibility),
+        ModItemKind::TypeAlias(_, x) => named_item(PlainKind::TypeAlias, &x.name, x.visibility),
+        ModItemKind::Macro2(_, x) => named_item(PlainKind::MacroDef, &x.name, x.visibility),
         _ => None,
     }
 }
@@ -136,7 +140,7 @@ fn push_other<'t>(
     rows: &mut Vec<Row<'t>>,
 ) -> Result<(), AllocError>
     ensures { OnOk result (AddsRows rows.old.items rows.new.items
-        (lent_other ctx.now tree.now owner.now (lent item.entry))) }
+        (lent_other ctx.now tree.now owner.now (lent_kind item.entry))) }
 {
     let at = owner.place.at;
     match item {
@@ -173,7 +177,7 @@ fn push_own<'t>(
     rows: &mut Vec<Row<'t>>,
 ) -> Result<(), AllocError>
     ensures { OnOk result (AddsRows rows.old.items rows.new.items
-        (lent_own ctx.now tree.now owner.now (lent item.entry))) }
+        (lent_own ctx.now tree.now owner.now (lent_kind item.entry))) }
 {
     match plain_item(item) {
         Some(plain) => push_plain(ctx, tree, owner, plain, rows),
@@ -183,17 +187,17 @@ fn push_own<'t>(
 
 /// Where the items in an item stand, if anywhere.
 fn place_inside(ctx: &Ctx<'_, '_>, owner: &Owner, item: ModItemKind<'_>) -> Option<Place>
-    ensures { result ≡ lent_inside ctx.now owner.now (lent item.entry) }
+    ensures { result ≡ lent_inside ctx.now owner.now (lent_kind item.entry) }
 {
     match item {
         ModItemKind::Mod(_, module) => match &module.kind {
             ModKind::Inline { .. } => {
                 let at = module_of(ctx, owner.place.at, owner.id)?;
-                Some(owner.inside(at))
+                Some(owner.inner_place(at))
             }
             ModKind::Outline => None,
         },
-        ModItemKind::ExternBlock(_, _) => Some(owner.inside(owner.place.at)),
+        ModItemKind::ExternBlock(_, _) => Some(owner.inner_place(owner.place.at)),
         _ => None,
     }
 }

@@ -6,7 +6,7 @@ use Rattle.hir_input_json.proofs.Common.{CfgView, CfgViews, invalid, all_of, any
 use Rattle.hir_input.specs.Cfg as condition
 use Rattle.hir_input_json.specs.Reading.{◌>>=◌}
 use Rattle.hir_input_json.proofs.Laws.{AgreeBelow, LooksInside, ReadsItself}
-use Rattle.hir_input_json.proofs.Inside.{required_same, by_first_same, list_in, list_at_same, depth_field, depth_get, reads_itself}
+use Rattle.hir_input_json.proofs.NestedForms.{required_same, by_first_same, list_in, list_at_same, depth_field, depth_get, reads_itself}
 
 listed_inside : (key : List ℕ) (of : CfgViews → CfgView) (f g : Data → Reading CfgView) (d : Data) → AgreeBelow f g (depth d) → (e : Data) → field key d ≡ Some e → listed_with key of f e ≡ listed_with key of g e
 listed_inside key of f g d same e h = ap (λ r. under key (reading_map (λ cs. of (cfgs_from cs)) r)) (list_in f g key d same e h)

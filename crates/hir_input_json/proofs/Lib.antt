@@ -1,6 +1,6 @@
 pub mod Attrs
-pub mod Held
-pub mod Inside
+pub mod MemberObjects
+pub mod NestedForms
 pub mod Items
 pub mod Laws
 pub mod Lists

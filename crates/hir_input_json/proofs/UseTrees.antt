@@ -6,7 +6,7 @@ use Rattle.hir_input.specs.declared.ast.UseTree.{UseTree, the_lemmas}
 use Rattle.hir_input.specs.declared.ast.UseTree.TheViews.{roll-UseTree}
 use Rattle.hir_input_json.proofs.Common.{use_tree_view, tree_from, field, list_of, use_tree_with}
 use Rattle.hir_input_json.proofs.Laws.{LooksInside, ReadsItself}
-use Rattle.hir_input_json.proofs.Inside.{maybe_same, list_in, reads_itself}
+use Rattle.hir_input_json.proofs.NestedForms.{maybe_same, list_in, reads_itself}
 
 use_tree_inside : LooksInside use_tree_with
 use_tree_inside f g d same = rw (maybe_same (list_of f) (list_of g) (field (codes "list") d) (list_in f g (codes "list") d same)) refl

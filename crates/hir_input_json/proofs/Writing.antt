@@ -4,7 +4,7 @@ pub mod UseTrees
 pub mod Paths
 pub mod Nulls
 pub mod Items
-pub mod Held
+pub mod WrittenParts
 pub mod PathLaws
 pub mod LiteralLaws
 pub mod CfgLaws

@@ -7,7 +7,7 @@ use Rattle.hir_input.specs.Cfg as condition
 use Rattle.hir_input_json.specs.Reading.{Reading, right, wrong, reading_map, reading_both, here, under, ◌>>=◌}
 use Rattle.hir_input.specs.Name.{name_in}
 use Rattle.hir_input_json.specs.Forms.{field, required_at, by_form, text_form, identifier_form, object_members, list_of}
-use Rattle.hir_input_json.specs.Nested.{nested}
+use Rattle.hir_input_json.specs.Nested.{nested_reading}
 
 -- an atom of this key, and of the value beside it, which is required
 abbrev pub keyed_by : Data → Data → Reading AtomView
@@ -48,4 +48,4 @@ cfg_with cfg d =
 
 -- a condition, with those inside it
 abbrev pub cfg : Data → Reading CfgView
-cfg = nested cfg_with
+cfg = nested_reading cfg_with

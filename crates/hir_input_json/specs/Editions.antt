@@ -11,8 +11,8 @@ abbrev pub EditionView : Type 0
 EditionView = EditionYear × List (List ℕ)
 
 -- the edition where none is named
-abbrev pub latest : EditionView
-latest = (E2024, [])
+abbrev pub latest_edition : EditionView
+latest_edition = (E2024, [])
 
 -- the years that have an edition
 abbrev pub year_of : ℕ → Option EditionYear
@@ -38,4 +38,4 @@ edition d = do
 
 -- the edition of a request, the latest where it is absent
 abbrev pub edition_at : Data → Reading EditionView
-edition_at = optional_at latest (codes "edition") edition
+edition_at = optional_at latest_edition (codes "edition") edition

@@ -15,9 +15,9 @@ unfoldable pub field : List ℕ → Data → Option Data
 field key d = option_and_then unless_null (get key d)
 
 -- by the form, or wrong where it is absent
-abbrev pub required : {A : Type 0} → (Data → Reading A) → Option Data → Reading A
-required form None = wrong []
-required form (Some d) = form d
+abbrev pub required_by : {A : Type 0} → (Data → Reading A) → Option Data → Reading A
+required_by form None = wrong []
+required_by form (Some d) = form d
 
 -- by the form, or the default where it is absent
 abbrev pub optional : {A : Type 0} → A → (Data → Reading A) → Option Data → Reading A
@@ -31,7 +31,7 @@ maybe form (Some d) = reading_map Some (form d)
 
 -- the member at this key by the form; wrong at its place where it is absent
 abbrev pub required_at : {A : Type 0} → List ℕ → (Data → Reading A) → Data → Reading A
-required_at key form d = under key (required form (field key d))
+required_at key form d = under key (required_by form (field key d))
 
 -- the same, or the default where it is absent
 abbrev pub optional_at : {A : Type 0} → A → List ℕ → (Data → Reading A) → Data → Reading A
@@ -71,12 +71,12 @@ abbrev pub flag : Data → Reading Bool
 flag d = here (as_bool d)
 
 -- the number, if it is below the bound
-abbrev pub below : ℕ → ℕ → Option ℕ
-below bound n = if nat_lt n bound then Some n else None
+abbrev pub number_below : ℕ → ℕ → Option ℕ
+number_below bound n = if nat_lt n bound then Some n else None
 
 -- a whole number below the bound
 abbrev pub whole_form : ℕ → Data → Reading ℕ
-whole_form bound d = here (option_and_then (below bound) (option_and_then as_u64 (as_number d)))
+whole_form bound d = here (option_and_then (number_below bound) (option_and_then as_u64 (as_number d)))
 
 -- the number of a file or of a crate, which is required
 abbrev pub number_form : List ℕ → Data → Reading ℕ

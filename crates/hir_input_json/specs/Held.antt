@@ -9,8 +9,8 @@ use Rattle.serde_json.specs.Data.{Data, null, object, Members, no_members, membe
 use Rattle.serde_json.specs.View.{members_view}
 
 -- the object of these members
-abbrev pub held : BTreeMap (String Global) Value → Data
-held m = object (members_view m.entries)
+abbrev pub object_held : BTreeMap (String Global) Value → Data
+object_held m = object (members_view m.entries)
 
 -- the members, with a null for the one at this key
 abbrev pub with_null : List ℕ → Members → Members
@@ -18,6 +18,6 @@ with_null key no_members = no_members
 with_null key (member l e ms) = match_ordering (slice_cmp nat_cmp key l) (member l e (with_null key ms)) (member l null ms) (member l e (with_null key ms))
 
 -- the object after its member at this key was taken out, which leaves a null
-unfoldable pub without : List ℕ → Data → Data
-without key (object ms) = object (with_null key ms)
-without key d = d
+unfoldable pub without_key : List ℕ → Data → Data
+without_key key (object ms) = object (with_null key ms)
+without_key key d = d

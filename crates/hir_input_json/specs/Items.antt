@@ -12,7 +12,7 @@ use Rattle.hir_input_json.specs.Reading.{Reading, right, wrong, reading_map, rea
 use Rattle.hir_input_json.specs.Forms.{required_at, optional_at, maybe, maybe_at, by_form, on_word, wrong_at, unless_null, whole_form, text_form, flag, identifier_form, object_by, list_of}
 use Rattle.hir_input_json.specs.Literals.{context_at}
 use Rattle.hir_input_json.specs.Metas.{attrs_form}
-use Rattle.hir_input_json.specs.Nested.{nested}
+use Rattle.hir_input_json.specs.Nested.{nested_reading}
 use Rattle.hir_input_json.specs.Paths.{path_at, vis_form}
 use Rattle.hir_input_json.specs.UseTrees.{rename_form, use_tree_form}
 
@@ -151,4 +151,4 @@ item_with item d = object_by (codes "is") d (λ word.
 
 -- an item, with those inside it
 abbrev pub item : Data → Reading ItemView
-item = nested item_with
+item = nested_reading item_with

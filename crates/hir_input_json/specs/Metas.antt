@@ -8,7 +8,7 @@ use Rattle.hir_input_json.specs.Reading.{Reading, right, reading_both, under, �
 use Rattle.hir_input_json.specs.Cfgs.{cfg}
 use Rattle.hir_input_json.specs.Forms.{required_at, optional, maybe_at, list_at, on_word, wrong_at, text_form, object_by}
 use Rattle.hir_input_json.specs.Literals.{context_at, literal}
-use Rattle.hir_input_json.specs.Nested.{nested}
+use Rattle.hir_input_json.specs.Nested.{nested_reading}
 use Rattle.hir_input_json.specs.Paths.{path_at}
 
 -- the condition of a meta, which cannot be read where it is absent or null
@@ -67,7 +67,7 @@ meta_form_with meta d = object_by (codes "meta") d (λ word.
 
 -- a meta, with those inside it
 abbrev pub meta_form : Data → Reading MetaView
-meta_form = nested meta_form_with
+meta_form = nested_reading meta_form_with
 
 -- the metas of an owner, none where they are absent
 abbrev pub attrs_form : Data → Reading (List MetaView)

@@ -9,5 +9,5 @@ nested_at form zero d = wrong []
 nested_at form (suc n) d = form (nested_at form n) d
 
 -- down to the last
-unfoldable pub nested : {A : Type 0} → ((Data → Reading A) → Data → Reading A) → Data → Reading A
-nested form d = nested_at form (suc (depth d)) d
+unfoldable pub nested_reading : {A : Type 0} → ((Data → Reading A) → Data → Reading A) → Data → Reading A
+nested_reading form d = nested_at form (suc (depth d)) d

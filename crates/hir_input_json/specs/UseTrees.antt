@@ -6,7 +6,7 @@ use Rattle.hir_input.specs.UseTreeView.{UseTreeView, tree_from}
 use Rattle.hir_input_json.specs.Reading.{Reading, right, reading_map, here, ◌>>=◌}
 use Rattle.hir_input.specs.Name.{name_in}
 use Rattle.hir_input_json.specs.Forms.{optional_at, maybe_at, on_word, text_form, flag, object_members, list_of}
-use Rattle.hir_input_json.specs.Nested.{nested}
+use Rattle.hir_input_json.specs.Nested.{nested_reading}
 use Rattle.hir_input_json.specs.Paths.{path_at}
 
 -- the text `_` for a rename without a name, any other name for that name
@@ -31,4 +31,4 @@ use_tree_with tree d = do
 
 -- a use tree, with those inside it
 abbrev pub use_tree_form : Data → Reading UseTreeView
-use_tree_form = nested use_tree_with
+use_tree_form = nested_reading use_tree_with

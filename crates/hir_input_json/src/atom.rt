@@ -4,7 +4,7 @@ ghost use Rattle.serde_json.specs.View.{view, items_view};
 ghost use Rattle.hir_input.specs.Cfg.{atom_view};
 ghost use Rattle.hir_input_json.specs.Cfgs.{atom as atom_form, keyed_by};
 ghost use Rattle.hir_input_json.specs.Forms.{each, list_at as each_at};
-ghost use Rattle.hir_input_json.specs.Held.{held, without};
+ghost use Rattle.hir_input_json.specs.Held.{object_held, without_key};
 ghost use Rattle.hir_input_json.specs.Reads.{Reads};
 
 use crate::each_of;
@@ -22,14 +22,14 @@ pub(crate) fn keyed_atom_of(
     key: Value,
     members: &mut Members,
 ) -> Result<CfgAtom, Fault>
-    ensures { Reads atom_view result (keyed_by (view key) (held members.old)) }
+    ensures { Reads atom_view result (keyed_by (view key) (object_held members.old)) }
 {
     let key = name_of(alloc, key).in_member(alloc, "key")?;
     let value = required_text_at(alloc, members, "value")?;
     Ok(CfgAtom::KeyValue { key, value })
 }
 
-#[tactic(auto, using(crate::proofs::Held::field_without))]
+#[tactic(auto, using(crate::proofs::MemberObjects::field_without))]
 pub(crate) fn atom_of(alloc: Global, value: Value) -> Result<CfgAtom, Fault>
     ensures { Reads atom_view result (atom_form (view value)) }
 {
@@ -52,8 +52,8 @@ fn atoms_of(alloc: Global, items: Vec<Value>) -> Result<Vec<CfgAtom>, Fault>
 /// `WrongForm` comes only where the list is not of its form (`Cfgs.atom`), and tells where.
 pub fn atoms_at(alloc: Global, members: &mut Members, key: &str) -> Result<Vec<CfgAtom>, Fault>
     ensures reads { Reads (λ v. map atom_view v.items) result
-        (each_at atom_form key.now (held members.old)) }
-    ensures left { OnOk result (held members.new ≡ without key.now (held members.old)) }
+        (each_at atom_form key.now (object_held members.old)) }
+    ensures left { OnOk result (object_held members.new ≡ without_key key.now (object_held members.old)) }
 {
     let items = list_at(alloc, members, key)?;
     atoms_of(alloc, items).in_member(alloc, key)

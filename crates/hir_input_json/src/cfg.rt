@@ -4,14 +4,14 @@ ghost use Rattle.serde_json.specs.View.{view, items_view};
 ghost use Rattle.hir_input.specs.Cfg.{cfg_view};
 ghost use Rattle.hir_input_json.specs.Cfgs.{cfg as cfg_form, cfg_by as cfg_by_form, cfg_with};
 ghost use Rattle.hir_input_json.specs.Forms.{each, list_of};
-ghost use Rattle.hir_input_json.specs.Held.{held, without};
+ghost use Rattle.hir_input_json.specs.Held.{object_held, without_key};
 ghost use Rattle.hir_input_json.specs.Metas.{condition_at as condition_form};
 ghost use Rattle.hir_input_json.specs.Reads.{Reads};
 
 use crate::atom::{atom_of, keyed_atom_of};
 use crate::each_of;
 use crate::fault::{Fault, ReadIn};
-use crate::member::{Members, array_of, members_of, remove_member, taken};
+use crate::member::{Members, array_of, members_of, remove_member, take_member};
 use hir_input::CfgExpr;
 use serde_json::Value;
 use std::alloc::Global;
@@ -41,19 +41,19 @@ fn cfg_in(alloc: Global, value: Value) -> Result<CfgExpr, Fault>
 
 // A condition by the first key that it holds.
 #[cycle(cfgs)]
-#[tactic(auto, using(crate::proofs::Inside::got_depths, hir_input::proofs::CfgLemmas::cfg_views))]
+#[tactic(auto, using(crate::proofs::NestedForms::got_depths, hir_input::proofs::CfgLemmas::cfg_views))]
 fn cfg_by(alloc: Global, members: &mut Members) -> Result<CfgExpr, Fault>
-    ensures { Reads cfg_view result (cfg_by_form cfg_form (held members.old)) }
+    ensures { Reads cfg_view result (cfg_by_form cfg_form (object_held members.old)) }
 {
     let inner = remove_member(members, "not");
-    if let Some(key) = taken(members, "key") {
+    if let Some(key) = take_member(members, "key") {
         return Ok(CfgExpr::Atom(keyed_atom_of(alloc, key, members)?));
     }
-    if let Some(list) = taken(members, "all") {
+    if let Some(list) = take_member(members, "all") {
         let cfgs = cfgs_in(alloc, list).in_member(alloc, "all")?;
         return Ok(CfgExpr::All(cfgs));
     }
-    if let Some(list) = taken(members, "any") {
+    if let Some(list) = take_member(members, "any") {
         let cfgs = cfgs_in(alloc, list).in_member(alloc, "any")?;
         return Ok(CfgExpr::Any(cfgs));
     }
@@ -67,7 +67,7 @@ fn cfg_by(alloc: Global, members: &mut Members) -> Result<CfgExpr, Fault>
 }
 
 #[cycle(cfgs)]
-#[tactic(auto, using(crate::proofs::Inside::depth_array))]
+#[tactic(auto, using(crate::proofs::NestedForms::depth_array))]
 fn cfgs_in(alloc: Global, list: Value) -> Result<Vec<CfgExpr>, Fault>
     ensures { Reads (λ v. map cfg_view v.items) result (list_of cfg_form (view list)) }
 {
@@ -84,8 +84,8 @@ fn cfgs_of(alloc: Global, items: Vec<Value>) -> Result<Vec<CfgExpr>, Fault>
 
 // The condition of a meta, taken out, which cannot be read where it is absent.
 pub(crate) fn condition_at(alloc: Global, members: &mut Members) -> Result<CfgExpr, Fault>
-    ensures reads { Reads cfg_view result (condition_form (held members.old)) }
-    ensures left { OnOk result (held members.new ≡ without (codes "cfg") (held members.old)) }
+    ensures reads { Reads cfg_view result (condition_form (object_held members.old)) }
+    ensures left { OnOk result (object_held members.new ≡ without_key (codes "cfg") (object_held members.old)) }
 {
     match remove_member(members, "cfg") {
         Some(found) => cfg_of(alloc, found).in_member(alloc, "cfg"),

@@ -1,7 +1,7 @@
 //! Syntax contexts, read from their forms.
 ghost use Rattle.std.specs.Prelude.{◌≡◌};
 ghost use Rattle.serde_json.specs.View.{view};
-ghost use Rattle.hir_input_json.specs.Held.{held};
+ghost use Rattle.hir_input_json.specs.Held.{object_held};
 ghost use Rattle.hir_input_json.specs.Literals.{context as context_form, context_at as context_at_form, root_word};
 ghost use Rattle.hir_input_json.specs.Reads.{Reads};
 
@@ -35,7 +35,7 @@ fn context_of(alloc: Global, value: &Value) -> Result<SyntaxContext, Fault>
 
 // The latest root where it is absent.
 pub(crate) fn context_at(alloc: Global, members: &Members) -> Result<SyntaxContext, Fault>
-    ensures { Reads (λ ctxt. ctxt) result (context_at_form (held members.now)) }
+    ensures { Reads (λ ctxt. ctxt) result (context_at_form (object_held members.now)) }
 {
     match field(members, "ctxt") {
         Some(found) => context_of(alloc, found).in_member(alloc, "ctxt"),

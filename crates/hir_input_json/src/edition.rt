@@ -6,11 +6,11 @@ ghost use Rattle.hir_input.specs.declared.edition.EditionYear.TheVariants.{E2024
 ghost use Rattle.hir_input_json.specs.Editions.{edition as edition_form, edition_at as edition_at_form};
 ghost use Rattle.hir_input_json.specs.Editions.{year as year_form};
 ghost use Rattle.hir_input_json.specs.Forms.{optional_at};
-ghost use Rattle.hir_input_json.specs.Held.{held, without};
+ghost use Rattle.hir_input_json.specs.Held.{object_held, without_key};
 ghost use Rattle.hir_input_json.specs.Reads.{Reads};
 
 use crate::fault::{Fault, ReadIn};
-use crate::member::{Members, field, members_of, taken};
+use crate::member::{Members, field, members_of, take_member};
 use crate::name::names_at;
 use hir_input::{Edition, EditionYear};
 use serde_json::Value;
@@ -19,7 +19,7 @@ use std::alloc::Global;
 // The latest year where it is absent.
 fn year_at(alloc: Global, members: &Members) -> Result<EditionYear, Fault>
     ensures { Reads (λ year. year) result
-        (optional_at E2024 (codes "year") year_form (held members.now)) }
+        (optional_at E2024 (codes "year") year_form (object_held members.now)) }
 {
     let Some(year) = field(members, "year") else {
         return Ok(EditionYear::E2024);
@@ -33,7 +33,7 @@ fn year_at(alloc: Global, members: &Members) -> Result<EditionYear, Fault>
     }
 }
 
-#[tactic(auto, using(crate::proofs::Held::field_without))]
+#[tactic(auto, using(crate::proofs::MemberObjects::field_without))]
 fn edition_of(alloc: Global, value: Value) -> Result<Edition, Fault>
     ensures { Reads edition_view result (edition_form (view value)) }
 {
@@ -47,10 +47,10 @@ fn edition_of(alloc: Global, value: Value) -> Result<Edition, Fault>
 ///
 /// `WrongForm` comes only where it is there and not of its form (`Editions.edition`), and tells where.
 pub fn edition_at(alloc: Global, members: &mut Members) -> Result<Edition, Fault>
-    ensures reads { Reads edition_view result (edition_at_form (held members.old)) }
-    ensures left { OnOk result (held members.new ≡ without (codes "edition") (held members.old)) }
+    ensures reads { Reads edition_view result (edition_at_form (object_held members.old)) }
+    ensures left { OnOk result (object_held members.new ≡ without_key (codes "edition") (object_held members.old)) }
 {
-    match taken(members, "edition") {
+    match take_member(members, "edition") {
         Some(edition) => { edition_of(alloc, edition).in_member(alloc, "edition") }
         None => Ok(Edition {
             year: EditionYear::E2024,

@@ -2,12 +2,14 @@
 ghost use Rattle.std.specs.Prelude.{◌≡◌, OnOk, codes, option_map, string_bytes};
 ghost use Rattle.serde_json.specs.View.{view};
 ghost use Rattle.hir_input_json.specs.Forms.{required_at as required_form, optional_at, maybe_at, text_form};
-ghost use Rattle.hir_input_json.specs.Held.{held, without};
+ghost use Rattle.hir_input_json.specs.Held.{object_held, without_key};
 ghost use Rattle.hir_input_json.specs.Literals.{literal as literal_form, span as span_form, literal_span as span_from};
 ghost use Rattle.hir_input_json.specs.Reads.{Reads};
 
 use crate::fault::{Fault, ReadIn};
-use crate::member::{Members, field, maybe_of, members_of, required_at, taken, text_of, u32_of};
+use crate::member::{
+    Members, field, maybe_of, members_of, required_at, take_member, text_of, u32_of,
+};
 use hir_input::{Literal, Span, SyntaxContext};
 use serde_json::Value;
 use std::alloc::Global;
@@ -18,8 +20,8 @@ pub(crate) fn required_text_at(
     members: &mut Members,
     key: &str,
 ) -> Result<String, Fault>
-    ensures reads { Reads string_bytes result (required_form key.now text_form (held members.old)) }
-    ensures left { OnOk result (held members.new ≡ without key.now (held members.old)) }
+    ensures reads { Reads string_bytes result (required_form key.now text_form (object_held members.old)) }
+    ensures left { OnOk result (object_held members.new ≡ without_key key.now (object_held members.old)) }
 {
     let found = required_at(alloc, members, key)?;
     text_of(alloc, found).in_member(alloc, key)
@@ -27,8 +29,8 @@ pub(crate) fn required_text_at(
 
 fn string_at(alloc: Global, members: &mut Members) -> Result<Option<String>, Fault>
     ensures reads { Reads (option_map string_bytes) result
-        (maybe_at (codes "string") text_form (held members.old)) }
-    ensures left { OnOk result (held members.new ≡ without (codes "string") (held members.old)) }
+        (maybe_at (codes "string") text_form (object_held members.old)) }
+    ensures left { OnOk result (object_held members.new ≡ without_key (codes "string") (object_held members.old)) }
 {
     maybe_of!(alloc, members, "string", text_of)
 }
@@ -52,7 +54,7 @@ fn span_of(alloc: Global, value: &Value, ctxt: SyntaxContext) -> Result<Span, Fa
 // Empty at 0 where it is absent.
 fn span_at(alloc: Global, members: &Members, ctxt: SyntaxContext) -> Result<Span, Fault>
     ensures { Reads (λ span. span) result
-        (optional_at (span_from ctxt 0 0) (codes "span") (span_form ctxt) (held members.now)) }
+        (optional_at (span_from ctxt 0 0) (codes "span") (span_form ctxt) (object_held members.now)) }
 {
     match field(members, "span") {
         Some(found) => { span_of(alloc, found, ctxt).in_member(alloc, "span") }
@@ -64,7 +66,7 @@ fn span_at(alloc: Global, members: &Members, ctxt: SyntaxContext) -> Result<Span
     }
 }
 
-#[tactic(auto, using(crate::proofs::Held::field_without))]
+#[tactic(auto, using(crate::proofs::MemberObjects::field_without))]
 fn literal_of(alloc: Global, value: Value, ctxt: SyntaxContext) -> Result<Literal, Fault>
     ensures { Reads (λ literal. literal) result (literal_form ctxt (view value)) }
 {
@@ -86,7 +88,7 @@ pub(crate) fn literal_at(
     ctxt: SyntaxContext,
 ) -> Result<Option<Literal>, Fault>
     ensures { Reads (λ literal. literal) result
-        (maybe_at (codes "value") (literal_form ctxt) (held members.old)) }
+        (maybe_at (codes "value") (literal_form ctxt) (object_held members.old)) }
 {
     maybe_of!(alloc, members, "value", literal_of, ctxt)
 }

@@ -6,7 +6,7 @@ ghost use Rattle.hir_input_json.specs.Reading.{right};
 ghost use Rattle.hir_input_json.specs.Forms.{field as field_of, required_at as required_form, optional_at, flag};
 ghost use Rattle.hir_input_json.specs.Forms.{array_items, text_form, whole_form, number_form as id_form};
 ghost use Rattle.hir_input_json.specs.Forms.{items_at as items_form};
-ghost use Rattle.hir_input_json.specs.Held.{held, without};
+ghost use Rattle.hir_input_json.specs.Held.{object_held, without_key};
 ghost use Rattle.hir_input_json.specs.Reads.{IsHere, Reads};
 
 use crate::fault::{Fault, ReadIn};
@@ -20,7 +20,7 @@ pub type Members = Map<String, Value>;
 ///
 /// An error comes exactly where the value is no object.
 pub fn members_of(alloc: Global, value: Value) -> Result<Members, Fault>
-    ensures { MatchResult result (λ members. view value ≡ held members)
+    ensures { MatchResult result (λ members. view value ≡ object_held members)
         (λ e. IsHere e × (as_object (view value) ≡ None)) }
 {
     match value {
@@ -67,7 +67,7 @@ macro_rules! maybe_list_of {
 // The member at this key, taken out, by the function that reads one; it may be absent.
 macro_rules! maybe_of {
     ($alloc:expr, $members:expr, $key:expr, $read:ident $(, $more:expr)*) => {
-        match taken($members, $key) {
+        match take_member($members, $key) {
             Some(found) => Ok(Some($read($alloc, found $(, $more)*).in_member($alloc, $key)?)),
             None => Ok(None),
         }
@@ -88,7 +88,7 @@ pub(crate) fn text_of(alloc: Global, value: Value) -> Result<String, Fault>
 }
 
 fn member_at<'v>(members: &'v Members, key: &str) -> Option<&'v Value>
-    ensures { option_map (λ v. view v.now) result ≡ get_in key.now (held members.now) }
+    ensures { option_map (λ v. view v.now) result ≡ get_in key.now (object_held members.now) }
 {
     members.get(key)
 }
@@ -96,8 +96,8 @@ fn member_at<'v>(members: &'v Members, key: &str) -> Option<&'v Value>
 // Takes the member out, also if it is null, and leaves a null.
 #[inline(always)]
 pub(crate) fn remove_member(members: &mut Members, key: &str) -> Option<Value>
-    ensures taken { option_map view result ≡ get_in key.now (held members.old) }
-    ensures left { held members.new ≡ without key.now (held members.old) }
+    ensures taken { option_map view result ≡ get_in key.now (object_held members.old) }
+    ensures left { object_held members.new ≡ without_key key.now (object_held members.old) }
 {
     match members.get_mut(key) {
         Some(found) => Some(found.take()),
@@ -110,7 +110,7 @@ pub(crate) fn remove_member(members: &mut Members, key: &str) -> Option<Value>
 /// A null counts as absent, as in every form but a condition's.
 #[tactic(auto, unfolding(crate::specs::Forms::field))]
 pub fn field<'v>(members: &'v Members, key: &str) -> Option<&'v Value>
-    ensures { option_map (λ v. view v.now) result ≡ field_of key.now (held members.now) }
+    ensures { option_map (λ v. view v.now) result ≡ field_of key.now (object_held members.now) }
 {
     match member_at(members, key) {
         Some(Value::Null) | None => None,
@@ -121,9 +121,9 @@ pub fn field<'v>(members: &'v Members, key: &str) -> Option<&'v Value>
 /// Takes the member out, unless it is null, and leaves a null.
 #[inline(always)]
 #[tactic(auto, unfolding(crate::specs::Forms::field))]
-pub fn taken(members: &mut Members, key: &str) -> Option<Value>
-    ensures taken { option_map view result ≡ field_of key.now (held members.old) }
-    ensures left { held members.new ≡ without key.now (held members.old) }
+pub fn take_member(members: &mut Members, key: &str) -> Option<Value>
+    ensures taken { option_map view result ≡ field_of key.now (object_held members.old) }
+    ensures left { object_held members.new ≡ without_key key.now (object_held members.old) }
 {
     match remove_member(members, key) {
         Some(Value::Null) | None => None,
@@ -135,17 +135,17 @@ pub fn taken(members: &mut Members, key: &str) -> Option<Value>
 ///
 /// `WrongForm` comes only where it is absent.
 pub fn required_at(alloc: Global, members: &mut Members, key: &str) -> Result<Value, Fault>
-    ensures reads { Reads view result (required_form key.now right (held members.old)) }
-    ensures left { OnOk result (held members.new ≡ without key.now (held members.old)) }
+    ensures reads { Reads view result (required_form key.now right (object_held members.old)) }
+    ensures left { OnOk result (object_held members.new ≡ without_key key.now (object_held members.old)) }
 {
-    taken(members, key).ok_or_else(|| Fault::at(alloc, key))
+    take_member(members, key).ok_or_else(|| Fault::at(alloc, key))
 }
 
 /// The word that says which case of a form this is.
 ///
 /// `WrongForm` comes only where the member is absent or no string.
 pub fn word_at<'v>(alloc: Global, members: &'v Members, key: &str) -> Result<&'v str, Fault>
-    ensures { Reads (λ word. word.now) result (required_form key.now text_form (held members.now)) }
+    ensures { Reads (λ word. word.now) result (required_form key.now text_form (object_held members.now)) }
 {
     field(members, key)
         .and_then(Value::as_str)
@@ -154,7 +154,7 @@ pub fn word_at<'v>(alloc: Global, members: &'v Members, key: &str) -> Result<&'v
 
 // A truth value, false where it is absent.
 pub(crate) fn flag_at(alloc: Global, members: &Members, key: &str) -> Result<bool, Fault>
-    ensures { Reads (λ flag. flag) result (optional_at false key.now flag (held members.now)) }
+    ensures { Reads (λ flag. flag) result (optional_at false key.now flag (object_held members.now)) }
 {
     match field(members, key) {
         Some(found) => found.as_bool().ok_or_else(|| Fault::at(alloc, key)),
@@ -164,10 +164,10 @@ pub(crate) fn flag_at(alloc: Global, members: &Members, key: &str) -> Result<boo
 
 // Takes a text out, empty where it is absent.
 pub(crate) fn text_at(alloc: Global, members: &mut Members, key: &str) -> Result<String, Fault>
-    ensures reads { Reads string_bytes result (optional_at [] key.now text_form (held members.old)) }
-    ensures left { OnOk result (held members.new ≡ without key.now (held members.old)) }
+    ensures reads { Reads string_bytes result (optional_at [] key.now text_form (object_held members.old)) }
+    ensures left { OnOk result (object_held members.new ≡ without_key key.now (object_held members.old)) }
 {
-    match taken(members, key) {
+    match take_member(members, key) {
         Some(found) => text_of(alloc, found).in_member(alloc, key),
         None => Ok(String::new(alloc)),
     }
@@ -177,10 +177,10 @@ pub(crate) fn text_at(alloc: Global, members: &mut Members, key: &str) -> Result
 ///
 /// `WrongForm` comes only where the member is there and is no array. The errors of an item are for whoever reads it.
 pub fn list_at(alloc: Global, members: &mut Members, key: &str) -> Result<Vec<Value>, Fault>
-    ensures reads { Reads (λ v. items_view v.items) result (items_form key.now (held members.old)) }
-    ensures left { OnOk result (held members.new ≡ without key.now (held members.old)) }
+    ensures reads { Reads (λ v. items_view v.items) result (items_form key.now (object_held members.old)) }
+    ensures left { OnOk result (object_held members.new ≡ without_key key.now (object_held members.old)) }
 {
-    match taken(members, key) {
+    match take_member(members, key) {
         Some(list) => array_of(alloc, list).in_member(alloc, key),
         None => Ok(Vec::new(alloc)),
     }
@@ -204,7 +204,7 @@ pub(crate) fn u32_of(alloc: Global, value: &Value) -> Result<u32, Fault>
 
 // A whole number of 16 bits, 0 where it is absent.
 pub(crate) fn u16_at(alloc: Global, members: &Members, key: &str) -> Result<u16, Fault>
-    ensures { Reads (λ n. n) result (optional_at 0 key.now (whole_form (2 ^ 16)) (held members.now)) }
+    ensures { Reads (λ n. n) result (optional_at 0 key.now (whole_form (2 ^ 16)) (object_held members.now)) }
 {
     match field(members, key) {
         Some(found) => u16_of(alloc, found).in_member(alloc, key),
@@ -214,7 +214,7 @@ pub(crate) fn u16_at(alloc: Global, members: &Members, key: &str) -> Result<u16,
 
 // A whole number of 32 bits, 0 where it is absent.
 pub(crate) fn u32_at(alloc: Global, members: &Members, key: &str) -> Result<u32, Fault>
-    ensures { Reads (λ n. n) result (optional_at 0 key.now (whole_form (2 ^ 32)) (held members.now)) }
+    ensures { Reads (λ n. n) result (optional_at 0 key.now (whole_form (2 ^ 32)) (object_held members.now)) }
 {
     match field(members, key) {
         Some(found) => u32_of(alloc, found).in_member(alloc, key),
@@ -226,7 +226,7 @@ pub(crate) fn u32_at(alloc: Global, members: &Members, key: &str) -> Result<u32,
 ///
 /// `WrongForm` comes only where the member is there and is no such number, as where it is below 0 or held as a float.
 pub fn u64_at(alloc: Global, members: &Members, key: &str) -> Result<u64, Fault>
-    ensures { Reads (λ n. n) result (optional_at 0 key.now (whole_form (2 ^ 64)) (held members.now)) }
+    ensures { Reads (λ n. n) result (optional_at 0 key.now (whole_form (2 ^ 64)) (object_held members.now)) }
 {
     match field(members, key) {
         Some(found) => found.as_u64().ok_or_else(|| Fault::at(alloc, key)),
@@ -238,7 +238,7 @@ pub fn u64_at(alloc: Global, members: &Members, key: &str) -> Result<u64, Fault>
 ///
 /// `WrongForm` comes only where the member is absent or no integer of 32 bits.
 pub fn id_at(alloc: Global, members: &Members, key: &str) -> Result<u32, Fault>
-    ensures { Reads (λ n. n) result (id_form key.now (held members.now)) }
+    ensures { Reads (λ n. n) result (id_form key.now (object_held members.now)) }
 {
     match field(members, key) {
         Some(found) => u32_of(alloc, found).in_member(alloc, key),

@@ -3,7 +3,7 @@ ghost use Rattle.std.specs.Prelude.{◌≡◌, OnOk, codes, map};
 ghost use Rattle.serde_json.specs.View.{view, items_view};
 ghost use Rattle.hir_input.specs.Attr.{meta_view};
 ghost use Rattle.hir_input_json.specs.Forms.{each};
-ghost use Rattle.hir_input_json.specs.Held.{held, without};
+ghost use Rattle.hir_input_json.specs.Held.{object_held, without_key};
 ghost use Rattle.hir_input_json.specs.Metas.{meta_form as meta_form, meta_form_with, key_value_form, tokens_form};
 ghost use Rattle.hir_input_json.specs.Metas.{cfg_attr_form, unsafe_form, attrs_form as attrs_form};
 ghost use Rattle.hir_input_json.specs.Reads.{Reads};
@@ -13,15 +13,15 @@ use crate::context::context_at;
 use crate::each_of;
 use crate::fault::{Fault, ReadIn};
 use crate::literal::{literal_at, required_text_at};
-use crate::member::{Members, list_at, members_of, taken, word_at};
+use crate::member::{Members, list_at, members_of, take_member, word_at};
 use crate::path::path_at;
 use hir_input::{Meta, TokenTree};
 use serde_json::Value;
 use std::alloc::Global;
 
-#[tactic(auto, using(crate::proofs::Held::field_without, hir_input::proofs::MetaLemmas::meta_views))]
+#[tactic(auto, using(crate::proofs::MemberObjects::field_without, hir_input::proofs::MetaLemmas::meta_views))]
 fn key_value_of(alloc: Global, members: &mut Members) -> Result<Meta, Fault>
-    ensures { Reads meta_view result (key_value_form (held members.old)) }
+    ensures { Reads meta_view result (key_value_form (object_held members.old)) }
 {
     let path = path_at(alloc, members)?;
     let ctxt = context_at(alloc, members)?;
@@ -29,9 +29,9 @@ fn key_value_of(alloc: Global, members: &mut Members) -> Result<Meta, Fault>
     Ok(Meta::KeyValue { path, value, ctxt })
 }
 
-#[tactic(auto, using(crate::proofs::Held::field_without, hir_input::proofs::MetaLemmas::meta_views))]
+#[tactic(auto, using(crate::proofs::MemberObjects::field_without, hir_input::proofs::MetaLemmas::meta_views))]
 fn tokens_of(alloc: Global, members: &mut Members) -> Result<Meta, Fault>
-    ensures { Reads meta_view result (tokens_form (held members.old)) }
+    ensures { Reads meta_view result (tokens_form (object_held members.old)) }
 {
     let path = path_at(alloc, members)?;
     let ctxt = context_at(alloc, members)?;
@@ -53,9 +53,9 @@ fn meta_of(alloc: Global, value: Value) -> Result<Meta, Fault>
 }
 
 #[cycle(metas)]
-#[tactic(auto, using(crate::proofs::Held::field_without, hir_input::proofs::MetaLemmas::meta_views))]
+#[tactic(auto, using(crate::proofs::MemberObjects::field_without, hir_input::proofs::MetaLemmas::meta_views))]
 fn meta_in(alloc: Global, members: &mut Members) -> Result<Meta, Fault>
-    ensures { Reads meta_view result (meta_form_with meta_form (held members.old)) }
+    ensures { Reads meta_view result (meta_form_with meta_form (object_held members.old)) }
 {
     match word_at(alloc, members, "meta")? {
         "path" => Ok(Meta::Path {
@@ -72,9 +72,9 @@ fn meta_in(alloc: Global, members: &mut Members) -> Result<Meta, Fault>
 }
 
 #[cycle(metas)]
-#[tactic(auto, using(crate::proofs::Inside::listed_depths, hir_input::proofs::MetaLemmas::meta_views))]
+#[tactic(auto, using(crate::proofs::NestedForms::listed_depths, hir_input::proofs::MetaLemmas::meta_views))]
 fn cfg_attr_of(alloc: Global, members: &mut Members) -> Result<Meta, Fault>
-    ensures { Reads meta_view result (cfg_attr_form meta_form (held members.old)) }
+    ensures { Reads meta_view result (cfg_attr_form meta_form (object_held members.old)) }
 {
     Ok(Meta::CfgAttr {
         condition: condition_at(alloc, members)?,
@@ -85,9 +85,9 @@ fn cfg_attr_of(alloc: Global, members: &mut Members) -> Result<Meta, Fault>
 #[cycle(metas)]
 #[tactic(auto, using(hir_input::proofs::MetaLemmas::meta_views))]
 fn unsafe_of(alloc: Global, members: &mut Members) -> Result<Meta, Fault>
-    ensures { Reads meta_view result (unsafe_form meta_form (held members.old)) }
+    ensures { Reads meta_view result (unsafe_form meta_form (object_held members.old)) }
 {
-    let Some(inner) = taken(members, "inner") else {
+    let Some(inner) = take_member(members, "inner") else {
         return Err(Fault::at(alloc, "inner"));
     };
     let inner = meta_of(alloc, inner).in_member(alloc, "inner")?;
@@ -105,8 +105,8 @@ fn metas_of(alloc: Global, items: Vec<Value>) -> Result<Vec<Meta>, Fault>
 ///
 /// `WrongForm` comes only where they are not of their form (`Metas.attrs_at`), and tells where.
 pub fn attrs_at(alloc: Global, members: &mut Members) -> Result<Vec<Meta>, Fault>
-    ensures reads { Reads (λ v. map meta_view v.items) result (attrs_form (held members.old)) }
-    ensures left { OnOk result (held members.new ≡ without (codes "attrs") (held members.old)) }
+    ensures reads { Reads (λ v. map meta_view v.items) result (attrs_form (object_held members.old)) }
+    ensures left { OnOk result (object_held members.new ≡ without_key (codes "attrs") (object_held members.old)) }
 {
     let items = list_at(alloc, members, "attrs")?;
     metas_of(alloc, items).in_member(alloc, "attrs")

@@ -5,11 +5,11 @@ ghost use Rattle.serde_json.specs.View.{view, items_view};
 ghost use Rattle.hir_input_json.specs.Reading.{here};
 ghost use Rattle.hir_input.specs.Name.{name_in};
 ghost use Rattle.hir_input_json.specs.Forms.{maybe_at, identifier_form as name_form, each_from, list_at as each_at};
-ghost use Rattle.hir_input_json.specs.Held.{held, without};
+ghost use Rattle.hir_input_json.specs.Held.{object_held, without_key};
 ghost use Rattle.hir_input_json.specs.Reads.{Reads};
 
 use crate::fault::{Fault, ReadIn};
-use crate::member::{Members, list_at, maybe_of, taken, text_of};
+use crate::member::{Members, list_at, maybe_of, take_member, text_of};
 use hir_input::Name;
 use serde_json::Value;
 use std::alloc::Global;
@@ -37,8 +37,8 @@ pub(crate) fn name_at(
     members: &mut Members,
     key: &str,
 ) -> Result<Option<Name>, Fault>
-    ensures reads { Reads (λ name. name) result (maybe_at key.now name_form (held members.old)) }
-    ensures left { OnOk result (held members.new ≡ without key.now (held members.old)) }
+    ensures reads { Reads (λ name. name) result (maybe_at key.now name_form (object_held members.old)) }
+    ensures left { OnOk result (object_held members.new ≡ without_key key.now (object_held members.old)) }
 {
     maybe_of!(alloc, members, key, name_of)
 }
@@ -66,8 +66,8 @@ pub(crate) fn names_of(
 ///
 /// `WrongForm` comes only where the member is no list of strings, or one of them is empty or holds a line feed.
 pub fn names_at(alloc: Global, members: &mut Members, key: &str) -> Result<Vec<Name>, Fault>
-    ensures reads { Reads (λ v. v.items) result (each_at name_form key.now (held members.old)) }
-    ensures left { OnOk result (held members.new ≡ without key.now (held members.old)) }
+    ensures reads { Reads (λ v. v.items) result (each_at name_form key.now (object_held members.old)) }
+    ensures left { OnOk result (object_held members.new ≡ without_key key.now (object_held members.old)) }
 {
     let items = list_at(alloc, members, key)?;
     names_of(alloc, items.into_iter(), 0).in_member(alloc, key)

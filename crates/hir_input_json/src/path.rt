@@ -2,14 +2,14 @@
 ghost use Rattle.std.specs.Prelude.{◌≡◌, ◌≤◌, OnOk, codes};
 ghost use Rattle.std.specs.Vec.Iter.{into_iter_items};
 ghost use Rattle.serde_json.specs.View.{view, items_view};
-ghost use Rattle.hir_input_json.specs.Held.{held, without};
+ghost use Rattle.hir_input_json.specs.Held.{object_held, without_key};
 ghost use Rattle.hir_input_json.specs.Paths.{path_node_form as path_form, path_at as path_at_form};
 ghost use Rattle.hir_input_json.specs.Paths.{listed_path as listed_form, names_behind, super_path as super_form};
 ghost use Rattle.hir_input_json.specs.Paths.{dollar_path as dollar_form, path_by as by_word};
 ghost use Rattle.hir_input_json.specs.Reads.{Reads};
 
 use crate::fault::{Fault, ReadIn};
-use crate::member::{Members, array_of, maybe_of, taken, text_of, u32_of};
+use crate::member::{Members, array_of, maybe_of, take_member, text_of, u32_of};
 use crate::name::names_of;
 use hir_input::ast::PathNode;
 use hir_input::{Crate, ModPath, PathKind};
@@ -91,8 +91,8 @@ pub(crate) fn path_of(alloc: Global, value: Value) -> Result<PathNode, Fault>
 
 // Takes the path of a meta or of a use tree out.
 pub(crate) fn path_at(alloc: Global, members: &mut Members) -> Result<Option<PathNode>, Fault>
-    ensures reads { Reads (λ path. path) result (path_at_form (held members.old)) }
-    ensures left { OnOk result (held members.new ≡ without (codes "path") (held members.old)) }
+    ensures reads { Reads (λ path. path) result (path_at_form (object_held members.old)) }
+    ensures left { OnOk result (object_held members.new ≡ without_key (codes "path") (object_held members.old)) }
 {
     maybe_of!(alloc, members, "path", path_of)
 }

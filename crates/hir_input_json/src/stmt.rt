@@ -3,7 +3,7 @@ ghost use Rattle.std.specs.Prelude.{◌≡◌, OnOk, codes, map};
 ghost use Rattle.serde_json.specs.View.{view, items_view};
 ghost use Rattle.hir_input.specs.Syntax.{call_view, stmt_view, stmts_view, tail_view};
 ghost use Rattle.hir_input_json.specs.Forms.{each, list_at as each_at, optional_at, text_form};
-ghost use Rattle.hir_input_json.specs.Held.{held, without};
+ghost use Rattle.hir_input_json.specs.Held.{object_held, without_key};
 ghost use Rattle.hir_input_json.specs.Syntaxes.{call as call_form, stmt as stmt_form, stmt_by, tail as tail_form};
 ghost use Rattle.hir_input_json.specs.Syntaxes.{tail_at as tail_at_form};
 ghost use Rattle.hir_input_json.specs.Reads.{Reads};
@@ -12,7 +12,7 @@ use crate::each_of;
 use crate::fault::{Fault, ReadIn};
 use crate::item::item_of;
 use crate::item::macros::macro_call_of;
-use crate::member::{Members, field, list_at, members_of, required_at, taken};
+use crate::member::{Members, field, list_at, members_of, required_at, take_member};
 use hir_input::ast::{MacroCall, Stmt, Tail};
 use serde_json::Value;
 use std::alloc::Global;
@@ -30,7 +30,7 @@ macro_rules! other_by {
 // The word of a call's kind, which may be absent.
 fn kind_at<'v>(alloc: Global, members: &'v Members) -> Result<&'v str, Fault>
     ensures { Reads (λ word. word.now) result
-        (optional_at (codes "macro_call") (codes "is") text_form (held members.now)) }
+        (optional_at (codes "macro_call") (codes "is") text_form (object_held members.now)) }
 {
     match field(members, "is") {
         Some(found) => found.as_str().ok_or_else(|| Fault::at(alloc, "is")),
@@ -59,15 +59,15 @@ fn stmt_of(alloc: Global, value: Value) -> Result<Stmt, Fault>
 }
 
 // An item, or else a call.
-#[tactic(auto, using(crate::proofs::Held::field_without))]
+#[tactic(auto, using(crate::proofs::MemberObjects::field_without))]
 fn stmt_in(alloc: Global, members: &mut Members) -> Result<Stmt, Fault>
-    ensures { Reads stmt_view result (stmt_by (held members.old)) }
+    ensures { Reads stmt_view result (stmt_by (object_held members.old)) }
 {
-    if let Some(item) = taken(members, "item") {
+    if let Some(item) = take_member(members, "item") {
         let item = item_of(alloc, item).in_member(alloc, "item")?;
         return Ok(Stmt::Item(item));
     }
-    let call = taken(members, "call").ok_or_else(|| Fault::here(alloc))?;
+    let call = take_member(members, "call").ok_or_else(|| Fault::here(alloc))?;
     let call = call_of(alloc, call).in_member(alloc, "call")?;
     Ok(Stmt::MacroCall(call))
 }
@@ -81,8 +81,8 @@ fn stmts_of(alloc: Global, values: Vec<Value>) -> Result<Vec<Stmt>, Fault>
 // Takes the statements out, none where they are absent.
 pub(crate) fn stmts_at(alloc: Global, members: &mut Members) -> Result<Vec<Stmt>, Fault>
     ensures reads { Reads (λ v. stmts_view v.items) result
-        (each_at stmt_form (codes "stmts") (held members.old)) }
-    ensures left { OnOk result (held members.new ≡ without (codes "stmts") (held members.old)) }
+        (each_at stmt_form (codes "stmts") (object_held members.old)) }
+    ensures left { OnOk result (object_held members.new ≡ without_key (codes "stmts") (object_held members.old)) }
 {
     let stmts = list_at(alloc, members, "stmts")?;
     stmts_of(alloc, stmts).in_member(alloc, "stmts")
@@ -102,10 +102,10 @@ fn tail_of(alloc: Global, value: Value) -> Result<Tail, Fault>
 
 // Takes the tail out, nothing where it is absent.
 pub(crate) fn tail_at(alloc: Global, members: &mut Members) -> Result<Tail, Fault>
-    ensures reads { Reads tail_view result (tail_at_form (held members.old)) }
-    ensures left { held members.new ≡ without (codes "tail") (held members.old) }
+    ensures reads { Reads tail_view result (tail_at_form (object_held members.old)) }
+    ensures left { object_held members.new ≡ without_key (codes "tail") (object_held members.old) }
 {
-    match taken(members, "tail") {
+    match take_member(members, "tail") {
         Some(tail) => tail_of(alloc, tail).in_member(alloc, "tail"),
         None => Ok(Tail::Nothing),
     }

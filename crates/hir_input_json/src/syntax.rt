@@ -2,7 +2,7 @@
 ghost use Rattle.std.specs.Prelude.{◌≡◌, OnOk, codes};
 ghost use Rattle.serde_json.specs.View.{view};
 ghost use Rattle.hir_input.specs.Syntax.{syntax_view, block_view};
-ghost use Rattle.hir_input_json.specs.Held.{held, without};
+ghost use Rattle.hir_input_json.specs.Held.{object_held, without_key};
 ghost use Rattle.hir_input_json.specs.Syntaxes.{source_form, macro_items_form, macro_stmts_form, syntax as syntax_form};
 ghost use Rattle.hir_input_json.specs.Syntaxes.{block_form as block_form};
 ghost use Rattle.hir_input_json.specs.Reads.{Reads};
@@ -16,9 +16,9 @@ use hir_input::ast::{BlockExpr, Syntax};
 use serde_json::Value;
 use std::alloc::Global;
 
-#[tactic(auto, using(crate::proofs::Held::field_without))]
+#[tactic(auto, using(crate::proofs::MemberObjects::field_without))]
 fn source_file_of(alloc: Global, members: &mut Members) -> Result<Syntax, Fault>
-    ensures { Reads syntax_view result (source_form (held members.old)) }
+    ensures { Reads syntax_view result (source_form (object_held members.old)) }
 {
     let attrs = attrs_at(alloc, members)?;
     let items = list_at(alloc, members, "items")?;
@@ -27,16 +27,16 @@ fn source_file_of(alloc: Global, members: &mut Members) -> Result<Syntax, Fault>
 }
 
 fn macro_items_of(alloc: Global, members: &mut Members) -> Result<Syntax, Fault>
-    ensures { Reads syntax_view result (macro_items_form (held members.old)) }
+    ensures { Reads syntax_view result (macro_items_form (object_held members.old)) }
 {
     let items = list_at(alloc, members, "items")?;
     let items = items_of(alloc, items).in_member(alloc, "items")?;
     Ok(Syntax::MacroItems { items })
 }
 
-#[tactic(auto, using(crate::proofs::Held::field_without))]
+#[tactic(auto, using(crate::proofs::MemberObjects::field_without))]
 fn macro_stmts_of(alloc: Global, members: &mut Members) -> Result<Syntax, Fault>
-    ensures { Reads syntax_view result (macro_stmts_form (held members.old)) }
+    ensures { Reads syntax_view result (macro_stmts_form (object_held members.old)) }
 {
     let stmts = stmts_at(alloc, members)?;
     let tail = tail_at(alloc, members)?;
@@ -54,7 +54,7 @@ pub fn syntax_of(alloc: Global, value: Value) -> Result<Syntax, Fault>
 }
 
 fn syntax_in(alloc: Global, members: &mut Members) -> Result<Syntax, Fault>
-    ensures { Reads syntax_view result (syntax_form (held members.old)) }
+    ensures { Reads syntax_view result (syntax_form (object_held members.old)) }
 {
     match word_at(alloc, members, "root")? {
         "source_file" => source_file_of(alloc, members),
@@ -68,11 +68,12 @@ fn syntax_in(alloc: Global, members: &mut Members) -> Result<Syntax, Fault>
 /// A block, whose members are those of an object that may hold others too. They are taken out and leave nulls.
 ///
 /// `WrongForm` comes only where the object is not of its form (`Syntaxes.block`), and tells where.
-#[tactic(auto, using(crate::proofs::Held::field_without))]
+#[tactic(auto, using(crate::proofs::MemberObjects::field_without))]
 pub fn block_in(alloc: Global, members: &mut Members) -> Result<BlockExpr, Fault>
-    ensures reads { Reads block_view result (block_form (held members.old)) }
-    ensures left { OnOk result (held members.new
-        ≡ without (codes "tail") (without (codes "stmts") (without (codes "attrs") (held members.old)))) }
+    ensures reads { Reads block_view result (block_form (object_held members.old)) }
+    ensures left { OnOk result (object_held members.new
+        ≡ without_key (codes "tail") (without_key (codes "stmts")
+        (without_key (codes "attrs") (object_held members.old)))) }
 {
     let attrs = attrs_at(alloc, members)?;
     let stmts = stmts_at(alloc, members)?;

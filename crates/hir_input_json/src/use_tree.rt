@@ -3,7 +3,7 @@ ghost use Rattle.std.specs.Prelude.{◌≡◌, OnOk, codes, map, option_map};
 ghost use Rattle.serde_json.specs.View.{view, items_view};
 ghost use Rattle.hir_input.specs.UseTreeView.{use_tree_view};
 ghost use Rattle.hir_input_json.specs.Forms.{each, list_of, maybe, maybe_at};
-ghost use Rattle.hir_input_json.specs.Held.{held, without};
+ghost use Rattle.hir_input_json.specs.Held.{object_held, without_key};
 ghost use Rattle.hir_input_json.specs.Reads.{Reads};
 ghost use Rattle.hir_input_json.specs.UseTrees.{rename_form as rename_form, use_tree_form as use_tree_form};
 ghost use Rattle.hir_input_json.specs.UseTrees.{use_tree_with};
@@ -11,7 +11,7 @@ ghost use Rattle.hir_input_json.specs.UseTrees.{use_tree_with};
 use crate::each_of;
 use crate::fault::{Fault, ReadIn};
 use crate::member::{
-    Members, array_of, flag_at, maybe_list_of, maybe_of, members_of, taken, text_of,
+    Members, array_of, flag_at, maybe_list_of, maybe_of, members_of, take_member, text_of,
 };
 use crate::name::name_from;
 use crate::path::path_at;
@@ -34,8 +34,8 @@ fn rename_of(alloc: Global, value: Value) -> Result<Rename, Fault>
 // Takes a rename out.
 pub(crate) fn rename_at(alloc: Global, members: &mut Members) -> Result<Option<Rename>, Fault>
     ensures reads { Reads (λ rename. rename) result
-        (maybe_at (codes "rename") rename_form (held members.old)) }
-    ensures left { OnOk result (held members.new ≡ without (codes "rename") (held members.old)) }
+        (maybe_at (codes "rename") rename_form (object_held members.old)) }
+    ensures left { OnOk result (object_held members.new ≡ without_key (codes "rename") (object_held members.old)) }
 {
     maybe_of!(alloc, members, "rename", rename_of)
 }
@@ -50,14 +50,14 @@ fn use_tree_of(alloc: Global, value: Value) -> Result<UseTree, Fault>
 }
 
 #[cycle(trees)]
-#[tactic(auto, using(crate::proofs::Inside::found_depths, crate::proofs::UseTrees::use_tree_view_made))]
+#[tactic(auto, using(crate::proofs::NestedForms::found_depths, crate::proofs::UseTrees::use_tree_view_made))]
 fn use_tree_in(alloc: Global, members: &mut Members) -> Result<UseTree, Fault>
-    ensures { Reads use_tree_view result (use_tree_with use_tree_form (held members.old)) }
+    ensures { Reads use_tree_view result (use_tree_with use_tree_form (object_held members.old)) }
 {
     let path = path_at(alloc, members)?;
     let star = flag_at(alloc, members, "star")?;
     let rename = rename_at(alloc, members)?;
-    let list = taken(members, "list");
+    let list = take_member(members, "list");
     let list = use_trees_in(alloc, list).in_member(alloc, "list")?;
     Ok(UseTree {
         path,
@@ -68,7 +68,7 @@ fn use_tree_in(alloc: Global, members: &mut Members) -> Result<UseTree, Fault>
 }
 
 #[cycle(trees)]
-#[tactic(auto, using(crate::proofs::Inside::depth_array))]
+#[tactic(auto, using(crate::proofs::NestedForms::depth_array))]
 fn use_trees_in(alloc: Global, list: Option<Value>) -> Result<Option<Vec<UseTree>>, Fault>
     ensures { Reads (option_map (λ v. map use_tree_view v.items)) result
         (maybe (list_of use_tree_form) (option_map view list)) }
@@ -87,7 +87,7 @@ fn use_trees_of(alloc: Global, items: Vec<Value>) -> Result<Vec<UseTree>, Fault>
 // The use tree of a use, taken out.
 pub(crate) fn use_tree_at(alloc: Global, members: &mut Members) -> Result<Option<UseTree>, Fault>
     ensures { Reads (option_map use_tree_view) result
-        (maybe_at (codes "tree") use_tree_form (held members.old)) }
+        (maybe_at (codes "tree") use_tree_form (object_held members.old)) }
 {
     maybe_of!(alloc, members, "tree", use_tree_of)
 }

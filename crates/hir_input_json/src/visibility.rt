@@ -2,12 +2,12 @@
 ghost use Rattle.std.specs.Prelude.{◌≡◌, OnOk, codes};
 ghost use Rattle.serde_json.specs.View.{view};
 ghost use Rattle.hir_input_json.specs.Forms.{maybe_at};
-ghost use Rattle.hir_input_json.specs.Held.{held, without};
+ghost use Rattle.hir_input_json.specs.Held.{object_held, without_key};
 ghost use Rattle.hir_input_json.specs.Paths.{vis_form as visibility_form, visibility_word};
 ghost use Rattle.hir_input_json.specs.Reads.{Reads};
 
 use crate::fault::{Fault, ReadIn};
-use crate::member::{Members, maybe_of, members_of, required_at, taken};
+use crate::member::{Members, maybe_of, members_of, required_at, take_member};
 use crate::path::path_of;
 use hir_input::ast::Visibility;
 use serde_json::Value;
@@ -44,8 +44,8 @@ pub(crate) fn visibility_at(
     members: &mut Members,
 ) -> Result<Option<Visibility>, Fault>
     ensures reads { Reads (λ visibility. visibility) result
-        (maybe_at (codes "vis") visibility_form (held members.old)) }
-    ensures left { OnOk result (held members.new ≡ without (codes "vis") (held members.old)) }
+        (maybe_at (codes "vis") visibility_form (object_held members.old)) }
+    ensures left { OnOk result (object_held members.new ≡ without_key (codes "vis") (object_held members.old)) }
 {
     maybe_of!(alloc, members, "vis", visibility_of)
 }

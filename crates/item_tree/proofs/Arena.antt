@@ -1,6 +1,6 @@
 -- The arena of visibilities: what stands in it has one id, which stays as more is met.
 use Rattle.std.proofs.Common.{◌≡◌, ◌<◌, ◌≤◌, ◌+◌, ◌-◌, ℕ, zero, suc, true, false, cond, eqb, List, [], ◌∷◌, ◌++◌, length, map, get_or, Option, None, Some, refl, ap, sym, ◌∙◌, arith, append_assoc, append-nil, length-append, inl, inr, slice_get, not}
-use Rattle.item_tree.proofs.Common.{cases_Bool, cases_lt, cond_both, eqb-true, ne_eqb, lt-ltb, le-ltb, false≢true, map-id, prefix_len-append, position_or_len_push, list_any_at, prefix_len-le-length, passes_at_first, slice_get-get_or, slice_get_within, same_Some, list_any, Path, VisibilityExplicitness, Explicit, RawVisibility, Module, PubSelf, ctor_with_min, Leaf, struct_item, Trunk, inline, Forest, fixed, first_fixed, arena_place, vis_id, or_public, vis_value, value_at, leaf_map, trunk_map, leaf_vis, trunk_vis, forest_vis, arena_of, meet, meet_all, same_visibility, firsts_behind, distinct}
+use Rattle.item_tree.proofs.Common.{cases_Bool, cases_lt, cond_both, eqb-true, ne_eqb, lt-ltb, le-ltb, false≢true, map-id, prefix_len-append, position_or_len_push, list_any_at, prefix_len-le-length, passes_at_first, slice_get-get_or, slice_get_within, same_Some, list_any, Path, VisibilityExplicitness, Explicit, RawVisibility, Module, PubSelf, ctor_with_min, Leaf, struct_item, Trunk, inline, Forest, fixed_visibilities, first_fixed, arena_place, vis_id, or_public, vis_value, value_at, leaf_map, trunk_map, leaf_vis, trunk_vis, forest_vis, arena_of, meet, meet_all, same_visibility, firsts_behind, distinct_visibilities}
 use Rattle.item_tree.proofs.Pieces.{get-left, get-at-seam}
 use Rattle.item_tree.proofs.VisibilityEq.{same-sound, same-itself}
 
@@ -67,7 +67,7 @@ meet_all-firsts ms (_ ∷ vs) = meet_all-firsts ms vs
 pub Extends-meet_all : (xs vs : List V) → Extends xs (meet_all xs vs)
 Extends-meet_all xs vs = (firsts_behind xs vs, meet_all-firsts xs vs)
 
-pub meet_distinct : (vs : List V) → meet_all [] vs ≡ distinct vs
+pub meet_distinct : (vs : List V) → meet_all [] vs ≡ distinct_visibilities vs
 meet_distinct vs = meet_all-firsts [] vs
 
 -- the arena of a forest is what is met in it
@@ -158,7 +158,7 @@ settled-arena f = rw (arena_met f) (settled-meet_all [] (forest_vis f) (λ k v g
 pub arena_once : (f : Forest) (j k : ℕ) (v : V) → slice_get (arena_of f) j ≡ Some v → slice_get (arena_of f) k ≡ Some v → j ≡ k
 arena_once f j k v g h = sym (settled-arena f j v g) ∙ settled-arena f k v h
 
-fixed-id : (xs : List V) (j : ℕ) (v : V) → slice_get fixed j ≡ Some v → vis_id xs v ≡ first_fixed + j
+fixed-id : (xs : List V) (j : ℕ) (v : V) → slice_get fixed_visibilities j ≡ Some v → vis_id xs v ≡ first_fixed + j
 fixed-id xs zero v h = ap (vis_id xs) (same_Some _ _ (sym h))
 fixed-id xs (suc zero) v h = ap (vis_id xs) (same_Some _ _ (sym h))
 fixed-id xs (suc (suc zero)) v h = ap (vis_id xs) (same_Some _ _ (sym h))

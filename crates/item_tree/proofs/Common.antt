@@ -25,7 +25,7 @@ pub use Rattle.item_tree.specs.Inner.PageByIds.{Gains, Starts, blank_between, it
 pub use Rattle.item_tree.specs.Inner.Statements.{body_items, stmt_item, tail_item}
 pub use Rattle.item_tree.specs.Kept.{head_of, kept, kept_all, kept_syntax, kept_top, module_node, shape_of}
 pub use Rattle.item_tree.specs.KeptUse.{ArePlacesOf, all_kept_places, if_kept, kept_bare, kept_places, kept_prefix, kept_tree, kept_trees, use_tree_limit, with_kept}
-pub use Rattle.item_tree.specs.Layout.{LayoutRow, arena_place, at_row, build, ctor_map, ctor_vis, first_fixed, fixed, forest_vis, gather, head_key, ids, kind_bit, layout, leaf_map, leaf_row, leaf_vis, node_id, node_row, node_rows, node_vis, node_walk, nth_node, or_public, parent_row, row_attrs, row_item, row_key, row_kind, row_node, row_tag, rows_of, tables_from, trunk_map, trunk_vis, unfold_tables, value_at, vis_id, vis_value, walk, zip_rows}
+pub use Rattle.item_tree.specs.Layout.{LayoutRow, arena_place, at_row, build, ctor_map, ctor_vis, first_fixed, fixed_visibilities, forest_vis, gather, head_key, ids, kind_bit, layout, leaf_map, leaf_row, leaf_vis, node_id, node_row, node_rows, node_vis, node_walk, nth_node, or_public, parent_row, row_attrs, row_item, row_key, row_kind, row_node, row_tag, rows_of, tables_from, trunk_map, trunk_vis, unfold_tables, value_at, vis_id, vis_value, walk, zip_rows}
 unfoldable pub use Rattle.item_tree.specs.Layout.{arena_of, node_at, vis_at}
 pub use Rattle.item_tree.specs.Leaves.{AreWritten, WrittenLeaf, all_leaves_from, imports_of, kept_count, leaf_imports, leaves, leaves_from, with_prefix}
 pub use Rattle.item_tree.specs.Line.{Line, blank, line_text, lines_of_text, lines_text, text}
@@ -35,13 +35,13 @@ unfoldable pub use Rattle.item_tree.specs.Page.{attr_text, call_id_text, constan
 pub use Rattle.item_tree.specs.Reach.{forest_ids, inner_ids, met_before, node_ids}
 unfoldable pub use Rattle.item_tree.specs.Reach.{all_ids, child_ids, ids_from, top_ids}
 pub use Rattle.item_tree.specs.Same.{equal_of_same, same, same_decides, same_itself}
-pub use Rattle.item_tree.specs.Shown.{HasVisibility, IsContained, IsLeaf, IsLent, IsModule, IsParent, LendAlike, Lent, StandFor, attrs_at, ctor_ids, lent, lent_attrs, lent_leaf, lent_parent}
+pub use Rattle.item_tree.specs.Shown.{HasVisibility, IsContained, IsLeaf, IsLent, IsModule, IsParent, LendAlike, Lent, StandFor, attrs_at, ctor_ids, lent_kind, lent_attrs, lent_leaf, lent_parent}
 pub use Rattle.item_tree.specs.Size.{Fits, IsPassed, IsTooLarge, Sizes, forest_supers, item_written, items_written, leaf_supers, most_attrs, most_written, only_visibilities, sizes_of, visibility_limit}
 pub use Rattle.item_tree.specs.Stored.{AreSound, column_in, column_places, has_tag, item_row, key_in, keys_in, lent_ast, lent_row, module_row, row_items, tables_of}
 pub use Rattle.item_tree.specs.Tree.{Branches, Tree, branch_and, branch_nodes, branches_from, glob, kind_step, no_branches, prefixed, single, tree_count, tree_nodes, tree_of, tree_of_kind, tree_step, trees_of}
 pub use Rattle.item_tree.specs.UseText.{shown_prefix, shown_rename}
 unfoldable pub use Rattle.item_tree.specs.UseText.{shown_tree, shown_trees}
-pub use Rattle.item_tree.specs.Visibility.{distinct, firsts_behind, read_visibility, same_visibility}
+pub use Rattle.item_tree.specs.Visibility.{distinct_visibilities, firsts_behind, read_visibility, same_visibility}
 pub use Rattle.item_tree.specs.Walk.{AreContained, IsWalkedOnce, children, children_at, count_at, of_id}
 pub use Rattle.item_tree.specs.declared.fault.LowerError.{LowerError}
 pub use Rattle.item_tree.specs.declared.items.ModKind.TheVariants.{Inline, Outline}
@@ -54,7 +54,7 @@ pub use Rattle.item_tree.specs.declared.visibility.RawVisibility.{RawVisibility}
 pub use Rattle.item_tree.specs.declared.visibility.RawVisibility.TheVariants.{Module, PubCrate, PubSelf, Public}
 pub use Rattle.item_tree.specs.declared.visibility.VisibilityExplicitness.{VisibilityExplicitness}
 pub use Rattle.item_tree.specs.declared.visibility.VisibilityExplicitness.TheVariants.{Explicit, Implicit}
-pub use Rattle.item_tree_attrs.specs.Collected.{Collected, attr_limit, collected, nothing_collected}
+pub use Rattle.item_tree_attrs.specs.Collected.{Collected, attr_limit, collection_of, nothing_collected}
 pub use Rattle.std.proofs.lemmas.Bool.{and_from, and_parts, cases_Bool, cases_lt, cond_both, eqb-true, false≢true, le-ltb, lt-ltb, ne_eqb}
 pub use Rattle.std.proofs.lemmas.Bool.Decides.{Decides-and, Decides-at, Decides-eqb, Decides-like, nat_tests, same_from_decides}
 pub use Rattle.std.proofs.lemmas.Grind.{common_steps, elements, flat_map-append, put_four, put_three, put_two}

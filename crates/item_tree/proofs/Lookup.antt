@@ -6,7 +6,7 @@ use Rattle.item_tree.specs.declared.rows.AstKey.{AstKey}
 use Rattle.item_tree.proofs.Arena.{KnowsAll-parts, leaf-said, trunk-said}
 use Rattle.item_tree.proofs.Canon.{kind_bit-small, length-rows_of}
 use Rattle.item_tree.proofs.Column.{lent-back, lent-each, places-length}
-use Rattle.item_tree.proofs.Reached.{Lies, IsMet, row_of, node_at-id, child_ids-at, stand-at, row-met, at-id_of, row-within, top_ids-is, top-stands}
+use Rattle.item_tree.proofs.TreeWalks.{Lies, IsMet, row_of, node_at-id, child_ids-at, stand-at, row-met, at-id_of, row-within, top_ids-is, top-stands}
 
 pub leaf_kind-map : {V W : Type 0} (f : V → W) (l : Leaf V) → leaf_kind l ≡ leaf_kind (leaf_map f l)
 leaf_kind-map f (plain k n v) = refl

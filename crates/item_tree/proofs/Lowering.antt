@@ -10,7 +10,7 @@ use Rattle.item_tree.proofs.Arena.{V, Extends, length-Extends, Extends-meet_all,
 use Rattle.item_tree.proofs.Column.{column-append, places-append}
 use Rattle.item_tree.proofs.Canon.{length-rows_of}
 use Rattle.item_tree.proofs.Lookup.{trunk_kind-map, leaf_kind-map}
-use Rattle.item_tree.proofs.Counted.{length-walk}
+use Rattle.item_tree.proofs.RowCounts.{length-walk}
 
 -- ---- forests one after another
 

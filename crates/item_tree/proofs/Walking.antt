@@ -1,7 +1,7 @@
 -- For whoever walks a tree by its ids, in this crate or in another.
 use Rattle.std.proofs.Common.{◌≡◌, ℕ, zero, suc, ◌+◌, ◌<◌, List, [], ◌∷◌, length, map, sum, get_or, Option, Some, None, refl, ap, sym, subst, ◌∙◌, arith, is_some, IsSome, sum_by, flat_map}
 use Rattle.item_tree.proofs.Common.{option_map_or, sum-map, sum_by-cons, flat_map-map, FileAstId, RawVisibility, Leaf, Trunk, Node, leaf, parent, Forest, empty, more, nodes, node_count, count, Unfolding, nothing, node_at, vis_at, inner_ids, met_before, top_ids, child_ids, IsContained, HasVisibility, StandFor, IsLeaf, IsParent, of_id, AreContained, children, count_at, IsWalkedOnce}
-use Rattle.item_tree.proofs.Reached.{walked_once, top_ids-is, top-stands}
+use Rattle.item_tree.proofs.TreeWalks.{walked_once, top_ids-is, top-stands}
 use Rattle.item_tree.proofs.VisOnce.{vis_once}
 
 -- ---- what is said of ids is what is said of the nodes that they stand for

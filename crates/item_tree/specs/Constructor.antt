@@ -5,7 +5,7 @@ use Rattle.hir_input.specs.Syntax.{FieldsView, record_fields, tuple_fields, no_f
 use Rattle.item_tree.specs.declared.visibility.RawVisibility.{RawVisibility}
 use Rattle.item_tree.specs.declared.visibility.RawVisibility.TheVariants.{PubSelf, PubCrate, Public}
 use Rattle.item_tree.specs.Node.{Ctor, no_ctor, ctor_with, ctor_with_min}
-use Rattle.item_tree.specs.Visibility.{distinct, read_visibility}
+use Rattle.item_tree.specs.Visibility.{distinct_visibilities, read_visibility}
 
 abbrev pub is_private : RawVisibility → Bool
 is_private (PubSelf e) = true
@@ -25,7 +25,7 @@ or_one (m ∷ ms) v = m ∷ ms
 
 abbrev pub deciding_by : Option RawVisibility → List RawVisibility → List RawVisibility
 deciding_by (Some v) vs = v ∷ []
-deciding_by None vs = or_one (distinct vs) (crate_or_public (list_any is_pub_crate vs))
+deciding_by None vs = or_one (distinct_visibilities vs) (crate_or_public (list_any is_pub_crate vs))
 
 -- the visibilities that decide who sees what needs all of them: the first private one; else those of modules, each once, in
 -- order of first appearance; else that of the crate; else public

@@ -23,9 +23,9 @@ shape_of (tuple_fields fields) = shape.Tuple
 shape_of no_fields = shape.Unit
 
 -- a path that can be read
-abbrev pub readable : PathNode → Option Path
-readable (Readable p) = Some p
-readable Unreadable = None
+abbrev pub readable_path : PathNode → Option Path
+readable_path (Readable p) = Some p
+readable_path Unreadable = None
 
 -- a module with a semicolon stands in another file; any other has the items of its list
 abbrev pub module_node : Bool → Head → List ℕ → RawVisibility → Forest → Node
@@ -56,7 +56,7 @@ module _ (options : List AtomView) (skipped : List (List ℕ)) where
     kept (bare_extern_block n) = Some (parent (head_of n) extern_block empty)
     kept (listed_extern_block n is) = Some (parent (head_of n) extern_block (kept_all is))
     kept (syntax.impl_item n of_trait) = Some (leaf (head_of n) (impl_item of_trait))
-    kept (syntax.macro_call c) = option_map (λ p. leaf (head_of c.node) (macro_call p c.expand_to c.ctxt)) (option_and_then readable c.path)
+    kept (syntax.macro_call c) = option_map (λ p. leaf (head_of c.node) (macro_call p c.expand_to c.ctxt)) (option_and_then readable_path c.path)
     kept (syntax.macro_rules n name) = option_map (λ name. leaf (head_of n) (macro_rules name)) name
     kept (asm_item n) = None
 

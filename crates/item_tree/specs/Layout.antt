@@ -7,15 +7,15 @@ use Rattle.item_tree_attrs.specs.Collected.{Collected}
 use Rattle.item_tree.specs.declared.visibility.RawVisibility.{RawVisibility}
 use Rattle.item_tree.specs.declared.visibility.RawVisibility.TheVariants.{Module, PubSelf, PubCrate, Public}
 use Rattle.item_tree.specs.declared.visibility.VisibilityExplicitness.TheVariants.{Explicit, Implicit}
-use Rattle.item_tree.specs.Visibility.{same_visibility, distinct}
+use Rattle.item_tree.specs.Visibility.{same_visibility, distinct_visibilities}
 use Rattle.item_tree.specs.Node.{Ctor, no_ctor, ctor_with, ctor_with_min, Leaf, plain, constant, struct_item, outline, use_item, extern_crate, impl_item, macro_call, macro_rules, Trunk, inline, extern_block, leaf_kind, trunk_kind, Head, Node, Forest, leaf, parent, empty, more, add, node_kind, Unfolding}
 use Rattle.item_tree.specs.Column.{has_no_attributes, unless, some_unless, column_of, places_from, attrs_stored}
 
 -- ---- visibilities, and the arena
 
 -- the visibilities that every tree has; their ids are the last of 32 bits, in this order
-abbrev pub fixed : List RawVisibility
-fixed = PubCrate ∷ PubSelf Explicit ∷ PubSelf Implicit ∷ Public ∷ []
+abbrev pub fixed_visibilities : List RawVisibility
+fixed_visibilities = PubCrate ∷ PubSelf Explicit ∷ PubSelf Implicit ∷ Public ∷ []
 
 -- the first of these ids: those below are places in the arena
 abbrev pub first_fixed : ℕ
@@ -35,7 +35,7 @@ vis_id arena Public = first_fixed + 3
 
 -- the visibility of an id, where it has one
 abbrev pub value_at : List RawVisibility → ℕ → Option RawVisibility
-value_at arena i = if nat_lt i first_fixed then slice_get arena i else slice_get fixed (i - first_fixed)
+value_at arena i = if nat_lt i first_fixed then slice_get arena i else slice_get fixed_visibilities (i - first_fixed)
 
 abbrev pub or_public : Option RawVisibility → RawVisibility
 or_public None = Public
@@ -112,7 +112,7 @@ abbrev mutual
 
 -- the distinct visibilities of modules in a forest, by first meeting
 unfoldable pub arena_of : Forest → List RawVisibility
-arena_of f = distinct (forest_vis f)
+arena_of f = distinct_visibilities (forest_vis f)
 
 -- ---- ids, rows and tables
 

@@ -71,23 +71,23 @@ lent_module a name v (Inline items) = lent_parent a (inline name v) items.items
 lent_module a name v Outline = lent_leaf a (outline name v)
 
 -- what an item's id lends
-abbrev pub lent : ModItemKind → Lent
-lent (item.Function a x) = lent_leaf a (plain plain_kind.Fn x.now.name x.now.visibility)
-lent (item.Union a x) = lent_leaf a (plain plain_kind.Union x.now.name x.now.visibility)
-lent (item.Enum a x) = lent_leaf a (plain plain_kind.Enum x.now.name x.now.visibility)
-lent (item.Static a x) = lent_leaf a (plain plain_kind.Static x.now.name x.now.visibility)
-lent (item.Trait a x) = lent_leaf a (plain plain_kind.Trait x.now.name x.now.visibility)
-lent (item.TypeAlias a x) = lent_leaf a (plain plain_kind.TypeAlias x.now.name x.now.visibility)
-lent (item.Macro2 a x) = lent_leaf a (plain plain_kind.MacroDef x.now.name x.now.visibility)
-lent (item.Const a x) = lent_leaf a (constant x.now.name x.now.visibility)
-lent (item.Struct a x) = lent_leaf a (struct_item x.now.name x.now.visibility x.now.shape (ctor_ids x.now.value_ns_ctor))
-lent (item.Mod a x) = lent_module a x.now.name x.now.visibility x.now.kind
-lent (item.Use a x) = lent_leaf a (use_item x.now.visibility x.now.tree)
-lent (item.ExternCrate a x) = lent_leaf a (extern_crate x.now.name x.now.visibility x.now.alias)
-lent (item.ExternBlock a x) = lent_parent a extern_block x.now.children.items
-lent (item.Impl a x) = lent_leaf a (impl_item x.now.is_trait_impl)
-lent (item.MacroCall a x) = lent_leaf a (macro_call x.now.path x.now.expand_to x.now.ctxt)
-lent (item.MacroRules a x) = lent_leaf a (macro_rules x.now.name)
+abbrev pub lent_kind : ModItemKind → Lent
+lent_kind (item.Function a x) = lent_leaf a (plain plain_kind.Fn x.now.name x.now.visibility)
+lent_kind (item.Union a x) = lent_leaf a (plain plain_kind.Union x.now.name x.now.visibility)
+lent_kind (item.Enum a x) = lent_leaf a (plain plain_kind.Enum x.now.name x.now.visibility)
+lent_kind (item.Static a x) = lent_leaf a (plain plain_kind.Static x.now.name x.now.visibility)
+lent_kind (item.Trait a x) = lent_leaf a (plain plain_kind.Trait x.now.name x.now.visibility)
+lent_kind (item.TypeAlias a x) = lent_leaf a (plain plain_kind.TypeAlias x.now.name x.now.visibility)
+lent_kind (item.Macro2 a x) = lent_leaf a (plain plain_kind.MacroDef x.now.name x.now.visibility)
+lent_kind (item.Const a x) = lent_leaf a (constant x.now.name x.now.visibility)
+lent_kind (item.Struct a x) = lent_leaf a (struct_item x.now.name x.now.visibility x.now.shape (ctor_ids x.now.value_ns_ctor))
+lent_kind (item.Mod a x) = lent_module a x.now.name x.now.visibility x.now.kind
+lent_kind (item.Use a x) = lent_leaf a (use_item x.now.visibility x.now.tree)
+lent_kind (item.ExternCrate a x) = lent_leaf a (extern_crate x.now.name x.now.visibility x.now.alias)
+lent_kind (item.ExternBlock a x) = lent_parent a extern_block x.now.children.items
+lent_kind (item.Impl a x) = lent_leaf a (impl_item x.now.is_trait_impl)
+lent_kind (item.MacroCall a x) = lent_leaf a (macro_call x.now.path x.now.expand_to x.now.ctxt)
+lent_kind (item.MacroRules a x) = lent_leaf a (macro_rules x.now.name)
 
 abbrev pub IsLent : Unfolding → ℕ → Lent → Type 0
 IsLent u i (lent_leaf a l) = IsLeaf u i a l
@@ -98,7 +98,7 @@ IsModule u i a name v k = IsLent u i (lent_module a name v k)
 
 -- what is lent for the id is the node's id and its item
 abbrev pub IsShown : Unfolding → ℕ → ModItemKind → Type 0
-IsShown u i k = IsLent u i (lent k)
+IsShown u i k = IsLent u i (lent_kind k)
 
 -- Two trees lend the same for the same ids.
 pub record LendAlike (u w : Unfolding) : Type 0 where

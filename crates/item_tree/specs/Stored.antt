@@ -4,7 +4,7 @@ use Rattle.hir_input.specs.declared.ast.PlainKind.TheVariants as plain_kind
 use Rattle.hir_input.specs.declared.ids.FileAstId.{FileAstId}
 use Rattle.hir_input.specs.declared.ids.AstIdKind.{AstIdKind}
 use Rattle.hir_input.specs.contracts.ids.AstIdKindPartialEq.TheImpl as kinds
-use Rattle.item_tree_attrs.specs.Collected.{Collected, collected}
+use Rattle.item_tree_attrs.specs.Collected.{Collected, collection_of}
 use Rattle.item_tree.specs.declared.items.ModItem.{ModItem}
 use Rattle.item_tree.specs.declared.items.ModItem.TheVariants as item
 use Rattle.item_tree.specs.declared.rows.AstKey.{AstKey}
@@ -64,7 +64,7 @@ abbrev pub column_places : Rows → List (Option ℕ)
 column_places r = map plain_place r.places.items
 
 abbrev pub column_in : Rows → List Collected
-column_in r = map collected r.column.items
+column_in r = map collection_of r.column.items
 
 -- the tables of a tree with these ids at the top, and the place of the top's attributes
 abbrev pub tables_of : List ℕ → ℕ → Rows → Tables

@@ -32,5 +32,5 @@ firsts_behind before (Module p e ∷ vs) = if list_any (same_visibility (Module 
 firsts_behind before (v ∷ vs) = firsts_behind before vs
 
 -- the distinct visibilities of modules among several, by first appearance
-abbrev pub distinct : List RawVisibility → List RawVisibility
-distinct vs = firsts_behind [] vs
+abbrev pub distinct_visibilities : List RawVisibility → List RawVisibility
+distinct_visibilities vs = firsts_behind [] vs

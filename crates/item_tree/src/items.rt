@@ -3,7 +3,7 @@ ghost use Rattle.std.specs.Prelude.{◌≡◌, ◌↔◌, ◌≢◌, ◌+◌, �
 ghost use Rattle.hir_input.specs.declared.ids.AstIdKind.TheVariants as kinds;
 ghost use Rattle.item_tree.specs.declared.items.FieldsShape.TheVariants.{Record};
 ghost use Rattle.item_tree.specs.Layout.{kind_bit, row_kind};
-ghost use Rattle.item_tree.specs.Shown.{lent};
+ghost use Rattle.item_tree.specs.Shown.{lent_kind};
 ghost use Rattle.item_tree.specs.Stored.{item_row, lent_ast, lent_row};
 ghost use Rattle.item_tree.specs.Tree.{tree_of};
 ghost use Rattle.item_tree.specs.UseItem.{UseFits};
@@ -515,8 +515,8 @@ impl ModItem {
 
     // Lends the item, with its id.
     pub(crate) fn lend(&self, ast_id: FileAstId) -> ModItemKind<'_>
-        ensures item { lent_row (lent result) ≡ item_row self.now }
-        ensures id { lent_ast (lent result) ≡ ast_id }
+        ensures item { lent_row (lent_kind result) ≡ item_row self.now }
+        ensures id { lent_ast (lent_kind result) ≡ ast_id }
     {
         match self {
             ModItem::Const(item) => ModItemKind::Const(ast_id, item),

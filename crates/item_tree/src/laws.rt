@@ -40,7 +40,7 @@ fn parts()
 {}
 
 // The same of visibilities and items by their values.
-#[tactic(auto, using(crate::proofs::Equal::items_decide))]
+#[tactic(auto, using(crate::proofs::Equality::items_decide))]
 fn items()
     ensures visibilities { IsKey ⟦<RawVisibility as PartialEq>⟧.eq ⟦<RawVisibility as Clone>⟧.is_clone
         ⟦<RawVisibility as Hash>⟧.hash_input }

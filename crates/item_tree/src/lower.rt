@@ -2,7 +2,7 @@
 ghost use Rattle.std.specs.Prelude.{◌≡◌, ◌≤◌, IfOk, IfErr, OnOk, [], ◌∷◌, false, length, option_copied};
 ghost use Rattle.hir_input.specs.Syntax.{impl_item, impl_view, use_item, use_view, macro_items, module_view, item_view};
 ghost use Rattle.hir_input.specs.Syntax.{items_view, syntax_view, block_view};
-ghost use Rattle.item_tree_attrs.specs.Collected.{attr_limit, collected};
+ghost use Rattle.item_tree_attrs.specs.Collected.{attr_limit, collection_of};
 ghost use Rattle.item_tree.specs.Layout.{head_of_key};
 ghost use Rattle.item_tree.specs.Lowered.{kept_in, kept_without_bodies, FitsIn, IsTooLargeIn};
 ghost use Rattle.item_tree.specs.Sees.{CtorsAreSeen};
@@ -91,7 +91,7 @@ enum Body<'a> {
 ///
 /// `TooManyItems`, `TooManyVisibilities`, `TooManyUseTrees`, `TooManyAttributes` and `TooManySupers` only where that
 /// size is passed, and `OutOfMemory`.
-#[tactic(auto, using(crate::proofs::BodyTexts::kept_without_bodies, crate::proofs::Seen::ctors_are_seen))]
+#[tactic(auto, using(crate::proofs::BodyTexts::kept_without_bodies, crate::proofs::ConstructorVisibility::ctors_are_seen))]
 pub fn lower_syntax(
     alloc: Global,
     syntax: &ast::Syntax,
@@ -149,7 +149,7 @@ fn lower_whole(ctx: Ctx, syntax: &ast::Syntax, is_root: bool) -> Result<ItemTree
 /// # Errors
 ///
 /// As `lower_syntax`.
-#[tactic(auto, using(crate::proofs::BodyTexts::kept_without_bodies, crate::proofs::Seen::ctors_are_seen))]
+#[tactic(auto, using(crate::proofs::BodyTexts::kept_without_bodies, crate::proofs::ConstructorVisibility::ctors_are_seen))]
 pub fn lower_block(
     alloc: Global,
     block: &ast::BlockExpr,
@@ -176,7 +176,7 @@ pub fn lower_block(
 
 // What metas collect.
 fn lower_attrs(ctx: Ctx, attrs: &[Meta]) -> Result<AttrsOrCfg, LowerError>
-    ensures value { IfOk result (λ lowered. collected lowered ≡ attrs_in ctx.entry attrs.now) }
+    ensures value { IfOk result (λ lowered. collection_of lowered ≡ attrs_in ctx.entry attrs.now) }
     ensures fits { OnOk result (length (attrs_in ctx.entry attrs.now).attrs ≤ attr_limit) }
     ensures fault { IfErr result
         (IsPassed (only_attributes (length (attrs_in ctx.entry attrs.now).attrs))) }
@@ -186,7 +186,7 @@ fn lower_attrs(ctx: Ctx, attrs: &[Meta]) -> Result<AttrsOrCfg, LowerError>
 
 // The top attributes of a source file. Where a cfg of the crate is false, those of the root file are not collected.
 fn lower_top_attrs(ctx: Ctx, attrs: &[Meta], is_root: bool) -> Result<AttrsOrCfg, LowerError>
-    ensures value { IfOk result (λ top. collected top ≡ top_attrs_in ctx.entry is_root attrs.now) }
+    ensures value { IfOk result (λ top. collection_of top ≡ top_attrs_in ctx.entry is_root attrs.now) }
     ensures fits { OnOk result
         (length (top_attrs_in ctx.entry is_root attrs.now).attrs ≤ attr_limit) }
     ensures fault { IfErr result
@@ -238,14 +238,14 @@ fn push_row(
 
 // The tree of a body under these top attributes.
 fn lower_body(ctx: Ctx, top_attrs: AttrsOrCfg, body: Body) -> Result<ItemTree, LowerError>
-    requires { length (collected top_attrs).attrs ≤ attr_limit }
+    requires { length (collection_of top_attrs).attrs ≤ attr_limit }
     ensures kept { IfOk result
-        (λ tree. tree ≡ tree_in ctx.entry (collected top_attrs) (body_items body.entry)) }
+        (λ tree. tree ≡ tree_in ctx.entry (collection_of top_attrs) (body_items body.entry)) }
     ensures fits { OnOk result
-        (Fits (tree_in ctx.entry (collected top_attrs) (body_items body.entry))) }
+        (Fits (tree_in ctx.entry (collection_of top_attrs) (body_items body.entry))) }
     ensures use_trees { OnOk result (items_written (body_items body.entry) ≤ use_tree_limit) }
     ensures too_large { IfErr result (IsTooLarge (macro_items (body_items body.entry))
-        (tree_in ctx.entry (collected top_attrs) (body_items body.entry))) }
+        (tree_in ctx.entry (collection_of top_attrs) (body_items body.entry))) }
 {
     let mut rows = Rows::new(ctx.alloc);
     let top_level = lower_top_level(ctx, &mut rows, body)?;

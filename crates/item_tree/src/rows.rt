@@ -1,6 +1,6 @@
 //! The table of a tree as it grows: rows in columns, and the arena of visibilities.
 ghost use Rattle.std.specs.Prelude.{◌≡◌, ◌+◌, ◌<◌, ◌-◌, ◌^◌, IfOk, IfErr, [], ◌∷◌, length, option_map};
-ghost use Rattle.item_tree_attrs.specs.Collected.{collected};
+ghost use Rattle.item_tree_attrs.specs.Collected.{collection_of};
 ghost use Rattle.item_tree.specs.Column.{plain_place, stored_at};
 ghost use Rattle.item_tree.specs.Stored.{column_in};
 ghost use Rattle.item_tree.specs.Size.{IsPassed};
@@ -121,7 +121,7 @@ impl Rows {
 
     // Lends the attributes of a place, if it is one.
     pub(crate) fn attrs_at(&self, place: u32) -> Option<&AttrsOrCfg>
-        ensures { option_map (λ attrs. collected attrs.now) result
+        ensures { option_map (λ attrs. collection_of attrs.now) result
             ≡ stored_at (column_in self.now) (plain_place place) }
     {
         if place == NO_ATTRS {
@@ -135,7 +135,7 @@ impl Rows {
 // The place of attributes, which are put at the end of the column unless they are enabled and empty.
 pub(crate) fn push_attrs(column: &mut Vec<AttrsOrCfg>, attrs: AttrsOrCfg) -> Result<u32, AllocError>
     requires { length column.old.items < 2 ^ 32 - 1 }
-    ensures { IfOk result (λ place. Puts column.old column.new (collected attrs) place) }
+    ensures { IfOk result (λ place. Puts column.old column.new (collection_of attrs) place) }
 {
     if attrs.is_empty() {
         return Ok(NO_ATTRS);

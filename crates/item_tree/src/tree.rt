@@ -1,6 +1,6 @@
 //! The item tree.
 ghost use Rattle.std.specs.Prelude.{◌≡◌, ◌↔◌, IsTrue, option_map, Some, count_by};
-ghost use Rattle.item_tree_attrs.specs.Collected.{collected};
+ghost use Rattle.item_tree_attrs.specs.Collected.{collection_of};
 ghost use Rattle.item_tree.specs.Node.{nothing, node_ast};
 ghost use Rattle.item_tree.specs.Layout.{node_at, unfold_tables};
 ghost use Rattle.item_tree.specs.Reach.{top_ids};
@@ -115,7 +115,7 @@ impl ItemTree {
     /// Lends the top attributes, or nothing where they are enabled and empty. Takes no memory.
     /// rust-analyzer's `ItemTree::top_level_attrs`.
     pub fn top_level_attrs(&self) -> Option<&AttrsOrCfg>
-        ensures { option_map (λ attrs. collected attrs.now) result ≡ lent_attrs self.now.top_attrs }
+        ensures { option_map (λ attrs. collection_of attrs.now) result ≡ lent_attrs self.now.top_attrs }
     {
         self.rows.attrs_at(self.top_place)
     }
@@ -123,7 +123,7 @@ impl ItemTree {
     /// Lends the attributes of an item, or nothing where they are enabled and empty, or the id is not that of an item
     /// of the tree. Takes no memory. rust-analyzer's `ItemTree::attrs`.
     pub fn attrs(&self, id: ModItemId) -> Option<&AttrsOrCfg>
-        ensures { option_map (λ attrs. collected attrs.now) result ≡ attrs_at self.now id }
+        ensures { option_map (λ attrs. collection_of attrs.now) result ≡ attrs_at self.now id }
     {
         if !self.contains(id) {
             return None;

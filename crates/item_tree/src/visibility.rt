@@ -1,7 +1,7 @@
 //! Visibilities.
 ghost use Rattle.std.specs.Prelude.{◌≡◌, ◌↔◌, ℕ, [], IsTrue, IfOk, option_copied};
 ghost use Rattle.item_tree.specs.Visibility.{read_visibility};
-ghost use Rattle.item_tree.specs.Layout.{fixed};
+ghost use Rattle.item_tree.specs.Layout.{fixed_visibilities};
 ghost use Rattle.item_tree.specs.declared.visibility.VisibilityExplicitness.TheVariants.{Explicit};
 
 use hir_input::ast::{PathNode, Visibility};
@@ -116,7 +116,7 @@ impl RawVisibilityId {
 #[derive(Debug, Drop)]
 pub(crate) struct FixedVisibilities {
     pub(crate) values: [RawVisibility; 4],
-    ghost values_are: { values ≡ fixed },
+    ghost values_are: { values ≡ fixed_visibilities },
 }
 
 impl FixedVisibilities {

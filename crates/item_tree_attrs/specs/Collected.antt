@@ -23,9 +23,9 @@ abbrev pub nothing_collected : Collected
 nothing_collected = record { attrs = []; false_cfg = None }
 
 -- what a value has collected
-abbrev pub collected : AttrsOrCfg → Collected
-collected (Enabled attrs) = record { attrs = attrs; false_cfg = None }
-collected (CfgDisabled both) = record { attrs = both.value.1; false_cfg = Some (cfg_view both.value.0) }
+abbrev pub collection_of : AttrsOrCfg → Collected
+collection_of (Enabled attrs) = record { attrs = attrs; false_cfg = None }
+collection_of (CfgDisabled both) = record { attrs = both.value.1; false_cfg = Some (cfg_view both.value.0) }
 
 -- ---- the events of metas
 

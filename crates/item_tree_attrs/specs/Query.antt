@@ -8,8 +8,8 @@ abbrev pub listed_attrs : Attrs → List Attr
 listed_attrs a = referred_attrs a.attrs
 
 -- the attributes that a query asks for, in order
-abbrev pub asked : AttrQuery → List Attr
-asked q = filter (has_key q.key.now) (listed_attrs q.attrs)
+abbrev pub asked_attrs : AttrQuery → List Attr
+asked_attrs q = filter (has_key q.key.now) (listed_attrs q.attrs)
 
 -- where the attributes behind an id begin
 abbrev pub place_after : Option ℕ → ℕ

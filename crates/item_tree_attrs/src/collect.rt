@@ -4,10 +4,10 @@ ghost use Rattle.std.specs.Prelude.{IsErrOf};
 ghost use Rattle.hir_input.specs.Attr.{meta_view, path_meta, key_value_meta, token_tree_meta};
 ghost use Rattle.hir_input.specs.Cfg.{cfg_view, truth};
 ghost use Rattle.hir_input.specs.declared.attr.AttrInput.TheVariants.{Literal as literal, TokenTree as token_tree};
-ghost use Rattle.item_tree_attrs.specs.Collected.{attr_events, attr_limit, cfg_events, collected, collected_from};
+ghost use Rattle.item_tree_attrs.specs.Collected.{attr_events, attr_limit, cfg_events, collection_of, collected_from};
 ghost use Rattle.item_tree_attrs.specs.Collected.{cut_events, events, is_false, is_skipped, join, nothing_collected};
 ghost use Rattle.item_tree_attrs.specs.Collected.{attr_path, IsUnit, JoinsLists};
-ghost use Rattle.item_tree_attrs.specs.Inner.Collecting.{found, AddsCollected};
+ghost use Rattle.item_tree_attrs.specs.Inner.Collecting.{found_events, AddsCollected};
 ghost use Rattle.item_tree_attrs.specs.declared.collect.AttrError.TheVariants.{OutOfMemory, TooMany};
 
 use either::{Either, Left, Right};
@@ -106,8 +106,8 @@ impl AttrsOrCfg {
     ///
     /// It is the unit of `merge`, on both sides.
     pub fn empty(alloc: Global) -> AttrsOrCfg
-        ensures value { collected result ≡ nothing_collected }
-        ensures unit { IsUnit join (collected result) }
+        ensures value { collection_of result ≡ nothing_collected }
+        ensures unit { IsUnit join (collection_of result) }
     {
         AttrsOrCfg::Enabled {
             attrs: AttrsOwned {
@@ -131,7 +131,7 @@ impl AttrsOrCfg {
     ) -> Result<AttrsOrCfg, AttrError>
         ensures value { let all = collected_from cfg_options.now skipped.now
             (map meta_view metas.now) in
-            IfOk result (λ attrs. collected attrs ≡ all) }
+            IfOk result (λ attrs. collection_of attrs ≡ all) }
         ensures fits { let all = collected_from cfg_options.now skipped.now
             (map meta_view metas.now) in
             OnOk result (length all.attrs ≤ attr_limit) }
@@ -157,7 +157,7 @@ impl AttrsOrCfg {
 
     /// Whether it is enabled and has no attribute. rust-analyzer's `AttrsOrCfg::is_empty`.
     pub fn is_empty(&self) -> bool
-        ensures { IsTrue result ↔ (collected self.now ≡ nothing_collected) }
+        ensures { IsTrue result ↔ (collection_of self.now ≡ nothing_collected) }
     {
         match self {
             AttrsOrCfg::Enabled { attrs } => attrs.attrs.is_empty(),
@@ -202,7 +202,7 @@ fn path_event<'a>(
     ctxt: SyntaxContext,
     skipped: &[Name],
 ) -> Result<Option<Event<'a>>, AllocError>
-    ensures { IfOk result (λ event. found event ≡ attr_events skipped.now path.now None ctxt) }
+    ensures { IfOk result (λ event. found_events event ≡ attr_events skipped.now path.now None ctxt) }
 {
     if is_left_out(path, skipped) {
         return Ok(None);
@@ -224,7 +224,7 @@ fn key_value_event<'a>(
     skipped: &[Name],
 ) -> Result<Option<Event<'a>>, AllocError>
     ensures { let events = attr_events skipped.now path.now (option_map literal value.now) ctxt in
-        IfOk result (λ event. found event ≡ events) }
+        IfOk result (λ event. found_events event ≡ events) }
 {
     let Some(value) = value else {
         return path_event(alloc, path, ctxt, skipped);
@@ -246,7 +246,7 @@ fn token_tree_event<'a>(
     skipped: &[Name],
 ) -> Result<Option<Event<'a>>, AllocError>
     ensures { let events = attr_events skipped.now path.now (Some (token_tree tokens.now)) ctxt in
-        IfOk result (λ event. found event ≡ events) }
+        IfOk result (λ event. found_events event ≡ events) }
 {
     if is_left_out(path, skipped) {
         return Ok(None);
@@ -265,7 +265,7 @@ fn is_disabled(cfg: &CfgExpr, cfg_options: &CfgOptions) -> bool
 
 // A cfg, if it is false.
 fn cfg_event<'a>(cfg: &'a CfgExpr, cfg_options: &CfgOptions) -> Option<Event<'a>>
-    ensures { found result ≡ cfg_events cfg_options.now (cfg_view cfg.now) }
+    ensures { found_events result ≡ cfg_events cfg_options.now (cfg_view cfg.now) }
 {
     if is_disabled(cfg, cfg_options) {
         Some(Right(cfg))
@@ -279,7 +279,7 @@ fn take<'a>(
     event: Option<Event<'a>>,
     attrs: &mut Vec<Attr>,
 ) -> Result<Option<&'a CfgExpr>, AllocError>
-    ensures { let one = cut_events (found event.entry) in
+    ensures { let one = cut_events (found_events event.entry) in
         IfOk result (λ met. AddsCollected attrs.old.items attrs.new.items met one) }
 {
     match event {

@@ -2,7 +2,7 @@
 //! held to it by a clause; the functions do nothing.
 ghost use Rattle.std.specs.Prelude.{◌≡◌, []};
 ghost use Rattle.hir_input.specs.Equality.{DecidesEq, DecidesEqOf, IsCopied};
-ghost use Rattle.item_tree_attrs.specs.Collected.{collected};
+ghost use Rattle.item_tree_attrs.specs.Collected.{collection_of};
 ghost use Rattle.item_tree_attrs.specs.Query.{listed_attrs};
 
 use crate::collect::{AttrError, AttrsOrCfg, AttrsOwned};
@@ -13,7 +13,7 @@ use crate::query::{AttrQuery, Attrs, KeyedAttrs};
 fn equal_values()
     ensures errors { DecidesEq ⟦<AttrError as PartialEq>⟧.eq }
     ensures lists { DecidesEq ⟦<AttrsOwned as PartialEq>⟧.eq }
-    ensures attrs { DecidesEqOf collected ⟦<AttrsOrCfg as PartialEq>⟧.eq }
+    ensures attrs { DecidesEqOf collection_of ⟦<AttrsOrCfg as PartialEq>⟧.eq }
 {}
 
 // A copy is its source.

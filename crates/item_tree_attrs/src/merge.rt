@@ -1,7 +1,7 @@
 //! Attributes of one owner that stand behind others.
 ghost use Rattle.std.specs.Prelude.{◌≡◌, ◌↔◌, ◌+◌, ◌<◌, ◌++◌, length, Ok, IsSome, IfOk, IfErr, OnOk, OnErr, IsErrAnd};
 ghost use Rattle.std.specs.Prelude.{IsErrOf};
-ghost use Rattle.item_tree_attrs.specs.Collected.{attr_limit, collected, join, IsAssociative, IsTooManyTogether};
+ghost use Rattle.item_tree_attrs.specs.Collected.{attr_limit, collection_of, join, IsAssociative, IsTooManyTogether};
 ghost use Rattle.item_tree_attrs.specs.declared.collect.AttrError.TheVariants.{TooMany};
 ghost use Rattle.item_tree_attrs.specs.declared.collect.AttrsOrCfg.TheVariants.{Enabled as enabled};
 
@@ -26,11 +26,11 @@ impl AttrsOrCfg {
     /// `TooMany` is the answer exactly where this side is enabled and the two have more than u32::MAX attributes
     /// together; any other refusal is `OutOfMemory`, of the allocator that this side keeps.
     pub fn merge(self, right: AttrsOrCfg) -> Result<AttrsOrCfg, MergeRefused>
-        ensures value { let joined = join (collected self) (collected right) in
-            IfOk result (λ both. collected both ≡ joined) }
-        ensures disabled { IsSome (collected self).false_cfg → result ≡ Ok self }
+        ensures value { let joined = join (collection_of self) (collection_of right) in
+            IfOk result (λ both. collection_of both ≡ joined) }
+        ensures disabled { IsSome (collection_of self).false_cfg → result ≡ Ok self }
         ensures too_many { IsErrAnd result (λ e. e.cause ≡ TooMany)
-            ↔ IsTooManyTogether (collected self) (collected right) }
+            ↔ IsTooManyTogether (collection_of self) (collection_of right) }
         ensures unchanged { IfErr result (λ e. (e.left ≡ self) × (e.right ≡ right)) }
         ensures associative { IsAssociative join }
     {
@@ -43,10 +43,10 @@ impl AttrsOrCfg {
 
 // Enabled attributes with the right side behind them.
 fn put_before(mut left: AttrsOwned, right: AttrsOrCfg) -> Result<AttrsOrCfg, MergeRefused>
-    ensures value { IfOk result (λ both. collected both
-        ≡ record { attrs = left ++ (collected right).attrs; false_cfg = (collected right).false_cfg }) }
+    ensures value { IfOk result (λ both. collection_of both
+        ≡ record { attrs = left ++ (collection_of right).attrs; false_cfg = (collection_of right).false_cfg }) }
     ensures too_many { IsErrAnd result (λ e. e.cause ≡ TooMany)
-        ↔ (attr_limit < length left + length (collected right).attrs) }
+        ↔ (attr_limit < length left + length (collection_of right).attrs) }
     ensures unchanged { IfErr result (λ e. (e.left ≡ enabled left) × (e.right ≡ right)) }
 {
     match right {

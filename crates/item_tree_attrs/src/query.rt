@@ -37,7 +37,7 @@ impl<'a> Attrs<'a> {
     ghost use Rattle.std.specs.List.{enumerate_from};
     ghost use Rattle.std.specs.Option.{ForSome};
     ghost use Rattle.item_tree_attrs.specs.Key.{has_key};
-    ghost use Rattle.item_tree_attrs.specs.Query.{asked, listed_attrs, place_after};
+    ghost use Rattle.item_tree_attrs.specs.Query.{asked_attrs, listed_attrs, place_after};
 
     /// No attributes. rust-analyzer's `Attrs::EMPTY`.
     pub const EMPTY: Attrs<'static> = Attrs { attrs: None };
@@ -55,7 +55,7 @@ impl<'a> Attrs<'a> {
 
     /// Asks for the attributes whose path is the one name `key`. rust-analyzer's `Attrs::by_key`.
     pub fn by_key(self, key: &'a str) -> AttrQuery<'a>
-        ensures { asked result ≡ filter (has_key key.now) (listed_attrs self.entry) }
+        ensures { asked_attrs result ≡ filter (has_key key.now) (listed_attrs self.entry) }
     {
         AttrQuery { attrs: self, key }
     }
@@ -160,12 +160,12 @@ impl<'a> AttrQuery<'a> {
     ghost use Rattle.std.specs.Prelude.{◌≡◌, ◌↔◌, ◌<◌, ◌^◌, length, filter_map, option_map, IsTrue};
     ghost use Rattle.hir_input.specs.Attr.{token_tree_of, string_with_span_of};
     ghost use Rattle.item_tree_attrs.specs.Collected.{first};
-    ghost use Rattle.item_tree_attrs.specs.Query.{asked};
+    ghost use Rattle.item_tree_attrs.specs.Query.{asked_attrs};
 
     /// The attributes, in order. rust-analyzer's `AttrQuery::attrs`.
     #[tactic(auto, using(crate::proofs::Places::selections))]
     pub fn attrs(self) -> KeyedAttrs<'a>
-        ensures value { result ≡ asked self.entry }
+        ensures value { result ≡ asked_attrs self.entry }
         ensures few { length result < 2 ^ 32 }
     {
         KeyedAttrs {
@@ -177,7 +177,7 @@ impl<'a> AttrQuery<'a> {
     /// The token trees of the attributes whose input is one, in order. rust-analyzer's `AttrQuery::tt_values`.
     #[tactic(auto, using(crate::proofs::Places::selections))]
     pub fn tt_values(self) -> TtValues<'a>
-        ensures value { result ≡ filter_map token_tree_of (asked self.entry) }
+        ensures value { result ≡ filter_map token_tree_of (asked_attrs self.entry) }
         ensures few { length result < 2 ^ 32 }
     {
         TtValues {
@@ -189,7 +189,7 @@ impl<'a> AttrQuery<'a> {
     /// rust-analyzer's `AttrQuery::string_value_with_span`.
     pub fn string_value_with_span(self) -> Option<(&'a str, Span)>
         ensures { option_map (λ found. (found.0.now, found.1)) result
-            ≡ first (filter_map string_with_span_of (asked self.entry)) }
+            ≡ first (filter_map string_with_span_of (asked_attrs self.entry)) }
     {
         for attr in self.attrs() {
             if let Some(found) = attr.string_value_with_span() {
@@ -201,7 +201,7 @@ impl<'a> AttrQuery<'a> {
 
     /// Whether there is such an attribute. rust-analyzer's `AttrQuery::exists`.
     pub fn exists(self) -> bool
-        ensures { IsTrue result ↔ (0 < length (asked self.entry)) }
+        ensures { IsTrue result ↔ (0 < length (asked_attrs self.entry)) }
     {
         self.attrs().next().is_some()
     }

@@ -1,6 +1,6 @@
 -- What a walk over a shelf gives is what changed.
 use Rattle.std.proofs.Common.{◌≡◌, inl, inr, ℕ, zero, suc, ◌+◌, ◌<◌, ◌≤◌, max, Bool, true, false, cond, nat_lt, List, [], ◌∷◌, ◌++◌, length, map, filter, Some, None, Option, IfSome, slice_get, refl, sym, ap, subst, ◌∙◌, arith, All, AllPairs, Contains}
-use Rattle.item_tree_db.proofs.Common.{option_and_then, option_map, unwrap_or, nat_cmp, ordering_then, Ordering, Less, AllByRecursion, flat_map, is_at, IsStrictlySortedBy, keys_of, nat_tests, length-map, All-nil, All-cons, All-head, All-tail, All-append, All-weaker, All-filter, All-contains, All-contains_itself, Contains-append_left, Contains-append_right, Contains-append_cases, filter_passes, sorted_head, sorted_tail, IsDistinct-from_sorted, lookup-from_Contains, IfSome_then, same_Some, none-some, slice_get_within, Place, Row, place_cmp, place_cmp_total, Change, change_cmp, IsLate, IsSince, IsSinceAmong, HoldLate, Shelved, Places, placed_at, IsInOrder, Held, State, crate_limit, change_number, Table, held_of, state_of, IsSound, HasFewRows, HasNumber, IsLateWalk, Walk, all_changes, changes_from, late, over, over_all, rows_in}
+use Rattle.item_tree_db.proofs.Common.{option_and_then, option_map, unwrap_or, nat_cmp, ordering_then, Ordering, Less, AllByRecursion, flat_map, is_at, IsStrictlySortedBy, keys_of, nat_tests, length-map, All-nil, All-cons, All-head, All-tail, All-append, All-weaker, All-filter, All-contains, All-contains_itself, Contains-append_left, Contains-append_right, Contains-append_cases, filter_passes, sorted_head, sorted_tail, IsDistinct-from_sorted, lookup-from_Contains, IfSome_then, same_Some, none-some, slice_get_within, Place, Row, place_cmp, place_cmp_total, Change, change_cmp, IsLate, IsSince, IsSinceAmong, HoldLate, Shelved, Places, placed_at, IsInOrder, Held, State, crate_limit, change_number, Table, held_of, state_of, IsSound, HasFewRows, HasNumber, IsLateWalk, Walk, all_changes, changes_from, late_changes, walk_over, over_all, rows_in}
 use Rattle.std.proofs.lemmas.Cmp.{eq_by_cmp_equiv}
 use Rattle.std.proofs.lemmas.List.Kept.{AllPairs-cons, AllPairs-filter}
 use Rattle.item_tree_db.proofs.Places.{IsBelow, equal_of, equal_cmp}
@@ -80,7 +80,7 @@ module _ (l : Places) where
   changes_of place = changes_from place 0 (rows_in (placed_at l place))
 
   -- the changes of a walk over these places
-  pub over_is : (places : List Place) → all_changes (over l places) ≡ flat_map changes_of places
+  pub over_is : (places : List Place) → all_changes (walk_over l places) ≡ flat_map changes_of places
   over_is [] = refl
   over_is (place ∷ places) = ap (λ (cs : List Change). changes_of place ++ cs) (over_is places)
 
@@ -108,14 +108,14 @@ module _ (l : Places) where
   order_all [] s = λ i j d p q. absurd (omega arith)
   order_all (place ∷ places) s = order_onto place 0 (rows_in (placed_at l place)) (flat_map changes_of places) (all_above place places (sorted_head place_cmp place places s)) (order_all places (sorted_tail place_cmp place places s))
 
-  over_entries : (xs : Places) → All (λ e. placed_at l e.0 ≡ Some e.1) xs → over_all xs ≡ over l (keys_of xs)
+  over_entries : (xs : Places) → All (λ e. placed_at l e.0 ≡ Some e.1) xs → over_all xs ≡ walk_over l (keys_of xs)
   over_entries [] h = refl
   over_entries (e ∷ xs) h =
       let here = ap rows_in (sym (All-head (λ e. placed_at l e.0 ≡ Some e.1) e xs h)) in
       λ j. (e.0, here j) ∷ over_entries xs (All-tail (λ e. placed_at l e.0 ≡ Some e.1) e xs h) j
 
   -- a walk over all places is one over those of the entries
-  over_keys : IsInOrder l → over_all l ≡ over l (keys_of l)
+  over_keys : IsInOrder l → over_all l ≡ walk_over l (keys_of l)
   over_keys s = over_entries l (All-weaker (Contains l) (λ e. placed_at l e.0 ≡ Some e.1) (λ e c. lookup-from_Contains (eq_by_cmp_equiv place_cmp_total) e.0 e.1 l (IsDistinct-from_sorted place_cmp (keys_of l) s) c) l (All-contains_itself l))
 
 -- a place that has a number is one of them
@@ -127,12 +127,12 @@ key_of (e ∷ l) k i n h = elim (is_at (place_cmp k) e.0) as (λ b. is_at (place
 ] refl h
 
 -- a walk over all places meets each that has a number
-pub walks_over_all : (l : Places) (above : ℕ) → IsInOrder l → IsLateWalk above l (late above (all_changes (over_all l)))
+pub walks_over_all : (l : Places) (above : ℕ) → IsInOrder l → IsLateWalk above l (late_changes above (all_changes (over_all l)))
 walks_over_all l above s = record {
   met = keys_of l;
   in_order = s;
   whole = λ place i n p h. key_of l place i n h;
-  walked = ap (λ (w : Walk). late above (all_changes w)) (over_keys l s);
+  walked = ap (λ (w : Walk). late_changes above (all_changes w)) (over_keys l s);
 }
 
 -- ---- against what callers see
@@ -206,7 +206,7 @@ module _ (t : Table) (sound : IsSound t) (n : ℕ) where
       in_order = AllPairs-filter Before passes all (order_all t.places places s);
     }
 
-    pub among_is : IsStrictlySortedBy place_cmp places → IsSinceAmong (state_of t) n places (late (max n t.start) (all_changes (over t.places places)))
+    pub among_is : IsStrictlySortedBy place_cmp places → IsSinceAmong (state_of t) n places (late_changes (max n t.start) (all_changes (walk_over t.places places)))
     among_is s = subst (λ (cs : List Change). IsSinceAmong (state_of t) n places (filter passes cs)) (sym (over_is t.places places)) (among s)
 
   pub since_is : (changes : List Change) → IsLateWalk (max n t.start) t.places changes → IsSince (state_of t) n changes

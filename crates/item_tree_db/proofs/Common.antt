@@ -7,17 +7,17 @@ pub use Rattle.item_tree.specs.Same.{equal_of_same, same, same_itself, same_of_e
 pub use Rattle.item_tree.specs.declared.crate_data.CrateData.{CrateData}
 pub use Rattle.item_tree_db.specs.Edits.{EditView, NamesPlaceOf, edit_view, remove, set, set_cfg}
 pub use Rattle.item_tree_db.specs.History.{ChangesBodiesOnly, IgnoresBodies, IsAfter, IsChangeNumber, IsFooting, changed_after, crate_after, gives, last_number_below, last_some, moves, present_after, sets, under_options, unfolding_after}
-pub use Rattle.item_tree_db.specs.Inner.Recent.{AreNoted, HoldsNoted, IsNoted, newest, noted_cmp}
-pub use Rattle.item_tree_db.specs.Inner.Settled.{brought, cleared, empty_row, fresh_row, settled, settled_row}
-pub use Rattle.item_tree_db.specs.Inner.Shelf.{HasPut, IsInOrder, Places, Shelved, change_at, fresh_of, placed_at, recast, recast_each, removed, row_in, set_to, syntax_in}
+pub use Rattle.item_tree_db.specs.Inner.Recent.{AreNoted, HoldsNoted, IsNoted, newest_number, noted_cmp}
+pub use Rattle.item_tree_db.specs.Inner.Settled.{brought, clear_all, empty_row, fresh_row, settle_all, settled_row}
+pub use Rattle.item_tree_db.specs.Inner.Shelf.{HasPut, IsInOrder, Places, Shelved, change_at, fresh_of, placed_at, recast_one, recast_each, take_out, row_in, set_to, syntax_in}
 pub use Rattle.item_tree_db.specs.Inner.Sizes.{CratesFit, PlacesFit, PlacesPass}
 pub use Rattle.item_tree_db.specs.Inner.Source.{edit_of, source_place, source_syntax}
 pub use Rattle.item_tree_db.specs.Inner.Table.{IsLed, IsRowOf, IsSound, IsStep, Table, held_of, lowered_at, next_number, next_table, row_at, state_of, syntax_at, table_from}
-pub use Rattle.item_tree_db.specs.Inner.Walk.{HasFew, HasFewRows, HasNumber, IsLateWalk, Walk, all_changes, changes_from, late, left, over, over_all, rows_in, walk_of}
+pub use Rattle.item_tree_db.specs.Inner.Walk.{HasFew, HasFewRows, HasNumber, IsLateWalk, Walk, all_changes, changes_from, late_changes, changes_left, walk_over, over_all, rows_in, walk_of}
 pub use Rattle.item_tree_db.specs.PlaceOrder.{place_cmp, place_cmp_total, same_place}
 pub use Rattle.item_tree_db.specs.Refusal.{FirstFit, FitsAfter, IsRefusal, NamesKnown, TreeFits, TreePasses, UnlessMemory}
 pub use Rattle.item_tree_db.specs.Since.{Change, HoldLate, IsGrounded, IsLate, IsSince, IsSinceAmong, change_cmp}
-pub use Rattle.item_tree_db.specs.State.{Held, State, change_number, crate_limit, find, given, is_root_of, present, unfolding_at, unfolding_of}
+pub use Rattle.item_tree_db.specs.State.{Held, State, change_number, crate_limit, find, with_cfg, is_root_of, present, unfolding_at, unfolding_of}
 pub use Rattle.item_tree_db.specs.declared.edit.Edit.TheVariants.{SetCfg}
 pub use Rattle.item_tree_db.specs.declared.place.Place.{Place}
 pub use Rattle.item_tree_db.specs.declared.place.Place.TheVariants.{Block, File}

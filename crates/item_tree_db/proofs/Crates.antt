@@ -1,6 +1,6 @@
 -- The crates of a table, what is lowered for each, and other options.
 use Rattle.std.proofs.Common.{◌≡◌, ℕ, zero, suc, ◌+◌, ◌<◌, List, [], ◌∷◌, ◌++◌, length, map, drop, set, get_or, Some, slice_get, refl, sym, ap, subst, ◌∙◌, arith, append_assoc, option_map}
-use Rattle.item_tree_db.proofs.Common.{drop_more, length-map, same_Some, slice_get-map, slice_get_read, AtomView, SyntaxView, CrateData, CrateView, crate_view, Place, Row, TreeFits, CratesFit, brought, fresh_row, change_at, given}
+use Rattle.item_tree_db.proofs.Common.{drop_more, length-map, same_Some, slice_get-map, slice_get_read, AtomView, SyntaxView, CrateData, CrateView, crate_view, Place, Row, TreeFits, CratesFit, brought, fresh_row, change_at, with_cfg}
 
 -- ---- one crate after another
 
@@ -30,19 +30,19 @@ fresh_get n skipped place s d (c ∷ crates) (suc i) p = fresh_get n skipped pla
 -- ---- options
 
 -- given back what it had, a crate is what it was
-pub given_back : (o old : List AtomView) (i : ℕ) (crates : List CrateView) → option_map (λ k. k.options) (slice_get crates i) ≡ Some old → change_at i (given old) (change_at i (given o) crates) ≡ crates
+pub given_back : (o old : List AtomView) (i : ℕ) (crates : List CrateView) → option_map (λ k. k.options) (slice_get crates i) ≡ Some old → change_at i (with_cfg old) (change_at i (with_cfg o) crates) ≡ crates
 given_back o old i [] h = refl
 given_back o old zero (k ∷ crates) h = let e = same_Some k.options old h in λ j. record { root = k.root; options = sym e j; attrs = k.attrs } ∷ crates
 given_back o old (suc i) (k ∷ crates) h = ap (λ (ks : List CrateView). k ∷ ks) (given_back o old i crates h)
 
 -- and what it is given, it has
-pub given_options : (o now : List AtomView) (i : ℕ) (crates : List CrateView) → option_map (λ k. k.options) (slice_get (change_at i (given o) crates) i) ≡ Some now → now ≡ o
+pub given_options : (o now : List AtomView) (i : ℕ) (crates : List CrateView) → option_map (λ k. k.options) (slice_get (change_at i (with_cfg o) crates) i) ≡ Some now → now ≡ o
 given_options o now i [] h = cc
 given_options o now zero (k ∷ crates) h = sym (same_Some o now h)
 given_options o now (suc i) (k ∷ crates) h = given_options o now i crates h
 
 pub crates_given : (o : List AtomView) (crates : List CrateData) (i : ℕ) (x y : CrateData) → x ≡ get_or crates i x → y ≡ record { root = x.root; cfg = o; attrs = x.attrs } → i < length crates
-    → map crate_view (set crates i y) ≡ change_at i (given o) (map crate_view crates)
+    → map crate_view (set crates i y) ≡ change_at i (with_cfg o) (map crate_view crates)
 crates_given o [] i x y e q h = absurd (omega arith)
 crates_given o (c ∷ crates) zero x y e q h = ap (λ (z : CrateData). crate_view z ∷ map crate_view crates) (q ∙ ap (λ (z : CrateData). record { root = z.root; cfg = o; attrs = z.attrs }) e)
 crates_given o (c ∷ crates) (suc i) x y e q h = ap (λ (ks : List CrateView). crate_view c ∷ ks) (crates_given o crates i x y e q (omega arith))
@@ -51,6 +51,6 @@ pub crate_at : (crates : List CrateData) (i : ℕ) (x : CrateData) → x ≡ get
 crate_at crates i x e h = slice_get-map crate_view crates i ∙ ap (option_map crate_view) (slice_get_read crates (length crates) i x refl h e)
 
 -- the crate that was given options, in the list after it
-pub given_here : (o : List AtomView) (crates after : List CrateData) (k : ℕ) (x : CrateData) → x ≡ get_or after k x → k < length (map crate_view crates) → length after ≡ length crates → map crate_view after ≡ change_at k (given o) (map crate_view crates)
-    → slice_get (change_at k (given o) (map crate_view crates)) k ≡ Some (crate_view x)
+pub given_here : (o : List AtomView) (crates after : List CrateData) (k : ℕ) (x : CrateData) → x ≡ get_or after k x → k < length (map crate_view crates) → length after ≡ length crates → map crate_view after ≡ change_at k (with_cfg o) (map crate_view crates)
+    → slice_get (change_at k (with_cfg o) (map crate_view crates)) k ≡ Some (crate_view x)
 given_here o crates after k x e p same is = ap (λ (l : List CrateView). slice_get l k) (sym is) ∙ crate_at after k x e (rw same (subst (λ (m : ℕ). k < m) (length-map crates crate_view) p))

@@ -5,6 +5,6 @@ pub mod Histories
 pub mod Steps
 pub mod Runs
 pub mod Changes
-pub mod Noted
+pub mod PlaceNumbers
 pub mod BodyTexts
 pub mod Common

@@ -1,6 +1,6 @@
 -- What a shelf has at each place.
 use Rattle.std.proofs.Common.{◌≡◌, ◌≢◌, ℕ, zero, suc, ◌+◌, ◌<◌, ◌≤◌, Bool, true, false, cond, List, [], ◌∷◌, length, map, set, get_or, Some, None, Option, IfSome, slice_get, refl, sym, ap, subst, ◌∙◌, arith, true≢false}
-use Rattle.item_tree_db.proofs.Common.{AllByRecursion, option_map, unwrap_or, keys_of, is_at, is_eq, Ordering, length-map, get_or-map, sorted_head, sorted_tail, slice_get-map, unwrap_or-slice_get, CrateView, Place, Row, place_cmp, TreeFits, settled, settled_row, cleared, empty_row, Shelved, Places, placed_at, syntax_in, row_in, HasPut, set_to, change_at, recast, recast_each, IsInOrder, PlacesFit, HasFew, HasFewRows, Walk, over, over_all, rows_in, crate_limit}
+use Rattle.item_tree_db.proofs.Common.{AllByRecursion, option_map, unwrap_or, keys_of, is_at, is_eq, Ordering, length-map, get_or-map, sorted_head, sorted_tail, slice_get-map, unwrap_or-slice_get, CrateView, Place, Row, place_cmp, TreeFits, settle_all, settled_row, clear_all, empty_row, Shelved, Places, placed_at, syntax_in, row_in, HasPut, set_to, change_at, recast_one, recast_each, IsInOrder, PlacesFit, HasFew, HasFewRows, Walk, walk_over, over_all, rows_in, crate_limit}
 use Rattle.item_tree_db.proofs.Places.{IsBelow, equal_of, itself}
 
 -- ---- lists in order
@@ -39,7 +39,7 @@ few_in None h = omega arith
 few_in (Some placed) h = h
 
 -- and of one over these
-pub few_over : (l : Places) → HasFewRows l → (places : List Place) → HasFew (over l places)
+pub few_over : (l : Places) → HasFewRows l → (places : List Place) → HasFew (walk_over l places)
 few_over l h [] = tt
 few_over l h (place ∷ places) = (few_in (placed_at l place) (h place), few_over l h places)
 
@@ -57,23 +57,23 @@ fresh_each r = map (λ e. (e.0, r e.0 e.1))
 module _ (n i : ℕ) (r : Place → Shelved → Row) where
   recast_none : (l : Places) (q : Place) (o : Option Shelved) → placed_at l q ≡ None → recast_each n i (fresh_each r l) q o ≡ o
   recast_none [] q o h = refl
-  recast_none (e ∷ l) q o h = elim (is_at (place_cmp q) e.0) as (λ b. cond b (Some e.1) (placed_at l q) ≡ None → recast_each n i (fresh_each r l) q (cond b (option_map (recast n i (r e.0 e.1)) o) o) ≡ o) [
+  recast_none (e ∷ l) q o h = elim (is_at (place_cmp q) e.0) as (λ b. cond b (Some e.1) (placed_at l q) ≡ None → recast_each n i (fresh_each r l) q (cond b (option_map (recast_one n i (r e.0 e.1)) o) o) ≡ o) [
     | true ↦ λ g. cc
     | false ↦ λ g. recast_none l q o g
   ] h
 
   -- each place is given its tree once
-  pub recast_is : (l : Places) → IsInOrder l → (q : Place) → recast_each n i (fresh_each r l) q (placed_at l q) ≡ option_map (λ placed. recast n i (r q placed) placed) (placed_at l q)
+  pub recast_is : (l : Places) → IsInOrder l → (q : Place) → recast_each n i (fresh_each r l) q (placed_at l q) ≡ option_map (λ placed. recast_one n i (r q placed) placed) (placed_at l q)
   recast_is [] s q = refl
-  recast_is (e ∷ l) s q = elim (is_at (place_cmp q) e.0) as (λ b. is_at (place_cmp q) e.0 ≡ b → recast_each n i (fresh_each r l) q (cond b (option_map (recast n i (r e.0 e.1)) (cond b (Some e.1) (placed_at l q))) (cond b (Some e.1) (placed_at l q))) ≡ option_map (λ placed. recast n i (r q placed) placed) (cond b (Some e.1) (placed_at l q))) [
-    | true ↦ λ t. recast_none l q _ (not_behind e l s q t) ∙ ap (λ (p : Place). Some (recast n i (r p e.1) e.1)) (sym (equal_of q e.0 t))
+  recast_is (e ∷ l) s q = elim (is_at (place_cmp q) e.0) as (λ b. is_at (place_cmp q) e.0 ≡ b → recast_each n i (fresh_each r l) q (cond b (option_map (recast_one n i (r e.0 e.1)) (cond b (Some e.1) (placed_at l q))) (cond b (Some e.1) (placed_at l q))) ≡ option_map (λ placed. recast_one n i (r q placed) placed) (cond b (Some e.1) (placed_at l q))) [
+    | true ↦ λ t. recast_none l q _ (not_behind e l s q t) ∙ ap (λ (p : Place). Some (recast_one n i (r p e.1) e.1)) (sym (equal_of q e.0 t))
     | false ↦ λ t. recast_is l (sorted_tail place_cmp e.0 (keys_of l) s) q
   ] refl
 
 -- the next place is given its tree
-pub recast_step : (n i : ℕ) (k : Place) (row : Row) (old new : Places) (more : List (Place × Row)) → HasPut k (option_map (recast n i row) (placed_at old k)) old new → (q : Place) → recast_each n i more q (placed_at new q) ≡ recast_each n i ((k, row) ∷ more) q (placed_at old q)
-recast_step n i k row old new more put q = elim (is_at (place_cmp q) k) as (λ b. is_at (place_cmp q) k ≡ b → recast_each n i more q (placed_at new q) ≡ recast_each n i more q (cond b (option_map (recast n i row) (placed_at old q)) (placed_at old q))) [
-  | true ↦ λ t. let same = equal_of q k t in ap (recast_each n i more q) (ap (placed_at new) same ∙ put.here ∙ ap (λ (p : Place). option_map (recast n i row) (placed_at old p)) (sym same))
+pub recast_step : (n i : ℕ) (k : Place) (row : Row) (old new : Places) (more : List (Place × Row)) → HasPut k (option_map (recast_one n i row) (placed_at old k)) old new → (q : Place) → recast_each n i more q (placed_at new q) ≡ recast_each n i ((k, row) ∷ more) q (placed_at old q)
+recast_step n i k row old new more put q = elim (is_at (place_cmp q) k) as (λ b. is_at (place_cmp q) k ≡ b → recast_each n i more q (placed_at new q) ≡ recast_each n i more q (cond b (option_map (recast_one n i row) (placed_at old q)) (placed_at old q))) [
+  | true ↦ λ t. let same = equal_of q k t in ap (recast_each n i more q) (ap (placed_at new) same ∙ put.here ∙ ap (λ (p : Place). option_map (recast_one n i row) (placed_at old p)) (sym same))
   | false ↦ λ t. ap (recast_each n i more q) (put.others q (λ e. true≢false (sym (ap (λ (p : Place). is_at (place_cmp p) k) e ∙ itself k) ∙ t)))
 ] refl
 
@@ -128,16 +128,16 @@ module _ {A : Type 0} (f : A → A) where
 
 -- ---- rows
 
-get_settled : (n : ℕ) (d : Row) (rows news : List Row) (i : ℕ) → i < length rows → i < length news → unwrap_or (slice_get (settled n rows news) i) d ≡ settled_row n (unwrap_or (slice_get rows i) d) (get_or news i d)
+get_settled : (n : ℕ) (d : Row) (rows news : List Row) (i : ℕ) → i < length rows → i < length news → unwrap_or (slice_get (settle_all n rows news) i) d ≡ settled_row n (unwrap_or (slice_get rows i) d) (get_or news i d)
 get_settled n d [] news i p q = absurd (omega arith)
 get_settled n d (x ∷ rows) [] i p q = absurd (omega arith)
 get_settled n d (x ∷ rows) (y ∷ news) zero p q = refl
 get_settled n d (x ∷ rows) (y ∷ news) (suc i) p q = get_settled n d rows news i (omega arith) (omega arith)
 
-pub get_cleared : (n : ℕ) (d : Row) (rows : List Row) (i : ℕ) → i < length rows → unwrap_or (slice_get (cleared n rows) i) d ≡ settled_row n (unwrap_or (slice_get rows i) d) (empty_row n)
+pub get_cleared : (n : ℕ) (d : Row) (rows : List Row) (i : ℕ) → i < length rows → unwrap_or (slice_get (clear_all n rows) i) d ≡ settled_row n (unwrap_or (slice_get rows i) d) (empty_row n)
 get_cleared n d rows i p = let f : Row → Row = λ row. settled_row n row (empty_row n) in map_or f d rows i p ∙ ap f (sym (unwrap_or-slice_get rows i d))
 
-length-settled : (n : ℕ) (xs ys : List Row) → length (settled n xs ys) ≡ length xs
+length-settled : (n : ℕ) (xs ys : List Row) → length (settle_all n xs ys) ≡ length xs
 length-settled n [] ys = refl
 length-settled n (x ∷ xs) [] = refl
 length-settled n (x ∷ xs) (y ∷ ys) = ap suc (length-settled n xs ys)

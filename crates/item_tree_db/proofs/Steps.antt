@@ -1,6 +1,6 @@
 -- One edit, by place and crate.
 use Rattle.std.proofs.Common.{◌≡◌, ◌≢◌, inl, inr, ℕ, zero, ◌+◌, ◌<◌, ◌≤◌, Bool, true, false, not, List, [], ◌∷◌, length, map, cond, Some, None, Option, IfSome, slice_get, refl, sym, ap, subst, ◌∙◌, arith, nat_eq, get_or}
-use Rattle.item_tree_db.proofs.Common.{option_and_then, option_map, unwrap_or, is_at, nat_tests, length-map, slice_get-map, AtomView, SyntaxView, CrateData, CrateView, crate_view, unfolding_code, same, same_itself, equal_of_same, SetCfg, Place, Row, Source, place_cmp, same_place, Held, State, find, given, present, unfolding_of, unfolding_at, change_number, EditView, edit_view, set, remove, set_cfg, sets, gives, under_options, present_after, unfolding_after, changed_after, IsAfter, IsFooting, TreeFits, TreePasses, FitsAfter, UnlessMemory, IsRefusal, settled_row, empty_row, fresh_row, brought, Shelved, Places, placed_at, syntax_in, row_in, HasPut, set_to, removed, change_at, recast, recast_each, fresh_of, IsInOrder, CratesFit, PlacesFit, PlacesPass, IsGrounded, source_place, source_syntax, edit_of, Table, table_from, held_of, state_of, syntax_at, row_at, lowered_at, next_number, next_table, IsSound, IsLed, IsStep, IsRowOf}
+use Rattle.item_tree_db.proofs.Common.{option_and_then, option_map, unwrap_or, is_at, nat_tests, length-map, slice_get-map, AtomView, SyntaxView, CrateData, CrateView, crate_view, unfolding_code, same, same_itself, equal_of_same, SetCfg, Place, Row, Source, place_cmp, same_place, Held, State, find, with_cfg, present, unfolding_of, unfolding_at, change_number, EditView, edit_view, set, remove, set_cfg, sets, gives, under_options, present_after, unfolding_after, changed_after, IsAfter, IsFooting, TreeFits, TreePasses, FitsAfter, UnlessMemory, IsRefusal, settled_row, empty_row, fresh_row, brought, Shelved, Places, placed_at, syntax_in, row_in, HasPut, set_to, take_out, change_at, recast_one, recast_each, fresh_of, IsInOrder, CratesFit, PlacesFit, PlacesPass, IsGrounded, source_place, source_syntax, edit_of, Table, table_from, held_of, state_of, syntax_at, row_at, lowered_at, next_number, next_table, IsSound, IsLed, IsStep, IsRowOf}
 use Rattle.hir_input.specs.declared.ids.Crate.{Crate}
 use Rattle.item_tree.specs.declared.fault.EditFault.TheVariants.{Lower}
 use Rattle.item_tree.specs.declared.fault.LowerError.{LowerError}
@@ -87,7 +87,7 @@ module _ (t : Table) (sound : IsSound t) (k : Place) (e : EditView) where
     ] refl;
   }
 
-removed_led : (t : Table) (k : Place) (old : Option Shelved) → IfSome old (λ p. length p.rows ≡ length t.crates) → IsLed t t.crates (remove k) k old (option_map (removed (next_number t)) old)
+removed_led : (t : Table) (k : Place) (old : Option Shelved) → IfSome old (λ p. length p.rows ≡ length t.crates) → IsLed t t.crates (remove k) k old (option_map (take_out (next_number t)) old)
 removed_led t k None h = record {
   own = tt;
   long = tt;
@@ -113,24 +113,24 @@ not_equal k i h = grind (arith, nat_tests)
 
 module _ (t : Table) (k : ℕ) (o : List AtomView) where
   abbrev crates_now : List CrateView
-  crates_now = change_at k (given o) t.crates
+  crates_now = change_at k (with_cfg o) t.crates
 
   given_at : (i : ℕ) → slice_get crates_now i ≡ under_options (cond (nat_eq k i) (Some o) None) (slice_get t.crates i)
   given_at i = elim (nat_eq k i) as (λ b. nat_eq k i ≡ b → slice_get crates_now i ≡ under_options (cond b (Some o) None) (slice_get t.crates i)) [
-    | true ↦ λ h. ap (slice_get crates_now) (sym (equal k i h)) ∙ get_here (given o) k t.crates ∙ ap (λ (m : ℕ). option_map (given o) (slice_get t.crates m)) (equal k i h)
-    | false ↦ λ h. get_other (given o) k i t.crates (not_equal k i h)
+    | true ↦ λ h. ap (slice_get crates_now) (sym (equal k i h)) ∙ get_here (with_cfg o) k t.crates ∙ ap (λ (m : ℕ). option_map (with_cfg o) (slice_get t.crates m)) (equal k i h)
+    | false ↦ λ h. get_other (with_cfg o) k i t.crates (not_equal k i h)
   ] refl
 
   -- what fits in it under these options and in the others, fits in each
   each_fits : (q : Place) (x : Option SyntaxView) → TreeFits t.skipped q (slice_get crates_now k) x → ((i : ℕ) → TreeFits t.skipped q (slice_get t.crates i) x) → (i : ℕ) → TreeFits t.skipped q (slice_get crates_now i) x
   each_fits q x here there i = elim (nat_eq k i) as (λ b. nat_eq k i ≡ b → TreeFits t.skipped q (slice_get crates_now i) x) [
     | true ↦ λ h. subst (λ (m : ℕ). TreeFits t.skipped q (slice_get crates_now m) x) (equal k i h) here
-    | false ↦ λ h. subst (λ (c : Option CrateView). TreeFits t.skipped q c x) (sym (get_other (given o) k i t.crates (not_equal k i h))) (there i)
+    | false ↦ λ h. subst (λ (c : Option CrateView). TreeFits t.skipped q c x) (sym (get_other (with_cfg o) k i t.crates (not_equal k i h))) (there i)
   ] refl
 
   -- what a place has then
   abbrev recast_at : Place → Shelved → Shelved
-  recast_at q placed = recast (next_number t) k (fresh_of (next_number t) t.skipped (slice_get crates_now k) q placed) placed
+  recast_at q placed = recast_one (next_number t) k (fresh_of (next_number t) t.skipped (slice_get crates_now k) q placed) placed
 
   cfg_row : (q : Place) (p : Shelved) → length p.rows ≡ length t.crates → (i : ℕ) → i < length t.crates
       → (row_in t.start (Some p) i).tree ≡ unfolding_of t.skipped q (slice_get t.crates i) (syntax_in (Some p))
@@ -144,7 +144,7 @@ module _ (t : Table) (k : ℕ) (o : List AtomView) where
             (λ w. ap (λ (r : Option Row). unwrap_or r d) (get_here f k p.rows) ∙ map_within f d p.rows k w) (rw long within)
         | false ↦ λ h. let e = not_equal k i h in
             ap (λ (r : Option Row). unwrap_or r d) (get_other f k i p.rows e)
-            ∙ same_kept n (row_in t.start (Some p) i) _ (tree ∙ ap (λ c. unfolding_of t.skipped q c (syntax_in (Some p))) (sym (get_other (given o) k i t.crates e)))
+            ∙ same_kept n (row_in t.start (Some p) i) _ (tree ∙ ap (λ c. unfolding_of t.skipped q c (syntax_in (Some p))) (sym (get_other (with_cfg o) k i t.crates e)))
       ] refl
 
   cfg_led : (q : Place) (old : Option Shelved) → IfSome (option_and_then (λ p. p.source) old) (λ s. source_place s ≡ q) → IfSome old (λ p. length p.rows ≡ length t.crates)
@@ -267,23 +267,23 @@ module _ (crates : List CrateData) (skipped : List (List ℕ)) (start number : �
       let is_had : syntax_at t k ≡ Some view = sym (present_is t k) ∙ ap (λ (z : State). present z k) is ∙ had in
       subst (λ (z : State). FitsAfter z [] (set k view)) is (λ i. subst (TreeFits skipped k (slice_get t.crates i)) is_had (sound.fits k i))
 
-  pub removed_made : (k : Place) → HasPut k (option_map (removed (number + 1)) (placed_at places k)) places new → IsMade s (remove k) (next_table t t.crates new)
+  pub removed_made : (k : Place) → HasPut k (option_map (take_out (number + 1)) (placed_at places k)) places new → IsMade s (remove k) (next_table t t.crates new)
   removed_made k put =
       let step = one_place t sound k (remove k) _ new (λ q h. ap (λ b. cond b (Some None) None) h) (λ i. refl) put (removed_led t k (placed_at places k) (sound.rows k)) in
       made t (remove k) t.crates new sound step s is
 
   -- options are given to a crate, which is this one then
-  module _ (k : Crate) (o : List AtomView) (krate : CrateView) (at : slice_get (change_at k.0 (given o) (map crate_view crates)) k.0 ≡ Some krate) where
-    pub cfg_made : (after : List CrateData) → map crate_view after ≡ change_at k.0 (given o) (map crate_view crates) → (fresh : List (Place × Row)) → fresh ≡ fresh_each (fresh_of (number + 1) skipped (Some krate)) places
+  module _ (k : Crate) (o : List AtomView) (krate : CrateView) (at : slice_get (change_at k.0 (with_cfg o) (map crate_view crates)) k.0 ≡ Some krate) where
+    pub cfg_made : (after : List CrateData) → map crate_view after ≡ change_at k.0 (with_cfg o) (map crate_view crates) → (fresh : List (Place × Row)) → fresh ≡ fresh_each (fresh_of (number + 1) skipped (Some krate)) places
         → IsInOrder places → PlacesFit skipped (Some krate) places → ((q : Place) → placed_at new q ≡ recast_each (number + 1) k.0 fresh q (placed_at places q)) → IsMade s (set_cfg k.0 o) (table_from after skipped start (number + 1) new)
     cfg_made after same fresh e order fits each =
         let n = number + 1 in
-        let now = change_at k.0 (given o) t.crates in
+        let now = change_at k.0 (with_cfg o) t.crates in
         let fresh_now : Option CrateView → List (Place × Row) = λ c. fresh_each (fresh_of n skipped c) places in
         let placed = λ (q : Place). each q ∙ ap (λ (l : List (Place × Row)). recast_each n k.0 l q (placed_at places q)) (e ∙ ap fresh_now (sym at)) ∙ recast_is n k.0 (fresh_of n skipped (slice_get now k.0)) places order q in
         let fit = λ (q : Place). each_fits t k.0 o q (syntax_at t q) (subst (λ (c : Option CrateView). TreeFits skipped q c (syntax_at t q)) (sym at) (fits q)) (sound.fits q) in
         let step : IsStep t (set_cfg k.0 o) now new = record {
-          count = length-change_at (given o) k.0 t.crates;
+          count = length-change_at (with_cfg o) k.0 t.crates;
           under_it = given_at t k.0 o;
           led = λ q. subst (IsLed t now (set_cfg k.0 o) q (placed_at places q)) (sym (placed q)) (cfg_led t k.0 o q (placed_at places q) (sound.own q) (sound.rows q) (sound.trees q) (fit q));
         } in
@@ -291,7 +291,7 @@ module _ (crates : List CrateData) (skipped : List (List ℕ)) (start number : �
 
     -- it is lowered under them
     lowers : (P : Option CrateView → Option SyntaxView → Type 0) (place : Place) → P (Some krate) (syntax_in (placed_at places place)) → P (under_options (Some o) (slice_get (map crate_view crates) k.0)) (present (state_of t) place)
-    lowers P place h = subst (λ (z : Option CrateView × Option SyntaxView). P z.0 z.1) (λ j. ((sym at ∙ get_here (given o) k.0 (map crate_view crates)) j, sym (present_is t place) j)) h
+    lowers P place h = subst (λ (z : Option CrateView × Option SyntaxView). P z.0 z.1) (λ j. ((sym at ∙ get_here (with_cfg o) k.0 (map crate_view crates)) j, sym (present_is t place) j)) h
 
     pub cfg_fits : PlacesFit skipped (Some krate) places → FitsAfter s [] (set_cfg k.0 o)
     cfg_fits h = subst (λ (z : State). FitsAfter z [] (set_cfg k.0 o)) is (λ place. lowers (TreeFits skipped place) place (h place))
@@ -303,7 +303,7 @@ module _ (crates : List CrateData) (skipped : List (List ℕ)) (start number : �
     ])
 
   -- what each place is brought under options that are given to a crate, which is this one after it
-  pub cfg_brought : (k : Crate) (o : List AtomView) (after : List CrateData) (krate : CrateData) → krate ≡ get_or after k.0 krate → k.0 < length s.crates → length after ≡ length crates → map crate_view after ≡ change_at k.0 (given o) (map crate_view crates)
+  pub cfg_brought : (k : Crate) (o : List AtomView) (after : List CrateData) (krate : CrateData) → krate ≡ get_or after k.0 krate → k.0 < length s.crates → length after ≡ length crates → map crate_view after ≡ change_at k.0 (with_cfg o) (map crate_view crates)
       → (names : List (List ℕ)) → names ≡ skipped → (fresh : List (Place × Row)) → fresh ≡ fresh_each (fresh_of (number + 1) names (Some (crate_view krate))) places → IsInOrder places → PlacesFit names (Some (crate_view krate)) places
       → ((q : Place) → placed_at new q ≡ recast_each (number + 1) k.0 fresh q (placed_at places q)) → IsMade s (set_cfg k.0 o) (table_from after skipped start (number + 1) new) × FitsAfter s [] (set_cfg k.0 o)
   cfg_brought k o after krate e known same gives_it names named fresh f order fits each =

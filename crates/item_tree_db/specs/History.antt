@@ -10,7 +10,7 @@ use Rattle.item_tree.specs.Code.Node.{unfolding_code}
 use Rattle.item_tree.specs.Same.{same}
 use Rattle.item_tree_db.specs.declared.place.Place.{Place}
 use Rattle.item_tree_db.specs.PlaceOrder.{same_place}
-use Rattle.item_tree_db.specs.State.{State, given, present, unfolding_of, unfolding_at, change_number}
+use Rattle.item_tree_db.specs.State.{State, with_cfg, present, unfolding_of, unfolding_at, change_number}
 use Rattle.item_tree_db.specs.Edits.{EditView, set, remove, set_cfg}
 
 -- what the last element has that has any
@@ -38,7 +38,7 @@ gives i (set_cfg k options) = if k == i then Some options else None
 -- a crate of the list under the options that it is given, if it is given any
 abbrev pub under_options : Option (List AtomView) → Option CrateView → Option CrateView
 under_options None krate = krate
-under_options (Some options) krate = option_map (given options) krate
+under_options (Some options) krate = option_map (with_cfg options) krate
 
 -- ---- after the edits
 

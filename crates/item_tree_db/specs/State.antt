@@ -49,8 +49,8 @@ abbrev pub options : State → Crate → Option (List AtomView)
 options s krate = option_map (λ k. k.options) (slice_get s.crates krate.0)
 
 -- the crate under other options
-abbrev pub given : List AtomView → CrateView → CrateView
-given options krate = record { root = krate.root; options = options; attrs = krate.attrs }
+abbrev pub with_cfg : List AtomView → CrateView → CrateView
+with_cfg options krate = record { root = krate.root; options = options; attrs = krate.attrs }
 
 -- what a list of entries has at a place
 abbrev pub find : {X : Type 0} → List (Place × X) → Place → Option X

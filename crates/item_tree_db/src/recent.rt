@@ -61,7 +61,7 @@ impl Recent {
     }
 
     /// The places under numbers above a bound: none where one may be missing, or no memory is left for them.
-    pub fn above(&self, bound: u64) -> Option<BTreeSet<Place>>
+    pub fn places_above(&self, bound: u64) -> Option<BTreeSet<Place>>
         ensures { IfSome result (λ places. HoldsNoted self.now bound places.keys) }
     {
         if bound < self.missing {

@@ -3,8 +3,8 @@ ghost use Rattle.std.specs.Prelude.{◌≡◌, IfErr, IfOk, OnOk, length, map, S
 ghost use Rattle.item_tree.specs.CrateView.{crate_view};
 ghost use Rattle.item_tree_db.specs.Refusal.{TreeFits, TreePasses, UnlessMemory};
 ghost use Rattle.item_tree_db.specs.Inner.Sizes.{CratesFit, CratesPass};
-ghost use Rattle.item_tree_db.specs.Inner.Recent.{newest};
-ghost use Rattle.item_tree_db.specs.Inner.Settled.{settled, settled_row, empty_row, cleared, fresh_row, brought};
+ghost use Rattle.item_tree_db.specs.Inner.Recent.{newest_number};
+ghost use Rattle.item_tree_db.specs.Inner.Settled.{settle_all, settled_row, empty_row, clear_all, fresh_row, brought};
 ghost use Rattle.item_tree_db.specs.Inner.Source.{source_place, source_syntax};
 ghost use Rattle.item_tree_db.specs.State.{is_root_of, kept_at};
 
@@ -23,8 +23,8 @@ pub struct Row {
 }
 
 /// The greatest change number of rows.
-pub fn newest(rows: &[Row]) -> u64
-    ensures { result ≡ newest rows.now }
+pub fn newest_number(rows: &[Row]) -> u64
+    ensures { result ≡ newest_number rows.now }
 {
     let mut greatest = 0;
     for row in rows {
@@ -46,7 +46,7 @@ pub fn settle_row(row: &mut Row, fresh: &mut Row, number: u64)
 /// Replaces each tree that is not equal to the new one. An equal tree stays, with its number.
 pub fn settle(rows: &mut [Row], mut fresh: Vec<Row>, number: u64)
     requires { length fresh.items ≡ length rows.old }
-    ensures { rows.new ≡ settled number rows.old fresh.items }
+    ensures { rows.new ≡ settle_all number rows.old fresh.items }
 {
     for i in 0..rows.len() {
         settle_row(&mut rows[i], &mut fresh[i], number);
@@ -55,7 +55,7 @@ pub fn settle(rows: &mut [Row], mut fresh: Vec<Row>, number: u64)
 
 /// Replaces each tree that is not empty by the empty one. Takes no memory.
 pub fn clear(rows: &mut [Row], alloc: Global, number: u64)
-    ensures { rows.new ≡ cleared number rows.old }
+    ensures { rows.new ≡ clear_all number rows.old }
 {
     for row in rows.iter_mut() {
         let mut none = Row {

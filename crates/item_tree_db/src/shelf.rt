@@ -4,20 +4,20 @@ ghost use Rattle.std.specs.Prelude.{option_copied, IfOk, IfErr, IfSome, OnOk, On
 ghost use Rattle.std.specs.List.Sorted.{IsStrictlySortedBy};
 ghost use Rattle.item_tree.specs.CrateView.{crate_view};
 ghost use Rattle.item_tree_db.specs.declared.place.Place.{Place};
-ghost use Rattle.item_tree_db.specs.Inner.Settled.{settled};
-ghost use Rattle.item_tree_db.specs.Inner.Shelf.{placed_at, source_in, HasPut, set_to, removed, recast, recast_each};
-ghost use Rattle.item_tree_db.specs.Inner.Shelf.{fresh_of, IsInOrder};
+ghost use Rattle.item_tree_db.specs.Inner.Settled.{settle_all};
+ghost use Rattle.item_tree_db.specs.Inner.Shelf.{placed_at, source_in, HasPut, set_to, take_out, recast_one};
+ghost use Rattle.item_tree_db.specs.Inner.Shelf.{fresh_of, recast_each, IsInOrder};
 ghost use Rattle.item_tree_db.specs.Inner.Sizes.{PlacesFit, PlacesPass};
 ghost use Rattle.item_tree_db.specs.Refusal.{UnlessMemory};
 ghost use Rattle.item_tree_db.specs.Inner.Source.{source_place};
 ghost use Rattle.item_tree_db.specs.State.{crate_limit};
 ghost use Rattle.item_tree_db.specs.PlaceOrder.{place_cmp};
-ghost use Rattle.item_tree_db.specs.Inner.Recent.{newest};
-ghost use Rattle.item_tree_db.specs.Inner.Walk.{HasFewRows, IsLateWalk, all_changes, late, over, rows_in};
+ghost use Rattle.item_tree_db.specs.Inner.Recent.{newest_number};
+ghost use Rattle.item_tree_db.specs.Inner.Walk.{HasFewRows, IsLateWalk, all_changes, late_changes, walk_over, rows_in};
 
 use crate::place::Place;
 use crate::recent::Recent;
-use crate::rows::{Row, clear, lower_row, newest, settle, settle_first, settle_row};
+use crate::rows::{Row, clear, lower_row, newest_number, settle, settle_first, settle_row};
 use crate::since::{ChangedSince, Chosen, Found, Slots};
 use crate::source::Source;
 use hir_input::Name;
@@ -72,17 +72,17 @@ impl Entry {
         &self.rows
     }
 
-    fn newest(&self) -> u64
-        ensures { result ≡ newest self.now.rows }
+    fn newest_number(&self) -> u64
+        ensures { result ≡ newest_number self.now.rows }
     {
-        newest(&self.rows)
+        newest_number(&self.rows)
     }
 
     fn set(&mut self, source: Source, fresh: Vec<Row>, number: u64)
         requires { length fresh.items ≡ length self.old.rows }
         ensures { self.new ≡ record {
           source = Some source;
-          rows = settled number self.old.rows
+          rows = settle_all number self.old.rows
               fresh.items;
         } }
     {
@@ -91,7 +91,7 @@ impl Entry {
     }
 
     fn recast(&mut self, index: usize, fresh: &mut Row, number: u64)
-        ensures { self.new ≡ recast number index fresh.old self.old }
+        ensures { self.new ≡ recast_one number index fresh.old self.old }
     {
         if index < self.rows.len() {
             settle_row(&mut self.rows[index], fresh, number);
@@ -105,7 +105,7 @@ impl Entry {
     }
 
     fn remove(&mut self, alloc: Global, number: u64)
-        ensures { self.new ≡ removed number self.old }
+        ensures { self.new ≡ take_out number self.old }
     {
         self.source = None;
         clear(&mut self.rows, alloc, number);
@@ -194,16 +194,16 @@ impl Shelf {
         let place = source.place();
         match self.entries.get_mut(&place) {
             Some(entry) => {
-                let old = entry.newest();
+                let old = entry.newest_number();
                 entry.set(source, fresh, number);
-                let new = entry.newest();
+                let new = entry.newest_number();
                 self.recent.renote(place, old, new);
                 Ok(())
             }
             None => {
                 settle_first(&mut fresh, alloc, start, number);
                 let entry = Entry::new(source, fresh);
-                let new = entry.newest();
+                let new = entry.newest_number();
                 match self.entries.insert(place, entry) {
                     Ok(_) => {
                         self.recent.note(place, new);
@@ -220,26 +220,26 @@ impl Shelf {
 
     /// Removes what is set at a place. Needs no memory.
     pub fn remove(&mut self, alloc: Global, place: Place, number: u64)
-        ensures { HasPut place (option_map (removed number) (placed_at self.old place)) self.old
+        ensures { HasPut place (option_map (take_out number) (placed_at self.old place)) self.old
             self.new }
     {
         if let Some(entry) = self.entries.get_mut(&place) {
-            let old = entry.newest();
+            let old = entry.newest_number();
             entry.remove(alloc, number);
-            let new = entry.newest();
+            let new = entry.newest_number();
             self.recent.renote(place, old, new);
         }
     }
 
     // Brings one crate another tree of a place, if it is there.
     fn recast_at(&mut self, place: Place, index: usize, fresh: &mut Row, number: u64)
-        ensures { HasPut place (option_map (recast number index fresh.old)
+        ensures { HasPut place (option_map (recast_one number index fresh.old)
             (placed_at self.old place)) self.old self.new }
     {
         if let Some(entry) = self.entries.get_mut(&place) {
-            let old = entry.newest();
+            let old = entry.newest_number();
             entry.recast(index, fresh, number);
-            let new = entry.newest();
+            let new = entry.newest_number();
             self.recent.renote(place, old, new);
         }
     }
@@ -278,11 +278,11 @@ impl Shelf {
     }
 
     /// The change numbers above a bound. Looks at the places that have one, unless some may be missing.
-    pub fn late(&self, above: u64) -> ChangedSince<'_>
+    pub fn changes_above(&self, above: u64) -> ChangedSince<'_>
         requires { HasFewRows self.now }
         ensures { IsLateWalk above self.now result }
     {
-        match self.recent.above(above) {
+        match self.recent.places_above(above) {
             Some(places) => {
                 let found = Found::new(places.into_iter(), self);
                 ChangedSince::new(Slots::Recent(found), above)
@@ -294,7 +294,7 @@ impl Shelf {
     /// Those of some places.
     pub fn late_among<'a>(&'a self, above: u64, places: &'a BTreeSet<Place>) -> ChangedSince<'a>
         requires { HasFewRows self.now }
-        ensures value { result ≡ late above (all_changes (over self.now places.now.keys)) }
+        ensures value { result ≡ late_changes above (all_changes (walk_over self.now places.now.keys)) }
         ensures in_order { IsStrictlySortedBy place_cmp places.now.keys }
     {
         ChangedSince::new(Slots::Among(Chosen::new(places.iter(), self)), above)

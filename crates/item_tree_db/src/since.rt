@@ -16,10 +16,10 @@ pub(crate) struct Chosen<'a> {
 impl<'a> Chosen<'a> {
     ghost use Rattle.std.specs.Prelude.{◌≡◌};
     ghost use Rattle.std.specs.Map.Iter.{TakesFirst};
-    ghost use Rattle.item_tree_db.specs.Inner.Walk.{chosen_walk, over};
+    ghost use Rattle.item_tree_db.specs.Inner.Walk.{chosen_walk, walk_over};
 
     pub(crate) fn new(places: btree_set::Iter<'a, Place>, shelf: &'a Shelf) -> Self
-        ensures { chosen_walk result ≡ over shelf.now places.entry }
+        ensures { chosen_walk result ≡ walk_over shelf.now places.entry }
     {
         Chosen { places, shelf }
     }
@@ -44,10 +44,10 @@ pub(crate) struct Found<'a> {
 impl<'a> Found<'a> {
     ghost use Rattle.std.specs.Prelude.{◌≡◌};
     ghost use Rattle.std.specs.Map.Iter.{TakesFirst};
-    ghost use Rattle.item_tree_db.specs.Inner.Walk.{found_walk, over};
+    ghost use Rattle.item_tree_db.specs.Inner.Walk.{found_walk, walk_over};
 
     pub(crate) fn new(places: btree_set::IntoIter<Place>, shelf: &'a Shelf) -> Self
-        ensures { found_walk result ≡ over shelf.now places }
+        ensures { found_walk result ≡ walk_over shelf.now places }
     {
         Found { places, shelf }
     }
@@ -105,11 +105,11 @@ impl<'a> Model for ChangedSince<'a> {
     ghost use Rattle.std.specs.Prelude.{List, length, ◌≤◌};
     ghost use Rattle.item_tree_db.specs.Since.{Change};
     ghost use Rattle.item_tree_db.specs.State.{crate_limit};
-    ghost use Rattle.item_tree_db.specs.Inner.Walk.{HasFew, left, walk_of};
+    ghost use Rattle.item_tree_db.specs.Inner.Walk.{HasFew, changes_left, walk_of};
 
     ghost Value = { List Change };
 
-    ghost view = { λ c. left c.above c.place c.next c.rows.now (walk_of c.slots) };
+    ghost view = { λ c. changes_left c.above c.place c.next c.rows.now (walk_of c.slots) };
 
     ghost invariant = { λ c. record {
       rows : length c.rows.now ≤ crate_limit;
@@ -119,12 +119,12 @@ impl<'a> Model for ChangedSince<'a> {
 
 impl<'a> ChangedSince<'a> {
     ghost use Rattle.std.specs.Prelude.{◌≡◌};
-    ghost use Rattle.item_tree_db.specs.Inner.Walk.{HasFew, all_changes, late, walk_of};
+    ghost use Rattle.item_tree_db.specs.Inner.Walk.{HasFew, all_changes, late_changes, walk_of};
 
     /// The change numbers above a bound.
     pub(crate) fn new(slots: Slots<'a>, above: u64) -> Self
         requires { HasFew (walk_of slots) }
-        ensures { result ≡ late above (all_changes (walk_of slots.entry)) }
+        ensures { result ≡ late_changes above (all_changes (walk_of slots.entry)) }
     {
         ChangedSince {
             slots,

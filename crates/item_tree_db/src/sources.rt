@@ -7,7 +7,7 @@ ghost use Rattle.hir_input.specs.Syntax.{syntax_view, block_view};
 ghost use Rattle.item_tree.specs.declared.fault.EditFault.TheVariants.{TooManyEdits};
 ghost use Rattle.item_tree.specs.CrateView.{crate_view};
 ghost use Rattle.item_tree_db.specs.declared.edit.Edit.TheVariants.{SetCfg};
-ghost use Rattle.item_tree_db.specs.State.{new_table, given, IsKnown, options, present, unfolding_at, change_number};
+ghost use Rattle.item_tree_db.specs.State.{new_table, with_cfg, IsKnown, options, present, unfolding_at, change_number};
 ghost use Rattle.item_tree_db.specs.Edits.{edit_view, edits_before, remove as removes, set_cfg as gives};
 ghost use Rattle.item_tree_db.specs.History.{IsAfter, IsFooting, IgnoresBodies};
 ghost use Rattle.item_tree_db.specs.Inner.{Settled.empty_row, Shelf.change_at};
@@ -87,7 +87,7 @@ impl Model for Sources {
 fn swap_options(crates: &mut Vec<CrateData>, index: usize, options: &mut CfgOptions)
     requires { index < length crates.old.items }
     ensures swapped { map crate_view crates.new.items
-        ≡ change_at index (given options.old) (map crate_view crates.old.items) }
+        ≡ change_at index (with_cfg options.old) (map crate_view crates.old.items) }
     ensures before { option_map (λ k. k.options) (slice_get (map crate_view crates.old.items) index)
         ≡ Some options.new }
     ensures count { length crates.new.items ≡ length crates.old.items }
@@ -315,7 +315,7 @@ impl Sources {
 
     /// The number of the last edit at which the tree of a place in a crate changed, or `start`. The caller shows
     /// `knows(krate)`.
-    pub fn changed(&self, place: Place, krate: Crate) -> u64
+    pub fn change_number(&self, place: Place, krate: Crate) -> u64
         requires { IsKnown self.now krate }
         ensures { result ≡ change_number self.now place krate.0 }
     {
@@ -335,7 +335,7 @@ impl Sources {
         ensures since { IsSince self.now n result }
         ensures grounded { IsGrounded self.now }
     {
-        self.places.late(n.max(self.start))
+        self.places.changes_above(n.max(self.start))
     }
 
     /// Those of `changed_since` that are of some places. It takes no memory and looks at these places alone, which no

@@ -13,7 +13,7 @@ unfoldable pub use Rattle.item_tree_request.specs.ImportLines.{import_line, use_
 pub use Rattle.item_tree_request.specs.Inner.ImportsByIds.{import_lines_at}
 pub use Rattle.item_tree_request.specs.Inner.Made.{IsMade, IsRequestServed, IsUnmade, refusal_of}
 pub use Rattle.item_tree_request.specs.Named.{EditNamesCrate, NamesCrate}
-pub use Rattle.item_tree_request.specs.Outputs.{AreChanges, AreFixed, AreJoined, IsAdded, IsPrinted, Knows, NonePasses, PassesAt, ShowText, first_table, heading, printed, printed_as}
+pub use Rattle.item_tree_request.specs.Outputs.{AreChanges, AreFixed, AreJoined, IsAdded, IsPrinted, Knows, NonePasses, PassesAt, ShowText, first_table, heading, printed_show, printed_as}
 unfoldable pub use Rattle.item_tree_request.specs.Outputs.{imports_text, page_text, table_change_line}
 pub use Rattle.item_tree_request.specs.Runs.{IsOutputOf, IsRefusedFor}
 pub use Rattle.item_tree_request.specs.Shows.{show}

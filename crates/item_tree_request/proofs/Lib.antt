@@ -1,6 +1,6 @@
 pub mod ImportLists
-pub mod Made
+pub mod EditOutcomes
 pub mod Outputs
-pub mod Served
+pub mod ServedRequests
 pub mod Common
 pub mod Writing

@@ -6,7 +6,7 @@ use Rattle.item_tree_db.specs.declared.place.Place.TheVariants.{File, Block}
 use Rattle.item_tree_db.specs.Edits.{EditView, set, remove, set_cfg}
 use Rattle.hir_input_json.specs.Reading.{Reading, right, here, under, ◌>>=◌}
 use Rattle.hir_input_json.specs.Cfgs.{atom}
-use Rattle.hir_input_json.specs.Forms.{required_at, on_word, wrong_at, number_form, below, text_form, object_members, list_at}
+use Rattle.hir_input_json.specs.Forms.{required_at, on_word, wrong_at, number_form, number_below, text_form, object_members, list_at}
 use Rattle.hir_input_json.specs.Syntaxes.{syntax, block_form}
 use Rattle.hir_input_json.specs.Metas.{attrs_form}
 
@@ -49,7 +49,7 @@ remove_block_edit d = do
 abbrev pub set_cfg_edit : ℕ → Data → Reading EditView
 set_cfg_edit count d = do
   number ← number_form (codes "crate") d
-  known ← under (codes "crate") (here (below count number))
+  known ← under (codes "crate") (here (number_below count number))
   options ← list_at atom (codes "cfg") d
   right (set_cfg known options)
 

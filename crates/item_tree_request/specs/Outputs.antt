@@ -51,8 +51,8 @@ printed_as Tree reserved u show = heading u show ++ page_text reserved u show
 printed_as Imports reserved u show = imports_text reserved u show
 
 -- the text of a show of a tree
-abbrev pub printed : List (List ℕ) → State → TreeShow → List ℕ
-printed reserved u show = printed_as show.kind reserved u show
+abbrev pub printed_show : List (List ℕ) → State → TreeShow → List ℕ
+printed_show reserved u show = printed_as show.kind reserved u show
 
 -- the lines of all changes since a number
 abbrev pub AreChanges : State → ℕ → List ℕ → Type 0
@@ -66,7 +66,7 @@ ShowText = List (List ℕ) → State → Show → List ℕ → Type 0
 
 -- the text of a show: that of a tree, or the lines of all changes since a number
 abbrev pub IsPrinted : ShowText
-IsPrinted reserved u (OfTree show) text = text ≡ printed reserved u show
+IsPrinted reserved u (OfTree show) text = text ≡ printed_show reserved u show
 IsPrinted reserved u (Changed since) text = AreChanges u since text
 
 -- the crate of a show of a tree is one of the table

@@ -8,7 +8,7 @@ use Rattle.item_tree_request.specs.declared.request.show.Show.TheVariants.{OfTre
 use Rattle.item_tree_request.specs.declared.request.show.ShowKind.{ShowKind}
 use Rattle.item_tree_request.specs.declared.request.show.ShowKind.TheVariants.{Page, Tree, Imports}
 use Rattle.hir_input_json.specs.Reading.{Reading, right, reading_map, here, under, ◌>>=◌}
-use Rattle.hir_input_json.specs.Forms.{field, required_at, by_form, on_word, wrong_at, whole_form, text_form, number_form, below, object_members}
+use Rattle.hir_input_json.specs.Forms.{field, required_at, by_form, on_word, wrong_at, whole_form, text_form, number_form, number_below, object_members}
 
 -- the word for what is shown of a tree
 abbrev pub show_word : ShowKind → List ℕ
@@ -26,7 +26,7 @@ place_form d =
 abbrev pub tree_show : ℕ → ShowKind → Data → Reading Show
 tree_show count kind d = do
   number ← number_form (codes "crate") d
-  known ← under (codes "crate") (here (below count number))
+  known ← under (codes "crate") (here (number_below count number))
   place ← place_form d
   right (OfTree (record { kind = kind; krate = record { 0 = known }; place = place }))
 

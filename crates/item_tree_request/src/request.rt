@@ -5,7 +5,7 @@ ghost use Rattle.hir_input.specs.Edition.{edition_view};
 ghost use Rattle.hir_input_json.specs.Editions.{edition_at as edition_at_form};
 ghost use Rattle.hir_input_json.specs.Reading.{right};
 ghost use Rattle.hir_input_json.specs.Forms.{optional_at, whole_form, identifier_form as name_form, list_at as each_at};
-ghost use Rattle.hir_input_json.specs.Held.{held, without};
+ghost use Rattle.hir_input_json.specs.Held.{object_held, without_key};
 ghost use Rattle.hir_input_json.specs.Reads.{Reads, Tells};
 ghost use Rattle.item_tree_request.specs.Inner.RequestView.{request_view, NamesOwnCrates};
 ghost use Rattle.item_tree_request.specs.Requests.{request as request_form, request_parts as parts_form};
@@ -46,16 +46,16 @@ pub(crate) struct Settings {
 }
 
 // Takes the settings out.
-#[tactic(auto, using(hir_input_json::proofs::Held::field_without))]
+#[tactic(auto, using(hir_input_json::proofs::MemberObjects::field_without))]
 fn settings_at(alloc: Global, members: &mut Map<String, Value>) -> Result<Settings, Fault>
     ensures reads { MatchResult result
-        (λ s. (optional_at 0 (codes "start") (whole_form (2 ^ 64)) (held members.old) ≡ right s.start)
-        × (each_at name_form (codes "skipped") (held members.old) ≡ right s.skipped.items)
-        × (edition_at_form (held members.old) ≡ right (edition_view s.edition)))
-        (Tells (parts_form (held members.old))) }
+        (λ s. (optional_at 0 (codes "start") (whole_form (2 ^ 64)) (object_held members.old) ≡ right s.start)
+        × (each_at name_form (codes "skipped") (object_held members.old) ≡ right s.skipped.items)
+        × (edition_at_form (object_held members.old) ≡ right (edition_view s.edition)))
+        (Tells (parts_form (object_held members.old))) }
     ensures left { OnOk result
-        (held members.new ≡ without (codes "edition")
-        (without (codes "skipped") (held members.old))) }
+        (object_held members.new ≡ without_key (codes "edition")
+        (without_key (codes "skipped") (object_held members.old))) }
 {
     let start = u64_at(alloc, members, "start")?;
     let skipped = names_at(alloc, members, "skipped")?;
@@ -67,9 +67,9 @@ fn settings_at(alloc: Global, members: &mut Map<String, Value>) -> Result<Settin
     })
 }
 
-#[tactic(auto, using(hir_input_json::proofs::Held::field_without))]
+#[tactic(auto, using(hir_input_json::proofs::MemberObjects::field_without))]
 fn parts_of(alloc: Global, members: &mut Map<String, Value>) -> Result<Request, Fault>
-    ensures reads { Reads request_view result (parts_form (held members.old)) }
+    ensures reads { Reads request_view result (parts_form (object_held members.old)) }
     ensures known { IfOk result NamesOwnCrates }
 {
     let settings = settings_at(alloc, members)?;

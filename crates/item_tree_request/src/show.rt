@@ -1,7 +1,7 @@
 //! The texts of shows: pages and imports, and the lines of what changed.
 ghost use Rattle.std.specs.Prelude.{◌≡◌, ◌++◌, IfOk, OnErr, OnOk, string_bytes, flat_map};
 ghost use Rattle.item_tree_db.specs.State.{IsKnown};
-ghost use Rattle.item_tree_request.specs.Outputs.{AreChanges, IsAdded, table_change_line, printed, IsPrinted};
+ghost use Rattle.item_tree_request.specs.Outputs.{AreChanges, IsAdded, table_change_line, printed_show, IsPrinted};
 
 use crate::imports::imports_text;
 use crate::request::show::{Show, ShowKind, TreeShow};
@@ -63,13 +63,13 @@ fn tree_text(
 ) -> Result<String, AllocError>
     requires { IsKnown sources.now show.krate }
     ensures { IfOk result (λ text. string_bytes text
-        ≡ printed edition.now.reserved.items sources.now show) }
+        ≡ printed_show edition.now.reserved.items sources.now show) }
 {
     let tree = sources.tree(show.place, show.krate);
     match show.kind {
         ShowKind::Page => tree.pretty_print(alloc, edition),
         ShowKind::Tree => {
-            let changed = sources.changed(show.place, show.krate);
+            let changed = sources.change_number(show.place, show.krate);
             let mut text = String::new(alloc);
             write_change(show.place, show.krate, changed, &mut text)?;
             text.push_str(&tree.pretty_print(alloc, edition)?)?;
@@ -118,7 +118,7 @@ fn push_tree(
 ) -> Result<(), AllocError>
     requires { IsKnown sources.now show.krate }
     ensures added { OnOk result (string_bytes text.new ≡ string_bytes text.old
-        ++ printed edition.now.reserved.items sources.now show) }
+        ++ printed_show edition.now.reserved.items sources.now show) }
     ensures same { OnErr result (string_bytes text.new ≡ string_bytes text.old) }
 {
     let shown = tree_text(alloc, sources, edition, show)?;

@@ -56,7 +56,7 @@ impl Service for Echo {
 #[derive(Drop)]
 struct Twice;
 
-fn doubled(alloc: Global, text: String) -> Answer {
+fn double(alloc: Global, text: String) -> Answer {
     if text.as_str() == "quiet" {
         return Answer::Several(Vec::new(alloc));
     }
@@ -84,7 +84,7 @@ impl Service for Twice {
     fn answer(&mut self, alloc: Global, message: Message) -> Answer {
         match message {
             Message::Whole(bytes) => match String::from_utf8(bytes) {
-                Ok(text) => doubled(alloc, text),
+                Ok(text) => double(alloc, text),
                 Err(_) => Answer::Fixed("no text"),
             },
             Message::TooLong => Answer::Several(Vec::new(alloc)),

@@ -44,7 +44,7 @@ fn push(text: &mut String, declaration: &Declaration<'_>) -> Result<(), AllocErr
     }
 }
 
-fn shown(alloc: Global, tree: &ItemTree) -> Result<String, AllocError> {
+fn show(alloc: Global, tree: &ItemTree) -> Result<String, AllocError> {
     let mut text = String::new(alloc);
     for declaration in &collect(alloc, tree)?.declarations {
         push(&mut text, declaration)?;
@@ -54,7 +54,7 @@ fn shown(alloc: Global, tree: &ItemTree) -> Result<String, AllocError> {
 
 fn are_collected(alloc: Global) -> Result<bool, LowerError> {
     let tree = tree_of_all_kinds(alloc)?;
-    let text = shown(alloc, &tree)?;
+    let text = show(alloc, &tree)?;
     Ok(text.as_str() == DECLARED)
 }
 

@@ -241,7 +241,7 @@ fn write_dependency(text: &mut String, dependency: &Dependency) -> Result<(), Al
     text.push_str("; ")
 }
 
-fn shown(alloc: Global, manifest: &Manifest) -> Result<String, AllocError> {
+fn show(alloc: Global, manifest: &Manifest) -> Result<String, AllocError> {
     let mut text = String::new(alloc);
     write!(text, "{:?}; ", manifest.edition)?;
     for root in &manifest.roots {
@@ -287,28 +287,28 @@ fn reason(alloc: Global, error: &ManifestError) -> Result<String, AllocError> {
     }
 }
 
-fn told(alloc: Global, text: &str, workspace: &str) -> Result<String, AllocError> {
+fn tell(alloc: Global, text: &str, workspace: &str) -> Result<String, AllocError> {
     let workspace = if workspace.is_empty() {
         None
     } else {
         Some(workspace)
     };
     match Manifest::from_text(alloc, text, workspace) {
-        Ok(manifest) => shown(alloc, &manifest),
+        Ok(manifest) => show(alloc, &manifest),
         Err(error) => reason(alloc, &error),
     }
 }
 
 fn first_other(alloc: Global, rows: &[(&str, &str, &str)]) -> Result<Option<usize>, AllocError> {
     for (place, &(text, workspace, wanted)) in rows.iter().enumerate() {
-        if told(alloc, text, workspace)?.as_str() != wanted {
+        if tell(alloc, text, workspace)?.as_str() != wanted {
             return Ok(Some(place));
         }
     }
     Ok(None)
 }
 
-fn enabled(
+fn enables(
     alloc: Global,
     manifest: &Manifest,
     choice: &FeatureChoice<'_>,
@@ -335,7 +335,7 @@ fn first_other_choice(alloc: Global) -> Result<Option<usize>, AllocError> {
             no_default,
             named,
         };
-        if enabled(alloc, &manifest, &choice)?.as_str() != wanted {
+        if enables(alloc, &manifest, &choice)?.as_str() != wanted {
             return Ok(Some(place));
         }
     }

@@ -197,7 +197,7 @@ fn found_in(
     Err(ModuleTreeError::OutOfMemory)
 }
 
-fn shown(alloc: Global, found: &ModuleTree) -> Result<String, AllocError> {
+fn show(alloc: Global, found: &ModuleTree) -> Result<String, AllocError> {
     let mut text = String::new(alloc);
     for module in &found.modules {
         write!(text, "{} ", module.file)?;
@@ -231,7 +231,7 @@ fn has_modules(
     let trees = trees_of(alloc, files)?;
     let lent = lent_of(alloc, &trees)?;
     let found = found_in(alloc, files, &lent, choice)?;
-    let text = shown(alloc, &found)?;
+    let text = show(alloc, &found)?;
     Ok(text.as_str() == wanted)
 }
 

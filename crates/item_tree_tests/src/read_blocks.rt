@@ -234,7 +234,7 @@ fn tell_problems(text: &mut String, problems: &[Problem]) -> Result<(), AllocErr
 }
 
 // The places and the problems of a block.
-fn told(alloc: Global, read: &SourceBlock) -> Result<String, AllocError> {
+fn tell(alloc: Global, read: &SourceBlock) -> Result<String, AllocError> {
     let mut text = String::new(alloc);
     tell_places(&mut text, &read.places)?;
     tell_problems(&mut text, &read.problems)?;
@@ -244,7 +244,7 @@ fn told(alloc: Global, read: &SourceBlock) -> Result<String, AllocError> {
 fn are_told(alloc: Global) -> Result<bool, AllocError> {
     let text = "{ fn f() { } m!{} ) const A: u8 = 1 }";
     let read = read_block(alloc, text, EditionYear::E2024)?;
-    let told = told(alloc, &read)?;
+    let told = tell(alloc, &read)?;
     Ok(told.as_str() == "2..12 9..12; 13..17 15..17; 20..35; Unmatched at 18; Unfinished at 20; ")
 }
 

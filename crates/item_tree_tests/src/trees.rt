@@ -158,7 +158,7 @@ fn one_function(alloc: Global) -> Result<Box<ItemTree>, LowerError> {
 }
 
 fn one_use(alloc: Global) -> Result<Box<ItemTree>, LowerError> {
-    tree_of_use(alloc, use_trees::nested(alloc)?)
+    tree_of_use(alloc, use_trees::nested_tree(alloc)?)
 }
 
 // Whether the file with an item of each kind has items of another tree, and the other way round.

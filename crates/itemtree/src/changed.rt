@@ -201,7 +201,7 @@ fn is_at_or_below(path: &str, other: &str) -> bool {
 }
 
 impl Side {
-    fn below<'a>(&self, file: &'a str) -> &'a str {
+    fn path_below<'a>(&self, file: &'a str) -> &'a str {
         file.strip_prefix(self.top.as_str()).unwrap_or(file)
     }
 
@@ -224,7 +224,7 @@ type Pair<'a> = (Option<&'a str>, Option<&'a str>);
 fn by_path<'a>(alloc: Global, old: &'a Side) -> Result<BTreeMap<&'a str, Pair<'a>>, AllocError> {
     let mut pairs = BTreeMap::new(alloc);
     for file in &old.found.files {
-        pairs.insert(old.below(file), (Some(file.as_str()), None))?;
+        pairs.insert(old.path_below(file), (Some(file.as_str()), None))?;
     }
     Ok(pairs)
 }
@@ -237,7 +237,7 @@ fn pairs<'a>(
 ) -> Result<BTreeMap<&'a str, Pair<'a>>, AllocError> {
     let mut pairs = by_path(alloc, old)?;
     for file in &new.found.files {
-        let below = new.below(file);
+        let below = new.path_below(file);
         let other = pairs.get(below).and_then(|pair| pair.0);
         pairs.insert(below, (other, Some(file.as_str())))?;
     }

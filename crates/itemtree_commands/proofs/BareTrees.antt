@@ -4,7 +4,7 @@ use Rattle.std.specs.Option.{option_and_then, option_map_or}
 use Rattle.std.proofs.lemmas.Slice.Eq.{bytes_eq-Decides}
 use Rattle.hir_input.specs.declared.ast.PathNode.{PathNode}
 use Rattle.hir_input.specs.declared.ast.PathNode.TheVariants.{Readable, Unreadable}
-use Rattle.itemtree_commands.proofs.Common.{EditionYear, NodeView, NamedView, ItemView, ItemViews, plain_item, const_item, struct_item, bare_module, listed_module, use_item, extern_crate, bare_extern_block, listed_extern_block, impl_item, macro_call, macro_rules, asm_item, no_items, item_and, SyntaxView, source_file, syntax_view, CrateData, crate_view, shape_of, readable, module_node, head_of, kept, kept_all, IsTooLargeIn, kept_in, Lower, SourceTree, IsTreeIn, IsTreeRefused, IsTreeOf, metas_under, wanted_under}
+use Rattle.itemtree_commands.proofs.Common.{EditionYear, NodeView, NamedView, ItemView, ItemViews, plain_item, const_item, struct_item, bare_module, listed_module, use_item, extern_crate, bare_extern_block, listed_extern_block, impl_item, macro_call, macro_rules, asm_item, no_items, item_and, SyntaxView, source_file, syntax_view, CrateData, crate_view, shape_of, readable_path, module_node, head_of, kept, kept_all, IsTooLargeIn, kept_in, Lower, SourceTree, IsTreeIn, IsTreeRefused, IsTreeOf, metas_under, wanted_under}
 use Rattle.hir_input.specs.Attr.{MetaView, path_meta, key_value_meta, token_tree_meta, cfg_meta, cfg_attr_meta, unsafe_meta}
 use Rattle.hir_input.specs.Cfg.{AtomView}
 use Rattle.hir_input.specs.Name.{is_among}
@@ -92,7 +92,7 @@ module _ (options : List AtomView) (skipped : List (List ℕ)) where
         ap (λ h. Some (parent h extern_block (kept_all options skipped (clipped_list (wanted_under skipped) is)))) (head_alike n)
         ∙ ap (λ f. Some (parent (head_of options skipped n) extern_block f)) (all_alike is)
     kept_alike (impl_item n of_trait) = ap (λ h. Some (leaf h (node.impl_item of_trait))) (head_alike n)
-    kept_alike (macro_call c) = ap (λ h. option_map (λ p. leaf h (node.macro_call p c.expand_to c.ctxt)) (option_and_then readable c.path)) (head_alike c.node)
+    kept_alike (macro_call c) = ap (λ h. option_map (λ p. leaf h (node.macro_call p c.expand_to c.ctxt)) (option_and_then readable_path c.path)) (head_alike c.node)
     kept_alike (macro_rules n name) = ap (λ h. option_map (λ name. leaf h (node.macro_rules name)) name) (head_alike n)
     kept_alike (asm_item n) = refl
 

@@ -5,7 +5,7 @@ use Rattle.hir_input.specs.declared.ast.PathNode.{PathNode}
 use Rattle.hir_input.specs.declared.ast.PathNode.TheVariants.{Readable, Unreadable}
 use Rattle.hir_input.specs.Attr.{MetaView, path_meta, key_value_meta, token_tree_meta, cfg_meta, cfg_attr_meta, unsafe_meta}
 use Rattle.itemtree_commands.proofs.Common.{EditionYear, ItemView, ItemViews, plain_item, const_item, struct_item, bare_module, listed_module, use_item, extern_crate, bare_extern_block, listed_extern_block, impl_item, macro_call, macro_rules, asm_item, no_items, item_and, SyntaxView, source_file}
-use Rattle.rust_metas.specs.Attributes.{deepest}
+use Rattle.rust_metas.specs.Attributes.{deepest_level}
 use Rattle.rust_metas.specs.Docs.{is_doc_path, is_doc_meta, kept_metas}
 use Rattle.rust_metas.specs.declared.wanted.WantedMetas.TheVariants.{Undocumented}
 use Rattle.rust_leaves.specs.Clipped.{clipped_item, clipped_list}
@@ -28,7 +28,7 @@ path_read at None e = absurd cc
 path_read at (Some Unreadable) e = absurd cc
 path_read at (Some (Readable p)) e = refl
 
-doc_alright : (at : ℕ) (m : MetaView) → is_doc_meta m ≡ true → meta_problems at deepest m ≡ []
+doc_alright : (at : ℕ) (m : MetaView) → is_doc_meta m ≡ true → meta_problems at deepest_level m ≡ []
 doc_alright at (path_meta path ctxt) e = path_read at path e
 doc_alright at (key_value_meta path value ctxt) e = path_read at path e
 doc_alright at (token_tree_meta path tokens ctxt) e = path_read at path e
@@ -41,7 +41,7 @@ before : (at : ℕ) (m : MetaView) (ms : List MetaView) (b : Bool) → is_doc_me
     → attribute_problems at (kept_metas Undocumented (m ∷ ms)) ≡ attribute_problems at (m ∷ ms)
 unfolding kept_metas
 before at m ms true e rest = rw (e, doc_alright at m e) rest
-before at m ms false e rest = rw e (ap (λ (ps : List SourceProblem). meta_problems at deepest m ++ ps) rest)
+before at m ms false e rest = rw e (ap (λ (ps : List SourceProblem). meta_problems at deepest_level m ++ ps) rest)
 
 undocumented : (at : ℕ) (ms : List MetaView) → attribute_problems at (kept_metas Undocumented ms) ≡ attribute_problems at ms
 unfolding kept_metas

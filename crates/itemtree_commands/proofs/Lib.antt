@@ -1,7 +1,7 @@
-pub mod Typed
+pub mod TypedBodies
 pub mod ListedTrees
 pub mod ListedUses
-pub mod Refused
+pub mod Refusals
 pub mod BareTrees
 pub mod Common
 pub mod RowTrees

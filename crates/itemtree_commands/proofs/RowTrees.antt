@@ -6,7 +6,7 @@ use Rattle.std.proofs.lemmas.List.Elements.{filter_map-append}
 use Rattle.hir_input.specs.declared.ast.PathNode.{PathNode}
 use Rattle.hir_input.specs.declared.attr.AttrInput.{AttrInput}
 use Rattle.hir_input.specs.declared.ids.SyntaxContext.{SyntaxContext}
-use Rattle.itemtree_commands.proofs.Common.{EditionYear, NodeView, ItemView, ItemViews, plain_item, const_item, struct_item, bare_module, listed_module, use_item, extern_crate, bare_extern_block, listed_extern_block, impl_item, macro_call, macro_rules, asm_item, no_items, item_and, SyntaxView, source_file, CrateData, crate_view, shape_of, readable, module_node, head_of, kept, kept_all, kept_in}
+use Rattle.itemtree_commands.proofs.Common.{EditionYear, NodeView, ItemView, ItemViews, plain_item, const_item, struct_item, bare_module, listed_module, use_item, extern_crate, bare_extern_block, listed_extern_block, impl_item, macro_call, macro_rules, asm_item, no_items, item_and, SyntaxView, source_file, CrateData, crate_view, shape_of, readable_path, module_node, head_of, kept, kept_all, kept_in}
 use Rattle.hir_input.specs.Attr.{MetaView, path_meta, key_value_meta, token_tree_meta, cfg_meta, cfg_attr_meta, unsafe_meta}
 use Rattle.hir_input.specs.Cfg.{AtomView, CfgView}
 use Rattle.either.specs.Either.{right}
@@ -23,7 +23,7 @@ use Rattle.rust_metas.specs.Docs.{is_condition_meta, kept_metas}
 use Rattle.rust_leaves.specs.Clipped.{clipped_node, clipped_item, clipped_list}
 use Rattle.rust_items.specs.SourceFiles.{FileView, clipped_syntax}
 use Rattle.source_rows.specs.ListedFiles.{closers_in}
-use Rattle.source_listing.specs.Uses.{FilePlaces, placed}
+use Rattle.source_listing.specs.Uses.{FilePlaces, file_places}
 use Rattle.itemtree_commands.specs.Answers.{all_places}
 use Rattle.itemtree_commands.specs.declared.listed.ListedTree.{ListedTree}
 use Rattle.itemtree_commands.specs.Inner.{HasListedRows, IsClippedTree, row_wanted}
@@ -119,7 +119,7 @@ module _ (options : List AtomView) (skipped : List (List ℕ)) where
     item_rows (bare_extern_block n) a = parent_rows a n node.extern_block empty empty (λ b. refl)
     item_rows (listed_extern_block n is) a = parent_rows a n node.extern_block (kept_all options skipped (clipped_list row_wanted is)) (kept_all options skipped is) (list_rows is)
     item_rows (impl_item n of_trait) a = leaf_rows a n (node.impl_item of_trait)
-    item_rows (macro_call c) a = leaf_if_some a c.node (option_and_then readable c.path) (λ p. node.macro_call p c.expand_to c.ctxt)
+    item_rows (macro_call c) a = leaf_if_some a c.node (option_and_then readable_path c.path) (λ p. node.macro_call p c.expand_to c.ctxt)
     item_rows (macro_rules n name) a = leaf_if_some a n name (λ s. node.macro_rules s)
     item_rows (asm_item n) a = refl
 
@@ -170,4 +170,4 @@ own_rows krate skipped edition text x h = record { whole = x.source; is_listed =
 -- a list of the rows and the places is that of the tree that is listed
 pub same_listed : {A : Type 0} {krate : CrateData} {skipped : List (List ℕ)} {edition : EditionYear} {text : List ℕ} {x : ListedTree} (h : HasListedRows krate skipped edition text x) (list : FilePlaces → List RowView → A)
     → list (all_places x.source) (rows x.source.tree) ≡ list (all_places h.whole) (rows h.whole.tree)
-same_listed h list = λ j. list (placed (h.places j) (h.use_trees j)) (h.rows j)
+same_listed h list = λ j. list (file_places (h.places j) (h.use_trees j)) (h.rows j)

@@ -12,7 +12,7 @@ use Rattle.source_listing.specs.Outlines.{Look, outline_text}
 use Rattle.source_listing.specs.Objects.{json_line}
 use Rattle.source_listing.specs.Pages.{lines_without_ids}
 use Rattle.source_imports.specs.Repeated.{Repeat, repeat_lines, repeated_imports}
-use Rattle.source_listing.specs.Uses.{FilePlaces, placed}
+use Rattle.source_listing.specs.Uses.{FilePlaces, file_places}
 use Rattle.source_listing.specs.Search.{Query, found_lines}
 use Rattle.source_tags.specs.Tags.{TagChoice, tags}
 use Rattle.source_tags.specs.declared.tags.TagForm.{TagForm}
@@ -57,7 +57,7 @@ HasListed o = IsListedTree o.krate o.skipped.items o.edition.year
 
 -- the places of the items and of the use trees
 abbrev pub all_places : SourceTree → FilePlaces
-all_places t = placed t.places.items t.use_trees.items
+all_places t = file_places t.places.items t.use_trees.items
 
 -- the lines or flat objects of the listed items, with or without those of their listed members and imports
 abbrev pub IsOutline : Options → Option ℕ → Bool → Bool → Form → Bool → Source → List ℕ → Type 0

@@ -21,7 +21,7 @@ use Rattle.module_tree.specs.declared.data.UnresolvedReason.TheVariants.{NoFile,
 use Rattle.module_tree.specs.Modules.{Unresolved}
 use Rattle.rust_items.specs.declared.source_file.ItemPlace.{ItemPlace}
 use Rattle.serde_json.specs.Data.{Data, string, object, no_members, member}
-use Rattle.source_listing.specs.Uses.{PlacedText, import_spot, placed, with_places}
+use Rattle.source_listing.specs.Uses.{PlacedText, import_spot, file_places, with_places}
 use Rattle.source_rows.specs.Listed.{Closers}
 use Rattle.source_rows.specs.Places.{place_of, stands_at}
 use Rattle.source_rows.specs.Sources.{place_text}
@@ -50,7 +50,7 @@ pub record IsCrateFile (o : Options) (path text : List ℕ) (f : CrateFile) : Ty
 
 -- the text of a file, with where its items and use trees stand
 abbrev pub placed_text : CrateFile → PlacedText
-placed_text f = with_places f.text (placed f.places f.use_trees)
+placed_text f = with_places f.text (file_places f.places f.use_trees)
 
 -- ---- paths
 

@@ -42,7 +42,7 @@ impl Options {
 /// # Errors
 ///
 /// Those of `source_tree`.
-#[tactic(auto, using(crate::proofs::Refused::no_list))]
+#[tactic(auto, using(crate::proofs::Refusals::no_list))]
 pub fn imports(
     alloc: Global,
     source: Source<'_>,
@@ -75,7 +75,7 @@ pub fn imports(
 /// # Errors
 ///
 /// Those of `source_tree`.
-#[tactic(auto, using(crate::proofs::Refused::no_list))]
+#[tactic(auto, using(crate::proofs::Refusals::no_list))]
 pub fn repeated_imports(
     alloc: Global,
     text: &str,
@@ -108,7 +108,7 @@ pub fn repeated_imports(
 /// # Errors
 ///
 /// Those of `source_tree`.
-#[tactic(auto, using(crate::proofs::Refused::no_list))]
+#[tactic(auto, using(crate::proofs::Refusals::no_list))]
 pub fn duplicates(
     alloc: Global,
     source: Source<'_>,

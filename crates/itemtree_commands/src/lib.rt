@@ -105,7 +105,7 @@ fn read(alloc: Global, text: &str, options: &Options) -> Result<SourceTree, Sour
 /// # Errors
 ///
 /// Those of `source_tree`.
-#[tactic(auto, using(crate::proofs::Refused::no_list))]
+#[tactic(auto, using(crate::proofs::Refusals::no_list))]
 pub fn outline(
     alloc: Global,
     source: Source<'_>,
@@ -144,7 +144,7 @@ pub fn outline(
 /// # Errors
 ///
 /// Those of `source_tree`.
-#[tactic(auto, using(crate::proofs::Refused::no_list))]
+#[tactic(auto, using(crate::proofs::Refusals::no_list))]
 pub fn outline_json(
     alloc: Global,
     source: Source<'_>,
@@ -181,7 +181,7 @@ fn shown_page(alloc: Global, page: String, has_ids: bool) -> Result<String, Allo
 /// # Errors
 ///
 /// Those of `source_tree`.
-#[tactic(auto, using(crate::proofs::Refused::no_memory))]
+#[tactic(auto, using(crate::proofs::Refusals::no_memory))]
 pub fn page(
     alloc: Global,
     text: &str,
@@ -204,7 +204,7 @@ pub fn page(
 /// # Errors
 ///
 /// Those of `source_tree`.
-#[tactic(auto, using(crate::proofs::Refused::no_list))]
+#[tactic(auto, using(crate::proofs::Refusals::no_list))]
 pub fn find(
     alloc: Global,
     source: Source<'_>,
@@ -231,7 +231,7 @@ pub fn find(
 /// # Errors
 ///
 /// Those of `source_tree`.
-#[tactic(auto, using(crate::proofs::Refused::no_list))]
+#[tactic(auto, using(crate::proofs::Refusals::no_list))]
 pub fn tags(
     alloc: Global,
     source: Source<'_>,
@@ -316,7 +316,7 @@ pub fn compare_trees(
 /// # Errors
 ///
 /// `TooLong` exactly where the text has more than 2^32 bytes, and `OutOfMemory`: it needs no tree.
-#[tactic(auto, using(crate::proofs::Refused::no_memory_to_read))]
+#[tactic(auto, using(crate::proofs::Refusals::no_memory_to_read))]
 pub fn problems(
     alloc: Global,
     text: &str,
@@ -336,7 +336,7 @@ pub fn problems(
 /// # Errors
 ///
 /// Those of `problems`.
-#[tactic(auto, using(crate::proofs::Refused::no_memory_to_read))]
+#[tactic(auto, using(crate::proofs::Refusals::no_memory_to_read))]
 pub fn check(
     alloc: Global,
     source: Source<'_>,

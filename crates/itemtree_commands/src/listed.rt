@@ -27,7 +27,7 @@ pub struct ListedTree {
 }
 
 /// The tree of what is wanted of what lists read of a text.
-#[tactic(auto, using(crate::proofs::Refused::unlisted_told, crate::proofs::Refused::large_told))]
+#[tactic(auto, using(crate::proofs::Refusals::unlisted_told, crate::proofs::Refusals::large_told))]
 fn clipped_tree(
     alloc: Global,
     text: &str,
@@ -76,7 +76,7 @@ pub(crate) struct ListedUses {
 }
 
 /// The same of what is wanted of what lists read of a text.
-#[tactic(auto, using(crate::proofs::Refused::unlisted_told, crate::proofs::Refused::large_told, crate::proofs::Refused::clipped_no_memory))]
+#[tactic(auto, using(crate::proofs::Refusals::unlisted_told, crate::proofs::Refusals::large_told, crate::proofs::Refusals::clipped_no_memory))]
 fn clipped_uses(
     alloc: Global,
     text: &str,
@@ -133,7 +133,7 @@ fn clipped_rows(alloc: Global, text: &str, options: &Options) -> Result<ListedTr
 }
 
 /// The same. Where it passes a size, the whole tree tells whether it does.
-#[tactic(auto, using(crate::proofs::RowTrees::own_rows, crate::proofs::Refused::no_list))]
+#[tactic(auto, using(crate::proofs::RowTrees::own_rows, crate::proofs::Refusals::no_list))]
 pub(crate) fn listed_rows(
     alloc: Global,
     text: &str,

@@ -125,7 +125,7 @@ pub(crate) fn wanted_under(skipped: &[Name]) -> Wanted
 }
 
 /// Reads what is wanted of a text of an edition.
-#[tactic(auto, using(crate::proofs::Refused::unread_told))]
+#[tactic(auto, using(crate::proofs::Refusals::unread_told))]
 fn wanted_source(
     alloc: Global,
     text: &str,

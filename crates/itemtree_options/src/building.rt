@@ -5,7 +5,7 @@ use crate::table::{Description, descriptions};
 use clap::{Arg, Command};
 use std::alloc::{AllocError, Global};
 
-fn placed<'a>(arg: Arg<'a>, argument: &Argument) -> Result<Arg<'a>, AllocError> {
+fn with_place<'a>(arg: Arg<'a>, argument: &Argument) -> Result<Arg<'a>, AllocError> {
     match argument.form {
         Form::Long => Ok(arg.long(argument.id)),
         Form::Short(letter) => Ok(arg.long(argument.id).short(letter)),
@@ -15,7 +15,7 @@ fn placed<'a>(arg: Arg<'a>, argument: &Argument) -> Result<Arg<'a>, AllocError> 
     }
 }
 
-fn valued<'a>(arg: Arg<'a>, argument: &Argument) -> Arg<'a> {
+fn with_value<'a>(arg: Arg<'a>, argument: &Argument) -> Arg<'a> {
     arg.num_args(argument.most.min(1)..=argument.most)
         .value_name(argument.value)
         .value_parser(argument.parser)
@@ -26,20 +26,20 @@ fn arg<'a>(alloc: Global, argument: &Argument) -> Result<Arg<'a>, AllocError> {
     let arg = Arg::new(alloc, argument.id)
         .action(argument.action)
         .help(argument.help);
-    valued(placed(arg, argument)?, argument)
+    with_value(with_place(arg, argument)?, argument)
         .requires_all(argument.needs)?
         .conflicts_with_all(argument.bars)
 }
 
 /// A command without its arguments.
-fn bare<'a>(alloc: Global, description: &Description) -> Command<'a> {
+fn bare_command<'a>(alloc: Global, description: &Description) -> Command<'a> {
     Command::new(alloc, description.name)
         .about(description.about)
         .after_help(description.after)
 }
 
 fn subcommand<'a>(alloc: Global, description: &Description) -> Result<Command<'a>, AllocError> {
-    let mut command = bare(alloc, description);
+    let mut command = bare_command(alloc, description);
     for argument in description.arguments {
         command = command.arg(arg(alloc, argument)?)?;
     }

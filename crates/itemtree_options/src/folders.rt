@@ -174,7 +174,7 @@ fn is_foreign(c: char) -> bool {
 }
 
 /// What a glob names below a folder.
-fn bare(glob: &str) -> &str {
+fn glob_below(glob: &str) -> &str {
     let path = glob.strip_suffix("/").unwrap_or(glob);
     match path.strip_prefix("./") {
         Some(below) => below,
@@ -188,7 +188,7 @@ pub(crate) fn glob_fault(glob: &str) -> Option<&'static str> {
         return Some("only *, ** and ? mean something in a glob; ? stands for any other mark too");
     }
     let is_void = |part: &str| part.is_empty() || part == ".";
-    if glob == "./" || bare(glob).split('/').any(is_void) {
+    if glob == "./" || glob_below(glob).split('/').any(is_void) {
         return Some("no file has such a name or path");
     }
     None

@@ -204,7 +204,7 @@ fn krate<'a>(matches: &ArgMatches<'a>) -> Option<CrateAsked<'a>> {
 }
 
 /// What a command is told but for the words of options that may be given several times.
-fn begun<'a>(alloc: Global, name: &str, matches: &ArgMatches<'a>) -> Asked<'a> {
+fn asked_without_lists<'a>(alloc: Global, name: &str, matches: &ArgMatches<'a>) -> Asked<'a> {
     Asked {
         command: command_of(name, matches),
         files: Vec::new(alloc),
@@ -267,7 +267,7 @@ fn asked_of<'a>(
     name: &str,
     matches: &ArgMatches<'a>,
 ) -> Result<Asked<'a>, AllocError> {
-    let mut asked = begun(alloc, name, matches);
+    let mut asked = asked_without_lists(alloc, name, matches);
     push_lists(matches, &mut asked)?;
     Ok(asked)
 }
@@ -311,7 +311,7 @@ fn line_of<'a>(alloc: Global, matches: &ArgMatches<'a>) -> Result<CommandLine<'a
 }
 
 /// What is printed where no command is asked for.
-fn printed<'a>(alloc: Global, error: &Error) -> Result<CommandLine<'a>, AllocError> {
+fn printed_line<'a>(alloc: Global, error: &Error) -> Result<CommandLine<'a>, AllocError> {
     if error.kind() == ErrorKind::OutOfMemory {
         return Err(AllocError);
     }
@@ -334,6 +334,6 @@ pub fn read_command_line<'a>(
 ) -> Result<CommandLine<'a>, AllocError> {
     match command(alloc)?.try_get_matches_from(words) {
         Ok(matches) => line_of(alloc, &matches),
-        Err(error) => printed(alloc, &error),
+        Err(error) => printed_line(alloc, &error),
     }
 }

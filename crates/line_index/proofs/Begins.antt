@@ -12,7 +12,7 @@ use Rattle.line_index.specs.declared.LineEnds.{LineEnds}
 use Rattle.line_index.specs.declared.LineEnds.TheVariants.{Feeds, All}
 use Rattle.line_index.specs.declared.Point.{Point}
 use Rattle.line_index.specs.declared.Style.{Style}
-use Rattle.line_index.specs.Points.{HasPoint, begins_end, point_behind, byte_at, bytes_before, continues_character, is_line_end, further, hidden_length, point_at, column_units}
+use Rattle.line_index.specs.Points.{HasPoint, begins_end, point_behind, byte_at, bytes_before, continues_character, is_line_end, point_further, hidden_length, point_at, column_units}
 use Rattle.line_index.specs.Starts.{line_starts, starts_from}
 use Rattle.line_index.proofs.Points.{has_point, to_ended, to_running}
 
@@ -64,7 +64,7 @@ record Begins (style : Style) (p : Point) (at : ℕ) (bytes : List ℕ) (line st
   gone : ℕ
   at_is : start ≡ at + gone
   within : gone ≤ length bytes
-  there : (line ≡ 0 → p.column ≡ 0) → further style p gone bytes ≡ record { line = p.line + line; column = 0 }
+  there : (line ≡ 0 → p.column ≡ 0) → point_further style p gone bytes ≡ record { line = p.line + line; column = 0 }
   later : starts_from style.line_ends start (drop gone bytes) ≡ drop line (starts_from style.line_ends at bytes)
   before : (column : ℕ) → bytes_before style line column bytes ≡ gone + bytes_before style 0 column (drop gone bytes)
 
@@ -140,7 +140,7 @@ no_more p = ap (λ n. record { line = p.line; column = n }) (omega arith)
 -- before the first line that begins behind these bytes
 in_first : (style : Style) (p : Point) (at : ℕ) (bytes : List ℕ) (n : ℕ) → n ≤ length bytes
     → (0 < length (starts_from style.line_ends at bytes) → at + n < get_or (starts_from style.line_ends at bytes) 0 0)
-    → further style p n bytes ≡ record { line = p.line; column = p.column + sum_by (column_units style) (take n bytes) }
+    → point_further style p n bytes ≡ record { line = p.line; column = p.column + sum_by (column_units style) (take n bytes) }
 in_first style p at bytes zero l next = no_more p
 in_first style p at [] (suc n) l next = absurd (omega (arith, l))
 in_first style p at (b ∷ bytes) (suc n) l next =
@@ -157,23 +157,23 @@ in_first style p at (b ∷ bytes) (suc n) l next =
     ∙ ap (λ m. record { line = p.line; column = m }) (omega (arith, all)))
     (cases_Bool (is_line_end style.line_ends b bytes))
 
-further_none : (style : Style) (p : Point) (n : ℕ) → further style p n [] ≡ p
+further_none : (style : Style) (p : Point) (n : ℕ) → point_further style p n [] ≡ p
 further_none style p zero = refl
 further_none style p (suc n) = refl
 
-further_sum : (style : Style) (p : Point) (m n : ℕ) (bytes : List ℕ) → further style p (m + n) bytes ≡ further style (further style p m bytes) n (drop m bytes)
-further_sum style p zero n bytes = let same : 0 + n ≡ n = omega arith in ap (λ k. further style p k bytes) same
+further_sum : (style : Style) (p : Point) (m n : ℕ) (bytes : List ℕ) → point_further style p (m + n) bytes ≡ point_further style (point_further style p m bytes) n (drop m bytes)
+further_sum style p zero n bytes = let same : 0 + n ≡ n = omega arith in ap (λ k. point_further style p k bytes) same
 further_sum style p (suc m) n [] = further_none style p (suc m + n) ∙ sym (further_none style p n)
 further_sum style p (suc m) n (b ∷ bytes) =
     let same : suc m + n ≡ suc (m + n) = omega arith in
-    ap (λ k. further style p k (b ∷ bytes)) same ∙ further_sum style (point_behind style p b bytes) m n bytes
+    ap (λ k. point_further style p k (b ∷ bytes)) same ∙ further_sum style (point_behind style p b bytes) m n bytes
 
-further_end : (style : Style) (p : Point) (n : ℕ) (bytes : List ℕ) → further style p (min n (length bytes)) bytes ≡ further style p n bytes
+further_end : (style : Style) (p : Point) (n : ℕ) (bytes : List ℕ) → point_further style p (min n (length bytes)) bytes ≡ point_further style p n bytes
 further_end style p n [] = further_none style p (min n 0) ∙ sym (further_none style p n)
-further_end style p zero (b ∷ bytes) = let same : min 0 (length (b ∷ bytes)) ≡ 0 = omega arith in ap (λ k. further style p k (b ∷ bytes)) same
+further_end style p zero (b ∷ bytes) = let same : min 0 (length (b ∷ bytes)) ≡ 0 = omega arith in ap (λ k. point_further style p k (b ∷ bytes)) same
 further_end style p (suc n) (b ∷ bytes) =
     let same : min (suc n) (length (b ∷ bytes)) ≡ suc (min n (length bytes)) = omega arith in
-    ap (λ k. further style p k (b ∷ bytes)) same ∙ further_end style (point_behind style p b bytes) n bytes
+    ap (λ k. point_further style p k (b ∷ bytes)) same ∙ further_end style (point_behind style p b bytes) n bytes
 
 marked_starts : (ends : LineEnds) (rest : List ℕ) → starts_from ends 3 rest ≡ starts_from ends 0 ((239 ∷ 187 ∷ 191 ∷ []) ++ rest)
 unfolding begins_end
@@ -249,7 +249,7 @@ start_fits style text xs from line start same h few e =
 -- from the beginning of a line on
 shown_point : (style : Style) (at : ℕ) (bytes : List ℕ) (n line start : ℕ) (is : Begins style first at bytes line start) → n ≤ length bytes → start ≤ at + n
     → (line < length (starts_from style.line_ends at bytes) → at + n < get_or (starts_from style.line_ends at bytes) line 0)
-    → further style first n bytes ≡ record { line = line; column = sum_by (column_units style) (take (at + n - start) (drop is.gone bytes)) }
+    → point_further style first n bytes ≡ record { line = line; column = sum_by (column_units style) (take (at + n - start) (drop is.gone bytes)) }
 unfolding first
 shown_point style at bytes n line start is l before next =
     let xs = starts_from style.line_ends at bytes in
@@ -261,8 +261,8 @@ shown_point style at bytes n line start is l before next =
     let head : 0 < length (starts_from style.line_ends start (drop is.gone bytes)) → start + (at + n - start) < get_or (starts_from style.line_ends start (drop is.gone bytes)) 0 0
     = subst (λ (ys : List ℕ). 0 < length ys → start + (at + n - start) < get_or ys 0 0) (sym is.later)
     (λ more. let far = next (omega (arith, more, length-drop line xs)) in omega (arith, far, reads, before)) in
-    ap (λ m. further style first m bytes) parts ∙ further_sum style first is.gone (at + n - start) bytes
-    ∙ ap (λ p. further style p (at + n - start) (drop is.gone bytes)) (is.there (λ _. refl))
+    ap (λ m. point_further style first m bytes) parts ∙ further_sum style first is.gone (at + n - start) bytes
+    ∙ ap (λ p. point_further style p (at + n - start) (drop is.gone bytes)) (is.there (λ _. refl))
     ∙ in_first style (record { line = 0 + line; column = 0 }) start (drop is.gone bytes) (at + n - start) left head
     ∙ ap (λ m. record { line = m; column = 0 + sum_by (column_units style) (take (at + n - start) (drop is.gone bytes)) }) (omega arith)
     ∙ ap (λ m. record { line = line; column = m }) (omega arith)
@@ -289,7 +289,7 @@ point_by style text xs from at end line start column same h clamp few before nex
     = ap (take (hid + (end - hid) - start)) (drop-drop is.gone hid text ∙ ap (λ n. drop n text) (sym here)) ∙ ap (λ n. take n (drop start text)) (omega (arith, clamp, h)) in
     let clamped : end - hid ≡ min (at - hid) (length shown) = omega (arith, clamp, h, long, short) in
     ap (λ n. record { line = line; column = n }) (c ∙ ap (sum_by (column_units style)) (sym part)) ∙ sym there
-    ∙ ap (λ n. further style first n shown) clamped ∙ further_end style first (at - hid) shown
+    ∙ ap (λ n. point_further style first n shown) clamped ∙ further_end style first (at - hid) shown
 
 -- ---- bytes
 

@@ -2,4 +2,4 @@ pub mod Begins
 pub mod InLine
 pub mod Points
 pub mod Positions
-pub mod Replaced
+pub mod ReplacedLines

@@ -7,7 +7,7 @@ use Rattle.line_index.specs.declared.Point.{Point}
 use Rattle.line_index.specs.declared.Style.{Style}
 use Rattle.line_index.specs.declared.Units.{Units}
 use Rattle.line_index.specs.declared.Units.TheVariants.{Characters, Utf16, Bytes}
-use Rattle.line_index.specs.Points.{HasPoint, IsBetween, IsPoint, begins_end, point_behind, byte_at, byte_units, bytes_before, continues_character, is_line_end, further, hidden_length, is_fed, is_beyond, is_split, point_at, rest_units}
+use Rattle.line_index.specs.Points.{HasPoint, IsBetween, IsPoint, begins_end, point_behind, byte_at, byte_units, bytes_before, continues_character, is_line_end, point_further, hidden_length, is_fed, is_beyond, is_split, point_at, rest_units}
 
 pub never : {A : Type 0} {b : Bool} → b ≡ true → b ≡ false → A
 never is_so is_not = absurd (true≢false (sym is_so ∙ is_not))
@@ -113,7 +113,7 @@ onto p (suc lines) units = record { line = p.line + suc lines; column = units }
 
 -- where a byte stands from a point on, and the way back
 record Back (style : Style) (p : Point) (n : ℕ) (bytes : List ℕ) (lines units : ℕ) : Type 0 where
-  there : further style p n bytes ≡ onto p lines units
+  there : point_further style p n bytes ≡ onto p lines units
   back : bytes_before style lines units bytes ≡ n
   fits : lines ≡ 0 → rest_units style.units bytes ≤ units
   fed : is_fed bytes ≡ true → n ≢ 0 → lines ≢ 0

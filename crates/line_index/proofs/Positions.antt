@@ -11,12 +11,12 @@ use Rattle.line_index.specs.declared.Style.{Style}
 use Rattle.line_index.specs.declared.Units.{Units}
 use Rattle.line_index.specs.declared.Units.TheVariants.{Characters, Utf16, Bytes}
 use Rattle.line_index.specs.declared.Point.{Point}
-use Rattle.line_index.specs.Inner.{behind, behind_byte, shown_at, start}
+use Rattle.line_index.specs.Inner.{position_behind, behind_byte, shown_at, start}
 use Rattle.line_index.specs.Points as points
 use Rattle.line_index.specs.Points.{begins_end, byte_units, mark_length, column_units}
 use Rattle.line_index.specs.Positions.{from_one, list_style, position_in}
 
-behind_both : (units : Units) (p : Position) (a b : List ℕ) → behind units p (a ++ b) ≡ behind units (behind units p a) b
+behind_both : (units : Units) (p : Position) (a b : List ℕ) → position_behind units p (a ++ b) ≡ position_behind units (position_behind units p a) b
 behind_both units p [] b = refl
 behind_both units p (x ∷ a) b = behind_both units (behind_byte units p x) a b
 
@@ -32,8 +32,8 @@ last_is z h =
     let whole : length z - 1 + 1 ≡ length z = omega arith in
     sym (take_all (length z) z (omega arith)) ∙ ap (λ n. take n z) (sym whole) ∙ take_more z (length z - 1) 0 (omega arith)
 
-behind_last : (units : Units) (p : Position) (z : List ℕ) → 1 ≤ length z → behind units p z ≡ behind_byte units (behind units p (others z)) (last_byte z)
-behind_last units p z h = ap (behind units p) (last_is z h) ∙ behind_both units p (others z) (last_byte z ∷ [])
+behind_last : (units : Units) (p : Position) (z : List ℕ) → 1 ≤ length z → position_behind units p z ≡ behind_byte units (position_behind units p (others z)) (last_byte z)
+behind_last units p z h = ap (position_behind units p) (last_is z h) ∙ behind_both units p (others z) (last_byte z ∷ [])
 
 at_feed : (units : Units) (p : Position) (b : ℕ) → b ≡ 10 → (behind_byte units p b).column ≡ 1
 at_feed units p b e = rw e refl
@@ -42,14 +42,14 @@ at_other : (units : Units) (p : Position) (b : ℕ) → b ≢ 10 → (behind_byt
 at_other units p b e = let no : (b == 10) ≡ false = ne_eqb b 10 e in rw no refl
 
 -- the column behind a text, by its last byte
-pub behind_feed : (units : Units) (p : Position) (z : List ℕ) → 1 ≤ length z → slice_index_or z (length z - 1) 0 ≡ 10 → (behind units p z).column ≡ 1
+pub behind_feed : (units : Units) (p : Position) (z : List ℕ) → 1 ≤ length z → slice_index_or z (length z - 1) 0 ≡ 10 → (position_behind units p z).column ≡ 1
 unfolding last_byte
-behind_feed units p z h e = ap (λ q. q.column) (behind_last units p z h) ∙ at_feed units (behind units p (others z)) (last_byte z) e
+behind_feed units p z h e = ap (λ q. q.column) (behind_last units p z h) ∙ at_feed units (position_behind units p (others z)) (last_byte z) e
 
 pub behind_other : (units : Units) (p : Position) (z : List ℕ) → 1 ≤ length z → slice_index_or z (length z - 1) 0 ≢ 10
-    → (behind units p z).column ≡ (behind units p (take (length z - 1) z)).column + byte_units units (slice_index_or z (length z - 1) 0)
+    → (position_behind units p z).column ≡ (position_behind units p (take (length z - 1) z)).column + byte_units units (slice_index_or z (length z - 1) 0)
 unfolding last_byte others
-behind_other units p z h e = ap (λ q. q.column) (behind_last units p z h) ∙ at_other units (behind units p (others z)) (last_byte z) e
+behind_other units p z h e = ap (λ q. q.column) (behind_last units p z h) ∙ at_other units (position_behind units p (others z)) (last_byte z) e
 
 feeds : List ℕ → ℕ
 feeds [] = 0
@@ -62,13 +62,13 @@ feeds_counted z = is_count_by feeds (λ b. b == 10) refl (λ b z. refl) z
 line_of_byte : (units : Units) (p : Position) (b n : ℕ) → (behind_byte units p b).line + n ≡ p.line + cond (b == 10) (1 + n) n
 line_of_byte units p b n = ⊎_elim (λ (e : (b == 10) ≡ true). rw e (omega arith)) (λ (e : (b == 10) ≡ false). rw e refl) (cases_Bool (b == 10))
 
-line_from_feeds : (units : Units) (p : Position) (z : List ℕ) → (behind units p z).line ≡ p.line + feeds z
+line_from_feeds : (units : Units) (p : Position) (z : List ℕ) → (position_behind units p z).line ≡ p.line + feeds z
 unfolding feeds
 line_from_feeds units p [] = omega arith
 line_from_feeds units p (b ∷ z) = line_from_feeds units (behind_byte units p b) z ∙ line_of_byte units p b (feeds z)
 
 -- each line feed ends a line
-pub line_is : (units : Units) (p : Position) (z : List ℕ) → (behind units p z).line ≡ p.line + count_by (λ b. b == 10) z
+pub line_is : (units : Units) (p : Position) (z : List ℕ) → (position_behind units p z).line ≡ p.line + count_by (λ b. b == 10) z
 line_is units p z = line_from_feeds units p z ∙ ap (λ n. p.line + n) (feeds_counted z)
 
 sum_few : (f : ℕ → ℕ) (few : (x : ℕ) → f x ≤ 2) (z : List ℕ) → sum_by f z ≤ 2 * length z
@@ -89,8 +89,8 @@ left_on f few count n k z total some e h =
     let most = sum_few f few (take k z) in
     let front = length-take-le k z some in
     let rest = ap length (take_rest z k) in
-    let behind = length-drop k z in
-    omega (arith, most, front, rest, behind, e, h)
+    let position_behind = length-drop k z in
+    omega (arith, most, front, rest, position_behind, e, h)
 
 pub feed_few : (b : ℕ) → cond (b == 10) 1 0 ≤ 2
 feed_few b = ⊎_elim (λ (e : (b == 10) ≡ true). rw e (omega arith)) (λ (e : (b == 10) ≡ false). rw e (omega arith)) (cases_Bool (b == 10))
@@ -104,9 +104,9 @@ sum_of from at e = omega arith
 take_on : (from at : ℕ) (z : List ℕ) → from ≤ at → take from z ++ take (at - from) (drop from z) ≡ take at z
 take_on from at z e = sym (take-add from (at - from) z) ∙ ap (λ n. take n z) (sum_of from at e)
 
-pub onward : (units : Units) (text : List ℕ) (from at : ℕ) → from ≤ at → behind units (shown_at units text from) (take (at - from) (drop from text)) ≡ shown_at units text at
+pub onward : (units : Units) (text : List ℕ) (from at : ℕ) → from ≤ at → position_behind units (shown_at units text from) (take (at - from) (drop from text)) ≡ shown_at units text at
 unfolding shown_at
-onward units text from at e = sym (behind_both units start (take from text) (take (at - from) (drop from text))) ∙ ap (λ z. behind units start z) (take_on from at text e)
+onward units text from at e = sym (behind_both units start (take from text) (take (at - from) (drop from text))) ∙ ap (λ z. position_behind units start z) (take_on from at text e)
 
 byte_line : (units : Units) (p : Position) (b : ℕ) → (behind_byte units p b).line ≤ p.line + 1
 byte_line units p b = ⊎_elim (λ (e : (b == 10) ≡ true). rw e (omega arith)) (λ (e : (b == 10) ≡ false). rw e (omega arith)) (cases_Bool (b == 10))
@@ -130,11 +130,11 @@ byte_column units p b =
     let few = few_units units b in
     ⊎_elim (λ (e : (b == 10) ≡ true). rw e (omega arith)) (λ (e : (b == 10) ≡ false). rw e (omega (arith, few))) (cases_Bool (b == 10))
 
-line_from : (units : Units) (p : Position) (z : List ℕ) → (behind units p z).line ≤ p.line + length z
+line_from : (units : Units) (p : Position) (z : List ℕ) → (position_behind units p z).line ≤ p.line + length z
 line_from units p [] = omega arith
 line_from units p (b ∷ z) = let first = byte_line units p b in let rest = line_from units (behind_byte units p b) z in omega (arith, first, rest)
 
-column_from : (units : Units) (p : Position) (z : List ℕ) → (behind units p z).column ≤ p.column + 2 * length z
+column_from : (units : Units) (p : Position) (z : List ℕ) → (position_behind units p z).column ≤ p.column + 2 * length z
 column_from units p [] = omega arith
 column_from units p (b ∷ z) = let first = byte_column units p b in let rest = column_from units (behind_byte units p b) z in omega (arith, first, rest)
 
@@ -148,7 +148,7 @@ column_within units text at e = let within = column_from units start (take at te
 
 at_end : (units : Units) (text : List ℕ) (at : ℕ) → shown_at units text (min at (length text)) ≡ shown_at units text at
 unfolding shown_at
-at_end units text at = ap (λ z. behind units start z) (take_min at text)
+at_end units text at = ap (λ z. position_behind units start z) (take_min at text)
 
 -- lists count so what the style of lists says
 listed_byte : (units : Units) (p : Point) (b : ℕ) (bytes : List ℕ) → from_one (points.point_behind (list_style units) p b bytes) ≡ behind_byte units (from_one p) b
@@ -158,11 +158,11 @@ listed_byte units p b bytes =
     (λ (e : (b == 10) ≡ false). rw e (ap (λ n. record { line = p.line + 1; column = n }) (omega arith)))
     (cases_Bool (b == 10))
 
-listed_behind : (units : Units) (p : Point) (n : ℕ) (bytes : List ℕ) → from_one (points.further (list_style units) p n bytes) ≡ behind units (from_one p) (take n bytes)
+listed_behind : (units : Units) (p : Point) (n : ℕ) (bytes : List ℕ) → from_one (points.point_further (list_style units) p n bytes) ≡ position_behind units (from_one p) (take n bytes)
 listed_behind units p zero bytes = refl
 listed_behind units p (suc n) [] = refl
 listed_behind units p (suc n) (b ∷ bytes) =
-    listed_behind units (points.point_behind (list_style units) p b bytes) n bytes ∙ ap (λ q. behind units q (take n bytes)) (listed_byte units p b bytes)
+    listed_behind units (points.point_behind (list_style units) p b bytes) n bytes ∙ ap (λ q. position_behind units q (take n bytes)) (listed_byte units p b bytes)
 
 is_listed : (units : Units) (text : List ℕ) (at : ℕ) → shown_at units (drop (mark_length text) text) (at - mark_length text) ≡ position_in units text at
 unfolding shown_at position_in points.point_at
@@ -181,9 +181,9 @@ abbrev spot : ℕ → ℕ → Position
 spot line column = record { line = line; column = column }
 
 -- the lines are those of any other units
-pub counted : (units : Units) (text : List ℕ) (at : ℕ) (here : Position) (column : ℕ) → here ≡ shown_at Characters text at → column ≡ (behind units start (take at text)).column
+pub counted : (units : Units) (text : List ℕ) (at : ℕ) (here : Position) (column : ℕ) → here ≡ shown_at Characters text at → column ≡ (position_behind units start (take at text)).column
     → record { line = here.line; column = column } ≡ shown_at units text at
 unfolding shown_at
 counted units text at here column h c =
     let lines = ap (λ p. p.line) h ∙ line_is Characters start (take at text) ∙ sym (line_is units start (take at text)) in
-    ap (λ n. spot n column) lines ∙ ap (spot (behind units start (take at text)).line) c
+    ap (λ n. spot n column) lines ∙ ap (spot (position_behind units start (take at text)).line) c

@@ -9,16 +9,16 @@ use Rattle.line_index.specs.Points.{byte_units, is_line_end}
 abbrev pub behind_byte : Units → Position → ℕ → Position
 behind_byte units p b = if b == 10 then record { line = p.line + 1; column = 1 } else record { line = p.line; column = p.column + byte_units units b }
 
-abbrev pub behind : Units → Position → List ℕ → Position
-behind units p [] = p
-behind units p (b ∷ bs) = behind units (behind_byte units p b) bs
+abbrev pub position_behind : Units → Position → List ℕ → Position
+position_behind units p [] = p
+position_behind units p (b ∷ bs) = position_behind units (behind_byte units p b) bs
 
 abbrev pub start : Position
 start = record { line = 1; column = 1 }
 
 -- where a place stands in what is shown of a text; one past it stands at its end
 unfoldable pub shown_at : Units → List ℕ → ℕ → Position
-shown_at units shown at = behind units start (take at shown)
+shown_at units shown at = position_behind units start (take at shown)
 
 -- the places behind the line ends of bytes that begin at a place, in front of others
 abbrev pub starts_before : LineEnds → ℕ → List ℕ → List ℕ → List ℕ

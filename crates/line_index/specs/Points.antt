@@ -46,10 +46,10 @@ point_behind style p b bytes =
     if is_line_end style.line_ends b bytes then record { line = p.line + 1; column = 0 } else record { line = p.line; column = p.column + column_units style b }
 
 -- so many of these bytes further on
-abbrev pub further : Style → Point → ℕ → List ℕ → Point
-further style p zero bytes = p
-further style p (suc n) [] = p
-further style p (suc n) (b ∷ bytes) = further style (point_behind style p b bytes) n bytes
+abbrev pub point_further : Style → Point → ℕ → List ℕ → Point
+point_further style p zero bytes = p
+point_further style p (suc n) [] = p
+point_further style p (suc n) (b ∷ bytes) = point_further style (point_behind style p b bytes) n bytes
 
 -- how many bytes the byte order mark at the beginning of a text has, if one stands there
 abbrev pub mark_length : List ℕ → ℕ
@@ -61,7 +61,7 @@ hidden_length style text = if style.shows_mark then 0 else mark_length text
 
 -- where a byte of a text stands; one past the text stands at its end
 unfoldable pub point_at : Style → List ℕ → ℕ → Point
-point_at style text at = further style (record { line = 0; column = 0 }) (at - hidden_length style text) (drop (hidden_length style text) text)
+point_at style text at = point_further style (record { line = 0; column = 0 }) (at - hidden_length style text) (drop (hidden_length style text) text)
 
 -- how many units the rest of a character takes, of which these bytes begin
 abbrev pub rest_units : Units → List ℕ → ℕ

@@ -75,7 +75,7 @@ fn column_units(style: Style, byte: u8) -> u8
 }
 
 /// A text behind its first bytes.
-pub(crate) fn without(text: &[u8], count: usize) -> &[u8]
+pub(crate) fn bytes_behind(text: &[u8], count: usize) -> &[u8]
     requires { count ≤ length text.now }
     ensures { result.now ≡ drop count text.now }
 {

@@ -3,7 +3,7 @@ ghost use Rattle.std.specs.Prelude.{◌≡◌, ◌≤◌, ◌+◌, IfSome, ℕ, 
 ghost use Rattle.line_index.specs.Points as spec;
 
 use crate::bytes::{
-    BLOCK, begins_end, byte_units, ends_of_block, is_continuation, units_of_block, without,
+    BLOCK, begins_end, byte_units, bytes_behind, ends_of_block, is_continuation, units_of_block,
 };
 use crate::{Style, Units};
 
@@ -66,7 +66,7 @@ fn column_behind_block(style: Style, column: usize, text: &[u8]) -> Option<usize
         return None;
     }
     let units = units_of_block(style, block) as usize;
-    if column < units + rest_units(style.units, without(text, BLOCK)) {
+    if column < units + rest_units(style.units, bytes_behind(text, BLOCK)) {
         return None;
     }
     Some(column - units)
@@ -83,7 +83,7 @@ pub(crate) fn byte_in_line(style: Style, column: usize, text: &[u8]) -> usize
     while let Some(behind) = column_behind_block(style, column, left) {
         column = behind;
         at += BLOCK;
-        left = without(left, BLOCK);
+        left = bytes_behind(left, BLOCK);
     }
     at + byte_of_part(style, column, left)
 }

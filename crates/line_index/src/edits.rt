@@ -7,12 +7,12 @@ ghost use Rattle.line_index.specs.Points as points;
 ghost use Rattle.line_index.specs.Starts as spec;
 
 use crate::LineEnds;
-use crate::bytes::{is_line_end, without};
+use crate::bytes::{bytes_behind, is_line_end};
 use crate::starts::count_up_to;
 use std::alloc::{AllocError, Global};
 
 /// Bytes that begin as some bytes and those behind them do.
-#[tactic(auto, using(crate::proofs::Replaced::fed_in_front))]
+#[tactic(auto, using(crate::proofs::ReplacedLines::fed_in_front))]
 fn next_to<'t>(bytes: &'t [u8], behind: &'t [u8]) -> &'t [u8]
     ensures { points.is_fed result.now ≡ points.is_fed (bytes.now ++ behind.now) }
 {
@@ -29,7 +29,7 @@ fn push_start(starts: &mut Vec<usize>, is_start: bool, at: usize) -> Result<(), 
 }
 
 /// Adds the places behind the line ends of bytes, which begin at a place and stand in front of others.
-#[tactic(auto, using(crate::proofs::Replaced::ends_by_feed))]
+#[tactic(auto, using(crate::proofs::ReplacedLines::ends_by_feed))]
 pub(crate) fn push_starts(
     starts: &mut Vec<usize>,
     line_ends: LineEnds,
@@ -87,7 +87,7 @@ pub(crate) fn replaced_starts(
     ensures { IfOk result (λ v. v.items ≡ spec.line_starts line_ends (spec.replace_range text.now from to with.now)) }
 {
     let before = from.saturating_sub(1);
-    let behind = without(text, to);
+    let behind = bytes_behind(text, to);
     let kept = count_up_to(starts, before);
     let passed = count_up_to(starts, to);
     let mut new = Vec::with_capacity(alloc, starts.len() + 1)?;

@@ -4,7 +4,7 @@ ghost use Rattle.line_index.specs.Inner as inner;
 ghost use Rattle.line_index.specs.Points as points;
 ghost use Rattle.line_index.specs.Positions as spec;
 
-use crate::bytes::{byte_units, ends_of_block, without};
+use crate::bytes::{byte_units, bytes_behind, ends_of_block};
 use crate::{LineEnds, Position, Units};
 use std::marker::Model;
 
@@ -60,7 +60,7 @@ fn feeds(text: &[u8]) -> usize
 /// The column behind a text, from its end back to its last line feed.
 fn column_behind(units: Units, start: Position, text: &[u8]) -> usize
     requires { start.column + 2 * length text.now < 2 ^ 64 }
-    ensures { result ≡ (inner.behind units start text.now).column }
+    ensures { result ≡ (inner.position_behind units start text.now).column }
 {
     let mut count = 0;
     let mut left = text;
@@ -75,10 +75,10 @@ fn column_behind(units: Units, start: Position, text: &[u8]) -> usize
 }
 
 #[tactic(auto, using(crate::proofs::Positions::line_is))]
-fn behind(start: Position, text: &[u8]) -> Position
+fn position_behind(start: Position, text: &[u8]) -> Position
     requires lines { start.line + length text.now < 2 ^ 64 }
     requires columns { start.column + 2 * length text.now < 2 ^ 64 }
-    ensures { result ≡ inner.behind Units.Characters start text.now }
+    ensures { result ≡ inner.position_behind Units.Characters start text.now }
 {
     Position {
         line: start.line + feeds(text),
@@ -88,34 +88,34 @@ fn behind(start: Position, text: &[u8]) -> Position
 
 /// From one place of a text to a later one.
 #[tactic(auto, unfolding(crate::specs::Inner::shown_at), using(crate::proofs::Positions::onward, crate::proofs::Positions::line_within, crate::proofs::Positions::column_within,),)]
-fn onward(text: &[u8], from: usize, here: Position, at: usize) -> Position
+fn position_onward(text: &[u8], from: usize, here: Position, at: usize) -> Position
     requires here { here ≡ inner.shown_at Units.Characters text.now from }
     requires later { from ≤ at }
     requires within { at ≤ length text.now }
     requires small { length text.now < 2 ^ 63 }
     ensures { result ≡ inner.shown_at Units.Characters text.now at }
 {
-    behind(here, &text[from..at])
+    position_behind(here, &text[from..at])
 }
 
 /// From one place of a text to any other.
 #[tactic(auto, using(crate::proofs::Positions::at_start))]
-fn moved(text: &[u8], from: usize, here: Position, at: usize) -> Position
+fn position_at(text: &[u8], from: usize, here: Position, at: usize) -> Position
     requires here { here ≡ inner.shown_at Units.Characters text.now from }
     requires within { at ≤ length text.now }
     requires small { length text.now < 2 ^ 63 }
     ensures { result ≡ inner.shown_at Units.Characters text.now at }
 {
     if from <= at {
-        onward(text, from, here, at)
+        position_onward(text, from, here, at)
     } else {
-        onward(text, 0, START, at)
+        position_onward(text, 0, START, at)
     }
 }
 
 /// The same place of a text with its column in units.
 #[tactic(auto, using(crate::proofs::Positions::counted))]
-fn counted(units: Units, text: &[u8], at: usize, here: Position) -> Position
+fn position_in_units(units: Units, text: &[u8], at: usize, here: Position) -> Position
     requires here { here ≡ inner.shown_at Units.Characters text.now at }
     requires within { at ≤ length text.now }
     requires small { length text.now < 2 ^ 63 }
@@ -158,9 +158,9 @@ impl<'t> LineIndex<'t> {
         ensures value { result ≡ spec.position_of self.old at }
         ensures same { self.new ≡ self.old }
     {
-        let shown = without(self.text, self.mark);
+        let shown = bytes_behind(self.text, self.mark);
         let end = at.saturating_sub(self.mark).min(shown.len());
-        self.here = moved(shown, self.at, self.here, end);
+        self.here = position_at(shown, self.at, self.here, end);
         self.at = end;
         self.here
     }
@@ -171,13 +171,13 @@ impl<'t> LineIndex<'t> {
         ensures value { result ≡ spec.position_in units self.old at }
         ensures same { self.new ≡ self.old }
     {
-        let shown = without(self.text, self.mark);
+        let shown = bytes_behind(self.text, self.mark);
         let end = at.saturating_sub(self.mark).min(shown.len());
-        self.here = moved(shown, self.at, self.here, end);
+        self.here = position_at(shown, self.at, self.here, end);
         self.at = end;
         match units {
             Units::Characters => self.here,
-            Units::Utf16 | Units::Bytes => counted(units, shown, end, self.here),
+            Units::Utf16 | Units::Bytes => position_in_units(units, shown, end, self.here),
         }
     }
 }

@@ -6,7 +6,7 @@ ghost use Rattle.std.specs.Str.{IsCharBoundary};
 ghost use Rattle.line_index.specs.Points as points;
 ghost use Rattle.line_index.specs.Starts as spec;
 
-use crate::bytes::{units_of, without};
+use crate::bytes::{bytes_behind, units_of};
 use crate::columns::byte_in_line;
 use crate::edits::{push_starts, replaced_starts};
 use crate::lists::mark_length;
@@ -111,7 +111,7 @@ impl LineStarts {
             return text.len();
         }
         let begin = begin_of(starts, point.line, hidden_length(style, text));
-        begin + byte_in_line(style, point.column, without(text, begin))
+        begin + byte_in_line(style, point.column, bytes_behind(text, begin))
     }
 
     /// Makes them those of the text with other bytes in a range. It costs the edit, and a copy of all points.

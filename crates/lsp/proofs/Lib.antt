@@ -5,7 +5,7 @@ pub mod Examples
 pub mod ListedParts
 pub mod Messages
 pub mod NoFloats
-pub mod Opened
+pub mod OpenedDocuments
 pub mod PlainRanges
-pub mod Pushed
-pub mod Told
+pub mod PushedSymbols
+pub mod ItemSymbols

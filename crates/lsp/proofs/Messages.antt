@@ -3,11 +3,11 @@ use Rattle.std.proofs.Common.{◌≡◌, codes, is_some, option_and_then, unwrap
 use Rattle.serde_json.specs.Data.{Data, null}
 use Rattle.serde_json.specs.Find.{as_str}
 use Rattle.hir_input_json.specs.Forms.{field}
-use Rattle.hir_input_json.specs.Held.{without}
-use Rattle.hir_input_json.proofs.Held.{field_without}
+use Rattle.hir_input_json.specs.Held.{without_key}
+use Rattle.hir_input_json.proofs.MemberObjects.{field_without}
 use Rattle.lsp.specs.Messages.{by_method, incoming}
 
-module _ (d d1 d2 d3 : Data) (first : d1 ≡ without (codes "method") d) (second : d2 ≡ without (codes "id") d1) (third : d3 ≡ without (codes "params") d2) where
+module _ (d d1 d2 d3 : Data) (first : d1 ≡ without_key (codes "method") d) (second : d2 ≡ without_key (codes "id") d1) (third : d3 ≡ without_key (codes "params") d2) where
   id_is : field (codes "id") d1 ≡ field (codes "id") d
   id_is = ap (field (codes "id")) first ∙ field_without (codes "id") (codes "method") d refl
 

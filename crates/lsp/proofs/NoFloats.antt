@@ -13,7 +13,7 @@ use Rattle.source_problems.specs.declared.problem.SourceProblem.{SourceProblem}
 use Rattle.source_imports.specs.Repeated.{Repeat}
 use Rattle.lsp.specs.Diagnostics.{diagnostic, diagnostics, notice, repeat_diagnostic}
 use Rattle.source_listing.specs.Entries.{ItemView, item_in}
-use Rattle.lsp.specs.Symbols.{Page, Symbol, symbol_called, forest_symbols, information, item_symbol, listed_symbol, member_symbols, node_symbols, placed_symbols, protocol_kind, told, told_in, tree_symbols}
+use Rattle.lsp.specs.Symbols.{Page, Symbol, symbol_called, forest_symbols, information, item_symbol, listed_symbol, member_symbols, node_symbols, placed_symbols, protocol_kind, with_symbol, told_in, tree_symbols}
 use Rattle.lsp.specs.Bytes.{range_span}
 
 first_none : (a b : Bool) → (a || b) ≡ false → a ≡ false
@@ -46,12 +46,12 @@ told_in_none : (flat : Option (List ℕ)) (p : Page) (container : Option (List �
 told_in_none None p container s inner h = rw h refl
 told_in_none (Some uri) p container s inner h = either_none (has_float (information uri container (range_span p.units p.text s.range) s)) (items_have_float (items_of inner)) (information_none p uri container s) h
 
-told_none : (p : Page) (container : Option (List ℕ)) (s : Symbol) (inner : List Data) → items_have_float (items_of inner) ≡ false → items_have_float (items_of (told p container s inner)) ≡ false
+told_none : (p : Page) (container : Option (List ℕ)) (s : Symbol) (inner : List Data) → items_have_float (items_of inner) ≡ false → items_have_float (items_of (with_symbol p container s inner)) ≡ false
 told_none p container s inner h = told_in_none p.flat_in p container s inner h
 
 members_none : (p : Page) (name : List ℕ) (is_active : Bool) (place : ItemPlace) → items_have_float (items_of (member_symbols p name is_active place)) ≡ false
 members_none p name is_active place =
-    flat_none (λ m. told p (Some name) (listed_symbol p.text p.reserved m) []) (members_of p.reading (Some place) is_active) (λ m. told_none p (Some name) (listed_symbol p.text p.reserved m) [] refl)
+    flat_none (λ m. with_symbol p (Some name) (listed_symbol p.text p.reserved m) []) (members_of p.reading (Some place) is_active) (λ m. told_none p (Some name) (listed_symbol p.text p.reserved m) [] refl)
 
 module _ (p : Page) (places : List ItemPlace) where
   placed_none : (c : Option (List ℕ)) (i : ItemView) (number : Option ℕ) (place : Option ItemPlace) (inner : List Data) → items_have_float (items_of inner) ≡ false → items_have_float (items_of (placed_symbols p places c i number place inner)) ≡ false

@@ -6,7 +6,7 @@ use Rattle.itemtree_commands.specs.declared.Options.{Options}
 use Rattle.lsp.specs.Clients.{client_of}
 use Rattle.lsp.specs.Documents.{Document, open_form, uri_form}
 use Rattle.lsp.specs.Responses.{RequestOutcome}
-use Rattle.lsp.specs.Servers.{ServerState, IsRequestAnswered, IsRequestDone, new_server, noticed}
+use Rattle.lsp.specs.Servers.{ServerState, IsRequestAnswered, IsRequestDone, new_server, state_behind}
 use Rattle.lsp.specs.declared.client.Client.{Client}
 use Rattle.lsp.specs.declared.method.RequestMethod.{RequestMethod}
 use Rattle.lsp.specs.declared.method.RequestMethod.TheVariants.{Initialize, DocumentSymbol, Ranges}
@@ -28,7 +28,7 @@ pub record HasJustOpened (o : Options) (c : Client) (uri : List ℕ) (d : Docume
   pub document : Document
   pub opens : open_form opening ≡ right (uri, document)
   pub same : IsSameText document d
-  pub is : fresh ≡ noticed between DidOpen opening
+  pub is : fresh ≡ state_behind between DidOpen opening
 
 -- the request asks about a document
 abbrev pub IsAboutDocument : RequestMethod → Type 0

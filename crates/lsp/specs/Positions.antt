@@ -9,7 +9,7 @@ use Rattle.list_forms.specs.Lines.{count_form}
 use Rattle.line_index.specs.declared.Point.{Point}
 use Rattle.lsp.specs.declared.position.Span.{Span}
 use Rattle.hir_input_json.specs.Reading.{Reading, right, here, ◌>>=◌}
-use Rattle.hir_input_json.specs.Forms.{below, object_members, required_at}
+use Rattle.hir_input_json.specs.Forms.{number_below, object_members, required_at}
 
 -- the whole number that a float is, if it is one
 abbrev pub whole_float : Float → Option ℕ
@@ -23,7 +23,7 @@ whole_number (float x) = whole_float x
 
 -- a number of lines or of characters
 abbrev pub position_number : Data → Reading ℕ
-position_number d = here (option_and_then (below (2 ^ 31)) (option_and_then whole_number (as_number d)))
+position_number d = here (option_and_then (number_below (2 ^ 31)) (option_and_then whole_number (as_number d)))
 
 -- a position
 abbrev pub position_form : Data → Reading Point

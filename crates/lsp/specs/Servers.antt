@@ -204,10 +204,10 @@ abbrev pub client_left : ServerState → ServerState
 client_left s = record { options = s.options; phase = ended_phase s.phase; client = s.client; documents = s.documents; untold = s.untold }
 
 -- what a notification leaves
-abbrev pub noticed : ServerState → NotificationMethod → Data → ServerState
-noticed s Exit params = client_left s
-noticed s Other params = s
-noticed s method params = noticed_in s.phase s method params
+abbrev pub state_behind : ServerState → NotificationMethod → Data → ServerState
+state_behind s Exit params = client_left s
+state_behind s Other params = s
+state_behind s method params = noticed_in s.phase s method params
 
 -- ---- what is told of documents
 
@@ -234,8 +234,8 @@ TellsAtRest s new texts = IsRestOf s.untold s new texts
 -- ---- messages
 
 -- no document is open any more
-abbrev pub forgotten : ServerState → ServerState
-forgotten s = with_untold (with_documents s []) []
+abbrev pub without_documents : ServerState → ServerState
+without_documents s = with_untold (with_documents s []) []
 
 -- what the user is told where memory ran out, or a message was too long: a change may be lost, so each document is closed
 abbrev pub lost_text : List ℕ
@@ -243,7 +243,7 @@ lost_text = codes "{\"jsonrpc\":\"2.0\",\"method\":\"window/showMessage\",\"para
 
 -- a message is lost, and the user is told so
 abbrev pub IsLost : ServerState → ServerState → List (List ℕ) → Type 0
-IsLost old new texts = (new ≡ forgotten old) × (texts ≡ lost_text ∷ [])
+IsLost old new texts = (new ≡ without_documents old) × (texts ≡ lost_text ∷ [])
 
 -- what is said where there is no memory for the text of an answer
 abbrev pub no_memory_text : List ℕ
@@ -265,14 +265,14 @@ IsRefusalText e texts = IsToldOutcome null (Err e) texts
 abbrev pub IsMessageStep : ServerState → Incoming → ServerState → List (List ℕ) → Type 0
 IsMessageStep old (request id method params) new texts = IsResponse old id (request_method method) params new texts
 IsMessageStep old (notification method params) new texts =
-    let m = notification_method method in ((new ≡ noticed old m params) × (texts ≡ told_in_phase old.phase m params)) ⊎ IsLost old new texts
+    let m = notification_method method in ((new ≡ state_behind old m params) × (texts ≡ told_in_phase old.phase m params)) ⊎ IsLost old new texts
 IsMessageStep old response new texts = (new ≡ old) × (texts ≡ [])
 IsMessageStep old no_message new texts = (new ≡ old) × IsRefusalText InvalidRequest texts
 
 -- the bytes are no JSON text: a change may be lost, so each document is closed
 pub record HasNoJson (bytes : List ℕ) (old new : ServerState) (texts : List (List ℕ)) : Type 0 where
   pub none : (d : Data) → ¬ IsJsonText bytes d
-  pub forgets : new ≡ forgotten old
+  pub forgets : new ≡ without_documents old
   pub refused : IsRefusalText NotJson texts
 
 -- the bytes are the JSON text of a value, which is a message

@@ -96,12 +96,12 @@ detail_words reserved v is_active =
     let words = unwrap_or (as_str (visibility_form reserved v)) [] in if is_active then words else inactive_words words
 
 -- what an item without a name is called: an impl by its header, another by its kind
-abbrev pub nameless : AstIdKind → List ℕ → List ℕ
-nameless k [] = item_word k
-nameless k (b ∷ bs) = item_word k ++ 32 ∷ b ∷ bs
+abbrev pub header_or_kind : AstIdKind → List ℕ → List ℕ
+header_or_kind k [] = item_word k
+header_or_kind k (b ∷ bs) = item_word k ++ 32 ∷ b ∷ bs
 
 abbrev pub symbol_name : AstIdKind → List ℕ → Option (List ℕ) → List ℕ
-symbol_name k header None = nameless k header
+symbol_name k header None = header_or_kind k header
 symbol_name k header (Some name) = name
 
 -- where the name of an item stands; one without a name is told where it begins
@@ -143,12 +143,12 @@ abbrev pub told_in : (flat_in : Option (List ℕ)) → Page → (container : Opt
 told_in None p container s inner = symbol_data p.units p.text s (items_of inner) ∷ []
 told_in (Some uri) p container s inner = information uri container (range_span p.units p.text s.range) s ∷ inner
 
-abbrev pub told : Page → Option (List ℕ) → Symbol → List Data → List Data
-told p container s inner = told_in p.flat_in p container s inner
+abbrev pub with_symbol : Page → Option (List ℕ) → Symbol → List Data → List Data
+with_symbol p container s inner = told_in p.flat_in p container s inner
 
 -- the symbols of the members of an item that is called so and stands there, which a cfg disables or not
 abbrev pub member_symbols : Page → List ℕ → Bool → ItemPlace → List Data
-member_symbols p name is_active place = flat_map (λ m. told p (Some name) (listed_symbol p.text p.reserved m) []) (members_of p.reading (Some place) is_active)
+member_symbols p name is_active place = flat_map (λ m. with_symbol p (Some name) (listed_symbol p.text p.reserved m) []) (members_of p.reading (Some place) is_active)
 
 module _ (p : Page) (places : List ItemPlace) where
   -- what an item is called
@@ -158,7 +158,7 @@ module _ (p : Page) (places : List ItemPlace) where
   -- the symbol of an item, if it is one and its place is known, with those of its members and then with these
   abbrev pub placed_symbols : Option (List ℕ) → ItemView → Option ℕ → Option ItemPlace → List Data → List Data
   placed_symbols container i (Some number) (Some place) inner =
-      let s = item_symbol p.reading p.reserved i number place in told p container s (member_symbols p s.name i.is_active place ++ inner)
+      let s = item_symbol p.reading p.reserved i number place in with_symbol p container s (member_symbols p s.name i.is_active place ++ inner)
   placed_symbols container i _ _ inner = []
 
   abbrev pub own_symbols : Option (List ℕ) → ItemView → List Data → List Data

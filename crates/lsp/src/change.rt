@@ -2,7 +2,7 @@
 ghost use Rattle.std.specs.Prelude.{◌≡◌, codes, map, IsCharBoundary, OnOk, string_bytes};
 ghost use Rattle.serde_json.specs.View.{items_view, view};
 ghost use Rattle.hir_input_json.specs.Forms.{each, list_of, maybe_at, required_at as required_form};
-ghost use Rattle.hir_input_json.specs.Held.{held, without};
+ghost use Rattle.hir_input_json.specs.Held.{object_held, without_key};
 ghost use Rattle.hir_input_json.specs.Reads.{Reads};
 ghost use Rattle.lsp.specs.Changes as spec;
 ghost use Rattle.lsp.specs.Positions.{span_form};
@@ -11,7 +11,7 @@ ghost use Rattle.lsp.specs.Views.{change_view};
 use crate::document::text_at;
 use crate::position::{Span, span_of};
 use crate::text::LinedText;
-use hir_input_json::member::{Members, members_of, required_at, taken};
+use hir_input_json::member::{Members, members_of, required_at, take_member};
 use hir_input_json::{Fault, ReadIn, each_of};
 use line_index::Units;
 use serde_json::Value;
@@ -25,16 +25,16 @@ pub(crate) struct Change {
 }
 
 fn span_at(alloc: Global, members: &mut Members) -> Result<Option<Span>, Fault>
-    ensures reads { Reads (λ span. span) result (maybe_at (codes "range") span_form (held members.old)) }
-    ensures left { held members.new ≡ without (codes "range") (held members.old) }
+    ensures reads { Reads (λ span. span) result (maybe_at (codes "range") span_form (object_held members.old)) }
+    ensures left { object_held members.new ≡ without_key (codes "range") (object_held members.old) }
 {
-    match taken(members, "range") {
+    match take_member(members, "range") {
         Some(found) => Ok(Some(span_of(alloc, found).in_member(alloc, "range")?)),
         None => Ok(None),
     }
 }
 
-#[tactic(auto, using(hir_input_json::proofs::Held::field_without))]
+#[tactic(auto, using(hir_input_json::proofs::MemberObjects::field_without))]
 fn change_of(alloc: Global, value: Value) -> Result<Change, Fault>
     ensures { Reads change_view result (spec.content_change_form (view value)) }
 {
@@ -68,7 +68,7 @@ fn changes_of(alloc: Global, value: Value) -> Result<Vec<Change>, Fault>
 /// Takes the changes out that parameters ask for.
 pub(crate) fn changes_at(alloc: Global, members: &mut Members) -> Result<Vec<Change>, Fault>
     ensures reads { Reads (λ v. map change_view v.items) result
-        (required_form (codes "contentChanges") (list_of spec.content_change_form) (held members.old)) }
+        (required_form (codes "contentChanges") (list_of spec.content_change_form) (object_held members.old)) }
 {
     let found = required_at(alloc, members, "contentChanges")?;
     changes_of(alloc, found).in_member(alloc, "contentChanges")

@@ -15,7 +15,7 @@ pub struct Client {
 }
 
 /// The value under each of these keys in turn.
-fn inside<'v>(value: &'v Value, keys: &[&str]) -> Option<&'v Value>
+fn value_inside<'v>(value: &'v Value, keys: &[&str]) -> Option<&'v Value>
     ensures { option_map (λ v. view v.now) result ≡ spec.value_inside (map (λ k. k.now) keys.now) (view value.now) }
 {
     let mut found = value;
@@ -49,7 +49,7 @@ fn has_text(items: &[Value], text: &str) -> bool
 fn offers_bytes(params: &Value) -> bool
     ensures { result ≡ spec.offers_bytes (view params.now) }
 {
-    let offered = inside(params, &["capabilities", "general", "positionEncodings"]);
+    let offered = value_inside(params, &["capabilities", "general", "positionEncodings"]);
     match offered.and_then(Value::as_array) {
         Some(encodings) => has_text(encodings, "utf-8"),
         None => false,
@@ -65,7 +65,7 @@ fn is_hierarchical(params: &Value) -> bool
         "documentSymbol",
         "hierarchicalDocumentSymbolSupport",
     ];
-    inside(params, &keys)
+    value_inside(params, &keys)
         .and_then(Value::as_bool)
         .unwrap_or(false)
 }

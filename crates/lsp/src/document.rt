@@ -2,13 +2,13 @@
 ghost use Rattle.std.specs.Prelude.{◌≡◌, codes, option_and_then, option_map, string_bytes, OnOk};
 ghost use Rattle.serde_json.specs.View.{view};
 ghost use Rattle.hir_input_json.specs.Forms.{required_at as required_form, text_form};
-ghost use Rattle.hir_input_json.specs.Held.{held, without};
+ghost use Rattle.hir_input_json.specs.Held.{object_held, without_key};
 ghost use Rattle.hir_input_json.specs.Reads.{Reads};
 ghost use Rattle.lsp.specs.Documents as spec;
 ghost use Rattle.lsp.specs.Views.{document_view, documents_view, document_entry_view};
 
 use crate::text::LinedText;
-use hir_input_json::member::{Members, field, members_of, required_at, taken};
+use hir_input_json::member::{Members, field, members_of, required_at, take_member};
 use hir_input_json::{Fault, ReadIn};
 use serde_json::Value;
 use std::alloc::{AllocError, Global};
@@ -36,10 +36,10 @@ fn is_rust(language: &str, uri: &str) -> bool
 
 /// Takes a text out that has to be there.
 pub(crate) fn text_at(alloc: Global, members: &mut Members, key: &str) -> Result<String, Fault>
-    ensures reads { Reads string_bytes result (required_form key.now text_form (held members.old)) }
-    ensures left { held members.new ≡ without key.now (held members.old) }
+    ensures reads { Reads string_bytes result (required_form key.now text_form (object_held members.old)) }
+    ensures left { object_held members.new ≡ without_key key.now (object_held members.old) }
 {
-    match taken(members, key) {
+    match take_member(members, key) {
         Some(Value::String(text)) => Ok(text),
         _ => Err(Fault::at(alloc, key)),
     }
@@ -47,13 +47,13 @@ pub(crate) fn text_at(alloc: Global, members: &mut Members, key: &str) -> Result
 
 /// The version of a document, where a whole number is given.
 fn version_in(members: &Members) -> Option<i64>
-    ensures { result ≡ spec.version_in (held members.now) }
+    ensures { result ≡ spec.version_in (object_held members.now) }
 {
     field(members, "version").and_then(Value::as_i64)
 }
 
 /// A document that is opened, with its name.
-#[tactic(auto, using(hir_input_json::proofs::Held::field_without))]
+#[tactic(auto, using(hir_input_json::proofs::MemberObjects::field_without))]
 fn opened_document(alloc: Global, value: Value) -> Result<(String, Document), Fault>
     ensures { Reads document_entry_view result (spec.opened_form (view value)) }
 {
@@ -73,8 +73,9 @@ fn opened_document(alloc: Global, value: Value) -> Result<(String, Document), Fa
 
 /// Takes a document out that is opened.
 fn opened_at(alloc: Global, members: &mut Members, key: &str) -> Result<(String, Document), Fault>
-    ensures reads { Reads document_entry_view result (required_form key.now spec.opened_form (held members.old)) }
-    ensures left { OnOk result (held members.new ≡ without key.now (held members.old)) }
+    ensures reads { Reads document_entry_view result
+        (required_form key.now spec.opened_form (object_held members.old)) }
+    ensures left { OnOk result (object_held members.new ≡ without_key key.now (object_held members.old)) }
 {
     let found = required_at(alloc, members, key)?;
     opened_document(alloc, found).in_member(alloc, key)
@@ -97,8 +98,8 @@ fn named_uri(alloc: Global, value: Value) -> Result<String, Fault>
 
 /// Takes the name of a document out.
 pub(crate) fn named_at(alloc: Global, members: &mut Members, key: &str) -> Result<String, Fault>
-    ensures reads { Reads string_bytes result (required_form key.now spec.uri_member_form (held members.old)) }
-    ensures left { OnOk result (held members.new ≡ without key.now (held members.old)) }
+    ensures reads { Reads string_bytes result (required_form key.now spec.uri_member_form (object_held members.old)) }
+    ensures left { OnOk result (object_held members.new ≡ without_key key.now (object_held members.old)) }
 {
     let found = required_at(alloc, members, key)?;
     named_uri(alloc, found).in_member(alloc, key)

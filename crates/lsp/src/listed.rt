@@ -56,7 +56,7 @@ fn list_value(values: Vec<Value>) -> Value
 }
 
 /// The symbols of a Rust document of a name.
-#[tactic(auto, using(itemtree_commands::proofs::Refused::no_list))]
+#[tactic(auto, using(itemtree_commands::proofs::Refusals::no_list))]
 pub(crate) fn document_symbols(
     alloc: Global,
     options: &Options,

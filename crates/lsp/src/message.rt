@@ -5,13 +5,13 @@ ghost use Rattle.serde_json.specs.Find.{as_str};
 ghost use Rattle.serde_json.specs.View.{view};
 ghost use Rattle.serde_json.specs.Written.{has_float};
 ghost use Rattle.hir_input_json.specs.Forms.{field};
-ghost use Rattle.hir_input_json.specs.Held.{held, without};
+ghost use Rattle.hir_input_json.specs.Held.{object_held, without_key};
 ghost use Rattle.lsp.specs.Messages as spec;
 ghost use Rattle.lsp.specs.Inner.{HasPlainId};
 ghost use Rattle.lsp.specs.Views.{incoming_view};
 
 use hir_input_json::float::has_float;
-use hir_input_json::member::{Members, field, taken};
+use hir_input_json::member::{Members, field, take_member};
 use serde_json::Value;
 
 /// A message.
@@ -46,10 +46,10 @@ fn is_id(value: &Value) -> bool
 
 /// Takes a text out, if one is there.
 fn taken_text(members: &mut Members, key: &str) -> Option<String>
-    ensures text { option_map string_bytes result ≡ option_and_then as_str (field key.now (held members.old)) }
-    ensures left { held members.new ≡ without key.now (held members.old) }
+    ensures text { option_map string_bytes result ≡ option_and_then as_str (field key.now (object_held members.old)) }
+    ensures left { object_held members.new ≡ without_key key.now (object_held members.old) }
 {
-    match taken(members, key) {
+    match take_member(members, key) {
         Some(Value::String(text)) => Some(text),
         _ => None,
     }
@@ -92,14 +92,14 @@ fn by_method(method: Option<String>, id: Option<Value>, params: Value, has_error
 }
 
 /// What an object is as a message.
-#[tactic(auto, using(hir_input_json::proofs::Held::field_without))]
+#[tactic(auto, using(hir_input_json::proofs::MemberObjects::field_without))]
 fn incoming_of(mut members: Members) -> Incoming
-    ensures message { incoming_view result ≡ spec.incoming (held members) }
+    ensures message { incoming_view result ≡ spec.incoming (object_held members) }
     ensures id { HasPlainId result }
 {
     let method = taken_text(&mut members, "method");
-    let id = taken(&mut members, "id");
-    let params = or_null(taken(&mut members, "params"));
+    let id = take_member(&mut members, "id");
+    let params = or_null(take_member(&mut members, "params"));
     let has_error = field(&members, "error").is_some();
     by_method(method, id, params, has_error)
 }

@@ -3,7 +3,7 @@ ghost use Rattle.std.specs.Prelude.{◌≡◌, IfOk, OnOk, option_and_then};
 ghost use Rattle.serde_json.specs.Find.{as_number};
 ghost use Rattle.serde_json.specs.View.{view};
 ghost use Rattle.hir_input_json.specs.Forms.{required_at};
-ghost use Rattle.hir_input_json.specs.Held.{held, without};
+ghost use Rattle.hir_input_json.specs.Held.{object_held, without_key};
 ghost use Rattle.hir_input_json.specs.Reads.{Reads};
 ghost use Rattle.lsp.specs.Positions as spec;
 
@@ -55,7 +55,7 @@ fn whole_of(alloc: Global, value: &Value) -> Result<usize, Fault>
 }
 
 fn whole_at(alloc: Global, members: &Members, key: &str) -> Result<usize, Fault>
-    ensures { Reads (λ n. n) result (required_at key.now spec.position_number (held members.now)) }
+    ensures { Reads (λ n. n) result (required_at key.now spec.position_number (object_held members.now)) }
 {
     match field(members, key) {
         Some(found) => whole_of(alloc, found).in_member(alloc, key),
@@ -78,8 +78,8 @@ pub(crate) fn place_of(alloc: Global, value: Value) -> Result<Point, Fault>
 
 /// The position at a key.
 pub(crate) fn position_at(alloc: Global, members: &mut Members, key: &str) -> Result<Point, Fault>
-    ensures reads { Reads (λ place. place) result (required_at key.now spec.position_form (held members.old)) }
-    ensures left { OnOk result (held members.new ≡ without key.now (held members.old)) }
+    ensures reads { Reads (λ place. place) result (required_at key.now spec.position_form (object_held members.old)) }
+    ensures left { OnOk result (object_held members.new ≡ without_key key.now (object_held members.old)) }
 {
     let found = required_at(alloc, members, key)?;
     place_of(alloc, found).in_member(alloc, key)
@@ -88,7 +88,7 @@ pub(crate) fn position_at(alloc: Global, members: &mut Members, key: &str) -> Re
 /// A range.
 ///
 /// `WrongForm` comes only where it is not of its form (`Positions.span_form`), and tells where.
-#[tactic(auto, using(hir_input_json::proofs::Held::field_without))]
+#[tactic(auto, using(hir_input_json::proofs::MemberObjects::field_without))]
 pub(crate) fn span_of(alloc: Global, value: Value) -> Result<Span, Fault>
     ensures { Reads (λ span. span) result (spec.span_form (view value)) }
 {

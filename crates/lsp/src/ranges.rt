@@ -2,7 +2,7 @@
 ghost use Rattle.std.specs.Prelude.{◌≡◌, ◌⊎◌, Err, IfOk, map};
 ghost use Rattle.serde_json.specs.View.{items_view, view};
 ghost use Rattle.hir_input_json.specs.Forms.{each, list_of, required_at as required_form};
-ghost use Rattle.hir_input_json.specs.Held.{held};
+ghost use Rattle.hir_input_json.specs.Held.{object_held};
 ghost use Rattle.hir_input_json.specs.Reads.{Reads};
 ghost use Rattle.lsp.specs.Inner.{IsPlainOutcome, request_outcome_view};
 ghost use Rattle.lsp.specs.Positions.{position_form};
@@ -48,7 +48,7 @@ fn places_of(alloc: Global, value: Value) -> Result<Vec<Point>, Fault>
 
 /// The positions that parameters ask about.
 fn places_at(alloc: Global, kind: RangeKind, members: &mut Members) -> Result<Vec<Point>, Fault>
-    ensures { Reads (λ v. v.items) result (spec.places_form kind (held members.old)) }
+    ensures { Reads (λ v. v.items) result (spec.places_form kind (object_held members.old)) }
 {
     match kind {
         RangeKind::Folding => Ok(Vec::new(alloc)),

@@ -204,7 +204,7 @@ pub(crate) fn response(alloc: Global, id: Value, outcome: Outcome) -> Answer
 }
 
 /// The answer to what is no request.
-pub(crate) fn refused(alloc: Global, error: ResponseError) -> Answer
+pub(crate) fn refusal_of(alloc: Global, error: ResponseError) -> Answer
     ensures { IsRefusalText error (answer_texts result) }
 {
     response(alloc, Value::Null, Err(error))

@@ -23,7 +23,7 @@ use crate::method::{NotificationMethod, RequestMethod, notification_method, requ
 use crate::opening::initialize_value;
 use crate::phase::{Phase, ended_phase, refusal};
 use crate::ranges::ranges;
-use crate::response::{Outcome, ResponseError, refused, response};
+use crate::response::{Outcome, ResponseError, refusal_of, response};
 use crate::surrogates::mend;
 use crate::untold::{put_name, take_name};
 use hir_input_json::Fault;
@@ -185,7 +185,7 @@ impl Server {
     }
 
     /// What is told of the document of a name.
-    fn told(&self, alloc: Global, uri: &str) -> Result<String, SourceError>
+    fn notice_of(&self, alloc: Global, uri: &str) -> Result<String, SourceError>
         ensures { IfOk result (λ text. let docs = self.now.documents in
             spec.IsToldOfOpen self.now uri.now (spec_document_in docs uri.now) (string_bytes text ∷ [])) }
     {
@@ -252,7 +252,7 @@ impl Server {
         method: NotificationMethod,
         params: Value,
     ) -> Result<Vec<String>, ResponseError>
-        ensures noticed { IfOk result (λ _. self.new ≡ spec.noticed self.old method (view params)) }
+        ensures noticed { IfOk result (λ _. self.new ≡ spec.state_behind self.old method (view params)) }
         ensures told { IfOk result (λ texts. map string_bytes texts.items
             ≡ spec.told_in_phase self.old.phase method (view params)) }
         ensures state { OnErr result (IsSameButDocuments self.old self.new) }
@@ -270,7 +270,7 @@ impl Server {
 
     /// Closes all documents: a change of one may be lost.
     fn close_all(&mut self)
-        ensures { self.new ≡ spec.forgotten self.old }
+        ensures { self.new ≡ spec.without_documents self.old }
     {
         self.documents.clear();
         self.untold.clear();
@@ -317,7 +317,7 @@ impl Server {
                 self.take_notification(alloc, &method, params)
             }
             Incoming::Response => Answer::Several(Vec::new(alloc)),
-            Incoming::NoMessage => refused(alloc, ResponseError::InvalidRequest),
+            Incoming::NoMessage => refusal_of(alloc, ResponseError::InvalidRequest),
         }
     }
 
@@ -330,7 +330,7 @@ impl Server {
             Err(error) if error.is_memory() => self.forget(),
             Err(_) => {
                 self.close_all();
-                refused(alloc, ResponseError::NotJson)
+                refusal_of(alloc, ResponseError::NotJson)
             }
         }
     }
@@ -356,7 +356,7 @@ impl Service for Server {
             return Answer::Several(Vec::new(alloc));
         }
         let uri = self.untold.remove(0);
-        match self.told(alloc, &uri) {
+        match self.notice_of(alloc, &uri) {
             Ok(text) => Answer::Made(text),
             Err(_) => Answer::Fixed(UNTOLD),
         }

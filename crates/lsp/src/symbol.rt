@@ -146,8 +146,8 @@ pub(crate) fn detail_words(
 }
 
 /// What an item without a name is called: an impl by its header, another by its kind.
-fn nameless(alloc: Global, kind: AstIdKind, header: &str) -> Result<String, AllocError>
-    ensures { IfOk result (λ text. string_bytes text ≡ spec.nameless kind header.now) }
+fn header_or_kind(alloc: Global, kind: AstIdKind, header: &str) -> Result<String, AllocError>
+    ensures { IfOk result (λ text. string_bytes text ≡ spec.header_or_kind kind header.now) }
 {
     let mut text = String::from_str(alloc, item_word(kind))?;
     if header.is_empty() {
@@ -170,7 +170,7 @@ pub(crate) fn symbol_name(
 {
     match name {
         Some(name) => String::from_str(alloc, name.text()),
-        None => nameless(alloc, kind, header),
+        None => header_or_kind(alloc, kind, header),
     }
 }
 

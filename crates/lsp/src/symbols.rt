@@ -68,7 +68,7 @@ fn push_told(
     mut inner: Vec<Value>,
     out: &mut Vec<Value>,
 ) -> Result<(), AllocError>
-    ensures { let told = spec.told (page_view page.entry) (option_copied container.entry)
+    ensures { let told = spec.with_symbol (page_view page.entry) (option_copied container.entry)
         (symbol_view symbol) (map view inner.items) in
         OnOk result (map view out.new.items ≡ map view out.old.items ++ told) }
 {

@@ -3,7 +3,7 @@ pub use Rattle.message_stream.specs.Answers.{Conduct}
 pub use Rattle.message_stream.specs.Exchanged.{HasRead, HasWritten, IsNext, TakesBeginning}
 pub use Rattle.message_stream.specs.Frames.{Frames}
 pub use Rattle.message_stream.specs.Inner.{EndsAt, HasTurned, IsEndIn, IsNone, IsPart, feed_of}
-pub use Rattle.message_stream.specs.Lines.{HasNoFeed, begin, fed, line_frames, lines}
+pub use Rattle.message_stream.specs.Lines.{HasNoFeed, begin, with_feed, line_frames, lines}
 pub use Rattle.message_stream.specs.Messages.{IsToldOf, Told, message_told}
 pub use Rattle.message_stream.specs.Served.{Turn, HasServed, HasTold, IsReady, IsServed, IsTurn, messages_of, rested, took}
 pub use Rattle.message_stream.specs.declared.error.StreamError.{StreamError}

@@ -1,10 +1,10 @@
-pub mod Begun
+pub mod TextBeginnings
 pub mod FedLines
 pub mod Parts
-pub mod Headed
-pub mod Unique
-pub mod Written
-pub mod Framed
-pub mod Served
-pub mod Each
+pub mod HeaderParts
+pub mod UniqueMessages
+pub mod WrittenMessages
+pub mod FramedTexts
+pub mod Conversations
+pub mod EachService
 pub mod Common

@@ -48,8 +48,8 @@ abbrev pub length_header : ℕ → List ℕ
 length_header n = codes "Content-Length: " ++ length_line n
 
 -- a text behind its header
-abbrev pub headed : List ℕ → List ℕ
-headed text = length_header (length text) ++ text
+abbrev pub with_header : List ℕ → List ℕ
+with_header text = length_header (length text) ++ text
 
 -- a wrong header is told only where none begins so
 abbrev pub IsHeadedFault : StreamError → List ℕ → Type 0
@@ -62,4 +62,4 @@ IsHeadedFault OutOfMemory part = Unit {0}
 
 -- how messages behind headers stand among bytes: the end ends none
 abbrev pub header_frames : Frames
-header_frames = record { IsFramed = IsHeaded; IsLast = λ _ _. ⊥; IsFault = IsHeadedFault; framed = headed }
+header_frames = record { IsFramed = IsHeaded; IsLast = λ _ _. ⊥; IsFault = IsHeadedFault; framed = with_header }

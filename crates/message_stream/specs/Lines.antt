@@ -24,12 +24,12 @@ HasNoFeed bytes = All (λ byte. byte ≢ 10) bytes
 -- ---- as messages
 
 -- a text with its line feed
-abbrev pub fed : List ℕ → List ℕ
-fed text = text ++ 10 ∷ []
+abbrev pub with_feed : List ℕ → List ℕ
+with_feed text = text ++ 10 ∷ []
 
 -- the bytes are a line with its line feed
 abbrev pub IsFedLine : List ℕ → List ℕ → Type 0
-IsFedLine bytes line = (bytes ≡ fed line) × HasNoFeed line
+IsFedLine bytes line = (bytes ≡ with_feed line) × HasNoFeed line
 
 -- they are a line that has none, and is not empty
 abbrev pub IsLastLine : List ℕ → List ℕ → Type 0
@@ -41,7 +41,7 @@ IsLineFault e part = (e ≡ Read) × HasNoFeed part
 
 -- how lines stand among bytes
 abbrev pub line_frames : Frames
-line_frames = record { IsFramed = IsFedLine; IsLast = IsLastLine; IsFault = IsLineFault; framed = fed }
+line_frames = record { IsFramed = IsFedLine; IsLast = IsLastLine; IsFault = IsLineFault; framed = with_feed }
 
 -- ---- answered by one line each
 

@@ -1,7 +1,7 @@
 //! What holds of messages, and of the errors: `==` decides whether two are one, and a copy is its source. The functions
 //! do nothing.
 ghost use Rattle.std.specs.Prelude.{◌≡◌, ◌<◌, ◌++◌, ◌*◌, ◌-◌, ◌^◌, ℕ, List, Option, Some, true, Decides, length, map};
-ghost use Rattle.message_stream.specs.Headers.{IsHeaded, headed};
+ghost use Rattle.message_stream.specs.Headers.{IsHeaded, with_header};
 ghost use Rattle.message_stream.specs.Lines.{line_frames, lines as lines_of};
 ghost use Rattle.message_stream.specs.Served.{Turn, IsServed, messages_of, took};
 
@@ -43,7 +43,7 @@ fn lines<S: Service, I>()
 fn headers()
     ensures one { (one other message said rest more : List ℕ) → IsHeaded one message
         → IsHeaded other said → one ++ rest ≡ other ++ more → (one ≡ other) × (message ≡ said) }
-    ensures written { (text : List ℕ) → length text < 2 ^ 64 → IsHeaded (headed text) text }
+    ensures written { (text : List ℕ) → length text < 2 ^ 64 → IsHeaded (with_header text) text }
 {}
 
 // A service that never has anything to tell at a rest never rests: its turns are its messages.

@@ -28,7 +28,7 @@ impl Message {
             return self;
         }
         match self {
-            Message::Whole(bytes) => lengthened(bytes, part),
+            Message::Whole(bytes) => with_part(bytes, part),
             Message::TooLong => Message::TooLong,
             Message::OutOfMemory => Message::OutOfMemory,
         }
@@ -36,7 +36,7 @@ impl Message {
 }
 
 // The message of these bytes and of a part that is not empty.
-fn lengthened(mut bytes: Vec<u8>, part: &[u8]) -> Message
+fn with_part(mut bytes: Vec<u8>, part: &[u8]) -> Message
     requires { 0 < length part.now }
     ensures { Grows (Message.Whole bytes) part.now result }
 {

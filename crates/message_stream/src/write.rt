@@ -1,8 +1,8 @@
 //! Writing messages.
 ghost use Rattle.std.specs.Prelude.{◌++◌, ◌∷◌, []};
 ghost use Rattle.message_stream.specs.Exchanged.{HasWritten};
-ghost use Rattle.message_stream.specs.Headers.{length_header, headed, length_line};
-ghost use Rattle.message_stream.specs.Lines.{fed};
+ghost use Rattle.message_stream.specs.Headers.{length_header, with_header, length_line};
+ghost use Rattle.message_stream.specs.Lines.{with_feed};
 
 use crate::error::StreamError;
 use itoa::Buffer;
@@ -43,7 +43,7 @@ fn write_both<W: Write>(output: &mut W, first: &[u8], second: &[u8]) -> Result<(
 
 // The text and a line feed, flushed, or after a failure a beginning of them.
 pub(crate) fn write_line<W: Write>(output: &mut W, text: &[u8]) -> Result<(), StreamError>
-    ensures { HasWritten result (W.contents output.old) (W.contents output.new) (fed text.now) }
+    ensures { HasWritten result (W.contents output.old) (W.contents output.new) (with_feed text.now) }
 {
     write_both(output, text, b"\n")?;
     if output.flush().is_err() {
@@ -70,7 +70,7 @@ fn write_header<W: Write>(output: &mut W, length: usize) -> Result<(), StreamErr
 
 // A text behind a header, flushed, or after a failure a beginning of them.
 pub(crate) fn write_headed<W: Write>(output: &mut W, text: &[u8]) -> Result<(), StreamError>
-    ensures { HasWritten result (W.contents output.old) (W.contents output.new) (headed text.now) }
+    ensures { HasWritten result (W.contents output.old) (W.contents output.new) (with_header text.now) }
 {
     write_header(output, text.len())?;
     write_whole(output, text)?;

@@ -9,7 +9,7 @@ use Rattle.module_tree.specs.declared.{data.ModuleChoice.ModuleChoice, data.Unre
 use Rattle.module_tree.specs.declared.data.ModuleOrigin.TheVariants.{File as file_origin, Inline as inline_origin}
 use Rattle.module_tree.specs.declared.{known.KnownPath.KnownPath, known.KnownPath.TheVariants.File, known.KnownPath.TheVariants.Missing}
 use Rattle.module_tree.specs.Laws.{GrowsTo, same_nothing, same_module, same_unresolved, now_nothing, now_module, now_unresolved, still_wanted, StaysKnown, FoundStays, EndsOnceKnown}
-use Rattle.module_tree.specs.Modules.{ModuleFiles, Dir, ModItem, CandidateFile, Resolution, wants, fails, finds, ModulePlace, Findings, nothing_found, found_module, unresolved_mod, wanted_paths, Enter, candidates, mod_item, unknown_path, unknown_paths, file_found, files_found, resolution_by, resolution_of, outlined, is_followed, inside_inline, inside_file, node_found, forest_found, entered, depth_limit, root_place, root_id, root_found, crate_found}
+use Rattle.module_tree.specs.Modules.{ModuleFiles, Dir, ModItem, CandidateFile, Resolution, wants, fails, finds, ModulePlace, Findings, nothing_found, found_module, unresolved_mod, wanted_paths, Enter, candidates, mod_item, unknown_path, unknown_paths, file_found, files_found, resolution_by, resolution_of, outline_module, is_followed, inside_inline, inside_file, node_found, forest_found, enter_files, depth_limit, root_place, root_id, root_found, crate_found}
 use Rattle.module_tree.proofs.Wanting.{all_wanted, wanted_are}
 
 none_left : {A : Type 0} (xs ys : List A) → xs ++ ys ≡ [] → xs ≡ []
@@ -78,29 +78,29 @@ module _ (choice : ModuleChoice) (less fuller : ModuleFiles) (root : ℕ) (stays
   Appears enter' = (path : List ℕ) (paths : List (List ℕ)) (p : ModulePlace) (m : ModItem) (file : ℕ) (dir : Dir) (f f' : Findings) → GrowsTo f f' → GrowsTo (wanted_paths (path ∷ paths) f) (enter' p m file dir f')
 
   module _ (enter enter' : Enter) (agree : Agree enter enter') (appears : Appears enter') (p : ModulePlace) (m : ModItem) (f f' : Findings) (g : GrowsTo f f') where
-    wanted_grows : (path : List ℕ) (paths : List (List ℕ)) (r : Resolution) → GrowsTo (wanted_paths (path ∷ paths) f) (outlined enter' p m r f')
+    wanted_grows : (path : List ℕ) (paths : List (List ℕ)) (r : Resolution) → GrowsTo (wanted_paths (path ∷ paths) f) (outline_module enter' p m r f')
     wanted_grows path paths (wants others) = still_wanted path paths others g
     wanted_grows path paths (fails reason) = now_unresolved path paths m reason _ g
     wanted_grows path paths (finds file dir) = appears path paths p m file dir f f' g
 
     one_grows : (one : ℕ × Dir) (is_around : Bool) → HasTree one
-        → GrowsTo (outlined enter p m (if is_around then fails Circle else finds one.0 one.1) f) (outlined enter' p m (if is_around then fails Circle else finds one.0 one.1) f')
+        → GrowsTo (outline_module enter p m (if is_around then fails Circle else finds one.0 one.1) f) (outline_module enter' p m (if is_around then fails Circle else finds one.0 one.1) f')
     one_grows one true e = same_unresolved m Circle _ g
     one_grows one false e = agree p m one.0 one.1 f f' e g
 
-    known_grows : (found : List (ℕ × Dir)) → All HasTree found → GrowsTo (outlined enter p m (resolution_by p.files [] found) f) (outlined enter' p m (resolution_by p.files [] found) f')
+    known_grows : (found : List (ℕ × Dir)) → All HasTree found → GrowsTo (outline_module enter p m (resolution_by p.files [] found) f) (outline_module enter' p m (resolution_by p.files [] found) f')
     known_grows [] all = same_unresolved m NoFile _ g
     known_grows (one ∷ []) all = one_grows one (list_any (λ file. file == one.0) p.files) (All-head HasTree one [] all)
     known_grows (one ∷ other ∷ found) all = same_unresolved m TwoFiles _ g
 
     outlined_grows : (cs : List CandidateFile) (unknown : List (List ℕ)) → unknown_paths less cs ≡ unknown
-        → GrowsTo (outlined enter p m (resolution_by p.files unknown (files_found less cs)) f) (outlined enter' p m (resolution_of fuller p.files cs) f')
+        → GrowsTo (outline_module enter p m (resolution_by p.files unknown (files_found less cs)) f) (outline_module enter' p m (resolution_of fuller p.files cs) f')
     outlined_grows cs (path ∷ paths) e = wanted_grows path paths (resolution_of fuller p.files cs)
     outlined_grows cs [] e =
         let same = same_paths cs e in
-        let before = outlined enter p m (resolution_by p.files [] (files_found less cs)) f in
-        subst (λ (u : List (List ℕ)). GrowsTo before (outlined enter' p m (resolution_by p.files u (files_found fuller cs)) f')) (sym same.0)
-        (subst (λ (found : List (ℕ × Dir)). GrowsTo before (outlined enter' p m (resolution_by p.files [] found) f')) (sym same.1) (known_grows (files_found less cs) (same_trees cs)))
+        let before = outline_module enter p m (resolution_by p.files [] (files_found less cs)) f in
+        subst (λ (u : List (List ℕ)). GrowsTo before (outline_module enter' p m (resolution_by p.files u (files_found fuller cs)) f')) (sym same.0)
+        (subst (λ (found : List (ℕ × Dir)). GrowsTo before (outline_module enter' p m (resolution_by p.files [] found) f')) (sym same.1) (known_grows (files_found less cs) (same_trees cs)))
 
   module _ (enter enter' : Enter) (agree : Agree enter enter') (appears : Appears enter') where
     mutual
@@ -123,25 +123,25 @@ module _ (choice : ModuleChoice) (less fuller : ModuleFiles) (root : ℕ) (stays
   if_appears true path paths m file inside f f' g = now_module path paths m.name (file_origin m.id) file inside g
   if_appears false path paths m file inside f f' g = now_nothing path paths g
 
-  entered_appears : (depth : ℕ) → Appears (entered choice fuller depth)
+  entered_appears : (depth : ℕ) → Appears (enter_files choice fuller depth)
   entered_appears zero path paths p m file dir f f' g = now_unresolved path paths m TooDeep _ g
   entered_appears (suc depth) path paths p m file dir f f' g = if_appears (is_followed choice (is_file_enabled (fuller.tree file))) path paths m file _ f f' g
 
-  entered_agrees : (depth : ℕ) → Agree (entered choice less depth) (entered choice fuller depth)
+  entered_agrees : (depth : ℕ) → Agree (enter_files choice less depth) (enter_files choice fuller depth)
   entered_agrees zero p m file dir f f' e g = same_unresolved m TooDeep _ g
   entered_agrees (suc depth) p m file dir f f' e g =
       let q = inside_file p file dir in
-      subst (λ (u : Unfolding). GrowsTo (entered choice less (suc depth) p m file dir f)
-      (if is_followed choice (is_file_enabled u) then found_module m.name (file_origin m.id) file (forest_found choice fuller (entered choice fuller depth) q u.forest) f' else f')) (sym e)
+      subst (λ (u : Unfolding). GrowsTo (enter_files choice less (suc depth) p m file dir f)
+      (if is_followed choice (is_file_enabled u) then found_module m.name (file_origin m.id) file (forest_found choice fuller (enter_files choice fuller depth) q u.forest) f' else f')) (sym e)
       (if_grows (is_followed choice (is_file_enabled (less.tree file))) _ _ f f'
-      (same_module m.name (file_origin m.id) file (forest_grows (entered choice less depth) (entered choice fuller depth) (entered_agrees depth) (entered_appears depth) q (less.tree file).forest) g) g)
+      (same_module m.name (file_origin m.id) file (forest_grows (enter_files choice less depth) (enter_files choice fuller depth) (entered_agrees depth) (entered_appears depth) q (less.tree file).forest) g) g)
 
   pub crate_grows : (path : List ℕ) → GrowsTo (crate_found choice less root path) (crate_found choice fuller root path)
   crate_grows path =
       let q = root_place root path in
-      subst (λ (u : Unfolding). GrowsTo (crate_found choice less root path) (if is_followed choice (is_file_enabled u) then forest_found choice fuller (entered choice fuller depth_limit) q u.forest else nothing_found)) (sym stays.root_tree)
+      subst (λ (u : Unfolding). GrowsTo (crate_found choice less root path) (if is_followed choice (is_file_enabled u) then forest_found choice fuller (enter_files choice fuller depth_limit) q u.forest else nothing_found)) (sym stays.root_tree)
       (if_grows (is_followed choice (is_file_enabled (less.tree root))) _ _ nothing_found nothing_found
-      (forest_grows (entered choice less depth_limit) (entered choice fuller depth_limit) (entered_agrees depth_limit) (entered_appears depth_limit) q (less.tree root).forest) same_nothing)
+      (forest_grows (enter_files choice less depth_limit) (enter_files choice fuller depth_limit) (entered_agrees depth_limit) (entered_appears depth_limit) q (less.tree root).forest) same_nothing)
 
 pub found_stays : FoundStays
 found_stays choice less fuller root path stays = crate_grows choice less fuller root stays path

@@ -1,4 +1,4 @@
-pub mod Above
+pub mod BorrowedNames
 pub mod Growing
 pub mod Limits
 pub mod ModItems

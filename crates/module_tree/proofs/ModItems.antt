@@ -14,7 +14,7 @@ use Rattle.tree_walk.specs.{Rows.hold_no_false, Rows.is_enabled, Rows.is_file_en
 use Rattle.module_tree.specs.declared.data.{ModuleChoice.ModuleChoice, ModuleId.ModuleId}
 use Rattle.module_tree.specs.declared.data.{ModuleChoice.TheVariants.Enabled, ModuleChoice.TheVariants.All, ModuleOrigin.TheVariants.File as file_origin, ModuleOrigin.TheVariants.Inline as inline_origin}
 use Rattle.module_tree.specs.Inner.{id_modules, mod_path_at}
-use Rattle.module_tree.specs.Modules.{ModuleFiles, Dir, ModItem, ModulePlace, Findings, nothing_found, found_module, unresolved_mod, wanted_paths, FoundModules, Enter, Resolution, wants, fails, finds, mod_item, path_attr, inside_inline, inside_file, outlined, resolution, is_followed, node_found, forest_found, entered, depth_limit, root_place, next_id, module_in, with_module, with_unresolved, with_wanted, with_found, root_id, root_found, crate_modules}
+use Rattle.module_tree.specs.Modules.{ModuleFiles, Dir, ModItem, ModulePlace, Findings, nothing_found, found_module, unresolved_mod, wanted_paths, FoundModules, Enter, Resolution, wants, fails, finds, mod_item, path_attr, inside_inline, inside_file, outline_module, resolution, is_followed, node_found, forest_found, enter_files, depth_limit, root_place, next_id, module_in, with_module, with_unresolved, with_wanted, with_found, root_id, root_found, crate_modules}
 
 -- a `mod` by its parts
 abbrev pub item_of : List ℕ → FileAstId → Option (List ℕ) → ModItem
@@ -67,13 +67,13 @@ module _ (choice : ModuleChoice) (files : ModuleFiles) where
   Splits enter = (id : ModuleId) (p : ModulePlace) (m : ModItem) (file : ℕ) (dir : Dir) (behind : Findings) (s : FoundModules)
       → with_found id (enter p m file dir behind) s ≡ with_found id behind (with_found id (enter p m file dir nothing_found) s)
 
-  pub entered_splits : (depth : ℕ) → Splits (entered choice files depth)
+  pub entered_splits : (depth : ℕ) → Splits (enter_files choice files depth)
   entered_splits zero id p m file dir behind s = refl
   entered_splits (suc depth) id p m file dir behind s = if_splits id (is_followed choice (is_file_enabled (files.tree file))) _ _ behind s refl
 
   module _ (enter : Enter) (splits : Splits enter) (id : ModuleId) where
     outlined_splits : (p : ModulePlace) (m : ModItem) (r : Resolution) (behind : Findings) (s : FoundModules)
-        → with_found id (outlined enter p m r behind) s ≡ with_found id behind (with_found id (outlined enter p m r nothing_found) s)
+        → with_found id (outline_module enter p m r behind) s ≡ with_found id behind (with_found id (outline_module enter p m r nothing_found) s)
     outlined_splits p m (wants paths) behind s = refl
     outlined_splits p m (fails reason) behind s = refl
     outlined_splits p m (finds file dir) behind s = splits id p m file dir behind s
@@ -145,7 +145,7 @@ same_trunk f extern_block = refl
 module _ (choice : ModuleChoice) (files : ModuleFiles) (enter : Enter) (splits : Splits choice files enter) (id : ModuleId) (p : ModulePlace) (s : FoundModules) where
   -- what a `mod` without items adds, by whether it is followed
   abbrev of_leaf : Bool → ModItem → FoundModules
-  of_leaf on m = with_found id (if is_followed choice on then outlined enter p m (resolution files p m) nothing_found else nothing_found) s
+  of_leaf on m = with_found id (if is_followed choice on then outline_module enter p m (resolution files p m) nothing_found else nothing_found) s
 
   -- and one with these items
   abbrev of_parent : Forest → Bool → ModItem → FoundModules
@@ -207,14 +207,14 @@ module _ (choice : ModuleChoice) (files : ModuleFiles) (enter : Enter) (splits :
           ∙ parent_adds is.items q (mod_path_at u i) refl
       disabled_adds Outline q e =
           let m = item_of name a (mod_path_at u i) in
-          ap (λ (b : Bool). with_found id (if b then outlined enter p m (resolution files p m) nothing_found else nothing_found) s) e ∙ leaf_adds q (mod_path_at u i) refl
+          ap (λ (b : Bool). with_found id (if b then outline_module enter p m (resolution files p m) nothing_found else nothing_found) s) e ∙ leaf_adds q (mod_path_at u i) refl
 
       -- one that is adds what it means, or itself and what its items add
       pub outline_adds : IsModule u i a name v Outline → (path : Option (List ℕ)) → true ≡ is_followed choice (enabled_at u i) → path ≡ mod_path_at u i
-          → Adds (let m = item_of name a path in with_found id (outlined enter p m (resolution files p m) nothing_found) s)
+          → Adds (let m = item_of name a path in with_found id (outline_module enter p m (resolution files p m) nothing_found) s)
       outline_adds q path e f =
           let m = item_of name a path in
-          ap (λ (b : Bool). with_found id (if b then outlined enter p m (resolution files p m) nothing_found else nothing_found) s) e ∙ leaf_adds q path f
+          ap (λ (b : Bool). with_found id (if b then outline_module enter p m (resolution files p m) nothing_found else nothing_found) s) e ∙ leaf_adds q path f
 
       pub inline_grows : (is : List ℕ) → IsParent u i a (inline name v) is → (path : Option (List ℕ)) → true ≡ is_followed choice (enabled_at u i) → path ≡ mod_path_at u i
           → length (with_module (module_in id name (inline_origin a) p.file) s).modules ≤ length (id_modules choice files enter id p u s i).modules
@@ -245,17 +245,17 @@ followed Enabled = refl
 followed All = refl
 
 -- a file's items are walked with one level less
-entered_less : (choice : ModuleChoice) (files : ModuleFiles) (depth : ℕ) (p : ModulePlace) (m : ModItem) (file : ℕ) (dir : Dir) → depth ≢ 0 → entered choice files depth p m file dir nothing_found
-    ≡ (if is_followed choice (is_file_enabled (files.tree file)) then found_module m.name (file_origin m.id) file (forest_found choice files (entered choice files (depth - 1)) (inside_file p file dir) (files.tree file).forest) nothing_found else nothing_found)
+entered_less : (choice : ModuleChoice) (files : ModuleFiles) (depth : ℕ) (p : ModulePlace) (m : ModItem) (file : ℕ) (dir : Dir) → depth ≢ 0 → enter_files choice files depth p m file dir nothing_found
+    ≡ (if is_followed choice (is_file_enabled (files.tree file)) then found_module m.name (file_origin m.id) file (forest_found choice files (enter_files choice files (depth - 1)) (inside_file p file dir) (files.tree file).forest) nothing_found else nothing_found)
 entered_less choice files zero p m file dir e = absurd (e refl)
 entered_less choice files (suc depth) p m file dir e = let less : suc depth - 1 ≡ depth = omega arith in rw less refl
 
 module _ (choice : ModuleChoice) (files : ModuleFiles) (depth : ℕ) (id : ModuleId) (p : ModulePlace) (m : ModItem) (file : ℕ) (dir : Dir) (s : FoundModules) (some : depth ≢ 0) where
   abbrev pub Enters : FoundModules → Type 0
-  Enters t = t ≡ with_found id (entered choice files depth p m file dir nothing_found) s
+  Enters t = t ≡ with_found id (enter_files choice files depth p m file dir nothing_found) s
 
   abbrev of_tree : Unfolding → Bool → FoundModules
-  of_tree u on = with_found id (if on then found_module m.name (file_origin m.id) file (forest_found choice files (entered choice files (depth - 1)) (inside_file p file dir) u.forest) nothing_found else nothing_found) s
+  of_tree u on = with_found id (if on then found_module m.name (file_origin m.id) file (forest_found choice files (enter_files choice files (depth - 1)) (inside_file p file dir) u.forest) nothing_found else nothing_found) s
 
   tree_enters : (u : Unfolding) (on : Bool) → u ≡ files.tree file → on ≡ is_followed choice (is_file_enabled u) → Enters (of_tree u on)
   tree_enters u on e f =
@@ -272,16 +272,16 @@ module _ (choice : ModuleChoice) (files : ModuleFiles) (depth : ℕ) (id : Modul
 
   -- and else its items are walked
   pub file_grows : (u : Unfolding) → u ≡ files.tree file → true ≡ is_followed choice (is_file_enabled u)
-      → length (with_module (module_in id m.name (file_origin m.id) file) s).modules ≤ length (with_found id (entered choice files depth p m file dir nothing_found) s).modules
+      → length (with_module (module_in id m.name (file_origin m.id) file) s).modules ≤ length (with_found id (enter_files choice files depth p m file dir nothing_found) s).modules
   file_grows u e f =
       let with_it = with_module (module_in id m.name (file_origin m.id) file) s in
-      subst (λ (all : FoundModules). length with_it.modules ≤ length all.modules) (tree_enters u true e f) (grows (next_id s) (forest_found choice files (entered choice files (depth - 1)) (inside_file p file dir) u.forest) with_it)
+      subst (λ (all : FoundModules). length with_it.modules ≤ length all.modules) (tree_enters u true e f) (grows (next_id s) (forest_found choice files (enter_files choice files (depth - 1)) (inside_file p file dir) u.forest) with_it)
 
   pub items_enter : (u : Unfolding) → u ≡ files.tree file → true ≡ is_followed choice (is_file_enabled u) → (is : List ℕ) → StandFor u is u.forest → (j : ModuleId) → j ≡ next_id s
       → (q : ModulePlace) → q ≡ inside_file p file dir → (t : FoundModules) → t ≡ with_module (module_in id m.name (file_origin m.id) file) s
-      → Enters (fold (id_modules choice files (entered choice files (depth - 1)) j q u) t is)
+      → Enters (fold (id_modules choice files (enter_files choice files (depth - 1)) j q u) t is)
   items_enter u e f is g j d q h t k =
-      let less = entered choice files (depth - 1) in
+      let less = enter_files choice files (depth - 1) in
       let inside = inside_file p file dir in
       let with_it = with_module (module_in id m.name (file_origin m.id) file) s in
       ap (λ w. fold (id_modules choice files less w q u) t is) d ∙ ap (λ w. fold (id_modules choice files less (next_id s) w u) t is) h ∙ ap (λ w. fold (id_modules choice files less (next_id s) inside u) w is) k
@@ -297,9 +297,9 @@ module _ (choice : ModuleChoice) (files : ModuleFiles) (root : ℕ) (path : List
   IsCrate t = t ≡ crate_modules choice files root path
 
   tree_in_root : (u : Unfolding) (on : Bool) → u ≡ files.tree root → on ≡ is_followed choice (is_file_enabled u)
-      → IsCrate (with_found root_id (if on then forest_found choice files (entered choice files depth_limit) (root_place root path) u.forest else nothing_found) (root_found root))
+      → IsCrate (with_found root_id (if on then forest_found choice files (enter_files choice files depth_limit) (root_place root path) u.forest else nothing_found) (root_found root))
   tree_in_root u on e f =
-      let inside = forest_found choice files (entered choice files depth_limit) (root_place root path) in
+      let inside = forest_found choice files (enter_files choice files depth_limit) (root_place root path) in
       ap (λ (b : Bool). with_found root_id (if b then inside u.forest else nothing_found) (root_found root)) (f ∙ ap (λ (w : Unfolding). is_followed choice (is_file_enabled w)) e)
       ∙ ap (λ (w : Unfolding). with_found root_id (if is_followed choice (is_file_enabled (files.tree root)) then inside w.forest else nothing_found) (root_found root)) e
 
@@ -310,9 +310,9 @@ module _ (choice : ModuleChoice) (files : ModuleFiles) (root : ℕ) (path : List
   disabled_root u e f = tree_in_root u false e f
 
   pub items_in_root : (u : Unfolding) → u ≡ files.tree root → true ≡ is_followed choice (is_file_enabled u) → (is : List ℕ) → StandFor u is u.forest → (j : ModuleId) → j ≡ root_id
-      → (q : ModulePlace) → q ≡ root_place root path → (t : FoundModules) → t ≡ root_found root → IsCrate (fold (id_modules choice files (entered choice files depth_limit) j q u) t is)
+      → (q : ModulePlace) → q ≡ root_place root path → (t : FoundModules) → t ≡ root_found root → IsCrate (fold (id_modules choice files (enter_files choice files depth_limit) j q u) t is)
   items_in_root u e f is g j d q h t k =
-      let enter = entered choice files depth_limit in
+      let enter = enter_files choice files depth_limit in
       let inside = root_place root path in
       ap (λ w. fold (id_modules choice files enter w q u) t is) d ∙ ap (λ w. fold (id_modules choice files enter root_id w u) t is) h ∙ ap (λ w. fold (id_modules choice files enter root_id inside u) w is) k
       ∙ fold_stands choice files enter (entered_splits choice files depth_limit) root_id inside u is u.forest (root_found root) g

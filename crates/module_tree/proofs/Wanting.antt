@@ -7,7 +7,7 @@ use Rattle.item_tree.specs.Node.{outline, inline, extern_block, Node, leaf, pare
 use Rattle.tree_walk.specs.Rows.{hold_no_false, is_file_enabled}
 use Rattle.module_tree.specs.declared.{data.ModuleChoice.ModuleChoice, data.ModuleId.ModuleId, data.UnresolvedReason.TheVariants.Circle, known.KnownPath.KnownPath}
 use Rattle.module_tree.specs.Laws.{WantsUnknown}
-use Rattle.module_tree.specs.Modules.{ModuleFiles, Dir, ModItem, CandidateFile, fails, finds, ModulePlace, Findings, nothing_found, found_module, unresolved_mod, wanted_paths, FoundModules, Enter, candidates, mod_item, unknown_path, unknown_paths, files_found, resolution_by, outlined, is_followed, inside_inline, inside_file, next_id, module_in, with_module, with_unresolved, with_wanted, with_found, node_found, forest_found, entered, depth_limit, root_place, root_id, root_found, crate_found}
+use Rattle.module_tree.specs.Modules.{ModuleFiles, Dir, ModItem, CandidateFile, fails, finds, ModulePlace, Findings, nothing_found, found_module, unresolved_mod, wanted_paths, FoundModules, Enter, candidates, mod_item, unknown_path, unknown_paths, files_found, resolution_by, outline_module, is_followed, inside_inline, inside_file, next_id, module_in, with_module, with_unresolved, with_wanted, with_found, node_found, forest_found, enter_files, depth_limit, root_place, root_id, root_found, crate_found}
 
 -- all paths that are wanted, in order
 abbrev pub all_wanted : Findings → List (List ℕ)
@@ -51,11 +51,11 @@ module _ (choice : ModuleChoice) (files : ModuleFiles) where
       (All-append Unknown (unknown_path (files.known c.path) c.path) (unknown_paths files cs) (one_unknown c.path (files.known c.path) refl) (all_unknown cs))
 
   module _ (enter : Enter) (keeps : Keeps enter) where
-    one_keeps : (p : ModulePlace) (m : ModItem) (one : ℕ × Dir) (is_around : Bool) (behind : Findings) → Wants behind → Wants (outlined enter p m (if is_around then fails Circle else finds one.0 one.1) behind)
+    one_keeps : (p : ModulePlace) (m : ModItem) (one : ℕ × Dir) (is_around : Bool) (behind : Findings) → Wants behind → Wants (outline_module enter p m (if is_around then fails Circle else finds one.0 one.1) behind)
     one_keeps p m one true behind w = w
     one_keeps p m one false behind w = keeps p m one.0 one.1 behind w
 
-    outlined_keeps : (p : ModulePlace) (m : ModItem) (unknown : List (List ℕ)) (found : List (ℕ × Dir)) (behind : Findings) → All Unknown unknown → Wants behind → Wants (outlined enter p m (resolution_by p.files unknown found) behind)
+    outlined_keeps : (p : ModulePlace) (m : ModItem) (unknown : List (List ℕ)) (found : List (ℕ × Dir)) (behind : Findings) → All Unknown unknown → Wants behind → Wants (outline_module enter p m (resolution_by p.files unknown found) behind)
     outlined_keeps p m (path ∷ paths) found behind u w = All-append Unknown (path ∷ paths) (all_wanted behind) u w
     outlined_keeps p m [] [] behind u w = w
     outlined_keeps p m [] (one ∷ []) behind u w = one_keeps p m one (list_any (λ file. file == one.0) p.files) behind w
@@ -77,17 +77,17 @@ module _ (choice : ModuleChoice) (files : ModuleFiles) where
       forest_keeps p empty = All-nil Unknown
       forest_keeps p (more n f) = node_keeps p n (forest_found choice files enter p f) (forest_keeps p f)
 
-  entered_keeps : (depth : ℕ) → Keeps (entered choice files depth)
+  entered_keeps : (depth : ℕ) → Keeps (enter_files choice files depth)
   entered_keeps zero p m file dir behind w = w
   entered_keeps (suc depth) p m file dir behind w =
-      let inside = forest_found choice files (entered choice files depth) (inside_file p file dir) (files.tree file).forest in
+      let inside = forest_found choice files (enter_files choice files depth) (inside_file p file dir) (files.tree file).forest in
       if_keeps (is_followed choice (is_file_enabled (files.tree file))) _ behind
-      (All-append Unknown (all_wanted inside) (all_wanted behind) (forest_keeps (entered choice files depth) (entered_keeps depth) (inside_file p file dir) (files.tree file).forest) w) w
+      (All-append Unknown (all_wanted inside) (all_wanted behind) (forest_keeps (enter_files choice files depth) (entered_keeps depth) (inside_file p file dir) (files.tree file).forest) w) w
 
   crate_keeps : (root : ℕ) (path : List ℕ) → Wants (crate_found choice files root path)
   crate_keeps root path =
       if_keeps (is_followed choice (is_file_enabled (files.tree root))) _ nothing_found
-      (forest_keeps (entered choice files depth_limit) (entered_keeps depth_limit) (root_place root path) (files.tree root).forest) (All-nil Unknown)
+      (forest_keeps (enter_files choice files depth_limit) (entered_keeps depth_limit) (root_place root path) (files.tree root).forest) (All-nil Unknown)
 
 pub wants_unknown : WantsUnknown
 wants_unknown choice files root path =

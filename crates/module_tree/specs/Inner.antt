@@ -10,7 +10,7 @@ use Rattle.module_tree.specs.declared.place as place_code
 use Rattle.module_tree.specs.declared.walk as walk_code
 use Rattle.module_tree.specs.declared.resolve.Resolved as resolved_code
 use Rattle.module_tree.specs.declared.resolve.Resolved.TheVariants.{Wants, Fails, Finds}
-use Rattle.module_tree.specs.Modules.{ModuleFiles, Dir, ModItem, CandidateFile, ModulePlace, Enter, nothing_found, FoundModules, Resolution, wants, fails, finds, entered, node_found, path_attr, module_in, with_found, most_modules}
+use Rattle.module_tree.specs.Modules.{ModuleFiles, Dir, ModItem, CandidateFile, ModulePlace, Enter, nothing_found, FoundModules, Resolution, wants, fails, finds, enter_files, node_found, path_attr, module_in, with_found, most_modules}
 use Rattle.module_tree.specs.Views.{files_of}
 
 -- borrowed texts
@@ -55,7 +55,7 @@ id_modules choice files enter id p u s i = of_id u s (λ n. with_found id (node_
 
 -- what is found of a file where files may stand so deep in it
 abbrev pub entered_in : walk_code.Ctx.Ctx → ℕ → Enter
-entered_in ctx depth = entered ctx.choice (files_of ctx.known) depth
+entered_in ctx depth = enter_files ctx.choice (files_of ctx.known) depth
 
 abbrev pub id_modules_in : walk_code.Ctx.Ctx → ℕ → place_code.Place.Place → Unfolding → FoundModules → ℕ → FoundModules
 id_modules_in ctx depth p u = id_modules ctx.choice (files_of ctx.known) (entered_in ctx depth) p.module_id (place_view p) u

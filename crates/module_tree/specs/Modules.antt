@@ -144,10 +144,10 @@ resolution files p m = resolution_of files p.files (candidates p.dir m)
 abbrev pub Enter : Type 0
 Enter = ModulePlace → ModItem → ℕ → Dir → Findings → Findings
 
-abbrev pub outlined : Enter → ModulePlace → ModItem → Resolution → Findings → Findings
-outlined enter p m (wants paths) behind = wanted_paths paths behind
-outlined enter p m (fails reason) behind = no_module p m reason behind
-outlined enter p m (finds file dir) behind = enter p m file dir behind
+abbrev pub outline_module : Enter → ModulePlace → ModItem → Resolution → Findings → Findings
+outline_module enter p m (wants paths) behind = wanted_paths paths behind
+outline_module enter p m (fails reason) behind = no_module p m reason behind
+outline_module enter p m (finds file dir) behind = enter p m file dir behind
 
 -- whether an item, or a file, is followed, by whether no cfg disables it
 abbrev pub is_followed : ModuleChoice → Bool → Bool
@@ -168,7 +168,7 @@ module _ (choice : ModuleChoice) (files : ModuleFiles) where
     pub node_found : Enter → ModulePlace → Node → Findings → Findings
     node_found enter p (leaf h (outline name v)) behind =
         let m = mod_item (leaf h (outline name v)) name h in
-        if is_followed choice (hold_no_false h.attrs) then outlined enter p m (resolution files p m) behind else behind
+        if is_followed choice (hold_no_false h.attrs) then outline_module enter p m (resolution files p m) behind else behind
     node_found enter p (parent h (inline name v) f) behind =
         let m = mod_item (parent h (inline name v) f) name h in
         if is_followed choice (hold_no_false h.attrs) then found_module name (inline_origin m.id) p.file (forest_found enter (inside_inline p m) f) behind else behind
@@ -179,17 +179,17 @@ module _ (choice : ModuleChoice) (files : ModuleFiles) where
     forest_found enter p (more n f) = node_found enter p n (forest_found enter p f)
 
   -- a file is a module with all in it, if it is followed; so many files may stand in one another
-  abbrev pub entered : ℕ → Enter
-  entered zero p m file dir behind = no_module p m TooDeep behind
-  entered (suc depth) p m file dir behind =
+  abbrev pub enter_files : ℕ → Enter
+  enter_files zero p m file dir behind = no_module p m TooDeep behind
+  enter_files (suc depth) p m file dir behind =
       if is_followed choice (is_file_enabled (files.tree file))
-      then found_module m.name (file_origin m.id) file (forest_found (entered depth) (inside_file p file dir) (files.tree file).forest) behind
+      then found_module m.name (file_origin m.id) file (forest_found (enter_files depth) (inside_file p file dir) (files.tree file).forest) behind
       else behind
 
   -- what is found in a crate, by the number and the path of its root file
   abbrev pub crate_found : ℕ → List ℕ → Findings
   crate_found root path =
-      if is_followed choice (is_file_enabled (files.tree root)) then forest_found (entered depth_limit) (root_place root path) (files.tree root).forest else nothing_found
+      if is_followed choice (is_file_enabled (files.tree root)) then forest_found (enter_files depth_limit) (root_place root path) (files.tree root).forest else nothing_found
 
 -- ---- the same as lists
 

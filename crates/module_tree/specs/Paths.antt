@@ -14,8 +14,8 @@ above_by None names = names ++ codes ".." ∷ []
 above_by (Some name) names = if length name == 0 then names else if bytes_eq name (codes "..") then names ++ codes ".." ∷ [] else all_but_last names
 
 -- and what a word between slashes does
-abbrev pub stepped : List (List ℕ) → List ℕ → List (List ℕ)
-stepped names word =
+abbrev pub stepped_words : List (List ℕ) → List ℕ → List (List ℕ)
+stepped_words names word =
     if length word == 0 then names
     else if bytes_eq word (codes ".") then names
     else if bytes_eq word (codes "..") then above_by (final_name names) names
@@ -31,7 +31,7 @@ path_base folder path = if is_absolute path then [] ∷ [] else folder
 
 -- and where it leads
 abbrev pub names_from : List (List ℕ) → List ℕ → List (List ℕ)
-names_from folder path = fold stepped (path_base folder path) (slice_split (λ b. b == 47) path)
+names_from folder path = fold stepped_words (path_base folder path) (slice_split (λ b. b == 47) path)
 
 -- a folder as text, in front of what stands in it
 abbrev pub folder_text : List (List ℕ) → List ℕ

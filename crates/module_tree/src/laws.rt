@@ -10,7 +10,7 @@ use crate::data::{
 use crate::known::KnownPath;
 
 // Nothing is known of a path that is wanted.
-fn wanted()
+fn wanted_is_unknown()
     ensures { WantsUnknown }
 {}
 

@@ -107,7 +107,7 @@ fn mod_rs<'a>(alloc: Global, dir: &ModDir<'a>, name: &'a Name) -> Result<Candida
     Ok(Candidate { path, dir })
 }
 
-#[tactic(auto, using(crate::proofs::Above::last_is))]
+#[tactic(auto, using(crate::proofs::BorrowedNames::last_is))]
 fn last_name<'a>(names: &[&'a str]) -> &'a str
     ensures { result.now ≡ unwrap_or (final_name (texts names.now)) [] }
 {

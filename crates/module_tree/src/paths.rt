@@ -27,7 +27,7 @@ fn go_above<'a>(names: &mut Vec<&'a str>) -> Result<(), AllocError>
 
 /// Goes where a word between slashes leads.
 fn go<'a>(names: &mut Vec<&'a str>, word: &'a str) -> Result<(), AllocError>
-    ensures { OnOk result (texts names.new.items ≡ spec.stepped (texts names.old.items) word.now) }
+    ensures { OnOk result (texts names.new.items ≡ spec.stepped_words (texts names.old.items) word.now) }
 {
     if word.is_empty() || word == "." {
         return Ok(());

@@ -131,7 +131,7 @@ fn push_mod<'a>(
     ensures { let p = place_view place.now in
         let m = mod_item_view item.now in
         let meant = spec.resolution (files_of ctx.now.known) p m in
-        let f = spec.outlined (entered_in ctx.now depth) p m meant nothing_found in
+        let f = spec.outline_module (entered_in ctx.now depth) p m meant nothing_found in
         AddsAll (modules_view found.new) (with_found place.now.module_id f (modules_view found.old)) result }
 {
     let candidates = candidates(ctx.alloc, &place.dir, item)?;

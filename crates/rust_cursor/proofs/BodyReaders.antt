@@ -1,10 +1,10 @@
 -- Readers that may go into the braces: they see tokens beside alike until one does.
 use Rattle.std.proofs.Common.{◌≡◌, ◌≤◌, ℕ, suc, ◌+◌, length, false, Option, List, [], ◌∷◌, ◌++◌, subst, arith, map}
-use Rattle.rust_cursor.proofs.Common.{Piece, moved, Tokens, end_of, Reader, by_first, rest, bumped, Bodies, AreBehind, AreOpen, Beside, ahead, behind}
-use Rattle.rust_cursor.proofs.Leads.{LeadsTo, here, further}
+use Rattle.rust_cursor.proofs.Common.{Piece, moved_piece, Tokens, end_of, Reader, by_first, rest, bumped, Bodies, AreBehind, AreOpen, Beside, ahead, behind}
+use Rattle.rust_cursor.proofs.TokenRests.{LeadsTo, here, further}
 use Rattle.rust_cursor.proofs.Views.{next_ahead, next_behind, next_none}
-use Rattle.rust_cursor.proofs.Braced.{tokens_at}
-use Rattle.rust_cursor.proofs.Local.{Kept}
+use Rattle.rust_cursor.proofs.BraceWalks.{tokens_at}
+use Rattle.rust_cursor.proofs.LocalReaders.{Kept}
 
 -- ---- what stands behind a place
 
@@ -18,13 +18,13 @@ unfolding bumped
 over_leads low here h = h
 over_leads {ts} low (further p) h = over_leads low p (bumped_over low ts.past ts.left h)
 
-pub over_moved : (low low' past d : ℕ) (r : List Piece) → low' ≤ low + d → AreBehind low past r → AreBehind low' (past + d) (map (moved d) r)
+pub over_moved : (low low' past d : ℕ) (r : List Piece) → low' ≤ low + d → AreBehind low past r → AreBehind low' (past + d) (map (moved_piece d) r)
 over_moved low low' past d [] e h = omega arith
 over_moved low low' past d (t ∷ r) e h =
     let first : low ≤ past = h.0.0 in
     let begins : low ≤ t.at = h.0.1 in
     let end : t.at + length t.text + d ≡ t.at + d + length t.text = omega arith in
-    ((omega arith, omega arith), subst (λ (n : ℕ). AreBehind low' n (map (moved d) r)) end (over_moved low low' (end_of t) d r e h.1))
+    ((omega arith, omega arith), subst (λ (n : ℕ). AreBehind low' n (map (moved_piece d) r)) end (over_moved low low' (end_of t) d r e h.1))
 
 over_both : (low past : ℕ) (xs : List Piece) (t : Piece) (ys : List Piece) → AreBehind low past xs → low ≤ t.at → AreBehind low (end_of t) ys → AreBehind low past (xs ++ t ∷ ys)
 over_both low past [] t ys h e k = ((h, e), k)
@@ -53,7 +53,7 @@ pub data Onward (b : Bodies) (ts us : Tokens) : Type 0 where
   on : Beside b ts us → Onward b ts us
 
 -- behind the `{`
-pub behind_opening : (b : Bodies) (past : ℕ) (r : List Piece) (u : Option ℕ) → AreOpen b r → Gone b (bumped (tokens_at b.edition past (b.opening ∷ (b.old ++ moved b.by b.closing ∷ map (moved b.by) r)) u))
+pub behind_opening : (b : Bodies) (past : ℕ) (r : List Piece) (u : Option ℕ) → AreOpen b r → Gone b (bumped (tokens_at b.edition past (b.opening ∷ (b.old ++ moved_piece b.by b.closing ∷ map (moved_piece b.by) r)) u))
 unfolding bumped
 behind_opening b past r u j =
     let low = suc b.opening.at in
@@ -62,7 +62,7 @@ behind_opening b past r u j =
     let behind = over_moved (end_of b.closing) low (end_of b.closing) b.by r (omega arith) j.behind in
     record {
       unpassed = j.unpassed;
-      over = over_both low (end_of b.opening) b.old (moved b.by b.closing) (map (moved b.by) r) b.old_behind (omega arith) (subst (λ (n : ℕ). AreBehind low n (map (moved b.by) r)) end behind);
+      over = over_both low (end_of b.opening) b.old (moved_piece b.by b.closing) (map (moved_piece b.by) r) b.old_behind (omega arith) (subst (λ (n : ℕ). AreBehind low n (map (moved_piece b.by) r)) end behind);
     }
 
 -- one token further, which may be the `{`

@@ -2,10 +2,10 @@
 use Rattle.std.proofs.Common.{◌≡◌, ◌≢◌, ◌≤◌, ◌<◌, ℕ, suc, ◌==◌, ◌&&◌, Bool, true, false, Option, List, [], ◌∷◌, refl, ap, ◌∙◌, sym, subst, arith, if◌then◌else◌, not}
 use Rattle.rust_cursor.proofs.Common.{eqb-true, nat_tests, EditionYear, Piece, Nest, Tokens, opens, closes, symbol, is_empty, bumped, opens_other, closes_other, braces_behind, others_behind, nest_behind, behind_closing, is_closing, closing, more}
 use Rattle.rust_cursor.specs.declared.cursor.nest.Before.TheVariants as befores
-use Rattle.rust_cursor.proofs.Leads.{closing_leads, LeadsTo, here, further, when, from_last, closing_empty}
+use Rattle.rust_cursor.proofs.TokenRests.{closing_leads, LeadsTo, here, further, when, from_last, closing_empty}
 use Rattle.rust_cursor.proofs.Steps.{closing_stop, closing_more}
-use Rattle.rust_cursor.proofs.Laid.{IsLaid, behind, taken_behind, at_behind}
-use Rattle.rust_cursor.proofs.Braced.{inside_is, outside_is}
+use Rattle.rust_cursor.proofs.TokenPlaces.{IsLaid, behind, taken_behind, at_behind}
+use Rattle.rust_cursor.proofs.BraceWalks.{inside_is, outside_is}
 use Rattle.rust_cursor.proofs.Passing.{braces_of}
 
 -- in so many braces, and in so many other brackets around them

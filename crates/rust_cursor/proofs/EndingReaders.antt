@@ -1,13 +1,13 @@
 -- Readers of a text that ends with a `;` or a `}`, and of a longer one: they read alike, until the one of the longer text passes the end.
 use Rattle.std.proofs.Common.{◌≡◌, ◌<◌, ◌+◌, ℕ, ◌==◌, ◌||◌, Bool, true, false, [], ◌∷◌, ◌++◌, Option, length, refl, ap, arith, map, not}
-use Rattle.rust_cursor.proofs.Common.{EditionYear, moved, Piece, symbol_of, Reader, Tokens, by_first, symbol, bumped, eat}
-use Rattle.rust_cursor.proofs.Leads.{Forwards, when, symbol_some}
+use Rattle.rust_cursor.proofs.Common.{EditionYear, moved_piece, Piece, symbol_of, Reader, Tokens, by_first, symbol, bumped, eat}
+use Rattle.rust_cursor.proofs.TokenRests.{Forwards, when, symbol_some}
 use Rattle.rust_cursor.proofs.EndingTokens.{Ending, Near, near, still_near, next_near, level_ended, Gone, gone_on, near_twins}
 use Rattle.rust_cursor.proofs.Nesting.{shorter}
 use Rattle.rust_cursor.proofs.EndingWalks.{near_parting}
-use Rattle.rust_cursor.proofs.Parting.{Same, gone, kept}
-use Rattle.rust_cursor.proofs.Parting as parting
-use Rattle.rust_cursor.proofs.Twins.{symbol_test}
+use Rattle.rust_cursor.proofs.PartingReaders.{Same, gone, kept}
+use Rattle.rust_cursor.proofs.PartingReaders as parting
+use Rattle.rust_cursor.proofs.TwinTokens.{symbol_test}
 
 abbrev pub Kept : {A : Type 0} → (A → A → Type 0) → Ending → A × Tokens → A × Tokens → Type 0
 Kept alike b = parting.Kept alike (Near b)
@@ -69,7 +69,7 @@ pub data Step (b : Ending) (ts us : Tokens) : Type 0 where
   next : Near b (bumped ts) (bumped us) → Step b ts us
 
 last_ends : (b : Ending) (past : ℕ) (t : Piece) (u : Option ℕ) (y : EditionYear) → b.level ≡ false
-    → AtEnd b (bumped (record { past = past + b.by; left = map (moved b.by) (t ∷ []) ++ b.behind; unended = b.unended; edition = y })) (bumped (record { past = past; left = t ∷ []; unended = u; edition = y }))
+    → AtEnd b (bumped (record { past = past + b.by; left = map (moved_piece b.by) (t ∷ []) ++ b.behind; unended = b.unended; edition = y })) (bumped (record { past = past; left = t ∷ []; unended = u; edition = y }))
 unfolding bumped
 last_ends b past t u y l = record { behind = refl; none = refl; past = omega arith; uneven = l }
 

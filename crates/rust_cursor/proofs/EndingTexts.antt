@@ -1,15 +1,15 @@
 -- The text of what is left of an item is the same in a text that ends with it, and in a longer one where it ends there too.
 use Rattle.std.proofs.Common.{◌≡◌, ◌<◌, ℕ, ◌+◌, ◌-◌, ◌==◌, ◌||◌, ◌&&◌, Bool, true, false, Option, Some, None, List, [], ◌∷◌, ◌++◌, length, refl, ap, ◌∙◌, sym, arith, map, not, if◌then◌else◌}
-use Rattle.rust_cursor.proofs.Common.{not-true, EditionYear, moved, Piece, Before, Nest, Extent, ExcerptRead, stops, ends, goes_on, opened_behind, block_at, more, taking, taken, tree_text, is_flat, is_mark, nest_behind, Tokens, symbol, at, is_empty, bumped}
-use Rattle.rust_cursor.proofs.Leads.{when, from_last, stops_empty, taking_leads}
+use Rattle.rust_cursor.proofs.Common.{not-true, EditionYear, moved_piece, Piece, Before, Nest, Extent, ExcerptRead, stops, ends, goes_on, opened_behind, block_at, more, taking, excerpt_behind, tree_text, is_flat, is_mark, nest_behind, Tokens, symbol, at, is_empty, bumped}
+use Rattle.rust_cursor.proofs.TokenRests.{when, from_last, stops_empty, taking_leads}
 use Rattle.rust_cursor.proofs.Nesting.{shorter}
 use Rattle.rust_cursor.proofs.Scans.{taking_stop, taking_end, taking_more, taking_some}
 use Rattle.rust_cursor.proofs.EndingTokens.{Ending, Near, near, fewer, nothing, past_same, still_near, at_same, bumped_onward, near_twins}
 use Rattle.rust_cursor.proofs.EndingWalks.{near_parting}
 use Rattle.rust_cursor.proofs.EndingReaders.{UntilBy, UpTo, AtEnd, is_still, Step, at_last, next, step, Outcome, lost, stays, comes, outcome_until}
-use Rattle.rust_cursor.proofs.Parting.{gone, kept, on, Entering, Levels}
+use Rattle.rust_cursor.proofs.PartingReaders.{gone, kept, on, Entering, Levels}
 use Rattle.rust_cursor.proofs.Tests.{nest_same, stops_same, ends_same, more_same}
-use Rattle.rust_cursor.proofs.Twins.{symbol_same}
+use Rattle.rust_cursor.proofs.TwinTokens.{symbol_same}
 
 -- braces that were opened in both
 pub data BlockNear (b : Ending) : Option Tokens → Option Tokens → Type 0 where
@@ -164,16 +164,16 @@ text_near b e so us =
     (λ s. text_next b e so us rest ts done last o o' n h k s (step b ts us h)))
     us
 
-pub taken_outcome : (b : Ending) (before : Before) (e : _) → EndsSo b (ends e) → (ts us : Tokens) → Near b ts us → Outcome (SameText b) (λ r. r.is_ended) b (taken before e ts) (taken before e us)
-unfolding taken
+pub taken_outcome : (b : Ending) (before : Before) (e : _) → EndsSo b (ends e) → (ts us : Tokens) → Near b ts us → Outcome (SameText b) (λ r. r.is_ended) b (excerpt_behind before e ts) (excerpt_behind before e us)
+unfolding excerpt_behind
 taken_outcome b before e so ts us h = text_near b e so us ts [] 0 None None _ h no_block
 
 -- what is ended takes a token
-pub taken_fewer : (before : Before) (e : _) (ts : Tokens) → (taken before e ts).0.is_ended ≡ true → length (taken before e ts).1.left < length ts.left
-unfolding taken
+pub taken_fewer : (before : Before) (e : _) (ts : Tokens) → (excerpt_behind before e ts).0.is_ended ≡ true → length (excerpt_behind before e ts).1.left < length ts.left
+unfolding excerpt_behind
 taken_fewer before e ts f = taking_fewer e ts [] 0 None _ f
 
-pub taken_until : (b : Ending) (before : Before) (e : _) → EndsSo b (ends e) → (ts us : Tokens) → Near b ts us → UntilBy (SameText b) b (taken before e ts) (taken before e us)
+pub taken_until : (b : Ending) (before : Before) (e : _) → EndsSo b (ends e) → (ts us : Tokens) → Near b ts us → UntilBy (SameText b) b (excerpt_behind before e ts) (excerpt_behind before e us)
 taken_until b before e so ts us h = outcome_until (taken_outcome b before e so ts us h)
 
 pub tree_text_until : (b : Ending) → UpTo b tree_text tree_text
@@ -193,7 +193,7 @@ from_there : (n a' d : ℕ) → n - a' ≡ (n + d) - (a' + d)
 from_there n a' d = omega arith
 
 one_further : (b : Ending) (past : ℕ) (t : Piece) (x : List Piece) (u : Option ℕ) (y : EditionYear)
-    → (bumped (record { past = past + b.by; left = map (moved b.by) (t ∷ x) ++ b.behind; unended = b.unended; edition = y })).past ≡ (bumped (record { past = past; left = t ∷ x; unended = u; edition = y })).past + b.by
+    → (bumped (record { past = past + b.by; left = map (moved_piece b.by) (t ∷ x) ++ b.behind; unended = b.unended; edition = y })).past ≡ (bumped (record { past = past; left = t ∷ x; unended = u; edition = y })).past + b.by
 unfolding bumped
 one_further b past t x u y = omega arith
 

@@ -1,9 +1,9 @@
 -- Tokens of a text that ends with a `;` or a `}`, and the same tokens in a text that goes on behind it; or of any text, and the same tokens at the end of a longer one.
 use Rattle.std.proofs.Common.{◌≡◌, ◌≤◌, ◌<◌, ℕ, ◌+◌, ◌==◌, ◌||◌, Bool, true, false, Option, List, [], ◌∷◌, ◌++◌, length, refl, ap, ◌∙◌, sym, subst, arith, map, length-append}
-use Rattle.rust_cursor.proofs.Common.{nat_tests, EditionYear, moved, Piece, symbol_of, Tokens, end_of, by_first, rest, symbol, at, bumped, is_glued}
-use Rattle.rust_cursor.proofs.Leads.{LeadsTo, here, further, when}
-use Rattle.rust_cursor.proofs.Parting.{Onward, into, on}
-use Rattle.rust_cursor.proofs.Twins.{Twins, is_edge}
+use Rattle.rust_cursor.proofs.Common.{nat_tests, EditionYear, moved_piece, Piece, symbol_of, Tokens, end_of, by_first, rest, symbol, at, bumped, is_glued}
+use Rattle.rust_cursor.proofs.TokenRests.{LeadsTo, here, further, when}
+use Rattle.rust_cursor.proofs.PartingReaders.{Onward, into, on}
+use Rattle.rust_cursor.proofs.TwinTokens.{Twins, is_edge}
 
 -- How far the tokens stand in the long text, what that has behind the last of them, and where its own last is not ended. If they are level,
 -- nothing is behind, and the short text may end with any token.
@@ -26,7 +26,7 @@ are_ended (t ∷ u ∷ ts) = are_ended (u ∷ ts)
 -- what is left of the long text, and of the short one, where its last token is not taken, or they are level
 pub data Near (b : Ending) : Tokens → Tokens → Type 0 where
   near : (past : ℕ) (x : List Piece) (u : Option ℕ) (y : EditionYear) → (b.level || are_ended x) ≡ true → Near b
-      (record { past = past + b.by; left = map (moved b.by) x ++ b.behind; unended = b.unended; edition = y })
+      (record { past = past + b.by; left = map (moved_piece b.by) x ++ b.behind; unended = b.unended; edition = y })
       (record { past = past; left = x; unended = u; edition = y })
 
 -- both went past that token
@@ -58,7 +58,7 @@ gone_on g p q = let less = fewer p in let few = g.few in record { few = omega ar
 none_left : (b : Ending) (P : List Piece → Type 0) → (b.level || false) ≡ true → P [] → P b.behind
 none_left b P e p = subst P (sym (b.none (when b.level (λ l. l) (λ l. absurd (let no = rw l at e in cc))))) p
 
-pub first_same : (b : Ending) {A : Type 0} (default : A) (view : Piece → A) → ((d : ℕ) (t : Piece) → view (moved d t) ≡ view t) → (ts us : Tokens) → Near b ts us
+pub first_same : (b : Ending) {A : Type 0} (default : A) (view : Piece → A) → ((d : ℕ) (t : Piece) → view (moved_piece d t) ≡ view t) → (ts us : Tokens) → Near b ts us
     → by_first default view us.left ≡ by_first default view ts.left
 first_same b default view still ts us (near past [] u y e) = none_left b (λ l. default ≡ by_first default view l) e refl
 first_same b default view still ts us (near past (t ∷ x) u y e) = sym (still b.by t)
@@ -87,27 +87,27 @@ taken_same b ts us ts' us' h h' = glued_by us'.past us.past b.by ∙ sym (ap (λ
 -- before the end more is left, or as much where they are level
 pub enough_left : (b : Ending) (ts us : Tokens) → Near b ts us → length b.behind ≤ length ts.left
 enough_left b ts us (near past x u y e) =
-    let both : length (map (moved b.by) x ++ b.behind) ≡ length (map (moved b.by) x) + length b.behind = length-append (map (moved b.by) x) b.behind in
+    let both : length (map (moved_piece b.by) x ++ b.behind) ≡ length (map (moved_piece b.by) x) + length b.behind = length-append (map (moved_piece b.by) x) b.behind in
     omega arith
 
 pub more_left : (b : Ending) (ts us : Tokens) → b.level ≡ false → Near b ts us → length b.behind < length ts.left
 more_left b ts us l (near past [] u y e) = absurd (let no = rw l at e in cc)
 more_left b ts us l (near past (t ∷ x) u y e) =
-    let both : length (map (moved b.by) x ++ b.behind) ≡ length (map (moved b.by) x) + length b.behind = length-append (map (moved b.by) x) b.behind in
+    let both : length (map (moved_piece b.by) x ++ b.behind) ≡ length (map (moved_piece b.by) x) + length b.behind = length-append (map (moved_piece b.by) x) b.behind in
     omega arith
 
 -- what is left of the long text where nothing is left of the short one
 pub left_behind : (b : Ending) (ts us : Tokens) → Near b ts us → us.left ≡ [] → ts.left ≡ b.behind
-left_behind b ts us (near past x u y e) none = ap (λ l. map (moved b.by) l ++ b.behind) none
+left_behind b ts us (near past x u y e) none = ap (λ l. map (moved_piece b.by) l ++ b.behind) none
 
 -- ---- one token further
 
 pub next_near : (b : Ending) (past : ℕ) (t : Piece) (x : List Piece) (u : Option ℕ) (y : EditionYear) → (b.level || are_ended x) ≡ true
-    → Near b (bumped (record { past = past + b.by; left = map (moved b.by) (t ∷ x) ++ b.behind; unended = b.unended; edition = y })) (bumped (record { past = past; left = t ∷ x; unended = u; edition = y }))
+    → Near b (bumped (record { past = past + b.by; left = map (moved_piece b.by) (t ∷ x) ++ b.behind; unended = b.unended; edition = y })) (bumped (record { past = past; left = t ∷ x; unended = u; edition = y }))
 unfolding bumped
 next_near b past t x u y e =
     let place : t.at + length t.text + b.by ≡ t.at + b.by + length t.text = omega arith in
-    subst (λ (n : ℕ). Near b (record { past = n; left = map (moved b.by) x ++ b.behind; unended = b.unended; edition = y }) (record { past = end_of t; left = x; unended = u; edition = y })) place
+    subst (λ (n : ℕ). Near b (record { past = n; left = map (moved_piece b.by) x ++ b.behind; unended = b.unended; edition = y }) (record { past = end_of t; left = x; unended = u; edition = y })) place
     (near (end_of t) x u y e)
 
 -- where nothing is left, nothing is taken
@@ -125,7 +125,7 @@ pub level_ended : (l : Bool) (x : List Piece) → l ≡ true → (l || are_ended
 level_ended l x e = rw e refl
 
 last_gone : (b : Ending) (past : ℕ) (t : Piece) (u : Option ℕ) (y : EditionYear) → b.level ≡ false
-    → Gone b (bumped (record { past = past + b.by; left = map (moved b.by) (t ∷ []) ++ b.behind; unended = b.unended; edition = y })) (bumped (record { past = past; left = t ∷ []; unended = u; edition = y }))
+    → Gone b (bumped (record { past = past + b.by; left = map (moved_piece b.by) (t ∷ []) ++ b.behind; unended = b.unended; edition = y })) (bumped (record { past = past; left = t ∷ []; unended = u; edition = y }))
 unfolding bumped
 last_gone b past t u y l = record { few = omega arith; none = refl; uneven = l }
 

@@ -1,13 +1,13 @@
 -- Walks over the tokens of a text that ends with a `;` or a `}`, and over those of a longer one: they come to the same place, or the one over the longer text passes the end.
 use Rattle.std.proofs.Common.{◌≡◌, ℕ, ◌==◌, Bool, true, false, ap, ◌∙◌, sym}
-use Rattle.rust_cursor.proofs.Common.{Reach, Nest, is_reached, is_closed, reaching, reached, behind_angles, is_closing, closing, to_closing, behind_closing, behind_closed, behind_tree, beyond, flat, begun, nest_behind, Tokens, symbol, is_empty, bumped}
+use Rattle.rust_cursor.proofs.Common.{Reach, Nest, is_reached, is_closed, reach_from, reach_end, behind_angles, is_closing, closing, to_closing, behind_closing, behind_closed, behind_tree, progress_from, no_bracket, before_type, nest_behind, Tokens, symbol, is_empty, bumped}
 use Rattle.rust_cursor.specs.declared.cursor.generics.Reach.TheVariants as reaches
-use Rattle.rust_cursor.proofs.Leads.{LeadsTo, when, passing_leads, behind_closing_leads, behind_closed_leads, from_last, closing_empty, reached_empty}
+use Rattle.rust_cursor.proofs.TokenRests.{LeadsTo, when, passing_leads, behind_closing_leads, behind_closed_leads, from_last, closing_empty, reached_empty}
 use Rattle.rust_cursor.proofs.Steps.{passing, passing_stop, passing_end, passing_more, some_left}
 use Rattle.rust_cursor.proofs.EndingTokens.{Ending, Near, Gone, gone_on, bumped_onward, taken_same, near_twins}
-use Rattle.rust_cursor.proofs.Parting.{Onward, into, on, by_next, cond_onward, Parting}
+use Rattle.rust_cursor.proofs.PartingReaders.{Onward, into, on, by_next, cond_onward, Parting}
 use Rattle.rust_cursor.proofs.Tests.{nest_same, closing_same, reached_same}
-use Rattle.rust_cursor.proofs.Twins.{symbol_same, symbol_test, open_same}
+use Rattle.rust_cursor.proofs.TwinTokens.{symbol_same, symbol_test, open_same}
 
 near_leads : {b : Ending} {ts us vs ws : Tokens} → Onward (Near b) (Gone b) ts us → LeadsTo ts vs → LeadsTo us ws → (Near b ts us → Onward (Near b) (Gone b) vs ws) → Onward (Near b) (Gone b) vs ws
 near_leads o p q same = by_next o (λ g. into (gone_on g p q)) same
@@ -47,7 +47,7 @@ behind_closing_near b bracket ts us h =
 pub behind_closed_near : (b : Ending) (bracket : ℕ) (ts us : Tokens) → Near b ts us → Onward (Near b) (Gone b) (behind_closed bracket ts) (behind_closed bracket us)
 unfolding behind_closed to_closing
 behind_closed_near b bracket ts us h =
-    near_leads (closing_near b bracket us ts flat h) (behind_closing_leads bracket _) (behind_closing_leads bracket _) (λ k. behind_closing_near b bracket _ _ k)
+    near_leads (closing_near b bracket us ts no_bracket h) (behind_closing_leads bracket _) (behind_closing_leads bracket _) (λ k. behind_closing_near b bracket _ _ k)
 
 pub behind_tree_near : (b : Ending) (ts us : Tokens) → Near b ts us → Onward (Near b) (Gone b) (behind_tree ts) (behind_tree us)
 unfolding behind_tree
@@ -56,15 +56,15 @@ behind_tree_near b ts us h =
     (λ _. rw (symbol_same (near_twins b) ts us h) (near_leads (bumped_onward b ts us h) (behind_closed_leads (symbol ts) (bumped ts)) (behind_closed_leads (symbol ts) (bumped us)) (λ k. behind_closed_near b (symbol ts) _ _ k)))
     (λ _. bumped_onward b ts us h)
 
-pub beyond_near : (b : Ending) (ts us ts' us' : Tokens) → Near b ts us → Near b ts' us' → Onward (Near b) (Gone b) (beyond ts.past ts') (beyond us.past us')
-unfolding beyond
+pub beyond_near : (b : Ending) (ts us ts' us' : Tokens) → Near b ts us → Near b ts' us' → Onward (Near b) (Gone b) (progress_from ts.past ts') (progress_from us.past us')
+unfolding progress_from
 beyond_near b ts us ts' us' h k = cond_onward (taken_same b ts us ts' us' h k) (λ _. behind_tree_near b ts' us' k) (λ _. on k)
 
 -- ---- angle brackets
 
-pub reached_near : (b : Ending) (r : Reach) (ts us : Tokens) → Near b ts us → Onward (Near b) (Gone b) (reached r ts) (reached r us)
-unfolding reached reaching passing
-reached_near b r ts us h = passing_near b (is_reached r) (is_closed r) (reached_empty r) (reached_same (near_twins b) r) us ts begun h
+pub reached_near : (b : Ending) (r : Reach) (ts us : Tokens) → Near b ts us → Onward (Near b) (Gone b) (reach_end r ts) (reach_end r us)
+unfolding reach_end reach_from passing
+reached_near b r ts us h = passing_near b (is_reached r) (is_closed r) (reached_empty r) (reached_same (near_twins b) r) us ts before_type h
 
 pub behind_angles_near : (b : Ending) (ts us : Tokens) → Near b ts us → Onward (Near b) (Gone b) (behind_angles ts) (behind_angles us)
 unfolding behind_angles

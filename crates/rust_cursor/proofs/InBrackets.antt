@@ -6,7 +6,7 @@ use Rattle.rust_cursor.specs.Looks.{clear_of, sees, skip}
 use Rattle.rust_cursor.proofs.ClosingBrace.{around, is_plain, plain_of, plain_upto, plain_around, other_around}
 use Rattle.rust_cursor.proofs.WithinBrackets.{Within, same_within, Remains, word_symbol, eat_pair_around, behind_angles_within}
 use Rattle.rust_cursor.proofs.SoundTokens.{sound_on}
-use Rattle.rust_cursor.proofs.Leads.{here, through}
+use Rattle.rust_cursor.proofs.TokenRests.{here, through}
 use Rattle.rust_cursor.proofs.Looks.{AreClear, first_clear}
 use Rattle.rust_cursor.proofs.Rules.{rule_leads, skip_leads, identifier_symbol}
 

@@ -3,12 +3,12 @@ use Rattle.std.proofs.Common.{◌≡◌, ◌≤◌, ℕ, zero, suc, ◌+◌, max
 use Rattle.std.proofs.Math.Nat.{max-eq_left, max-eq_right, min-le_left, min-le_right}
 use Rattle.rust_cursor.proofs.Common.{and_parts, eqb-true, nat_tests, not-true, TokenKind, Piece, symbol_of, Tokens, identifies, by_first, symbol, kind, text, bumped, is_at_identifier, is_glued, is_pair}
 use Rattle.rust_lexer.specs.declared.kind.TokenKind.TheVariants as kinds
-use Rattle.rust_cursor.specs.Elements.{most}
+use Rattle.rust_cursor.specs.Elements.{most_tokens}
 use Rattle.rust_cursor.specs.Looks.{is_edge, View, Lookahead, fixed_look, token_is, kind_is, symbol_is, word_is, word_meets, at_identifier, at_open, at_end, at_item, pair_is, not_seen, both_seen, either_seen, look_by, then_seen, past_seen, skip, past_from, sees, is_flat_kind, clear_of, stays_short, may_skip}
 use Rattle.rust_cursor.proofs.WithinBrackets.{word_symbol}
-use Rattle.rust_cursor.proofs.Leads.{when}
+use Rattle.rust_cursor.proofs.TokenRests.{when}
 use Rattle.rust_cursor.proofs.Tests.{begins_item_same}
-use Rattle.rust_cursor.proofs.Twins.{Twins, kind_same, text_same, word_same, end_same, open_same, identifier_same, symbol_test, word_test, pair_same}
+use Rattle.rust_cursor.proofs.TwinTokens.{Twins, kind_same, text_same, word_same, end_same, open_same, identifier_same, symbol_test, word_test, pair_same}
 
 -- ---- tokens without such a symbol
 
@@ -186,7 +186,7 @@ look_same b (then_seen l n m) p ts us h =
 look_same b (past_seen l m) p ts us h =
     let q = and_parts (stays_short l) (nat_le 1 (clear_of is_edge l) && stays_short m) p in
     let r = and_parts (nat_le 1 (clear_of is_edge l)) (stays_short m) q.1 in
-    look_same b m r.1 _ _ (past_are b (sees l) (look_same b l q.0) (λ ts e. (first_clear is_edge refl l 1 ts r.0 e).0) most ts us h)
+    look_same b m r.1 _ _ (past_are b (sees l) (look_same b l q.0) (λ ts e. (first_clear is_edge refl l 1 ts r.0 e).0) most_tokens ts us h)
 
 -- what skips tokens is seen of both, and behind them they look alike too
 pub skipped_same : (b : Twins) (l : Lookahead) (n : ℕ) → may_skip l n ≡ true → (ts us : Tokens) → b.are ts us → sees l us ≡ sees l ts

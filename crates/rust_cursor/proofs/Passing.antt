@@ -1,16 +1,16 @@
 -- What passes over tokens comes to tokens beside: up to brackets, behind angle brackets, and to the end of an item.
 use Rattle.std.proofs.Common.{◌≡◌, ℕ, ◌+◌, ◌==◌, ◌&&◌, Bool, true, false, Option, Some, None, List, [], ◌∷◌, ◌++◌, refl, ap, ◌∙◌, sym, arith, map, not}
-use Rattle.rust_cursor.proofs.Common.{nat_tests, eqb-true, EditionYear, Piece, symbol_of, moved, braces_from, Before, Nest, Reach, Extent, Tokens, end_of, is_open, symbol, is_empty, is_at_open, bumped, braces_behind, begun, flat, flat_behind, is_mark, is_whole, nest_behind, ExcerptRead, excerpt, stops, ends, opened_behind, block_at, taking, taken, more, is_reached, is_closed, reaching, reached, behind_angles, behind_field, behind_header, is_trait_impl, is_closing, closing, to_closing, behind_closing, behind_closed, behind_tree, beyond, Bodies, AreOpen, Beside, ahead, behind}
+use Rattle.rust_cursor.proofs.Common.{nat_tests, eqb-true, EditionYear, Piece, symbol_of, moved_piece, braces_from, Before, Nest, Reach, Extent, Tokens, end_of, is_open, symbol, is_empty, is_at_open, bumped, braces_behind, before_type, no_bracket, flat_behind, is_mark, is_whole, nest_behind, ExcerptRead, excerpt, stops, ends, opened_behind, block_at, taking, excerpt_behind, more, is_reached, is_closed, reach_from, reach_end, behind_angles, behind_field, behind_header, is_trait_impl, is_closing, closing, to_closing, behind_closing, behind_closed, behind_tree, progress_from, Bodies, AreOpen, Beside, ahead, behind}
 use Rattle.rust_cursor.specs.declared.cursor.generics.Reach.TheVariants as reaches
 use Rattle.rust_cursor.specs.declared.cursor.texts.Extent.TheVariants as extents
-use Rattle.rust_cursor.proofs.Leads.{when, from_last, symbol_some, stops_empty, reached_empty, closing_empty, still_same}
+use Rattle.rust_cursor.proofs.TokenRests.{when, from_last, symbol_some, stops_empty, reached_empty, closing_empty, still_same}
 use Rattle.rust_cursor.proofs.Steps.{passing, passing_stop, passing_end, passing_more, some_left, closing_stop, closing_more}
 use Rattle.rust_cursor.proofs.Scans.{taking_stop, taking_end, taking_more}
 use Rattle.rust_cursor.proofs.Views.{beside_twins, symbol_same, word_same, open_same, not_brace, next_ahead, next_behind, next_none, taken_same, before_same}
 use Rattle.rust_cursor.proofs.Tests.{stops_same, ends_same, closing_same, reached_same}
-use Rattle.rust_cursor.proofs.Braced.{tokens_at, symbol_at, some_at, bumped_at, brace_step, Stays}
+use Rattle.rust_cursor.proofs.BraceWalks.{tokens_at, symbol_at, some_at, bumped_at, brace_step, Stays}
 use Rattle.rust_cursor.proofs.Walk.{Walk, inner_by, walk_beside}
-use Rattle.rust_cursor.proofs.Inside.{stops_deep}
+use Rattle.rust_cursor.proofs.BraceSteps.{stops_deep}
 
 -- ---- texts
 
@@ -90,8 +90,8 @@ taking_walk e = record {
 }
 
 -- what is left behind an item, a tree or a value, and from the braces on that it ends with
-pub taken_both : (b : Bodies) (before : Before) (e : Extent) (ts us : Tokens) → Beside b ts us → TakenBeside b (taken before e ts) (taken before e us)
-unfolding taken
+pub taken_both : (b : Bodies) (before : Before) (e : Extent) (ts us : Tokens) → Beside b ts us → TakenBeside b (excerpt_behind before e ts) (excerpt_behind before e us)
+unfolding excerpt_behind
 taken_both b before e ts us h =
     walk_beside (taking_at e) (taking_step e) (stops e) (taking_ends e) (taking_stopped e) (taking_ended e) seen_of BothBeside TakenBeside (taking_walk e) b ts us
     ([], (0, None)) ([], (0, None)) (flat_behind before) 0 false neither h
@@ -165,10 +165,10 @@ unfolding is_closed
 closed_inner reaches.Angles n i t = refl
 closed_inner _ n i t = refl
 
-pub reached_beside : (b : Bodies) (r : Reach) (ts us : Tokens) → Beside b ts us → Beside b (reached r ts) (reached r us)
-unfolding reached reaching passing
+pub reached_beside : (b : Bodies) (r : Reach) (ts us : Tokens) → Beside b ts us → Beside b (reach_end r ts) (reach_end r us)
+unfolding reach_end reach_from passing
 reached_beside b r ts us h =
-    passing_beside (is_reached r) (is_closed r) (reached_empty r) (reached_deep r) (closed_deep r) (reached_inner r) (closed_inner r) (λ b. reached_same (beside_twins b) r) b begun ts us h
+    passing_beside (is_reached r) (is_closed r) (reached_empty r) (reached_deep r) (closed_deep r) (reached_inner r) (closed_inner r) (λ b. reached_same (beside_twins b) r) b before_type ts us h
 
 pub behind_angles_beside : (b : Bodies) (ts us : Tokens) → Beside b ts us → Beside b (behind_angles ts) (behind_angles us)
 unfolding behind_angles
@@ -197,7 +197,7 @@ closing_inner bracket n i t ts = refl
 pub to_closing_beside : (b : Bodies) (bracket : ℕ) (ts us : Tokens) → Beside b ts us → Beside b (to_closing bracket ts) (to_closing bracket us)
 unfolding to_closing closing passing
 to_closing_beside b bracket ts us h =
-    passing_beside (is_closing bracket) (λ _. false) (closing_empty bracket) (closing_deep bracket) (λ n d. refl) (closing_inner bracket) (λ n i t. refl) (λ b. closing_same (beside_twins b) bracket) b flat ts us h
+    passing_beside (is_closing bracket) (λ _. false) (closing_empty bracket) (closing_deep bracket) (λ n d. refl) (closing_inner bracket) (λ n i t. refl) (λ b. closing_same (beside_twins b) bracket) b no_bracket ts us h
 
 both_no : (p q : Bool) → (not p && (q && false)) ≡ true → ⊥
 both_no false true e = cc
@@ -222,7 +222,7 @@ to_closing_ends bracket ts =
     (λ ts e inner n. when (is_closing bracket n ts)
     (λ p. rw (closing_stop bracket n ts p) (not_open bracket n ts p))
     (λ p. rw (closing_more bracket n ts p) (inner (nest_behind n ts))))
-    ts flat
+    ts no_bracket
 
 behind_closing_beside : (b : Bodies) (bracket : ℕ) (ts us : Tokens) → (symbol ts == 123) ≡ false → Beside b ts us → Beside b (behind_closing bracket ts) (behind_closing bracket us)
 behind_closing_beside b bracket ts us e h =
@@ -248,7 +248,7 @@ record Out (n : Nest) (ts : Tokens) (y : EditionYear) (left : List Piece) (u : O
 shuts_not : (n : Nest) (ts : Tokens) → is_empty ts ≡ false → (n.braces ≡ 0 → (symbol ts == 125) ≡ false) → is_closing 123 n ts ≡ false
 unfolding is_closing
 shuts_not n ts some f =
-    when (n.braces == 0) (λ e. let flat : n.braces ≡ 0 = grind (arith, nat_tests) in rw (some, e, f flat) refl) (λ e. rw (some, e) refl)
+    when (n.braces == 0) (λ e. let no_bracket : n.braces ≡ 0 = grind (arith, nat_tests) in rw (some, e, f no_bracket) refl) (λ e. rw (some, e) refl)
 
 shuts_so : (n : Nest) (ts : Tokens) → n.braces ≡ 0 → symbol ts ≡ 125 → is_closing 123 n ts ≡ true
 unfolding is_closing
@@ -267,15 +267,15 @@ out c (t ∷ ms) left y past k u n is e f =
     let rest = out c ms left y (end_of t) brace.depth u (nest_behind n ts) is is_behind brace.rest in
     record { past = rest.past; is = more ∙ ap (closing 123 (nest_behind n ts)) (bumped_at y past t (ms ++ c ∷ left) u) ∙ rest.is }
 
-block_tree : (b : Bodies) (past : ℕ) (r : List Piece) (u u' : Option ℕ) → AreOpen b r → (let ts = tokens_at b.edition past (b.opening ∷ (b.old ++ moved b.by b.closing ∷ map (moved b.by) r)) u in
-    let us = tokens_at b.edition past (b.opening ∷ (b.new ++ moved b.by_new b.closing ∷ map (moved b.by_new) r)) u' in
+block_tree : (b : Bodies) (past : ℕ) (r : List Piece) (u u' : Option ℕ) → AreOpen b r → (let ts = tokens_at b.edition past (b.opening ∷ (b.old ++ moved_piece b.by b.closing ∷ map (moved_piece b.by) r)) u in
+    let us = tokens_at b.edition past (b.opening ∷ (b.new ++ moved_piece b.by_new b.closing ∷ map (moved_piece b.by_new) r)) u' in
     Beside b (behind_closed 123 (bumped ts)) (behind_closed 123 (bumped us)))
 unfolding behind_closed to_closing
 block_tree b past r u u' j =
-    let left = moved b.by b.closing ∷ map (moved b.by) r in
-    let left' = moved b.by_new b.closing ∷ map (moved b.by_new) r in
-    let one = out (moved b.by b.closing) b.old (map (moved b.by) r) b.edition (end_of b.opening) 0 u flat b.closes refl b.old_matched in
-    let two = out (moved b.by_new b.closing) b.new (map (moved b.by_new) r) b.edition (end_of b.opening) 0 u' flat b.closes refl b.new_matched in
+    let left = moved_piece b.by b.closing ∷ map (moved_piece b.by) r in
+    let left' = moved_piece b.by_new b.closing ∷ map (moved_piece b.by_new) r in
+    let one = out (moved_piece b.by b.closing) b.old (map (moved_piece b.by) r) b.edition (end_of b.opening) 0 u no_bracket b.closes refl b.old_matched in
+    let two = out (moved_piece b.by_new b.closing) b.new (map (moved_piece b.by_new) r) b.edition (end_of b.opening) 0 u' no_bracket b.closes refl b.new_matched in
     rw (bumped_at b.edition past b.opening (b.old ++ left) u, bumped_at b.edition past b.opening (b.new ++ left') u', one.is, two.is) (next_behind b one.past two.past b.closing r u u' j.behind)
 
 -- one token that is not the `{` of the braces
@@ -292,15 +292,15 @@ tree_at y past o left u s e = rw (e, s) refl
 
 pub behind_tree_beside : (b : Bodies) (ts us : Tokens) → Beside b ts us → Beside b (behind_tree ts) (behind_tree us)
 behind_tree_beside b ts us (ahead past [] r u u' i j) =
-    rw (tree_at b.edition past b.opening (b.old ++ moved b.by b.closing ∷ map (moved b.by) r) u b.opens b.is_bracket, tree_at b.edition past b.opening (b.new ++ moved b.by_new b.closing ∷ map (moved b.by_new) r) u' b.opens b.is_bracket)
+    rw (tree_at b.edition past b.opening (b.old ++ moved_piece b.by b.closing ∷ map (moved_piece b.by) r) u b.opens b.is_bracket, tree_at b.edition past b.opening (b.new ++ moved_piece b.by_new b.closing ∷ map (moved_piece b.by_new) r) u' b.opens b.is_bracket)
     (block_tree b past r u u' j)
 behind_tree_beside b ts us (ahead past (t ∷ x) r u u' i j) = one_tree b ts us (ahead past (t ∷ x) r u u' i j) (next_ahead b past t x r u u' i.1 j)
 behind_tree_beside b ts us (behind past [] u u' i) = one_tree b ts us (behind past [] u u' i) (next_none b past u u' i)
 behind_tree_beside b ts us (behind past (t ∷ r) u u' i) = one_tree b ts us (behind past (t ∷ r) u u' i) (next_behind b (past + b.by) (past + b.by_new) t r u u' i.1)
 
 -- where nothing was taken, one token or tree is passed over
-pub beyond_beside : (b : Bodies) (ts us ts' us' : Tokens) → Beside b ts us → Beside b ts' us' → Beside b (beyond ts.past ts') (beyond us.past us')
-unfolding beyond
+pub beyond_beside : (b : Bodies) (ts us ts' us' : Tokens) → Beside b ts us → Beside b ts' us' → Beside b (progress_from ts.past ts') (progress_from us.past us')
+unfolding progress_from
 beyond_beside b ts us ts' us' h h' =
     let same = taken_same b ts us ts' us' h h' in
     when (ts'.past == ts.past) (λ e. rw (same, e) (behind_tree_beside b ts' us' h')) (λ e. rw (same, e) h')

@@ -4,12 +4,12 @@ use Rattle.rust_cursor.proofs.Common.{EditionYear, TokenKind, Piece, symbol_of, 
 use Rattle.rust_lexer.specs.declared.kind.TokenKind.TheVariants as kinds
 use Rattle.rust_cursor.specs.Grammar.{Identifier, by_identifier, taken_with, Region, outside, inside, Grammar, gives, and_then, shows, takes_identifier, on_seen, eats, eats_word, eats_pair, passes_closed, passes_tree, passes_angles, passes_field, repeats, from_outside, takes_any, takes_text, in_bracket, reads}
 use Rattle.rust_cursor.specs.Looks.{is_edge, past_from, sees, skip}
-use Rattle.rust_cursor.proofs.Leads.{LeadsTo, here, further, through, Forwards, when, bumped_leads, eat_leads, eat_word_leads, eat_pair_leads, behind_closed_leads, behind_tree_leads, behind_angles_leads, reached_leads, turns_leads, taken_leads_on}
-use Rattle.rust_cursor.proofs.Local.{Local}
+use Rattle.rust_cursor.proofs.TokenRests.{LeadsTo, here, further, through, Forwards, when, bumped_leads, eat_leads, eat_word_leads, eat_pair_leads, behind_closed_leads, behind_tree_leads, behind_angles_leads, reached_leads, turns_leads, taken_leads_on}
+use Rattle.rust_cursor.proofs.LocalReaders.{Local}
 use Rattle.rust_cursor.proofs.Looks.{look_same, skipped_are, skipped_same, token_same}
-use Rattle.rust_cursor.proofs.Parting.{Parting, Until, UpTo, Entering, gone, kept, by_kept, by_next, with_rest, then_until, cond_until, eat_until, eat_word_until, eat_pair_until, turns_until}
-use Rattle.rust_cursor.proofs.Sides.{alongside, is_local}
-use Rattle.rust_cursor.proofs.Twins.{symbol_same}
+use Rattle.rust_cursor.proofs.PartingReaders.{Parting, Until, UpTo, Entering, gone, kept, by_kept, by_next, with_rest, then_until, cond_until, eat_until, eat_word_until, eat_pair_until, turns_until}
+use Rattle.rust_cursor.proofs.SideReaders.{alongside, is_local}
+use Rattle.rust_cursor.proofs.TwinTokens.{symbol_same}
 
 -- ---- what is left
 

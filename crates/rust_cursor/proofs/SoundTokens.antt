@@ -3,8 +3,8 @@ use Rattle.std.proofs.Common.{◌≡◌, ℕ, ◌==◌, ◌||◌, true, false, L
 use Rattle.rust_cursor.proofs.Common.{eqb-true, or_parts, EditionYear, TokenKind, Piece, symbol_of, All-head, All-tail, is_significant, tokens, Tokens, tokens_of, opens, closes, is_open, is_close, by_first, rest, symbol, is_empty, is_at_open, is_at_end, bumped, opens_other, closes_other, closing}
 use Rattle.rust_lexer.specs.declared.kind.TokenKind.TheVariants as kinds
 use Rattle.rust_lexer.proofs.Braces.{is_open_kind, is_close_kind, IsBracket, AreBrackets, tokens_brackets}
-use Rattle.rust_cursor.proofs.Leads.{end_some, LeadsTo, here, further, when}
-use Rattle.rust_cursor.proofs.Laid.{IsLaid, behind, tokens_laid}
+use Rattle.rust_cursor.proofs.TokenRests.{end_some, LeadsTo, here, further, when}
+use Rattle.rust_cursor.proofs.TokenPlaces.{IsLaid, behind, tokens_laid}
 use Rattle.rust_cursor.proofs.ClosingBrace.{Shuts, by_brace, by_other}
 
 -- ---- tokens whose brackets are told by their kind

@@ -5,8 +5,8 @@ use Rattle.rust_cursor.specs.declared.cursor.generics.Reach.TheVariants as reach
 use Rattle.rust_cursor.specs.declared.cursor.nest.Before.TheVariants as befores
 use Rattle.rust_cursor.specs.declared.cursor.texts.Extent.TheVariants as extents
 use Rattle.rust_cursor.proofs.Begins.{no_item, none_leads}
-use Rattle.rust_cursor.proofs.Leads.{when}
-use Rattle.rust_cursor.proofs.Twins.{Twins, is_edge, symbol_same, word_same, kind_same, text_same, empty_same, end_same, identifier_same, doc_same, edge_word, edge_identifier, edge_doc, edge_literal, edge_test, after_word, after_symbol, pair_same}
+use Rattle.rust_cursor.proofs.TokenRests.{when}
+use Rattle.rust_cursor.proofs.TwinTokens.{Twins, is_edge, symbol_same, word_same, kind_same, text_same, empty_same, end_same, identifier_same, doc_same, edge_word, edge_identifier, edge_doc, edge_literal, edge_test, after_word, after_symbol, pair_same}
 
 -- ---- where an item begins
 

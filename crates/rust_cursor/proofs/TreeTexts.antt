@@ -1,8 +1,8 @@
 -- The text of a token or a tree is the same of tokens beside, until it goes into the braces.
 use Rattle.std.proofs.Common.{◌≡◌, ◌<◌, ℕ, zero, suc, true, false, Option, None, List, [], length, refl, ap, ◌∙◌, arith}
-use Rattle.rust_cursor.proofs.Common.{Nest, Extent, Tokens, symbol, bumped, is_mark, nest_behind, ExcerptRead, stops, ends, more, taking, taken, tree_text, Bodies, Beside}
+use Rattle.rust_cursor.proofs.Common.{Nest, Extent, Tokens, symbol, bumped, is_mark, nest_behind, ExcerptRead, stops, ends, more, taking, excerpt_behind, tree_text, Bodies, Beside}
 use Rattle.rust_cursor.specs.declared.cursor.texts.Extent.TheVariants as extents
-use Rattle.rust_cursor.proofs.Leads.{LeadsTo, here, when, taking_leads}
+use Rattle.rust_cursor.proofs.TokenRests.{LeadsTo, here, when, taking_leads}
 use Rattle.rust_cursor.proofs.Scans.{taking_stop, taking_end, taking_more, taking_some}
 use Rattle.rust_cursor.proofs.Nesting.{shorter}
 use Rattle.rust_cursor.proofs.Views.{beside_twins, symbol_same}
@@ -48,6 +48,6 @@ text_until b e (suc fuel) ts us below done last o o' n h =
     text_next b e done last o o' n ts us h p (bumped_onward b ts us h) (text_until b e fuel (bumped ts) (bumped us) (omega arith)))
 
 pub tree_text_until : (b : Bodies) → UpTo b tree_text
-unfolding taken
+unfolding excerpt_behind
 tree_text_until b ts us h =
     by_stayed (text_until b extents.Tree (suc (length ts.left)) ts us (omega arith) [] 0 None None _ h) (λ g. gone g) (λ k. kept (record { value = k.value; rest = k.rest }))

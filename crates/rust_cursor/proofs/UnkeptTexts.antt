@@ -1,19 +1,19 @@
 -- What is taken where its text is not kept: how far does not depend on the text, and braces are passed over, also by a short path.
 use Rattle.std.proofs.Common.{◌≡◌, ℕ, Bool, true, false, Option, None, List, [], ◌∷◌, refl, sym, ap, ◌∙◌, ◌≤◌, ◌==◌, ◌&&◌, not, Some, length, subst, arith, ◌||◌, if◌then◌else◌, slice_index, filter}
-use Rattle.rust_cursor.proofs.Common.{Piece, Nest, Extent, Tokens, end_of, left_of, last_unended, place_if_open, symbol, bumped, by_first, is_empty, is_mark, is_whole, nest_behind, inside_behind, nest_inside, is_flat, ExcerptRead, excerpt, stops, ends, opened_behind, block_at, more, kept_text, clipped, taking, taking_from, LeadsOn, taking_on, ends_flat, EditionYear, symbol_of, symbol_from, is_significant, is_significant_kind, eqb-true, TokenKind}
-use Rattle.rust_cursor.proofs.Leads.{when}
+use Rattle.rust_cursor.proofs.Common.{Piece, Nest, Extent, Tokens, end_of, left_of, last_unended, place_if_open, symbol, bumped, by_first, is_empty, is_mark, is_whole, nest_behind, inside_behind, nest_inside, is_flat, ExcerptRead, excerpt, stops, ends, opened_behind, block_at, more, kept_text, clipped_excerpt, taking, taking_from, LeadsOn, taking_on, ends_flat, EditionYear, symbol_of, symbol_from, is_significant, is_significant_kind, eqb-true, TokenKind}
+use Rattle.rust_cursor.proofs.TokenRests.{when}
 use Rattle.rust_cursor.proofs.Scans.{taking_stop, taking_turn, taking_last, taking_end, taking_more}
 use Rattle.hir_input.specs.declared.edition.EditionYear.TheVariants as year
 use Rattle.rust_cursor.specs.declared.cursor.texts.Extent.TheVariants as extents
-use Rattle.rust_cursor.proofs.Braced.{tokens_at, inside_is, some_at}
-use Rattle.rust_cursor.proofs.Inside.{IsInside, inside, left_by, none_of}
+use Rattle.rust_cursor.proofs.BraceWalks.{tokens_at, inside_is, some_at}
+use Rattle.rust_cursor.proofs.BraceSteps.{IsInside, inside, left_by, none_of}
 use Rattle.rust_cursor.proofs.Nesting.{IsFewer, fewer, shorter}
 use Rattle.rust_lexer.specs.declared.depth.Depth.{Depth}
 use Rattle.rust_lexer.specs.declared.kind.TokenKind.TheVariants as kinds
 use Rattle.rust_lexer.specs.Depths.{depth_behind, to_outer}
 
 text_from : (e : Extent) (done done' : List ℕ) (last last' : ℕ) (opened : Option Tokens) (nest : Nest) (ts : Tokens) (left : List Piece)
-    → clipped false (taking_from e done last opened nest ts left) ≡ clipped false (taking_from e done' last' opened nest ts left)
+    → clipped_excerpt false (taking_from e done last opened nest ts left) ≡ clipped_excerpt false (taking_from e done' last' opened nest ts left)
 text_from e done done' last last' opened nest ts [] = refl
 text_from e done done' last last' opened nest ts (t ∷ left) =
     when (stops e nest ts) (λ s. rw s refl)
@@ -21,19 +21,19 @@ text_from e done done' last last' opened nest ts (t ∷ left) =
     (λ f. rw (s, f) (text_from e (more e last done ts) (more e last' done' ts) (symbol ts) (symbol ts) (opened_behind opened nest ts) (nest_behind nest ts) (bumped ts) left)))
 
 -- how far is taken does not depend on the text before it
-pub text_clipped : (e : Extent) (done done' : List ℕ) (last last' : ℕ) (opened : Option Tokens) (nest : Nest) (ts : Tokens) → clipped false (taking e done last opened nest ts) ≡ clipped false (taking e done' last' opened nest ts)
+pub text_clipped : (e : Extent) (done done' : List ℕ) (last last' : ℕ) (opened : Option Tokens) (nest : Nest) (ts : Tokens) → clipped_excerpt false (taking e done last opened nest ts) ≡ clipped_excerpt false (taking e done' last' opened nest ts)
 unfolding taking
 text_clipped e done done' last last' opened nest ts = text_from e done done' last last' opened nest ts ts.left
 
 -- a turn
 pub clipped_turn : (k : Bool) (e : Extent) (done done' : List ℕ) (last last' : ℕ) (opened opened' : Option Tokens) (nest behind : Nest) (is_call : Bool) (ts ts' : Tokens) (all : ExcerptRead × Tokens) → stops e nest ts ≡ false
     → is_call ≡ is_mark nest.before → behind ≡ nest_behind nest ts → ends e is_call behind ts ≡ false → done' ≡ (if k then more e last done ts else done) → last' ≡ symbol ts → opened' ≡ opened_behind opened nest ts → ts' ≡ bumped ts
-    → clipped k (taking e done last opened nest ts) ≡ clipped k all → clipped k (taking e done' last' opened' behind ts') ≡ clipped k all
+    → clipped_excerpt k (taking e done last opened nest ts) ≡ clipped_excerpt k all → clipped_excerpt k (taking e done' last' opened' behind ts') ≡ clipped_excerpt k all
 clipped_turn true e done done' last last' opened opened' nest behind is_call ts ts' all s i b f d l o n told =
-    ap (clipped true) (taking_turn e done done' last last' opened opened' nest behind is_call ts ts' (taking e done last opened nest ts) s i b f d l o n refl) ∙ told
+    ap (clipped_excerpt true) (taking_turn e done done' last last' opened opened' nest behind is_call ts ts' (taking e done last opened nest ts) s i b f d l o n refl) ∙ told
 clipped_turn false e done done' last last' opened opened' nest behind is_call ts ts' all s i b f d l o n told =
     text_clipped e done' (more e last done ts) last' last' opened' behind ts'
-    ∙ ap (clipped false) (taking_turn e done (more e last done ts) last last' opened opened' nest behind is_call ts ts' (taking e done last opened nest ts) s i b f refl l o n refl) ∙ told
+    ∙ ap (clipped_excerpt false) (taking_turn e done (more e last done ts) last last' opened opened' nest behind is_call ts ts' (taking e done last opened nest ts) s i b f refl l o n refl) ∙ told
 
 -- the text behind a turn is kept, or empty
 pub text_kept : (k : Bool) (next done done' : List ℕ) → done' ≡ (if k then next else done) → kept_text k done ≡ done → kept_text k done' ≡ done'
@@ -48,23 +48,23 @@ last_text false next done done' d e = e ∙ sym d
 pub clipped_last : (k : Bool) (e : Extent) (done done' : List ℕ) (last : ℕ) (opened opened' block : Option Tokens) (nest behind : Nest) (is_call is_ended : Bool) (ts ts' : Tokens) (all : ExcerptRead × Tokens) → stops e nest ts ≡ false
     → is_call ≡ is_mark nest.before → behind ≡ nest_behind nest ts → ends e is_call behind ts ≡ true → done' ≡ (if k then more e last done ts else done) → kept_text k done ≡ done
     → opened' ≡ opened_behind opened nest ts → block ≡ block_at opened' ts → is_ended ≡ is_whole behind → ts' ≡ bumped ts
-    → clipped k (taking e done last opened nest ts) ≡ clipped k all → clipped k all ≡ (excerpt done' is_ended block, ts')
+    → clipped_excerpt k (taking e done last opened nest ts) ≡ clipped_excerpt k all → clipped_excerpt k all ≡ (excerpt done' is_ended block, ts')
 clipped_last k e done done' last opened opened' block nest behind is_call is_ended ts ts' all s i b f d t o w h n told =
     sym told
-    ∙ ap (clipped k) (taking_last e done (more e last done ts) last opened opened' block nest behind is_call is_ended ts ts' (taking e done last opened nest ts) s i b f refl o w h n refl)
+    ∙ ap (clipped_excerpt k) (taking_last e done (more e last done ts) last opened opened' block nest behind is_call is_ended ts ts' (taking e done last opened nest ts) s i b f refl o w h n refl)
     ∙ ap (λ z. (excerpt z is_ended block, ts')) (last_text k (more e last done ts) done done' d t)
 
 -- nothing more is taken
 pub clipped_stop : (k : Bool) (e : Extent) (done : List ℕ) (last : ℕ) (opened : Option Tokens) (nest : Nest) (ts : Tokens) (all : ExcerptRead × Tokens) → stops e nest ts ≡ true → kept_text k done ≡ done
-    → clipped k (taking e done last opened nest ts) ≡ clipped k all → clipped k all ≡ (excerpt done false None, ts)
+    → clipped_excerpt k (taking e done last opened nest ts) ≡ clipped_excerpt k all → clipped_excerpt k all ≡ (excerpt done false None, ts)
 clipped_stop k e done last opened nest ts all s t told =
-    sym told ∙ ap (clipped k) (taking_stop e done last opened nest ts s) ∙ ap (λ z. (excerpt z false None, ts)) t
+    sym told ∙ ap (clipped_excerpt k) (taking_stop e done last opened nest ts s) ∙ ap (λ z. (excerpt z false None, ts)) t
 
 -- a token in braces is passed over
-turn_clipped : (nest behind : Nest) (ts us : Tokens) (e : Extent) (o : Option Tokens) → IsInside e nest behind ts → us ≡ bumped ts → clipped false (taking e [] 0 o behind us) ≡ clipped false (taking e [] 0 o nest ts)
+turn_clipped : (nest behind : Nest) (ts us : Tokens) (e : Extent) (o : Option Tokens) → IsInside e nest behind ts → us ≡ bumped ts → clipped_excerpt false (taking e [] 0 o behind us) ≡ clipped_excerpt false (taking e [] 0 o nest ts)
 turn_clipped nest behind ts us e o is n =
     text_clipped e [] (more e 0 [] ts) 0 (symbol ts) o behind us
-    ∙ ap (clipped false) (taking_turn e [] (more e 0 [] ts) 0 (symbol ts) o o nest behind (is_mark nest.before) ts us (taking e [] 0 o nest ts) is.goes refl is.after is.more refl refl (is.opened o) n refl)
+    ∙ ap (clipped_excerpt false) (taking_turn e [] (more e 0 [] ts) 0 (symbol ts) o o nest behind (is_mark nest.before) ts us (taking e [] 0 o nest ts) is.goes refl is.after is.more refl refl (is.opened o) n refl)
 
 turn_test : (y : EditionYear) (past : ℕ) (t : Piece) (left : List Piece) (u : Option ℕ) (nest : Nest) → (nest.braces == 0) ≡ false → (nest.braces == 1 && symbol_of t == 125) ≡ false
     → (not (nest.braces == 0) && (not (is_empty (tokens_at y past (t ∷ left) u)) && not (nest.braces == 1 && symbol (tokens_at y past (t ∷ left) u) == 125))) ≡ true
@@ -124,7 +124,7 @@ leads_behind p q q' c ls ms ms' n m m' t h e k i s x j o =
 
 -- where no text is kept, its text does not count
 pub unkept : (k : Bool) (ts us : Tokens) (n m : Nest) → k ≡ false → LeadsOn ts.past ts.left n us.past us.left m → us.unended ≡ ts.unended → us.edition ≡ ts.edition
-    → (e : Extent) (done : List ℕ) (last : ℕ) (o : Option Tokens) → clipped k (taking e done last o m us) ≡ clipped k (taking e done last o n ts)
+    → (e : Extent) (done : List ℕ) (last : ℕ) (o : Option Tokens) → clipped_excerpt k (taking e done last o m us) ≡ clipped_excerpt k (taking e done last o n ts)
 unkept k ts us n m f h i j e done last o =
     rw f (text_clipped e done [] last 0 o m us ∙ h.same e o us.unended us.edition
     ∙ ap (λ u. taking_on ts.past ts.left n e o u us.edition) i ∙ ap (λ y. taking_on ts.past ts.left n e o ts.unended y) j
@@ -200,19 +200,19 @@ module _ (e : Extent) (o : Option Tokens) (n : Nest) (y : EditionYear) (t : Piec
   last_here p f =
       let ts = tokens_at y p (t ∷ left) u in
       let b = behind_is n y p t left u deep in
-      ap (clipped false) (taking_end e [] 0 o n ts (goes_on e n y p t left u deep) (ap (λ k. ends e (is_mark n.before) k ts) b ∙ f))
+      ap (clipped_excerpt false) (taking_end e [] 0 o n ts (goes_on e n y p t left u deep) (ap (λ k. ends e (is_mark n.before) k ts) b ∙ f))
       ∙ ap (λ k. (excerpt [] (is_whole k) (block_at (opened_behind o n ts) ts), bumped ts)) b
       ∙ ap (λ k. (excerpt [] (is_whole (inside_behind n (symbol_of t))) (block_at k ts), bumped ts)) (still o n ts deep)
 
   more_here : (p : ℕ) → ends e (is_mark n.before) (inside_behind n (symbol_of t)) (tokens_at y p (t ∷ left) u) ≡ false
-      → taking_on p (t ∷ left) n e o u y ≡ clipped false (taking e [] 0 o (inside_behind n (symbol_of t)) (bumped (tokens_at y p (t ∷ left) u)))
+      → taking_on p (t ∷ left) n e o u y ≡ clipped_excerpt false (taking e [] 0 o (inside_behind n (symbol_of t)) (bumped (tokens_at y p (t ∷ left) u)))
   more_here p f =
       let ts = tokens_at y p (t ∷ left) u in
       let b = behind_is n y p t left u deep in
-      ap (clipped false) (taking_more e [] 0 o n ts (goes_on e n y p t left u deep) (ap (λ k. ends e (is_mark n.before) k ts) b ∙ f))
+      ap (clipped_excerpt false) (taking_more e [] 0 o n ts (goes_on e n y p t left u deep) (ap (λ k. ends e (is_mark n.before) k ts) b ∙ f))
       ∙ text_clipped e (more e 0 [] ts) [] (symbol ts) 0 (opened_behind o n ts) (nest_behind n ts) (bumped ts)
-      ∙ ap (λ k. clipped false (taking e [] 0 k (nest_behind n ts) (bumped ts))) (still o n ts deep)
-      ∙ ap (λ k. clipped false (taking e [] 0 o k (bumped ts))) b
+      ∙ ap (λ k. clipped_excerpt false (taking e [] 0 k (nest_behind n ts) (bumped ts))) (still o n ts deep)
+      ∙ ap (λ k. clipped_excerpt false (taking e [] 0 o k (bumped ts))) b
 
   place_same : (p q : ℕ) → taking_on q (t ∷ left) n e o u y ≡ taking_on p (t ∷ left) n e o u y
   place_same p q =
@@ -223,7 +223,7 @@ module _ (e : Extent) (o : Option Tokens) (n : Nest) (y : EditionYear) (t : Piec
       ∙ ap (λ b. (excerpt [] (is_whole k) b, bumped (tokens_at y q (t ∷ left) u))) (block_same o y q p t left u)
       ∙ ap (λ b. (excerpt [] (is_whole k) (block_at o (tokens_at y p (t ∷ left) u)), b)) (bumped_same y q p t left u)
       ∙ sym (last_here p f))
-      (λ f. more_here q (same ∙ f) ∙ ap (λ b. clipped false (taking e [] 0 o k b)) (bumped_same y q p t left u) ∙ sym (more_here p f))
+      (λ f. more_here q (same ∙ f) ∙ ap (λ b. clipped_excerpt false (taking e [] 0 o k b)) (bumped_same y q p t left u) ∙ sym (more_here p f))
 
 leads_here : (p q : ℕ) (t : Piece) (left : List Piece) (n : Nest) → (n.braces == 0) ≡ false → LeadsOn p (t ∷ left) n q (t ∷ left) n
 leads_here p q t left n deep = record {

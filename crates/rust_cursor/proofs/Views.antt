@@ -1,12 +1,12 @@
 -- What is seen of tokens beside.
 use Rattle.std.proofs.Common.{◌≡◌, ◌≤◌, ◌<◌, ℕ, ◌+◌, ◌==◌, true, false, Option, List, [], ◌∷◌, ◌++◌, length, refl, ◌∙◌, sym, subst, arith, map, nat_lt}
-use Rattle.rust_cursor.proofs.Common.{nat_tests, TokenKind, Piece, symbol_of, moved, Tokens, end_of, is_open, is_close, word_by, by_first, symbol, word, text, at, is_empty, is_at_open, is_at_end, bumped, is_glued, Bodies, AreBefore, AreBehind, AreOpen, Beside, ahead, behind}
+use Rattle.rust_cursor.proofs.Common.{nat_tests, TokenKind, Piece, symbol_of, moved_piece, Tokens, end_of, is_open, is_close, word_by, by_first, symbol, word, text, at, is_empty, is_at_open, is_at_end, bumped, is_glued, Bodies, AreBefore, AreBehind, AreOpen, Beside, ahead, behind}
 use Rattle.rust_lexer.specs.declared.kind.TokenKind.TheVariants as kinds
-use Rattle.rust_cursor.proofs.Leads.{when}
-use Rattle.rust_cursor.proofs.Twins.{Twins, is_edge}
+use Rattle.rust_cursor.proofs.TokenRests.{when}
+use Rattle.rust_cursor.proofs.TwinTokens.{Twins, is_edge}
 
 -- a view of a token that asks not where it stands
-pub first_same : (b : Bodies) {A : Type 0} (default : A) (view : Piece → A) → ((d : ℕ) (t : Piece) → view (moved d t) ≡ view t) → (ts us : Tokens) → Beside b ts us
+pub first_same : (b : Bodies) {A : Type 0} (default : A) (view : Piece → A) → ((d : ℕ) (t : Piece) → view (moved_piece d t) ≡ view t) → (ts us : Tokens) → Beside b ts us
     → by_first default view us.left ≡ by_first default view ts.left
 first_same b default view still ts us (behind past (t ∷ r) u u' i) = still b.by_new t ∙ sym (still b.by t)
 first_same b default view still ts us (ahead past [] r u u' i j) = refl
@@ -53,20 +53,20 @@ glued_same b ts us (ahead past (t ∷ x) r u u' i j) = refl
 -- ---- one token further
 
 pub next_ahead : (b : Bodies) (past : ℕ) (t : Piece) (x r : List Piece) (u u' : Option ℕ) → AreBefore b.opening.at (end_of t) x → AreOpen b r
-    → Beside b (bumped (record { past = past; left = t ∷ (x ++ b.opening ∷ (b.old ++ moved b.by b.closing ∷ map (moved b.by) r)); unended = u; edition = b.edition }))
-    (bumped (record { past = past; left = t ∷ (x ++ b.opening ∷ (b.new ++ moved b.by_new b.closing ∷ map (moved b.by_new) r)); unended = u'; edition = b.edition }))
+    → Beside b (bumped (record { past = past; left = t ∷ (x ++ b.opening ∷ (b.old ++ moved_piece b.by b.closing ∷ map (moved_piece b.by) r)); unended = u; edition = b.edition }))
+    (bumped (record { past = past; left = t ∷ (x ++ b.opening ∷ (b.new ++ moved_piece b.by_new b.closing ∷ map (moved_piece b.by_new) r)); unended = u'; edition = b.edition }))
 unfolding bumped
 next_ahead b past t x r u u' i j = ahead (end_of t) x r u u' i j
 
 -- behind a token that stands behind the braces; where the one before it ended does not matter
 pub next_behind : (b : Bodies) (past past' : ℕ) (t : Piece) (r : List Piece) (u u' : Option ℕ) → AreBehind (end_of b.closing) (end_of t) r
-    → Beside b (bumped (record { past = past; left = moved b.by t ∷ map (moved b.by) r; unended = u; edition = b.edition })) (bumped (record { past = past'; left = moved b.by_new t ∷ map (moved b.by_new) r; unended = u'; edition = b.edition }))
+    → Beside b (bumped (record { past = past; left = moved_piece b.by t ∷ map (moved_piece b.by) r; unended = u; edition = b.edition })) (bumped (record { past = past'; left = moved_piece b.by_new t ∷ map (moved_piece b.by_new) r; unended = u'; edition = b.edition }))
 unfolding bumped
 next_behind b past past' t r u u' i =
     let old : t.at + length t.text + b.by ≡ t.at + b.by + length t.text = omega arith in
     let new : t.at + length t.text + b.by_new ≡ t.at + b.by_new + length t.text = omega arith in
-    subst (λ (n : ℕ). Beside b (record { past = n; left = map (moved b.by) r; unended = u; edition = b.edition }) (record { past = t.at + b.by_new + length t.text; left = map (moved b.by_new) r; unended = u'; edition = b.edition })) old
-    (subst (λ (n : ℕ). Beside b (record { past = t.at + length t.text + b.by; left = map (moved b.by) r; unended = u; edition = b.edition }) (record { past = n; left = map (moved b.by_new) r; unended = u'; edition = b.edition })) new (behind (end_of t) r u u' i))
+    subst (λ (n : ℕ). Beside b (record { past = n; left = map (moved_piece b.by) r; unended = u; edition = b.edition }) (record { past = t.at + b.by_new + length t.text; left = map (moved_piece b.by_new) r; unended = u'; edition = b.edition })) old
+    (subst (λ (n : ℕ). Beside b (record { past = t.at + length t.text + b.by; left = map (moved_piece b.by) r; unended = u; edition = b.edition }) (record { past = n; left = map (moved_piece b.by_new) r; unended = u'; edition = b.edition })) new (behind (end_of t) r u u' i))
 
 pub next_none : (b : Bodies) (past : ℕ) (u u' : Option ℕ) → end_of b.closing ≤ past
     → Beside b (bumped (record { past = past + b.by; left = []; unended = u; edition = b.edition })) (bumped (record { past = past + b.by_new; left = []; unended = u'; edition = b.edition }))

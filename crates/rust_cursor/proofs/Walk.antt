@@ -1,11 +1,11 @@
 -- Walks over tokens beside: what passes over tokens and whole braces comes to tokens beside.
 use Rattle.std.proofs.Common.{◌≡◌, ◌≤◌, ◌<◌, ℕ, zero, suc, ◌+◌, ◌==◌, Bool, true, false, Option, Some, List, [], ◌∷◌, ◌++◌, length, refl, ap, ◌∙◌, sym, subst, arith, map, length-append, if◌then◌else◌}
-use Rattle.rust_cursor.proofs.Common.{nat_tests, EditionYear, Piece, symbol_of, moved, braces_from, Before, Nest, Tokens, end_of, symbol, is_empty, bumped, behind_braces, nest_inside, nest_behind, Bodies, AreOpen, Beside, ahead, behind}
-use Rattle.rust_cursor.proofs.Leads.{when}
+use Rattle.rust_cursor.proofs.Common.{nat_tests, EditionYear, Piece, symbol_of, moved_piece, braces_from, Before, Nest, Tokens, end_of, symbol, is_empty, bumped, behind_braces, nest_inside, nest_behind, Bodies, AreOpen, Beside, ahead, behind}
+use Rattle.rust_cursor.proofs.TokenRests.{when}
 use Rattle.rust_cursor.proofs.Nesting.{shorter}
 use Rattle.rust_cursor.proofs.Views.{beside_twins, symbol_same, next_ahead, next_behind}
 use Rattle.rust_cursor.proofs.Tests.{nest_same}
-use Rattle.rust_cursor.proofs.Braced.{tokens_at, symbol_at, some_at, bumped_at, inside_is, Deeper, enters, deeper_on, brace_step, Walks, Stays, through}
+use Rattle.rust_cursor.proofs.BraceWalks.{tokens_at, symbol_at, some_at, bumped_at, inside_is, Deeper, enters, deeper_on, brace_step, Walks, Stays, through}
 
 -- ---- nests that differ in what is counted for problems alone
 
@@ -129,13 +129,13 @@ module _ {S R V : Type 0} (rest : S → Nest → Tokens → R) (step : S → Nes
       (λ q. rw (w.more s n ts p q, w.more s' (inner_by n i t) us (stops' ∙ p) (ends' ∙ q), is) (more _ _ m _ _ (w.seen_beside b s s' n i t ts us a h))))
 
   -- the braces
-  block : (fuel past : ℕ) (r : List Piece) (u u' : Option ℕ) → AreOpen b r → Steps fuel → (let ts = tokens_at b.edition past (b.opening ∷ (b.old ++ moved b.by b.closing ∷ map (moved b.by) r)) u in
-      let us = tokens_at b.edition past (b.opening ∷ (b.new ++ moved b.by_new b.closing ∷ map (moved b.by_new) r)) u' in
+  block : (fuel past : ℕ) (r : List Piece) (u u' : Option ℕ) → AreOpen b r → Steps fuel → (let ts = tokens_at b.edition past (b.opening ∷ (b.old ++ moved_piece b.by b.closing ∷ map (moved_piece b.by) r)) u in
+      let us = tokens_at b.edition past (b.opening ∷ (b.new ++ moved_piece b.by_new b.closing ∷ map (moved_piece b.by_new) r)) u' in
       length ts.left ≤ fuel → Beside b ts us → (s s' : S) (n : Nest) (i : ℕ) (t : Bool) → alike b (seen s) (seen s') → beside b (rest s n ts) (rest s' (inner_by n i t) us))
   block fuel past r u u' j more le h s s' n i t a =
       let c = b.closing in
-      let left = moved b.by c ∷ map (moved b.by) r in
-      let left' = moved b.by_new c ∷ map (moved b.by_new) r in
+      let left = moved_piece b.by c ∷ map (moved_piece b.by) r in
+      let left' = moved_piece b.by_new c ∷ map (moved_piece b.by_new) r in
       let ts = tokens_at b.edition past (b.opening ∷ (b.old ++ left)) u in
       let us = tokens_at b.edition past (b.opening ∷ (b.new ++ left')) u' in
       let stops' : stops (inner_by n i t) us ≡ stops n ts = w.stops_inner n i t us ∙ w.stops_beside b n ts us h in
@@ -149,17 +149,17 @@ module _ {S R V : Type 0} (rest : S → Nest → Tokens → R) (step : S → Nes
       let next : Beside b (bumped tc) (bumped uc) = next_behind b one.past two.past c r u u' j.behind in
       let m = nest_behind one.nest tc in
       let m' = nest_behind two.nest uc in
-      let shuts : symbol tc ≡ 125 = symbol_at b.edition one.past (moved b.by c) (map (moved b.by) r) u ∙ b.closes in
-      let shuts' : symbol uc ≡ 125 = symbol_at b.edition two.past (moved b.by_new c) (map (moved b.by_new) r) u' ∙ b.closes in
+      let shuts : symbol tc ≡ 125 = symbol_at b.edition one.past (moved_piece b.by c) (map (moved_piece b.by) r) u ∙ b.closes in
+      let shuts' : symbol uc ≡ 125 = symbol_at b.edition two.past (moved_piece b.by_new c) (map (moved_piece b.by_new) r) u' ∙ b.closes in
       let m_is = shut n one.nest tc one.deeper shuts in
       let m'_is = shut (inner_by n i t) two.nest uc two.deeper shuts' in
       let same : m' ≡ inner_by m m'.inner m'.is_torn = m'_is ∙ ap (λ (k : Nest). inner_by k m'.inner m'.is_torn) (sym m_is) in
-      let go = w.deep_stops one.nest tc (some_at b.edition one.past (moved b.by c) (map (moved b.by) r) u) (suc_off one.nest n.braces one.deeper.braces) in
-      let go' = w.deep_stops two.nest uc (some_at b.edition two.past (moved b.by_new c) (map (moved b.by_new) r) u') (suc_off two.nest n.braces two.deeper.braces) in
+      let go = w.deep_stops one.nest tc (some_at b.edition one.past (moved_piece b.by c) (map (moved_piece b.by) r) u) (suc_off one.nest n.braces one.deeper.braces) in
+      let go' = w.deep_stops two.nest uc (some_at b.edition two.past (moved_piece b.by_new c) (map (moved_piece b.by_new) r) u') (suc_off two.nest n.braces two.deeper.braces) in
       let ends' : ends two.nest.before m' uc ≡ ends one.nest.before m tc =
       ap (λ (k : Before). ends k m' uc) (two.deeper.before ∙ sym one.deeper.before) ∙ ap (λ (k : Nest). ends one.nest.before k uc) same
       ∙ w.ends_inner one.nest.before m _ _ uc ∙ w.ends_beside b one.nest.before m tc uc (shuts' ∙ sym shuts) next in
-      let less = shorter tc (some_at b.edition one.past (moved b.by c) (map (moved b.by) r) u) in
+      let less = shorter tc (some_at b.edition one.past (moved_piece b.by c) (map (moved_piece b.by) r) u) in
       let long = length-append b.old left in
       let entered : alike b (seen (step s n ts)) (seen (step s' (inner_by n i t) us)) = w.seen_beside b s s' n i t ts us a h in
       let inside : alike b (seen one.state) (seen two.state) = rw (one.stays, two.stays) entered in
@@ -174,8 +174,8 @@ module _ {S R V : Type 0} (rest : S → Nest → Tokens → R) (step : S → Nes
   steps zero ts us le h s s' n i t a = absurd (omega arith)
   steps (suc fuel) ts us le (ahead past [] r u u' f j) s s' n i t a = block fuel past r u u' j (steps fuel) (omega arith) (ahead past [] r u u' f j) s s' n i t a
   steps (suc fuel) ts us le (ahead past (p ∷ x) r u u' f j) s s' n i t a =
-      let left = x ++ b.opening ∷ (b.old ++ moved b.by b.closing ∷ map (moved b.by) r) in
-      let left' = x ++ b.opening ∷ (b.new ++ moved b.by_new b.closing ∷ map (moved b.by_new) r) in
+      let left = x ++ b.opening ∷ (b.old ++ moved_piece b.by b.closing ∷ map (moved_piece b.by) r) in
+      let left' = x ++ b.opening ∷ (b.new ++ moved_piece b.by_new b.closing ∷ map (moved_piece b.by_new) r) in
       let some = some_at b.edition past p left u in
       let less = shorter (tokens_at b.edition past (p ∷ left) u) some in
       let next = next_ahead b past p x r u u' f.1 j in
@@ -186,11 +186,11 @@ module _ {S R V : Type 0} (rest : S → Nest → Tokens → R) (step : S → Nes
       let us = tokens_at b.edition (past + b.by_new) [] u' in
       rw (w.stop s n ts (w.none n ts (nothing b.edition (past + b.by) u)), w.stop s' (inner_by n i t) us (w.none (inner_by n i t) us (nothing b.edition (past + b.by_new) u'))) (w.stopped_beside b s s' n (inner_by n i t) ts us a (behind past [] u u' f))
   steps (suc fuel) ts us le (behind past (p ∷ r) u u' f) s s' n i t a =
-      let left = map (moved b.by) r in
-      let left' = map (moved b.by_new) r in
-      let ts = tokens_at b.edition (past + b.by) (moved b.by p ∷ left) u in
-      let us = tokens_at b.edition (past + b.by_new) (moved b.by_new p ∷ left') u' in
-      let some = some_at b.edition (past + b.by) (moved b.by p) left u in
+      let left = map (moved_piece b.by) r in
+      let left' = map (moved_piece b.by_new) r in
+      let ts = tokens_at b.edition (past + b.by) (moved_piece b.by p ∷ left) u in
+      let us = tokens_at b.edition (past + b.by_new) (moved_piece b.by_new p ∷ left') u' in
+      let some = some_at b.edition (past + b.by) (moved_piece b.by p) left u in
       let less = shorter ts some in
       let next = next_behind b (past + b.by) (past + b.by_new) p r u u' f.1 in
       one ts us s s' n i t a (behind past (p ∷ r) u u' f) next some (λ s s' n i t a. steps fuel (bumped ts) (bumped us) (omega arith) next s s' n i t a)

@@ -1,14 +1,14 @@
 -- What reads in braces and stays in them leaves the `}` of the braces around where it is.
 use Rattle.std.proofs.Common.{◌≡◌, ◌≢◌, ℕ, zero, suc, ◌==◌, ◌&&◌, Bool, true, false, Option, None, List, [], ◌∷◌, refl, ap, ◌∙◌, sym, subst, arith, bytes_eq}
-use Rattle.rust_cursor.proofs.Common.{eqb-true, or_parts, nat_tests, TokenKind, Piece, symbol_of, Nest, Reach, Tokens, Reader, opens, closes, word_by, by_first, symbol, word, is_empty, is_at_open, is_at_end, bumped, is_glued, is_pair, eat_pair, opens_other, braces_behind, is_flat, is_mark, nest_behind, behind_closing, to_closing, behind_closed, behind_tree, beyond, turns_from, turns, elements, stops, ends, opened_behind, more, taking, taken, tree_text, closes_around, is_reached, is_closed, reaching, reached, behind_angles}
+use Rattle.rust_cursor.proofs.Common.{eqb-true, or_parts, nat_tests, TokenKind, Piece, symbol_of, Nest, Reach, Tokens, Reader, opens, closes, word_by, by_first, symbol, word, is_empty, is_at_open, is_at_end, bumped, is_glued, is_pair, eat_pair, opens_other, braces_behind, is_flat, is_mark, nest_behind, behind_closing, to_closing, behind_closed, behind_tree, progress_from, turns_from, turns, elements, stops, ends, opened_behind, more, taking, excerpt_behind, tree_text, closes_around, is_reached, is_closed, reach_from, reach_end, behind_angles}
 use Rattle.rust_lexer.specs.declared.kind.TokenKind.TheVariants as kinds
 use Rattle.rust_cursor.specs.declared.cursor.generics.Reach.TheVariants as reaches
 use Rattle.rust_cursor.specs.declared.cursor.texts.Extent.TheVariants as extents
-use Rattle.rust_cursor.proofs.Leads.{behind_closing_leads, bumped_leads, LeadsTo, here, through, Forwards, when, from_last, symbol_some, beyond_leads, stops_empty, reached_empty}
+use Rattle.rust_cursor.proofs.TokenRests.{behind_closing_leads, bumped_leads, LeadsTo, here, through, Forwards, when, from_last, symbol_some, beyond_leads, stops_empty, reached_empty}
 use Rattle.rust_cursor.proofs.Scans.{taking_stop, taking_end, taking_more}
 use Rattle.rust_cursor.proofs.Reaches.{reaching_stop, reaching_end, reaching_more}
-use Rattle.rust_cursor.proofs.Laid.{IsLaid, behind}
-use Rattle.rust_cursor.proofs.Local.{both_true}
+use Rattle.rust_cursor.proofs.TokenPlaces.{IsLaid, behind}
+use Rattle.rust_cursor.proofs.LocalReaders.{both_true}
 use Rattle.rust_cursor.proofs.ClosingBrace.{Seen, Shuts, around, by_brace, by_other, from_flat, is_plain, next_of, other_around, others_next, out_curly, out_round, plain_upto, seen_at, seen_next, shut_not, still_there, to_around, upto, upto_more}
 use Rattle.rust_cursor.proofs.SoundTokens.{IsSound, NoCloser, OpensAt, closer_shuts, curly, end_is, not_end, open_is, opens_at, opens_no_closer, other_opens, round, sound_on}
 
@@ -93,8 +93,8 @@ tree_within end c ts s n =
     (λ e. let p = or_parts (symbol ts == 123) (opens_other (symbol ts)) (sym (open_is end ts s) ∙ e) in
     rw e (same_within c (bumped ts) ts (plain_upto c ts (record { opens_brace = p.0; closes_brace = n.no_brace; opens = p.1; closes = n.no_other }))))
 
-beyond_within : (end c : ℕ) (ts us : Tokens) → IsSound end ts → LeadsTo ts us → NoCloser (symbol ts) → Within c us ts → Within c (beyond ts.past us) ts
-unfolding beyond
+beyond_within : (end c : ℕ) (ts us : Tokens) → IsSound end ts → LeadsTo ts us → NoCloser (symbol ts) → Within c us ts → Within c (progress_from ts.past us) ts
+unfolding progress_from
 beyond_within end c ts us s p n w =
     when (us.past == ts.past)
     (λ e. let same : us ≡ ts = still_there end p s.laid (eqb-true us.past ts.past e) in rw e (subst (λ (t : Tokens). Within c (behind_tree t) ts) (sym same) (tree_within end c ts s n)))
@@ -111,7 +111,7 @@ turns_from_within : {A : Type 0} (end c : ℕ) (ends : Tokens → Bool) (reader 
 turns_from_within end c ends reader leads each shuts zero done ts s = here
 turns_from_within end c ends reader leads each shuts (suc n) done ts s =
     when (ends ts) (λ e. rw e here)
-    (λ e. rw e (through (turns_from_within end c ends reader leads each shuts n _ (beyond ts.past (reader ts).1) (sound_on end (through (leads ts) (beyond_leads ts.past (reader ts).1)) s))
+    (λ e. rw e (through (turns_from_within end c ends reader leads each shuts n _ (progress_from ts.past (reader ts).1) (sound_on end (through (leads ts) (beyond_leads ts.past (reader ts).1)) s))
     (beyond_within end c ts (reader ts).1 s (leads ts) (shuts ts s e) (each ts s e))))
 
 pub turns_within : {A : Type 0} (end c : ℕ) (ends : Tokens → Bool) (reader : Reader (List A)) → Forwards reader → ((ts : Tokens) → IsSound end ts → ends ts ≡ false → Within c (reader ts).1 ts)
@@ -170,10 +170,10 @@ module _ (end c : ℕ) (r : Reach) (bars : Bars r) where
   not_none : (n : Nest) (ts : Tokens) → is_reached r n ts ≡ false → is_empty ts ≡ false
   not_none n ts p = when (is_empty ts) (λ e. let yes = reached_empty r n ts e in absurd cc) (λ e. e)
 
-  reached_within : (ts : Tokens) → IsSound end ts → Within c (reached r ts) ts
-  unfolding reached
+  reached_within : (ts : Tokens) → IsSound end ts → Within c (reach_end r ts) ts
+  unfolding reach_end
   reached_within ts s =
-      go_within c (λ (s : Unit {0}) n ts. reaching r n ts) (λ s n ts. s) (is_reached r) (λ n ts. is_closed r (nest_behind n ts))
+      go_within c (λ (s : Unit {0}) n ts. reach_from r n ts) (λ s n ts. s) (is_reached r) (λ n ts. is_closed r (nest_behind n ts))
       (λ s n ts p. reaching_stop r n ts p) (λ s n ts p q. reaching_end r n ts p q) (λ s n ts p q. reaching_more r n ts p q) (reached_empty r)
       (λ n ts. IsSound end ts) (λ n ts o p h. not_shut end c n ts o (not_none n ts p) (no_bar n ts p (not_none n ts p)) h) (λ n ts o p q. sound_on end (bumped_leads ts) o) ts tt _ s
 
@@ -201,7 +201,7 @@ abbrev State : Type 0
 State = List ℕ × ℕ × Option Tokens
 
 pub tree_text_within : (c : ℕ) (ts : Tokens) → NoCloser (symbol ts) → Within c (tree_text ts).1 ts
-unfolding taken
+unfolding excerpt_behind
 tree_text_within c ts f =
     go_within c (λ (s : State) n ts. (taking extents.Tree s.0 s.1 s.2 n ts).1) (λ s n ts. (more extents.Tree s.1 s.0 ts, symbol ts, opened_behind s.2 n ts)) (stops extents.Tree) (λ n ts. ends extents.Tree (is_mark n.before) (nest_behind n ts) ts)
     (λ s n ts p. ap (λ r. r.1) (taking_stop extents.Tree s.0 s.1 s.2 n ts p)) (λ s n ts p q. ap (λ r. r.1) (taking_end extents.Tree s.0 s.1 s.2 n ts p q)) (λ s n ts p q. ap (λ r. r.1) (taking_more extents.Tree s.0 s.1 s.2 n ts p q))

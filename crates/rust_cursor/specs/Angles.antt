@@ -9,7 +9,7 @@ use Rattle.rust_cursor.specs.declared.cursor.generics.Reach.{Reach}
 use Rattle.rust_cursor.specs.declared.cursor.generics.Reach.TheVariants as reaches
 use Rattle.rust_cursor.specs.Tokens.{Tokens}
 use Rattle.rust_cursor.specs.Words.{symbol, word, kind, is_empty, is_at_end, bumped}
-use Rattle.rust_cursor.specs.Nests.{begun, is_flat, is_mark, passing_from}
+use Rattle.rust_cursor.specs.Nests.{before_type, is_flat, is_mark, passing_from}
 use Rattle.rust_cursor.specs.Extents.{begins, goes_on}
 
 abbrev pub is_lifetime : Option TokenKind → Bool
@@ -62,24 +62,24 @@ is_closed reaches.Angles nest = is_flat nest && nest.angles == 0
 is_closed reaches.Field nest = false
 is_closed reaches.Header nest = false
 
-unfoldable pub reaching : Reach → Nest → Tokens → Tokens
-reaching reach nest ts = passing_from (is_reached reach) (is_closed reach) nest ts ts.left
+unfoldable pub reach_from : Reach → Nest → Tokens → Tokens
+reach_from reach nest ts = passing_from (is_reached reach) (is_closed reach) nest ts ts.left
 
-unfoldable pub reached : Reach → Tokens → Tokens
-reached reach ts = reaching reach begun ts
+unfoldable pub reach_end : Reach → Tokens → Tokens
+reach_end reach ts = reach_from reach before_type ts
 
 -- What is left behind the `>` that closes a `<`, if that comes next; where none does, before a semicolon, a bracket that closes or what begins an
 -- item, and behind a block that an item ends with.
 unfoldable pub behind_angles : Tokens → Tokens
-behind_angles ts = if symbol ts == 60 then reached reaches.Angles ts else ts
+behind_angles ts = if symbol ts == 60 then reach_end reaches.Angles ts else ts
 
 -- what is left from the comma or the bracket that closes on that ends a field's type, or from what begins an item
 abbrev pub behind_field : Tokens → Tokens
-behind_field = reached reaches.Field
+behind_field = reach_end reaches.Field
 
 -- what is left from the end of an impl's header on
 abbrev pub behind_header : Tokens → Tokens
-behind_header = reached reaches.Header
+behind_header = reach_end reaches.Header
 
 -- Behind `impl` and its generics: a `for` stands in no bracket before the items and in the impl, which ends here; and so before it a trait's name.
 unfoldable pub is_trait_impl : ℕ → Tokens → Bool

@@ -3,7 +3,7 @@ use Rattle.std.specs.Prelude.{ℕ, ◌==◌, Bool, true, false, not, ◌&&◌, i
 use Rattle.rust_cursor.specs.declared.cursor.nest.Nest.{Nest}
 use Rattle.rust_cursor.specs.Tokens.{Tokens}
 use Rattle.rust_cursor.specs.Words.{symbol, is_empty, is_at_open, bumped}
-use Rattle.rust_cursor.specs.Nests.{flat, closes_other, passing_from}
+use Rattle.rust_cursor.specs.Nests.{no_bracket, closes_other, passing_from}
 
 -- In no brace that was opened since: the next token closes the bracket that this symbol opened, or the braces around it.
 abbrev pub shuts : ℕ → Nest → Tokens → Bool
@@ -17,7 +17,7 @@ closing bracket nest ts = passing_from (is_closing bracket) (λ _. false) nest t
 
 -- What is left from the bracket on that closes one that was opened by this symbol, or the braces around that; or nothing.
 unfoldable pub to_closing : ℕ → Tokens → Tokens
-to_closing bracket ts = closing bracket flat ts
+to_closing bracket ts = closing bracket no_bracket ts
 
 -- behind the bracket; one around it is not taken
 abbrev pub behind_closing : ℕ → Tokens → Tokens

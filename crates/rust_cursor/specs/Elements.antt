@@ -6,21 +6,21 @@ use Rattle.rust_cursor.specs.Words.{is_at_end}
 use Rattle.rust_cursor.specs.Brackets.{behind_tree}
 
 -- no text has more tokens
-unfoldable pub most : ℕ
-most = 18446744073709551615
+unfoldable pub most_tokens : ℕ
+most_tokens = 18446744073709551615
 
 -- Where no token was taken since this place, one is passed over, or what stands in brackets.
-unfoldable pub beyond : ℕ → Tokens → Tokens
-beyond past ts = if ts.past == past then behind_tree ts else ts
+unfoldable pub progress_from : ℕ → Tokens → Tokens
+progress_from past ts = if ts.past == past then behind_tree ts else ts
 
 -- As many turns of a reader as stand there before an end, at most so many. A turn that takes nothing passes over a token.
 abbrev pub turns_from : {A : Type 0} → (Tokens → Bool) → Reader (List A) → ℕ → List A → Reader (List A)
 turns_from ends reader zero done ts = (done, ts)
 turns_from ends reader (suc n) done ts =
-    if ends ts then (done, ts) else turns_from ends reader n (done ++ (reader ts).0) (beyond ts.past (reader ts).1)
+    if ends ts then (done, ts) else turns_from ends reader n (done ++ (reader ts).0) (progress_from ts.past (reader ts).1)
 
 unfoldable pub turns : {A : Type 0} → (Tokens → Bool) → Reader (List A) → Reader (List A)
-turns ends reader ts = turns_from ends reader most [] ts
+turns ends reader ts = turns_from ends reader most_tokens [] ts
 
 -- the elements up to a bracket that closes, or to the end
 abbrev pub elements : {A : Type 0} → Reader (List A) → Reader (List A)

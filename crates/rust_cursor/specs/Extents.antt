@@ -196,13 +196,13 @@ abbrev pub kept_text : Bool → List ℕ → List ℕ
 kept_text keeps text = if keeps then text else []
 
 -- the same reading, without its text unless that is kept
-abbrev pub clipped : Bool → ExcerptRead × Tokens → ExcerptRead × Tokens
-clipped keeps read = (excerpt (kept_text keeps read.0.text) read.0.is_ended read.0.block, read.1)
+abbrev pub clipped_excerpt : Bool → ExcerptRead × Tokens → ExcerptRead × Tokens
+clipped_excerpt keeps read = (excerpt (kept_text keeps read.0.text) read.0.is_ended read.0.block, read.1)
 
 -- what is taken of these tokens behind a place where no text is kept
 abbrev pub taking_on : ℕ → List Piece → Nest → Extent → Option Tokens → Option ℕ → EditionYear → ExcerptRead × Tokens
 taking_on past left nest e opened u y =
-    clipped false (taking e [] 0 opened nest (record { past = past; left = left; unended = u; edition = y }))
+    clipped_excerpt false (taking e [] 0 opened nest (record { past = past; left = left; unended = u; edition = y }))
 
 -- Where no text is kept, taking goes on from the second place, in these braces, as from the first.
 pub record LeadsOn (past : ℕ) (left : List Piece) (nest : Nest) (past' : ℕ) (left' : List Piece) (nest' : Nest) : Type 0 where
@@ -214,12 +214,12 @@ pub record LeadsOn (past : ℕ) (left : List Piece) (nest : Nest) (past' : ℕ) 
   pub angles : nest'.angles ≡ nest.angles
 
 -- where what comes first stands behind this
-unfoldable pub taken : Before → Extent → Reader ExcerptRead
-taken before e ts = taking e [] 0 None (flat_behind before) ts
+unfoldable pub excerpt_behind : Before → Extent → Reader ExcerptRead
+excerpt_behind before e ts = taking e [] 0 None (flat_behind before) ts
 
 abbrev pub text_taken : Extent → Reader (List ℕ)
 text_taken e = do
-  read ← taken befores.End e
+  read ← excerpt_behind befores.End e
   pure read.text
 
 -- the text of a token, or of what stands in brackets with these
@@ -228,20 +228,20 @@ tree_text = text_taken extents.Tree
 
 -- the same with a blank between each two tokens, and whether the brackets are closed
 abbrev pub tree_body : Reader ExcerptRead
-tree_body = taken befores.End extents.Group
+tree_body = excerpt_behind befores.End extents.Group
 
 -- What is left of an item that ends with a semicolon, as `type`, `static` and `const`, and whether it ends so.
 abbrev pub value_rest : Reader ExcerptRead
-value_rest = taken befores.End extents.Value
+value_rest = excerpt_behind befores.End extents.Value
 
 -- what is left of an item that ends with a semicolon or a block, and whether it ends so
 abbrev pub item_rest : Reader ExcerptRead
-item_rest = taken befores.End extents.Item
+item_rest = excerpt_behind befores.End extents.Item
 
 -- the same behind the word `impl`, where nothing has ended: a type may begin with `!` or `impl`
 abbrev pub impl_rest : Reader ExcerptRead
-impl_rest = taken befores.Other extents.Item
+impl_rest = excerpt_behind befores.Other extents.Item
 
 -- what is left of a macro with parameters, which ends so too: in their brackets any tokens may stand
 abbrev pub macro_rest : Reader ExcerptRead
-macro_rest = taken befores.Mark extents.Macro
+macro_rest = excerpt_behind befores.Mark extents.Macro

@@ -7,7 +7,7 @@ pub mod Matched
 pub mod Elements
 pub mod Extents
 pub mod Angles
-pub mod Beside
+pub mod TokensBeside
 pub mod Inner
 pub mod Looks
 pub mod Grammar

@@ -5,7 +5,7 @@ use Rattle.rust_lexer.specs.declared.kind.TokenKind.{TokenKind}
 use Rattle.rust_lexer.specs.declared.kind.TokenKind.TheVariants as kinds
 use Rattle.rust_cursor.specs.Tokens.{Tokens}
 use Rattle.rust_cursor.specs.Words.{symbol, word, kind, text, bumped, is_at_end, is_at_identifier, is_at_open, is_pair}
-use Rattle.rust_cursor.specs.Elements.{most}
+use Rattle.rust_cursor.specs.Elements.{most_tokens}
 use Rattle.rust_cursor.specs.Extents.{begins_item}
 
 -- texts may part at such a symbol
@@ -77,7 +77,7 @@ sees (both_seen l m) ts = sees l ts && sees m ts
 sees (either_seen l m) ts = sees l ts || sees m ts
 sees (look_by l m k) ts = if sees l ts then sees m ts else sees k ts
 sees (then_seen l n m) ts = sees l ts && sees m (skip n ts)
-sees (past_seen l m) ts = sees m (past_from (sees l) most ts)
+sees (past_seen l m) ts = sees m (past_from (sees l) most_tokens ts)
 
 -- no bracket and no punctuation is of such a kind, nor is nothing
 abbrev pub is_flat_kind : (Option TokenKind → Bool) → Bool

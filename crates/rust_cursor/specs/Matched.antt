@@ -13,8 +13,8 @@ abbrev pub is_closer : ℕ → Bool
 is_closer c = c == 41 || (c == 93 || c == 125)
 
 -- what has to be closed behind this symbol, the last first
-abbrev pub opened : ℕ → List ℕ → List ℕ
-opened c due = if closer c == 0 then due else closer c ∷ due
+abbrev pub owed_closers : ℕ → List ℕ → List ℕ
+owed_closers c due = if closer c == 0 then due else closer c ∷ due
 
 -- what is behind the bracket that closes the first of those that are open, if all that is opened before is closed by its own
 abbrev pub behind_matching : List ℕ → List Piece → Option (List Piece)
@@ -22,7 +22,7 @@ behind_matching [] ts = Some ts
 behind_matching (c ∷ due) [] = None
 behind_matching (c ∷ due) (t ∷ ts) =
     if is_closer (symbol_of t) then (if symbol_of t == c then behind_matching due ts else None)
-    else behind_matching (opened (symbol_of t) (c ∷ due)) ts
+    else behind_matching (owed_closers (symbol_of t) (c ∷ due)) ts
 
 -- what is behind the next token, or behind the bracket that matches it
 abbrev pub behind_match : Tokens → Option (List Piece)

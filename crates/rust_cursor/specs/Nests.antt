@@ -139,12 +139,12 @@ abbrev pub flat_behind : Before → Nest
 flat_behind before = record { braces = 0; others = 0; free = 0; angles = 0; inner = 0; is_torn = false; before = before }
 
 -- in no bracket, where a type or a value may have ended
-abbrev pub flat : Nest
-flat = flat_behind befores.End
+abbrev pub no_bracket : Nest
+no_bracket = flat_behind befores.End
 
 -- in no bracket, where a type begins
-abbrev pub begun : Nest
-begun = flat_behind befores.Other
+abbrev pub before_type : Nest
+before_type = flat_behind befores.Other
 
 -- no bracket in braces was left open, and none closed nothing
 abbrev pub is_whole : Nest → Bool

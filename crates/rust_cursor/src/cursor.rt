@@ -71,7 +71,7 @@ fn note_last(token: &Token<'_>, lexer: &Lexer<'_>, last: &mut Option<usize>)
 
 /// Passes over white space, if that comes next.
 #[inline(always)]
-#[tactic(auto, using(crate::proofs::White::white_found, crate::proofs::White::white_last))]
+#[tactic(auto, using(crate::proofs::WhiteSpace::white_found, crate::proofs::WhiteSpace::white_last))]
 fn pass_white(lexer: &mut Lexer<'_>, last: &mut Option<usize>)
     ensures found { filter is_significant lexer.new ≡ filter is_significant lexer.old }
     ensures last { last_unended last.new lexer.new ≡ last_unended last.old lexer.old }
@@ -107,7 +107,7 @@ fn find_significant<'t>(
 
 impl<'t> Cursor<'t> {
     /// The tokens of a text of an edition.
-    #[tactic(auto, unfolding(crate::specs::Tokens::tokens_of), using(crate::proofs::Few::few))]
+    #[tactic(auto, unfolding(crate::specs::Tokens::tokens_of), using(crate::proofs::TokenCounts::few))]
     pub fn new(text: &'t str, edition: EditionYear) -> Self
         ensures { result ≡ tokens_of edition text.now }
     {
@@ -125,7 +125,7 @@ impl<'t> Cursor<'t> {
     }
 
     /// Another cursor at the same place, to look ahead.
-    pub fn ahead(&self) -> Self
+    pub fn look_ahead(&self) -> Self
         ensures { result ≡ self.now }
     {
         let next = match &self.next {
@@ -145,7 +145,7 @@ impl<'t> Cursor<'t> {
     pub fn second(&self) -> Self
         ensures { result ≡ spec.bumped self.now }
     {
-        let mut second = self.ahead();
+        let mut second = self.look_ahead();
         second.bump();
         second
     }
@@ -158,7 +158,7 @@ impl<'t> Cursor<'t> {
     }
 
     /// The byte place behind the last token that was taken, at first 0.
-    pub fn past(&self) -> usize
+    pub fn last_end(&self) -> usize
         ensures { result ≡ self.now.past }
     {
         self.past
@@ -273,7 +273,7 @@ impl<'t> Cursor<'t> {
     /// The byte place of the text's last token, white space and comments among them, if that is not ended.
     ///
     /// It reads what is left of the text again, which is nothing where no token is left.
-    pub fn unended(&self) -> Option<usize>
+    pub fn unended_token(&self) -> Option<usize>
         ensures { result ≡ self.now.unended }
     {
         let mut last = self.last;
@@ -288,7 +288,7 @@ impl<'t> Cursor<'t> {
 
     /// Takes one token, if one is left.
     #[inline(never)]
-    #[tactic(auto, unfolding(crate::specs::Words::bumped), using(crate::proofs::White::frequent_found, crate::proofs::White::frequent_last),)]
+    #[tactic(auto, unfolding(crate::specs::Words::bumped), using(crate::proofs::WhiteSpace::frequent_found, crate::proofs::WhiteSpace::frequent_last),)]
     pub fn bump(&mut self)
         ensures { self.new ≡ spec.bumped self.old }
     {

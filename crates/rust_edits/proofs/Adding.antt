@@ -1,6 +1,6 @@
 -- What stays so of what was found, whatever is read: items one after another, and those in items.
 use Rattle.std.proofs.Common.{◌==◌, ◌&&◌, ◌||◌, ◌++◌, ℕ, zero, suc, Bool, true, false, Option, Some, None, List, [], sym, subst}
-use Rattle.rust_edits.proofs.Common.{is_none, option_to_list, AstIdKind, MetaView, ItemView, Row, most, beyond, Tokens, symbol, at, eat, is_at_end, bumped, TextRange, inner_attributes, Head, FrontRead, front, leaf, LeafRead, NameRead, named, no_name, ProblemKind, Found, Finder, nothing_found, and_problem, and_problem_at, and_row, and_use_trees, and_all, BlockRead, span_of, needs_name, and_flaw, and_item, and_leaf, and_parent, leaf_found, leaf_turn, finding_from, finding, is_list_end, items, block_of, as_extern, extern_kept, extern_found, extern_turn, extern_inside, extern_block, inside_unless, module_with, by_head, turn_with, inside, depth_of, turn, LeadsTo, further, through, when, beyond_leads, eat_leads, inner_attributes_leads, front_start, front_takes, named_leads, Span, Finds, extern_turn_found, turn_with_found, inside_found, turn_found}
+use Rattle.rust_edits.proofs.Common.{is_none, option_to_list, AstIdKind, MetaView, ItemView, Row, most_tokens, progress_from, Tokens, symbol, at, eat, is_at_end, bumped, TextRange, inner_attributes, Head, FrontRead, front, leaf, LeafRead, NameRead, written_name, no_name, ProblemKind, Found, Finder, nothing_found, and_problem, and_problem_at, and_row, and_use_trees, and_all, BlockRead, span_of, needs_name, and_flaw, and_item, and_leaf, and_parent, leaf_found, leaf_turn, finding_from, finding, is_list_end, items, block_of, as_extern, extern_kept, extern_found, extern_turn, extern_inside, extern_block, inside_unless, module_with, by_head, turn_with, inside, depth_of, turn, LeadsTo, further, through, when, beyond_leads, eat_leads, inner_attributes_leads, front_start, front_takes, named_leads, Span, Finds, extern_turn_found, turn_with_found, inside_found, turn_found}
 use Rattle.hir_input.specs.declared.ids.AstIdKind.TheVariants as kind
 use Rattle.rust_leaves.specs.declared.head.Head.TheVariants as heads
 use Rattle.rust_items.specs.declared.log.ProblemKind.TheVariants as problem
@@ -51,10 +51,10 @@ module _ (end : ℕ) (w : Keeping end) where
   flaw f g true false start s h = h
   flaw f g false nameless start s h = w.told f g problem.Unfinished start s h
 
-  item : (depth start last : ℕ) (body named : Option TextRange) (k : AstIdKind) (name : List ℕ) (ended : Bool) (f : Found) → w.place start → w.body body → w.keeps f (and_item depth start last body k name named ended f)
-  item depth start last body named k name ended f s b =
+  item : (depth start last : ℕ) (body written_name : Option TextRange) (k : AstIdKind) (name : List ℕ) (ended : Bool) (f : Found) → w.place start → w.body body → w.keeps f (and_item depth start last body k name written_name ended f)
+  item depth start last body written_name k name ended f s b =
       let r : Row = record { depth = depth; kind = k; name = name } in
-      flaw f (and_row r (span_of start last body named) f) ended (is_none named && needs_name k) start s (w.row f f r (span_of start last body named) b (w.same f))
+      flaw f (and_row r (span_of start last body written_name) f) ended (is_none written_name && needs_name k) start s (w.row f f r (span_of start last body written_name) b (w.same f))
 
   one_leaf : (depth start last : ℕ) (l : LeafRead) (f : Found) → w.place start → IfLeaf w.body w.place (Some l) → w.keeps f (and_leaf depth start last l f)
   one_leaf depth start last l f s b =
@@ -85,14 +85,14 @@ module _ (end : ℕ) (w : Keeping end) where
   list_keeps ends each finds own zero done f ts p = w.same f
   list_keeps ends each finds own (suc n) done f ts p =
       let r = each f ts in
-      let next = beyond ts.past r.1.1 in
+      let next = progress_from ts.past r.1.1 in
       let rest = list_keeps ends each finds own n (done ++ option_to_list r.0) r.1.0 next (w.on r.1.1 next (beyond_leads ts.past r.1.1) (w.behind each finds f ts p)) in
       when (ends ts) (λ e. rw e (w.same f)) (λ e. rw e (w.joined f r.1.0 (finding_from ends each n (done ++ option_to_list r.0) r.1.0 next).1.0 (own f ts p) rest))
 
   block_keeps : (each : Finder (Option ItemView)) → Finds end each → Keeps each → Keeps (block_of each)
   unfolding finding
   block_keeps each finds own f ts p =
-      list_keeps (is_list_end false) each finds own most [] f (inner_attributes (bumped ts)).1 (w.on ts (inner_attributes (bumped ts)).1 (further (inner_attributes_leads (bumped ts))) p)
+      list_keeps (is_list_end false) each finds own most_tokens [] f (inner_attributes (bumped ts)).1 (w.on ts (inner_attributes (bumped ts)).1 (further (inner_attributes_leads (bumped ts))) p)
 
   -- ---- extern blocks
 
@@ -135,10 +135,10 @@ module _ (end : ℕ) (w : Keeping end) where
 
     module_keeps : (h : FrontRead) → w.place h.start → Keeps (module_with within depth h)
     module_keeps h s f ts p =
-        let c = eat 59 (named ts).1 in
+        let c = eat 59 (written_name ts).1 in
         let b = inside_unless c.0 within nothing_found c.1 in
-        parent depth h.start b.1.1.past kind.Module (named ts).0 (c.0 || b.0.is_ended) b.1.0 f s
-        (unless_keeps c.0 nothing_found c.1 (w.on ts c.1 (through (named_leads ts) (eat_leads 59 (named ts).1)) p))
+        parent depth h.start b.1.1.past kind.Module (written_name ts).0 (c.0 || b.0.is_ended) b.1.0 f s
+        (unless_keeps c.0 nothing_found c.1 (w.on ts c.1 (through (named_leads ts) (eat_leads 59 (written_name ts).1)) p))
 
     head_keeps : (k : Head) (h : FrontRead) → w.place h.start → Keeps (by_head within depth k h)
     head_keeps heads.Module h s f ts p = module_keeps h s f ts p
@@ -166,4 +166,4 @@ module _ (end : ℕ) (w : Keeping end) where
 
   pub items_keeps : (is_top : Bool) (left : ℕ) → Keeps (items is_top left)
   unfolding finding
-  items_keeps is_top left f ts p = list_keeps (is_list_end is_top) (turn left) (turn_found end left) (turn_keeps left) most [] f ts p
+  items_keeps is_top left f ts p = list_keeps (is_list_end is_top) (turn left) (turn_found end left) (turn_keeps left) most_tokens [] f ts p

@@ -1,9 +1,9 @@
-pub mod Closed
+pub mod StandingAlone
 pub mod Moves
 pub mod Steps
 pub mod Adding
 pub mod Order
-pub mod Told
+pub mod ToldEdits
 pub mod Typing
-pub mod Beside
+pub mod ItemJoins
 pub mod Common

@@ -1,16 +1,16 @@
 -- An edit inside a body moves what is read.
 use Rattle.std.proofs.Common.{◌≡◌, ◌≤◌, ◌<◌, ◌+◌, ◌-◌, ◌^◌, ◌&&◌, ℕ, true, false, Option, List, [], ◌∷◌, length, refl, ap, sym, subst, ◌∙◌, map, arith, ◌==◌, ◌||◌, Bool, suc, ◌++◌, take, drop, IsUtf8, append_assoc, length-append}
 use Rattle.rust_edits.proofs.Common.{All, nat_le, option_map, list_all, EditionYear, FileAstId, TextRange, Problem, with_feeds, place_in, moved_problem, moved_range, moved_span, FileView, places, IsFile, with_body, IsTyped, close_at, has_place, has_range, has_some_range, has_item, has_problem, HasPlaces, not, slice_index, TokenKind, is_fence, is_wide_start, first_cut, symbol_from, has_mark, is_shebang, tokens_from, begins_bare, ItemPlace, IsFileView, has_body_at, IsBody, loose_in, place_after_edit, shifted_by, moved_place, edited_text, shifted_place, Shifts, ReadsMoved, PlacesAreKept, in_braces, is_alone, loose_inside, same_loose, AreCut, IsShift, common_steps, nat_tests, All-head, All-tail, le-leb, and_from, close_some, AreAlike, no_more, one_more, IsAlike, neither, both, unmoved, moves, SameRange, before, place_le, place_rises_in, place_within, SpanAlike, IsIn, IsMaybeIn, AreIn, spans_in, and_parts, eqb-true, not-true, when, take_at, drop_at, IsUtf8-append, Shift, Parts}
-use Rattle.rust_edits.proofs.Typing.Loose.{both_told, problems_move}
-use Rattle.rust_edits.proofs.Typing.Moved.{uses_within, is_read_anew, places_move, body_is_told}
+use Rattle.rust_edits.proofs.Typing.ProblemPlaces.{both_told, problems_move}
+use Rattle.rust_edits.proofs.Typing.MovedItems.{uses_within, is_read_anew, places_move, body_is_told}
 use Rattle.rust_edits.proofs.Typing.ProblemsAlike.{ProblemAlike}
 use Rattle.rust_edits.proofs.Typing.ProblemsIn.{problems_in}
 use Rattle.rust_edits.proofs.Typing.Returns.{feeds_body, body_length, place_high, place_open}
 use Rattle.rust_edits.proofs.Typing.Texts.{IsMoved}
 use Rattle.rust_edits.proofs.Typing.Typing.{both_read, typing_inside}
-use Rattle.rust_edits.proofs.Typing.Full.{feeds_full}
+use Rattle.rust_edits.proofs.Typing.WholeCharacters.{feeds_full}
 use Rattle.rust_edits.proofs.Typing.BodyStarts.{body_opens}
-use Rattle.rust_edits.proofs.Closed.{alone_is, loose_is}
+use Rattle.rust_edits.proofs.StandingAlone.{alone_is, loose_is}
 use Rattle.rust_edits.proofs.Steps.{same_is, same_of}
 use Rattle.rust_edits.proofs.Typing.ProblemsIn as within
 

@@ -1,4 +1,4 @@
 pub mod Edits
 pub mod Inner
 pub mod Typing
-pub mod Beside
+pub mod ItemJoins

@@ -31,7 +31,7 @@ impl Brackets {
 
 /// The brackets that are loose in a text, if the braces that it begins with are closed by its last token, and no
 /// sooner.
-#[tactic(auto, using(crate::proofs::Closed::none_behind))]
+#[tactic(auto, using(crate::proofs::StandingAlone::none_behind))]
 fn loose_if_closed(text: &str) -> Option<Brackets>
     ensures closed { is_some result ≡ spec.closes_last 0 (tokens text.now) }
     ensures loose { IfSome result

@@ -9,9 +9,9 @@ ghost use Rattle.rust_edits.specs.Typing.Loose.{ProblemsMove};
 ghost use Rattle.rust_edits.specs.Typing.Moved.{BodyIsTold, IsReadAnew, PlacesMove};
 ghost use Rattle.rust_edits.specs.Typing.Opened.{BodyOpens};
 ghost use Rattle.rust_edits.specs.Typing.Problems.{ProblemsStand};
-ghost use Rattle.rust_edits.specs.Beside.Joined.{InsideJoin, ItemsJoin};
-ghost use Rattle.rust_edits.specs.Beside.Open.{OpenItemsEnd};
-ghost use Rattle.rust_edits.specs.Beside.Mended.{ItemsBefore, ItemsBehind, ListsBefore, OpenBehind};
+ghost use Rattle.rust_edits.specs.ItemJoins.Joined.{InsideJoin, ItemsJoin};
+ghost use Rattle.rust_edits.specs.ItemJoins.Open.{OpenItemsEnd};
+ghost use Rattle.rust_edits.specs.ItemJoins.Mended.{ItemsBefore, ItemsBehind, ListsBefore, OpenBehind};
 
 use crate::edit::BodyEdit;
 use crate::shift::Shift;
@@ -37,7 +37,7 @@ fn typing()
 {}
 
 // What is read of a text that ends with a whole item and of what is behind it, also where brackets are mended.
-fn beside()
+fn items_beside()
     ensures items_join { ItemsJoin }
     ensures inside_join { InsideJoin }
     ensures open_items_end { OpenItemsEnd }

@@ -1,7 +1,7 @@
 -- What follows from what ids are.
 use Rattle.std.proofs.Common.{◌≡◌, ℕ, zero, suc, ◌^◌, ◌<◌, ◌≤◌, true, false, ◌∙◌, ap, sym, refl, arith, ⊎_elim, List, length, min}
 use Rattle.rust_ids.proofs.Common.{cases_eq, cases_Bool, and_left, and_from, and_parts, same_lists, get_or_default, FileAstId, Row, nth_row, id_at, depth_at, count_below, key_of, kind_place, same_key, comes_before, earlier_alike, hash_of, AreIds, AreDistinctIds, AreDetermined}
-use Rattle.rust_ids.proofs.Below.{count_below_lt, count_below_bound}
+use Rattle.rust_ids.proofs.CountsBelow.{count_below_lt, count_below_bound}
 use Rattle.rust_ids.proofs.Order.{not_before_itself, before_onward, before_or_after, depth_if_before, module_around_same, number_of_same}
 
 same_key_itself : (id : FileAstId) → same_key (key_of id) (key_of id) ≡ true

@@ -1,4 +1,4 @@
-pub mod Below
+pub mod CountsBelow
 pub mod Blocks
 pub mod Consequences
 pub mod Order

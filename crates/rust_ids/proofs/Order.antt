@@ -1,7 +1,7 @@
 -- The order in which items are counted, and what an id is made from.
 use Rattle.std.proofs.Common.{◌≡◌, ◌≢◌, ℕ, suc, ◌<◌, ◌≤◌, Bool, true, false, ◌&&◌, ◌||◌, ◌∙◌, ap, sym, refl, arith, Option, Some, None, IfSome, List, length, min, eqb, ltb}
-use Rattle.rust_ids.proofs.Common.{nat_tests, eqb-true, FileAstId, Row, nth_row, id_at, depth_at, around, module_at, module_around, hash_of, key_of, same_key, comes_before, earlier_alike, IsId}
-use Rattle.rust_ids.proofs.Below.{last_below_is, count_below_same}
+use Rattle.rust_ids.proofs.Common.{nat_tests, eqb-true, FileAstId, Row, nth_row, id_at, depth_at, holder_of, module_at, module_around, hash_of, key_of, same_key, comes_before, earlier_alike, IsId}
+use Rattle.rust_ids.proofs.CountsBelow.{last_below_is, count_below_same}
 
 -- the order on depths and places alone
 before : ℕ → ℕ → ℕ → ℕ → Bool
@@ -38,8 +38,8 @@ pub module_around_same : (rows : List Row) (ids new : List FileAstId) (i : ℕ) 
     ((j : ℕ) → j < i → suc (depth_at rows j) ≡ depth_at rows i → id_at new j ≡ id_at ids j) →
     module_around rows new i ≡ module_around rows ids i
 module_around_same rows ids new i h =
-    module_at_same ids new (around rows i)
-    (if_some_more {P = λ j. (j < i) × (eqb (suc (depth_at rows j)) (depth_at rows i) ≡ true)} {Q = λ j. id_at new j ≡ id_at ids j} (around rows i)
+    module_at_same ids new (holder_of rows i)
+    (if_some_more {P = λ j. (j < i) × (eqb (suc (depth_at rows j)) (depth_at rows i) ≡ true)} {Q = λ j. id_at new j ≡ id_at ids j} (holder_of rows i)
     (last_below_is (λ j. eqb (suc (depth_at rows j)) (depth_at rows i)) i) (λ j p. h j p.0 (eqb-true _ _ p.1)))
 
 -- where the first of two tests decides, the second counts only if it passes

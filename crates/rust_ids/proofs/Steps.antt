@@ -4,7 +4,7 @@ use Rattle.std.specs.Option.{unwrap_or}
 use Rattle.std.specs.Map.{lookup}
 use Rattle.rust_ids.proofs.Common.{nat_tests, get_or_default, cases_eq, cases_Bool, le-leb, both_ways, and_left, and_right, and_from, FileAstId, Row, nth_row, id_at, depth_at, count_below, last_below, module_at, module_around, hash_of, Key, kind_place, key_of, same_key, comes_before, earlier_alike, IsId, AreIds, Counts, count_of, CountsOne, is_numbered_before, IsNumbered, IsNextDepth}
 use Rattle.hir_input.specs.declared.ids.AstIdKind.{AstIdKind}
-use Rattle.rust_ids.proofs.Below.{count_below_same, count_below_one, count_below_bound, count_below_none}
+use Rattle.rust_ids.proofs.CountsBelow.{count_below_same, count_below_one, count_below_bound, count_below_none}
 use Rattle.rust_ids.proofs.Order.{not_before_itself, before_one_way, module_around_same, IsId-same, and_same}
 
 -- tests that agree on all items

@@ -32,8 +32,8 @@ absorb_all zero p text = p
 absorb_all (suc count) p text = absorb_all count (absorb p text) (drop 16 text)
 
 -- the same as often as more than sixteen bytes are left
-unfoldable pub absorbed : Pair → List ℕ → Pair
-absorbed p text = absorb_all ((length text - 1) / 16) p text
+unfoldable pub absorb_text : Pair → List ℕ → Pair
+absorb_text p text = absorb_all ((length text - 1) / 16) p text
 
 -- The two words at the end of a text: its last sixteen bytes; of a shorter one its first and last eight or four, which may
 -- share bytes; of up to three the first byte, and the last with the middle one.
@@ -51,19 +51,19 @@ joined_pairs p end = mix (bit_xor p.left end.left) (bit_xor p.right end.right)
 
 -- the word of a text
 unfoldable pub text_word : List ℕ → ℕ
-text_word text = bit_xor (joined_pairs (absorbed hash_start text) (end_bytes text)) (length text)
+text_word text = bit_xor (joined_pairs (absorb_text hash_start text) (end_bytes text)) (length text)
 
 -- a word is taken into the state of the hash, which is 0 at first
 abbrev pub add_word : ℕ → ℕ → ℕ
 add_word state word = (state + word) * 0xf1357aea2e62a9c5 % 2 ^ 64
 
 -- the 64 bits from the state behind the last word
-unfoldable pub finished : ℕ → ℕ
-finished state = rotate_left w64 state 26
+unfoldable pub hash_from_state : ℕ → ℕ
+hash_from_state state = rotate_left w64 state 26
 
 -- the hash of words
 abbrev pub long_hash : List ℕ → ℕ
-long_hash words = finished (fold add_word 0 words)
+long_hash words = hash_from_state (fold add_word 0 words)
 
 -- one of the four words of 16 bits of a hash, counted from the lowest
 abbrev pub quarter : ℕ → ℕ → ℕ
@@ -74,8 +74,8 @@ abbrev pub add_quarter : ℕ → ℕ → ℕ
 add_quarter bits quarter = (bits + quarter) * 0xecc5 % 2 ^ 16
 
 -- 64 bits made 16
-unfoldable pub shortened : ℕ → ℕ
-shortened hash = fold add_quarter (quarter hash 0) (quarter hash 1 ∷ quarter hash 2 ∷ quarter hash 3 ∷ [])
+unfoldable pub short_hash : ℕ → ℕ
+short_hash hash = fold add_quarter (quarter hash 0) (quarter hash 1 ∷ quarter hash 2 ∷ quarter hash 3 ∷ [])
 
 -- a module's id as one word: the hash, from bit 16 on the number, and from bit 27 on rust-analyzer's number of the kind
 abbrev pub packed_module : FileAstId → ℕ
@@ -88,7 +88,7 @@ module_words (Some id) = 1 ∷ packed_module id ∷ []
 
 -- the 16 bits for a name inside a module, or at the top
 abbrev pub name_hash_in : Option FileAstId → List ℕ → ℕ
-name_hash_in context name = shortened (long_hash (module_words context ++ text_word name ∷ 255 ∷ []))
+name_hash_in context name = short_hash (long_hash (module_words context ++ text_word name ∷ 255 ∷ []))
 
 -- the 16 bits for a name
 abbrev pub name_hash : List ℕ → ℕ

@@ -27,8 +27,8 @@ count_below test zero = 0
 count_below test (suc n) = count_below test n + (if test n then 1 else 0)
 
 -- the item that one stands in: the last before it that is one less deep
-abbrev pub around : List Row → ℕ → Option ℕ
-around rows i = last_below (λ j. suc (depth_at rows j) == depth_at rows i) i
+abbrev pub holder_of : List Row → ℕ → Option ℕ
+holder_of rows i = last_below (λ j. suc (depth_at rows j) == depth_at rows i) i
 
 abbrev pub is_module : AstIdKind → Bool
 is_module kind.Module = true
@@ -41,7 +41,7 @@ module_at ids (Some i) = if is_module (id_at ids i).kind then Some (id_at ids i)
 
 -- the id of the module that an item stands in, if it stands in one
 abbrev pub module_around : List Row → List FileAstId → ℕ → Option FileAstId
-module_around rows ids i = module_at ids (around rows i)
+module_around rows ids i = module_at ids (holder_of rows i)
 
 -- the kinds that have no name
 abbrev pub is_nameless : AstIdKind → Bool

@@ -21,7 +21,7 @@ struct Pair {
 pub fn name_hash(name: &str) -> u16
     ensures { result ≡ spec.name_hash name.now }
 {
-    shortened(finished(add_name(0, name)))
+    short_hash(hash_from_state(add_name(0, name)))
 }
 
 /// The 16 bits that stand for the name of what a module holds: before the name stands that module's id, as
@@ -30,7 +30,7 @@ pub fn name_hash_in(outer: FileAstId, name: &str) -> u16
     ensures { result ≡ spec.name_hash_in (Some outer) name.now }
 {
     let packed = outer.hash as u64 + outer.number as u64 * 0x1_0000 + 0x3800_0000;
-    shortened(finished(add_name(add_word(add_word(0, 1), packed), name)))
+    short_hash(hash_from_state(add_name(add_word(add_word(0, 1), packed), name)))
 }
 
 // Eight bytes as a word, the lowest first.
@@ -76,8 +76,8 @@ fn absorb(pair: Pair, text: &[u8]) -> Pair
 
 // All of a text but for its end is taken in.
 #[tactic(auto, using(crate::proofs::Blocks::absorbed_more, crate::proofs::Blocks::absorbed_few))]
-fn absorbed(text: &[u8]) -> Pair
-    ensures { result ≡ spec.absorbed spec.hash_start text.now }
+fn absorb_text(text: &[u8]) -> Pair
+    ensures { result ≡ spec.absorb_text spec.hash_start text.now }
 {
     let mut pair = Pair {
         left: 0x243f_6a88_85a3_08d3,
@@ -124,7 +124,7 @@ fn ends(text: &[u8]) -> Pair
 fn text_word(text: &[u8]) -> u64
     ensures { result ≡ spec.text_word text.now }
 {
-    let pair = absorbed(text);
+    let pair = absorb_text(text);
     let end = ends(text);
     mix(pair.left ^ end.left, pair.right ^ end.right) ^ text.len() as u64
 }
@@ -144,9 +144,9 @@ fn add_name(state: u64, name: &str) -> u64
 }
 
 // The 64 bits from the state behind the last word.
-#[tactic(auto, unfolding(crate::specs::Hash::finished))]
-fn finished(state: u64) -> u64
-    ensures { result ≡ spec.finished state }
+#[tactic(auto, unfolding(crate::specs::Hash::hash_from_state))]
+fn hash_from_state(state: u64) -> u64
+    ensures { result ≡ spec.hash_from_state state }
 {
     state.rotate_left(26)
 }
@@ -167,9 +167,9 @@ fn add_quarter(bits: u16, quarter: u16) -> u16
 }
 
 // 64 bits made 16.
-#[tactic(auto, unfolding(crate::specs::Hash::shortened))]
-fn shortened(hash: u64) -> u16
-    ensures { result ≡ spec.shortened hash }
+#[tactic(auto, unfolding(crate::specs::Hash::short_hash))]
+fn short_hash(hash: u64) -> u16
+    ensures { result ≡ spec.short_hash hash }
 {
     let bits = add_quarter(quarter(hash, 0), quarter(hash, 1));
     add_quarter(add_quarter(bits, quarter(hash, 2)), quarter(hash, 3))

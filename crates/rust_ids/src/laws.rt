@@ -4,6 +4,6 @@ ghost use Rattle.rust_ids.specs.Ids.{AreDetermined};
 
 // The items determine the ids.
 #[tactic(auto, using(crate::proofs::Consequences::determined))]
-fn determined()
+fn ids_are_determined()
     ensures { AreDetermined }
 {}

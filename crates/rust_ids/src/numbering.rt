@@ -137,7 +137,7 @@ pub fn number_level(
 }
 
 // The nearer to a depth of what is deeper than it.
-fn nearer(depth: usize, next: Option<usize>, other: usize) -> Option<usize>
+fn nearer_depth(depth: usize, next: Option<usize>, other: usize) -> Option<usize>
     ensures { result ≡ nearer_of depth next other }
 {
     if other <= depth {
@@ -155,7 +155,7 @@ pub fn next_depth(nodes: &[Node<'_>], depth: usize) -> Option<usize>
 {
     let mut next = None;
     for node in nodes {
-        next = nearer(depth, next, node.depth());
+        next = nearer_depth(depth, next, node.depth());
     }
     next
 }

@@ -4,8 +4,8 @@ use Rattle.rust_items.proofs.Common.{AllocError, EditionYear, FileAstId, MetaVie
 use Rattle.rust_items.specs.declared.log.Problem.{Problem}
 use Rattle.rust_items.specs.declared.source_file.Reading.{Reading}
 use Rattle.rust_items.specs.declared.source_file.SourceFile.{SourceFile}
-use Rattle.rust_items.proofs.Bare.{all, bare, list_whole, list_bare, wanted_from}
-use Rattle.rust_items.proofs.Bodiless.{with_clipped}
+use Rattle.rust_items.proofs.BareItems.{all, bare, list_whole, list_bare, wanted_from}
+use Rattle.rust_items.proofs.BodilessIds.{with_clipped}
 use Rattle.rust_items.proofs.FilePlaces.{view_placed, view_distinct}
 
 -- ---- what was read, as a file

@@ -1,12 +1,12 @@
 -- The places of a block are those of its items and macro calls.
 use Rattle.std.proofs.Common.{◌≡◌, ◌<◌, ◌==◌, ◌&&◌, ℕ, zero, suc, Bool, true, false, not, Option, Some, None, List, [], ◌∷◌, ◌++◌, length, refl, sym, subst, ap, ◌∙◌, arith, append_assoc, append-nil, is_some, option_to_list}
-use Rattle.rust_items.proofs.Common.{and_parts, ne_eqb, All-nil, EditionYear, FileAstId, MetaView, ItemView, ItemViews, macro_call, no_items, item_and, items_from, items_of, StmtView, item_stmt, call_stmt, other_stmt, TailView, no_tail, call_tail, other_tail, stmt_items, block_view, Tokens, tokens_of, symbol, at, eat, is_at_end, bumped, most, beyond, LeadsTo, here, through, when, bumped_leads, eat_leads, beyond_leads, Takes, takes, takes_leads, takes_behind, taken_block, IsLaid, at_behind, takes_strict, tokens_laid, path, outer_attributes, outer_attributes_leads, inner_attributes_leads, front_behind, front, is_called, SourceBlock, PartView, no_part, stmt_part, tail_part, BodyRead, empty_body, and_part, item_found, other_part, other_read, other_found, and_call, is_operand, call_found, called_found, taken_item, part_behind_attributes, part, parts_from, parts, stmts_with_ids, tail_with_id, is_bare, attributes_of, block_body, found_of, IsBlockRead, Found, nothing_found, first_numbers, numbered_call, item_with_ids, with_ids, is_list_end, turn, behind_front, with_feeds, id_of, IsWritten, ArePlaces, nothing, placed}
+use Rattle.rust_items.proofs.Common.{and_parts, ne_eqb, All-nil, EditionYear, FileAstId, MetaView, ItemView, ItemViews, macro_call, no_items, item_and, items_from, items_of, StmtView, item_stmt, call_stmt, other_stmt, TailView, no_tail, call_tail, other_tail, stmt_items, block_view, Tokens, tokens_of, symbol, at, eat, is_at_end, bumped, most_tokens, progress_from, LeadsTo, here, through, when, bumped_leads, eat_leads, beyond_leads, Takes, takes, takes_leads, takes_behind, taken_block, IsLaid, at_behind, takes_strict, tokens_laid, path, outer_attributes, outer_attributes_leads, inner_attributes_leads, front_behind, front, is_called, SourceBlock, PartView, no_part, stmt_part, tail_part, BodyRead, empty_body, and_part, item_found, other_part, other_read, other_found, and_call, is_operand, call_found, called_found, taken_item, part_behind_attributes, part, parts_from, parts, stmts_with_ids, tail_with_id, is_bare, attributes_of, block_body, found_of, IsBlockRead, Found, nothing_found, first_numbers, numbered_call, item_with_ids, with_ids, is_list_end, turn, behind_front, with_feeds, id_of, IsWritten, ArePlaces, nothing, placed}
 use Rattle.hir_input.specs.declared.ids.AstIdKind.TheVariants as ast
-use Rattle.rust_cursor.proofs.Laid.{behind}
+use Rattle.rust_cursor.proofs.TokenPlaces.{behind}
 use Rattle.rust_leaves.specs.Statements.{CallRead, statement, statement_call, is_item}
 use Rattle.rust_leaves.proofs.StatementLeads.{statement_leads}
 use Rattle.rust_items.proofs.FilePlaces.{IsText, whole_text, placed_text}
-use Rattle.rust_items.proofs.Leads.{blank, IsBraced, braces_behind, block_braced, nameless, tree_body_leads, called_some}
+use Rattle.rust_items.proofs.ItemRests.{blank, IsBraced, braces_behind, block_braced, nameless, tree_body_leads, called_some}
 use Rattle.rust_items.proofs.Names.{untold}
 use Rattle.rust_items.proofs.Parts.{parts_stop}
 use Rattle.rust_items.proofs.Places.{place_is, place_within, turn_found}
@@ -14,6 +14,7 @@ use Rattle.rust_items.proofs.FoundItems.{AreFound, adds_none, adds_problem, adds
 use Rattle.rust_items.proofs.UsesFound.{leaf_uses, no_uses, widened_uses}
 use Rattle.rust_cursor.specs.Grammar.{reads}
 use Rattle.rust_cursor.proofs.Rules.{rule_leads}
+use Rattle.rust_cursor.specs.Looks.{sees}
 
 -- ---- statements as a list of items
 
@@ -68,9 +69,9 @@ CallFound ts us (Some c) = IsCall ts us c
 call_is_found : (attrs : List MetaView) (ts : Tokens) → CallFound ts (statement_call attrs ts).1 (statement_call attrs ts).0
 unfolding statement_call
 call_is_found attrs ts =
-    when (is_some (reads path ts).0 && is_called (reads path ts).1)
+    when (is_some (reads path ts).0 && sees is_called (reads path ts).1)
     (λ e. rw e (record {
-      taken = takes (reads path ts).1 (rule_leads path ts) (called_some (reads path ts).1 (and_parts (is_some (reads path ts).0) (is_called (reads path ts).1) e).1) (tree_body_leads _);
+      taken = takes (reads path ts).1 (rule_leads path ts) (called_some (reads path ts).1 (and_parts (is_some (reads path ts).0) (sees is_called (reads path ts).1) e).1) (tree_body_leads _);
       id = refl;
       body = braces_behind (through (rule_leads path ts) (bumped_leads _)) (block_braced (taken_block _ _ (bumped (reads path ts).1)));
     }))
@@ -171,26 +172,26 @@ record AreParts (ts : Tokens) (f : Found) (done : BodyRead) (r : BodyRead × (Fo
 parts_end : (done : BodyRead) (f : Found) (ts : Tokens) → tail_list done.tail ≡ [] → AreParts ts f done (done, (f, ts))
 parts_end done f ts e = record { new = []; list = ap (λ l. stmts_list done.stmts ++ l) e; found = none_found f f here (adds_none f) refl }
 
-stays : (past : ℕ) (us : Tokens) → past < us.past → beyond past us ≡ us
-unfolding beyond
+stays : (past : ℕ) (us : Tokens) → past < us.past → progress_from past us ≡ us
+unfolding progress_from
 stays past us l = let other : (us.past == past) ≡ false = ne_eqb us.past past (λ e. absurd (omega arith)) in rw other refl
 
 module _ (end : ℕ) (is_top : Bool) (n : ℕ) (rest : (done : BodyRead) (f : Found) (ts : Tokens) → IsLaid end ts → tail_list done.tail ≡ [] → AreParts ts f done (parts_from is_top n done f ts))
     (done : BodyRead) (f : Found) (ts : Tokens) (laid : IsLaid end ts) (none : tail_list done.tail ≡ []) where
   part_more : (next : BodyRead) (q : PartView) (r : Found × Tokens) → IsPart is_top ts f (q, r) → tail_list next.tail ≡ [] → stmts_list next.stmts ≡ stmts_list done.stmts ++ part_list q
-      → AreParts ts f done (parts_from is_top n next r.0 (beyond ts.past r.1))
+      → AreParts ts f done (parts_from is_top n next r.0 (progress_from ts.past r.1))
   part_more next q r p e step =
       let first = behind end p.found.leads laid in
       let passed = beyond_leads ts.past r.1 in
       let last = behind end passed first.laid in
-      let more = rest next r.0 (beyond ts.past r.1) last.laid e in
+      let more = rest next r.0 (progress_from ts.past r.1) last.laid e in
       record {
         new = part_list q ++ more.new;
         list = more.list ∙ ap (λ l. l ++ more.new) step ∙ append_assoc (stmts_list done.stmts) (part_list q) more.new;
-        found = found_more end ts r.1 (beyond ts.past r.1) _ f r.0 _ (part_list q) more.new laid passed p.found more.found;
+        found = found_more end ts r.1 (progress_from ts.past r.1) _ f r.0 _ (part_list q) more.new laid passed p.found more.found;
       }
 
-  part_next : (q : PartView) (r : Found × Tokens) → IsPart is_top ts f (q, r) → AreParts ts f done (parts_from is_top n (and_part done q) r.0 (beyond ts.past r.1))
+  part_next : (q : PartView) (r : Found × Tokens) → IsPart is_top ts f (q, r) → AreParts ts f done (parts_from is_top n (and_part done q) r.0 (progress_from ts.past r.1))
   part_next no_part r p = part_more done no_part r p none (sym (append-nil (stmts_list done.stmts)))
   part_next (stmt_part s) r p = part_more (record { stmts = done.stmts ++ s ∷ []; tail = done.tail }) (stmt_part s) r p none (stmts_push done.stmts s)
   part_next (tail_part no_tail) r p = part_more (record { stmts = done.stmts; tail = no_tail }) (tail_part no_tail) r p refl (sym (append-nil (stmts_list done.stmts)))
@@ -199,7 +200,7 @@ module _ (end : ℕ) (is_top : Bool) (n : ℕ) (rest : (done : BodyRead) (f : Fo
       let next : BodyRead = record { stmts = done.stmts; tail = call_tail c } in
       let begins = at_behind end ts laid in
       let strict = takes_strict end p.last.1 laid in
-      let same : parts_from is_top n next r.0 (beyond ts.past r.1) ≡ (next, (r.0, r.1)) =
+      let same : parts_from is_top n next r.0 (progress_from ts.past r.1) ≡ (next, (r.0, r.1)) =
       ap (λ k. parts_from is_top n next r.0 k) (stays ts.past r.1 (omega arith)) ∙ parts_stop is_top n next r.0 r.1 p.last.0 in
       subst (AreParts ts f done) (sym same) (record { new = macro_call c ∷ []; list = refl; found = p.found })
 
@@ -212,7 +213,7 @@ parts_are end is_top (suc n) done f ts laid none =
 parts_found : (end : ℕ) (is_top : Bool) (f : Found) (ts : Tokens) → IsLaid end ts
     → AreFound ts (parts is_top f ts).1.1 f (parts is_top f ts).1.0 (stmt_items (parts is_top f ts).0.stmts (parts is_top f ts).0.tail)
 parts_found end is_top f ts laid =
-    let all = parts_are end is_top most empty_body f ts laid refl in
+    let all = parts_are end is_top most_tokens empty_body f ts laid refl in
     subst (AreFound ts (parts is_top f ts).1.1 f (parts is_top f ts).1.0) (sym (items_listed (parts is_top f ts).0.stmts (parts is_top f ts).0.tail ∙ ap items_from all.list)) all.found
 
 -- ---- a text

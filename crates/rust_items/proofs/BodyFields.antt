@@ -1,8 +1,8 @@
 -- The fields of a struct in tokens beside are the same, or the struct's header goes into the braces.
 use Rattle.std.proofs.Common.{◌≡◌, ◌≤◌, ◌==◌, ◌||◌, ℕ, zero, suc, Bool, true, false, Option, Some, None, List, [], ◌∷◌, ◌++◌, refl, ap, ◌∙◌, arith, if◌then◌else◌, not}
-use Rattle.rust_items.proofs.Common.{Visibility, FieldsView, tuple_fields, Piece, Tokens, end_of, symbol, at, is_at_end, bumped, most, beyond, turns_from, turns, one, Bodies, AreBehind, Beside, ahead, behind, LeadsTo, when, bumped_leads, beyond_leads, HasBlock, no_block, block, takes_leads, IsLaid, at_behind, before_at, behind_at, symbol_same, end_same, before_same, BothBeside, behind_angles_beside, behind_field_beside, beyond_beside, eat_local, after_symbol, over_leads, over_moved, Gone, gone_on, by_kept, visibility, outer_attributes, outer_attributes_until, is_before, header_field, are_over, fields, symbol_within, fields_at, struct_fields}
+use Rattle.rust_items.proofs.Common.{Visibility, FieldsView, tuple_fields, Piece, Tokens, end_of, symbol, at, is_at_end, bumped, most_tokens, progress_from, turns_from, turns, one, Bodies, AreBehind, Beside, ahead, behind, LeadsTo, when, bumped_leads, beyond_leads, HasBlock, no_block, block, takes_leads, IsLaid, at_behind, before_at, behind_at, symbol_same, end_same, before_same, BothBeside, behind_angles_beside, behind_field_beside, beyond_beside, eat_local, after_symbol, over_leads, over_moved, Gone, gone_on, by_kept, visibility, outer_attributes, outer_attributes_until, is_before, header_field, are_over, fields, symbol_within, fields_at, struct_fields}
 use Rattle.rust_cursor.specs.Angles.{behind_angles}
-use Rattle.rust_cursor.proofs.Laid as laid
+use Rattle.rust_cursor.proofs.TokenPlaces as laid
 use Rattle.rust_cursor.proofs.Passing as passing
 use Rattle.rust_leaves.proofs.Fields.{type_leads, not_before, over_ends, none_seen, symbol_is}
 use Rattle.rust_cursor.specs.Grammar.{reads}
@@ -78,7 +78,7 @@ by_read : {A P : Type 0} {b : Bodies} {e e' : Tokens} {p q : A × Tokens} → Sa
 by_read (went g) lost kept = lost g
 by_read (read v g) lost kept = kept v g
 
-goes_beyond : (b : Bodies) {end end' : ℕ} {ts us vs ws : Tokens} → Beside b ts us → Goes b end end' vs ws → Goes b end end' (beyond ts.past vs) (beyond us.past ws)
+goes_beyond : (b : Bodies) {end end' : ℕ} {ts us vs ws : Tokens} → Beside b ts us → Goes b end end' vs ws → Goes b end end' (progress_from ts.past vs) (progress_from us.past ws)
 goes_beyond b {ts = ts} {us = us} h (beside m) = beside (beyond_beside b ts us _ _ h m)
 goes_beyond b {ts = ts} {us = us} h (over o) = over (over_on o (beyond_leads ts.past _) (beyond_leads us.past _))
 
@@ -119,12 +119,12 @@ module _ (b : Bodies) (n : NewBehind b) (e e' : Tokens) (ends : Beside b e e') w
       when (are_over e.past ts) (λ t. rw (over_same ts us h, t) (same d))
       (λ t. rw (over_same ts us h, t)
       (by_read (field_read ts us h) (λ g. into g)
-      (λ v g. fields_from k (done ++ (header_field e.past ts).0 ∷ []) (done' ++ (header_field e'.past us).0 ∷ []) (beyond ts.past (header_field e.past ts).1) (beyond us.past (header_field e'.past us).1)
+      (λ v g. fields_from k (done ++ (header_field e.past ts).0 ∷ []) (done' ++ (header_field e'.past us).0 ∷ []) (progress_from ts.past (header_field e.past ts).1) (progress_from us.past (header_field e'.past us).1)
       (ap (λ l. l ++ (header_field e'.past us).0 ∷ []) d ∙ ap (λ o. done ++ o ∷ []) v) (goes_beyond b h g))))
 
   same_fields : (ts us : Tokens) → Beside b ts us → Same b e (fields e.past ts).0 (fields e'.past us).0
   unfolding fields turns
-  same_fields ts us h = fields_from most [] [] ts us refl (beside h)
+  same_fields ts us h = fields_from most_tokens [] [] ts us refl (beside h)
 
   fields_at_same : (has : Bool) (ts us : Tokens) → Beside b ts us → Same b e (fields_at has e.past ts) (fields_at has e'.past us)
   fields_at_same has ts us h =

@@ -1,15 +1,14 @@
 -- The items of two texts that differ between the braces of one item are the same but for body texts.
-use Rattle.std.proofs.Common.{◌≡◌, ◌≤◌, ◌<◌, ◌+◌, ◌==◌, ◌||◌, ℕ, zero, suc, Bool, true, false, Option, Some, None, List, [], ◌∷◌, ◌++◌, map, refl, ap, sym, subst, ◌∙◌, arith, append_assoc, append-nil, option_map, option_to_list, eqb-true}
-use Rattle.rust_items.proofs.Common.{Visibility, EditionYear, AstIdKind, MetaView, item_without_bodies, ItemView, ItemViews, items_from, module_from, extern_block_from, Tokens, symbol, at, eat, is_at_end, bumped, most, beyond, Bodies, Beside, ahead, behind, LeadsTo, further, through, when, eat_leads, beyond_leads, IsSound, sound_on, before_at, behind_at, symbol_same, empty_same, end_same, beyond_beside, behind_tree_beside, eat_local, Gone, gone_on, by_kept, by_next, bumped_onward, by_stayed, AreAlike, no_more, alike_join, SamePlace, at_place, past_place, Row, TextRange, inner_attributes, inner_attributes_leads, inner_attributes_until, Head, FrontRead, front, NameRead, LeafRead, no_name, named, node, named_node, leaf, behind_others_beside, SameRange, RangeAlike, LeafAlike, NameAlike, named_local, ItemSpan, ProblemKind, ItemPlace, Found, Finder, nothing_found, and_problem_if, and_problem_at, BlockRead, span_of, and_flaw, and_item, and_leaf, and_parent, leaf_found, leaf_turn, finding_from, finding, is_list_end, block_of, as_extern, extern_kept, extern_found, extern_turn, extern_inside, extern_block, one_more, unmatched, inside_unless, module_with, some_item, by_head, turn_with, inside, turn, depth_of, items, begins_at, has_body, found_in, read_of, Telling, IsBodyIn, ArePlaces, nothing, placed, map-append}
+use Rattle.std.proofs.Common.{◌≡◌, ◌≤◌, ◌==◌, ◌||◌, ℕ, zero, suc, Bool, true, false, Option, Some, None, List, [], ◌∷◌, ◌++◌, map, refl, ap, sym, ◌∙◌, arith, option_map, option_to_list, eqb-true}
+use Rattle.rust_items.proofs.Common.{Visibility, EditionYear, MetaView, item_without_bodies, ItemView, items_from, module_from, extern_block_from, Tokens, symbol, at, eat, is_at_end, bumped, most_tokens, progress_from, Bodies, Beside, ahead, behind, LeadsTo, further, through, when, eat_leads, beyond_leads, IsSound, sound_on, before_at, symbol_same, empty_same, end_same, beyond_beside, behind_tree_beside, eat_local, Gone, gone_on, by_kept, by_next, bumped_onward, by_stayed, SamePlace, at_place, past_place, TextRange, inner_attributes, inner_attributes_leads, inner_attributes_until, Head, FrontRead, front, LeafRead, no_name, written_name, node, named_node, leaf, behind_others_beside, LeafAlike, NameAlike, named_local, ItemSpan, Found, Finder, nothing_found, BlockRead, leaf_found, leaf_turn, finding_from, finding, is_list_end, block_of, as_extern, extern_kept, extern_found, extern_turn, extern_inside, extern_block, one_more, unmatched_token, inside_unless, module_with, some_item, by_head, turn_with, inside, turn, depth_of, items, begins_at, has_body, found_in, read_of, map-append}
 use Rattle.hir_input.specs.declared.ids.AstIdKind.TheVariants as kind
-use Rattle.rust_cursor.proofs.Laid as laid
+use Rattle.rust_cursor.proofs.TokenPlaces as laid
 use Rattle.rust_cursor.proofs.Places as places
 use Rattle.rust_leaves.specs.declared.head.Head.TheVariants as heads
-use Rattle.rust_items.specs.declared.log.ProblemKind.TheVariants as problem
-use Rattle.rust_items.proofs.Bare.{extern_alike, list_of, module_alike, extern_block_alike}
-use Rattle.rust_items.proofs.Leads.{named_leads, behind_others_leads, front_takes, front_start}
+use Rattle.rust_items.proofs.BareItems.{extern_alike, list_of, module_alike, extern_block_alike}
+use Rattle.rust_items.proofs.ItemRests.{named_leads, behind_others_leads, front_takes, front_start}
 use Rattle.rust_items.proofs.Places.{FindsIn, inside_found, turn_found, turn_with_found, extern_turn_found, extern_inside_found, unless_found, items_found}
-use Rattle.rust_items.proofs.FoundItems.{list_from, list_found, adds_item, adds_problem_at, adds_use_trees, AreFound, Finds, place_span}
+use Rattle.rust_items.proofs.FoundItems.{list_from, list_found, AreFound, Finds}
 use Rattle.rust_items.proofs.BodyLeaves.{FrontAlike, front_until, BeginPlain, LeafUntil, leaf_lost, leaf_same, leaf_until, LeafLost, leaf_gone}
 use Rattle.rust_items.proofs.FoundRows.{Elsewhere, AreElsewhere, Misses, misses_none, misses_both, found_gone, found_before, rows_of, FoundAlike, FoundKept, FoundUntil, ItemAlike, ListAlike, UpToFound, nothing_alike, problem_at_rows, leaf_rows_same, leaf_misses, elsewhere_by, parent_same, parent_misses, lost, same}
 
@@ -72,7 +71,7 @@ front_place : (b : Bodies) (ts us : Tokens) → Beside b ts us → SamePlace b (
 front_place b ts us h = rw (front_start ts, front_start us) (at_place b ts us h)
 
 -- nothing is found where a bracket closes nothing
-unmatched_until : (b : Bodies) (f f' : Found) (ts us : Tokens) → FoundAlike b f f' → Beside b ts us → FoundUntil ItemAlike b f (unmatched f ts) (unmatched f' us)
+unmatched_until : (b : Bodies) (f f' : Found) (ts us : Tokens) → FoundAlike b f f' → Beside b ts us → FoundUntil ItemAlike b f (unmatched_token f ts) (unmatched_token f' us)
 unmatched_until b f f' ts us e h =
     by_next (bumped_onward b ts us h) (λ g. lost g (misses_none b.opening.at f _ refl)) (λ n. same (record { value = refl; found = e; rest = n }))
 
@@ -136,9 +135,9 @@ more_alike done done' o o' a e =
 -- what is found by a turn, and what is left behind it and what is passed over then
 pub record TurnOn (end : ℕ) (turn : Finder (Option ItemView)) (f : Found) (ts : Tokens) : Type 0 where
   pub found : AreFound ts (turn f ts).1.1 f (turn f ts).1.0 (items_from (option_to_list (turn f ts).0))
-  pub leads : LeadsTo (turn f ts).1.1 (beyond ts.past (turn f ts).1.1)
-  pub sound : IsSound end (beyond ts.past (turn f ts).1.1)
-  pub past : (turn f ts).1.1.past ≤ (beyond ts.past (turn f ts).1.1).past
+  pub leads : LeadsTo (turn f ts).1.1 (progress_from ts.past (turn f ts).1.1)
+  pub sound : IsSound end (progress_from ts.past (turn f ts).1.1)
+  pub past : (turn f ts).1.1.past ≤ (progress_from ts.past (turn f ts).1.1).past
 
 pub turn_on : (end : ℕ) (turn : Finder (Option ItemView)) → Finds end turn → (f : Found) (ts : Tokens) → IsSound end ts → TurnOn end turn f ts
 turn_on end turn finds f ts l =
@@ -156,8 +155,8 @@ module _ (end : ℕ) (ends : Tokens → Bool) (ends_same : (b : Bodies) (ts us :
       let o' = (turn f' us).0 in
       let g = (turn f ts).1.0 in
       let g' = (turn f' us).1.0 in
-      let next = beyond ts.past (turn f ts).1.1 in
-      let next' = beyond us.past (turn f' us).1.1 in
+      let next = progress_from ts.past (turn f ts).1.1 in
+      let next' = progress_from us.past (turn f' us).1.1 in
       let one = turn_on end turn finds f ts l in
       let rest = list_from end ends turn finds n (done ++ option_to_list o) g next one.sound.laid in
       when (ends ts)
@@ -197,7 +196,7 @@ module _ (end : ℕ) (turn : Finder (Option ItemView)) (finds : Finds end turn) 
       (λ g. let k = gone_on g (inner_attributes_leads (bumped ts)) in lost (gone_on (gone_on k list.leads) (eat_leads 125 _)) (found_gone list k))
       (λ n. by_kept (inner_attributes_until b (bumped ts) (bumped us) n)
       (λ k. lost (gone_on (gone_on k list.leads) (eat_leads 125 _)) (found_gone list k))
-      (λ k. by_found (list_until end (is_list_end false) (list_end_same false) turn finds each most b plain [] [] f f' inner.1 inner'.1 (sound_on end open_leads l) refl e k.rest)
+      (λ k. by_found (list_until end (is_list_end false) (list_end_same false) turn finds each most_tokens b plain [] [] f f' inner.1 inner'.1 (sound_on end open_leads l) refl e k.rest)
       (λ g m. lost (gone_on g (eat_leads 125 _)) m)
       (λ j. same (record { value = record { attrs = k.value; items = ap Some j.value }; found = j.found; rest = (eat_local b 125 refl _ _ j.rest).rest }))))
 
@@ -248,14 +247,14 @@ extern_block_lost end depth start attrs b f ts l g =
 
 -- the names of modules of both, and the semicolons behind them
 pub record NamedAlike (b : Bodies) (ts us : Tokens) : Type 0 where
-  pub name : NameAlike b (named ts).0 (named us).0
-  pub ended : (eat 59 (named us).1).0 ≡ (eat 59 (named ts).1).0
-  pub rest : Beside b (eat 59 (named ts).1).1 (eat 59 (named us).1).1
+  pub name : NameAlike b (written_name ts).0 (written_name us).0
+  pub ended : (eat 59 (written_name us).1).0 ≡ (eat 59 (written_name ts).1).0
+  pub rest : Beside b (eat 59 (written_name ts).1).1 (eat 59 (written_name us).1).1
 
 pub named_alike : (b : Bodies) (ts us : Tokens) → Beside b ts us → NamedAlike b ts us
 named_alike b ts us h =
     let n = named_local b ts us h in
-    let s = eat_local b 59 refl (named ts).1 (named us).1 n.rest in
+    let s = eat_local b 59 refl (written_name ts).1 (written_name us).1 n.rest in
     record { name = n.value; ended = s.value; rest = s.rest }
 
 -- modules
@@ -269,28 +268,28 @@ module _ (end : ℕ) (inside : Finder BlockRead) (finds : FindsIn end inside) (e
       → FoundUntil ItemAlike b f (some_item (module_with inside depth h f ts)) (some_item (module_with inside depth h' f' us))
   module_until b plain h h' a f f' ts us l e k =
       let n = named_alike b ts us k in
-      let c = eat 59 (named ts).1 in
-      let c' = eat 59 (named us).1 in
+      let c = eat 59 (written_name ts).1 in
+      let c' = eat 59 (written_name us).1 in
       let x = inside_unless c.0 inside nothing_found c.1 in
       let y = inside_unless c'.0 inside nothing_found c'.1 in
-      let sound = sound_on end (through (named_leads ts) (eat_leads 59 (named ts).1)) l in
+      let sound = sound_on end (through (named_leads ts) (eat_leads 59 (written_name ts).1)) l in
       by_found (unless_until b plain c.0 c'.0 n.ended nothing_found nothing_found c.1 c'.1 sound (nothing_alike b) n.rest)
-      (λ g m. lost g (parent_misses b.opening.at depth h.start x.1.1.past kind.Module (named ts).0 (c.0 || x.0.is_ended) x.1.0 f m))
+      (λ g m. lost g (parent_misses b.opening.at depth h.start x.1.1.past kind.Module (written_name ts).0 (c.0 || x.0.is_ended) x.1.0 f m))
       (λ j. same (record {
-        value = ap Some (module_same (h.attrs ++ x.0.attrs) (h'.attrs ++ y.0.attrs) (named ts).0.name (named us).0.name h.visibility h'.visibility c.0 c'.0 x.0.items y.0.items
+        value = ap Some (module_same (h.attrs ++ x.0.attrs) (h'.attrs ++ y.0.attrs) (written_name ts).0.name (written_name us).0.name h.visibility h'.visibility c.0 c'.0 x.0.items y.0.items
             (ap (λ l. l ++ y.0.attrs) a.attrs ∙ ap (λ l. h.attrs ++ l) j.value.attrs) n.name.name a.visibility n.ended j.value.items);
-        found = parent_same b depth h.start x.1.1.past h'.start y.1.1.past kind.Module (named ts).0 (named us).0 (c.0 || x.0.is_ended) (c'.0 || y.0.is_ended) x.1.0 y.1.0 f f' a.start (past_place b x.1.1 y.1.1 j.rest) n.name.hashed n.name.range j.found e;
+        found = parent_same b depth h.start x.1.1.past h'.start y.1.1.past kind.Module (written_name ts).0 (written_name us).0 (c.0 || x.0.is_ended) (c'.0 || y.0.is_ended) x.1.0 y.1.0 f f' a.start (past_place b x.1.1 y.1.1 j.rest) n.name.hashed n.name.range j.found e;
         rest = j.rest;
       }))
 
   module_lost : (b : Bodies) (h : FrontRead) (f : Found) (ts : Tokens) → IsSound end ts → Gone b ts → Lost b f (some_item (module_with inside depth h f ts))
   module_lost b h f ts l g =
-      let c = eat 59 (named ts).1 in
+      let c = eat 59 (written_name ts).1 in
       let x = inside_unless c.0 inside nothing_found c.1 in
-      let leads = through (named_leads ts) (eat_leads 59 (named ts).1) in
+      let leads = through (named_leads ts) (eat_leads 59 (written_name ts).1) in
       let sound = sound_on end leads l in
       let found = unless_found end inside finds depth c.0 nothing_found c.1 sound.laid in
-      record { gone = gone_on (gone_on g leads) found.leads; misses = parent_misses b.opening.at depth h.start x.1.1.past kind.Module (named ts).0 (c.0 || x.0.is_ended) x.1.0 f (found_gone found (gone_on g leads)) }
+      record { gone = gone_on (gone_on g leads) found.leads; misses = parent_misses b.opening.at depth h.start x.1.1.past kind.Module (written_name ts).0 (c.0 || x.0.is_ended) x.1.0 f (found_gone found (gone_on g leads)) }
 
   head_lost : (b : Bodies) (k : Head) (h : FrontRead) (f : Found) (ts : Tokens) → IsSound end ts → Gone b ts → Lost b f (by_head inside depth k h f ts)
   head_lost b heads.Module h f ts l g = module_lost b h f ts l g
@@ -333,7 +332,7 @@ pub items_until : (end : ℕ) (is_top : Bool) (left : ℕ) (b : Bodies) → Begi
     → FoundUntil ListAlike b f (items is_top left f ts) (items is_top left f' us)
 unfolding finding
 items_until end is_top left b plain f f' ts us l e h =
-    list_until end (is_list_end is_top) (list_end_same is_top) (turn left) (turn_found end left) (turn_until end left) most b plain [] [] f f' ts us l refl e h
+    list_until end (is_list_end is_top) (list_end_same is_top) (turn left) (turn_found end left) (turn_until end left) most_tokens b plain [] [] f f' ts us l refl e h
 
 -- ---- whole files
 

@@ -1,23 +1,24 @@
 -- Items that hold none, of tokens beside, are the same but for body texts, until one goes into the braces.
 use Rattle.hir_input.specs.declared.ast.PlainKind.TheVariants as plain_kind
 use Rattle.std.proofs.Common.{◌≡◌, ◌≤◌, ◌+◌, ◌&&◌, ℕ, suc, true, false, Option, Some, None, List, [], ◌∷◌, ◌++◌, map, refl, ap, sym, subst, ◌∙◌, arith, is_some}
-use Rattle.rust_items.proofs.Common.{and_parts, PathNode, Visibility, MetaView, item_without_bodies, use_item, UseTreeView, Piece, Tokens, end_of, at, is_empty, bumped, eat, Bodies, Beside, ahead, behind, LeadsTo, through, Forwards, when, bumped_leads, eat_leads, HasBlock, no_block, block, taken_block, IsLaid, at_behind, taken_behind, before_at, behind_at, next_ahead, next_behind, BothBeside, Kept, eat_local, Gone, gone_on, by_kept, KeptBy, UntilBy, went, stayed, by_stayed, IsAlike, no_more, SamePlace, at_place, TextRange, path, use_tree, visibility, outer_attributes, inner_attributes, IsSound, sound_on, outer_attributes_until, inner_attributes_until, Head, FrontRead, front_behind, front, LeafRead, named, call_end, block_attributes, range_to, node, structure, implementation, use_read, use_declaration, is_called, begins_call, called, call_behind, some_read, invocation, item_call, leaf_by, leaf, modifiers_beside, head_local, named_local, call_end_local, NameAlike, RestAlike, LeafAlike, constant_local, fields_of, structure_local, implementation_local, macro_definition_local, behind_modifiers, PlainKind, plain_leaf, plain_leaf_local, plain_rest, own_attributes, rest_of, rest_local, by_taken, rest_by}
-use Rattle.rust_lexer.specs.Alone.{moved}
-use Rattle.rust_cursor.proofs.Laid as laid
-use Rattle.rust_cursor.proofs.Braced.{tokens_at}
+use Rattle.rust_items.proofs.Common.{and_parts, PathNode, Visibility, MetaView, item_without_bodies, use_item, UseTreeView, Piece, Tokens, end_of, at, is_empty, bumped, eat, Bodies, Beside, ahead, behind, LeadsTo, through, Forwards, when, bumped_leads, eat_leads, HasBlock, no_block, block, taken_block, IsLaid, at_behind, taken_behind, before_at, behind_at, next_ahead, next_behind, BothBeside, Kept, eat_local, Gone, gone_on, by_kept, KeptBy, UntilBy, went, stayed, by_stayed, IsAlike, no_more, SamePlace, at_place, TextRange, path, use_tree, outer_attributes, inner_attributes, IsSound, sound_on, outer_attributes_until, inner_attributes_until, Head, FrontRead, front_behind, front, LeafRead, written_name, call_end, block_attributes, range_to, node, structure, implementation, use_read, use_declaration, is_called, begins_call, call_leaf, call_behind, some_read, invocation, item_call, leaf_by, leaf, front_words, named_local, call_end_local, NameAlike, RestAlike, LeafAlike, constant_local, fields_of, structure_local, implementation_local, macro_definition_local, PlainKind, plain_leaf, plain_leaf_local, plain_rest, own_attributes, rest_of, rest_local, by_taken, rest_by}
+use Rattle.rust_lexer.specs.Alone.{moved_piece}
+use Rattle.rust_cursor.proofs.TokenPlaces as laid
+use Rattle.rust_cursor.proofs.BraceWalks.{tokens_at}
 use Rattle.rust_cursor.proofs.Passing as passing
 use Rattle.rust_cursor.proofs.Places as places
 use Rattle.rust_paths.proofs.BodyUseTrees.{use_tree_until}
-use Rattle.rust_cursor.proofs.Enclosed.{item_enclosed, impl_enclosed}
+use Rattle.rust_cursor.proofs.EnclosedItems.{item_enclosed, impl_enclosed}
 use Rattle.rust_metas.proofs.AttributeBrackets.{inner_within}
 use Rattle.rust_leaves.specs.declared.head.Head.TheVariants as heads
-use Rattle.rust_leaves.specs.Texts.{bare, last_text}
+use Rattle.rust_leaves.specs.Texts.{bare_name, last_text}
 use Rattle.rust_leaves.proofs.BodyFronts.{begins_call_beside}
 use Rattle.rust_leaves.proofs.Crates.{crate_item_local, is_called_same, called_next, SameLast, beyond_braces, same_text, last_same}
 use Rattle.rust_items.proofs.BodyFields.{NewBehind, SameFields, header_gone, fields_same, struct_fields_same, item_gone}
-use Rattle.rust_items.proofs.Leads.{LeafAt, leaf_at, named_leads, behind_modifiers_leads, head_takes, call_end_leads, call_end_braced, IsBraced, braced}
+use Rattle.rust_items.proofs.ItemRests.{LeafAt, leaf_at, named_leads, call_end_leads, call_end_braced, IsBraced, braced}
 use Rattle.rust_cursor.specs.Grammar.{reads}
 use Rattle.rust_cursor.proofs.Rules.{rule_leads, rule_local}
+use Rattle.rust_cursor.specs.Looks.{sees}
 
 -- ---- what stands in front
 
@@ -29,15 +30,13 @@ pub record FrontAlike (b : Bodies) (f g : FrontRead) : Type 0 where
 
 front_rest : (start : ℕ) (attrs : List MetaView) → Forwards (front_behind start attrs)
 unfolding front_behind
-front_rest start attrs ts = through (rule_leads visibility ts) (through (behind_modifiers_leads _) (head_takes _).leads)
+front_rest start attrs ts = rule_leads front_words ts
 
 front_behind_local : (b : Bodies) (start start' : ℕ) (attrs attrs' : List MetaView) (ts us : Tokens) → SamePlace b start start' → attrs' ≡ attrs → Beside b ts us → KeptBy (FrontAlike b) b (front_behind start attrs ts) (front_behind start' attrs' us)
 unfolding front_behind
 front_behind_local b start start' attrs attrs' ts us i e h =
-    let v = rule_local b visibility ts us h in
-    let m = modifiers_beside b (reads visibility ts).1 (reads visibility us).1 v.rest in
-    let k = head_local b (behind_modifiers (reads visibility ts).1) (behind_modifiers (reads visibility us).1) m in
-    record { value = record { start = i; attrs = e; visibility = v.value; head = k.value }; rest = k.rest }
+    let w = rule_local b front_words ts us h in
+    record { value = record { start = i; attrs = e; visibility = ap (λ p. p.0) w.value; head = ap (λ p. p.1) w.value }; rest = w.rest }
 
 pub front_until : (b : Bodies) (ts us : Tokens) → Beside b ts us → UntilBy (FrontAlike b) b (front ts) (front us)
 unfolding front
@@ -50,8 +49,8 @@ front_until b ts us h =
 -- what stands between the braces begins with no inner attribute, in both texts; and that of the new text stands behind the `{` too
 pub record BeginPlain (b : Bodies) : Type 0 where
   pub new_behind : NewBehind b
-  pub old : (past : ℕ) (r : List Piece) (u : Option ℕ) → (inner_attributes (bumped (tokens_at b.edition past (b.opening ∷ (b.old ++ moved b.by b.closing ∷ map (moved b.by) r)) u))).0 ≡ []
-  pub new : (past : ℕ) (r : List Piece) (u : Option ℕ) → (inner_attributes (bumped (tokens_at b.edition past (b.opening ∷ (b.new ++ moved b.by_new b.closing ∷ map (moved b.by_new) r)) u))).0 ≡ []
+  pub old : (past : ℕ) (r : List Piece) (u : Option ℕ) → (inner_attributes (bumped (tokens_at b.edition past (b.opening ∷ (b.old ++ moved_piece b.by b.closing ∷ map (moved_piece b.by) r)) u))).0 ≡ []
+  pub new : (past : ℕ) (r : List Piece) (u : Option ℕ) → (inner_attributes (bumped (tokens_at b.edition past (b.opening ∷ (b.new ++ moved_piece b.by_new b.closing ∷ map (moved_piece b.by_new) r)) u))).0 ≡ []
 
 -- what has gone into the braces comes to no `{` at their place
 pub braced_gone : (b : Bodies) (end : ℕ) {ts us : Tokens} (r : TextRange) → IsLaid end ts → Gone b ts → IsBraced ts us (Some r) → r.start ≡ b.opening.at → ⊥
@@ -141,14 +140,14 @@ rest_braces h ts = refl
 
 module _ (b : Bodies) (plain : BeginPlain b) (end : ℕ) (attrs : List MetaView) (v : Option Visibility) (ts us : Tokens) (l : IsSound end ts) (h : Beside b ts us) where
   -- the inner attributes of an item with a name
-  inner_until : SameOr b (rest_of heads.Struct (named ts).1).1 (rest_of heads.Struct (named ts).1).0.block (block_attributes (rest_of heads.Struct (named ts).1).0.block) (block_attributes (rest_of heads.Struct (named us).1).0.block)
-  inner_until = block_attributes_until b plain end sound.laid (rest_block heads.Struct (named ts).1) r.value.block (item_within end (named ts).1 sound)
+  inner_until : SameOr b (rest_of heads.Struct (written_name ts).1).1 (rest_of heads.Struct (written_name ts).1).0.block (block_attributes (rest_of heads.Struct (written_name ts).1).0.block) (block_attributes (rest_of heads.Struct (written_name us).1).0.block)
+  inner_until = block_attributes_until b plain end sound.laid (rest_block heads.Struct (written_name ts).1) r.value.block (item_within end (written_name ts).1 sound)
     where
-      sound : IsSound end (named ts).1
+      sound : IsSound end (written_name ts).1
       sound = sound_on end (named_leads ts) l
 
-      r : KeptBy (RestAlike b) b (rest_of heads.Struct (named ts).1) (rest_of heads.Struct (named us).1)
-      r = rest_local b heads.Struct (named ts).1 (named us).1 (named_local b ts us h).rest
+      r : KeptBy (RestAlike b) b (rest_of heads.Struct (written_name ts).1) (rest_of heads.Struct (written_name us).1)
+      r = rest_local b heads.Struct (written_name ts).1 (written_name us).1 (named_local b ts us h).rest
 
   own_until : (k : PlainKind) → SameOr b (plain_rest k ts).1 (plain_rest k ts).0.block (own_attributes k (plain_rest k ts).0.block) (own_attributes k (plain_rest k us).0.block)
   own_until plain_kind.Fn = inner_until
@@ -175,18 +174,18 @@ module _ (b : Bodies) (plain : BeginPlain b) (end : ℕ) (attrs : List MetaView)
 
   structure_until : LeafUntil b (some_read (structure attrs v ts)) (some_read (structure attrs v us))
   unfolding structure
-  structure_until = by (struct_fields_same b plain.new_behind x (named us).1 (rest_of heads.Struct x).1 (rest_of heads.Struct (named us).1).1 (rest_of heads.Struct x).0.block (rest_of heads.Struct (named us).1).0.block n.rest r.rest r.value.block)
+  structure_until = by (struct_fields_same b plain.new_behind x (written_name us).1 (rest_of heads.Struct x).1 (rest_of heads.Struct (written_name us).1).1 (rest_of heads.Struct x).0.block (rest_of heads.Struct (written_name us).1).0.block n.rest r.rest r.value.block)
     where
       x : Tokens
-      x = (named ts).1
+      x = (written_name ts).1
 
-      n : KeptBy (NameAlike b) b (named ts) (named us)
+      n : KeptBy (NameAlike b) b (written_name ts) (written_name us)
       n = named_local b ts us h
 
-      r : KeptBy (RestAlike b) b (rest_of heads.Struct (named ts).1) (rest_of heads.Struct (named us).1)
-      r = rest_local b heads.Struct (named ts).1 (named us).1 n.rest
+      r : KeptBy (RestAlike b) b (rest_of heads.Struct (written_name ts).1) (rest_of heads.Struct (written_name us).1)
+      r = rest_local b heads.Struct (written_name ts).1 (written_name us).1 n.rest
 
-      by : SameFields b (rest_of heads.Struct x).0.block (rest_of heads.Struct x).1 (fields_of x) (fields_of (named us).1) → LeafUntil b (some_read (structure attrs v ts)) (some_read (structure attrs v us))
+      by : SameFields b (rest_of heads.Struct x).0.block (rest_of heads.Struct x).1 (fields_of x) (fields_of (written_name us).1) → LeafUntil b (some_read (structure attrs v ts)) (some_read (structure attrs v us))
       by (header_gone g) =
           let i = item_gone b end (laid.behind end (named_leads ts) l.laid).laid (rest_block heads.Struct x) g in
           lost_block (structure attrs v ts) (rest_of heads.Struct x).0.block (rest_of heads.Struct x).1.past (rest_braces heads.Struct x) i.gone i.free
@@ -210,18 +209,18 @@ module _ (b : Bodies) (plain : BeginPlain b) (end : ℕ) (attrs : List MetaView)
   invocation_until : LeafUntil b (invocation attrs ts) (invocation attrs us)
   unfolding invocation
   invocation_until =
-      when (is_some (reads path ts).0 && is_called (reads path ts).1)
-      (λ e. rw (tests, e) (by (last_same b ts us (reads path ts).1 (reads path us).1 (rule_leads path ts) p.rest h) (and_parts (is_some (reads path ts).0) (is_called (reads path ts).1) e).1))
+      when (is_some (reads path ts).0 && sees is_called (reads path ts).1)
+      (λ e. rw (tests, e) (by (last_same b ts us (reads path ts).1 (reads path us).1 (rule_leads path ts) p.rest h) (and_parts (is_some (reads path ts).0) (sees is_called (reads path ts).1) e).1))
       (λ e. rw (tests, e) (leaf_same places.neither h))
     where
       p : Kept b (reads path ts) (reads path us)
       p = rule_local b path ts us h
 
-      tests : (is_some (reads path us).0 && is_called (reads path us).1) ≡ (is_some (reads path ts).0 && is_called (reads path ts).1)
-      tests = ap (λ o. is_some o && is_called (reads path us).1) p.value ∙ ap (λ t. is_some (reads path ts).0 && t) (is_called_same b (reads path ts).1 (reads path us).1 p.rest)
+      tests : (is_some (reads path us).0 && sees is_called (reads path us).1) ≡ (is_some (reads path ts).0 && sees is_called (reads path ts).1)
+      tests = ap (λ o. is_some o && sees is_called (reads path us).1) p.value ∙ ap (λ t. is_some (reads path ts).0 && t) (is_called_same b (reads path ts).1 (reads path us).1 p.rest)
 
-      by : SameLast b (reads path ts).1 (last_text (reads path ts).1.past ts) (last_text (reads path us).1.past us) → is_called (reads path ts).1 ≡ true
-          → LeafUntil b (some_read (call_behind attrs (reads path ts).0 (bare (last_text (reads path ts).1.past ts)) (bumped (reads path ts).1))) (some_read (call_behind attrs (reads path us).0 (bare (last_text (reads path us).1.past us)) (bumped (reads path us).1)))
+      by : SameLast b (reads path ts).1 (last_text (reads path ts).1.past ts) (last_text (reads path us).1.past us) → sees is_called (reads path ts).1 ≡ true
+          → LeafUntil b (some_read (call_behind attrs (reads path ts).0 (bare_name (last_text (reads path ts).1.past ts)) (bumped (reads path ts).1))) (some_read (call_behind attrs (reads path us).0 (bare_name (last_text (reads path us).1.past us)) (bumped (reads path us).1)))
       by (beyond_braces g) e =
           let k = gone_on g (bumped_leads (reads path ts).1) in
           leaf_lost (gone_on k (call_end_leads (bumped (reads path ts).1)))
@@ -230,9 +229,9 @@ module _ (b : Bodies) (plain : BeginPlain b) (end : ℕ) (attrs : List MetaView)
       by (same_text f) e =
           let c = call_end_local b (bumped (reads path ts).1) (bumped (reads path us).1) (called_next b (reads path ts).1 (reads path us).1 p.rest e) in
           leaf_same (places.both (record {
-            item = ap (λ (x : Option PathNode). item_without_bodies (called attrs x [] (call_end (bumped (reads path us).1)).0).item) p.value;
+            item = ap (λ (x : Option PathNode). item_without_bodies (call_leaf attrs x [] (call_end (bumped (reads path us).1)).0).item) p.value;
             kind = refl;
-            name = ap bare f;
+            name = ap bare_name f;
             named = places.neither;
             body = c.value.braces;
             use_trees = no_more;

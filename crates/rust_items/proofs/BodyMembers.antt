@@ -8,25 +8,25 @@ use Rattle.hir_input.specs.declared.ids.AstIdKind.{AstIdKind}
 use Rattle.hir_input.specs.declared.ids.AstIdKind.TheVariants as kind
 use Rattle.rust_cursor.proofs.BodyValues.{by_stayed}
 use Rattle.rust_cursor.proofs.SoundTokens.{IsSound, sound_on}
-use Rattle.rust_cursor.proofs.Laid as laid
-use Rattle.rust_cursor.proofs.Leads.{LeadsTo, further, through, when, beyond_leads}
+use Rattle.rust_cursor.proofs.TokenPlaces as laid
+use Rattle.rust_cursor.proofs.TokenRests.{LeadsTo, further, through, when, beyond_leads}
 use Rattle.rust_cursor.proofs.Passing.{beyond_beside}
 use Rattle.rust_cursor.proofs.Places.{AreAlike, IsAlike, SamePlace, alike_join, at_place, both, neither, no_more, one_more, past_place}
 use Rattle.rust_cursor.proofs.BodyReaders.{Gone, bumped_onward, by_kept, by_next, gone_on}
 use Rattle.rust_cursor.proofs.Views.{behind_at, empty_same, end_same, symbol_same}
-use Rattle.rust_cursor.specs.Beside.{Beside, Bodies}
+use Rattle.rust_cursor.specs.TokensBeside.{Beside, Bodies}
 use Rattle.rust_items.proofs.FoundRows.{Elsewhere}
-use Rattle.rust_items.proofs.Leads.{behind_others_leads, front_start, front_takes}
+use Rattle.rust_items.proofs.ItemRests.{behind_others_leads, front_start, front_takes}
 use Rattle.rust_items.proofs.BodyItems.{passed, plain_passed, side}
 use Rattle.rust_items.proofs.BodyLeaves.{BeginPlain, LeafUntil, front_until, leaf_gone, leaf_lost, leaf_same, leaf_until}
 use Rattle.rust_leaves.proofs.BodyParts.{LeafAlike, RangeAlike, SameRange}
 use Rattle.rust_leaves.proofs.BodyFronts.{behind_others_beside}
 use Rattle.rust_leaves.specs.Kinds.{leaf}
-use Rattle.rust_metas.proofs.Leads.{inner_attributes_leads}
+use Rattle.rust_metas.proofs.AttributeRests.{inner_attributes_leads}
 use Rattle.rust_metas.proofs.BodyAttributes.{inner_attributes_until}
 use Rattle.rust_metas.specs.Attributes.{inner_attributes}
 use Rattle.rust_metas.specs.declared.wanted.WantedMetas.{WantedMetas}
-use Rattle.rust_items.proofs.MemberCommon.{ItemView, plain_item, Tokens, Reader, symbol, at, is_at_end, bumped, most, beyond, turns_from, turns, perhaps, TextRange, front, LeafRead, IsNameIn, MemberRead, MemberTold, told_of, told_with, body_of, member_kept, leaf_member, associated, part_of, part_member, member_turn, is_list_over, members_from, ArePlaced}
+use Rattle.rust_items.proofs.MemberCommon.{ItemView, plain_item, Tokens, Reader, symbol, at, is_at_end, bumped, most_tokens, progress_from, turns_from, turns, perhaps, TextRange, front, LeafRead, IsNameIn, MemberRead, MemberTold, told_of, told_with, body_of, member_kept, leaf_member, associated_item, part_of, part_member, member_turn, is_list_over, members_from, ArePlaced}
 use Rattle.rust_items.specs.MemberParts.{told_keeping}
 use Rattle.rust_items.specs.declared.member.MemberKind.{MemberKind}
 use Rattle.rust_items.specs.declared.member.MemberKind.TheVariants as member
@@ -151,8 +151,8 @@ front_sound end ts l = sound_on end (front_takes ts).leads l
 front_place : (b : Bodies) (ts us : Tokens) → Beside b ts us → SamePlace b (front ts).0.start (front us).0.start
 front_place b ts us h = rw (front_start ts, front_start us) (at_place b ts us h)
 
-associated_until : (end : ℕ) (w : WantedMetas) (b : Bodies) → BeginPlain b → (ts us : Tokens) → IsSound end ts → Beside b ts us → TurnUntil b (associated w ts) (associated w us)
-unfolding associated
+associated_until : (end : ℕ) (w : WantedMetas) (b : Bodies) → BeginPlain b → (ts us : Tokens) → IsSound end ts → Beside b ts us → TurnUntil b (associated_item w ts) (associated_item w us)
+unfolding associated_item
 associated_until end w b plain ts us l h =
     let f = front ts in
     let g = front us in
@@ -209,9 +209,9 @@ found_gone {b} {ts} {us} {ms} f g =
 -- what a turn found, and what is left behind it and what is passed over then
 record TurnOn (end : ℕ) (reader : Reader (Option MemberRead)) (ts : Tokens) : Type 0 where
   found : AreFound ts (reader ts).1 (option_to_list (reader ts).0)
-  leads : LeadsTo (reader ts).1 (beyond ts.past (reader ts).1)
-  sound : IsSound end (beyond ts.past (reader ts).1)
-  past : (reader ts).1.past ≤ (beyond ts.past (reader ts).1).past
+  leads : LeadsTo (reader ts).1 (progress_from ts.past (reader ts).1)
+  sound : IsSound end (progress_from ts.past (reader ts).1)
+  past : (reader ts).1.past ≤ (progress_from ts.past (reader ts).1).past
 
 turn_on : (end : ℕ) (reader : Reader (Option MemberRead)) → Finds end reader → (ts : Tokens) → IsSound end ts → TurnOn end reader ts
 turn_on end reader finds ts l =
@@ -221,7 +221,7 @@ turn_on end reader finds ts l =
 
 module _ (end : ℕ) (w : WantedMetas) where
   abbrev reader : Reader (Option MemberRead)
-  reader = associated w
+  reader = associated_item w
 
   abbrev list : ℕ → List MemberRead → Reader (List MemberRead)
   list n done ts = turns_from is_list_over (perhaps reader) n done ts
@@ -231,8 +231,8 @@ module _ (end : ℕ) (w : WantedMetas) where
   list_until (suc n) b plain done done' ts us l a h =
       let o = option_to_list (reader ts).0 in
       let o' = option_to_list (reader us).0 in
-      let next = beyond ts.past (reader ts).1 in
-      let next' = beyond us.past (reader us).1 in
+      let next = progress_from ts.past (reader ts).1 in
+      let next' = progress_from us.past (reader us).1 in
       let one = turn_on end reader (associated_found end w) ts l in
       let rest = list_from end is_list_over reader (associated_found end w) n (done ++ o) next one.sound.laid in
       when (is_list_over ts)
@@ -250,7 +250,7 @@ module _ (end : ℕ) (w : WantedMetas) where
 
   turns_until : (b : Bodies) → BeginPlain b → (ts us : Tokens) → IsSound end ts → Beside b ts us → MembersUntil b (turns is_list_over (perhaps reader) ts).0 (turns is_list_over (perhaps reader) us).0
   unfolding turns
-  turns_until b plain ts us l h = by_list (list_until most b plain [] [] ts us l no_more h) (λ u m. rw m.is (of_none m.free)) (λ a. alike a)
+  turns_until b plain ts us l h = by_list (list_until most_tokens b plain [] [] ts us l no_more h) (λ u m. rw m.is (of_none m.free)) (λ a. alike a)
 
   -- what stands between the braces of a trait or an impl
   abbrev held_from : Tokens → List MemberRead
@@ -287,7 +287,7 @@ parts_elsewhere at w k (suc n) done ts h =
 
 held_parts : (at : ℕ) (w : WantedMetas) (k : MemberKind) (ts : Tokens) → AreElsewhere at (if symbol ts == 123 then (turns is_list_over (perhaps (part_member w k)) (inner_attributes (bumped ts)).1).0 else [])
 unfolding turns
-held_parts at w k ts = when (symbol ts == 123) (λ e. rw e (parts_elsewhere at w k most [] _ tt)) (λ e. rw e tt)
+held_parts at w k ts = when (symbol ts == 123) (λ e. rw e (parts_elsewhere at w k most_tokens [] _ tt)) (λ e. rw e tt)
 
 -- ---- all
 

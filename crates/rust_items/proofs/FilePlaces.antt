@@ -1,7 +1,7 @@
 -- The places of a whole text, with the ids of its items.
 use Rattle.std.proofs.Common.{true, ◌≡◌, ◌≢◌, ◌<◌, ◌≤◌, ◌+◌, ◌-◌, ℕ, zero, suc, Option, Some, List, [], ◌∷◌, map, length, refl, sym, ap, subst, ◌∙◌, arith, get_or, option_map, AllPairs}
 use Rattle.rust_items.proofs.Common.{length-map, EditionYear, AstIdKind, FileAstId, ItemView, ItemViews, plain_item, listed_module, listed_extern_block, items_of, Tokens, tokens_of, past_within, tokens_laid, LeadsTo, here, inner_attributes_leads, Row, AreIds, nth_row, id_at, Numbers, ItemSpan, ProblemKind, ItemPlace, SourceBlock, IsBlockRead, IsBlockOf, Found, nothing_found, and_problem_at, held_with_ids, with_ids, Telling, id_of, name_of, IsWritten, items_held, IsPlace, ArePlaces, nothing, placed, with_feeds, returns_from, place_by, place_in, moved_span, FileView, places, behind_attributes, found_in, items_in, IsFileView}
-use Rattle.rust_cursor.proofs.Laid.{behind}
+use Rattle.rust_cursor.proofs.TokenPlaces.{behind}
 use Rattle.rust_ids.proofs.Consequences.{distinct}
 use Rattle.rust_items.proofs.Names.{IsToken, told_behind, told_written}
 use Rattle.rust_items.proofs.LineEnds.{returns_count, place_rises_in, place_within, moved_place, places_moved}

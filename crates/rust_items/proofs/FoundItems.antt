@@ -1,15 +1,12 @@
 -- What readers of items find: the items, with their places.
-use Rattle.std.proofs.Common.{◌≡◌, ◌≤◌, ◌<◌, ◌+◌, ◌-◌, ◌==◌, ◌&&◌, ℕ, zero, suc, Bool, true, false, Option, Some, None, List, [], ◌∷◌, ◌++◌, map, length, refl, sym, subst, ap, ◌∙◌, arith, append_assoc, append-nil, option_to_list, All, is_none}
-use Rattle.rust_items.proofs.Common.{AllZip, All-nil, All-cons, map-append, AstIdKind, Visibility, MetaView, ItemView, ItemViews, plain_item, macro_call, no_items, item_and, items_from, module_from, extern_block_from, UseTreeView, Tokens, symbol, at, eat, is_empty, is_at_end, bumped, most, beyond, LeadsTo, here, further, through, when, bumped_leads, eat_leads, behind_tree_leads, beyond_leads, Takes, takes_leads, takes_before, IsLaid, at_behind, taken_behind, takes_strict, Row, TextRange, inner_attributes, inner_attributes_leads, Head, ItemSpan, ProblemKind, ItemPlace, Found, Finder, nothing_found, and_problem, and_problem_if, and_problem_at, and_row, and_use_trees, and_all, LeafRead, NameRead, no_name, named, node, named_node, FrontRead, front, BlockRead, span_of, needs_name, and_flaw, and_item, and_leaf, and_parent, leaf_found, leaf_turn, finding_from, finding, is_list_end, block_of, as_extern, extern_kept, extern_found, extern_turn, extern_inside, extern_block, one_more, unmatched, inside_unless, module_with, by_head, turn_with, inside, turn, depth_of, items, Telling, id_of, name_of, items_held, IsNameIn, IsBodyIn, IsPlace, ArePlaces, nothing, placed, trees_in, trees_within}
-use Rattle.hir_input.specs.declared.ids.AstIdKind.TheVariants as kind
-use Rattle.rust_cursor.proofs.Laid.{behind}
-use Rattle.rust_leaves.specs.declared.head.Head.TheVariants as heads
+use Rattle.std.proofs.Common.{◌≡◌, ◌≤◌, ◌+◌, ◌-◌, ℕ, zero, suc, Bool, true, false, Option, Some, None, List, [], ◌∷◌, ◌++◌, map, length, refl, sym, ap, ◌∙◌, arith, append_assoc, append-nil, option_to_list}
+use Rattle.rust_items.proofs.Common.{map-append, AstIdKind, ItemView, ItemViews, no_items, items_from, Tokens, most_tokens, progress_from, LeadsTo, here, through, when, beyond_leads, IsLaid, Row, TextRange, ItemSpan, ProblemKind, ItemPlace, Found, Finder, nothing_found, and_problem, and_problem_if, and_problem_at, and_use_trees, and_all, and_flaw, and_item, finding_from, finding, inside, turn, Telling, name_of, ArePlaces, nothing, placed}
+use Rattle.rust_cursor.proofs.TokenPlaces.{behind}
 use Rattle.rust_items.specs.declared.log.ProblemKind.TheVariants as problem
-use Rattle.rust_items.proofs.Leads.{IsNamed, nameless, by_token, name_behind, name_before, IsBraced, unbraced, braced, blank, IsTaken, LeafFound, TakesBy, front_takes, front_start, named_leads, named_named, behind_others_leads}
-use Rattle.rust_items.proofs.Leads as leads
+use Rattle.rust_items.proofs.ItemRests.{blank}
 use Rattle.rust_items.proofs.TreesRead.{IsRead, read_around}
-use Rattle.rust_items.proofs.UsesFound.{IsWithin, IsIn, UsesIn, no_uses, leaf_uses, holder_uses, widened_uses, retold_uses, joined_uses}
-use Rattle.rust_items.proofs.Names.{IsToken, untold, told_behind, named_told}
+use Rattle.rust_items.proofs.UsesFound.{UsesIn, no_uses, retold_uses, joined_uses}
+use Rattle.rust_items.proofs.Names.{IsToken, told_behind}
 
 -- ---- places
 
@@ -164,7 +161,7 @@ module _ (end : ℕ) (ends : Tokens → Bool) (turn : Finder (Option ItemView)) 
   list_end done f ts = record { new = []; list = sym (append-nil done); found = none_found f f here (adds_none f) refl }
 
   list_more : (done : List ItemView) (f : Found) (ts : Tokens) (r : List ItemView × (Found × Tokens)) → IsLaid end ts
-      → IsListed (beyond ts.past (turn f ts).1.1) (turn f ts).1.0 (done ++ option_to_list (turn f ts).0) r → IsListed ts f done r
+      → IsListed (progress_from ts.past (turn f ts).1.1) (turn f ts).1.0 (done ++ option_to_list (turn f ts).0) r → IsListed ts f done r
   list_more done f ts r laid rest = record {
     new = option_to_list (turn f ts).0 ++ rest.new;
     list = rest.list ∙ append_assoc done (option_to_list (turn f ts).0) rest.new;
@@ -176,9 +173,9 @@ module _ (end : ℕ) (ends : Tokens → Bool) (turn : Finder (Option ItemView)) 
   list_from (suc n) done f ts laid =
       let first = behind end (t f ts laid).leads laid in
       let next = behind end (beyond_leads ts.past (turn f ts).1.1) first.laid in
-      let rest = list_from n (done ++ option_to_list (turn f ts).0) (turn f ts).1.0 (beyond ts.past (turn f ts).1.1) next.laid in
+      let rest = list_from n (done ++ option_to_list (turn f ts).0) (turn f ts).1.0 (progress_from ts.past (turn f ts).1.1) next.laid in
       when (ends ts) (λ e. rw e (list_end done f ts)) (λ e. rw e (list_more done f ts _ laid rest))
 
   pub list_found : (f : Found) (ts : Tokens) → IsLaid end ts → AreFound ts (finding ends turn f ts).1.1 f (finding ends turn f ts).1.0 (items_from (finding ends turn f ts).0)
   unfolding finding
-  list_found f ts laid = let l = list_from most [] f ts laid in rw l.list l.found
+  list_found f ts laid = let l = list_from most_tokens [] f ts laid in rw l.list l.found

@@ -1,15 +1,9 @@
 -- What is found in two texts that differ between the braces of one item: the same rows, each where it stands in its text.
-use Rattle.std.proofs.Common.{◌≡◌, ◌≤◌, ◌<◌, ◌+◌, ◌==◌, ◌||◌, ℕ, zero, suc, Bool, true, false, Option, Some, None, List, [], ◌∷◌, ◌++◌, map, refl, ap, sym, subst, ◌∙◌, arith, append_assoc, append-nil, option_map, option_to_list, eqb-true}
-use Rattle.rust_items.proofs.Common.{Visibility, EditionYear, AstIdKind, MetaView, item_without_bodies, ItemView, ItemViews, items_from, module_from, extern_block_from, Tokens, symbol, at, eat, is_at_end, bumped, most, beyond, Bodies, Beside, ahead, behind, LeadsTo, further, through, when, eat_leads, beyond_leads, IsSound, sound_on, before_at, behind_at, symbol_same, empty_same, end_same, beyond_beside, behind_tree_beside, eat_local, Gone, gone_on, by_kept, by_next, bumped_onward, by_stayed, AreAlike, no_more, alike_join, SamePlace, at_place, past_place, Row, TextRange, inner_attributes, inner_attributes_leads, inner_attributes_until, Head, FrontRead, front, NameRead, LeafRead, no_name, named, node, named_node, leaf, behind_others_beside, SameRange, RangeAlike, LeafAlike, NameAlike, named_local, ItemSpan, ProblemKind, ItemPlace, Found, Finder, nothing_found, and_problem_if, and_problem_at, BlockRead, span_of, and_flaw, and_item, and_leaf, and_parent, leaf_found, leaf_turn, finding_from, finding, is_list_end, block_of, as_extern, extern_kept, extern_found, extern_turn, extern_inside, extern_block, one_more, unmatched, inside_unless, module_with, some_item, by_head, turn_with, inside, turn, depth_of, items, begins_at, has_body, found_in, read_of, Telling, IsBodyIn, ArePlaces, nothing, placed, map-append}
-use Rattle.hir_input.specs.declared.ids.AstIdKind.TheVariants as kind
-use Rattle.rust_cursor.proofs.Laid as laid
+use Rattle.std.proofs.Common.{◌≡◌, ◌≤◌, ◌<◌, ◌+◌, ℕ, suc, Bool, true, false, Option, Some, None, List, [], ◌∷◌, ◌++◌, map, refl, ap, sym, subst, ◌∙◌, arith, append_assoc, append-nil, option_map}
+use Rattle.rust_items.proofs.Common.{AstIdKind, item_without_bodies, ItemView, ItemViews, Tokens, at, Bodies, Beside, IsSound, behind_at, Gone, AreAlike, no_more, alike_join, SamePlace, Row, TextRange, NameRead, LeafRead, written_name, SameRange, RangeAlike, LeafAlike, ItemSpan, ProblemKind, ItemPlace, Found, Finder, nothing_found, and_problem_if, and_problem_at, span_of, and_flaw, and_item, and_leaf, and_parent, inside, turn, Telling, IsBodyIn, ArePlaces, nothing, placed}
 use Rattle.rust_cursor.proofs.Places as places
-use Rattle.rust_leaves.specs.declared.head.Head.TheVariants as heads
 use Rattle.rust_items.specs.declared.log.ProblemKind.TheVariants as problem
-use Rattle.rust_items.proofs.Bare.{extern_alike, list_of, module_alike, extern_block_alike}
-use Rattle.rust_items.proofs.Leads.{named_leads, behind_others_leads, front_takes, front_start}
-use Rattle.rust_items.proofs.FoundItems.{adds_item, adds_problem_at, adds_use_trees, AreFound, Finds, place_span}
-use Rattle.rust_items.proofs.BodyLeaves.{FrontAlike, front_until, BeginPlain, LeafUntil, leaf_lost, leaf_same, leaf_until, LeafLost, leaf_gone}
+use Rattle.rust_items.proofs.FoundItems.{adds_item, adds_problem_at, adds_use_trees, AreFound, place_span}
 
 -- ---- whose braces they are
 
@@ -163,9 +157,9 @@ by_rows {same} {r} {s} {x} {y} d e a = subst (λ (z : Rows). RowsAlike same z y)
 abbrev row_of : ℕ → AstIdKind → List ℕ → Row
 row_of depth k name = record { depth = depth; kind = k; name = name }
 
-item_rows : (depth start end : ℕ) (body named : Option TextRange) (k : AstIdKind) (name : List ℕ) (is_ended : Bool) (f : Found)
-    → rows_of (and_item depth start end body k name named is_ended f) ≡ and_one (row_of depth k name) (span_of start end body named) (rows_of f)
-item_rows depth start end body named k name is_ended f = flaw_rows is_ended _ start _
+item_rows : (depth start end : ℕ) (body written_name : Option TextRange) (k : AstIdKind) (name : List ℕ) (is_ended : Bool) (f : Found)
+    → rows_of (and_item depth start end body k name written_name is_ended f) ≡ and_one (row_of depth k name) (span_of start end body written_name) (rows_of f)
+item_rows depth start end body written_name k name is_ended f = flaw_rows is_ended _ start _
 
 leaf_rows : (depth start end : ℕ) (l : LeafRead) (f : Found) → rows_of (and_leaf depth start end l f) ≡ and_trees l.use_trees (and_one (row_of depth l.kind l.name) (span_of start end l.body l.named) (rows_of f))
 leaf_rows depth start end l f = ap (and_trees l.use_trees) (problem_at_rows problem.TooDeep l.too_deep _ ∙ item_rows depth start end l.body l.named l.kind l.name l.is_ended f)

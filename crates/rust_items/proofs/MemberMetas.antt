@@ -1,10 +1,10 @@
 -- What a member is stands neither in metas that are not wanted nor in body texts.
 use Rattle.hir_input.specs.declared.ast.PlainKind.TheVariants as plain_kind
 use Rattle.std.proofs.Common.{◌≡◌, ℕ, false, Option, Some, None, refl, sym, ap, ◌∙◌}
-use Rattle.rust_items.proofs.MemberCommon.{ItemView, plain_item, Tokens, is_at_end, with_value, clipped_front, clipped_item, clipped_leaf, clipped_leaf_if, FrontRead, front, LeafRead, MemberTold, told_of, told_with, member_kept, leaf_member, member_behind_front, associated, MemberRead, Reader, leaf_behind}
+use Rattle.rust_items.proofs.MemberCommon.{ItemView, plain_item, Tokens, is_at_end, with_value, clipped_front, clipped_item, clipped_leaf, clipped_leaf_if, FrontRead, front, LeafRead, MemberTold, told_of, told_with, member_kept, leaf_member, member_behind_front, associated_item, MemberRead, Reader, leaf_behind}
 use Rattle.rust_leaves.specs.declared.wanted.Wanted.{Wanted}
 use Rattle.rust_leaves.specs.Kinds.{leaf}
-use Rattle.rust_leaves.proofs.Clipped.{leaf_front}
+use Rattle.rust_leaves.proofs.ClippedLeaves.{leaf_front}
 
 told_wanted : (w : Wanted) (i : ItemView) → told_of (clipped_item w i) ≡ told_with w.metas i
 told_wanted w (plain_item plain_kind.Fn n) = refl
@@ -29,6 +29,6 @@ unfolding with_value clipped_front
 front_kept w h ts = ap (λ r. leaf_member told_of h.start r.0 r.1) (sym (leaf_front w h ts)) ∙ leaf_wanted w h.start (leaf h ts).0 (leaf h ts).1
 
 -- behind what is wanted of what stands before it, a member is read with those of its metas that are wanted
-pub associated_kept : (w : Wanted) (ts rest : Tokens) (h : FrontRead) → is_at_end ts ≡ false → with_value (clipped_front w) (front ts) ≡ (h, rest) → member_wanted w h rest ≡ associated w.metas ts
-unfolding with_value associated
+pub associated_kept : (w : Wanted) (ts rest : Tokens) (h : FrontRead) → is_at_end ts ≡ false → with_value (clipped_front w) (front ts) ≡ (h, rest) → member_wanted w h rest ≡ associated_item w.metas ts
+unfolding with_value associated_item
 associated_kept w ts rest h e taken = ap (λ q. member_wanted w q.0 q.1) (sym taken) ∙ front_kept w (front ts).0 (front ts).1 ∙ rw e refl

@@ -1,22 +1,20 @@
 -- Members stand where they are read.
-use Rattle.std.proofs.Common.{◌≡◌, ◌<◌, ◌≤◌, ◌==◌, ◌-◌, ◌^◌, ℕ, zero, suc, Bool, Option, Some, None, List, [], ◌∷◌, ◌++◌, map, length, codes, sym, ◌∙◌, arith, append_assoc, append-nil, option_to_list, IfOk, Result, Ok, Err, Vec}
-use Rattle.std.specs.declared.alloc.AllocError.{AllocError}
-use Rattle.std.specs.declared.alloc.Global.{Global}
+use Rattle.std.proofs.Common.{◌≡◌, ◌<◌, ◌≤◌, ◌==◌, ◌-◌, ◌^◌, ℕ, zero, suc, Bool, Option, Some, None, List, [], ◌∷◌, ◌++◌, map, length, codes, sym, ◌∙◌, arith, append_assoc, append-nil, option_to_list}
 use Rattle.hir_input.specs.declared.edition.EditionYear.{EditionYear}
 use Rattle.hir_input.specs.declared.ids.AstIdKind.{AstIdKind}
 use Rattle.hir_input.specs.declared.ids.AstIdKind.TheVariants as kind
 use Rattle.hir_input.specs.declared.ast.Visibility.{Visibility}
 use Rattle.hir_input.specs.Attr.{MetaView}
-use Rattle.rust_items.proofs.MemberCommon.{ItemView, Tokens, tokens_of, Reader, symbol, at, is_at_end, bumped, eat_word, most, beyond, turns_from, turns, perhaps, TextRange, front, LeafRead, named, IsNameIn, Member, Stand, MemberRead, moved_member, MemberTold, told_with, body_of, member_kept, leaf_member, associated, opens_generics, is_pair_here, behind_operand, is_part_end, behind_operands, behind_value, is_type_end, behind_type_part, behind_type_parts, behind_type, behind_part, part_of, part_member, member_turn, is_list_over, members_from, members_in, cut_out, ArePlaced, member_view}
+use Rattle.rust_items.proofs.MemberCommon.{ItemView, Tokens, tokens_of, Reader, symbol, at, is_at_end, bumped, eat_word, most_tokens, progress_from, turns_from, turns, perhaps, TextRange, front, LeafRead, written_name, IsNameIn, Stand, MemberRead, moved_member, MemberTold, told_with, body_of, member_kept, leaf_member, associated_item, opens_generics, is_pair_here, behind_operand, is_part_end, behind_operands, behind_value, is_type_end, behind_type_part, behind_type_parts, behind_type, behind_part, part_of, part_member, member_turn, is_list_over, members_from, members_in, cut_out, ArePlaced}
 use Rattle.rust_metas.specs.Docs.{kept_metas}
 use Rattle.rust_metas.specs.declared.wanted.WantedMetas.{WantedMetas}
-use Rattle.rust_cursor.proofs.Leads.{LeadsTo, here, further, through, when, bumped_leads, eat_leads, eat_word_leads, behind_tree_leads, behind_angles_leads, beyond_leads, takes, takes_leads}
-use Rattle.rust_cursor.proofs.Laid.{IsLaid, behind, past_within, at_behind, taken_behind, takes_strict, tokens_laid}
+use Rattle.rust_cursor.proofs.TokenRests.{LeadsTo, here, further, through, when, bumped_leads, eat_leads, eat_word_leads, behind_tree_leads, behind_angles_leads, beyond_leads, takes, takes_leads}
+use Rattle.rust_cursor.proofs.TokenPlaces.{IsLaid, behind, past_within, at_behind, taken_behind, takes_strict, tokens_laid}
 use Rattle.rust_paths.specs.Visibilities.{visibility}
 use Rattle.rust_metas.specs.Attributes.{outer_attributes, inner_attributes}
-use Rattle.rust_metas.proofs.Leads.{outer_attributes_leads, inner_attributes_leads}
+use Rattle.rust_metas.proofs.AttributeRests.{outer_attributes_leads, inner_attributes_leads}
 use Rattle.rust_items.proofs.Places.{name_in}
-use Rattle.rust_items.proofs.Leads.{IsBraced, braced, IsNamed, by_token, LeafFound, IsTaken, front_takes, front_start, leaf_found, named_leads, named_named, behind_others_leads}
+use Rattle.rust_items.proofs.ItemRests.{IsBraced, braced, IsNamed, by_token, LeafFound, IsTaken, front_takes, front_start, leaf_found, named_leads, named_named, behind_others_leads}
 use Rattle.rust_items.specs.declared.member.MemberKind.{MemberKind}
 use Rattle.rust_items.specs.declared.member.MemberKind.TheVariants as member
 use Rattle.rust_items.proofs.MemberCuts.{placed_widened, members_fit, members_moved}
@@ -64,7 +62,7 @@ module _ (end : ℕ) (ends : Tokens → Bool) (reader : Reader (Option MemberRea
   list_end : (done : List MemberRead) (ts : Tokens) → IsListed ts done (done, ts)
   list_end done ts = record { new = []; list = sym (append-nil done); found = none_found here }
 
-  list_more : (done : List MemberRead) (ts : Tokens) (r : List MemberRead × Tokens) → IsLaid end ts → IsListed (beyond ts.past (reader ts).1) (done ++ option_to_list (reader ts).0) r → IsListed ts done r
+  list_more : (done : List MemberRead) (ts : Tokens) (r : List MemberRead × Tokens) → IsLaid end ts → IsListed (progress_from ts.past (reader ts).1) (done ++ option_to_list (reader ts).0) r → IsListed ts done r
   list_more done ts r laid rest = record {
     new = option_to_list (reader ts).0 ++ rest.new;
     list = rest.list ∙ append_assoc done (option_to_list (reader ts).0) rest.new;
@@ -76,12 +74,12 @@ module _ (end : ℕ) (ends : Tokens → Bool) (reader : Reader (Option MemberRea
   list_from (suc n) done ts laid =
       let first = behind end (f ts laid).leads laid in
       let next = behind end (beyond_leads ts.past (reader ts).1) first.laid in
-      let rest = list_from n (done ++ option_to_list (reader ts).0) (beyond ts.past (reader ts).1) next.laid in
+      let rest = list_from n (done ++ option_to_list (reader ts).0) (progress_from ts.past (reader ts).1) next.laid in
       when (ends ts) (λ e. rw e (list_end done ts)) (λ e. rw e (list_more done ts _ laid rest))
 
   pub list_found : (ts : Tokens) → IsLaid end ts → AreFound ts (turns ends (perhaps reader) ts).1 (turns ends (perhaps reader) ts).0
   unfolding turns
-  list_found ts laid = let l = list_from most [] ts laid in rw l.list l.found
+  list_found ts laid = let l = list_from most_tokens [] ts laid in rw l.list l.found
 
 -- ---- names and bodies
 
@@ -118,8 +116,8 @@ leaf_kept_found : (end : ℕ) (ts us : Tokens) (told : ItemView → Option Membe
 leaf_kept_found end ts us told None laid p = none_found (through p (behind_others_leads us))
 leaf_kept_found end ts us told (Some l) laid t = kept_found end ts us l (told l.item) laid t
 
-pub associated_found : (end : ℕ) (w : WantedMetas) → Finds end (associated w)
-unfolding associated
+pub associated_found : (end : ℕ) (w : WantedMetas) → Finds end (associated_item w)
+unfolding associated_item
 associated_found end w ts laid =
     when (is_at_end ts) (λ e. rw e (none_found (bumped_leads ts)))
     (λ e. rw (e, front_start ts) (leaf_kept_found end ts _ (told_with w) _ laid (leaf_found (front ts).0 ts (front ts).1 (front_takes ts))))
@@ -173,7 +171,7 @@ part_found end w k ts laid =
     let a = outer_attributes ts in
     let v = reads visibility a.1 in
     let u = eat_word (codes "unsafe") v.1 in
-    let n = named u.1 in
+    let n = written_name u.1 in
     let before = through (outer_attributes_leads ts) (through (rule_leads visibility a.1) (eat_word_leads (codes "unsafe") v.1)) in
     let rest = behind_part_leads k n.1 in
     let comma = eat_leads 44 (behind_part k n.1) in

@@ -4,7 +4,7 @@ use Rattle.rust_items.proofs.Common.{EditionYear, FileAstId, AreAlike, no_more, 
 use Rattle.rust_cursor.proofs.Places.{one_more}
 use Rattle.rust_items.proofs.LineEnds.{moved_place}
 use Rattle.rust_items.proofs.FoundRows.{SpanAlike}
-use Rattle.rust_items.proofs.Within.{IsIn, IsMaybeIn, AreIn, spans_in}
+use Rattle.rust_items.proofs.ItemsInText.{IsIn, IsMaybeIn, AreIn, spans_in}
 
 places_map : (place : ℕ → ℕ) (ids : List FileAstId) (spans : List ItemSpan) → places ids (map (moved_span place) spans) ≡ map (moved_place place) (places ids spans)
 places_map place [] spans = refl

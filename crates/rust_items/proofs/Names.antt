@@ -1,6 +1,6 @@
 -- The name of an item is written at the name's place.
 use Rattle.std.proofs.Common.{◌≡◌, ◌⊎◌, inl, inr, ◌==◌, ◌+◌, ℕ, Bool, true, false, Option, Some, None, List, [], ◌∷◌, ◌++◌, length, refl, sym, subst, ap, ◌∙◌, append_assoc, length-append, if◌then◌else◌, option_map, slice_range, bytes_eq, eqb-true}
-use Rattle.rust_items.proofs.Common.{list_any, filter, Piece, EditionYear, Tokens, tokens_of, end_of, word_by, by_first, rest, word, kind, text, at, is_empty, bumped, LeadsTo, here, further, through, when, TextRange, Placed, placed_if, placed_name, taken_with, name, next_name, name_text, plain_name, raw_name, behind_hash, unless_path_keyword, as_name, is_keyword, is_path_keyword, is_underscore, placed_next, name_read, named, named_or, with_feeds, place_in, moved_range, IsWritten}
+use Rattle.rust_items.proofs.Common.{list_any, filter, Piece, EditionYear, Tokens, tokens_of, end_of, word_by, by_first, rest, word, kind, text, at, is_empty, bumped, LeadsTo, here, further, through, when, TextRange, Placed, placed_if, placed_name, taken_with, name, next_name, name_text, plain_name, raw_name, behind_hash, unless_path_keyword, as_name, is_keyword, is_path_keyword, is_underscore, placed_next, name_read, written_name, named_or, with_feeds, place_in, moved_range, IsWritten}
 use Rattle.std.proofs.lemmas.Slice.Eq.{bytes_eq-Decides}
 use Rattle.rust_lexer.specs.declared.kind.TokenKind.{TokenKind}
 use Rattle.rust_lexer.specs.declared.kind.TokenKind.TheVariants as kinds
@@ -79,8 +79,8 @@ read_told ts (Some p) e =
     let s = next_spelled ts p.name (next_placed ts p e) in
     rw (n.start, n.end) (told ts here n.some s.0 s.1)
 
-pub named_told : (ts : Tokens) → IsToken ts (named ts).0.name (named ts).0.range
-unfolding named
+pub named_told : (ts : Tokens) → IsToken ts (written_name ts).0.name (written_name ts).0.range
+unfolding written_name
 named_told ts = read_told ts (placed_name ts).0 refl
 
 -- a word is the text of its token

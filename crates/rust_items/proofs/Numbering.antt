@@ -1,9 +1,7 @@
 -- Steps of what gives items their ids.
-use Rattle.std.proofs.Common.{◌≡◌, List, [], ◌∷◌, ◌++◌, Option, Some, None, refl, sym, ap, ◌∙◌, append_assoc, append-nil, rules, Bool, map, option_map}
-use Rattle.rust_items.proofs.Common.{FileAstId, ItemView, items_from, item_and, NamedView, NodeView, module_from, extern_block_from, listed_module, listed_extern_block, named_from, item_view, module_view, extern_block_view, module_view-fields, Numbers, each_with_ids, held_with_ids, item_with_ids, with_ids, list_with_ids, listed_by, numbered_named, numbered_node}
+use Rattle.std.proofs.Common.{◌≡◌, List, [], ◌∷◌, ◌++◌, Some, refl, ap, ◌∙◌, Bool, map, option_map}
+use Rattle.rust_items.proofs.Common.{FileAstId, ItemView, items_from, item_and, NamedView, NodeView, module_from, extern_block_from, listed_module, listed_extern_block, named_from, item_view, module_view, module_view-fields, Numbers, held_with_ids, item_with_ids, with_ids, list_with_ids, listed_by, numbered_named, numbered_node}
 use Rattle.hir_input.specs.declared.ast.Module as ast_module
-use Rattle.hir_input.specs.declared.ast.ExternBlock as ast_extern_block
-use Rattle.hir_input.specs.declared.ast.Item.{Item, the_lemmas}
 
 -- what is done, and then this
 abbrev pub behind : {A : Type 0} → List A → List A × List FileAstId → List A × List FileAstId

@@ -1,15 +1,15 @@
 -- Items stand where their places say.
-use Rattle.std.proofs.Common.{◌≡◌, ◌≤◌, ◌<◌, ◌+◌, ◌-◌, ◌==◌, ◌&&◌, ℕ, zero, suc, Bool, true, false, Option, Some, None, List, [], ◌∷◌, ◌++◌, map, length, refl, sym, subst, ap, ◌∙◌, arith, append_assoc, append-nil, option_to_list, All, is_none}
-use Rattle.rust_items.proofs.Common.{AllZip, All-nil, All-cons, map-append, AstIdKind, Visibility, MetaView, ItemView, ItemViews, plain_item, macro_call, no_items, item_and, items_from, module_from, extern_block_from, UseTreeView, Tokens, symbol, at, eat, is_empty, is_at_end, bumped, most, beyond, LeadsTo, here, further, through, when, bumped_leads, eat_leads, behind_tree_leads, beyond_leads, Takes, takes_leads, takes_before, IsLaid, at_behind, taken_behind, takes_strict, Row, TextRange, inner_attributes, inner_attributes_leads, Head, ItemSpan, ProblemKind, ItemPlace, Found, Finder, nothing_found, and_problem, and_problem_if, and_problem_at, and_row, and_use_trees, and_all, LeafRead, NameRead, no_name, named, node, named_node, FrontRead, front, BlockRead, span_of, needs_name, and_flaw, and_item, and_leaf, and_parent, leaf_found, leaf_turn, finding_from, finding, is_list_end, block_of, as_extern, extern_kept, extern_found, extern_turn, extern_inside, extern_block, one_more, unmatched, inside_unless, module_with, by_head, turn_with, inside, turn, depth_of, items, Telling, id_of, name_of, items_held, IsNameIn, IsBodyIn, IsPlace, ArePlaces, nothing, placed, trees_in, trees_within}
+use Rattle.std.proofs.Common.{◌≡◌, ◌≤◌, ◌<◌, ◌+◌, ◌==◌, ◌&&◌, ℕ, zero, suc, Bool, true, false, Option, Some, None, List, [], ◌∷◌, ◌++◌, refl, sym, subst, ap, ◌∙◌, arith, append-nil, option_to_list, All, is_none}
+use Rattle.rust_items.proofs.Common.{AllZip, All-nil, All-cons, AstIdKind, Visibility, MetaView, ItemView, ItemViews, plain_item, macro_call, no_items, item_and, items_from, module_from, extern_block_from, UseTreeView, Tokens, symbol, at, eat, is_empty, is_at_end, bumped, LeadsTo, here, further, through, when, bumped_leads, eat_leads, behind_tree_leads, Takes, takes_leads, takes_before, IsLaid, at_behind, taken_behind, takes_strict, TextRange, inner_attributes, inner_attributes_leads, Head, ProblemKind, Found, Finder, nothing_found, and_problem_at, and_row, LeafRead, NameRead, no_name, written_name, node, named_node, FrontRead, front, BlockRead, span_of, needs_name, and_flaw, and_item, and_leaf, and_parent, leaf_found, leaf_turn, finding, is_list_end, block_of, as_extern, extern_kept, extern_found, extern_turn, extern_inside, extern_block, one_more, unmatched_token, inside_unless, module_with, by_head, turn_with, inside, turn, depth_of, items, id_of, name_of, items_held, IsNameIn, IsBodyIn, IsPlace, nothing, placed, trees_in, trees_within}
 use Rattle.hir_input.specs.declared.ast.PlainKind.TheVariants as plain_kind
 use Rattle.hir_input.specs.declared.ids.AstIdKind.TheVariants as kind
-use Rattle.rust_cursor.proofs.Laid.{behind}
+use Rattle.rust_cursor.proofs.TokenPlaces.{behind}
 use Rattle.rust_leaves.specs.declared.head.Head.TheVariants as heads
 use Rattle.rust_items.specs.declared.log.ProblemKind.TheVariants as problem
-use Rattle.rust_items.proofs.Leads.{IsNamed, nameless, by_token, name_behind, name_before, IsBraced, unbraced, braced, blank, IsTaken, LeafFound, TakesBy, front_takes, front_start, named_leads, named_named, behind_others_leads}
-use Rattle.rust_items.proofs.Leads as leads
+use Rattle.rust_items.proofs.ItemRests.{IsNamed, nameless, by_token, name_behind, name_before, IsBraced, unbraced, braced, blank, IsTaken, LeafFound, TakesBy, front_takes, front_start, named_leads, named_named, behind_others_leads}
+use Rattle.rust_items.proofs.ItemRests as leads
 use Rattle.rust_items.proofs.TreesRead.{IsRead, read_around}
-use Rattle.rust_items.proofs.UsesFound.{IsWithin, IsIn, UsesIn, no_uses, leaf_uses, holder_uses, widened_uses, retold_uses, joined_uses}
+use Rattle.rust_items.proofs.UsesFound.{IsWithin, IsIn, UsesIn, no_uses, leaf_uses, holder_uses, widened_uses, retold_uses}
 use Rattle.rust_items.proofs.Names.{IsToken, untold, told_behind, named_told}
 use Rattle.rust_items.proofs.FoundItems.{list_found, widened, retold, adds_none, adds_problem, adds_problem_at, adds_use_trees, adds_more, adds_all, unnumbered, adds_item, AreFound, none_found, Finds}
 
@@ -135,7 +135,7 @@ leaf_turn_found : (end : ℕ) (ts us : Tokens) (depth : ℕ) (h : FrontRead) (f 
 unfolding leaf_turn
 leaf_turn_found end ts us depth h f s laid t = start_found end ts _ depth h.start _ f s laid (leads.leaf_found h ts us t)
 
-unmatched_found : (ts : Tokens) (f : Found) → AreFound ts (unmatched f ts).1.1 f (unmatched f ts).1.0 no_items
+unmatched_found : (ts : Tokens) (f : Found) → AreFound ts (unmatched_token f ts).1.1 f (unmatched_token f ts).1.0 no_items
 unmatched_found ts f = none_found f _ (bumped_leads ts) (adds_problem _ _ (adds_none f)) refl
 
 -- ---- blocks
@@ -221,11 +221,11 @@ module _ (end : ℕ) (inside : Finder BlockRead) (finds : FindsIn end inside) (d
   module_found : (ts us : Tokens) (h : FrontRead) (f : Found) → h.start ≡ at ts → IsLaid end ts → Takes ts us
       → AreFound ts (module_with inside depth h f us).1.1 f (module_with inside depth h f us).1.0 (item_and (module_with inside depth h f us).0 no_items)
   module_found ts us h f s laid t =
-      let name_leads = through (named_leads us) (eat_leads 59 (named us).1) in
+      let name_leads = through (named_leads us) (eat_leads 59 (written_name us).1) in
       let first = behind end (through (takes_leads t) name_leads) laid in
-      let b = unless_found (eat 59 (named us).1).0 nothing_found (eat 59 (named us).1).1 first.laid in
-      rw s (parent_is end ts (eat 59 (named us).1).1 _ f _ depth kind.Module (named us).0 _ _ _ (module_holds _ _ _ _ _) laid (takes_before t name_leads) b
-      (name_behind (takes_leads t) (name_before (named_named us) (eat_leads 59 (named us).1))) (told_behind (takes_leads t) _ _ (named_told us)))
+      let b = unless_found (eat 59 (written_name us).1).0 nothing_found (eat 59 (written_name us).1).1 first.laid in
+      rw s (parent_is end ts (eat 59 (written_name us).1).1 _ f _ depth kind.Module (written_name us).0 _ _ _ (module_holds _ _ _ _ _) laid (takes_before t name_leads) b
+      (name_behind (takes_leads t) (name_before (named_named us) (eat_leads 59 (written_name us).1))) (told_behind (takes_leads t) _ _ (named_told us)))
 
   head_found : (head : Head) (ts us : Tokens) (h : FrontRead) (f : Found) → h.start ≡ at ts → IsLaid end ts → TakesBy head ts us → TakesBy h.head ts us
       → AreFound ts (by_head inside depth head h f us).1.1 f (by_head inside depth head h f us).1.0 (items_from (option_to_list (by_head inside depth head h f us).0))

@@ -1,6 +1,6 @@
 -- Steps of what is read in turns.
-use Rattle.std.proofs.Common.{◌≡◌, ◌≢◌, ◌==◌, ◌<◌, ◌+◌, ◌-◌, ℕ, zero, suc, Bool, true, false, List, [], ◌∷◌, ◌++◌, Option, Some, None, map, option_map, refl, sym, ap, ◌∙◌, arith, append-nil, option_to_list, ne_eqb}
-use Rattle.rust_items.proofs.Common.{map-append, FileAstId, ItemView, Tokens, symbol, at, behind_tree, beyond, ItemSpan, ItemPlace, Found, Finder, and_problem, finding_from, deep_block, block_of, inside, turn, places}
+use Rattle.std.proofs.Common.{◌≡◌, ◌≢◌, ◌==◌, ◌<◌, ◌+◌, ◌-◌, ℕ, zero, suc, Bool, true, false, List, [], ◌∷◌, ◌++◌, Option, refl, sym, ap, ◌∙◌, arith, append-nil, option_to_list, ne_eqb}
+use Rattle.rust_items.proofs.Common.{FileAstId, ItemView, Tokens, symbol, at, behind_tree, progress_from, ItemSpan, ItemPlace, Found, Finder, and_problem, finding_from, deep_block, block_of, inside, turn, places}
 use Rattle.rust_items.specs.declared.log.ProblemKind.TheVariants as problem
 use Rattle.rust_items.specs.Items.{no_block}
 
@@ -12,15 +12,15 @@ finding_stop ends turn (suc n) done f ts e = rw e refl
 
 -- one more turn
 pub finding_more : (ends : Tokens → Bool) (turn : Finder (Option ItemView)) (bound at past : ℕ) (done done' : List ItemView) (i : Option ItemView) (f f' : Found) (ts mid after : Tokens) (all : List ItemView × (Found × Tokens)) → at < bound → ends ts ≡ false
-    → turn f ts ≡ (i, (f', mid)) → past ≡ ts.past → after ≡ beyond past mid → done' ≡ done ++ option_to_list i → finding_from ends turn (bound - at) done f ts ≡ all → finding_from ends turn (bound - (at + 1)) done' f' after ≡ all
+    → turn f ts ≡ (i, (f', mid)) → past ≡ ts.past → after ≡ progress_from past mid → done' ≡ done ++ option_to_list i → finding_from ends turn (bound - at) done f ts ≡ all → finding_from ends turn (bound - (at + 1)) done' f' after ≡ all
 finding_more ends turn bound at past done done' i f f' ts mid after all below e told p a d before =
     let next : bound - at ≡ suc (bound - (at + 1)) = omega arith in
     let n = bound - (at + 1) in
-    let step : finding_from ends turn (bound - at) done f ts ≡ finding_from ends turn n (done ++ option_to_list (turn f ts).0) (turn f ts).1.0 (beyond ts.past (turn f ts).1.1) = rw (next, e) refl in
-    let here : finding_from ends turn n (done ++ option_to_list (turn f ts).0) (turn f ts).1.0 (beyond ts.past (turn f ts).1.1) ≡ finding_from ends turn n (done ++ option_to_list i) f' (beyond ts.past mid) =
-    ap (λ r. finding_from ends turn n (done ++ option_to_list r.0) r.1.0 (beyond ts.past r.1.1)) told in
+    let step : finding_from ends turn (bound - at) done f ts ≡ finding_from ends turn n (done ++ option_to_list (turn f ts).0) (turn f ts).1.0 (progress_from ts.past (turn f ts).1.1) = rw (next, e) refl in
+    let here : finding_from ends turn n (done ++ option_to_list (turn f ts).0) (turn f ts).1.0 (progress_from ts.past (turn f ts).1.1) ≡ finding_from ends turn n (done ++ option_to_list i) f' (progress_from ts.past mid) =
+    ap (λ r. finding_from ends turn n (done ++ option_to_list r.0) r.1.0 (progress_from ts.past r.1.1)) told in
     ap (λ l. finding_from ends turn n l f' after) d
-    ∙ ap (λ k. finding_from ends turn n (done ++ option_to_list i) f' k) (a ∙ ap (λ k. beyond k mid) p)
+    ∙ ap (λ k. finding_from ends turn n (done ++ option_to_list i) f' k) (a ∙ ap (λ k. progress_from k mid) p)
     ∙ sym here ∙ sym step ∙ before
 
 -- ---- modules

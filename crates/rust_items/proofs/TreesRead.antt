@@ -1,6 +1,6 @@
 -- Where a use tree tells that trees begin, those of it that can be read are read.
 use Rattle.std.proofs.Common.{◌≡◌, ◌==◌, ◌||◌, ℕ, zero, suc, Bool, true, false, Option, Some, None, List, [], ◌∷◌, ◌++◌, codes, refl, sym, ap, ◌∙◌, subst, append-nil, append_assoc, arith, is_none, option_map, option_to_list, not, bytes_eq, if◌then◌else◌}
-use Rattle.rust_items.proofs.Common.{AllZip, PathNode, UseTreeView, trees_from, Tokens, symbol, word, kind, at, is_empty, is_pair, eat_pair, bumped, is_at_end, eat_colons, most, beyond, turns_from, turns, elements, one, LeadsTo, here, through, when, bumped_leads, eat_pair_leads, behind_closed_leads, behind_tree_leads, beyond_leads, turns_leads, Takes, takes, takes_behind, takes_before, symbol_some, word_none, next_name, name, placed_name, taken_with, is_raw, is_dollar_crate, other_segment, segment, more_segments, front_of_path, written_path, is_path_start, use_path, FoundInUse, begun_trees, begun_list, values, all_starts, bare_tree, tree_with_list, star_or_list, tree_behind, tree_with, tree_at, element_with, list, rename, use_tree, placed_next, list_leads, element_leads, is_readable, all_readable_trees, readable_trees, written_trees}
+use Rattle.rust_items.proofs.Common.{AllZip, PathNode, UseTreeView, trees_from, Tokens, symbol, word, kind, at, is_empty, is_pair, eat_pair, bumped, is_at_end, eat_colons, most_tokens, progress_from, turns_from, turns, elements, one, LeadsTo, here, through, when, bumped_leads, eat_pair_leads, behind_closed_leads, behind_tree_leads, beyond_leads, turns_leads, Takes, takes, takes_behind, takes_before, symbol_some, word_none, next_name, name, placed_name, taken_with, is_raw, is_dollar_crate, other_segment, segment, more_segments, front_of_path, written_path, is_path_start, use_path, FoundInUse, begun_trees, begun_list, values, all_starts, bare_tree, tree_with_list, star_or_list, tree_behind, tree_with, tree_at, element_with, list, rename, use_tree, placed_next, list_leads, element_leads, is_readable, all_readable_trees, readable_trees, written_trees}
 use Rattle.hir_input.specs.declared.ast.PathNode.TheVariants.{Readable, Unreadable}
 use Rattle.hir_input.specs.declared.ast.Rename.{Rename}
 use Rattle.hir_input.specs.Words.{PathWord, name_word}
@@ -289,11 +289,11 @@ module _ (read : Reader (FoundInUse (Option UseTreeView))) (h : (ts : Tokens) �
       when (is_at_end ts) (λ s. rw s (e, p))
       (λ s.
       let past = beyond_leads ts.past (read ts).1 in
-      rw s (turns_told n (fs ++ (read ts).0 ∷ []) (beyond ts.past (read ts).1) (through p (through (l ts) past)) (told_on (fs ++ (read ts).0 ∷ []) past (more_told fs ts p e))))
+      rw s (turns_told n (fs ++ (read ts).0 ∷ []) (progress_from ts.past (read ts).1) (through p (through (l ts) past)) (told_on (fs ++ (read ts).0 ∷ []) past (more_told fs ts p e))))
 
   elements_told : (ts : Tokens) → LeadsTo base ts → Told (elements (one read) ts).1 (elements (one read) ts).0 × LeadsTo base (elements (one read) ts).1
   unfolding turns readable_in
-  elements_told ts p = turns_told most [] ts p tt
+  elements_told ts p = turns_told most_tokens [] ts p tt
 
 list_none : (ts : Tokens) (o : Option ℕ) (us : Tokens) → LeadsTo ts us → ListTold ts (record { value = None; starts = []; too_deep = o }, us)
 unfolding IsListed

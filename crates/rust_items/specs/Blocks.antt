@@ -8,7 +8,7 @@ use Rattle.hir_input.specs.Syntax.{CallView, ItemView, StmtView, item_stmt, call
 use Rattle.rust_cursor.specs.Tokens.{Tokens, tokens_of}
 use Rattle.rust_cursor.specs.Reader.{Reader}
 use Rattle.rust_cursor.specs.Words.{symbol, word, at, eat, is_at_end, bumped}
-use Rattle.rust_cursor.specs.Elements.{most, beyond}
+use Rattle.rust_cursor.specs.Elements.{most_tokens, progress_from}
 use Rattle.rust_ids.specs.Ids.{AreIds}
 use Rattle.rust_paths.specs.declared.names.TextRange.{TextRange}
 use Rattle.rust_metas.specs.Attributes.{outer_attributes, inner_attributes}
@@ -119,10 +119,10 @@ abbrev pub parts_from : Bool → ℕ → BodyRead → Finder BodyRead
 parts_from is_top zero done f ts = (done, (f, ts))
 parts_from is_top (suc n) done f ts =
     if is_list_end is_top ts then (done, (f, ts))
-    else parts_from is_top n (and_part done (part is_top f ts).0) (part is_top f ts).1.0 (beyond ts.past (part is_top f ts).1.1)
+    else parts_from is_top n (and_part done (part is_top f ts).0) (part is_top f ts).1.0 (progress_from ts.past (part is_top f ts).1.1)
 
 abbrev pub parts : Bool → Finder BodyRead
-parts is_top f ts = parts_from is_top most empty_body f ts
+parts is_top f ts = parts_from is_top most_tokens empty_body f ts
 
 -- ---- ids
 

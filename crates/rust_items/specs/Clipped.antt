@@ -4,7 +4,7 @@ use Rattle.hir_input.specs.Attr.{MetaView}
 use Rattle.hir_input.specs.Syntax.{ItemView}
 use Rattle.rust_metas.specs.Docs.{kept_metas}
 use Rattle.rust_leaves.specs.declared.wanted.Wanted.{Wanted}
-use Rattle.rust_leaves.specs.Clipped.{with_value, clipped_item, wanted_item, unattributed}
+use Rattle.rust_leaves.specs.Clipped.{with_value, clipped_item, wanted_item, without_attributes}
 use Rattle.rust_leaves.specs.Fronts.{FrontRead}
 use Rattle.rust_items.specs.Found.{Finder}
 use Rattle.rust_items.specs.Items.{BlockRead}
@@ -30,4 +30,4 @@ wanted_item_if w attrs i = option_map (wanted_item w attrs) i
 
 -- what gives an item or none behind what stands before it: with what is wanted of it, behind the attributes that stand there
 unfoldable pub wanted_behind : Wanted → (FrontRead → Finder (Option ItemView)) → FrontRead → Finder (Option ItemView)
-wanted_behind w reads h f ts = with_value (wanted_item_if w h.attrs) (reads (unattributed h) f ts)
+wanted_behind w reads h f ts = with_value (wanted_item_if w h.attrs) (reads (without_attributes h) f ts)

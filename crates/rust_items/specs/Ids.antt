@@ -24,20 +24,20 @@ abbrev pub numbered_call : Numbers → CallView → CallView
 numbered_call id n = record { node = numbered_node id n.node; path = n.path; expand_to = n.expand_to; ctxt = n.ctxt }
 
 -- an item with the hash and the number of its id; what it holds is as before
-abbrev pub numbered : Numbers → ItemView → ItemView
-numbered id (plain_item k n) = plain_item k (numbered_named id n)
-numbered id (const_item n) = const_item (numbered_named id n)
-numbered id (struct_item n fields) = struct_item (numbered_named id n) fields
-numbered id (bare_module n semicolon) = bare_module (numbered_named id n) semicolon
-numbered id (listed_module n semicolon is) = listed_module (numbered_named id n) semicolon is
-numbered id (use_item u) = use_item (numbered_use id u)
-numbered id (extern_crate n rename) = extern_crate (numbered_named id n) rename
-numbered id (bare_extern_block n) = bare_extern_block (numbered_node id n)
-numbered id (listed_extern_block n is) = listed_extern_block (numbered_node id n) is
-numbered id (impl_item n is_trait) = impl_item (numbered_node id n) is_trait
-numbered id (macro_call c) = macro_call (numbered_call id c)
-numbered id (macro_rules n name) = macro_rules (numbered_node id n) name
-numbered id (asm_item n) = asm_item n
+abbrev pub numbered_item : Numbers → ItemView → ItemView
+numbered_item id (plain_item k n) = plain_item k (numbered_named id n)
+numbered_item id (const_item n) = const_item (numbered_named id n)
+numbered_item id (struct_item n fields) = struct_item (numbered_named id n) fields
+numbered_item id (bare_module n semicolon) = bare_module (numbered_named id n) semicolon
+numbered_item id (listed_module n semicolon is) = listed_module (numbered_named id n) semicolon is
+numbered_item id (use_item u) = use_item (numbered_use id u)
+numbered_item id (extern_crate n rename) = extern_crate (numbered_named id n) rename
+numbered_item id (bare_extern_block n) = bare_extern_block (numbered_node id n)
+numbered_item id (listed_extern_block n is) = listed_extern_block (numbered_node id n) is
+numbered_item id (impl_item n is_trait) = impl_item (numbered_node id n) is_trait
+numbered_item id (macro_call c) = macro_call (numbered_call id c)
+numbered_item id (macro_rules n name) = macro_rules (numbered_node id n) name
+numbered_item id (asm_item n) = asm_item n
 
 -- ---- all items
 
@@ -49,7 +49,7 @@ abbrev mutual
   pub held_with_ids : Numbers → ItemView → List FileAstId → ItemView × List FileAstId
   held_with_ids id (listed_module n semicolon is) ids = listed_by (listed_module (numbered_named id n) semicolon) (with_ids is ids)
   held_with_ids id (listed_extern_block n is) ids = listed_by (listed_extern_block (numbered_node id n)) (with_ids is ids)
-  held_with_ids id i ids = (numbered id i, ids)
+  held_with_ids id i ids = (numbered_item id i, ids)
 
   -- each item takes an id, and then those that it holds take theirs
   pub with_ids : ItemViews → List FileAstId → ItemViews × List FileAstId

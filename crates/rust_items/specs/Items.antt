@@ -8,7 +8,7 @@ use Rattle.hir_input.specs.Syntax.{ItemView, plain_item, macro_call, module_from
 use Rattle.rust_cursor.specs.Tokens.{Tokens}
 use Rattle.rust_cursor.specs.Words.{symbol, at, eat, is_empty, is_at_end, bumped}
 use Rattle.rust_cursor.specs.Brackets.{behind_tree}
-use Rattle.rust_cursor.specs.Elements.{most, beyond}
+use Rattle.rust_cursor.specs.Elements.{most_tokens, progress_from}
 use Rattle.rust_paths.specs.declared.names.TextRange.{TextRange}
 use Rattle.rust_metas.specs.Attributes.{inner_attributes}
 use Rattle.rust_leaves.specs.declared.head.Head.{Head}
@@ -18,7 +18,7 @@ use Rattle.rust_items.specs.declared.log.ProblemKind.TheVariants as problem
 use Rattle.rust_items.specs.Found.{Found, Finder, nothing_found, and_problem, and_problem_if, and_problem_at, and_row, and_use_trees, and_all}
 use Rattle.rust_leaves.specs.Fronts.{FrontRead, front}
 use Rattle.rust_leaves.specs.Heads.{behind_others}
-use Rattle.rust_leaves.specs.Leaves.{NameRead, LeafRead, no_name, named}
+use Rattle.rust_leaves.specs.Leaves.{NameRead, LeafRead, no_name, written_name}
 use Rattle.rust_leaves.specs.Kinds.{named_node, node, leaf}
 
 -- ---- what is found
@@ -40,8 +40,8 @@ abbrev pub and_flaw : Bool → Bool → ℕ → Found → Found
 and_flaw is_ended is_nameless start f = if is_ended then and_problem_if is_nameless problem.Nameless start f else and_problem problem.Unfinished start f
 
 abbrev pub and_item : ℕ → ℕ → ℕ → Option TextRange → AstIdKind → List ℕ → Option TextRange → Bool → Found → Found
-and_item depth start end body kind name named is_ended f =
-    and_flaw is_ended (is_none named && needs_name kind) start (and_row (record { depth = depth; kind = kind; name = name }) (span_of start end body named) f)
+and_item depth start end body kind name written_name is_ended f =
+    and_flaw is_ended (is_none written_name && needs_name kind) start (and_row (record { depth = depth; kind = kind; name = name }) (span_of start end body written_name) f)
 
 abbrev pub and_leaf : ℕ → ℕ → ℕ → LeafRead → Found → Found
 and_leaf depth start end l f =
@@ -67,10 +67,10 @@ abbrev pub finding_from : (Tokens → Bool) → Finder (Option ItemView) → ℕ
 finding_from ends turn zero done f ts = (done, (f, ts))
 finding_from ends turn (suc n) done f ts =
     if ends ts then (done, (f, ts))
-    else finding_from ends turn n (done ++ option_to_list (turn f ts).0) (turn f ts).1.0 (beyond ts.past (turn f ts).1.1)
+    else finding_from ends turn n (done ++ option_to_list (turn f ts).0) (turn f ts).1.0 (progress_from ts.past (turn f ts).1.1)
 
 unfoldable pub finding : (Tokens → Bool) → Finder (Option ItemView) → Finder (List ItemView)
-finding ends turn f ts = finding_from ends turn most [] f ts
+finding ends turn f ts = finding_from ends turn most_tokens [] f ts
 
 -- a list of items ends with the text, and before its `}` where it has one
 unfoldable pub is_list_end : Bool → Tokens → Bool
@@ -129,12 +129,12 @@ extern_behind depth h f ts = extern_found depth h.start (leaf h ts).0 f (leaf h 
 abbrev pub extern_by : ℕ → Finder (Option ItemView)
 extern_by depth f ts = extern_behind depth (front ts).0 f (front ts).1
 
-abbrev pub unmatched : Finder (Option ItemView)
-unmatched f ts = (None, (and_problem problem.Unmatched (at ts) f, bumped ts))
+abbrev pub unmatched_token : Finder (Option ItemView)
+unmatched_token f ts = (None, (and_problem problem.Unmatched (at ts) f, bumped ts))
 
 -- an item of an extern block, or none
 unfoldable pub extern_turn : ℕ → Finder (Option ItemView)
-extern_turn depth f ts = if is_at_end ts then unmatched f ts else extern_by depth f ts
+extern_turn depth f ts = if is_at_end ts then unmatched_token f ts else extern_by depth f ts
 
 unfoldable pub extern_inside : ℕ → Finder BlockRead
 extern_inside depth f ts = if symbol ts == 123 then block_of (extern_turn depth) f ts else (no_block, (f, ts))
@@ -165,7 +165,7 @@ inside_unless semicolon inside f ts = if semicolon then (no_block, (f, ts)) else
 -- Module: with a semicolon, with items, or with neither
 abbrev pub module_with : Finder BlockRead → ℕ → FrontRead → Finder ItemView
 module_with inside depth h f ts =
-    let n = named ts in
+    let n = written_name ts in
     let semicolon = eat 59 n.1 in
     let b = inside_unless semicolon.0 inside nothing_found semicolon.1 in (
       module_from (named_node (h.attrs ++ b.0.attrs) n.0.name h.visibility []) semicolon.0 b.0.items,
@@ -183,7 +183,7 @@ by_head inside depth _ h f ts = leaf_turn depth h f ts
 -- Item: an item, or none: then tokens are passed over
 abbrev pub turn_with : Finder BlockRead → ℕ → Finder (Option ItemView)
 turn_with inside depth f ts =
-    if is_at_end ts then unmatched f ts else by_head inside depth (front ts).0.head (front ts).0 f (front ts).1
+    if is_at_end ts then unmatched_token f ts else by_head inside depth (front ts).0.head (front ts).0 f (front ts).1
 
 -- The items of a module. The number bounds how deep modules stand in one another; one that is deeper is passed over.
 unfoldable pub inside : ℕ → Finder BlockRead

@@ -12,14 +12,14 @@ use Rattle.rust_metas.specs.Attributes.{inner_attributes}
 use Rattle.rust_metas.specs.declared.wanted.WantedMetas.{WantedMetas}
 use Rattle.rust_items.specs.declared.member.MemberKind.TheVariants as member
 use Rattle.rust_items.specs.Members.{MemberRead, moved_member}
-use Rattle.rust_items.specs.MemberParts.{associated, part_member}
+use Rattle.rust_items.specs.MemberParts.{associated_item, part_member}
 
 -- a member of an item of this kind, with those of its metas that are wanted, or none
 unfoldable pub member_turn : WantedMetas → AstIdKind → Reader (Option MemberRead)
 member_turn metas kind.Enum = part_member metas member.Variant
 member_turn metas kind.Struct = part_member metas member.Field
 member_turn metas kind.Union = part_member metas member.Field
-member_turn metas _ = associated metas
+member_turn metas _ = associated_item metas
 
 -- a list of members ends with the text, and before its `}`
 unfoldable pub is_list_over : Tokens → Bool

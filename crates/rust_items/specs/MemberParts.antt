@@ -9,7 +9,7 @@ use Rattle.rust_cursor.specs.Reader.{Reader, ◌>>=◌, pure, look, pass}
 use Rattle.rust_cursor.specs.Words.{symbol, word, at, is_at_doc, is_at_end, is_at_identifier, is_at_open, is_pair, eat, eat_word, bumped}
 use Rattle.rust_cursor.specs.Nests.{can_end}
 use Rattle.rust_cursor.specs.Brackets.{behind_tree}
-use Rattle.rust_cursor.specs.Elements.{most}
+use Rattle.rust_cursor.specs.Elements.{most_tokens}
 use Rattle.rust_cursor.specs.Angles.{behind_angles}
 use Rattle.rust_paths.specs.declared.names.TextRange.{TextRange}
 use Rattle.rust_paths.specs.Visibilities.{visibility}
@@ -19,7 +19,7 @@ use Rattle.rust_metas.specs.Docs.{kept_by, kept_metas}
 use Rattle.rust_metas.specs.declared.wanted.WantedMetas.{WantedMetas}
 use Rattle.rust_leaves.specs.Fronts.{FrontRead, front}
 use Rattle.rust_leaves.specs.Heads.{behind_others}
-use Rattle.rust_leaves.specs.Leaves.{LeafRead, named}
+use Rattle.rust_leaves.specs.Leaves.{LeafRead, written_name}
 use Rattle.rust_leaves.specs.Kinds.{leaf}
 use Rattle.rust_items.specs.declared.member.MemberKind.{MemberKind}
 use Rattle.rust_items.specs.declared.member.MemberKind.TheVariants as member
@@ -84,8 +84,8 @@ abbrev pub member_behind_front : WantedMetas → FrontRead → Reader (Option Me
 member_behind_front metas h ts = leaf_member (told_with metas) h.start (leaf h ts).0 (leaf h ts).1
 
 -- AssociatedItem, or none: then tokens are passed over
-unfoldable pub associated : WantedMetas → Reader (Option MemberRead)
-associated metas ts = if is_at_end ts then (None, bumped ts) else member_behind_front metas (front ts).0 (front ts).1
+unfoldable pub associated_item : WantedMetas → Reader (Option MemberRead)
+associated_item metas ts = if is_at_end ts then (None, bumped ts) else member_behind_front metas (front ts).0 (front ts).1
 
 -- ---- the part behind a missing comma
 
@@ -179,7 +179,7 @@ behind_operands (suc n) stand ts =
 
 -- what is left from the end of a variant or a field on, behind its name or its type
 unfoldable pub behind_value : Tokens → Tokens
-behind_value ts = behind_operands most stands.Ended ts
+behind_value ts = behind_operands most_tokens stands.Ended ts
 
 -- ---- types
 
@@ -195,7 +195,7 @@ behind_type_parts zero ts = ts
 behind_type_parts (suc n) ts = if is_type_end ts then ts else behind_type_parts n (behind_type_part ts)
 
 unfoldable pub behind_type : Tokens → Tokens
-behind_type ts = behind_type_parts most ts
+behind_type ts = behind_type_parts most_tokens ts
 
 abbrev pub behind_part : MemberKind → Tokens → Tokens
 behind_part member.Variant ts = behind_value ts
@@ -223,7 +223,7 @@ part_member metas kind = do
   attrs ← kept_by metas outer_attributes
   v ← reads visibility
   _ ← eat_word (codes "unsafe")
-  n ← named
+  n ← written_name
   _ ← pass (behind_part kind)
   end ← look (λ ts. ts.past)
   _ ← eat 44

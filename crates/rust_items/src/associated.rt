@@ -73,7 +73,7 @@ fn body_of(kind: MemberKind, body: Option<TextRange>) -> Option<TextRange>
     }
 }
 
-fn kept(leaf: Leaf<'_>, start: usize, end: usize) -> Option<Member>
+fn member_kept(leaf: Leaf<'_>, start: usize, end: usize) -> Option<Member>
     ensures { option_map member_view result
         ≡ spec.member_kept start end (leaf_view leaf.entry) (spec.told_of (item_view leaf.entry.item)) }
 {
@@ -93,13 +93,13 @@ fn kept(leaf: Leaf<'_>, start: usize, end: usize) -> Option<Member>
 }
 
 /// Takes a member of a trait or an impl, or tokens that begin none.
-#[tactic(auto, unfolding(crate::specs::MemberParts::associated))]
-pub(crate) fn associated(
+#[tactic(auto, unfolding(crate::specs::MemberParts::associated_item))]
+pub(crate) fn associated_item(
     alloc: Global,
     cursor: &mut Cursor<'_>,
     metas: WantedMetas,
 ) -> Result<Option<Member>, AllocError>
-    ensures { Gives (option_map member_view) (spec.associated metas cursor.old) result cursor.new }
+    ensures { Gives (option_map member_view) (spec.associated_item metas cursor.old) result cursor.new }
 {
     if cursor.is_at_end() {
         cursor.bump();
@@ -113,8 +113,8 @@ pub(crate) fn associated(
     let start = front.start;
     match take_leaf(alloc, cursor, wanted, front)? {
         Some(leaf) => {
-            let end = cursor.past();
-            Ok(kept(leaf, start, end))
+            let end = cursor.last_end();
+            Ok(member_kept(leaf, start, end))
         }
         None => {
             pass_others(cursor);

@@ -137,7 +137,7 @@ fn call_part<'t>(
         (spec.call_found is_top start (call_read_view call.entry) (log_view log.old) cursor.old)
         result (log_view log.new) cursor.new }
 {
-    let end = cursor.past();
+    let end = cursor.last_end();
     if cursor.symbol() == b';' {
         cursor.bump();
         return stmt_of(call, start, end, log);
@@ -170,7 +170,7 @@ fn take_called<'t>(
     }
 }
 
-#[tactic(auto, using(crate::proofs::Clipped::behind_front_whole))]
+#[tactic(auto, using(crate::proofs::ClippedItems::behind_front_whole))]
 fn take_item<'t>(
     alloc: Global,
     cursor: &mut Cursor<'t>,
@@ -276,7 +276,7 @@ fn parts<'t>(
         if is_list_end(cursor, is_top) {
             return Ok(body);
         }
-        let past = cursor.past();
+        let past = cursor.last_end();
         let part = take_part(alloc, cursor, is_top, log)?;
         push_part(&mut body, part)?;
         cursor.pass_beyond(past);
@@ -323,7 +323,7 @@ fn block_of(
     let attrs = inner_attributes(alloc, &mut cursor)?;
     let mut log = Log::new(alloc);
     let body = parts(alloc, &mut cursor, is_top, &mut log)?;
-    log.push_problem_at(ProblemKind::Unterminated, cursor.unended())?;
+    log.push_problem_at(ProblemKind::Unterminated, cursor.unended_token())?;
     let ids = ids_of(alloc, log.rows)?;
     let places = places(alloc, &ids, &log.spans, ends)?;
     let problems = ends.problems(alloc, &log.problems)?;

@@ -17,7 +17,7 @@ use crate::turn::{Extent, push_item};
 use hir_input::ast::{ExternBlock, ExternItem, Item};
 use hir_input::{AstIdKind, Meta};
 use rust_cursor::{Cursor, push_some};
-use rust_leaves::{Front, Leaf, Wanted, joined, pass_others, take_leaf, wanted_front};
+use rust_leaves::{Front, Leaf, Wanted, join_attributes, pass_others, take_leaf, wanted_front};
 use rust_metas::kept_inner_attributes;
 use std::alloc::{AllocError, Global};
 
@@ -59,7 +59,7 @@ pub(crate) fn is_list_end(cursor: &Cursor<'_>, is_top: bool) -> bool
 }
 
 /// Keeps an item of an extern block, where it may stand there.
-fn kept<'t>(
+fn keep_extern<'t>(
     leaf: Leaf<'t>,
     depth: usize,
     start: usize,
@@ -90,7 +90,7 @@ fn kept<'t>(
     }
 }
 
-#[tactic(auto, using(crate::proofs::Clipped::extern_by_clipped))]
+#[tactic(auto, using(crate::proofs::ClippedItems::extern_by_clipped))]
 fn extern_by<'t>(
     alloc: Global,
     cursor: &mut Cursor<'t>,
@@ -107,8 +107,8 @@ fn extern_by<'t>(
     let start = front.start;
     match take_leaf(alloc, cursor, wanted, front)? {
         Some(leaf) => {
-            let end = cursor.past();
-            kept(leaf, depth, start, end, log)
+            let end = cursor.last_end();
+            keep_extern(leaf, depth, start, end, log)
         }
         None => {
             log.push_problem(ProblemKind::NoItem, start)?;
@@ -119,7 +119,7 @@ fn extern_by<'t>(
 }
 
 /// An item of an extern block, or none.
-#[tactic(auto, using(crate::proofs::Clipped::extern_turn_clipped))]
+#[tactic(auto, using(crate::proofs::ClippedItems::extern_turn_clipped))]
 fn extern_turn<'t>(
     alloc: Global,
     cursor: &mut Cursor<'t>,
@@ -158,7 +158,7 @@ fn extern_items<'t>(
         if is_list_end(cursor, false) {
             return Ok(items);
         }
-        let past = cursor.past();
+        let past = cursor.last_end();
         let item = extern_turn(alloc, cursor, wanted, depth, log)?;
         push_some(&mut items, item)?;
         cursor.pass_beyond(past);
@@ -167,7 +167,7 @@ fn extern_items<'t>(
 }
 
 /// Takes the braces of an extern block, if they come next.
-#[tactic(auto, using(crate::proofs::Clipped::extern_inside_clipped))]
+#[tactic(auto, using(crate::proofs::ClippedItems::extern_inside_clipped))]
 fn extern_inside<'t>(
     alloc: Global,
     cursor: &mut Cursor<'t>,
@@ -204,7 +204,7 @@ fn block_item(alloc: Global, front: Front, inside: ExternInside) -> Result<Item,
         (map meta_view front.attrs.items ++ map meta_view inside.attrs.items) [])
         (option_map (λ v. map extern_item_view v.items) inside.items)) }
 {
-    let attrs = joined(front.attrs, inside.attrs)?;
+    let attrs = join_attributes(front.attrs, inside.attrs)?;
     Ok(Item::ExternBlock(ExternBlock {
         hash: 0,
         number: 0,
@@ -238,7 +238,7 @@ fn push_block<'t>(
 }
 
 /// Takes an extern block, behind `extern` and the name of an interface.
-#[tactic(auto, using(crate::proofs::Clipped::extern_block_clipped))]
+#[tactic(auto, using(crate::proofs::ClippedItems::extern_block_clipped))]
 pub(crate) fn extern_block<'t>(
     alloc: Global,
     cursor: &mut Cursor<'t>,
@@ -256,7 +256,7 @@ pub(crate) fn extern_block<'t>(
     let mut more = Log::new(alloc);
     let start = front.start;
     let inside = extern_inside(alloc, cursor, wanted, depth + 1, &mut more)?;
-    let end = cursor.past();
+    let end = cursor.last_end();
     push_block(log, depth, start, end, inside.is_ended, more)?;
     block_item(alloc, front, inside)
 }

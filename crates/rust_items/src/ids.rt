@@ -56,7 +56,7 @@ fn number_named(node: &mut NamedNode, id: Numbers)
 
 #[tactic(auto, using(hir_input::proofs::SyntaxViews::item_views))]
 fn number_extern(item: &mut ExternItem, id: Numbers)
-    ensures { extern_item_view item.new ≡ spec.numbered id (extern_item_view item.old) }
+    ensures { extern_item_view item.new ≡ spec.numbered_item id (extern_item_view item.old) }
 {
     match item {
         ExternItem::Fn(node) => set_id!(node, id),

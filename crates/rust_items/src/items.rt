@@ -7,7 +7,7 @@ ghost use Rattle.rust_items.specs.Clipped.{clipped_block, clipped_item_if, clipp
 ghost use Rattle.rust_items.specs.Found.{Finds, log_view};
 ghost use Rattle.rust_items.specs.Items as spec;
 ghost use Rattle.rust_items.specs.Views.{inside_view};
-ghost use Rattle.rust_leaves.specs.Clipped.{unattributed, wanted_item, with_value};
+ghost use Rattle.rust_leaves.specs.Clipped.{without_attributes, wanted_item, with_value};
 ghost use Rattle.rust_leaves.specs.Kinds.{named_node};
 ghost use Rattle.rust_leaves.specs.Views.{front_view, name_view};
 
@@ -17,7 +17,7 @@ use crate::turn::{Extent, leaf_turn, push_item};
 use hir_input::ast::{Item, Module};
 use hir_input::{AstIdKind, Meta, Name};
 use rust_cursor::{Cursor, push_some};
-use rust_leaves::{Front, Head, Named, Wanted, item_name, joined, wanted_front};
+use rust_leaves::{Front, Head, Named, Wanted, item_name, join_attributes, wanted_front};
 use rust_metas::kept_inner_attributes;
 use std::alloc::{AllocError, Global};
 
@@ -86,7 +86,7 @@ fn module_item(
         (map meta_view front.attrs.items ++ map meta_view inside.attrs.items) name front.visibility
         []) semicolon (option_map (λ v. map item_view v.items) inside.items)) }
 {
-    let attrs = joined(front.attrs, inside.attrs)?;
+    let attrs = join_attributes(front.attrs, inside.attrs)?;
     Ok(Item::Module(Module {
         hash: 0,
         number: 0,
@@ -101,7 +101,7 @@ fn module_item(
 
 /// Takes the braces of a module, if they come next.
 #[cycle(items)]
-#[tactic(auto, using(crate::proofs::Clipped::deep_clipped, crate::proofs::Clipped::none_clipped, crate::proofs::Clipped::some_clipped,),)]
+#[tactic(auto, using(crate::proofs::ClippedItems::deep_clipped, crate::proofs::ClippedItems::none_clipped, crate::proofs::ClippedItems::some_clipped,),)]
 fn module_inside<'t>(
     alloc: Global,
     cursor: &mut Cursor<'t>,
@@ -133,7 +133,7 @@ fn module_inside<'t>(
 }
 
 #[cycle(items)]
-#[tactic(auto, using(crate::proofs::Clipped::unless_clipped))]
+#[tactic(auto, using(crate::proofs::ClippedItems::unless_clipped))]
 fn inside_unless<'t>(
     alloc: Global,
     cursor: &mut Cursor<'t>,
@@ -155,7 +155,7 @@ fn inside_unless<'t>(
 
 /// Takes a module, behind `mod`.
 #[cycle(items)]
-#[tactic(auto, using(crate::proofs::Clipped::module_clipped))]
+#[tactic(auto, using(crate::proofs::ClippedItems::module_clipped))]
 fn module<'t>(
     alloc: Global,
     cursor: &mut Cursor<'t>,
@@ -166,14 +166,14 @@ fn module<'t>(
 ) -> Result<Item, AllocError>
     ensures { Finds item_view
         (with_value (wanted_item wanted (map meta_view front.attrs.items))
-        (spec.module_item left (unattributed (front_view front)) (log_view log.old) cursor.old))
+        (spec.module_item left (without_attributes (front_view front)) (log_view log.old) cursor.old))
         result (log_view log.new) cursor.new }
 {
     let named = item_name(alloc, cursor)?;
     let semicolon = cursor.eat(b';');
     let mut more = Log::new(alloc);
     let inside = inside_unless(alloc, cursor, wanted, semicolon, left, &mut more)?;
-    let end = cursor.past();
+    let end = cursor.last_end();
     let is_ended = semicolon || inside.is_ended;
     push_module(
         log,
@@ -189,7 +189,7 @@ fn module<'t>(
 
 /// An item behind what stands in front of it, or none: then tokens are passed over.
 #[cycle(items)]
-#[tactic(auto, using(crate::proofs::Clipped::behind_front_clipped))]
+#[tactic(auto, using(crate::proofs::ClippedItems::behind_front_clipped))]
 pub(crate) fn behind_front<'t>(
     alloc: Global,
     cursor: &mut Cursor<'t>,
@@ -217,7 +217,7 @@ pub(crate) fn behind_front<'t>(
 
 /// An item, or none.
 #[cycle(items)]
-#[tactic(auto, using(crate::proofs::Clipped::turn_clipped))]
+#[tactic(auto, using(crate::proofs::ClippedItems::turn_clipped))]
 fn turn<'t>(
     alloc: Global,
     cursor: &mut Cursor<'t>,
@@ -260,7 +260,7 @@ pub(crate) fn items<'t>(
         if is_list_end(cursor, is_top) {
             return Ok(items);
         }
-        let past = cursor.past();
+        let past = cursor.last_end();
         let item = turn(alloc, cursor, wanted, left, log)?;
         push_some(&mut items, item)?;
         cursor.pass_beyond(past);

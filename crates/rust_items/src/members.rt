@@ -7,7 +7,7 @@ ghost use Rattle.rust_items.specs.Members.{moved_member, range_moved_by};
 ghost use Rattle.rust_items.specs.MemberPlaces.{ArePlaced, FitsMoved, IsMemberPlaced};
 ghost use Rattle.rust_items.specs.MemberViews.{member_view};
 
-use crate::associated::associated;
+use crate::associated::associated_item;
 use crate::cut::cut_out;
 use crate::member::{Member, MemberKind};
 use crate::part::part;
@@ -38,7 +38,7 @@ fn turn(
     match kind {
         AstIdKind::Enum => part(alloc, cursor, MemberKind::Variant, metas),
         AstIdKind::Struct | AstIdKind::Union => part(alloc, cursor, MemberKind::Field, metas),
-        _ => associated(alloc, cursor, metas),
+        _ => associated_item(alloc, cursor, metas),
     }
 }
 
@@ -58,7 +58,7 @@ fn list(
         if is_over(cursor) {
             break;
         }
-        let past = cursor.past();
+        let past = cursor.last_end();
         let member = turn(alloc, cursor, kind, metas)?;
         push_some(&mut members, member)?;
         cursor.pass_beyond(past);

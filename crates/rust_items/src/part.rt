@@ -73,7 +73,7 @@ fn opens_generics(cursor: &Cursor<'_>, stand: Stand) -> bool
     }
 }
 
-fn ended(stand: Stand) -> Stand
+fn ended_operand(stand: Stand) -> Stand
     ensures { result ≡ spec.ended_operand stand }
 {
     match stand {
@@ -147,7 +147,7 @@ fn stand_outside(cursor: &Cursor<'_>, stand: Stand) -> Stand
         return going_on(stand);
     }
     if opens_generics(cursor, stand) || can_end_here(cursor) {
-        return ended(stand);
+        return ended_operand(stand);
     }
     match cursor.symbol() {
         0 => going_on(stand),
@@ -298,7 +298,7 @@ pub(crate) fn part(
     cursor.eat_word("unsafe");
     let named = item_name(alloc, cursor)?;
     pass_part(cursor, kind);
-    let end = cursor.past();
+    let end = cursor.last_end();
     cursor.eat(b',');
     let range = TextRange { start, end };
     Ok(part_of(kind, range, attrs, visibility, named))

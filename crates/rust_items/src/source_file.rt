@@ -101,7 +101,7 @@ pub(crate) struct Reading {
 }
 
 /// The items of a text, behind its inner attributes.
-#[tactic(auto, using(crate::proofs::Clipped::finding_clipped))]
+#[tactic(auto, using(crate::proofs::ClippedItems::finding_clipped))]
 fn top_items<'t>(
     alloc: Global,
     cursor: &mut Cursor<'t>,
@@ -131,7 +131,7 @@ fn reading_of(
     let attrs = kept_inner_attributes(alloc, &mut cursor, wanted.metas)?;
     let mut log = Log::new(alloc);
     let items = top_items(alloc, &mut cursor, wanted, &mut log)?;
-    log.push_problem_at(ProblemKind::Unterminated, cursor.unended())?;
+    log.push_problem_at(ProblemKind::Unterminated, cursor.unended_token())?;
     let ids = ids_of(alloc, log.rows)?;
     let places = places(alloc, &ids, &log.spans, ends)?;
     let use_trees = ends.places(alloc, &log.use_trees)?;

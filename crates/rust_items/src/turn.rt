@@ -100,7 +100,7 @@ fn parts_of(leaf: Leaf<'_>) -> (Item, TreeStarts)
 }
 
 /// Keeps an item that holds none.
-fn kept<'t>(
+fn keep_leaf<'t>(
     leaf: Leaf<'t>,
     depth: usize,
     start: usize,
@@ -126,7 +126,7 @@ fn kept<'t>(
 }
 
 /// An item that holds none, or tokens that begin no item.
-#[tactic(auto, using(crate::proofs::Clipped::leaf_turn_clipped))]
+#[tactic(auto, using(crate::proofs::ClippedItems::leaf_turn_clipped))]
 pub(crate) fn leaf_turn<'t>(
     alloc: Global,
     cursor: &mut Cursor<'t>,
@@ -142,8 +142,8 @@ pub(crate) fn leaf_turn<'t>(
     let start = front.start;
     match take_leaf(alloc, cursor, wanted, front)? {
         Some(leaf) => {
-            let end = cursor.past();
-            kept(leaf, depth, start, end, log)
+            let end = cursor.last_end();
+            keep_leaf(leaf, depth, start, end, log)
         }
         None => {
             log.push_problem(ProblemKind::NoItem, start)?;

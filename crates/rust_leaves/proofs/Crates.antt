@@ -1,6 +1,9 @@
 -- Extern crates, and what a macro is called by, of tokens beside are the same.
 use Rattle.std.proofs.Common.{arith, ◌≡◌, ◌==◌, ℕ, zero, suc, Bool, true, false, Option, Some, None, List, [], refl, ap, ◌∙◌, codes, bytes_eq}
-use Rattle.rust_leaves.proofs.Common.{nat_tests, Visibility, MetaView, item_without_bodies, extern_crate, Tokens, symbol, word, text, is_at_open, bumped, eat_word, Bodies, Beside, LeadsTo, here, further, when, symbol_same, text_same, open_same, taken_same, word_test, after_word, after_symbol, eat_local, eat_word_local, both_true, KeptBy, no_more, IsAlike, neither, both, alike_or, TextRange, NameRead, named_or, crate_alias, crate_alias_if, renamed, rename_of, named_node, told_at, crate_item, is_called, last_text_from, last_text}
+use Rattle.rust_leaves.proofs.Common.{nat_tests, Visibility, MetaView, item_without_bodies, extern_crate, Tokens, word, text, bumped, eat_word, Bodies, Beside, LeadsTo, here, further, when, text_same, taken_same, word_test, after_word, eat_local, eat_word_local, KeptBy, no_more, IsAlike, neither, both, alike_or, TextRange, NameRead, named_or, crate_alias, crate_alias_if, written_rename, rename_of, named_node, told_at, crate_item, is_called, called_skipped, last_text_from, last_text}
+use Rattle.rust_cursor.specs.Looks.{sees}
+use Rattle.rust_cursor.proofs.Looks.{skipped_are, skipped_same}
+use Rattle.rust_cursor.proofs.Views.{beside_twins}
 use Rattle.rust_cursor.proofs.BodyReaders.{Gone, gone_on, Onward, into, on, bumped_onward}
 use Rattle.rust_leaves.proofs.BodyParts.{LocalBy, RangeAlike, next_alike, NameAlike, named_local, named_or_local, LeafAlike}
 
@@ -23,8 +26,8 @@ alias_if_local : (b : Bodies) (found found' : Bool) (ts us : Tokens) → found' 
 alias_if_local b true found' ts us e h = rw e (let k = alias_local b ts us h in record { value = both k.value; rest = k.rest })
 alias_if_local b false found' ts us e h = rw e (record { value = neither; rest = h })
 
-renamed_local : (b : Bodies) → LocalBy (AliasAlike b) b renamed
-unfolding renamed
+renamed_local : (b : Bodies) → LocalBy (AliasAlike b) b written_rename
+unfolding written_rename
 renamed_local b ts us h =
     let k = eat_word_local b (codes "as") refl ts us h in
     alias_if_local b (eat_word (codes "as") ts).0 (eat_word (codes "as") us).0 (eat_word (codes "as") ts).1 (eat_word (codes "as") us).1 k.value k.rest
@@ -42,9 +45,9 @@ unfolding crate_item
 crate_item_local b attrs v ts us h =
     let n = named_or_local b (codes "self") refl ts us h in
     let a = renamed_local b (named_or (codes "self") ts).1 (named_or (codes "self") us).1 n.rest in
-    let s = eat_local b 59 refl (renamed (named_or (codes "self") ts).1).1 (renamed (named_or (codes "self") us).1).1 a.rest in
-    let r = (renamed (named_or (codes "self") ts).1).0 in
-    let r' = (renamed (named_or (codes "self") us).1).0 in
+    let s = eat_local b 59 refl (written_rename (named_or (codes "self") ts).1).1 (written_rename (named_or (codes "self") us).1).1 a.rest in
+    let r = (written_rename (named_or (codes "self") ts).1).0 in
+    let r' = (written_rename (named_or (codes "self") us).1).0 in
     record {
       value = record {
         item = ap (λ z. item_without_bodies (extern_crate (named_node attrs z v []) (rename_of r'))) n.value.name ∙ ap (λ z. item_without_bodies (extern_crate (named_node attrs (named_or (codes "self") ts).0.name v []) z)) (rename_same a.value);
@@ -59,16 +62,11 @@ crate_item_local b attrs v ts us h =
 
 -- ---- macro calls
 
-pub is_called_same : (b : Bodies) (ts us : Tokens) → Beside b ts us → is_called us ≡ is_called ts
-unfolding is_called
-is_called_same b ts us h =
-    when (symbol ts == 33)
-    (λ e. rw (open_same b (bumped ts) (bumped us) (after_symbol b 33 ts us refl h e), symbol_same b ts us h) refl)
-    (λ e. rw (symbol_same b ts us h, e) refl)
+pub is_called_same : (b : Bodies) (ts us : Tokens) → Beside b ts us → sees is_called us ≡ sees is_called ts
+is_called_same b ts us h = skipped_same (beside_twins b) is_called 1 called_skipped ts us h
 
-pub called_next : (b : Bodies) (ts us : Tokens) → Beside b ts us → is_called ts ≡ true → Beside b (bumped ts) (bumped us)
-unfolding is_called
-called_next b ts us h e = after_symbol b 33 ts us refl h (both_true (symbol ts == 33) (is_at_open (bumped ts)) e).0
+pub called_next : (b : Bodies) (ts us : Tokens) → Beside b ts us → sees is_called ts ≡ true → Beside b (bumped ts) (bumped us)
+called_next b ts us h e = skipped_are (beside_twins b) is_called 1 ts us called_skipped h e
 
 -- the last text up to what is left, or that went into the braces
 pub data SameLast (b : Bodies) (v : Tokens) (z z' : List ℕ) : Type 0 where

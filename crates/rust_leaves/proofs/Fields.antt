@@ -2,7 +2,7 @@
 use Rattle.std.proofs.Common.{◌≡◌, ◌≤◌, ◌==◌, ◌||◌, ℕ, Bool, true, false, Option, None, refl, arith, if◌then◌else◌, not}
 use Rattle.rust_leaves.proofs.Common.{nat_tests, Visibility, Tokens, symbol, is_at_end, eat, LeadsTo, through, Forwards, when, reached_leads, eat_leads, is_before, header_field, are_over, symbol_within}
 use Rattle.rust_cursor.specs.Angles.{behind_field}
-use Rattle.rust_metas.proofs.Leads.{outer_attributes_leads}
+use Rattle.rust_metas.proofs.AttributeRests.{outer_attributes_leads}
 use Rattle.rust_cursor.proofs.Rules.{rule_leads}
 use Rattle.rust_paths.specs.Visibilities.{visibility}
 

@@ -1,25 +1,27 @@
 -- Steps of what is read in turns.
 use Rattle.std.proofs.Common.{◌≡◌, ◌≢◌, ◌==◌, ◌<◌, ◌+◌, ◌-◌, ℕ, zero, suc, true, false, List, refl, ap, arith}
-use Rattle.rust_leaves.proofs.Common.{ne_eqb, Tokens, text, bumped, behind_other, is_modifier, behind_modifier, behind_modifiers_from, begins_path, behind_segments_from, is_behind_others, behind_others_from, Scan, Step, statement_step, by_step, statement_from, last_text_from}
+use Rattle.rust_leaves.proofs.Common.{ne_eqb, Tokens, text, bumped, behind_other, abi, modifier, modifiers_from, begins_path, behind_segments_from, is_behind_others, behind_others_from, Scan, Step, statement_step, by_step, statement_from, last_text_from}
+use Rattle.rust_cursor.specs.Grammar.{reads}
+use Rattle.rust_cursor.specs.Looks.{sees}
 
 -- ---- modifiers
 
-pub modifiers_stop : (n : ℕ) (ts : Tokens) → is_modifier ts ≡ false → behind_modifiers_from n ts ≡ ts
+pub modifiers_stop : (n : ℕ) (ts : Tokens) → sees modifier ts ≡ false → (reads (modifiers_from n) ts).1 ≡ ts
 modifiers_stop zero ts e = refl
 modifiers_stop (suc n) ts e = rw e refl
 
-pub modifiers_more : (bound at : ℕ) (ts : Tokens) → at < bound → is_modifier ts ≡ true → behind_modifiers_from (bound - at) ts ≡ behind_modifiers_from (bound - (at + 1)) (behind_modifier ts)
+pub modifiers_more : (bound at : ℕ) (ts : Tokens) → at < bound → sees modifier ts ≡ true → (reads (modifiers_from (bound - at)) ts).1 ≡ (reads (modifiers_from (bound - (at + 1))) (reads abi (bumped ts)).1).1
 modifiers_more bound at ts below e = let turn : bound - at ≡ suc (bound - (at + 1)) = omega arith in rw (turn, e) refl
 
 pub ruleset modifier_turns = (modifiers_more, modifiers_stop)
 
 -- ---- what is no item
 
-pub segments_stop : (n : ℕ) (ts : Tokens) → begins_path ts ≡ false → behind_segments_from n ts ≡ ts
+pub segments_stop : (n : ℕ) (ts : Tokens) → sees begins_path ts ≡ false → behind_segments_from n ts ≡ ts
 segments_stop zero ts e = refl
 segments_stop (suc n) ts e = rw e refl
 
-pub segments_more : (bound at : ℕ) (ts : Tokens) → at < bound → begins_path ts ≡ true → behind_segments_from (bound - at) ts ≡ behind_segments_from (bound - (at + 1)) (bumped (bumped (bumped ts)))
+pub segments_more : (bound at : ℕ) (ts : Tokens) → at < bound → sees begins_path ts ≡ true → behind_segments_from (bound - at) ts ≡ behind_segments_from (bound - (at + 1)) (bumped (bumped (bumped ts)))
 segments_more bound at ts below e = let turn : bound - at ≡ suc (bound - (at + 1)) = omega arith in rw (turn, e) refl
 
 pub ruleset segment_turns = (segments_more, segments_stop)

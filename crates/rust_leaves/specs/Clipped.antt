@@ -101,9 +101,9 @@ unfoldable pub wanted_leaf_if : Wanted → List MetaView → Option LeafRead →
 wanted_leaf_if w attrs l = option_map (wanted_leaf w attrs) l
 
 -- what stands before an item, without attributes
-abbrev pub unattributed : FrontRead → FrontRead
-unattributed h = record { start = h.start; attrs = []; visibility = h.visibility; head = h.head }
+abbrev pub without_attributes : FrontRead → FrontRead
+without_attributes h = record { start = h.start; attrs = []; visibility = h.visibility; head = h.head }
 
 -- an item that holds no items, with what is wanted of it, behind the attributes that stand before it
 unfoldable pub leaf_behind : Wanted → FrontRead → Reader (Option LeafRead)
-leaf_behind w h ts = with_value (wanted_leaf_if w h.attrs) (leaf (unattributed h) ts)
+leaf_behind w h ts = with_value (wanted_leaf_if w h.attrs) (leaf (without_attributes h) ts)

@@ -1,19 +1,21 @@
 -- The words that begin an item, and the modifiers before them.
-use Rattle.std.specs.Prelude.{ℕ, zero, suc, Bool, true, false, not, ◌==◌, ◌&&◌, ◌||◌, if◌then◌else◌, List, [], ◌∷◌, codes, bytes_eq}
+use Rattle.std.specs.Prelude.{◌≡◌, refl, ℕ, zero, suc, Bool, true, not, ◌==◌, ◌&&◌, ◌||◌, if◌then◌else◌, Option, List, [], ◌∷◌, codes, bytes_eq}
 use Rattle.std.specs.List.{list_any}
 use Rattle.hir_input.specs.declared.ast.PlainKind.TheVariants as plain_kind
+use Rattle.hir_input.specs.declared.ast.Visibility.{Visibility}
 use Rattle.rust_cursor.specs.Nests.{is_literal_kind}
 use Rattle.rust_cursor.specs.Tokens.{Tokens}
-use Rattle.rust_cursor.specs.Reader.{Reader}
-use Rattle.rust_cursor.specs.Words.{symbol, word, kind, is_at_identifier, is_at_doc, is_at_end, is_at_open, is_pair, eat, eat_colons, bumped}
+use Rattle.rust_cursor.specs.Words.{symbol, word, is_at_doc, is_at_end, eat, eat_colons, bumped}
 use Rattle.rust_cursor.specs.Brackets.{behind_tree}
-use Rattle.rust_cursor.specs.Elements.{most}
+use Rattle.rust_cursor.specs.Elements.{most_tokens}
 use Rattle.rust_cursor.specs.Extents.{begins_item}
+use Rattle.rust_cursor.specs.Grammar.{outside, Grammar, gives, and_then, on_seen, reads_as}
+use Rattle.rust_cursor.specs.Looks.{Lookahead, kind_is, symbol_is, word_is, word_meets, at_identifier, at_open, pair_is, both_seen, either_seen, look_by, then_seen, sees, may_skip}
 use Rattle.rust_paths.specs.Names.{has_name}
-use Rattle.rust_paths.specs.Paths.{is_segment}
+use Rattle.rust_paths.specs.Paths.{is_dollar_crate, is_segment}
+use Rattle.rust_paths.specs.Visibilities.{visibility}
 use Rattle.rust_leaves.specs.declared.head.Head.{Head}
 use Rattle.rust_leaves.specs.declared.head.Head.TheVariants as heads
-use Rattle.rust_cursor.specs.Looks.{sees}
 
 -- ---- modifiers
 
@@ -42,94 +44,106 @@ follows_default w =
 unfoldable pub follows_extern_modifier : List ℕ → Bool
 follows_extern_modifier w = list_any (bytes_eq w) (codes "fn" ∷ codes "unsafe" ∷ [])
 
--- behind `extern`: the name of an interface stands there, as `"C"`
-unfoldable pub behind_abi : Tokens → Tokens
-behind_abi ts = if is_literal_kind (kind ts) then bumped ts else ts
+-- the name of an interface comes next, as `"C"`
+abbrev pub at_abi : Lookahead
+at_abi = kind_is is_literal_kind
 
-abbrev pub word_behind_abi : Tokens → List ℕ
-word_behind_abi ts = word (behind_abi ts)
+-- it is taken
+unfoldable pub abi : Grammar outside (Unit {0})
+abi = on_seen at_abi 1 refl (gives tt) (gives tt)
+
+-- this is seen behind it, if it is written
+abbrev pub behind_abi : Lookahead → Lookahead
+behind_abi l = look_by at_abi (then_seen at_abi 1 l) l
+
+-- this is seen behind the word, or without the word the other
+abbrev pub by_word : List ℕ → Lookahead → Lookahead → Lookahead
+by_word w behind other = look_by (word_is w) (then_seen (word_is w) 1 behind) other
 
 -- `gen` of `async gen fn`, and not of a block
-abbrev pub is_gen_modifier : Tokens → Bool
-is_gen_modifier ts = bytes_eq (word ts) (codes "gen") && follows_async (word (bumped ts))
+abbrev pub gen_modifier : Lookahead
+gen_modifier = then_seen (word_is (codes "gen")) 1 (word_meets follows_async)
 
 -- `async`, `gen` and `auto` are names, too: a modifier comes next, where this stands behind it
-unfoldable pub is_weak_before : List ℕ → Tokens → Bool
-is_weak_before w behind =
-    if bytes_eq w (codes "async") then follows_async (word behind) || is_gen_modifier behind
-    else (if bytes_eq w (codes "gen") then follows_async (word behind)
-    else (if bytes_eq w (codes "auto") then bytes_eq (word behind) (codes "trait") else false))
-
-abbrev pub is_weak_modifier : Tokens → Bool
-is_weak_modifier ts = is_weak_before (word ts) (bumped ts)
+unfoldable pub weak_modifier : Lookahead
+weak_modifier =
+    by_word (codes "async") (either_seen (word_meets follows_async) gen_modifier)
+    (by_word (codes "gen") (word_meets follows_async)
+    (then_seen (word_is (codes "auto")) 1 (word_is (codes "trait"))))
 
 -- the same of each modifier
-unfoldable pub is_modifier_before : List ℕ → Tokens → Bool
-is_modifier_before w behind =
-    if bytes_eq w (codes "const") then may_follow_const (word behind) || is_weak_modifier behind
-    else (if bytes_eq w (codes "unsafe") then follows_unsafe (word behind) || is_weak_modifier behind
-    else (if bytes_eq w (codes "safe") then follows_safe (word behind)
-    else (if bytes_eq w (codes "default") || bytes_eq w (codes "final") then follows_default (word behind)
-    else (if bytes_eq w (codes "extern") then follows_extern_modifier (word_behind_abi behind)
-    else (if bytes_eq w (codes "type") then bytes_eq (word behind) (codes "const")
-    else (if bytes_eq w (codes "reuse") then bytes_eq (word behind) (codes "impl") else is_weak_before w behind))))))
+unfoldable pub modifier : Lookahead
+modifier =
+    by_word (codes "const") (either_seen (word_meets may_follow_const) weak_modifier)
+    (by_word (codes "unsafe") (either_seen (word_meets follows_unsafe) weak_modifier)
+    (by_word (codes "safe") (word_meets follows_safe)
+    (by_word (codes "default") (word_meets follows_default)
+    (by_word (codes "final") (word_meets follows_default)
+    (by_word (codes "extern") (behind_abi (word_meets follows_extern_modifier))
+    (by_word (codes "type") (word_is (codes "const"))
+    (by_word (codes "reuse") (word_is (codes "impl")) weak_modifier)))))))
 
-unfoldable pub is_modifier : Tokens → Bool
-is_modifier ts = is_modifier_before (word ts) (bumped ts)
+pub modifier_skipped : may_skip modifier 1 ≡ true
+unfolding modifier weak_modifier
+modifier_skipped = refl
 
--- what is left behind a modifier
-unfoldable pub behind_modifier : Tokens → Tokens
-behind_modifier ts = if bytes_eq (word ts) (codes "extern") then behind_abi (bumped ts) else bumped ts
+-- modifiers, and behind each the name of an interface, which only `extern` has
+abbrev pub modifiers_from : ℕ → Grammar outside (Unit {0})
+modifiers_from zero = gives tt
+modifiers_from (suc n) = on_seen modifier 1 modifier_skipped (and_then abi (λ _. modifiers_from n)) (gives tt)
 
-abbrev pub behind_modifiers_from : ℕ → Tokens → Tokens
-behind_modifiers_from zero ts = ts
-behind_modifiers_from (suc n) ts = if is_modifier ts then behind_modifiers_from n (behind_modifier ts) else ts
-
--- what is left behind all modifiers
-unfoldable pub behind_modifiers : Tokens → Tokens
-behind_modifiers ts = behind_modifiers_from most ts
+unfoldable pub modifiers : Grammar outside (Unit {0})
+modifiers = modifiers_from most_tokens
 
 -- ---- the words
 
--- `extern`: a crate, a block, or none
-unfoldable pub extern_head : Tokens → Head
-extern_head behind =
-    if bytes_eq (word behind) (codes "crate") then heads.ExternCrate
-    else (if symbol (behind_abi behind) == 123 then heads.ExternBlock else heads.Other)
+-- `union` before a name
+abbrev pub union_words : Lookahead
+union_words = then_seen (word_is (codes "union")) 1 has_name
 
--- `macro_rules`: of a macro where `!` and a name follow
-unfoldable pub macro_rules_head : Tokens → Head
-macro_rules_head behind = if symbol behind == 33 && is_at_identifier (bumped behind) then heads.MacroRules else heads.Other
+pub union_skipped : may_skip union_words 1 ≡ true
+unfolding has_name
+union_skipped = refl
 
--- the kind of item that a word begins; `union` begins one where a name follows
-unfoldable pub head_by : List ℕ → Tokens → Head
-head_by w behind =
-    if bytes_eq w (codes "use") then heads.Use
-    else (if bytes_eq w (codes "fn") then heads.Plain plain_kind.Fn
-    else (if bytes_eq w (codes "impl") then heads.Impl
-    else (if bytes_eq w (codes "trait") then heads.Plain plain_kind.Trait
-    else (if bytes_eq w (codes "struct") then heads.Struct
-    else (if bytes_eq w (codes "enum") then heads.Plain plain_kind.Enum
-    else (if bytes_eq w (codes "const") then heads.Const
-    else (if bytes_eq w (codes "static") then heads.Plain plain_kind.Static
-    else (if bytes_eq w (codes "type") then heads.Plain plain_kind.TypeAlias
-    else (if bytes_eq w (codes "mod") then heads.Module
-    else (if bytes_eq w (codes "macro") then heads.Plain plain_kind.MacroDef
-    else (if bytes_eq w (codes "union") then (if sees has_name behind then heads.Plain plain_kind.Union else heads.Other)
-    else (if bytes_eq w (codes "macro_rules") then macro_rules_head behind
-    else (if bytes_eq w (codes "extern") then extern_head behind else heads.Other)))))))))))))
+-- `macro_rules`, `!` and a name
+abbrev pub macro_rules_words : Lookahead
+macro_rules_words = then_seen (word_is (codes "macro_rules")) 1 (then_seen (symbol_is 33) 1 at_identifier)
 
--- what is left behind the words of an item
-abbrev pub behind_head : Head → Tokens → Tokens
-behind_head heads.Other ts = ts
-behind_head heads.ExternCrate ts = bumped (bumped ts)
-behind_head heads.MacroRules ts = bumped (bumped ts)
-behind_head heads.ExternBlock ts = behind_abi (bumped ts)
-behind_head _ ts = bumped ts
+-- `extern crate`
+abbrev pub extern_crate_words : Lookahead
+extern_crate_words = then_seen (word_is (codes "extern")) 1 (word_is (codes "crate"))
 
--- The words that begin an item.
-unfoldable pub head : Reader Head
-head ts = (head_by (word ts) (bumped ts), behind_head (head_by (word ts) (bumped ts)) ts)
+-- `extern` and `{`, maybe with the name of an interface between them
+abbrev pub extern_block_words : Lookahead
+extern_block_words = then_seen (word_is (codes "extern")) 1 (behind_abi (symbol_is 123))
+
+-- the word of a kind of item, or else the other rule
+abbrev pub on_item_word : (w : List ℕ) → may_skip (word_is w) 1 ≡ true → Head → Grammar outside Head → Grammar outside Head
+on_item_word w p h other = on_seen (word_is w) 1 p (gives h) other
+
+-- The words that begin an item, by which its kind is known.
+unfoldable pub head : Grammar outside Head
+head =
+    on_item_word (codes "use") refl heads.Use
+    (on_item_word (codes "fn") refl (heads.Plain plain_kind.Fn)
+    (on_item_word (codes "impl") refl heads.Impl
+    (on_item_word (codes "trait") refl (heads.Plain plain_kind.Trait)
+    (on_item_word (codes "struct") refl heads.Struct
+    (on_item_word (codes "enum") refl (heads.Plain plain_kind.Enum)
+    (on_item_word (codes "const") refl heads.Const
+    (on_item_word (codes "static") refl (heads.Plain plain_kind.Static)
+    (on_item_word (codes "type") refl (heads.Plain plain_kind.TypeAlias)
+    (on_item_word (codes "mod") refl heads.Module
+    (on_item_word (codes "macro") refl (heads.Plain plain_kind.MacroDef)
+    (on_seen union_words 1 union_skipped (gives (heads.Plain plain_kind.Union))
+    (on_seen macro_rules_words 2 refl (gives heads.MacroRules)
+    (on_seen extern_crate_words 2 refl (gives heads.ExternCrate)
+    (on_seen extern_block_words 1 refl (and_then abi (λ _. gives heads.ExternBlock))
+    (gives heads.Other)))))))))))))))
+
+-- a visibility, modifiers and the words that begin an item
+unfoldable pub front_words : Grammar outside (Option Visibility × Head)
+front_words = and_then visibility (λ v. and_then modifiers (λ _. reads_as (λ h. (v, h)) head))
 
 -- ---- what is no item
 
@@ -139,33 +153,45 @@ is_first_word w =
     list_any (bytes_eq w) (codes "pub" ∷ codes "fn" ∷ codes "use" ∷ codes "mod" ∷ codes "struct" ∷ codes "enum" ∷ codes "trait" ∷ codes "impl"
     ∷ codes "type" ∷ codes "static" ∷ codes "const" ∷ codes "extern" ∷ codes "unsafe" ∷ codes "async" ∷ codes "macro" ∷ [])
 
--- `union` before a name
-abbrev pub is_union : Tokens → Bool
-is_union ts = bytes_eq (word ts) (codes "union") && sees has_name (bumped ts)
-
--- a word comes next that can be a segment of a path
-abbrev pub is_path_word : Tokens → Bool
-is_path_word ts = is_at_identifier ts && sees is_segment ts
+-- a word that can be a segment of a path
+abbrev pub segment_word : Lookahead
+segment_word = both_seen at_identifier is_segment
 
 -- such a word with `::` behind it
-abbrev pub begins_path : Tokens → Bool
-begins_path ts = is_path_word ts && is_pair 58 58 (bumped ts)
+abbrev pub begins_path : Lookahead
+begins_path = then_seen segment_word 1 (pair_is 58 58)
+
+pub path_skipped : may_skip begins_path 3 ≡ true
+unfolding is_segment has_name is_dollar_crate
+path_skipped = refl
 
 abbrev pub behind_segments_from : ℕ → Tokens → Tokens
 behind_segments_from zero ts = ts
-behind_segments_from (suc n) ts = if begins_path ts then behind_segments_from n (bumped (bumped (bumped ts))) else ts
+behind_segments_from (suc n) ts = if sees begins_path ts then behind_segments_from n (bumped (bumped (bumped ts))) else ts
 
 -- from the last segment of a path on
 unfoldable pub behind_segments : Tokens → Tokens
-behind_segments ts = behind_segments_from most ts
+behind_segments ts = behind_segments_from most_tokens ts
 
--- the `!` of a macro call comes next
-unfoldable pub is_called : Tokens → Bool
-is_called ts = symbol ts == 33 && is_at_open (bumped ts)
+-- the `!` of a macro call
+unfoldable pub is_called : Lookahead
+is_called = then_seen (symbol_is 33) 1 at_open
+
+pub called_skipped : may_skip is_called 1 ≡ true
+unfolding is_called
+called_skipped = refl
+
+-- the last segment of a path, and the `!` of a macro call
+abbrev pub call_words : Lookahead
+call_words = then_seen segment_word 1 is_called
+
+pub call_skipped : may_skip call_words 1 ≡ true
+unfolding is_segment has_name is_dollar_crate is_called
+call_skipped = refl
 
 -- the path of a macro call comes next, and its `!`
 abbrev pub is_called_here : Tokens → Bool
-is_called_here ts = is_path_word (behind_segments ts) && is_called (bumped (behind_segments ts))
+is_called_here ts = sees call_words (behind_segments ts)
 
 -- The same, maybe with `$` or `::` before the path. No generic arguments stand in the path of an item's macro: none is looked for behind a `<`.
 unfoldable pub begins_call : Tokens → Bool
@@ -173,7 +199,7 @@ begins_call ts = is_called_here (eat_colons (eat 36 ts).1).1
 
 -- a word comes next that may begin an item; in front of `::` it is a segment of a path
 abbrev pub is_at_first : Tokens → Bool
-is_at_first ts = not (begins_path ts) && (is_first_word (word ts) || (is_union ts || begins_item ts))
+is_at_first ts = not (sees begins_path ts) && (is_first_word (word ts) || (sees union_words ts || begins_item ts))
 
 -- something may begin an item: an attribute, such a word, or the path of a macro call
 unfoldable pub may_begin : Tokens → Bool
@@ -185,14 +211,14 @@ is_behind_others ts = is_at_end ts || may_begin ts
 
 -- what is left behind a token or what stands in brackets, and of a path before its last segment
 abbrev pub behind_other : Tokens → Tokens
-behind_other ts = if begins_path ts then behind_segments ts else behind_tree ts
+behind_other ts = if sees begins_path ts then behind_segments ts else behind_tree ts
 
 abbrev pub behind_others_from : ℕ → Tokens → Tokens
 behind_others_from zero ts = ts
 behind_others_from (suc n) ts = if is_behind_others ts then ts else behind_others_from n (behind_other ts)
 
 abbrev pub behind_more_others : Tokens → Tokens
-behind_more_others ts = behind_others_from most ts
+behind_more_others ts = behind_others_from most_tokens ts
 
 -- what is left behind tokens that begin no item
 unfoldable pub behind_others : Tokens → Tokens

@@ -24,9 +24,10 @@ use Rattle.rust_leaves.specs.declared.head.Head.{Head}
 use Rattle.rust_leaves.specs.declared.head.Head.TheVariants as head
 use Rattle.rust_leaves.specs.Fronts.{FrontRead}
 use Rattle.rust_leaves.specs.Heads.{begins_call, is_called}
-use Rattle.rust_leaves.specs.Texts.{bare, last_text}
-use Rattle.rust_leaves.specs.Leaves.{NameRead, RestRead, LeafRead, no_name, named, named_or, renamed, rename_of, past, bare_end, rest_by, call_end, block_attributes, struct_fields, has_trait}
+use Rattle.rust_leaves.specs.Texts.{bare_name, last_text}
+use Rattle.rust_leaves.specs.Leaves.{NameRead, RestRead, LeafRead, no_name, written_name, named_or, written_rename, rename_of, past, bare_end, rest_by, call_end, block_attributes, struct_fields, has_trait}
 use Rattle.rust_cursor.specs.Grammar.{reads}
+use Rattle.rust_cursor.specs.Looks.{sees}
 
 -- the ids are given later
 abbrev pub node : List MetaView → List ℕ → NodeView
@@ -73,14 +74,14 @@ own_attributes _ block = []
 unfoldable pub plain_leaf : PlainKind → List MetaView → Option Visibility → Reader LeafRead
 plain_leaf k attrs visibility = do
   _ ← mut_word k
-  n ← named
+  n ← written_name
   r ← rest_of (head.Plain k)
   pure (plain_read k (attrs ++ own_attributes k r.block) visibility n r)
 
 -- ConstantItem: `_` is no name
 unfoldable pub constant : List MetaView → Option Visibility → Reader LeafRead
 constant attrs visibility = do
-  n ← named
+  n ← written_name
   _ ← eat_word (codes "_")
   r ← rest_of head.Const
   pure (leaf_read (const_item (named_node attrs n.name visibility r.body)) kind.Const n r)
@@ -88,7 +89,7 @@ constant attrs visibility = do
 -- Struct
 unfoldable pub structure : List MetaView → Option Visibility → Reader LeafRead
 structure attrs visibility = do
-  n ← named
+  n ← written_name
   header ← look left_here
   r ← rest_of head.Struct
   end ← look past
@@ -111,7 +112,7 @@ told_at range (Some alias) = option_or alias.range range
 unfoldable pub crate_item : List MetaView → Option Visibility → Reader LeafRead
 crate_item attrs visibility = do
   n ← named_or (codes "self")
-  alias ← renamed
+  alias ← written_rename
   semicolon ← eat 59
   pure (leaf_read (extern_crate (named_node attrs n.name visibility []) (rename_of alias)) kind.ExternCrate (record { name = n.name; hashed = n.hashed; range = told_at n.range alias }) (bare_end semicolon))
 
@@ -141,8 +142,8 @@ macro_definition attrs = do
   r ← call_end
   pure (leaf_read (macro_rules (node attrs r.body) n.name) kind.MacroRules n r)
 
-abbrev pub called : List MetaView → Option PathNode → List ℕ → RestRead → LeafRead
-called attrs path last r =
+abbrev pub call_leaf : List MetaView → Option PathNode → List ℕ → RestRead → LeafRead
+call_leaf attrs path last r =
     let c = macro_call (record { node = node attrs r.body; path = path; expand_to = expand_to.Items; ctxt = context.Root year.E2024 }) in
     record { item = c; kind = kind.MacroCall; name = last; named = None; body = r.braces; is_ended = r.is_ended; too_deep = None; use_trees = [] }
 
@@ -150,7 +151,7 @@ called attrs path last r =
 abbrev pub call_behind : List MetaView → Option PathNode → List ℕ → Reader LeafRead
 call_behind attrs path last = do
   r ← call_end
-  pure (called attrs path last r)
+  pure (call_leaf attrs path last r)
 
 abbrev pub some_read : {A : Type 0} → A × Tokens → Option A × Tokens
 some_read r = (Some r.0, r.1)
@@ -163,15 +164,15 @@ pub record CalleeRead : Type 0 where
 -- the path of a macro and its `!`, if a macro call comes next
 unfoldable pub callee : Reader (Option CalleeRead)
 callee ts =
-    if is_some (reads path ts).0 && is_called (reads path ts).1
-    then (Some (record { path = (reads path ts).0; name = bare (last_text (reads path ts).1.past ts) }), bumped (reads path ts).1)
+    if is_some (reads path ts).0 && sees is_called (reads path ts).1
+    then (Some (record { path = (reads path ts).0; name = bare_name (last_text (reads path ts).1.past ts) }), bumped (reads path ts).1)
     else (None, ts)
 
 -- MacroInvocationSemi, or nothing, where none is written
 unfoldable pub invocation : List MetaView → Reader (Option LeafRead)
 invocation attrs ts =
-    if is_some (reads path ts).0 && is_called (reads path ts).1
-    then some_read (call_behind attrs (reads path ts).0 (bare (last_text (reads path ts).1.past ts)) (bumped (reads path ts).1))
+    if is_some (reads path ts).0 && sees is_called (reads path ts).1
+    then some_read (call_behind attrs (reads path ts).0 (bare_name (last_text (reads path ts).1.past ts)) (bumped (reads path ts).1))
     else (None, ts)
 
 -- the same in the place of an item

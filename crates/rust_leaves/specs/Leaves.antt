@@ -16,7 +16,7 @@ use Rattle.rust_paths.specs.Names.{Placed, placed_name, as_name}
 use Rattle.rust_paths.specs.Visibilities.{visibility}
 use Rattle.rust_cursor.specs.Grammar.{reads}
 use Rattle.rust_metas.specs.Attributes.{outer_attributes, inner_attributes}
-use Rattle.rust_leaves.specs.Texts.{bare}
+use Rattle.rust_leaves.specs.Texts.{bare_name}
 
 -- a name if one is written, the name that is hashed, and the name's place
 pub record NameRead : Type 0 where
@@ -50,11 +50,11 @@ no_name = record { name = None; hashed = []; range = None }
 
 abbrev pub name_read : Option Placed → List ℕ → NameRead
 name_read None text = no_name
-name_read (Some p) text = record { name = Some p.name; hashed = bare text; range = Some (record { start = p.start; end = p.end }) }
+name_read (Some p) text = record { name = Some p.name; hashed = bare_name text; range = Some (record { start = p.start; end = p.end }) }
 
 -- the name of an item, if it is written
-unfoldable pub named : Reader NameRead
-named ts = (name_read (placed_name ts).0 (text ts), (placed_name ts).1)
+unfoldable pub written_name : Reader NameRead
+written_name ts = (name_read (placed_name ts).0 (text ts), (placed_name ts).1)
 
 -- where the next token stands
 abbrev pub next_range : Tokens → TextRange
@@ -65,18 +65,18 @@ unfoldable pub named_or : List ℕ → Reader NameRead
 named_or keyword ts =
     if bytes_eq (word ts) keyword
     then (record { name = as_name (Some (word ts)); hashed = word ts; range = Some (next_range ts) }, bumped ts)
-    else named ts
+    else written_name ts
 
 -- behind `as`: a name, or `_`, which is none
 unfoldable pub crate_alias : Reader NameRead
-crate_alias ts = if bytes_eq (word ts) (codes "_") then (record { name = None; hashed = []; range = Some (next_range ts) }, bumped ts) else named ts
+crate_alias ts = if bytes_eq (word ts) (codes "_") then (record { name = None; hashed = []; range = Some (next_range ts) }, bumped ts) else written_name ts
 
 abbrev pub crate_alias_if : Bool → Reader (Option NameRead)
 crate_alias_if = only_if crate_alias
 
 -- `as` and what is behind it
-unfoldable pub renamed : Reader (Option NameRead)
-renamed = do
+unfoldable pub written_rename : Reader (Option NameRead)
+written_rename = do
   found ← eat_word (codes "as")
   crate_alias_if found
 

@@ -14,7 +14,7 @@ use Rattle.rust_cursor.specs.Reader.{Reader}
 use Rattle.rust_cursor.specs.Words.{symbol, word, kind, bumped, is_at_end, is_at_identifier, is_pair}
 use Rattle.rust_cursor.specs.Angles.{is_lone_for}
 use Rattle.rust_cursor.specs.Brackets.{behind_tree}
-use Rattle.rust_cursor.specs.Elements.{most}
+use Rattle.rust_cursor.specs.Elements.{most_tokens}
 use Rattle.rust_cursor.specs.Extents.{begins_item, tree_body}
 use Rattle.rust_paths.specs.Paths.{path}
 use Rattle.rust_paths.specs.declared.names.TextRange.{TextRange}
@@ -24,11 +24,12 @@ use Rattle.rust_leaves.specs.declared.statements.Scan.{Scan}
 use Rattle.rust_leaves.specs.declared.statements.Scan.TheVariants as scans
 use Rattle.rust_leaves.specs.declared.statements.Step.{Step}
 use Rattle.rust_leaves.specs.declared.statements.Step.TheVariants as steps
-use Rattle.rust_leaves.specs.Heads.{is_modifier, head_by, is_called}
+use Rattle.rust_leaves.specs.Heads.{modifier, head, is_called}
 use Rattle.rust_leaves.specs.Leaves.{range_to}
-use Rattle.rust_leaves.specs.Texts.{bare, last_text}
+use Rattle.rust_leaves.specs.Texts.{bare_name, last_text}
 use Rattle.rust_leaves.specs.Kinds.{node, some_read}
 use Rattle.rust_cursor.specs.Grammar.{reads}
+use Rattle.rust_cursor.specs.Looks.{sees}
 
 -- ---- items
 
@@ -47,13 +48,13 @@ names_value behind = is_at_identifier behind && not (leads_closure behind)
 -- the words of an item come next; a closure may begin with `use`, too
 unfoldable pub is_item_head : Tokens → Bool
 is_item_head ts =
-    if is_other (head_by (word ts) (bumped ts)) then false
+    if is_other (reads head ts).0 then false
     else (if bytes_eq (word ts) (codes "const") || bytes_eq (word ts) (codes "static") then names_value (bumped ts)
     else (if bytes_eq (word ts) (codes "use") then not (symbol (bumped ts) == 124) else true))
 
 -- an item comes next, behind its attributes, and no expression
 unfoldable pub is_item : Tokens → Bool
-is_item ts = if bytes_eq (word ts) (codes "pub") || is_modifier ts then true else is_item_head ts
+is_item ts = if bytes_eq (word ts) (codes "pub") || sees modifier ts then true else is_item_head ts
 
 -- ---- where a statement ends
 
@@ -160,7 +161,7 @@ statement_from zero s ts = (false, ts)
 statement_from (suc n) s ts = by_step (statement_step s ts).0 (statement_from n) (statement_step s ts).1
 
 abbrev pub statement_up_to : Scan → Reader Bool
-statement_up_to s = statement_from most s
+statement_up_to s = statement_from most_tokens s
 
 -- A `let`, or another statement that is neither an item nor a macro call alone. Whether a semicolon ended it.
 unfoldable pub statement : Reader Bool
@@ -183,6 +184,6 @@ call_tree attrs p name ts =
 -- MacroInvocation, up to its bracket, if one is written
 unfoldable pub statement_call : List MetaView → Reader (Option CallRead)
 statement_call attrs ts =
-    if is_some (reads path ts).0 && is_called (reads path ts).1
-    then some_read (call_tree attrs (reads path ts).0 (bare (last_text (reads path ts).1.past ts)) (bumped (reads path ts).1))
+    if is_some (reads path ts).0 && sees is_called (reads path ts).1
+    then some_read (call_tree attrs (reads path ts).0 (bare_name (last_text (reads path ts).1.past ts)) (bumped (reads path ts).1))
     else (None, ts)

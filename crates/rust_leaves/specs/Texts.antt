@@ -2,7 +2,7 @@
 use Rattle.std.specs.Prelude.{ℕ, zero, suc, ◌==◌, if◌then◌else◌, Option, Some, None, List, []}
 use Rattle.rust_cursor.specs.Tokens.{Tokens}
 use Rattle.rust_cursor.specs.Words.{text, bumped}
-use Rattle.rust_cursor.specs.Elements.{most}
+use Rattle.rust_cursor.specs.Elements.{most_tokens}
 use Rattle.rust_paths.specs.Names.{behind_hash}
 
 -- ---- names
@@ -12,8 +12,8 @@ or_all None text = text
 or_all (Some word) text = word
 
 -- an identifier without `r#`
-unfoldable pub bare : List ℕ → List ℕ
-bare text = or_all (behind_hash text) text
+unfoldable pub bare_name : List ℕ → List ℕ
+bare_name text = or_all (behind_hash text) text
 
 -- ---- the last of some tokens
 
@@ -23,4 +23,4 @@ last_text_from (suc n) end last ts = if ts.past == end then last else last_text_
 
 -- the text of the last token up to a place
 unfoldable pub last_text : ℕ → Tokens → List ℕ
-last_text end ts = last_text_from most end [] ts
+last_text end ts = last_text_from most_tokens end [] ts

@@ -18,7 +18,7 @@ use rust_cursor::Cursor;
 use rust_paths::{TreeStarts, path};
 use std::alloc::{AllocError, Global};
 
-#[tactic(auto, using(hir_input::proofs::SyntaxViews::item_views, crate::proofs::Clipped::macro_definition_clipped))]
+#[tactic(auto, using(hir_input::proofs::SyntaxViews::item_views, crate::proofs::ClippedLeaves::macro_definition_clipped))]
 pub(crate) fn macro_definition<'t>(
     alloc: Global,
     cursor: &mut Cursor<'t>,
@@ -57,7 +57,7 @@ pub(crate) fn take_callee<'t>(
 ) -> Result<Option<Callee<'t>>, AllocError>
     ensures { Gives (option_map callee_view) (spec.callee cursor.old) result cursor.new }
 {
-    let mut ahead = cursor.ahead();
+    let mut ahead = cursor.look_ahead();
     let path = path(alloc, &mut ahead)?;
     if path.is_none() {
         return Ok(None);
@@ -65,13 +65,13 @@ pub(crate) fn take_callee<'t>(
     if !is_called(&ahead) {
         return Ok(None);
     }
-    let name = without_hash(last_text(cursor, ahead.past()));
+    let name = without_hash(last_text(cursor, ahead.last_end()));
     ahead.bump();
     *cursor = ahead;
     Ok(Some(Callee { path, name }))
 }
 
-#[tactic(auto, using(hir_input::proofs::SyntaxViews::item_views, crate::proofs::Clipped::call_clipped))]
+#[tactic(auto, using(hir_input::proofs::SyntaxViews::item_views, crate::proofs::ClippedLeaves::call_clipped))]
 fn call_behind<'t>(
     alloc: Global,
     cursor: &mut Cursor<'t>,

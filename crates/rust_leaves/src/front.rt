@@ -32,7 +32,7 @@ pub struct Front {
 /// # Errors
 ///
 /// Only if memory runs out. The cursor may then stand anywhere.
-#[tactic(auto, unfolding(crate::specs::Fronts::front_behind))]
+#[tactic(auto, unfolding(crate::specs::Fronts::front_behind, crate::specs::Heads::front_words))]
 pub fn front_behind(
     alloc: Global,
     cursor: &mut Cursor<'_>,
@@ -72,7 +72,7 @@ pub fn take_front(alloc: Global, cursor: &mut Cursor<'_>) -> Result<Front, Alloc
 /// # Errors
 ///
 /// Only if memory runs out. The cursor may then stand anywhere.
-#[tactic(auto, using(crate::proofs::Clipped::front_clipped))]
+#[tactic(auto, using(crate::proofs::ClippedLeaves::front_clipped))]
 pub fn wanted_front(
     alloc: Global,
     cursor: &mut Cursor<'_>,

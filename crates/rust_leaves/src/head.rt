@@ -1,8 +1,11 @@
 //! The words that begin an item.
 
-ghost use Rattle.std.specs.Prelude.{◌≡◌, if◌then◌else◌};
-ghost use Rattle.rust_cursor.specs.Words.{bumped, word};
+ghost use Rattle.std.specs.Prelude.{◌≡◌, bytes_eq, codes, if◌then◌else◌};
+ghost use Rattle.rust_cursor.specs.Grammar.{reads};
+ghost use Rattle.rust_cursor.specs.Looks.{at_identifier, sees, symbol_is, then_seen};
+ghost use Rattle.rust_cursor.specs.Words.{word};
 ghost use Rattle.rust_leaves.specs.Heads as spec;
+ghost use Rattle.rust_leaves.specs.Inner as inner;
 
 use crate::modifiers::pass_abi;
 use hir_input::ast::PlainKind;
@@ -33,30 +36,38 @@ fn head_if(test: bool, head: Head) -> Head
     if test { head } else { Head::Other }
 }
 
-#[tactic(auto, unfolding(crate::specs::Heads::extern_head))]
+/// Whether `{` comes next, maybe behind the name of an interface.
+#[tactic(auto, unfolding(crate::specs::Heads::abi))]
+fn is_at_block(cursor: &Cursor<'_>) -> bool
+    ensures { result ≡ sees (spec.behind_abi (symbol_is 123)) cursor.now }
+{
+    let mut ahead = cursor.look_ahead();
+    pass_abi(&mut ahead);
+    ahead.symbol() == b'{'
+}
+
+/// What `extern` begins with this behind it.
 fn extern_head(behind: &Cursor<'_>) -> Head
-    ensures { result ≡ spec.extern_head behind.now }
+    ensures { result ≡ (if bytes_eq (word behind.now) (codes "crate") then Head.ExternCrate
+        else (if sees (spec.behind_abi (symbol_is 123)) behind.now then Head.ExternBlock else Head.Other)) }
 {
     if behind.word() == "crate" {
         return Head::ExternCrate;
     }
-    let mut ahead = behind.ahead();
-    pass_abi(&mut ahead);
-    head_if(ahead.symbol() == b'{', Head::ExternBlock)
+    head_if(is_at_block(behind), Head::ExternBlock)
 }
 
-#[tactic(auto, unfolding(crate::specs::Heads::macro_rules_head))]
-fn macro_rules_head(behind: &Cursor<'_>) -> Head
-    ensures { result ≡ spec.macro_rules_head behind.now }
+/// Whether `!` and a name come next.
+fn is_at_definition(cursor: &Cursor<'_>) -> bool
+    ensures { result ≡ sees (then_seen (symbol_is 33) 1 at_identifier) cursor.now }
 {
-    let is_named = behind.symbol() == b'!' && behind.second().is_at_identifier();
-    head_if(is_named, Head::MacroRules)
+    cursor.symbol() == b'!' && cursor.second().is_at_identifier()
 }
 
 /// What kind of item the next words begin.
-#[tactic(auto, unfolding(crate::specs::Heads::head_by))]
+#[tactic(auto, unfolding(crate::specs::Heads::head))]
 pub(crate) fn head_at(cursor: &Cursor<'_>) -> Head
-    ensures { result ≡ spec.head_by (word cursor.now) (bumped cursor.now) }
+    ensures { result ≡ (reads spec.head cursor.now).0 }
 {
     match cursor.word() {
         "use" => Head::Use,
@@ -71,14 +82,14 @@ pub(crate) fn head_at(cursor: &Cursor<'_>) -> Head
         "mod" => Head::Module,
         "macro" => Head::Plain(PlainKind::MacroDef),
         "union" => head_if(has_name(&cursor.second()), Head::Plain(PlainKind::Union)),
-        "macro_rules" => macro_rules_head(&cursor.second()),
+        "macro_rules" => head_if(is_at_definition(&cursor.second()), Head::MacroRules),
         "extern" => extern_head(&cursor.second()),
         _ => Head::Other,
     }
 }
 
 fn pass_head(head: Head, cursor: &mut Cursor<'_>)
-    ensures { cursor.new ≡ spec.behind_head head cursor.old }
+    ensures { cursor.new ≡ inner.behind_head head cursor.old }
 {
     match head {
         Head::Other => {}
@@ -95,9 +106,9 @@ fn pass_head(head: Head, cursor: &mut Cursor<'_>)
 }
 
 /// Takes the words that begin an item, if they come next.
-#[tactic(auto, unfolding(crate::specs::Heads::head))]
+#[tactic(auto, using(crate::proofs::Heads::head_whole))]
 pub(crate) fn take_head(cursor: &mut Cursor<'_>) -> Head
-    ensures { spec.head cursor.old ≡ (result, cursor.new) }
+    ensures { reads spec.head cursor.old ≡ (result, cursor.new) }
 {
     let head = head_at(cursor);
     pass_head(head, cursor);
@@ -118,21 +129,21 @@ fn is_first_word(word: &str) -> bool
 }
 
 fn is_union(cursor: &Cursor<'_>) -> bool
-    ensures { result ≡ spec.is_union cursor.now }
+    ensures { result ≡ sees spec.union_words cursor.now }
 {
     cursor.word() == "union" && has_name(&cursor.second())
 }
 
 /// Whether a word comes next that can be a segment of a path.
 fn is_path_word(cursor: &Cursor<'_>) -> bool
-    ensures { result ≡ spec.is_path_word cursor.now }
+    ensures { result ≡ sees spec.segment_word cursor.now }
 {
     cursor.is_at_identifier() && is_segment(cursor)
 }
 
 /// Whether such a word comes next with `::` behind it.
 fn begins_path(cursor: &Cursor<'_>) -> bool
-    ensures { result ≡ spec.begins_path cursor.now }
+    ensures { result ≡ sees spec.begins_path cursor.now }
 {
     is_path_word(cursor) && cursor.second().is_pair(b':', b':')
 }
@@ -156,7 +167,7 @@ fn pass_segments(cursor: &mut Cursor<'_>)
 /// Whether the `!` of a macro call comes next.
 #[tactic(auto, unfolding(crate::specs::Heads::is_called))]
 pub(crate) fn is_called(cursor: &Cursor<'_>) -> bool
-    ensures { result ≡ spec.is_called cursor.now }
+    ensures { result ≡ sees spec.is_called cursor.now }
 {
     cursor.symbol() == b'!' && cursor.second().is_at_open()
 }
@@ -164,7 +175,7 @@ pub(crate) fn is_called(cursor: &Cursor<'_>) -> bool
 fn is_called_here(cursor: &Cursor<'_>) -> bool
     ensures { result ≡ spec.is_called_here cursor.now }
 {
-    let mut behind = cursor.ahead();
+    let mut behind = cursor.look_ahead();
     pass_segments(&mut behind);
     if !is_path_word(&behind) {
         return false;
@@ -179,7 +190,7 @@ fn is_called_here(cursor: &Cursor<'_>) -> bool
 pub(crate) fn begins_call(cursor: &Cursor<'_>) -> bool
     ensures { result ≡ spec.begins_call cursor.now }
 {
-    let mut ahead = cursor.ahead();
+    let mut ahead = cursor.look_ahead();
     ahead.eat(b'$');
     ahead.eat_colons();
     is_called_here(&ahead)

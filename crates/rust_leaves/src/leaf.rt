@@ -86,7 +86,7 @@ fn take_mut(kind: PlainKind, cursor: &mut Cursor<'_>) -> bool
 }
 
 /// Takes an item that differs from others in nothing but the kind.
-#[tactic(auto, using(crate::proofs::Clipped::plain_leaf_clipped))]
+#[tactic(auto, using(crate::proofs::ClippedLeaves::plain_leaf_clipped))]
 fn plain_leaf<'t>(
     alloc: Global,
     cursor: &mut Cursor<'t>,
@@ -107,7 +107,7 @@ fn plain_leaf<'t>(
     Ok(read_leaf!(alloc, kind.ast_kind(), item, named, rest))
 }
 
-#[tactic(auto, using(hir_input::proofs::SyntaxViews::item_views, crate::proofs::Clipped::constant_clipped))]
+#[tactic(auto, using(hir_input::proofs::SyntaxViews::item_views, crate::proofs::ClippedLeaves::constant_clipped))]
 fn constant<'t>(
     alloc: Global,
     cursor: &mut Cursor<'t>,
@@ -126,7 +126,7 @@ fn constant<'t>(
     Ok(read_leaf!(alloc, AstIdKind::Const, item, named, rest))
 }
 
-#[tactic(auto, using(hir_input::proofs::SyntaxViews::item_views, crate::proofs::Clipped::implementation_clipped))]
+#[tactic(auto, using(hir_input::proofs::SyntaxViews::item_views, crate::proofs::ClippedLeaves::implementation_clipped))]
 fn implementation<'t>(
     alloc: Global,
     cursor: &mut Cursor<'t>,
@@ -137,9 +137,9 @@ fn implementation<'t>(
         (spec.some_read (with_value (wanted_leaf wanted (map meta_view attrs.items))
         (spec.implementation [] cursor.old))) result cursor.new }
 {
-    let header = cursor.ahead();
+    let header = cursor.look_ahead();
     let rest = take_rest(alloc, cursor, wanted.bodies, Head::Impl)?;
-    let is_trait_impl = has_trait(&header, cursor.past());
+    let is_trait_impl = has_trait(&header, cursor.last_end());
     let attrs = with_inner(alloc, attrs, rest.block, wanted.metas)?;
     let item = Item::Impl(Impl {
         hash: 0,
@@ -157,7 +157,7 @@ fn implementation<'t>(
 /// # Errors
 ///
 /// Only if memory runs out. The cursor may then stand anywhere.
-#[tactic(auto, using(crate::proofs::Clipped::leaf_clipped))]
+#[tactic(auto, using(crate::proofs::ClippedLeaves::leaf_clipped))]
 pub fn take_leaf<'t>(
     alloc: Global,
     cursor: &mut Cursor<'t>,

@@ -18,7 +18,7 @@ mod wanted;
 pub use front::{Front, front_behind, take_front, wanted_front};
 pub use head::{Head, pass_others};
 pub use leaf::{Leaf, take_leaf};
-pub use named::{Named, item_name, joined};
+pub use named::{Named, item_name, join_attributes};
 pub use rust_metas::WantedMetas;
 pub use statement_calls::{Call, statement_call};
 pub use statements::{is_item, pass_statement};

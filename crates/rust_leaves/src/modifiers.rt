@@ -1,6 +1,8 @@
 //! The modifiers before the words that begin an item.
 
 ghost use Rattle.std.specs.Prelude.{◌≡◌, ◌||◌};
+ghost use Rattle.rust_cursor.specs.Grammar.{reads};
+ghost use Rattle.rust_cursor.specs.Looks.{sees};
 ghost use Rattle.rust_cursor.specs.Nests.{is_literal_kind};
 ghost use Rattle.rust_cursor.specs.Words.{word};
 ghost use Rattle.rust_leaves.specs.Heads as spec;
@@ -38,9 +40,9 @@ fn is_literal_kind(kind: Option<TokenKind>) -> bool
 }
 
 /// Passes over the name of an interface, if it comes next.
-#[tactic(auto, unfolding(crate::specs::Heads::behind_abi))]
+#[tactic(auto, unfolding(crate::specs::Heads::abi))]
 pub(crate) fn pass_abi(cursor: &mut Cursor<'_>)
-    ensures { cursor.new ≡ spec.behind_abi cursor.old }
+    ensures { cursor.new ≡ (reads spec.abi cursor.old).1 }
 {
     if is_literal_kind(cursor.kind()) {
         cursor.bump();
@@ -48,9 +50,9 @@ pub(crate) fn pass_abi(cursor: &mut Cursor<'_>)
 }
 
 fn word_behind_abi<'t>(behind: &Cursor<'t>) -> &'t str
-    ensures { result.now ≡ spec.word_behind_abi behind.now }
+    ensures { result.now ≡ word (reads spec.abi behind.now).1 }
 {
-    let mut ahead = behind.ahead();
+    let mut ahead = behind.look_ahead();
     pass_abi(&mut ahead);
     ahead.word()
 }
@@ -63,21 +65,21 @@ fn is_behind_async(behind: &Cursor<'_>) -> bool
 }
 
 fn is_gen_modifier(cursor: &Cursor<'_>) -> bool
-    ensures { result ≡ spec.is_gen_modifier cursor.now }
+    ensures { result ≡ sees spec.gen_modifier cursor.now }
 {
     cursor.word() == "gen" && is_behind_async(&cursor.second())
 }
 
 fn is_async_modifier(behind: &Cursor<'_>) -> bool
-    ensures { result ≡ (spec.follows_async (word behind.now) || spec.is_gen_modifier behind.now) }
+    ensures { result ≡ (spec.follows_async (word behind.now) || sees spec.gen_modifier behind.now) }
 {
     is_behind_async(behind) || is_gen_modifier(behind)
 }
 
 /// Whether a modifier comes next that is a name elsewhere.
-#[tactic(auto, unfolding(crate::specs::Heads::is_weak_before))]
+#[tactic(auto, unfolding(crate::specs::Heads::weak_modifier))]
 fn is_weak_modifier(cursor: &Cursor<'_>) -> bool
-    ensures { result ≡ spec.is_weak_modifier cursor.now }
+    ensures { result ≡ sees spec.weak_modifier cursor.now }
 {
     match cursor.word() {
         "async" => is_async_modifier(&cursor.second()),
@@ -89,14 +91,14 @@ fn is_weak_modifier(cursor: &Cursor<'_>) -> bool
 
 #[tactic(auto, unfolding(crate::specs::Heads::may_follow_const))]
 fn is_const_modifier(behind: &Cursor<'_>) -> bool
-    ensures { result ≡ (spec.may_follow_const (word behind.now) || spec.is_weak_modifier behind.now) }
+    ensures { result ≡ (spec.may_follow_const (word behind.now) || sees spec.weak_modifier behind.now) }
 {
     is_among(behind.word(), &BEHIND_CONST) || is_weak_modifier(behind)
 }
 
 #[tactic(auto, unfolding(crate::specs::Heads::follows_unsafe))]
 fn is_unsafe_modifier(behind: &Cursor<'_>) -> bool
-    ensures { result ≡ (spec.follows_unsafe (word behind.now) || spec.is_weak_modifier behind.now) }
+    ensures { result ≡ (spec.follows_unsafe (word behind.now) || sees spec.weak_modifier behind.now) }
 {
     is_among(behind.word(), &BEHIND_UNSAFE) || is_weak_modifier(behind)
 }
@@ -138,9 +140,9 @@ fn may_modify(word: &str) -> bool
 
 /// Whether a modifier comes next, by its word. Only behind a word that can be one a token is cut.
 #[inline(never)]
-#[tactic(auto, unfolding(crate::specs::Heads::is_modifier, crate::specs::Heads::is_modifier_before))]
+#[tactic(auto, unfolding(crate::specs::Heads::modifier, crate::specs::Heads::abi))]
 fn is_modifier_word(cursor: &Cursor<'_>) -> bool
-    ensures { result ≡ spec.is_modifier cursor.now }
+    ensures { result ≡ sees spec.modifier cursor.now }
 {
     match cursor.word() {
         "const" => is_const_modifier(&cursor.second()),
@@ -157,7 +159,7 @@ fn is_modifier_word(cursor: &Cursor<'_>) -> bool
 /// Whether a modifier comes next.
 #[tactic(auto, using(crate::proofs::ModifierTests::no_modifier))]
 pub(crate) fn is_modifier(cursor: &Cursor<'_>) -> bool
-    ensures { result ≡ spec.is_modifier cursor.now }
+    ensures { result ≡ sees spec.modifier cursor.now }
 {
     // Most words are told by their length and their first byte.
     if !may_modify(cursor.word()) {
@@ -166,27 +168,17 @@ pub(crate) fn is_modifier(cursor: &Cursor<'_>) -> bool
     is_modifier_word(cursor)
 }
 
-#[tactic(auto, unfolding(crate::specs::Heads::behind_modifier))]
-fn pass_modifier(cursor: &mut Cursor<'_>)
-    ensures { cursor.new ≡ spec.behind_modifier cursor.old }
-{
-    let is_extern = cursor.word() == "extern";
-    cursor.bump();
-    if is_extern {
-        pass_abi(cursor);
-    }
-}
-
 /// Passes over the words that are modifiers where they stand, and the name of an interface behind `extern`.
-#[tactic(auto, unfolding(crate::specs::Heads::behind_modifiers), using(crate::proofs::Steps::modifier_turns))]
+#[tactic(auto, unfolding(crate::specs::Heads::modifiers), using(crate::proofs::Steps::modifier_turns))]
 pub(crate) fn pass_modifiers(cursor: &mut Cursor<'_>)
-    ensures { cursor.new ≡ spec.behind_modifiers cursor.old }
+    ensures { cursor.new ≡ (reads spec.modifiers cursor.old).1 }
 {
     let most = Cursor::most_turns();
     for _turn in 0..most {
         if !is_modifier(cursor) {
             break;
         }
-        pass_modifier(cursor);
+        cursor.bump();
+        pass_abi(cursor);
     }
 }

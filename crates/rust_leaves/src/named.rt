@@ -65,9 +65,9 @@ fn named_of<'t>(placed: Option<PlacedName>, text: &'t str) -> Named<'t>
 /// # Errors
 ///
 /// Only if memory runs out.
-#[tactic(auto, unfolding(crate::specs::Leaves::named))]
+#[tactic(auto, unfolding(crate::specs::Leaves::written_name))]
 pub fn item_name<'t>(alloc: Global, cursor: &mut Cursor<'t>) -> Result<Named<'t>, AllocError>
-    ensures { Gives name_view (spec.named cursor.old) result cursor.new }
+    ensures { Gives name_view (spec.written_name cursor.old) result cursor.new }
 {
     let text = cursor.text();
     let placed = placed_name(alloc, cursor)?;
@@ -81,7 +81,7 @@ pub(crate) fn next_range(cursor: &mut Cursor<'_>) -> TextRange
 {
     let start = cursor.at();
     cursor.bump();
-    let end = cursor.past();
+    let end = cursor.last_end();
     TextRange { start, end }
 }
 
@@ -134,7 +134,7 @@ fn rest_up_to<'t>(excerpt: Excerpt<'t>, end: usize) -> Rest<'t>
 }
 
 /// Takes what is left of an item up to its end, by its word, and keeps its text where that is asked for.
-#[tactic(auto, using(crate::proofs::Clipped::rest_clipped))]
+#[tactic(auto, using(crate::proofs::ClippedLeaves::rest_clipped))]
 pub(crate) fn take_rest<'t>(
     alloc: Global,
     cursor: &mut Cursor<'t>,
@@ -152,7 +152,7 @@ pub(crate) fn take_rest<'t>(
         }
         _ => cursor.item_rest(alloc, keeps_body),
     }?;
-    Ok(rest_up_to(excerpt, cursor.past()))
+    Ok(rest_up_to(excerpt, cursor.last_end()))
 }
 
 fn no_call<'t>(alloc: Global) -> Rest<'t>
@@ -180,7 +180,7 @@ fn semicolon_end<'t>(excerpt: Excerpt<'t>, cursor: &mut Cursor<'t>) -> Rest<'t>
 }
 
 /// Takes what a macro is given in its brackets, and the semicolon behind those that are no braces.
-#[tactic(auto, using(crate::proofs::Clipped::call_end_clipped))]
+#[tactic(auto, using(crate::proofs::ClippedLeaves::call_end_clipped))]
 pub(crate) fn call_end<'t>(
     alloc: Global,
     cursor: &mut Cursor<'t>,
@@ -195,13 +195,13 @@ pub(crate) fn call_end<'t>(
     let is_braced = cursor.symbol() == b'{';
     let excerpt = cursor.tree_body(alloc, keeps_body)?;
     if is_braced {
-        return Ok(rest_up_to(excerpt, cursor.past()));
+        return Ok(rest_up_to(excerpt, cursor.last_end()));
     }
     Ok(semicolon_end(excerpt, cursor))
 }
 
 /// The inner attributes at the beginning of the braces that an item ends with, as far as they are kept.
-#[tactic(auto, unfolding(crate::specs::Leaves::block_attributes), using(rust_metas::proofs::Kept::kept_none))]
+#[tactic(auto, unfolding(crate::specs::Leaves::block_attributes), using(rust_metas::proofs::KeptMetas::kept_none))]
 fn block_attributes(
     alloc: Global,
     block: Option<Cursor<'_>>,
@@ -224,7 +224,7 @@ fn block_attributes(
 /// # Errors
 ///
 /// Only if memory runs out.
-pub fn joined(mut attrs: Vec<Meta>, mut more: Vec<Meta>) -> Result<Vec<Meta>, AllocError>
+pub fn join_attributes(mut attrs: Vec<Meta>, mut more: Vec<Meta>) -> Result<Vec<Meta>, AllocError>
     ensures { IfOk result (λ v. map meta_view v.items ≡ map meta_view attrs.items
         ++ map meta_view more.items) }
 {
@@ -243,11 +243,11 @@ pub(crate) fn with_inner(
         ++ kept_metas wanted (spec.block_attributes block.entry)) }
 {
     let inner = block_attributes(alloc, block, wanted)?;
-    joined(attrs, inner)
+    join_attributes(attrs, inner)
 }
 
 /// Attributes with those inner ones of an item's block behind that are the item's own, as far as these are kept.
-#[tactic(auto, using(crate::proofs::Clipped::none_behind))]
+#[tactic(auto, using(crate::proofs::ClippedLeaves::none_behind))]
 pub(crate) fn with_own(
     alloc: Global,
     kind: PlainKind,

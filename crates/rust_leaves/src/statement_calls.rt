@@ -38,7 +38,7 @@ fn call_tree<'t>(
 {
     let is_braced = cursor.symbol() == b'{';
     let excerpt = cursor.tree_body(alloc, true)?;
-    let body = range_to(cursor.past(), &excerpt.block);
+    let body = range_to(cursor.last_end(), &excerpt.block);
     let node = MacroCall {
         hash: 0,
         number: 0,

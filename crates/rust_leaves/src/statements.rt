@@ -128,7 +128,7 @@ fn pass_block_word(cursor: &mut Cursor<'_>)
 fn block_start<'t>(cursor: &Cursor<'t>) -> Cursor<'t>
     ensures { result ≡ spec.block_start cursor.now }
 {
-    let mut start = cursor.ahead();
+    let mut start = cursor.look_ahead();
     pass_label(&mut start);
     pass_block_word(&mut start);
     pass_block_word(&mut start);

@@ -25,7 +25,7 @@ use std::alloc::{AllocError, Global};
 pub(crate) fn has_trait(header: &Cursor<'_>, end: usize) -> bool
     ensures { result ≡ spec.has_trait end header.now }
 {
-    let mut behind = header.ahead();
+    let mut behind = header.look_ahead();
     behind.pass_angles();
     behind.is_trait_impl(end)
 }
@@ -34,7 +34,7 @@ pub(crate) fn has_trait(header: &Cursor<'_>, end: usize) -> bool
 fn is_before(cursor: &Cursor<'_>, end: usize) -> bool
     ensures { result ≡ spec.is_before end cursor.now }
 {
-    cursor.past() < end
+    cursor.last_end() < end
 }
 
 fn visibility_if(test: bool, visibility: Option<Visibility>) -> Option<Visibility>
@@ -71,7 +71,7 @@ fn fields(alloc: Global, cursor: &mut Cursor<'_>, end: usize) -> Result<Vec<Tupl
         if are_over(cursor, end) {
             break;
         }
-        let past = cursor.past();
+        let past = cursor.last_end();
         let field = field(alloc, cursor, end)?;
         fields.push(field)?;
         cursor.pass_beyond(past);
@@ -92,7 +92,7 @@ fn header_end(end: usize, block: &Option<Cursor<'_>>) -> usize
     ensures { result ≡ spec.header_end end block.now }
 {
     match block {
-        Some(block) => block.past(),
+        Some(block) => block.last_end(),
         None => end,
     }
 }
@@ -107,7 +107,7 @@ fn struct_fields(
 ) -> Result<StructKind, AllocError>
     ensures { IfOk result (λ kind. fields_view kind ≡ spec.struct_fields end block.now header.now) }
 {
-    let mut behind = header.ahead();
+    let mut behind = header.look_ahead();
     behind.pass_angles();
     let end = header_end(end, block);
     let symbol = symbol_before(&behind, end);
@@ -121,7 +121,7 @@ fn struct_fields(
     Ok(StructKind::Unit)
 }
 
-#[tactic(auto, using(hir_input::proofs::SyntaxViews::item_views, crate::proofs::Clipped::structure_clipped))]
+#[tactic(auto, using(hir_input::proofs::SyntaxViews::item_views, crate::proofs::ClippedLeaves::structure_clipped))]
 pub(crate) fn structure<'t>(
     alloc: Global,
     cursor: &mut Cursor<'t>,
@@ -134,9 +134,9 @@ pub(crate) fn structure<'t>(
         (kinds.structure [] visibility cursor.old))) result cursor.new }
 {
     let named = item_name(alloc, cursor)?;
-    let header = cursor.ahead();
+    let header = cursor.look_ahead();
     let rest = take_rest(alloc, cursor, wanted.bodies, Head::Struct)?;
-    let kind = struct_fields(alloc, &header, cursor.past(), &rest.block)?;
+    let kind = struct_fields(alloc, &header, cursor.last_end(), &rest.block)?;
     let item = Item::Struct(Struct {
         hash: 0,
         number: 0,

@@ -7,9 +7,9 @@ use rust_cursor::Cursor;
 use rust_paths::behind_hash;
 
 /// An identifier without `r#`.
-#[tactic(auto, unfolding(crate::specs::Texts::bare))]
+#[tactic(auto, unfolding(crate::specs::Texts::bare_name))]
 pub(crate) fn without_hash(text: &str) -> &str
-    ensures { result.now ≡ spec.bare text.now }
+    ensures { result.now ≡ spec.bare_name text.now }
 {
     match behind_hash(text) {
         Some(word) => word,
@@ -22,11 +22,11 @@ pub(crate) fn without_hash(text: &str) -> &str
 pub(crate) fn last_text<'t>(cursor: &Cursor<'t>, end: usize) -> &'t str
     ensures { result.now ≡ spec.last_text end cursor.now }
 {
-    let mut ahead = cursor.ahead();
+    let mut ahead = cursor.look_ahead();
     let mut last = "";
     let most = Cursor::most_turns();
     for _turn in 0..most {
-        if ahead.past() == end {
+        if ahead.last_end() == end {
             break;
         }
         last = ahead.text();

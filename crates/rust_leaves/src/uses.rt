@@ -32,9 +32,9 @@ fn alias<'t>(alloc: Global, cursor: &mut Cursor<'t>) -> Result<Named<'t>, AllocE
 }
 
 /// Takes `as` and what stands behind it, if it comes next.
-#[tactic(auto, unfolding(crate::specs::Leaves::renamed))]
+#[tactic(auto, unfolding(crate::specs::Leaves::written_rename))]
 fn take_rename<'t>(alloc: Global, cursor: &mut Cursor<'t>) -> Result<Option<Named<'t>>, AllocError>
-    ensures { Gives (option_map name_view) (leaves.renamed cursor.old) result cursor.new }
+    ensures { Gives (option_map name_view) (leaves.written_rename cursor.old) result cursor.new }
 {
     if !cursor.eat_word("as") {
         return Ok(None);

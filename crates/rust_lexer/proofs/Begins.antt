@@ -2,15 +2,15 @@
 use Rattle.std.proofs.Common.{◌≡◌, ◌≤◌, ◌<◌, ℕ, zero, suc, ◌+◌, ◌-◌, Bool, IsTrue, nat_eq, List, [], ◌∷◌, ◌++◌, length, take, drop, get_or, refl, sym, ap, ◌∙◌, subst, arith, append_assoc, take-append-drop, drop-drop, drop-cons, take-add, take-take, true}
 use Rattle.std.specs.Cmp.Lexicographic.{pointwise, pointwise_decides}
 use Rattle.std.proofs.lemmas.Bool.Decides.{Decides-eqb}
-use Rattle.rust_lexer.proofs.Common.{first_cut, whole, overhang, take_rest}
+use Rattle.rust_lexer.proofs.Common.{first_cut, whole_length, overhang, take_rest}
 use Rattle.rust_lexer.specs.Inner.{IsTokenBoundary, IsCommon, is_brace_byte}
 
 over_append : (left : ℕ) (x y w : List ℕ) → overhang left (x ++ y) w ≡ overhang (overhang left x (y ++ w)) y w
 over_append left [] y w = refl
 over_append (suc left) (b ∷ x) y w = over_append left x y w
 over_append zero (b ∷ x) y w =
-    ap (λ l. overhang (whole (first_cut b l) l) (x ++ y) w) (append_assoc x y w)
-    ∙ over_append (whole (first_cut b (x ++ (y ++ w))) (x ++ (y ++ w))) x y w
+    ap (λ l. overhang (whole_length (first_cut b l) l) (x ++ y) w) (append_assoc x y w)
+    ∙ over_append (whole_length (first_cut b (x ++ (y ++ w))) (x ++ (y ++ w))) x y w
 
 over_taken : (n : ℕ) (z w : List ℕ) → n ≤ length z → overhang n (take n z) w ≡ 0
 over_taken zero z w le = refl
@@ -29,7 +29,7 @@ begins_behind z k n here behind =
     ∙ behind
 
 -- behind a token
-pub begins_next : (z y : List ℕ) (k n : ℕ) → k < length z → y ≡ take (length z - (k + 1)) (drop (k + 1) z) → n ≡ whole (first_cut (get_or z k 0) y) y → n ≤ length y → IsTokenBoundary z k → IsTokenBoundary z (k + (1 + n))
+pub begins_next : (z y : List ℕ) (k n : ℕ) → k < length z → y ≡ take (length z - (k + 1)) (drop (k + 1) z) → n ≡ whole_length (first_cut (get_or z k 0) y) y → n ≤ length y → IsTokenBoundary z k → IsTokenBoundary z (k + (1 + n))
 begins_next z y k n some same is le here =
     let b = get_or z k 0 in
     let behind : suc k ≡ k + 1 = omega arith in
@@ -37,7 +37,7 @@ begins_next z y k n some same is le here =
     let more : 1 + n ≡ suc n = omega arith in
     begins_behind z k (1 + n) here (ap (λ l. overhang 0 (take (1 + n) l) (drop (1 + n) l)) first
     ∙ ap (λ i. overhang 0 (take i (b ∷ y)) (drop i (b ∷ y))) more
-    ∙ ap (λ l. overhang (whole (first_cut b l) l) (take n y) (drop n y)) (take-append-drop n y)
+    ∙ ap (λ l. overhang (whole_length (first_cut b l) l) (take n y) (drop n y)) (take-append-drop n y)
     ∙ ap (λ i. overhang i (take n y) (drop n y)) (sym is)
     ∙ over_taken n y (drop n y) le)
 

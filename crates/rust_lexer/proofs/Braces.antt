@@ -1,9 +1,9 @@
 -- Brackets of each kind are tokens that open or close, and no others are.
 use Rattle.std.proofs.Common.{◌||◌, ◌&&◌, Bool, ◌≡◌, ℕ, ◌==◌, true, false, Option, Some, None, List, drop, refl, sym, subst, All, not, slice_index}
-use Rattle.rust_lexer.proofs.Common.{eqb-true, All-cons, All-nil, Cut, TokenKind, run, is_start, is_white, is_word, is_word_start, cut, first_cut, quoted, plain, raw_or, raw_identifier, prefixed_raw, b_word, c_word, cut_word, slash, is_raw_lifetime, lifetime, apostrophe, is_punctuation, symbol_kind, is_one_char, raw_string, is_ascii_digit, LiteralKind, Extent, Piece, symbol_from, symbol_of, piece, tokens}
+use Rattle.rust_lexer.proofs.Common.{eqb-true, All-cons, All-nil, Cut, TokenKind, run_length, is_start, is_white, is_word, is_word_start, cut, first_cut, quoted_literal, plain_word, raw_or, raw_identifier, prefixed_raw, b_word, c_word, cut_word, slash, is_raw_lifetime, lifetime, apostrophe, is_punctuation, symbol_kind, is_one_char, raw_string, is_ascii_digit, LiteralKind, Extent, Piece, symbol_from, symbol_of, piece, tokens}
 use Rattle.rust_lexer.specs.declared.bytes.Class.TheVariants as class
 use Rattle.rust_lexer.specs.declared.kind.TokenKind.TheVariants as kind
-use Rattle.rust_lexer.proofs.Each.{is_front, each_token}
+use Rattle.rust_lexer.proofs.TokenInduction.{is_front, each_token}
 
 abbrev pub is_open_kind : TokenKind → Bool
 is_open_kind kind.OpenDelim = true
@@ -40,7 +40,7 @@ by_test : {A : Type 0} (t : Bool) → (t ≡ true → A) → (t ≡ false → A)
 by_test true so not_so = so refl
 by_test false so not_so = not_so refl
 
-quoted_other : (k : LiteralKind) (e : Extent) (z : List ℕ) → is_other (quoted k e z).kind ≡ true
+quoted_other : (k : LiteralKind) (e : Extent) (z : List ℕ) → is_other (quoted_literal k e z).kind ≡ true
 quoted_other k e z = by_test e.is_closed (λ f. rw f refl) (λ f. rw f refl)
 
 raw_other : (k : LiteralKind) (o : Cut) (z : List ℕ) (e : Option Extent) → is_other o.kind ≡ true → is_other (raw_or k o z e).kind ≡ true
@@ -51,7 +51,7 @@ identifier_other : (z : List ℕ) → is_other (raw_identifier z).kind ≡ true
 identifier_other z = by_test (slice_index z 0 == 35 && is_word_start (drop 1 z)) (λ f. rw f refl) (λ f. rw f refl)
 
 prefixed_other : (k : LiteralKind) (z : List ℕ) → is_other (prefixed_raw k z).kind ≡ true
-prefixed_other k z = by_test (slice_index z 0 == 114) (λ f. rw f (raw_other k (plain z) z (raw_string 1 (drop 1 z)) refl)) (λ f. rw f refl)
+prefixed_other k z = by_test (slice_index z 0 == 114) (λ f. rw f (raw_other k (plain_word z) z (raw_string 1 (drop 1 z)) refl)) (λ f. rw f refl)
 
 b_other : (z : List ℕ) → is_other (b_word z).kind ≡ true
 b_other z =
@@ -69,7 +69,7 @@ word_other b z =
 lifetime_other : (z : List ℕ) → is_other (lifetime z).kind ≡ true
 lifetime_other z =
     by_test (is_raw_lifetime z) (λ e. rw e refl)
-    (λ e. rw e (by_test (slice_index z (run class.Word z) == 39) (λ f. rw f refl) (λ f. rw f refl)))
+    (λ e. rw e (by_test (slice_index z (run_length class.Word z) == 39) (λ f. rw f refl) (λ f. rw f refl)))
 
 apostrophe_other : (z : List ℕ) → is_other (apostrophe z).kind ≡ true
 apostrophe_other z = by_test (is_word z && not (is_one_char z)) (λ e. rw e (lifetime_other z)) (λ e. rw e (quoted_other _ _ z))

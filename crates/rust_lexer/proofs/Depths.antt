@@ -1,35 +1,35 @@
 -- A loop over bytes leads to the same `}` as one over tokens: a bracket that begins a token is that token.
 use Rattle.std.proofs.Common.{◌≡◌, ◌<◌, ◌≤◌, ℕ, suc, ◌+◌, ◌-◌, ◌==◌, ◌||◌, ◌&&◌, Bool, true, false, Some, List, ◌∷◌, length, get_or, take, drop, drop-cons, drop-drop, length-take-le, refl, sym, ap, ◌∙◌, inl, inr, ◌⊎◌, subst, arith}
-use Rattle.rust_lexer.proofs.Common.{eqb-true, nat_tests, take_rest, Cut, Depth, TokenKind, run, first_cut, symbol_kind, depth_behind, to_outer, is_blank_byte, is_close_byte, is_letter, is_mark_byte, is_open_byte, Piece, symbol_from, symbol_of, piece, tokens_from, whole}
+use Rattle.rust_lexer.proofs.Common.{eqb-true, nat_tests, take_rest, Cut, Depth, TokenKind, run_length, first_cut, symbol_kind, depth_behind, to_outer, is_blank_byte, is_close_byte, is_letter, is_mark_byte, is_open_byte, Piece, symbol_from, symbol_of, piece, tokens_from, whole_length}
 use Rattle.rust_lexer.specs.declared.bytes.Class.TheVariants as class
 use Rattle.rust_lexer.specs.declared.kind.TokenKind.TheVariants as kind
 use Rattle.rust_lexer.proofs.Cases.{when}
-use Rattle.rust_lexer.proofs.Frequent.{blank_first, letter_first, mark_first}
+use Rattle.rust_lexer.proofs.FrequentTokens.{blank_first, letter_first, mark_first}
 use Rattle.rust_lexer.proofs.Steps.{tokens_from_drop}
-use Rattle.rust_lexer.proofs.Wholes.{white_whole, word_whole}
+use Rattle.rust_lexer.proofs.WholeTokens.{white_whole, word_whole}
 
 -- ---- how many bytes a token has
 
 run_alone : (n m : ℕ) → m ≡ 0 → n ≡ n + m
 run_alone n m e = omega arith
 
-pub white_len : (b : ℕ) (z : List ℕ) (n : ℕ) → is_blank_byte b ≡ true → n ≡ run class.White z → n ≡ whole (first_cut b z) z
+pub white_len : (b : ℕ) (z : List ℕ) (n : ℕ) → is_blank_byte b ≡ true → n ≡ run_length class.White z → n ≡ whole_length (first_cut b z) z
 white_len b z n e r =
-    r ∙ run_alone (run class.White z) _ (white_whole _ z refl) ∙ ap (λ (c : Cut). whole c z) (sym (blank_first b z e))
+    r ∙ run_alone (run_length class.White z) _ (white_whole _ z refl) ∙ ap (λ (c : Cut). whole_length c z) (sym (blank_first b z e))
 
-pub word_len : (b : ℕ) (z : List ℕ) (n : ℕ) → is_letter b ≡ true → n ≡ run class.Word z → n ≡ whole (first_cut b z) z
+pub word_len : (b : ℕ) (z : List ℕ) (n : ℕ) → is_letter b ≡ true → n ≡ run_length class.Word z → n ≡ whole_length (first_cut b z) z
 word_len b z n e r =
-    r ∙ run_alone (run class.Word z) _ (word_whole _ z refl) ∙ ap (λ (c : Cut). whole c z) (sym (letter_first b z e))
+    r ∙ run_alone (run_length class.Word z) _ (word_whole _ z refl) ∙ ap (λ (c : Cut). whole_length c z) (sym (letter_first b z e))
 
 zero_run : (m : ℕ) → m ≡ 0 + m
 zero_run m = omega arith
 
-pub mark_len : (b : ℕ) (z : List ℕ) (n : ℕ) → is_mark_byte b ≡ true → n ≡ run class.Continuation z → n ≡ whole (first_cut b z) z
-mark_len b z n e r = r ∙ zero_run (run class.Continuation z) ∙ ap (λ (c : Cut). whole c z) (sym (mark_first b z e))
+pub mark_len : (b : ℕ) (z : List ℕ) (n : ℕ) → is_mark_byte b ≡ true → n ≡ run_length class.Continuation z → n ≡ whole_length (first_cut b z) z
+mark_len b z n e r = r ∙ zero_run (run_length class.Continuation z) ∙ ap (λ (c : Cut). whole_length c z) (sym (mark_first b z e))
 
-pub any_len : (b : ℕ) (z : List ℕ) (c : Cut) (n : ℕ) → c ≡ first_cut b z → n ≡ run class.Continuation (take (length z - c.len) (drop c.len z)) → c.len + n ≡ whole (first_cut b z) z
+pub any_len : (b : ℕ) (z : List ℕ) (c : Cut) (n : ℕ) → c ≡ first_cut b z → n ≡ run_length class.Continuation (take (length z - c.len) (drop c.len z)) → c.len + n ≡ whole_length (first_cut b z) z
 any_len b z c n e r =
-    ap (λ k. c.len + k) (r ∙ ap (run class.Continuation) (take_rest z c.len)) ∙ ap (λ (k : Cut). whole k z) e
+    ap (λ k. c.len + k) (r ∙ ap (run_length class.Continuation) (take_rest z c.len)) ∙ ap (λ (k : Cut). whole_length k z) e
 
 -- ---- its symbol
 
@@ -95,11 +95,11 @@ step_on : (d : Depth) (t : Piece) (ts : List Piece) → (d.braces == 1 && symbol
 step_on d t ts e = rw e refl
 
 -- a token that begins with no bracket counts for nothing
-pub quiet_turn : (d : Depth) (at b : ℕ) (z : List ℕ) → is_bracket b ≡ false → to_outer d (tokens_from 0 at (b ∷ z)) ≡ to_outer d (tokens_from (whole (first_cut b z) z) (suc at) z)
+pub quiet_turn : (d : Depth) (at b : ℕ) (z : List ℕ) → is_bracket b ≡ false → to_outer d (tokens_from 0 at (b ∷ z)) ≡ to_outer d (tokens_from (whole_length (first_cut b z) z) (suc at) z)
 quiet_turn d at b z e =
     let t = told d at b z in
     let other : (b == 125) ≡ false = grind (arith, nat_tests) in
-    let more = tokens_from (whole (first_cut b z) z) (suc at) z in
+    let more = tokens_from (whole_length (first_cut b z) z) (suc at) z in
     step_on d (piece (first_cut b z) at b z) more (t.last ∙ and_false d.braces (b == 125) other)
     ∙ ap (λ k. to_outer k more) (t.behind ∙ quiet d b e)
   where
@@ -115,20 +115,20 @@ module _ (d : Depth) (at k : ℕ) (text w : List ℕ) (same : w ≡ text) (some 
   outer_here rest e r =
       let b = get_or w k 0 in
       let z = drop (suc k) w in
-      let n = whole (first_cut b z) z in
+      let n = whole_length (first_cut b z) z in
       ap (λ l. to_outer d (tokens_from 0 (at + k) l)) first_is
       ∙ step_here d (piece (first_cut b z) (at + k) b z) (tokens_from n (suc (at + k)) z) ((told d (at + k) b z).last ∙ e)
       ∙ ap (λ l. Some (d, tokens_from 0 (at + k) l)) (sym first_is ∙ sym r)
 
   -- a token is passed
   pub outer_turn : (d' : Depth) (z : List ℕ) (n : ℕ) → (d.braces == 1 && get_or w k 0 == 125) ≡ false → d' ≡ depth_behind d (get_or w k 0) → z ≡ take (length w - (k + 1)) (drop (k + 1) w)
-      → n ≡ whole (first_cut (get_or w k 0) z) z → n ≤ length z → to_outer d' (tokens_from 0 (at + (k + (1 + n))) (drop (k + (1 + n)) text)) ≡ to_outer d (tokens_from 0 (at + k) (drop k text))
+      → n ≡ whole_length (first_cut (get_or w k 0) z) z → n ≤ length z → to_outer d' (tokens_from 0 (at + (k + (1 + n))) (drop (k + (1 + n)) text)) ≡ to_outer d (tokens_from 0 (at + k) (drop k text))
   outer_turn d' z n e h zed is le =
       let b = get_or w k 0 in
       let y = drop (suc k) w in
       let next : k + 1 ≡ suc k = omega arith in
       let z_is : z ≡ y = zed ∙ take_rest w (k + 1) ∙ ap (λ i. drop i w) next in
-      let n_is : whole (first_cut b y) y ≡ n = sym (is ∙ ap (λ l. whole (first_cut b l) l) z_is) in
+      let n_is : whole_length (first_cut b y) y ≡ n = sym (is ∙ ap (λ l. whole_length (first_cut b l) l) z_is) in
       let t = piece (first_cut b y) (at + k) b y in
       let told_t = told d (at + k) b y in
       let within : n ≤ length y = subst (λ (l : List ℕ). n ≤ length l) z_is le in
@@ -137,8 +137,8 @@ module _ (d : Depth) (at k : ℕ) (text w : List ℕ) (same : w ≡ text) (some 
       let left : drop n y ≡ drop (k + (1 + n)) text = drop-drop n (suc k) w ∙ ap (λ i. drop i w) far ∙ ap (drop (k + (1 + n))) same in
       let on : to_outer d (tokens_from 0 (at + k) (drop k text)) ≡ to_outer d' (tokens_from 0 (at + (k + (1 + n))) (drop (k + (1 + n)) text)) =
       ap (λ l. to_outer d (tokens_from 0 (at + k) l)) first_is
-      ∙ step_on d t (tokens_from (whole (first_cut b y) y) (suc (at + k)) y) (told_t.last ∙ e)
-      ∙ ap (λ x. to_outer x (tokens_from (whole (first_cut b y) y) (suc (at + k)) y)) (told_t.behind ∙ sym h)
+      ∙ step_on d t (tokens_from (whole_length (first_cut b y) y) (suc (at + k)) y) (told_t.last ∙ e)
+      ∙ ap (λ x. to_outer x (tokens_from (whole_length (first_cut b y) y) (suc (at + k)) y)) (told_t.behind ∙ sym h)
       ∙ ap (λ i. to_outer d' (tokens_from i (suc (at + k)) y)) n_is
       ∙ ap (to_outer d') (tokens_from_drop n (suc (at + k)) y)
       ∙ ap (λ i. to_outer d' (tokens_from 0 i (drop n y))) place

@@ -1,6 +1,6 @@
 -- Between two stops tokens are whole, and count for nothing.
 use Rattle.std.proofs.Common.{◌≡◌, ◌≤◌, ℕ, zero, suc, ◌+◌, ◌-◌, ◌==◌, ◌||◌, ◌&&◌, not, Bool, true, false, List, [], ◌∷◌, take, drop, drop-drop, take-append-drop, None, refl, sym, ap, ◌∙◌, subst, arith, slice_index, nat_lt}
-use Rattle.rust_lexer.proofs.Common.{get_or-drop, is_ascii_digit, nat_tests, Class, Depth, LiteralKind, is_in_class, is_start, is_white, is_wide_continue, is_word_start, run, number, based, past_decimal, past_exponent, past_fraction, past_digits, is_exponent, is_fraction, is_sign, raw_string, first_cut, plain, raw_identifier, prefixed_raw, cut_word, suffix_len, to_outer, gap, is_clean, is_prefix_byte, is_quote_byte, is_stop_byte, overhang, tokens_from, whole}
+use Rattle.rust_lexer.proofs.Common.{get_or-drop, is_ascii_digit, nat_tests, Class, Depth, LiteralKind, is_in_class, is_start, is_white, is_wide_continue, is_word_start, run_length, number, based_number, past_decimal, past_exponent, past_fraction, past_digits, is_exponent, is_fraction, is_sign, raw_string, first_cut, plain_word, raw_identifier, prefixed_raw, cut_word, suffix_len, to_outer, gap, is_clean, is_prefix_byte, is_quote_byte, is_stop_byte, overhang, tokens_from, whole_length}
 use Rattle.rust_lexer.specs.declared.bytes.Class.TheVariants as class
 use Rattle.rust_lexer.specs.Inner.{IsTokenBoundary}
 use Rattle.rust_lexer.proofs.Begins.{begins_behind}
@@ -52,14 +52,14 @@ rest_off : HasNoStop class.Continuation
 rest_off b z e = grind (arith, nat_tests)
 
 module _ (c : Class) (off : HasNoStop c) where
-  front_in : (z : List ℕ) → run c z ≤ gap z
+  front_in : (z : List ℕ) → run_length c z ≤ gap z
   front_in [] = omega arith
   front_in (b ∷ z) =
       when (is_stop_byte b)
       (λ s. rw (off b z s) (omega arith))
       (λ s. when (is_in_class c b z) (λ i. rw (i, s) (omega (arith, front_in z))) (λ i. rw i (omega arith)))
 
-  run_in : (n : ℕ) (z : List ℕ) → n ≤ gap z → n + run c (drop n z) ≤ gap z
+  run_in : (n : ℕ) (z : List ℕ) → n ≤ gap z → n + run_length c (drop n z) ≤ gap z
   run_in zero z le = omega (arith, front_in z)
   run_in (suc n) [] le = absurd (omega (arith, le))
   run_in (suc n) (b ∷ z) le =
@@ -109,14 +109,14 @@ digits_in z n le =
     (λ p. when (is_fraction z n) (λ f. point_in z n f (fraction_in z n (one_more n z le (same_inner 46 _ refl p)))) (λ f. whole_in z n f le))
     (λ p. whole_in z n (rw p refl) le)
 
-based_in : (c : Class) → HasNoStop c → (z : List ℕ) → 0 + 1 ≤ gap z → (based c z).len ≤ gap z
+based_in : (c : Class) → HasNoStop c → (z : List ℕ) → 0 + 1 ≤ gap z → (based_number c z).len ≤ gap z
 based_in c off z le =
     let far = run_in c off 1 z le in
-    when (run class.Low (drop 1 z) == run c (drop 1 z)) (λ e. rw e (omega (arith, far))) (λ e. rw e (digits_in z (run c (drop 1 z) + 1) (omega (arith, far))))
+    when (run_length class.Low (drop 1 z) == run_length c (drop 1 z)) (λ e. rw e (omega (arith, far))) (λ e. rw e (digits_in z (run_length c (drop 1 z) + 1) (omega (arith, far))))
 
 number_in : (b : ℕ) (z : List ℕ) → (number b z).len ≤ gap z
 number_in b z =
-    let digits = digits_in z (run class.Decimal z) (front_in class.Decimal decimal_off z) in
+    let digits = digits_in z (run_length class.Decimal z) (front_in class.Decimal decimal_off z) in
     when (b == 48)
     (λ e. when (slice_index z 0 == 120)
     (λ f. rw (e, f) (based_in class.Hexadecimal hexadecimal_off z (one_more 0 z (omega arith) (same_inner 120 _ refl f))))
@@ -171,7 +171,7 @@ no_quote (b ∷ z) h =
 hash_goes : (b : ℕ) → (b == 35) ≡ true → (is_stop_byte b ≡ false) × (is_prefix_byte b ≡ true)
 hash_goes b e = (grind (arith, nat_tests), grind (arith, nat_tests))
 
-no_quoted : (z : List ℕ) → clean true z ≡ true → (slice_index z (run class.Hash z) == 34) ≡ false
+no_quoted : (z : List ℕ) → clean true z ≡ true → (slice_index z (run_length class.Hash z) == 34) ≡ false
 no_quoted [] h = refl
 no_quoted (b ∷ z) h =
     when (b == 35)
@@ -181,7 +181,7 @@ no_quoted (b ∷ z) h =
 no_raw : (n : ℕ) (z : List ℕ) → clean true z ≡ true → raw_string n z ≡ None
 no_raw n z h = rw (no_quoted z h) refl
 
-plain_in : (z : List ℕ) → (plain z).len ≤ gap z
+plain_in : (z : List ℕ) → (plain_word z).len ≤ gap z
 plain_in z = front_in class.Word word_off z
 
 raw_in : (z : List ℕ) → (raw_identifier z).len ≤ gap z
@@ -229,7 +229,7 @@ cut_in b z e h =
     (λ w. when (is_ascii_digit b) (λ d. rw (w, d) (suffix_in (number b z).len z (number_in b z)))
     (λ d. when (is_start b z) (λ s. rw (w, d, s) (word_in b z h)) (λ s. rw (w, d, s, slash, quote, apostrophe) (omega arith))))
 
-token_in : (b : ℕ) (z : List ℕ) → is_stop_byte b ≡ false → clean (is_prefix_byte b) z ≡ true → whole (first_cut b z) z ≤ gap z
+token_in : (b : ℕ) (z : List ℕ) → is_stop_byte b ≡ false → clean (is_prefix_byte b) z ≡ true → whole_length (first_cut b z) z ≤ gap z
 token_in b z e h = run_in class.Continuation rest_off (first_cut b z).len z (cut_in b z e h)
 
 -- ---- what is passed
@@ -253,7 +253,7 @@ module _ (d : Depth) where
       (λ e. let place : at ≡ at + 0 = omega arith in
       ap (λ k. to_outer d (tokens_from 0 k (b ∷ z))) place ∙ ap (λ n. to_outer d (tokens_from 0 (at + n) (drop n (b ∷ z)))) (sym (gap_out b z e)))
       (λ e. let more = sym (clean_next s b z e) ∙ h in
-      quiet_turn d at b z (no_bracket b e) ∙ gap_passed (whole (first_cut b z) z) (suc at) z (is_prefix_byte b) (token_in b z e more) more ∙ on at b z e)
+      quiet_turn d at b z (no_bracket b e) ∙ gap_passed (whole_length (first_cut b z) z) (suc at) z (is_prefix_byte b) (token_in b z e more) more ∙ on at b z e)
   gap_passed (suc left) at (b ∷ z) s le h =
       when (is_stop_byte b)
       (λ e. absurd (omega (arith, le, gap_out b z e)))
@@ -267,8 +267,8 @@ gap_over zero (b ∷ z) s le h =
     (λ e. ap (λ n. overhang 0 (take n (b ∷ z)) (drop n (b ∷ z))) (gap_out b z e))
     (λ e. let more = sym (clean_next s b z e) ∙ h in
     ap (λ n. overhang 0 (take n (b ∷ z)) (drop n (b ∷ z))) (gap_in b z e)
-    ∙ ap (λ l. overhang (whole (first_cut b l) l) (take (gap z) z) (drop (gap z) z)) (take-append-drop (gap z) z)
-    ∙ gap_over (whole (first_cut b z) z) z (is_prefix_byte b) (token_in b z e more) more)
+    ∙ ap (λ l. overhang (whole_length (first_cut b l) l) (take (gap z) z) (drop (gap z) z)) (take-append-drop (gap z) z)
+    ∙ gap_over (whole_length (first_cut b z) z) z (is_prefix_byte b) (token_in b z e more) more)
 gap_over (suc left) (b ∷ z) s le h =
     when (is_stop_byte b)
     (λ e. absurd (omega (arith, le, gap_out b z e)))

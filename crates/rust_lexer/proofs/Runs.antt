@@ -6,12 +6,12 @@ use Rattle.std.specs.Int.{bit_at, trailing_ones}
 use lib.Lanes.{chunk}
 use Rattle.rust_lexer.specs.declared.bytes.Class.{Class}
 use Rattle.rust_lexer.specs.declared.bytes.Class.TheVariants as class
-use Rattle.rust_lexer.proofs.Common.{is_ascii_alphanumeric, is_continuation, is_in_class, is_plain_byte, is_wide_continue, nat_tests, run}
+use Rattle.rust_lexer.proofs.Common.{is_ascii_alphanumeric, is_continuation, is_in_class, is_plain_byte, is_wide_continue, nat_tests, run_length}
 use Rattle.rust_lexer.proofs.Cases.{when}
 
 -- a run ends at the first byte that is not of the class
 pub run_to : (c : Class) (z : List ℕ) (n : ℕ) → n < length z → ((k : ℕ) → k < n → is_in_class c (slice_index z k) (drop (suc k) z) ≡ true) → is_in_class c (slice_index z n) (drop (suc n) z) ≡ false
-    → run c z ≡ n
+    → run_length c z ≡ n
 run_to c [] n lt all none = absurd (omega (arith, lt))
 run_to c (b ∷ z) zero lt all none = rw none refl
 run_to c (b ∷ z) (suc n) lt all none =
@@ -33,7 +33,7 @@ other_out b y e low =
 
 -- the first bit that is not set stands for the first byte behind a word
 pub word_told : (z : List ℕ) (bits n : ℕ) → 16 ≤ length z → ((k : ℕ) → k < 16 → (bit_at bits k == 1) ≡ is_plain_byte (slice_index (chunk 0 16 z) k)) → bits < 2 ^ 16 → n ≡ trailing_ones w64 bits → n < 16 → slice_index z n < 128
-    → n ≡ run class.Word z
+    → n ≡ run_length class.Word z
 word_told z bits n room told few first below low =
     let ones = bit_at-trailing_ones w64 bits (omega (arith, few)) in
     let plain_is = λ (k : ℕ) (h : k < 16). let place : 0 + k ≡ k = omega arith in told k h ∙ ap is_plain_byte (get_or-chunk 0 16 z k 0 h ∙ ap (slice_index z) place) in

@@ -1,6 +1,6 @@
 -- What is seen before a `{`, a `}` or a `;` is the same whatever stands behind it.
 use Rattle.std.proofs.Common.{◌≡◌, ◌≤◌, ℕ, zero, suc, ◌==◌, ◌||◌, ◌&&◌, Bool, true, false, List, [], ◌∷◌, ◌++◌, length, drop, refl, ap, arith, nat_le, nat_lt, slice_index, if◌then◌else◌}
-use Rattle.rust_lexer.proofs.Common.{nat_tests, Class, is_white, is_wide_white, is_wide_start, is_wide_continue, is_start, is_in_class, run, code, is_word_start, is_word, Stop, opening, closing, semicolon, stop, behind_lead, is_full}
+use Rattle.rust_lexer.proofs.Common.{nat_tests, Class, is_white, is_wide_white, is_wide_start, is_wide_continue, is_start, is_in_class, run_length, code, is_word_start, is_word, Stop, opening, closing, semicolon, stop, behind_lead, is_full}
 use Rattle.rust_lexer.specs.declared.bytes.Class.TheVariants as class
 use Rattle.rust_lexer.proofs.Cases.{when}
 
@@ -101,11 +101,11 @@ ends_at class.Decimal o y e = by_stop (λ b. is_in_class class.Decimal b y ≡ f
 ends_at class.Hexadecimal o y e = by_stop (λ b. is_in_class class.Hexadecimal b y ≡ false) refl refl refl o
 ends_at class.Continuation o y e = by_stop (λ b. is_in_class class.Continuation b y ≡ false) refl refl refl o
 
-pub run_same : (c : Class) → is_line c ≡ false → (o : Stop) (x y y' : List ℕ) → is_full x ≡ true → run c (upto o x y') ≡ run c (upto o x y)
+pub run_same : (c : Class) → is_line c ≡ false → (o : Stop) (x y y' : List ℕ) → is_full x ≡ true → run_length c (upto o x y') ≡ run_length c (upto o x y)
 run_same c ends o [] y y' full = rw (ends_at c o y ends, ends_at c o y' ends) refl
 run_same c ends o (b ∷ x) y y' full = rw (in_same c o b x y y' full, run_same c ends o x y y' (full_behind b x full)) refl
 
-pub run_within : (c : Class) → is_line c ≡ false → (o : Stop) (x y : List ℕ) → run c (upto o x y) ≤ length x
+pub run_within : (c : Class) → is_line c ≡ false → (o : Stop) (x y : List ℕ) → run_length c (upto o x y) ≤ length x
 run_within c ends o [] y = rw (ends_at c o y ends) (omega arith)
 run_within c ends o (b ∷ x) y =
     let more = run_within c ends o x y in

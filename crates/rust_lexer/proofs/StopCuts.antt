@@ -1,6 +1,6 @@
 -- A token that ends before a `{`, a `}` or a `;` is cut off the same whatever stands behind that.
 use Rattle.std.proofs.Common.{◌≡◌, ◌≤◌, ◌<◌, ℕ, suc, ◌+◌, ◌-◌, ◌==◌, ◌&&◌, Bool, true, false, List, [], ◌∷◌, length, take, drop, refl, ap, ◌∙◌, sym, subst, arith, slice_index, not}
-use Rattle.rust_lexer.proofs.Common.{is_ascii_digit, Cut, LiteralKind, Numeral, Extent, is_wide_continue, is_wide_start, is_word, run, block, block_style, line_style, number, character, is_one_char, string, cut, suffixed, quoted, plain, raw_identifier, prefixed_raw, r_word, b_word, c_word, cut_word, slash, is_raw_lifetime, lifetime, apostrophe, first_cut, Stop, stop, is_full}
+use Rattle.rust_lexer.proofs.Common.{is_ascii_digit, Cut, LiteralKind, Numeral, Extent, is_wide_continue, is_wide_start, is_word, run_length, block, block_style, line_style, number, character, is_one_char, string, cut, with_suffix, quoted_literal, plain_word, raw_identifier, prefixed_raw, r_word, b_word, c_word, cut_word, slash, is_raw_lifetime, lifetime, apostrophe, first_cut, Stop, stop, is_full}
 use Rattle.rust_lexer.specs.declared.bytes.Class.TheVariants as class
 use Rattle.rust_lexer.specs.declared.kind.LiteralKind.TheVariants as literals
 use Rattle.rust_lexer.specs.declared.kind.TokenKind.TheVariants as kind
@@ -11,7 +11,7 @@ use Rattle.rust_lexer.proofs.StopLiterals.{string_same, raw_or_same, quoted_far,
 
 -- ---- words
 
-plain_same : (o : Stop) (x y y' : List ℕ) → is_full x ≡ true → plain (upto o x y') ≡ plain (upto o x y)
+plain_same : (o : Stop) (x y y' : List ℕ) → is_full x ≡ true → plain_word (upto o x y') ≡ plain_word (upto o x y)
 plain_same o x y y' full = ap (cut kind.Ident) (run_same class.Word refl o x y y' full)
 
 raw_identifier_same : (o : Stop) (x y y' : List ℕ) → is_full x ≡ true → raw_identifier (upto o x y') ≡ raw_identifier (upto o x y)
@@ -27,8 +27,8 @@ unfolding is_wide_continue
 prefixed_raw_same k o [] y y' full h = by_stop (λ c. prefixed_raw k (c ∷ y') ≡ prefixed_raw k (c ∷ y)) refl refl refl o
 prefixed_raw_same k o (a ∷ x) y y' full h =
     let more = full_behind a x full in
-    let p = plain (upto o (a ∷ x) y) in
-    let p' = plain (upto o (a ∷ x) y') in
+    let p = plain_word (upto o (a ∷ x) y) in
+    let p' = plain_word (upto o (a ∷ x) y') in
     let same : p' ≡ p = plain_same o (a ∷ x) y y' full in
     when (a == 114)
     (λ e. let less = rw e at h in rw e (raw_or_same k p p' 1 o (a ∷ x) x y y' full more (omega arith) same less (omega arith)))
@@ -38,15 +38,15 @@ r_word_same : (o : Stop) (x y y' : List ℕ) → is_full x ≡ true → (r_word 
 r_word_same o x y y' full h =
     raw_or_same literals.RawStr (raw_identifier (upto o x y)) (raw_identifier (upto o x y')) 0 o x x y y' full full (omega arith) (raw_identifier_same o x y y' full) h (omega arith)
 
-string_literal : (k : LiteralKind) (o : Stop) (a : ℕ) (x y y' : List ℕ) → is_full (a ∷ x) ≡ true → (quoted k (string false 1 (upto o x y)) (upto o (a ∷ x) y)).len ≤ length (a ∷ x)
-    → quoted k (string false 1 (upto o x y')) (upto o (a ∷ x) y') ≡ quoted k (string false 1 (upto o x y)) (upto o (a ∷ x) y)
+string_literal : (k : LiteralKind) (o : Stop) (a : ℕ) (x y y' : List ℕ) → is_full (a ∷ x) ≡ true → (quoted_literal k (string false 1 (upto o x y)) (upto o (a ∷ x) y)).len ≤ length (a ∷ x)
+    → quoted_literal k (string false 1 (upto o x y')) (upto o (a ∷ x) y') ≡ quoted_literal k (string false 1 (upto o x y)) (upto o (a ∷ x) y)
 string_literal k o a x y y' full h =
     let e = string false 1 (upto o x y) in
     let far = quoted_far k e (upto o (a ∷ x) y) in
     quoted_same k e (string false 1 (upto o x y')) o (a ∷ x) y y' full (string_same o false 1 x y y' (omega arith)) (omega arith)
 
-character_literal : (o : Stop) (a : ℕ) (x y y' : List ℕ) → is_full (a ∷ x) ≡ true → (quoted literals.Byte (character 1 (upto o x y)) (upto o (a ∷ x) y)).len ≤ length (a ∷ x)
-    → quoted literals.Byte (character 1 (upto o x y')) (upto o (a ∷ x) y') ≡ quoted literals.Byte (character 1 (upto o x y)) (upto o (a ∷ x) y)
+character_literal : (o : Stop) (a : ℕ) (x y y' : List ℕ) → is_full (a ∷ x) ≡ true → (quoted_literal literals.Byte (character 1 (upto o x y)) (upto o (a ∷ x) y)).len ≤ length (a ∷ x)
+    → quoted_literal literals.Byte (character 1 (upto o x y')) (upto o (a ∷ x) y') ≡ quoted_literal literals.Byte (character 1 (upto o x y)) (upto o (a ∷ x) y)
 character_literal o a x y y' full h =
     let e = character 1 (upto o x y) in
     let far = quoted_far literals.Byte e (upto o (a ∷ x) y) in
@@ -86,10 +86,10 @@ block_style_same : (o : Stop) (x y y' : List ℕ) → block_style (upto o x y') 
 block_style_same o [] y y' = by_stop (λ c. block_style (c ∷ y') ≡ block_style (c ∷ y)) refl refl refl o
 block_style_same o (a ∷ x) y y' = let e = at_same o x y y' 0 (omega arith) in rw e refl
 
-line_some : (o : Stop) (y : List ℕ) → 0 < run class.Line (stop o ∷ y)
-line_some o y = by_stop (λ c. 0 < run class.Line (c ∷ y)) (omega arith) (omega arith) (omega arith) o
+line_some : (o : Stop) (y : List ℕ) → 0 < run_length class.Line (stop o ∷ y)
+line_some o y = by_stop (λ c. 0 < run_length class.Line (c ∷ y)) (omega arith) (omega arith) (omega arith) o
 
-line_same : (o : Stop) (x y y' : List ℕ) → run class.Line (upto o x y) ≤ length x → run class.Line (upto o x y') ≡ run class.Line (upto o x y)
+line_same : (o : Stop) (x y y' : List ℕ) → run_length class.Line (upto o x y) ≤ length x → run_length class.Line (upto o x y') ≡ run_length class.Line (upto o x y)
 line_same o [] y y' h = let some = line_some o y in absurd (omega arith)
 line_same o (a ∷ x) y y' h = when (not (a == 10)) (λ e. let less = rw e at h in rw e (ap suc (line_same o x y y' (omega arith)))) (λ e. rw e refl)
 
@@ -97,7 +97,7 @@ block_far : (s : Bool) (d n : ℕ) (z : List ℕ) → n + length (take 1 z) ≤ 
 block_far s d n [] = omega arith
 block_far true d n (b ∷ z) = let more = block_far false d (suc n) z in omega arith
 block_far false d n (b ∷ z) =
-    let plain = block_far false d (suc n) z in
+    let plain_word = block_far false d (suc n) z in
     let less = block_far true (d - 1) (suc n) z in
     let more = block_far true (d + 1) (suc n) z in
     when (b == 42 && slice_index z 0 == 47)
@@ -145,7 +145,7 @@ raw_lifetime_same o [] y y' full = no_raw_lifetime o [] y' (omega arith) ∙ sym
 raw_lifetime_same o (a ∷ []) y y' full = no_raw_lifetime o (a ∷ []) y' (omega arith) ∙ sym (no_raw_lifetime o (a ∷ []) y (omega arith))
 raw_lifetime_same o (a ∷ b ∷ x) y y' full = ap (λ t. a == 114 && b == 35 && t) (word_start_same o x y y' (full_drop 2 (a ∷ b ∷ x) full))
 
-raw_behind : (o : Stop) (x y y' : List ℕ) → is_full x ≡ true → is_raw_lifetime (upto o x y) ≡ true → run class.Word (drop 2 (upto o x y')) ≡ run class.Word (drop 2 (upto o x y))
+raw_behind : (o : Stop) (x y y' : List ℕ) → is_full x ≡ true → is_raw_lifetime (upto o x y) ≡ true → run_length class.Word (drop 2 (upto o x y')) ≡ run_length class.Word (drop 2 (upto o x y))
 raw_behind o [] y y' full e = let none = no_raw_lifetime o [] y (omega arith) in absurd cc
 raw_behind o (a ∷ []) y y' full e = let none = no_raw_lifetime o (a ∷ []) y (omega arith) in absurd cc
 raw_behind o (a ∷ b ∷ x) y y' full e = run_same class.Word refl o x y y' (full_drop 2 (a ∷ b ∷ x) full)
@@ -154,20 +154,20 @@ lifetime_same : (o : Stop) (x y y' : List ℕ) → is_full x ≡ true → lifeti
 lifetime_same o x y y' full =
     let z = upto o x y in
     let z' = upto o x y' in
-    let n = run class.Word z in
+    let n = run_length class.Word z in
     let far = run_within class.Word refl o x y in
-    let same : run class.Word z' ≡ n = run_same class.Word refl o x y y' full in
-    let next : slice_index z' (run class.Word z') ≡ slice_index z n = ap (slice_index z') same ∙ at_same o x y y' n far in
+    let same : run_length class.Word z' ≡ n = run_same class.Word refl o x y y' full in
+    let next : slice_index z' (run_length class.Word z') ≡ slice_index z n = ap (slice_index z') same ∙ at_same o x y y' n far in
     cond_same (raw_lifetime_same o x y y' full)
     (λ e. ap (λ k. cut kind.RawLifetime (2 + k)) (raw_behind o x y y' full e))
     (λ _. cond_same (ap (λ c. c == 39) next) (λ _. ap (λ k. cut (kind.Literal literals.Char) (suc k)) same) (λ _. ap (cut kind.Lifetime) same))
 
-apostrophe_empty : (o : Stop) (y : List ℕ) → apostrophe (upto o [] y) ≡ quoted literals.Char (character 0 (upto o [] y)) (upto o [] y)
+apostrophe_empty : (o : Stop) (y : List ℕ) → apostrophe (upto o [] y) ≡ quoted_literal literals.Char (character 0 (upto o [] y)) (upto o [] y)
 unfolding is_wide_start
-apostrophe_empty o y = by_stop (λ c. apostrophe (c ∷ y) ≡ quoted literals.Char (character 0 (c ∷ y)) (c ∷ y)) refl refl refl o
+apostrophe_empty o y = by_stop (λ c. apostrophe (c ∷ y) ≡ quoted_literal literals.Char (character 0 (c ∷ y)) (c ∷ y)) refl refl refl o
 
-quoted_character : (o : Stop) (x y y' : List ℕ) → is_full x ≡ true → (quoted literals.Char (character 0 (upto o x y)) (upto o x y)).len ≤ length x
-    → quoted literals.Char (character 0 (upto o x y')) (upto o x y') ≡ quoted literals.Char (character 0 (upto o x y)) (upto o x y)
+quoted_character : (o : Stop) (x y y' : List ℕ) → is_full x ≡ true → (quoted_literal literals.Char (character 0 (upto o x y)) (upto o x y)).len ≤ length x
+    → quoted_literal literals.Char (character 0 (upto o x y')) (upto o x y') ≡ quoted_literal literals.Char (character 0 (upto o x y)) (upto o x y)
 quoted_character o x y y' full h =
     let e = character 0 (upto o x y) in
     let far = quoted_far literals.Char e (upto o x y) in
@@ -183,18 +183,18 @@ apostrophe_same o (a ∷ x) y y' full h =
 
 -- ---- all
 
-string_whole : (o : Stop) (x y y' : List ℕ) → is_full x ≡ true → (quoted literals.Str (string false 0 (upto o x y)) (upto o x y)).len ≤ length x
-    → quoted literals.Str (string false 0 (upto o x y')) (upto o x y') ≡ quoted literals.Str (string false 0 (upto o x y)) (upto o x y)
+string_whole : (o : Stop) (x y y' : List ℕ) → is_full x ≡ true → (quoted_literal literals.Str (string false 0 (upto o x y)) (upto o x y)).len ≤ length x
+    → quoted_literal literals.Str (string false 0 (upto o x y')) (upto o x y') ≡ quoted_literal literals.Str (string false 0 (upto o x y)) (upto o x y)
 string_whole o x y y' full h =
     let e = string false 0 (upto o x y) in
     let far = quoted_far literals.Str e (upto o x y) in
     quoted_same literals.Str e (string false 0 (upto o x y')) o x y y' full (string_same o false 0 x y y' (omega arith)) (omega arith)
 
 numeral_same : (o : Stop) (b : ℕ) (x y y' : List ℕ) → is_full x ≡ true
-    → suffixed (number b (upto o x y')).kind (number b (upto o x y')).len (upto o x y') ≡ suffixed (number b (upto o x y)).kind (number b (upto o x y)).len (upto o x y)
+    → with_suffix (number b (upto o x y')).kind (number b (upto o x y')).len (upto o x y') ≡ with_suffix (number b (upto o x y)).kind (number b (upto o x y)).len (upto o x y)
 numeral_same o b x y y' full =
     let n = number b (upto o x y) in
-    ap (λ (m : Numeral). suffixed m.kind m.len (upto o x y')) (number_same o b x y y' full) ∙ suffixed_same n.kind n.len o x y y' full (number_within o b x y)
+    ap (λ (m : Numeral). with_suffix m.kind m.len (upto o x y')) (number_same o b x y y' full) ∙ suffixed_same n.kind n.len o x y y' full (number_within o b x y)
 
 pub cut_local : (o : Stop) (b : ℕ) (x y y' : List ℕ) → is_full (b ∷ x) ≡ true → (first_cut b (upto o x y)).len ≤ length x → first_cut b (upto o x y') ≡ first_cut b (upto o x y)
 unfolding first_cut

@@ -1,7 +1,7 @@
 -- A literal that ends before a `{`, a `}` or a `;` is the same whatever stands behind that.
 use Rattle.std.proofs.Common.{◌≡◌, ◌≤◌, ◌<◌, ℕ, suc, ◌+◌, ◌==◌, ◌&&◌, Bool, true, false, Some, None, Option, List, [], ◌∷◌, length, take, drop, refl, ap, ◌∙◌, sym, subst, arith, length-drop, slice_index, not, nat_le}
 use Rattle.rust_lexer.specs.declared.bytes.Class.TheVariants as class
-use Rattle.rust_lexer.proofs.Common.{Cut, LiteralKind, Extent, run, cut, quoted, raw_or, suffix_len, suffixed, closed, string, raw, raw_string, ends_single, single, is_one_char, character, Stop, stop, is_full}
+use Rattle.rust_lexer.proofs.Common.{Cut, LiteralKind, Extent, run_length, cut, quoted_literal, raw_or, suffix_len, with_suffix, closed_extent, string, raw, raw_string, ends_single, single, is_one_char, character, Stop, stop, is_full}
 use Rattle.rust_lexer.specs.declared.kind.TokenKind.TheVariants as kind
 use Rattle.rust_lexer.proofs.Cases.{when}
 use Rattle.rust_lexer.proofs.StopBytes.{by_stop, cond_same, upto, at_same, drop_upto, full_behind, full_drop, run_same, run_within, word_start_same}
@@ -26,7 +26,7 @@ raw_far : (hashes n : ℕ) (z : List ℕ) → n + length (take 1 z) ≤ (raw has
 raw_far hashes n [] = omega arith
 raw_far hashes n (b ∷ z) =
     let more = raw_far hashes (suc n) z in
-    when (b == 34 && nat_le hashes (run class.Hash z)) (λ e. rw e (omega arith)) (λ e. rw e (omega arith))
+    when (b == 34 && nat_le hashes (run_length class.Hash z)) (λ e. rw e (omega arith)) (λ e. rw e (omega arith))
 
 raw_same : (o : Stop) (hashes n : ℕ) (x y y' : List ℕ) → is_full x ≡ true → (raw hashes n (upto o x y)).len ≤ n + length x → raw hashes n (upto o x y') ≡ raw hashes n (upto o x y)
 raw_same o hashes n [] y y' full h = let far = raw_far hashes n (stop o ∷ y) in absurd (omega arith)
@@ -40,35 +40,35 @@ raw_same o hashes n (b ∷ x) y y' full h =
 suffix_len_same : (o : Stop) (x y y' : List ℕ) → is_full x ≡ true → suffix_len (upto o x y') ≡ suffix_len (upto o x y)
 suffix_len_same o x y y' full = cond_same (word_start_same o x y y' full) (λ _. run_same class.Word refl o x y y' full) (λ _. refl)
 
-pub suffixed_same : (k : LiteralKind) (n : ℕ) (o : Stop) (x y y' : List ℕ) → is_full x ≡ true → n ≤ length x → suffixed k n (upto o x y') ≡ suffixed k n (upto o x y)
+pub suffixed_same : (k : LiteralKind) (n : ℕ) (o : Stop) (x y y' : List ℕ) → is_full x ≡ true → n ≤ length x → with_suffix k n (upto o x y') ≡ with_suffix k n (upto o x y)
 suffixed_same k n o x y y' full le =
     ap (λ l. cut (kind.Literal k) (n + suffix_len l)) (drop_upto o x y' n le)
     ∙ ap (λ m. cut (kind.Literal k) (n + m)) (suffix_len_same o (drop n x) y y' (full_drop n x full))
     ∙ ap (λ l. cut (kind.Literal k) (n + suffix_len l)) (sym (drop_upto o x y n le))
 
-pub quoted_far : (k : LiteralKind) (e : Extent) (z : List ℕ) → e.len ≤ (quoted k e z).len
+pub quoted_far : (k : LiteralKind) (e : Extent) (z : List ℕ) → e.len ≤ (quoted_literal k e z).len
 quoted_far k e z = when e.is_closed (λ c. rw c (omega arith)) (λ c. rw c (omega arith))
 
-pub quoted_same : (k : LiteralKind) (e e' : Extent) (o : Stop) (x y y' : List ℕ) → is_full x ≡ true → e' ≡ e → e.len ≤ length x → quoted k e' (upto o x y') ≡ quoted k e (upto o x y)
+pub quoted_same : (k : LiteralKind) (e e' : Extent) (o : Stop) (x y y' : List ℕ) → is_full x ≡ true → e' ≡ e → e.len ≤ length x → quoted_literal k e' (upto o x y') ≡ quoted_literal k e (upto o x y)
 quoted_same k e e' o x y y' full same le =
-    ap (λ (t : Extent). quoted k t (upto o x y')) same ∙ when e.is_closed (λ c. rw c (suffixed_same k e.len o x y y' full le)) (λ c. rw c refl)
+    ap (λ (t : Extent). quoted_literal k t (upto o x y')) same ∙ when e.is_closed (λ c. rw c (suffixed_same k e.len o x y y' full le)) (λ c. rw c refl)
 
 -- ---- raw literals, or words
 
 raw_at : ℕ → List ℕ → Extent
-raw_at m z = let h = run class.Hash z in raw h (m + h + 1) (drop (h + 1) z)
+raw_at m z = let h = run_length class.Hash z in raw h (m + h + 1) (drop (h + 1) z)
 
-raw_found : (m : ℕ) (z : List ℕ) → (slice_index z (run class.Hash z) == 34) ≡ true → raw_string m z ≡ Some (raw_at m z)
+raw_found : (m : ℕ) (z : List ℕ) → (slice_index z (run_length class.Hash z) == 34) ≡ true → raw_string m z ≡ Some (raw_at m z)
 unfolding raw_at
 raw_found m z e = rw e refl
 
-raw_none : (m : ℕ) (z : List ℕ) → (slice_index z (run class.Hash z) == 34) ≡ false → raw_string m z ≡ None
+raw_none : (m : ℕ) (z : List ℕ) → (slice_index z (run_length class.Hash z) == 34) ≡ false → raw_string m z ≡ None
 raw_none m z e = rw e refl
 
-raw_at_same : (m : ℕ) (o : Stop) (x y y' : List ℕ) → is_full x ≡ true → run class.Hash (upto o x y) < length x → (raw_at m (upto o x y)).len ≤ m + length x → raw_at m (upto o x y') ≡ raw_at m (upto o x y)
+raw_at_same : (m : ℕ) (o : Stop) (x y y' : List ℕ) → is_full x ≡ true → run_length class.Hash (upto o x y) < length x → (raw_at m (upto o x y)).len ≤ m + length x → raw_at m (upto o x y') ≡ raw_at m (upto o x y)
 unfolding raw_at
 raw_at_same m o x y y' full some h =
-    let n = run class.Hash (upto o x y) in
+    let n = run_length class.Hash (upto o x y) in
     let le : n + 1 ≤ length x = omega arith in
     let left = length-drop (n + 1) x in
     let less : (raw n (m + n + 1) (upto o (drop (n + 1) x) y)).len ≤ m + n + 1 + length (drop (n + 1) x) =
@@ -86,15 +86,15 @@ pub raw_or_same : (k : LiteralKind) (other other' : Cut) (m : ℕ) (o : Stop) (x
 raw_or_same k other other' m o x w y y' full fullw le same h len =
     let z = upto o w y in
     let z' = upto o w y' in
-    let n = run class.Hash z in
-    let run_is : run class.Hash z' ≡ n = run_same class.Hash refl o w y y' fullw in
+    let n = run_length class.Hash z in
+    let run_is : run_length class.Hash z' ≡ n = run_same class.Hash refl o w y y' fullw in
     let far = run_within class.Hash refl o w y in
-    let next : slice_index z' (run class.Hash z') ≡ slice_index z n = ap (slice_index z') run_is ∙ at_same o w y y' n far in
+    let next : slice_index z' (run_length class.Hash z') ≡ slice_index z n = ap (slice_index z') run_is ∙ at_same o w y y' n far in
     when (slice_index z n == 34)
     (λ e. let found = raw_found m z e in
     let found' : raw_string m z' ≡ Some (raw_at m z') = raw_found m z' (ap (λ c. c == 34) next ∙ e) in
     let some = before (λ c. c == 34) (refl, (refl, refl)) o w y n far e in
-    let less : (quoted k (raw_at m z) (upto o x y)).len ≤ length x = subst (λ (p : Option Extent). (raw_or k other (upto o x y) p).len ≤ length x) found h in
+    let less : (quoted_literal k (raw_at m z) (upto o x y)).len ≤ length x = subst (λ (p : Option Extent). (raw_or k other (upto o x y) p).len ≤ length x) found h in
     let low = quoted_far k (raw_at m z) (upto o x y) in
     ap (raw_or k other' (upto o x y')) found'
     ∙ quoted_same k (raw_at m z) (raw_at m z') o x y y' full (raw_at_same m o w y y' fullw some (omega arith)) (omega arith)
@@ -125,9 +125,9 @@ single_same o false n (b ∷ x) y y' h =
 
 pub one_char_same : (o : Stop) (a : ℕ) (x y y' : List ℕ) → is_full x ≡ true → is_one_char (upto o (a ∷ x) y') ≡ is_one_char (upto o (a ∷ x) y)
 one_char_same o a x y y' full =
-    let n = run class.Continuation (upto o x y) in
+    let n = run_length class.Continuation (upto o x y) in
     let far = run_within class.Continuation refl o x y in
-    let next : slice_index (upto o (a ∷ x) y') (suc (run class.Continuation (upto o x y'))) ≡ slice_index (upto o (a ∷ x) y) (suc n) =
+    let next : slice_index (upto o (a ∷ x) y') (suc (run_length class.Continuation (upto o x y'))) ≡ slice_index (upto o (a ∷ x) y) (suc n) =
     ap (λ k. slice_index (upto o (a ∷ x) y') (suc k)) (run_same class.Continuation refl o x y y' full) ∙ at_same o (a ∷ x) y y' (suc n) (omega arith) in
     ap (λ c. not (a == 92) && c == 39) next
 
@@ -139,5 +139,5 @@ character_same o m [] y y' full h = let some = character_some o m y in absurd (o
 character_same o m (a ∷ x) y y' full h =
     let more = full_behind a x full in
     cond_same (one_char_same o a x y y' more)
-    (λ e. ap (λ k. closed (m + suc k + 1)) (run_same class.Continuation refl o x y y' more))
+    (λ e. ap (λ k. closed_extent (m + suc k + 1)) (run_same class.Continuation refl o x y y' more))
     (λ e. let less = rw e at h in single_same o false m (a ∷ x) y y' less)

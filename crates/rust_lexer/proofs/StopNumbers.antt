@@ -1,6 +1,6 @@
 -- A number before a `{`, a `}` or a `;` is the same whatever stands behind that.
 use Rattle.std.proofs.Common.{◌≡◌, ◌≤◌, ◌<◌, ℕ, zero, suc, ◌+◌, ◌==◌, ◌||◌, ◌&&◌, Bool, true, false, List, [], ◌∷◌, length, drop, refl, ap, ◌∙◌, sym, arith, length-drop, slice_index, if◌then◌else◌}
-use Rattle.rust_lexer.proofs.Common.{is_ascii_digit, Class, Numeral, run, float, int, is_exponent, is_sign, past_decimal, past_exponent, is_fraction, past_fraction, past_digits, based, number, Stop, stop, is_full}
+use Rattle.rust_lexer.proofs.Common.{is_ascii_digit, Class, Numeral, run_length, float, int, is_exponent, is_sign, past_decimal, past_exponent, is_fraction, past_fraction, past_digits, based_number, number, Stop, stop, is_full}
 use Rattle.rust_lexer.specs.declared.bytes.Class.TheVariants as class
 use Rattle.rust_lexer.proofs.Cases.{when}
 use Rattle.rust_lexer.proofs.StopBytes.{by_stop, cond_same, upto, at_same, drop_upto, full_drop, is_line, run_same, run_within, word_start_same}
@@ -100,22 +100,22 @@ digits_within o x y n le =
     (λ e. rw e (past_fraction_within o x y n (fraction_some o x y n le e)))
     (λ e. let far = exponent_within o x y n le in when (is_exponent (slice_index z n)) (λ f. rw (e, f) (rw f at far)) (λ f. rw (e, f) le))
 
-based_same : (c : Class) → is_line c ≡ false → (o : Stop) (b : ℕ) (x y y' : List ℕ) → is_full (b ∷ x) ≡ true → based c (upto o (b ∷ x) y') ≡ based c (upto o (b ∷ x) y)
+based_same : (c : Class) → is_line c ≡ false → (o : Stop) (b : ℕ) (x y y' : List ℕ) → is_full (b ∷ x) ≡ true → based_number c (upto o (b ∷ x) y') ≡ based_number c (upto o (b ∷ x) y)
 based_same c ends o b x y y' full =
     let more = full_drop 1 (b ∷ x) full in
     let far = run_within c ends o x y in
     rw (run_same c ends o x y y' more, run_same class.Low refl o x y y' more)
-    (ap (λ (n : Numeral). if run class.Low (upto o x y) == run c (upto o x y) then int (run c (upto o x y) + 1) else n) (digits_same o (b ∷ x) y y' (run c (upto o x y) + 1) full (omega arith)))
+    (ap (λ (n : Numeral). if run_length class.Low (upto o x y) == run_length c (upto o x y) then int (run_length c (upto o x y) + 1) else n) (digits_same o (b ∷ x) y y' (run_length c (upto o x y) + 1) full (omega arith)))
 
-based_within : (c : Class) → is_line c ≡ false → (o : Stop) (b : ℕ) (x y : List ℕ) → (based c (upto o (b ∷ x) y)).len ≤ length (b ∷ x)
+based_within : (c : Class) → is_line c ≡ false → (o : Stop) (b : ℕ) (x y : List ℕ) → (based_number c (upto o (b ∷ x) y)).len ≤ length (b ∷ x)
 based_within c ends o b x y =
     let far = run_within c ends o x y in
-    when (run class.Low (upto o x y) == run c (upto o x y))
+    when (run_length class.Low (upto o x y) == run_length c (upto o x y))
     (λ e. rw e (omega arith))
-    (λ e. rw e (digits_within o (b ∷ x) y (run c (upto o x y) + 1) (omega arith)))
+    (λ e. rw e (digits_within o (b ∷ x) y (run_length c (upto o x y) + 1) (omega arith)))
 
 -- at its end, no letter behind a 0 tells a base
-number_end : (b c : ℕ) (y : List ℕ) → (c == 120) ≡ false → (c == 98) ≡ false → (c == 111) ≡ false → number b (c ∷ y) ≡ past_digits (c ∷ y) (run class.Decimal (c ∷ y))
+number_end : (b c : ℕ) (y : List ℕ) → (c == 120) ≡ false → (c == 98) ≡ false → (c == 111) ≡ false → number b (c ∷ y) ≡ past_digits (c ∷ y) (run_length class.Decimal (c ∷ y))
 number_end b c y x d e = when (b == 48) (λ z. rw (z, x, d, e) refl) (λ z. rw z refl)
 
 number_empty : (o : Stop) (b : ℕ) (y : List ℕ) → number b (stop o ∷ y) ≡ past_digits (stop o ∷ y) 0
@@ -136,4 +136,4 @@ number_within o b [] y = rw number_empty (digits_within o [] y 0 (omega arith))
 number_within o b (a ∷ x) y =
     when (b == 48 && a == 120) (λ e. rw e (based_within class.Hexadecimal refl o a x y))
     (λ e. when (b == 48 && (a == 98 || a == 111)) (λ f. rw (e, f) (based_within class.Decimal refl o a x y))
-    (λ f. rw (e, f) (digits_within o (a ∷ x) y (run class.Decimal (upto o (a ∷ x) y)) (run_within class.Decimal refl o (a ∷ x) y))))
+    (λ f. rw (e, f) (digits_within o (a ∷ x) y (run_length class.Decimal (upto o (a ∷ x) y)) (run_within class.Decimal refl o (a ∷ x) y))))

@@ -21,15 +21,15 @@ abbrev pub is_continuation : ℕ → Bool
 is_continuation b = nat_le 128 b && nat_lt b 192
 
 -- the six bits that a byte behind the first gives
-abbrev pub low : ℕ → ℕ
-low b = b % 64
+abbrev pub low_bits : ℕ → ℕ
+low_bits b = b % 64
 
 -- the number of the character past ASCII that begins with this byte, before these, by UTF-8
 abbrev pub code : ℕ → List ℕ → ℕ
 code b z =
-    if nat_lt b 224 then b % 32 * 64 + low (slice_index z 0)
-    else (if nat_lt b 240 then b % 16 * 4096 + low (slice_index z 0) * 64 + low (slice_index z 1)
-    else b % 8 * 262144 + low (slice_index z 0) * 4096 + low (slice_index z 1) * 64 + low (slice_index z 2))
+    if nat_lt b 224 then b % 32 * 64 + low_bits (slice_index z 0)
+    else (if nat_lt b 240 then b % 16 * 4096 + low_bits (slice_index z 0) * 64 + low_bits (slice_index z 1)
+    else b % 8 * 262144 + low_bits (slice_index z 0) * 4096 + low_bits (slice_index z 1) * 64 + low_bits (slice_index z 2))
 
 -- whether a number is that of a character
 abbrev pub is_char : ℕ → Bool
@@ -60,9 +60,9 @@ is_in_class class.Hexadecimal b z = is_ascii_hexdigit b || b == 95
 is_in_class class.Continuation b z = is_continuation b
 
 -- how many bytes at the front are of the class
-abbrev pub run : Class → List ℕ → ℕ
-run c [] = 0
-run c (b ∷ z) = if is_in_class c b z then suc (run c z) else 0
+abbrev pub run_length : Class → List ℕ → ℕ
+run_length c [] = 0
+run_length c (b ∷ z) = if is_in_class c b z then suc (run_length c z) else 0
 
 -- whether an identifier may begin at the front
 abbrev pub is_word_start : List ℕ → Bool

@@ -3,7 +3,7 @@ use Rattle.std.specs.Prelude.{ℕ, suc, ◌+◌, ◌-◌, Bool, true, false, not
 use Rattle.rust_lexer.specs.declared.kind.DocStyle.{DocStyle}
 use Rattle.rust_lexer.specs.declared.kind.DocStyle.TheVariants.{Outer, Inner}
 use Rattle.rust_lexer.specs.declared.quoted.Extent.{Extent}
-use Rattle.rust_lexer.specs.Quoted.{closed, unclosed}
+use Rattle.rust_lexer.specs.Quoted.{closed_extent, unclosed_extent}
 
 -- INNER_LINE_DOC `//!` and OUTER_LINE_DOC `///`, but not `////`
 abbrev pub line_style : List ℕ → Option DocStyle
@@ -19,8 +19,8 @@ block_style z =
 
 -- BLOCK_COMMENT: up to the `*/` that closes it, where `depth` more are open. A byte may be the second of a `/*` or a `*/`.
 abbrev pub block : Bool → ℕ → ℕ → List ℕ → Extent
-block is_second depth n [] = unclosed n
+block is_second depth n [] = unclosed_extent n
 block true depth n (b ∷ z) = block false depth (suc n) z
 block false depth n (b ∷ z) =
-    if b == 42 && slice_index z 0 == 47 then (if depth == 0 then closed (n + 2) else block true (depth - 1) (suc n) z)
+    if b == 42 && slice_index z 0 == 47 then (if depth == 0 then closed_extent (n + 2) else block true (depth - 1) (suc n) z)
     else (if b == 47 && slice_index z 0 == 42 then block true (depth + 1) (suc n) z else block false depth (suc n) z)

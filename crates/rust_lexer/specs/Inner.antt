@@ -8,12 +8,12 @@ use Rattle.rust_lexer.specs.Alone.{overhang}
 use Rattle.rust_lexer.specs.Bytes.{code, is_char, is_continuation}
 use Rattle.rust_lexer.specs.Cut.{is_punctuation}
 use Rattle.rust_lexer.specs.Piece.{Piece}
-use Rattle.rust_lexer.specs.Tokens.{piece, whole}
+use Rattle.rust_lexer.specs.Tokens.{piece, whole_length}
 
 -- the token that is cut off a text so, at this place, and the text behind it
 abbrev pub split_of : Cut → ℕ → List ℕ → Option (Piece × List ℕ)
 split_of c at [] = None
-split_of c at (b ∷ z) = Some (piece c at b z, drop (whole c z) z)
+split_of c at (b ∷ z) = Some (piece c at b z, drop (whole_length c z) z)
 
 -- the character past ASCII that begins with this byte, before these
 abbrev pub wide_char : ℕ → List ℕ → Option ℕ

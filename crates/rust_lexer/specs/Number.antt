@@ -5,7 +5,7 @@ use Rattle.rust_lexer.specs.declared.bytes.Class.{Class}
 use Rattle.rust_lexer.specs.declared.bytes.Class.TheVariants as class
 use Rattle.rust_lexer.specs.declared.kind.LiteralKind.TheVariants.{Int, Float}
 use Rattle.rust_lexer.specs.declared.number.Numeral.{Numeral}
-use Rattle.rust_lexer.specs.Bytes.{run, is_word_start}
+use Rattle.rust_lexer.specs.Bytes.{run_length, is_word_start}
 
 -- so many bytes, of an integer or of a float
 abbrev pub int : ℕ → Numeral
@@ -22,7 +22,7 @@ is_sign b = b == 43 || b == 45
 
 -- behind the digits that stand behind so many bytes
 abbrev pub past_decimal : List ℕ → ℕ → ℕ
-past_decimal z n = n + run class.Decimal (drop n z)
+past_decimal z n = n + run_length class.Decimal (drop n z)
 
 -- FLOAT_EXPONENT, if an `e` stands behind so many bytes
 abbrev pub past_exponent : List ℕ → ℕ → ℕ
@@ -49,14 +49,14 @@ past_digits z n =
     else (if is_exponent (slice_index z n) then float (past_exponent z n) else int n)
 
 -- behind `0b`, `0o` or `0x`: an integer where no digit follows
-abbrev pub based : Class → List ℕ → Numeral
-based digits z =
-    let n = run digits (drop 1 z) in
-    if run class.Low (drop 1 z) == n then int (n + 1) else past_digits z (n + 1)
+abbrev pub based_number : Class → List ℕ → Numeral
+based_number digits z =
+    let n = run_length digits (drop 1 z) in
+    if run_length class.Low (drop 1 z) == n then int (n + 1) else past_digits z (n + 1)
 
 -- INTEGER_LITERAL and FLOAT_LITERAL, without a suffix
 abbrev pub number : ℕ → List ℕ → Numeral
 number b z =
-    if b == 48 && slice_index z 0 == 120 then based class.Hexadecimal z
-    else (if b == 48 && (slice_index z 0 == 98 || slice_index z 0 == 111) then based class.Decimal z
-    else past_digits z (run class.Decimal z))
+    if b == 48 && slice_index z 0 == 120 then based_number class.Hexadecimal z
+    else (if b == 48 && (slice_index z 0 == 98 || slice_index z 0 == 111) then based_number class.Decimal z
+    else past_digits z (run_length class.Decimal z))

@@ -6,25 +6,25 @@ use Rattle.rust_lexer.specs.declared.kind.TokenKind.{TokenKind}
 use Rattle.rust_lexer.specs.declared.kind.TokenKind.TheVariants as kind
 use Rattle.rust_lexer.specs.declared.lexer.Front.{Front}
 use Rattle.rust_lexer.specs.declared.lexer.Front.TheVariants as front
-use Rattle.rust_lexer.specs.Bytes.{run}
+use Rattle.rust_lexer.specs.Bytes.{run_length}
 use Rattle.rust_lexer.specs.Frontmatter.{frontmatter}
 use Rattle.rust_lexer.specs.Cut.{cut, first_cut}
 use Rattle.rust_lexer.specs.Piece.{Piece}
 use Rattle.rust_lexer.specs.Symbol.{symbol_of}
 
 -- how many bytes belong to it behind the first: with the bytes that continue its last character
-abbrev pub whole : Cut → List ℕ → ℕ
-whole c z = c.len + run class.Continuation (drop c.len z)
+abbrev pub whole_length : Cut → List ℕ → ℕ
+whole_length c z = c.len + run_length class.Continuation (drop c.len z)
 
 -- the token that is cut off a text of the byte b and z, at this place
 abbrev pub piece : Cut → ℕ → ℕ → List ℕ → Piece
-piece c at b z = record { kind = c.kind; text = b ∷ take (whole c z) z; at = at }
+piece c at b z = record { kind = c.kind; text = b ∷ take (whole_length c z) z; at = at }
 
 -- The tokens of a text that begins at this place. The first number counts the bytes that are left of one.
 abbrev pub tokens_from : ℕ → ℕ → List ℕ → List Piece
 tokens_from left at [] = []
 tokens_from (suc left) at (b ∷ z) = tokens_from left (suc at) z
-tokens_from zero at (b ∷ z) = piece (first_cut b z) at b z ∷ tokens_from (whole (first_cut b z) z) (suc at) z
+tokens_from zero at (b ∷ z) = piece (first_cut b z) at b z ∷ tokens_from (whole_length (first_cut b z) z) (suc at) z
 
 -- white space, and the comments that document nothing
 abbrev pub is_blank : TokenKind → Bool
@@ -52,7 +52,7 @@ is_shebang (t ∷ ts) = symbol_of t == 35 && is_shebang_next ts
 abbrev pub matter_by : Option ℕ → ℕ → List ℕ → List Piece
 matter_by None at z = tokens_from 0 at z
 matter_by (Some n) at [] = []
-matter_by (Some n) at (b ∷ z) = let c = cut kind.Frontmatter (n - 1) in piece c at b z ∷ tokens_from (whole c z) (suc at) z
+matter_by (Some n) at (b ∷ z) = let c = cut kind.Frontmatter (n - 1) in piece c at b z ∷ tokens_from (whole_length c z) (suc at) z
 
 -- the tokens of a text with frontmatter or none in front
 abbrev pub matter_from : ℕ → List ℕ → List Piece
@@ -62,8 +62,8 @@ matter_from at z = matter_by (frontmatter 0 z) at z
 abbrev pub shebang_from : ℕ → List ℕ → List Piece
 shebang_from at [] = []
 shebang_from at (b ∷ z) =
-    let c = cut kind.Shebang (run class.Line z) in
-    let t = piece c at b z in t ∷ matter_from (at + length t.text) (drop (whole c z) z)
+    let c = cut kind.Shebang (run_length class.Line z) in
+    let t = piece c at b z in t ∷ matter_from (at + length t.text) (drop (whole_length c z) z)
 
 -- the tokens of a text with a shebang line or none in front
 abbrev pub lines_from : ℕ → List ℕ → List Piece
@@ -74,7 +74,7 @@ abbrev pub mark_from : ℕ → List ℕ → List Piece
 mark_from at [] = []
 mark_from at (b ∷ z) =
     let c = cut kind.ByteOrderMark 2 in
-    let t = piece c at b z in t ∷ lines_from (at + length t.text) (drop (whole c z) z)
+    let t = piece c at b z in t ∷ lines_from (at + length t.text) (drop (whole_length c z) z)
 
 -- EF BB BF
 abbrev pub has_mark : List ℕ → Bool

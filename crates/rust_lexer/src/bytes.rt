@@ -133,7 +133,7 @@ fn is_continuation(b: u8) -> bool
 
 /// The six bits that a byte behind the first of a character gives.
 fn low(b: u8) -> u32
-    ensures value { result ≡ spec.low b }
+    ensures value { result ≡ spec.low_bits b }
     ensures within { result < 64 }
 {
     (b % 64) as u32
@@ -227,7 +227,7 @@ pub(crate) fn byte(z: &[u8], at: usize) -> u8
 /// How many bytes stand before the end of a line, or of all.
 #[tactic(auto, using(crate::proofs::Lines::line_run, crate::proofs::Lines::line_within))]
 fn line(z: &[u8]) -> usize
-    ensures value { result ≡ spec.run class.Line z.now }
+    ensures value { result ≡ spec.run_length class.Line z.now }
     ensures within { result ≤ length z.now }
 {
     memchr(b'\n', z).unwrap_or(z.len())
@@ -236,7 +236,7 @@ fn line(z: &[u8]) -> usize
 /// How many bytes at the front are of the class, one by one.
 #[inline(always)]
 pub(crate) fn run_by_bytes(class: Class, mut z: &[u8]) -> usize
-    ensures value { result ≡ spec.run class z.entry.now }
+    ensures value { result ≡ spec.run_length class z.entry.now }
     ensures within { result ≤ length z.entry.now }
 {
     let mut count = 0;
@@ -253,7 +253,7 @@ pub(crate) fn run_by_bytes(class: Class, mut z: &[u8]) -> usize
 /// How many bytes at the front are of the class.
 #[inline(always)]
 pub(crate) fn run(class: Class, z: &[u8]) -> usize
-    ensures value { result ≡ spec.run class z.now }
+    ensures value { result ≡ spec.run_length class z.now }
     ensures within { result ≤ length z.now }
 {
     match class {

@@ -4,7 +4,7 @@ ghost use Rattle.std.specs.Prelude.{◌≡◌, ◌≤◌, ◌∷◌, drop, lengt
 ghost use Rattle.rust_lexer.specs.declared.bytes.Class.TheVariants as class;
 ghost use Rattle.rust_lexer.specs.Bytes as bytes;
 ghost use Rattle.rust_lexer.specs.Cut as spec;
-ghost use Rattle.rust_lexer.specs.Tokens.{is_significant_kind, whole};
+ghost use Rattle.rust_lexer.specs.Tokens.{is_significant_kind, whole_length};
 
 use crate::bytes::{
     Class, byte, is_blank, is_close, is_letter, is_mark, is_open, is_start, is_white, is_word,
@@ -23,9 +23,9 @@ pub(crate) struct Cut {
 }
 
 /// A literal of so many bytes, with its suffix.
-fn suffixed(kind: LiteralKind, len: usize, z: &[u8]) -> Cut
+fn with_suffix(kind: LiteralKind, len: usize, z: &[u8]) -> Cut
     requires { len ≤ length z.now }
-    ensures value { result ≡ spec.suffixed kind len z.now }
+    ensures value { result ≡ spec.with_suffix kind len z.now }
     ensures within { result.len ≤ length z.now }
 {
     let behind = &z[len..];
@@ -41,13 +41,13 @@ fn suffixed(kind: LiteralKind, len: usize, z: &[u8]) -> Cut
 }
 
 /// A quoted literal, which has a suffix where it is closed.
-fn quoted(kind: LiteralKind, extent: Extent, z: &[u8]) -> Cut
+fn quoted_literal(kind: LiteralKind, extent: Extent, z: &[u8]) -> Cut
     requires { extent.len ≤ length z.now }
-    ensures value { result ≡ spec.quoted kind extent z.now }
+    ensures value { result ≡ spec.quoted_literal kind extent z.now }
     ensures within { result.len ≤ length z.now }
 {
     if extent.is_closed {
-        suffixed(kind, extent.len, z)
+        with_suffix(kind, extent.len, z)
     } else {
         Cut {
             kind: TokenKind::Literal(kind),
@@ -58,7 +58,7 @@ fn quoted(kind: LiteralKind, extent: Extent, z: &[u8]) -> Cut
 
 /// An identifier or a keyword.
 fn plain(z: &[u8]) -> Cut
-    ensures value { result ≡ spec.plain z.now }
+    ensures value { result ≡ spec.plain_word z.now }
     ensures within { result.len ≤ length z.now }
 {
     Cut {
@@ -87,7 +87,7 @@ fn r_word(z: &[u8]) -> Cut
     ensures within { result.len ≤ length z.now }
 {
     match raw_string(0, z) {
-        Some(extent) => quoted(LiteralKind::RawStr, extent, z),
+        Some(extent) => quoted_literal(LiteralKind::RawStr, extent, z),
         None => raw_identifier(z),
     }
 }
@@ -99,7 +99,7 @@ fn prefixed_raw(kind: LiteralKind, z: &[u8]) -> Cut
 {
     match z {
         [b'r', rest @ ..] => match raw_string(1, rest) {
-            Some(extent) => quoted(kind, extent, z),
+            Some(extent) => quoted_literal(kind, extent, z),
             None => plain(z),
         },
         _ => plain(z),
@@ -112,8 +112,8 @@ fn b_word(z: &[u8]) -> Cut
     ensures within { result.len ≤ length z.now }
 {
     match z {
-        [b'"', rest @ ..] => quoted(LiteralKind::ByteStr, string(1, rest), z),
-        [b'\'', rest @ ..] => quoted(LiteralKind::Byte, character(1, rest), z),
+        [b'"', rest @ ..] => quoted_literal(LiteralKind::ByteStr, string(1, rest), z),
+        [b'\'', rest @ ..] => quoted_literal(LiteralKind::Byte, character(1, rest), z),
         _ => prefixed_raw(LiteralKind::RawByteStr, z),
     }
 }
@@ -124,7 +124,7 @@ fn c_word(z: &[u8]) -> Cut
     ensures within { result.len ≤ length z.now }
 {
     match z {
-        [b'"', rest @ ..] => quoted(LiteralKind::CStr, string(1, rest), z),
+        [b'"', rest @ ..] => quoted_literal(LiteralKind::CStr, string(1, rest), z),
         _ => prefixed_raw(LiteralKind::RawCStr, z),
     }
 }
@@ -207,7 +207,7 @@ fn apostrophe(z: &[u8]) -> Cut
     if is_word(z) && !is_one_char(z) {
         lifetime(z)
     } else {
-        quoted(LiteralKind::Char, character(0, z), z)
+        quoted_literal(LiteralKind::Char, character(0, z), z)
     }
 }
 
@@ -244,11 +244,11 @@ pub(crate) fn any_cut(first: u8, z: &[u8]) -> Cut
         }
     } else if first.is_ascii_digit() {
         let number = number(first, z);
-        suffixed(number.kind, number.len, z)
+        with_suffix(number.kind, number.len, z)
     } else if is_start(first, z) {
         word(first, z)
     } else if first == b'"' {
-        quoted(LiteralKind::Str, string(0, z), z)
+        quoted_literal(LiteralKind::Str, string(0, z), z)
     } else if first == b'\'' {
         apostrophe(z)
     } else {
@@ -265,7 +265,7 @@ pub(crate) fn mark_or_word(first: u8, z: &[u8]) -> Option<Cut>
     requires { IsUtf8 (first ∷ z.now) }
     ensures value { IfSome result (λ c. c ≡ spec.first_cut first z.now) }
     ensures within { IfSome result (λ c. c.len ≤ length z.now) }
-    ensures whole { IfSome result (λ c. bytes.run class.Continuation (drop c.len z.now) ≡ 0) }
+    ensures whole { IfSome result (λ c. bytes.run_length class.Continuation (drop c.len z.now) ≡ 0) }
     ensures significant { IfSome result (λ c. IsTrue (is_significant_kind c.kind)) }
 {
     if is_mark(first) {
@@ -286,7 +286,7 @@ pub(crate) fn frequent_cut(first: u8, z: &[u8]) -> Option<Cut>
     requires { IsUtf8 (first ∷ z.now) }
     ensures value { IfSome result (λ c. c ≡ spec.first_cut first z.now) }
     ensures within { IfSome result (λ c. c.len ≤ length z.now) }
-    ensures whole { IfSome result (λ c. bytes.run class.Continuation (drop c.len z.now) ≡ 0) }
+    ensures whole { IfSome result (λ c. bytes.run_length class.Continuation (drop c.len z.now) ≡ 0) }
 {
     if is_blank(first) {
         return Some(Cut {
@@ -300,7 +300,7 @@ pub(crate) fn frequent_cut(first: u8, z: &[u8]) -> Option<Cut>
 /// How many bytes belong to the token that begins with this byte, before these: of these alone.
 #[inline(always)]
 pub(crate) fn token_len(first: u8, z: &[u8]) -> usize
-    ensures value { result ≡ whole (spec.first_cut first z.now) z.now }
+    ensures value { result ≡ whole_length (spec.first_cut first z.now) z.now }
     ensures within { result ≤ length z.now }
 {
     if is_mark(first) {

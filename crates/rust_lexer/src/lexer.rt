@@ -125,7 +125,7 @@ impl<'a> Lexer<'a> {
         let Front::Token = self.front else {
             return None;
         };
-        let (token, rest) = frequent(self.at, self.rest)?;
+        let (token, rest) = frequent_token(self.at, self.rest)?;
         self.at += token.text().len();
         self.rest = rest;
         Some(token)
@@ -204,7 +204,7 @@ fn begins_front(first: u8) -> bool
 }
 
 /// What may stand in front of a text.
-#[tactic(auto, using(crate::proofs::Whole::bare_is), unfolding(crate::specs::Tokens::tokens))]
+#[tactic(auto, using(crate::proofs::WholeTexts::bare_is), unfolding(crate::specs::Tokens::tokens))]
 fn front_of(text: &str) -> Front
     ensures { spec.pieces result 0 text.now ≡ spec.tokens text.now }
 {
@@ -232,7 +232,7 @@ fn split(cut: Cut, at: usize, text: &str) -> (Token<'_>, &str)
 #[inline(always)]
 fn split_whole(cut: Cut, at: usize, text: &str) -> (Token<'_>, &str)
     requires within { cut.len < length text.now }
-    requires whole { bytes.run class.Continuation (drop (cut.len + 1) text.now) ≡ 0 }
+    requires whole { bytes.run_length class.Continuation (drop (cut.len + 1) text.now) ≡ 0 }
     requires fits { at + length text.now < 2 ^ 64 }
     ensures value { inner.split_of cut at text.now ≡ Some (result.0, result.1.now) }
     ensures utf8 { IsUtf8 result.1.now }
@@ -244,7 +244,7 @@ fn split_whole(cut: Cut, at: usize, text: &str) -> (Token<'_>, &str)
 
 /// The first token of a text that begins at this place, and the text behind it.
 #[inline(always)]
-fn first(at: usize, text: &str) -> Option<(Token<'_>, &str)>
+fn first_token(at: usize, text: &str) -> Option<(Token<'_>, &str)>
     requires { at + length text.now < 2 ^ 64 }
     ensures value { MatchOption result (spec.tokens_from 0 at text.now ≡ [])
         (λ p. spec.tokens_from 0 at text.now ≡ p.0 ∷ spec.tokens_from 0 (at + length p.0.text) p.1.now) }
@@ -286,7 +286,7 @@ fn first_white(at: usize, text: &str) -> Option<(Token<'_>, &str)>
 
 /// The mark or the word in front of a text, and the text behind it, if that is not empty.
 #[inline(always)]
-fn frequent(at: usize, text: &str) -> Option<(Token<'_>, &str)>
+fn frequent_token(at: usize, text: &str) -> Option<(Token<'_>, &str)>
     requires { at + length text.now < 2 ^ 64 }
     ensures value { IfSome result
         (λ p. spec.tokens_from 0 at text.now ≡ p.0
@@ -320,7 +320,7 @@ fn take<'a>(at: &mut usize, text: &mut &'a str) -> Option<Token<'a>>
     ensures fits { at.new + length text.new.now < 2 ^ 64 }
     ensures nothing { IfNone result ((at.new ≡ at.old) × (text.new.now ≡ text.old.now)) }
 {
-    let (token, rest) = first(*at, text)?;
+    let (token, rest) = first_token(*at, text)?;
     *at += token.text().len();
     *text = rest;
     Some(token)
@@ -333,7 +333,7 @@ fn is_bracket_next(at: usize, text: &str) -> bool
 {
     let mut at = at;
     let mut rest = text;
-    while let Some((token, behind)) = first(at, rest) {
+    while let Some((token, behind)) = first_token(at, rest) {
         if !token.is_blank() {
             return token.symbol() == b'[';
         }
@@ -348,7 +348,7 @@ fn is_shebang(at: usize, text: &str) -> bool
     requires { at + length text.now < 2 ^ 64 }
     ensures { result ≡ spec.is_shebang (spec.tokens_from 0 at text.now) }
 {
-    let Some((hash, rest)) = first(at, text) else {
+    let Some((hash, rest)) = first_token(at, text) else {
         return false;
     };
     if hash.symbol() != b'#' {
@@ -362,7 +362,7 @@ fn is_shebang_next(at: usize, text: &str) -> bool
     requires { at + length text.now < 2 ^ 64 }
     ensures { result ≡ spec.is_shebang_next (spec.tokens_from 0 at text.now) }
 {
-    let Some((bang, rest)) = first(at, text) else {
+    let Some((bang, rest)) = first_token(at, text) else {
         return false;
     };
     bang.symbol() == b'!' && !is_bracket_next(at + bang.text().len(), rest)
@@ -435,7 +435,7 @@ fn step_token(at: usize, text: &str) -> Option<(Token<'_>, Lexer<'_>)>
     ensures { MatchOption result (spec.tokens_from 0 at text.now ≡ [])
         (λ p. spec.tokens_from 0 at text.now ≡ p.0 ∷ p.1) }
 {
-    let (token, rest) = first(at, text)?;
+    let (token, rest) = first_token(at, text)?;
     let at = at + token.text().len();
     let front = Front::Token;
     Some((token, Lexer { rest, at, front }))

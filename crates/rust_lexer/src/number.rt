@@ -101,9 +101,9 @@ fn past_digits(z: &[u8], len: usize) -> Numeral
 }
 
 /// A number behind the letter of its base.
-fn based(digits: Class, z: &[u8]) -> Numeral
+fn based_number(digits: Class, z: &[u8]) -> Numeral
     requires { 0 < length z.now }
-    ensures value { result ≡ spec.based digits z.now }
+    ensures value { result ≡ spec.based_number digits z.now }
     ensures within { result.len ≤ length z.now }
 {
     let behind = &z[1..];
@@ -121,8 +121,8 @@ pub(crate) fn number(first: u8, z: &[u8]) -> Numeral
     ensures within { result.len ≤ length z.now }
 {
     match (first, byte(z, 0)) {
-        (b'0', b'x') => based(Class::Hexadecimal, z),
-        (b'0', b'b' | b'o') => based(Class::Decimal, z),
+        (b'0', b'x') => based_number(Class::Hexadecimal, z),
+        (b'0', b'b' | b'o') => based_number(Class::Decimal, z),
         _ => past_digits(z, run(Class::Decimal, z)),
     }
 }

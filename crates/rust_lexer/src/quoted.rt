@@ -12,8 +12,8 @@ pub(crate) struct Extent {
     pub is_closed: bool,
 }
 
-fn closed(len: usize) -> Extent
-    ensures { result ≡ spec.closed len }
+fn closed_extent(len: usize) -> Extent
+    ensures { result ≡ spec.closed_extent len }
 {
     Extent {
         len,
@@ -21,8 +21,8 @@ fn closed(len: usize) -> Extent
     }
 }
 
-fn unclosed(len: usize) -> Extent
-    ensures { result ≡ spec.unclosed len }
+fn unclosed_extent(len: usize) -> Extent
+    ensures { result ≡ spec.unclosed_extent len }
 {
     Extent {
         len,
@@ -40,13 +40,13 @@ pub(crate) fn string(start: usize, mut z: &[u8]) -> Extent
     let mut count = start;
     while let [b, rest @ ..] = z {
         if !is_escaped && *b == b'"' {
-            return closed(count + 1);
+            return closed_extent(count + 1);
         }
         is_escaped = !is_escaped && *b == b'\\';
         count += 1;
         z = rest;
     }
-    unclosed(count)
+    unclosed_extent(count)
 }
 
 /// Up to a `"` with so many `#` behind it, and with them.
@@ -58,12 +58,12 @@ fn raw(hashes: usize, start: usize, mut z: &[u8]) -> Extent
     let mut count = start;
     while let [b, rest @ ..] = z {
         if *b == b'"' && hashes <= run(Class::Hash, rest) {
-            return closed(count + 1 + hashes);
+            return closed_extent(count + 1 + hashes);
         }
         count += 1;
         z = rest;
     }
-    unclosed(count)
+    unclosed_extent(count)
 }
 
 /// A raw string from its `#` on and `start` bytes before, or `None` where no quote stands behind them.
@@ -90,16 +90,16 @@ fn single(start: usize, mut z: &[u8]) -> Extent
     let mut count = start;
     while let [b, rest @ ..] = z {
         if !is_escaped && *b == b'\'' {
-            return closed(count + 1);
+            return closed_extent(count + 1);
         }
         if !is_escaped && ends_single(*b, byte(rest, 0)) {
-            return unclosed(count);
+            return unclosed_extent(count);
         }
         is_escaped = !is_escaped && *b == b'\\';
         count += 1;
         z = rest;
     }
-    unclosed(count)
+    unclosed_extent(count)
 }
 
 fn ends_single(b: u8, next: u8) -> bool
@@ -131,7 +131,7 @@ pub(crate) fn character(start: usize, z: &[u8]) -> Extent
     ensures within { result.len ≤ start + length z.now }
 {
     if is_one_char(z) {
-        closed(start + char_len(z) + 1)
+        closed_extent(start + char_len(z) + 1)
     } else {
         single(start, z)
     }

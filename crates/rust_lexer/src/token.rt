@@ -155,7 +155,7 @@ impl<'a> Token<'a> {
         ensures { result ≡ spec.is_terminated self.now }
     {
         match self.kind {
-            TokenKind::BlockComment(_) => block(0, behind(self.text, 2)).is_closed,
+            TokenKind::BlockComment(_) => block(0, bytes_behind(self.text, 2)).is_closed,
             TokenKind::Literal(kind) => is_literal_closed(kind, self.text),
             _ => true,
         }
@@ -163,7 +163,7 @@ impl<'a> Token<'a> {
 }
 
 /// The bytes of a text behind so many.
-fn behind(text: &str, count: usize) -> &[u8]
+fn bytes_behind(text: &str, count: usize) -> &[u8]
     ensures { result.now ≡ drop count text.now }
 {
     let bytes = text.as_bytes();
@@ -180,12 +180,12 @@ fn is_literal_closed(kind: LiteralKind, text: &str) -> bool
 {
     match kind {
         LiteralKind::Int | LiteralKind::Float => true,
-        LiteralKind::Char => character(0, behind(text, 1)).is_closed,
-        LiteralKind::Byte => character(0, behind(text, 2)).is_closed,
-        LiteralKind::Str => string(0, behind(text, 1)).is_closed,
-        LiteralKind::ByteStr | LiteralKind::CStr => string(0, behind(text, 2)).is_closed,
-        LiteralKind::RawStr => is_raw_closed(behind(text, 1)),
-        LiteralKind::RawByteStr | LiteralKind::RawCStr => is_raw_closed(behind(text, 2)),
+        LiteralKind::Char => character(0, bytes_behind(text, 1)).is_closed,
+        LiteralKind::Byte => character(0, bytes_behind(text, 2)).is_closed,
+        LiteralKind::Str => string(0, bytes_behind(text, 1)).is_closed,
+        LiteralKind::ByteStr | LiteralKind::CStr => string(0, bytes_behind(text, 2)).is_closed,
+        LiteralKind::RawStr => is_raw_closed(bytes_behind(text, 1)),
+        LiteralKind::RawByteStr | LiteralKind::RawCStr => is_raw_closed(bytes_behind(text, 2)),
     }
 }
 

@@ -26,7 +26,7 @@ fn plain(v: u8x16) -> u64
 /// The same of a word that is long, ends near the end of a text, or is not of ASCII alone.
 #[inline(never)]
 fn any_words(z: &[u8]) -> usize
-    ensures value { result ≡ spec.run class.Word z.now }
+    ensures value { result ≡ spec.run_length class.Word z.now }
     ensures within { result ≤ length z.now }
 {
     run_by_bytes(Class::Word, z)
@@ -35,7 +35,7 @@ fn any_words(z: &[u8]) -> usize
 /// How many bytes at the front go on with an identifier.
 #[inline(always)]
 pub(crate) fn words(z: &[u8]) -> usize
-    ensures value { result ≡ spec.run class.Word z.now }
+    ensures value { result ≡ spec.run_length class.Word z.now }
     ensures within { result ≤ length z.now }
 {
     if LANES <= z.len() {

@@ -2,13 +2,13 @@
 use Rattle.std.proofs.Common.{◌≡◌, refl, ◌∙◌, ap, sym, ℕ, suc, ◌+◌, true, false, List, [], ◌∷◌, ◌++◌, length, map, arith, append_assoc, length-append, slice_index}
 use Rattle.std.proofs.lemmas.Bool.Decides.{nat_tests}
 use Rattle.std.specs.List.{list_all}
-use Rattle.rust_lexer.specs.Alone.{EndsAlone, Stop, moved, stop}
+use Rattle.rust_lexer.specs.Alone.{EndsAlone, Stop, moved_piece, stop}
 use Rattle.rust_lexer.specs.Bytes.{is_continuation}
 use Rattle.rust_lexer.specs.Inner.{begins_front, is_blank_byte}
 use Rattle.rust_lexer.specs.Tokens.{tokens, tokens_from}
-use Rattle.rust_lexer.proofs.Apart.{tokens_first, tokens_moved}
+use Rattle.rust_lexer.proofs.TextsApart.{tokens_first, tokens_moved}
 use Rattle.rust_lexer.proofs.Cases.{when}
-use Rattle.rust_lexer.proofs.Whole.{bare_is}
+use Rattle.rust_lexer.proofs.WholeTexts.{bare_is}
 use Rattle.rust_mended.specs.Apart.{StandApart}
 use Rattle.rust_mended.specs.Texts.{is_matched, mended_text}
 use Rattle.rust_mended.proofs.Joins.{matched_text}
@@ -18,7 +18,7 @@ blanks_uncut : (z s : List ℕ) → list_all is_blank_byte z ≡ true → is_con
 blanks_uncut [] s h = refl
 blanks_uncut (b ∷ z) s h = when (is_blank_byte b) (λ e. grind (arith, nat_tests)) (λ e. absurd cc)
 
-moved_first : (d : ℕ) (y : List ℕ) → tokens_from 0 d y ≡ map (moved d) (tokens_from 0 0 y)
+moved_first : (d : ℕ) (y : List ℕ) → tokens_from 0 d y ≡ map (moved_piece d) (tokens_from 0 0 y)
 moved_first d y = let on : d ≡ 0 + d = omega arith in ap (λ k. tokens_from 0 k y) on ∙ tokens_moved d 0 0 y
 
 pub apart_at_stop : (w : List ℕ) (o : Stop) (z s : List ℕ) → EndsAlone w o → list_all is_blank_byte z ≡ true

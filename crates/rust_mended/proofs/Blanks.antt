@@ -8,9 +8,9 @@ use Rattle.rust_lexer.specs.Bytes.{is_continuation, is_white}
 use Rattle.rust_lexer.specs.Cut.{cut, first_cut}
 use Rattle.rust_lexer.specs.Inner.{is_blank_byte}
 use Rattle.rust_lexer.specs.Piece.{Piece}
-use Rattle.rust_lexer.specs.Tokens.{piece, tokens_from, whole}
+use Rattle.rust_lexer.specs.Tokens.{piece, tokens_from, whole_length}
 use Rattle.rust_lexer.proofs.Cases.{when}
-use Rattle.rust_lexer.proofs.Wholes.{white_whole}
+use Rattle.rust_lexer.proofs.WholeTokens.{white_whole}
 use Rattle.rust_mended.specs.declared.line.Line.{Line}
 use Rattle.rust_mended.specs.Marks.{blank_behind, blanks_behind, line_behind_all, marks_from, with_behind}
 
@@ -76,7 +76,7 @@ white_cut : (b : ℕ) (y : List ℕ) → is_white b y ≡ true → first_cut b y
 unfolding first_cut
 white_cut b y e = rw e refl
 
-white_len : (y : List ℕ) → whole (cut kind.Whitespace (whites y)) y ≡ whites y
+white_len : (y : List ℕ) → whole_length (cut kind.Whitespace (whites y)) y ≡ whites y
 unfolding first_cut
 white_len y = let none = white_whole (whites y) y refl in omega (arith, none)
 
@@ -85,7 +85,7 @@ white_piece n at b y = record { kind = kind.Whitespace; text = b ∷ take n y; a
 
 white_first : (at b : ℕ) (y : List ℕ) → is_white b y ≡ true → tokens_from 0 at (b ∷ y) ≡ white_piece (whites y) at b y ∷ tokens_from (whites y) (suc at) y
 white_first at b y e =
-    ap (λ c. piece c at b y ∷ tokens_from (whole c y) (suc at) y) (white_cut b y e)
+    ap (λ c. piece c at b y ∷ tokens_from (whole_length c y) (suc at) y) (white_cut b y e)
     ∙ ap (λ n. white_piece n at b y ∷ tokens_from n (suc at) y) (white_len y)
 
 -- the bytes of a token are passed

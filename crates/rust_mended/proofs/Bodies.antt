@@ -5,12 +5,12 @@ use Rattle.std.proofs.lemmas.Bool.Decides.{nat_tests}
 use Rattle.std.proofs.lemmas.List.Elements.{All-cons, All-nil}
 use Rattle.std.specs.List.{AllByRecursion}
 use Rattle.rust_lexer.specs.declared.kind.TokenKind.TheVariants as kind
-use Rattle.rust_lexer.specs.Alone.{StandsAlone, braces_from, moved, tokens_in_front}
+use Rattle.rust_lexer.specs.Alone.{StandsAlone, braces_from, moved_piece, tokens_in_front}
 use Rattle.rust_lexer.specs.Bytes.{is_wide_start}
 use Rattle.rust_lexer.specs.Cut.{first_cut}
 use Rattle.rust_lexer.specs.Piece.{Piece}
 use Rattle.rust_lexer.specs.Symbol.{symbol_of}
-use Rattle.rust_lexer.specs.Tokens.{AreInPlace, piece, tokens, tokens_from, whole}
+use Rattle.rust_lexer.specs.Tokens.{AreInPlace, piece, tokens, tokens_from, whole_length}
 use Rattle.rust_lexer.proofs.Cases.{when}
 use Rattle.rust_lexer.proofs.Laws.{AreSome, tokens_not_empty, tokens_placed}
 use Rattle.rust_mended.specs.declared.bracket.Bracket.TheVariants as bracket
@@ -18,8 +18,8 @@ use Rattle.rust_mended.specs.declared.line.Line.{Line}
 use Rattle.rust_mended.specs.declared.mark.Mark.{Mark}
 use Rattle.rust_mended.specs.declared.mark.MarkKind.{MarkKind}
 use Rattle.rust_mended.specs.declared.mark.MarkKind.TheVariants as mark
-use Rattle.rust_mended.specs.Inside.{BracesMatch, BracesMatchBy, NoneAt, before_opener, braced, closer_line, opener, opener_line}
-use Rattle.rust_mended.specs.Marks.{and_marks, bracket_of, is_closing_symbol, is_opening_symbol, last, line_behind, line_behind_all, mark_kind_of, mark_of, marks, marks_from, may_begin_item, text_begin}
+use Rattle.rust_mended.specs.Inside.{BracesMatch, BracesMatchBy, NoneAt, before_opener, text_in_braces, closer_line, opener, opener_line}
+use Rattle.rust_mended.specs.Marks.{and_marks, bracket_of, is_closing_symbol, is_opening_symbol, last_end, line_behind, line_behind_all, mark_kind_of, mark_of, marks, marks_from, may_begin_item, text_begin}
 use Rattle.rust_mended.proofs.Places.{TokensFit, behind_fits, some_first, some_rest}
 use Rattle.rust_mended.proofs.Seam.{line_by_places, lines_join, lines_on, mark_by_places, marks_join, marks_on}
 
@@ -31,10 +31,10 @@ some_parts (t ∷ ts) us s =
     let two = some_parts ts us (some_rest t (ts ++ us) s) in
     (All-cons (λ t. 0 < length t.text) t ts (some_first t (ts ++ us) s) two.0, two.1)
 
-pub some_unmoved : (d : ℕ) (ts : List Piece) → AreSome (map (moved d) ts) → AreSome ts
+pub some_unmoved : (d : ℕ) (ts : List Piece) → AreSome (map (moved_piece d) ts) → AreSome ts
 some_unmoved d [] s = All-nil (λ t. 0 < length t.text)
 some_unmoved d (t ∷ ts) s =
-    All-cons (λ t. 0 < length t.text) t ts (some_first (moved d t) (map (moved d) ts) s) (some_unmoved d ts (some_rest (moved d t) (map (moved d) ts) s))
+    All-cons (λ t. 0 < length t.text) t ts (some_first (moved_piece d t) (map (moved_piece d) ts) s) (some_unmoved d ts (some_rest (moved_piece d t) (map (moved_piece d) ts) s))
 
 -- behind these tokens
 abbrev pub end_of : ℕ → List Piece → ℕ
@@ -45,25 +45,25 @@ pub place_parts : (at : ℕ) (ts us : List Piece) → AreInPlace at (ts ++ us) �
 place_parts at [] us h = (tt, h)
 place_parts at (t ∷ ts) us h = let two = place_parts (at + length t.text) ts us h.1 in ((h.0, two.0), two.1)
 
-pub place_unmoved : (at d : ℕ) (ts : List Piece) → AreInPlace (at + d) (map (moved d) ts) → AreInPlace at ts
+pub place_unmoved : (at d : ℕ) (ts : List Piece) → AreInPlace (at + d) (map (moved_piece d) ts) → AreInPlace at ts
 place_unmoved at d [] h = tt
 place_unmoved at d (t ∷ ts) h =
     let e : t.at + d ≡ at + d = h.0 in
     let next : at + d + length t.text ≡ at + length t.text + d = omega arith in
-    (omega (arith, e), place_unmoved (at + length t.text) d ts (subst (λ n. AreInPlace n (map (moved d) ts)) next h.1))
+    (omega (arith, e), place_unmoved (at + length t.text) d ts (subst (λ n. AreInPlace n (map (moved_piece d) ts)) next h.1))
 
-pub place_moved : (at d : ℕ) (ts : List Piece) → AreInPlace at ts → AreInPlace (at + d) (map (moved d) ts)
+pub place_moved : (at d : ℕ) (ts : List Piece) → AreInPlace at ts → AreInPlace (at + d) (map (moved_piece d) ts)
 place_moved at d [] h = tt
 place_moved at d (t ∷ ts) h =
     let e : t.at ≡ at = h.0 in
     let next : at + length t.text + d ≡ at + d + length t.text = omega arith in
-    (omega (arith, e), subst (λ n. AreInPlace n (map (moved d) ts)) next (place_moved (at + length t.text) d ts h.1))
+    (omega (arith, e), subst (λ n. AreInPlace n (map (moved_piece d) ts)) next (place_moved (at + length t.text) d ts h.1))
 
-pub end_moved : (at d : ℕ) (ts : List Piece) → end_of (at + d) (map (moved d) ts) ≡ end_of at ts + d
+pub end_moved : (at d : ℕ) (ts : List Piece) → end_of (at + d) (map (moved_piece d) ts) ≡ end_of at ts + d
 end_moved at d [] = refl
 end_moved at d (t ∷ ts) =
     let next : at + d + length t.text ≡ at + length t.text + d = omega arith in
-    ap (λ n. end_of n (map (moved d) ts)) next ∙ end_moved (at + length t.text) d ts
+    ap (λ n. end_of n (map (moved_piece d) ts)) next ∙ end_moved (at + length t.text) d ts
 
 end_from : (at : ℕ) (ts : List Piece) → at ≤ end_of at ts
 end_from at [] = omega arith
@@ -115,23 +115,23 @@ close_match l t ms n e h = rw e h
 symbol_is : (c k : ℕ) → (c == k) ≡ true → c ≡ k
 symbol_is c k e = grind (arith, nat_tests)
 
-pub braces_match : (d : ℕ) (l : Line) (ts : List Piece) (n : ℕ) → braces_from n ts ≡ Some zero → BracesMatch (marks_from l (map (moved d) ts)) n
+pub braces_match : (d : ℕ) (l : Line) (ts : List Piece) (n : ℕ) → braces_from n ts ≡ Some zero → BracesMatch (marks_from l (map (moved_piece d) ts)) n
 braces_match d l [] n e = cc
 braces_match d l (t ∷ ts) n e =
-    let m : Line = line_behind l (moved d t) in
+    let m : Line = line_behind l (moved_piece d t) in
     when (symbol_of t == 123)
-    (λ a. open_match l (moved d t) (marks_from m (map (moved d) ts)) n (symbol_is (symbol_of t) 123 a) (braces_match d m ts (suc n) (rw a at e)))
+    (λ a. open_match l (moved_piece d t) (marks_from m (map (moved_piece d) ts)) n (symbol_is (symbol_of t) 123 a) (braces_match d m ts (suc n) (rw a at e)))
     (λ a. when (symbol_of t == 125)
     (λ b. closing (symbol_is (symbol_of t) 125 b) n (rw (a, b) at e) (λ k. braces_match d m ts k))
-    (λ b. other_match l (moved d t) (marks_from m (map (moved d) ts)) n (is_opening_symbol (symbol_of t)) (is_closing_symbol (symbol_of t)) (l.is_first && may_begin_item t.kind (symbol_of t)) a b (braces_match d m ts n (rw (a, b) at e))))
+    (λ b. other_match l (moved_piece d t) (marks_from m (map (moved_piece d) ts)) n (is_opening_symbol (symbol_of t)) (is_closing_symbol (symbol_of t)) (l.is_first && may_begin_item t.kind (symbol_of t)) a b (braces_match d m ts n (rw (a, b) at e))))
   where
-    closing : symbol_of t ≡ 125 → (n : ℕ) → (if n == 0 then None else braces_from (n - 1) ts) ≡ Some zero → ((k : ℕ) → braces_from k ts ≡ Some zero → BracesMatch (marks_from (line_behind l (moved d t)) (map (moved d) ts)) k)
-        → BracesMatch (marks_from l (map (moved d) (t ∷ ts))) n
+    closing : symbol_of t ≡ 125 → (n : ℕ) → (if n == 0 then None else braces_from (n - 1) ts) ≡ Some zero → ((k : ℕ) → braces_from k ts ≡ Some zero → BracesMatch (marks_from (line_behind l (moved_piece d t)) (map (moved_piece d) ts)) k)
+        → BracesMatch (marks_from l (map (moved_piece d) (t ∷ ts))) n
     closing c zero e h = absurd cc
     closing c (suc n) e h =
         let same : suc n - 1 ≡ n = omega arith in
         let some : (suc n == 0) ≡ false = ne_eqb (suc n) 0 (omega arith) in
-        close_match l (moved d t) (marks_from (line_behind l (moved d t)) (map (moved d) ts)) n c (h n (rw (some, same) at e))
+        close_match l (moved_piece d t) (marks_from (line_behind l (moved_piece d t)) (map (moved_piece d) ts)) n c (h n (rw (some, same) at e))
 
 -- ---- the whole
 
@@ -143,20 +143,20 @@ abbrev pub closer : List ℕ → Piece
 closer s = piece (first_cut 125 s) 0 125 s
 
 abbrev pub behind_tokens : List ℕ → List Piece
-behind_tokens s = tokens_from (whole (first_cut 125 s) s) 1 s
+behind_tokens s = tokens_from (whole_length (first_cut 125 s) s) 1 s
 
 closer_kind : (s : List ℕ) → (first_cut 125 s).kind ≡ kind.CloseDelim
 unfolding first_cut is_wide_start
 closer_kind s = refl
 
-closer_mark : (l : Line) (d : ℕ) (s : List ℕ) (ms : List Mark) → and_marks (mark_kind_of l (moved d (closer s))) l (moved d (closer s)) ms ≡ mark_of (mark.Close bracket.Brace) l (moved d (closer s)) ∷ ms
+closer_mark : (l : Line) (d : ℕ) (s : List ℕ) (ms : List Mark) → and_marks (mark_kind_of l (moved_piece d (closer s))) l (moved_piece d (closer s)) ms ≡ mark_of (mark.Close bracket.Brace) l (moved_piece d (closer s)) ∷ ms
 closer_mark l d s ms = rw (closer_kind s) refl
 
 -- behind the `}` on a line of this indentation
 abbrev pub closed_line : ℕ → List ℕ → Line
 closed_line indent s = record { indent = indent; is_first = false; behind = length (closer s).text }
 
-closer_passed : (l : Line) (d : ℕ) (s : List ℕ) → line_behind l (moved d (closer s)) ≡ line_by_places 0 d (closed_line l.indent s)
+closer_passed : (l : Line) (d : ℕ) (s : List ℕ) → line_behind l (moved_piece d (closer s)) ≡ line_by_places 0 d (closed_line l.indent s)
 closer_passed l d s =
     let n = length (closer s).text in
     let other : (n == 0) ≡ false = ne_eqb n 0 (omega arith) in
@@ -174,7 +174,7 @@ inner_line q = record { indent = (opener_line q).indent; is_first = false; behin
 abbrev pub inner_marks : List ℕ → List ℕ → List Mark
 inner_marks q m = marks_from (inner_line q) (inner_tokens m)
 
-module _ (q m s : List ℕ) (is : tokens (braced q m s) ≡ before_opener q ++ (opener q ∷ (map (moved (suc (length q))) (inner_tokens m) ++ map (moved (suc (length q) + length m)) (tokens_from 0 0 (125 ∷ s))))) where
+module _ (q m s : List ℕ) (is : tokens (text_in_braces q m s) ≡ before_opener q ++ (opener q ∷ (map (moved_piece (suc (length q))) (inner_tokens m) ++ map (moved_piece (suc (length q) + length m)) (tokens_from 0 0 (125 ∷ s))))) where
   abbrev by : ℕ
   by = suc (length q)
 
@@ -182,40 +182,40 @@ module _ (q m s : List ℕ) (is : tokens (braced q m s) ≡ before_opener q ++ (
   far = suc (length q) + length m
 
   abbrev inside : List Piece
-  inside = map (moved by) (inner_tokens m)
+  inside = map (moved_piece by) (inner_tokens m)
 
   abbrev rest : List Piece
-  rest = map (moved far) (behind_tokens s)
+  rest = map (moved_piece far) (behind_tokens s)
 
   abbrev pub opener_mark : Mark
   opener_mark = mark_of (mark.Open bracket.Brace) (opener_line q) (opener q)
 
   abbrev pub its_mark : Mark
-  its_mark = mark_of (mark.Close bracket.Brace) (closer_line q m) (moved far (closer s))
+  its_mark = mark_of (mark.Close bracket.Brace) (closer_line q m) (moved_piece far (closer s))
 
   abbrev pub front_marks : List Mark
   front_marks = marks_from text_begin (before_opener q)
 
-  all_some : AreSome (before_opener q ++ (opener q ∷ (inside ++ (moved far (closer s) ∷ rest))))
-  all_some = subst AreSome is (tokens_not_empty (braced q m s))
+  all_some : AreSome (before_opener q ++ (opener q ∷ (inside ++ (moved_piece far (closer s) ∷ rest))))
+  all_some = subst AreSome is (tokens_not_empty (text_in_braces q m s))
 
-  all_placed : AreInPlace 0 (before_opener q ++ (opener q ∷ (inside ++ (moved far (closer s) ∷ rest))))
-  all_placed = subst (AreInPlace 0) is (tokens_placed (braced q m s))
+  all_placed : AreInPlace 0 (before_opener q ++ (opener q ∷ (inside ++ (moved_piece far (closer s) ∷ rest))))
+  all_placed = subst (AreInPlace 0) is (tokens_placed (text_in_braces q m s))
 
   front_some : AreSome (before_opener q)
-  front_some = (some_parts (before_opener q) (opener q ∷ (inside ++ (moved far (closer s) ∷ rest))) all_some).0
+  front_some = (some_parts (before_opener q) (opener q ∷ (inside ++ (moved_piece far (closer s) ∷ rest))) all_some).0
 
-  behind_some : AreSome (inside ++ (moved far (closer s) ∷ rest))
-  behind_some = some_rest (opener q) (inside ++ (moved far (closer s) ∷ rest)) (some_parts (before_opener q) (opener q ∷ (inside ++ (moved far (closer s) ∷ rest))) all_some).1
+  behind_some : AreSome (inside ++ (moved_piece far (closer s) ∷ rest))
+  behind_some = some_rest (opener q) (inside ++ (moved_piece far (closer s) ∷ rest)) (some_parts (before_opener q) (opener q ∷ (inside ++ (moved_piece far (closer s) ∷ rest))) all_some).1
 
   pub inner_some : AreSome (inner_tokens m)
-  inner_some = some_unmoved by (inner_tokens m) (some_parts inside (moved far (closer s) ∷ rest) behind_some).0
+  inner_some = some_unmoved by (inner_tokens m) (some_parts inside (moved_piece far (closer s) ∷ rest) behind_some).0
 
   pub rest_some : AreSome (behind_tokens s)
-  rest_some = some_unmoved far (behind_tokens s) (some_rest (moved far (closer s)) rest (some_parts inside (moved far (closer s) ∷ rest) behind_some).1)
+  rest_some = some_unmoved far (behind_tokens s) (some_rest (moved_piece far (closer s)) rest (some_parts inside (moved_piece far (closer s) ∷ rest) behind_some).1)
 
-  front_placed : AreInPlace 0 (before_opener q) × AreInPlace (end_of 0 (before_opener q)) (opener q ∷ (inside ++ (moved far (closer s) ∷ rest)))
-  front_placed = place_parts 0 (before_opener q) (opener q ∷ (inside ++ (moved far (closer s) ∷ rest))) all_placed
+  front_placed : AreInPlace 0 (before_opener q) × AreInPlace (end_of 0 (before_opener q)) (opener q ∷ (inside ++ (moved_piece far (closer s) ∷ rest)))
+  front_placed = place_parts 0 (before_opener q) (opener q ∷ (inside ++ (moved_piece far (closer s) ∷ rest))) all_placed
 
   front_end : end_of 0 (before_opener q) ≡ length q
   front_end = sym front_placed.1.0
@@ -223,8 +223,8 @@ module _ (q m s : List ℕ) (is : tokens (braced q m s) ≡ before_opener q ++ (
   next : end_of 0 (before_opener q) + 1 ≡ 0 + by
   next = omega (arith, front_end)
 
-  behind_placed : AreInPlace (0 + by) inside × AreInPlace (end_of (0 + by) inside) (moved far (closer s) ∷ rest)
-  behind_placed = place_parts (0 + by) inside (moved far (closer s) ∷ rest) (subst (λ n. AreInPlace n (inside ++ (moved far (closer s) ∷ rest))) next front_placed.1.1)
+  behind_placed : AreInPlace (0 + by) inside × AreInPlace (end_of (0 + by) inside) (moved_piece far (closer s) ∷ rest)
+  behind_placed = place_parts (0 + by) inside (moved_piece far (closer s) ∷ rest) (subst (λ n. AreInPlace n (inside ++ (moved_piece far (closer s) ∷ rest))) next front_placed.1.1)
 
   inner_end : end_of 0 (inner_tokens m) ≡ length m
   inner_end =
@@ -270,37 +270,37 @@ module _ (q m s : List ℕ) (is : tokens (braced q m s) ≡ before_opener q ++ (
   inside_line : line_behind_all (line_behind (opener_line q) (opener q)) inside ≡ closer_line q m
   inside_line = sym (lines_join text_begin (before_opener q) (opener q ∷ inside))
 
-  rest_marks : marks_from (line_behind (closer_line q m) (moved far (closer s))) rest ≡ map (mark_by_places 0 far) (behind_marks (closer_line q m).indent s)
+  rest_marks : marks_from (line_behind (closer_line q m) (moved_piece far (closer s))) rest ≡ map (mark_by_places 0 far) (behind_marks (closer_line q m).indent s)
   rest_marks = ap (λ l. marks_from l rest) (closer_passed (closer_line q m) far s) ∙ marks_on 0 far (closed_line (closer_line q m).indent s) (behind_tokens s) rest_some
 
-  pub body_marks : marks (braced q m s) ≡ front_marks ++ (opener_mark ∷ (map (mark_by_places by by) (inner_marks q m) ++ (its_mark ∷ map (mark_by_places 0 far) (behind_marks (closer_line q m).indent s))))
+  pub body_marks : marks (text_in_braces q m s) ≡ front_marks ++ (opener_mark ∷ (map (mark_by_places by by) (inner_marks q m) ++ (its_mark ∷ map (mark_by_places 0 far) (behind_marks (closer_line q m).indent s))))
   body_marks =
       let l : Line = line_behind (opener_line q) (opener q) in
       ap (marks_from text_begin) is
-      ∙ marks_join text_begin (before_opener q) (opener q ∷ (inside ++ (moved far (closer s) ∷ rest)))
+      ∙ marks_join text_begin (before_opener q) (opener q ∷ (inside ++ (moved_piece far (closer s) ∷ rest)))
       ∙ ap (λ ms. front_marks ++ (opener_mark ∷ ms))
-      (marks_join l inside (moved far (closer s) ∷ rest)
-      ∙ ap (λ ms. ms ++ marks_from (line_behind_all l inside) (moved far (closer s) ∷ rest)) inside_marks
+      (marks_join l inside (moved_piece far (closer s) ∷ rest)
+      ∙ ap (λ ms. ms ++ marks_from (line_behind_all l inside) (moved_piece far (closer s) ∷ rest)) inside_marks
       ∙ ap (λ ms. map (mark_by_places by by) (inner_marks q m) ++ ms)
-      (ap (λ k. marks_from k (moved far (closer s) ∷ rest)) inside_line
-      ∙ closer_mark (closer_line q m) far s (marks_from (line_behind (closer_line q m) (moved far (closer s))) rest)
+      (ap (λ k. marks_from k (moved_piece far (closer s) ∷ rest)) inside_line
+      ∙ closer_mark (closer_line q m) far s (marks_from (line_behind (closer_line q m) (moved_piece far (closer s))) rest)
       ∙ ap (λ ms. its_mark ∷ ms) rest_marks))
 
-  pub body_last : last (braced q m s) ≡ (line_by_places 0 far (line_behind_all (closed_line (closer_line q m).indent s) (behind_tokens s))).behind
+  pub body_last : last_end (text_in_braces q m s) ≡ (line_by_places 0 far (line_behind_all (closed_line (closer_line q m).indent s) (behind_tokens s))).behind
   body_last =
       let l : Line = line_behind (opener_line q) (opener q) in
       ap (λ (l : Line). l.behind)
       (ap (line_behind_all text_begin) is
-      ∙ lines_join text_begin (before_opener q) (opener q ∷ (inside ++ (moved far (closer s) ∷ rest)))
-      ∙ lines_join l inside (moved far (closer s) ∷ rest)
-      ∙ ap (λ k. line_behind_all k (moved far (closer s) ∷ rest)) inside_line
+      ∙ lines_join text_begin (before_opener q) (opener q ∷ (inside ++ (moved_piece far (closer s) ∷ rest)))
+      ∙ lines_join l inside (moved_piece far (closer s) ∷ rest)
+      ∙ ap (λ k. line_behind_all k (moved_piece far (closer s) ∷ rest)) inside_line
       ∙ ap (λ k. line_behind_all k rest) (closer_passed (closer_line q m) far s)
       ∙ lines_on 0 far (closed_line (closer_line q m).indent s) (behind_tokens s) rest_some)
 
   -- those in the braces stand before the `}`
   pub inside_apart : NoneAt its_mark.at (map (mark_by_places by by) (inner_marks q m))
   inside_apart =
-      let strict = within far (0 + by) inside behind_placed.0 (some_parts inside (moved far (closer s) ∷ rest) behind_some).0 (let e : 0 + far ≡ end_of (0 + by) inside = behind_placed.1.0 in omega (arith, e)) in
+      let strict = within far (0 + by) inside behind_placed.0 (some_parts inside (moved_piece far (closer s) ∷ rest) behind_some).0 (let e : 0 + far ≡ end_of (0 + by) inside = behind_placed.1.0 in omega (arith, e)) in
       subst (NoneAt its_mark.at) inside_marks (before_mark (line_behind (opener_line q) (opener q)) inside strict)
     where
       and_apart : (k : Option MarkKind) (l : Line) (t : Piece) (ms : List Mark) → nat_eq (0 + far) t.at ≡ false → NoneAt (0 + far) ms → NoneAt (0 + far) (and_marks k l t ms)

@@ -5,9 +5,9 @@ use Rattle.std.proofs.lemmas.Bool.Decides.{nat_tests}
 use Rattle.std.proofs.lemmas.Grind.{flat_map-append}
 use Rattle.std.proofs.lemmas.List.{append_cancel_left, map-append}
 use Rattle.std.specs.List.{AllByRecursion, flat_map}
-use Rattle.rust_lexer.specs.Alone.{StandsAlone, moved}
+use Rattle.rust_lexer.specs.Alone.{StandsAlone, moved_piece}
 use Rattle.rust_lexer.specs.Tokens.{tokens, tokens_from}
-use Rattle.rust_lexer.proofs.Apart.{apart}
+use Rattle.rust_lexer.proofs.TextsApart.{apart}
 use Rattle.rust_lexer.proofs.Cases.{when}
 use Rattle.rust_lexer.proofs.Laws.{AreSome}
 use Rattle.rust_lexer.specs.Piece.{Piece}
@@ -20,21 +20,21 @@ use Rattle.rust_mended.specs.declared.mark.Mark.{Mark}
 use Rattle.rust_mended.specs.declared.mark.MarkKind.{MarkKind}
 use Rattle.rust_mended.specs.declared.mark.MarkKind.TheVariants as mark
 use Rattle.rust_mended.specs.declared.mark.Opened.{Opened}
-use Rattle.rust_mended.specs.Inside.{AreMendedAround, KeepEachOther, MayStandIn, before_opener, braced, closer_line, is_further_out, open_behind, opener, opener_line, place_grown}
-use Rattle.rust_mended.specs.Marks.{last, line_behind_all, marks, marks_from, text_begin}
+use Rattle.rust_mended.specs.Inside.{AreMendedAround, KeepEachOther, MayStandIn, before_opener, text_in_braces, closer_line, is_further_out, open_behind, opener, opener_line, place_grown}
+use Rattle.rust_mended.specs.Marks.{last_end, line_behind_all, marks, marks_from, text_begin}
 use Rattle.rust_mended.specs.Mended.{all_written, closers_reaching, keeps, kept_if, written_from}
 use Rattle.rust_mended.specs.Steps.{EditsFit}
 use Rattle.rust_mended.specs.Texts.{edit_moved, edits, mended_text, mending_edit, past_by, past_edit, sign, with_edits}
 use Rattle.rust_mended.proofs.SpreadMarks.{Any, all_changed_written, changed, edits_stay, fits_any, front_changed, grown_high, grown_same, marks_stay, upto_fits, upto_told}
 use Rattle.rust_mended.proofs.Bodies as body
 use Rattle.rust_mended.proofs.Bodies.{behind_marks, behind_tokens, bounded, closed_line, closer, inner_line, inner_marks, inner_tokens, place_moved, some_unmoved}
-use Rattle.rust_mended.proofs.Further.{EndAt, IsSome, are_behind, reaching_on, same_on}
-use Rattle.rust_mended.proofs.Inside.{edits_inside, front_is, no_rest, upto}
+use Rattle.rust_mended.proofs.FurtherMarks.{EndAt, IsSome, are_behind, reaching_on, same_on}
+use Rattle.rust_mended.proofs.MarksInBraces.{edits_inside, front_is, no_rest, upto}
 use Rattle.rust_mended.proofs.Joins.{edits_both, edits_over_one, on}
 use Rattle.rust_mended.proofs.Order.{MarksFit, before_fits, edits_fit, written_from_fits}
 use Rattle.rust_mended.proofs.Places.{TokensFit, marks_from_fit, some_first, some_rest}
 use Rattle.rust_mended.proofs.Seam.{behind_by, line_by_places, lines_on, mark_by_places, marks_on}
-use Rattle.rust_mended.proofs.Told as told
+use Rattle.rust_mended.proofs.ToldBrackets as told
 
 -- ---- the brace keeps its `}`
 
@@ -145,9 +145,9 @@ module _ (q s : List ℕ) (indent : ℕ) where
       ap (flat_map mending_edit) (front_is (end + from) front behind [])
       ∙ flat_map-append mending_edit (upto front (closers_reaching behind) no_rest []) (written_from (end + from) behind (open_behind front (closers_reaching behind) []))
 
-  module _ (m : List ℕ) (is : tokens (braced q m s) ≡ before_opener q ++ (opener q ∷ (map (moved (suc (length q))) (inner_tokens m) ++ map (moved (suc (length q) + length m)) (tokens_from 0 0 (125 ∷ s))))) (alone : StandsAlone m) (same : (closer_line q m).indent ≡ indent) (near : is_further_out (closer_line q m) (opener_line q) ≡ false) where
+  module _ (m : List ℕ) (is : tokens (text_in_braces q m s) ≡ before_opener q ++ (opener q ∷ (map (moved_piece (suc (length q))) (inner_tokens m) ++ map (moved_piece (suc (length q) + length m)) (tokens_from 0 0 (125 ∷ s))))) (alone : StandsAlone m) (same : (closer_line q m).indent ≡ indent) (near : is_further_out (closer_line q m) (opener_line q) ≡ false) where
     abbrev text : List ℕ
-    text = braced q m s
+    text = text_in_braces q m s
 
     abbrev n : ℕ
     n = length m
@@ -229,16 +229,16 @@ module _ (q s : List ℕ) (indent : ℕ) where
         let l : Line = line_by_places 0 from (closed_line indent s) in
         let place : behind_by 0 from long ≡ long + from = by_some from long close_some in
         let last_is : behind_by 0 from end ≡ end + from = by_some from end end_some in
-        let lines : line_behind_all l (map (moved from) (behind_tokens s)) ≡ line_by_places 0 from (line_behind_all (closed_line indent s) (behind_tokens s)) = lines_on 0 from (closed_line indent s) (behind_tokens s) (body.rest_some q m s is) in
-        let at : (line_behind_all l (map (moved from) (behind_tokens s))).behind ≡ end + from = ap (λ (l : Line). l.behind) lines ∙ last_is in
+        let lines : line_behind_all l (map (moved_piece from) (behind_tokens s)) ≡ line_by_places 0 from (line_behind_all (closed_line indent s) (behind_tokens s)) = lines_on 0 from (closed_line indent s) (behind_tokens s) (body.rest_some q m s is) in
+        let at : (line_behind_all l (map (moved_piece from) (behind_tokens s))).behind ≡ end + from = ap (λ (l : Line). l.behind) lines ∙ last_is in
         let some = body.rest_some q m s is in
-        let fits : MarksFit Any (line_behind_all l (map (moved from) (behind_tokens s))).behind (suc from) (marks_from l (map (moved from) (behind_tokens s))) =
-        marks_from_fit Any l (long + from) (map (moved from) (behind_tokens s)) (omega (arith, place)) tt (place_moved long from (behind_tokens s) (body.rest_in_place q m s is)) (moved_any (behind_tokens s) some) (suc from) (omega (arith, place, close_some)) in
+        let fits : MarksFit Any (line_behind_all l (map (moved_piece from) (behind_tokens s))).behind (suc from) (marks_from l (map (moved_piece from) (behind_tokens s))) =
+        marks_from_fit Any l (long + from) (map (moved_piece from) (behind_tokens s)) (omega (arith, place)) tt (place_moved long from (behind_tokens s) (body.rest_in_place q m s is)) (moved_any (behind_tokens s) some) (suc from) (omega (arith, place, close_some)) in
         let there : MarksFit Any (end + from) (suc from) behind =
-        subst (λ ms. MarksFit Any (end + from) (suc from) ms) (marks_on 0 from (closed_line indent s) (behind_tokens s) some) (subst (λ k. MarksFit Any k (suc from) (marks_from l (map (moved from) (behind_tokens s)))) at fits) in
+        subst (λ ms. MarksFit Any (end + from) (suc from) ms) (marks_on 0 from (closed_line indent s) (behind_tokens s) some) (subst (λ k. MarksFit Any k (suc from) (marks_from l (map (moved_piece from) (behind_tokens s)))) at fits) in
         at_least Any (suc from) edits_after (written_from_fits Any (end + from) (suc from) behind there (open_behind front (closers_reaching behind) []))
       where
-        moved_any : (ts : List Piece) → AreSome ts → TokensFit Any (map (moved from) ts)
+        moved_any : (ts : List Piece) → AreSome ts → TokensFit Any (map (moved_piece from) ts)
         moved_any [] s = tt
         moved_any (t ∷ ts) s = ((tt, (tt, (some_first t ts s, λ _. tt))), moved_any ts (some_rest t ts s))
 
@@ -247,7 +247,7 @@ module _ (q s : List ℕ) (indent : ℕ) where
     marks_are : marks text ≡ front ++ (o ∷ (inside ++ (c ∷ far)))
     marks_are = body.body_marks q m s is ∙ ap (λ i. front ++ (o ∷ (inside ++ (c ∷ map (mark_by_places 0 (from + n)) (behind_marks i s))))) same
 
-    last_is : last text ≡ place_grown from n (end + from)
+    last_is : last_end text ≡ place_grown from n (end + from)
     last_is =
         body.body_last q m s is
         ∙ ap (λ i. behind_by 0 (from + n) (line_behind_all (closed_line i s) (behind_tokens s)).behind) same
@@ -272,7 +272,7 @@ module _ (q s : List ℕ) (indent : ℕ) where
     }
 
     abbrev edits_far : List Edit
-    edits_far = flat_map mending_edit (written_from (last text) far (open_behind front (closers_reaching far) []))
+    edits_far = flat_map mending_edit (written_from (last_end text) far (open_behind front (closers_reaching far) []))
 
     before_are : flat_map mending_edit (upto front (closers_reaching far) no_rest []) ≡ edits_before
     before_are =
@@ -280,7 +280,7 @@ module _ (q s : List ℕ) (indent : ℕ) where
         ∙ ap (λ ts. flat_map mending_edit (upto ts (map grow (closers_reaching behind)) no_rest [])) (sym front_is_still)
         ∙ front_changed (place_grown from n) (grown_same from n) front (closers_reaching behind) ∙ before_stay
 
-    both_are : flat_map mending_edit (all_written (last text) (front ++ far)) ≡ edits_before ++ map grow_edit edits_after
+    both_are : flat_map mending_edit (all_written (last_end text) (front ++ far)) ≡ edits_before ++ map grow_edit edits_after
     both_are =
         ap (λ k. flat_map mending_edit (all_written k (front ++ far))) last_is
         ∙ ap (λ ts. flat_map mending_edit (all_written (place_grown from n (end + from)) ts)) (ap (λ ts. ts ++ far) (sym front_is_still) ∙ ap (λ ts. map grow front ++ ts) (sym far_is) ∙ sym (map-append grow front behind))
@@ -291,9 +291,9 @@ module _ (q s : List ℕ) (indent : ℕ) where
 
     far_are : edits_far ≡ map grow_edit edits_after
     far_are =
-        let whole : flat_map mending_edit (all_written (last text) (front ++ far)) ≡ flat_map mending_edit (upto front (closers_reaching far) no_rest []) ++ edits_far =
-        ap (flat_map mending_edit) (front_is (last text) front far [])
-        ∙ flat_map-append mending_edit (upto front (closers_reaching far) no_rest []) (written_from (last text) far (open_behind front (closers_reaching far) [])) in
+        let whole : flat_map mending_edit (all_written (last_end text) (front ++ far)) ≡ flat_map mending_edit (upto front (closers_reaching far) no_rest []) ++ edits_far =
+        ap (flat_map mending_edit) (front_is (last_end text) front far [])
+        ∙ flat_map-append mending_edit (upto front (closers_reaching far) no_rest []) (written_from (last_end text) far (open_behind front (closers_reaching far) [])) in
         append_cancel_left edits_before edits_far (map grow_edit edits_after) (ap (λ es. es ++ edits_far) (sym before_are) ∙ sym whole ∙ both_are)
 
     inner_are : flat_map mending_edit (all_written c.behind inside) ≡ map (on from) edits_inner
@@ -306,8 +306,8 @@ module _ (q s : List ℕ) (indent : ℕ) where
     pub text_edits : edits text ≡ edits_before ++ (map (on from) edits_inner ++ map grow_edit edits_after)
     unfolding edits
     text_edits =
-        ap (λ ts. flat_map mending_edit (all_written (last text) ts)) marks_are
-        ∙ edits_inside (last text) front o inside c far keep
+        ap (λ ts. flat_map mending_edit (all_written (last_end text) ts)) marks_are
+        ∙ edits_inside (last_end text) front o inside c far keep
         ∙ ap (λ es. es ++ (flat_map mending_edit (all_written c.behind inside) ++ edits_far)) before_are
         ∙ ap (λ es. edits_before ++ (es ++ edits_far)) inner_are
         ∙ ap (λ es. edits_before ++ (map (on from) edits_inner ++ es)) far_are
@@ -334,7 +334,7 @@ module _ (q s : List ℕ) (indent : ℕ) where
         ∙ edits_over_one q 123 (m ++ 125 ∷ s) at behind_edits l
         ∙ ap (λ z. drop at q ++ 123 ∷ z) from_inside
 
-    pub text_is : mended_text text ≡ braced (with_edits q 0 edits_before) (with_edits m 0 edits_inner) (with_edits s 0 after)
+    pub text_is : mended_text text ≡ text_in_braces (with_edits q 0 edits_before) (with_edits m 0 edits_inner) (with_edits s 0 after)
     unfolding mended_text
     text_is =
         ap (with_edits text 0) text_edits

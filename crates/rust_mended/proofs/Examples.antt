@@ -6,7 +6,7 @@ use Rattle.rust_lexer.specs.Tokens.{tokens}
 use Rattle.rust_mended.specs.declared.bracket.Bracket.TheVariants as bracket
 use Rattle.rust_mended.specs.declared.edit.EditKind.TheVariants as edit
 use Rattle.rust_mended.specs.Apart.{StandApart, begin_with_item}
-use Rattle.rust_mended.specs.Inside.{MayStandIn, braced}
+use Rattle.rust_mended.specs.Inside.{MayStandIn, text_in_braces}
 use Rattle.rust_mended.specs.Marks.{marks}
 use Rattle.rust_mended.specs.Texts.{edits, mended_text}
 
@@ -49,6 +49,6 @@ typed = record {
   within = refl;
 }
 
-typed_text : mended_text (braced (91 ∷ []) (40 ∷ []) []) ≡ 91 ∷ 123 ∷ 40 ∷ 41 ∷ 125 ∷ 93 ∷ []
+typed_text : mended_text (text_in_braces (91 ∷ []) (40 ∷ []) []) ≡ 91 ∷ 123 ∷ 40 ∷ 41 ∷ 125 ∷ 93 ∷ []
 unfolding mended_text edits tokens first_cut is_wide_start is_wide_continue
 typed_text = refl

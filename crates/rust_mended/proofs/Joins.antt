@@ -14,15 +14,15 @@ use Rattle.rust_mended.specs.declared.mark.Mark.{Mark}
 use Rattle.rust_mended.specs.declared.mark.MarkKind.{MarkKind}
 use Rattle.rust_mended.specs.declared.mark.MarkKind.TheVariants as mark
 use Rattle.rust_mended.specs.Apart.{StandApart, begin_with_item, behind_further, edit_further, is_item_mark, mark_further, seam}
-use Rattle.rust_mended.specs.Marks.{last, marks, text_begin}
+use Rattle.rust_mended.specs.Marks.{last_end, marks, text_begin}
 use Rattle.rust_mended.specs.Mended.{all_written, closers_reaching}
 use Rattle.rust_mended.specs.Steps.{EditsFit}
 use Rattle.rust_mended.specs.Texts.{edit_moved, edits, is_matched, mended_text, mending_edit, past_by, past_edit, sign, with_edits}
-use Rattle.rust_mended.proofs.Behind.{written_behind}
-use Rattle.rust_mended.proofs.Further.{edits_further, reaching_on, same_on, behind_on, IsSome}
+use Rattle.rust_mended.proofs.ItemsAtLineStarts.{written_behind}
+use Rattle.rust_mended.proofs.FurtherMarks.{edits_further, reaching_on, same_on, behind_on, IsSome}
 use Rattle.rust_mended.proofs.Puts.{text_edits_fit}
 use Rattle.rust_mended.proofs.Seam.{all_last, all_marks}
-use Rattle.rust_mended.proofs.Whole.{edits_behind_matched, marks_match, text_edits, text_stays}
+use Rattle.rust_mended.proofs.MatchedMarks.{edits_behind_matched, marks_match, text_edits, text_stays}
 
 -- ---- edits of two texts
 
@@ -121,11 +121,11 @@ module _ (q z s : List ℕ) where
       ∙ edits_both (IsCharBoundary q) q (z ++ 10 ∷ s) (z ++ 10 ∷ with_edits s 0 (edits s)) (map (edit_further q z) (edits s)) (λ n h. h.0) (over (edits s)) 0 (edits q) (omega arith) h
 
   module _ (h : StandApart q z s) where
-    all_edits : edits all ≡ flat_map mending_edit (all_written (behind_further q z (last s)) (marks q ++ map (mark_further q z) (marks s)))
+    all_edits : edits all ≡ flat_map mending_edit (all_written (behind_further q z (last_end s)) (marks q ++ map (mark_further q z) (marks s)))
     unfolding edits
     all_edits =
         ap (λ n. flat_map mending_edit (all_written n (marks all))) (all_last q z s h)
-        ∙ ap (λ ms. flat_map mending_edit (all_written (behind_further q z (last s)) ms)) (all_marks q z s h)
+        ∙ ap (λ ms. flat_map mending_edit (all_written (behind_further q z (last_end s)) ms)) (all_marks q z s h)
 
     -- ---- behind a text whose brackets match
 
@@ -133,7 +133,7 @@ module _ (q z s : List ℕ) where
     unfolding is_matched
     matched_edits m =
         all_edits
-        ∙ edits_behind_matched (behind_further q z (last s)) (marks q) (map (mark_further q z) (marks s)) (marks_match text_begin (tokens q) [] ∙ m)
+        ∙ edits_behind_matched (behind_further q z (last_end s)) (marks q) (map (mark_further q z) (marks s)) (marks_match text_begin (tokens q) [] ∙ m)
         ∙ edits_further q z s
 
     pub matched_text : is_matched q ≡ true → mended_text all ≡ q ++ (z ++ 10 ∷ mended_text s)
@@ -161,22 +161,22 @@ module _ (q z s : List ℕ) where
     further_reaching ts = reaching_on (λ n. n + seam q z) (behind_further q z) IsSome (same_on (seam q z)) (behind_on q z) ts
 
     behind_item : (ts : List Mark) → begin_with_item ts ≡ true → closers_reaching ts ≡ []
-        → all_written (behind_further q z (last s)) (marks q ++ map (mark_further q z) ts) ≡ all_written (last q) (marks q) ++ all_written (behind_further q z (last s)) (map (mark_further q z) ts)
+        → all_written (behind_further q z (last_end s)) (marks q ++ map (mark_further q z) ts) ≡ all_written (last_end q) (marks q) ++ all_written (behind_further q z (last_end s)) (map (mark_further q z) ts)
     behind_item [] e r = absurd cc
     behind_item (t ∷ ts) e r =
         let i = item_of t ts e in
         let none : closers_reaching (map (mark_further q z) (t ∷ ts)) ≡ [] = further_reaching (t ∷ ts) ∙ ap (map (mark_further q z)) r in
-        let place : behind_further q z t.behind ≡ last q = ap (behind_further q z) i.1.1 in
-        written_behind (behind_further q z (last s)) (marks q) (mark_further q z t) (map (mark_further q z) ts) i.0 i.1.0 none
-        ∙ ap (λ n. all_written n (marks q) ++ all_written (behind_further q z (last s)) (map (mark_further q z) (t ∷ ts))) place
+        let place : behind_further q z t.behind ≡ last_end q = ap (behind_further q z) i.1.1 in
+        written_behind (behind_further q z (last_end s)) (marks q) (mark_further q z t) (map (mark_further q z) ts) i.0 i.1.0 none
+        ∙ ap (λ n. all_written n (marks q) ++ all_written (behind_further q z (last_end s)) (map (mark_further q z) (t ∷ ts))) place
 
     pub item_edits : begin_with_item (marks s) ≡ true → closers_reaching (marks s) ≡ [] → edits all ≡ edits q ++ map (edit_further q z) (edits s)
     unfolding edits
     item_edits e r =
         all_edits
         ∙ ap (flat_map mending_edit) (behind_item (marks s) e r)
-        ∙ flat_map-append mending_edit (all_written (last q) (marks q)) (all_written (behind_further q z (last s)) (map (mark_further q z) (marks s)))
-        ∙ ap (λ es. flat_map mending_edit (all_written (last q) (marks q)) ++ es) (edits_further q z s)
+        ∙ flat_map-append mending_edit (all_written (last_end q) (marks q)) (all_written (behind_further q z (last_end s)) (map (mark_further q z) (marks s)))
+        ∙ ap (λ es. flat_map mending_edit (all_written (last_end q) (marks q)) ++ es) (edits_further q z s)
 
     pub item_text : IsUtf8 q → begin_with_item (marks s) ≡ true → closers_reaching (marks s) ≡ [] → mended_text all ≡ mended_text q ++ (z ++ 10 ∷ mended_text s)
     item_text u e r = text_both (text_edits_fit q u) (item_edits e r)

@@ -7,7 +7,7 @@ use Rattle.rust_mended.specs.declared.mark.Mark.{Mark}
 use Rattle.rust_mended.specs.declared.mark.MarkKind.{MarkKind}
 use Rattle.rust_mended.specs.declared.mark.MarkKind.TheVariants as mark
 use Rattle.rust_mended.specs.declared.mark.Opened.{Opened}
-use Rattle.rust_mended.specs.Mended.{Written, kept, put, left, closed, is_brace, closer_by, closers_reaching, all_ended, ends_before_item, end_before, is_owed, owed, close_own, fits_closer, close_far, keeps, opened_by, mark_taken, written_from, all_written, mark_by, source_by, mended, matches_last, matched_by, match_from, all_match}
+use Rattle.rust_mended.specs.Mended.{Written, kept, put, left, closed, is_brace, closer_by, closers_reaching, all_ended, ends_before_item, end_before, is_owed, owed_closer, close_own, fits_closer, close_far, keeps, opened_by, mark_taken, written_from, all_written, mark_by, source_by, mended_marks, matches_last, matched_by, match_from, all_match}
 
 -- ---- the mended marks match
 
@@ -73,7 +73,7 @@ taken_match (mark.Open b) t p c K h os =
     opened_match b t None os K h = h (opened_by b t None os ∷ os)
     opened_match b t (Some c) os K h = h (opened_by b t (Some c) os ∷ os)
 taken_match (mark.Close b) t p c K h os =
-    if_match (is_owed t (owed os)) (close_own t os K) (if is_brace b then close_far t os K else left t ∷ K os) (brackets os) (close_own_match t os K h)
+    if_match (is_owed t (owed_closer os)) (close_own t os K) (if is_brace b then close_far t os K else left t ∷ K os) (brackets os) (close_own_match t os K h)
     (if_match (is_brace b) (close_far t os K) (left t ∷ K os) (brackets os) (close_far_match t os K h) (h os))
 taken_match mark.Item t p c K h os =
     end_before_match t os (λ us. kept t ∷ K us) (λ us. ap (λ k. matched_by k (match_from (flat_map mark_by (K us))) (brackets us)) p ∙ h us)
@@ -83,7 +83,7 @@ written_from_match at [] os = ends_match at os
 written_from_match at (t ∷ ts) os = taken_match t.kind t refl (closer_by t.kind (closers_reaching ts)) (written_from at ts) (written_from_match at ts) os
 
 -- whatever the marks are, the brackets of the mended ones all match
-pub mended_match : (at : ℕ) (ts : List Mark) → all_match (mended at ts) ≡ true
+pub mended_match : (at : ℕ) (ts : List Mark) → all_match (mended_marks at ts) ≡ true
 mended_match at ts = written_from_match at ts []
 
 -- ---- no mark is lost
@@ -121,7 +121,7 @@ close_far_tells t ts (o ∷ os) K h =
 taken_tells : (k : MarkKind) (t : Mark) (c : Option Mark) (ts : List Mark) (K : List Opened → List Written) → Tells ts K → Tells (t ∷ ts) (mark_taken k t c K)
 taken_tells (mark.Open b) t c ts K h os = ap (λ xs. t ∷ xs) (h (opened_by b t (keeps b t os c) os ∷ os))
 taken_tells (mark.Close b) t c ts K h os =
-    if_tells (is_owed t (owed os)) (close_own t os K) (if is_brace b then close_far t os K else left t ∷ K os) (t ∷ ts) (close_own_tells t ts os K h)
+    if_tells (is_owed t (owed_closer os)) (close_own t os K) (if is_brace b then close_far t os K else left t ∷ K os) (t ∷ ts) (close_own_tells t ts os K h)
     (if_tells (is_brace b) (close_far t os K) (left t ∷ K os) (t ∷ ts) (close_far_tells t ts os K h) (ap (λ xs. t ∷ xs) (h os)))
 taken_tells mark.Item t c ts K h os = end_before_tells t (t ∷ ts) os (λ us. kept t ∷ K us) (λ us. ap (λ xs. t ∷ xs) (h us))
 

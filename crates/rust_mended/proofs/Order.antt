@@ -7,7 +7,7 @@ use Rattle.rust_mended.specs.declared.mark.Mark.{Mark}
 use Rattle.rust_mended.specs.declared.mark.MarkKind.{MarkKind}
 use Rattle.rust_mended.specs.declared.mark.MarkKind.TheVariants as mark
 use Rattle.rust_mended.specs.declared.mark.Opened.{Opened}
-use Rattle.rust_mended.specs.Mended.{Written, kept, put, left, closed, is_brace, is_closer_of, closer_by, closers_reaching, all_ended, ends_before_item, end_before, is_owed, owed, close_own, fits_closer, close_far, keeps, opened_by, mark_taken, written_from, all_written}
+use Rattle.rust_mended.specs.Mended.{Written, kept, put, left, closed, is_brace, is_closer_of, closer_by, closers_reaching, all_ended, ends_before_item, end_before, is_owed, owed_closer, close_own, fits_closer, close_far, keeps, opened_by, mark_taken, written_from, all_written}
 use Rattle.rust_mended.specs.Texts.{mending_edit}
 use Rattle.rust_mended.specs.Steps.{EditsFit}
 
@@ -94,7 +94,7 @@ taken_fits P n (mark.Open b) t c os K l p f h =
     let us : List Opened = opened_by b t (keeps b t os c) os ∷ os in before_fits P n t.behind (flat_map mending_edit (K us)) l (h us)
 taken_fits P n (mark.Close b) t c os K l p f h =
     let at : t.behind ≤ t.at = f.0 in
-    if_fits P n (is_owed t (owed os)) (close_own t os K) (if is_brace b then close_far t os K else left t ∷ K os)
+    if_fits P n (is_owed t (owed_closer os)) (close_own t os K) (if is_brace b then close_far t os K else left t ∷ K os)
     (close_own_fits P n t os K l p f h)
     (if_fits P n (is_brace b) (close_far t os K) (left t ∷ K os) (close_far_fits P n t os K l p f h) (left_fits P n t (K os) (omega arith) f.1.0 f.1.1 (h os)))
 taken_fits P n mark.Item t c os K l p f h = end_before_fits P n t os (λ us. kept t ∷ K us) l p h

@@ -12,15 +12,15 @@ use Rattle.rust_lexer.specs.declared.kind.TokenKind.TheVariants as kind
 use Rattle.rust_lexer.specs.Cut.{first_cut}
 use Rattle.rust_lexer.specs.Piece.{Piece}
 use Rattle.rust_lexer.specs.Symbol.{symbol_from, symbol_of}
-use Rattle.rust_lexer.specs.Tokens.{AreInPlace, has_mark, is_shebang, lines_from, mark_from, matter_by, matter_from, shebang_from, text_of, tokens, tokens_from, whole}
+use Rattle.rust_lexer.specs.Tokens.{AreInPlace, has_mark, is_shebang, lines_from, mark_from, matter_by, matter_from, shebang_from, text_of, tokens, tokens_from, whole_length}
 use Rattle.rust_lexer.proofs.Boundaries.{IsLead, run_leads_behind}
 use Rattle.rust_lexer.proofs.Laws.{AreSome, tokens_lossless, tokens_not_empty, tokens_placed}
 use Rattle.rust_mended.specs.declared.line.Line.{Line}
 use Rattle.rust_mended.specs.declared.mark.Mark.{Mark}
 use Rattle.rust_mended.specs.declared.mark.MarkKind.TheVariants as mark
-use Rattle.rust_mended.specs.Marks.{bracket_of, text_begin, is_between, is_opening_symbol, is_closing_symbol, may_begin_item, line_behind, place_behind, and_marks, marks_from, line_behind_all, marks, last}
+use Rattle.rust_mended.specs.Marks.{bracket_of, text_begin, is_between, is_opening_symbol, is_closing_symbol, may_begin_item, line_behind, place_behind, and_marks, marks_from, line_behind_all, marks, last_end}
 use Rattle.rust_mended.proofs.Order.{MarksFit}
-use Rattle.rust_mended.proofs.Whole.{no_truth}
+use Rattle.rust_mended.proofs.MatchedMarks.{no_truth}
 
 -- ---- the first byte of each token begins a character
 
@@ -32,7 +32,7 @@ leads_from : (left at : ℕ) (z : List ℕ) → IsLead (slice_index z left) → 
 leads_from zero at [] h = tt
 leads_from (suc left) at [] h = tt
 leads_from (suc left) at (b ∷ z) h = leads_from left (suc at) z h
-leads_from zero at (b ∷ z) h = (h, leads_from (whole (first_cut b z) z) (suc at) z (run_leads_behind z _ _ refl))
+leads_from zero at (b ∷ z) h = (h, leads_from (whole_length (first_cut b z) z) (suc at) z (run_leads_behind z _ _ refl))
 
 leads_matter : (found : Option ℕ) (at : ℕ) (z : List ℕ) → IsLead (slice_index z 0) → Leads (matter_by found at z)
 leads_matter None at z h = leads_from 0 at z h
@@ -156,14 +156,14 @@ behind_fits P l t h g = cond_both (is_between t.kind) l.behind (t.at + length t.
 behind_close : (l : Line) (t : Piece) → is_closing_symbol (symbol_of t) ≡ true → 0 < length t.text → t.at + 1 ≤ place_behind l t
 behind_close l t c s = rw (is_closer t.kind (slice_index t.text 0) c).0 (omega arith)
 
-and_marks_fit : (P : ℕ → Type 0) (last n : ℕ) (l : Line) (t : Piece) (ms : List Mark) (a b may : Bool) → is_closing_symbol (symbol_of t) ≡ b → n ≤ l.behind → P l.behind → l.behind ≤ t.at → TokenFits P t
-    → ((m : ℕ) → m ≤ place_behind l t → MarksFit P last m ms) → (l.behind ≤ place_behind l t)
-    → MarksFit P last n (and_marks (if a then Some (mark.Open (bracket_of (symbol_of t))) else (if b then Some (mark.Close (bracket_of (symbol_of t))) else (if may then Some mark.Item else None))) l t ms)
-and_marks_fit P last n l t ms true b may c h p at f rest more = (h, (p, (tt, rest l.behind more)))
-and_marks_fit P last n l t ms false true may c h p at f rest more =
+and_marks_fit : (P : ℕ → Type 0) (last_end n : ℕ) (l : Line) (t : Piece) (ms : List Mark) (a b may : Bool) → is_closing_symbol (symbol_of t) ≡ b → n ≤ l.behind → P l.behind → l.behind ≤ t.at → TokenFits P t
+    → ((m : ℕ) → m ≤ place_behind l t → MarksFit P last_end m ms) → (l.behind ≤ place_behind l t)
+    → MarksFit P last_end n (and_marks (if a then Some (mark.Open (bracket_of (symbol_of t))) else (if b then Some (mark.Close (bracket_of (symbol_of t))) else (if may then Some mark.Item else None))) l t ms)
+and_marks_fit P last_end n l t ms true b may c h p at f rest more = (h, (p, (tt, rest l.behind more)))
+and_marks_fit P last_end n l t ms false true may c h p at f rest more =
     (h, (p, ((at, (f.0, f.1.1.1 c)), rest (t.at + 1) (behind_close l t c f.1.1.0))))
-and_marks_fit P last n l t ms false false true c h p at f rest more = (h, (p, (tt, rest l.behind more)))
-and_marks_fit P last n l t ms false false false c h p at f rest more = rest n (omega arith)
+and_marks_fit P last_end n l t ms false false true c h p at f rest more = (h, (p, (tt, rest l.behind more)))
+and_marks_fit P last_end n l t ms false false false c h p at f rest more = rest n (omega arith)
 
 pub marks_from_fit : (P : ℕ → Type 0) (l : Line) (q : ℕ) (ts : List Piece) → l.behind ≤ q → P l.behind → AreInPlace q ts → TokensFit P ts
     → (n : ℕ) → n ≤ l.behind → MarksFit P (line_behind_all l ts).behind n (marks_from l ts)
@@ -174,7 +174,7 @@ marks_from_fit P l q (t ∷ ts) b p i f n h =
     and_marks_fit P (line_behind_all (line_behind l t) ts).behind n l t (marks_from (line_behind l t) ts) (is_opening_symbol (symbol_of t)) (is_closing_symbol (symbol_of t)) (l.is_first && may_begin_item t.kind (symbol_of t))
     refl h p at f.0 (marks_from_fit P (line_behind l t) (q + length t.text) ts more.1 (behind_fits P l t p f.0.1.0) i.1 f.1) more.0
 
-pub marks_fit : (text : List ℕ) → IsUtf8 text → MarksFit (IsCharBoundary text) (last text) 0 (marks text)
+pub marks_fit : (text : List ℕ) → IsUtf8 text → MarksFit (IsCharBoundary text) (last_end text) 0 (marks text)
 marks_fit text u =
     marks_from_fit (IsCharBoundary text) text_begin 0 (tokens text) (omega arith) (IsCharBoundary-start text u) (tokens_placed text)
     (tokens_fit text [] 0 (tokens text) u (sym (tokens_lossless text)) refl (tokens_placed text) (leads_tokens text (lead_first text u)) (tokens_not_empty text)) 0 (omega arith)

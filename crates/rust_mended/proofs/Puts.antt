@@ -6,7 +6,7 @@ use Rattle.std.specs.Str.{IsUtf8}
 use Rattle.rust_mended.specs.declared.edit.Edit.{Edit}
 use Rattle.rust_mended.specs.declared.edit.EditKind.{EditKind}
 use Rattle.rust_mended.specs.declared.edit.EditKind.TheVariants as edit
-use Rattle.rust_mended.specs.Marks.{last, marks}
+use Rattle.rust_mended.specs.Marks.{last_end, marks}
 use Rattle.rust_mended.specs.Texts.{edits, forward_by, past_by, place_back_by, put_by, puts_from}
 use Rattle.rust_mended.specs.Steps.{EditsFit}
 use Rattle.rust_mended.proofs.Order.{edits_fit}
@@ -15,7 +15,7 @@ use Rattle.rust_mended.proofs.Places.{marks_fit}
 -- the edits of a text come in order, and where it may be cut
 pub text_edits_fit : (text : List ℕ) → IsUtf8 text → EditsFit (IsCharBoundary text) 0 (edits text)
 unfolding edits
-text_edits_fit text u = edits_fit (IsCharBoundary text) (last text) (marks text) (marks_fit text u)
+text_edits_fit text u = edits_fit (IsCharBoundary text) (last_end text) (marks text) (marks_fit text u)
 
 -- none is before these
 abbrev pub AreAbove : ℕ → List ℕ → Type 0

@@ -3,17 +3,17 @@ use Rattle.std.proofs.Common.{◌≡◌, refl, ◌∙◌, ap, sym, ℕ, ◌+◌,
 use Rattle.std.proofs.lemmas.Bool.{ne_eqb}
 use Rattle.rust_lexer.specs.declared.kind.TokenKind.{TokenKind}
 use Rattle.rust_lexer.specs.declared.kind.TokenKind.TheVariants as kind
-use Rattle.rust_lexer.specs.Alone.{moved}
+use Rattle.rust_lexer.specs.Alone.{moved_piece}
 use Rattle.rust_lexer.specs.Piece.{Piece}
 use Rattle.rust_lexer.specs.Tokens.{tokens, tokens_from}
-use Rattle.rust_lexer.proofs.Apart.{tokens_moved}
+use Rattle.rust_lexer.proofs.TextsApart.{tokens_moved}
 use Rattle.rust_lexer.proofs.Cases.{when}
 use Rattle.rust_lexer.proofs.Laws.{AreSome, tokens_not_empty}
 use Rattle.rust_mended.specs.declared.line.Line.{Line}
 use Rattle.rust_mended.specs.declared.mark.Mark.{Mark}
 use Rattle.rust_mended.specs.declared.mark.MarkKind.{MarkKind}
 use Rattle.rust_mended.specs.Apart.{StandApart, behind_further, mark_further, seam}
-use Rattle.rust_mended.specs.Marks.{and_marks, blank_behind, blanks_behind, is_between, last, line_behind, line_behind_all, line_by, mark_kind_of, marks, marks_from, place_behind, text_begin, with_behind}
+use Rattle.rust_mended.specs.Marks.{and_marks, blank_behind, blanks_behind, is_between, last_end, line_behind, line_behind_all, line_by, mark_kind_of, marks, marks_from, place_behind, text_begin, with_behind}
 use Rattle.rust_mended.proofs.Blanks.{ReadAlike, blanks_alike, line_begin}
 use Rattle.rust_mended.proofs.Places.{some_first, some_rest}
 
@@ -57,32 +57,32 @@ module _ (from d : ℕ) where
   kind_on kind.Whitespace l x = blanks_on l x
   kind_on _ l x = refl
 
-  place_on : (l : Line) (t : Piece) → 0 < length t.text → place_behind (line_by_places l) (moved d t) ≡ behind_by (place_behind l t)
+  place_on : (l : Line) (t : Piece) → 0 < length t.text → place_behind (line_by_places l) (moved_piece d t) ≡ behind_by (place_behind l t)
   place_on l t some =
       let other : (t.at + length t.text == 0) ≡ false = ne_eqb (t.at + length t.text) 0 (omega arith) in
       let on : t.at + d + length t.text ≡ t.at + length t.text + d = omega arith in
       when (is_between t.kind) (λ e. rw e refl) (λ e. rw (e, other) on)
 
-  pub token_on : (l : Line) (t : Piece) → 0 < length t.text → line_behind (line_by_places l) (moved d t) ≡ line_by_places (line_behind l t)
+  pub token_on : (l : Line) (t : Piece) → 0 < length t.text → line_behind (line_by_places l) (moved_piece d t) ≡ line_by_places (line_behind l t)
   token_on l t some =
-      ap (λ m. with_behind (place_behind (line_by_places l) (moved d t)) m) (kind_on t.kind l t.text)
+      ap (λ m. with_behind (place_behind (line_by_places l) (moved_piece d t)) m) (kind_on t.kind l t.text)
       ∙ ap (λ n. with_behind n (line_by t.kind l t.text)) (place_on l t some)
 
-  and_marks_on : (k : Option MarkKind) (l : Line) (t : Piece) (ms : List Mark) → and_marks k (line_by_places l) (moved d t) (map mark_by_places ms) ≡ map mark_by_places (and_marks k l t ms)
+  and_marks_on : (k : Option MarkKind) (l : Line) (t : Piece) (ms : List Mark) → and_marks k (line_by_places l) (moved_piece d t) (map mark_by_places ms) ≡ map mark_by_places (and_marks k l t ms)
   and_marks_on None l t ms = refl
   and_marks_on (Some k) l t ms = refl
 
-  pub marks_on : (l : Line) (ts : List Piece) → AreSome ts → marks_from (line_by_places l) (map (moved d) ts) ≡ map mark_by_places (marks_from l ts)
+  pub marks_on : (l : Line) (ts : List Piece) → AreSome ts → marks_from (line_by_places l) (map (moved_piece d) ts) ≡ map mark_by_places (marks_from l ts)
   marks_on l [] s = refl
   marks_on l (t ∷ ts) s =
-      ap (λ m. and_marks (mark_kind_of l t) (line_by_places l) (moved d t) (marks_from m (map (moved d) ts))) (token_on l t (some_first t ts s))
-      ∙ ap (and_marks (mark_kind_of l t) (line_by_places l) (moved d t)) (marks_on (line_behind l t) ts (some_rest t ts s))
+      ap (λ m. and_marks (mark_kind_of l t) (line_by_places l) (moved_piece d t) (marks_from m (map (moved_piece d) ts))) (token_on l t (some_first t ts s))
+      ∙ ap (and_marks (mark_kind_of l t) (line_by_places l) (moved_piece d t)) (marks_on (line_behind l t) ts (some_rest t ts s))
       ∙ and_marks_on (mark_kind_of l t) l t (marks_from (line_behind l t) ts)
 
-  pub lines_on : (l : Line) (ts : List Piece) → AreSome ts → line_behind_all (line_by_places l) (map (moved d) ts) ≡ line_by_places (line_behind_all l ts)
+  pub lines_on : (l : Line) (ts : List Piece) → AreSome ts → line_behind_all (line_by_places l) (map (moved_piece d) ts) ≡ line_by_places (line_behind_all l ts)
   lines_on l [] s = refl
   lines_on l (t ∷ ts) s =
-      ap (λ m. line_behind_all m (map (moved d) ts)) (token_on l t (some_first t ts s)) ∙ lines_on (line_behind l t) ts (some_rest t ts s)
+      ap (λ m. line_behind_all m (map (moved_piece d) ts)) (token_on l t (some_first t ts s)) ∙ lines_on (line_behind l t) ts (some_rest t ts s)
 
 -- ---- both
 
@@ -99,22 +99,22 @@ module _ (q z s : List ℕ) (h : StandApart q z s) where
       let on : 0 + length q ≡ length q = omega arith in
       h.ends ∙ ap (λ ts. tokens q ++ ts) (sym (tokens_moved (length q) 0 0 (z ++ 10 ∷ s)) ∙ ap (λ k. tokens_from 0 k (z ++ 10 ∷ s)) on)
 
-  second_tokens : tokens_from 0 (seam q z) s ≡ map (moved (seam q z)) (tokens s)
+  second_tokens : tokens_from 0 (seam q z) s ≡ map (moved_piece (seam q z)) (tokens s)
   second_tokens =
       let on : seam q z ≡ 0 + seam q z = omega arith in
-      ap (λ k. tokens_from 0 k s) on ∙ tokens_moved (seam q z) 0 0 s ∙ ap (map (moved (seam q z))) (sym h.bare)
+      ap (λ k. tokens_from 0 k s) on ∙ tokens_moved (seam q z) 0 0 s ∙ ap (map (moved_piece (seam q z))) (sym h.bare)
 
-  alike : ReadAlike line (tokens_from 0 (length q) (z ++ 10 ∷ s)) (line_begin (last q)) (tokens_from 0 (seam q z) s)
+  alike : ReadAlike line (tokens_from 0 (length q) (z ++ 10 ∷ s)) (line_begin (last_end q)) (tokens_from 0 (seam q z) s)
   alike = blanks_alike line (length q) z s h.blanks h.uncut
 
   pub all_marks : marks all ≡ marks q ++ map (mark_further q z) (marks s)
   all_marks =
       ap (marks_from text_begin) all_tokens
       ∙ marks_join text_begin (tokens q) (tokens_from 0 (length q) (z ++ 10 ∷ s))
-      ∙ ap (λ ms. marks q ++ ms) (alike.0 ∙ ap (marks_from (line_begin (last q))) second_tokens ∙ marks_on (last q) (seam q z) text_begin (tokens s) (tokens_not_empty s))
+      ∙ ap (λ ms. marks q ++ ms) (alike.0 ∙ ap (marks_from (line_begin (last_end q))) second_tokens ∙ marks_on (last_end q) (seam q z) text_begin (tokens s) (tokens_not_empty s))
 
-  pub all_last : last all ≡ behind_further q z (last s)
+  pub all_last : last_end all ≡ behind_further q z (last_end s)
   all_last =
       ap (λ (l : Line). l.behind) (ap (line_behind_all text_begin) all_tokens
       ∙ lines_join text_begin (tokens q) (tokens_from 0 (length q) (z ++ 10 ∷ s))
-      ∙ alike.1 ∙ ap (line_behind_all (line_begin (last q))) second_tokens ∙ lines_on (last q) (seam q z) text_begin (tokens s) (tokens_not_empty s))
+      ∙ alike.1 ∙ ap (line_behind_all (line_begin (last_end q))) second_tokens ∙ lines_on (last_end q) (seam q z) text_begin (tokens s) (tokens_not_empty s))

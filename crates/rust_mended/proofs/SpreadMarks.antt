@@ -12,11 +12,11 @@ use Rattle.rust_mended.specs.Inside.{closers_before, place_grown}
 use Rattle.rust_mended.specs.Mended.{Written, closer_by, closers_reached, mark_taken, all_written}
 use Rattle.rust_mended.specs.Steps.{EditsFit}
 use Rattle.rust_mended.specs.Texts.{edit_moved, mending_edit, past_edit}
-use Rattle.rust_mended.proofs.Further as further
-use Rattle.rust_mended.proofs.Further.{EndAt, OpenEndsAt, OpensEndAt}
-use Rattle.rust_mended.proofs.Inside.{no_rest, upto}
+use Rattle.rust_mended.proofs.FurtherMarks as further
+use Rattle.rust_mended.proofs.FurtherMarks.{EndAt, OpenEndsAt, OpensEndAt}
+use Rattle.rust_mended.proofs.MarksInBraces.{no_rest, upto}
 use Rattle.rust_mended.proofs.Order.{MarksFit, past_mark, taken_fits}
-use Rattle.rust_mended.proofs.Told as told
+use Rattle.rust_mended.proofs.ToldBrackets as told
 
 -- ---- what is told up to a mark, and in which order
 

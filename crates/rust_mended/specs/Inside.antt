@@ -1,7 +1,7 @@
 -- What stands in braces that keep each other.
 use Rattle.std.specs.Prelude.{◌≡◌, ℕ, zero, suc, Bool, true, false, ◌+◌, ◌&&◌, if◌then◌else◌, List, [], ◌∷◌, ◌++◌, length, map, Some, flat_map, nat_eq, nat_lt}
 use Rattle.rust_lexer.specs.declared.kind.TokenKind.TheVariants as kind
-use Rattle.rust_lexer.specs.Alone.{StandsAlone, is_full, moved, overhang, tokens_in_front}
+use Rattle.rust_lexer.specs.Alone.{StandsAlone, is_full, moved_piece, overhang, tokens_in_front}
 use Rattle.rust_lexer.specs.Piece.{Piece}
 use Rattle.rust_lexer.specs.Tokens.{tokens, tokens_from}
 use Rattle.rust_mended.specs.declared.bracket.Bracket.TheVariants as bracket
@@ -61,8 +61,8 @@ pub record IsMendedAround (at : ℕ) (front : List Mark) (o : Mark) (inner : Lis
 -- ---- texts
 
 -- a text in braces, between two others
-abbrev pub braced : List ℕ → List ℕ → List ℕ → List ℕ
-braced q m s = q ++ 123 ∷ (m ++ 125 ∷ s)
+abbrev pub text_in_braces : List ℕ → List ℕ → List ℕ → List ℕ
+text_in_braces q m s = q ++ 123 ∷ (m ++ 125 ∷ s)
 
 -- the tokens before the `{`, and those before the `}`
 abbrev pub before_opener : List ℕ → List Piece
@@ -72,7 +72,7 @@ abbrev pub opener : List ℕ → Piece
 opener q = record { kind = kind.OpenDelim; text = 123 ∷ []; at = length q }
 
 abbrev pub before_closer : List ℕ → List ℕ → List Piece
-before_closer q m = before_opener q ++ (opener q ∷ map (moved (suc (length q))) (tokens_in_front 0 0 m (125 ∷ [])))
+before_closer q m = before_opener q ++ (opener q ∷ map (moved_piece (suc (length q))) (tokens_in_front 0 0 m (125 ∷ [])))
 
 -- where the braces stand on their lines
 abbrev pub opener_line : List ℕ → Line
@@ -92,8 +92,8 @@ pub record MayStandIn (q m n s : List ℕ) : Type 0 where
   pub opens : overhang 0 q (123 ∷ (m ++ 125 ∷ s)) ≡ 0
   pub stood : StandsAlone m
   pub stands : StandsAlone n
-  pub bare : tokens (braced q m s) ≡ tokens_from 0 0 (braced q m s)
-  pub bare_then : tokens (braced q n s) ≡ tokens_from 0 0 (braced q n s)
+  pub bare : tokens (text_in_braces q m s) ≡ tokens_from 0 0 (text_in_braces q m s)
+  pub bare_then : tokens (text_in_braces q n s) ≡ tokens_from 0 0 (text_in_braces q n s)
   pub indent : (closer_line q m).indent ≡ (closer_line q n).indent
   pub begins : (closer_line q m).is_first ≡ (closer_line q n).is_first
   pub within : is_further_out (closer_line q m) (opener_line q) ≡ false
@@ -106,7 +106,7 @@ place_grown from n at = if nat_lt at from then at else at + n
 -- `}`, by places in the text with nothing in the braces.
 abbrev pub HasEdits : List ℕ → List ℕ → List ℕ → List Edit → List Edit → List Edit → Type 0
 HasEdits q m s before inside behind =
-    edits (braced q m s) ≡ before ++ (map (edit_moved (λ at. at + suc (length q))) inside ++ map (edit_moved (place_grown (suc (length q)) (length m))) behind)
+    edits (text_in_braces q m s) ≡ before ++ (map (edit_moved (λ at. at + suc (length q))) inside ++ map (edit_moved (place_grown (suc (length q)) (length m))) behind)
 
 -- Both are mended alike but for what stands in the braces, and what is told around them is the same.
 pub record AreMendedAround (q m n s : List ℕ) : Type 0 where
@@ -117,5 +117,5 @@ pub record AreMendedAround (q m n s : List ℕ) : Type 0 where
   pub behind : List Edit
   pub told : HasEdits q m s before inside behind
   pub told_then : HasEdits q n s before inside_then behind
-  pub stood : mended_text (braced q m s) ≡ braced (with_edits q 0 before) (with_edits m 0 inside) (with_edits s 0 after)
-  pub stands : mended_text (braced q n s) ≡ braced (with_edits q 0 before) (with_edits n 0 inside_then) (with_edits s 0 after)
+  pub stood : mended_text (text_in_braces q m s) ≡ text_in_braces (with_edits q 0 before) (with_edits m 0 inside) (with_edits s 0 after)
+  pub stands : mended_text (text_in_braces q n s) ≡ text_in_braces (with_edits q 0 before) (with_edits n 0 inside_then) (with_edits s 0 after)

@@ -20,14 +20,14 @@ abbrev pub text_begin : Line
 text_begin = record { indent = 0; is_first = true; behind = 0 }
 
 -- behind a blank of an indentation: a tab counts four
-abbrev pub wider : ℕ → ℕ → ℕ
-wider b n = min (n + (if b == 9 then 4 else 1)) (2 ^ 64 - 1)
+abbrev pub wider_indent : ℕ → ℕ → ℕ
+wider_indent b n = min (n + (if b == 9 then 4 else 1)) (2 ^ 64 - 1)
 
 -- behind a byte of white space
 abbrev pub blank_behind : Line → ℕ → Line
 blank_behind l b =
     if b == 10 then record { indent = 0; is_first = true; behind = l.behind }
-    else (if l.is_first then record { indent = wider b l.indent; is_first = true; behind = l.behind } else l)
+    else (if l.is_first then record { indent = wider_indent b l.indent; is_first = true; behind = l.behind } else l)
 
 -- behind white space
 abbrev pub blanks_behind : Line → List ℕ → Line
@@ -114,5 +114,5 @@ abbrev pub marks : List ℕ → List Mark
 marks text = marks_from text_begin (tokens text)
 
 -- the place behind its last token that is no comment
-abbrev pub last : List ℕ → ℕ
-last text = (line_behind_all text_begin (tokens text)).behind
+abbrev pub last_end : List ℕ → ℕ
+last_end text = (line_behind_all text_begin (tokens text)).behind

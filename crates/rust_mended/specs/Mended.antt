@@ -107,12 +107,12 @@ keeps b t [] closer = closer
 keeps b t (o ∷ os) closer = kept_if (is_brace b && is_lost t o closer) closer
 
 -- what closes the last of these that is closed
-abbrev pub owed : List Opened → Option ℕ
-owed [] = None
-owed (o ∷ os) = o.owed
+abbrev pub owed_closer : List Opened → Option ℕ
+owed_closer [] = None
+owed_closer (o ∷ os) = o.owed
 
 abbrev pub opened_by : Bracket → Mark → Option Mark → List Opened → Opened
-opened_by b t None os = record { bracket = b; at = t.at; indent = t.indent; is_closed = false; owed = owed os }
+opened_by b t None os = record { bracket = b; at = t.at; indent = t.indent; is_closed = false; owed = owed_closer os }
 opened_by b t (Some c) os = record { bracket = b; at = t.at; indent = t.indent; is_closed = true; owed = Some c.at }
 
 abbrev pub is_owed : Mark → Option ℕ → Bool
@@ -137,7 +137,7 @@ close_far t (o ∷ os) rest =
 
 -- a closer closes its own bracket; a `}` that has none closes another, and any other closer is left out
 abbrev pub close_with : Bracket → Mark → List Opened → (List Opened → List Written) → List Written
-close_with b t os rest = if is_owed t (owed os) then close_own t os rest else (if is_brace b then close_far t os rest else left t ∷ rest os)
+close_with b t os rest = if is_owed t (owed_closer os) then close_own t os rest else (if is_brace b then close_far t os rest else left t ∷ rest os)
 
 abbrev pub mark_taken : MarkKind → Mark → Option Mark → (List Opened → List Written) → List Opened → List Written
 mark_taken (mark.Open b) t closer rest os = kept t ∷ rest (opened_by b t (keeps b t os closer) os ∷ os)
@@ -175,8 +175,8 @@ source_by (left t) = t ∷ []
 source_by (closed t b) = t ∷ []
 
 -- the mended marks
-abbrev pub mended : ℕ → List Mark → List Mark
-mended at ts = flat_map mark_by (all_written at ts)
+abbrev pub mended_marks : ℕ → List Mark → List Mark
+mended_marks at ts = flat_map mark_by (all_written at ts)
 
 -- ---- all brackets match: each closer closes the last open bracket, which is of its kind, and none is open at the end
 

@@ -7,7 +7,7 @@ use Rattle.rust_mended.specs.declared.mark.MarkKind.{MarkKind}
 use Rattle.rust_mended.specs.declared.mark.MarkKind.TheVariants as mark
 use Rattle.rust_mended.specs.declared.mark.Opened.{Opened}
 use Rattle.rust_mended.specs.declared.reached.Marked.{Marked}
-use Rattle.rust_mended.specs.Mended.{Written, kept, put, left, closed, is_brace, closer_by, closers_reached, all_ended, ends_before_item, keeps, opened_by, owed, is_owed, fits_closer}
+use Rattle.rust_mended.specs.Mended.{Written, kept, put, left, closed, is_brace, closer_by, closers_reached, all_ended, ends_before_item, keeps, opened_by, owed_closer, is_owed, fits_closer}
 use Rattle.rust_mended.specs.Texts.{mending_edit, past_edit}
 
 -- the marks, each with what closes it, and the closers that are left
@@ -21,8 +21,8 @@ abbrev pub reach_before : List Mark → Reach → Reach
 reach_before [] r = r
 reach_before (t ∷ ts) r = and_marked t (reach_before ts r)
 
-abbrev pub marked : List Mark → List Marked
-marked ts = (reach_before ts ([], [])).0
+abbrev pub marked_list : List Mark → List Marked
+marked_list ts = (reach_before ts ([], [])).0
 
 -- what is written, and what is open then
 abbrev pub MendingStep : Type 0
@@ -46,7 +46,7 @@ close_far_step t (o ∷ os) =
     else (if fits_closer t o then (closed t o.bracket ∷ [], os) else before_step (put t.behind o) (close_far_step t os))
 
 abbrev pub close_step : Bracket → Mark → List Opened → MendingStep
-close_step b t os = if is_owed t (owed os) then close_own_step t os else (if is_brace b then close_far_step t os else (left t ∷ [], os))
+close_step b t os = if is_owed t (owed_closer os) then close_own_step t os else (if is_brace b then close_far_step t os else (left t ∷ [], os))
 
 -- an item stays behind what ends before it
 abbrev pub and_kept : Mark → MendingStep → MendingStep
@@ -57,9 +57,9 @@ taken_step (mark.Open b) t closer os = (kept t ∷ [], opened_by b t (keeps b t 
 taken_step (mark.Close b) t closer os = close_step b t os
 taken_step mark.Item t closer os = and_kept t (end_before_step t os)
 
-abbrev pub walked : ℕ → List Marked → List Opened → List Written
-walked at [] os = all_ended at os
-walked at (m ∷ ms) os = (taken_step m.mark.kind m.mark m.closer os).0 ++ walked at ms (taken_step m.mark.kind m.mark m.closer os).1
+abbrev pub written_marks : ℕ → List Marked → List Opened → List Written
+written_marks at [] os = all_ended at os
+written_marks at (m ∷ ms) os = (taken_step m.mark.kind m.mark m.closer os).0 ++ written_marks at ms (taken_step m.mark.kind m.mark m.closer os).1
 
 -- behind the edits that there are come those of a step
 abbrev pub AddsEdits : MendingStep → List Edit → List Edit → List Opened → Type 0

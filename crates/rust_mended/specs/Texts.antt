@@ -12,7 +12,7 @@ use Rattle.rust_mended.specs.declared.edit.EditKind.TheVariants as edit
 use Rattle.rust_mended.specs.declared.mark.Mark.{Mark}
 use Rattle.rust_mended.specs.declared.mark.MarkKind.{MarkKind}
 use Rattle.rust_mended.specs.declared.mark.MarkKind.TheVariants as mark
-use Rattle.rust_mended.specs.Marks.{bracket_of, is_closing_symbol, is_opening_symbol, last, marks}
+use Rattle.rust_mended.specs.Marks.{bracket_of, is_closing_symbol, is_opening_symbol, last_end, marks}
 use Rattle.rust_mended.specs.Mended.{Written, kept, put, left, closed, is_closer_of, is_same, matches_last, none_left, all_written}
 
 -- ---- edits
@@ -25,7 +25,7 @@ mending_edit (closed t b) = if is_closer_of b t.kind then [] else record { at = 
 
 -- the edits that mend a text, in the order of their places: all that is wrong with its brackets
 unfoldable pub edits : List ℕ → List Edit
-edits text = flat_map mending_edit (all_written (last text) (marks text))
+edits text = flat_map mending_edit (all_written (last_end text) (marks text))
 
 -- an edit, its places changed so
 abbrev pub edit_moved : (ℕ → ℕ) → Edit → Edit

@@ -127,8 +127,8 @@ fn close_far(
 }
 
 /// What closes the last of these brackets that is closed.
-fn owed(opened: &VecDeque<Opened>) -> Option<usize>
-    ensures { result ≡ spec.owed opened.now.items }
+fn owed_closer(opened: &VecDeque<Opened>) -> Option<usize>
+    ensures { result ≡ spec.owed_closer opened.now.items }
 {
     opened.front()?.owed
 }
@@ -153,7 +153,7 @@ fn close(
     ensures { OnOk result (steps.AddsEdits (steps.close_step bracket mark opened.old.items)
         edits.old.items edits.new.items opened.new.items) }
 {
-    if is_at(mark, owed(opened)) {
+    if is_at(mark, owed_closer(opened)) {
         return close_own(mark, opened, edits);
     }
     if is_brace(bracket) {
@@ -212,7 +212,7 @@ fn opened_by(
             at: mark.at,
             indent: mark.indent,
             is_closed: false,
-            owed: owed(opened),
+            owed: owed_closer(opened),
         },
     }
 }

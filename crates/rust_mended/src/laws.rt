@@ -8,8 +8,8 @@ ghost use Rattle.rust_lexer.specs.Inner.{begins_front, is_blank_byte};
 ghost use Rattle.rust_lexer.specs.Tokens.{tokens, tokens_from};
 ghost use Rattle.rust_mended.specs.Apart.{StandApart, begin_with_item, behind_further, edit_further, mark_further};
 ghost use Rattle.rust_mended.specs.Inside.{AreMendedAround, IsMendedAround, KeepEachOther, MayStandIn};
-ghost use Rattle.rust_mended.specs.Marks.{last, marks};
-ghost use Rattle.rust_mended.specs.Mended.{all_match, mended, closers_reaching, source_by, all_written};
+ghost use Rattle.rust_mended.specs.Marks.{last_end, marks};
+ghost use Rattle.rust_mended.specs.Mended.{all_match, mended_marks, closers_reaching, source_by, all_written};
 ghost use Rattle.rust_mended.specs.Texts.{mending_edit, edits, is_matched, mended_text, place_back, puts, tells};
 ghost use Rattle.rust_mended.specs.Texts.{turned_text, without_bytes_at};
 ghost use Rattle.rust_mended.specs.declared.mark.Mark.{Mark};
@@ -19,7 +19,7 @@ use crate::bracket::Bracket;
 use crate::edit::{Edit, EditKind};
 
 // Where all brackets match, the text stays, and places are what they are.
-#[tactic(auto, using(crate::proofs::Whole::text_stays, crate::proofs::Whole::places_stay))]
+#[tactic(auto, using(crate::proofs::MatchedMarks::text_stays, crate::proofs::MatchedMarks::places_stay))]
 fn matched_texts_stay()
     ensures text { (text : List ℕ) → is_matched text ≡ true → mended_text text ≡ text }
     ensures places { (text : List ℕ) (at : ℕ) → is_matched text ≡ true → place_back text at ≡ at }
@@ -27,7 +27,7 @@ fn matched_texts_stay()
 
 // Nothing is told exactly where all brackets match, and what is told is told of a bracket of the text: of one that
 // nothing closes, of a closer that closes nothing, or of one that closes a bracket of another kind.
-#[tactic(auto, using(crate::proofs::Told::nothing_told, crate::proofs::Told::told_at_marks))]
+#[tactic(auto, using(crate::proofs::ToldBrackets::nothing_told, crate::proofs::ToldBrackets::told_at_marks))]
 fn brackets_are_told()
     ensures nothing { (text : List ℕ) → Decides (is_matched text) (edits text ≡ []) }
     ensures marks { (text : List ℕ) → AllByRecursion (λ e. list_any (tells e) (marks text) ≡ true) (edits text) }
@@ -36,17 +36,17 @@ fn brackets_are_told()
 // All brackets of the mended marks match, whatever the text is.
 #[tactic(auto, using(crate::proofs::Matching::mended_match))]
 fn mended_brackets_match()
-    ensures { (text : List ℕ) → all_match (mended (last text) (marks text)) ≡ true }
+    ensures { (text : List ℕ) → all_match (mended_marks (last_end text) (marks text)) ≡ true }
 {}
 
 // Each mark is written, in its order: none is lost, and none is added but for the closers that are put.
 #[tactic(auto, using(crate::proofs::Matching::written_sources))]
 fn no_mark_is_lost()
-    ensures { (text : List ℕ) → flat_map source_by (all_written (last text) (marks text)) ≡ marks text }
+    ensures { (text : List ℕ) → flat_map source_by (all_written (last_end text) (marks text)) ≡ marks text }
 {}
 
 // What stands behind marks that match is mended by itself.
-#[tactic(auto, using(crate::proofs::Whole::edits_behind_matched))]
+#[tactic(auto, using(crate::proofs::MatchedMarks::edits_behind_matched))]
 fn matched_marks_before_stay()
     ensures { (at : ℕ) (front behind : List Mark) → all_match front ≡ true
         → flat_map mending_edit (all_written at (front ++ behind)) ≡ flat_map mending_edit (all_written at behind) }
@@ -54,7 +54,7 @@ fn matched_marks_before_stay()
 
 // But for the closers that were put, the mended text is the text with single bytes replaced: closers that were left out
 // or turned.
-#[tactic(auto, using(crate::proofs::Lossless::text_lossless, crate::proofs::Lossless::text_length))]
+#[tactic(auto, using(crate::proofs::LosslessTexts::text_lossless, crate::proofs::LosslessTexts::text_length))]
 fn no_byte_is_lost()
     ensures bytes { (text : List ℕ) → IsUtf8 text → without_bytes_at 0 (puts text) (mended_text text)
         ≡ turned_text text }
@@ -62,7 +62,7 @@ fn no_byte_is_lost()
 {}
 
 // Places lead back in their order, and into the text.
-#[tactic(auto, using(crate::proofs::Back::places_rise, crate::proofs::Back::places_within))]
+#[tactic(auto, using(crate::proofs::PlacesBack::places_rise, crate::proofs::PlacesBack::places_within))]
 fn places_lead_back()
     ensures rising { (text : List ℕ) (m n : ℕ) → IsUtf8 text → m ≤ n → place_back text m ≤ place_back text n }
     ensures within { (text : List ℕ) (at : ℕ) → IsUtf8 text → at ≤ length (mended_text text)
@@ -71,7 +71,7 @@ fn places_lead_back()
 
 // An item at the beginning of a line of column 0 is mended by itself, whatever stands before it, if no closer behind it
 // is too much: what is open before it ends before it.
-#[tactic(auto, using(crate::proofs::Behind::written_behind))]
+#[tactic(auto, using(crate::proofs::ItemsAtLineStarts::written_behind))]
 fn items_behind_stay()
     ensures { (at : ℕ) (front : List Mark) (item : Mark) (behind : List Mark) → item.kind ≡ mark.Item
         → item.indent ≡ 0 → closers_reaching (item ∷ behind) ≡ []
@@ -83,7 +83,8 @@ fn items_behind_stay()
 fn marks_stand_apart()
     ensures marks { (q z s : List ℕ) → StandApart q z s
         → marks (q ++ (z ++ 10 ∷ s)) ≡ marks q ++ map (mark_further q z) (marks s) }
-    ensures last { (q z s : List ℕ) → StandApart q z s → last (q ++ (z ++ 10 ∷ s)) ≡ behind_further q z (last s) }
+    ensures last { (q z s : List ℕ) → StandApart q z s
+        → last_end (q ++ (z ++ 10 ∷ s)) ≡ behind_further q z (last_end s) }
 {}
 
 // A text that ends with a `{`, a `}` or a `;` as a token stands apart from what is behind the end of its line, as far
@@ -118,7 +119,7 @@ fn texts_behind_stay()
 
 // Marks in braces that keep each other are mended by themselves, and those around as if neither the braces nor these
 // were there.
-#[tactic(auto, using(crate::proofs::Inside::inside_stays))]
+#[tactic(auto, using(crate::proofs::MarksInBraces::inside_stays))]
 fn marks_inside_stay()
     ensures { (at : ℕ) (front : List Mark) (o : Mark) (inner : List Mark) (c : Mark) (behind : List Mark)
         → KeepEachOther front o inner c behind → IsMendedAround at front o inner c behind }

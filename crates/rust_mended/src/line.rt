@@ -164,10 +164,10 @@ fn push_mark(line: Line, token: &Token<'_>, marks: &mut Vec<Mark>) -> Result<(),
 }
 
 /// The marks of a text.
-#[tactic(auto, using(crate::proofs::Walked::marks_step))]
+#[tactic(auto, using(crate::proofs::MarkSteps::marks_step))]
 pub(crate) fn read_marks(alloc: Global, text: &str) -> Result<Marks, AllocError>
     ensures items { IfOk result (λ m. m.items.items ≡ spec.marks text.now) }
-    ensures last { IfOk result (λ m. m.last ≡ spec.last text.now) }
+    ensures last { IfOk result (λ m. m.last ≡ spec.last_end text.now) }
 {
     let mut items = Vec::new(alloc);
     let mut line = Line {

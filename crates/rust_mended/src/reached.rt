@@ -73,9 +73,9 @@ fn reach(mark: Mark, reaching: &mut VecDeque<Mark>) -> Result<Option<Mark>, Allo
 }
 
 /// The marks, each with what closes it.
-#[tactic(auto, using(crate::proofs::Walked::reach_append))]
+#[tactic(auto, using(crate::proofs::MarkSteps::reach_append))]
 pub(crate) fn with_closers(alloc: Global, marks: &[Mark]) -> Result<VecDeque<Marked>, AllocError>
-    ensures { IfOk result (λ v. v.items ≡ steps.marked marks.now) }
+    ensures { IfOk result (λ v. v.items ≡ steps.marked_list marks.now) }
 {
     let mut marked = VecDeque::new(alloc);
     let mut reaching = VecDeque::new(alloc);

@@ -33,7 +33,7 @@ fn sign(kind: EditKind) -> char
 }
 
 /// The place behind what an edit replaces.
-fn past(edit: Edit) -> usize
+fn past_edit(edit: Edit) -> usize
     requires { spec.past_edit edit < 2 ^ 64 }
     ensures { result ≡ spec.past_edit edit }
 {
@@ -57,7 +57,7 @@ fn push(edit: Edit, text: &mut String, puts: &mut Vec<usize>) -> Result<(), Allo
 }
 
 /// A text with these edits, and the places of the closers that were put.
-pub(crate) fn replaced(
+pub(crate) fn with_edits(
     alloc: Global,
     text: &str,
     edits: &[Edit],
@@ -73,7 +73,7 @@ pub(crate) fn replaced(
     'edits: while let Some((edit, behind)) = rest.split_first() {
         replaced.push_str(&text[at..edit.at])?;
         push(*edit, &mut replaced, &mut puts)?;
-        at = past(*edit);
+        at = past_edit(*edit);
         rest = behind;
     }
     replaced.push_str(&text[at..])?;

@@ -8,7 +8,7 @@ use crate::edit::{Edit, EditKind};
 use crate::ends::{end_all, take};
 use crate::line::read_marks;
 use crate::reached::with_closers;
-use crate::replaced::replaced;
+use crate::replaced::with_edits;
 use std::alloc::{AllocError, Global};
 use std::collections::VecDeque;
 
@@ -17,7 +17,7 @@ use std::collections::VecDeque;
 /// # Errors
 ///
 /// Only if memory runs out.
-#[tactic(auto, using(crate::proofs::Walked::walked_whole), unfolding(crate::specs::Texts::edits))]
+#[tactic(auto, using(crate::proofs::MarkSteps::walked_whole), unfolding(crate::specs::Texts::edits))]
 pub fn edits(alloc: Global, text: &str) -> Result<Vec<Edit>, AllocError>
     ensures { IfOk result (λ v. v.items ≡ spec.edits text.now) }
 {
@@ -81,7 +81,7 @@ pub fn mend(alloc: Global, text: &str) -> Result<Option<Mended>, AllocError>
     if edits.is_empty() {
         return Ok(None);
     }
-    let (mended, puts) = replaced(alloc, text, &edits)?;
+    let (mended, puts) = with_edits(alloc, text, &edits)?;
     let places = put_places(alloc, &edits)?;
     Ok(Some(Mended {
         text: mended,

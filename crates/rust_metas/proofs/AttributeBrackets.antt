@@ -1,15 +1,15 @@
 -- Attributes stay in the brackets that they stand in.
 use Rattle.std.proofs.Common.{◌≡◌, ◌==◌, ◌||◌, ◌&&◌, ℕ, zero, suc, Bool, true, false, Option, Some, None, List, [], ◌∷◌, refl, sym, ◌∙◌, subst, codes, if◌then◌else◌, not, slice_index, bytes_eq}
-use Rattle.rust_metas.proofs.Common.{eqb-true, PathNode, MetaView, CfgView, DocStyle, Outer, Inner, Tokens, Reader, by_first, symbol, word, kind, text, at, is_empty, bumped, is_at_open, is_at_end, behind_closed, behind_tree, elements, one, begins_item, LeadsTo, here, further, through, Forwards, when, bumped_leads, behind_tree_leads, path, rule_leads, reads, reads_from, sees, past_from, is_literal_kind, is_truth, is_literal, is_ended, style_by, value, comma_from, comma, tree_behind_comma, is_word_kind, is_option_word, option_name, pair, named_condition, if_named, ended_condition, condition_with, conditions, condition, input, plain_meta, is_call, is_at_name, is_named_call, member, conditional, meta_with, meta, behind_docs, behind_attribute, deepest, is_style, is_doc, is_attribute, is_behind, bracketed_meta, past_mark, one_attribute, attribute, attributes, inner_attributes}
+use Rattle.rust_metas.proofs.Common.{eqb-true, PathNode, MetaView, CfgView, DocStyle, Outer, Inner, Tokens, Reader, by_first, symbol, word, kind, text, at, is_empty, bumped, is_at_open, is_at_end, behind_closed, behind_tree, elements, one, begins_item, LeadsTo, here, further, through, Forwards, when, bumped_leads, behind_tree_leads, path, rule_leads, reads, reads_from, sees, past_from, is_literal_kind, is_truth, is_literal, is_ended, style_by, value, comma_from, comma, tree_behind_comma, is_word_kind, is_option_word, option_name, pair, named_condition, if_named, ended_condition, condition_with, conditions, condition, input, plain_meta, is_call, is_at_name, is_named_call, member, conditional, meta_with, meta, behind_docs, behind_attribute, deepest_level, is_style, is_doc, is_attribute, is_behind, bracketed_meta, past_mark, one_attribute, attribute, attributes, inner_attributes}
 use Rattle.rust_lexer.specs.declared.kind.TokenKind.{TokenKind}
 use Rattle.rust_lexer.specs.declared.kind.TokenKind.TheVariants as kinds
 use Rattle.rust_lexer.specs.Piece.{Piece}
 use Rattle.rust_lexer.specs.Symbol.{symbol_of}
-use Rattle.rust_cursor.proofs.Local.{both_true}
+use Rattle.rust_cursor.proofs.LocalReaders.{both_true}
 use Rattle.rust_cursor.proofs.ClosingBrace.{around, is_plain, plain_of, plain_upto, plain_around, other_around, to_around}
 use Rattle.rust_cursor.proofs.WithinBrackets.{Within, same_within, Remains, word_symbol, entered_within, inside_within, tree_within, turns_within, elements_within, tree_text_within}
 use Rattle.rust_cursor.proofs.SoundTokens.{IsSound, sound_on, NoCloser, OpensAt, round, opens_at, opens_no_closer, not_end}
-use Rattle.rust_cursor.proofs.Enclosed.{AreEnclosed}
+use Rattle.rust_cursor.proofs.EnclosedItems.{AreEnclosed}
 use Rattle.rust_cursor.proofs.EndingTokens.{nothing}
 use Rattle.rust_cursor.proofs.Looks.{kind_symbol}
 use Rattle.rust_paths.proofs.Segments.{name_within, path_within}
@@ -18,8 +18,8 @@ use Rattle.rust_paths.specs.Paths.{is_raw}
 use Rattle.rust_metas.specs.Metas.{is_text}
 use Rattle.rust_cursor.specs.Grammar.{Grammar, inside}
 use Rattle.rust_cursor.specs.Anchored.{Anchored}
-use Rattle.rust_cursor.proofs.Anchored.{rule_leads_from}
-use Rattle.rust_metas.proofs.Leads.{attribute_leads}
+use Rattle.rust_cursor.proofs.AnchoredRules.{rule_leads_from}
+use Rattle.rust_metas.proofs.AttributeRests.{attribute_leads}
 
 -- ---- literals
 
@@ -201,12 +201,12 @@ square_opens ts e = let is = eqb-true (symbol ts) 91 e in round (rw is refl) (rw
 bracketed_within : (end c anchor : ℕ) (ts : Tokens) → IsSound end ts → (symbol ts == 91) ≡ true → Within c (reads_from anchor bracketed_meta ts).1 ts
 unfolding bracketed_meta
 bracketed_within end c anchor ts s e =
-    let us = (reads_from anchor (meta deepest) (bumped ts)).1 in
+    let us = (reads_from anchor (meta deepest_level) (bumped ts)).1 in
     let is = eqb-true (symbol ts) 91 e in
     let s1 = sound_on end (bumped_leads ts) s in
     when (begins_item us)
-    (λ f. rw f (through (meta_within end anchor deepest c (bumped ts) s1) (entered_within c ts (square_opens ts e))))
-    (λ f. rw f (subst (λ (b : ℕ). Within c (behind_closed b us) ts) is (inside_within end c ts us s (square_opens ts e) (rule_leads_from anchor (meta deepest) (bumped ts)) (meta_within end anchor deepest (symbol ts) (bumped ts) s1))))
+    (λ f. rw f (through (meta_within end anchor deepest_level c (bumped ts) s1) (entered_within c ts (square_opens ts e))))
+    (λ f. rw f (subst (λ (b : ℕ). Within c (behind_closed b us) ts) is (inside_within end c ts us s (square_opens ts e) (rule_leads_from anchor (meta deepest_level) (bumped ts)) (meta_within end anchor deepest_level (symbol ts) (bumped ts) s1))))
 
 opened_within : (end c anchor : ℕ) (style : DocStyle) (ts : Tokens) → IsSound end ts → sees (is_attribute style) ts ≡ true → Within c (reads_from anchor bracketed_meta (past_mark style ts)).1 ts
 unfolding is_attribute

@@ -1,10 +1,10 @@
 -- Attributes of tokens that look alike are the same, until one goes past where the texts part.
 use Rattle.std.proofs.Common.{◌≡◌, true, false, refl}
 use Rattle.rust_metas.proofs.Common.{DocStyle, Outer, Inner, Tokens, at, Onward, on, Parting, UpTo, pass_until, turns_until, Entering, Levels, levelled, level_enters, level_counted, until_level, sees, is_doc, is_behind, one_attribute, behind_docs, behind_attribute, attribute, attributes, outer_attributes, inner_attributes}
-use Rattle.rust_cursor.proofs.Anchored.{rule_until_from}
+use Rattle.rust_cursor.proofs.AnchoredRules.{rule_until_from}
 use Rattle.rust_cursor.proofs.Looks.{look_same, past_are, seen_no_edge, skipped_same}
 use Rattle.rust_metas.specs.Attributes.{behind_short, doc_skipped}
-use Rattle.rust_metas.proofs.Leads.{behind_attribute_leads, attribute_leads}
+use Rattle.rust_metas.proofs.AttributeRests.{behind_attribute_leads, attribute_leads}
 
 behind_attribute_onward : (b : Parting) (style : DocStyle) (ts us : Tokens) → b.twins.are ts us → Onward b.twins.are b.lost (behind_attribute style ts) (behind_attribute style us)
 unfolding behind_docs

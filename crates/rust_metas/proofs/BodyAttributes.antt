@@ -1,6 +1,6 @@
 -- Attributes of tokens beside are the same, until one goes into the braces.
-use Rattle.rust_cursor.specs.Beside.{Bodies}
-use Rattle.rust_cursor.proofs.Sides.{into_braces, braces_enter, braces_levels, is_until}
+use Rattle.rust_cursor.specs.TokensBeside.{Bodies}
+use Rattle.rust_cursor.proofs.SideReaders.{into_braces, braces_enter, braces_levels, is_until}
 use Rattle.rust_cursor.proofs.BodyReaders.{UpTo}
 use Rattle.rust_metas.proofs.Common.{outer_attributes, inner_attributes}
 use Rattle.rust_metas.proofs.Attributes as alike

@@ -1,13 +1,13 @@
 pub mod Characters
 pub mod Depths
 pub mod Docs
-pub mod Kept
+pub mod KeptMetas
 pub mod Strings
 pub mod Texts
-pub mod Leads
+pub mod AttributeRests
 pub mod AttributeBrackets
 pub mod Attributes
 pub mod BodyAttributes
 pub mod RoundTexts
-pub mod Passed
+pub mod PassedAttributes
 pub mod Common

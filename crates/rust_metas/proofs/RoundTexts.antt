@@ -5,11 +5,11 @@ use Rattle.hir_input.specs.declared.edition.EditionYear.{EditionYear}
 use Rattle.rust_lexer.specs.Piece.{Piece}
 use Rattle.rust_cursor.specs.Brackets.{behind_closing}
 use Rattle.rust_cursor.specs.Extents.{text_taken, tree_text}
-use Rattle.rust_cursor.specs.Nests.{braces_behind, closes_other, flat, is_flat, is_mark, opens_other, others_behind}
+use Rattle.rust_cursor.specs.Nests.{braces_behind, closes_other, no_bracket, is_flat, is_mark, opens_other, others_behind}
 use Rattle.rust_cursor.specs.declared.cursor.nest.Nest.{Nest}
-use Rattle.rust_cursor.proofs.Common.{closing, ends, is_closing, nest_behind, stops, taken, taking, to_closing}
-use Rattle.rust_cursor.proofs.Braced.{inside_is, outside_is}
-use Rattle.rust_cursor.proofs.Leads.{closing_empty, from_last, stops_empty, symbol_some}
+use Rattle.rust_cursor.proofs.Common.{closing, ends, is_closing, nest_behind, stops, excerpt_behind, taking, to_closing}
+use Rattle.rust_cursor.proofs.BraceWalks.{inside_is, outside_is}
+use Rattle.rust_cursor.proofs.TokenRests.{closing_empty, from_last, stops_empty, symbol_some}
 use Rattle.rust_cursor.proofs.Passing.{braces_of}
 use Rattle.rust_cursor.proofs.Scans.{taking_end, taking_more, taking_stop}
 use Rattle.rust_cursor.proofs.Steps.{closing_more, closing_stop}
@@ -116,13 +116,13 @@ module _ (e : _) (stops_by : (n : Nest) (ts : Tokens) → is_empty ts ≡ false 
       (λ z. taken_on ts inner done last o n m (stopping ∙ rw z refl) (shutting ∙ rw z refl) (next_deep n m ts more z))
 
   text_passed : (ts : Tokens) → is_at_open ts ≡ true → (symbol ts == 40) ≡ true → (text_taken e ts).1 ≡ behind_tree ts
-  unfolding taken behind_tree behind_closed to_closing
+  unfolding excerpt_behind behind_tree behind_closed to_closing
   text_passed ts opens round =
       let is : symbol ts ≡ 40 = eqb-true (symbol ts) 40 round in
-      let inside : OneMore (nest_behind flat ts) flat = record { braces = braces_of flat ts ∙ ap (braces_behind 0) is; others = others_flat flat ts refl ∙ ap (others_behind 0) is } in
-      let goes_on = ends_by (is_mark flat.before) (nest_behind flat ts) ts ∙ not_flat (nest_behind flat ts) flat inside in
-      ap (λ r. r.1) (taking_more e [] 0 None flat ts (stops_by flat ts (symbol_some 40 ts (omega arith) round)) goes_on)
-      ∙ from_last Taken taken_none taken_some (bumped ts) _ _ _ (nest_behind flat ts) flat inside ∙ sym (rw (opens, is) refl)
+      let inside : OneMore (nest_behind no_bracket ts) no_bracket = record { braces = braces_of no_bracket ts ∙ ap (braces_behind 0) is; others = others_flat no_bracket ts refl ∙ ap (others_behind 0) is } in
+      let goes_on = ends_by (is_mark no_bracket.before) (nest_behind no_bracket ts) ts ∙ not_flat (nest_behind no_bracket ts) no_bracket inside in
+      ap (λ r. r.1) (taking_more e [] 0 None no_bracket ts (stops_by no_bracket ts (symbol_some 40 ts (omega arith) round)) goes_on)
+      ∙ from_last Taken taken_none taken_some (bumped ts) _ _ _ (nest_behind no_bracket ts) no_bracket inside ∙ sym (rw (opens, is) refl)
 
 -- the text of round brackets leaves what stands behind them
 pub round_text : (ts : Tokens) → is_at_open ts ≡ true → (symbol ts == 40) ≡ true → (tree_text ts).1 ≡ behind_tree ts

@@ -1,6 +1,6 @@
 -- The steps of what strings stand for.
 use Rattle.std.proofs.Common.{◌≡◌, ◌==◌, ◌≤◌, ◌++◌, ◌∷◌, [], ℕ, zero, suc, false, Option, Some, None, unwrap_or, List, length, drop, get_or, refl, sym, ap, ◌∙◌, arith, option_and_then}
-use Rattle.rust_metas.proofs.Common.{append_assoc, ne_eqb, prepend, escaped_character, unescaped_bytes, bytes_and_left, beside, ended_string}
+use Rattle.rust_metas.proofs.Common.{append_assoc, ne_eqb, prepend, escaped_character, unescaped_bytes, bytes_and_left, with_place, ended_string}
 
 prepend-prepend : (xs ys : List ℕ) (rest : Option (List ℕ)) → prepend xs (prepend ys rest) ≡ prepend (xs ++ ys) rest
 prepend-prepend xs ys None = refl
@@ -22,12 +22,12 @@ step (Some p) out new z n e =
     prepend-prepend out p.0 (unescaped_bytes p.1 z) ∙ ap (λ xs. prepend xs (unescaped_bytes p.1 z)) bytes ∙ ap (prepend new) (ap (λ k. unescaped_bytes k z) len ∙ unescaped-drop n z)
 
 -- one more character
-pub unescaped_more : (z rest after out new : List ℕ) (len : Option ℕ) (n : ℕ) → 1 ≤ length z → (get_or z 0 0 ≡ 34 → ⊥) → rest ≡ drop 1 z → bytes_and_left out (escaped_character (get_or z 0 0) rest) ≡ beside new len → len ≡ Some n
+pub unescaped_more : (z rest after out new : List ℕ) (len : Option ℕ) (n : ℕ) → 1 ≤ length z → (get_or z 0 0 ≡ 34 → ⊥) → rest ≡ drop 1 z → bytes_and_left out (escaped_character (get_or z 0 0) rest) ≡ with_place new len → len ≡ Some n
     → after ≡ drop n rest → prepend new (unescaped_bytes 0 after) ≡ prepend out (unescaped_bytes 0 z)
 unescaped_more [] rest after out new len n l q r e f a = absurd (omega arith)
 unescaped_more (b ∷ z) rest after out new len n l q r e f a =
     let other : (b == 34) ≡ false = ne_eqb b 34 q in
-    let told : bytes_and_left out (escaped_character b z) ≡ beside new (Some n) = ap (λ k. bytes_and_left out (escaped_character b k)) (sym r) ∙ e ∙ ap (beside new) f in
+    let told : bytes_and_left out (escaped_character b z) ≡ with_place new (Some n) = ap (λ k. bytes_and_left out (escaped_character b k)) (sym r) ∙ e ∙ ap (with_place new) f in
     rw other (sym (step (escaped_character b z) out new z n told ∙ ap (λ k. prepend new (unescaped_bytes 0 (drop n k))) (sym r) ∙ ap (λ k. prepend new (unescaped_bytes 0 k)) (sym a)))
 
 none_by : (read : Option (List ℕ × ℕ)) (out new z : List ℕ) → bytes_and_left out read ≡ None → None ≡ prepend out (option_and_then (λ p. prepend p.0 (unescaped_bytes p.1 z)) read)
@@ -35,12 +35,12 @@ none_by None out new z e = refl
 none_by (Some p) out new z e = absurd cc
 
 -- no escape
-pub unescaped_none : (z rest out new : List ℕ) (len : Option ℕ) → 1 ≤ length z → (get_or z 0 0 ≡ 34 → ⊥) → rest ≡ drop 1 z → bytes_and_left out (escaped_character (get_or z 0 0) rest) ≡ beside new len → len ≡ None
+pub unescaped_none : (z rest out new : List ℕ) (len : Option ℕ) → 1 ≤ length z → (get_or z 0 0 ≡ 34 → ⊥) → rest ≡ drop 1 z → bytes_and_left out (escaped_character (get_or z 0 0) rest) ≡ with_place new len → len ≡ None
     → None ≡ prepend out (unescaped_bytes 0 z)
 unescaped_none [] rest out new len l q r e f = absurd (omega arith)
 unescaped_none (b ∷ z) rest out new len l q r e f =
     let other : (b == 34) ≡ false = ne_eqb b 34 q in
-    let told : bytes_and_left out (escaped_character b z) ≡ beside new None = ap (λ k. bytes_and_left out (escaped_character b k)) (sym r) ∙ e ∙ ap (beside new) f in
+    let told : bytes_and_left out (escaped_character b z) ≡ with_place new None = ap (λ k. bytes_and_left out (escaped_character b k)) (sym r) ∙ e ∙ ap (with_place new) f in
     rw other (none_by (escaped_character b z) out new z told)
 
 -- the quote

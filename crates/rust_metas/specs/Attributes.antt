@@ -6,7 +6,7 @@ use Rattle.rust_lexer.specs.declared.kind.DocStyle.TheVariants.{Outer, Inner}
 use Rattle.rust_cursor.specs.Tokens.{Tokens}
 use Rattle.rust_cursor.specs.Reader.{Reader, ◌>>=◌, pure, look, pass}
 use Rattle.rust_cursor.specs.Words.{at}
-use Rattle.rust_cursor.specs.Elements.{most, turns, one}
+use Rattle.rust_cursor.specs.Elements.{most_tokens, turns, one}
 use Rattle.rust_cursor.specs.Looks.{Lookahead, at_item, either_seen, kind_is, may_skip, not_seen, past_from, sees, stays_short, symbol_is, then_seen}
 use Rattle.rust_cursor.specs.Grammar.{Grammar, and_then, gives, inside, on_seen, passes_closed, reads, takes_any}
 use Rattle.rust_cursor.specs.Anchored.{Anchored, gives_from, reads_from, spans, then_from, unplaced}
@@ -14,8 +14,8 @@ use Rattle.rust_metas.specs.Literals.{root, comment_text, span_between, string_l
 use Rattle.rust_metas.specs.Metas.{doc_path, meta}
 
 -- metas and conditions stand in one another as far as this
-abbrev pub deepest : ℕ
-deepest = 128
+abbrev pub deepest_level : ℕ
+deepest_level = 128
 
 abbrev pub is_style : DocStyle → Option DocStyle → Bool
 is_style Outer (Some Outer) = true
@@ -52,7 +52,7 @@ bracket_end = on_seen at_item 0 refl (gives tt) (passes_closed 91)
 -- A meta in its bracket; what stands behind it there is passed over.
 unfoldable pub bracketed_meta : Anchored MetaView
 bracketed_meta =
-    then_from (unplaced takes_any) (λ _. then_from (meta deepest) (λ m. then_from (unplaced bracket_end) (λ _. gives_from m)))
+    then_from (unplaced takes_any) (λ _. then_from (meta deepest_level) (λ m. then_from (unplaced bracket_end) (λ _. gives_from m)))
 
 -- `#`, or `#!`
 abbrev pub mark : DocStyle → Grammar inside (Unit {0})
@@ -70,7 +70,7 @@ one_attribute style =
 
 -- behind inner documentation
 unfoldable pub behind_docs : Tokens → Tokens
-behind_docs ts = past_from (sees (is_doc Inner)) most ts
+behind_docs ts = past_from (sees (is_doc Inner)) most_tokens ts
 
 -- Inner documentation behind an outer attribute is passed over: what the attribute stands before comes behind it.
 abbrev pub behind_attribute : DocStyle → Tokens → Tokens

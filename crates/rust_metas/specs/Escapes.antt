@@ -21,18 +21,18 @@ abbrev pub hex : List ℕ → Option Escape
 hex (a ∷ b ∷ z) = if nat_lt (digit_value a) 8 && nat_lt (digit_value b) 16 then Some (stands_for (digit_value a * 16 + digit_value b) 3) else None
 hex _ = None
 
-abbrev pub later : Option (ℕ × ℕ) → Option (ℕ × ℕ)
-later read = option_map (λ p. (p.0, suc p.1)) read
+abbrev pub later_place : Option (ℕ × ℕ) → Option (ℕ × ℕ)
+later_place read = option_map (λ p. (p.0, suc p.1)) read
 
 -- The number of up to six hexadecimal digits up to a brace, with underscores behind the first, and how many bytes these are with the brace.
 -- The first number is that of the digits so far, and the second counts them.
 abbrev pub number_from : ℕ → ℕ → List ℕ → Option (ℕ × ℕ)
 number_from value count [] = None
 number_from value count (b ∷ z) =
-    if nat_lt (digit_value b) 16 then (if count == 6 then None else later (number_from (value * 16 + digit_value b) (count + 1) z))
+    if nat_lt (digit_value b) 16 then (if count == 6 then None else later_place (number_from (value * 16 + digit_value b) (count + 1) z))
     else (if count == 0 then None
     else (if b == 125 then Some (value, 1)
-    else (if b == 95 then later (number_from value count z) else None)))
+    else (if b == 95 then later_place (number_from value count z) else None)))
 
 -- a number that is no scalar value stands for nothing
 abbrev pub scalar_of : Option (ℕ × ℕ) → Option Escape

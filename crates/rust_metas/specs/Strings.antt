@@ -33,9 +33,9 @@ abbrev pub bytes_and_left : List ℕ → Option (List ℕ × ℕ) → Option (Li
 bytes_and_left bytes None = None
 bytes_and_left bytes (Some p) = Some (bytes ++ p.0, p.1)
 
-abbrev pub beside : List ℕ → Option ℕ → Option (List ℕ × ℕ)
-beside bytes None = None
-beside bytes (Some n) = Some (bytes, n)
+abbrev pub with_place : List ℕ → Option ℕ → Option (List ℕ × ℕ)
+with_place bytes None = None
+with_place bytes (Some n) = Some (bytes, n)
 
 -- What a string's bytes stand for up to its quote. The number counts the bytes that are left of an escape.
 abbrev pub unescaped_bytes : ℕ → List ℕ → Option (List ℕ)

@@ -219,7 +219,7 @@ fn pass_unwanted(cursor: &mut Cursor<'_>, style: DocStyle, wanted: WantedMetas) 
 }
 
 /// An attribute, if it is wanted.
-#[tactic(auto, using(crate::proofs::Kept::meta_kept, crate::proofs::Kept::meta_dropped))]
+#[tactic(auto, using(crate::proofs::KeptMetas::meta_kept, crate::proofs::KeptMetas::meta_dropped))]
 fn kept_attribute(
     alloc: Global,
     cursor: &mut Cursor<'_>,
@@ -256,7 +256,7 @@ fn attributes(
         if is_behind(cursor, style) {
             break;
         }
-        let past = cursor.past();
+        let past = cursor.last_end();
         let meta = kept_attribute(alloc, cursor, style, wanted)?;
         push_some(&mut metas, meta)?;
         cursor.pass_beyond(past);

@@ -167,7 +167,7 @@ fn conditions(
         if cursor.is_at_end() {
             break;
         }
-        let past = cursor.past();
+        let past = cursor.last_end();
         let condition = condition(alloc, cursor, depth - 1)?;
         conditions.push(condition)?;
         cursor.pass_beyond(past);

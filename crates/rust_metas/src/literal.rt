@@ -9,7 +9,7 @@ ghost use Rattle.rust_cursor.specs.Words.{bumped};
 ghost use Rattle.rust_metas.specs.Literals as spec;
 ghost use Rattle.rust_metas.specs.Strings as strings;
 
-use crate::string::{behind, quoted_text, raw_string_bytes, text_from, unescaped_bytes};
+use crate::string::{bytes_behind, quoted_text, raw_string_bytes, text_from, unescaped_bytes};
 use hir_input::{EditionYear, Literal, Span, SyntaxContext};
 use rust_cursor::Cursor;
 use rust_lexer::{DocStyle, LiteralKind, TokenKind};
@@ -55,11 +55,11 @@ fn string_of(alloc: Global, kind: LiteralKind, text: &str) -> Result<Option<Stri
 {
     match kind {
         LiteralKind::Str => {
-            let bytes = unescaped_bytes(alloc, behind(text.as_bytes(), 1))?;
+            let bytes = unescaped_bytes(alloc, bytes_behind(text.as_bytes(), 1))?;
             Ok(and_text(bytes))
         }
         LiteralKind::RawStr => {
-            let bytes = raw_string_bytes(alloc, behind(text.as_bytes(), 1))?;
+            let bytes = raw_string_bytes(alloc, bytes_behind(text.as_bytes(), 1))?;
             Ok(and_text(bytes))
         }
         _ => Ok(None),
@@ -145,7 +145,7 @@ pub(crate) fn value(
     if !is_ended(&ahead) {
         return Ok(None);
     }
-    let literal = next_literal(alloc, cursor, anchor, ahead.past())?;
+    let literal = next_literal(alloc, cursor, anchor, ahead.last_end())?;
     *cursor = ahead;
     Ok(Some(literal))
 }
@@ -184,7 +184,7 @@ fn without_end(z: &[u8]) -> &[u8]
 fn comment_text(kind: Option<TokenKind>, text: &str) -> &[u8]
     ensures { result.now ≡ spec.comment_text kind text.now }
 {
-    let z = behind(text.as_bytes(), 3);
+    let z = bytes_behind(text.as_bytes(), 3);
     match kind {
         Some(TokenKind::LineComment(_)) => without_return(z),
         _ => without_end(z),
@@ -226,6 +226,6 @@ pub(crate) fn documentation(
 {
     let (kind, text, start) = (cursor.kind(), cursor.text(), cursor.at());
     cursor.bump();
-    let span = span_from(anchor, start, cursor.past());
+    let span = span_from(anchor, start, cursor.last_end());
     string_literal(alloc, comment_text(kind, text), span)
 }

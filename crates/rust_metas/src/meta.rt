@@ -153,7 +153,7 @@ fn metas(
         if cursor.is_at_end() {
             break;
         }
-        let past = cursor.past();
+        let past = cursor.last_end();
         let meta = meta(alloc, cursor, anchor, depth)?;
         pass_comma(cursor);
         metas.push(meta)?;

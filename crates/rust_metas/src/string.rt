@@ -20,7 +20,7 @@ pub(crate) fn text_from(bytes: Vec<u8>) -> Option<String>
 #[tactic(auto, unfolding(crate::specs::Strings::escaped_character))]
 fn push_character(out: &mut Vec<u8>, b: u8, z: &[u8]) -> Result<Option<usize>, AllocError>
     ensures { IfOk result (λ len. spec.bytes_and_left out.old.items (spec.escaped_character b z.now)
-        ≡ spec.beside out.new.items len) }
+        ≡ spec.with_place out.new.items len) }
 {
     if b != b'\\' {
         out.push(b)?;
@@ -54,14 +54,14 @@ pub(crate) fn unescaped_bytes(alloc: Global, mut z: &[u8]) -> Result<Option<Vec<
 {
     let mut out = Vec::new(alloc);
     'bytes: while let [b, ..] = z {
-        let rest = behind(z, 1);
+        let rest = bytes_behind(z, 1);
         if *b == b'"' {
             return Ok(bytes_if_ended(out, 0, rest));
         }
         let Some(len) = push_character(&mut out, *b, rest)? else {
             return Ok(None);
         };
-        z = behind(rest, len);
+        z = bytes_behind(rest, len);
     }
     Ok(None)
 }
@@ -105,7 +105,7 @@ fn raw_from(alloc: Global, count: usize, mut z: &[u8]) -> Result<Option<Vec<u8>>
 }
 
 /// The bytes behind so many.
-pub(crate) fn behind(z: &[u8], count: usize) -> &[u8]
+pub(crate) fn bytes_behind(z: &[u8], count: usize) -> &[u8]
     ensures { result.now ≡ drop count z.now }
 {
     if count <= z.len() { &z[count..] } else { &[] }
@@ -116,7 +116,7 @@ pub(crate) fn raw_string_bytes(alloc: Global, z: &[u8]) -> Result<Option<Vec<u8>
     ensures { IfOk result (λ v. option_map (λ v. v.items) v ≡ spec.raw_string_bytes z.now) }
 {
     let count = hashes(z);
-    raw_from(alloc, count, behind(behind(z, count), 1))
+    raw_from(alloc, count, bytes_behind(bytes_behind(z, count), 1))
 }
 
 /// A byte as it is written in a string literal.

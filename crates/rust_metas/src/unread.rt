@@ -76,7 +76,7 @@ pub(crate) fn pass_unread(cursor: &mut Cursor<'_>, style: DocStyle) -> bool
     ensures passed { cursor.new
         ≡ (if result then spec.behind_unread style cursor.old else cursor.old) }
 {
-    let mut ahead = cursor.ahead();
+    let mut ahead = cursor.look_ahead();
     pass_mark(&mut ahead, style);
     if !pass_bracketed(&mut ahead) {
         return false;

@@ -5,16 +5,16 @@ pub use Rattle.hir_input.specs.Words.{PathWord, absolute_word, crate_word, dolla
 pub use Rattle.hir_input.specs.declared.ast.PathNode.{PathNode}
 pub use Rattle.hir_input.specs.declared.ast.PathNode.TheVariants.{Readable, Unreadable}
 pub use Rattle.hir_input.specs.declared.edition.EditionYear.{EditionYear}
-pub use Rattle.rust_cursor.proofs.Leads.{Forwards, behind_closed_leads, behind_tree_leads, bumped_leads, eat_pair_leads, further, here, through, turns_leads, when}
-pub use Rattle.rust_cursor.proofs.Parting.{Entering, Onward, Parting, UntilBy, by_kept, by_next, cond_until, eat_pair_until, gone, kept, on, turns_by, into}
+pub use Rattle.rust_cursor.proofs.TokenRests.{Forwards, behind_closed_leads, behind_tree_leads, bumped_leads, eat_pair_leads, further, here, through, turns_leads, when}
+pub use Rattle.rust_cursor.proofs.PartingReaders.{Entering, Onward, Parting, UntilBy, by_kept, by_next, cond_until, eat_pair_until, gone, kept, on, turns_by, into}
 pub use Rattle.rust_cursor.proofs.Rules.{identifier_symbol, rule_leads, rule_until}
 pub use Rattle.rust_cursor.proofs.Places.{AreAlike, IsAlike, SamePlace, alike_join, alike_or, both, neither, no_more, one_more}
-pub use Rattle.rust_cursor.proofs.Sides.{braces_enter, into_braces, went_until}
-pub use Rattle.rust_cursor.proofs.Twins.{after_symbol, end_same, symbol_test}
-pub use Rattle.rust_cursor.specs.Beside.{Beside, Bodies}
+pub use Rattle.rust_cursor.proofs.SideReaders.{braces_enter, into_braces, went_until}
+pub use Rattle.rust_cursor.proofs.TwinTokens.{after_symbol, end_same, symbol_test}
+pub use Rattle.rust_cursor.specs.TokensBeside.{Beside, Bodies}
 unfoldable pub use Rattle.rust_cursor.specs.Brackets.{behind_closed, behind_tree}
 pub use Rattle.rust_cursor.specs.Elements.{one, turns_from}
-unfoldable pub use Rattle.rust_cursor.specs.Elements.{beyond}
+unfoldable pub use Rattle.rust_cursor.specs.Elements.{progress_from}
 pub use Rattle.rust_cursor.specs.Grammar.{by_identifier, reads, taken_with}
 pub use Rattle.rust_cursor.specs.Looks.{past_from, sees}
 pub use Rattle.rust_cursor.specs.Reader.{Reader}

@@ -1,8 +1,8 @@
 pub mod Naming
-pub mod Meant
+pub mod MeantPaths
 pub mod Steps
 pub mod Trees
-pub mod Leads
+pub mod UseTreeRests
 pub mod Segments
 pub mod UseTrees
 pub mod BodyUseTrees

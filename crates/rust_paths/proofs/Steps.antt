@@ -2,7 +2,7 @@
 use Rattle.std.proofs.Common.{◌≡◌, ◌<◌, ◌+◌, ◌-◌, ℕ, zero, suc, Bool, true, false, List, [], ◌∷◌, Option, Some, refl, sym, ap, ◌∙◌, arith, ◌==◌, ◌&&◌, codes, bytes_eq}
 use Rattle.rust_paths.proofs.Common.{PathNode, Path, PathWord, Tokens, bumped, path_node, path_start, then_word, meaning, with_word, with_words, front_of_path, has_more, segment, more_from, is_path_part, reads, sees, past_from, symbol, word, when, scope, scope_of, scope_path, plain_scope, is_in, scoped_visibility}
 use Rattle.hir_input.specs.declared.ast.Visibility.TheVariants.{Pub}
-use Rattle.rust_paths.proofs.Meant.{meaning-step, meaning-start}
+use Rattle.rust_paths.proofs.MeantPaths.{meaning-step, meaning-start}
 
 -- no segment more
 pub more_stop : (in_use : Bool) (n : ℕ) (ts : Tokens) → sees (has_more in_use) ts ≡ false → reads (more_from in_use n) ts ≡ ([], ts)

@@ -1,6 +1,6 @@
 -- Steps over use trees.
 use Rattle.std.proofs.Common.{◌≡◌, ◌≢◌, ◌==◌, ◌<◌, ◌+◌, ◌-◌, ℕ, zero, suc, Bool, true, false, List, [], ◌∷◌, ◌++◌, map, Option, Some, None, option_map, refl, sym, ap, ◌∙◌, not, codes, bytes_eq, rules, arith, append_assoc, append-nil, Vec, Global, option_to_list}
-use Rattle.rust_paths.proofs.Common.{option_or, ne_eqb, PathNode, UseTreeView, use_tree_view, tree_from, Tokens, Reader, symbol, word, at, bumped, eat_colons, is_at_end, behind_closed, behind_tree, beyond, turns_from, one, FoundInUse, and_parts, self_word, is_colons, is_last_self, is_path_colons, is_path_keyword, is_path_start, is_segment, segment, more_segments, use_path, bare_tree, self_path, rename, tree_at, comma_from, reads, sees, list, element, trees, some_list, no_list, values, all_starts, first_too_deep}
+use Rattle.rust_paths.proofs.Common.{option_or, ne_eqb, PathNode, UseTreeView, use_tree_view, tree_from, Tokens, Reader, symbol, word, at, bumped, eat_colons, is_at_end, behind_closed, behind_tree, progress_from, turns_from, one, FoundInUse, and_parts, self_word, is_colons, is_last_self, is_path_colons, is_path_keyword, is_path_start, is_segment, segment, more_segments, use_path, bare_tree, self_path, rename, tree_at, comma_from, reads, sees, list, element, trees, some_list, no_list, values, all_starts, first_too_deep}
 use Rattle.hir_input.specs.declared.ast.Rename.{Rename}
 use Rattle.hir_input.specs.declared.ast.UseTree.{UseTree, the_lemmas}
 use Rattle.hir_input.specs.declared.ast.UseTree.TheViews.{roll-UseTree}
@@ -101,19 +101,19 @@ abbrev pub with_found : List UseTreeView → List ℕ → Option ℕ → List (F
 with_found done starts deep r = (record { value = done ++ values r.0; starts = starts ++ all_starts r.0; too_deep = option_or deep (first_too_deep r.0) }, r.1)
 
 turns-by : {A : Type 0} (ends : Tokens → Bool) (reader : Reader (List A)) (n : ℕ) (done : List A) (ts : Tokens) (b : Bool) → ends ts ≡ b
-    → turns_from ends reader n (done ++ (reader ts).0) (beyond ts.past (reader ts).1) ≡ ((done ++ (reader ts).0) ++ (turns_from ends reader n [] (beyond ts.past (reader ts).1)).0, (turns_from ends reader n [] (beyond ts.past (reader ts).1)).1)
-    → turns_from ends reader n (reader ts).0 (beyond ts.past (reader ts).1) ≡ ((reader ts).0 ++ (turns_from ends reader n [] (beyond ts.past (reader ts).1)).0, (turns_from ends reader n [] (beyond ts.past (reader ts).1)).1)
+    → turns_from ends reader n (done ++ (reader ts).0) (progress_from ts.past (reader ts).1) ≡ ((done ++ (reader ts).0) ++ (turns_from ends reader n [] (progress_from ts.past (reader ts).1)).0, (turns_from ends reader n [] (progress_from ts.past (reader ts).1)).1)
+    → turns_from ends reader n (reader ts).0 (progress_from ts.past (reader ts).1) ≡ ((reader ts).0 ++ (turns_from ends reader n [] (progress_from ts.past (reader ts).1)).0, (turns_from ends reader n [] (progress_from ts.past (reader ts).1)).1)
     → turns_from ends reader (suc n) done ts ≡ (done ++ (turns_from ends reader (suc n) [] ts).0, (turns_from ends reader (suc n) [] ts).1)
 turns-by ends reader n done ts true e f g = rw e (ap (λ l. (l, ts)) (sym (append-nil done)))
 turns-by ends reader n done ts false e f g =
-    let rest = turns_from ends reader n [] (beyond ts.past (reader ts).1) in
+    let rest = turns_from ends reader n [] (progress_from ts.past (reader ts).1) in
     rw e (f ∙ ap (λ l. (l, rest.1)) (append_assoc done (reader ts).0 rest.0) ∙ ap (λ r. (done ++ r.0, r.1)) (sym g))
 
 -- turns behind something are that and the turns behind nothing
 turns-front : {A : Type 0} (ends : Tokens → Bool) (reader : Reader (List A)) (n : ℕ) (done : List A) (ts : Tokens) → turns_from ends reader n done ts ≡ (done ++ (turns_from ends reader n [] ts).0, (turns_from ends reader n [] ts).1)
 turns-front ends reader zero done ts = ap (λ l. (l, ts)) (sym (append-nil done))
 turns-front ends reader (suc n) done ts =
-    let after = beyond ts.past (reader ts).1 in
+    let after = progress_from ts.past (reader ts).1 in
     turns-by ends reader n done ts (ends ts) refl (turns-front ends reader n (done ++ (reader ts).0) after) (turns-front ends reader n (reader ts).0 after)
 
 or-assoc : (a b c : Option ℕ) → option_or a (option_or b c) ≡ option_or (option_or a b) c
@@ -143,14 +143,14 @@ found_end tree n done starts deep ts e = ap (with_found done starts deep) (turns
 
 -- one tree more, or none
 pub found_more : (tree : Reader (FoundInUse (Option UseTreeView))) (bound at : ℕ) (done done' : List UseTreeView) (starts starts' : List ℕ) (deep deep' : Option ℕ) (found : FoundInUse (Option UseTreeView)) (ts mid after : Tokens) (all : FoundInUse (List UseTreeView) × Tokens)
-    → at < bound → is_at_end ts ≡ false → tree ts ≡ (found, mid) → after ≡ beyond ts.past mid → done' ≡ done ++ option_to_list found.value → starts' ≡ starts ++ found.starts → deep' ≡ option_or deep found.too_deep
+    → at < bound → is_at_end ts ≡ false → tree ts ≡ (found, mid) → after ≡ progress_from ts.past mid → done' ≡ done ++ option_to_list found.value → starts' ≡ starts ++ found.starts → deep' ≡ option_or deep found.too_deep
     → with_found done starts deep (turns_from is_at_end (one tree) (bound - at) [] ts) ≡ all → with_found done' starts' deep' (turns_from is_at_end (one tree) (bound - (at + 1)) [] after) ≡ all
 found_more tree bound at done done' starts starts' deep deep' found ts mid after all below e told a d s f before =
     let turn : bound - at ≡ suc (bound - (at + 1)) = omega arith in
     let rest = turns_from is_at_end (one tree) (bound - (at + 1)) [] after in
     let same : (tree ts).0 ≡ found = ap (λ p. p.0) told in
-    let behind : beyond ts.past (tree ts).1 ≡ after = ap (λ p. beyond ts.past p.1) told ∙ sym a in
-    let stepped : turns_from is_at_end (one tree) (bound - at) [] ts ≡ turns_from is_at_end (one tree) (bound - (at + 1)) ((tree ts).0 ∷ []) (beyond ts.past (tree ts).1) = rw (turn, e) refl in
+    let behind : progress_from ts.past (tree ts).1 ≡ after = ap (λ p. progress_from ts.past p.1) told ∙ sym a in
+    let stepped : turns_from is_at_end (one tree) (bound - at) [] ts ≡ turns_from is_at_end (one tree) (bound - (at + 1)) ((tree ts).0 ∷ []) (progress_from ts.past (tree ts).1) = rw (turn, e) refl in
     let turned : turns_from is_at_end (one tree) (bound - at) [] ts ≡ (found ∷ rest.0, rest.1) =
     stepped ∙ ap (λ t. turns_from is_at_end (one tree) (bound - (at + 1)) ((tree ts).0 ∷ []) t) behind
     ∙ ap (λ x. turns_from is_at_end (one tree) (bound - (at + 1)) (x ∷ []) after) same

@@ -3,7 +3,7 @@ use Rattle.std.proofs.Common.{◌≡◌, ◌||◌, ℕ, zero, suc, Bool, true, f
 use Rattle.rust_paths.proofs.Common.{PathNode, Readable, Unreadable, UseTreeView, behind_closed, one, Reader, Tokens, at, bumped, is_at_end, eat_colons, reads, sees, rule_leads, rule_until, through, Forwards, when, eat_pair_leads, behind_closed_leads, turns_leads, Onward, into, on, UntilBy, gone, kept, Parting, by_next, by_kept, cond_until, eat_pair_until, turns_by, Entering, AreAlike, no_more, one_more, alike_join, IsAlike, neither, both, alike_or, end_same, symbol_test, after_symbol, is_last_self, use_path, FoundInUse, rename, begun_trees, with_bare, tree_with_list, begun_list, with_list, star_or_list, self_in_list, with_self, self_tree, renamed_tree, tree_behind, tree_with, comma, tree_behind_comma, element_with, values, all_starts, first_too_deep, all_found, trees, some_list, no_list, list, tree_at, use_tree}
 use Rattle.rust_cursor.proofs.Looks.{skipped_are, skipped_same}
 use Rattle.rust_paths.specs.Paths.{self_skipped}
-use Rattle.rust_paths.proofs.Leads.{tree_behind_leads, element_leads, list_leads}
+use Rattle.rust_paths.proofs.UseTreeRests.{tree_behind_leads, element_leads, list_leads}
 
 -- ---- what is found
 

@@ -4,7 +4,7 @@ use Rattle.hir_input.specs.declared.ast.PathNode.{PathNode}
 use Rattle.hir_input.specs.Words.{PathWord, self_word, super_word, crate_word, absolute_word, name_word}
 use Rattle.rust_lexer.specs.declared.kind.TokenKind.{TokenKind}
 use Rattle.rust_lexer.specs.declared.kind.TokenKind.TheVariants as kinds
-use Rattle.rust_cursor.specs.Elements.{most}
+use Rattle.rust_cursor.specs.Elements.{most_tokens}
 use Rattle.rust_cursor.specs.Looks.{Lookahead, fixed_look, kind_is, symbol_is, word_is, word_meets, pair_is, not_seen, both_seen, either_seen, look_by, then_seen, stays_short, may_skip}
 use Rattle.rust_cursor.specs.Grammar.{by_identifier, outside, Grammar, gives, shows, on_seen, eats_pair, passes_angles, reads_as, ◌>>=◌}
 use Rattle.rust_paths.specs.Meaning.{path_node}
@@ -93,7 +93,7 @@ more_from in_use (suc n) = on_seen (has_more in_use) 2 (more_skipped in_use) (do
     (gives [])
 
 unfoldable pub more_segments : Bool → Grammar outside (List (Option PathWord))
-more_segments in_use = more_from in_use most
+more_segments in_use = more_from in_use most_tokens
 
 abbrev pub front_of_path : Bool → List (Option PathWord) → List (Option PathWord)
 front_of_path absolute ws = if absolute then Some absolute_word ∷ ws else ws

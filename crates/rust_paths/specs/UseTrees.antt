@@ -10,7 +10,7 @@ use Rattle.rust_cursor.specs.Tokens.{Tokens}
 use Rattle.rust_cursor.specs.Reader.{Reader, ◌>>=◌, pure, look, pass}
 use Rattle.rust_cursor.specs.Words.{symbol, at, bump, bumped, eat_colons}
 use Rattle.rust_cursor.specs.Brackets.{behind_closed, behind_tree}
-use Rattle.rust_cursor.specs.Elements.{most, elements, one}
+use Rattle.rust_cursor.specs.Elements.{most_tokens, elements, one}
 use Rattle.rust_cursor.specs.Looks.{at_end, symbol_is, sees}
 use Rattle.rust_cursor.specs.Grammar.{outside, Grammar, gives, and_then, on_seen, eats_word, passes_tree, reads, reads_as}
 use Rattle.rust_paths.specs.Names.{name}
@@ -115,7 +115,7 @@ comma_from zero = gives tt
 comma_from (suc n) = on_seen at_end 0 refl (gives tt) (on_seen (symbol_is 44) 1 refl (gives tt) (and_then passes_tree (λ _. comma_from n)))
 
 unfoldable pub comma : Grammar outside (Unit {0})
-comma = comma_from most
+comma = comma_from most_tokens
 
 -- what is left behind the next comma, or from a bracket that closes on
 abbrev pub tree_behind_comma : Tokens → Tokens

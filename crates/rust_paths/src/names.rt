@@ -236,7 +236,7 @@ pub fn placed_name(alloc: Global, cursor: &mut Cursor<'_>) -> Result<Option<Plac
     let start = cursor.at();
     match name(alloc, cursor)? {
         Some(name) => {
-            let end = cursor.past();
+            let end = cursor.last_end();
             let range = TextRange { start, end };
             Ok(Some(PlacedName { name, range }))
         }

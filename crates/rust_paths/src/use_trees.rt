@@ -361,7 +361,7 @@ fn trees(alloc: Global, cursor: &mut Cursor<'_>, depth: usize) -> Result<FoundTr
         if cursor.is_at_end() {
             break;
         }
-        let past = cursor.past();
+        let past = cursor.last_end();
         let found = element(alloc, cursor, depth)?;
         push_some(&mut trees, found.tree)?;
         found.starts.push_to(&mut starts)?;

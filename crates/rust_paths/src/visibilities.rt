@@ -1,7 +1,7 @@
 //! Visibilities.
 
 ghost use Rattle.std.specs.Prelude.{◌≡◌};
-ghost use Rattle.rust_cursor.specs.Elements.{most};
+ghost use Rattle.rust_cursor.specs.Elements.{most_tokens};
 ghost use Rattle.rust_cursor.specs.Grammar.{reads};
 ghost use Rattle.rust_cursor.specs.Looks.{past_from, sees};
 ghost use Rattle.rust_cursor.specs.Reader.{Gives};
@@ -93,7 +93,7 @@ fn is_path_part(cursor: &Cursor<'_>) -> bool
 
 #[tactic(auto, using(crate::proofs::Steps::parts_more, crate::proofs::Steps::parts_stop))]
 fn pass_parts(cursor: &mut Cursor<'_>)
-    ensures { cursor.new ≡ past_from (sees spec.is_path_part) most cursor.old }
+    ensures { cursor.new ≡ past_from (sees spec.is_path_part) most_tokens cursor.old }
 {
     let most = Cursor::most_turns();
     for _turn in 0..most {

@@ -2,13 +2,13 @@
 use Rattle.std.proofs.Common.{◌≡◌, ◌+◌, ◌++◌, ◌==◌, ◌&&◌, ◌||◌, not, ℕ, zero, suc, Bool, true, false, None, List, [], ◌∷◌, length, map, All, is_some, if◌then◌else◌, refl, sym, ap, ◌∙◌, subst, arith}
 use Rattle.std.proofs.lemmas.Bool.Decides.{nat_tests}
 use Rattle.std.proofs.lemmas.List.Elements.{All-cons, All-head, All-nil, All-tail}
-use Rattle.rust_lexer.specs.Alone.{moved}
+use Rattle.rust_lexer.specs.Alone.{moved_piece}
 use Rattle.rust_lexer.specs.Piece.{Piece}
 use Rattle.rust_lexer.specs.Symbol.{symbol_from, symbol_of}
 use Rattle.rust_lexer.specs.Tokens.{is_significant, is_significant_kind}
 use Rattle.rust_lexer.specs.declared.kind.TokenKind.{TokenKind}
 use Rattle.rust_lexer.specs.declared.kind.TokenKind.TheVariants as kinds
-use Rattle.rust_cursor.proofs.Local.{both_true}
+use Rattle.rust_cursor.proofs.LocalReaders.{both_true}
 use Rattle.rust_lexer.proofs.Cases.{when}
 use Rattle.source_changes.specs.DocAttributes.{as_comment, behind_tests, comment_if, doc_left, doc_length, doc_list, docs_as_comments, inner_doc_list, is_string_kind, is_symbol, names_doc}
 use Rattle.source_changes.specs.Inner.{ComeBehind, are_apart}
@@ -43,9 +43,9 @@ still_behind docs (suc left) place (t ∷ ts) b = (b.0, (b.1.0, still_behind doc
 -- tests that ask for no place
 abbrev AskNoPlace : List (Piece → Bool) → Type 0
 AskNoPlace [] = Unit {0}
-AskNoPlace (p ∷ ps) = ((d : ℕ) (t : Piece) → p (moved d t) ≡ p t) × AskNoPlace ps
+AskNoPlace (p ∷ ps) = ((d : ℕ) (t : Piece) → p (moved_piece d t) ≡ p t) × AskNoPlace ps
 
-moved_tests : (ps : List (Piece → Bool)) (d : ℕ) (ts : List Piece) → AskNoPlace ps → is_some (behind_tests ps (map (moved d) ts)) ≡ is_some (behind_tests ps ts)
+moved_tests : (ps : List (Piece → Bool)) (d : ℕ) (ts : List Piece) → AskNoPlace ps → is_some (behind_tests ps (map (moved_piece d) ts)) ≡ is_some (behind_tests ps ts)
 moved_tests [] d ts a = refl
 moved_tests (p ∷ ps) d [] a = refl
 moved_tests (p ∷ ps) d (t ∷ ts) a =
@@ -54,24 +54,24 @@ moved_tests (p ∷ ps) d (t ∷ ts) a =
     (λ s. when (p t) (λ q. rw (s, same, q) (moved_tests ps d ts a.1)) (λ q. rw (s, same, q) refl))
     (λ s. rw s (moved_tests (p ∷ ps) d ts a))
 
-moved_length : (d : ℕ) (ts : List Piece) → doc_length (map (moved d) ts) ≡ doc_length ts
+moved_length : (d : ℕ) (ts : List Piece) → doc_length (map (moved_piece d) ts) ≡ doc_length ts
 moved_length d ts =
     let in_list : AskNoPlace doc_list = (λ d t. refl, (λ d t. refl, (λ d t. refl, (λ d t. refl, (λ d t. refl, tt))))) in
     rw (moved_tests doc_list d ts in_list, moved_tests inner_doc_list d ts (λ d t. refl, in_list)) refl
 
-moved_if : (n d : ℕ) (t : Piece) → comment_if n (moved d t) ≡ moved d (comment_if n t)
+moved_if : (n d : ℕ) (t : Piece) → comment_if n (moved_piece d t) ≡ moved_piece d (comment_if n t)
 moved_if zero d t = refl
 moved_if (suc n) d t = refl
 
-pub moved_docs : (docs : Bool) (left d : ℕ) (ts : List Piece) → docs_as_comments docs left (map (moved d) ts) ≡ map (moved d) (docs_as_comments docs left ts)
+pub moved_docs : (docs : Bool) (left d : ℕ) (ts : List Piece) → docs_as_comments docs left (map (moved_piece d) ts) ≡ map (moved_piece d) (docs_as_comments docs left ts)
 moved_docs docs left d [] = refl
 moved_docs docs zero d (t ∷ ts) =
     let n = doc_left docs t ts in
     let same = ap (λ k. if docs || not (is_symbol 35 t) then 0 else k) (moved_length d ts) in
-    ap (λ k. comment_if k (moved d t) ∷ docs_as_comments docs k (map (moved d) ts)) same
-    ∙ ap (λ u. u ∷ docs_as_comments docs n (map (moved d) ts)) (moved_if n d t)
-    ∙ ap (λ l. moved d (comment_if n t) ∷ l) (moved_docs docs n d ts)
-moved_docs docs (suc left) d (t ∷ ts) = ap (λ l. moved d (as_comment t) ∷ l) (moved_docs docs (if is_significant t then left else suc left) d ts)
+    ap (λ k. comment_if k (moved_piece d t) ∷ docs_as_comments docs k (map (moved_piece d) ts)) same
+    ∙ ap (λ u. u ∷ docs_as_comments docs n (map (moved_piece d) ts)) (moved_if n d t)
+    ∙ ap (λ l. moved_piece d (comment_if n t) ∷ l) (moved_docs docs n d ts)
+moved_docs docs (suc left) d (t ∷ ts) = ap (λ l. moved_piece d (as_comment t) ∷ l) (moved_docs docs (if is_significant t then left else suc left) d ts)
 
 -- ---- in two parts of a text
 
@@ -182,10 +182,10 @@ brace_parts docs front o ts is =
 
 -- in braces of a text, the second of which begins what stands further on
 pub in_braces : (docs : Bool) (d : ℕ) (front inside : List Piece) (o e : Piece) (ts : List Piece) → symbol_of o ≡ 123 → symbol_of e ≡ 125
-    → docs_as_comments docs 0 (front ++ o ∷ (inside ++ map (moved d) (e ∷ ts))) ≡ docs_as_comments docs 0 front ++ o ∷ (docs_as_comments docs 0 inside ++ map (moved d) (e ∷ docs_as_comments docs 0 ts))
+    → docs_as_comments docs 0 (front ++ o ∷ (inside ++ map (moved_piece d) (e ∷ ts))) ≡ docs_as_comments docs 0 front ++ o ∷ (docs_as_comments docs 0 inside ++ map (moved_piece d) (e ∷ docs_as_comments docs 0 ts))
 in_braces docs d front inside o e ts opens closes =
     let first : is_brace o ≡ true = rw opens refl in
-    let last : is_brace (moved d e) ≡ true = rw closes refl in
-    brace_parts docs front o (inside ++ map (moved d) (e ∷ ts)) first
-    ∙ ap (λ l. docs_as_comments docs 0 front ++ o ∷ l) (brace_parts docs inside (moved d e) (map (moved d) ts) last)
-    ∙ ap (λ l. docs_as_comments docs 0 front ++ o ∷ (docs_as_comments docs 0 inside ++ moved d e ∷ l)) (moved_docs docs 0 d ts)
+    let last : is_brace (moved_piece d e) ≡ true = rw closes refl in
+    brace_parts docs front o (inside ++ map (moved_piece d) (e ∷ ts)) first
+    ∙ ap (λ l. docs_as_comments docs 0 front ++ o ∷ l) (brace_parts docs inside (moved_piece d e) (map (moved_piece d) ts) last)
+    ∙ ap (λ l. docs_as_comments docs 0 front ++ o ∷ (docs_as_comments docs 0 inside ++ moved_piece d e ∷ l)) (moved_docs docs 0 d ts)

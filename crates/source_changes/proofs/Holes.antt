@@ -8,11 +8,11 @@ use Rattle.rust_lexer.specs.Piece.{Piece}
 use Rattle.rust_lexer.specs.Symbol.{symbol_of}
 use Rattle.rust_lexer.specs.Tokens.{AreInPlace, is_significant}
 use Rattle.rust_lexer.specs.declared.depth.Depth.{Depth}
-use Rattle.rust_cursor.proofs.Local.{both_true}
+use Rattle.rust_cursor.proofs.LocalReaders.{both_true}
 use Rattle.rust_lexer.proofs.Cases.{when}
 use Rattle.source_changes.specs.DocAttributes.{as_comment, behind_tests, comment_if, doc_left, doc_list, docs_as_comments, inner_doc_list}
 use Rattle.source_changes.specs.Inner.{ComeBehind, ends_behind}
-use Rattle.source_changes.specs.Skeletons.{counts, is_begun, is_one_mark, kept, not_over, text_if_kept}
+use Rattle.source_changes.specs.Skeletons.{counts, is_begun, is_one_mark, kept_tokens, not_over, text_if_kept}
 use Rattle.source_changes.specs.declared.kept.Hole.{Hole}
 use Rattle.source_changes.proofs.AsComments.{brace_parts, is_brace, no_attribute, placed, still_behind}
 use Rattle.source_changes.proofs.Common.{nat_tests}
@@ -46,14 +46,14 @@ pub uncounted : (docs : Bool) (holes : List Hole) (before : ℕ) (t : Piece) →
 uncounted docs holes before t c = rw c refl
 
 -- they count for none of these
-pub kept_later : (docs : Bool) (place behind : ℕ) (holes : List Hole) (before : ℕ) (ts : List Piece) → place ≤ behind → ComeBehind behind ts → kept docs (not_over place holes) before ts ≡ kept docs holes before ts
+pub kept_later : (docs : Bool) (place behind : ℕ) (holes : List Hole) (before : ℕ) (ts : List Piece) → place ≤ behind → ComeBehind behind ts → kept_tokens docs (not_over place holes) before ts ≡ kept_tokens docs holes before ts
 kept_later docs place behind holes before [] le a = refl
 kept_later docs place behind holes before (t ∷ ts) le a =
-    ap (λ hs. text_if_kept docs hs before t ++ kept docs hs (symbol_of t) ts) (not_over_later place t.at holes (omega (arith, le, a.0)))
+    ap (λ hs. text_if_kept docs hs before t ++ kept_tokens docs hs (symbol_of t) ts) (not_over_later place t.at holes (omega (arith, le, a.0)))
 
 -- tokens as they come in the text
 pub kept_step : (docs : Bool) (holes : List Hole) (before place : ℕ) (t : Piece) (ts : List Piece) → ComeBehind place (t ∷ ts)
-    → kept docs holes before (t ∷ ts) ≡ text_if_kept docs (not_over t.at holes) before t ++ kept docs holes (symbol_of t) ts
+    → kept_tokens docs holes before (t ∷ ts) ≡ text_if_kept docs (not_over t.at holes) before t ++ kept_tokens docs holes (symbol_of t) ts
 kept_step docs holes before place t ts a =
     ap (λ l. text_if_kept docs (not_over t.at holes) before t ++ l) (kept_later docs t.at (t.at + length t.text) holes (symbol_of t) ts (omega arith) a.1.1)
 
@@ -61,9 +61,9 @@ kept_step docs holes before place t ts a =
 
 -- a token that is no mark with what stands before it
 pub alone : (t : Piece) (ts : List Piece) → ((before : ℕ) → is_one_mark before (symbol_of t) ≡ false)
-    → (docs : Bool) (holes : List Hole) (before other : ℕ) → kept docs holes before (t ∷ ts) ≡ kept docs holes other (t ∷ ts)
+    → (docs : Bool) (holes : List Hole) (before other : ℕ) → kept_tokens docs holes before (t ∷ ts) ≡ kept_tokens docs holes other (t ∷ ts)
 alone t ts e docs holes before other =
-    let first = not_over t.at holes in ap (λ l. l ++ kept docs first (symbol_of t) ts) (same first)
+    let first = not_over t.at holes in ap (λ l. l ++ kept_tokens docs first (symbol_of t) ts) (same first)
   where
     same : (first : List Hole) → text_if_kept docs first before t ≡ text_if_kept docs first other t
     same first = rw (e before, e other) refl
@@ -73,10 +73,10 @@ closing t e before = rw e refl
 
 -- the same where it may begin an attribute that documents
 pub docs_alone : (t : Piece) (ts : List Piece) → ((before : ℕ) → is_one_mark before (symbol_of t) ≡ false)
-    → (docs : Bool) (holes : List Hole) (before other : ℕ) → kept docs holes before (docs_as_comments docs 0 (t ∷ ts)) ≡ kept docs holes other (docs_as_comments docs 0 (t ∷ ts))
+    → (docs : Bool) (holes : List Hole) (before other : ℕ) → kept_tokens docs holes before (docs_as_comments docs 0 (t ∷ ts)) ≡ kept_tokens docs holes other (docs_as_comments docs 0 (t ∷ ts))
 docs_alone t ts e docs holes before other = by (doc_left docs t ts) (docs_as_comments docs (doc_left docs t ts) ts)
   where
-    by : (n : ℕ) (us : List Piece) → kept docs holes before (comment_if n t ∷ us) ≡ kept docs holes other (comment_if n t ∷ us)
+    by : (n : ℕ) (us : List Piece) → kept_tokens docs holes before (comment_if n t ∷ us) ≡ kept_tokens docs holes other (comment_if n t ∷ us)
     by zero us = alone t us e docs holes before other
     by (suc n) us = alone (as_comment t) us (λ b. refl) docs holes before other
 
@@ -90,7 +90,7 @@ shown (Some ts) = ts
 record AttributePassed (left place : ℕ) (ts us : List Piece) : Type 0 where
   after : ComeBehind place us
   fewer : length us ≤ length ts
-  same : (holes : List Hole) → kept false holes 0 (docs_as_comments false left ts) ≡ kept false holes 0 (docs_as_comments false 0 us)
+  same : (holes : List Hole) → kept_tokens false holes 0 (docs_as_comments false left ts) ≡ kept_tokens false holes 0 (docs_as_comments false 0 us)
 
 attribute_passed : (ps : List (Piece → Bool)) (place : ℕ) (ts us : List Piece) → behind_tests ps ts ≡ Some us → ComeBehind place ts → AttributePassed (length ps) place ts us
 unfolding shown
@@ -110,12 +110,12 @@ attribute_passed (p ∷ ps) place (t ∷ ts) us e b =
       fewer = omega (arith, r.fewer);
       same = λ holes.
           kept_later false t.at (t.at + length t.text) holes 0 _ (omega arith) (still_behind false (if is_significant t then length ps else suc (length ps)) (t.at + length t.text) ts b.1.1)
-          ∙ ap (λ d. kept false holes 0 (docs_as_comments false (if d then length ps else suc (length ps)) ts)) s ∙ r.same holes;
+          ∙ ap (λ d. kept_tokens false holes 0 (docs_as_comments false (if d then length ps else suc (length ps)) ts)) s ∙ r.same holes;
     }
 
 -- behind a token an attribute is passed, if that documents, and told as a comment, or else nothing
 pub record AttributeTold (docs is_passed : Bool) (t : Piece) (ts us : List Piece) : Type 0 where
-  pub same : (holes : List Hole) (before : ℕ) → kept docs holes before (docs_as_comments docs 0 (t ∷ ts)) ≡ (if is_passed then kept docs holes 0 (docs_as_comments docs 0 us) else kept docs holes before (t ∷ docs_as_comments docs 0 us))
+  pub same : (holes : List Hole) (before : ℕ) → kept_tokens docs holes before (docs_as_comments docs 0 (t ∷ ts)) ≡ (if is_passed then kept_tokens docs holes 0 (docs_as_comments docs 0 us) else kept_tokens docs holes before (t ∷ docs_as_comments docs 0 us))
   pub after : ComeBehind (t.at + length t.text) us
   pub fewer : length us ≤ length ts
 
@@ -125,7 +125,7 @@ told_by left ps t ts us is n f b =
     let r = subst (λ k. AttributePassed k next ts us) is (attribute_passed ps next ts us f b) in
     record {
       same = λ holes before.
-          ap (λ k. kept false holes before (comment_if k t ∷ docs_as_comments false k ts)) n
+          ap (λ k. kept_tokens false holes before (comment_if k t ∷ docs_as_comments false k ts)) n
           ∙ kept_later false t.at next holes 0 _ (omega arith) (still_behind false (suc left) next ts b) ∙ r.same holes;
       after = r.after;
       fewer = r.fewer;
@@ -141,24 +141,24 @@ inner_told docs true t ts us e h f all none same b =
     let n : doc_left false t ts ≡ 6 = rw (h, ap is_some f, ap is_some (all refl)) refl in subst (λ d. AttributeTold d true t ts us) (sym e) (told_by 5 inner_doc_list t ts us refl n (all refl) b)
 inner_told docs false t ts us e h f all none same b =
     let n : doc_left docs t ts ≡ 0 = rw (e, h, ap is_some f, ap is_some (none refl)) refl in
-    subst (AttributeTold docs false t ts) (sym (same refl)) (record { same = λ holes before. ap (kept docs holes before) (no_attribute docs t ts n); after = b; fewer = omega arith })
+    subst (AttributeTold docs false t ts) (sym (same refl)) (record { same = λ holes before. ap (kept_tokens docs holes before) (no_attribute docs t ts n); after = b; fewer = omega arith })
 
 -- ---- braces
 
 -- whatever stands before these, in both texts, the same of them is kept
 abbrev pub KeepsAlike : Bool → List Hole → List Piece → List Hole → List Piece → Type 0
-KeepsAlike docs holes ts holes' ts' = (before before' : ℕ) → kept docs holes before ts ≡ kept docs holes' before' ts'
+KeepsAlike docs holes ts holes' ts' = (before before' : ℕ) → kept_tokens docs holes before ts ≡ kept_tokens docs holes' before' ts'
 
 -- tokens in a part that is left out count for none in front of one that is no mark with any
 pub inside_left : (docs : Bool) (holes : List Hole) (before before' from to place : ℕ) (inside ts : List Piece) → ((at : ℕ) → from ≤ at → at < to → is_begun at (not_over at holes) ≡ true) → All (λ t. (from ≤ t.at) × (t.at < to)) inside
-    → ComeBehind place (inside ++ ts) → KeepsAlike docs holes ts holes ts → kept docs holes before (inside ++ ts) ≡ kept docs holes before' ts
+    → ComeBehind place (inside ++ ts) → KeepsAlike docs holes ts holes ts → kept_tokens docs holes before (inside ++ ts) ≡ kept_tokens docs holes before' ts
 inside_left docs holes before before' from to place [] ts left within a rest = rest before before'
 inside_left docs holes before before' from to place (t ∷ inside) ts left within a rest =
     let in_part = All-head (λ t. (from ≤ t.at) × (t.at < to)) t inside within in
     let begun = left t.at in_part.0 in_part.1 in
     let none : text_if_kept docs (not_over t.at holes) before t ≡ [] = when (counts docs t) (λ c. rw (c, begun) refl) (λ c. rw c refl) in
     kept_step docs holes before place t (inside ++ ts) a
-    ∙ ap (λ l. l ++ kept docs holes (symbol_of t) (inside ++ ts)) none
+    ∙ ap (λ l. l ++ kept_tokens docs holes (symbol_of t) (inside ++ ts)) none
     ∙ inside_left docs holes (symbol_of t) before' from to (t.at + length t.text) inside ts left (All-tail (λ t. (from ≤ t.at) × (t.at < to)) t inside within) a.1.1 rest
 
 -- these stand between two places
@@ -173,7 +173,7 @@ within low place (t ∷ front) o ts le b =
 pub record Passed (holes : List Hole) (place : ℕ) (ts us : List Piece) : Type 0 where
   pub after : ComeBehind place us
   pub fewer : length us ≤ length ts
-  pub same : ends_behind us holes ≡ true → (docs : Bool) (before other : ℕ) → kept docs holes other (docs_as_comments docs 0 us) ≡ kept docs holes before (docs_as_comments docs 0 ts)
+  pub same : ends_behind us holes ≡ true → (docs : Bool) (before other : ℕ) → kept_tokens docs holes other (docs_as_comments docs 0 us) ≡ kept_tokens docs holes before (docs_as_comments docs 0 ts)
 
 passed : (h : Hole) (hs : List Hole) (place : ℕ) (front : List Piece) (o : Piece) (ts : List Piece) → h.start ≤ place → symbol_of o ≡ 125 → ComeBehind place (front ++ o ∷ ts) → Passed (h ∷ hs) place (front ++ o ∷ ts) (o ∷ ts)
 passed h hs place front o ts from closes b =
@@ -185,11 +185,11 @@ passed h hs place front o ts from closes b =
       same = λ ends docs before other.
           let rest = docs_as_comments docs 0 ts in
           let parts = brace_parts docs front o ts brace in
-          ap (kept docs (h ∷ hs) other) (brace_parts docs [] o ts brace)
+          ap (kept_tokens docs (h ∷ hs) other) (brace_parts docs [] o ts brace)
           ∙ sym (inside_left docs (h ∷ hs) before other h.start o.at place (docs_as_comments docs 0 front) (o ∷ rest) (in_hole (leb-true o.at h.end ends))
           (placed (λ k. (h.start ≤ k) × (k < o.at)) docs 0 front (within h.start place front o ts from b)) (subst (ComeBehind place) parts (still_behind docs 0 place (front ++ o ∷ ts) b))
           (λ c d. alone o rest (closing o closes) docs (h ∷ hs) c d))
-          ∙ sym (ap (kept docs (h ∷ hs) before) parts);
+          ∙ sym (ap (kept_tokens docs (h ∷ hs) before) parts);
     }
   where
     in_hole : o.at ≤ h.end → (at : ℕ) → h.start ≤ at → at < o.at → is_begun at (not_over at (h ∷ hs)) ≡ true

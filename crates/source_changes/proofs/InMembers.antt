@@ -18,12 +18,12 @@ use Rattle.rust_edits.specs.Typing.Moved.{close_at, place_after_edit, shifted_by
 use Rattle.source_changes.specs.Bodies.{hole_of}
 use Rattle.source_changes.specs.Rows.{hole_inside}
 use Rattle.source_changes.specs.declared.kept.Hole.{Hole}
-use Rattle.source_changes.proofs.Beside.{moved_on}
+use Rattle.source_changes.proofs.LeftOutParts.{moved_on}
 use Rattle.source_changes.proofs.ItemHoles.{at_behind, at_front, hole_at, member_holes, name_ends}
-use Rattle.source_changes.proofs.Rising.{AreRising, rising_at, rising_within}
+use Rattle.source_changes.proofs.HoleOrder.{AreRising, rising_at, rising_within}
 use Rattle.source_changes.specs.Typing.{braces, is_member_hole, moved_hole}
 use Rattle.source_changes.proofs.Moving as moving
-use Rattle.source_changes.proofs.Typed.{back, braces_hole, contained, hole_is, long, maybe_back, range_back, range_is, range_on, range_stays, body_stays, text_back, text_front}
+use Rattle.source_changes.proofs.TypedHoles.{back, braces_hole, contained, hole_is, long, maybe_back, range_back, range_is, range_on, range_stays, body_stays, text_back, text_front}
 
 -- ---- places
 

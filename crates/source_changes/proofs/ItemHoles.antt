@@ -22,9 +22,9 @@ use Rattle.source_changes.specs.Bodies.{hole_of}
 use Rattle.source_rows.specs.Listed.{body_members}
 use Rattle.source_changes.specs.Parts.{Part, around_behind, fn_body, item_parts_from, member_part, member_parts, members_hidden, part_of_item, part_path, still_open, Outer}
 use Rattle.source_changes.specs.Rows.{bodies, hole_inside}
-use Rattle.source_changes.proofs.Beside.{moved_on}
+use Rattle.source_changes.proofs.LeftOutParts.{moved_on}
 use Rattle.source_changes.proofs.Cuts.{cut_front, cut_behind, hole_front, hole_behind}
-use Rattle.source_changes.proofs.Parted.{may_hold}
+use Rattle.source_changes.proofs.PartedItems.{may_hold}
 use Rattle.rust_items.proofs.MemberCuts.{members_moved, placed_widened}
 use Rattle.rust_items.proofs.MemberPlacing.{members_placed}
 

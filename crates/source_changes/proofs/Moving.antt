@@ -5,8 +5,8 @@ use Rattle.std.proofs.lemmas.Bool.{le-leb, lt-leb}
 use Rattle.source_changes.specs.declared.kept.Hole.{Hole}
 use Rattle.rust_edits.specs.Typing.Moved.{place_after_edit}
 use Rattle.source_changes.specs.Typing.{moved_hole}
-use Rattle.source_changes.proofs.Beside.{EndBy, holes_about, moved_on}
-use Rattle.source_changes.proofs.Rising.{AreRising, rising_le}
+use Rattle.source_changes.proofs.LeftOutParts.{EndBy, holes_about, moved_on}
+use Rattle.source_changes.proofs.HoleOrder.{AreRising, rising_le}
 
 -- holes of two texts: those before the braces, the braces, and those behind them
 pub record HolesBeside (n c c' : ℕ) (olds news : List Hole) : Type 0 where

@@ -2,7 +2,7 @@
 use Rattle.std.proofs.Common.{◌≡◌, ◌<◌, ℕ, List, [], ◌∷◌, ◌++◌, length, map, Bor, ap, sym, ◌∙◌, append-nil, arith, refl, zip}
 use Rattle.source_changes.specs.declared.matching.Keyed.{Keyed}
 use Rattle.source_changes.specs.Matches.{ranks, same_keys}
-use Rattle.source_changes.proofs.Seen.{ranks_seen}
+use Rattle.source_changes.proofs.SeenLists.{ranks_seen}
 use Rattle.source_changes.specs.declared.row_changes.Row as code_row
 use Rattle.source_changes.specs.RowChanges.{TextRow}
 use Rattle.source_changes.specs.Moves.{Frame, StandingRow, same_called, standings_from}

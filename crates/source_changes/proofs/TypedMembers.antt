@@ -30,12 +30,12 @@ use Rattle.source_rows.specs.Listed.{body_members}
 use Rattle.source_changes.specs.Parts.{fn_body}
 use Rattle.source_changes.specs.declared.kept.Hole.{Hole}
 use Rattle.source_changes.proofs.ItemHoles.{item_holes, member_holes, none_held, place_holes}
-use Rattle.source_changes.proofs.Parted.{AllStand, AreBefore, Stands, may_hold}
-use Rattle.source_changes.proofs.Rising.{AreRising, rising_item, rising_within}
+use Rattle.source_changes.proofs.PartedItems.{AllStand, AreBefore, Stands, may_hold}
+use Rattle.source_changes.proofs.HoleOrder.{AreRising, rising_item, rising_within}
 use Rattle.source_changes.specs.Typing.{AreBraces, braces, has_member_hole, is_member_hole, moved_hole}
 use Rattle.source_changes.proofs.InMembers.{Follows, all_shifted, member_is, members_typed}
 use Rattle.source_changes.proofs.Moving as moving
-use Rattle.source_changes.proofs.Typed.{around_moved, before_moves, behind_moves, only_one, range_is}
+use Rattle.source_changes.proofs.TypedHoles.{around_moved, before_moves, behind_moves, only_one, range_is}
 
 -- ---- the text of the braces
 

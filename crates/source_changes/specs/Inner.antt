@@ -18,7 +18,7 @@ use Rattle.source_changes.specs.RowChanges.{TextRow, RowChange}
 use Rattle.source_changes.specs.ChangeViews.{row_change_view, text_row_view}
 use Rattle.source_changes.specs.DocAttributes.{behind_tests, docs_as_comments, is_bare_string, is_doc_name, is_symbol}
 use Rattle.source_changes.specs.Moves.{Frame, Standing, StandingRow}
-use Rattle.source_changes.specs.Skeletons.{kept, without_returns}
+use Rattle.source_changes.specs.Skeletons.{kept_tokens, without_returns}
 
 abbrev pub with_label : TextRow → List ℕ × TextRow
 with_label r = (r.label, r)
@@ -54,7 +54,7 @@ ends_behind _ _ = false
 
 -- the texts of the tokens that are taken of what is left
 abbrev pub left_texts : Kept → List (List ℕ)
-left_texts left = kept left.has_docs left.holes.now left.before (docs_as_comments left.has_docs 0 left.lexer)
+left_texts left = kept_tokens left.has_docs left.holes.now left.before (docs_as_comments left.has_docs 0 left.lexer)
 
 -- what tells a token
 abbrev pub told_text : Told → List ℕ
@@ -76,7 +76,7 @@ are_apart (p ∷ ps) ts = not (is_some (behind_tests (p ∷ ps) ts)) && are_apar
 
 -- whatever stands before these, it is no mark with the first of them, and none of its attributes that document ends in them
 pub record IsLone (has_docs : Bool) (ts : List Piece) : Type 0 where
-  pub no_mark : (holes : List Hole) (before other : ℕ) → kept has_docs holes before (docs_as_comments has_docs 0 ts) ≡ kept has_docs holes other (docs_as_comments has_docs 0 ts)
+  pub no_mark : (holes : List Hole) (before other : ℕ) → kept_tokens has_docs holes before (docs_as_comments has_docs 0 ts) ≡ kept_tokens has_docs holes other (docs_as_comments has_docs 0 ts)
   pub apart : (front : List Piece) → docs_as_comments has_docs 0 (front ++ ts) ≡ docs_as_comments has_docs 0 front ++ docs_as_comments has_docs 0 ts
 
 -- a text in front of others, if it is taken
@@ -91,4 +91,4 @@ IsBefore place (h ∷ hs) = (place ≤ h.start) × (place ≤ h.end)
 -- some parts and others leave out the same of tokens that begin before a place
 abbrev pub AreSameUntil : ℕ → List Hole → List Hole → Type 0
 AreSameUntil place holes others =
-    (has_docs : Bool) (before : ℕ) (front : List Piece) → All (λ t. t.at < place) front → kept has_docs holes before front ≡ kept has_docs others before front
+    (has_docs : Bool) (before : ℕ) (front : List Piece) → All (λ t. t.at < place) front → kept_tokens has_docs holes before front ≡ kept_tokens has_docs others before front

@@ -41,8 +41,8 @@ abbrev pub ranks : {A : Type 0} → (A → A → Bool) → List A → List ℕ
 ranks like xs = ranks_behind like [] xs
 
 -- what the old ones alone are, and then what the new ones are
-abbrev pub matched : {A : Type 0} → (A → A → Bool) → List A → List A → List (Match A)
-matched like olds news = flat_map gone_of (partners like news olds) ++ map match_of (partners like olds news)
+abbrev pub matches_of : {A : Type 0} → (A → A → Bool) → List A → List A → List (Match A)
+matches_of like olds news = flat_map gone_of (partners like news olds) ++ map match_of (partners like olds news)
 
 -- the same, where these stay that stand in front of both lists
 abbrev pub matched_behind : {A : Type 0} → (A → A → Bool) → List (Match A) → List A → List A → List (Match A)

@@ -1,7 +1,7 @@
 -- What moved from a part around it to another of the same label.
 use Rattle.std.specs.Prelude.{ℕ, Bool, ◌==◌, ◌&&◌, nat_lt, List, [], ◌∷◌, filter, flat_map, map}
 use Rattle.std.specs.List.{zip}
-use Rattle.source_changes.specs.Matches.{match_map, matched, ranks}
+use Rattle.source_changes.specs.Matches.{match_map, matches_of, ranks}
 use Rattle.source_changes.specs.RowChanges.{RowChange, TextRow, row_change_of, same_text}
 use Rattle.source_changes.specs.Parts.{Part}
 
@@ -62,4 +62,4 @@ standing_rows ps rows = zip (standings ps) rows
 
 -- what differs between two lists of rows, where two are the same row only if they stand in the same part
 abbrev pub row_moves : List StandingRow → List StandingRow → List RowChange
-row_moves olds news = flat_map row_change_of (map (match_map (λ p. p.1)) (matched (λ p q. same_standing p.0 q.0) olds news))
+row_moves olds news = flat_map row_change_of (map (match_map (λ p. p.1)) (matches_of (λ p q. same_standing p.0 q.0) olds news))

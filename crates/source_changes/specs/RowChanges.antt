@@ -5,7 +5,7 @@ use Rattle.source_changes.specs.declared.change_kind.ChangeKind.{ChangeKind}
 use Rattle.source_changes.specs.declared.change_kind.ChangeKind.TheVariants.{Removed, Added, Changed}
 use Rattle.source_changes.specs.declared.matching.Match.{Match}
 use Rattle.source_changes.specs.declared.matching.Match.TheVariants.{Gone, Came, Stays}
-use Rattle.source_changes.specs.Matches.{matched}
+use Rattle.source_changes.specs.Matches.{matches_of}
 
 -- a row: what it is called, where it is told, the texts of its own tokens, and whether it is seen in its module alone
 pub record TextRow : Type 0 where
@@ -44,7 +44,7 @@ row_change_of (Stays r s) = if same_texts r.own s.own then [] else row_change Ch
 
 -- what differs between two lists of rows
 abbrev pub row_changes : List TextRow → List TextRow → List RowChange
-row_changes olds news = flat_map row_change_of (matched same_label olds news)
+row_changes olds news = flat_map row_change_of (matches_of same_label olds news)
 
 -- all changes, or those of what is seen outside of its module in one of the texts
 abbrev pub seen_changes : Bool → List RowChange → List RowChange

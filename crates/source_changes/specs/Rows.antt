@@ -20,14 +20,14 @@ abbrev pub bodies : List Part → List Hole
 bodies parts = flat_map (λ p. hole_inside p.body) parts
 
 -- what of a part are no tokens of those around it: all but a name that counts there
-abbrev pub outside : TextRange → Option TextRange → List Hole
-outside range None = hole range.start range.end ∷ []
-outside range (Some name) = hole range.start name.start ∷ hole name.end range.end ∷ []
+abbrev pub outside_name : TextRange → Option TextRange → List Hole
+outside_name range None = hole range.start range.end ∷ []
+outside_name range (Some name) = hole range.start name.start ∷ hole name.end range.end ∷ []
 
 -- the same of those of some parts, in preorder, that begin before a place
 abbrev pub holes_begun : ℕ → List Part → List Hole
 holes_begun place [] = []
-holes_begun place (q ∷ qs) = if nat_le place q.range.start then [] else outside q.range q.kept ++ holes_begun place qs
+holes_begun place (q ∷ qs) = if nat_le place q.range.start then [] else outside_name q.range q.kept ++ holes_begun place qs
 
 -- what of a part are no tokens of its own, where these come behind it
 abbrev pub holes : Part → List Part → List Hole

@@ -52,10 +52,10 @@ abbrev pub text_if_kept : Bool → List Hole → ℕ → Piece → List (List �
 text_if_kept has_docs holes before t = if counts has_docs t && not (is_begun t.at holes) then token_text before t ∷ [] else []
 
 -- what tells the tokens that count and stand in none of these parts, which come in order; behind a token of this symbol
-abbrev pub kept : Bool → List Hole → ℕ → List Piece → List (List ℕ)
-kept has_docs holes before [] = []
-kept has_docs holes before (t ∷ ts) = text_if_kept has_docs (not_over t.at holes) before t ++ kept has_docs (not_over t.at holes) (symbol_of t) ts
+abbrev pub kept_tokens : Bool → List Hole → ℕ → List Piece → List (List ℕ)
+kept_tokens has_docs holes before [] = []
+kept_tokens has_docs holes before (t ∷ ts) = text_if_kept has_docs (not_over t.at holes) before t ++ kept_tokens has_docs (not_over t.at holes) (symbol_of t) ts
 
 -- the same of a text, in which attributes that document count as comments that do
 abbrev pub skeleton : Bool → List Hole → List ℕ → List (List ℕ)
-skeleton has_docs holes text = kept has_docs holes 0 (docs_as_comments has_docs 0 (tokens text))
+skeleton has_docs holes text = kept_tokens has_docs holes 0 (docs_as_comments has_docs 0 (tokens text))

@@ -3,7 +3,7 @@
 ghost use Rattle.std.specs.Prelude.{◌≡◌, ◌∷◌, ◌+◌, ◌≤◌, ℕ, List, IsTrue, Some, None, false, if◌then◌else◌, length, map};
 ghost use Rattle.source_changes.specs.DocAttributes as spec;
 ghost use Rattle.source_changes.specs.Inner as inner;
-ghost use Rattle.source_changes.specs.Skeletons.{kept};
+ghost use Rattle.source_changes.specs.Skeletons.{kept_tokens};
 ghost use Rattle.source_changes.specs.declared.kept.Hole.{Hole};
 
 use rust_cursor::last_byte;
@@ -115,9 +115,9 @@ fn pass_if_all(signs: &[Sign], lexer: &mut Lexer<'_>) -> bool
 pub(crate) fn pass_doc_attribute(token: &Token<'_>, has_docs: bool, lexer: &mut Lexer<'_>) -> bool
     requires { inner.ComeBehind (token.now.at + length token.now.text) lexer.old }
     ensures same { (holes : List Hole) (before : ℕ) →
-        kept has_docs holes before (spec.docs_as_comments has_docs 0 (token.now ∷ lexer.old))
-        ≡ (if result then kept has_docs holes 0 (spec.docs_as_comments has_docs 0 lexer.new)
-        else kept has_docs holes before (token.now ∷ spec.docs_as_comments has_docs 0 lexer.new)) }
+        kept_tokens has_docs holes before (spec.docs_as_comments has_docs 0 (token.now ∷ lexer.old))
+        ≡ (if result then kept_tokens has_docs holes 0 (spec.docs_as_comments has_docs 0 lexer.new)
+        else kept_tokens has_docs holes before (token.now ∷ spec.docs_as_comments has_docs 0 lexer.new)) }
     ensures after { inner.ComeBehind (token.now.at + length token.now.text) lexer.new }
     ensures fewer { length lexer.new ≤ length lexer.old }
 {

@@ -81,8 +81,8 @@ fn ends_behind(lexer: &Lexer<'_>, holes: &[Hole]) -> bool
 fn pass_hole(token: &Token<'_>, holes: &[Hole], may_pass: &mut bool, lexer: &mut Lexer<'_>)
     requires { inner.ComeBehind (token.now.at + length token.now.text) lexer.old }
     ensures same { (has_docs : Bool) (before : ℕ) →
-        spec.kept has_docs holes.now before (docs_as_comments has_docs 0 lexer.new)
-        ≡ spec.kept has_docs holes.now before (docs_as_comments has_docs 0 lexer.old) }
+        spec.kept_tokens has_docs holes.now before (docs_as_comments has_docs 0 lexer.new)
+        ≡ spec.kept_tokens has_docs holes.now before (docs_as_comments has_docs 0 lexer.old) }
     ensures after { inner.ComeBehind (token.now.at + length token.now.text) lexer.new }
     ensures fewer { length lexer.new ≤ length lexer.old }
 {
@@ -116,7 +116,7 @@ struct Kept<'a> {
 fn is_taken(token: &Token<'_>, left: &mut Kept<'_>) -> bool
     requires { inner.ComeBehind (token.now.at + length token.now.text) left.old.lexer }
     ensures same { let seen = docs_as_comments left.old.has_docs 0 (token.now ∷ left.old.lexer) in
-        spec.kept left.old.has_docs left.old.holes.now left.old.before seen
+        spec.kept_tokens left.old.has_docs left.old.holes.now left.old.before seen
         ≡ inner.text_first result (spec.token_text left.old.before token.now) (inner.left_texts left.new) }
     ensures after { inner.ComeBehind 0 left.new.lexer }
     ensures fewer { length left.new.lexer ≤ length left.old.lexer }
@@ -348,7 +348,7 @@ impl<'a> Skeleton<'a> {
         are_same_holes(self.holes, other.holes)
     }
 
-    fn kept(self) -> Kept<'a>
+    fn into_kept(self) -> Kept<'a>
         ensures value { inner.left_texts result ≡ skeleton_view self.entry }
         ensures after { inner.ComeBehind 0 result.lexer }
     {
@@ -366,6 +366,6 @@ impl<'a> Skeleton<'a> {
         ensures { IsTrue result ↔ (skeleton_view self.entry ≡ skeleton_view other.entry) }
     {
         // Most are written as they were: their tokens are not looked at.
-        self.is_written_as(other) || are_same(self.kept(), other.kept())
+        self.is_written_as(other) || are_same(self.into_kept(), other.into_kept())
     }
 }

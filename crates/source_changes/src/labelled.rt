@@ -11,7 +11,10 @@ use std::alloc::{AllocError, Global};
 pub(crate) type Labelled<'a> = Keyed<&'a str, Row<'a>>;
 
 /// The rows of a text, each with its label.
-pub(crate) fn labelled<'a>(alloc: Global, rows: &[Row<'a>]) -> Result<Vec<Labelled<'a>>, AllocError>
+pub(crate) fn label_rows<'a>(
+    alloc: Global,
+    rows: &[Row<'a>],
+) -> Result<Vec<Labelled<'a>>, AllocError>
     ensures { IfOk result (λ v. map labelled_view v.items
         ≡ map with_label (map text_row_view rows.now)) }
 {

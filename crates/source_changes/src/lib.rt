@@ -36,7 +36,7 @@ pub use row_changes::{Change, Row, changes, seen_changes};
 use rust_items::{Wanted, WantedMetas, read_wanted};
 pub use source_rows::Source;
 use std::alloc::{AllocError, Global};
-pub use strays::{outside, row_around};
+pub use strays::{row_around, stray_part};
 pub use text_parts::{Part, parts};
 pub use tokens::{bodies, rows};
 pub use told::file_change;
@@ -154,14 +154,14 @@ fn outside_lines(alloc: Global, pair: Pair<'_>) -> Result<String, AllocError>
         let lines = spec.row_texts p.form (source_view p.old) (source_view p.new) (row_changes before after) in
         IfOk result (λ text. string_bytes text ≡ lines) }
 {
-    let before = outside(
+    let before = stray_part(
         alloc,
         pair.old.text,
         pair.edition,
         pair.is_public,
         pair.olds,
     )?;
-    let after = outside(
+    let after = stray_part(
         alloc,
         pair.new.text,
         pair.edition,

@@ -167,7 +167,7 @@ fn take_front<'a, K: Eq, T>(
 ) -> Result<Found<'a, Keyed<K, T>>, AllocError>
     ensures { IfOk result
         (λ both. spec.matched_behind (same_keys K.eq) (map match_now both.items) olds.new.now news.new.now
-        ≡ spec.matched (same_keys K.eq) olds.old.now news.old.now) }
+        ≡ spec.matches_of (same_keys K.eq) olds.old.now news.old.now) }
 {
     let mut both = Vec::new(alloc);
     'pairs: while let Some((old, new)) = take_first(olds, news) {
@@ -182,13 +182,13 @@ fn take_front<'a, K: Eq, T>(
 /// # Errors
 ///
 /// Only if memory runs out.
-pub(crate) fn matched<'a, K: Eq + Hash + Copy + Drop, T>(
+pub(crate) fn match_keyed<'a, K: Eq + Hash + Copy + Drop, T>(
     alloc: Global,
     olds: &'a [Keyed<K, T>],
     news: &'a [Keyed<K, T>],
 ) -> Result<Vec<Match<&'a Keyed<K, T>>>, AllocError>
     ensures { IfOk result (λ v. map match_now v.items
-        ≡ spec.matched (same_keys K.eq) olds.now news.now) }
+        ≡ spec.matches_of (same_keys K.eq) olds.now news.now) }
 {
     let (mut olds, mut news) = (olds, news);
     let mut both = take_front(alloc, &mut olds, &mut news)?;

@@ -8,8 +8,8 @@ ghost use Rattle.source_changes.specs.Inner.{frame_view, standing_row_view, stan
 ghost use Rattle.source_changes.specs.Moves as spec;
 ghost use Rattle.source_changes.specs.Views.{part_view};
 
-use crate::labelled::labelled;
-use crate::matching::{Keyed, matched, ranks};
+use crate::labelled::label_rows;
+use crate::matching::{Keyed, match_keyed, ranks};
 use crate::row_changes::{Change, Row, changes_of};
 use crate::text_parts::Part;
 use std::alloc::{AllocError, Global};
@@ -70,7 +70,7 @@ fn standing_in<'a>(frames: &[Frame<'a>], label: &'a str) -> Standing<'a>
 }
 
 /// A part, and behind it those around it.
-fn entered<'a>(
+fn enter_part<'a>(
     alloc: Global,
     part: &'a Part,
     rank: usize,
@@ -106,7 +106,7 @@ fn standing_rows_in<'a>(
             key: standing_in(&around, &row.part.label),
             item: *row,
         })?;
-        frames = entered(alloc, row.part, *rank, &mut around)?;
+        frames = enter_part(alloc, row.part, *rank, &mut around)?;
         left_rows = more_rows;
         left_ranks = more_ranks;
     }
@@ -118,7 +118,7 @@ fn standing_rows<'a>(alloc: Global, rows: &[Row<'a>]) -> Result<Vec<StandingRow<
     ensures { let all = spec.standing_rows (map row_part rows.now) (map text_row_view rows.now) in
         IfOk result (λ v. map standing_row_view v.items ≡ all) }
 {
-    let labelled = labelled(alloc, rows)?;
+    let labelled = label_rows(alloc, rows)?;
     let ranks = ranks(alloc, &labelled)?;
     standing_rows_in(alloc, rows, &ranks)
 }
@@ -141,6 +141,6 @@ pub fn moves<'r>(
 {
     let olds = standing_rows(alloc, old)?;
     let news = standing_rows(alloc, new)?;
-    let found = matched(alloc, &olds, &news)?;
+    let found = match_keyed(alloc, &olds, &news)?;
     changes_of(alloc, &found)
 }

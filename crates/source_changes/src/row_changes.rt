@@ -9,8 +9,8 @@ ghost use Rattle.source_changes.specs.Skeletons.{skeleton};
 
 use crate::change_kind::ChangeKind;
 use crate::kept::{Hole, Skeleton};
-use crate::labelled::labelled;
-use crate::matching::{Keyed, Match, matched};
+use crate::labelled::label_rows;
+use crate::matching::{Keyed, Match, match_keyed};
 use crate::text_parts::Part;
 use crate::tokens::own_holes;
 use source_rows::text_at;
@@ -63,7 +63,7 @@ pub struct Change<'r> {
     pub is_hidden: bool,
 }
 
-fn changed<'r>(kind: ChangeKind, is_hidden: bool, row: Row<'r>) -> Change<'r>
+fn row_change<'r>(kind: ChangeKind, is_hidden: bool, row: Row<'r>) -> Change<'r>
     ensures { row_change_view result ≡ spec.row_change kind is_hidden (text_row_view row.entry) }
 {
     Change {
@@ -78,7 +78,7 @@ fn in_one<'r>(kind: ChangeKind, row: Row<'r>) -> Change<'r>
     ensures { let r = text_row_view row.entry in
         row_change_view result ≡ spec.row_change kind r.is_hidden r }
 {
-    changed(kind, row.part.is_hidden, row)
+    row_change(kind, row.part.is_hidden, row)
 }
 
 /// What became of a row; none where both texts have the same tokens of it.
@@ -97,7 +97,7 @@ fn change_of<'r, K>(
                 return Ok(None);
             }
             let is_hidden = old.item.part.is_hidden && new.item.part.is_hidden;
-            Ok(Some(changed(ChangeKind::Changed, is_hidden, new.item)))
+            Ok(Some(row_change(ChangeKind::Changed, is_hidden, new.item)))
         }
     }
 }
@@ -148,9 +148,9 @@ pub fn changes<'r>(
     ensures { IfOk result (λ v. map row_change_view v.items
         ≡ spec.row_changes (map text_row_view old.now) (map text_row_view new.now)) }
 {
-    let olds = labelled(alloc, old)?;
-    let news = labelled(alloc, new)?;
-    let found = matched(alloc, &olds, &news)?;
+    let olds = label_rows(alloc, old)?;
+    let news = label_rows(alloc, new)?;
+    let found = match_keyed(alloc, &olds, &news)?;
     changes_of(alloc, &found)
 }
 

@@ -38,7 +38,7 @@ fn attributes_end(alloc: Global, text: &str, edition: EditionYear) -> Result<usi
 {
     let mut cursor = Cursor::new(text, edition);
     let _attributes = kept_inner_attributes(alloc, &mut cursor, WantedMetas::Conditions)?;
-    Ok(cursor.past())
+    Ok(cursor.last_end())
 }
 
 fn outside_start(
@@ -61,7 +61,7 @@ fn outside_start(
 /// # Errors
 ///
 /// Only if memory runs out.
-pub fn outside(
+pub fn stray_part(
     alloc: Global,
     text: &str,
     edition: EditionYear,

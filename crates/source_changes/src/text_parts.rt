@@ -296,6 +296,10 @@ fn enter<'t>(
 }
 
 /// The items of a text of an edition, which stand so in preorder, and behind each its members.
+///
+/// # Errors
+///
+/// Only if memory runs out.
 #[tactic(auto, using(crate::proofs::PartSteps::parts_more))]
 pub fn parts(
     alloc: Global,

@@ -45,7 +45,7 @@ fn push_outside(
     kept: Option<TextRange>,
     holes: &mut Vec<Hole>,
 ) -> Result<(), AllocError>
-    ensures { OnOk result (holes.new.items ≡ holes.old.items ++ spec.outside range kept) }
+    ensures { OnOk result (holes.new.items ≡ holes.old.items ++ spec.outside_name range kept) }
 {
     let Some(name) = kept else {
         holes.push(Hole {
@@ -66,7 +66,7 @@ fn push_outside(
 }
 
 /// Adds the same of those of some parts, in preorder, that begin before a place.
-#[tactic(auto, using(crate::proofs::Begun::begun_more, crate::proofs::Begun::begun_stop))]
+#[tactic(auto, using(crate::proofs::PartHoles::begun_more, crate::proofs::PartHoles::begun_stop))]
 pub(crate) fn push_begun(
     place: usize,
     parts: &[Part],

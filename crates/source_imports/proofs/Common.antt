@@ -22,7 +22,7 @@ pub use Rattle.source_listing.specs.Objects.{column_form, line_form, range_form}
 pub use Rattle.source_rows.specs.Places.{place_of}
 pub use Rattle.line_index.specs.declared.Units.{Units}
 pub use Rattle.source_imports.specs.Repeated.{Named, Repeat, first_alike, forest_named, is_alike, leaf_named, named_import, node_named, repeat_if_any, repeats}
-pub use Rattle.source_listing.specs.Uses.{FilePlaces, PlacedText, Trees, import_spot, placed, tree_spots, tree_spots_in, use_trees_at, with_places}
+pub use Rattle.source_listing.specs.Uses.{FilePlaces, PlacedText, Trees, import_spot, file_places, tree_spots, tree_spots_in, use_trees_at, with_places}
 pub use Rattle.source_imports.specs.Views.{import_choice_view}
 pub use Rattle.source_rows.specs.declared.finder.Spot.{Spot}
 pub use Rattle.std.proofs.Common.{All, Bool, Bor, Decides, List, None, Option, Some, [], ap, append-nil, append_assoc, arith, false, find, flat_map, if◌then◌else◌, length, length-append, map, nat_eq, option_copied, option_map, refl, rules, slice_index_or, string_bytes, subst, suc, sum_by, sym, take, take_all, true, ℕ, ⊎_elim, ◌&&◌, ◌*◌, ◌++◌, ◌+◌, ◌-◌, ◌<◌, ◌==◌, ◌∙◌, ◌∷◌, ◌≡◌, ◌≤◌}

@@ -3,6 +3,6 @@ pub mod TreeEnds
 pub mod NoFloats
 pub mod ImportCfgLists
 pub mod ImportExclusions
-pub mod Imported
+pub mod ImportedNames
 pub mod Repeats
 pub mod Firsts

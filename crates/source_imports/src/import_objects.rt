@@ -8,7 +8,7 @@ ghost use Rattle.item_tree.specs.Shown.{IsContained};
 ghost use Rattle.source_imports.specs.ImportObjects as spec;
 ghost use Rattle.source_listing.specs.Views.{placed_trees_view};
 ghost use Rattle.source_rows.specs.Places.{AreDistinct};
-ghost use Rattle.source_listing.specs.Uses.{placed, tree_spots_in};
+ghost use Rattle.source_listing.specs.Uses.{file_places, tree_spots_in};
 
 use hir_input::Edition;
 use hir_input_json::member::Members;
@@ -155,7 +155,7 @@ pub fn import_items(
 ) -> Result<Vec<Value>, AllocError>
     requires { AreDistinct places.now }
     ensures { let objects = spec.import_objects units text.now edition.now.reserved.items
-        (placed places.now use_trees.now) in
+        (file_places places.now use_trees.now) in
         IfOk result (λ items. map view items.items ≡ objects tree.now.forest) }
 {
     let mut finder = PlaceFinder::new(text, places, use_trees);

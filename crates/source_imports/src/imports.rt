@@ -14,7 +14,7 @@ ghost use Rattle.source_listing.specs.Paths.{bare_segment};
 ghost use Rattle.source_listing.specs.Views.{placed_trees_view, source_view};
 ghost use Rattle.source_rows.specs.Places.{AreDistinct};
 ghost use Rattle.source_imports.specs.Removals.{import_removal, removals};
-ghost use Rattle.source_listing.specs.Uses.{import_spot, placed, tree_spots};
+ghost use Rattle.source_listing.specs.Uses.{import_spot, file_places, tree_spots};
 ghost use Rattle.source_imports.specs.Views.{import_choice_view};
 ghost use Rattle.hir_input.specs.Cfg.{cfg_view};
 
@@ -179,7 +179,7 @@ fn push_imports(
 }
 
 /// The modules around a declaration, with two colons before each.
-#[tactic(auto, using(source_listing::proofs::Pushed::segments_of))]
+#[tactic(auto, using(source_listing::proofs::PushedTexts::segments_of))]
 fn scope_of(alloc: Global, declaration: &Declaration<'_>) -> Result<String, AllocError>
     ensures { let names = map (λ n. n.now) declaration.now.path.value.items in
         IfOk result (λ scope. string_bytes scope ≡ flat_map bare_segment names) }
@@ -285,7 +285,7 @@ pub fn import_lines(
     choice: ImportChoice<'_>,
 ) -> Result<String, AllocError>
     requires { AreDistinct places.now }
-    ensures { let all = placed places.now use_trees.now in
+    ensures { let all = file_places places.now use_trees.now in
         let lines = spec.import_lines edition.now.reserved.items form (import_choice_view choice.entry) in
         let lines = lines (source_view source.entry) all in
         IfOk result (λ text. string_bytes text ≡ lines tree.now.forest) }

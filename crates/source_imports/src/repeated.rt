@@ -9,7 +9,7 @@ ghost use Rattle.source_imports.specs.Inner.{named_at, listed_named_view, own_na
 ghost use Rattle.source_listing.specs.Views.{placed_trees_view};
 ghost use Rattle.source_rows.specs.Places.{AreDistinct};
 ghost use Rattle.source_imports.specs.Repeated as spec;
-ghost use Rattle.source_listing.specs.Uses.{placed, tree_spots};
+ghost use Rattle.source_listing.specs.Uses.{file_places, tree_spots};
 ghost use Rattle.source_imports.specs.Inner.{alike_by};
 ghost use Rattle.source_imports.specs.Views.{import_choice_view, repeated_import_view};
 
@@ -347,7 +347,7 @@ pub fn repeated_imports(
     choice: ImportChoice<'_>,
 ) -> Result<Vec<RepeatedImport>, AllocError>
     requires { AreDistinct places.now }
-    ensures { let all = placed places.now use_trees.now in
+    ensures { let all = file_places places.now use_trees.now in
         let repeats = spec.repeated_imports text.now edition.now.reserved.items
         (import_choice_view choice.entry) all tree.now.forest in
         IfOk result (λ found. map repeated_import_view found.items ≡ repeats) }

@@ -10,7 +10,7 @@ use Rattle.source_listing.proofs.Common.{Tree, branches_from, branch_nodes, Lead
 use Rattle.rust_cursor.specs.Tokens.{Tokens}
 use Rattle.rust_cursor.specs.Reader.{Reader}
 use Rattle.rust_cursor.specs.Words.{symbol, at, bumped, is_at_end, eat_colons}
-use Rattle.rust_cursor.specs.Elements.{most, beyond, turns_from, turns, elements, one}
+use Rattle.rust_cursor.specs.Elements.{most_tokens, progress_from, turns_from, turns, elements, one}
 use Rattle.rust_paths.specs.Paths.{is_last_self, use_path}
 use Rattle.rust_paths.specs.UseTrees.{FoundInUse, begun_trees, begun_list, values, all_starts, bare_tree, tree_with_list, star_or_list, tree_behind, tree_with, tree_at, element_with, list, comma, rename, self_in_list, self_path, use_tree}
 use Rattle.rust_paths.proofs.Trees.{self_reads}
@@ -206,13 +206,13 @@ module _ (read : Reader (FoundInUse (Option UseTreeView))) (h : (ts : Tokens) �
   turns_told (suc n) fs ts p e =
       when (is_at_end ts) (λ s. rw s (record { each = e; leads = p }))
       (λ s.
-      let after = beyond ts.past (read ts).1 in
+      let after = progress_from ts.past (read ts).1 in
       let leads = through p (through (h ts).leads (beyond_leads ts.past (read ts).1)) in
       rw s (turns_told n (fs ++ (read ts).0 ∷ []) after leads (more_told fs ts p e)))
 
   elements_told : (ts : Tokens) → LeadsTo base ts → AreTold (elements (one read) ts)
   unfolding turns nodes_in
-  elements_told ts p = turns_told most [] ts p tt
+  elements_told ts p = turns_told most_tokens [] ts p tt
 
 list_told : (depth : ℕ) (ts : Tokens) → ListTold ts (list depth ts)
 unfolding list listed

@@ -8,7 +8,7 @@ pub use Rattle.item_tree.specs.Node.{Forest, Node, Unfolding, empty, leaf, more,
 pub use Rattle.item_tree.specs.Shown.{StandFor}
 pub use Rattle.item_tree.specs.Tree.{Tree, branch_nodes, branches_from}
 pub use Rattle.item_tree.specs.Walk.{children, children_at, count_at}
-pub use Rattle.rust_cursor.proofs.Leads.{LeadsTo, behind_closed_leads, behind_tree_leads, beyond_leads, bumped_leads, eat_pair_leads, here, through, when}
+pub use Rattle.rust_cursor.proofs.TokenRests.{LeadsTo, behind_closed_leads, behind_tree_leads, beyond_leads, bumped_leads, eat_pair_leads, here, through, when}
 pub use Rattle.rust_items.specs.declared.source_file.ItemPlace.{ItemPlace}
 pub use Rattle.serde_json.specs.View.{items_of, view}
 pub use Rattle.source_listing.specs.Inner.{IsPrinterOf, IsSameFile, file_of, objects_at, places_of, reserved_of}
@@ -22,7 +22,7 @@ pub use Rattle.line_index.specs.declared.Units.TheVariants.{Characters}
 pub use Rattle.source_listing.specs.Search.{Candidate, found_object}
 pub use Rattle.source_listing.specs.Paths.{bare_segment}
 pub use Rattle.list_forms.specs.Lines.{column_number, line_number}
-pub use Rattle.source_listing.specs.Uses.{FilePlaces, PlacedText, from_place, placed, with_places}
+pub use Rattle.source_listing.specs.Uses.{FilePlaces, PlacedText, from_place, file_places, with_places}
 pub use Rattle.source_rows.specs.declared.finder.Spot.{Spot}
 pub use Rattle.source_listing.specs.declared.printer.Printer.{Printer}
 pub use Rattle.source_rows.specs.Listed.{Listed, MemberReading, header_of, members_of}

@@ -1,11 +1,11 @@
 pub mod Common
 pub mod Skips
-pub mod Nested
+pub mod NestedObjects
 pub mod NoFloats
-pub mod Pushed
-pub mod Chosen
+pub mod PushedTexts
+pub mod ChosenRows
 pub mod MetaCfgLists
 pub mod Printers
 pub mod AtStarts
-pub mod Named
-pub mod Shown
+pub mod NamePaths
+pub mod ShownNames

@@ -42,15 +42,15 @@ pub record ItemView : Type 0 where
   pub visibility : Option RawVisibility
   pub is_active : Bool
 
--- that of a node
+-- the item of a node, in what a cfg disables or none does
 abbrev pub item_in : Bool → Node → ItemView
 item_in is_active n = record { id = node_ast n; name = node_name n; subject = node_subject n; visibility = node_visibility n; is_active = is_active && is_enabled n }
 
--- that of an id, alone in a list
+-- the item of an id, alone in a list
 abbrev pub item_at : Unfolding → Bool → ℕ → List ItemView
 item_at u is_active i = of_id u [] (λ n. item_in is_active n ∷ []) i
 
--- that of a row
+-- the item of a row
 abbrev pub item_in_row : RowView → ItemView
 item_in_row r = record { id = r.id; name = r.name; subject = r.subject; visibility = r.visibility; is_active = r.is_active }
 

@@ -72,5 +72,5 @@ sought_by None text = option_map (sought_from true) (sought_names text)
 sought_by (Some names) text = option_map (sought_from false) (sought_names names)
 
 -- the path that a text is, if it is one
-abbrev pub sought : List ℕ → Option Sought
-sought text = sought_by (behind_top text) text
+abbrev pub sought_path : List ℕ → Option Sought
+sought_path text = sought_by (behind_top text) text

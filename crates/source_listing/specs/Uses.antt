@@ -14,8 +14,8 @@ pub record FilePlaces : Type 0 where
   pub use_trees : List ℕ
 
 -- the places of a file's items and of its use trees
-abbrev pub placed : List ItemPlace → List ℕ → FilePlaces
-placed items use_trees = record { items = items; use_trees = use_trees }
+abbrev pub file_places : List ItemPlace → List ℕ → FilePlaces
+file_places items use_trees = record { items = items; use_trees = use_trees }
 
 -- a text, with where its items and use trees stand
 pub record PlacedText : Type 0 where

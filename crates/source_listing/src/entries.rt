@@ -61,7 +61,7 @@ pub(crate) fn entry_word(kind: EntryKind<'_, '_>) -> &'static str
     }
 }
 
-/// The item of an id that the tree has, in items of which a cfg disables one or none.
+/// The item of an id that the tree has. `is_active` tells whether no cfg disables what it stands in.
 pub fn item_of(tree: &ItemTree, id: ModItemId, is_active: bool) -> Item<'_>
     requires { IsContained tree.now id }
     ensures { shown_item_view result ∷ [] ≡ spec.item_at tree.now is_active id }

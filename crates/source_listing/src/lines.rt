@@ -8,7 +8,7 @@ ghost use Rattle.source_listing.specs.Inner.{IsPrinterOf, IsSameFile, file_of, r
 ghost use Rattle.source_listing.specs.Lines as spec;
 ghost use Rattle.source_listing.specs.Objects.{member_spot};
 ghost use Rattle.source_rows.specs.Places.{AreDistinct, item_place};
-ghost use Rattle.source_listing.specs.Uses.{placed};
+ghost use Rattle.source_listing.specs.Uses.{file_places};
 ghost use Rattle.source_listing.specs.Views.{choice_view, source_view};
 
 use crate::place_finder::PlaceFinder;
@@ -192,7 +192,7 @@ impl<'a> Printer<'a> {
         edition: &'a Edition,
     ) -> Self
         requires { AreDistinct places.now }
-        ensures { let all = placed places.entry.now use_trees.entry.now in
+        ensures { let all = file_places places.entry.now use_trees.entry.now in
             IsPrinterOf (source_view source.entry) all edition.entry.now result }
     {
         Printer {

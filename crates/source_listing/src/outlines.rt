@@ -7,7 +7,7 @@ ghost use Rattle.source_rows.specs.ListedViews.{listed_view, reading_view};
 ghost use Rattle.source_rows.specs.Places.{AreDistinct};
 ghost use Rattle.source_listing.specs.Inner.{IsSameFile, entry_view, file_of, places_of, reserved_of};
 ghost use Rattle.source_listing.specs.Outlines as spec;
-ghost use Rattle.source_listing.specs.Uses.{placed};
+ghost use Rattle.source_listing.specs.Uses.{file_places};
 ghost use Rattle.source_listing.specs.Views.{look_view, placed_trees_view, source_view};
 
 use crate::entries::{Entry, import_entry, item_entry, item_of_row, member_entry, opened_imports};
@@ -238,7 +238,7 @@ pub fn outline(
 ) -> Result<String, AllocError>
     requires { AreDistinct places.now }
     ensures { let text_of = spec.outline_text (source_view source.entry) edition.now.reserved.items (look_view look)
-        (reading_view reading.entry) (placed places.now use_trees.now) in
+        (reading_view reading.entry) (file_places places.now use_trees.now) in
         IfOk result (λ text. string_bytes text ≡ text_of (rows.rows tree.now)) }
 {
     let mut printer = Printer::new(source, places, use_trees, edition);

@@ -24,14 +24,14 @@ pub struct PlaceFinder<'a> {
 
 impl<'a> Model for PlaceFinder<'a> {
     ghost use Rattle.source_listing.specs.Codes.{placed_text_code};
-    ghost use Rattle.source_listing.specs.Uses.{PlacedText, placed, with_places};
+    ghost use Rattle.source_listing.specs.Uses.{PlacedText, file_places, with_places};
     ghost use Rattle.source_rows.specs.Places.{AreDistinct};
 
     ghost Value = { PlacedText };
 
     ghost coded = { placed_text_code };
 
-    ghost view = { λ f. with_places f.finder.lines (placed f.finder.places f.uses) };
+    ghost view = { λ f. with_places f.finder.lines (file_places f.finder.places f.uses) };
 
     ghost invariant = { λ f. AreDistinct f.finder.places };
 }
@@ -40,7 +40,7 @@ impl<'a> PlaceFinder<'a> {
     /// Finds what stands in a text, by the places that its reader gave.
     pub fn new(text: &'a str, places: &'a [ItemPlace], use_trees: &'a [usize]) -> Self
         requires { AreDistinct places.now }
-        ensures { result ≡ spec.with_places text.now (spec.placed places.now use_trees.now) }
+        ensures { result ≡ spec.with_places text.now (spec.file_places places.now use_trees.now) }
     {
         PlaceFinder {
             finder: Finder::new(text, places),

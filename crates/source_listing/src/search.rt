@@ -86,7 +86,7 @@ fn is_one_of(word: &str, kinds: &[&str]) -> bool
 }
 
 /// The modules that an item stands in, and what its members stand in, with two colons before each name.
-#[tactic(auto, using(crate::proofs::Pushed::segments_of))]
+#[tactic(auto, using(crate::proofs::PushedTexts::segments_of))]
 fn scope_of(alloc: Global, row: &Row<'_>, around: Option<&Name>) -> Result<String, AllocError>
     ensures { let scope_is = spec.scope_inside (row_view row.now) (option_copied around.entry) in
         IfOk result (λ scope. string_bytes scope ≡ scope_is) }

@@ -106,7 +106,7 @@ pub(crate) struct Split<'a> {
 }
 
 /// The names that stand between colons, but for the last word.
-#[tactic(auto, using(crate::proofs::Named::read_first))]
+#[tactic(auto, using(crate::proofs::NamePaths::read_first))]
 fn split_names<'a>(alloc: Global, words: &[&'a str]) -> Result<Option<Split<'a>>, AllocError>
     ensures { IfOk result (λ split. option_map split_view split
         ≡ spec.split_names (map (λ w. w.now) words.now)) }
@@ -183,7 +183,7 @@ fn sought_from(
 ///
 /// Only if memory runs out.
 pub fn sought_path(alloc: Global, text: &str) -> Result<Option<SoughtPath>, AllocError>
-    ensures { IfOk result (λ sought. option_map sought_view sought ≡ spec.sought text.now) }
+    ensures { IfOk result (λ sought. option_map sought_view sought ≡ spec.sought_path text.now) }
 {
     match behind_top(text) {
         Some(names) => sought_from(alloc, false, names),

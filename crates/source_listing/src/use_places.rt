@@ -55,7 +55,7 @@ impl<'a> UsePlaces<'a> {
     }
 
     #[tactic(auto, using(crate::proofs::Skips::from_twice))]
-    fn ahead(&self, start: usize) -> &'a [usize]
+    fn places_from(&self, start: usize) -> &'a [usize]
         ensures { result.now ≡ spec.from_place start self.now }
     {
         if start < self.from {
@@ -69,7 +69,7 @@ impl<'a> UsePlaces<'a> {
         ensures starts { result.now ≡ spec.from_place start self.old }
         ensures same { self.new ≡ self.old }
     {
-        let left = self.ahead(start);
+        let left = self.places_from(start);
         *self = UsePlaces {
             all: self.all,
             from: start,

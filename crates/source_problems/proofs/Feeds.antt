@@ -2,7 +2,7 @@
 use Rattle.std.proofs.Common.{◌≡◌, ℕ, true, List, [], ap, length, map, subst}
 use Rattle.rust_lexer.specs.Tokens.{tokens}
 use Rattle.rust_items.specs.LineEnds.{with_feeds, place_by, place_in, returns_from}
-use Rattle.rust_mended.proofs.Told.{nothing_told}
+use Rattle.rust_mended.proofs.ToldBrackets.{nothing_told}
 use Rattle.rust_mended.specs.Texts.{is_matched, tokens_match}
 use Rattle.source_problems.specs.Brackets.{mended_problem, bracket_problems}
 use Rattle.source_problems.specs.declared.problem.SourceProblem.{SourceProblem}

@@ -1,4 +1,4 @@
 pub mod Views
 pub mod Feeds
-pub mod Walked
+pub mod ItemWalks
 pub mod Marks

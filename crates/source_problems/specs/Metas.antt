@@ -4,7 +4,7 @@ use Rattle.hir_input.specs.declared.ast.PathNode.{PathNode}
 use Rattle.hir_input.specs.declared.ast.PathNode.TheVariants.{Readable, Unreadable}
 use Rattle.hir_input.specs.Attr.{MetaView, MetaViews, path_meta, key_value_meta, token_tree_meta, cfg_meta, cfg_attr_meta, unsafe_meta, no_metas, meta_and, metas_from}
 use Rattle.hir_input.specs.Cfg.{CfgView, CfgViews, invalid, atom, all_of, any_of, not_of, no_cfgs, cfg_and}
-use Rattle.rust_metas.specs.Attributes.{deepest}
+use Rattle.rust_metas.specs.Attributes.{deepest_level}
 use Rattle.source_problems.specs.declared.problem.SourceProblem.{SourceProblem}
 use Rattle.source_problems.specs.declared.problem.SourceProblemKind.TheVariants as kind
 use Rattle.source_problems.specs.Problems.{problem}
@@ -53,4 +53,4 @@ module _ (at : ℕ) where
 
   -- attributes
   abbrev pub attribute_problems : List MetaView → List SourceProblem
-  attribute_problems ms = metas_problems deepest (metas_from ms)
+  attribute_problems ms = metas_problems deepest_level (metas_from ms)

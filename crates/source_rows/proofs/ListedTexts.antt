@@ -13,7 +13,7 @@ use Rattle.rust_metas.specs.Docs.{kept_metas}
 use Rattle.rust_items.specs.declared.log.Problem.{Problem}
 use Rattle.rust_items.specs.declared.source_file.ItemPlace.{ItemPlace}
 use Rattle.rust_items.specs.SourceFiles.{FileView, IsClippedFile, IsFileView, clipped_file, clipped_syntax}
-use Rattle.rust_items.proofs.Bare.{bare, list_bare}
+use Rattle.rust_items.proofs.BareItems.{bare, list_bare}
 use Rattle.source_rows.specs.Listed.{Closers, told_place, told_item}
 use Rattle.source_rows.specs.ListedViews.{closers_view}
 use Rattle.source_rows.specs.ListedFiles.{IsListedBare, IsListedClipped, IsListedFile, closers_by, closers_of, listed_closers, told_file}

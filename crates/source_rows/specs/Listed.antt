@@ -89,13 +89,13 @@ told_by closers options is_active m (Some name) (Some range) = Some (member_told
 told_by closers options is_active m _ _ = None
 
 -- a member without a name is not told
-abbrev pub listed : Option Closers → List AtomView → Bool → MemberRead → Option Listed
-listed closers options is_active m = told_by closers options is_active m m.identifier m.name
+abbrev pub listed_member : Option Closers → List AtomView → Bool → MemberRead → Option Listed
+listed_member closers options is_active m = told_by closers options is_active m m.identifier m.name
 
 -- the members of an item that stands there, which a cfg disables or not
 abbrev pub listed_members : Option Closers → EditionYear → List AtomView → List ℕ → ItemPlace → Bool → List Listed
 listed_members closers edition options text p is_active =
-    filter_map (listed closers options is_active) (body_members edition p.id.kind text (has_members p.id.kind) p.body)
+    filter_map (listed_member closers options is_active) (body_members edition p.id.kind text (has_members p.id.kind) p.body)
 
 -- those of an item whose place is known, where they are asked for
 abbrev pub members_by : Option (List AtomView) → Option Closers → EditionYear → List ℕ → Option ItemPlace → Bool → List Listed

@@ -5,7 +5,7 @@ use Rattle.rust_cursor.specs.Tokens.{Tokens, tokens_of}
 use Rattle.rust_cursor.specs.Words.{symbol, word, is_empty, bumped}
 use Rattle.rust_cursor.specs.Angles.{behind_angles, is_lone_for}
 use Rattle.rust_cursor.specs.Brackets.{behind_tree}
-use Rattle.rust_cursor.specs.Elements.{most}
+use Rattle.rust_cursor.specs.Elements.{most_tokens}
 use Rattle.rust_paths.specs.Names.{is_path_keyword, name}
 use Rattle.rust_leaves.specs.Fronts.{front}
 use Rattle.source_rows.specs.declared.types.TypeRead.{TypeRead}
@@ -45,7 +45,7 @@ type_from (suc n) r ts = if is_type_over ts then r else type_from n (type_step r
 
 -- the type of a header
 unfoldable pub type_read : Tokens → TypeRead
-type_read ts = type_from most begun_type ts
+type_read ts = type_from most_tokens begun_type ts
 
 -- the last name of a type that is a path
 abbrev pub path_name : TypeRead → Option (List ℕ)

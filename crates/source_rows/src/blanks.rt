@@ -60,7 +60,7 @@ fn is_behind_end(last: Last) -> bool
 fn is_value(spacing: Spacing, cursor: &Cursor<'_>) -> bool
     ensures { result ≡ spec.is_value spacing cursor.now }
 {
-    let past = cursor.past();
+    let past = cursor.last_end();
     past < spacing.values && past >= spacing.types
 }
 
@@ -221,16 +221,16 @@ fn last_behind(spacing: Spacing, cursor: &Cursor<'_>) -> Last
 fn past_tree(cursor: &Cursor<'_>) -> usize
     ensures { result ≡ (behind_tree cursor.now).past }
 {
-    let mut behind = cursor.ahead();
+    let mut behind = cursor.look_ahead();
     behind.pass_tree();
-    behind.past()
+    behind.last_end()
 }
 
 /// Up to where brackets reach behind the next token.
 fn reach_behind(reach: usize, cursor: &Cursor<'_>) -> usize
     ensures { result ≡ spec.reach_behind reach cursor.now }
 {
-    if cursor.past() < reach || !cursor.is_at_open() {
+    if cursor.last_end() < reach || !cursor.is_at_open() {
         return reach;
     }
     past_tree(cursor)
@@ -240,7 +240,7 @@ fn reach_behind(reach: usize, cursor: &Cursor<'_>) -> usize
 fn values_behind(values: usize, cursor: &Cursor<'_>) -> usize
     ensures { result ≡ spec.values_behind values cursor.now }
 {
-    if cursor.past() < values || cursor.symbol() != b'{' {
+    if cursor.last_end() < values || cursor.symbol() != b'{' {
         return values;
     }
     past_tree(cursor)
@@ -253,9 +253,9 @@ fn types_behind(spacing: Spacing, cursor: &Cursor<'_>) -> usize
     if cursor.symbol() != b'<' || !is_value(spacing, cursor) || is_behind_end(spacing.last) {
         return spacing.types;
     }
-    let mut behind = cursor.ahead();
+    let mut behind = cursor.look_ahead();
     behind.pass_angles();
-    behind.past()
+    behind.last_end()
 }
 
 /// Where what follows the next token stands.

@@ -56,11 +56,11 @@ fn is_over(is_cut: bool, reach: usize, out: &str, cursor: &Cursor<'_>) -> bool
     if cursor.is_empty() {
         return true;
     }
-    cursor.past() >= reach && ends_before(is_cut, out, cursor)
+    cursor.last_end() >= reach && ends_before(is_cut, out, cursor)
 }
 
 #[tactic(auto, using(crate::proofs::Steps::spaced_stop, crate::proofs::Steps::spaced_more))]
-fn spaced(alloc: Global, is_cut: bool, cursor: &mut Cursor<'_>) -> Result<String, AllocError>
+fn spaced_tokens(alloc: Global, is_cut: bool, cursor: &mut Cursor<'_>) -> Result<String, AllocError>
     ensures { IfOk result (λ out. string_bytes out ≡ spec.spaced_tokens is_cut [] blanks.first_spacing cursor.old) }
 {
     let mut out = String::with_capacity(alloc, ROOM)?;
@@ -89,7 +89,7 @@ fn header_in(
     };
     let _front = wanted_front(alloc, &mut cursor, wanted)?;
     cursor.pass_angles();
-    spaced(alloc, is_cut, &mut cursor)
+    spaced_tokens(alloc, is_cut, &mut cursor)
 }
 
 /// The header of an item that stands in this range of a text: what stands behind the words that begin it and their

@@ -50,7 +50,7 @@ fn listed_member(
     member: Member,
 ) -> Result<Option<ListedMember>, AllocError>
     ensures { let closers = option_map closers_view (option_copied around.entry.mended) in
-        let listed = spec.listed closers around.entry.options.now around.entry.is_active
+        let listed = spec.listed_member closers around.entry.options.now around.entry.is_active
         (member_view member) in
         IfOk result (λ m. option_map listed_view m ≡ listed) }
 {
@@ -81,7 +81,7 @@ fn listed_of(
     members: Vec<Member>,
 ) -> Result<Vec<ListedMember>, AllocError>
     ensures { let closers = option_map closers_view (option_copied around.entry.mended) in
-        let listed = spec.listed closers around.entry.options.now around.entry.is_active in
+        let listed = spec.listed_member closers around.entry.options.now around.entry.is_active in
         IfOk result (λ v. map listed_view v.items ≡ filter_map listed (map member_view members.items)) }
 {
     let mut out = Vec::with_capacity(alloc, members.len())?;

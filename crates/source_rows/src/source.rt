@@ -19,7 +19,7 @@ pub struct Source<'a> {
 /// # Errors
 ///
 /// Only if memory runs out. A part of them may then be added.
-#[tactic(auto, using(crate::proofs::Longer::longer, crate::proofs::Longer::itself))]
+#[tactic(auto, using(crate::proofs::GrowingTexts::longer, crate::proofs::GrowingTexts::itself))]
 pub fn push_place(path: &str, position: Position, out: &mut String) -> Result<(), AllocError>
     ensures text { OnOk result (string_bytes out.new ≡ string_bytes out.old
         ++ place_text path.now position) }

@@ -21,7 +21,7 @@ pub(crate) struct TypeRead {
     of_trait: bool,
 }
 
-fn begun() -> TypeRead
+fn begun_type() -> TypeRead
     ensures { result ≡ spec.begun_type }
 {
     TypeRead {
@@ -104,7 +104,7 @@ fn take_step(alloc: Global, cursor: &mut Cursor<'_>, read: &mut TypeRead) -> Res
 fn type_read(alloc: Global, cursor: &mut Cursor<'_>) -> Result<TypeRead, AllocError>
     ensures { IfOk result (λ read. read ≡ spec.type_read cursor.old) }
 {
-    let mut read = begun();
+    let mut read = begun_type();
     let most = Cursor::most_turns();
     for _turn in 0..most {
         if is_type_over(cursor) {

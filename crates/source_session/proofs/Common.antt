@@ -1,18 +1,18 @@
 -- The names that most proofs here cite, passed on from one place. Declares nothing.
 pub use Rattle.decl_index.specs.Entries.{IsDeclared}
 pub use Rattle.decl_index.specs.declared.entry.Entry.{Entry}
-pub use Rattle.tree_walk.specs.DeclarationView.{DeclarationView, collected_declaration, declaration_id, defined}
+pub use Rattle.tree_walk.specs.DeclarationView.{DeclarationView, collected_declaration, declaration_id, with_definition}
 pub use Rattle.tree_walk.specs.Declarations.{Declaration, declared_at, node_name}
 pub use Rattle.hir_input.specs.declared.edition.EditionYear.{EditionYear}
 pub use Rattle.hir_input.specs.declared.ids.Crate.{Crate}
 pub use Rattle.hir_input.specs.declared.ids.FileAstId.{FileAstId}
-pub use Rattle.hir_input_json.proofs.Held.{field_without}
+pub use Rattle.hir_input_json.proofs.MemberObjects.{field_without}
 pub use Rattle.hir_input_json.proofs.Lists.{joined, read_next}
 pub use Rattle.hir_input_json.specs.Editions.{EditionView}
 pub use Rattle.hir_input_json.specs.Forms.{array_items, each, each_from, unless_null}
 unfoldable pub use Rattle.hir_input_json.specs.Forms.{field}
-pub use Rattle.hir_input_json.specs.Held.{held, with_null}
-unfoldable pub use Rattle.hir_input_json.specs.Held.{without}
+pub use Rattle.hir_input_json.specs.Held.{object_held, with_null}
+unfoldable pub use Rattle.hir_input_json.specs.Held.{without_key}
 pub use Rattle.hir_input_json.specs.Reading.{Reading, pointer_behind, right, wrong}
 pub use Rattle.hir_input_json.specs.Reads.{Reads, Tells, pointer_in}
 pub use Rattle.item_tree.specs.CrateView.{crate_view}

@@ -5,7 +5,7 @@ use Rattle.line_index.specs.declared.Units.{Units}
 use Rattle.item_tree.specs.Layout.{node_at}
 use Rattle.item_tree.specs.Shown.{IsContained}
 use Rattle.tree_walk.specs.declared.collector.Declaration as code
-use Rattle.source_listing.proofs.Pushed.{segments_of}
+use Rattle.source_listing.proofs.PushedTexts.{segments_of}
 
 -- ---- what is around items
 

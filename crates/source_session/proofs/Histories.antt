@@ -8,15 +8,15 @@ use Rattle.item_tree_request.specs.Requests.{IsJsonText}
 use Rattle.message_stream.specs.Lines.{IsServedEach, line_frames}
 use Rattle.message_stream.specs.Messages.{Told, whole, too_long, no_memory, IsToldOf}
 use Rattle.message_stream.specs.Served.{Turn, IsServed, messages_of}
-use Rattle.message_stream.proofs.Each.{served_each}
+use Rattle.message_stream.proofs.EachService.{served_each}
 use Rattle.source_session.specs.Replies.{session_conduct}
 use Rattle.source_session.specs.Histories.{Says, Exchange, answer_of, AsksNext, AsksFirst, StandAll, StandFirst, Stand, StandOf, IsLedOn, AreOf, OpensNone, IsLedByAnswers, IsLedOnByAnswers}
 use Rattle.source_session.specs.Errors.{edit_error}
 use Rattle.text_session.specs.declared.error.EditError.{EditError}
 use Rattle.text_session.specs.declared.error.EditError.TheVariants as edits
-use Rattle.text_session.proofs.Made.{made_join}
-use Rattle.text_session.proofs.Read.{same_length}
-use Rattle.text_session.proofs.Meant.{meant_over}
+use Rattle.text_session.proofs.EditedSessions.{made_join}
+use Rattle.text_session.proofs.ReadTexts.{same_length}
+use Rattle.text_session.proofs.MeantEdits.{meant_over}
 
 -- none
 made_none : (s : Session) → AreMade s [] [] s

@@ -4,7 +4,7 @@ pub mod Paths
 pub mod Finders
 pub mod Matches
 pub mod Ranges
-pub mod Named
+pub mod NamedCrates
 pub mod Sizes
 pub mod Histories
 pub mod Feeds

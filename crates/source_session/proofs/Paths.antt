@@ -1,6 +1,6 @@
 -- Paths that are looked for.
 use Rattle.std.proofs.Common.{◌≡◌, ℕ, ◌+◌, ◌-◌, ◌&&◌, Bool, true, false, if◌then◌else◌, List, [], ◌∷◌, ◌++◌, length, drop, map, filter, refl, ap, ◌∙◌, arith, nat_eq}
-use Rattle.source_session.proofs.Common.{pointwise, pointwise_decides, ends_with, flat_map, and_parts, Decides-eqb, length-append, length-drop, drop-append-add, Unfolding, Declaration, declared_at, DeclarationView, collected_declaration, defined, bare_segment, declared_scope, own_scope, scope_at, path_within, is_at}
+use Rattle.source_session.proofs.Common.{pointwise, pointwise_decides, ends_with, flat_map, and_parts, Decides-eqb, length-append, length-drop, drop-append-add, Unfolding, Declaration, declared_at, DeclarationView, collected_declaration, with_definition, bare_segment, declared_scope, own_scope, scope_at, path_within, is_at}
 use Rattle.tree_walk.specs.declared.collector.Declaration as code
 use Rattle.source_listing.specs.Sought.{Sought}
 
@@ -29,12 +29,12 @@ scopes_of : (u : Unfolding) (ds : List code.Declaration) → map declared_scope 
 scopes_of u [] = refl
 scopes_of u (d ∷ ds) = ap (λ xs. declared_scope d ∷ xs) (scopes_of u ds)
 
-scopes_are : (ds : List (ℕ × Declaration)) → map (λ (d : ℕ × DeclarationView). (d.0, d.1.path)) (map defined ds) ≡ map own_scope ds
+scopes_are : (ds : List (ℕ × Declaration)) → map (λ (d : ℕ × DeclarationView). (d.0, d.1.path)) (map with_definition ds) ≡ map own_scope ds
 scopes_are [] = refl
 scopes_are (d ∷ ds) = ap (λ xs. own_scope d ∷ xs) (scopes_are ds)
 
 -- what is collected of a tree tells what is around its items
-pub all_scopes : (u : Unfolding) (ds : List code.Declaration) → map (collected_declaration u) ds ≡ map defined (declared_at u) → map declared_scope ds ≡ map own_scope (declared_at u)
+pub all_scopes : (u : Unfolding) (ds : List code.Declaration) → map (collected_declaration u) ds ≡ map with_definition (declared_at u) → map declared_scope ds ≡ map own_scope (declared_at u)
 all_scopes u ds e = scopes_of u ds ∙ ap (map (λ (d : ℕ × DeclarationView). (d.0, d.1.path))) e ∙ scopes_are (declared_at u)
 
 -- ---- lists

@@ -1,7 +1,7 @@
 -- Lines without what is read of them elsewhere.
 use Rattle.std.proofs.Common.{◌≡◌, ℕ, true, false, ◌||◌, if◌then◌else◌, bytes_eq, List, Option, Some, None, Ordering, Less, Equal, Greater, nat_cmp, is_eq, length, codes, is_none, refl, ap, sym, subst, ◌∙◌}
 use Rattle.std.proofs.lemmas.Map.Text.{is_eq-slice_cmp}
-use Rattle.source_session.proofs.Common.{bytes_eq-Decides, slice_cmp, match_ordering, option_map, unwrap_or, right, wrong, Tells, pointer_in, field, unless_null, with_null, without, field_without, is_known, unknown_key, only_known, Settings, settings, Asked, line_asked, first_line, later_line, Open, asked_of, crate_count, of_opened, of_session}
+use Rattle.source_session.proofs.Common.{bytes_eq-Decides, slice_cmp, match_ordering, option_map, unwrap_or, right, wrong, Tells, pointer_in, field, unless_null, with_null, without_key, field_without, is_known, unknown_key, only_known, Settings, settings, Asked, line_asked, first_line, later_line, Open, asked_of, crate_count, of_opened, of_session}
 use Rattle.serde_json.specs.declared.value.Value.{Value}
 use Rattle.serde_json.specs.Data.{Data, null, boolean, number, string, array, object, Members, no_members, member}
 use Rattle.serde_json.specs.View.{view}
@@ -13,13 +13,13 @@ use Rattle.source_session.specs.declared.keys.LineObject.TheVariants.{Whole}
 
 -- an object without what opens a session
 abbrev pub rest_of : Data → Data
-rest_of d = without (codes "edition") (without (codes "skipped") (without (codes "crates") d))
+rest_of d = without_key (codes "edition") (without_key (codes "skipped") (without_key (codes "crates") d))
 
 -- has the same edits and shows
 pub asked_rest : (count : ℕ) (d : Data) → line_asked count (rest_of d) ≡ line_asked count d
 asked_rest count d =
-    let a = without (codes "crates") d in
-    let b = without (codes "skipped") a in
+    let a = without_key (codes "crates") d in
+    let b = without_key (codes "skipped") a in
     let edits : field (codes "edits") (rest_of d) ≡ field (codes "edits") d = field_without (codes "edits") (codes "edition") b refl ∙ field_without (codes "edits") (codes "skipped") a refl ∙ field_without (codes "edits") (codes "crates") d refl in
     let shows : field (codes "shows") (rest_of d) ≡ field (codes "shows") d = field_without (codes "shows") (codes "edition") b refl ∙ field_without (codes "shows") (codes "skipped") a refl ∙ field_without (codes "shows") (codes "crates") d refl in
     rw (edits, shows) refl
@@ -52,8 +52,8 @@ unknown_without : (o : LineObject) (key : List ℕ) (ms : Members) → is_known 
 unknown_without o key no_members known = refl
 unknown_without o key (member l d ms) known = known_at _ o key l d ms refl known (unknown_without o key ms known)
 
-known_without : (o : LineObject) (key : List ℕ) (d : Data) → is_known o key ≡ true → only_known o (without key d) ≡ only_known o d
-unfolding without
+known_without : (o : LineObject) (key : List ℕ) (d : Data) → is_known o key ≡ true → only_known o (without_key key d) ≡ only_known o d
+unfolding without_key
 known_without o key (object ms) known = rw (unknown_without o key ms known) refl
 known_without o key null known = refl
 known_without o key (boolean b) known = refl
@@ -61,17 +61,17 @@ known_without o key (number n) known = refl
 known_without o key (string s) known = refl
 known_without o key (array ds) known = refl
 
-first_no_id : (d : Data) → first_line (without (codes "id") d) ≡ first_line d
+first_no_id : (d : Data) → first_line (without_key (codes "id") d) ≡ first_line d
 first_no_id d =
-    let without_id : (key : List ℕ) → bytes_eq key (codes "id") ≡ false → field key (without (codes "id") d) ≡ field key d = λ key. field_without key (codes "id") d in
+    let without_id : (key : List ℕ) → bytes_eq key (codes "id") ≡ false → field key (without_key (codes "id") d) ≡ field key d = λ key. field_without key (codes "id") d in
     rw (known_without Whole (codes "id") d refl, without_id (codes "crates") refl, without_id (codes "skipped") refl, without_id (codes "edition") refl, without_id (codes "start") refl, without_id (codes "edits") refl, without_id (codes "shows") refl) refl
 
-later_no_id : (count : ℕ) (d : Data) → later_line count (without (codes "id") d) ≡ later_line count d
+later_no_id : (count : ℕ) (d : Data) → later_line count (without_key (codes "id") d) ≡ later_line count d
 later_no_id count d =
-    let without_id : (key : List ℕ) → bytes_eq key (codes "id") ≡ false → field key (without (codes "id") d) ≡ field key d = λ key. field_without key (codes "id") d in
+    let without_id : (key : List ℕ) → bytes_eq key (codes "id") ≡ false → field key (without_key (codes "id") d) ≡ field key d = λ key. field_without key (codes "id") d in
     rw (known_without Whole (codes "id") d refl, without_id (codes "crates") refl, without_id (codes "skipped") refl, without_id (codes "edition") refl, without_id (codes "start") refl, without_id (codes "edits") refl, without_id (codes "shows") refl) refl
 
-pub asked_no_id : (open_one : Open) (d : Data) → asked_of open_one (without (codes "id") d) ≡ asked_of open_one d
+pub asked_no_id : (open_one : Open) (d : Data) → asked_of open_one (without_key (codes "id") d) ≡ asked_of open_one d
 asked_no_id None d = ap of_opened (first_no_id d)
 asked_no_id (Some s) d = ap (of_session s) (later_no_id (crate_count s) d)
 

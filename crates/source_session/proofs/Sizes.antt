@@ -4,7 +4,7 @@ use Rattle.source_session.proofs.Common.{EditView, IsEdited, IsRefused, Session,
 use Rattle.item_tree.specs.declared.fault.EditFault.{EditFault}
 use Rattle.item_tree.specs.declared.fault.EditFault.TheVariants.{TooManyEdits, Lower}
 use Rattle.item_tree.specs.declared.fault.LowerError.TheVariants.{TooManyItems, TooManyVisibilities, TooManyUseTrees, TooManyAttributes, TooManySupers, OutOfMemory}
-use Rattle.item_tree_request.proofs.Made.{is_unmade}
+use Rattle.item_tree_request.proofs.EditOutcomes.{is_unmade}
 use Rattle.item_tree_request.specs.Inner.Made.{IsUnmade, refusal_of}
 use Rattle.item_tree_request.specs.Outputs.{NonePasses, PassesAt}
 

@@ -6,7 +6,7 @@ use Rattle.hir_input.specs.declared.ids.Crate.{Crate}
 use Rattle.hir_input.specs.declared.ids.HirFileId.{HirFileId}
 use Rattle.line_index.specs.declared.Units.{Units}
 use Rattle.hir_input_json.specs.Reading.{Reading, right, wrong, reading_map, here, under, ◌>>=◌}
-use Rattle.hir_input_json.specs.Forms.{required_at, optional_at, by_form, wrong_at, on_word, number_form, below, text_form, object_members}
+use Rattle.hir_input_json.specs.Forms.{required_at, optional_at, by_form, wrong_at, on_word, number_form, number_below, text_form, object_members}
 use Rattle.item_tree_db.specs.declared.place.Place.TheVariants.{File}
 use Rattle.item_tree_request.specs.Named as request
 use Rattle.item_tree_request.specs.Shows as request_shows
@@ -26,7 +26,7 @@ use Rattle.source_session.specs.Units.{members_asked, units_at, units_if}
 abbrev pub crate_in : ℕ → Data → Reading Crate
 crate_in count d = do
   number ← number_form (codes "crate") d
-  known ← under (codes "crate") (here (below count number))
+  known ← under (codes "crate") (here (number_below count number))
   right (record { 0 = known })
 
 -- a file

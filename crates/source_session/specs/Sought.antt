@@ -13,7 +13,7 @@ use Rattle.decl_index.specs.Lookup.{entry_has_name}
 use Rattle.source_listing.specs.Paths.{bare_segment, is_sought_path}
 use Rattle.source_listing.specs.Patterns as globs
 use Rattle.source_listing.specs.Patterns.{Pattern}
-use Rattle.source_listing.specs.Sought.{Sought, sought}
+use Rattle.source_listing.specs.Sought.{Sought, sought_path}
 use Rattle.line_index.specs.declared.Units.{Units}
 use Rattle.line_index.specs.declared.Units.TheVariants.{Characters}
 use Rattle.source_session.specs.Parts.{parts_between, last_part}
@@ -55,7 +55,7 @@ last_name path = here (name_in (last_part (parts_between 58 path)))
 abbrev pub asked_path : Data → Reading SoughtItem
 asked_path d = do
   s ← text_form d
-  path ← here (sought s)
+  path ← here (sought_path s)
   name ← last_name path.path
   right (record { path = path; name = name; units = Characters })
 

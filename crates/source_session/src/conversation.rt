@@ -3,7 +3,7 @@ ghost use Rattle.std.specs.Prelude.{◌≡◌, ◌⊎◌, None, Err, false};
 ghost use Rattle.serde_json.specs.Data.{null};
 ghost use Rattle.serde_json.specs.View.{view};
 ghost use Rattle.serde_json.specs.Written.{has_float};
-ghost use Rattle.hir_input_json.specs.Held.{held};
+ghost use Rattle.hir_input_json.specs.Held.{object_held};
 ghost use Rattle.message_stream.specs.Messages.{message_told};
 ghost use Rattle.source_session.specs.Inner.{IsUnfloating, outcome_view, reply_view};
 ghost use Rattle.source_session.specs.LineViews.{asked_view, settings_view, IsOwn};
@@ -17,7 +17,7 @@ use crate::reply::{Outcome, Reply, reply_text};
 use crate::shown::show_all;
 use hir_input_json::Fault;
 use hir_input_json::float::has_float;
-use hir_input_json::member::{members_of, taken};
+use hir_input_json::member::{members_of, take_member};
 use message_stream::{Answer, Message, Service};
 use serde_json::Value;
 use std::alloc::Global;
@@ -52,7 +52,7 @@ impl Model for Conversation {
 const OUT_OF_MEMORY: &str = "{\"id\":null,\"number\":null,\"error\":{\"kind\":\"out of memory\"}}";
 
 // A line that is refused as a whole.
-fn refused(error: LineError) -> Reply
+fn refusal_of(error: LineError) -> Reply
     ensures id { view result.id ≡ null }
     ensures outcome { result.outcome ≡ Err error }
 {
@@ -75,7 +75,7 @@ fn perform(alloc: Global, session: &mut Session, asked: Asked) -> Outcome
 }
 
 // The session that a line opens.
-fn opened(alloc: Global, settings: Settings) -> Session
+fn open_session(alloc: Global, settings: Settings) -> Session
     ensures { result.session ≡ opened_session (settings_view settings) }
 {
     let Settings {
@@ -99,11 +99,11 @@ impl Conversation {
     fn open(&mut self, alloc: Global, members: Members) -> Outcome
         requires { self.old ≡ None }
         ensures outcome { IsWanting self.old self.new (outcome_view result)
-            ⊎ IsOutcome self.old (asked_of self.old (held members)) self.new (outcome_view result) }
+            ⊎ IsOutcome self.old (asked_of self.old (object_held members)) self.new (outcome_view result) }
         ensures no_float { IsUnfloating result }
     {
         let first = first_line(alloc, members)?;
-        let mut session = opened(alloc, first.settings);
+        let mut session = open_session(alloc, first.settings);
         let outcome = perform(alloc, &mut session, first.asked);
         self.session = Some(session);
         outcome
@@ -112,7 +112,7 @@ impl Conversation {
     // Does what a line asks.
     fn ask(&mut self, alloc: Global, members: Members) -> Outcome
         ensures outcome { IsWanting self.old self.new (outcome_view result)
-            ⊎ IsOutcome self.old (asked_of self.old (held members)) self.new (outcome_view result) }
+            ⊎ IsOutcome self.old (asked_of self.old (object_held members)) self.new (outcome_view result) }
         ensures no_float { IsUnfloating result }
     {
         let Some(mut session) = self.session.take() else {
@@ -128,13 +128,13 @@ impl Conversation {
 
     // Answers an object.
     fn reply_to(&mut self, alloc: Global, mut members: Members) -> Reply
-        ensures reply { IsReplyTo self.old (held members) self.new (reply_view result) }
+        ensures reply { IsReplyTo self.old (object_held members) self.new (reply_view result) }
         ensures id { has_float (view result.id) ≡ false }
         ensures outcome { IsUnfloating result.outcome }
     {
-        let id = taken(&mut members, "id").unwrap_or(Value::Null);
+        let id = take_member(&mut members, "id").unwrap_or(Value::Null);
         if has_float(&id) {
-            return refused(Fault::at(alloc, "id").into());
+            return refusal_of(Fault::at(alloc, "id").into());
         }
         let outcome = self.ask(alloc, members);
         Reply { id, outcome }
@@ -148,7 +148,7 @@ impl Conversation {
     {
         match members_of(alloc, value) {
             Ok(members) => self.reply_to(alloc, members),
-            Err(fault) => refused(fault.into()),
+            Err(fault) => refusal_of(fault.into()),
         }
     }
 
@@ -160,13 +160,13 @@ impl Conversation {
     {
         let bytes = match line {
             Message::Whole(bytes) => bytes,
-            Message::TooLong => return refused(LineError::TooLong),
-            Message::OutOfMemory => return refused(LineError::OutOfMemory),
+            Message::TooLong => return refusal_of(LineError::TooLong),
+            Message::OutOfMemory => return refusal_of(LineError::OutOfMemory),
         };
         match Value::from_slice(alloc, &bytes) {
             Ok(value) => self.value_reply(alloc, value),
-            Err(error) if error.is_memory() => refused(LineError::OutOfMemory),
-            Err(error) => refused(LineError::NotJson {
+            Err(error) if error.is_memory() => refusal_of(LineError::OutOfMemory),
+            Err(error) => refusal_of(LineError::NotJson {
                 column: error.column(),
             }),
         }

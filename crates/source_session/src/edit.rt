@@ -2,7 +2,7 @@
 ghost use Rattle.std.specs.Prelude.{◌≡◌, ◌^◌, ℕ, IfOk, codes, string_bytes};
 ghost use Rattle.serde_json.specs.View.{view};
 ghost use Rattle.hir_input_json.specs.Forms.{required_at as required_form, whole_form};
-ghost use Rattle.hir_input_json.specs.Held.{held};
+ghost use Rattle.hir_input_json.specs.Held.{object_held};
 ghost use Rattle.hir_input_json.specs.Reads.{Reads};
 ghost use Rattle.source_session.specs.Edits.{edit_form as edit_form, line_edit, text_edit, change_edit};
 ghost use Rattle.source_session.specs.Edits.{range as range_form, short_text, IsUsable, IsShort};
@@ -11,7 +11,7 @@ ghost use Rattle.text_session.specs.Edits.{text_edit_view};
 use crate::keys::{LineObject, Members, only_known};
 use hir_input::HirFileId;
 use hir_input_json::float::has_float;
-use hir_input_json::member::{field, id_at, members_of, taken, word_at};
+use hir_input_json::member::{field, id_at, members_of, take_member, word_at};
 use hir_input_json::{Fault, ReadIn};
 use item_tree_request::request::edit::edit_in;
 use rust_items::TextRange;
@@ -22,10 +22,10 @@ use text_session::{MOST_BYTES, TextEdit};
 // Takes a text of at most 2^32 bytes out.
 fn text_at(alloc: Global, members: &mut Members) -> Result<String, Fault>
     ensures reads { Reads string_bytes result
-        (required_form (codes "text") short_text (held members.old)) }
+        (required_form (codes "text") short_text (object_held members.old)) }
     ensures short { IfOk result (λ text. IsShort (string_bytes text)) }
 {
-    match taken(members, "text") {
+    match take_member(members, "text") {
         Some(Value::String(text)) => {
             if text.len() > MOST_BYTES {
                 return Err(Fault::at(alloc, "text"));
@@ -37,7 +37,7 @@ fn text_at(alloc: Global, members: &mut Members) -> Result<String, Fault>
 }
 
 fn set_text_of(alloc: Global, members: &mut Members) -> Result<TextEdit, Fault>
-    ensures reads { Reads text_edit_view result (text_edit (held members.old)) }
+    ensures reads { Reads text_edit_view result (text_edit (object_held members.old)) }
     ensures usable { (count : ℕ) → IfOk result (IsUsable count) }
 {
     let file = HirFileId(id_at(alloc, members, "file")?);
@@ -71,7 +71,7 @@ fn range_of(alloc: Global, value: &Value) -> Result<TextRange, Fault>
 
 fn range_at(alloc: Global, members: &Members) -> Result<TextRange, Fault>
     ensures { Reads (λ range. range) result
-        (required_form (codes "range") range_form (held members.now)) }
+        (required_form (codes "range") range_form (object_held members.now)) }
 {
     match field(members, "range") {
         Some(found) => range_of(alloc, found).in_member(alloc, "range"),
@@ -80,7 +80,7 @@ fn range_at(alloc: Global, members: &Members) -> Result<TextRange, Fault>
 }
 
 fn change_text_of(alloc: Global, members: &mut Members) -> Result<TextEdit, Fault>
-    ensures reads { Reads text_edit_view result (change_edit (held members.old)) }
+    ensures reads { Reads text_edit_view result (change_edit (object_held members.old)) }
     ensures usable { (count : ℕ) → IfOk result (IsUsable count) }
 {
     let file = HirFileId(id_at(alloc, members, "file")?);
@@ -91,7 +91,7 @@ fn change_text_of(alloc: Global, members: &mut Members) -> Result<TextEdit, Faul
 
 // An edit of a table of this many crates, whose members are taken out.
 fn members_edit(alloc: Global, members: &mut Members, count: usize) -> Result<TextEdit, Fault>
-    ensures reads { Reads text_edit_view result (edit_form count (held members.old)) }
+    ensures reads { Reads text_edit_view result (edit_form count (object_held members.old)) }
     ensures usable { IfOk result (IsUsable count) }
 {
     only_known(alloc, members, LineObject::OfEdits)?;

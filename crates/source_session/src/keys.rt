@@ -1,7 +1,7 @@
 //! The keys that the objects of a line may have.
 ghost use Rattle.std.specs.Prelude.{◌≡◌, is_none, option_map};
 ghost use Rattle.serde_json.specs.View.{members_view, view};
-ghost use Rattle.hir_input_json.specs.{Forms.unless_null, Held.held, Reads.Reads};
+ghost use Rattle.hir_input_json.specs.{Forms.unless_null, Held.object_held, Reads.Reads};
 ghost use Rattle.source_session.specs.Keys as spec;
 ghost use Rattle.source_session.specs.Keys.{none_at, only_known};
 
@@ -74,7 +74,7 @@ fn unknown_key(object: LineObject, members: &Members) -> Option<&str>
 ///
 /// `WrongForm` comes only where one has another, and tells the first.
 pub(crate) fn only_known(alloc: Global, members: &Members, object: LineObject) -> Result<(), Fault>
-    ensures { Reads (λ _. tt) result (only_known object (held members.now)) }
+    ensures { Reads (λ _. tt) result (only_known object (object_held members.now)) }
 {
     match unknown_key(object, members) {
         Some(key) => Err(Fault::at(alloc, key)),
@@ -86,7 +86,7 @@ pub(crate) fn only_known(alloc: Global, members: &Members, object: LineObject) -
 ///
 /// `WrongForm` comes only where there is one, and tells it.
 pub(crate) fn none_in(alloc: Global, members: &Members, key: &str) -> Result<(), Fault>
-    ensures { Reads (λ _. tt) result (none_at key.now (held members.now)) }
+    ensures { Reads (λ _. tt) result (none_at key.now (object_held members.now)) }
 {
     match field(members, key) {
         Some(_) => Err(Fault::at(alloc, key)),

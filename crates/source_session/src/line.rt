@@ -3,7 +3,7 @@ ghost use Rattle.std.specs.Prelude.{◌≡◌, ◌++◌, All, IfOk, OnOk, codes,
 ghost use Rattle.serde_json.specs.View.{items_view};
 ghost use Rattle.hir_input.specs.Name.{name_in};
 ghost use Rattle.hir_input_json.specs.Forms.{each, list_at as each_at};
-ghost use Rattle.hir_input_json.specs.Held.{held, without};
+ghost use Rattle.hir_input_json.specs.Held.{object_held, without_key};
 ghost use Rattle.hir_input_json.specs.Reads.{Reads};
 ghost use Rattle.text_session.specs.Edits.{text_edit_view};
 ghost use Rattle.source_session.specs.Edits.{line_edit, IsUsable};
@@ -91,8 +91,8 @@ fn usual_skipped(alloc: Global) -> Result<Vec<Name>, AllocError>
 
 // Takes the names of the attributes out that are left out of trees.
 fn skipped_at(alloc: Global, members: &mut Members) -> Result<Vec<Name>, Fault>
-    ensures reads { Reads (λ v. v.items) result (spec.skipped_at (held members.old)) }
-    ensures left { OnOk result (held members.new ≡ without (codes "skipped") (held members.old)) }
+    ensures reads { Reads (λ v. v.items) result (spec.skipped_at (object_held members.old)) }
+    ensures left { OnOk result (object_held members.new ≡ without_key (codes "skipped") (object_held members.old)) }
 {
     let is_absent = field(members, "skipped").is_none();
     let names = names_at(alloc, members, "skipped")?;
@@ -102,11 +102,12 @@ fn skipped_at(alloc: Global, members: &mut Members) -> Result<Vec<Name>, Fault>
     Ok(names)
 }
 
-#[tactic(auto, using(hir_input_json::proofs::Held::field_without))]
+#[tactic(auto, using(hir_input_json::proofs::MemberObjects::field_without))]
 fn settings_in(alloc: Global, members: &mut Members) -> Result<Settings, Fault>
-    ensures reads { Reads settings_view result (spec.settings (held members.old)) }
-    ensures left { OnOk result (held members.new
-        ≡ without (codes "edition") (without (codes "skipped") (without (codes "crates") (held members.old)))) }
+    ensures reads { Reads settings_view result (spec.settings (object_held members.old)) }
+    ensures left { OnOk result (object_held members.new
+        ≡ without_key (codes "edition") (without_key (codes "skipped")
+        (without_key (codes "crates") (object_held members.old)))) }
 {
     let crates = crates_at(alloc, members)?;
     let skipped = skipped_at(alloc, members)?;
@@ -121,7 +122,7 @@ fn settings_in(alloc: Global, members: &mut Members) -> Result<Settings, Fault>
 }
 
 fn no_settings_in(alloc: Global, members: &Members) -> Result<(), Fault>
-    ensures { Reads (λ _. tt) result (spec.no_settings (held members.now)) }
+    ensures { Reads (λ _. tt) result (spec.no_settings (object_held members.now)) }
 {
     none_in(alloc, members, "crates")?;
     none_in(alloc, members, "skipped")?;
@@ -148,9 +149,9 @@ fn shows_of(alloc: Global, items: Vec<Value>, count: usize) -> Result<Vec<LineSh
 
 fn edits_in(alloc: Global, members: &mut Members, count: usize) -> Result<Vec<TextEdit>, Fault>
     ensures reads { Reads (λ v. map text_edit_view v.items) result
-        (each_at (line_edit count) (codes "edits") (held members.old)) }
+        (each_at (line_edit count) (codes "edits") (object_held members.old)) }
     ensures usable { IfOk result (λ v. All (IsUsable count) v.items) }
-    ensures left { OnOk result (held members.new ≡ without (codes "edits") (held members.old)) }
+    ensures left { OnOk result (object_held members.new ≡ without_key (codes "edits") (object_held members.old)) }
 {
     let items = list_at(alloc, members, "edits")?;
     edits_of(alloc, items, count).in_member(alloc, "edits")
@@ -158,16 +159,16 @@ fn edits_in(alloc: Global, members: &mut Members, count: usize) -> Result<Vec<Te
 
 fn shows_in(alloc: Global, members: &mut Members, count: usize) -> Result<Vec<LineShow>, Fault>
     ensures reads { Reads (λ v. v.items) result
-        (each_at (line_show count) (codes "shows") (held members.old)) }
+        (each_at (line_show count) (codes "shows") (object_held members.old)) }
     ensures known { IfOk result (λ v. All (ShowNamesCrate count) v.items) }
 {
     let items = list_at(alloc, members, "shows")?;
     shows_of(alloc, items, count).in_member(alloc, "shows")
 }
 
-#[tactic(auto, using(hir_input_json::proofs::Held::field_without))]
+#[tactic(auto, using(hir_input_json::proofs::MemberObjects::field_without))]
 fn asked_in(alloc: Global, members: &mut Members, count: usize) -> Result<Asked, Fault>
-    ensures reads { Reads asked_view result (spec.line_asked count (held members.old)) }
+    ensures reads { Reads asked_view result (spec.line_asked count (object_held members.old)) }
     ensures own { IfOk result (IsOwn count) }
 {
     let edits = edits_in(alloc, members, count)?;
@@ -179,7 +180,7 @@ fn asked_in(alloc: Global, members: &mut Members, count: usize) -> Result<Asked,
 
 /// The line that opens a session.
 pub(crate) fn first_line(alloc: Global, mut members: Members) -> Result<First, Fault>
-    ensures reads { Reads first_view result (spec.first_line (held members)) }
+    ensures reads { Reads first_view result (spec.first_line (object_held members)) }
     ensures own { IfOk result (λ first. IsOwn (length first.settings.crates.items) first.asked) }
 {
     only_known(alloc, &members, LineObject::Whole)?;
@@ -190,7 +191,7 @@ pub(crate) fn first_line(alloc: Global, mut members: Members) -> Result<First, F
 
 /// A line of a session with this many crates.
 pub(crate) fn later_line(alloc: Global, mut members: Members, count: usize) -> Result<Asked, Fault>
-    ensures reads { Reads asked_view result (spec.later_line count (held members)) }
+    ensures reads { Reads asked_view result (spec.later_line count (object_held members)) }
     ensures own { IfOk result (IsOwn count) }
 {
     only_known(alloc, &members, LineObject::Whole)?;

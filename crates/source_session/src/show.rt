@@ -2,7 +2,7 @@
 ghost use Rattle.std.specs.Prelude.{◌≡◌, ℕ, IfOk, IfSome, codes};
 ghost use Rattle.serde_json.specs.View.{view};
 ghost use Rattle.hir_input_json.specs.Forms.{required_at};
-ghost use Rattle.hir_input_json.specs.Held.{held};
+ghost use Rattle.hir_input_json.specs.Held.{object_held};
 ghost use Rattle.hir_input_json.specs.Reads.{Reads};
 ghost use Rattle.item_tree_request.specs.Named as request;
 ghost use Rattle.source_listing.specs.Views.{pattern_view};
@@ -70,7 +70,7 @@ pub enum LineShow {
 
 // One of this many crates.
 fn crate_at(alloc: Global, members: &Members, count: usize) -> Result<Crate, Fault>
-    ensures reads { Reads (λ krate. krate) result (spec.crate_in count (held members.now)) }
+    ensures reads { Reads (λ krate. krate) result (spec.crate_in count (object_held members.now)) }
     ensures known { IfOk result (IsCrateOf count) }
 {
     let krate = id_at(alloc, members, "crate")?;
@@ -81,14 +81,14 @@ fn crate_at(alloc: Global, members: &Members, count: usize) -> Result<Crate, Fau
 }
 
 fn file_at(alloc: Global, members: &Members) -> Result<HirFileId, Fault>
-    ensures { Reads (λ file. file) result (spec.file_named (held members.now)) }
+    ensures { Reads (λ file. file) result (spec.file_named (object_held members.now)) }
 {
     Ok(HirFileId(id_at(alloc, members, "file")?))
 }
 
 fn path_at(alloc: Global, members: &Members) -> Result<SoughtItem, Fault>
     ensures { Reads (λ sought. sought) result
-        (required_at (codes "name") asked_path (held members.now)) }
+        (required_at (codes "name") asked_path (object_held members.now)) }
 {
     match field(members, "name") {
         Some(found) => sought_of(alloc, found).in_member(alloc, "name"),
@@ -98,7 +98,7 @@ fn path_at(alloc: Global, members: &Members) -> Result<SoughtItem, Fault>
 
 fn pattern_at(alloc: Global, members: &Members) -> Result<Pattern, Fault>
     ensures { Reads pattern_view result
-        (required_at (codes "name") asked_pattern (held members.now)) }
+        (required_at (codes "name") asked_pattern (object_held members.now)) }
 {
     match field(members, "name") {
         Some(found) => pattern_of(alloc, found).in_member(alloc, "name"),
@@ -108,7 +108,7 @@ fn pattern_at(alloc: Global, members: &Members) -> Result<Pattern, Fault>
 
 // The path that is looked for.
 fn sought_at(alloc: Global, members: &Members) -> Result<SoughtItem, Fault>
-    ensures { Reads (λ sought. sought) result (asked_path_in (held members.now)) }
+    ensures { Reads (λ sought. sought) result (asked_path_in (object_held members.now)) }
 {
     let sought = path_at(alloc, members)?;
     let units = units_at(alloc, members)?;
@@ -133,7 +133,7 @@ fn values_of(alloc: Global, value: &Value) -> Result<bool, Fault>
 
 // Whether a show is to be answered by values.
 fn as_values(alloc: Global, members: &Members) -> Result<bool, Fault>
-    ensures { Reads (λ by_values. by_values) result (spec.as_values (held members.now)) }
+    ensures { Reads (λ by_values. by_values) result (spec.as_values (object_held members.now)) }
 {
     match field(members, "as") {
         Some(found) => values_of(alloc, found).in_member(alloc, "as"),
@@ -185,7 +185,7 @@ fn answered_by(by_values: bool, show: Show, units: Units) -> Option<LineShow>
 }
 
 fn request_show(alloc: Global, members: &Members, count: usize) -> Result<LineShow, Fault>
-    ensures reads { Reads (λ show. show) result (spec.request_show count (held members.now)) }
+    ensures reads { Reads (λ show. show) result (spec.request_show count (object_held members.now)) }
     ensures known { IfOk result (ShowNamesCrate count) }
 {
     let show = show_in(alloc, members, count)?;
@@ -201,7 +201,7 @@ fn request_show(alloc: Global, members: &Members, count: usize) -> Result<LineSh
 // ---- shows
 
 fn outline_show(alloc: Global, members: &Members, count: usize) -> Result<LineShow, Fault>
-    ensures reads { Reads (λ show. show) result (spec.outline_show count (held members.now)) }
+    ensures reads { Reads (λ show. show) result (spec.outline_show count (object_held members.now)) }
     ensures known { IfOk result (ShowNamesCrate count) }
 {
     let krate = crate_at(alloc, members, count)?;
@@ -219,7 +219,7 @@ fn outline_show(alloc: Global, members: &Members, count: usize) -> Result<LineSh
 
 fn import_places_show(alloc: Global, members: &Members, count: usize) -> Result<LineShow, Fault>
     ensures reads { Reads (λ show. show) result
-        (spec.import_places_show count (held members.now)) }
+        (spec.import_places_show count (object_held members.now)) }
     ensures known { IfOk result (ShowNamesCrate count) }
 {
     let krate = crate_at(alloc, members, count)?;
@@ -235,7 +235,7 @@ fn import_places_show(alloc: Global, members: &Members, count: usize) -> Result<
 }
 
 fn problems_show(alloc: Global, members: &Members) -> Result<LineShow, Fault>
-    ensures reads { Reads (λ show. show) result (spec.problems_show (held members.now)) }
+    ensures reads { Reads (λ show. show) result (spec.problems_show (object_held members.now)) }
     ensures known { (count : ℕ) → IfOk result (ShowNamesCrate count) }
 {
     let file = file_at(alloc, members)?;
@@ -247,7 +247,7 @@ fn problems_show(alloc: Global, members: &Members) -> Result<LineShow, Fault>
 
 // A show of what is looked for, or of the items of the path that it is.
 fn find_by(alloc: Global, members: &Members, searched: Searched) -> Result<LineShow, Fault>
-    ensures reads { Reads (λ show. show) result (spec.find_by searched (held members.now)) }
+    ensures reads { Reads (λ show. show) result (spec.find_by searched (object_held members.now)) }
     ensures known { (count : ℕ) → IfOk result (ShowNamesCrate count) }
 {
     if searched.is_wide() {
@@ -258,7 +258,7 @@ fn find_by(alloc: Global, members: &Members, searched: Searched) -> Result<LineS
 }
 
 fn find_show(alloc: Global, members: &Members) -> Result<LineShow, Fault>
-    ensures reads { Reads (λ show. show) result (spec.find_show (held members.now)) }
+    ensures reads { Reads (λ show. show) result (spec.find_show (object_held members.now)) }
     ensures known { (count : ℕ) → IfOk result (ShowNamesCrate count) }
 {
     let pattern = pattern_at(alloc, members)?;
@@ -271,7 +271,7 @@ fn find_show(alloc: Global, members: &Members) -> Result<LineShow, Fault>
 
 // A show after edits of a table of this many crates, of these members.
 fn members_show(alloc: Global, members: &Members, count: usize) -> Result<LineShow, Fault>
-    ensures reads { Reads (λ show. show) result (spec.show_form count (held members.now)) }
+    ensures reads { Reads (λ show. show) result (spec.show_form count (object_held members.now)) }
     ensures known { IfOk result (ShowNamesCrate count) }
 {
     only_known(alloc, members, LineObject::OfShows)?;

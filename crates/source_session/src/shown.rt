@@ -66,7 +66,7 @@ fn place_of(show: &LineShow) -> Option<Place>
     }
 }
 
-#[tactic(auto, using(crate::proofs::Named::lent_set))]
+#[tactic(auto, using(crate::proofs::NamedCrates::lent_set))]
 fn is_set(sources: &Sources, place: Place) -> bool
     ensures { result ≡ is_some (present sources.now place) }
 {
@@ -226,7 +226,7 @@ fn tree_items(
     ensures { IfOk result (λ value. view value ≡ tree_form session.now.session krate place units) }
 {
     let items = items(alloc, session, krate, place, units, false)?;
-    let change = session.sources().changed(place, krate);
+    let change = session.sources().change_number(place, krate);
     tree_value(alloc, place, krate, change, items)
 }
 

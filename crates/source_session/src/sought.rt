@@ -3,7 +3,7 @@ ghost use Rattle.std.specs.Prelude.{◌≡◌, ◌&&◌, nat_eq};
 ghost use Rattle.std.specs.List.{ends_with};
 ghost use Rattle.serde_json.specs.View.{view};
 ghost use Rattle.hir_input_json.specs.{Reading.here, Reads.Reads};
-ghost use Rattle.source_listing.specs.{Sought.sought, Views.pattern_view, Views.query_view, Views.sought_view};
+ghost use Rattle.source_listing.specs.{Sought.sought_path, Views.pattern_view, Views.query_view, Views.sought_view};
 ghost use Rattle.source_session.specs.Searches.{query_of};
 ghost use Rattle.source_session.specs.Sought as spec;
 
@@ -67,7 +67,7 @@ fn last_name(alloc: Global, path: &str) -> Result<Name, Fault>
 }
 
 fn path_of(alloc: Global, text: &str) -> Result<SoughtPath, Fault>
-    ensures { Reads sought_view result (here (sought text.now)) }
+    ensures { Reads sought_view result (here (sought_path text.now)) }
 {
     match sought_path(alloc, text)? {
         Some(path) => Ok(path),

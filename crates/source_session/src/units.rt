@@ -2,7 +2,7 @@
 ghost use Rattle.std.specs.Prelude.{◌≡◌};
 ghost use Rattle.serde_json.specs.View.{view};
 ghost use Rattle.hir_input_json.specs.Forms.{flag};
-ghost use Rattle.hir_input_json.specs.Held.{held};
+ghost use Rattle.hir_input_json.specs.Held.{object_held};
 ghost use Rattle.hir_input_json.specs.Reads.{Reads};
 ghost use Rattle.source_session.specs.Units as spec;
 
@@ -32,7 +32,7 @@ fn units_of(alloc: Global, value: &Value) -> Result<Units, Fault>
 ///
 /// `WrongForm` comes only where it is not of its form (`Units.units_at`), and tells where.
 pub(crate) fn units_at(alloc: Global, members: &Members) -> Result<Units, Fault>
-    ensures { Reads (λ units. units) result (spec.units_at (held members.now)) }
+    ensures { Reads (λ units. units) result (spec.units_at (object_held members.now)) }
 {
     match field(members, "units") {
         Some(found) => units_of(alloc, found).in_member(alloc, "units"),
@@ -53,7 +53,7 @@ fn flag_of(alloc: Global, value: &Value) -> Result<bool, Fault>
 ///
 /// `WrongForm` comes only where it is not of its form (`Units.members_asked`), and tells where.
 pub(crate) fn members_asked(alloc: Global, members: &Members) -> Result<bool, Fault>
-    ensures { Reads (λ asked. asked) result (spec.members_asked (held members.now)) }
+    ensures { Reads (λ asked. asked) result (spec.members_asked (object_held members.now)) }
 {
     match field(members, "members") {
         Some(found) => flag_of(alloc, found).in_member(alloc, "members"),
@@ -69,7 +69,7 @@ pub(crate) fn units_if(
     members: &Members,
     tells_columns: bool,
 ) -> Result<Units, Fault>
-    ensures { Reads (λ units. units) result (spec.units_if tells_columns (held members.now)) }
+    ensures { Reads (λ units. units) result (spec.units_if tells_columns (object_held members.now)) }
 {
     if tells_columns {
         return units_at(alloc, members);

@@ -1,5 +1,5 @@
 pub mod Common
-pub mod Pushed
-pub mod Tagged
+pub mod PushedTags
+pub mod TagLists
 pub mod Blocks
 pub mod Searches

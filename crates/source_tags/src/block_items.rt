@@ -177,7 +177,7 @@ fn take_braces(cursor: &mut Cursor<'_>, places: &[ItemPlace]) -> Option<TextRang
     }
     let start = cursor.at();
     cursor.pass_tree();
-    own_braces(places, start, cursor.past())
+    own_braces(places, start, cursor.last_end())
 }
 
 /// The outermost braces in those of a block with these items.
@@ -198,7 +198,7 @@ pub(crate) fn inner_blocks(
         if cursor.is_empty() {
             break;
         }
-        let past = cursor.past();
+        let past = cursor.last_end();
         let block = take_braces(&mut cursor, places);
         push_some(&mut blocks, block)?;
         cursor.pass_beyond(past);

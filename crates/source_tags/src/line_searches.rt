@@ -95,7 +95,7 @@ impl<'t> LineTexts<'t> {
 
     /// The line with so many before it.
     #[tactic(auto, using(crate::proofs::Searches::lines_on))]
-    fn ahead(&self, number: usize) -> Line<'t>
+    fn line_at(&self, number: usize) -> Line<'t>
         ensures { line_view result ≡ line_after number self.now.text.now }
     {
         if number < self.number {
@@ -111,7 +111,7 @@ impl<'t> LineTexts<'t> {
             OnOk result (string_bytes out.new ≡ string_bytes out.old ++ spec.line_search line) }
         ensures same { self.new.text ≡ self.old.text }
     {
-        let line = self.ahead(number);
+        let line = self.line_at(number);
         *self = LineTexts {
             text: self.text,
             line,

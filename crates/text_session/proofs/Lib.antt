@@ -1,8 +1,8 @@
-pub mod Kept
-pub mod Spliced
-pub mod Meant
-pub mod Read
+pub mod KeptTexts
+pub mod SplicedTexts
+pub mod MeantEdits
+pub mod ReadTexts
 pub mod Touching
-pub mod Made
-pub mod Alone
+pub mod EditedSessions
+pub mod BodyEdits
 pub mod Common

@@ -22,7 +22,7 @@ fn common_end(old: &[u8], new: &[u8]) -> usize {
 }
 
 // What stands behind this in a text, if the text begins with it.
-fn behind<'t>(text: &'t str, front: &str) -> Option<&'t str>
+fn behind_front<'t>(text: &'t str, front: &str) -> Option<&'t str>
     ensures { IfSome result (λ rest. text.now ≡ front.now ++ rest.now) }
 {
     let (start, rest) = text.split_at_checked(front.len())?;
@@ -30,7 +30,7 @@ fn behind<'t>(text: &'t str, front: &str) -> Option<&'t str>
 }
 
 // What stands before this in a text, if the text ends with it.
-fn before<'t>(text: &'t str, back: &str) -> Option<&'t str>
+fn before_back<'t>(text: &'t str, back: &str) -> Option<&'t str>
     ensures { IfSome result (λ rest. text.now ≡ rest.now ++ back.now) }
 {
     let (rest, end) = text.split_at_checked(text.len().checked_sub(back.len())?)?;
@@ -38,17 +38,17 @@ fn before<'t>(text: &'t str, back: &str) -> Option<&'t str>
 }
 
 /// A range of a text, and what replaces it in another: all but what both begin with, and then what both end with.
-#[tactic(auto, using(crate::proofs::Spliced::spliced_by))]
+#[tactic(auto, using(crate::proofs::SplicedTexts::spliced_by))]
 pub(crate) fn difference<'t>(old: &str, new: &'t str) -> Option<(TextRange, &'t str)>
     ensures { IfSome result (λ d. new.now ≡ spliced_text old.now d.0 d.1.now) }
 {
     let start = old.floor_char_boundary(common_start(old.as_bytes(), new.as_bytes()));
     let (front, rest) = old.split_at_checked(start)?;
-    let left = behind(new, front)?;
+    let left = behind_front(new, front)?;
     let shared = common_end(rest.as_bytes(), left.as_bytes());
     let len = rest.ceil_char_boundary(rest.len().saturating_sub(shared));
     let (_replaced, back) = rest.split_at_checked(len)?;
-    let typed = before(left, back)?;
+    let typed = before_back(left, back)?;
     let end = start.checked_add(len)?;
     Some((TextRange { start, end }, typed))
 }

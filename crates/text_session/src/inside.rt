@@ -23,7 +23,7 @@ pub(crate) struct Inside {
 }
 
 // What an edit leaves of a text, if there are no problems before it and behind it, and it lies inside a body.
-#[tactic(auto, using(crate::proofs::Spliced::fault_none))]
+#[tactic(auto, using(crate::proofs::SplicedTexts::fault_none))]
 fn inside_of(
     alloc: Global,
     text: &SourceText,

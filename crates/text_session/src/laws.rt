@@ -10,14 +10,14 @@ use crate::error::EditError;
 use crate::splice::ChangeFault;
 
 // Edits in two goes lead where they lead in one.
-#[tactic(auto, using(crate::proofs::Made::made_join))]
-fn joined()
+#[tactic(auto, using(crate::proofs::EditedSessions::made_join))]
+fn edits_join()
     ensures { (s u v : Session) (es fs : List EditView) (cs ds : List TextChange)
         → AreMade s es cs u → AreMade u fs ds v → AreMade s (es ++ fs) (cs ++ ds) v }
 {}
 
 // Each text is kept as if it was read anew, after edits too, whether it was read or an edit was made inside a body.
-#[tactic(auto, using(crate::proofs::Read::set_edited))]
+#[tactic(auto, using(crate::proofs::ReadTexts::set_edited))]
 fn readings()
     ensures { (s u : Session) (asked : List TextEdit) → AreSetTo s.edition.0 s.table s.texts → IsEdited s asked u
         → AreSetTo u.edition.0 u.table u.texts }

@@ -12,7 +12,7 @@ use rust_items::TextRange;
 use std::alloc::{AllocError, Global};
 
 /// A text with what stands in a range of it replaced, if the text itself has no room for that.
-#[tactic(auto, using(crate::proofs::Alone::room_left, crate::proofs::Alone::room_made))]
+#[tactic(auto, using(crate::proofs::BodyEdits::room_left, crate::proofs::BodyEdits::room_made))]
 pub(crate) fn made_if_full(
     alloc: Global,
     text: &String,
@@ -30,7 +30,7 @@ pub(crate) fn made_if_full(
 }
 
 // Replaces what stands in a range of a text.
-#[tactic(auto, using(crate::proofs::Alone::split_point))]
+#[tactic(auto, using(crate::proofs::BodyEdits::split_point))]
 fn replace(text: &mut String, range: TextRange, typed: &str, made: Option<String>)
     requires { CanReplace text.old range typed.now made }
     ensures { string_bytes text.new ≡ spec.spliced_text (string_bytes text.old) range typed.now }

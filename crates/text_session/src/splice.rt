@@ -38,7 +38,7 @@ fn is_outside(text: &str, range: TextRange) -> bool
     range.end < range.start || text.len() < range.end
 }
 
-#[tactic(auto, using(crate::proofs::Spliced::cut_tells))]
+#[tactic(auto, using(crate::proofs::SplicedTexts::cut_tells))]
 fn cuts_none(text: &str, range: TextRange) -> bool
     ensures { result ≡ is_cut text.now range }
 {
@@ -57,7 +57,7 @@ fn are_many(left: usize, more: usize) -> bool
 }
 
 // The text would have too many bytes.
-#[tactic(auto, using(crate::proofs::Spliced::long_by))]
+#[tactic(auto, using(crate::proofs::SplicedTexts::long_by))]
 fn is_long(text: &str, range: TextRange, new: &str) -> bool
     requires order { range.start ≤ range.end }
     requires inside { range.end ≤ length text.now }
@@ -85,7 +85,7 @@ pub(crate) fn fault(text: &str, range: TextRange, new: &str) -> Option<ChangeFau
 }
 
 /// A text with what stands in a range of it replaced, in memory for more.
-#[tactic(auto, using(crate::proofs::Spliced::begins, crate::proofs::Spliced::ends))]
+#[tactic(auto, using(crate::proofs::SplicedTexts::begins, crate::proofs::SplicedTexts::ends))]
 pub(crate) fn spliced_text(
     alloc: Global,
     text: &str,
@@ -106,7 +106,7 @@ pub(crate) fn spliced_text(
 /// The text of a file with what stands in a range of it replaced, for the edit at this place of a list.
 ///
 /// `NotChanged` comes exactly where the range cannot be replaced, and the only other error is that memory runs out.
-#[tactic(auto, using(crate::proofs::Spliced::fault_none))]
+#[tactic(auto, using(crate::proofs::SplicedTexts::fault_none))]
 pub(crate) fn changed_text(
     alloc: Global,
     text: Option<&SourceText>,

@@ -149,7 +149,7 @@ fn put(texts: &mut Texts, file: u32, text: Option<SourceText>)
 }
 
 // Makes a change, for which there is room.
-#[tactic(auto, using(crate::proofs::Kept::slot_if, crate::proofs::Kept::text_step, crate::proofs::Kept::text_skip))]
+#[tactic(auto, using(crate::proofs::KeptTexts::slot_if, crate::proofs::KeptTexts::text_step, crate::proofs::KeptTexts::text_skip))]
 fn make(texts: &mut Texts, change: Change)
     requires { HasSlotFor texts.old.entries change }
     ensures texts { (rest : List ChangeView) (f : ℕ) → text_after (text_in texts.new.entries) rest f

@@ -9,7 +9,7 @@ use Rattle.item_tree.specs.Node.{Head, Trunk, inline, extern_block, Node, leaf, 
 use Rattle.item_tree.proofs.Walking.{of_id_is, each_walked_once, children_of, no_ids, tops_stand}
 use Rattle.tree_walk.specs.declared.collector.Declaration as code
 use Rattle.tree_walk.specs.Declarations.{Declared, node_declares, Declaration, declaration_of, path_below, node_declarations, declarations_in, declarations, with_id, node_declared, declared_in, declared_at}
-use Rattle.tree_walk.specs.DeclarationView.{view_of, declaration_view, declaration_id, defined, collected_declaration, is_declaring}
+use Rattle.tree_walk.specs.DeclarationView.{view_of, declaration_view, declaration_id, with_definition, collected_declaration, is_declaring}
 use Rattle.tree_walk.specs.Rows.{Around, top}
 use Rattle.tree_walk.specs.Inner.{Declared.own_from, Declared.own_in, Steps.around_below, Steps.node_steps, Steps.steps_in, Steps.steps}
 
@@ -44,8 +44,8 @@ map-flat_map : {A B C : Type 0} (f : B → C) (g : A → List B) (xs : List A) �
 map-flat_map f g [] = refl
 map-flat_map f g (x ∷ xs) = map-append f (g x) (flat_map g xs) ∙ ap (λ ys. map f (g x) ++ ys) (map-flat_map f g xs)
 
-pub all_defined : (u : Unfolding) (ss : List (ℕ × Around)) → ss ≡ steps u → flat_map (own_in u) ss ≡ map defined (declared_at u)
-all_defined u ss e = ap (flat_map (own_in u)) e ∙ sym (map-flat_map defined (own u) (steps u)) ∙ ap (map defined) (forest_own u u.forest (top u) (top_ids u) (tops_stand u))
+pub all_defined : (u : Unfolding) (ss : List (ℕ × Around)) → ss ≡ steps u → flat_map (own_in u) ss ≡ map with_definition (declared_at u)
+all_defined u ss e = ap (flat_map (own_in u)) e ∙ sym (map-flat_map with_definition (own u) (steps u)) ∙ ap (map with_definition) (forest_own u u.forest (top u) (top_ids u) (tops_stand u))
 
 -- ---- the ids alone, and the declarations alone
 
@@ -98,7 +98,7 @@ module _ (u : Unfolding) where
 
   -- ---- and of what is collected
 
-  module _ (ds : List code.Declaration) (h : map (collected_declaration u) ds ≡ map defined (declared_at u)) where
+  module _ (ds : List code.Declaration) (h : map (collected_declaration u) ds ≡ map with_definition (declared_at u)) where
     pub views_alone : map (declaration_view u) ds ≡ map view_of (declarations u.forest)
     views_alone = sym (map-map _ _ ds) ∙ ap (map (λ d. d.1)) h ∙ map-map _ _ (declared_at u) ∙ sym (map-map view_of (λ d. d.1) (declared_at u)) ∙ ap (map view_of) declared_alone
 

@@ -8,7 +8,7 @@ use Rattle.item_tree.specs.Node.{Leaf, plain, Trunk, inline, extern_block, Node,
 use Rattle.item_tree.specs.Shown.{Lent, lent_leaf, lent_parent, IsLent, lent_module, HasVisibility}
 use Rattle.item_tree.proofs.Walking.{leaf_of_id, parent_of_id}
 use Rattle.tree_walk.specs.Declarations.{Declared, declared_name, leaf_name, trunk_name, node_name, leaf_declares, node_declares, node_visibility, declaration_of, with_id}
-use Rattle.tree_walk.specs.DeclarationView.{defined}
+use Rattle.tree_walk.specs.DeclarationView.{with_definition}
 use Rattle.tree_walk.specs.Inner.Declared.{own_defined, lent_name, lent_declares, lent_visibility}
 
 -- ---- modules, whose items stand in them or not
@@ -92,7 +92,7 @@ pub ruleset lent_visibilities = (visibility_at, visibility_lent, no_visibility)
 -- ---- the declaration of one item
 
 module _ (u : Unfolding) (path : List (List ℕ)) (i : ℕ) where
-  own_by : (o : Option Node) (d : Option Declared) → node_at u.forest i ≡ o → of_id u None node_declares i ≡ d → own_defined u path i ≡ map defined (option_map_or (λ n. with_id i (declaration_of path n d)) o [])
+  own_by : (o : Option Node) (d : Option Declared) → node_at u.forest i ≡ o → of_id u None node_declares i ≡ d → own_defined u path i ≡ map with_definition (option_map_or (λ n. with_id i (declaration_of path n d)) o [])
   own_by None d e f = rw e refl
   own_by (Some n) d e f = let f : node_declares n ≡ d = sym (ap (λ o. option_map_or node_declares o None) e) ∙ f in rw (e, f) refl
 
@@ -107,7 +107,7 @@ module _ (u : Unfolding) (path : List (List ℕ)) (i : ℕ) where
   own_one x a d p f e = one (node_at u.forest i) a d refl f (declares_at u i x p ∙ sym e)
 
   -- and where it declares nothing
-  none : (o : Option Node) → map defined (option_map_or (λ n. with_id i (declaration_of path n None)) o []) ≡ []
+  none : (o : Option Node) → map with_definition (option_map_or (λ n. with_id i (declaration_of path n None)) o []) ≡ []
   none None = refl
   none (Some n) = refl
 

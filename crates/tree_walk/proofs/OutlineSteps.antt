@@ -6,11 +6,11 @@ use Rattle.hir_input.specs.declared.ids.FileAstId.{FileAstId}
 use Rattle.item_tree.specs.{Layout.node_at, Node.Node, Node.leaf, Node.parent, Node.Forest, Node.empty, Node.more, Node.nodes, Node.node_ast, Node.Unfolding, Reach.child_ids, Reach.top_ids, Walk.of_id}
 use Rattle.item_tree.proofs.Walking.{children_of, tops_stand}
 use Rattle.tree_walk.specs.{Declarations.node_name, Rows.Around, Rows.top}
-use Rattle.tree_walk.specs.Lines.{line, deeper, node_lines, forest_lines}
+use Rattle.tree_walk.specs.Lines.{line, indent_more, node_lines, forest_lines}
 use Rattle.tree_walk.specs.Inner.{Outlines.level_indent, Outlines.step_line, Steps.around_below, Steps.node_steps, Steps.steps_in, Steps.steps}
 
 -- four spaces more
-deeper_indent : (level : ℕ) → level_indent (level + 1) ≡ deeper (level_indent level)
+deeper_indent : (level : ℕ) → level_indent (level + 1) ≡ indent_more (level_indent level)
 deeper_indent level =
     let sum : 4 * (level + 1) ≡ 4 * level + 4 = omega arith in
     ap (λ n. replicate n 32) sum ∙ sym (replicate-append-replicate (4 * level) 4 32)

@@ -33,8 +33,8 @@ abbrev pub declaration_id : code.Declaration → ℕ
 declaration_id d = d.id
 
 -- both, with the id
-abbrev pub defined : ℕ × Declaration → ℕ × DeclarationView
-defined d = (d.0, view_of d.1)
+abbrev pub with_definition : ℕ × Declaration → ℕ × DeclarationView
+with_definition d = (d.0, view_of d.1)
 
 -- a listed declaration: the id of its item, and what it says
 abbrev pub collected_declaration : Unfolding → code.Declaration → ℕ × DeclarationView

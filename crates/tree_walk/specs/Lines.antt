@@ -14,14 +14,14 @@ unfoldable pub line : FileAstId → Option (List ℕ) → List ℕ
 line id name = shown_id id ++ spaced_name name ++ codes "\n"
 
 -- what stands in an item is indented by four spaces more
-abbrev pub deeper : List ℕ → List ℕ
-deeper indent = indent ++ codes "    "
+abbrev pub indent_more : List ℕ → List ℕ
+indent_more indent = indent ++ codes "    "
 
 -- the line of each item, before those of the items in it
 abbrev mutual
   pub node_lines : List ℕ → Node → List ℕ
   node_lines indent (leaf h l) = indent ++ line (node_ast (leaf h l)) (node_name (leaf h l))
-  node_lines indent (parent h t f) = indent ++ line (node_ast (parent h t f)) (node_name (parent h t f)) ++ forest_lines (deeper indent) f
+  node_lines indent (parent h t f) = indent ++ line (node_ast (parent h t f)) (node_name (parent h t f)) ++ forest_lines (indent_more indent) f
 
   -- the lines of a forest's items, behind this indent
   pub forest_lines : List ℕ → Forest → List ℕ

@@ -4,8 +4,8 @@ ghost use Rattle.item_tree.specs.Reach.{all_ids};
 ghost use Rattle.item_tree.specs.Shown.{IsContained};
 ghost use Rattle.item_tree.specs.Walk.{AreContained};
 ghost use Rattle.tree_walk.specs.Declarations.{declarations, declared_at};
-ghost use Rattle.tree_walk.specs.DeclarationView.{collected_declaration, declaration_view, defined, declaration_id};
-ghost use Rattle.tree_walk.specs.DeclarationView.{is_declaring, view_of};
+ghost use Rattle.tree_walk.specs.DeclarationView.{collected_declaration, declaration_view, declaration_id};
+ghost use Rattle.tree_walk.specs.DeclarationView.{is_declaring, view_of, with_definition};
 ghost use Rattle.tree_walk.specs.Inner.Declared.{own_in};
 ghost use Rattle.tree_walk.specs.Inner.Steps.{step_view};
 
@@ -45,7 +45,7 @@ pub struct Collected<'tree> {
 ///
 /// Only if memory runs out.
 pub fn collect(alloc: Global, tree: &ItemTree) -> Result<Collected<'_>, AllocError>
-    ensures all { let all = map defined (declared_at tree.now) in
+    ensures all { let all = map with_definition (declared_at tree.now) in
         IfOk result (λ c. map (collected_declaration tree.now) c.declarations.items ≡ all) }
     ensures declared { let all = map view_of (declarations tree.now.forest) in
         IfOk result (λ c. map (declaration_view tree.now) c.declarations.items ≡ all) }

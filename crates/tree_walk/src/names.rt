@@ -1,6 +1,6 @@
 //! What an item declares.
 ghost use Rattle.std.specs.Prelude.{◌≡◌, IfOk, None, option_copied, option_map};
-ghost use Rattle.item_tree.specs.Shown.{IsContained, IsShown, lent};
+ghost use Rattle.item_tree.specs.Shown.{IsContained, IsShown, lent_kind};
 ghost use Rattle.item_tree.specs.Walk.{of_id};
 ghost use Rattle.tree_walk.specs.Declarations.{crate_name, node_name, node_visibility};
 ghost use Rattle.tree_walk.specs.DeclarationView.{declared_by};
@@ -34,8 +34,8 @@ fn crate_name(item: &ExternCrate) -> Option<&Name>
 // The name of an item and the id of its visibility, as far as it has them.
 #[tactic(auto, using(crate::proofs::LentNames::module_name, crate::proofs::LentNames::module_visibility))]
 fn parts<'tree>(item: ModItemKind<'tree>) -> (Option<&'tree Name>, Option<RawVisibilityId>)
-    ensures name { option_copied result.0 ≡ lent_name (lent item.entry) }
-    ensures visibility { result.1 ≡ lent_visibility (lent item.entry) }
+    ensures name { option_copied result.0 ≡ lent_name (lent_kind item.entry) }
+    ensures visibility { result.1 ≡ lent_visibility (lent_kind item.entry) }
 {
     match item {
         ModItemKind::Const(_, item) => (item.name.as_ref(), Some(item.visibility)),
@@ -59,7 +59,7 @@ fn parts<'tree>(item: ModItemKind<'tree>) -> (Option<&'tree Name>, Option<RawVis
 
 // The name of an item, if it has one.
 pub(crate) fn name_of<'tree>(item: ModItemKind<'tree>) -> Option<&'tree Name>
-    ensures { option_copied result ≡ lent_name (lent item.entry) }
+    ensures { option_copied result ≡ lent_name (lent_kind item.entry) }
 {
     parts(item).0
 }
@@ -80,7 +80,7 @@ pub(crate) fn declares_of<'tree>(
     item: ModItemKind<'tree>,
 ) -> Result<Option<Declares<'tree>>, AllocError>
     ensures { IfOk result (λ declares. option_map declared_by declares
-        ≡ lent_declares (lent item.entry)) }
+        ≡ lent_declares (lent_kind item.entry)) }
 {
     match item {
         ModItemKind::Use(_, item) => {

@@ -1,6 +1,6 @@
 //! What items without names are told by.
 ghost use Rattle.std.specs.Prelude.{◌≡◌};
-ghost use Rattle.item_tree.specs.Shown.{IsContained, lent};
+ghost use Rattle.item_tree.specs.Shown.{IsContained, lent_kind};
 ghost use Rattle.tree_walk.specs.Inner.Rows as spec;
 ghost use Rattle.tree_walk.specs.Views.{subject_view};
 
@@ -19,7 +19,7 @@ pub enum Subject<'tree> {
 }
 
 fn subject_of(item: ModItemKind<'_>) -> Subject<'_>
-    ensures { subject_view result ≡ spec.lent_subject (lent item.entry) }
+    ensures { subject_view result ≡ spec.lent_subject (lent_kind item.entry) }
 {
     match item {
         ModItemKind::Use(_, item) => Subject::Use(item),

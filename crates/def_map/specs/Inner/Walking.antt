@@ -2,7 +2,7 @@
 use Rattle.std.specs.Prelude.{◌∷◌, ◌≡◌, ℕ, List, [], ◌++◌, map, Option, Some, None}
 use Rattle.std.specs.{Borrow.Bor, Option.option_map_or}
 use Rattle.item_tree.specs.{Layout.vis_at, Node.Unfolding, Shown.Lent, Shown.lent_leaf, Shown.lent_parent, Walk.of_id}
-use Rattle.item_tree_attrs.specs.{Collected.Collected, Collected.collected, Collected.nothing_collected, declared.collect.AttrsOrCfg.AttrsOrCfg}
+use Rattle.item_tree_attrs.specs.{Collected.Collected, Collected.collection_of, Collected.nothing_collected, declared.collect.AttrsOrCfg.AttrsOrCfg}
 use Rattle.def_map.specs.declared.{kinds.Visibility.Visibility, kinds.Visibility.TheVariants.Public, push.Owner.Owner, push.Place.Place}
 use Rattle.def_map.specs.declared.ctx.Ctx as ctx_code
 use Rattle.def_map.specs.declared.push.Row as row_code
@@ -36,7 +36,7 @@ lent_collected (Some c) = c
 
 abbrev pub collected_in : Option (Bor AttrsOrCfg) → Collected
 collected_in None = nothing_collected
-collected_in (Some attrs) = collected attrs.now
+collected_in (Some attrs) = collection_of attrs.now
 
 -- who sees what has the visibility of an id, in a module
 abbrev pub seen_at : ctx_code.Ctx → Unfolding → ℕ → ℕ → Visibility

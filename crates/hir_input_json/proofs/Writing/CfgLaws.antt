@@ -5,7 +5,7 @@ use Rattle.serde_json.specs.Written.{has_float}
 use Rattle.hir_input_json.proofs.Writing.Common.{AtomView, CfgView, CfgViews, invalid, all_of, any_of, not_of, no_cfgs, cfg_and, cfgs_from, right, field, identifier_form, cfg_reads_itself, atom_by, atom_data, cfg_data, cfgs_data, name_data, Holds}
 use Rattle.hir_input.specs.Cfg as condition
 use Rattle.hir_input_json.specs.Cfgs.{atom, cfg}
-use Rattle.hir_input_json.proofs.Writing.Held.{HoldAll, mapped, named_law, name_law, next_of, none_of}
+use Rattle.hir_input_json.proofs.Writing.WrittenParts.{HoldAll, mapped, named_law, name_law, next_of, none_of}
 
 -- what a condition's data may be: a null too
 pub record CfgHolds (c : CfgView) (d : Data) : Type 0 where

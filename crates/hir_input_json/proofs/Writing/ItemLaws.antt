@@ -5,7 +5,7 @@ use Rattle.serde_json.specs.Data.{Data, null, array, object}
 use Rattle.serde_json.specs.Written.{has_float}
 use Rattle.hir_input_json.proofs.Writing.Common.{NodeView, NamedView, CallView, PlainKind, ItemView, ItemViews, plain_item, const_item, struct_item, bare_module, listed_module, use_item, extern_crate, bare_extern_block, listed_extern_block, impl_item, macro_call, macro_rules, asm_item, no_items, item_and, extern_block_from, items_from, module_from, Reading, right, reading_map, field, flag, list_of, maybe, maybe_at, optional_at, unless_null, item, extern_item, named_item, item_reads_itself, Holds, call_data, extern_block_data, extern_block_object, extern_item_data, extern_items_data, item_data, items_data, kind_word, module_data, module_object, named_data, node_data, call_kept, item_kept, items_kept, named_kept, node_kept}
 use Rattle.hir_input_json.specs.Reading.{◌>>=◌}
-use Rattle.hir_input_json.proofs.Writing.Held.{HoldAll, bind, held_of, mapped, none_of, weaker}
+use Rattle.hir_input_json.proofs.Writing.WrittenParts.{HoldAll, bind, held_of, mapped, none_of, weaker}
 use Rattle.hir_input_json.proofs.Writing.KindLaws.{CallHolds, asm_law, call_law, extern_crate_law, impl_law, macro_rules_law, plain_law, struct_law, use_law, with_part}
 use Rattle.hir_input_json.proofs.Writing.NodeLaws.{NamedHolds, NodeHolds, named_law, named_reads, node_law, node_reads}
 

@@ -9,7 +9,7 @@ use Rattle.hir_input.specs.declared.expand_to.ExpandTo.TheVariants as expand_to
 use Rattle.hir_input.specs.Id.{shown_expand_to}
 use Rattle.hir_input_json.specs.Reading.{◌>>=◌}
 use Rattle.hir_input_json.specs.Items as forms
-use Rattle.hir_input_json.proofs.Writing.Held.{bind, both, mapped, maybe_law, name_law, next_law}
+use Rattle.hir_input_json.proofs.Writing.WrittenParts.{bind, both, mapped, maybe_law, name_law, next_law}
 use Rattle.hir_input_json.proofs.Writing.LiteralLaws.{context_law}
 use Rattle.hir_input_json.proofs.Writing.NodeLaws.{NamedHolds, NodeHolds, named_law, named_reads, node_law, node_reads}
 use Rattle.hir_input_json.proofs.Writing.PathLaws.{path_law, visibility_law}

@@ -7,7 +7,7 @@ use Rattle.hir_input.specs.declared.edition.EditionYear.TheVariants.{E2015, E201
 use Rattle.hir_input_json.proofs.Writing.Common.{SyntaxContext, LiteralView, field, whole_form, context, literal, span, context_data, is_same_context, literal_data, span_data, year_number, whole_data, Holds}
 use Rattle.hir_input.specs.declared.ids.SyntaxContext.TheVariants.{Root, Expanded}
 use Rattle.hir_input.specs.declared.span.Span.{Span}
-use Rattle.hir_input_json.proofs.Writing.Held.{bind, below_law, text_law, whole_law}
+use Rattle.hir_input_json.proofs.Writing.WrittenParts.{bind, below_law, text_law, whole_law}
 
 pub context_law : (c : SyntaxContext) → IfSome (context_data c) (Holds context c)
 context_law (Root E2015) = record { there = refl; reads = refl; exact = refl }

@@ -1,7 +1,7 @@
 -- A meta that is written is read again.
 use Rattle.std.proofs.Common.{◌≡◌, ℕ, List, [], ◌∷◌, IfSome, Option, refl, ap, ◌∙◌}
 use Rattle.hir_input_json.proofs.Writing.Common.{PathNode, SyntaxContext, LiteralView, MetaView, MetaViews, path_meta, key_value_meta, token_tree_meta, cfg_meta, cfg_attr_meta, unsafe_meta, no_metas, meta_and, metas_from, right, field, context, literal, meta_form, path_node_form, meta_reads_itself, cfg_data, context_data, literal_data, key_value_data, meta_data, metas_data, path_meta_data, tokens_data, maybe_data, path_data, Holds, MayHold}
-use Rattle.hir_input_json.proofs.Writing.Held.{HoldAll, bind, held_of, mapped, maybe_law, none_of}
+use Rattle.hir_input_json.proofs.Writing.WrittenParts.{HoldAll, bind, held_of, mapped, maybe_law, none_of}
 use Rattle.hir_input_json.proofs.Writing.CfgLaws.{CfgHolds, cfg_law}
 use Rattle.hir_input_json.proofs.Writing.LiteralLaws.{context_law, literal_law}
 use Rattle.hir_input_json.proofs.Writing.PathLaws.{path_law}

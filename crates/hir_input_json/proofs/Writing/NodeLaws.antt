@@ -4,7 +4,7 @@ use Rattle.serde_json.specs.Data.{Data, array, no_items}
 use Rattle.serde_json.specs.Written.{has_float}
 use Rattle.hir_input_json.proofs.Writing.Common.{MetaView, metas_from, NodeView, NamedView, Reading, right, under, each, field, array_items, maybe_at, identifier_form, optional, text_form, unless_null, whole_form, named_form, node_form, meta_form, vis_form, Holds, MayHold, NodeData, NamedData, attrs_data, body_data, named_data, node_data, body_kept, node_kept, named_kept, metas_data, maybe_data, name_data, whole_data, visibility_data}
 use Rattle.hir_input_json.specs.Reading.{◌>>=◌}
-use Rattle.hir_input_json.proofs.Writing.Held.{HoldAll, bind, mapped, maybe_law, name_law, whole_law}
+use Rattle.hir_input_json.proofs.Writing.WrittenParts.{HoldAll, bind, mapped, maybe_law, name_law, whole_law}
 use Rattle.hir_input_json.proofs.Writing.MetaLaws.{metas_apart, metas_law}
 use Rattle.hir_input_json.proofs.Writing.PathLaws.{visibility_law}
 

@@ -6,7 +6,7 @@ use Rattle.hir_input_json.proofs.Writing.Common.{Plain, Super, DollarCrate, Path
 use Rattle.hir_input.specs.declared.ast.PathNode.TheVariants.{Readable, Unreadable}
 use Rattle.hir_input.specs.declared.ast.Visibility.TheVariants.{InPath}
 use Rattle.hir_input_json.specs.Reading.{◌>>=◌}
-use Rattle.hir_input_json.proofs.Writing.Held.{bind, mapped, each_law, name_law, whole_law}
+use Rattle.hir_input_json.proofs.Writing.WrittenParts.{bind, mapped, each_law, name_law, whole_law}
 
 -- one before others
 abbrev led : {A : Type 0} → Reading A → Reading (List A) → Reading (List A)

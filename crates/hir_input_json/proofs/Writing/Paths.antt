@@ -1,12 +1,12 @@
 -- The data of a path of a kind.
 use Rattle.std.proofs.Common.{◌≡◌, ◌<◌, ℕ, List, [], ◌∷◌, length, Option, Some, None, option_and_then, codes, refl, arith}
 use Rattle.serde_json.specs.Data.{Data, Items}
-use Rattle.hir_input_json.proofs.Writing.Common.{Plain, word_and_names, kind_data, each_data, led, name_data}
+use Rattle.hir_input_json.proofs.Writing.Common.{Plain, word_and_names, kind_data, each_data, led_items, name_data}
 use Rattle.hir_input_json.proofs.Writing.Lists.{lists}
 
 plain_by : (n : Option Data) (ns : Option Items)
-    → option_and_then (kind_data Plain) (led n ns)
-    ≡ option_and_then (word_and_names (codes "plain") None) (led n ns)
+    → option_and_then (kind_data Plain) (led_items n ns)
+    ≡ option_and_then (word_and_names (codes "plain") None) (led_items n ns)
 plain_by None ns = refl
 plain_by (Some d) None = refl
 plain_by (Some d) (Some ds) = refl

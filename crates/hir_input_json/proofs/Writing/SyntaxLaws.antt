@@ -6,7 +6,7 @@ use Rattle.hir_input_json.proofs.Writing.Common.{ItemView, ItemViews, listed_mod
 use Rattle.hir_input_json.specs.Syntaxes.{stmt, tail}
 use Rattle.hir_input_json.specs.Writing.Laws.{IsReadAs, kept_bodies}
 use Rattle.serde_json.specs.Written.{has_float}
-use Rattle.hir_input_json.proofs.Writing.Held.{HoldAll, bind, each_seen, mapped}
+use Rattle.hir_input_json.proofs.Writing.WrittenParts.{HoldAll, bind, each_seen, mapped}
 use Rattle.hir_input_json.proofs.Writing.ItemLaws.{item_law, items_law}
 use Rattle.hir_input_json.proofs.Writing.KindLaws.{CallHolds, call_law}
 use Rattle.hir_input_json.proofs.Writing.NodeLaws.{AttrsHold, attrs_law}

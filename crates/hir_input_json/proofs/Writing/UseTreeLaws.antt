@@ -4,7 +4,7 @@ use Rattle.serde_json.specs.Data.{Data, null, array}
 use Rattle.serde_json.specs.Written.{has_float}
 use Rattle.hir_input_json.proofs.Writing.Common.{Rename, UseNode, UseTreeView, UseTreeViews, bare_tree, listed_tree, no_trees, tree_and, tree_from, trees_from, right, reading_map, field, list_of, maybe, unless_null, path_node_form, rename_form, use_tree_form, Holds, MayHold, maybe_data, name_data, path_data, rename_data, renamed_data, use_node_data, use_tree_data, use_trees_data}
 use Rattle.hir_input_json.proofs.UseTrees.{use_tree_reads_itself}
-use Rattle.hir_input_json.proofs.Writing.Held.{HoldAll, bind, held_of, maybe_law, named_law, none_of}
+use Rattle.hir_input_json.proofs.Writing.WrittenParts.{HoldAll, bind, held_of, maybe_law, named_law, none_of}
 use Rattle.hir_input_json.proofs.Writing.PathLaws.{path_law}
 
 other_by : (b : Bool) (n : List ℕ) (Q : Data → Type 0) (o : Option Data) → (b ≡ false → IfSome o Q) → IfSome (if b then None else o) Q

@@ -2,16 +2,16 @@
 use Rattle.std.specs.Prelude.{ℕ, List, codes, Option, Some, None, option_map}
 use Rattle.serde_json.specs.Data.{Data, null, string, array, object, Items, no_items, no_members, member}
 use Rattle.hir_input.specs.Cfg.{AtomView, CfgView, CfgViews, invalid, atom, all_of, any_of, not_of, no_cfgs, cfg_and}
-use Rattle.hir_input_json.specs.Writing.Parts.{led, name_data}
+use Rattle.hir_input_json.specs.Writing.Parts.{led_items, name_data}
 
 -- a key and its value
-abbrev pub keyed : Data → List ℕ → Data
-keyed key value = object (member (codes "key") key (member (codes "value") (string value) no_members))
+abbrev pub keyed_value : Data → List ℕ → Data
+keyed_value key value = object (member (codes "key") key (member (codes "value") (string value) no_members))
 
 -- a flag, or a key with its value
 abbrev pub atom_by : List ℕ → Option (List ℕ) → Option Data
 atom_by name None = name_data name
-atom_by name (Some value) = option_map (λ d. keyed d value) (name_data name)
+atom_by name (Some value) = option_map (λ d. keyed_value d value) (name_data name)
 
 -- the JSON of an atom, if it has one
 abbrev pub atom_data : AtomView → Option Data
@@ -28,4 +28,4 @@ abbrev mutual
 
   pub cfgs_data : CfgViews → Option Items
   cfgs_data no_cfgs = Some no_items
-  cfgs_data (cfg_and c cs) = led (cfg_data c) (cfgs_data cs)
+  cfgs_data (cfg_and c cs) = led_items (cfg_data c) (cfgs_data cs)

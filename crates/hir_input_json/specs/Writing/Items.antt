@@ -11,7 +11,7 @@ use Rattle.hir_input.specs.declared.ast.PlainKind.{PlainKind}
 use Rattle.hir_input.specs.Syntax as syntax
 use Rattle.hir_input_json.specs.Writing.Literals.{context_data}
 use Rattle.hir_input_json.specs.Writing.Metas.{metas_data}
-use Rattle.hir_input_json.specs.Writing.Parts.{led, list_data, maybe_data, name_data, whole_data, ◌>>=◌}
+use Rattle.hir_input_json.specs.Writing.Parts.{led_items, list_data, maybe_data, name_data, whole_data, ◌>>=◌}
 use Rattle.hir_input_json.specs.Writing.Paths.{path_data, visibility_data}
 use Rattle.hir_input_json.specs.Writing.UseTrees.{rename_data, use_tree_data}
 
@@ -195,7 +195,7 @@ extern_item_data bodies i = None
 
 abbrev pub extern_items_data : Bool → ItemViews → Option Items
 extern_items_data bodies syntax.no_items = Some no_items
-extern_items_data bodies (syntax.item_and i is) = led (extern_item_data bodies i) (extern_items_data bodies is)
+extern_items_data bodies (syntax.item_and i is) = led_items (extern_item_data bodies i) (extern_items_data bodies is)
 
 -- the items of a list, null where none is written
 abbrev pub listed_data : (ItemViews → Option Items) → Option (List ItemView) → Option Data
@@ -225,4 +225,4 @@ abbrev mutual
 
   pub items_data : Bool → ItemViews → Option Items
   items_data bodies syntax.no_items = Some no_items
-  items_data bodies (syntax.item_and i is) = led (item_data bodies i) (items_data bodies is)
+  items_data bodies (syntax.item_and i is) = led_items (item_data bodies i) (items_data bodies is)

@@ -8,5 +8,5 @@ after [] ds = ds
 after (e ∷ es) ds = item e (after es ds)
 
 -- what is done, and behind it what is left
-abbrev pub joined : List Data → Option Items → Option Items
-joined done left = option_map (after done) left
+abbrev pub joined_items : List Data → Option Items → Option Items
+joined_items done left = option_map (after done) left

@@ -7,7 +7,7 @@ use Rattle.hir_input.specs.Attr.{MetaView, MetaViews, path_meta, key_value_meta,
 use Rattle.hir_input.specs.Literal.{LiteralView}
 use Rattle.hir_input_json.specs.Writing.Cfgs.{cfg_data}
 use Rattle.hir_input_json.specs.Writing.Literals.{context_data, literal_data}
-use Rattle.hir_input_json.specs.Writing.Parts.{led, maybe_data, ◌>>=◌}
+use Rattle.hir_input_json.specs.Writing.Parts.{led_items, maybe_data, ◌>>=◌}
 use Rattle.hir_input_json.specs.Writing.Paths.{path_data}
 
 abbrev pub path_object : (path ctxt : Data) → Data
@@ -65,4 +65,4 @@ abbrev mutual
 
   pub metas_data : MetaViews → Option Items
   metas_data no_metas = Some no_items
-  metas_data (meta_and m ms) = led (meta_data m) (metas_data ms)
+  metas_data (meta_and m ms) = led_items (meta_data m) (metas_data ms)

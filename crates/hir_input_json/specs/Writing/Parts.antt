@@ -2,7 +2,7 @@
 use Rattle.std.specs.Prelude.{ℕ, List, [], ◌∷◌, Option, Some, None, option_map, option_and_then}
 use Rattle.serde_json.specs.Data.{Data, null, number, unsigned, string, array, Items, no_items, item}
 use Rattle.hir_input.specs.Name.{name_in}
-use Rattle.hir_input_json.specs.Forms.{below}
+use Rattle.hir_input_json.specs.Forms.{number_below}
 
 -- one after another
 abbrev pub ◌>>=◌ : {A B : Type 0} → Option A → (A → Option B) → Option B
@@ -19,8 +19,8 @@ text_or_null None = null
 text_or_null (Some text) = string text
 
 -- one item, and the others behind it
-abbrev pub led : Option Data → Option Items → Option Items
-led first others = do
+abbrev pub led_items : Option Data → Option Items → Option Items
+led_items first others = do
   d ← first
   ds ← others
   Some (item d ds)
@@ -28,7 +28,7 @@ led first others = do
 -- each of a list
 abbrev pub each_data : {A : Type 0} → (A → Option Data) → List A → Option Items
 each_data make [] = Some no_items
-each_data make (a ∷ as') = led (make a) (each_data make as')
+each_data make (a ∷ as') = led_items (make a) (each_data make as')
 
 -- the array of a list
 abbrev pub list_data : {A : Type 0} → (A → Option Data) → List A → Option Data
@@ -36,7 +36,7 @@ list_data make as' = option_map array (each_data make as')
 
 -- a whole number, if it is below the bound
 abbrev pub whole_data : ℕ → ℕ → Option Data
-whole_data bound n = option_map (λ m. number (unsigned m)) (below bound n)
+whole_data bound n = option_map (λ m. number (unsigned m)) (number_below bound n)
 
 -- a text, if it is a name
 abbrev pub name_data : List ℕ → Option Data

@@ -3,7 +3,7 @@ use Rattle.std.specs.Prelude.{ℕ, List, Bool, codes, bytes_eq, if◌then◌else
 use Rattle.serde_json.specs.Data.{Data, null, boolean, string, array, object, Items, no_items, no_members, member}
 use Rattle.hir_input.specs.declared.ast.Rename.{Rename}
 use Rattle.hir_input.specs.UseTreeView.{UseNode, UseTreeView, UseTreeViews, bare_tree, listed_tree, no_trees, tree_and}
-use Rattle.hir_input_json.specs.Writing.Parts.{led, maybe_data, name_data, ◌>>=◌}
+use Rattle.hir_input_json.specs.Writing.Parts.{led_items, maybe_data, name_data, ◌>>=◌}
 use Rattle.hir_input_json.specs.Writing.Paths.{path_data}
 
 -- `_` is no name for one
@@ -35,4 +35,4 @@ abbrev mutual
 
   pub use_trees_data : UseTreeViews → Option Items
   use_trees_data no_trees = Some no_items
-  use_trees_data (tree_and t ts) = led (use_tree_data t) (use_trees_data ts)
+  use_trees_data (tree_and t ts) = led_items (use_tree_data t) (use_trees_data ts)

@@ -3,7 +3,7 @@ ghost use Rattle.std.specs.Prelude.{◌≡◌, codes, map};
 ghost use Rattle.serde_json.specs.View.{view, items_view};
 ghost use Rattle.hir_input.specs.Syntax.{fields_view};
 ghost use Rattle.hir_input_json.specs.Forms.{each, required_at as required_form};
-ghost use Rattle.hir_input_json.specs.Held.{held};
+ghost use Rattle.hir_input_json.specs.Held.{object_held};
 ghost use Rattle.hir_input_json.specs.Items.{fields_form as fields_form, tuple_field};
 ghost use Rattle.hir_input_json.specs.Reads.{Reads};
 
@@ -49,7 +49,7 @@ fn struct_kind_of(alloc: Global, value: Value) -> Result<StructKind, Fault>
 
 pub(crate) fn struct_kind_at(alloc: Global, members: &mut Members) -> Result<StructKind, Fault>
     ensures { Reads fields_view result
-        (required_form (codes "fields") fields_form (held members.old)) }
+        (required_form (codes "fields") fields_form (object_held members.old)) }
 {
     let found = required_at(alloc, members, "fields")?;
     struct_kind_of(alloc, found).in_member(alloc, "fields")

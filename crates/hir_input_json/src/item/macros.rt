@@ -1,7 +1,7 @@
 //! Macro calls and macros by example, read from their forms.
 ghost use Rattle.std.specs.Prelude.{◌≡◌, option_map};
 ghost use Rattle.hir_input.specs.Syntax.{call_view, item_view};
-ghost use Rattle.hir_input_json.specs.Held.{held};
+ghost use Rattle.hir_input_json.specs.Held.{object_held};
 ghost use Rattle.hir_input_json.specs.Items.{expand_to_at as expand_to_form, call_form, macro_rules_form};
 ghost use Rattle.hir_input_json.specs.Reads.{Reads};
 
@@ -17,7 +17,7 @@ use std::alloc::Global;
 
 // Items where it is absent.
 fn expand_to_at(alloc: Global, members: &Members) -> Result<ExpandTo, Fault>
-    ensures { Reads (λ expand_to. expand_to) result (expand_to_form (held members.now)) }
+    ensures { Reads (λ expand_to. expand_to) result (expand_to_form (object_held members.now)) }
 {
     let Some(found) = field(members, "expand_to") else {
         return Ok(ExpandTo::Items);
@@ -33,9 +33,9 @@ fn expand_to_at(alloc: Global, members: &Members) -> Result<ExpandTo, Fault>
     }
 }
 
-#[tactic(auto, using(crate::proofs::Held::field_without))]
+#[tactic(auto, using(crate::proofs::MemberObjects::field_without))]
 pub(crate) fn macro_call_of(alloc: Global, members: &mut Members) -> Result<MacroCall, Fault>
-    ensures { Reads call_view result (call_form (held members.old)) }
+    ensures { Reads call_view result (call_form (object_held members.old)) }
 {
     let node = node_at(alloc, members)?;
     let path = path_at(alloc, members)?;
@@ -44,9 +44,9 @@ pub(crate) fn macro_call_of(alloc: Global, members: &mut Members) -> Result<Macr
     Ok(with_node!(MacroCall, node, path, expand_to, ctxt))
 }
 
-#[tactic(auto, using(crate::proofs::Held::field_without, hir_input::proofs::SyntaxViews::item_views))]
+#[tactic(auto, using(crate::proofs::MemberObjects::field_without, hir_input::proofs::SyntaxViews::item_views))]
 pub(crate) fn macro_rules_of(alloc: Global, members: &mut Members) -> Result<Item, Fault>
-    ensures { Reads item_view result (macro_rules_form (held members.old)) }
+    ensures { Reads item_view result (macro_rules_form (object_held members.old)) }
 {
     let node = node_at(alloc, members)?;
     let name = name_at(alloc, members, "name")?;

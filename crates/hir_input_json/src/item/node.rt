@@ -1,6 +1,6 @@
 //! What items have in common, read from its keys.
 ghost use Rattle.std.specs.Prelude.{◌≡◌, OnOk, codes};
-ghost use Rattle.hir_input_json.specs.Held.{held, without};
+ghost use Rattle.hir_input_json.specs.Held.{object_held, without_key};
 ghost use Rattle.hir_input_json.specs.Items.{node_form as node_form, named_form as named_form};
 ghost use Rattle.hir_input_json.specs.Reads.{Reads};
 ghost use Rattle.hir_input_json.specs.Inner.{node_view, named_parts_view};
@@ -75,11 +75,11 @@ pub(crate) use named_by;
 pub(crate) use with_name;
 pub(crate) use with_node;
 
-#[tactic(auto, using(crate::proofs::Held::field_without))]
+#[tactic(auto, using(crate::proofs::MemberObjects::field_without))]
 pub(crate) fn node_at(alloc: Global, members: &mut Members) -> Result<Node, Fault>
-    ensures reads { Reads node_view result (node_form (held members.old)) }
+    ensures reads { Reads node_view result (node_form (object_held members.old)) }
     ensures left { OnOk result
-        (held members.new ≡ without (codes "body") (without (codes "attrs") (held members.old))) }
+        (object_held members.new ≡ without_key (codes "body") (without_key (codes "attrs") (object_held members.old))) }
 {
     Ok(Node {
         hash: u16_at(alloc, members, "hash")?,
@@ -89,13 +89,13 @@ pub(crate) fn node_at(alloc: Global, members: &mut Members) -> Result<Node, Faul
     })
 }
 
-#[tactic(auto, using(crate::proofs::Held::field_without))]
+#[tactic(auto, using(crate::proofs::MemberObjects::field_without))]
 pub(crate) fn named_at(alloc: Global, members: &mut Members) -> Result<Named, Fault>
-    ensures reads { Reads named_parts_view result (named_form (held members.old)) }
+    ensures reads { Reads named_parts_view result (named_form (object_held members.old)) }
     ensures left { OnOk result
-        (held members.new ≡ without (codes "vis")
-        (without (codes "name")
-        (without (codes "body") (without (codes "attrs") (held members.old))))) }
+        (object_held members.new ≡ without_key (codes "vis")
+        (without_key (codes "name")
+        (without_key (codes "body") (without_key (codes "attrs") (object_held members.old))))) }
 {
     Ok(Named {
         node: node_at(alloc, members)?,

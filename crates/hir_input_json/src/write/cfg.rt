@@ -3,7 +3,7 @@ ghost use Rattle.std.specs.Prelude.{◌≡◌, IfOk, map, string_bytes};
 ghost use Rattle.serde_json.specs.View.{view};
 ghost use Rattle.hir_input.specs.Cfg.{atom_view, cfg_view, cfgs_from};
 ghost use Rattle.hir_input_json.specs.Cfgs.{atom as atom_form};
-ghost use Rattle.hir_input_json.specs.Writing.Cfgs.{atom_data, cfg_data, cfgs_data, keyed};
+ghost use Rattle.hir_input_json.specs.Writing.Cfgs.{atom_data, cfg_data, cfgs_data, keyed_value};
 ghost use Rattle.hir_input_json.specs.Writing.Held.{Holds};
 ghost use Rattle.hir_input_json.specs.Writing.Writes.{Writes, WritesEach};
 
@@ -16,7 +16,7 @@ use serde_json::Value;
 use std::alloc::{AllocError, Global};
 
 fn key_object(alloc: Global, key: Value, value: &String) -> Result<Value, AllocError>
-    ensures { IfOk result (λ v. view v ≡ keyed (view key) (string_bytes value.now)) }
+    ensures { IfOk result (λ v. view v ≡ keyed_value (view key) (string_bytes value.now)) }
 {
     let members = of_text(alloc, "value", value.as_str())?;
     Ok(Value::Object(with(alloc, members, "key", key)?))

@@ -1,7 +1,7 @@
 //! Paths as JSON.
 ghost use Rattle.std.specs.Prelude.{map, option_and_then};
 ghost use Rattle.serde_json.specs.View.{view};
-ghost use Rattle.hir_input_json.specs.Writing.Lists.{joined};
+ghost use Rattle.hir_input_json.specs.Writing.Lists.{joined_items};
 ghost use Rattle.hir_input_json.specs.Writing.Parts.{each_data, maybe_data, name_data};
 ghost use Rattle.hir_input_json.specs.Writing.Paths.{word_and_names as behind_data, mod_path_data, path_data};
 ghost use Rattle.hir_input_json.specs.Writing.Writes.{Writes, WritesEach};
@@ -20,7 +20,7 @@ fn names_behind(
     mut values: Vec<Value>,
     names: &[Name],
 ) -> Result<Vec<Value>, WriteFault>
-    ensures { WritesEach result (joined (map view values.items) (each_data name_data names.now)) }
+    ensures { WritesEach result (joined_items (map view values.items) (each_data name_data names.now)) }
 {
     for name in names {
         values.push(name_value(alloc, name)?)?;

@@ -6,7 +6,7 @@ use Rattle.hir_input.specs.declared.attr.Meta.{Meta}
 use Rattle.hir_input.specs.Attr.{meta_view}
 use Rattle.hir_input.specs.Syntax.{ItemView, ItemViews, no_items, listed_module, listed_extern_block}
 use Rattle.item_tree_attrs.specs.declared.collect.AttrsOrCfg.{AttrsOrCfg}
-use Rattle.item_tree_attrs.specs.Collected.{Collected, collected, collected_from, attr_limit}
+use Rattle.item_tree_attrs.specs.Collected.{Collected, collection_of, collected_from, attr_limit}
 use Rattle.item_tree.specs.declared.visibility.RawVisibility.{RawVisibility}
 use Rattle.item_tree.specs.declared.items.StructValueNsCtor.{StructValueNsCtor}
 use Rattle.item_tree.specs.declared.lower.Ctx.{Ctx}
@@ -151,7 +151,7 @@ CtorIsLowered old new c r = MatchResult r (MeetsCtor old new c) (IsPassed (sizes
 
 -- the value stands at the end of the column, unless it is enabled and empty, and this is its place
 pub record Puts (old new : Vec AttrsOrCfg Global) (c : Collected) (place : ℕ) : Type 0 where
-  pub added : map collected new.items ≡ map collected old.items ++ unless (has_no_attributes c) c
+  pub added : map collection_of new.items ≡ map collection_of old.items ++ unless (has_no_attributes c) c
   pub given : plain_place place ≡ some_unless (has_no_attributes c) (length old.items)
 
 -- one row was added at the end, and this is its id

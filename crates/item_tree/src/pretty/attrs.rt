@@ -1,7 +1,7 @@
 //! Attribute lines of a page.
 ghost use Rattle.std.specs.Prelude.{◌≡◌, ◌++◌, IfOk, OnOk, option_map, string_bytes, flat_map};
 ghost use Rattle.hir_input.specs.Cfg.{cfg_view};
-ghost use Rattle.item_tree_attrs.specs.Collected.{collected};
+ghost use Rattle.item_tree_attrs.specs.Collected.{collection_of};
 ghost use Rattle.item_tree_attrs.specs.Query.{listed_attrs};
 ghost use Rattle.item_tree.specs.Line.{lines_of_text};
 ghost use Rattle.item_tree.specs.Page.{attr_text, false_cfg_text, shown_input};
@@ -23,7 +23,7 @@ impl Printer<'_> {
     ) -> Result<(), AllocError>
         ensures { let reserved = self.entry.edition.now.reserved.items in
             let lines = lent_lines reserved opening.now self.entry.level
-            (option_map (λ a. collected a.now) attrs.entry) in
+            (option_map (λ a. collection_of a.now) attrs.entry) in
             OnOk result (Gains out.old out.new lines) }
     {
         match attrs {

@@ -60,7 +60,7 @@ fn join(alloc: Global, before: &ModPath, path: &ModPath) -> MeantPath
 
 // The path that the words of `path` mean.
 #[tactic(auto, using(crate::proofs::Chains::read_chain_alone))]
-fn alone(alloc: Global, path: &ModPath) -> MeantPath
+fn meant_path(alloc: Global, path: &ModPath) -> MeantPath
     ensures reads { IfOk result (λ alone. alone ≡ read_chain (path.now ∷ [])) }
     ensures supers { IfOk result
         (λ alone. IfSome alone (λ q. super_count q.kind ≡ super_count path.now.kind)) }
@@ -82,7 +82,7 @@ pub(crate) fn join_below(alloc: Global, before: Option<&ModPath>, path: &ModPath
     ensures words { HasWords path.now.kind path.now.names }
 {
     match before {
-        None => alone(alloc, path),
+        None => meant_path(alloc, path),
         Some(before) => join(alloc, before, path),
     }
 }
@@ -101,7 +101,7 @@ pub(crate) fn meaning(alloc: Global, before: Option<&ModPath>, path: &ModPath) -
         ≡ read_below (is_self path.now) (chain_of before.entry) path.now) }
 {
     match before {
-        Some(before) if is_self(path) => alone(alloc, before),
+        Some(before) if is_self(path) => meant_path(alloc, before),
         _ => join_below(alloc, before, path),
     }
 }
@@ -118,7 +118,7 @@ pub(crate) fn star_meaning(
     match path {
         Some(path) => meaning(alloc, before, path),
         None => match before {
-            Some(before) => alone(alloc, before),
+            Some(before) => meant_path(alloc, before),
             None => Ok(None),
         },
     }

@@ -6,10 +6,10 @@ use Rattle.hir_input.specs.{declared.attr.Attr.Attr, declared.cfg.CfgExpr.CfgExp
 use Rattle.item_tree_attrs.specs.Collected.{Collected, Event}
 
 -- what was found, as a list of events
-abbrev pub found : Option (Either Attr (Bor CfgExpr)) → List Event
-found None = []
-found (Some (Left attr)) = Left attr ∷ []
-found (Some (Right cfg)) = Right (cfg_view cfg.now) ∷ []
+abbrev pub found_events : Option (Either Attr (Bor CfgExpr)) → List Event
+found_events None = []
+found_events (Some (Left attr)) = Left attr ∷ []
+found_events (Some (Right cfg)) = Right (cfg_view cfg.now) ∷ []
 
 -- the attributes of c now stand behind those that were there, and its false cfg was met
 pub record AddsCollected (old new : List Attr) (met : Option (Bor CfgExpr)) (c : Collected) : Type 0 where

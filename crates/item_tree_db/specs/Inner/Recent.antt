@@ -22,10 +22,10 @@ abbrev pub HoldsNoted : Recent → ℕ → List Place → Type 0
 HoldsNoted recent bound places = (place : Place) (n : ℕ) → bound < n → IsNoted recent place n → Contains places place
 
 -- the greatest change number of rows
-abbrev pub newest : List Row → ℕ
-newest [] = 0
-newest (row ∷ rows) = max row.changed (newest rows)
+abbrev pub newest_number : List Row → ℕ
+newest_number [] = 0
+newest_number (row ∷ rows) = max row.changed (newest_number rows)
 
 -- that of each place is noted
 abbrev pub AreNoted : Recent → Places → Type 0
-AreNoted recent places = (place : Place) → IfSome (placed_at places place) (λ placed. IsNoted recent place (newest placed.rows))
+AreNoted recent places = (place : Place) → IfSome (placed_at places place) (λ placed. IsNoted recent place (newest_number placed.rows))

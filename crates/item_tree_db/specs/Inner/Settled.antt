@@ -17,14 +17,14 @@ empty_row n = record { tree = nothing; changed = n }
 abbrev pub settled_row : ℕ → Row → Row → Row
 settled_row n old new = if same unfolding_code old.tree new.tree then old else record { tree = new.tree; changed = n }
 
-abbrev pub settled : ℕ → List Row → List Row → List Row
-settled n [] news = []
-settled n (old ∷ olds) [] = old ∷ olds
-settled n (old ∷ olds) (new ∷ news) = settled_row n old new ∷ settled n olds news
+abbrev pub settle_all : ℕ → List Row → List Row → List Row
+settle_all n [] news = []
+settle_all n (old ∷ olds) [] = old ∷ olds
+settle_all n (old ∷ olds) (new ∷ news) = settled_row n old new ∷ settle_all n olds news
 
 -- all trees become empty with edit n
-abbrev pub cleared : ℕ → List Row → List Row
-cleared n = map (λ row. settled_row n row (empty_row n))
+abbrev pub clear_all : ℕ → List Row → List Row
+clear_all n = map (λ row. settled_row n row (empty_row n))
 
 -- what edit n brings to a crate of a place with this present syntax
 abbrev pub fresh_row : ℕ → List (List ℕ) → Place → Option CrateView → Option SyntaxView → Row

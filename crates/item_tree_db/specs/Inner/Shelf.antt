@@ -10,7 +10,7 @@ use Rattle.item_tree_db.specs.declared.rows.Row.{Row}
 use Rattle.item_tree_db.specs.declared.source.Source.{Source}
 use Rattle.item_tree_db.specs.PlaceOrder.{place_cmp}
 use Rattle.item_tree_db.specs.Inner.Source.{source_place, source_syntax}
-use Rattle.item_tree_db.specs.Inner.Settled.{settled, settled_row, cleared, empty_row, fresh_row}
+use Rattle.item_tree_db.specs.Inner.Settled.{settle_all, settled_row, clear_all, empty_row, fresh_row}
 
 -- what a place has that was ever set
 pub record Shelved : Type 0 where
@@ -47,15 +47,15 @@ pub record HasPut (place : Place) (placed : Option Shelved) (old new : Places) :
 -- its rows, after edit n brought these trees
 abbrev pub rows_set : ℕ → ℕ → List Row → Option Shelved → List Row
 rows_set start n fresh None = map (settled_row n (empty_row start)) fresh
-rows_set start n fresh (Some placed) = settled n placed.rows fresh
+rows_set start n fresh (Some placed) = settle_all n placed.rows fresh
 
 -- edit n sets it, which brings these trees
 abbrev pub set_to : ℕ → ℕ → Source → List Row → Option Shelved → Shelved
 set_to start n source fresh placed = record { source = Some source; rows = rows_set start n fresh placed }
 
 -- edit n removes it
-abbrev pub removed : ℕ → Shelved → Shelved
-removed n placed = record { source = None; rows = cleared n placed.rows }
+abbrev pub take_out : ℕ → Shelved → Shelved
+take_out n placed = record { source = None; rows = clear_all n placed.rows }
 
 -- ---- one crate
 
@@ -66,8 +66,8 @@ change_at zero f (x ∷ xs) = f x ∷ xs
 change_at (suc i) f (x ∷ xs) = x ∷ change_at i f xs
 
 -- edit n brings crate i this tree
-abbrev pub recast : ℕ → ℕ → Row → Shelved → Shelved
-recast n i fresh placed = record { source = placed.source; rows = change_at i (λ row. settled_row n row fresh) placed.rows }
+abbrev pub recast_one : ℕ → ℕ → Row → Shelved → Shelved
+recast_one n i fresh placed = record { source = placed.source; rows = change_at i (λ row. settled_row n row fresh) placed.rows }
 
 -- what it brings a crate of what a place has
 abbrev pub fresh_of : ℕ → List (List ℕ) → Option CrateView → Place → Shelved → Row
@@ -76,7 +76,7 @@ fresh_of n skipped krate place placed = fresh_row n skipped place krate (option_
 -- what a place has after these trees of places were brought to crate i, one after another
 abbrev pub recast_each : ℕ → ℕ → List (Place × Row) → Place → Option Shelved → Option Shelved
 recast_each n i [] place placed = placed
-recast_each n i (fresh ∷ more) place placed = recast_each n i more place (if is_at (place_cmp place) fresh.0 then option_map (recast n i fresh.1) placed else placed)
+recast_each n i (fresh ∷ more) place placed = recast_each n i more place (if is_at (place_cmp place) fresh.0 then option_map (recast_one n i fresh.1) placed else placed)
 
 -- ---- of all places
 

@@ -27,16 +27,16 @@ abbrev pub over_all : Places → Walk
 over_all = map (λ slot. (slot.0, slot.1.rows))
 
 -- over these
-abbrev pub over : Places → List Place → Walk
-over places = map (λ place. (place, rows_in (placed_at places place)))
+abbrev pub walk_over : Places → List Place → Walk
+walk_over places = map (λ place. (place, rows_in (placed_at places place)))
 
 -- over those that the code has chosen
 abbrev pub chosen_walk : Chosen → Walk
-chosen_walk chosen = over chosen.shelf.now chosen.places
+chosen_walk chosen = walk_over chosen.shelf.now chosen.places
 
 -- over those that it found
 abbrev pub found_walk : Found → Walk
-found_walk found = over found.shelf.now found.places
+found_walk found = walk_over found.shelf.now found.places
 
 -- what the code has left of one
 abbrev pub walk_of : Slots → Walk
@@ -54,8 +54,8 @@ abbrev pub all_changes : Walk → List Change
 all_changes = flat_map (λ slot. changes_from slot.0 0 slot.1)
 
 -- those above a bound
-abbrev pub late : ℕ → List Change → List Change
-late above = filter (λ c. nat_lt above c.2)
+abbrev pub late_changes : ℕ → List Change → List Change
+late_changes above = filter (λ c. nat_lt above c.2)
 
 -- of what a place has, crate i has this number
 abbrev pub HasNumber : Option Shelved → ℕ → ℕ → Type 0
@@ -66,11 +66,11 @@ pub record IsLateWalk (above : ℕ) (places : Places) (changes : List Change) : 
   pub met : List Place
   pub in_order : IsStrictlySortedBy place_cmp met
   pub whole : (place : Place) (i n : ℕ) → above < n → HasNumber (placed_at places place) i n → Contains met place
-  pub walked : changes ≡ late above (all_changes (over places met))
+  pub walked : changes ≡ late_changes above (all_changes (walk_over places met))
 
 -- what is left of a place and the crates from i on, and of the places behind it
-abbrev pub left : ℕ → Place → ℕ → List Row → Walk → List Change
-left above place i rows slots = late above (changes_from place i (drop i rows) ++ all_changes slots)
+abbrev pub changes_left : ℕ → Place → ℕ → List Row → Walk → List Change
+changes_left above place i rows slots = late_changes above (changes_from place i (drop i rows) ++ all_changes slots)
 
 -- each place has no more rows than crates may be
 abbrev pub HasFew : Walk → Type 0

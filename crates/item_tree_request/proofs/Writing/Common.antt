@@ -5,8 +5,8 @@ pub use Rattle.hir_input.specs.declared.edition.EditionYear.{EditionYear}
 pub use Rattle.hir_input_json.specs.Reading.{right, wrong}
 pub use Rattle.hir_input_json.proofs.Writing.Lists.{after_all, joined_push}
 pub use Rattle.hir_input_json.specs.Writing.Cfgs.{atom_data}
-pub use Rattle.hir_input_json.specs.Writing.Lists.{joined}
-pub use Rattle.hir_input_json.specs.Writing.Parts.{each_data, led, name_data, whole_data}
+pub use Rattle.hir_input_json.specs.Writing.Lists.{joined_items}
+pub use Rattle.hir_input_json.specs.Writing.Parts.{each_data, led_items, name_data, whole_data}
 pub use Rattle.item_tree_request.specs.Requests.{IsJsonText, IsRequest, Request, request_parts}
 unfoldable pub use Rattle.item_tree_request.specs.Requests.{request}
 pub use Rattle.item_tree_request.specs.Shows.{show_word}

@@ -7,14 +7,14 @@ use Rattle.item_tree_request.proofs.Writing.Common.{EditionYear, AtomView, Synta
 use Rattle.hir_input.specs.declared.edition.EditionYear.TheVariants.{E2015}
 use Rattle.hir_input_json.specs.Cfgs.{atom}
 use Rattle.hir_input_json.specs.Editions.{EditionView, edition, year}
-use Rattle.hir_input_json.specs.Forms.{below, each, field, identifier_form, unless_null, whole_form}
+use Rattle.hir_input_json.specs.Forms.{number_below, each, field, identifier_form, unless_null, whole_form}
 use Rattle.hir_input_json.specs.Syntaxes.{syntax}
 use Rattle.hir_input_json.specs.Writing.Held.{Holds, HoldEach}
 use Rattle.hir_input_json.specs.Writing.Laws.{IsReadAs, kept_bodies}
 use Rattle.hir_input_json.specs.Writing.Literals.{year_number}
 use Rattle.hir_input_json.specs.Writing.Syntaxes.{syntax_data}
 use Rattle.hir_input_json.proofs.Writing.CfgLaws.{atom_law}
-use Rattle.hir_input_json.proofs.Writing.Held.{bind, each_law, mapped, name_law, whole_law}
+use Rattle.hir_input_json.proofs.Writing.WrittenParts.{bind, each_law, mapped, name_law, whole_law}
 use Rattle.hir_input_json.proofs.Writing.SyntaxLaws.{syntax_read}
 use Rattle.item_tree.specs.CrateView.{CrateView}
 use Rattle.item_tree_db.specs.declared.place.Place.{Place}
@@ -99,7 +99,7 @@ first_by false k h = tt
 tree_law : (kind : ShowKind) (k : ℕ) (place : Place)
     → IfSome (show_data (OfTree (record { kind = kind; krate = record { 0 = k }; place = place }))) (Holds (show 1) (OfTree (record { kind = kind; krate = record { 0 = k }; place = place })))
 tree_law kind k place =
-    bind (below 1 k) _ (λ n. k ≡ 0) (Holds (show 1) (OfTree (record { kind = kind; krate = record { 0 = k }; place = place }))) (first_by (nat_lt k 1) k refl) (λ n z.
+    bind (number_below 1 k) _ (λ n. k ≡ 0) (Holds (show 1) (OfTree (record { kind = kind; krate = record { 0 = k }; place = place }))) (first_by (nat_lt k 1) k refl) (λ n z.
     subst (λ m. IfSome (place_show (show_word kind) (number (unsigned 0)) place) (Holds (show 1) (OfTree (record { kind = kind; krate = record { 0 = m }; place = place })))) (sym z) (place_law kind place))
 
 show_law : (s : Show) → IfSome (show_data s) (Holds (show 1) s)

@@ -4,7 +4,7 @@ use Rattle.serde_json.specs.Data.{Data, number, unsigned, string, array, object,
 use Rattle.hir_input.specs.Cfg.{AtomView}
 use Rattle.hir_input.specs.Syntax.{SyntaxView}
 use Rattle.hir_input_json.specs.Editions.{EditionView}
-use Rattle.hir_input_json.specs.Forms.{below}
+use Rattle.hir_input_json.specs.Forms.{number_below}
 use Rattle.hir_input_json.specs.Writing.Cfgs.{atom_data}
 use Rattle.hir_input_json.specs.Writing.Literals.{year_number}
 use Rattle.hir_input_json.specs.Writing.Parts.{each_data, name_data, whole_data, ◌>>=◌}
@@ -67,7 +67,7 @@ place_show word krate (Block block) = option_map (block_object word krate) (whol
 -- a show of the only crate, whose number is 0
 abbrev pub show_data : Show → Option Data
 show_data (OfTree t) = do
-  known ← below 1 t.krate.0
+  known ← number_below 1 t.krate.0
   place_show (show_word t.kind) (number (unsigned 0)) t.place
 show_data (Changed since) = option_map changed_object (whole_data (2 ^ 64) since)
 

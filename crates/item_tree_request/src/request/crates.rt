@@ -4,7 +4,7 @@ ghost use Rattle.serde_json.specs.View.{view, items_view};
 ghost use Rattle.item_tree.specs.CrateView.{crate_view};
 ghost use Rattle.item_tree_request.specs.Edits.{crate_data as crate_form};
 ghost use Rattle.hir_input_json.specs.Forms.{each, list_at as each_at};
-ghost use Rattle.hir_input_json.specs.Held.{held, without};
+ghost use Rattle.hir_input_json.specs.Held.{object_held, without_key};
 ghost use Rattle.hir_input_json.specs.Reads.{Reads};
 
 use hir_input::{CfgOptions, HirFileId};
@@ -16,7 +16,7 @@ use item_tree::CrateData;
 use serde_json::{Map, Value};
 use std::alloc::Global;
 
-#[tactic(auto, using(hir_input_json::proofs::Held::field_without))]
+#[tactic(auto, using(hir_input_json::proofs::MemberObjects::field_without))]
 fn crate_of(alloc: Global, value: Value) -> Result<CrateData, Fault>
     ensures { Reads crate_view result (crate_form (view value)) }
 {
@@ -45,8 +45,8 @@ fn crates_of(alloc: Global, items: Vec<Value>) -> Result<Vec<CrateData>, Fault>
 /// `WrongForm` comes only where they are not of their form (`Edits.crate_data`), and tells where.
 pub fn crates_at(alloc: Global, members: &mut Map<String, Value>) -> Result<Vec<CrateData>, Fault>
     ensures reads { Reads (λ v. map crate_view v.items) result
-        (each_at crate_form (codes "crates") (held members.old)) }
-    ensures left { OnOk result (held members.new ≡ without (codes "crates") (held members.old)) }
+        (each_at crate_form (codes "crates") (object_held members.old)) }
+    ensures left { OnOk result (object_held members.new ≡ without_key (codes "crates") (object_held members.old)) }
 {
     let items = list_at(alloc, members, "crates")?;
     crates_of(alloc, items).in_member(alloc, "crates")

@@ -8,7 +8,7 @@ ghost use Rattle.item_tree_request.specs.Edits.{edit as edit_form, set_cfg_edit}
 ghost use Rattle.item_tree_request.specs.Named.{EditNamesCrate};
 ghost use Rattle.hir_input_json.specs.Forms.{each, required_at as required_form, list_at as each_at};
 ghost use Rattle.hir_input_json.specs.Syntaxes.{syntax as syntax_form};
-ghost use Rattle.hir_input_json.specs.Held.{held, without};
+ghost use Rattle.hir_input_json.specs.Held.{object_held, without_key};
 ghost use Rattle.hir_input_json.specs.Reads.{Reads};
 
 use hir_input::ast::Syntax;
@@ -24,15 +24,15 @@ use std::alloc::Global;
 
 fn syntax_at(alloc: Global, members: &mut Map<String, Value>) -> Result<Syntax, Fault>
     ensures { Reads syntax_view result
-        (required_form (codes "syntax") syntax_form (held members.old)) }
+        (required_form (codes "syntax") syntax_form (object_held members.old)) }
 {
     let syntax = required_at(alloc, members, "syntax")?;
     syntax_of(alloc, syntax).in_member(alloc, "syntax")
 }
 
-#[tactic(auto, using(hir_input_json::proofs::Held::field_without))]
+#[tactic(auto, using(hir_input_json::proofs::MemberObjects::field_without))]
 fn set_cfg_of(alloc: Global, members: &mut Map<String, Value>, count: usize) -> Result<Edit, Fault>
-    ensures reads { Reads edit_view result (set_cfg_edit count (held members.old)) }
+    ensures reads { Reads edit_view result (set_cfg_edit count (object_held members.old)) }
     ensures known { IfOk result (EditNamesCrate count) }
 {
     let krate = id_at(alloc, members, "crate")?;
@@ -50,7 +50,7 @@ fn set_cfg_of(alloc: Global, members: &mut Map<String, Value>, count: usize) -> 
 ///
 /// `WrongForm` comes only where it is not of its form (`Edits.edit`), and tells where.
 pub fn edit_in(alloc: Global, members: &mut Map<String, Value>, count: usize) -> Result<Edit, Fault>
-    ensures reads { Reads edit_view result (edit_form count (held members.old)) }
+    ensures reads { Reads edit_view result (edit_form count (object_held members.old)) }
     ensures known { IfOk result (EditNamesCrate count) }
 {
     match word_at(alloc, members, "edit")? {
@@ -103,9 +103,9 @@ pub(crate) fn edits_at(
 ) -> Result<Vec<Edit>, Fault>
     ensures reads { Reads (λ v. map edit_view v.items) result
         (each_at (edit_form (length (map crate_view crates.now.items))) (codes "edits")
-        (held members.old)) }
+        (object_held members.old)) }
     ensures known { IfOk result (λ v. All (EditNamesCrate (length crates.now.items)) v.items) }
-    ensures left { OnOk result (held members.new ≡ without (codes "edits") (held members.old)) }
+    ensures left { OnOk result (object_held members.new ≡ without_key (codes "edits") (object_held members.old)) }
 {
     let items = list_at(alloc, members, "edits")?;
     edits_of(alloc, items, crates.len()).in_member(alloc, "edits")

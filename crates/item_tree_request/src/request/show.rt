@@ -3,7 +3,7 @@ ghost use Rattle.std.specs.Prelude.{◌≡◌, ◌^◌, All, IfOk, codes, length
 ghost use Rattle.serde_json.specs.View.{view, items_view};
 ghost use Rattle.item_tree.specs.CrateView.{crate_view};
 ghost use Rattle.hir_input_json.specs.Forms.{each, required_at as required_form, whole_form, list_at as each_at};
-ghost use Rattle.hir_input_json.specs.Held.{held};
+ghost use Rattle.hir_input_json.specs.Held.{object_held};
 ghost use Rattle.hir_input_json.specs.Reads.{Reads};
 ghost use Rattle.item_tree_request.specs.Named.{NamesCrate};
 ghost use Rattle.item_tree_request.specs.Shows.{show as show_form, place_form as place_form, show_word, tree_show};
@@ -57,7 +57,7 @@ pub enum Show {
 }
 
 fn place_at(alloc: Global, members: &Map<String, Value>) -> Result<Place, Fault>
-    ensures { Reads (λ place. place) result (place_form (held members.now)) }
+    ensures { Reads (λ place. place) result (place_form (object_held members.now)) }
 {
     match field(members, "file") {
         Some(_) => Ok(Place::File(HirFileId(id_at(alloc, members, "file")?))),
@@ -72,7 +72,7 @@ fn tree_show_of(
     kind: ShowKind,
     count: usize,
 ) -> Result<Show, Fault>
-    ensures reads { Reads (λ show. show) result (tree_show count kind (held members.now)) }
+    ensures reads { Reads (λ show. show) result (tree_show count kind (object_held members.now)) }
     ensures known { IfOk result (NamesCrate count) }
 {
     let krate = id_at(alloc, members, "crate")?;
@@ -89,7 +89,7 @@ fn tree_show_of(
 
 fn since_at(alloc: Global, members: &Map<String, Value>) -> Result<u64, Fault>
     ensures { Reads (λ since. since) result
-        (required_form (codes "since") (whole_form (2 ^ 64)) (held members.now)) }
+        (required_form (codes "since") (whole_form (2 ^ 64)) (object_held members.now)) }
 {
     field(members, "since")
         .and_then(Value::as_u64)
@@ -100,7 +100,7 @@ fn since_at(alloc: Global, members: &Map<String, Value>) -> Result<u64, Fault>
 ///
 /// `WrongForm` comes only where it is not of its form (`Shows.show`), and tells where.
 pub fn show_in(alloc: Global, members: &Map<String, Value>, count: usize) -> Result<Show, Fault>
-    ensures reads { Reads (λ show. show) result (show_form count (held members.now)) }
+    ensures reads { Reads (λ show. show) result (show_form count (object_held members.now)) }
     ensures known { IfOk result (NamesCrate count) }
 {
     match word_at(alloc, members, "show")? {
@@ -144,7 +144,7 @@ pub(crate) fn shows_at(
 ) -> Result<Vec<Show>, Fault>
     ensures reads { Reads (λ v. v.items) result
         (each_at (show_form (length (map crate_view crates.now.items))) (codes "shows")
-        (held members.old)) }
+        (object_held members.old)) }
     ensures known { IfOk result (λ v. All (NamesCrate (length crates.now.items)) v.items) }
 {
     let items = list_at(alloc, members, "shows")?;

@@ -52,7 +52,7 @@ fn is_all_that_changed(sources: &Sources) -> bool {
     changed.next() == Some((place, krate, 1))
         && changed.next().is_none()
         && sources.knows(krate)
-        && sources.changed(place, krate) == 1
+        && sources.change_number(place, krate) == 1
         && id.file_id() == file
         && !id.is_block()
         && id.item_tree(sources, krate) == file_item_tree(sources, file, krate)

@@ -38,7 +38,7 @@ fn is_read(sources: &Sources) -> bool {
         && sources.file_syntax(FILE).is_some()
         && sources.block_syntax(BLOCK).is_some()
         && are_trees_lent(sources)
-        && sources.changed(Place::Block(BLOCK), CRATE) == 3
+        && sources.change_number(Place::Block(BLOCK), CRATE) == 3
 }
 
 fn is_removed(sources: &mut Sources) -> bool {

@@ -144,7 +144,7 @@ fn refusal_of(alloc: Global, all: &AllRefused) -> Result<Refusal, AllocError> {
     })
 }
 
-fn told(alloc: Global, made: &Result<u64, AllRefused>) -> Result<Result<u64, Refusal>, AllocError> {
+fn tell(alloc: Global, made: &Result<u64, AllRefused>) -> Result<Result<u64, Refusal>, AllocError> {
     match made {
         Ok(number) => Ok(Ok(*number)),
         Err(all) => Ok(Err(refusal_of(alloc, all)?)),
@@ -181,5 +181,5 @@ fn edits(alloc: Global) -> Result<Vec<Edit>, AllocError>
 // Makes these six edits in one list.
 pub fn make_all(alloc: Global, sources: &mut Sources) -> Result<Result<u64, Refusal>, AllocError> {
     let edits = edits(alloc)?;
-    told(alloc, &sources.edit_all(edits))
+    tell(alloc, &sources.edit_all(edits))
 }

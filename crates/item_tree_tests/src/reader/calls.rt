@@ -25,7 +25,7 @@ fn places_are_those_of_the_text(rt: HostRuntime) {
     let mut cursor = Cursor::new("  ab // c\n+ }", EditionYear::E2024);
     assert_eq!(rt; cursor.at(), 2);
     cursor.bump();
-    assert_eq!(rt; cursor.past(), 4);
+    assert_eq!(rt; cursor.last_end(), 4);
     assert_eq!(rt; cursor.at(), 10);
     assert!(rt; !cursor.is_at_end());
     cursor.bump();

@@ -89,7 +89,7 @@ fn edits_in_bodies_are_told(rt: HostRuntime) {
 }
 
 // In the second of two functions.
-fn second(alloc: Global, front: &str, typed: &str) -> Result<Option<BodyEdit>, AllocError> {
+fn second_edit(alloc: Global, front: &str, typed: &str) -> Result<Option<BodyEdit>, AllocError> {
     let mut text = String::new(alloc);
     text.push_str(front)?;
     text.push_str("fn f() {} fn g() {}")?;
@@ -111,13 +111,13 @@ fn what_stands_in_front_is_told(rt: HostRuntime) {
         ("---\n---\n", false),
         ("\u{FEFF}", false),
     ] {
-        let edit = second(rt.alloc(), front, "1").unwrap_or(None);
+        let edit = second_edit(rt.alloc(), front, "1").unwrap_or(None);
         assert_eq!(rt; edit.is_some(), is_told);
     }
 }
 
 // Moves the place of the second function, a use tree and a problem at its end.
-fn moved(edit: &BodyEdit) -> (usize, usize, usize) {
+fn move_of(edit: &BodyEdit) -> (usize, usize, usize) {
     let mut items = [function(10, 2)];
     let mut starts = [19];
     let mut problems = [Problem {
@@ -133,12 +133,12 @@ fn moved(edit: &BodyEdit) -> (usize, usize, usize) {
 #[test]
 fn what_was_read_is_moved_in_place(rt: HostRuntime) {
     for (typed, keeps_problems) in [("1", true), ("(", false), ("[]", true)] {
-        let Some(edit) = second(rt.alloc(), "", typed).unwrap_or(None) else {
+        let Some(edit) = second_edit(rt.alloc(), "", typed).unwrap_or(None) else {
             assert!(rt; false);
             return;
         };
         assert_eq!(rt; edit.keeps_problems, keeps_problems);
         let end = typed.len().saturating_add(19);
-        assert_eq!(rt; moved(&edit), (end, end, end));
+        assert_eq!(rt; move_of(&edit), (end, end, end));
     }
 }

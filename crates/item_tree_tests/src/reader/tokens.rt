@@ -43,7 +43,7 @@ fn literal(kind: LiteralKind) -> &'static str {
 }
 
 // The tokens that are no white space: `kind(text)` each, with `!` behind what is not closed.
-fn shown(alloc: Global, text: &str) -> Result<String, AllocError> {
+fn show(alloc: Global, text: &str) -> Result<String, AllocError> {
     let mut out = String::new(alloc);
     for token in Lexer::new(text) {
         if token.kind() != TokenKind::Whitespace {
@@ -141,7 +141,7 @@ const CUTS: &[(&str, &str)] = &[
 ];
 
 fn is_cut(alloc: Global, text: &str, wanted: &str) -> Result<bool, AllocError> {
-    Ok(shown(alloc, text)?.as_str() == wanted)
+    Ok(show(alloc, text)?.as_str() == wanted)
 }
 
 // The first text that is cut into others.

@@ -99,7 +99,7 @@ fn conditional(alloc: Global) -> Result<Vec<Meta>, AllocError> {
 }
 
 /// `#[unsafe(cfg_attr(not(x), key = "a", ?(b)))]`, with a path that is not readable.
-pub fn nested(alloc: Global) -> Result<Meta, AllocError> {
+pub fn nested_meta(alloc: Global) -> Result<Meta, AllocError> {
     let metas = conditional(alloc)?;
     let condition = CfgExpr::Not(Box::new(alloc, flag(alloc, "x")?)?);
     Ok(Meta::Unsafe(Box::new(alloc, Meta::CfgAttr { condition, metas })?))

@@ -15,14 +15,14 @@ pub fn leaf(alloc: Global, kind: PathKind, text: &str) -> Result<UseTree, AllocE
 }
 
 /// The same with a star behind it.
-pub fn starred(alloc: Global, text: &str) -> Result<UseTree, AllocError> {
+pub fn with_star(alloc: Global, text: &str) -> Result<UseTree, AllocError> {
     let mut tree = leaf(alloc, PathKind::Plain, text)?;
     tree.star = true;
     Ok(tree)
 }
 
 /// The tree under another name.
-pub fn renamed(alloc: Global, mut tree: UseTree, text: &str) -> Result<UseTree, AllocError> {
+pub fn with_alias(alloc: Global, mut tree: UseTree, text: &str) -> Result<UseTree, AllocError> {
     let name = name(alloc, text)?;
     tree.rename = Some(Rename { name });
     Ok(tree)
@@ -59,7 +59,7 @@ fn plain(alloc: Global, text: &str) -> Result<UseTree, AllocError> {
 }
 
 // `{TREE}`
-fn listed(alloc: Global, tree: Result<UseTree, AllocError>) -> Result<UseTree, AllocError> {
+fn in_list(alloc: Global, tree: Result<UseTree, AllocError>) -> Result<UseTree, AllocError> {
     Ok(list(vec![in alloc; tree?]?))
 }
 
@@ -73,7 +73,7 @@ pub fn with_lists(alloc: Global) -> Result<UseTree, AllocError> {
     let mut all = Vec::new(alloc);
     push(&mut all, Ok(list(Vec::new(alloc))))?;
     push(&mut all, plain(alloc, "b"))?;
-    push(&mut all, listed(alloc, plain(alloc, "c")))?;
+    push(&mut all, in_list(alloc, plain(alloc, "c")))?;
     below_a(alloc, all)
 }
 
@@ -81,19 +81,19 @@ pub fn with_lists(alloc: Global) -> Result<UseTree, AllocError> {
 fn two_deep(alloc: Global) -> Result<UseTree, AllocError> {
     let mut all = Vec::new(alloc);
     push(&mut all, plain(alloc, "c"))?;
-    push(&mut all, listed(alloc, starred(alloc, "d")))?;
+    push(&mut all, in_list(alloc, with_star(alloc, "d")))?;
     Ok(list(all))
 }
 
 // `self as b`
 fn itself_renamed(alloc: Global) -> Result<UseTree, AllocError> {
-    renamed(alloc, leaf(alloc, PathKind::Super(0), "")?, "b")
+    with_alias(alloc, leaf(alloc, PathKind::Super(0), "")?, "b")
 }
 
 /// `a::{*, self as b, {c, {d::*}}}`
-pub fn nested(alloc: Global) -> Result<UseTree, AllocError> {
+pub fn nested_tree(alloc: Global) -> Result<UseTree, AllocError> {
     let mut all = Vec::new(alloc);
-    push(&mut all, starred(alloc, ""))?;
+    push(&mut all, with_star(alloc, ""))?;
     push(&mut all, itself_renamed(alloc))?;
     push(&mut all, two_deep(alloc))?;
     below_a(alloc, all)
@@ -101,7 +101,7 @@ pub fn nested(alloc: Global) -> Result<UseTree, AllocError> {
 
 // `c::* as g`
 fn star_renamed(alloc: Global) -> Result<UseTree, AllocError> {
-    renamed(alloc, starred(alloc, "c")?, "g")
+    with_alias(alloc, with_star(alloc, "c")?, "g")
 }
 
 /// `a::{b, c::* as g, ?, d}`

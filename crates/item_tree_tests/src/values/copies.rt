@@ -1,6 +1,6 @@
 //! A copy is equal to its source, or refused, and of two requests never both are refused.
 use crate::copies::{copies as copies_some, is_copied};
-use crate::samples::attributes::{flag, literal, nested, options, tokens};
+use crate::samples::attributes::{flag, literal, nested_meta, options, tokens};
 use crate::samples::words::{name, path};
 use hir_input::{Attr, AttrInput, CfgAtom, Edition, EditionYear, PathKind, SyntaxContext};
 use std::alloc::{AllocError, Global};
@@ -56,7 +56,7 @@ fn copies_of_attributes_are_whole_or_refused_when_memory_is_refused(rt: HostRunt
 
 #[test]
 fn copies_of_metas_are_whole_or_refused_when_memory_is_refused(rt: HostRuntime) {
-    assert!(rt; copies(nested(rt.alloc())));
+    assert!(rt; copies(nested_meta(rt.alloc())));
 }
 
 fn atom(alloc: Global) -> Result<Option<CfgAtom>, AllocError> {

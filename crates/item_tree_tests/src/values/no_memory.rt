@@ -73,7 +73,7 @@ fn are_words_made(parts: Parts) -> bool {
 }
 
 // `#[a] #[key = "a"]`
-fn collected(alloc: Global) -> Result<AttrsOrCfg, AttrError> {
+fn collect_all(alloc: Global) -> Result<AttrsOrCfg, AttrError> {
     let mut metas = words(alloc, &["a"])?;
     metas.push(key_value(alloc)?)?;
     AttrsOrCfg::lower(alloc, &metas, &options(alloc, "")?, &[])
@@ -109,16 +109,16 @@ fn is_joined(left: AttrsOrCfg, right: AttrsOrCfg, wanted: &AttrsOrCfg) -> bool {
 }
 
 // `#[cfg(x)]`
-fn disabled(alloc: Global) -> Result<AttrsOrCfg, AttrError> {
+fn disable(alloc: Global) -> Result<AttrsOrCfg, AttrError> {
     let metas = vec![in alloc; condition(alloc, "x")?]?;
     AttrsOrCfg::lower(alloc, &metas, &options(alloc, "")?, &[])
 }
 
 // Whether attributes are asked and joined where no memory is left.
 fn are_attributes_read(alloc: Global) -> Result<bool, AttrError> {
-    let attrs = collected(alloc)?;
-    let (left, twin) = (disabled(alloc)?, disabled(alloc)?);
-    let right = collected(alloc)?;
+    let attrs = collect_all(alloc)?;
+    let (left, twin) = (disable(alloc)?, disable(alloc)?);
+    let right = collect_all(alloc)?;
     leave_none(alloc)?;
     let are_read = AttrsOrCfg::empty(alloc).is_empty() && are_attributes_lent(&attrs);
     let is_joined = is_joined(left, right, &twin);

@@ -22,7 +22,11 @@ fn metas(alloc: Global, texts: &[&str], is_disabled: bool) -> Result<Vec<Meta>, 
     Ok(metas)
 }
 
-fn collected(alloc: Global, texts: &[&str], is_disabled: bool) -> Result<AttrsOrCfg, AttrError> {
+fn collect_texts(
+    alloc: Global,
+    texts: &[&str],
+    is_disabled: bool,
+) -> Result<AttrsOrCfg, AttrError> {
     let metas = metas(alloc, texts, is_disabled)?;
     let options = options(alloc, "")?;
     AttrsOrCfg::lower(alloc, &metas, &options, &[])
@@ -47,7 +51,7 @@ fn are_collected(alloc: Global, metas: &[Meta], wanted: &AttrsOrCfg) -> Result<b
 fn is_whole_or_refused(alloc: Global, is_disabled: bool) -> Result<bool, AttrError> {
     let source = metas(alloc, &["a", "b"], is_disabled)?;
     let twin = metas(alloc, &["a", "b"], is_disabled)?;
-    let wanted = collected(alloc, &["a", "b"], is_disabled)?;
+    let wanted = collect_texts(alloc, &["a", "b"], is_disabled)?;
     Ok(are_collected(alloc, &source, &wanted)? && source == twin)
 }
 
@@ -80,11 +84,11 @@ fn is_handed_back(
 
 // Whether the attributes of two owners are joined, or handed back.
 fn are_joined_or_handed_back(alloc: Global, is_disabled: bool) -> Result<bool, AttrError> {
-    let left = collected(alloc, &["a"], false)?;
-    let right = collected(alloc, &["b"], is_disabled)?;
-    let left_twin = collected(alloc, &["a"], false)?;
-    let right_twin = collected(alloc, &["b"], is_disabled)?;
-    let both = collected(alloc, &["a", "b"], is_disabled)?;
+    let left = collect_texts(alloc, &["a"], false)?;
+    let right = collect_texts(alloc, &["b"], is_disabled)?;
+    let left_twin = collect_texts(alloc, &["a"], false)?;
+    let right_twin = collect_texts(alloc, &["b"], is_disabled)?;
+    let both = collect_texts(alloc, &["a", "b"], is_disabled)?;
     match left.merge(right) {
         Ok(joined) => Ok(joined == both),
         Err(refused) => Ok(is_handed_back(refused, &left_twin, &right_twin, &both)),
@@ -99,9 +103,9 @@ fn two_owners_are_joined_or_handed_back_when_memory_is_refused(rt: HostRuntime) 
 
 // Whether an owner with a false cfg is joined, whatever is refused: no memory is asked for.
 fn is_joined_without_memory(alloc: Global) -> Result<bool, AttrError> {
-    let left = collected(alloc, &["a"], true)?;
-    let twin = collected(alloc, &["a"], true)?;
-    let right = collected(alloc, &["b"], false)?;
+    let left = collect_texts(alloc, &["a"], true)?;
+    let twin = collect_texts(alloc, &["a"], true)?;
+    let right = collect_texts(alloc, &["b"], false)?;
     match left.merge(right) {
         Ok(joined) => Ok(joined == twin),
         Err(_) => Ok(false),

@@ -1,5 +1,5 @@
 use Rattle.std.proofs.Common.{rules}
-use Rattle.itemtree_commands.proofs.Typed.{same_in_body}
+use Rattle.itemtree_commands.proofs.TypedBodies.{same_in_body}
 use Rattle.itemtree_commands.proofs.compare_trees.Goals as goal
 
 pub returns-clause-compared : goal.returns-clause-compared

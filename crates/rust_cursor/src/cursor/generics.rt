@@ -128,13 +128,13 @@ impl<'t> Cursor<'t> {
         self.is_barred(reach, nest)
     }
 
-    #[tactic(auto, unfolding(crate::specs::Angles::reached), using(crate::proofs::Reaches::reaching_stop, crate::proofs::Reaches::reaching_end),)]
+    #[tactic(auto, unfolding(crate::specs::Angles::reach_end), using(crate::proofs::Reaches::reaching_stop, crate::proofs::Reaches::reaching_end),)]
     fn pass_reach(&mut self, reach: Reach)
-        ensures { self.new ≡ spec.reached reach self.old }
+        ensures { self.new ≡ spec.reach_end reach self.old }
     {
         // That brackets can be counted is known of a cursor that was looked into.
         let _ = &self.next;
-        let mut nest = Nest::begun();
+        let mut nest = Nest::before_type();
         'tokens: while !self.is_reached(reach, &nest) {
             self.nest_behind(&mut nest);
             self.bump();
@@ -170,9 +170,9 @@ impl<'t> Cursor<'t> {
     pub fn is_trait_impl(&self, end: usize) -> bool
         ensures { result ≡ spec.is_trait_impl end self.now }
     {
-        let mut ahead = self.ahead();
+        let mut ahead = self.look_ahead();
         ahead.pass_reach(Reach::Header);
-        ahead.word() == "for" && ahead.past() < end
+        ahead.word() == "for" && ahead.last_end() < end
     }
 }
 

@@ -47,15 +47,15 @@ pub struct Nest {
 
 impl Nest {
     /// In no bracket, where a type or a value may have ended.
-    pub(crate) fn flat() -> Self
-        ensures { result ≡ spec.flat }
+    pub(crate) fn no_bracket() -> Self
+        ensures { result ≡ spec.no_bracket }
     {
         Nest::flat_behind(Before::End)
     }
 
     /// In no bracket, where a type begins.
-    pub(crate) fn begun() -> Self
-        ensures { result ≡ spec.begun }
+    pub(crate) fn before_type() -> Self
+        ensures { result ≡ spec.before_type }
     {
         Nest::flat_behind(Before::Other)
     }

@@ -36,7 +36,7 @@ impl<'t> Cursor<'t> {
     {
         // That the brackets can be counted is known of a cursor that was looked into.
         let _ = &self.next;
-        let mut nest = Nest::flat();
+        let mut nest = Nest::no_bracket();
         'tokens: while !self.is_closing(bracket, nest) {
             self.brackets_behind(&mut nest);
             self.bump();
@@ -62,7 +62,7 @@ impl<'t> Cursor<'t> {
 
     /// Passes over a token, or what stands in brackets: where these match, up to the bracket that matches the first,
     /// and it.
-    #[tactic(auto, unfolding(crate::specs::Brackets::behind_tree), using(crate::proofs::Matched::tree_matched))]
+    #[tactic(auto, unfolding(crate::specs::Brackets::behind_tree), using(crate::proofs::MatchedBrackets::tree_matched))]
     pub fn pass_tree(&mut self)
         ensures passed { self.new ≡ spec.behind_tree self.old }
         ensures matched { IfSome (behind_match self.old) (λ left. self.new.left ≡ left) }
@@ -77,19 +77,19 @@ impl<'t> Cursor<'t> {
     }
 
     /// Passes over a tree where no token was taken since this place, so that each turn of a loop takes one.
-    #[tactic(auto, unfolding(crate::specs::Elements::beyond))]
+    #[tactic(auto, unfolding(crate::specs::Elements::progress_from))]
     pub fn pass_beyond(&mut self, past: usize)
-        ensures { self.new ≡ elements.beyond past self.old }
+        ensures { self.new ≡ elements.progress_from past self.old }
     {
-        if self.past() == past {
+        if self.last_end() == past {
             self.pass_tree();
         }
     }
 
     /// More turns than a text has tokens.
-    #[tactic(auto, unfolding(crate::specs::Elements::most))]
+    #[tactic(auto, unfolding(crate::specs::Elements::most_tokens))]
     pub fn most_turns() -> usize
-        ensures { result ≡ elements.most }
+        ensures { result ≡ elements.most_tokens }
     {
         usize::MAX
     }

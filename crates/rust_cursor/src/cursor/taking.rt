@@ -35,7 +35,7 @@ impl<'t> Cursor<'t> {
     pub fn is_glued(&self) -> bool
         ensures { result ≡ spec.is_glued self.now }
     {
-        self.at() == self.past()
+        self.at() == self.last_end()
     }
 
     /// Whether two symbols come next with nothing between them, as in `->`.

@@ -246,7 +246,7 @@ impl<'t> Cursor<'t> {
         ensures { opened.new ≡ spec.opened_behind opened.old nest self.now }
     {
         if nest.braces == 0 && self.symbol() == b'{' {
-            *opened = Some(self.ahead());
+            *opened = Some(self.look_ahead());
         }
     }
 
@@ -371,9 +371,9 @@ impl<'t> Cursor<'t> {
         requires inner { nest.old.inner + length self.old.left < 2 ^ 64 }
         ensures same { OnOk result
             ((opened : Option Tokens)
-            → spec.clipped keeps_text
+            → spec.clipped_excerpt keeps_text
             (spec.taking extent (string_bytes text.new) last.new opened nest.new self.new)
-            ≡ spec.clipped keeps_text
+            ≡ spec.clipped_excerpt keeps_text
             (spec.taking extent (string_bytes text.old) last.old opened nest.old self.old)) }
         ensures text { OnOk result (spec.kept_text keeps_text (string_bytes text.old)
             ≡ string_bytes text.old
@@ -398,7 +398,7 @@ impl<'t> Cursor<'t> {
         Ok(())
     }
 
-    #[tactic(auto, unfolding(crate::specs::Extents::taken), using(crate::proofs::UnkeptTexts::clipped_stop))]
+    #[tactic(auto, unfolding(crate::specs::Extents::excerpt_behind), using(crate::proofs::UnkeptTexts::clipped_stop))]
     fn take_excerpt(
         &mut self,
         alloc: Global,
@@ -407,7 +407,7 @@ impl<'t> Cursor<'t> {
         extent: Extent,
     ) -> Result<Excerpt<'t>, AllocError>
         ensures { Gives spec.excerpt_view
-            (spec.clipped keeps_text (spec.taken before extent self.old)) result self.new }
+            (spec.clipped_excerpt keeps_text (spec.excerpt_behind before extent self.old)) result self.new }
     {
         // That brackets can be counted is known of a cursor that was looked into.
         let _ = &self.next;
@@ -460,7 +460,7 @@ impl<'t> Cursor<'t> {
     /// Takes a token, or what stands in brackets, and gives the texts of its tokens with a blank between each two, or
     /// an empty text where none is kept.
     pub fn tree_body(&mut self, alloc: Global, keeps_text: bool) -> Result<Excerpt<'t>, AllocError>
-        ensures { Gives spec.excerpt_view (spec.clipped keeps_text (spec.tree_body self.old))
+        ensures { Gives spec.excerpt_view (spec.clipped_excerpt keeps_text (spec.tree_body self.old))
             result self.new }
     {
         self.take_excerpt(alloc, keeps_text, Before::End, Extent::Group)
@@ -471,7 +471,7 @@ impl<'t> Cursor<'t> {
     ///
     /// Without one it ends before a `}` that closes what is around, and before what can only begin an item.
     pub fn value_rest(&mut self, alloc: Global, keeps_text: bool) -> Result<Excerpt<'t>, AllocError>
-        ensures { Gives spec.excerpt_view (spec.clipped keeps_text (spec.value_rest self.old))
+        ensures { Gives spec.excerpt_view (spec.clipped_excerpt keeps_text (spec.value_rest self.old))
             result self.new }
     {
         self.take_excerpt(alloc, keeps_text, Before::End, Extent::Value)
@@ -480,7 +480,7 @@ impl<'t> Cursor<'t> {
     /// The same of an item that ends with a semicolon, or with a block. The braces of a macro call are no block, and in
     /// angle brackets one that `>` or `,` follows is none of the item's.
     pub fn item_rest(&mut self, alloc: Global, keeps_text: bool) -> Result<Excerpt<'t>, AllocError>
-        ensures { Gives spec.excerpt_view (spec.clipped keeps_text (spec.item_rest self.old))
+        ensures { Gives spec.excerpt_view (spec.clipped_excerpt keeps_text (spec.item_rest self.old))
             result self.new }
     {
         self.take_excerpt(alloc, keeps_text, Before::End, Extent::Item)
@@ -488,7 +488,7 @@ impl<'t> Cursor<'t> {
 
     /// The same behind the word `impl`. The type or the trait that comes next may begin with `!` or `impl`.
     pub fn impl_rest(&mut self, alloc: Global, keeps_text: bool) -> Result<Excerpt<'t>, AllocError>
-        ensures { Gives spec.excerpt_view (spec.clipped keeps_text (spec.impl_rest self.old))
+        ensures { Gives spec.excerpt_view (spec.clipped_excerpt keeps_text (spec.impl_rest self.old))
             result self.new }
     {
         self.take_excerpt(alloc, keeps_text, Before::Other, Extent::Item)
@@ -496,7 +496,7 @@ impl<'t> Cursor<'t> {
 
     /// The same of a macro with parameters, in whose brackets any tokens may stand.
     pub fn macro_rest(&mut self, alloc: Global, keeps_text: bool) -> Result<Excerpt<'t>, AllocError>
-        ensures { Gives spec.excerpt_view (spec.clipped keeps_text (spec.macro_rest self.old))
+        ensures { Gives spec.excerpt_view (spec.clipped_excerpt keeps_text (spec.macro_rest self.old))
             result self.new }
     {
         self.take_excerpt(alloc, keeps_text, Before::Mark, Extent::Macro)

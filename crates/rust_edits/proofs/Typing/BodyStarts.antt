@@ -1,9 +1,9 @@
 -- The braces that an item ends with begin at a token of the text.
 use Rattle.std.proofs.Common.{◌≡◌, ◌≤◌, ℕ, zero, suc, ◌+◌, List, [], ◌∷◌, ◌++◌, length, arith, true, false, Option, Some, None, refl, ap, sym, subst, ◌∙◌}
-use Rattle.rust_edits.proofs.Common.{filter, first_cut, Piece, is_significant, tokens_from, whole, overhang, EditionYear, Tokens, tokens_of, by_first, rest, at, is_empty, bumped, TextRange, inner_attributes, LeafRead, leaf, nothing_found, begins_at, has_body, found_in, read_of, tokens, with_body, eqb-true, LeadsTo, here, further, through, when, IsLaid, tokens_laid, inner_attributes_leads, IsBraced, braced, LeafAt, leaf_at, Span, Rows, found_rows, plain_is}
+use Rattle.rust_edits.proofs.Common.{filter, first_cut, Piece, is_significant, tokens_from, whole_length, overhang, EditionYear, Tokens, tokens_of, by_first, rest, at, is_empty, bumped, TextRange, inner_attributes, LeafRead, leaf, nothing_found, begins_at, has_body, found_in, read_of, tokens, with_body, eqb-true, LeadsTo, here, further, through, when, IsLaid, tokens_laid, inner_attributes_leads, IsBraced, braced, LeafAt, leaf_at, Span, Rows, found_rows, plain_is}
 use Rattle.rust_edits.proofs.Adding.{IfLeaf, any_place, Keeping, items_keeps}
 use Rattle.rust_edits.specs.Typing.Opened.{BodyOpens}
-use Rattle.rust_cursor.proofs.Laid as laid
+use Rattle.rust_cursor.proofs.TokenPlaces as laid
 
 -- ---- a token begins at a place: then no token before it goes on behind that
 
@@ -23,14 +23,14 @@ unfiltered n (t ∷ ts) b = when (is_significant t) (λ e. behind_one n t (filte
 -- none begins before what is left of one
 from_place : (n left at : ℕ) (z : List ℕ) → Begins n (tokens_from left at z) → at + left ≤ n
 from_place n zero at (b ∷ z) (first e) = omega (arith, e)
-from_place n zero at (b ∷ z) (later r) = let more = from_place n (whole (first_cut b z) z) (suc at) z r in omega arith
+from_place n zero at (b ∷ z) (later r) = let more = from_place n (whole_length (first_cut b z) z) (suc at) z r in omega arith
 from_place n (suc left) at (b ∷ z) r = let more = from_place n left (suc at) z r in omega arith
 from_place n _ at [] r = elim r [ ]
 
 pub begins_whole : (n left at : ℕ) (x w : List ℕ) → n ≡ at + length x → Begins n (tokens_from left at (x ++ w)) → overhang left x w ≡ 0
 begins_whole n left at [] w e b = let low = from_place n left at w b in omega arith
 begins_whole n zero at (a ∷ x) w e (first f) = absurd (omega (arith, e, f))
-begins_whole n zero at (a ∷ x) w e (later r) = begins_whole n (whole (first_cut a (x ++ w)) (x ++ w)) (suc at) x w (omega arith) r
+begins_whole n zero at (a ∷ x) w e (later r) = begins_whole n (whole_length (first_cut a (x ++ w)) (x ++ w)) (suc at) x w (omega arith) r
 begins_whole n (suc left) at (a ∷ x) w e r = begins_whole n left (suc at) x w (omega arith) r
 
 -- ---- tokens that are left
@@ -50,7 +50,7 @@ begins_leads {ts} {us} (further p) e = begins_rest _ ts.left (begins_leads p e)
 
 -- ---- what is found
 
-module _ (all : Tokens) (end : ℕ) (whole : IsLaid end all) where
+module _ (all : Tokens) (end : ℕ) (whole_length : IsLaid end all) where
   abbrev Starts : Option TextRange → Type 0
   Starts None = Unit {0}
   Starts (Some r) = Begins r.start all.left
@@ -86,7 +86,7 @@ module _ (all : Tokens) (end : ℕ) (whole : IsLaid end all) where
     held = λ f g more i h k. all_join g.spans more.spans (h k) (i tt);
     none = tt;
     on = λ ts us q p. through p q;
-    behind = λ each finds f ts p. through p (finds f ts (laid.behind end p whole).laid).leads;
+    behind = λ each finds f ts p. through p (finds f ts (laid.behind end p whole_length).laid).leads;
     starts = λ ts p. tt;
     leaves = λ h ts p. leaf_starts (leaf h ts).0 ts (leaf h ts).1 p (leaf_at h ts);
   }

@@ -1,13 +1,13 @@
 -- Two small bodies, and a text with the one, by computing.
 use Rattle.std.proofs.Common.{◌≡◌, ◌<◌, ◌||◌, ℕ, zero, suc, true, false, Some, None, List, [], ◌∷◌, ◌++◌, length, refl, ap, sym, subst, ◌∙◌, arith}
-use Rattle.rust_edits.proofs.Common.{option_to_list, EditionYear, Inner, is_wide_start, is_wide_continue, first_cut, StandsAlone, Piece, tokens, Tokens, tokens_of, symbol, word, text, kind, at, is_empty, is_at_end, is_at_identifier, is_at_doc, is_glued, is_pair, bumped, leads_on, nest_behind, begins_item, begins_impl_or_const, begins_within, stops, ends, is_joined, has_blank, more, taking, taken, most, beyond, is_behind, is_doc, is_attribute, inner_attributes, is_modifier, is_modifier_before, is_weak_before, head, head_by, FrontRead, front, implementation, leaf, nothing_found, leaf_turn, finding_from, finding, is_list_end, by_head, inside, turn, depth_of, begins_at, has_body, with_body, OpensAt, IsBody, BeginsPlain, IsTyped, none_loose, loose_in, tokens_at, IsLaid, tokens_laid, through, when, beyond_leads, Span, adds_item, adds_problem_at, adds_use_trees, list_from, turn_found, Rows, found_rows, rest_by, rest_of}
+use Rattle.rust_edits.proofs.Common.{option_to_list, EditionYear, Inner, is_wide_start, is_wide_continue, first_cut, StandsAlone, Piece, tokens, Tokens, tokens_of, symbol, word, text, kind, at, is_empty, is_at_end, is_at_identifier, is_at_doc, is_glued, is_pair, bumped, leads_on, nest_behind, begins_item, begins_impl_or_const, begins_within, stops, ends, is_joined, has_blank, more, taking, excerpt_behind, most_tokens, progress_from, is_behind, is_doc, is_attribute, inner_attributes, modifier, weak_modifier, head, FrontRead, front, implementation, leaf, nothing_found, leaf_turn, finding_from, finding, is_list_end, by_head, inside, turn, depth_of, begins_at, has_body, with_body, OpensAt, IsBody, BeginsPlain, IsTyped, none_loose, loose_in, tokens_at, IsLaid, tokens_laid, through, when, beyond_leads, Span, adds_item, adds_problem_at, adds_use_trees, list_from, turn_found, Rows, found_rows, rest_by, rest_of}
 use Rattle.rust_lexer.specs.declared.kind.LiteralKind.TheVariants as literals
 use Rattle.rust_lexer.specs.declared.kind.TokenKind.TheVariants as kinds
 use Rattle.rust_lexer.specs.Number.{past_digits}
-use Rattle.rust_cursor.proofs.Laid as laid
+use Rattle.rust_cursor.proofs.TokenPlaces as laid
 use Rattle.rust_leaves.specs.declared.head.Head.TheVariants as heads
 use Rattle.rust_items.specs.declared.log.ProblemKind.TheVariants as problem
-use Rattle.rust_edits.proofs.Beside.Inner.{front_bare, no_inner}
+use Rattle.rust_edits.proofs.ItemJoins.Inner.{front_bare, no_inner}
 use Rattle.rust_cursor.specs.Looks.{sees}
 
 -- ` 1 `
@@ -79,11 +79,11 @@ module _ (y : EditionYear) where
   plain = refl
 
   front_is : front all ≡ (record { start = 0; attrs = []; visibility = None; head = heads.Impl }, behind)
-  unfolding all impl_word behind is_behind is_doc is_attribute is_modifier is_modifier_before is_weak_before symbol kind word bumped at head head_by
+  unfolding all impl_word behind is_behind is_doc is_attribute modifier weak_modifier symbol kind word bumped at head
   front_is = front_bare all refl refl refl
 
   braces_are : (rest_of heads.Impl behind).0.braces ≡ Some (record { start = 5; end = 10 })
-  unfolding behind block rest_by taken taking stops ends begins_item begins_impl_or_const begins_within is_joined has_blank more nest_behind leads_on symbol word text kind at is_empty is_at_end is_at_identifier is_at_doc is_glued is_pair bumped
+  unfolding behind block rest_by excerpt_behind taking stops ends begins_item begins_impl_or_const begins_within is_joined has_blank more nest_behind leads_on symbol word text kind at is_empty is_at_end is_at_identifier is_at_doc is_glued is_pair bumped
   braces_are = refl
 
   impl_found : has_body 5 (leaf_turn (depth_of 128) (record { start = 0; attrs = []; visibility = None; head = heads.Impl }) nothing_found behind).1.0.spans ≡ true
@@ -108,17 +108,17 @@ module _ (y : EditionYear) where
       let end = length (with_body header one []) in
       let whole : IsLaid end all = subst (IsLaid end) toks (tokens_laid y (with_body header one [])) in
       let found = (turn 128 nothing_found all).1.0 in
-      let next = beyond all.past (turn 128 nothing_found all).1.1 in
+      let next = progress_from all.past (turn 128 nothing_found all).1.1 in
       let leads = through (turn_found end 128 nothing_found all whole).leads (beyond_leads all.past (turn 128 nothing_found all).1.1) in
       let rest = list_from end (is_list_end true) (turn 128) (turn_found end 128) n ([] ++ option_to_list (turn 128 nothing_found all).0) found next (laid.behind end leads whole).laid in
       rw some_left.1 (ap (has_body 5) rest.found.adds.spans ∙ has_first 5 found.spans _ turn_finds)
 
   body_is : IsBody y header one []
-  unfolding finding most header
+  unfolding finding most_tokens header
   body_is =
       let x = with_body header one [] in
       ap (λ (r : Rows). has_body 5 r.1.0) (found_rows y x)
-      ∙ ap (λ ts. has_body 5 (finding (is_list_end true) (turn 128) nothing_found ts).1.0.spans) (ap (λ ts. (inner_attributes ts).1) toks ∙ ap (λ r. r.1) (no_inner all plain)) ∙ list_finds most (omega arith)
+      ∙ ap (λ ts. has_body 5 (finding (is_list_end true) (turn 128) nothing_found ts).1.0.spans) (ap (λ ts. (inner_attributes ts).1) toks ∙ ap (λ r. r.1) (no_inner all plain)) ∙ list_finds most_tokens (omega arith)
 
   impl_opens : OpensAt header (one ++ 125 ∷ [])
   unfolding header one first_cut is_wide_start is_wide_continue past_digits

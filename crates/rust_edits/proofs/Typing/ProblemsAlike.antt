@@ -1,6 +1,6 @@
 -- The problems of two texts that differ between the braces of one item are the same, where they stood or moved with the text.
 use Rattle.std.proofs.Common.{◌≡◌, ◌≤◌, ◌<◌, ◌==◌, ◌||◌, ◌&&◌, ℕ, zero, suc, Bool, true, false, Option, Some, None, List, [], ◌∷◌, ◌++◌, map, refl, ap, sym, ◌∙◌, arith}
-use Rattle.rust_edits.proofs.Common.{is_none, is_some, option_to_list, AstIdKind, MetaView, ItemView, ItemViews, Tokens, symbol, eat, is_at_end, bumped, most, beyond, Bodies, Beside, TextRange, inner_attributes, Head, FrontRead, front, NameRead, LeafRead, no_name, named, leaf, Problem, ProblemKind, ItemPlace, Found, Finder, nothing_found, and_problem, and_problem_at, BlockRead, span_of, needs_name, and_flaw, and_item, and_leaf, and_parent, leaf_found, leaf_turn, finding_from, finding, is_list_end, block_of, as_extern, extern_kept, extern_found, extern_turn, extern_inside, extern_block, unmatched, inside_unless, module_with, some_item, by_head, turn_with, inside, turn, depth_of, items, begins_at, has_body, Telling, IsBodyIn, ArePlaces, placed, nat_tests, IsSound, sound_on, LeadsTo, further, through, when, eat_leads, AreAlike, no_more, one_more, alike_join, IsAlike, neither, both, SamePlace, at_place, behind_at, inner_attributes_leads, LeafAlike, named_leads, behind_others_leads, front_takes, front_start, Span, adds_item, adds_problem_at, adds_use_trees, AreFound, Finds, FindsIn, list_from, list_found, place_span, inside_found, turn_found, turn_with_found, extern_turn_found, extern_inside_found, unless_found, FrontAlike, front_until, BeginPlain, LeafLost, leaf_gone, item_without_bodies, eat_local, by_stayed, beyond_beside, behind_tree_beside, gone_on}
+use Rattle.rust_edits.proofs.Common.{is_none, is_some, option_to_list, AstIdKind, MetaView, ItemView, ItemViews, Tokens, symbol, eat, is_at_end, bumped, most_tokens, progress_from, Bodies, Beside, TextRange, inner_attributes, Head, FrontRead, front, NameRead, LeafRead, no_name, written_name, leaf, Problem, ProblemKind, ItemPlace, Found, Finder, nothing_found, and_problem, and_problem_at, BlockRead, span_of, needs_name, and_flaw, and_item, and_leaf, and_parent, leaf_found, leaf_turn, finding_from, finding, is_list_end, block_of, as_extern, extern_kept, extern_found, extern_turn, extern_inside, extern_block, unmatched_token, inside_unless, module_with, some_item, by_head, turn_with, inside, turn, depth_of, items, begins_at, has_body, Telling, IsBodyIn, ArePlaces, placed, nat_tests, IsSound, sound_on, LeadsTo, further, through, when, eat_leads, AreAlike, no_more, one_more, alike_join, IsAlike, neither, both, SamePlace, at_place, behind_at, inner_attributes_leads, LeafAlike, named_leads, behind_others_leads, front_takes, front_start, Span, adds_item, adds_problem_at, adds_use_trees, AreFound, Finds, FindsIn, list_from, list_found, place_span, inside_found, turn_found, turn_with_found, extern_turn_found, extern_inside_found, unless_found, FrontAlike, front_until, BeginPlain, LeafLost, leaf_gone, item_without_bodies, eat_local, by_stayed, beyond_beside, behind_tree_beside, gone_on}
 use Rattle.hir_input.specs.declared.ids.AstIdKind.TheVariants as kind
 use Rattle.rust_cursor.proofs.BodyReaders.{Gone, by_kept, by_next, bumped_onward}
 use Rattle.rust_cursor.proofs.Views.{symbol_same, empty_same, end_same}
@@ -11,7 +11,7 @@ use Rattle.rust_items.specs.declared.log.ProblemKind.TheVariants as problem
 use Rattle.rust_items.specs.Items.{one_more as one_deeper}
 use Rattle.rust_items.specs.Places.{nothing}
 use Rattle.rust_items.proofs.BodyItems.{passed, plain_passed, side, unpassed_beside, turn_on, named_alike}
-use Rattle.rust_edits.proofs.Typing.Ended.{SameLoose, SameFlaws, LeafTold, lost as leaf_lost, told as told_leaf, leaf_told}
+use Rattle.rust_edits.proofs.Typing.EndedRests.{SameLoose, SameFlaws, LeafTold, lost as leaf_lost, told as told_leaf, leaf_told}
 
 -- ---- whose braces they are
 
@@ -97,10 +97,10 @@ none_same : {A : Type 0} {alike : A → A → Type 0} (o o' : Option A) → IsAl
 none_same o o' e = grind (arith, nat_tests)
 
 module _ (b : Bodies) (depth start start' : ℕ) (i : SamePlace b start start') (f f' : Found) (e : ProblemsAlike b f f') where
-  item_same : (end end' : ℕ) (body body' named named' : Option TextRange) (k k' : AstIdKind) (name name' : List ℕ) (is_ended is_ended' : Bool) → k' ≡ k → is_none named' ≡ is_none named → is_ended' ≡ is_ended
-      → ProblemsAlike b (and_item depth start end body k name named is_ended f) (and_item depth start' end' body' k' name' named' is_ended' f')
-  item_same end end' body body' named named' k k' name name' is_ended is_ended' c n d =
-      flaw_same b _ _ e is_ended is_ended' (is_none named && needs_name k) (is_none named' && needs_name k') start start' d (ap (λ t. t && needs_name k') n ∙ ap (λ (j : AstIdKind). is_none named && needs_name j) c) i
+  item_same : (end end' : ℕ) (body body' written_name named' : Option TextRange) (k k' : AstIdKind) (name name' : List ℕ) (is_ended is_ended' : Bool) → k' ≡ k → is_none named' ≡ is_none written_name → is_ended' ≡ is_ended
+      → ProblemsAlike b (and_item depth start end body k name written_name is_ended f) (and_item depth start' end' body' k' name' named' is_ended' f')
+  item_same end end' body body' written_name named' k k' name name' is_ended is_ended' c n d =
+      flaw_same b _ _ e is_ended is_ended' (is_none written_name && needs_name k) (is_none named' && needs_name k') start start' d (ap (λ t. t && needs_name k') n ∙ ap (λ (j : AstIdKind). is_none written_name && needs_name j) c) i
 
   leaf_same : (end end' : ℕ) (l m : LeafRead) → LeafAlike b l m → SameFlaws b (Some l) (Some m) → ProblemsAlike b (and_leaf depth start end l f) (and_leaf depth start' end' m f')
   leaf_same end end' l m a s =
@@ -190,7 +190,7 @@ front_sound end ts l = sound_on end (front_takes ts).leads l
 front_place : (b : Bodies) (ts us : Tokens) → Beside b ts us → SamePlace b (front ts).0.start (front us).0.start
 front_place b ts us h = rw (front_start ts, front_start us) (at_place b ts us h)
 
-unmatched_told : (b : Bodies) (f f' : Found) (ts us : Tokens) → ProblemsAlike b f f' → Beside b ts us → Told Any b f (unmatched f ts) (unmatched f' us)
+unmatched_told : (b : Bodies) (f f' : Found) (ts us : Tokens) → ProblemsAlike b f f' → Beside b ts us → Told Any b f (unmatched_token f ts) (unmatched_token f' us)
 unmatched_told b f f' ts us e h = by_next (bumped_onward b ts us h) (λ g. lost (g, refl)) (λ n. told tt (problem_same b f f' e problem.Unmatched _ _ (at_place b ts us h)) n)
 
 extern_turn_told : (end depth : ℕ) (b : Bodies) → SameLoose b → BeginPlain b → UpTo end b (extern_turn depth)
@@ -234,8 +234,8 @@ module _ (end : ℕ) (ends : Tokens → Bool) (ends_same : (b : Bodies) (ts us :
       let o' = done' ++ option_to_list (turn f' us).0 in
       let g = (turn f ts).1.0 in
       let g' = (turn f' us).1.0 in
-      let next = beyond ts.past (turn f ts).1.1 in
-      let next' = beyond us.past (turn f' us).1.1 in
+      let next = progress_from ts.past (turn f ts).1.1 in
+      let next' = progress_from us.past (turn f' us).1.1 in
       let one = turn_on end turn finds f ts l in
       let rest = list_from end ends turn finds n o g next one.sound.laid in
       when (ends ts)
@@ -271,7 +271,7 @@ block_told end turn finds each b loose plain f f' ts us l e h =
     (λ g. let k = gone_on g (inner_attributes_leads (bumped ts)) in lost (gone_on (gone_on k list.leads) (eat_leads 125 _), found_gone list k))
     (λ n. by_kept (inner_attributes_until b (bumped ts) (bumped us) n)
     (λ k. lost (gone_on (gone_on k list.leads) (eat_leads 125 _), found_gone list k))
-    (λ k. by_told (list_told end (is_list_end false) (list_end_same false) turn finds each most b loose plain [] [] f f' inner.1 (inner_attributes (bumped us)).1 sound e k.rest)
+    (λ k. by_told (list_told end (is_list_end false) (list_end_same false) turn finds each most_tokens b loose plain [] [] f f' inner.1 (inner_attributes (bumped us)).1 sound e k.rest)
     (λ x. lost (gone_on x.0 (eat_leads 125 _), x.1))
     (λ a d r. let c = eat_local b 125 refl _ _ r in told c.value d c.rest)))
 
@@ -310,22 +310,22 @@ module _ (end : ℕ) (inside : Finder BlockRead) (finds : FindsIn end inside) (e
       → Told Any b f (some_item (module_with inside depth h f ts)) (some_item (module_with inside depth h' f' us))
   module_told b loose plain h h' a f f' ts us l e k =
       let n = named_alike b ts us k in
-      let c = eat 59 (named ts).1 in
-      let c' = eat 59 (named us).1 in
+      let c = eat 59 (written_name ts).1 in
+      let c' = eat 59 (written_name us).1 in
       let x = inside_unless c.0 inside nothing_found c.1 in
       let y = inside_unless c'.0 inside nothing_found c'.1 in
-      by_told (unless_told b loose plain c.0 c'.0 n.ended nothing_found nothing_found c.1 c'.1 (sound_on end (through (named_leads ts) (eat_leads 59 (named ts).1)) l) no_more n.rest)
-      (λ z. lost (z.0, parent_misses b.opening.at depth h.start x.1.1.past kind.Module (named ts).0 (c.0 || x.0.is_ended) x.1.0 f z.1))
-      (λ j d r. told tt (parent_same b depth h.start h'.start a.start f f' e x.1.1.past y.1.1.past kind.Module (named ts).0 (named us).0 (c.0 || x.0.is_ended) (c'.0 || y.0.is_ended) x.1.0 y.1.0 (none_same _ _ n.name.range)
+      by_told (unless_told b loose plain c.0 c'.0 n.ended nothing_found nothing_found c.1 c'.1 (sound_on end (through (named_leads ts) (eat_leads 59 (written_name ts).1)) l) no_more n.rest)
+      (λ z. lost (z.0, parent_misses b.opening.at depth h.start x.1.1.past kind.Module (written_name ts).0 (c.0 || x.0.is_ended) x.1.0 f z.1))
+      (λ j d r. told tt (parent_same b depth h.start h'.start a.start f f' e x.1.1.past y.1.1.past kind.Module (written_name ts).0 (written_name us).0 (c.0 || x.0.is_ended) (c'.0 || y.0.is_ended) x.1.0 y.1.0 (none_same _ _ n.name.range)
       (ap (λ t. t || y.0.is_ended) n.ended ∙ ap (λ t. c.0 || t) j) d) r)
 
   module_lost : (b : Bodies) (h : FrontRead) (f : Found) (ts : Tokens) → IsSound end ts → Gone b ts → Lost b f (some_item (module_with inside depth h f ts))
   module_lost b h f ts l g =
-      let c = eat 59 (named ts).1 in
+      let c = eat 59 (written_name ts).1 in
       let x = inside_unless c.0 inside nothing_found c.1 in
-      let leads = through (named_leads ts) (eat_leads 59 (named ts).1) in
+      let leads = through (named_leads ts) (eat_leads 59 (written_name ts).1) in
       let found = unless_found end inside finds depth c.0 nothing_found c.1 (sound_on end leads l).laid in
-      (gone_on (gone_on g leads) found.leads, parent_misses b.opening.at depth h.start x.1.1.past kind.Module (named ts).0 (c.0 || x.0.is_ended) x.1.0 f (found_gone found (gone_on g leads)))
+      (gone_on (gone_on g leads) found.leads, parent_misses b.opening.at depth h.start x.1.1.past kind.Module (written_name ts).0 (c.0 || x.0.is_ended) x.1.0 f (found_gone found (gone_on g leads)))
 
   head_lost : (b : Bodies) (k : Head) (h : FrontRead) (f : Found) (ts : Tokens) → IsSound end ts → Gone b ts → Lost b f (by_head inside depth k h f ts)
   head_lost b heads.Module h f ts l g = module_lost b h f ts l g
@@ -377,5 +377,5 @@ file_told end b loose plain ts us l h =
     let sound = sound_on end (inner_attributes_leads ts) l in
     by_kept (inner_attributes_until b ts us h)
     (λ g. of_none (found_gone (list_found end (is_list_end true) (turn 128) (turn_found end 128) nothing_found inner.1 sound.laid) g))
-    (λ k. by_told (list_told end (is_list_end true) (list_end_same true) (turn 128) (turn_found end 128) (turn_told end 128) most b loose plain [] [] nothing_found nothing_found inner.1 (inner_attributes us).1 sound no_more k.rest)
+    (λ k. by_told (list_told end (is_list_end true) (list_end_same true) (turn 128) (turn_found end 128) (turn_told end 128) most_tokens b loose plain [] [] nothing_found nothing_found inner.1 (inner_attributes us).1 sound no_more k.rest)
     (λ x. of_none x.1) (λ a d r. alike d))

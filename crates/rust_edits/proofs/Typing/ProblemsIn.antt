@@ -1,12 +1,13 @@
 -- Problems stand in the text.
 use Rattle.std.proofs.Common.{◌≡◌, ◌≤◌, ◌+◌, ◌&&◌, ℕ, true, Option, Some, None, List, [], ◌∷◌, ◌++◌, length, refl, ap, sym, subst, ◌∙◌, arith, length-append, map}
-use Rattle.rust_edits.proofs.Common.{is_some, Visibility, EditionYear, MetaView, Piece, is_terminated, tokens, text_of, AreInPlace, behind_closed, behind_tree, behind_angles, beyond, tree_text, Tokens, end_of, last_unended, tokens_of, at, by_first, is_glued, bumped, use_tree, path, inner_attributes, Head, FrontRead, LeafRead, is_called, begins_call, leaf_by, leaf, constant, structure, implementation, crate_item, use_declaration, macro_definition, invocation, item_call, Problem, nothing_found, found_in, read_of, All, with_feeds, place_in, moved_problem, AreLaid, IsLaid, behind, tokens_laid, LeadsTo, here, further, through, when, bumped_leads, behind_closed_leads, behind_tree_leads, behind_angles_leads, beyond_leads, taken_leads_on, on, gone, kept, Parting, Entering, IsAlike, neither, both, inner_attributes_leads, items_found, All-nil, All-cons, place_le, place_rises_in, place_within, tokens_lossless, tokens_placed, SameFound, use_tree_until, behind_field, reached_leads, plain_leaf}
-use Rattle.rust_cursor.proofs.Parting.{UntilBy}
+use Rattle.rust_edits.proofs.Common.{is_some, Visibility, EditionYear, MetaView, Piece, is_terminated, tokens, text_of, AreInPlace, behind_closed, behind_tree, behind_angles, progress_from, tree_text, Tokens, end_of, last_unended, tokens_of, at, by_first, is_glued, bumped, use_tree, path, inner_attributes, Head, FrontRead, LeafRead, is_called, begins_call, leaf_by, leaf, constant, structure, implementation, crate_item, use_declaration, macro_definition, invocation, item_call, Problem, nothing_found, found_in, read_of, All, with_feeds, place_in, moved_problem, AreLaid, IsLaid, behind, tokens_laid, LeadsTo, here, further, through, when, bumped_leads, behind_closed_leads, behind_tree_leads, behind_angles_leads, beyond_leads, taken_leads_on, on, gone, kept, Parting, Entering, IsAlike, neither, both, inner_attributes_leads, items_found, All-nil, All-cons, place_le, place_rises_in, place_within, tokens_lossless, tokens_placed, SameFound, use_tree_until, behind_field, reached_leads, plain_leaf}
+use Rattle.rust_cursor.proofs.PartingReaders.{UntilBy}
 use Rattle.rust_edits.proofs.Adding.{IfPlace, IfLeaf, Keeping, maybe, items_keeps}
 use Rattle.rust_edits.specs.Typing.Problems.{ProblemsStand}
 use Rattle.rust_leaves.specs.declared.head.Head.TheVariants as heads
 use Rattle.rust_items.specs.declared.log.ProblemKind.TheVariants as problem
 use Rattle.rust_cursor.specs.Grammar.{reads}
+use Rattle.rust_cursor.specs.Looks.{sees}
 
 -- ---- where tokens stand
 
@@ -50,7 +51,7 @@ module _ (end : ℕ) where
     tree = λ ts us h. on (itself_on behind_tree behind_tree_leads ts us h);
     angles = λ ts us h. on (itself_on behind_angles behind_angles_leads ts us h);
     field = λ ts us h. on (itself_on behind_field (reached_leads _) ts us h);
-    passed = λ ts us ts' us' h k. on (ap (λ (t : Tokens). beyond t.past us') h.0 ∙ ap (beyond ts.past) k.0, (behind end (beyond_leads ts.past ts') k.1).laid);
+    passed = λ ts us ts' us' h k. on (ap (λ (t : Tokens). progress_from t.past us') h.0 ∙ ap (progress_from ts.past) k.0, (behind end (beyond_leads ts.past ts') k.1).laid);
   }
 
   abbrev enters : Entering itself
@@ -80,7 +81,7 @@ LeafIn end o = IfLeaf (λ _. Unit {0}) (λ n. n ≤ end) o
 call_in : (end : ℕ) (attrs : List MetaView) (ts : Tokens) → LeafIn end (item_call attrs ts).0
 unfolding item_call invocation
 call_in end attrs ts =
-    when (begins_call ts) (λ e. rw e (when (is_some (reads path ts).0 && is_called (reads path ts).1) (λ f. rw f (tt, tt)) (λ f. rw f tt))) (λ e. rw e tt)
+    when (begins_call ts) (λ e. rw e (when (is_some (reads path ts).0 && sees is_called (reads path ts).1) (λ f. rw f (tt, tt)) (λ f. rw f tt))) (λ e. rw e tt)
 
 leaf_by_in : (end : ℕ) (k : Head) (attrs : List MetaView) (v : Option Visibility) (ts : Tokens) → IsLaid end ts → LeafIn end (leaf_by k attrs v ts).0
 unfolding plain_leaf constant structure implementation crate_item use_declaration macro_definition

@@ -2,8 +2,8 @@
 use Rattle.std.proofs.Common.{◌≡◌, ℕ, false, List, length, refl, ap, sym, subst, ◌∙◌, map}
 use Rattle.rust_edits.proofs.Common.{EditionYear, FileAstId, MetaView, ItemView, ItemViews, items_from, source_file, tokens_of, Bodies, Row, AreIds, inner_attributes, with_ids, place_in, has_body, FileView, found_in, items_in, read_of, IsFile, with_body, IsTyped, TypingInside, tokens_sound, Rows, rows_of, RowsAlike, by_rows, ListAlike, FileUntil, of_none, alike, file_until, found_rows, item_without_bodies, items_without_bodies, without_bodies}
 use Rattle.rust_ids.proofs.Consequences.{determined}
-use Rattle.rust_items.proofs.Bare.{from_list}
-use Rattle.rust_items.proofs.Bodiless.{with_bodiless}
+use Rattle.rust_items.proofs.BareItems.{from_list}
+use Rattle.rust_items.proofs.BodilessIds.{with_bodiless}
 use Rattle.rust_edits.proofs.Typing.Texts.{bodies, bodies_at, IsMoved, are_moved, tokens_beside, begin_plain}
 
 -- ---- what was found

@@ -2,7 +2,7 @@
 use Rattle.std.specs.Prelude.{◌≡◌, ℕ, List}
 use Rattle.hir_input.specs.declared.edition.EditionYear.{EditionYear}
 use Rattle.hir_input.specs.Bodies.{without_bodies}
-use Rattle.rust_mended.specs.Inside.{AreMendedAround, braced}
+use Rattle.rust_mended.specs.Inside.{AreMendedAround, text_in_braces}
 use Rattle.rust_mended.specs.Texts.{mended_text, with_edits}
 use Rattle.rust_items.specs.LineEnds.{with_feeds}
 use Rattle.rust_items.specs.SourceFiles.{FileView, IsFileView}
@@ -18,6 +18,6 @@ pub record IsTypedInDamaged (edition : EditionYear) (q m n s : List ℕ) : Type 
 -- stood, or moves with the text.
 abbrev pub TypingDamaged : Type 0
 TypingDamaged = (edition : EditionYear) (q m n s : List ℕ) (read again : FileView) → (t : IsTypedInDamaged edition q m n s)
-    → IsFileView edition (mended_text (braced q m s)) read → IsFileView edition (mended_text (braced q n s)) again
+    → IsFileView edition (mended_text (text_in_braces q m s)) read → IsFileView edition (mended_text (text_in_braces q n s)) again
     → (without_bodies read.syntax ≡ without_bodies again.syntax)
     × AreMoved (with_edits q 0 t.around.before) (with_edits m 0 t.around.inside) (with_edits n 0 t.around.inside_then) (with_edits s 0 t.around.after) read again

@@ -2,7 +2,7 @@
 use Rattle.std.specs.Prelude.{ℕ, List, [], map, Option, option_map, slice_get}
 use Rattle.item_tree.specs.{Layout.leaf_vis, Layout.trunk_vis, Node.Leaf, Node.Trunk, Node.Unfolding, Shown.Lent, Shown.lent_leaf, Shown.lent_parent, Walk.of_id}
 use Rattle.tree_walk.specs.Declarations.{Declared, declared_name, leaf_name, trunk_name, leaf_declares, node_declares, Declaration, declaration_of, with_id}
-use Rattle.tree_walk.specs.DeclarationView.{DeclarationView, defined}
+use Rattle.tree_walk.specs.DeclarationView.{DeclarationView, with_definition}
 use Rattle.tree_walk.specs.Rows.{Around}
 
 -- the declaration of the item of an id alone
@@ -11,7 +11,7 @@ own_from u path i = of_id u [] (λ n. with_id i (declaration_of path n (node_dec
 
 -- as what is collected of it
 abbrev pub own_defined : Unfolding → List (List ℕ) → ℕ → List (ℕ × DeclarationView)
-own_defined u path i = map defined (own_from u path i)
+own_defined u path i = map with_definition (own_from u path i)
 
 -- that of an item in what it stands in
 abbrev pub own_in : Unfolding → ℕ × Around → List (ℕ × DeclarationView)

@@ -1,6 +1,6 @@
 use Rattle.std.proofs.Common.{None, sym}
 use Rattle.std.proofs.lemmas.Map.Text.{btree_map_updates_text}
-use Rattle.decl_index.proofs.Listed.{shelved_still, stands_still}
+use Rattle.decl_index.proofs.ShelfOrder.{shelved_still, stands_still}
 use Rattle.decl_index.proofs.Order.{empty_rises}
 use Rattle.decl_index.proofs.by_name.clear_away.Goals as goal
 

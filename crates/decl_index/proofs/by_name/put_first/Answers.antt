@@ -2,7 +2,7 @@ use Rattle.std.proofs.Common.{rules, ◌≡◌, ℕ, true, cond, List, Some, sym
 use Rattle.std.specs.BTreeMap.{get_by_text}
 use Rattle.std.proofs.lemmas.Map.Text.{btree_map_updates_text}
 use Rattle.decl_index.proofs.Common.{is_at, bytes_eq, update, Entry, entry_cmp, shelf_at}
-use Rattle.decl_index.proofs.Listed.{shelved_same, shelved_then, stands_then}
+use Rattle.decl_index.proofs.ShelfOrder.{shelved_same, shelved_then, stands_then}
 use Rattle.decl_index.proofs.Order.{empty_has, only_has, only_rises}
 use Rattle.decl_index.proofs.by_name.put_first.Goals as goal
 

@@ -3,7 +3,7 @@ use Rattle.std.specs.BTreeMap.{get_by_text}
 use Rattle.std.specs.BTreeSet.{contains}
 use Rattle.std.proofs.lemmas.Map.Text.{btree_map_updates_text}
 use Rattle.decl_index.proofs.Common.{is_at, bytes_eq, update, BTreeSet, Option, Entry, Shelves, entry_cmp, shelf_at, is_shelved}
-use Rattle.decl_index.proofs.Listed.{shelved_then, stands_never, stands_then}
+use Rattle.decl_index.proofs.ShelfOrder.{shelved_then, stands_never, stands_then}
 use Rattle.decl_index.proofs.by_name.take_off.Goals as goal
 
 pub returns-in-Some-clause-shelved : goal.returns-in-Some-clause-shelved

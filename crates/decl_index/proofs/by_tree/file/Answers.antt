@@ -1,7 +1,7 @@
 use Rattle.std.proofs.Common.{◌≡◌, true, cond, [], Some, IsSome, refl, ap, subst, ◌∙◌, unwrap_or}
 use Rattle.std.specs.BTreeSet.{contains}
 use Rattle.decl_index.proofs.Common.{is_at, BTreeSet, Option, Entry, entry_cmp, is_filed}
-use Rattle.decl_index.proofs.Filed.{filed_still, filed_then}
+use Rattle.decl_index.proofs.TreeChanges.{filed_still, filed_then}
 use Rattle.decl_index.proofs.Order.{on_err}
 use Rattle.decl_index.proofs.by_tree.file.Goals as goal
 

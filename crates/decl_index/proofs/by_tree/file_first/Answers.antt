@@ -1,6 +1,6 @@
 use Rattle.std.proofs.Common.{true, cond, Some, sym, ap, ◌∙◌}
 use Rattle.decl_index.proofs.Common.{is_at, entry_cmp, filed_at}
-use Rattle.decl_index.proofs.Filed.{filed_then}
+use Rattle.decl_index.proofs.TreeChanges.{filed_then}
 use Rattle.decl_index.proofs.Order.{empty_has, only_has}
 use Rattle.decl_index.proofs.by_tree.file_first.Goals as goal
 

@@ -1,5 +1,5 @@
 use Rattle.std.proofs.Common.{None, sym}
-use Rattle.decl_index.proofs.Filed.{filed_still}
+use Rattle.decl_index.proofs.TreeChanges.{filed_still}
 use Rattle.decl_index.proofs.by_tree.forget_empty.Goals as goal
 
 pub returns-then-is_empty : goal.returns-then-is_empty

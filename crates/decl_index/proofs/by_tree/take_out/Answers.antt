@@ -1,7 +1,7 @@
 use Rattle.std.proofs.Common.{false, cond, [], Some, IsSome, refl, ap, subst, ◌∙◌, unwrap_or}
 use Rattle.std.specs.BTreeSet.{contains}
 use Rattle.decl_index.proofs.Common.{is_at, BTreeSet, Option, Entry, entry_cmp}
-use Rattle.decl_index.proofs.Filed.{filed_then}
+use Rattle.decl_index.proofs.TreeChanges.{filed_then}
 use Rattle.decl_index.proofs.by_tree.take_out.Goals as goal
 
 pub returns-in-Some : goal.returns-in-Some

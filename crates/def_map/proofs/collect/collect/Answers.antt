@@ -1,5 +1,5 @@
 use Rattle.def_map.specs.Views.{sources_view}
-use Rattle.def_map.proofs.Whole.{whole}
+use Rattle.def_map.proofs.RowModules.{whole}
 use Rattle.def_map.proofs.collect.collect.Goals as goal
 
 pub returns-clause-whole : goal.returns-clause-whole

@@ -6,7 +6,7 @@ use Rattle.def_map.specs.CrateView.{rows_view, import_view}
 use Rattle.def_map.specs.Lowering.{crate_by}
 use Rattle.def_map.specs.Numbering.{number_in, item_number}
 use Rattle.def_map.specs.Refused.{IsCrateRefused}
-use Rattle.def_map.proofs.Known.{known_numbered}
+use Rattle.def_map.proofs.ReachedItems.{known_numbered}
 use Rattle.def_map.proofs.Refusing.{numbers_refused, seeds_refused, closure_refused, memory_refused}
 use Rattle.def_map.proofs.Resolving.{answers_hold}
 use Rattle.def_map.proofs.def_map.tell_crate.Goals as goal

@@ -2,7 +2,7 @@ use Rattle.std.proofs.Common.{map, sym, ap, ◌∙◌}
 use Rattle.std.specs.Option.{option_copied}
 use Rattle.std.proofs.lemmas.Result.{on_ok_weaker}
 use Rattle.def_map.specs.Views.{crate_row_view, sources_view}
-use Rattle.def_map.proofs.Lent.{file_joined}
+use Rattle.def_map.proofs.LentItems.{file_joined}
 use Rattle.def_map.proofs.files.push_file.Goals as goal
 
 pub returns : goal.returns

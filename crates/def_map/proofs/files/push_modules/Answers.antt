@@ -1,6 +1,6 @@
 use Rattle.std.proofs.Common.{map}
 use Rattle.def_map.specs.{Tables.module_rows, Views.crate_row_view, Views.sources_view}
-use Rattle.def_map.proofs.Lent.{module_more}
+use Rattle.def_map.proofs.LentItems.{module_more}
 use Rattle.def_map.proofs.files.push_modules.Goals as goal
 
 pub loop-at-preserved : goal.loop-at-preserved

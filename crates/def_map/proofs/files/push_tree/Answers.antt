@@ -2,7 +2,7 @@ use Rattle.std.proofs.Common.{◌≡◌, None, map, option_map, sym, ap, ◌∙�
 use Rattle.std.proofs.lemmas.Result.{on_ok_weaker}
 use Rattle.hir_input.specs.Cfg.{cfg_view}
 use Rattle.def_map.specs.{Attributes.attr_marks, Inner.Walking.collected_in, Views.crate_row_view}
-use Rattle.def_map.proofs.Lent.{file_adds}
+use Rattle.def_map.proofs.LentItems.{file_adds}
 use Rattle.def_map.proofs.files.push_tree.Goals as goal
 
 pub returns : goal.returns

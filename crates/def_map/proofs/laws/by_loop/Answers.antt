@@ -1,4 +1,4 @@
-use Rattle.def_map.proofs.Alike.{closes_alike}
+use Rattle.def_map.proofs.LoopFacts.{closes_alike}
 use Rattle.def_map.proofs.Privacy.{are_private}
 use Rattle.def_map.proofs.Telling.{finds_all, told_rightly}
 use Rattle.def_map.proofs.laws.by_loop.Goals as goal

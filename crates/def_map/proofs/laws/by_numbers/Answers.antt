@@ -1,4 +1,4 @@
-use Rattle.def_map.proofs.Numbered.{derives_alike}
+use Rattle.def_map.proofs.CrateNumbers.{derives_alike}
 use Rattle.def_map.proofs.NumberedVerdicts.{from_verdict, private_alike}
 use Rattle.def_map.proofs.laws.by_numbers.Goals as goal
 

@@ -5,7 +5,7 @@ use Rattle.def_map.specs.Closing.{loop_import}
 use Rattle.def_map.specs.CrateView.{declared_view, import_view}
 use Rattle.def_map.specs.Lowering.{declared_eq, import_by, sure_by}
 use Rattle.def_map.proofs.Interning.{all_known}
-use Rattle.def_map.proofs.Sure.{hides_sure}
+use Rattle.def_map.proofs.SureNames.{hides_sure}
 use Rattle.def_map.proofs.lower.lower_crate.Goals as goal
 
 pub returns : goal.returns

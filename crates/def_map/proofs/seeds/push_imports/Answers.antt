@@ -5,7 +5,7 @@ use Rattle.def_map.specs.Closing.{table_import, loop_import}
 use Rattle.def_map.specs.Closure.{hides}
 use Rattle.def_map.specs.CrateView.{import_view}
 use Rattle.def_map.specs.Lowering.{import_by}
-use Rattle.def_map.specs.Seeding.{other_in, macros_in, started}
+use Rattle.def_map.specs.Seeding.{other_in, macros_in, started_import}
 use Rattle.def_map.specs.SeedsOf.{lowered_crate, lowered_import_seeds, lowered_imports_seeds}
 use Rattle.def_map.proofs.SeedLaws.{imports_more}
 use Rattle.def_map.proofs.seeds.push_imports.Goals as goal
@@ -26,8 +26,8 @@ loop-number-preserved c =
     let at_u : slice_get (lowered_crate s).imports i ≡ Some (by (import_view c.index-rows-number.result)) =
     slice_get-map by (map import_view s.rows.now.imports.items) i ∙ ap (option_map by) (slice_get-map import_view s.rows.now.imports.items i ∙ ap (option_map import_view) at_row) in
     let row = c.index-rows-number.result in let w = c.index-imports-number.result in
-    let one = lowered_import_seeds s i (started row.start w) in
+    let one = lowered_import_seeds s i (started_import row.start w) in
     let before = c.args.seeds.now.items in let done = lowered_imports_seeds s 0 (take i (lowered_crate s).imports) in
-    c.in_ok-push_import.ensures ∙ ap (λ r. c.loop-number.seeds.items ++ lowered_import_seeds s i (started r.start w)) (sym c.index-rows-number.is)
+    c.in_ok-push_import.ensures ∙ ap (λ r. c.loop-number.seeds.items ++ lowered_import_seeds s i (started_import r.start w)) (sym c.index-rows-number.is)
     ∙ ap (λ l. l ++ one) c.loop-number.invariant ∙ append_assoc before done one
     ∙ ap (λ l. before ++ l) (sym (imports_more (lowered_crate s) (other_in s.outside.now) (macros_in s.outside.now) (hides s.table.now) s.table.now c.requires.lowered.imports i w (by (import_view row)) at_w at_u))

@@ -2,7 +2,7 @@
 use Rattle.std.proofs.Common.{◌+◌, ◌*◌}
 use Rattle.serde_json.specs.Data.{depth, items_depth}
 use Rattle.serde_json.specs.View.{view, items_view}
-use Rattle.hir_input_json.proofs.Common.{cfg_view, cfg, held}
+use Rattle.hir_input_json.proofs.Common.{cfg_view, cfg, object_held}
 use Rattle.hir_input_json.proofs.Lists.{HasReadInside}
 use Rattle.hir_input_json.proofs.cfg.+cfgs.Given as goal
 
@@ -13,7 +13,7 @@ abbrev pub decreases-cfg_in : goal.decreases-cfg_in
 decreases-cfg_in l = 3 * depth (view l.value) + 1
 
 abbrev pub decreases-cfg_by : goal.decreases-cfg_by
-decreases-cfg_by l = 3 * depth (held l.members.now)
+decreases-cfg_by l = 3 * depth (object_held l.members.now)
 
 abbrev pub decreases-cfgs_in : goal.decreases-cfgs_in
 decreases-cfgs_in l = 3 * depth (view l.list) + 1

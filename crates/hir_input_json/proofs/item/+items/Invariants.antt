@@ -2,8 +2,8 @@
 use Rattle.std.proofs.Common.{◌+◌, ◌*◌, option_map}
 use Rattle.serde_json.specs.Data.{depth, items_depth}
 use Rattle.serde_json.specs.View.{view, items_view}
-use Rattle.hir_input_json.proofs.Common.{item_view, item, held}
-use Rattle.hir_input_json.proofs.Inside.{depth_of}
+use Rattle.hir_input_json.proofs.Common.{item_view, item, object_held}
+use Rattle.hir_input_json.proofs.NestedForms.{depth_of}
 use Rattle.hir_input_json.proofs.Lists.{HasReadInside}
 use Rattle.hir_input_json.proofs.item.+items.Given as goal
 
@@ -11,10 +11,10 @@ abbrev pub decreases-item_of : goal.decreases-item_of
 decreases-item_of l = 4 * depth (view l.value) + 3
 
 abbrev pub decreases-item_in : goal.decreases-item_in
-decreases-item_in l = 4 * depth (held l.members.now) + 2
+decreases-item_in l = 4 * depth (object_held l.members.now) + 2
 
 abbrev pub decreases-module_of : goal.decreases-module_of
-decreases-module_of l = 4 * depth (held l.members.now) + 1
+decreases-module_of l = 4 * depth (object_held l.members.now) + 1
 
 abbrev pub decreases-items_in : goal.decreases-items_in
 decreases-items_in l = 4 * depth_of (option_map view l.list)

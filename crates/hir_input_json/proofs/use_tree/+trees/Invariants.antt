@@ -2,8 +2,8 @@
 use Rattle.std.proofs.Common.{◌+◌, ◌*◌, option_map}
 use Rattle.serde_json.specs.Data.{depth, items_depth}
 use Rattle.serde_json.specs.View.{view, items_view}
-use Rattle.hir_input_json.proofs.Common.{use_tree_view, use_tree_form, held}
-use Rattle.hir_input_json.proofs.Inside.{depth_of}
+use Rattle.hir_input_json.proofs.Common.{use_tree_view, use_tree_form, object_held}
+use Rattle.hir_input_json.proofs.NestedForms.{depth_of}
 use Rattle.hir_input_json.proofs.Lists.{HasReadInside}
 use Rattle.hir_input_json.proofs.use_tree.+trees.Given as goal
 
@@ -11,7 +11,7 @@ abbrev pub decreases-use_tree_of : goal.decreases-use_tree_of
 decreases-use_tree_of l = 3 * depth (view l.value) + 2
 
 abbrev pub decreases-use_tree_in : goal.decreases-use_tree_in
-decreases-use_tree_in l = 3 * depth (held l.members.now) + 1
+decreases-use_tree_in l = 3 * depth (object_held l.members.now) + 1
 
 abbrev pub decreases-use_trees_in : goal.decreases-use_trees_in
 decreases-use_trees_in l = 3 * depth_of (option_map view l.list)

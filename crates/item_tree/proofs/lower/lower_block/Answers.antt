@@ -1,6 +1,6 @@
 use Rattle.std.proofs.Common.{arith, ◌≡◌, rules, IfOk, false, subst, sym}
 use Rattle.item_tree.proofs.Common.{block_view, crate_view, common_steps}
-use Rattle.item_tree.proofs.Seen.{ctors_are_seen}
+use Rattle.item_tree.proofs.ConstructorVisibility.{ctors_are_seen}
 use Rattle.item_tree.proofs.BodyTexts.{kept_without_bodies}
 use Rattle.item_tree.proofs.lower.lower_block.Goals as goal
 

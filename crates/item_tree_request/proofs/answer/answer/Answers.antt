@@ -1,5 +1,5 @@
 use Rattle.item_tree_request.specs.Inner.RequestView.{request_view}
-use Rattle.item_tree_request.proofs.Served.{answered}
+use Rattle.item_tree_request.proofs.ServedRequests.{answered}
 use Rattle.item_tree_request.proofs.answer.answer.Goals as goal
 
 pub returns : goal.returns

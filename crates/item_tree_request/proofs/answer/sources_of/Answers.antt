@@ -1,6 +1,6 @@
 use Rattle.std.proofs.Common.{◌≤◌, length, map, rules, arith, subst, sym}
 use Rattle.item_tree_request.proofs.Common.{AllByRecursion, length-map, edit_view, last_number, NamesKnown, FirstFit, IsMade, IsUnmade, refusal_of}
-use Rattle.item_tree_request.proofs.Made.{is_made, is_unmade, found_in_map}
+use Rattle.item_tree_request.proofs.EditOutcomes.{is_made, is_unmade, found_in_map}
 use Rattle.item_tree_request.proofs.Outputs.{edits_known}
 use Rattle.item_tree_request.proofs.answer.sources_of.Goals as goal
 

@@ -1,5 +1,5 @@
 use Rattle.std.proofs.lemmas.Result.{IfErr-weaker, IfOk-weaker}
-use Rattle.itemtree_commands.proofs.Refused.{refused_short}
+use Rattle.itemtree_commands.proofs.Refusals.{refused_short}
 use Rattle.itemtree_commands.proofs.RowTrees.{rows_kept}
 use Rattle.itemtree_commands.specs.Inner.{row_wanted}
 use Rattle.itemtree_commands.proofs.listed.clipped_rows.Goals as goal

@@ -1,5 +1,5 @@
 use Rattle.std.proofs.Common.{arith}
-use Rattle.line_index.proofs.Replaced.{pushed, rest_long}
+use Rattle.line_index.proofs.ReplacedLines.{pushed, rest_long}
 use Rattle.line_index.proofs.edits.push_starts.Goals as goal
 
 pub loop-left-preserved : goal.loop-left-preserved

@@ -2,7 +2,7 @@ use Rattle.std.proofs.Common.{rules}
 use Rattle.serde_json.specs.View.{view}
 use Rattle.source_imports.specs.Views.{repeated_import_view}
 use Rattle.lsp.specs.Diagnostics.{repeat_diagnostic}
-use Rattle.lsp.proofs.Pushed.{one_more}
+use Rattle.lsp.proofs.PushedSymbols.{one_more}
 use Rattle.lsp.proofs.diagnostics.push_repeats.Goals as goal
 
 pub loop-repeat-preserved : goal.loop-repeat-preserved

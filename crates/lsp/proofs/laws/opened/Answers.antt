@@ -1,4 +1,4 @@
-use Rattle.lsp.proofs.Opened.{as_just_opened}
+use Rattle.lsp.proofs.OpenedDocuments.{as_just_opened}
 use Rattle.lsp.proofs.laws.opened.Goals as goal
 
 pub returns : goal.returns

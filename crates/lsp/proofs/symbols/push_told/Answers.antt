@@ -4,7 +4,7 @@ use Rattle.serde_json.specs.View.{view}
 use Rattle.lsp.specs.Inner.{page_view}
 use Rattle.lsp.specs.Symbols.{information}
 use Rattle.lsp.specs.Views.{symbol_view}
-use Rattle.lsp.proofs.Told.{told_alone}
+use Rattle.lsp.proofs.ItemSymbols.{told_alone}
 use Rattle.lsp.proofs.symbols.push_told.Goals as goal
 
 pub returns : goal.returns

@@ -1,7 +1,7 @@
 use Rattle.std.proofs.Common.{◌++◌, ◌∙◌, None, ap, flat_map, map}
 use Rattle.serde_json.specs.View.{view}
 use Rattle.lsp.specs.Inner.{page_view, symbols_at}
-use Rattle.lsp.proofs.Told.{all_symbols}
+use Rattle.lsp.proofs.ItemSymbols.{all_symbols}
 use Rattle.lsp.proofs.symbols.tree_symbols.Goals as goal
 
 pub returns : goal.returns

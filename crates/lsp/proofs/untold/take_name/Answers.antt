@@ -1,6 +1,6 @@
 use Rattle.std.proofs.Common.{rules, ℕ, Bool, List, map, not, bytes_eq, string_bytes, ap, ◌∙◌}
 use Rattle.std.proofs.lemmas.Fn.{filter_same}
-use Rattle.source_listing.proofs.Chosen.{filter-seen}
+use Rattle.source_listing.proofs.ChosenRows.{filter-seen}
 use Rattle.lsp.proofs.untold.take_name.Goals as goal
 
 pub returns : goal.returns

@@ -1,7 +1,7 @@
 use Rattle.std.proofs.Common.{Ok, inl, inr, refl, subst}
 use Rattle.std.specs.Io.Buffered.{reader_buffer, reader_remaining}
 use Rattle.message_stream.proofs.Common.{HasTurned, err_from_is_err_and}
-use Rattle.message_stream.proofs.Served.{told_more}
+use Rattle.message_stream.proofs.Conversations.{told_more}
 use Rattle.message_stream.proofs.conversation.serve.Goals as goal
 
 pub returns-in_err-take_turn : goal.returns-in_err-take_turn

@@ -1,6 +1,6 @@
 use Rattle.std.proofs.Common.{string_bytes}
 use Rattle.message_stream.proofs.Common.{err_from_is_err_and}
-use Rattle.message_stream.proofs.Framed.{framed_cut, framed_next}
+use Rattle.message_stream.proofs.FramedTexts.{framed_cut, framed_next}
 use Rattle.message_stream.proofs.conversation.write_texts.Goals as goal
 
 pub returns-in_err-write : goal.returns-in_err-write

@@ -1,7 +1,7 @@
 use Rattle.std.proofs.Common.{subst}
 use Rattle.message_stream.proofs.Common.{err_from_is_err_and}
 use Rattle.message_stream.specs.Inner.{IsHead}
-use Rattle.message_stream.proofs.Headed.{cut_more, message_of}
+use Rattle.message_stream.proofs.HeaderParts.{cut_more, message_of}
 use Rattle.message_stream.proofs.headers.next_headed.Goals as goal
 
 pub returns-in_err-body-in-Length : goal.returns-in_err-body-in-Length

@@ -1,5 +1,5 @@
 use Rattle.message_stream.proofs.Common.{err_from_is_err_and}
-use Rattle.message_stream.proofs.Headed.{body_more, passing_more}
+use Rattle.message_stream.proofs.HeaderParts.{body_more, passing_more}
 use Rattle.message_stream.proofs.headers.read_body.Goals as goal
 
 pub returns-in_err-longer : goal.returns-in_err-longer

@@ -1,7 +1,7 @@
 use Rattle.std.proofs.Common.{subst}
 use Rattle.message_stream.proofs.Common.{err_from_is_err_and}
 use Rattle.message_stream.specs.Inner.{IsHeaderPart}
-use Rattle.message_stream.proofs.Headed.{cut_more, header_end, header_whole}
+use Rattle.message_stream.proofs.HeaderParts.{cut_more, header_end, header_whole}
 use Rattle.message_stream.proofs.headers.read_header.Goals as goal
 
 pub returns-in_err-ending : goal.returns-in_err-ending

@@ -1,7 +1,7 @@
 use Rattle.std.proofs.Common.{subst, take, length-take-le, arith}
 use Rattle.std.specs.Io.BufRead.{FillKeeps}
 use Rattle.std.proofs.BufReadLemmas.{Consumes_shown}
-use Rattle.message_stream.proofs.Headed.{piece_of}
+use Rattle.message_stream.proofs.HeaderParts.{piece_of}
 use Rattle.message_stream.proofs.headers.read_piece.Goals as goal
 
 pub returns : goal.returns

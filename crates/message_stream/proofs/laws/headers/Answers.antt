@@ -1,5 +1,5 @@
-use Rattle.message_stream.proofs.Unique.{one_message}
-use Rattle.message_stream.proofs.Written.{headed_is}
+use Rattle.message_stream.proofs.UniqueMessages.{one_message}
+use Rattle.message_stream.proofs.WrittenMessages.{headed_is}
 use Rattle.message_stream.proofs.laws.headers.Goals as goal
 
 pub returns : goal.returns

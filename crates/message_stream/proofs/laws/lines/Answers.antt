@@ -1,4 +1,4 @@
-use Rattle.message_stream.proofs.Each.{lines_served}
+use Rattle.message_stream.proofs.EachService.{lines_served}
 use Rattle.message_stream.proofs.laws.lines.Goals as goal
 
 pub returns : goal.returns

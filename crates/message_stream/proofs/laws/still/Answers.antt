@@ -1,5 +1,5 @@
-use Rattle.message_stream.proofs.Each.{never_rests}
-use Rattle.message_stream.proofs.Served.{messages_join, messages_took}
+use Rattle.message_stream.proofs.EachService.{never_rests}
+use Rattle.message_stream.proofs.Conversations.{messages_join, messages_took}
 use Rattle.message_stream.proofs.laws.still.Goals as goal
 
 pub returns : goal.returns

@@ -1,5 +1,5 @@
 use Rattle.message_stream.proofs.Common.{err_from_is_err_and}
-use Rattle.message_stream.proofs.Begun.{begun_of_more, written_after}
+use Rattle.message_stream.proofs.TextBeginnings.{begun_of_more, written_after}
 use Rattle.message_stream.proofs.write.write_both.Goals as goal
 
 pub returns-in_err-write_whole : goal.returns-in_err-write_whole

@@ -1,7 +1,7 @@
 use Rattle.std.proofs.Common.{[], refl, sym, append-nil}
 use Rattle.message_stream.proofs.Common.{Appends-kept, Appends-trans, err_from_is_err_and}
-use Rattle.message_stream.specs.Headers.{headed}
-use Rattle.message_stream.proofs.Begun.{begun_after, begun_of_more}
+use Rattle.message_stream.specs.Headers.{with_header}
+use Rattle.message_stream.proofs.TextBeginnings.{begun_after, begun_of_more}
 use Rattle.message_stream.proofs.write.write_headed.Goals as goal
 
 pub returns-in_err-write_header : goal.returns-in_err-write_header
@@ -18,5 +18,5 @@ returns-in_err-write_whole g c =
 
 pub returns-then-is_err : goal.returns-then-is_err
 returns-then-is_err g c =
-    let all = headed c.args.text.now in
+    let all = with_header c.args.text.now in
     (refl, (all, [], sym (append-nil all), Appends-kept _ _ _ all (Appends-trans _ _ _ _ _ c.in_ok-write_header.ensures c.in_ok-write_whole.ensures) c.flush.ensures.bytes))

@@ -1,6 +1,6 @@
 use Rattle.std.proofs.Common.{◌≡◌, ◌-◌, length, take, ap, sym, subst, ◌∙◌, Some, slice_get}
 use Rattle.module_tree.specs.Inner.{texts}
-use Rattle.module_tree.proofs.Above.{Above, at_top, at_dots, at_name}
+use Rattle.module_tree.proofs.BorrowedNames.{Above, at_top, at_dots, at_name}
 use Rattle.module_tree.proofs.paths.go_above.Goals as goal
 
 pub returns-then-is_empty : goal.returns-then-is_empty

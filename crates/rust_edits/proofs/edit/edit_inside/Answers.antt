@@ -3,7 +3,7 @@ use Rattle.rust_edits.proofs.Common.{with_feeds, has_body_at, Shift, begins_bare
 use Rattle.rust_edits.specs.declared.edit.BodyEdit.{BodyEdit}
 use Rattle.rust_edits.proofs.Moves.{edit_shifts, edit_reads, edit_keeps, loose_kept, kept_loose}
 use Rattle.rust_edits.proofs.Steps.{off}
-use Rattle.rust_edits.proofs.Told.{none_told, not_stood, not_stands, all_told, loose_told}
+use Rattle.rust_edits.proofs.ToldEdits.{none_told, not_stood, not_stands, all_told, loose_told}
 use Rattle.rust_edits.proofs.edit.edit_inside.Goals as goal
 
 pub returns : goal.returns

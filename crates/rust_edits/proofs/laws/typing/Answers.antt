@@ -1,10 +1,10 @@
 use Rattle.rust_edits.proofs.Order.{items_are_in_order}
 use Rattle.rust_edits.proofs.Typing.Typing.{typing_inside}
-use Rattle.rust_edits.proofs.Typing.Moved.{places_move, is_read_anew, body_is_told}
+use Rattle.rust_edits.proofs.Typing.MovedItems.{places_move, is_read_anew, body_is_told}
 use Rattle.rust_edits.proofs.Typing.BodyStarts.{body_opens}
 use Rattle.rust_edits.proofs.Typing.ProblemsIn.{problems_stand}
-use Rattle.rust_edits.proofs.Typing.Loose.{problems_move}
-use Rattle.rust_edits.proofs.Typing.Damaged.{typing_damaged}
+use Rattle.rust_edits.proofs.Typing.ProblemPlaces.{problems_move}
+use Rattle.rust_edits.proofs.Typing.DamagedTexts.{typing_damaged}
 use Rattle.rust_edits.proofs.laws.typing.Goals as goal
 
 pub returns : goal.returns

@@ -1,5 +1,5 @@
 use Rattle.rust_edits.proofs.Common.{IsCharBoundary, LacksByte}
-use Rattle.rust_edits.proofs.Told.{uncut_byte}
+use Rattle.rust_edits.proofs.ToldEdits.{uncut_byte}
 use Rattle.rust_edits.proofs.Steps.{if_none, off}
 use Rattle.rust_edits.proofs.parts.behind_byte.Goals as goal
 

@@ -1,6 +1,6 @@
 use Rattle.std.proofs.Common.{rules, IsCharBoundary}
 use Rattle.rust_edits.proofs.Common.{IsUncut}
-use Rattle.rust_edits.proofs.Told.{uncut_front, uncut_replaced, uncut_back, uncut_shut}
+use Rattle.rust_edits.proofs.ToldEdits.{uncut_front, uncut_replaced, uncut_back, uncut_shut}
 use Rattle.rust_edits.proofs.Steps.{if_none, off}
 use Rattle.rust_edits.proofs.parts.parts_of.Goals as goal
 

@@ -1,4 +1,4 @@
-use Rattle.std.proofs.Common.{rules, ◌≡◌, ◌∙◌, List, map, option_map, Some, sym, ap, length}
+use Rattle.std.proofs.Common.{rules, ◌≡◌, ◌∙◌, List, map, option_map, sym, ap, length}
 use Rattle.std.specs.Vec.{with_items}
 use Rattle.std.proofs.lemmas.List.{with_items_is}
 use Rattle.hir_input.specs.declared.ast.Item.{Item}

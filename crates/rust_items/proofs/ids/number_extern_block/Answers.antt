@@ -1,8 +1,8 @@
-use Rattle.std.proofs.Common.{rules, ◌≡◌, ◌∙◌, List, map, option_map, Some, sym, ap, length}
+use Rattle.std.proofs.Common.{rules, ◌≡◌, ◌∙◌, List, map, option_map, sym, ap, length}
 use Rattle.std.specs.Vec.{with_items}
 use Rattle.std.proofs.lemmas.List.{with_items_is}
 use Rattle.hir_input.specs.declared.ast.ExternItem.{ExternItem}
-use Rattle.hir_input.specs.Syntax.{ItemView, extern_item_view, extern_block_from, node_from}
+use Rattle.hir_input.specs.Syntax.{extern_item_view, extern_block_from, node_from}
 use Rattle.rust_items.specs.Ids.{held_with_ids, list_with_ids}
 use Rattle.rust_items.specs.Views.{supply_view}
 use Rattle.rust_items.proofs.Numbering.{extern_listed}

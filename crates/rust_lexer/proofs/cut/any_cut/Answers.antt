@@ -1,5 +1,5 @@
 use Rattle.std.proofs.Common.{◌∙◌, sym}
-use Rattle.rust_lexer.proofs.Frequent.{slash_first}
+use Rattle.rust_lexer.proofs.FrequentTokens.{slash_first}
 use Rattle.rust_lexer.proofs.cut.any_cut.Goals as goal
 
 pub returns-then-first-eq47-clause-value : goal.returns-then-first-eq47-clause-value

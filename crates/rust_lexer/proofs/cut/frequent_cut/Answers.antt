@@ -1,8 +1,8 @@
 use Rattle.std.proofs.Common.{sym, ap, ◌∙◌}
 use Rattle.rust_lexer.specs.declared.kind.TokenKind.TheVariants as kind
 use Rattle.rust_lexer.proofs.Common.{cut}
-use Rattle.rust_lexer.proofs.Frequent.{blank_first}
-use Rattle.rust_lexer.proofs.Wholes.{white_whole}
+use Rattle.rust_lexer.proofs.FrequentTokens.{blank_first}
+use Rattle.rust_lexer.proofs.WholeTokens.{white_whole}
 use Rattle.rust_lexer.proofs.cut.frequent_cut.Goals as goal
 
 pub returns-then-is_blank-clause-value : goal.returns-then-is_blank-clause-value

@@ -1,7 +1,7 @@
 use Rattle.std.proofs.Common.{sym, ap, ◌∙◌}
 use Rattle.rust_lexer.proofs.Common.{cut, is_significant_kind}
-use Rattle.rust_lexer.proofs.Frequent.{mark_first, letter_first, symbol_counts}
-use Rattle.rust_lexer.proofs.Wholes.{mark_whole, word_whole}
+use Rattle.rust_lexer.proofs.FrequentTokens.{mark_first, letter_first, symbol_counts}
+use Rattle.rust_lexer.proofs.WholeTokens.{mark_whole, word_whole}
 use Rattle.rust_lexer.proofs.cut.mark_or_word.Goals as goal
 
 pub returns-then-is_mark-clause-value : goal.returns-then-is_mark-clause-value

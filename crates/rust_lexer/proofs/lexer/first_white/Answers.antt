@@ -1,9 +1,9 @@
 use Rattle.std.proofs.Common.{◌≡◌, ◌-◌, ◌∙◌, sym, ap, drop, get_or, length, take}
 use Rattle.rust_lexer.specs.declared.kind.TokenKind.TheVariants as kind
 use Rattle.rust_lexer.proofs.Common.{cut, first_cut}
-use Rattle.rust_lexer.proofs.Frequent.{blank_first}
+use Rattle.rust_lexer.proofs.FrequentTokens.{blank_first}
 use Rattle.rust_lexer.proofs.Steps.{first_next}
-use Rattle.rust_lexer.proofs.Wholes.{white_whole, whole_behind}
+use Rattle.rust_lexer.proofs.WholeTokens.{white_whole, whole_behind}
 use Rattle.rust_lexer.proofs.lexer.first_white.Goals as goal
 
 pub split_whole-requires-clause-whole : goal.split_whole-requires-clause-whole

@@ -1,6 +1,6 @@
 use Rattle.std.proofs.Common.{ap}
-use Rattle.rust_metas.proofs.Kept.{doc_passed, keeps_docs}
-use Rattle.rust_metas.proofs.Passed.{unread_by}
+use Rattle.rust_metas.proofs.KeptMetas.{doc_passed, keeps_docs}
+use Rattle.rust_metas.proofs.PassedAttributes.{unread_by}
 use Rattle.rust_metas.proofs.attribute.pass_unwanted.Goals as goal
 
 pub returns-then-pass_doc-clause-passed : goal.returns-then-pass_doc-clause-passed

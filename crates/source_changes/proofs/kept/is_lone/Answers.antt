@@ -1,7 +1,7 @@
 use Rattle.std.proofs.Common.{◌∙◌, ◌||◌, ap, refl, sym}
 use Rattle.source_changes.specs.DocAttributes.{inner_doc_list}
 use Rattle.source_changes.specs.Inner.{are_apart}
-use Rattle.source_changes.proofs.Alike.{stands_alone}
+use Rattle.source_changes.proofs.CountedTokens.{stands_alone}
 use Rattle.source_changes.proofs.kept.is_lone.Goals as goal
 
 pub returns-then-has_docs : goal.returns-then-has_docs

@@ -1,6 +1,6 @@
 use Rattle.std.proofs.Common.{◌∙◌, subst, sym}
 use Rattle.source_changes.specs.Inner.{ComeBehind}
-use Rattle.source_changes.proofs.Alike.{left_alike, same_docs}
+use Rattle.source_changes.proofs.CountedTokens.{left_alike, same_docs}
 use Rattle.source_changes.proofs.Holes.{come_behind}
 use Rattle.source_changes.proofs.kept.pass_same.Goals as goal
 

@@ -1,5 +1,5 @@
 use Rattle.std.proofs.Common.{arith}
-use Rattle.source_changes.proofs.Alike.{nearer, same_before, same_turn}
+use Rattle.source_changes.proofs.CountedTokens.{nearer, same_before, same_turn}
 use Rattle.source_changes.proofs.kept.same_until.Goals as goal
 
 pub loop-ours-preserved : goal.loop-ours-preserved

@@ -1,5 +1,5 @@
-use Rattle.source_changes.proofs.Plain.{stand_without_returns}
-use Rattle.source_changes.proofs.Unseen.{holes_are_unseen, member_holes_are_unseen, moved_holes_are_unseen, typing_in_member_is_same, typing_is_same}
+use Rattle.source_changes.proofs.PlainTexts.{stand_without_returns}
+use Rattle.source_changes.proofs.UnseenTyping.{holes_are_unseen, member_holes_are_unseen, moved_holes_are_unseen, typing_in_member_is_same, typing_is_same}
 use Rattle.source_changes.proofs.laws.typing.Goals as goal
 
 pub returns : goal.returns

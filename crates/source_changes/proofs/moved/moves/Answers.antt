@@ -1,5 +1,5 @@
 use Rattle.std.proofs.Common.{◌≡◌, ap, map, refl, subst, ◌∙◌, flat_map, IfOk}
-use Rattle.source_changes.proofs.Seen.{matched_pairs}
+use Rattle.source_changes.proofs.SeenLists.{matched_pairs}
 use Rattle.source_changes.specs.Inner.{standing_row_view}
 use Rattle.source_changes.specs.Moves.{same_standing}
 use Rattle.source_changes.specs.contracts.moved.StandingPartialEq.TheImpl as keys

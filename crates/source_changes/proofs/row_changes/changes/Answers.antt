@@ -1,5 +1,5 @@
 use Rattle.std.proofs.Common.{◌≡◌, ap, map, refl, subst, ◌∙◌, flat_map, IfOk}
-use Rattle.source_changes.proofs.Seen.{matched_as}
+use Rattle.source_changes.proofs.SeenLists.{matched_as}
 use Rattle.source_changes.proofs.Common.{row_change_of, same_text, row_change_view, text_row_view, labelled_view, row_match}
 use Rattle.source_changes.proofs.row_changes.changes.Goals as goal
 

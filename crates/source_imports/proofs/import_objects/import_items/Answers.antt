@@ -1,5 +1,5 @@
-use Rattle.source_imports.proofs.Common.{PlacedText, rules, ap, map, ◌++◌, ◌∙◌, flat_map, take_all, view, declaration_id, declaration_view, IsContained, placed, import_object, seen_objects}
-use Rattle.source_imports.proofs.Imported.{contained_at, one_more_seen, seen_of_all}
+use Rattle.source_imports.proofs.Common.{PlacedText, rules, ap, map, ◌++◌, ◌∙◌, flat_map, take_all, view, declaration_id, declaration_view, IsContained, file_places, import_object, seen_objects}
+use Rattle.source_imports.proofs.ImportedNames.{contained_at, one_more_seen, seen_of_all}
 use Rattle.source_imports.proofs.import_objects.import_items.Goals as goal
 
 pub push_declaration-requires : goal.push_declaration-requires
@@ -12,7 +12,7 @@ returns c =
     let units = c.args.units in
     let text = c.args.text.now in
     let reserved = c.args.edition.now.reserved.items in
-    let places = placed c.args.places.now c.args.use_trees.now in
+    let places = file_places c.args.places.now c.args.use_trees.now in
     let ds = c.deref-declaration-items.result.now in
     let whole = take_all c.loop-declaration.declaration-index ds (search rules) in
     let all = seen_of_all (import_object reserved) see units text places ds c.args.tree.now.forest (ap (map see) c.deref-declaration-items.ensures.value ∙ c.in_ok-collected.ensures.declared) in
@@ -23,7 +23,7 @@ loop-declaration-preserved c =
     let units = c.args.units in
     let text = c.args.text.now in
     let reserved = c.args.edition.now.reserved.items in
-    let places = placed c.args.places.now c.args.use_trees.now in
+    let places = file_places c.args.places.now c.args.use_trees.now in
     let before = c.loop-declaration in
     let d = c.declaration-item.result in
     let see = declaration_view c.args.tree.now in

@@ -1,5 +1,5 @@
 use Rattle.source_listing.proofs.Common.{◌++◌, ◌+◌, ◌∷◌, [], map, ap, ◌∙◌, rules, flat_map, map-append, items_of, view, header_of, members_of, reading_view, item_entry, member_objects, entry_object, choice_view, file_of, shown_item_view, objects_at, places_of, reserved_of}
-use Rattle.source_listing.proofs.Nested.{object_adds, object_is}
+use Rattle.source_listing.proofs.NestedObjects.{object_adds, object_is}
 use Rattle.source_listing.proofs.Printers.{Setting, same_through, setting_same}
 use Rattle.source_listing.proofs.json.+read.Goals as goal
 

@@ -1,5 +1,5 @@
 use Rattle.std.proofs.Common.{rules}
-use Rattle.source_listing.proofs.Named.{read_next}
+use Rattle.source_listing.proofs.NamePaths.{read_next}
 use Rattle.source_listing.proofs.sought.split_names.Goals as goal
 
 pub loop-left-preserved : goal.loop-left-preserved

@@ -1,6 +1,6 @@
 use Rattle.std.proofs.Common.{◌≡◌, length, map, string_bytes}
 use Rattle.source_listing.specs.Sought as spec
-use Rattle.source_listing.proofs.Named.{read_before}
+use Rattle.source_listing.proofs.NamePaths.{read_before}
 use Rattle.source_listing.proofs.sought.split_names.Given as goal
 
 abbrev pub invariant-loop-left : goal.invariant-loop-left

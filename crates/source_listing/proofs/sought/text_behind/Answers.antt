@@ -1,4 +1,4 @@
-use Rattle.source_listing.proofs.Named.{stripped}
+use Rattle.source_listing.proofs.NamePaths.{stripped}
 use Rattle.source_listing.proofs.sought.text_behind.Goals as goal
 
 pub returns : goal.returns

@@ -7,7 +7,7 @@ use Rattle.hir_input.specs.declared.ast.Item.{Item}
 use Rattle.hir_input.specs.Syntax.{ItemView, items_view, syntax_view}
 use Rattle.source_problems.specs.Metas.{attribute_problems}
 use Rattle.source_problems.specs.Items.{in_preorder, placed_problems, syntax_problems}
-use Rattle.source_problems.proofs.Walked.{walked}
+use Rattle.source_problems.proofs.ItemWalks.{walked}
 use Rattle.source_problems.proofs.items.push_syntax.Goals as goal
 
 pub returns : goal.returns

@@ -1,5 +1,5 @@
 use Rattle.std.proofs.Common.{rules, ◌≡◌, ◌∷◌, ◌++◌, List, map, filter_map, ap, sym, ◌∙◌, option_copied, option_map}
-use Rattle.rust_cursor.proofs.Pushed.{pushed_view}
+use Rattle.rust_cursor.proofs.PushedLists.{pushed_view}
 use Rattle.rust_items.specs.declared.member.Member.{Member}
 use Rattle.source_rows.specs.Listed as spec
 use Rattle.source_rows.specs.ListedViews.{closers_view, listed_view}
@@ -10,7 +10,7 @@ use Rattle.source_rows.proofs.listed.listed_of.Goals as goal
 pub loop-member-preserved : goal.loop-member-preserved
 loop-member-preserved c =
     let a = c.args.around in
-    let told = spec.listed (option_map closers_view (option_copied a.mended)) a.options.now a.is_active in
+    let told = spec.listed_member (option_map closers_view (option_copied a.mended)) a.options.now a.is_active in
     let m = c.in-Some.member in
     let rest = c.next.new.self.rest.items in
     let step : c.loop-member.member-iterator.rest.items ≡ m ∷ rest = search rules in

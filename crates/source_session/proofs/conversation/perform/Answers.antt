@@ -1,9 +1,9 @@
 use Rattle.std.proofs.Common.{◌≡◌, Err, map, refl, rules, sym, subst}
 use Rattle.source_session.proofs.Common.{AllZip, OutOfMemory, Session, text_edit_view, outcome_view, asked_view, IsCarriedOut, IsEdited, IsShowValue}
 use Rattle.serde_json.specs.View.{view}
-use Rattle.text_session.proofs.Made.{stopped_all}
+use Rattle.text_session.proofs.EditedSessions.{stopped_all}
 use Rattle.text_session.specs.declared.error.EditError.TheVariants as edits
-use Rattle.source_session.proofs.Named.{edits_known, no_float_in_shown}
+use Rattle.source_session.proofs.NamedCrates.{edits_known, no_float_in_shown}
 use Rattle.source_session.proofs.conversation.perform.Goals as goal
 
 pub edit-requires : goal.edit-requires

@@ -1,7 +1,7 @@
 use Rattle.std.proofs.Common.{◌≡◌, IfOk, sym, subst, rules}
 use Rattle.serde_json.specs.View.{view}
 use Rattle.source_session.proofs.Common.{Table, Outline, TreeItems, ImportPlaces, IsPresentValue, ShowNamesCrate, State, Knows, crate_count}
-use Rattle.source_session.proofs.Named.{show_known}
+use Rattle.source_session.proofs.NamedCrates.{show_known}
 use Rattle.source_session.proofs.shown.present_value.Goals as goal
 
 pub table_value-requires : goal.table_value-requires

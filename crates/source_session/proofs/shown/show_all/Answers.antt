@@ -1,7 +1,7 @@
 use Rattle.std.proofs.Common.{◌+◌, ◌∷◌, [], map, sym, ap, ◌∙◌, subst, take, get_or}
 use Rattle.source_session.proofs.Common.{map-append, AllZip, IsShowValue, Session}
 use Rattle.serde_json.specs.View.{view}
-use Rattle.source_session.proofs.Named.{zip_more}
+use Rattle.source_session.proofs.NamedCrates.{zip_more}
 use Rattle.source_session.proofs.shown.show_all.Goals as goal
 
 pub loop-show-preserved : goal.loop-show-preserved

@@ -1,7 +1,7 @@
 use Rattle.source_tags.proofs.Common.{rules, map, nat_lt, ap, ◌∙◌}
 use Rattle.std.proofs.lemmas.Fn.{filter_same}
 use Rattle.source_tags.specs.Inner.{holder_view}
-use Rattle.source_listing.proofs.Chosen.{filter-seen}
+use Rattle.source_listing.proofs.ChosenRows.{filter-seen}
 use Rattle.source_tags.proofs.block_items.leave.Goals as goal
 
 pub returns : goal.returns

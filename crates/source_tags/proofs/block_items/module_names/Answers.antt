@@ -2,7 +2,7 @@ use Rattle.source_tags.proofs.Common.{rules, ◌≡◌, ◌+◌, ◌∷◌, ◌+
 use Rattle.std.proofs.Common.{drop}
 use Rattle.std.proofs.Math.Seq.{drop-cons}
 use Rattle.hir_input.specs.declared.name.Name.{Name}
-use Rattle.rust_cursor.proofs.Pushed.{pushed_view}
+use Rattle.rust_cursor.proofs.PushedLists.{pushed_view}
 use Rattle.source_rows.proofs.ListedSteps.{listed_more}
 use Rattle.source_tags.specs.BlockItems.{modules_of}
 use Rattle.source_tags.specs.Inner.{holder_view}

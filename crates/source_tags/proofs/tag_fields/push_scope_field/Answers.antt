@@ -1,5 +1,5 @@
 use Rattle.source_tags.proofs.Common.{rules, string_bytes, on_ok_weaker}
-use Rattle.source_tags.proofs.Pushed.{scope_pushed}
+use Rattle.source_tags.proofs.PushedTags.{scope_pushed}
 use Rattle.source_tags.proofs.tag_fields.push_scope_field.Goals as goal
 
 pub returns : goal.returns

@@ -1,6 +1,6 @@
 use Rattle.std.proofs.Common.{◌≡◌, ◌≤◌, Some, IfSome, option_copied, rules, sym, ap, subst, ◌∙◌}
 use Rattle.text_session.proofs.Common.{last_number, IsInside, text_in}
-use Rattle.text_session.proofs.Alone.{change_alone}
+use Rattle.text_session.proofs.BodyEdits.{change_alone}
 use Rattle.text_session.proofs.inside.change_inside.Goals as goal
 
 pub returns : goal.returns

@@ -1,6 +1,6 @@
 use Rattle.std.proofs.Common.{◌≡◌, ◌≤◌, [], ◌∷◌, Some, Ok, IfSome, option_copied, rules, string_bytes, sym, ap, subst, ◌∙◌}
 use Rattle.text_session.proofs.Common.{bytes_eq-Decides, last_number, MakesAlone, set_text, spliced_text, text_in}
-use Rattle.text_session.proofs.Alone.{set_by_change, set_by_itself}
+use Rattle.text_session.proofs.BodyEdits.{set_by_change, set_by_itself}
 use Rattle.text_session.proofs.inside.set_inside.Goals as goal
 
 pub returns-then-eq : goal.returns-then-eq

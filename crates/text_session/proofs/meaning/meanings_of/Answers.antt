@@ -1,7 +1,7 @@
 use Rattle.std.proofs.Common.{◌≡◌, ◌++◌, ◌∷◌, [], All, Err, IfErr, length, map, rules, sym, ap, ◌∙◌, subst, arith}
 use Rattle.text_session.proofs.Common.{append_assoc, length-append, map-append, All-push, text_edit_view, LeavesPlaced, IsFailing, TellsFault, AreMeant, FailsAt, Means, text_after, text_in}
 use Rattle.item_tree_db.specs.Edits as table
-use Rattle.text_session.proofs.Meant.{meant_push, tells_behind}
+use Rattle.text_session.proofs.MeantEdits.{meant_push, tells_behind}
 use Rattle.text_session.proofs.meaning.meanings_of.Goals as goal
 
 pub loop-edit-preserved : goal.loop-edit-preserved

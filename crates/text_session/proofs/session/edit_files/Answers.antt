@@ -1,8 +1,8 @@
 use Rattle.std.proofs.Common.{◌≡◌, ◌≤◌, ℕ, List, Err, IfOk, MatchResult, length, map, refl, rules, sym, ap, ◌∙◌, subst}
 use Rattle.text_session.proofs.Common.{EditionYear, last_number, OutOfMemory, text_edit_view, session_of, made_count, IsEdited, IsUnedited, AreTouched, text_in, touched_keys}
 use Rattle.item_tree_db.specs.Edits.{edit_view as table_view}
-use Rattle.text_session.proofs.Made.{files_made, files_together, outcome_by, stopped_none, unmeant}
-use Rattle.text_session.proofs.Meant.{known_meant}
+use Rattle.text_session.proofs.EditedSessions.{files_made, files_together, outcome_by, stopped_none, unmeant}
+use Rattle.text_session.proofs.MeantEdits.{known_meant}
 use Rattle.text_session.proofs.session.edit_files.Goals as goal
 
 pub returns-in_err-meanings-clause-edited : goal.returns-in_err-meanings-clause-edited

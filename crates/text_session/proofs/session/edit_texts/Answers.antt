@@ -1,7 +1,7 @@
 use Rattle.std.proofs.Common.{◌≡◌, Err, MatchResult, map, refl, rules, sym, ap, subst}
 use Rattle.text_session.proofs.Common.{OutOfMemory, text_edit_view, AllByRecursion, AreTogether, NamesCrateOf, session_of, MakesAlone, IsEdited, IsUnedited, text_in, touched_keys}
-use Rattle.text_session.proofs.Alone.{edited_alone, made_by, none_by, none_if, together_alone}
-use Rattle.text_session.proofs.Made.{stopped_none}
+use Rattle.text_session.proofs.BodyEdits.{edited_alone, made_by, none_by, none_if, together_alone}
+use Rattle.text_session.proofs.EditedSessions.{stopped_none}
 use Rattle.text_session.proofs.session.edit_texts.Goals as goal
 
 pub returns-in_err-edit_inside_body-clause-edited : goal.returns-in_err-edit_inside_body-clause-edited

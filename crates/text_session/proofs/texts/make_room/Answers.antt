@@ -1,6 +1,6 @@
 use Rattle.std.proofs.Common.{All, ◌∙◌, subst}
 use Rattle.text_session.proofs.Common.{take_all, HasSlotFor}
-use Rattle.text_session.proofs.Kept.{room_more}
+use Rattle.text_session.proofs.KeptTexts.{room_more}
 use Rattle.text_session.proofs.texts.make_room.Goals as goal
 
 pub loop-change-preserved : goal.loop-change-preserved

@@ -1,6 +1,6 @@
 use Rattle.std.proofs.Common.{◌≡◌, ◌∷◌, None, All, rules, sym, ap, subst, ◌∙◌, arith}
 use Rattle.text_session.proofs.Common.{HasSlotFor, text_in, text_after}
-use Rattle.text_session.proofs.Kept.{all_rest, slots_for_stay}
+use Rattle.text_session.proofs.KeptTexts.{all_rest, slots_for_stay}
 use Rattle.text_session.proofs.texts.put_first.Goals as goal
 
 pub make-requires : goal.make-requires

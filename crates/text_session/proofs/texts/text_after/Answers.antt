@@ -1,6 +1,6 @@
 use Rattle.std.proofs.Common.{◌≡◌, None, option_copied, rules, sym, ◌∙◌}
 use Rattle.text_session.proofs.Common.{left_text, text_in}
-use Rattle.text_session.proofs.Kept.{skips_last, takes_last}
+use Rattle.text_session.proofs.KeptTexts.{skips_last, takes_last}
 use Rattle.text_session.proofs.texts.text_after.Goals as goal
 
 pub returns-in-Some-left_of : goal.returns-in-Some-left_of

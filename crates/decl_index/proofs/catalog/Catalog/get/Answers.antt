@@ -1,7 +1,7 @@
 use Rattle.std.proofs.Common.{[], filter, ap, ◌∙◌, unwrap_or}
 use Rattle.decl_index.proofs.Common.{BTreeSet, Entry, Option, shelf_at}
 use Rattle.decl_index.specs.Lookup.{entry_has_name}
-use Rattle.decl_index.proofs.Listed.{shelf_is}
+use Rattle.decl_index.proofs.ShelfOrder.{shelf_is}
 use Rattle.decl_index.proofs.catalog.Catalog.get.Goals as goal
 
 pub returns-in-Some : goal.returns-in-Some

@@ -2,8 +2,8 @@ use Rattle.std.proofs.Common.{◌≡◌, List, Contains, sym, subst, flat_map}
 use Rattle.decl_index.proofs.Common.{AreGone, Entry, shelf_entries}
 use Rattle.std.proofs.lemmas.Result.{IfOk-weaker}
 use Rattle.decl_index.proofs.Common.{Change, gone_at}
-use Rattle.decl_index.proofs.Listed.{stands_listed}
-use Rattle.decl_index.proofs.Refreshed.{gone_of_trees}
+use Rattle.decl_index.proofs.ShelfOrder.{stands_listed}
+use Rattle.decl_index.proofs.Refreshes.{gone_of_trees}
 use Rattle.decl_index.proofs.catalog.Catalog.gone_among.Goals as goal
 
 pub returns : goal.returns

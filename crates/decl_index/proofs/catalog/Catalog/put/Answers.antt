@@ -3,7 +3,7 @@ use Rattle.decl_index.proofs.Common.{Entry, shelf_entries, is_shelved, is_entry_
 use Rattle.std.proofs.lemmas.Fn.{filter_same}
 use Rattle.std.proofs.Common.{rules, not}
 use Rattle.decl_index.proofs.Catalogs.{listed_put, news, news_apart}
-use Rattle.decl_index.proofs.Listed.{same_listed}
+use Rattle.decl_index.proofs.ShelfOrder.{same_listed}
 use Rattle.decl_index.proofs.Order.{err_then, ok_then}
 use Rattle.decl_index.proofs.catalog.Catalog.put.Goals as goal
 

@@ -1,7 +1,7 @@
 use Rattle.std.proofs.Common.{◌↔◌, List, Contains, subst}
 use Rattle.decl_index.proofs.Common.{Entry, shelf_entries}
 use Rattle.decl_index.proofs.Catalogs.{listed_left}
-use Rattle.decl_index.proofs.Listed.{sorted}
+use Rattle.decl_index.proofs.ShelfOrder.{sorted}
 use Rattle.decl_index.proofs.catalog.Catalog.take.Goals as goal
 
 pub returns-clause-left : goal.returns-clause-left

@@ -1,7 +1,7 @@
 use Rattle.decl_index.proofs.Common.{rules, ◌≡◌, ℕ, [], List, Some, refl, ap, subst, sym, arith, Contains, unwrap_or, IndexView, IsBehindAt, IsListing, Change, HoldLate, IsLate, IsSince}
 use Rattle.item_tree_db.proofs.Changes.{since_among}
 use Rattle.decl_index.proofs.Laws.{behind_at_index}
-use Rattle.decl_index.proofs.Refreshed.{gone_late, unmoved}
+use Rattle.decl_index.proofs.Refreshes.{gone_late, unmoved}
 use Rattle.decl_index.proofs.index.DeclIndex.refresh_among.Goals as goal
 
 same_listing : (c : goal.After-self-1) → IsListing c.args.sources.now c.self.inside.entries

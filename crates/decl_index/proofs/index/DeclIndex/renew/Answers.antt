@@ -1,7 +1,7 @@
 use Rattle.std.proofs.Common.{ℕ, Some, refl, ap, subst, sym, unwrap_or}
 use Rattle.decl_index.proofs.Common.{AreAsOf, AreChangedEntries, AreGone, IndexView, IsBehind, IsBehindAt, IsListing}
 use Rattle.decl_index.proofs.Laws.{behind_at_index, behind_index}
-use Rattle.decl_index.proofs.Refreshed.{refreshed}
+use Rattle.decl_index.proofs.Refreshes.{refreshed}
 use Rattle.decl_index.proofs.index.DeclIndex.renew.Goals as goal
 
 new_listing : (c : goal.After-self-1) → IsListing c.args.sources.now c.take.new.self

@@ -1,7 +1,7 @@
 use Rattle.std.proofs.Common.{◌≡◌, ◌∙◌, ap, ℕ, count_by}
 use Rattle.item_tree.proofs.Common.{AstIdKind, has_tag}
 use Rattle.hir_input.specs.declared.ids.AstIdKind.TheVariants as kind
-use Rattle.item_tree.proofs.Counted.{tags-count}
+use Rattle.item_tree.proofs.RowCounts.{tags-count}
 use Rattle.item_tree.proofs.Lookup.{canon}
 use Rattle.item_tree.proofs.tree.ItemTree.item_tree_stats.Goals as goal
 

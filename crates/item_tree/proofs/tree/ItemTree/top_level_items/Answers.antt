@@ -1,7 +1,7 @@
 use Rattle.std.proofs.Common.{map, ap, ◌∙◌}
 use Rattle.item_tree.proofs.Common.{node_at}
 use Rattle.item_tree.proofs.Lookup.{fits, tops-are, tops-stand}
-use Rattle.item_tree.proofs.Reached.{walked_once}
+use Rattle.item_tree.proofs.TreeWalks.{walked_once}
 use Rattle.item_tree.proofs.tree.ItemTree.top_level_items.Goals as goal
 
 pub returns : goal.returns

@@ -1,6 +1,6 @@
 use Rattle.item_tree.proofs.Common.{Decides-at}
 use Rattle.item_tree.specs.Code.Node.{unfolding_code}
-use Rattle.item_tree.proofs.Equal.{tables_decide}
+use Rattle.item_tree.proofs.Equality.{tables_decide}
 use Rattle.item_tree.proofs.Lookup.{canon, fits}
 use Rattle.item_tree.proofs.UseEq.{tells}
 use Rattle.item_tree.proofs.VisOnce.{alike}

@@ -1,4 +1,4 @@
-use Rattle.item_tree_db.proofs.Noted.{noted_insert}
+use Rattle.item_tree_db.proofs.PlaceNumbers.{noted_insert}
 use Rattle.item_tree_db.proofs.recent.Recent.note.Goals as goal
 
 pub returns-in-Ok-clause-kept : goal.returns-in-Ok-clause-kept

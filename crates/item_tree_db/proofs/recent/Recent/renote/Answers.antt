@@ -1,4 +1,4 @@
-use Rattle.item_tree_db.proofs.Noted.{noted_remove}
+use Rattle.item_tree_db.proofs.PlaceNumbers.{noted_remove}
 use Rattle.item_tree_db.proofs.recent.Recent.renote.Goals as goal
 
 pub returns-clause-others : goal.returns-clause-others

@@ -1,5 +1,5 @@
 use Rattle.std.proofs.Common.{◌≡◌, ℕ, ◌<◌, ◌≤◌, List, length, map, Some, slice_get, sym, ap, subst, ◌∙◌, option_map}
-use Rattle.item_tree_db.proofs.Common.{AtomView, CrateView, crate_view, SetCfg, UnlessMemory, change_at, PlacesPass, State, crate_limit, given, state_of, IsSound}
+use Rattle.item_tree_db.proofs.Common.{AtomView, CrateView, crate_view, SetCfg, UnlessMemory, change_at, PlacesPass, State, crate_limit, with_cfg, state_of, IsSound}
 use Rattle.item_tree_db.specs.declared.edit.EditRefused.{EditRefused}
 use Rattle.item_tree_db.proofs.Crates.{given_here, given_back, given_options}
 use Rattle.item_tree_db.proofs.Steps.{cfg_brought, cfg_refused}
@@ -22,7 +22,7 @@ invariant_of-self-in-Err c =
     let i = c.self.inside in
     let k = c.args.krate.0 in
     let old = c.swap_options.new.options in
-    let back = c.swap_options-in-Err.ensures.swapped ∙ ap (change_at k (given old)) c.swap_options.ensures.swapped ∙ given_back c.args.options old k (map crate_view i.crates.items) c.swap_options.ensures.before in
+    let back = c.swap_options-in-Err.ensures.swapped ∙ ap (change_at k (with_cfg old)) c.swap_options.ensures.swapped ∙ given_back c.args.options old k (map crate_view i.crates.items) c.swap_options.ensures.before in
     record {
       few = subst (λ (m : ℕ). m ≤ crate_limit) (sym (c.swap_options-in-Err.ensures.count ∙ c.swap_options.ensures.count)) c.self.invariant.few;
       sound = subst (λ (l : List CrateView). IsSound (record { crates = l; skipped = i.skipped.items; start = i.start; number = i.number; places = i.places })) (sym back) c.self.invariant.sound;
@@ -34,7 +34,7 @@ returns-in-Err-clause-err c =
     let i = c.self.inside in
     let k = c.args.krate.0 in
     let old = c.swap_options.new.options in
-    let back = c.swap_options-in-Err.ensures.swapped ∙ ap (change_at k (given old)) c.swap_options.ensures.swapped ∙ given_back c.args.options old k (map crate_view i.crates.items) c.swap_options.ensures.before in
+    let back = c.swap_options-in-Err.ensures.swapped ∙ ap (change_at k (with_cfg old)) c.swap_options.ensures.swapped ∙ given_back c.args.options old k (map crate_view i.crates.items) c.swap_options.ensures.before in
     (λ j. state_of (record { crates = back j; skipped = i.skipped.items; start = i.start; number = i.number; places = i.places })) ∙ c.self.view_is
 
 pub returns-in-Err-clause-returned : goal.returns-in-Err-clause-returned

@@ -11,8 +11,8 @@ returns-then-starts-point-clause-value c =
     let starts = c.as_slice-starts.ensures.value ∙ c.self.view_is ∙ c.requires in
     ap length bytes ∙ byte_past c.args.style c.args.text.now c.as_slice-starts.result.now c.args.point starts (omega (arith, c.if-starts-point.true))
 
-pub without-requires : goal.without-requires
-without-requires c =
+pub bytes_behind-requires : goal.bytes_behind-requires
+bytes_behind-requires c =
     let starts = c.as_slice-starts.ensures.value ∙ c.self.view_is ∙ c.requires ∙ ap (line_starts c.args.style.line_ends) (sym c.as_bytes-text.ensures.value) in
     start_fits c.args.style c.as_bytes-text.result.now c.as_slice-starts.result.now c.hidden_length.result c.args.point.line c.begin_of-begin.result starts c.hidden_length.ensures.value (omega (arith, c.if-starts-point.false)) c.begin_of-begin.ensures
 
@@ -20,7 +20,7 @@ pub returns-clause-value : goal.returns-clause-value
 returns-clause-value c =
     let bytes = c.as_bytes-text.ensures.value in
     let starts = c.as_slice-starts.ensures.value ∙ c.self.view_is ∙ c.requires ∙ ap (line_starts c.args.style.line_ends) (sym bytes) in
-    let from = ap (λ z. bytes_before c.args.style 0 c.args.point.column z) c.without.ensures in
+    let from = ap (λ z. bytes_before c.args.style 0 c.args.point.column z) c.bytes_behind.ensures in
     byte_by c.args.style c.as_bytes-text.result.now c.as_slice-starts.result.now c.hidden_length.result c.begin_of-begin.result c.byte_in_line.result c.args.point
     starts c.hidden_length.ensures.value (omega (arith, c.if-starts-point.false)) c.begin_of-begin.ensures (c.byte_in_line.ensures.value ∙ from)
     ∙ ap (λ z. byte_at c.args.style z c.args.point) bytes
@@ -31,7 +31,7 @@ returns-clause-within c =
     let first = start_fits c.args.style c.as_bytes-text.result.now c.as_slice-starts.result.now c.hidden_length.result c.args.point.line c.begin_of-begin.result starts c.hidden_length.ensures.value
     (omega (arith, c.if-starts-point.false)) c.begin_of-begin.ensures in
     let bytes = ap length c.as_bytes-text.ensures.value in
-    let rest = ap length c.without.ensures in
+    let rest = ap length c.bytes_behind.ensures in
     omega (arith, first, bytes, rest, c.byte_in_line.ensures.within, length-drop c.begin_of-begin.result c.as_bytes-text.result.now)
 
 pub returns-then-starts-point-clause-boundary : goal.returns-then-starts-point-clause-boundary

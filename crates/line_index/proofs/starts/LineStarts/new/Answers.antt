@@ -1,7 +1,7 @@
 use Rattle.std.proofs.Common.{◌∙◌, ◌++◌, ap}
 use Rattle.line_index.specs.Inner.{starts_before}
 use Rattle.line_index.specs.Starts.{line_starts}
-use Rattle.line_index.proofs.Replaced.{all_before}
+use Rattle.line_index.proofs.ReplacedLines.{all_before}
 use Rattle.line_index.proofs.starts.LineStarts.new.Goals as goal
 
 pub returns : goal.returns

@@ -1,6 +1,6 @@
 use Rattle.std.proofs.Common.{◌∙◌, ap, arith, refl, sym, string_bytes}
 use Rattle.rust_cursor.proofs.Common.{more, taking, is_mark, nest_inside}
-use Rattle.rust_cursor.proofs.Inside.{inside}
+use Rattle.rust_cursor.proofs.BraceSteps.{inside}
 use Rattle.rust_cursor.proofs.Nesting.{shorter, fewer}
 use Rattle.rust_cursor.proofs.UnkeptTexts.{clipped_turn, text_kept, unkept}
 use Rattle.rust_cursor.proofs.cursor.Cursor.take_inside.Goals as goal

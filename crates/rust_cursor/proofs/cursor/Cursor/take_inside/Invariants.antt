@@ -1,10 +1,10 @@
 use Rattle.std.proofs.Common.{◌≡◌, ◌≤◌, ◌+◌, Option, length, string_bytes}
-use Rattle.rust_cursor.proofs.Common.{Tokens, kept_text, clipped, taking}
+use Rattle.rust_cursor.proofs.Common.{Tokens, kept_text, clipped_excerpt, taking}
 use Rattle.rust_cursor.proofs.cursor.Cursor.take_inside.Given as goal
 
 abbrev pub invariant-tokens : goal.invariant-tokens
 invariant-tokens l = record {
-  same : (opened : Option Tokens) → clipped l.keeps_text (taking l.extent (string_bytes l.text) l.last opened l.nest l.self) ≡ clipped l.keeps_text (taking l.extent (string_bytes l.initial.text) l.initial.last opened l.initial.nest l.initial.self);
+  same : (opened : Option Tokens) → clipped_excerpt l.keeps_text (taking l.extent (string_bytes l.text) l.last opened l.nest l.self) ≡ clipped_excerpt l.keeps_text (taking l.extent (string_bytes l.initial.text) l.initial.last opened l.initial.nest l.initial.self);
   text : kept_text l.keeps_text (string_bytes l.initial.text) ≡ string_bytes l.initial.text → kept_text l.keeps_text (string_bytes l.text) ≡ string_bytes l.text;
   left : length l.self.left ≤ length l.initial.self.left;
   braces : l.nest.braces + length l.self.left ≤ l.initial.nest.braces + length l.initial.self.left;

@@ -1,6 +1,6 @@
 use Rattle.std.proofs.Common.{◌∙◌, sym, ap}
 use Rattle.rust_lexer.proofs.Common.{is_nil}
-use Rattle.rust_lexer.proofs.Emptied.{nil_left}
+use Rattle.rust_lexer.proofs.EmptyTexts.{nil_left}
 use Rattle.rust_lexer.proofs.lexer.Lexer.is_empty.Goals as goal
 
 pub returns : goal.returns

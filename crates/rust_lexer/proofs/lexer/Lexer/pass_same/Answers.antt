@@ -1,5 +1,5 @@
 use Rattle.std.proofs.Common.{◌∙◌, arith, subst, sym}
-use Rattle.rust_lexer.proofs.Apart.{common_passed}
+use Rattle.rust_lexer.proofs.TextsApart.{common_passed}
 use Rattle.rust_lexer.specs.Inner.{IsCommon}
 use Rattle.rust_lexer.proofs.lexer.Lexer.pass_same.Goals as goal
 

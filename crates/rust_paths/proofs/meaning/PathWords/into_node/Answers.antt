@@ -1,4 +1,4 @@
-use Rattle.rust_paths.proofs.Meant.{readable_node}
+use Rattle.rust_paths.proofs.MeantPaths.{readable_node}
 use Rattle.rust_paths.proofs.meaning.PathWords.into_node.Goals as goal
 
 pub returns-in-Some : goal.returns-in-Some

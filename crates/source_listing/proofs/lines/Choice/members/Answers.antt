@@ -1,6 +1,6 @@
 use Rattle.source_listing.proofs.Common.{rules, ◌+◌, Bool, map, filter, ap, ◌∙◌, Listed, listed_view, choice_view, is_chosen}
 use Rattle.std.proofs.lemmas.Fn.{filter_same}
-use Rattle.source_listing.proofs.Chosen.{filter-seen}
+use Rattle.source_listing.proofs.ChosenRows.{filter-seen}
 use Rattle.source_listing.proofs.lines.Choice.members.Goals as goal
 
 pub returns : goal.returns

@@ -1,6 +1,6 @@
 use Rattle.source_listing.proofs.Common.{rules, map, filter, ap, ◌∙◌, row_view, choice_view, is_listed}
 use Rattle.std.proofs.lemmas.Fn.{filter_same}
-use Rattle.source_listing.proofs.Chosen.{filter-seen}
+use Rattle.source_listing.proofs.ChosenRows.{filter-seen}
 use Rattle.source_listing.proofs.lines.Choice.rows.Goals as goal
 
 pub returns : goal.returns

@@ -5,7 +5,7 @@ use Rattle.source_listing.specs.Entries.{entry_word}
 use Rattle.source_listing.specs.Inner.{entry_view}
 use Rattle.source_listing.specs.Lines.{indent, visibility_text}
 use Rattle.source_listing.specs.Outlines.{own_level, shown_level, shown_scope, title}
-use Rattle.source_listing.proofs.Pushed.{line_pushed}
+use Rattle.source_listing.proofs.PushedTexts.{line_pushed}
 use Rattle.source_listing.proofs.printer.Printer.push_line.Goals as goal
 
 pub returns : goal.returns

@@ -3,7 +3,7 @@ use Rattle.std.proofs.Common.{sym}
 use Rattle.hir_input.specs.Name.{shown_name}
 use Rattle.rust_paths.specs.Names.{may_be_keyword}
 use Rattle.source_listing.specs.Lines as spec
-use Rattle.source_listing.proofs.Shown.{name_pushed, shown_bare}
+use Rattle.source_listing.proofs.ShownNames.{name_pushed, shown_bare}
 use Rattle.source_listing.proofs.printer.Printer.push_name.Goals as goal
 
 pub returns-then-not-may_be_keyword : goal.returns-then-not-may_be_keyword

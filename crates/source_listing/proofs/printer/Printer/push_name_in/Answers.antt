@@ -1,7 +1,7 @@
 use Rattle.source_listing.proofs.Common.{◌++◌, ◌∙◌, ap, sym, string_bytes, map, option_copied, on_ok_weaker, reserved_of, rules}
 use Rattle.hir_input.specs.Name.{shown_name}
 use Rattle.source_listing.specs.Outlines.{scoped_name}
-use Rattle.source_listing.proofs.Pushed.{name_pushed_in}
+use Rattle.source_listing.proofs.PushedTexts.{name_pushed_in}
 use Rattle.source_listing.proofs.printer.Printer.push_name_in.Goals as goal
 
 pub returns : goal.returns

@@ -1,5 +1,5 @@
 use Rattle.std.proofs.Common.{◌∙◌}
-use Rattle.source_listing.proofs.Pushed.{kinds_told}
+use Rattle.source_listing.proofs.PushedTexts.{kinds_told}
 use Rattle.source_listing.proofs.search.Query.has_kind.Goals as goal
 
 pub returns : goal.returns

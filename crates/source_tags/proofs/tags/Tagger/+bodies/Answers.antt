@@ -12,7 +12,7 @@ use Rattle.source_listing.specs.Search.{holder}
 use Rattle.source_tags.specs.Tags as spec
 unfoldable use Rattle.source_tags.specs.Tags.{all_member_tags, block_item_tags, block_tags, tags_at, tags_inside}
 use Rattle.source_tags.specs.Views.{tag_choice_view}
-use Rattle.source_tags.proofs.Tagged.{block_more, block_none, block_zero, body_none, one_more_told, same_file, told_behind}
+use Rattle.source_tags.proofs.TagLists.{block_more, block_none, block_zero, body_none, one_more_told, same_file, told_behind}
 use Rattle.source_tags.proofs.tags.Tagger.+bodies.Goals as goal
 
 pub push_block-returns-in_default-clause-text : goal.push_block-returns-in_default-clause-text

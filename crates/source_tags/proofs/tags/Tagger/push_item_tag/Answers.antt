@@ -2,7 +2,7 @@ use Rattle.source_tags.proofs.Common.{◌≡◌, ◌++◌, ◌∙◌, Bor, Some,
 use Rattle.hir_input.specs.declared.name.Name.{Name}
 use Rattle.source_rows.specs.Labels.{kind_texts}
 use Rattle.source_tags.specs.Tags.{tag_text}
-use Rattle.source_tags.proofs.Tagged.{tag_told}
+use Rattle.source_tags.proofs.TagLists.{tag_told}
 use Rattle.source_tags.proofs.tags.Tagger.push_item_tag.Goals as goal
 
 pub returns-clause-text : goal.returns-clause-text

@@ -2,7 +2,7 @@ use Rattle.source_tags.proofs.Common.{rules, map, string_bytes, on_ok_weaker, ta
 use Rattle.source_tags.specs.Inner.{tag_item_view, tag_place_view}
 use Rattle.source_tags.specs.TagFields.{behind_address, fields_text}
 use Rattle.source_tags.specs.Tags.{address_by}
-use Rattle.source_tags.proofs.Pushed.{tag_pushed}
+use Rattle.source_tags.proofs.PushedTags.{tag_pushed}
 use Rattle.source_tags.proofs.tags.Tagger.push_tag_at.Goals as goal
 
 pub returns-clause-text : goal.returns-clause-text

@@ -1,6 +1,6 @@
 use Rattle.std.proofs.Common.{◌≡◌, ◌∷◌, [], Err, MatchResult, refl, rules, subst, sym}
 use Rattle.text_session.proofs.Common.{IsEdited, IsUnedited, OutOfMemory, text_edit_view}
-use Rattle.text_session.proofs.Made.{stopped_none}
+use Rattle.text_session.proofs.EditedSessions.{stopped_none}
 use Rattle.text_session.proofs.session.Session.edit_one.Goals as goal
 
 pub returns-in_err-edits-clause-edited : goal.returns-in_err-edits-clause-edited

@@ -1,6 +1,6 @@
 use Rattle.std.proofs.Common.{IfSome, sym, subst}
 use Rattle.text_session.proofs.Common.{AreDistinct, File, IsPlaced, IsSetTo, present}
-use Rattle.text_session.proofs.Kept.{if_lent}
+use Rattle.text_session.proofs.KeptTexts.{if_lent}
 use Rattle.text_session.specs.Sessions.{Indexed}
 use Rattle.text_session.proofs.session.Session.text.Goals as goal
 

@@ -1,7 +1,7 @@
 use Rattle.std.proofs.Common.{IfSome, sym, subst}
 use Rattle.text_session.proofs.Common.{AreDistinct, IsPlaced, IsSetTo, present}
-use Rattle.text_session.proofs.Kept.{if_lent, placed_at}
-use Rattle.text_session.proofs.Read.{set_at}
+use Rattle.text_session.proofs.KeptTexts.{if_lent, placed_at}
+use Rattle.text_session.proofs.ReadTexts.{set_at}
 use Rattle.text_session.specs.Sessions.{Indexed}
 use Rattle.text_session.proofs.session.Session.text_at.Goals as goal
 

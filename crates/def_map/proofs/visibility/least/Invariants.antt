@@ -1,6 +1,0 @@
-use Rattle.std.proofs.Common.{◌≡◌, map, take}
-use Rattle.def_map.specs.{Tables.least, Inner.Walking.seen_at}
-use Rattle.def_map.proofs.visibility.least.Given as goal
-
-abbrev pub invariant-loop-id : goal.invariant-loop-id
-invariant-loop-id l = l.all ≡ least l.ctx.parents.now (map (seen_at l.ctx l.tree l.at) (take l.id-index l.ids))

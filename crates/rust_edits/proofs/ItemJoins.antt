@@ -1,0 +1,19 @@
+-- Items in front of others, and behind them.
+pub mod EndingFronts
+pub mod EndingFields
+pub mod Calls
+pub mod EndingParts
+pub mod EndingLeaves
+pub mod EndingItems
+pub mod EndingTurns
+pub mod Tops
+pub mod Inner
+pub mod OwnEnds
+pub mod Turns
+pub mod ReadingOn
+pub mod LongerTexts
+pub mod Joins
+pub mod OpenItems
+pub mod OpenJoin
+pub mod DamagedItems
+pub mod Examples
