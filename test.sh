@@ -123,11 +123,12 @@ if [ -n "$is_quick" ]; then
     mapfile -t tests < <(find "${tests[@]}" -executable 2> /dev/null)
 fi
 
-planned=$((is_quick ? 27 : 29))
+planned=$((is_quick ? 28 : 30))
 part 'the closed words' tests/closed_words.sh
 part 'words with one meaning' tests/one_meaning.py
 part 'the length of documents' tests/sentences.py
 part 'the shape of the code' tests/shape.py
+part 'tables of words' tests/tables.py
 part 'the pages of the crates' docs/api.py --check
 part 'the list of definitions' tests/definitions.py --check
 part 'where wrong bodies are planted' tests/wrong_bodies.sh --check
