@@ -542,6 +542,16 @@ def check_opened(folder):
         tell(got == wanted, f'{text!r} opened', got, wanted)
 
 
+def check_line_ends(folder):
+    """In a string of a member's cfg, too, a carriage return before a line feed is left out."""
+    text = b'struct S {\n    #[cfg(feature = "a\nb")]\n    c: u8,\n    #[cfg(feature = r"a\nb")]\n    d: u8,\n}\n'
+    for ends in (b'\n', b'\r\n'):
+        write_files(folder, {'ends.rs': text.replace(b'\n', ends)})
+        got = run("itemtree outline --cfg 'feature=\"a\nb\"' ends.rs", folder)
+        tell(got == 'ends.rs:1:8: struct S\nends.rs:4:5:     field c\nends.rs:7:5:     field d\n', f'line ends {ends}', got)
+    os.remove(os.path.join(folder, 'ends.rs'))
+
+
 def check_not_text(folder):
     """The first byte of a file that is not UTF-8 is told by its place."""
     texts = {b'fn f() {}\nfn \xc3\xa4() { \xe4 }\n\xff': (2, 10), b'\xef\xbb\xbffn \xff': (1, 4), b'// a\r\n\r\n// \xf0\x9f\x98': (3, 4),
@@ -661,6 +671,7 @@ def main():
         check_tags_joined(folder)
         check_unwritten(folder)
         check_arguments(folder)
+        check_line_ends(folder)
         check_not_text(folder)
         check_removals(folder)
         check_opened(folder)

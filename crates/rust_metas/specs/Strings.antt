@@ -1,5 +1,5 @@
 -- What string literals stand for.
-use Rattle.std.specs.Prelude.{ℕ, zero, suc, ◌==◌, ◌&&◌, ◌||◌, Bool, nat_lt, not, if◌then◌else◌, Option, Some, None, option_map, List, [], ◌∷◌, ◌++◌, length, drop, codes, encode_utf8, flat_map, option_and_then}
+use Rattle.std.specs.Prelude.{ℕ, zero, suc, ◌==◌, ◌&&◌, ◌||◌, Bool, nat_lt, not, if◌then◌else◌, Option, Some, None, option_map, List, [], ◌∷◌, ◌++◌, length, drop, codes, encode_utf8, flat_map, option_and_then, slice_index}
 use Rattle.std.specs.Str.{is_utf8}
 use Rattle.rust_metas.specs.Escapes.{escape}
 
@@ -18,6 +18,10 @@ prepend front rest = option_map (λ bytes. front ++ bytes) rest
 abbrev pub ended_string : ℕ → List ℕ → Option (List ℕ)
 ended_string count z = if length z == count then Some [] else None
 
+-- a byte as a string keeps it: a carriage return before a line feed is left out
+abbrev pub kept_byte : ℕ → List ℕ → List ℕ
+kept_byte b z = if b == 13 && slice_index z 0 == 10 then [] else b ∷ []
+
 -- ---- with escapes
 
 abbrev pub character_bytes : Option ℕ → List ℕ
@@ -26,7 +30,7 @@ character_bytes (Some c) = encode_utf8 c
 
 -- what a byte stands for, with how many bytes behind it
 unfoldable pub escaped_character : ℕ → List ℕ → Option (List ℕ × ℕ)
-escaped_character b z = if b == 92 then option_map (λ e. (character_bytes e.character, e.len)) (escape z) else Some (b ∷ [], 0)
+escaped_character b z = if b == 92 then option_map (λ e. (character_bytes e.character, e.len)) (escape z) else Some (kept_byte b z, 0)
 
 -- the bytes so far with those that were read, and how many bytes are left of an escape
 abbrev pub bytes_and_left : List ℕ → Option (List ℕ × ℕ) → Option (List ℕ × ℕ)
@@ -56,7 +60,7 @@ is_end count b z = b == 34 && not (nat_lt (hashes z) count)
 -- the bytes up to a quote with so many `#` behind it
 abbrev pub raw_from : ℕ → List ℕ → Option (List ℕ)
 raw_from count [] = None
-raw_from count (b ∷ z) = if is_end count b z then ended_string count z else prepend (b ∷ []) (raw_from count z)
+raw_from count (b ∷ z) = if is_end count b z then ended_string count z else prepend (kept_byte b z) (raw_from count z)
 
 -- the bytes of a raw string behind its `r`
 abbrev pub raw_string_bytes : List ℕ → Option (List ℕ)

@@ -16,6 +16,16 @@ pub(crate) fn text_from(bytes: Vec<u8>) -> Option<String>
     }
 }
 
+/// Takes in a byte, but for a carriage return before a line feed.
+fn push_byte(out: &mut Vec<u8>, b: u8, z: &[u8]) -> Result<(), AllocError>
+    ensures { OnOk result (out.new.items ≡ out.old.items ++ spec.kept_byte b z.now) }
+{
+    match z {
+        [b'\n', ..] if b == b'\r' => Ok(()),
+        _ => Ok(out.push(b)?),
+    }
+}
+
 /// Takes in what a byte stands for with those behind it, and tells how many of these it is.
 #[tactic(auto, unfolding(crate::specs::Strings::escaped_character))]
 fn push_character(out: &mut Vec<u8>, b: u8, z: &[u8]) -> Result<Option<usize>, AllocError>
@@ -23,7 +33,7 @@ fn push_character(out: &mut Vec<u8>, b: u8, z: &[u8]) -> Result<Option<usize>, A
         ≡ spec.with_place out.new.items len) }
 {
     if b != b'\\' {
-        out.push(b)?;
+        push_byte(out, b, z)?;
         return Ok(Some(0));
     }
     let Some(escape) = escape_at(z) else {
@@ -98,7 +108,7 @@ fn raw_from(alloc: Global, count: usize, mut z: &[u8]) -> Result<Option<Vec<u8>>
         if is_end(count, *b, rest) {
             return Ok(bytes_if_ended(out, count, rest));
         }
-        out.push(*b)?;
+        push_byte(&mut out, *b, rest)?;
         z = rest;
     }
     Ok(None)
