@@ -1,10 +1,10 @@
 #!/usr/bin/env python3
-"""Has real editors talk to `itemtree lsp`, without a window: Neovim, and Emacs with eglot, where they are installed.
+"""Has real editors talk to `itemtree lsp`, without a window: Neovim, Emacs with eglot, and vim with ALE, where they are installed.
 
   editors.py ITEMTREE
 
-Each opens a file, types a constant and then a line that is no item, and takes that line back. Its outline has the constant at once, and
-its problems come and go.
+Each opens a file, types a line that is no item, and takes that line back: its problems come and go. Before that Neovim and Emacs type a
+constant, which their outline has at once.
 """
 import os
 import pathlib
@@ -16,9 +16,12 @@ import tempfile
 
 HERE = pathlib.Path(__file__).resolve().parent / "editors"
 
-EDITORS = {"nvim": ["--headless", "-u", "NONE", "-n", "-S", str(HERE / "neovim.lua")], "emacs": ["--batch", "-l", str(HERE / "emacs.el")]}
+EDITORS = {"nvim": ["--headless", "-u", "NONE", "-n", "-S", str(HERE / "neovim.lua")], "emacs": ["--batch", "-l", str(HERE / "emacs.el")],
+           "vim": ["-N", "-es", "-u", "NONE", "-S", str(HERE / "vim.vim")]}
 
 WANTED = {"outline": "Circle area", "typed": "Circle area A", "problems": "7: this item has no end; 7: nothing closes this bracket", "mended": ""}
+
+PROBLEMS = ["problems", "mended"]
 
 passed = failed = 0
 
@@ -38,6 +41,8 @@ def lacks(editor):
         return "is not installed"
     if editor == "emacs" and subprocess.run(["emacs", "--batch", "--eval", "(progn (package-initialize) (require 'eglot))"], capture_output=True, check=False).returncode:
         return "has no eglot"
+    if editor == "vim" and subprocess.run(["vim", "-N", "-es", "-u", "NONE", "-c", "if empty(globpath(&packpath, 'pack/*/opt/ale')) | cquit | endif", "-c", "qall"], check=False).returncode:
+        return "has no ALE"
     return None
 
 
@@ -47,7 +52,8 @@ def try_editor(editor, program):
         command = ["timeout", "120", editor, *EDITORS[editor]]
         done = subprocess.run(command, cwd=folder, env=environment, stdin=subprocess.DEVNULL, capture_output=True, text=True, check=False)
     shown = dict(re.findall(r"^(\w+): (.*)$", done.stdout, re.M))
-    for what, wanted in WANTED.items():
+    for what in PROBLEMS if editor == "vim" else WANTED:
+        wanted = WANTED[what]
         got = shown.get(what, "").replace("itemtree: ", "")
         check(what in shown and got == wanted, f"{editor} shows {what}: {got!r}, and not {wanted!r}; {done.stderr[-500:]}")
 
