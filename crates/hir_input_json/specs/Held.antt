@@ -1,5 +1,5 @@
 -- An object whose members are taken out as they are read.
-use Rattle.std.specs.Prelude.{ℕ, List, String}
+use Rattle.std.specs.Prelude.{◌≡◌, ℕ, List, String}
 use Rattle.std.specs.declared.alloc.Global.{Global}
 use Rattle.std.specs.BTreeMap.{BTreeMap}
 use Rattle.std.specs.Ordering.{nat_cmp, match_ordering}
@@ -21,3 +21,7 @@ with_null key (member l e ms) = match_ordering (slice_cmp nat_cmp key l) (member
 unfoldable pub without_key : List ℕ → Data → Data
 without_key key (object ms) = object (with_null key ms)
 without_key key d = d
+
+-- an object whose member at this key was taken out
+abbrev pub IsLeftWithout : List ℕ → BTreeMap (String Global) Value → BTreeMap (String Global) Value → Type 0
+IsLeftWithout key old new = object_held new ≡ without_key key (object_held old)

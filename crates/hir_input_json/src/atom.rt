@@ -4,7 +4,7 @@ ghost use Rattle.serde_json.specs.View.{view, items_view};
 ghost use Rattle.hir_input.specs.Cfg.{atom_view};
 ghost use Rattle.hir_input_json.specs.Cfgs.{atom as atom_form, keyed_by};
 ghost use Rattle.hir_input_json.specs.Forms.{each, list_at as each_at};
-ghost use Rattle.hir_input_json.specs.Held.{object_held, without_key};
+ghost use Rattle.hir_input_json.specs.Held.{IsLeftWithout, object_held};
 ghost use Rattle.hir_input_json.specs.Reads.{Reads};
 
 use crate::each_of;
@@ -53,7 +53,7 @@ fn atoms_of(alloc: Global, items: Vec<Value>) -> Result<Vec<CfgAtom>, Fault>
 pub fn atoms_at(alloc: Global, members: &mut Members, key: &str) -> Result<Vec<CfgAtom>, Fault>
     ensures reads { Reads (λ v. map atom_view v.items) result
         (each_at atom_form key.now (object_held members.old)) }
-    ensures left { OnOk result (object_held members.new ≡ without_key key.now (object_held members.old)) }
+    ensures left { OnOk result (IsLeftWithout key.now members.old members.new) }
 {
     let items = list_at(alloc, members, key)?;
     atoms_of(alloc, items).in_member(alloc, key)

@@ -4,7 +4,7 @@ ghost use Rattle.serde_json.specs.View.{view, items_view};
 ghost use Rattle.hir_input.specs.Cfg.{cfg_view};
 ghost use Rattle.hir_input_json.specs.Cfgs.{cfg as cfg_form, cfg_by as cfg_by_form, cfg_with};
 ghost use Rattle.hir_input_json.specs.Forms.{each, list_of};
-ghost use Rattle.hir_input_json.specs.Held.{object_held, without_key};
+ghost use Rattle.hir_input_json.specs.Held.{IsLeftWithout, object_held};
 ghost use Rattle.hir_input_json.specs.Metas.{condition_at as condition_form};
 ghost use Rattle.hir_input_json.specs.Reads.{Reads};
 
@@ -85,7 +85,7 @@ fn cfgs_of(alloc: Global, items: Vec<Value>) -> Result<Vec<CfgExpr>, Fault>
 // The condition of a meta, taken out, which cannot be read where it is absent.
 pub(crate) fn condition_at(alloc: Global, members: &mut Members) -> Result<CfgExpr, Fault>
     ensures reads { Reads cfg_view result (condition_form (object_held members.old)) }
-    ensures left { OnOk result (object_held members.new ≡ without_key (codes "cfg") (object_held members.old)) }
+    ensures left { OnOk result (IsLeftWithout (codes "cfg") members.old members.new) }
 {
     match remove_member(members, "cfg") {
         Some(found) => cfg_of(alloc, found).in_member(alloc, "cfg"),

@@ -6,7 +6,7 @@ ghost use Rattle.hir_input.specs.declared.edition.EditionYear.TheVariants.{E2024
 ghost use Rattle.hir_input_json.specs.Editions.{edition as edition_form, edition_at as edition_at_form};
 ghost use Rattle.hir_input_json.specs.Editions.{year as year_form};
 ghost use Rattle.hir_input_json.specs.Forms.{optional_at};
-ghost use Rattle.hir_input_json.specs.Held.{object_held, without_key};
+ghost use Rattle.hir_input_json.specs.Held.{IsLeftWithout, object_held};
 ghost use Rattle.hir_input_json.specs.Reads.{Reads};
 
 use crate::fault::{Fault, ReadIn};
@@ -48,7 +48,7 @@ fn edition_of(alloc: Global, value: Value) -> Result<Edition, Fault>
 /// `WrongForm` comes only where it is there and not of its form (`Editions.edition`), and tells where.
 pub fn edition_at(alloc: Global, members: &mut Members) -> Result<Edition, Fault>
     ensures reads { Reads edition_view result (edition_at_form (object_held members.old)) }
-    ensures left { OnOk result (object_held members.new ≡ without_key (codes "edition") (object_held members.old)) }
+    ensures left { OnOk result (IsLeftWithout (codes "edition") members.old members.new) }
 {
     match take_member(members, "edition") {
         Some(edition) => { edition_of(alloc, edition).in_member(alloc, "edition") }

@@ -2,7 +2,7 @@
 ghost use Rattle.std.specs.Prelude.{◌≡◌, OnOk, codes, option_map, string_bytes};
 ghost use Rattle.serde_json.specs.View.{view};
 ghost use Rattle.hir_input_json.specs.Forms.{required_at as required_form, optional_at, maybe_at, text_form};
-ghost use Rattle.hir_input_json.specs.Held.{object_held, without_key};
+ghost use Rattle.hir_input_json.specs.Held.{IsLeftWithout, object_held};
 ghost use Rattle.hir_input_json.specs.Literals.{literal as literal_form, span as span_form, literal_span as span_from};
 ghost use Rattle.hir_input_json.specs.Reads.{Reads};
 
@@ -21,7 +21,7 @@ pub(crate) fn required_text_at(
     key: &str,
 ) -> Result<String, Fault>
     ensures reads { Reads string_bytes result (required_form key.now text_form (object_held members.old)) }
-    ensures left { OnOk result (object_held members.new ≡ without_key key.now (object_held members.old)) }
+    ensures left { OnOk result (IsLeftWithout key.now members.old members.new) }
 {
     let found = required_at(alloc, members, key)?;
     text_of(alloc, found).in_member(alloc, key)
@@ -30,7 +30,7 @@ pub(crate) fn required_text_at(
 fn string_at(alloc: Global, members: &mut Members) -> Result<Option<String>, Fault>
     ensures reads { Reads (option_map string_bytes) result
         (maybe_at (codes "string") text_form (object_held members.old)) }
-    ensures left { OnOk result (object_held members.new ≡ without_key (codes "string") (object_held members.old)) }
+    ensures left { OnOk result (IsLeftWithout (codes "string") members.old members.new) }
 {
     maybe_of!(alloc, members, "string", text_of)
 }

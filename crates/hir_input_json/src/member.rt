@@ -6,7 +6,7 @@ ghost use Rattle.hir_input_json.specs.Reading.{right};
 ghost use Rattle.hir_input_json.specs.Forms.{field as field_of, required_at as required_form, optional_at, flag};
 ghost use Rattle.hir_input_json.specs.Forms.{array_items, text_form, whole_form, number_form as id_form};
 ghost use Rattle.hir_input_json.specs.Forms.{items_at as items_form};
-ghost use Rattle.hir_input_json.specs.Held.{object_held, without_key};
+ghost use Rattle.hir_input_json.specs.Held.{IsLeftWithout, object_held};
 ghost use Rattle.hir_input_json.specs.Reads.{IsHere, Reads};
 
 use crate::fault::{Fault, ReadIn};
@@ -97,7 +97,7 @@ fn member_at<'v>(members: &'v Members, key: &str) -> Option<&'v Value>
 #[inline(always)]
 pub(crate) fn remove_member(members: &mut Members, key: &str) -> Option<Value>
     ensures taken { option_map view result ≡ get_in key.now (object_held members.old) }
-    ensures left { object_held members.new ≡ without_key key.now (object_held members.old) }
+    ensures left { IsLeftWithout key.now members.old members.new }
 {
     match members.get_mut(key) {
         Some(found) => Some(found.take()),
@@ -123,7 +123,7 @@ pub fn field<'v>(members: &'v Members, key: &str) -> Option<&'v Value>
 #[tactic(auto, unfolding(crate::specs::Forms::field))]
 pub fn take_member(members: &mut Members, key: &str) -> Option<Value>
     ensures taken { option_map view result ≡ field_of key.now (object_held members.old) }
-    ensures left { object_held members.new ≡ without_key key.now (object_held members.old) }
+    ensures left { IsLeftWithout key.now members.old members.new }
 {
     match remove_member(members, key) {
         Some(Value::Null) | None => None,
@@ -136,7 +136,7 @@ pub fn take_member(members: &mut Members, key: &str) -> Option<Value>
 /// `WrongForm` comes only where it is absent.
 pub fn required_at(alloc: Global, members: &mut Members, key: &str) -> Result<Value, Fault>
     ensures reads { Reads view result (required_form key.now right (object_held members.old)) }
-    ensures left { OnOk result (object_held members.new ≡ without_key key.now (object_held members.old)) }
+    ensures left { OnOk result (IsLeftWithout key.now members.old members.new) }
 {
     take_member(members, key).ok_or_else(|| Fault::at(alloc, key))
 }
@@ -165,7 +165,7 @@ pub(crate) fn flag_at(alloc: Global, members: &Members, key: &str) -> Result<boo
 // Takes a text out, empty where it is absent.
 pub(crate) fn text_at(alloc: Global, members: &mut Members, key: &str) -> Result<String, Fault>
     ensures reads { Reads string_bytes result (optional_at [] key.now text_form (object_held members.old)) }
-    ensures left { OnOk result (object_held members.new ≡ without_key key.now (object_held members.old)) }
+    ensures left { OnOk result (IsLeftWithout key.now members.old members.new) }
 {
     match take_member(members, key) {
         Some(found) => text_of(alloc, found).in_member(alloc, key),
@@ -178,7 +178,7 @@ pub(crate) fn text_at(alloc: Global, members: &mut Members, key: &str) -> Result
 /// `WrongForm` comes only where the member is there and is no array. The errors of an item are for whoever reads it.
 pub fn list_at(alloc: Global, members: &mut Members, key: &str) -> Result<Vec<Value>, Fault>
     ensures reads { Reads (λ v. items_view v.items) result (items_form key.now (object_held members.old)) }
-    ensures left { OnOk result (object_held members.new ≡ without_key key.now (object_held members.old)) }
+    ensures left { OnOk result (IsLeftWithout key.now members.old members.new) }
 {
     match take_member(members, key) {
         Some(list) => array_of(alloc, list).in_member(alloc, key),

@@ -3,7 +3,7 @@ ghost use Rattle.std.specs.Prelude.{◌≡◌, OnOk, codes, map};
 ghost use Rattle.serde_json.specs.View.{view, items_view};
 ghost use Rattle.hir_input.specs.Attr.{meta_view};
 ghost use Rattle.hir_input_json.specs.Forms.{each};
-ghost use Rattle.hir_input_json.specs.Held.{object_held, without_key};
+ghost use Rattle.hir_input_json.specs.Held.{IsLeftWithout, object_held};
 ghost use Rattle.hir_input_json.specs.Metas.{meta_form as meta_form, meta_form_with, key_value_form, tokens_form};
 ghost use Rattle.hir_input_json.specs.Metas.{cfg_attr_form, unsafe_form, attrs_form as attrs_form};
 ghost use Rattle.hir_input_json.specs.Reads.{Reads};
@@ -106,7 +106,7 @@ fn metas_of(alloc: Global, items: Vec<Value>) -> Result<Vec<Meta>, Fault>
 /// `WrongForm` comes only where they are not of their form (`Metas.attrs_at`), and tells where.
 pub fn attrs_at(alloc: Global, members: &mut Members) -> Result<Vec<Meta>, Fault>
     ensures reads { Reads (λ v. map meta_view v.items) result (attrs_form (object_held members.old)) }
-    ensures left { OnOk result (object_held members.new ≡ without_key (codes "attrs") (object_held members.old)) }
+    ensures left { OnOk result (IsLeftWithout (codes "attrs") members.old members.new) }
 {
     let items = list_at(alloc, members, "attrs")?;
     metas_of(alloc, items).in_member(alloc, "attrs")

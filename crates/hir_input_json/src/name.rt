@@ -5,7 +5,7 @@ ghost use Rattle.serde_json.specs.View.{view, items_view};
 ghost use Rattle.hir_input_json.specs.Reading.{here};
 ghost use Rattle.hir_input.specs.Name.{name_in};
 ghost use Rattle.hir_input_json.specs.Forms.{maybe_at, identifier_form as name_form, each_from, list_at as each_at};
-ghost use Rattle.hir_input_json.specs.Held.{object_held, without_key};
+ghost use Rattle.hir_input_json.specs.Held.{IsLeftWithout, object_held};
 ghost use Rattle.hir_input_json.specs.Reads.{Reads};
 
 use crate::fault::{Fault, ReadIn};
@@ -38,7 +38,7 @@ pub(crate) fn name_at(
     key: &str,
 ) -> Result<Option<Name>, Fault>
     ensures reads { Reads (λ name. name) result (maybe_at key.now name_form (object_held members.old)) }
-    ensures left { OnOk result (object_held members.new ≡ without_key key.now (object_held members.old)) }
+    ensures left { OnOk result (IsLeftWithout key.now members.old members.new) }
 {
     maybe_of!(alloc, members, key, name_of)
 }
@@ -67,7 +67,7 @@ pub(crate) fn names_of(
 /// `WrongForm` comes only where the member is no list of strings, or one of them is empty or holds a line feed.
 pub fn names_at(alloc: Global, members: &mut Members, key: &str) -> Result<Vec<Name>, Fault>
     ensures reads { Reads (λ v. v.items) result (each_at name_form key.now (object_held members.old)) }
-    ensures left { OnOk result (object_held members.new ≡ without_key key.now (object_held members.old)) }
+    ensures left { OnOk result (IsLeftWithout key.now members.old members.new) }
 {
     let items = list_at(alloc, members, key)?;
     names_of(alloc, items.into_iter(), 0).in_member(alloc, key)

@@ -2,7 +2,7 @@
 ghost use Rattle.std.specs.Prelude.{◌≡◌, ◌≤◌, OnOk, codes};
 ghost use Rattle.std.specs.Vec.Iter.{into_iter_items};
 ghost use Rattle.serde_json.specs.View.{view, items_view};
-ghost use Rattle.hir_input_json.specs.Held.{object_held, without_key};
+ghost use Rattle.hir_input_json.specs.Held.{IsLeftWithout, object_held};
 ghost use Rattle.hir_input_json.specs.Paths.{path_node_form as path_form, path_at as path_at_form};
 ghost use Rattle.hir_input_json.specs.Paths.{listed_path as listed_form, names_behind, super_path as super_form};
 ghost use Rattle.hir_input_json.specs.Paths.{dollar_path as dollar_form, path_by as by_word};
@@ -92,7 +92,7 @@ pub(crate) fn path_of(alloc: Global, value: Value) -> Result<PathNode, Fault>
 // Takes the path of a meta or of a use tree out.
 pub(crate) fn path_at(alloc: Global, members: &mut Members) -> Result<Option<PathNode>, Fault>
     ensures reads { Reads (λ path. path) result (path_at_form (object_held members.old)) }
-    ensures left { OnOk result (object_held members.new ≡ without_key (codes "path") (object_held members.old)) }
+    ensures left { OnOk result (IsLeftWithout (codes "path") members.old members.new) }
 {
     maybe_of!(alloc, members, "path", path_of)
 }

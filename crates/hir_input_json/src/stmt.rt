@@ -3,7 +3,7 @@ ghost use Rattle.std.specs.Prelude.{◌≡◌, OnOk, codes, map};
 ghost use Rattle.serde_json.specs.View.{view, items_view};
 ghost use Rattle.hir_input.specs.Syntax.{call_view, stmt_view, stmts_view, tail_view};
 ghost use Rattle.hir_input_json.specs.Forms.{each, list_at as each_at, optional_at, text_form};
-ghost use Rattle.hir_input_json.specs.Held.{object_held, without_key};
+ghost use Rattle.hir_input_json.specs.Held.{IsLeftWithout, object_held};
 ghost use Rattle.hir_input_json.specs.Syntaxes.{call as call_form, stmt as stmt_form, stmt_by, tail as tail_form};
 ghost use Rattle.hir_input_json.specs.Syntaxes.{tail_at as tail_at_form};
 ghost use Rattle.hir_input_json.specs.Reads.{Reads};
@@ -82,7 +82,7 @@ fn stmts_of(alloc: Global, values: Vec<Value>) -> Result<Vec<Stmt>, Fault>
 pub(crate) fn stmts_at(alloc: Global, members: &mut Members) -> Result<Vec<Stmt>, Fault>
     ensures reads { Reads (λ v. stmts_view v.items) result
         (each_at stmt_form (codes "stmts") (object_held members.old)) }
-    ensures left { OnOk result (object_held members.new ≡ without_key (codes "stmts") (object_held members.old)) }
+    ensures left { OnOk result (IsLeftWithout (codes "stmts") members.old members.new) }
 {
     let stmts = list_at(alloc, members, "stmts")?;
     stmts_of(alloc, stmts).in_member(alloc, "stmts")
@@ -103,7 +103,7 @@ fn tail_of(alloc: Global, value: Value) -> Result<Tail, Fault>
 // Takes the tail out, nothing where it is absent.
 pub(crate) fn tail_at(alloc: Global, members: &mut Members) -> Result<Tail, Fault>
     ensures reads { Reads tail_view result (tail_at_form (object_held members.old)) }
-    ensures left { object_held members.new ≡ without_key (codes "tail") (object_held members.old) }
+    ensures left { IsLeftWithout (codes "tail") members.old members.new }
 {
     match take_member(members, "tail") {
         Some(tail) => tail_of(alloc, tail).in_member(alloc, "tail"),

@@ -3,7 +3,7 @@ ghost use Rattle.std.specs.Prelude.{◌≡◌, OnOk, codes, map, option_map};
 ghost use Rattle.serde_json.specs.View.{view, items_view};
 ghost use Rattle.hir_input.specs.UseTreeView.{use_tree_view};
 ghost use Rattle.hir_input_json.specs.Forms.{each, list_of, maybe, maybe_at};
-ghost use Rattle.hir_input_json.specs.Held.{object_held, without_key};
+ghost use Rattle.hir_input_json.specs.Held.{IsLeftWithout, object_held};
 ghost use Rattle.hir_input_json.specs.Reads.{Reads};
 ghost use Rattle.hir_input_json.specs.UseTrees.{rename_form as rename_form, use_tree_form as use_tree_form};
 ghost use Rattle.hir_input_json.specs.UseTrees.{use_tree_with};
@@ -35,7 +35,7 @@ fn rename_of(alloc: Global, value: Value) -> Result<Rename, Fault>
 pub(crate) fn rename_at(alloc: Global, members: &mut Members) -> Result<Option<Rename>, Fault>
     ensures reads { Reads (λ rename. rename) result
         (maybe_at (codes "rename") rename_form (object_held members.old)) }
-    ensures left { OnOk result (object_held members.new ≡ without_key (codes "rename") (object_held members.old)) }
+    ensures left { OnOk result (IsLeftWithout (codes "rename") members.old members.new) }
 {
     maybe_of!(alloc, members, "rename", rename_of)
 }

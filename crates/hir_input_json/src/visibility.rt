@@ -2,7 +2,7 @@
 ghost use Rattle.std.specs.Prelude.{◌≡◌, OnOk, codes};
 ghost use Rattle.serde_json.specs.View.{view};
 ghost use Rattle.hir_input_json.specs.Forms.{maybe_at};
-ghost use Rattle.hir_input_json.specs.Held.{object_held, without_key};
+ghost use Rattle.hir_input_json.specs.Held.{IsLeftWithout, object_held};
 ghost use Rattle.hir_input_json.specs.Paths.{vis_form as visibility_form, visibility_word};
 ghost use Rattle.hir_input_json.specs.Reads.{Reads};
 
@@ -45,7 +45,7 @@ pub(crate) fn visibility_at(
 ) -> Result<Option<Visibility>, Fault>
     ensures reads { Reads (λ visibility. visibility) result
         (maybe_at (codes "vis") visibility_form (object_held members.old)) }
-    ensures left { OnOk result (object_held members.new ≡ without_key (codes "vis") (object_held members.old)) }
+    ensures left { OnOk result (IsLeftWithout (codes "vis") members.old members.new) }
 {
     maybe_of!(alloc, members, "vis", visibility_of)
 }

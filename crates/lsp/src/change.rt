@@ -2,7 +2,7 @@
 ghost use Rattle.std.specs.Prelude.{◌≡◌, codes, map, IsCharBoundary, OnOk, string_bytes};
 ghost use Rattle.serde_json.specs.View.{items_view, view};
 ghost use Rattle.hir_input_json.specs.Forms.{each, list_of, maybe_at, required_at as required_form};
-ghost use Rattle.hir_input_json.specs.Held.{object_held, without_key};
+ghost use Rattle.hir_input_json.specs.Held.{IsLeftWithout, object_held};
 ghost use Rattle.hir_input_json.specs.Reads.{Reads};
 ghost use Rattle.lsp.specs.Changes as spec;
 ghost use Rattle.lsp.specs.Positions.{span_form};
@@ -26,7 +26,7 @@ pub(crate) struct Change {
 
 fn span_at(alloc: Global, members: &mut Members) -> Result<Option<Span>, Fault>
     ensures reads { Reads (λ span. span) result (maybe_at (codes "range") span_form (object_held members.old)) }
-    ensures left { object_held members.new ≡ without_key (codes "range") (object_held members.old) }
+    ensures left { IsLeftWithout (codes "range") members.old members.new }
 {
     match take_member(members, "range") {
         Some(found) => Ok(Some(span_of(alloc, found).in_member(alloc, "range")?)),

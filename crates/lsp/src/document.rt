@@ -2,7 +2,7 @@
 ghost use Rattle.std.specs.Prelude.{◌≡◌, codes, option_and_then, option_map, string_bytes, OnOk};
 ghost use Rattle.serde_json.specs.View.{view};
 ghost use Rattle.hir_input_json.specs.Forms.{required_at as required_form, text_form};
-ghost use Rattle.hir_input_json.specs.Held.{object_held, without_key};
+ghost use Rattle.hir_input_json.specs.Held.{IsLeftWithout, object_held};
 ghost use Rattle.hir_input_json.specs.Reads.{Reads};
 ghost use Rattle.lsp.specs.Documents as spec;
 ghost use Rattle.lsp.specs.Views.{document_view, documents_view, document_entry_view};
@@ -37,7 +37,7 @@ fn is_rust(language: &str, uri: &str) -> bool
 /// Takes a text out that has to be there.
 pub(crate) fn text_at(alloc: Global, members: &mut Members, key: &str) -> Result<String, Fault>
     ensures reads { Reads string_bytes result (required_form key.now text_form (object_held members.old)) }
-    ensures left { object_held members.new ≡ without_key key.now (object_held members.old) }
+    ensures left { IsLeftWithout key.now members.old members.new }
 {
     match take_member(members, key) {
         Some(Value::String(text)) => Ok(text),
@@ -75,7 +75,7 @@ fn opened_document(alloc: Global, value: Value) -> Result<(String, Document), Fa
 fn opened_at(alloc: Global, members: &mut Members, key: &str) -> Result<(String, Document), Fault>
     ensures reads { Reads document_entry_view result
         (required_form key.now spec.opened_form (object_held members.old)) }
-    ensures left { OnOk result (object_held members.new ≡ without_key key.now (object_held members.old)) }
+    ensures left { OnOk result (IsLeftWithout key.now members.old members.new) }
 {
     let found = required_at(alloc, members, key)?;
     opened_document(alloc, found).in_member(alloc, key)
@@ -99,7 +99,7 @@ fn named_uri(alloc: Global, value: Value) -> Result<String, Fault>
 /// Takes the name of a document out.
 pub(crate) fn named_at(alloc: Global, members: &mut Members, key: &str) -> Result<String, Fault>
     ensures reads { Reads string_bytes result (required_form key.now spec.uri_member_form (object_held members.old)) }
-    ensures left { OnOk result (object_held members.new ≡ without_key key.now (object_held members.old)) }
+    ensures left { OnOk result (IsLeftWithout key.now members.old members.new) }
 {
     let found = required_at(alloc, members, key)?;
     named_uri(alloc, found).in_member(alloc, key)

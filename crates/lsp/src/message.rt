@@ -5,7 +5,7 @@ ghost use Rattle.serde_json.specs.Find.{as_str};
 ghost use Rattle.serde_json.specs.View.{view};
 ghost use Rattle.serde_json.specs.Written.{has_float};
 ghost use Rattle.hir_input_json.specs.Forms.{field};
-ghost use Rattle.hir_input_json.specs.Held.{object_held, without_key};
+ghost use Rattle.hir_input_json.specs.Held.{IsLeftWithout, object_held};
 ghost use Rattle.lsp.specs.Messages as spec;
 ghost use Rattle.lsp.specs.Inner.{HasPlainId};
 ghost use Rattle.lsp.specs.Views.{incoming_view};
@@ -47,7 +47,7 @@ fn is_id(value: &Value) -> bool
 /// Takes a text out, if one is there.
 fn taken_text(members: &mut Members, key: &str) -> Option<String>
     ensures text { option_map string_bytes result ≡ option_and_then as_str (field key.now (object_held members.old)) }
-    ensures left { object_held members.new ≡ without_key key.now (object_held members.old) }
+    ensures left { IsLeftWithout key.now members.old members.new }
 {
     match take_member(members, key) {
         Some(Value::String(text)) => Some(text),

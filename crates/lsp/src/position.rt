@@ -3,7 +3,7 @@ ghost use Rattle.std.specs.Prelude.{◌≡◌, IfOk, OnOk, option_and_then};
 ghost use Rattle.serde_json.specs.Find.{as_number};
 ghost use Rattle.serde_json.specs.View.{view};
 ghost use Rattle.hir_input_json.specs.Forms.{required_at};
-ghost use Rattle.hir_input_json.specs.Held.{object_held, without_key};
+ghost use Rattle.hir_input_json.specs.Held.{IsLeftWithout, object_held};
 ghost use Rattle.hir_input_json.specs.Reads.{Reads};
 ghost use Rattle.lsp.specs.Positions as spec;
 
@@ -79,7 +79,7 @@ pub(crate) fn place_of(alloc: Global, value: Value) -> Result<Point, Fault>
 /// The position at a key.
 pub(crate) fn position_at(alloc: Global, members: &mut Members, key: &str) -> Result<Point, Fault>
     ensures reads { Reads (λ place. place) result (required_at key.now spec.position_form (object_held members.old)) }
-    ensures left { OnOk result (object_held members.new ≡ without_key key.now (object_held members.old)) }
+    ensures left { OnOk result (IsLeftWithout key.now members.old members.new) }
 {
     let found = required_at(alloc, members, key)?;
     place_of(alloc, found).in_member(alloc, key)

@@ -3,7 +3,7 @@ ghost use Rattle.std.specs.Prelude.{◌≡◌, ◌++◌, All, IfOk, OnOk, codes,
 ghost use Rattle.serde_json.specs.View.{items_view};
 ghost use Rattle.hir_input.specs.Name.{name_in};
 ghost use Rattle.hir_input_json.specs.Forms.{each, list_at as each_at};
-ghost use Rattle.hir_input_json.specs.Held.{object_held, without_key};
+ghost use Rattle.hir_input_json.specs.Held.{IsLeftWithout, object_held, without_key};
 ghost use Rattle.hir_input_json.specs.Reads.{Reads};
 ghost use Rattle.text_session.specs.Edits.{text_edit_view};
 ghost use Rattle.source_session.specs.Edits.{line_edit, IsUsable};
@@ -92,7 +92,7 @@ fn usual_skipped(alloc: Global) -> Result<Vec<Name>, AllocError>
 // Takes the names of the attributes out that are left out of trees.
 fn skipped_at(alloc: Global, members: &mut Members) -> Result<Vec<Name>, Fault>
     ensures reads { Reads (λ v. v.items) result (spec.skipped_at (object_held members.old)) }
-    ensures left { OnOk result (object_held members.new ≡ without_key (codes "skipped") (object_held members.old)) }
+    ensures left { OnOk result (IsLeftWithout (codes "skipped") members.old members.new) }
 {
     let is_absent = field(members, "skipped").is_none();
     let names = names_at(alloc, members, "skipped")?;
@@ -151,7 +151,7 @@ fn edits_in(alloc: Global, members: &mut Members, count: usize) -> Result<Vec<Te
     ensures reads { Reads (λ v. map text_edit_view v.items) result
         (each_at (line_edit count) (codes "edits") (object_held members.old)) }
     ensures usable { IfOk result (λ v. All (IsUsable count) v.items) }
-    ensures left { OnOk result (object_held members.new ≡ without_key (codes "edits") (object_held members.old)) }
+    ensures left { OnOk result (IsLeftWithout (codes "edits") members.old members.new) }
 {
     let items = list_at(alloc, members, "edits")?;
     edits_of(alloc, items, count).in_member(alloc, "edits")

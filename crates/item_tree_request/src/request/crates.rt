@@ -4,7 +4,7 @@ ghost use Rattle.serde_json.specs.View.{view, items_view};
 ghost use Rattle.item_tree.specs.CrateView.{crate_view};
 ghost use Rattle.item_tree_request.specs.Edits.{crate_data as crate_form};
 ghost use Rattle.hir_input_json.specs.Forms.{each, list_at as each_at};
-ghost use Rattle.hir_input_json.specs.Held.{object_held, without_key};
+ghost use Rattle.hir_input_json.specs.Held.{IsLeftWithout, object_held};
 ghost use Rattle.hir_input_json.specs.Reads.{Reads};
 
 use hir_input::{CfgOptions, HirFileId};
@@ -46,7 +46,7 @@ fn crates_of(alloc: Global, items: Vec<Value>) -> Result<Vec<CrateData>, Fault>
 pub fn crates_at(alloc: Global, members: &mut Map<String, Value>) -> Result<Vec<CrateData>, Fault>
     ensures reads { Reads (λ v. map crate_view v.items) result
         (each_at crate_form (codes "crates") (object_held members.old)) }
-    ensures left { OnOk result (object_held members.new ≡ without_key (codes "crates") (object_held members.old)) }
+    ensures left { OnOk result (IsLeftWithout (codes "crates") members.old members.new) }
 {
     let items = list_at(alloc, members, "crates")?;
     crates_of(alloc, items).in_member(alloc, "crates")

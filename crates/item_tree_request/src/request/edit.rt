@@ -8,7 +8,7 @@ ghost use Rattle.item_tree_request.specs.Edits.{edit as edit_form, set_cfg_edit}
 ghost use Rattle.item_tree_request.specs.Named.{EditNamesCrate};
 ghost use Rattle.hir_input_json.specs.Forms.{each, required_at as required_form, list_at as each_at};
 ghost use Rattle.hir_input_json.specs.Syntaxes.{syntax as syntax_form};
-ghost use Rattle.hir_input_json.specs.Held.{object_held, without_key};
+ghost use Rattle.hir_input_json.specs.Held.{IsLeftWithout, object_held};
 ghost use Rattle.hir_input_json.specs.Reads.{Reads};
 
 use hir_input::ast::Syntax;
@@ -105,7 +105,7 @@ pub(crate) fn edits_at(
         (each_at (edit_form (length (map crate_view crates.now.items))) (codes "edits")
         (object_held members.old)) }
     ensures known { IfOk result (λ v. All (EditNamesCrate (length crates.now.items)) v.items) }
-    ensures left { OnOk result (object_held members.new ≡ without_key (codes "edits") (object_held members.old)) }
+    ensures left { OnOk result (IsLeftWithout (codes "edits") members.old members.new) }
 {
     let items = list_at(alloc, members, "edits")?;
     edits_of(alloc, items, crates.len()).in_member(alloc, "edits")
