@@ -13,7 +13,7 @@ use Rattle.def_map.specs.Crates.{Crate, unseen}
 use Rattle.def_map.specs.Facts.{Fact, names, stands, gives, IsGlobCopy, Derives}
 use Rattle.def_map.specs.Numbers.{crate_by_numbers, numbered_fact, IsNumbering}
 use Rattle.def_map.specs.Refused.{Counted}
-use Rattle.def_map.proofs.LoopFacts.{there_again}
+use Rattle.def_map.proofs.TableRows.{there_again}
 use Rattle.def_map.proofs.Listing.{contains_here, contains_there, contains_cases, not_in_nil}
 use Rattle.def_map.proofs.CrateNumbers.{derived_back, copied_back}
 

@@ -21,14 +21,15 @@ use Rattle.def_map.specs.Numbers.{numbered_thing, crate_by_numbers, IsNumbering}
 use Rattle.def_map.specs.Targets.{target_of, item_target, AreTargets, target_eq, fact_thing, led_thing, target_by, fact_target, place_target, AreTargetsBy}
 use Rattle.def_map.specs.Told.{AreFactsFound}
 use Rattle.def_map.specs.Verdicts.{LeadsTo}
-use Rattle.def_map.proofs.LoopFacts.{there_again}
+use Rattle.def_map.proofs.TableRows.{there_again}
 use Rattle.def_map.proofs.Closing.{is_in}
 use Rattle.def_map.proofs.Deciding.{itself}
 use Rattle.def_map.proofs.Interning.{all_known}
 use Rattle.def_map.proofs.ReachedItems.{IsKnown}
 use Rattle.def_map.proofs.Listing.{contains_kept, contains_source}
 use Rattle.def_map.proofs.NumberLaws.{item_of_number, target_decides}
-use Rattle.def_map.proofs.CrateNumbers.{map_source, import_to}
+use Rattle.def_map.proofs.CrateNumbers.{import_to}
+use Rattle.def_map.proofs.LikeCrates.{map_source}
 use Rattle.def_map.proofs.NumberedVerdicts.{leads_on, leads_back}
 use Rattle.def_map.proofs.Telling.{View, view_gives, view_stands, view_none, view_of, any_of, of_any, if_source, leads_by, fact_for}
 

@@ -1,4 +1,6 @@
 mod LoopFacts
+mod FoundFacts
+mod TableRows
 mod Cfgs
 mod Closing
 mod Completing
@@ -18,6 +20,7 @@ mod Meeting
 mod Noting
 mod NumberLaws
 mod CrateNumbers
+mod LikeCrates
 mod NumberedVerdicts
 mod Order
 mod Outsiders

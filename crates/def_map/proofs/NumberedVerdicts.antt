@@ -6,7 +6,8 @@ use Rattle.def_map.specs.Numbers.{numbered_thing, crate_by_numbers, IsNumbering}
 use Rattle.def_map.specs.Told.{IsVerdict, unresolved, too_wide, unknown, resolved}
 use Rattle.def_map.specs.Verdicts.{IsSeen, HasNames, LeadsTo, LeadsNowhere, IsTooWide, IsPrivate}
 use Rattle.def_map.specs.declared.verdict.Verdict.{Verdict}
-use Rattle.def_map.proofs.CrateNumbers.{leads_like, wide_like, private_like, import_to, import_from, like_to, like_from}
+use Rattle.def_map.proofs.CrateNumbers.{import_to, import_from, like_to, like_from}
+use Rattle.def_map.proofs.LikeCrates.{leads_like, wide_like, private_like}
 
 module _ {N I M J : Type 0} (number : N → Option M) (item : I → J) (c : Crate N I) (ok : IsNumbering number item c) where
   abbrev e : Crate M J

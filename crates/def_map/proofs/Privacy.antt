@@ -19,7 +19,7 @@ use Rattle.def_map.specs.Private.{private_imports}
 use Rattle.def_map.specs.Told.{AreFactsFound, ArePrivate}
 use Rattle.def_map.proofs.Telling.{any_of, of_any, and_parts, if_source}
 use Rattle.def_map.proofs.Listing.{contains_kept, contains_source}
-use Rattle.def_map.proofs.LoopFacts.{back_again, IsRow, row_inner, row_wanted, row_of, import_at}
+use Rattle.def_map.proofs.TableRows.{back_again, IsRow, row_inner, row_wanted, row_of, import_at}
 
 module _ (c : Crate ℕ ℕ) (t : code.ImportTable.ImportTable) (facts : List code.Fact.Fact) (table : IsLowered c t) (found : AreFactsFound c facts) where
   same_import : (i : ℕ) (u w : PathImport ℕ) → IsImport c i u → IsImport c i w → w ≡ u

@@ -23,7 +23,8 @@ use Rattle.def_map.specs.Targets.{fact_thing}
 use Rattle.def_map.specs.Told.{IsVerdict, unresolved, too_wide, unknown, resolved, AreFactsFound, FindsAllFacts, IsToldRightly}
 use Rattle.def_map.proofs.Listing.{contains_here, contains_there, contains_cases, not_in_nil}
 use Rattle.def_map.proofs.Reading.{reading_cases}
-use Rattle.def_map.proofs.LoopFacts.{closes_alike, back_again, row_glob, row_of, import_at}
+use Rattle.def_map.proofs.LoopFacts.{closes_alike}
+use Rattle.def_map.proofs.TableRows.{back_again, row_glob, row_of, import_at}
 
 or_parts : (a b : Bool) → (a || b) ≡ true → (a ≡ true) ⊎ (b ≡ true)
 or_parts true b e = inl refl
@@ -276,7 +277,7 @@ module _ (c : Crate ℕ ℕ) (t : code.ImportTable.ImportTable) (facts : List co
       let f = any_of (λ f. (lead_for i (lead_by t f)).is_seen) facts e in
       let w = any_of (λ f. (lead_for i (lead_by t f)).is_wide) facts wide in
       let x = leads_seen f.0 (lead_for i (lead_by t f.0)) (view_of t i f.0) f.1 f.2 in
-      resolved x.1 x.2 (narrow_by i w.0 (lead_for i (lead_by t w.0)) (view_of t i w.0) w.1 w.2)
+      resolved {t = x.0} x.1 x.2 (narrow_by i w.0 (lead_for i (lead_by t w.0)) (view_of t i w.0) w.1 w.2)
     where
       leads_seen : (f : code.Fact.Fact) (l : Lead) → View t i f l → Contains facts f → l.is_seen ≡ true → (x : Thing ℕ) × LeadsTo c i x × IsSeen x
       leads_seen f l (view_gives ns x v w at) has h = let z = leads_by i (Gives i ns x v) (given_lead t x v w) (view_gives ns x v w at) has refl in
