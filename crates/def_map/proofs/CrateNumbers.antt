@@ -9,9 +9,10 @@ use Rattle.def_map.specs.Crates.{Crate, Thing, a_module, an_item, a_scope, unsee
 use Rattle.def_map.specs.Facts.{Fact, names, stands, gives, is_glob_binding, IsOpen, IsImport, IsGlobCopy, IsOther, Derives, declared, veiled, begins, elsewhere, leads, ends, gives_start, copies, imports, opens, exports, passes}
 use Rattle.def_map.specs.Numbers.{numbered_thing, numbered_declaration, numbered_binding, renumbered_import, numbered_macro, numbered_other, crate_by_numbers, IsNumbering, numbered_fact, DerivesAlike}
 use Rattle.def_map.proofs.Listing.{contains_kept, contains_source}
-use Rattle.def_map.proofs.Things.{same_module, not_module}
+use Rattle.def_map.proofs.Things.{bound, same_module, not_module}
 use Rattle.def_map.proofs.Reading.{reading_cases}
-use Rattle.def_map.proofs.LikeCrates.{map_source, AllNumbered, kept_length, kept_get, kept_source, got, bound, IsImportLike, IsLike, Goes, goes}
+use Rattle.def_map.proofs.NumberedLists.{map_source, AllNumbered, kept_length, kept_get, kept_source, got}
+use Rattle.def_map.proofs.LikeCrates.{IsImportLike, IsLike, Goes, goes}
 
 module _ {N I M J : Type 0} (number : N → Option M) (item : I → J) (c : Crate N I) (ok : IsNumbering number item c) where
   abbrev e : Crate M J

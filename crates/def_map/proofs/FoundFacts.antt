@@ -11,10 +11,11 @@ use Rattle.def_map.specs.declared.facts.Thing.TheVariants.{Module as module_thin
 use Rattle.def_map.specs.Crates.{Crate, Thing, a_module, an_item, a_scope, unseen, a_name, PathImport, module_sees, narrower}
 use Rattle.def_map.specs.Facts.{Fact, names, stands, gives, is_glob_import, reading, IsOpen, IsImport, Covers, IsFree, Derives, declared, veiled, begins, elsewhere, leads, ends, gives_start, copies, imports, opens, exports, passes}
 use Rattle.def_map.specs.Closure as loop
-use Rattle.def_map.specs.Closure.{are_types, are_macros, hides, passed_name, way_on, glob_of, path_end, named_fact, stand_of, follows, step_by, step_by_name, step_by_veil, step_of, copy_of, concludes, Closes, given, followed, concluded}
+use Rattle.def_map.specs.Closure.{are_types, hides, passed_name, way_on, glob_of, path_end, named_fact, stand_of, follows, step_by, step_by_name, step_by_veil, concludes, Closes, given, followed, concluded}
 use Rattle.def_map.specs.Closing.{binding_of, loop_thing, loop_binding, loop_fact, Begins, by_declaration, by_veil, by_start, by_first, IsLowered, AreSeeds}
 use Rattle.def_map.proofs.Reading.{reading_inner, reading_last, reading_cases}
-use Rattle.def_map.proofs.TableRows.{namespace_itself, bound, IsRow, row_glob, passed_is, row_of, sees_same, narrower_same, hides_not}
+use Rattle.def_map.proofs.TableRows.{namespace_itself, IsRow, row_glob, passed_is, row_of, sees_same, narrower_same, hides_not}
+use Rattle.def_map.proofs.Things.{bound}
 
 module _ (c : Crate ℕ ℕ) (t : code.ImportTable.ImportTable) (seeds : List code.Fact.Fact) (table : IsLowered c t) (begun : AreSeeds c seeds) where
   -- ---- what is derived is found

@@ -29,7 +29,7 @@ use Rattle.def_map.proofs.ReachedItems.{IsKnown}
 use Rattle.def_map.proofs.Listing.{contains_kept, contains_source}
 use Rattle.def_map.proofs.NumberLaws.{item_of_number, target_decides}
 use Rattle.def_map.proofs.CrateNumbers.{import_to}
-use Rattle.def_map.proofs.LikeCrates.{map_source}
+use Rattle.def_map.proofs.NumberedLists.{map_source}
 use Rattle.def_map.proofs.NumberedVerdicts.{leads_on, leads_back}
 use Rattle.def_map.proofs.Telling.{View, view_gives, view_stands, view_none, view_of, any_of, of_any, if_source, leads_by, fact_for}
 

@@ -21,6 +21,7 @@ mod Noting
 mod NumberLaws
 mod CrateNumbers
 mod LikeCrates
+mod NumberedLists
 mod NumberedVerdicts
 mod Order
 mod Outsiders

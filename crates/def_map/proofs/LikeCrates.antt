@@ -1,63 +1,16 @@
 -- The rules say the same of two crates that are alike by relations of their names and things.
-use Rattle.std.proofs.Common.{◌≡◌, ℕ, zero, suc, Bool, true, false, List, [], ◌∷◌, Option, Some, None, slice_get, if◌then◌else◌, refl, sym, ap, subst, ◌∙◌, length, Contains, arith, ltb, option_map, filter_map}
-use Rattle.std.specs.List.{cons_option}
-use Rattle.std.proofs.lemmas.Option.{none-some, same_Some}
+use Rattle.std.proofs.Common.{◌≡◌, ℕ, suc, Bool, true, false, List, [], ◌∷◌, Option, Some, None, slice_get, if◌then◌else◌, refl, sym, ap, subst, ◌∙◌, length, Contains, arith, ltb}
+use Rattle.std.proofs.lemmas.Option.{same_Some}
 use Rattle.def_map.specs.declared.kinds.Namespace.{Namespace}
 use Rattle.def_map.specs.declared.kinds.Namespace.TheVariants.{Types, Values, Macros}
 use Rattle.def_map.specs.declared.kinds.PathStart.{PathStart}
 use Rattle.def_map.specs.declared.kinds.PathStart.TheVariants.{Crate as from_root, Super, Plain, Abs}
 use Rattle.def_map.specs.declared.kinds.Visibility.{Visibility}
 use Rattle.def_map.specs.declared.kinds.Visibility.TheVariants.{Public}
-use Rattle.def_map.specs.Crates.{Crate, Thing, a_module, an_item, unseen, NameDeclaration, Binding, a_glob, a_name, underscore, nameless, PathImport, Veil, module_above, module_sees, narrower, Hides}
+use Rattle.def_map.specs.Crates.{Crate, Thing, a_module, an_item, unseen, NameDeclaration, a_name, PathImport, Veil, module_above, module_sees, narrower, Hides}
 use Rattle.def_map.specs.Facts.{Fact, names, stands, gives, is_glob_import, is_inner_name, is_wanted, reading, IsOpen, IsImport, start_by, import_start, may_leave, IsOther, IsElsewhere, an_other, any_other, a_macro, Covers, IsFree, Derives, declared, veiled, begins, elsewhere, leads, ends, gives_start, copies, imports, opens, exports, passes}
 use Rattle.def_map.specs.Verdicts.{IsSeen, HasNames, is_at_least, LeadsTo, to_given, to_glob, IsTooWide, IsPrivate, Asks, asks_inner, asks_last}
-use Rattle.def_map.proofs.Listing.{contains_here, contains_there}
 use Rattle.def_map.proofs.Reading.{reading_inner, reading_last, reading_cases}
-
--- ---- lists
-
-pub map_source : {X Y : Type 0} (h : X → Y) (o : Option X) (y : Y) → option_map h o ≡ Some y → (x : X) × (o ≡ Some x) × (h x ≡ y)
-map_source h None y e = absurd (none-some y e)
-map_source h (Some x) y e = (x, refl, same_Some (h x) y e)
-
--- a list in which each has a number keeps its length and its places
-unfoldable pub AllNumbered : {X Y : Type 0} → (X → Option Y) → List X → Type 0
-AllNumbered {X} {Y} h xs = (x : X) → Contains xs x → (y : Y) × (h x ≡ Some y)
-
-pub kept_length : {X Y : Type 0} (h : X → Option Y) (xs : List X) → AllNumbered h xs → length (filter_map h xs) ≡ length xs
-unfolding AllNumbered
-kept_length h [] all = refl
-kept_length h (x ∷ xs) all = let one = all x (contains_here x xs) in
-    ap (λ o. length (cons_option o (filter_map h xs))) one.1 ∙ ap suc (kept_length h xs (λ y has. all y (contains_there x xs y has)))
-
-pub kept_get : {X Y : Type 0} (h : X → Option Y) (xs : List X) (k : ℕ) (x : X) (y : Y) → AllNumbered h xs → slice_get xs k ≡ Some x → h x ≡ Some y → slice_get (filter_map h xs) k ≡ Some y
-unfolding AllNumbered
-kept_get h [] k x y all e is = absurd (none-some x e)
-kept_get h (z ∷ xs) zero x y all e is = ap (λ o. slice_get (cons_option o (filter_map h xs)) 0) (ap h (same_Some z x e) ∙ is)
-kept_get h (z ∷ xs) (suc k) x y all e is = let one = all z (contains_here z xs) in
-    ap (λ o. slice_get (cons_option o (filter_map h xs)) (suc k)) one.1 ∙ kept_get h xs k x y (λ y has. all y (contains_there z xs y has)) e is
-
-pub kept_source : {X Y : Type 0} (h : X → Option Y) (xs : List X) (k : ℕ) (y : Y) → AllNumbered h xs → slice_get (filter_map h xs) k ≡ Some y
-    → (x : X) × (slice_get xs k ≡ Some x) × (h x ≡ Some y)
-unfolding AllNumbered
-kept_source h [] k y all e = absurd (none-some y e)
-kept_source h (z ∷ xs) zero y all e = let one = all z (contains_here z xs) in
-    (z, refl, one.1 ∙ ap (λ o. slice_get (cons_option o (filter_map h xs)) 0) (sym one.1) ∙ e)
-kept_source h (z ∷ xs) (suc k) y all e = let one = all z (contains_here z xs) in
-    kept_source h xs k y (λ y has. all y (contains_there z xs y has)) (ap (λ o. slice_get (cons_option o (filter_map h xs)) (suc k)) (sym one.1) ∙ e)
-
-pub got : {X : Type 0} (xs : List X) (k : ℕ) (x : X) → slice_get xs k ≡ Some x → Contains xs x
-got [] k x e = absurd (none-some x e)
-got (z ∷ xs) zero x e = subst (Contains (z ∷ xs)) (same_Some z x e) (contains_here z xs)
-got (z ∷ xs) (suc k) x e = contains_there z xs x (got xs k x e)
-
-abbrev pub bound : {K : Type 0} → Binding K → Option K
-bound a_glob = None
-bound (a_name n) = Some n
-bound underscore = None
-bound nameless = None
-
--- ---- one crate after another, by relations of names and of things
 
 -- an import after another
 pub record IsImportLike {N M : Type 0} (R : N → M → Type 0) (u : PathImport N) (w : PathImport M) : Type 0 where

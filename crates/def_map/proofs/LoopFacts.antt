@@ -14,10 +14,11 @@ use Rattle.def_map.specs.Facts.{Fact, names, stands, gives, is_glob_import, read
 use Rattle.def_map.specs.Closure as loop
 use Rattle.def_map.specs.Closure.{are_types, are_macros, hides, passed_name, way_on, glob_of, path_end, named_fact, stand_of, follows, step_by, step_by_name, step_by_veil, step_of, copy_of, concludes, Closes, given, followed, concluded}
 use Rattle.def_map.specs.Closing.{thing_of, binding_of, loop_thing, loop_binding, loop_fact, Begins, by_declaration, by_veil, by_start, by_first, IsLowered, AreSeeds, SaysOf, ClosesAlike}
-use Rattle.def_map.proofs.LikeCrates.{map_source}
+use Rattle.def_map.proofs.NumberedLists.{map_source}
 use Rattle.def_map.proofs.Reading.{reading_cases}
 use Rattle.def_map.proofs.FoundFacts.{found, glob_copies}
-use Rattle.def_map.proofs.TableRows.{back_again, there_again, bound, IsRow, row_glob, passed_is, import_at, sees_same, narrower_same, not_hides}
+use Rattle.def_map.proofs.TableRows.{back_again, there_again, IsRow, row_glob, passed_is, import_at, sees_same, narrower_same, not_hides}
+use Rattle.def_map.proofs.Things.{bound}
 
 module _ (c : Crate ℕ ℕ) (t : code.ImportTable.ImportTable) (seeds : List code.Fact.Fact) (table : IsLowered c t) (begun : AreSeeds c seeds) where
   -- ---- what is found is derived

@@ -9,7 +9,8 @@ use Rattle.def_map.specs.Facts.{names, declared, IsImport, IsOther, IsOpen, Deri
 use Rattle.def_map.specs.Verdicts.{LeadsTo, HasNames}
 use Rattle.def_map.specs.Numbering.{thing_item, declared_item, macro_item, is_name_asked, asked_items, is_item_numbered, item_eq}
 use Rattle.def_map.proofs.Listing.{contains_kept, mapped_source}
-use Rattle.def_map.proofs.LikeCrates.{IsLike, leads_like, got}
+use Rattle.def_map.proofs.LikeCrates.{IsLike, leads_like}
+use Rattle.def_map.proofs.NumberedLists.{got}
 use Rattle.def_map.proofs.NumberLaws.{name_asked, item_decides}
 use Rattle.def_map.proofs.Telling.{of_any}
 

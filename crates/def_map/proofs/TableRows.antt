@@ -1,5 +1,5 @@
 -- Things and imports of the table are those of the crate.
-use Rattle.std.proofs.Common.{◌≡◌, ◌+◌, ◌||◌, ℕ, suc, Bool, true, false, not, nat_lt, Option, Some, None, slice_get, if◌then◌else◌, refl, sym, ap, ◌∙◌, length, arith, ltb, option_map}
+use Rattle.std.proofs.Common.{◌≡◌, ◌+◌, ◌||◌, ℕ, suc, Bool, true, false, not, nat_lt, Some, None, slice_get, if◌then◌else◌, refl, sym, ap, ◌∙◌, length, arith, ltb, option_map}
 use Rattle.std.proofs.lemmas.Bool.{false≢true}
 use Rattle.std.proofs.lemmas.Option.{slice_get-map}
 use Rattle.def_map.specs.declared.kinds.{Namespace.Namespace, Visibility.Visibility}
@@ -11,9 +11,9 @@ use Rattle.def_map.specs.declared.facts.Thing.TheVariants.{Module as module_thin
 use Rattle.def_map.specs.Crates.{Crate, Thing, a_module, an_item, a_scope, unseen, Binding, a_glob, a_name, underscore, nameless, PathImport, module_sees, narrower, Hides}
 use Rattle.def_map.specs.Facts.{gives, is_glob_import, is_glob_binding, is_inner_name, is_wanted, reading, read_inner, IsImport}
 use Rattle.def_map.specs.Closure as loop
-use Rattle.def_map.specs.Closure.{are_types, are_macros, hides, passed_name, way_on, glob_of, path_end, named_fact, stand_of, follows, step_by, step_by_name, step_by_veil, step_of, copy_of, concludes, Closes, given, followed, concluded}
+use Rattle.def_map.specs.Closure.{are_types, hides, passed_name}
 use Rattle.def_map.specs.Closing.{thing_of, binding_of, table_import, loop_thing, loop_binding, loop_import, loop_fact, IsLowered}
-use Rattle.def_map.proofs.LikeCrates.{map_source}
+use Rattle.def_map.proofs.NumberedLists.{map_source}
 
 pub back_again : (t : Thing ℕ) → thing_of (loop_thing t) ≡ t
 back_again (a_module m) = refl
@@ -42,12 +42,6 @@ pub namespace_itself : (ns : Namespace) → loop.same_namespace ns ns ≡ true
 namespace_itself Types = refl
 namespace_itself Values = refl
 namespace_itself Macros = refl
-
-abbrev pub bound : Binding ℕ → Option ℕ
-bound a_glob = None
-bound (a_name n) = Some n
-bound underscore = None
-bound nameless = None
 
 -- a row of the loop's table and the import that it stands for
 pub record IsRow (u : PathImport ℕ) (w : code.Import.Import) : Type 0 where

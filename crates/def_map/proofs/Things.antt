@@ -1,7 +1,7 @@
--- Things told apart.
-use Rattle.std.proofs.Common.{◌≡◌, ℕ, Bool, true, false, sym, ap, ◌∙◌}
+-- Things told apart, and bindings by their names.
+use Rattle.std.proofs.Common.{◌≡◌, ℕ, Bool, true, false, Option, Some, None, sym, ap, ◌∙◌}
 use Rattle.std.proofs.lemmas.Bool.{true≢false}
-use Rattle.def_map.specs.Crates.{Thing, a_module, an_item, a_scope, unseen}
+use Rattle.def_map.specs.Crates.{Thing, a_module, an_item, a_scope, unseen, Binding, a_glob, a_name, underscore, nameless}
 
 module _ {K : Type 0} where
   number_of : Thing K → ℕ
@@ -22,3 +22,10 @@ module _ {K : Type 0} where
 
   pub not_module : (t : Thing K) (m : ℕ) → is_module t ≡ false → t ≡ a_module m → ⊥
   not_module t m other e = true≢false (sym (ap is_module e) ∙ other)
+
+-- the name that an import binds
+abbrev pub bound : {K : Type 0} → Binding K → Option K
+bound a_glob = None
+bound (a_name n) = Some n
+bound underscore = None
+bound nameless = None

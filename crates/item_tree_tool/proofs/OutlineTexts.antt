@@ -1,5 +1,5 @@
 -- Two tables that the same edits lead to have the same outlines.
-use Rattle.std.proofs.Common.{◌≡◌, ℕ, ◌<◌, List, [], ◌++◌, length, ap, ◌∙◌}
+use Rattle.std.proofs.Common.{◌≡◌, ◌<◌, List, [], ◌++◌, length, ap, ◌∙◌}
 use Rattle.item_tree_db.specs.State.{State}
 use Rattle.item_tree_db.specs.Edits.{EditView}
 use Rattle.item_tree_db.specs.History.{IsAfter}

@@ -1,5 +1,5 @@
 -- Steps of what is done in turns.
-use Rattle.std.proofs.Common.{◌≡◌, ◌<◌, ◌+◌, ℕ, suc, true, false, List, [], ◌∷◌, ◌++◌, length, drop, get_or, refl, ap, sym, ◌∙◌, arith, append_assoc, Option, Bool, codes}
+use Rattle.std.proofs.Common.{◌≡◌, ◌<◌, ◌+◌, ℕ, suc, true, false, List, [], ◌∷◌, ◌++◌, length, drop, get_or, refl, sym, ◌∙◌, arith, Option, Bool}
 use Rattle.std.proofs.Math.Seq.{drop-cons}
 use Rattle.source_rows.proofs.Common.{Tokens, not_first, Spacing, gap_text, is_over, spacing_behind, spaced_tokens, spaced_from}
 use Rattle.hir_input.specs.declared.edition.EditionYear.{EditionYear}

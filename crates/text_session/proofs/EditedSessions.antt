@@ -1,6 +1,6 @@
 -- What edits make of a session.
 use Rattle.std.proofs.Common.{◌≡◌, ◌≢◌, ℕ, ◌≤◌, ◌==◌, suc, true, false, if◌then◌else◌, inl, inr, List, [], ◌∷◌, ◌++◌, Option, Some, None, IfSome, All, Result, Ok, Err, OnOk, IfOk, IfErr, MatchResult, slice_get, length, map, take, refl, sym, ap, subst, ◌∙◌, arith}
-use Rattle.text_session.proofs.Common.{length-map, take_all, All-take, option_map, option_or, unwrap_or, after_join, last_append, or_else, EditionYear, Edit, EditView, edit_view, edits_before, last_number, FirstFit, IsCause, IsRefusal, IsAfter, IsFooting, last_some, State, after_none, IndexView, TextEdit, EditError, NotChanged, IsPlaced, LeavesPlaced, AreTogether, TellsFault, session_of, edit_refusal, made_count, outcome_of, Session, AreMade, IsEdited, IsRefused, IsStopped, IsUnedited, AreTouched, IsBehindBy, Touched, Texts, FileTexts, TextChange, text_in, text_after, left_text, AreMeant, FailsAt}
+use Rattle.text_session.proofs.Common.{length-map, take_all, All-take, option_map, option_or, unwrap_or, after_join, last_append, or_else, EditionYear, Edit, EditView, edit_view, edits_before, last_number, FirstFit, IsCause, IsRefusal, IsAfter, IsFooting, last_some, State, after_none, IndexView, TextEdit, EditError, NotChanged, IsPlaced, LeavesPlaced, AreTogether, TellsFault, session_of, edit_refusal, made_count, outcome_of, Session, AreMade, IsEdited, IsRefused, IsStopped, IsUnedited, AreTouched, IsBehindBy, Touched, Texts, TextChange, text_in, text_after, left_text, AreMeant, FailsAt}
 use Rattle.item_tree.specs.declared.fault.EditFault.{EditFault}
 use Rattle.item_tree.specs.declared.fault.EditFault.TheVariants.{TooManyEdits, Lower}
 use Rattle.item_tree.specs.declared.fault.LowerError.TheVariants.{TooManyItems, TooManyVisibilities, TooManyUseTrees, TooManyAttributes, TooManySupers, OutOfMemory}
