@@ -236,9 +236,9 @@ node_exports n = count_by (has_key (codes "macro_export")) (node_head n).attrs.a
 abbrev pub tree_exports : Unfolding → ℕ
 tree_exports u = sum_by node_exports (preorder u.forest)
 
--- the text has the word more often
+-- the text has the word more often, or it is not known how often
 abbrev pub hides_exports : Unfolding → Option ℕ → Bool
-hides_exports u None = false
+hides_exports u None = true
 hides_exports u (Some words) = nat_lt (tree_exports u) words
 
 abbrev pub hidden_rows : Unfolding → Option ℕ → List CrateRow

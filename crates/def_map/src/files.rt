@@ -76,13 +76,13 @@ fn is_more(tree: &ItemTree, ids: &[ModItemId], words: u32) -> bool
     0 < left
 }
 
-/// Whether a text has the word `macro_export` more often than its tree.
+/// Whether a text has the word `macro_export` more often than its tree, or it is not known how often.
 #[tactic(auto, using(crate::proofs::Exports::exports_by_ids))]
 fn hides_exports(alloc: Global, tree: &ItemTree, words: Option<&u32>) -> Result<bool, AllocError>
     ensures { IfOk result (λ hides. hides ≡ spec.hides_exports tree.now (option_copied words.entry)) }
 {
     let Some(words) = words else {
-        return Ok(false);
+        return Ok(true);
     };
     let ids = preorder(alloc, tree)?;
     Ok(is_more(tree, &ids, *words))

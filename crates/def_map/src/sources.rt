@@ -82,7 +82,8 @@ pub struct CrateSources<'a> {
     pub modules: &'a [ModuleData],
     /// The tree of each file, by its number.
     pub trees: &'a [&'a ItemTree],
-    /// How often the word `macro_export` stands in the text of each file. (Items in bodies are in no tree.)
+    /// How often the word `macro_export` stands in the text of each file. (Items in bodies are in no tree.) Of a file
+    /// with no count macros may be exported that are not seen.
     pub export_words: &'a [u32],
     /// A text has the word `macro_expanded_macro_exports_accessed_by_absolute_paths`.
     pub allows_expanded: bool,
