@@ -1,6 +1,7 @@
 mod LoopFacts
 mod FoundFacts
 mod TableRows
+mod Bounds
 mod Cfgs
 mod Closing
 mod Completing

@@ -1,5 +1,5 @@
 -- Why nothing is told of a crate, by why a part of it was refused.
-use Rattle.std.proofs.Common.{◌≡◌, ◌<◌, ◌==◌, ◌+◌, ℕ, suc, Bool, true, false, List, [], ◌∷◌, Option, Some, None, slice_get, refl, sym, ap, subst, ◌∙◌, length, cond, if◌then◌else◌, option_map, eqb-true, eq-eqb, count_by, sum_by, Contains, arith}
+use Rattle.std.proofs.Common.{◌≡◌, ◌<◌, ◌≤◌, ◌==◌, ◌+◌, ℕ, suc, Bool, true, false, List, [], ◌∷◌, Option, Some, None, slice_get, refl, sym, ap, subst, ◌∙◌, length, cond, if◌then◌else◌, option_map, eqb-true, eq-eqb, count_by, sum_by, Contains, arith}
 use Rattle.std.specs.{List.filter_map, List.cons_option, Str.bytes_eq}
 use Rattle.std.proofs.lemmas.Bool.{true≢false}
 use Rattle.std.proofs.lemmas.List.Sums.{sum_by-cons}
@@ -111,6 +111,9 @@ module _ (number : List ℕ → Option ℕ) (item : ItemKey → ℕ) (c : Crate 
     where
       place : {X : Type 0} (xs : List X) (x : X) → Contains xs x → (i : ℕ) × (slice_get xs i ≡ Some x)
       place xs x (i, low, is) = (i, slice_get-get_or xs i x low ∙ ap Some is)
+
+  pub pairs_few : pair_count e ≤ 2097152 → macro_pair_count c ≤ 2097152
+  pairs_few few = subst (λ n. n ≤ 2097152) pairs_same few
 
   pub seeds_refused : (err : SeedsError)
       → (err ≡ seeds_code.TooManyImports → 4294967296 < length c.imports) → (err ≡ seeds_code.TooManyPairs → 2097152 < pair_count e) → IsCrateRefused c (seeds_error err)

@@ -1,5 +1,5 @@
 -- Why nothing is told of the imports of a crate.
-use Rattle.std.specs.Prelude.{◌≡◌, ◌≢◌, ◌<◌, ◌+◌, ◌^◌, ℕ, false, List, [], ◌∷◌, Option, length, count_by, sum_by, AllPairs, Contains}
+use Rattle.std.specs.Prelude.{◌≡◌, ◌≢◌, ◌<◌, ◌≤◌, ◌+◌, ◌^◌, ℕ, true, false, List, [], ◌∷◌, Option, length, count_by, sum_by, AllPairs, Contains}
 use Rattle.std.specs.Str.{bytes_eq}
 use Rattle.module_tree.specs.Modules.{most_modules}
 use Rattle.def_map.specs.declared.closure.ClosureError.{ClosureError}
@@ -30,6 +30,10 @@ macros_called macros [] = 0
 macros_called macros (n ∷ []) = count_by (λ p. bytes_eq n p.0) macros
 macros_called macros (n ∷ (m ∷ ns)) = 0
 
+-- all of a list are among so many
+abbrev pub AreFew : {A : Type 0} → ℕ → List A → Type 0
+AreFew {A} most xs = (list : List A) × (length list ≤ most) × ((x : A) → Contains xs x → Contains list x)
+
 module _ (c : Crate (List ℕ) ItemKey) where
   -- the pairs of an import whose path is one name and a `macro_rules` of that name
   abbrev pub macro_pair_count : ℕ
@@ -54,6 +58,13 @@ module _ (c : Crate (List ℕ) ItemKey) where
     pub lowered : IsLowered (crate_by_numbers number item c) table
     pub begun : AreSeeds (crate_by_numbers number item c) seeds
 
+  -- it has no more than may be
+  pub record IsCrateSmall : Type 0 where
+    pub names : AreFew (2 ^ 32) (path_names c)
+    pub items : AreFew (2 ^ 32) (asked_items c)
+    pub imports : length c.imports ≤ 2 ^ 32
+    pub pairs : macro_pair_count ≤ 2 ^ 21
+
   -- when each error comes that is of the crate's contents
   abbrev pub IsCrateRefused : DefMapError → Type 0
   IsCrateRefused OutOfMemory = Unit {0}
@@ -72,6 +83,12 @@ AreImportsRefused s OutOfMemory = Unit {0}
 AreImportsRefused s TooManyModules = most_modules < length s.modules
 AreImportsRefused s OutOfOrder = are_behind 0 (parents_of s.modules) ≡ false
 AreImportsRefused s e = IsCrateRefused (crate_of s) e
+
+-- no more than may be, in order
+pub record IsSmall (s : CrateSources) : Type 0 where
+  pub modules : length s.modules ≤ most_modules
+  pub ordered : are_behind 0 (parents_of s.modules) ≡ true
+  pub contents : IsCrateSmall (crate_of s)
 
 -- ---- errors of parts
 

@@ -1,5 +1,5 @@
 //! The rows of a crate.
-ghost use Rattle.std.specs.Prelude.{◌≡◌, ◌<◌, ◌^◌, IfNone, IfOk, IfSome, IsErrOf, OnOk, false, length, map, true};
+ghost use Rattle.std.specs.Prelude.{◌≡◌, ◌<◌, ◌≤◌, ◌^◌, IfNone, IfOk, IfSome, IsErrOf, OnOk, false, length, map, true};
 ghost use Rattle.def_map.specs.declared.collect.CollectError.TheVariants.{OutOfMemory, OutOfOrder, TooManyModules};
 ghost use Rattle.def_map.specs.Laws.{IsWhole};
 ghost use Rattle.def_map.specs.ModuleOrder as order;
@@ -129,6 +129,8 @@ pub(crate) fn collect<'t>(
     ensures rows { IfOk result (λ c. map crate_row_view c.rows.items ≡ spec.rows_of (sources_view sources.now)) }
     ensures whole { OnOk result (0 < length sources.now.modules.now
         → IsWhole (spec.crate_of (sources_view sources.now))) }
+    ensures few { OnOk result (length sources.now.modules.now ≤ most_modules) }
+    ensures ordered { OnOk result (order.are_behind 0 (spec.parents_of sources.now.modules.now) ≡ true) }
     ensures many { IsErrOf result TooManyModules → most_modules < length sources.now.modules.now }
     ensures unordered { IsErrOf result OutOfOrder
         → order.are_behind 0 (spec.parents_of sources.now.modules.now) ≡ false }

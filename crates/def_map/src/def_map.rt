@@ -5,7 +5,7 @@ ghost use Rattle.def_map.specs.CrateView.{rows_view};
 ghost use Rattle.def_map.specs.Inner.Told as spec;
 ghost use Rattle.def_map.specs.Inner.Told.{AreAnswers, collected_crate, resolved_answer};
 ghost use Rattle.def_map.specs.Laws.{IsWhole};
-ghost use Rattle.def_map.specs.Refused.{IsCrateRefused, AreImportsRefused};
+ghost use Rattle.def_map.specs.Refused.{AreImportsRefused, IsCrateRefused, IsCrateSmall, IsSmall};
 ghost use Rattle.def_map.specs.Resolved.{AreResolved};
 ghost use Rattle.def_map.specs.Tables.{crate_of};
 ghost use Rattle.def_map.specs.Views.{crate_row_view, sources_view};
@@ -207,6 +207,7 @@ fn resolve_rows(
 /// What is told of each import of a crate.
 fn tell_crate(alloc: Global, rows: &CrateRows<'_>) -> Result<Vec<Told>, DefMapError>
     ensures told { IfOk result (λ told. AreAnswers (rows_view rows.now) told.items) }
+    ensures few { OnOk result (IsCrateSmall (rows_view rows.now)) }
     ensures refused { IfErr result (IsCrateRefused (rows_view rows.now)) }
 {
     let numbers = number_crate(alloc, rows)?;
@@ -224,6 +225,7 @@ fn tell_rows(
     manifest: &Manifest,
 ) -> Result<Vec<Told>, DefMapError>
     ensures told { IfOk result (λ told. AreAnswers (collected_crate collected.now manifest.now) told.items) }
+    ensures few { OnOk result (IsCrateSmall (collected_crate collected.now manifest.now)) }
     ensures refused { IfErr result (IsCrateRefused (collected_crate collected.now manifest.now)) }
 {
     let rows = crate_rows(alloc, &collected.parents, manifest, &collected.rows)?;
@@ -243,6 +245,7 @@ pub fn resolve_imports(
     ensures resolved { IfOk result (λ imports. AreResolved (sources_view sources.entry) imports.items) }
     ensures whole { OnOk result (0 < length sources.entry.modules.now
         → IsWhole (crate_of (sources_view sources.entry))) }
+    ensures few { OnOk result (IsSmall (sources_view sources.entry)) }
     ensures refused { IfErr result (AreImportsRefused (sources_view sources.entry)) }
 {
     let collected = collect(alloc, &sources)?;

@@ -1,8 +1,6 @@
-//! The facts that hold of a crate before any follows: what modules declare, their veils, where paths begin, and what
-//! first names stand for outside of all modules.
+//! The facts that hold of a crate before any follows: declarations, veils, where paths begin, first names elsewhere.
 ghost use Rattle.std.specs.Prelude.{Err, ◌≡◌, ◌<◌, ◌≤◌, ◌^◌, ◌++◌, length, map, filter_map, option_map, IfErr, IfOk};
-ghost use Rattle.std.specs.Prelude.{OnOk};
-ghost use Rattle.std.specs.Option.{option_to_list};
+ghost use Rattle.std.specs.{Option.option_to_list, Prelude.OnOk};
 ghost use Rattle.def_map.specs.Closing.{table_import, loop_thing, AreSeeds, IsLowered};
 ghost use Rattle.def_map.specs.CrateView.{declared_view, meaning_view, veil_view};
 ghost use Rattle.def_map.specs.Facts as rules;
@@ -356,7 +354,8 @@ fn macro_count(outside: &Outside, path: &[u32]) -> usize
 }
 
 fn check_pairs(outside: &Outside, imports: &[Import]) -> Result<(), SeedsError>
-    ensures { IfErr result (λ e. (e ≡ TooManyPairs) × (2 ^ 21 < macro_pairs (macros_in outside.now) imports.now)) }
+    ensures few { OnOk result (macro_pairs (macros_in outside.now) imports.now ≤ 2 ^ 21) }
+    ensures many { IfErr result (λ e. (e ≡ TooManyPairs) × (2 ^ 21 < macro_pairs (macros_in outside.now) imports.now)) }
 {
     let mut pairs: usize = 0;
     for import in imports {
@@ -378,6 +377,7 @@ pub(crate) fn find_seeds(
     requires { IsLowered (crate_by numbers.now rows.now) table.now }
     ensures seeds { IfOk result (λ seeds. AreSeeds (crate_by numbers.now rows.now) seeds.items) }
     ensures few { OnOk result (length rows.now.imports.items ≤ 2 ^ 32) }
+    ensures few_pairs { OnOk result (pair_count (crate_by numbers.now rows.now) ≤ 2 ^ 21) }
     ensures too_many_imports { result ≡ Err TooManyImports → 2 ^ 32 < length rows.now.imports.items }
     ensures too_many_pairs { result ≡ Err TooManyPairs → 2 ^ 21 < pair_count (crate_by numbers.now rows.now) }
 {

@@ -1,7 +1,7 @@
 use Rattle.std.proofs.Common.{Err, IfErr, refl, sym, ap, subst, ◌∙◌}
 use Rattle.std.proofs.lemmas.Result.{err_from_is_err_and}
 use Rattle.def_map.specs.Inner.Told.{collected_crate, rows_answers}
-use Rattle.def_map.specs.Refused.{AreImportsRefused, IsCrateRefused}
+use Rattle.def_map.specs.Refused.{AreImportsRefused, IsCrateRefused, IsCrateSmall}
 use Rattle.def_map.specs.Views.{sources_view}
 use Rattle.def_map.proofs.Refusing.{collect_refused, crate_refused, sources_memory_refused}
 use Rattle.def_map.proofs.Resolving.{collected_same, resolved_hold}
@@ -16,6 +16,17 @@ returns-clause-resolved c =
     let same = collected_same s collected c.args.sources.manifest.now refl c.in_ok-collected.ensures.parents c.in_ok-collected.ensures.rows in
     resolved_hold s crate told c.in_ok-imports.imports.items same c.in_ok-told.ensures.told
     (c.in_ok-imports.ensures ∙ ap (λ rows. rows_answers rows told) c.in_ok-collected.ensures.rows)
+
+pub returns-clause-few : goal.returns-clause-few
+returns-clause-few c =
+    let s = sources_view c.args.sources in
+    let collected = c.in_ok-collected.collected in
+    let same = collected_same s collected c.args.sources.manifest.now refl c.in_ok-collected.ensures.parents c.in_ok-collected.ensures.rows in
+    record {
+      modules = c.in_ok-collected.ensures.few;
+      ordered = c.in_ok-collected.ensures.ordered;
+      contents = subst IsCrateSmall same c.in_ok-told.ensures.few;
+    }
 
 pub returns-in_err-collected-clause-refused : goal.returns-in_err-collected-clause-refused
 returns-in_err-collected-clause-refused c =

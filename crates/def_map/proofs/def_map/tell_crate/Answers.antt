@@ -1,4 +1,4 @@
-use Rattle.std.proofs.Common.{◌<◌, Err, IfErr, sym, ap, subst}
+use Rattle.std.proofs.Common.{◌<◌, ◌≤◌, Err, IfErr, sym, ap, subst}
 use Rattle.std.proofs.lemmas.List.{length-map}
 use Rattle.std.proofs.lemmas.Result.{err_from_is_err_and}
 use Rattle.def_map.specs.Closing.{AreSeeds}
@@ -6,8 +6,9 @@ use Rattle.def_map.specs.CrateView.{rows_view, import_view}
 use Rattle.def_map.specs.Lowering.{crate_by}
 use Rattle.def_map.specs.Numbering.{number_in, item_number}
 use Rattle.def_map.specs.Refused.{IsCrateRefused}
+use Rattle.def_map.proofs.Bounds.{names_few, items_few}
 use Rattle.def_map.proofs.ReachedItems.{known_numbered}
-use Rattle.def_map.proofs.Refusing.{numbers_refused, seeds_refused, closure_refused, memory_refused}
+use Rattle.def_map.proofs.Refusing.{numbers_refused, pairs_few, seeds_refused, closure_refused, memory_refused}
 use Rattle.def_map.proofs.Resolving.{answers_hold}
 use Rattle.def_map.proofs.def_map.tell_crate.Goals as goal
 
@@ -19,6 +20,17 @@ returns-clause-told c =
     answers_hold (number_in n.symbols.keys) n.items.keys (rows_view rows) c.in_ok-numbers.ensures.numbering t c.deref.result.now c.in_ok-closure.closure.facts.keys
     c.in_ok-table.ensures (subst (AreSeeds (crate_by n rows)) (sym c.deref.ensures.value) c.in_ok-seeds.ensures.seeds)
     c.in_ok-closure.ensures.sound c.in_ok-closure.ensures.complete (known_numbered rows n.items.keys c.in_ok-numbers.ensures.items) c.in_ok-told.told.items c.in_ok-told.ensures
+
+pub returns-clause-few : goal.returns-clause-few
+returns-clause-few c =
+    let n = c.in_ok-numbers.numbers in
+    let crate = rows_view c.args.rows.now in
+    record {
+      names = names_few crate n.symbols.keys n.few_symbols c.in_ok-numbers.ensures.names;
+      items = items_few crate n.items.keys n.few_items c.in_ok-numbers.ensures.items;
+      imports = subst (λ l. l ≤ 4294967296) (sym (length-map c.args.rows.now.imports.items import_view)) c.in_ok-seeds.ensures.few;
+      pairs = pairs_few (number_in n.symbols.keys) (item_number n.items.keys) crate c.in_ok-numbers.ensures.numbering c.in_ok-seeds.ensures.few_pairs;
+    }
 
 pub returns-in_err-numbers-clause-refused : goal.returns-in_err-numbers-clause-refused
 returns-in_err-numbers-clause-refused c =

@@ -1,4 +1,4 @@
-use Rattle.std.proofs.Common.{◌≡◌, ◌<◌, ◌++◌, map, sym, ap, subst, ◌∙◌}
+use Rattle.std.proofs.Common.{◌≡◌, ◌<◌, ◌≤◌, ◌++◌, map, sym, ap, subst, ◌∙◌}
 use Rattle.std.specs.List.{filter_map}
 use Rattle.def_map.specs.Closing.{AreSeeds}
 use Rattle.def_map.specs.Closure.{hides}
@@ -11,11 +11,19 @@ use Rattle.def_map.proofs.seeds.find_seeds.Goals as goal
 
 pub returns-in_err-check_pairs-clause-too_many_pairs : goal.returns-in_err-check_pairs-clause-too_many_pairs
 returns-in_err-check_pairs-clause-too_many_pairs c = λ e.
-    let many : 2097152 < macro_pairs (macros_in c.in_ok-outside.outside) c.deref.result.now = c.in_err-check_pairs.ensures.1 in
+    let many : 2097152 < macro_pairs (macros_in c.in_ok-outside.outside) c.deref.result.now = c.in_err-check_pairs.ensures.many.1 in
     let crate = crate_by c.args.numbers.now c.args.rows.now in
     subst (λ n. 2097152 < n)
     (ap (macro_pairs (macros_in c.in_ok-outside.outside)) c.deref.ensures.value
     ∙ pairs_of (macros_in c.in_ok-outside.outside) (macros_named crate) c.in_ok-outside.ensures.macros c.args.table.now.imports.items crate.imports c.requires.imports) many
+
+pub returns-clause-few_pairs : goal.returns-clause-few_pairs
+returns-clause-few_pairs c =
+    let few : macro_pairs (macros_in c.in_ok-outside.outside) c.deref.result.now ≤ 2097152 = c.in_ok-check_pairs.ensures.few in
+    let crate = crate_by c.args.numbers.now c.args.rows.now in
+    subst (λ n. n ≤ 2097152)
+    (ap (macro_pairs (macros_in c.in_ok-outside.outside)) c.deref.ensures.value
+    ∙ pairs_of (macros_in c.in_ok-outside.outside) (macros_named crate) c.in_ok-outside.ensures.macros c.args.table.now.imports.items crate.imports c.requires.imports) few
 
 pub returns-clause-seeds : goal.returns-clause-seeds
 returns-clause-seeds c =
