@@ -1,4 +1,5 @@
 //! Texts in colours of a terminal.
+ghost use Rattle.std.specs.Io.{StartsWith};
 ghost use Rattle.std.specs.Prelude.{◌≡◌, ◌++◌, OnOk, string_bytes};
 ghost use Rattle.list_forms.specs.Colors as spec;
 
@@ -23,10 +24,12 @@ pub const USUAL: &str = "\x1b[0m";
 ///
 /// # Errors
 ///
-/// Only if memory runs out.
+/// Only if memory runs out. A part of it may then be added.
+#[tactic(auto, using(crate::proofs::StartingTexts::longer, crate::proofs::StartingTexts::itself))]
 pub fn push_color(is_colored: bool, color: &str, out: &mut String) -> Result<(), AllocError>
-    ensures { OnOk result (string_bytes out.new ≡ string_bytes out.old
+    ensures text { OnOk result (string_bytes out.new ≡ string_bytes out.old
         ++ spec.sequence is_colored color.now) }
+    ensures longer { StartsWith (string_bytes out.new) (string_bytes out.old) }
 {
     if !is_colored {
         return Ok(());
@@ -38,16 +41,17 @@ pub fn push_color(is_colored: bool, color: &str, out: &mut String) -> Result<(),
 ///
 /// # Errors
 ///
-/// Only if memory runs out.
-#[tactic(auto, unfolding(crate::specs::Colors::colored_text))]
+/// Only if memory runs out. A part of it may then be added.
+#[tactic(auto, using(crate::proofs::StartingTexts::longer, crate::proofs::StartingTexts::joined), unfolding(crate::specs::Colors::colored_text))]
 pub fn push_colored(
     is_colored: bool,
     color: &str,
     text: &str,
     out: &mut String,
 ) -> Result<(), AllocError>
-    ensures { let text = spec.colored_text is_colored color.now text.now in
+    ensures text { let text = spec.colored_text is_colored color.now text.now in
         OnOk result (string_bytes out.new ≡ string_bytes out.old ++ text) }
+    ensures longer { StartsWith (string_bytes out.new) (string_bytes out.old) }
 {
     push_color(is_colored, color, out)?;
     out.push_str(text)?;

@@ -3,6 +3,7 @@ ghost use Rattle.std.specs.Prelude.{◌≡◌, ◌++◌, IfOk, OnOk, map, string
 ghost use Rattle.list_forms.specs.Colors.{bold_code, colored_text, faint_code};
 ghost use Rattle.source_imports.specs.Repeated as spec;
 ghost use Rattle.source_imports.specs.Views.{repeated_import_view};
+ghost use Rattle.source_rows.specs.Places.{item_place};
 
 use crate::repeated::RepeatedImport;
 use list_forms::{BOLD, FAINT, USUAL, push_color, push_colored};
@@ -24,7 +25,22 @@ fn push_spot_alone(path: &str, spot: Option<Spot>, out: &mut String) -> Result<(
     }
 }
 
+/// Where something stands: in colour, faint.
 #[tactic(auto, unfolding(list_forms::specs::Colors::colored_text))]
+fn push_stand(
+    is_colored: bool,
+    path: &str,
+    spot: Option<Spot>,
+    out: &mut String,
+) -> Result<(), AllocError>
+    ensures { OnOk result (string_bytes out.new ≡ string_bytes out.old
+        ++ colored_text is_colored faint_code (item_place path.now spot)) }
+{
+    push_color(is_colored, FAINT, out)?;
+    push_spot(path, spot, out)?;
+    push_color(is_colored, USUAL, out)
+}
+
 fn push_repeat(
     is_colored: bool,
     path: &str,
@@ -34,9 +50,7 @@ fn push_repeat(
     ensures { let line = spec.repeat_line is_colored path.now (repeated_import_view repeat.now) in
         OnOk result (string_bytes out.new ≡ string_bytes out.old ++ line) }
 {
-    push_color(is_colored, FAINT, out)?;
-    push_spot(path, repeat.spot, out)?;
-    push_color(is_colored, USUAL, out)?;
+    push_stand(is_colored, path, repeat.spot, out)?;
     push_colored(is_colored, BOLD, &repeat.text, out)?;
     out.push_str(" (again, first at ")?;
     push_spot_alone(path, repeat.first, out)?;

@@ -2,12 +2,21 @@
 use Rattle.std.specs.Prelude.{bytes_eq}
 use Rattle.std.specs.List.{list_any}
 use Rattle.source_listing.specs.Outlines.{name_around}
+use Rattle.source_rows.specs.Sources.{BeginsWith}
 use Rattle.source_listing.proofs.Common.{Bor, List, [], ap, append-nil, append_assoc, bare_segment, codes, flat_map, flat_map-append, flat_map-map, get_or, length, length-map, map, map-append, refl, sym, take, take_more, ℕ, ◌++◌, ◌+◌, ◌<◌, ◌==◌, ◌||◌, ◌∙◌, ◌∷◌, ◌≡◌}
 
 -- a line, pushed part by part
 pub line_pushed : (o p i j v w n e o1 o2 o3 o4 o5 o6 o7 : List ℕ) → o1 ≡ o ++ p → o2 ≡ o1 ++ i → o3 ≡ o2 ++ j → o4 ≡ o3 ++ v → o5 ≡ o4 ++ w → o6 ≡ o5 ++ n → o7 ≡ o6 ++ e
     → o7 ≡ o ++ (p ++ (i ++ j) ++ v ++ w ++ n ++ e)
 line_pushed o p i j v w n e o1 o2 o3 o4 o5 o6 o7 a b c d f g h = rw (h, g, f, d, c, b, a) (simp append_assoc)
+
+-- a text to which something was added begins with what it was
+pub grown : (front more new : List ℕ) → new ≡ front ++ more → BeginsWith front new
+grown front more new e = (more, e)
+
+-- the same, where it then went on as it was
+pub grown_on : (front more text new : List ℕ) → text ≡ front ++ more → BeginsWith text new → BeginsWith front new
+grown_on front more text new e b = (more ++ b.0, b.1 ∙ ap (λ t. t ++ b.0) e ∙ append_assoc front more b.0)
 
 pub segments_of : {A : Type 0} (f : A → List ℕ) (xs : List A) → flat_map bare_segment (map f xs) ≡ flat_map (λ x. bare_segment (f x)) xs
 segments_of f xs = flat_map-map bare_segment f xs

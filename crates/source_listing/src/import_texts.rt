@@ -1,5 +1,5 @@
 //! Imports as text.
-ghost use Rattle.std.specs.Prelude.{◌≡◌, ◌++◌, OnOk, string_bytes};
+ghost use Rattle.std.specs.Prelude.{◌≡◌, ◌++◌, OnErr, OnOk, string_bytes};
 ghost use Rattle.item_tree.specs.UseText.{shown_rename};
 ghost use Rattle.source_listing.specs.ImportTexts.{import_text};
 
@@ -26,16 +26,7 @@ pub(crate) fn push_rename(
     }
 }
 
-/// Adds an import as a use of it alone would be written.
-///
-/// # Errors
-///
-/// Only if memory runs out.
-pub fn push_import_text(
-    edition: &Edition,
-    import: &Listed,
-    out: &mut String,
-) -> Result<(), AllocError>
+fn push_import_parts(edition: &Edition, import: &Listed, out: &mut String) -> Result<(), AllocError>
     ensures { let text = import_text edition.now.reserved.items import.now.kind import.now.path
         import.now.alias in
         OnOk result (string_bytes out.new ≡ string_bytes out.old ++ text) }
@@ -51,4 +42,25 @@ pub fn push_import_text(
             out.push_str("}")
         }
     }
+}
+
+/// Adds an import as a use of it alone would be written.
+///
+/// # Errors
+///
+/// Only if memory runs out. Then the text stays as it was.
+pub fn push_import_text(
+    edition: &Edition,
+    import: &Listed,
+    out: &mut String,
+) -> Result<(), AllocError>
+    ensures text { let text = import_text edition.now.reserved.items import.now.kind import.now.path
+        import.now.alias in
+        OnOk result (string_bytes out.new ≡ string_bytes out.old ++ text) }
+    ensures same { OnErr result (string_bytes out.new ≡ string_bytes out.old) }
+{
+    // What a display leaves where memory runs out is not told: so a text of its own.
+    let mut text = String::new(*out.allocator());
+    push_import_parts(edition, import, &mut text)?;
+    out.push_str(&text)
 }

@@ -8,6 +8,7 @@ ghost use Rattle.source_listing.specs.Inner.{IsPrinterOf, IsSameFile, file_of, r
 ghost use Rattle.source_listing.specs.Lines as spec;
 ghost use Rattle.source_listing.specs.Objects.{member_spot};
 ghost use Rattle.source_rows.specs.Places.{AreDistinct, item_place};
+ghost use Rattle.source_rows.specs.Sources.{BeginsWith};
 ghost use Rattle.source_listing.specs.Uses.{file_places};
 ghost use Rattle.source_listing.specs.Views.{choice_view, source_view};
 
@@ -102,10 +103,12 @@ impl Choice {
 ///
 /// # Errors
 ///
-/// Only if memory runs out.
+/// Only if memory runs out. A part of them may then be added.
+#[tactic(auto, using(source_rows::proofs::GrowingTexts::longer, source_rows::proofs::GrowingTexts::itself))]
 pub fn push_spot(path: &str, spot: Option<Spot>, out: &mut String) -> Result<(), AllocError>
-    ensures { OnOk result (string_bytes out.new ≡ string_bytes out.old
+    ensures text { OnOk result (string_bytes out.new ≡ string_bytes out.old
         ++ item_place path.now spot) }
+    ensures longer { BeginsWith (string_bytes out.old) (string_bytes out.new) }
 {
     match spot {
         Some(spot) => push_place(path, spot.position, out),

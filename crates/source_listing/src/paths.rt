@@ -1,6 +1,7 @@
 //! Paths of names, with two colons before each, as `::a::b`.
 ghost use Rattle.std.specs.Prelude.{◌≡◌, ◌++◌, OnOk, string_bytes, flat_map};
 ghost use Rattle.source_listing.specs.Paths as spec;
+ghost use Rattle.source_rows.specs.Sources.{BeginsWith};
 
 use hir_input::Name;
 use std::alloc::AllocError;
@@ -9,9 +10,12 @@ use std::alloc::AllocError;
 ///
 /// # Errors
 ///
-/// Only if memory runs out.
+/// Only if memory runs out. A part of them may then be added.
+#[tactic(auto, using(source_rows::proofs::GrowingTexts::longer, source_rows::proofs::GrowingTexts::itself))]
 pub fn push_segment(name: &str, path: &mut String) -> Result<(), AllocError>
-    ensures { OnOk result (string_bytes path.new ≡ string_bytes path.old ++ spec.bare_segment name.now) }
+    ensures text { OnOk result (string_bytes path.new ≡ string_bytes path.old
+        ++ spec.bare_segment name.now) }
+    ensures longer { BeginsWith (string_bytes path.old) (string_bytes path.new) }
 {
     path.push_str("::")?;
     path.push_str(name)
@@ -21,10 +25,12 @@ pub fn push_segment(name: &str, path: &mut String) -> Result<(), AllocError>
 ///
 /// # Errors
 ///
-/// Only if memory runs out.
+/// Only if memory runs out. A part of them may then be added.
+#[tactic(auto, using(crate::proofs::PushedTexts::grown, crate::proofs::PushedTexts::grown_on))]
 pub fn push_scope(scope: &[&Name], path: &mut String) -> Result<(), AllocError>
-    ensures { let segments = flat_map (λ n. spec.bare_segment n.now) scope.now in
+    ensures text { let segments = flat_map (λ n. spec.bare_segment n.now) scope.now in
         OnOk result (string_bytes path.new ≡ string_bytes path.old ++ segments) }
+    ensures longer { BeginsWith (string_bytes path.old) (string_bytes path.new) }
 {
     for name in scope {
         push_segment(name.text(), path)?;

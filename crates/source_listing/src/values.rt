@@ -1,5 +1,5 @@
 //! What is told of items and members, as values of JSON.
-ghost use Rattle.std.specs.Prelude.{◌≡◌, IfOk, OnOk, option_copied};
+ghost use Rattle.std.specs.Prelude.{◌≡◌, IfOk, OnErr, OnOk, option_copied};
 ghost use Rattle.serde_json.specs.Data.{put as put_member, string};
 ghost use Rattle.serde_json.specs.View.{members_view, view};
 ghost use Rattle.tree_walk.specs.Views.{subject_view};
@@ -143,15 +143,17 @@ pub fn range_value(alloc: Global, spot: Option<Spot>) -> Result<Value, AllocErro
 ///
 /// # Errors
 ///
-/// Only if memory runs out.
+/// Only if memory runs out. Then the members stay as they were.
 pub fn put_text(
     alloc: Global,
     key: &str,
     text: &str,
     members: &mut Members,
 ) -> Result<(), AllocError>
-    ensures { let old = members_view members.old.entries in
+    ensures put { let old = members_view members.old.entries in
         OnOk result (members_view members.new.entries ≡ put_member key.now (string text.now) old) }
+    ensures same { OnErr result (members_view members.new.entries
+        ≡ members_view members.old.entries) }
 {
     let text = Value::try_from_str(alloc, text)?;
     put(members, alloc, key, text)

@@ -6,4 +6,4 @@ pub returns : goal.returns
 returns c =
     on_ok_weaker c.push_scope.result (scope_pushed (λ n. n.now) c.args.scope.now c.in-Some.first.now c.in-Some.rest.now c.args.word.now (string_bytes c.args.out.now) (string_bytes c.push_str.new.self) (string_bytes c.push_str-2.new.self)
     (string_bytes c.push_str-3.new.self) (string_bytes c.push_str-4.new.self) (string_bytes c.push_scope.new.path)
-    (search rules) (search rules) (search rules) (search rules) (search rules)) c.push_scope.ensures
+    (search rules) (search rules) (search rules) (search rules) (search rules)) c.push_scope.ensures.text
