@@ -33,6 +33,17 @@ record LedOn (s u : Session) (Asks : Asked → Type 0) (outcome : Outcome) : Typ
 led_still : (s u : Session) (Asks : Asked → Type 0) (outcome : Outcome) → u ≡ s → Stand outcome Asks s.edition.0 (text_in s.texts) [] [] → LedOn s u Asks outcome
 led_still s u Asks outcome same stand = record { edits = []; changes = []; made = subst (λ v. AreMade s [] [] v) (sym same) (made_none s); stand = stand }
 
+-- if there is no memory for the answer
+stand_unsaid : (Asks : Asked → Type 0) (edition : EditionYear) (texts : FileTexts) (outcome : Outcome) (es : List EditView) (cs : List TextChange) → Stand outcome Asks edition texts es cs → Stand (Err OutOfMemory) Asks edition texts es cs
+stand_unsaid Asks edition texts (Ok values) es cs h =
+    inr (length es, (es, cs, h, sym (take_all (length es) es (omega arith)), sym (take_all (length es) cs (omega (arith, same_length edition texts h.0.edits es cs h.2)))))
+stand_unsaid Asks edition texts (Err (Refused place cause)) es cs h = inr (place, h)
+stand_unsaid Asks edition texts (Err OutOfMemory) es cs h = h
+stand_unsaid Asks edition texts (Err (NotJson column)) es cs h = inl h
+stand_unsaid Asks edition texts (Err (NotRequest pointer)) es cs h = inl h
+stand_unsaid Asks edition texts (Err (NotChanged place cause)) es cs h = inl h
+stand_unsaid Asks edition texts (Err TooLong) es cs h = inl h
+
 -- a line that asks for this
 module _ (s : Session) (Asks : Asked → Type 0) (a : Asked) (asks : Asks a) where
   stand_stopped : (es : List EditView) (cs : List TextChange) (n : ℕ) → (n ≡ 0) ⊎ AreMeant s.edition.0 (text_in s.texts) a.edits es cs → Stand (Err OutOfMemory) Asks s.edition.0 (text_in s.texts) (take n es) (take n cs)
@@ -46,18 +57,10 @@ module _ (s : Session) (Asks : Asked → Type 0) (a : Asked) (asks : Asks a) whe
 
   led_done : (u : Session) (outcome : Outcome) → IsCarriedOut s a u outcome → LedOn s u Asks outcome
   led_done u (Ok values) h = record { edits = h.0.edits; changes = h.0.changes; made = h.0.made; stand = (a, asks, h.0.meant) }
-  led_done u (Err e) h = subst (λ x. LedOn s u Asks (Err x)) (sym h.1) (led_undone u h.0 h.2)
-
--- if there is no memory for the answer
-stand_unsaid : (Asks : Asked → Type 0) (edition : EditionYear) (texts : FileTexts) (outcome : Outcome) (es : List EditView) (cs : List TextChange) → Stand outcome Asks edition texts es cs → Stand (Err OutOfMemory) Asks edition texts es cs
-stand_unsaid Asks edition texts (Ok values) es cs h =
-    inr (length es, (es, cs, h, sym (take_all (length es) es (omega arith)), sym (take_all (length es) cs (omega (arith, same_length edition texts h.0.edits es cs h.2)))))
-stand_unsaid Asks edition texts (Err (Refused place cause)) es cs h = inr (place, h)
-stand_unsaid Asks edition texts (Err OutOfMemory) es cs h = h
-stand_unsaid Asks edition texts (Err (NotJson column)) es cs h = inl h
-stand_unsaid Asks edition texts (Err (NotRequest pointer)) es cs h = inl h
-stand_unsaid Asks edition texts (Err (NotChanged place cause)) es cs h = inl h
-stand_unsaid Asks edition texts (Err TooLong) es cs h = inl h
+  led_done u (Err e) (inl h) = subst (λ x. LedOn s u Asks (Err x)) (sym h.1) (led_undone u h.0 h.2)
+  led_done u (Err e) (inr h) =
+      let stand = stand_unsaid Asks s.edition.0 (text_in s.texts) (Ok []) h.0.edits h.0.changes (a, asks, h.0.meant) in
+      subst (λ x. LedOn s u Asks (Err x)) (sym h.1) (record { edits = h.0.edits; changes = h.0.changes; made = h.0.made; stand = stand })
 
 led_unsaid : (s u : Session) (Asks : Asked → Type 0) (outcome : Outcome) → LedOn s u Asks outcome → LedOn s u Asks (Err OutOfMemory)
 led_unsaid s u Asks outcome led = record { edits = led.edits; changes = led.changes; made = led.made; stand = stand_unsaid Asks s.edition.0 (text_in s.texts) outcome led.edits led.changes led.stand }

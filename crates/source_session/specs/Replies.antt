@@ -78,10 +78,18 @@ abbrev pub asked_of : Open → Data → Reading (Session × Asked)
 asked_of None d = of_opened (first_line d)
 asked_of (Some s) d = of_session s (later_line (crate_count s) d)
 
--- the edits are made, and the values are those of the shows; or it is told why they are not
+-- the edits are not all made, and it is told why
+abbrev pub IsUndone : Session → Asked → Session → LineError → Type 0
+IsUndone s a u e = (why : EditError) × (e ≡ edit_error why) × IsUnedited s a.edits u why
+
+-- all are made, and there is no memory for the values
+abbrev pub IsUnshown : Session → Asked → Session → LineError → Type 0
+IsUnshown s a u e = IsEdited s a.edits u × (e ≡ OutOfMemory)
+
+-- the edits are made, and the values are those of the shows; or it is told why they are not, or why there are no values
 abbrev pub IsCarriedOut : Session → Asked → Session → Outcome → Type 0
 IsCarriedOut s a u (Ok values) = IsEdited s a.edits u × AllZip (IsShowValue u) a.shows values
-IsCarriedOut s a u (Err e) = (why : EditError) × (e ≡ edit_error why) × IsUnedited s a.edits u why
+IsCarriedOut s a u (Err e) = IsUndone s a u e ⊎ IsUnshown s a u e
 
 -- what is asked is done, or a line of wrong form changes nothing
 abbrev pub IsOutcome : Open → Reading (Session × Asked) → Open → Outcome → Type 0

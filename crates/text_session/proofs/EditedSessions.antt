@@ -1,13 +1,14 @@
 -- What edits make of a session.
-use Rattle.std.proofs.Common.{◌≡◌, ◌≢◌, ℕ, ◌≤◌, ◌==◌, suc, true, false, if◌then◌else◌, inl, inr, List, [], ◌∷◌, ◌++◌, Option, Some, None, IfSome, All, Result, Ok, Err, OnOk, IfOk, IfErr, MatchResult, slice_get, length, map, take, refl, sym, ap, subst, ◌∙◌, arith}
+use Rattle.std.proofs.Common.{◌≡◌, ◌≢◌, ℕ, ◌<◌, ◌≤◌, ◌==◌, suc, true, false, if◌then◌else◌, inl, inr, List, [], ◌∷◌, ◌++◌, Option, Some, None, IfSome, All, Result, Ok, Err, OnOk, IfOk, IfErr, MatchResult, slice_get, length, map, take, refl, sym, ap, subst, ◌∙◌, arith}
 use Rattle.text_session.proofs.Common.{length-map, take_all, All-take, option_map, option_or, unwrap_or, after_join, last_append, or_else, EditionYear, Edit, EditView, edit_view, edits_before, last_number, FirstFit, IsCause, IsRefusal, IsAfter, IsFooting, last_some, State, after_none, IndexView, TextEdit, EditError, NotChanged, IsPlaced, LeavesPlaced, AreTogether, TellsFault, session_of, edit_refusal, made_count, outcome_of, Session, AreMade, IsEdited, IsRefused, IsStopped, IsUnedited, AreTouched, IsBehindBy, Touched, Texts, TextChange, text_in, text_after, left_text, AreMeant, FailsAt}
 use Rattle.item_tree.specs.declared.fault.EditFault.{EditFault}
 use Rattle.item_tree.specs.declared.fault.EditFault.TheVariants.{TooManyEdits, Lower}
 use Rattle.item_tree.specs.declared.fault.LowerError.TheVariants.{TooManyItems, TooManyVisibilities, TooManyUseTrees, TooManyAttributes, TooManySupers, OutOfMemory}
 use Rattle.item_tree_db.specs.declared.edit.AllRefused.{AllRefused}
-use Rattle.std.proofs.lemmas.Option.{slice_get-map}
+use Rattle.std.proofs.lemmas.Option.{slice_get-map, slice_get_within}
 use Rattle.text_session.specs.declared.error.EditError.TheVariants as why
 use Rattle.text_session.proofs.KeptTexts.{text_over}
+use Rattle.text_session.proofs.MeantEdits.{meant_length}
 use Rattle.text_session.proofs.ReadTexts.{AreLeft, left_first, same_length, set_after}
 use Rattle.text_session.proofs.Touching.{behind_by_after, touched_first}
 
@@ -51,24 +52,13 @@ pub made_none : (s u : Session) → u.edition ≡ s.edition → u.table ≡ s.ta
 made_none s u edition table texts = record { edition = edition; table = subst (IsAfter s.table []) (sym table) (after_none s.table); texts = texts }
 
 pub stopped_none : (s : Session) (asked : List TextEdit) (u : Session) → u.edition ≡ s.edition → u.table ≡ s.table → ((file : ℕ) → text_in u.texts file ≡ text_in s.texts file) → IsStopped s asked u
-stopped_none s asked u edition table texts = record { edits = []; changes = []; count = 0; meant = inl refl; made = made_none s u edition table texts }
+stopped_none s asked u edition table texts = record { edits = []; changes = []; count = 0; meant = inl refl; made = made_none s u edition table texts; rest = inl refl; in_range = inl refl; fits = λ m less. absurd (omega (arith, less)) }
 
 -- memory runs out, or an edit means nothing
 pub unmeant : (s : Session) (asked : List TextEdit) (e : EditError) → TellsFault (FailsAt s.edition.0 (text_in s.texts) asked) e → IsUnedited s asked s e
 unmeant s asked (NotChanged place cause) h = (h, refl)
 unmeant s asked why.OutOfMemory h = stopped_none s asked s refl refl (λ file. refl)
 unmeant s asked e h = absurd h
-
--- all is made, and memory runs out behind it
-pub stopped_all : (s : Session) (asked : List TextEdit) (u : Session) → IsEdited s asked u → IsStopped s asked u
-stopped_all s asked u e = record {
-  edits = e.edits;
-  changes = e.changes;
-  count = length e.edits;
-  meant = inr e.meant;
-  made = subst (λ es. AreMade s es (take (length e.edits) e.changes) u) (sym (take_all (length e.edits) e.edits (omega arith)))
-      (subst (λ cs. AreMade s e.edits cs u) (sym (take_all (length e.edits) e.changes (omega (arith, same_length s.edition.0 (text_in s.texts) asked e.edits e.changes e.meant)))) e.made);
-}
 
 -- an edit is refused, or memory runs out in it
 module _ (s : Session) (asked : List TextEdit) (u : Session) (edits : List EditView) (changes : List TextChange) (place : ℕ) (meant : AreMeant s.edition.0 (text_in s.texts) asked edits changes) (made : AreMade s (take place edits) (take place changes) u)
@@ -78,6 +68,10 @@ module _ (s : Session) (asked : List TextEdit) (u : Session) (edits : List EditV
   by_size cause refused full size =
       record { edits = edits; changes = changes; meant = meant; made = made; in_range = in_range; fits = fits; edit = edit; found = found; refused = refused; size = size; full = full }
 
+  -- it is one of those that are asked for
+  in_asked : place < length asked
+  in_asked = omega (arith, slice_get_within edits place edit found, same_length s.edition.0 (text_in s.texts) asked edits changes meant, meant_length s.edition.0 (text_in s.texts) asked edits changes meant)
+
   pub refused_at : (cause : EditFault) → IsCause u.table edit cause → (u.table.number ≡ last_number → cause ≡ TooManyEdits) → IsUnedited s asked u (edit_refusal place cause)
   refused_at TooManyEdits h full = by_size TooManyEdits h full (λ e. cc)
   refused_at (Lower TooManyItems) h full = by_size (Lower TooManyItems) h full (λ e. cc)
@@ -85,7 +79,7 @@ module _ (s : Session) (asked : List TextEdit) (u : Session) (edits : List EditV
   refused_at (Lower TooManyUseTrees) h full = by_size (Lower TooManyUseTrees) h full (λ e. cc)
   refused_at (Lower TooManyAttributes) h full = by_size (Lower TooManyAttributes) h full (λ e. cc)
   refused_at (Lower TooManySupers) h full = by_size (Lower TooManySupers) h full (λ e. cc)
-  refused_at (Lower OutOfMemory) h full = record { edits = edits; changes = changes; count = place; meant = inr meant; made = made }
+  refused_at (Lower OutOfMemory) h full = record { edits = edits; changes = changes; count = place; meant = inr meant; made = made; rest = inr in_asked; in_range = inr in_range; fits = fits }
 
 -- ---- edits in two goes
 

@@ -47,7 +47,7 @@ fails_behind edition texts (k ∷ ls) (f ∷ es) (d ∷ cs) l rest cause are fai
     (f, d, are.0, fails_behind edition next ls es cs l rest cause are.1 (fails_over edition (text_after texts (d ∷ cs)) (text_after next cs) (after_first texts d cs) l cause fails))
 fails_behind edition texts ls es cs l rest cause are fails = absurd are
 
-meant_length : (edition : EditionYear) (texts : FileTexts) (ls : List TextEdit) (es : List EditView) (cs : List TextChange) → AreMeant edition texts ls es cs → length cs ≡ length ls
+pub meant_length : (edition : EditionYear) (texts : FileTexts) (ls : List TextEdit) (es : List EditView) (cs : List TextChange) → AreMeant edition texts ls es cs → length cs ≡ length ls
 meant_length edition texts [] [] [] are = refl
 meant_length edition texts (l ∷ ls) (e ∷ es) (c ∷ cs) are = ap suc (meant_length edition (text_after texts (c ∷ [])) ls es cs are.1)
 meant_length edition texts ls es cs are = absurd are

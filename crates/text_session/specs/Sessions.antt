@@ -1,5 +1,5 @@
 -- Sessions, and what edits make of them.
-use Rattle.std.specs.Prelude.{◌≡◌, ◌≢◌, ◌⊎◌, ℕ, ◌≤◌, List, [], Option, Some, IfSome, length, take, slice_get, string_bytes}
+use Rattle.std.specs.Prelude.{◌≡◌, ◌≢◌, ◌⊎◌, ℕ, ◌<◌, ◌≤◌, List, [], Option, Some, IfSome, length, take, slice_get, string_bytes}
 use Rattle.hir_input.specs.declared.edition.EditionYear.{EditionYear}
 use Rattle.hir_input.specs.Syntax.{SyntaxView}
 use Rattle.item_tree.specs.CrateView.{CrateView}
@@ -80,13 +80,16 @@ pub record IsRefused (s : Session) (asked : List TextEdit) (u : Session) (place 
   -- behind the last number there is no other cause
   pub full : u.table.number ≡ last_number → cause ≡ TooManyEdits
 
--- the first edits are made, down to none, and memory runs out
+-- memory runs out: some of the edits are made, fewer than all, and none of them passes a size, or none is made
 pub record IsStopped (s : Session) (asked : List TextEdit) (u : Session) : Type 0 where
   pub edits : List EditView
   pub changes : List TextChange
   pub count : ℕ
   pub meant : (count ≡ 0) ⊎ AreMeant s.edition.0 (text_in s.texts) asked edits changes
   pub made : AreMade s (take count edits) (take count changes) u
+  pub rest : (count ≡ 0) ⊎ (count < length asked)
+  pub in_range : (count ≡ 0) ⊎ (u.table.number ≤ last_number)
+  pub fits : FirstFit s.table edits count
 
 -- the edit at this place is the first that means nothing, for this reason, and nothing is made
 abbrev pub IsUnchanged : Session → List TextEdit → Session → ℕ → ChangeFault → Type 0

@@ -1,6 +1,6 @@
 //! The texts of files, with what was read of them.
 ghost use Rattle.std.specs.Prelude.{◌≡◌, ℕ, ◌==◌, ◌∷◌, List, All, Some, IfSome, OnOk, if◌then◌else◌, take};
-ghost use Rattle.std.specs.Prelude.{option_copied, option_map};
+ghost use Rattle.std.specs.Prelude.{option_copied, option_map, string_bytes};
 ghost use Rattle.text_session.specs.Inner.{HasSlot, HasSlotFor};
 ghost use Rattle.source_rows.specs.ListedViews.{reading_view};
 ghost use Rattle.text_session.specs.SourceTexts.{text_reading};
@@ -35,8 +35,9 @@ impl SourceText {
         edition: EditionYear,
         options: Option<&'a CfgOptions>,
     ) -> Reading<'a>
-        ensures { reading_view result
+        ensures reading { reading_view result
             ≡ text_reading edition (option_copied options.entry) (Some self.now) }
+        ensures text { result.text.now ≡ string_bytes self.now.text }
     {
         Reading {
             text: self.text.as_str(),

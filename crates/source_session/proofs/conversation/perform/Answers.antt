@@ -1,8 +1,6 @@
-use Rattle.std.proofs.Common.{◌≡◌, Err, map, refl, rules, sym, subst}
+use Rattle.std.proofs.Common.{◌≡◌, Err, inr, map, refl, rules, sym, subst}
 use Rattle.source_session.proofs.Common.{AllZip, OutOfMemory, Session, text_edit_view, outcome_view, asked_view, IsCarriedOut, IsEdited, IsShowValue}
 use Rattle.serde_json.specs.View.{view}
-use Rattle.text_session.proofs.EditedSessions.{stopped_all}
-use Rattle.text_session.specs.declared.error.EditError.TheVariants as edits
 use Rattle.source_session.proofs.NamedCrates.{edits_known, no_float_in_shown}
 use Rattle.source_session.proofs.conversation.perform.Goals as goal
 
@@ -16,7 +14,7 @@ returns-in_err-values-clause-done c =
     let asked = map text_edit_view c.args.asked.edits.items in
     let is : c.from_residual-in_err-values.result ≡ Err OutOfMemory = search rules in
     let edited = subst (IsEdited s asked) (sym c.show_all.ensures.same) c.in_ok-edit.ensures.edited in
-    subst (λ r. IsCarriedOut s (asked_view c.args.asked) u (outcome_view r)) (sym is) (edits.OutOfMemory, refl, stopped_all s asked u edited)
+    subst (λ r. IsCarriedOut s (asked_view c.args.asked) u (outcome_view r)) (sym is) (inr (edited, refl))
 
 pub returns-clause-done : goal.returns-clause-done
 returns-clause-done c =
