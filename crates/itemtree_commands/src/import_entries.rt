@@ -9,15 +9,13 @@ ghost use Rattle.itemtree_commands.specs.ModuleLists.{candidates_text, placed_te
 use crate::declarations::DeclaredItems;
 use crate::import_checks::import_position;
 use crate::import_targets::{PlacedTarget, path_in, placed_targets};
-use crate::module_lists::{file_of, push_candidates, push_position};
+use crate::module_lists::{file_of, push_candidates, push_stand};
 use crate::module_paths::{PathedModule, pathed_modules};
 use def_map::{ResolvedImport, Verdict};
 use hir_input::Edition;
 use hir_input_json::write::object::{of_text, with, with_text};
 use line_index::Position;
-use list_forms::{
-    BOLD, FAINT, Form, RED, USUAL, column_number, line_number, push_color, push_colored, value_line,
-};
+use list_forms::{BOLD, Form, RED, column_number, line_number, push_colored, value_line};
 use module_tree::{ModuleData, ModuleTree};
 use serde_json::Value;
 use source_listing::{PlaceFinder, push_import_text};
@@ -158,9 +156,7 @@ fn push_line(
         OnOk result (string_bytes out.new ≡ string_bytes out.old ++ line) }
 {
     let lead = lead_text(alloc, told)?;
-    push_color(is_colored, FAINT, out)?;
-    push_position(told.file, told.position, out)?;
-    push_color(is_colored, USUAL, out)?;
+    push_stand(is_colored, told.file, told.position, out)?;
     push_colored(is_colored, BOLD, &told.text, out)?;
     out.push_str(" -> ")?;
     push_colored(is_red(is_colored, told.verdict), RED, &lead, out)?;

@@ -1,5 +1,6 @@
 //! What `itemtree modules` lists of a crate, and what `check --crate` tells of its modules.
 ghost use Rattle.std.specs.Prelude.{◌≡◌, ◌++◌, IfOk, OnOk, flat_map, map, string_bytes};
+ghost use Rattle.list_forms.specs.Colors.{colored_text, faint_code};
 ghost use Rattle.module_tree.specs.Views.{unresolved_view};
 ghost use Rattle.serde_json.specs.View.{view};
 ghost use Rattle.itemtree_commands.specs.Inner.{pathed_view};
@@ -101,11 +102,7 @@ fn declared_at(finders: &mut [PlaceFinder<'_>], file: u32, origin: ModuleOrigin)
 }
 
 /// File, line and column.
-pub(crate) fn push_position(
-    path: &str,
-    position: Option<Position>,
-    out: &mut String,
-) -> Result<(), AllocError>
+fn push_position(path: &str, position: Option<Position>, out: &mut String) -> Result<(), AllocError>
     ensures { OnOk result (string_bytes out.new ≡ string_bytes out.old ++ spec.module_place_text path.now position) }
 {
     match position {
@@ -115,6 +112,22 @@ pub(crate) fn push_position(
             out.push_str(": ")
         }
     }
+}
+
+/// The same, faint in colours.
+#[tactic(auto, unfolding(list_forms::specs::Colors::colored_text))]
+pub(crate) fn push_stand(
+    is_colored: bool,
+    path: &str,
+    position: Option<Position>,
+    out: &mut String,
+) -> Result<(), AllocError>
+    ensures { let place = spec.module_place_text path.now position in
+        OnOk result (string_bytes out.new ≡ string_bytes out.old ++ colored_text is_colored faint_code place) }
+{
+    push_color(is_colored, FAINT, out)?;
+    push_position(path, position, out)?;
+    push_color(is_colored, USUAL, out)
 }
 
 /// The line of a module, which is declared there.
@@ -130,9 +143,7 @@ fn push_module_line(
     ensures { let line = spec.module_line is_colored declared_in.now position path.now file.now in
         OnOk result (string_bytes out.new ≡ string_bytes out.old ++ line) }
 {
-    push_color(is_colored, FAINT, out)?;
-    push_position(declared_in, position, out)?;
-    push_color(is_colored, USUAL, out)?;
+    push_stand(is_colored, declared_in, position, out)?;
     push_colored(is_colored, BOLD, path, out)?;
     out.push_str(" ")?;
     out.push_str(file)?;
@@ -301,9 +312,7 @@ pub(crate) fn push_problem(
     ensures { OnOk result (string_bytes out.new ≡ string_bytes out.old
         ++ spec.fault_line is_colored path.now position message.now) }
 {
-    push_color(is_colored, FAINT, out)?;
-    push_position(path, position, out)?;
-    push_color(is_colored, USUAL, out)?;
+    push_stand(is_colored, path, position, out)?;
     push_colored(is_colored, RED, message, out)?;
     out.push_str("\n")
 }
