@@ -102,6 +102,32 @@ fn rests_before_more_is_read(rt: HostRuntime) -> Result<(), Fail> {
 }
 
 #[test]
+fn reads_nothing_behind_an_end(rt: HostRuntime) -> Result<(), Fail> {
+    let alloc = rt.alloc();
+    let mut notes = Notes { left: 0 };
+    let mut written = Vec::new(alloc);
+    let served = serve(
+        alloc,
+        &Lines,
+        &mut BufReader::new(
+            alloc,
+            Pieces {
+                // The empty one is an end, and what would be read then fails.
+                pieces: &["one\n", "two", ""],
+                next: 0,
+                fails: true,
+            },
+        )?,
+        &mut written,
+        &mut notes,
+    );
+    assert!(rt; served.is_ok());
+    assert!(rt; written.as_slice() == "note\nnote\n".as_bytes());
+    assert_eq!(rt; notes.left, 0);
+    Ok(())
+}
+
+#[test]
 fn stops_at_a_failed_write_at_a_rest(rt: HostRuntime) -> Result<(), Fail> {
     let alloc = rt.alloc();
     let mut notes = Notes { left: 0 };

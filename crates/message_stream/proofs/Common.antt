@@ -5,7 +5,7 @@ pub use Rattle.message_stream.specs.Frames.{Frames}
 pub use Rattle.message_stream.specs.Inner.{EndsAt, HasTurned, IsEndIn, IsNone, IsPart, feed_of}
 pub use Rattle.message_stream.specs.Lines.{HasNoFeed, begin, with_feed, line_frames, lines}
 pub use Rattle.message_stream.specs.Messages.{IsToldOf, Told, message_told}
-pub use Rattle.message_stream.specs.Served.{Turn, HasServed, HasTold, IsReady, IsServed, IsTurn, messages_of, rested, took}
+pub use Rattle.message_stream.specs.Served.{Turn, Intake, HasServed, HasTold, MayRead, IsReady, IsServed, IsTurn, messages_of, rested, intake_at, took}
 pub use Rattle.message_stream.specs.declared.error.StreamError.{StreamError}
 pub use Rattle.message_stream.specs.declared.message.Message.{Message}
 pub use Rattle.std.proofs.KnownBytes.{Appends-kept, Appends-trans, Consumes-trans}

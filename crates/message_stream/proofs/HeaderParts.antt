@@ -1,5 +1,5 @@
 -- Parts of a message behind a header, one after another.
-use Rattle.std.proofs.Common.{◌≡◌, inl, inr, ◌+◌, ◌<◌, ◌≤◌, ℕ, List, ◌++◌, Option, Some, Result, Ok, Err, length, length-append, refl, sym, subst, ◌∙◌, arith}
+use Rattle.std.proofs.Common.{◌≡◌, inl, inr, ◌+◌, ◌<◌, ◌≤◌, ℕ, List, ◌++◌, Option, Result, Ok, Err, length, length-append, refl, sym, subst, ◌∙◌, arith}
 use Rattle.httparse.specs.Spans.{SectionOverflows}
 use Rattle.message_stream.proofs.Common.{Consumes, Consumes-trans, IsToldOf, Message, StreamError, message_told}
 use Rattle.message_stream.proofs.Parts.{at_end}
@@ -10,8 +10,9 @@ use Rattle.message_stream.specs.declared.lines.Ending.TheVariants.{End}
 use Rattle.message_stream.specs.declared.message.Message.TheVariants.{Whole, TooLong, OutOfMemory}
 use Rattle.message_stream.specs.declared.message.TheConstants.{MOST_MESSAGE}
 use Rattle.message_stream.specs.declared.sections.TheConstants.{MOST_FIELDS, MOST_HEADER}
+use Rattle.message_stream.specs.declared.framing.Next.TheVariants.{One}
 use Rattle.message_stream.specs.Exchanged.{IsNext}
-use Rattle.message_stream.specs.Headers.{IsHeadedFault, IsHeader, header_frames}
+use Rattle.message_stream.specs.Headers.{IsHeadedFault, IsHeader, SaysLength, header_frames}
 use Rattle.message_stream.specs.Inner.{Grows, HasReadHeader, IsBodySoFar, IsEndOfHeader, IsHead, IsHeaderPart, IsPassing, IsPiece, IsSoFar}
 use Rattle.message_stream.specs.Messages.{Told, whole, too_long, no_memory}
 
@@ -30,9 +31,9 @@ passing_more had mid left e read first passing = (passing.0, (read ++ passing.1.
 pub header_more : (had mid left : Option (List ℕ)) (old new : List ℕ) (ending : Ending) → Consumes had mid old → IsHeaderPart mid left old new ending → Consumes had left new
 header_more had mid left old new ending first part = subst (Consumes had left) (sym part.longer) (Consumes-trans had mid left old part.part first part.read)
 
-pub header_whole : (had mid left : Option (List ℕ)) (old new bytes : List ℕ) (ending : Ending) (n : ℕ) → bytes ≡ new → Consumes had mid old → IsHeaderPart mid left old new ending → IsHeader bytes n
+pub header_whole : (had mid left : Option (List ℕ)) (old new bytes : List ℕ) (ending : Ending) (n : ℕ) → bytes ≡ new → Consumes had mid old → IsHeaderPart mid left old new ending → length new ≤ MOST_HEADER → SaysLength bytes n
     → (all : List ℕ) × Consumes had left all × IsHeader all n
-header_whole had mid left old new bytes ending n same first part is = (new, header_more had mid left old new ending first part, subst (λ b. IsHeader b n) same is)
+header_whole had mid left old new bytes ending n same first part short is = (new, header_more had mid left old new ending first part, (short, subst (λ b. SaysLength b n) same is))
 
 -- no header begins so
 pub header_wrong : (had mid left : Option (List ℕ)) (old new bytes : List ℕ) (ending : Ending) → bytes ≡ new → Consumes had mid old → IsHeaderPart mid left old new ending → SectionOverflows MOST_FIELDS bytes
@@ -103,9 +104,9 @@ told_of n body no_memory long is = omega (arith, long, is)
 
 -- a whole message
 pub message_of : (had mid left : Option (List ℕ)) (n : ℕ) (told : Message) (header body : List ℕ) → Consumes had mid header → IsHeader header n → Consumes mid left body → length body ≡ n → IsBodySoFar n body told
-    → IsNext header_frames had left (Some told)
+    → IsNext header_frames had left (One told)
 message_of had mid left n told header body first is then long so_far = (
   body,
-  (header ++ body, Consumes-trans had mid left header body first then, inl (header, refl, subst (IsHeader header) (sym long) is)),
+  (header ++ body, Consumes-trans had mid left header body first then, (header, refl, subst (IsHeader header) (sym long) is)),
   told_of n body (message_told told) long so_far,
 )

@@ -5,7 +5,7 @@ use Rattle.std.specs.Str.Parse.{digits_value, without_leading_plus}
 use Rattle.httparse.specs.Grammar.{ReadsSection, print_section}
 use Rattle.httparse.specs.Spans.{name_and_value}
 use Rattle.httparse.proofs.GrammarLemmas.{ReadsSection-append, section_unique}
-use Rattle.message_stream.specs.Headers.{IsHeaded, IsHeader, IsLengthValue, IsNumberOf}
+use Rattle.message_stream.specs.Headers.{IsHeaded, SaysLength, IsLengthValue, IsNumberOf}
 
 one_value : (fields : List (List ℕ × List ℕ)) (value other : List ℕ) → IsLengthValue fields value → IsLengthValue fields other → value ≡ other
 one_value [] value other is was = absurd is
@@ -18,7 +18,7 @@ one_number : (value other : List ℕ) (n m : ℕ) → value ≡ other → IsNumb
 one_number value other n m same is was = is.1 ∙ ap (λ v. digits_value 10 (without_leading_plus v)) same ∙ sym was.1
 
 -- two headers before what follows them
-one_header : (header other body rest : List ℕ) (n m : ℕ) → IsHeader header n → IsHeader other m → header ++ body ≡ other ++ rest → (header ≡ other) × (n ≡ m) × (body ≡ rest)
+one_header : (header other body rest : List ℕ) (n m : ℕ) → SaysLength header n → SaysLength other m → header ++ body ≡ other ++ rest → (header ≡ other) × (n ≡ m) × (body ≡ rest)
 one_header header other body rest n m (fields, last, reads, (value, is_value, is_number)) (others, end, read, (was, was_value, was_number)) same =
     let (same_fields, same_last, same_rest) =
     section_unique (header ++ body) fields others last end body rest (ReadsSection-append header fields last [] body reads)
@@ -35,6 +35,6 @@ pub one_message : (one other message said rest more : List ℕ) → IsHeaded one
 one_message one other message said rest more (header, both, is) (also, other_both, was) same =
     let apart : header ++ (message ++ rest) ≡ also ++ (said ++ more) =
     sym (append_assoc header message rest) ∙ ap (λ l. l ++ rest) (sym both) ∙ same ∙ ap (λ l. l ++ more) other_both ∙ append_assoc also said more in
-    let (same_header, same_length, same_rest) = one_header header also (message ++ rest) (said ++ more) (length message) (length said) is was apart in
+    let (same_header, same_length, same_rest) = one_header header also (message ++ rest) (said ++ more) (length message) (length said) is.1 was.1 apart in
     let bodies = front message said rest more same_length same_rest in
     (both ∙ ap (λ h. h ++ message) same_header ∙ ap (λ b. also ++ b) bodies ∙ sym other_both, bodies)

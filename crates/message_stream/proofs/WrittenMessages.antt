@@ -1,13 +1,14 @@
 -- What is written behind a header is a message.
-use Rattle.std.proofs.Common.{◌≡◌, inl, ℕ, ◌<◌, ◌^◌, ◌==◌, false, IsTrue, List, [], ◌∷◌, ◌++◌, codes, decimal, length, reverse, refl, sym, ap, ◌∙◌, append_assoc, append-nil, arith}
+use Rattle.std.proofs.Common.{◌≡◌, inl, ℕ, ◌<◌, ◌≤◌, ◌^◌, ◌==◌, false, IsTrue, List, [], ◌∷◌, ◌++◌, codes, decimal, length, length-append, reverse, refl, sym, ap, ◌∙◌, append_assoc, append-nil, arith}
 use Rattle.std.proofs.lemmas.Bool.Decides.{nat_tests}
-use Rattle.std.proofs.lemmas.Fmt.{decimal_is_IsNumeral}
+use Rattle.std.proofs.lemmas.Fmt.{decimal_is_IsNumeral, length-decimal-le}
 use Rattle.std.proofs.lemmas.List.Elements.{All-cons, All-from_recursion, All-head, All-nil, All-tail}
 use Rattle.std.proofs.lemmas.Str.Parse.{digit_from_value}
 use Rattle.std.specs.Char.{is_ascii_digit}
 use Rattle.std.specs.Str.Parse.{AllDigits, without_leading_plus}
 use Rattle.httparse.specs.Grammar.{AllPass, Field, IsField, crlf, is_ows, is_token_byte, is_value_byte, print_section, skip_ows, trim_ows}
 use Rattle.httparse.proofs.TrimLemmas.{AllPass-reverse, trim_ows_space}
+use Rattle.message_stream.specs.declared.sections.TheConstants.{MOST_HEADER}
 use Rattle.message_stream.specs.Headers.{IsHeaded, IsHeader, IsNumberOf, with_header, length_header}
 
 digit_passes : (c : ℕ) (cs : List ℕ) → AllDigits 10 (c ∷ cs) → IsTrue (is_ascii_digit c)
@@ -75,13 +76,23 @@ module _ (n : ℕ) (small : n < 2 ^ 64) where
       let whole : without_leading_plus (trim_ows (32 ∷ decimal n)) ≡ decimal n = ap without_leading_plus value ∙ no_plus (decimal n) digits in
       (rw whole (decimal_is_IsNumeral n small).0, rw whole (sym (decimal_is_IsNumeral n small).1))
 
+  short : length (length_header n) ≤ MOST_HEADER
+  short =
+      let few = length-decimal-le 20 n (omega arith) (omega (arith, small)) small in
+      let whole = length-append (codes "Content-Length: ") (decimal n ++ 13 ∷ 10 ∷ 13 ∷ 10 ∷ []) in
+      let line = length-append (decimal n) (13 ∷ 10 ∷ 13 ∷ 10 ∷ []) in
+      omega (arith, few, whole, line)
+
   is_header : IsHeader (length_header n) n
   unfolding field_of
   is_header = (
-    field_of n ∷ [],
-    crlf,
-    (All-cons IsField (field_of n) [] is_field (All-nil IsField), same_bytes),
-    (trim_ows (32 ∷ decimal n), inl (refl, refl), is_number),
+    short,
+    (
+      field_of n ∷ [],
+      crlf,
+      (All-cons IsField (field_of n) [] is_field (All-nil IsField), same_bytes),
+      (trim_ows (32 ∷ decimal n), inl (refl, refl), is_number),
+    ),
   )
 
 -- a text behind its header

@@ -1,15 +1,17 @@
 -- What is read and written of a message.
-use Rattle.std.specs.Prelude.{◌≡◌, ◌⊎◌, ℕ, List, [], ◌++◌, Option, Some, None, Result, MatchResult, OnSome}
+use Rattle.std.specs.Prelude.{◌≡◌, ℕ, Bool, true, false, List, [], ◌++◌, Option, Result, MatchResult, OnSome}
 use Rattle.std.specs.Io.KnownBytes.{Consumes, Appends, IsAtEnd}
 use Rattle.message_stream.specs.declared.error.StreamError.{StreamError}
 use Rattle.message_stream.specs.declared.error.StreamError.TheVariants.{Write}
-use Rattle.message_stream.specs.declared.message.Message.{Message}
+use Rattle.message_stream.specs.declared.framing.Next.{Next}
+use Rattle.message_stream.specs.declared.framing.Next.TheVariants.{One, Last, Nothing}
 use Rattle.message_stream.specs.Frames.{Frames}
 use Rattle.message_stream.specs.Messages.{IsToldOf, message_told}
 
--- a message was read, which ends by itself or with the reader
-abbrev pub IsMessageAt : Frames → (had left : Option (List ℕ)) → List ℕ → Type 0
-IsMessageAt F had left message = (bytes : List ℕ) × Consumes had left bytes × (F.IsFramed bytes message ⊎ (F.IsLast bytes message × OnSome had (IsAtEnd left)))
+-- a message was read: one that ends by itself, or the last one, which the end of the reader ends
+abbrev pub IsMessageAt : Frames → (is_last : Bool) → (had left : Option (List ℕ)) → List ℕ → Type 0
+IsMessageAt F false had left message = (bytes : List ℕ) × Consumes had left bytes × F.IsFramed bytes message
+IsMessageAt F true had left message = (bytes : List ℕ) × Consumes had left bytes × F.IsLast bytes message × OnSome had (IsAtEnd left)
 
 -- the reader has nothing left
 abbrev pub IsEndAt : (had left : Option (List ℕ)) → Type 0
@@ -20,12 +22,13 @@ abbrev pub IsFaultAt : Frames → (had left : Option (List ℕ)) → StreamError
 IsFaultAt F had left e = (part : List ℕ) × Consumes had left part × F.IsFault e part
 
 -- the next message was read, if there is one
-abbrev pub IsNext : Frames → (had left : Option (List ℕ)) → Option Message → Type 0
-IsNext F had left (Some message) = (read : List ℕ) × IsMessageAt F had left read × IsToldOf read (message_told message)
-IsNext F had left None = IsEndAt had left
+abbrev pub IsNext : Frames → (had left : Option (List ℕ)) → Next → Type 0
+IsNext F had left (One message) = (read : List ℕ) × IsMessageAt F false had left read × IsToldOf read (message_told message)
+IsNext F had left (Last message) = (read : List ℕ) × IsMessageAt F true had left read × IsToldOf read (message_told message)
+IsNext F had left Nothing = IsEndAt had left
 
 -- the next message was read, or a part of it
-abbrev pub HasRead : Frames → (had left : Option (List ℕ)) → Result (Option Message) StreamError → Type 0
+abbrev pub HasRead : Frames → (had left : Option (List ℕ)) → Result Next StreamError → Type 0
 HasRead F had left result = MatchResult result (IsNext F had left) (IsFaultAt F had left)
 
 -- the writer took a beginning of the text

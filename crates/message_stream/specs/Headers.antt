@@ -1,5 +1,5 @@
 -- Messages behind headers that say how long they are.
-use Rattle.std.specs.Prelude.{◌≡◌, ◌<◌, ◌⊎◌, ℕ, List, [], ◌∷◌, ◌++◌, length, map, codes, decimal}
+use Rattle.std.specs.Prelude.{◌≡◌, ◌<◌, ◌≤◌, ◌⊎◌, ℕ, List, [], ◌∷◌, ◌++◌, length, map, codes, decimal}
 use Rattle.std.specs.Char.{to_ascii_lowercase}
 use Rattle.std.specs.Str.Parse.{IsNumeral, digits_value, without_leading_plus}
 use Rattle.httparse.specs.Grammar.{Field, LineEnd, ReadsSection}
@@ -24,10 +24,14 @@ IsLengthValue (field ∷ fields) value = (IsLengthName field.0 × (value ≡ fie
 abbrev pub IsNumberOf : List ℕ → ℕ → Type 0
 IsNumberOf value n = IsNumeral 10 (without_leading_plus value) × (n ≡ digits_value 10 (without_leading_plus value))
 
--- the bytes are a header: fields and an empty line, of which the first of that name says this length
-abbrev pub IsHeader : List ℕ → ℕ → Type 0
-IsHeader bytes n = (fields : List Field) × (last : LineEnd) × ReadsSection bytes fields last []
+-- the bytes are fields and an empty line, and the first field of that name says this length
+abbrev pub SaysLength : List ℕ → ℕ → Type 0
+SaysLength bytes n = (fields : List Field) × (last : LineEnd) × ReadsSection bytes fields last []
     × ((value : List ℕ) × IsLengthValue (map name_and_value fields) value × IsNumberOf value n)
+
+-- they are a header, if they are not too many
+abbrev pub IsHeader : List ℕ → ℕ → Type 0
+IsHeader bytes n = (length bytes ≤ MOST_HEADER) × SaysLength bytes n
 
 -- no header of so few fields and bytes begins so
 abbrev pub IsNoHeader : List ℕ → Type 0

@@ -1,11 +1,13 @@
 -- Words that private contracts alone cite.
-use Rattle.std.specs.Prelude.{◌≡◌, ◌≤◌, ◌<◌, ◌+◌, ℕ, List, [], ◌∷◌, ◌++◌, length, take, flat_map, true, false, Bool, Option, Some, None, Result, Ok, Err, MatchResult, OnSome}
+use Rattle.std.specs.Prelude.{◌≡◌, ◌≤◌, ◌<◌, ◌+◌, ℕ, List, [], ◌∷◌, ◌++◌, length, take, flat_map, Bool, Option, Some, None, Result, Ok, Err, MatchResult, OnSome}
 use Rattle.std.specs.Io.KnownBytes.{Consumes, Appends, IsAtEnd}
 use Rattle.httparse.specs.Grammar.{MayBecomeSection}
 use Rattle.httparse.specs.Spans.{SectionOverflows}
 use Rattle.message_stream.specs.declared.error.StreamError.{StreamError}
 use Rattle.message_stream.specs.declared.message.Message.{Message}
 use Rattle.message_stream.specs.declared.message.TheConstants.{MOST_MESSAGE}
+use Rattle.message_stream.specs.declared.framing.Next.{Next}
+use Rattle.message_stream.specs.declared.framing.Next.TheVariants.{One, Last, Nothing}
 use Rattle.message_stream.specs.declared.headers.Head.{Head}
 use Rattle.message_stream.specs.declared.headers.Head.TheVariants as head
 use Rattle.message_stream.specs.declared.lines.Ending.{Ending}
@@ -17,10 +19,10 @@ use Rattle.message_stream.specs.declared.sections.TheConstants.{MOST_FIELDS}
 use Rattle.message_stream.specs.Answers.{Answering, Conduct, Resting}
 use Rattle.message_stream.specs.Exchanged.{HasWritten}
 use Rattle.message_stream.specs.Frames.{Frames}
-use Rattle.message_stream.specs.Headers.{IsHeadedFault, IsHeader}
+use Rattle.message_stream.specs.Headers.{IsHeadedFault, IsHeader, SaysLength}
 use Rattle.message_stream.specs.Lines.{HasNoFeed}
 use Rattle.message_stream.specs.Messages.{Told, whole, too_long, no_memory, IsToldOf, message_told}
-use Rattle.message_stream.specs.Served.{Turn, IsTurn, HasEnded}
+use Rattle.message_stream.specs.Served.{Turn, IsTurn, HasEnded, intake_at}
 
 -- what is told of the bytes that were read of a message is told of them with these bytes too
 abbrev pub Grows : Message → List ℕ → Message → Type 0
@@ -65,12 +67,13 @@ pub record IsPart (had left : Option (List ℕ)) (old new : Message) (ending : E
   pub at_end : EndsAt ending had left
 
 -- what follows the last line feed
-abbrev pub IsEndIn : List ℕ → Option Message → Type 0
-IsEndIn read (Some line) = IsToldOf read (message_told line) × (0 < length read)
-IsEndIn read None = read ≡ []
+abbrev pub IsEndIn : List ℕ → Next → Type 0
+IsEndIn read (One line) = ⊥
+IsEndIn read (Last line) = IsToldOf read (message_told line) × (0 < length read)
+IsEndIn read Nothing = read ≡ []
 
 -- the line that the end of the reader ends
-abbrev pub EndsLine : Message → Option Message → Type 0
+abbrev pub EndsLine : Message → Next → Type 0
 EndsLine line next = (read : List ℕ) → IsToldOf read (message_told line) → IsEndIn read next
 
 -- ---- messages behind headers
@@ -78,7 +81,7 @@ EndsLine line next = (read : List ℕ) → IsToldOf read (message_told line) →
 -- what the bytes of a header so far are: where more is wanted, more can make them one
 abbrev pub IsState : List ℕ → HeaderState → Type 0
 IsState bytes More = MayBecomeSection bytes
-IsState bytes (Length n) = IsHeader bytes n
+IsState bytes (Length n) = SaysLength bytes n
 IsState bytes NoLength = Unit {0}
 IsState bytes Wrong = SectionOverflows MOST_FIELDS bytes
 
@@ -138,9 +141,9 @@ HasAnswered F Answers result old message new held holds =
 abbrev pub HasRested : {S A : Type 0} → Frames → Resting S → Result A StreamError → S → S → (held holds : Option (List ℕ)) → Type 0
 HasRested F Rests result old new held holds = (texts : List (List ℕ)) × Rests old new texts × HasWritten result held holds (flat_map F.framed texts)
 
--- one turn more was made, or the conversation ends
-abbrev pub HasTurned : {S I : Type 0} → Frames → Conduct S → (I → Option (List ℕ)) → (I → List ℕ) → Result Bool StreamError → (old new : S) (from to : I) (held holds : Option (List ℕ)) → Type 0
-HasTurned F C left waiting (Ok true) old new from to held holds =
-    (turn : Turn) × (texts : List (List ℕ)) × IsTurn F C left waiting turn old new from to texts × Appends held holds (flat_map F.framed texts)
-HasTurned F C left waiting (Ok false) old new from to held holds = HasEnded F C left waiting (Ok false) old new from to held holds
-HasTurned F C left waiting (Err e) old new from to held holds = HasEnded F C left waiting {A = Bool} (Err e) old new from to held holds
+-- one turn more was made, or the conversation ends after so many
+abbrev pub HasTurned : {S I : Type 0} → Frames → Conduct S → (I → Option (List ℕ)) → (I → List ℕ) → (count : ℕ) → Result (Option Bool) StreamError → (old new : S) (is_ended : Bool) (from to : I) (held holds : Option (List ℕ)) → Type 0
+HasTurned F C left waiting count (Ok (Some ended)) old new is_ended from to held holds =
+    (turn : Turn) × (texts : List (List ℕ)) × IsTurn F C left waiting turn old new (intake_at from is_ended) (intake_at to ended) texts × Appends held holds (flat_map F.framed texts)
+HasTurned F C left waiting count (Ok None) old new is_ended from to held holds = HasEnded F C left waiting {A = Option Bool} count (Ok None) old new (intake_at from is_ended) to held holds
+HasTurned F C left waiting count (Err e) old new is_ended from to held holds = HasEnded F C left waiting {A = Option Bool} count (Err e) old new (intake_at from is_ended) to held holds

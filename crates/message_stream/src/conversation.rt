@@ -1,5 +1,5 @@
 //! A conversation over a reader and a writer.
-ghost use Rattle.std.specs.Prelude.{flat_map, map, string_bytes};
+ghost use Rattle.std.specs.Prelude.{ℕ, flat_map, map, string_bytes};
 ghost use Rattle.std.specs.Io.Buffered.{reader_buffer, reader_remaining};
 ghost use Rattle.message_stream.specs.Answers.{answer_texts};
 ghost use Rattle.message_stream.specs.Exchanged.{HasWritten};
@@ -7,7 +7,7 @@ ghost use Rattle.message_stream.specs.Inner.{HasAnswered, HasRested, HasTurned};
 ghost use Rattle.message_stream.specs.Served.{HasServed};
 
 use crate::error::StreamError;
-use crate::framing::Framing;
+use crate::framing::{Framing, Next};
 use crate::message::Message;
 use crate::service::{Answer, Service};
 use std::alloc::Global;
@@ -72,36 +72,45 @@ fn rest_service<F: Framing, W: Write, S: Service>(
     write_answer(framing, output, &told)
 }
 
-// One turn, or `false` where the conversation ends.
+// One turn: whether the end of the reader has ended a message by then, or nothing where the conversation ends.
 fn take_turn<F: Framing, R: Read, W: Write, S: Service>(
     alloc: Global,
     framing: &F,
     input: &mut BufReader<R>,
     output: &mut W,
     service: &mut S,
-) -> Result<bool, StreamError>
-    ensures { HasTurned F.frames S.conduct (reader_remaining R.remaining) reader_buffer result service.old
-        service.new input.old input.new (W.contents output.old) (W.contents output.new) }
+    is_ended: bool,
+) -> Result<Option<bool>, StreamError>
+    ensures { (count : ℕ) → HasTurned F.frames S.conduct (reader_remaining R.remaining) reader_buffer count result
+        service.old service.new is_ended input.old input.new (W.contents output.old) (W.contents output.new) }
 {
     if service.is_over() {
-        return Ok(false);
+        return Ok(None);
     }
     if !service.is_rested() && input.buffer().is_empty() {
         rest_service(alloc, framing, output, service)?;
-        return Ok(true);
+        return Ok(Some(is_ended));
+    }
+    if is_ended {
+        return Ok(None);
     }
     match framing.next(alloc, input)? {
-        Some(message) => {
+        Next::One(message) => {
             answer_message(alloc, framing, output, service, message)?;
-            Ok(true)
+            Ok(Some(false))
         }
-        None => Ok(false),
+        Next::Last(message) => {
+            answer_message(alloc, framing, output, service, message)?;
+            Ok(Some(true))
+        }
+        Next::Nothing => Ok(None),
     }
 }
 
 /// Answers each message of `input` on `output`, by messages that are written whole and flushed before the next one is
 /// read, up to the end of `input`, or until `service` is over. Where something is left to tell and the buffer of
-/// `input` is empty, `service` rests before more is read.
+/// `input` is empty, `service` rests before more is read. Behind a message that the end of `input` ends nothing more is
+/// read.
 ///
 /// A message for which there is no memory, or that is too long, is passed over, and `service` is told so. After `Write`
 /// all that was told but for the last message or rest is on `output`, and of that there is a beginning; after each
@@ -121,9 +130,11 @@ pub fn serve<F: Framing, R: Read, W: Write, S: Service>(
     ensures { HasServed F.frames S.conduct (reader_remaining R.remaining) reader_buffer result service.old
         service.new input.old input.new (W.contents output.old) (W.contents output.new) }
 {
+    let mut is_ended = false;
     for _turn in 0..MOST_TURNS {
-        if !take_turn(alloc, framing, input, output, service)? {
-            return Ok(());
+        match take_turn(alloc, framing, input, output, service, is_ended)? {
+            Some(ended) => is_ended = ended,
+            None => return Ok(()),
         }
     }
     Err(StreamError::Read)

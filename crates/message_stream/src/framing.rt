@@ -4,6 +4,17 @@ use crate::message::Message;
 use std::alloc::Global;
 use std::io::{BufRead, Write};
 
+/// What a reader has next.
+#[derive(Debug, Drop)]
+pub enum Next {
+    /// A message that ends by itself.
+    One(Message),
+    /// The last message, which the end of the reader ends.
+    Last(Message),
+    /// Nothing: the reader is at its end.
+    Nothing,
+}
+
 /// How messages stand among bytes.
 pub trait Framing {
     ghost use Rattle.message_stream.specs.Frames.{Frames};
@@ -12,12 +23,12 @@ pub trait Framing {
     // What messages are among bytes, and why reading one fails.
     ghost frames: { Frames };
 
-    /// The next message of a reader, or none at its end. Reads that a signal interrupts are made again.
+    /// What a reader has next. Reads that a signal interrupts are made again.
     ///
     /// # Errors
     ///
     /// Those of the framing; then a part of a message was read.
-    fn next<R: BufRead>(&self, alloc: Global, input: &mut R) -> Result<Option<Message>, StreamError>
+    fn next<R: BufRead>(&self, alloc: Global, input: &mut R) -> Result<Next, StreamError>
         ensures { HasRead frames (R.remaining input.old) (R.remaining input.new) result };
 
     /// Writes a text as a message, and flushes it. Writes that a signal interrupts are made again.

@@ -6,7 +6,7 @@ ghost use Rattle.message_stream.specs.Inner.{HasReadBody, HasReadHeader, IsBodyS
 ghost use Rattle.message_stream.specs.Inner.{IsPassing, IsPiece};
 
 use crate::error::StreamError;
-use crate::framing::Framing;
+use crate::framing::{Framing, Next};
 use crate::lines::{Ending, MOST_READS, first_part};
 use crate::message::{MOST_MESSAGE, Message};
 use crate::sections::{HeaderState, MOST_HEADER, state_of};
@@ -141,15 +141,15 @@ fn read_body<R: BufRead>(
     Err(StreamError::Read)
 }
 
-fn next_headed<R: BufRead>(alloc: Global, input: &mut R) -> Result<Option<Message>, StreamError>
+fn next_headed<R: BufRead>(alloc: Global, input: &mut R) -> Result<Next, StreamError>
     ensures { HasRead header_frames (R.remaining input.old) (R.remaining input.new) result }
 {
     match read_header(alloc, input)? {
         Head::Length(length) => {
             let body = read_body(alloc, input, length)?;
-            Ok(Some(body))
+            Ok(Next::One(body))
         }
-        Head::Nothing => Ok(None),
+        Head::Nothing => Ok(Next::Nothing),
     }
 }
 
@@ -166,11 +166,7 @@ impl Framing for Headers {
 
     ghost frames = { header_frames };
 
-    fn next<R: BufRead>(
-        &self,
-        alloc: Global,
-        input: &mut R,
-    ) -> Result<Option<Message>, StreamError> {
+    fn next<R: BufRead>(&self, alloc: Global, input: &mut R) -> Result<Next, StreamError> {
         next_headed(alloc, input)
     }
 

@@ -3,7 +3,7 @@
 ghost use Rattle.std.specs.Prelude.{◌≡◌, ◌<◌, ◌++◌, ◌*◌, ◌-◌, ◌^◌, ℕ, List, Option, Some, true, Decides, length, map};
 ghost use Rattle.message_stream.specs.Headers.{IsHeaded, with_header};
 ghost use Rattle.message_stream.specs.Lines.{line_frames, lines as lines_of};
-ghost use Rattle.message_stream.specs.Served.{Turn, IsServed, messages_of, took};
+ghost use Rattle.message_stream.specs.Served.{Turn, Intake, IsServed, messages_of, took};
 
 use crate::conversation::MOST_TURNS;
 use crate::error::StreamError;
@@ -33,10 +33,10 @@ fn errors()
 
 // Of known bytes the lines are those that were taken, and then the lines of what is left.
 fn lines<S: Service, I>()
-    ensures { (left : I → Option (List ℕ)) (waiting : I → List ℕ) (old new : S) (from to : I)
+    ensures { (left : I → Option (List ℕ)) (waiting : I → List ℕ) (old new : S) (from to : Intake I)
         (turns : List Turn) (text all : List ℕ)
-        → IsServed line_frames S.conduct left waiting old from turns new to text → left from ≡ Some all
-        → (rest : List ℕ) × (left to ≡ Some rest) × (lines_of all ≡ messages_of turns ++ lines_of rest) }
+        → IsServed line_frames S.conduct left waiting old from turns new to text → left from.reader ≡ Some all
+        → (rest : List ℕ) × (left to.reader ≡ Some rest) × (lines_of all ≡ messages_of turns ++ lines_of rest) }
 {}
 
 // Bytes begin with one message behind a header at most, whatever follows it, and a text behind its header is one.
@@ -50,7 +50,7 @@ fn headers()
 fn still<F: Framing, S: Service, I>()
     ensures taken { (messages : List (List ℕ)) → messages_of (map took messages) ≡ messages }
     ensures joined { (first more : List Turn) → messages_of (first ++ more) ≡ messages_of first ++ messages_of more }
-    ensures never { (left : I → Option (List ℕ)) (waiting : I → List ℕ) (old new : S) (from to : I)
+    ensures never { (left : I → Option (List ℕ)) (waiting : I → List ℕ) (old new : S) (from to : Intake I)
         (turns : List Turn) (text : List ℕ) → ((s : S) → S.conduct.is_rested s ≡ true)
         → IsServed F.frames S.conduct left waiting old from turns new to text
         → map took (messages_of turns) ≡ turns }

@@ -16,7 +16,7 @@ mod write;
 
 pub use conversation::serve;
 pub use error::StreamError;
-pub use framing::Framing;
+pub use framing::{Framing, Next};
 pub use headers::Headers;
 pub use lines::Lines;
 pub use message::{MOST_MESSAGE, Message};

@@ -7,7 +7,7 @@ ghost use Rattle.message_stream.specs.Inner.{EndsLine, IsFirst, IsPart};
 ghost use Rattle.message_stream.specs.Lines.{line_frames};
 
 use crate::error::StreamError;
-use crate::framing::Framing;
+use crate::framing::{Framing, Next};
 use crate::message::Message;
 use crate::write::write_line;
 use std::alloc::Global;
@@ -84,19 +84,19 @@ fn read_part<R: BufRead>(input: &mut R, line: Message) -> Result<(Message, Endin
     Ok((line, part.ending))
 }
 
-// A line that the end of the reader ends: none, where nothing was read of it.
-fn last_of(line: Message) -> Option<Message>
+// The line that the end of the reader ends, or nothing, where nothing was read of it.
+fn last_of(line: Message) -> Next
     ensures { EndsLine line result }
 {
     if let Message::Whole(bytes) = &line {
         if bytes.is_empty() {
-            return None;
+            return Next::Nothing;
         }
     }
-    Some(line)
+    Next::Last(line)
 }
 
-fn next_line<R: BufRead>(alloc: Global, input: &mut R) -> Result<Option<Message>, StreamError>
+fn next_line<R: BufRead>(alloc: Global, input: &mut R) -> Result<Next, StreamError>
     ensures { HasRead line_frames (R.remaining input.old) (R.remaining input.new) result }
 {
     let mut line = Message::Whole(Vec::new(alloc));
@@ -105,7 +105,7 @@ fn next_line<R: BufRead>(alloc: Global, input: &mut R) -> Result<Option<Message>
         line = longer;
         match ending {
             Ending::Shown => {}
-            Ending::Feed => return Ok(Some(line)),
+            Ending::Feed => return Ok(Next::One(line)),
             Ending::End => return Ok(last_of(line)),
         }
     }
@@ -124,11 +124,7 @@ impl Framing for Lines {
 
     ghost frames = { line_frames };
 
-    fn next<R: BufRead>(
-        &self,
-        alloc: Global,
-        input: &mut R,
-    ) -> Result<Option<Message>, StreamError> {
+    fn next<R: BufRead>(&self, alloc: Global, input: &mut R) -> Result<Next, StreamError> {
         next_line(alloc, input)
     }
 

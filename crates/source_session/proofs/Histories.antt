@@ -7,7 +7,7 @@ use Rattle.serde_json.specs.Written.{has_float}
 use Rattle.item_tree_request.specs.Requests.{IsJsonText}
 use Rattle.message_stream.specs.Lines.{IsServedEach, line_frames}
 use Rattle.message_stream.specs.Messages.{Told, whole, too_long, no_memory, IsToldOf}
-use Rattle.message_stream.specs.Served.{Turn, IsServed, messages_of}
+use Rattle.message_stream.specs.Served.{Turn, Intake, IsServed, messages_of}
 use Rattle.message_stream.proofs.EachService.{served_each}
 use Rattle.source_session.specs.Replies.{session_conduct}
 use Rattle.source_session.specs.Histories.{Says, Exchange, answer_of, AsksNext, AsksFirst, StandAll, StandFirst, Stand, StandOf, IsLedOn, AreOf, OpensNone, IsLedByAnswers, IsLedOnByAnswers}
@@ -244,11 +244,11 @@ led_by_answers (line ∷ lines) new text h =
 -- ---- what a reader gives
 
 module _ {I : Type 0} (left : I → Option (List ℕ)) (waiting : I → List ℕ) where
-  each_line : (old new : Open) (from to : I) (turns : List Turn) (text : List ℕ) → IsServed line_frames session_conduct left waiting old from turns new to text → IsServedEach Replies old (messages_of turns) new text
+  each_line : (old new : Open) (from to : Intake I) (turns : List Turn) (text : List ℕ) → IsServed line_frames session_conduct left waiting old from turns new to text → IsServedEach Replies old (messages_of turns) new text
   each_line = served_each session_conduct left waiting Replies (λ _ _ _ _ answers. answers) (λ _. refl)
 
-  pub led_on_by_texts : (s : Session) (new : Open) (from to : I) (turns : List Turn) (text : List ℕ) → IsServed line_frames session_conduct left waiting (Some s) from turns new to text → IsLedOnByAnswers s (messages_of turns) text new
+  pub led_on_by_texts : (s : Session) (new : Open) (from to : Intake I) (turns : List Turn) (text : List ℕ) → IsServed line_frames session_conduct left waiting (Some s) from turns new to text → IsLedOnByAnswers s (messages_of turns) text new
   led_on_by_texts s new from to turns text served = goes_on s (messages_of turns) new text (each_line (Some s) new from to turns text served)
 
-  pub led_by_texts : (new : Open) (from to : I) (turns : List Turn) (text : List ℕ) → IsServed line_frames session_conduct left waiting None from turns new to text → IsLedByAnswers (messages_of turns) text new
+  pub led_by_texts : (new : Open) (from to : Intake I) (turns : List Turn) (text : List ℕ) → IsServed line_frames session_conduct left waiting None from turns new to text → IsLedByAnswers (messages_of turns) text new
   led_by_texts new from to turns text served = led_by_answers (messages_of turns) new text (each_line None new from to turns text served)

@@ -2,7 +2,7 @@
 ghost use Rattle.std.specs.Prelude.{ℕ, List, Option, None, Some, length};
 ghost use Rattle.message_stream.specs.Lines.{HasNoFeed, line_frames};
 ghost use Rattle.message_stream.specs.Messages.{Told};
-ghost use Rattle.message_stream.specs.Served.{Turn, IsServed, messages_of};
+ghost use Rattle.message_stream.specs.Served.{Turn, Intake, IsServed, messages_of};
 ghost use Rattle.item_tree.specs.declared.fault.EditFault.{EditFault};
 ghost use Rattle.item_tree_request.specs.Outputs.{NonePasses, PassesAt};
 ghost use Rattle.source_session.specs.Histories.{IsLedByAnswers, IsLedOnByAnswers};
@@ -13,11 +13,11 @@ ghost use Rattle.text_session.specs.Sessions.{IsEdited, IsRefused, Session};
 // A conversation, whatever its lines, is where the edits lead that stand by its answers: a new one, and one over an
 // open session.
 fn conversations<I>()
-    ensures led { (left : I → Option (List ℕ)) (waiting : I → List ℕ) (new : Open) (from to : I)
+    ensures led { (left : I → Option (List ℕ)) (waiting : I → List ℕ) (new : Open) (from to : Intake I)
         (turns : List Turn) (text : List ℕ)
         → IsServed line_frames session_conduct left waiting None from turns new to text
         → IsLedByAnswers (messages_of turns) text new }
-    ensures led_on { (left : I → Option (List ℕ)) (waiting : I → List ℕ) (s : Session) (new : Open) (from to : I)
+    ensures led_on { (left : I → Option (List ℕ)) (waiting : I → List ℕ) (s : Session) (new : Open) (from to : Intake I)
         (turns : List Turn) (text : List ℕ)
         → IsServed line_frames session_conduct left waiting (Some s) from turns new to text
         → IsLedOnByAnswers s (messages_of turns) text new }
