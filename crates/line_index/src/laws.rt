@@ -2,13 +2,18 @@
 ghost use Rattle.std.specs.Prelude.{◌≡◌, Decides, ℕ, List};
 ghost use Rattle.line_index.specs.Points.{IsPoint, point_at, byte_at};
 
-use crate::{Point, Position, Style};
+use crate::{LineEnds, Point, Position, Style, Units};
 
 // `==` decides whether two values are one, and a copy is its source: the derives are held to it.
-fn positions()
-    ensures equal { (a b : Position) → Decides (⟦<Position as PartialEq>⟧.eq a b) (a ≡ b) }
-    ensures copied { (source copy : Position) → ⟦<Position as Clone>⟧.is_clone source copy → copy
+fn values()
+    ensures positions { (a b : Position) → Decides (⟦<Position as PartialEq>⟧.eq a b) (a ≡ b) }
+    ensures units { (a b : Units) → Decides (⟦<Units as PartialEq>⟧.eq a b) (a ≡ b) }
+    ensures position { (source copy : Position) → ⟦<Position as Clone>⟧.is_clone source copy → copy
         ≡ source }
+    ensures point { (source copy : Point) → ⟦<Point as Clone>⟧.is_clone source copy → copy ≡ source }
+    ensures unit { (source copy : Units) → ⟦<Units as Clone>⟧.is_clone source copy → copy ≡ source }
+    ensures ends { (source copy : LineEnds) → ⟦<LineEnds as Clone>⟧.is_clone source copy → copy ≡ source }
+    ensures style { (source copy : Style) → ⟦<Style as Clone>⟧.is_clone source copy → copy ≡ source }
 {}
 
 // Back from where a byte stands is that byte, and what a line and a column lead to is a byte where one may stand.
