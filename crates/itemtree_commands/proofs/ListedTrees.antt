@@ -34,4 +34,4 @@ module _ (krate : CrateData) (skipped : List (List ℕ)) (edition : EditionYear)
 -- what headers and members are read of
 pub same_reading : (o : Options) (has_members : Bool) (s : Source) (m : Option Mended) → HasTextOf s.text m → reading_by o has_members s.text m ≡ reading_in o has_members s (closers_in m)
 same_reading o has_members s None h = refl
-same_reading o has_members s (Some m) h = ap (λ (z : List ℕ). record { text = z; closers = closers_in (Some m); edition = o.edition.year; options = cfgs_if o has_members }) h
+same_reading o has_members s (Some m) h = ap (λ (z : List ℕ). record { text = z; closers = closers_in (Some m); edition = o.edition.year; options = cfgs_if o has_members }) h.0

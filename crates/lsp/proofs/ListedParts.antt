@@ -13,7 +13,7 @@ use Rattle.lsp.specs.declared.parts.Part.{Part}
 
 pub reading_listed : (o : Options) (text : List ℕ) (mended : Option Mended) → HasTextOf text mended → listed_reading o text mended ≡ reading_in o true (record { path = []; text = text }) (closers_in mended)
 reading_listed o text None h = refl
-reading_listed o text (Some m) h = ap (λ t. record { text = t; closers = closers_in (Some m); edition = o.edition.year; options = Some o.krate.cfg }) h
+reading_listed o text (Some m) h = ap (λ t. record { text = t; closers = closers_in (Some m); edition = o.edition.year; options = Some o.krate.cfg }) h.0
 
 pub parts_listed : (o : Options) (text : List ℕ) (mended : Option Mended) (read : FileView) (x : MemberReading) (places : List ItemPlace) (ps : List Part) → IsListedFile o.edition.year text (closers_in mended) read → HasTextOf text mended
     → x ≡ listed_reading o text mended → places ≡ read.places → ps ≡ flat_map (parts_at text x) places → AreTextParts o true text ps

@@ -62,9 +62,9 @@ pub record IsListedBare (edition : EditionYear) (text : List ℕ) (closers : Opt
 abbrev pub closers_in : Option Mended → Option Closers
 closers_in mended = option_map closers_view mended
 
--- the mended text, if that was read, is that of a text
+-- the mended text, if that was read, is that of a text, with what was done to it
 abbrev pub HasTextOf : List ℕ → Option Mended → Type 0
-HasTextOf text mended = IfSome mended (λ m. string_bytes m.text ≡ mended_text text)
+HasTextOf text mended = IfSome mended (λ m. (string_bytes m.text ≡ mended_text text) × (m.edits.items ≡ edits text))
 
 -- no two items have one id
 abbrev pub HasFileIds : SourceFile → Type 0
