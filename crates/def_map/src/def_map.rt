@@ -147,7 +147,7 @@ impl From<ClosureError> for DefMapError {
 #[derive(Debug, Drop)]
 pub struct ResolvedImport {
     pub module: ModuleId,
-    /// The `use` or `extern crate` that it is written in, in the file of its module.
+    /// The `use` that it is written in, in the file of its module.
     pub item: FileAstId,
     /// The import itself, with the number of its use tree there.
     pub import: Listed,

@@ -56,7 +56,7 @@ fn clipped_tree(
 ///
 /// # Errors
 ///
-/// `TooLong` exactly where the text or its mended one has more than 2^32 bytes, and those of `lower_syntax`.
+/// `TooLong` where the text or its mended one has more than 2^32 bytes, and those of `lower_syntax`.
 pub fn listed_tree(alloc: Global, text: &str, options: &Options) -> Result<ListedTree, SourceError>
     ensures tree { IfOk result
         (λ x. spec.HasListed options.now text.now (closers_in x.mended) x.source) }
