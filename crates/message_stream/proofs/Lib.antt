@@ -3,6 +3,7 @@ pub mod FedLines
 pub mod Parts
 pub mod HeaderParts
 pub mod UniqueMessages
+pub mod FieldLines
 pub mod WrittenMessages
 pub mod FramedTexts
 pub mod Conversations

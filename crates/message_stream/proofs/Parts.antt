@@ -1,8 +1,8 @@
 -- The parts of a line, one after another.
-use Rattle.std.proofs.Common.{◌≡◌, ◌≢◌, ℕ, List, [], ◌∷◌, ◌++◌, Option, None, Some, OnSome, length, refl, sym, subst, append_assoc}
+use Rattle.std.proofs.Common.{◌≡◌, ◌≢◌, false, ℕ, List, [], ◌∷◌, ◌++◌, Option, None, Some, OnSome, length, refl, sym, subst, append_assoc}
 use Rattle.message_stream.proofs.Common.{All-append, Consumes-trans, Consumes, IsAtEnd, IsNext, Message, HasNoFeed, line_frames, message_told, IsToldOf, feed_of, EndsAt, IsNone, IsPart, IsEndIn}
 use Rattle.message_stream.specs.declared.framing.Next.{Next}
-use Rattle.message_stream.specs.declared.framing.Next.TheVariants.{One, Last, Nothing}
+use Rattle.message_stream.specs.declared.framing.Next.TheVariants as next
 use Rattle.message_stream.specs.declared.lines.Ending.{Ending}
 use Rattle.message_stream.specs.declared.lines.Ending.TheVariants.{Shown, Feed, End}
 
@@ -31,11 +31,10 @@ grown had mid left old new ending read consumed no_feed is more = (
 )
 
 -- a line that has its line feed
-pub one_next : (had left : Option (List ℕ)) (line : Message) → IsBegun had left line (10 ∷ []) → IsNext line_frames had left (One line)
+pub one_next : (had left : Option (List ℕ)) (line : Message) → IsBegun had left line (10 ∷ []) → IsNext line_frames had left (next.Message line false)
 one_next had left line (read, consumed, no_feed, is) = (read, (read ++ 10 ∷ [], consumed, (refl, no_feed)), is)
 
 -- the last line
 pub last_next : (had left : Option (List ℕ)) (next : Next) (read : List ℕ) → Consumes had left read → HasNoFeed read → OnSome had (IsAtEnd left) → IsEndIn read next → IsNext line_frames had left next
-last_next had left (One line) read consumed no_feed end is = absurd is
-last_next had left (Last line) read consumed no_feed end is = (read, (read, consumed, (refl, no_feed, is.1), end), is.0)
-last_next had left Nothing read consumed no_feed end is = (subst (Consumes had left) is consumed, end)
+last_next had left (next.Message line is_last) read consumed no_feed end (last, is, some) = rw last (read, (read, consumed, (refl, no_feed, some), end), is)
+last_next had left next.Nothing read consumed no_feed end is = (subst (Consumes had left) is consumed, end)

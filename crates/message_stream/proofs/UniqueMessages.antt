@@ -18,7 +18,7 @@ one_number : (value other : List ℕ) (n m : ℕ) → value ≡ other → IsNumb
 one_number value other n m same is was = is.1 ∙ ap (λ v. digits_value 10 (without_leading_plus v)) same ∙ sym was.1
 
 -- two headers before what follows them
-one_header : (header other body rest : List ℕ) (n m : ℕ) → SaysLength header n → SaysLength other m → header ++ body ≡ other ++ rest → (header ≡ other) × (n ≡ m) × (body ≡ rest)
+pub one_header : (header other body rest : List ℕ) (n m : ℕ) → SaysLength header n → SaysLength other m → header ++ body ≡ other ++ rest → (header ≡ other) × (n ≡ m) × (body ≡ rest)
 one_header header other body rest n m (fields, last, reads, (value, is_value, is_number)) (others, end, read, (was, was_value, was_number)) same =
     let (same_fields, same_last, same_rest) =
     section_unique (header ++ body) fields others last end body rest (ReadsSection-append header fields last [] body reads)

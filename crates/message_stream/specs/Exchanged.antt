@@ -2,9 +2,9 @@
 use Rattle.std.specs.Prelude.{◌≡◌, ℕ, Bool, true, false, List, [], ◌++◌, Option, Result, MatchResult, OnSome}
 use Rattle.std.specs.Io.KnownBytes.{Consumes, Appends, IsAtEnd}
 use Rattle.message_stream.specs.declared.error.StreamError.{StreamError}
-use Rattle.message_stream.specs.declared.error.StreamError.TheVariants.{Write}
+use Rattle.message_stream.specs.declared.error.StreamError.TheVariants.{Write, Cut}
 use Rattle.message_stream.specs.declared.framing.Next.{Next}
-use Rattle.message_stream.specs.declared.framing.Next.TheVariants.{One, Last, Nothing}
+use Rattle.message_stream.specs.declared.framing.Next.TheVariants as next
 use Rattle.message_stream.specs.Frames.{Frames}
 use Rattle.message_stream.specs.Messages.{IsToldOf, message_told}
 
@@ -17,15 +17,19 @@ IsMessageAt F true had left message = (bytes : List ℕ) × Consumes had left by
 abbrev pub IsEndAt : (had left : Option (List ℕ)) → Type 0
 IsEndAt had left = Consumes had left [] × OnSome had (IsAtEnd left)
 
+-- where the input ends within a message, the reader has nothing left
+abbrev pub IsEndedBy : StreamError → (had left : Option (List ℕ)) → Type 0
+IsEndedBy Cut had left = OnSome had (IsAtEnd left)
+IsEndedBy _ had left = Unit {0}
+
 -- a part of a message was read when the error came
 abbrev pub IsFaultAt : Frames → (had left : Option (List ℕ)) → StreamError → Type 0
-IsFaultAt F had left e = (part : List ℕ) × Consumes had left part × F.IsFault e part
+IsFaultAt F had left e = (part : List ℕ) × Consumes had left part × F.IsFault e part × IsEndedBy e had left
 
 -- the next message was read, if there is one
 abbrev pub IsNext : Frames → (had left : Option (List ℕ)) → Next → Type 0
-IsNext F had left (One message) = (read : List ℕ) × IsMessageAt F false had left read × IsToldOf read (message_told message)
-IsNext F had left (Last message) = (read : List ℕ) × IsMessageAt F true had left read × IsToldOf read (message_told message)
-IsNext F had left Nothing = IsEndAt had left
+IsNext F had left (next.Message message is_last) = (read : List ℕ) × IsMessageAt F is_last had left read × IsToldOf read (message_told message)
+IsNext F had left next.Nothing = IsEndAt had left
 
 -- the next message was read, or a part of it
 abbrev pub HasRead : Frames → (had left : Option (List ℕ)) → Result Next StreamError → Type 0

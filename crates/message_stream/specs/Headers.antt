@@ -1,5 +1,5 @@
 -- Messages behind headers that say how long they are.
-use Rattle.std.specs.Prelude.{◌≡◌, ◌<◌, ◌≤◌, ◌⊎◌, ℕ, List, [], ◌∷◌, ◌++◌, length, map, codes, decimal}
+use Rattle.std.specs.Prelude.{◌≡◌, ◌<◌, ◌≤◌, ◌^◌, ◌⊎◌, ℕ, List, [], ◌∷◌, ◌++◌, length, map, codes, decimal}
 use Rattle.std.specs.Char.{to_ascii_lowercase}
 use Rattle.std.specs.Str.Parse.{IsNumeral, digits_value, without_leading_plus}
 use Rattle.httparse.specs.Grammar.{Field, LineEnd, ReadsSection}
@@ -33,6 +33,14 @@ SaysLength bytes n = (fields : List Field) × (last : LineEnd) × ReadsSection b
 abbrev pub IsHeader : List ℕ → ℕ → Type 0
 IsHeader bytes n = (length bytes ≤ MOST_HEADER) × SaysLength bytes n
 
+-- the first of them of that name says no length below 2^64, or none has that name
+abbrev pub HasNoLength : List (List ℕ × List ℕ) → Type 0
+HasNoLength fields = (value : List ℕ) (n : ℕ) → IsLengthValue fields value → IsNumberOf value n → 2 ^ 64 ≤ n
+
+-- the bytes are fields and an empty line, and say no length
+abbrev pub SaysNoLength : List ℕ → Type 0
+SaysNoLength bytes = (fields : List Field) × (last : LineEnd) × ReadsSection bytes fields last [] × HasNoLength (map name_and_value fields)
+
 -- no header of so few fields and bytes begins so
 abbrev pub IsNoHeader : List ℕ → Type 0
 IsNoHeader bytes = SectionOverflows MOST_FIELDS bytes ⊎ (MOST_HEADER < length bytes)
@@ -55,13 +63,17 @@ length_header n = codes "Content-Length: " ++ length_line n
 abbrev pub with_header : List ℕ → List ℕ
 with_header text = length_header (length text) ++ text
 
--- a wrong header is told only where none begins so
+-- the bytes begin with no whole message
+abbrev pub HasNoMessage : List ℕ → Type 0
+HasNoMessage bytes = (first message rest : List ℕ) → bytes ≡ first ++ rest → ¬ (IsHeaded first message)
+
+-- a wrong header is told only where none begins so, that one says no length only of such a one, and a cut only within a message
 abbrev pub IsHeadedFault : StreamError → List ℕ → Type 0
 IsHeadedFault Read part = Unit {0}
 IsHeadedFault Write part = ⊥
 IsHeadedFault Header part = IsNoHeader part
-IsHeadedFault Length part = Unit {0}
-IsHeadedFault Cut part = Unit {0}
+IsHeadedFault Length part = SaysNoLength part
+IsHeadedFault Cut part = (0 < length part) × HasNoMessage part
 IsHeadedFault OutOfMemory part = Unit {0}
 
 -- how messages behind headers stand among bytes: the end ends none

@@ -1,13 +1,14 @@
 -- Words that private contracts alone cite.
-use Rattle.std.specs.Prelude.{◌≡◌, ◌≤◌, ◌<◌, ◌+◌, ℕ, List, [], ◌∷◌, ◌++◌, length, take, flat_map, Bool, Option, Some, None, Result, Ok, Err, MatchResult, OnSome}
+use Rattle.std.specs.Prelude.{◌≡◌, ◌≤◌, ◌<◌, ◌+◌, ℕ, List, [], ◌∷◌, ◌++◌, length, take, flat_map, ◌⊎◌, Bool, true, Option, Some, None, Result, Ok, Err, MatchResult, OnSome}
 use Rattle.std.specs.Io.KnownBytes.{Consumes, Appends, IsAtEnd}
-use Rattle.httparse.specs.Grammar.{MayBecomeSection}
+use Rattle.httparse.specs.Grammar.{Field, LineEnd, HasNoSection, MayBecomeSection, ReadsSection}
 use Rattle.httparse.specs.Spans.{SectionOverflows}
 use Rattle.message_stream.specs.declared.error.StreamError.{StreamError}
+use Rattle.message_stream.specs.declared.error.StreamError.TheVariants.{Read, Cut, OutOfMemory}
 use Rattle.message_stream.specs.declared.message.Message.{Message}
 use Rattle.message_stream.specs.declared.message.TheConstants.{MOST_MESSAGE}
 use Rattle.message_stream.specs.declared.framing.Next.{Next}
-use Rattle.message_stream.specs.declared.framing.Next.TheVariants.{One, Last, Nothing}
+use Rattle.message_stream.specs.declared.framing.Next.TheVariants as next
 use Rattle.message_stream.specs.declared.headers.Head.{Head}
 use Rattle.message_stream.specs.declared.headers.Head.TheVariants as head
 use Rattle.message_stream.specs.declared.lines.Ending.{Ending}
@@ -17,9 +18,9 @@ use Rattle.message_stream.specs.declared.sections.HeaderState.{HeaderState}
 use Rattle.message_stream.specs.declared.sections.HeaderState.TheVariants.{More, Length, NoLength, Wrong}
 use Rattle.message_stream.specs.declared.sections.TheConstants.{MOST_FIELDS}
 use Rattle.message_stream.specs.Answers.{Answering, Conduct, Resting}
-use Rattle.message_stream.specs.Exchanged.{HasWritten}
+use Rattle.message_stream.specs.Exchanged.{HasWritten, IsFaultAt}
 use Rattle.message_stream.specs.Frames.{Frames}
-use Rattle.message_stream.specs.Headers.{IsHeadedFault, IsHeader, SaysLength}
+use Rattle.message_stream.specs.Headers.{IsHeader, SaysLength, SaysNoLength, header_frames}
 use Rattle.message_stream.specs.Lines.{HasNoFeed}
 use Rattle.message_stream.specs.Messages.{Told, whole, too_long, no_memory, IsToldOf, message_told}
 use Rattle.message_stream.specs.Served.{Turn, IsTurn, HasEnded, intake_at}
@@ -68,9 +69,8 @@ pub record IsPart (had left : Option (List ℕ)) (old new : Message) (ending : E
 
 -- what follows the last line feed
 abbrev pub IsEndIn : List ℕ → Next → Type 0
-IsEndIn read (One line) = ⊥
-IsEndIn read (Last line) = IsToldOf read (message_told line) × (0 < length read)
-IsEndIn read Nothing = read ≡ []
+IsEndIn read (next.Message line is_last) = (is_last ≡ true) × IsToldOf read (message_told line) × (0 < length read)
+IsEndIn read next.Nothing = read ≡ []
 
 -- the line that the end of the reader ends
 abbrev pub EndsLine : Message → Next → Type 0
@@ -78,22 +78,31 @@ EndsLine line next = (read : List ℕ) → IsToldOf read (message_told line) →
 
 -- ---- messages behind headers
 
--- what the bytes of a header so far are: where more is wanted, more can make them one
+-- fields and an empty line that the bytes begin with are all of them
+abbrev pub HasNothingBehind : List ℕ → Type 0
+HasNothingBehind bytes = (fields : List Field) (last : LineEnd) (rest : List ℕ) → ReadsSection bytes fields last rest → rest ≡ []
+
+-- what the bytes of a header so far are: where more is wanted, they are none yet, and more can make them one
 abbrev pub IsState : List ℕ → HeaderState → Type 0
-IsState bytes More = MayBecomeSection bytes
+IsState bytes More = HasNoSection bytes × MayBecomeSection bytes
 IsState bytes (Length n) = SaysLength bytes n
-IsState bytes NoLength = Unit {0}
+IsState bytes NoLength = SaysNoLength bytes
 IsState bytes Wrong = SectionOverflows MOST_FIELDS bytes
 
--- some bytes were read, and such a fault may come behind any
-abbrev pub IsPassing : (had left : Option (List ℕ)) → StreamError → Type 0
-IsPassing had left e = ((part : List ℕ) → IsHeadedFault e part) × ((bytes : List ℕ) × Consumes had left bytes)
+-- such a fault may come behind any bytes
+abbrev pub ComesAnywhere : StreamError → Type 0
+ComesAnywhere e = (e ≡ Read) ⊎ (e ≡ OutOfMemory)
 
--- a part of a header was read
+-- some bytes were read, and such a fault came
+abbrev pub IsPassing : (had left : Option (List ℕ)) → StreamError → Type 0
+IsPassing had left e = ComesAnywhere e × ((bytes : List ℕ) × Consumes had left bytes)
+
+-- a part of a header was read, up to the end of a line at most
 pub record IsHeaderPart (had left : Option (List ℕ)) (old new : List ℕ) (ending : Ending) : Type 0 where
   pub part : List ℕ
-  pub longer : new ≡ old ++ part
-  pub read : Consumes had left part
+  pub no_feed : HasNoFeed part
+  pub longer : new ≡ old ++ (part ++ feed_of ending)
+  pub read : Consumes had left (part ++ feed_of ending)
   pub at_end : EndsAt ending had left
 
 -- a header was read, or the end of the reader
@@ -101,13 +110,13 @@ abbrev pub IsHead : (had left : Option (List ℕ)) → Head → Type 0
 IsHead had left (head.Length n) = (bytes : List ℕ) × Consumes had left bytes × IsHeader bytes n
 IsHead had left head.Nothing = Consumes had left [] × OnSome had (IsAtEnd left)
 
--- the end of the reader is that of nothing
+-- the end of the reader is that of nothing, or of a part
 abbrev pub IsEndOfHeader : List ℕ → Result Head StreamError → Type 0
-IsEndOfHeader bytes result = MatchResult result (λ h. (h ≡ head.Nothing) × (bytes ≡ [])) (λ e. (part : List ℕ) → IsHeadedFault e part)
+IsEndOfHeader bytes result = MatchResult result (λ h. (h ≡ head.Nothing) × (bytes ≡ [])) (λ e. (e ≡ Cut) × (0 < length bytes))
 
 -- a header was read, or a part of it
 abbrev pub HasReadHeader : (had left : Option (List ℕ)) → Result Head StreamError → Type 0
-HasReadHeader had left result = MatchResult result (IsHead had left) (λ e. (part : List ℕ) × Consumes had left part × IsHeadedFault e part)
+HasReadHeader had left result = MatchResult result (IsHead had left) (IsFaultAt header_frames had left)
 
 -- this is told of what was read of a body of so many bytes
 abbrev pub IsSoFar : ℕ → List ℕ → Told → Type 0
@@ -125,10 +134,18 @@ pub record IsPiece (had left : Option (List ℕ)) (old : Message) (wanted : ℕ)
   pub fewer : length part + wants ≡ wanted
   pub grows : (said : ℕ) (before : List ℕ) → length before + wanted ≤ said → IsBodySoFar said before old → IsBodySoFar said (before ++ part) new
 
+-- fewer bytes were read than these, and the reader is at its end
+abbrev pub IsCutShort : (had left : Option (List ℕ)) → ℕ → List ℕ → Type 0
+IsCutShort had left wanted read = (length read < wanted) × OnSome had (IsAtEnd left)
+
+-- a part was read of so many bytes, and a fault came that may come anywhere, or the end
+abbrev pub IsBodyFault : (had left : Option (List ℕ)) → ℕ → StreamError → Type 0
+IsBodyFault had left wanted e = (read : List ℕ) × Consumes had left read × (ComesAnywhere e ⊎ ((e ≡ Cut) × IsCutShort had left wanted read))
+
 -- a body of so many bytes was read, or a part of it
 abbrev pub HasReadBody : (had left : Option (List ℕ)) → ℕ → Result Message StreamError → Type 0
 HasReadBody had left n result =
-    MatchResult result (λ told. (body : List ℕ) × Consumes had left body × (length body ≡ n) × IsBodySoFar n body told) (IsPassing had left)
+    MatchResult result (λ told. (body : List ℕ) × Consumes had left body × (length body ≡ n) × IsBodySoFar n body told) (IsBodyFault had left n)
 
 -- ---- answers
 

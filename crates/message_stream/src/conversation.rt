@@ -95,13 +95,9 @@ fn take_turn<F: Framing, R: Read, W: Write, S: Service>(
         return Ok(None);
     }
     match framing.next(alloc, input)? {
-        Next::One(message) => {
+        Next::Message { message, is_last } => {
             answer_message(alloc, framing, output, service, message)?;
-            Ok(Some(false))
-        }
-        Next::Last(message) => {
-            answer_message(alloc, framing, output, service, message)?;
-            Ok(Some(true))
+            Ok(Some(is_last))
         }
         Next::Nothing => Ok(None),
     }

@@ -13,10 +13,10 @@ pub enum StreamError {
     /// No header of at most `MOST_FIELDS` fields and `MOST_HEADER` bytes begins so.
     #[error("the header of a message is wrong")]
     Header,
-    /// A header says no length.
+    /// A header says no length below 2^64.
     #[error("the header of a message says no length")]
     Length,
-    /// The input ends within a message.
+    /// The input ends within a message: behind a part of it, and before its last byte.
     #[error("the input ends within a message")]
     Cut,
     /// There was no memory for a header.

@@ -7,10 +7,8 @@ use std::io::{BufRead, Write};
 /// What a reader has next.
 #[derive(Debug, Drop)]
 pub enum Next {
-    /// A message that ends by itself.
-    One(Message),
-    /// The last message, which the end of the reader ends.
-    Last(Message),
+    /// A message, and whether it is the last one, which the end of the reader ends.
+    Message { message: Message, is_last: bool },
     /// Nothing: the reader is at its end.
     Nothing,
 }

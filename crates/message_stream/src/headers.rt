@@ -1,9 +1,9 @@
 //! Messages behind headers that say how long they are.
-ghost use Rattle.std.specs.Prelude.{[], ◌≤◌, MatchResult};
+ghost use Rattle.std.specs.Prelude.{[], ◌<◌, ◌≤◌, MatchResult};
 ghost use Rattle.message_stream.specs.Exchanged.{HasRead};
 ghost use Rattle.message_stream.specs.Headers.{header_frames};
-ghost use Rattle.message_stream.specs.Inner.{HasReadBody, HasReadHeader, IsBodySoFar, IsEndOfHeader, IsHeaderPart};
-ghost use Rattle.message_stream.specs.Inner.{IsPassing, IsPiece};
+ghost use Rattle.message_stream.specs.Inner.{HasReadBody, HasReadHeader, IsBodyFault, IsBodySoFar, IsEndOfHeader};
+ghost use Rattle.message_stream.specs.Inner.{IsHeaderPart, IsPassing, IsPiece};
 
 use crate::error::StreamError;
 use crate::framing::{Framing, Next};
@@ -88,9 +88,10 @@ fn read_piece<R: BufRead>(
     body: Message,
     left: usize,
 ) -> Result<(Message, usize), StreamError>
+    requires { 0 < left }
     ensures { MatchResult result
         (λ r. IsPiece (R.remaining input.old) (R.remaining input.new) body left r.0 r.1)
-        (IsPassing (R.remaining input.old) (R.remaining input.new)) }
+        (IsBodyFault (R.remaining input.old) (R.remaining input.new) left) }
 {
     let shown = match input.fill_buf() {
         Ok(shown) => shown,
@@ -146,8 +147,11 @@ fn next_headed<R: BufRead>(alloc: Global, input: &mut R) -> Result<Next, StreamE
 {
     match read_header(alloc, input)? {
         Head::Length(length) => {
-            let body = read_body(alloc, input, length)?;
-            Ok(Next::One(body))
+            let message = read_body(alloc, input, length)?;
+            Ok(Next::Message {
+                message,
+                is_last: false,
+            })
         }
         Head::Nothing => Ok(Next::Nothing),
     }

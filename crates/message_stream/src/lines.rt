@@ -93,7 +93,10 @@ fn last_of(line: Message) -> Next
             return Next::Nothing;
         }
     }
-    Next::Last(line)
+    Next::Message {
+        message: line,
+        is_last: true,
+    }
 }
 
 fn next_line<R: BufRead>(alloc: Global, input: &mut R) -> Result<Next, StreamError>
@@ -105,7 +108,12 @@ fn next_line<R: BufRead>(alloc: Global, input: &mut R) -> Result<Next, StreamErr
         line = longer;
         match ending {
             Ending::Shown => {}
-            Ending::Feed => return Ok(Next::One(line)),
+            Ending::Feed => {
+                return Ok(Next::Message {
+                    message: line,
+                    is_last: false,
+                });
+            }
             Ending::End => return Ok(last_of(line)),
         }
     }

@@ -1,8 +1,8 @@
 //! What a header says.
-ghost use Rattle.std.specs.Prelude.{◌≡◌, ◌↔◌, ℕ, List, map, codes, IfSome, IsTrue};
+ghost use Rattle.std.specs.Prelude.{◌≡◌, ◌≤◌, ◌^◌, ◌↔◌, ℕ, List, map, codes, IfNone, IfSome, IsTrue};
 ghost use Rattle.httparse.specs.Borrowed.{header_parts};
-ghost use Rattle.message_stream.specs.Inner.{IsState};
-ghost use Rattle.message_stream.specs.Headers.{IsLengthName, IsLengthValue, IsNumberOf};
+ghost use Rattle.message_stream.specs.Inner.{HasNothingBehind, IsState};
+ghost use Rattle.message_stream.specs.Headers.{HasNoLength, IsLengthName, IsLengthValue, IsNumberOf};
 
 use httparse::{EMPTY_HEADER, Header, Status, parse_headers};
 
@@ -26,7 +26,8 @@ pub(crate) enum HeaderState {
 }
 
 fn number(value: &[u8]) -> Option<usize>
-    ensures { IfSome result (IsNumberOf value.now) }
+    ensures number { IfSome result (IsNumberOf value.now) }
+    ensures none { IfNone result ((n : ℕ) → IsNumberOf value.now n → 2 ^ 64 ≤ n) }
 {
     match str::from_utf8(value) {
         Ok(text) => match text.parse::<usize>() {
@@ -45,8 +46,9 @@ fn says_length(name: &str) -> bool
 
 // The length that the first field of that name says.
 fn length_in(fields: &[Header<'_>]) -> Option<usize>
-    ensures { IfSome result (λ n. (value : List ℕ)
+    ensures length { IfSome result (λ n. (value : List ℕ)
         × IsLengthValue (map header_parts fields.now) value × IsNumberOf value n) }
+    ensures none { IfNone result (HasNoLength (map header_parts fields.now)) }
 {
     let mut left = fields;
     while let [field, rest @ ..] = left {
@@ -59,19 +61,15 @@ fn length_in(fields: &[Header<'_>]) -> Option<usize>
 }
 
 pub(crate) fn state_of(header: &[u8]) -> HeaderState
+    requires { HasNothingBehind header.now }
     ensures { IsState header.now result }
 {
     let mut room = [EMPTY_HEADER; MOST_FIELDS];
     match parse_headers(header, &mut room) {
-        Ok(Status::Complete((end, fields))) => {
-            if end != header.len() {
-                return HeaderState::NoLength;
-            }
-            match length_in(fields) {
-                Some(length) => HeaderState::Length(length),
-                None => HeaderState::NoLength,
-            }
-        }
+        Ok(Status::Complete((_end, fields))) => match length_in(fields) {
+            Some(length) => HeaderState::Length(length),
+            None => HeaderState::NoLength,
+        },
         Ok(Status::Partial) => HeaderState::More,
         Err(_) => HeaderState::Wrong,
     }
