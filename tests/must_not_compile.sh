@@ -1,9 +1,7 @@
 #!/usr/bin/env bash
-# Compiles the files of tests/must_not_compile as the modules of one crate over the repository's own, and looks for the
-# error that the second line of each names, which has to be the only one in that file. A file that wants `nothing` has to
-# compile.
-#
-# It reads the libraries as earlier checks left them, and proves nothing.
+# Compiles the files of tests/must_not_compile as the modules of one program over the repository's own crates, and looks for
+# the error that the second line of each names, which has to be the only one in that file. A file that wants `nothing` has
+# to compile. It proves nothing.
 set -uo pipefail
 cd "$(dirname "${BASH_SOURCE[0]}")/.." || exit 2
 if ! command -v rt > /dev/null; then
@@ -16,22 +14,22 @@ trap 'rm -rf "$work"' EXIT
 cp HANDLES "$work"
 for name in hir_input item_tree_attrs item_tree item_tree_db; do
     grep "^$name:" crates.txt >> "$work/crates.txt"
-    mkdir -p "$work/crates/$name/out"
+    mkdir -p "$work/crates/$name"
     cp -r "crates/$name/src" "crates/$name/specs" "crates/$name/proofs" "$work/crates/$name"
-    if [ -d "crates/$name/out/rlib" ]; then cp -r "crates/$name/out/rlib" "$work/crates/$name/out"; fi
 done
 echo "lending: hir_input item_tree item_tree_db" >> "$work/crates.txt"
 lending=$work/crates/lending
 mkdir -p "$lending/src" "$lending/specs" "$lending/proofs"
 : > "$lending/specs/Lib.antt"
 : > "$lending/proofs/Lib.antt"
-printf '#![tactic(auto)]\n\n' > "$lending/src/lib.rt"
+printf '#![tactic(auto)]\n\n' > "$lending/src/main.rt"
 for source in tests/must_not_compile/*.txt; do
     name=$(basename "$source" .txt)
     cp "$source" "$lending/src/$name.rt"
-    echo "mod $name;" >> "$lending/src/lib.rt"
+    echo "mod $name;" >> "$lending/src/main.rt"
 done
-(cd "$lending" && rt check --only=) > "$work/log" 2>&1
+printf '\nfn main(_rt: HostRuntime) {}\n' >> "$lending/src/main.rt"
+(cd "$lending" && rt try) > "$work/log" 2>&1
 passed=0 failed=0
 for source in tests/must_not_compile/*.txt; do
     name=$(basename "$source" .txt)
