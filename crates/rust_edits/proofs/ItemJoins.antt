@@ -4,6 +4,7 @@ pub mod EndingFields
 pub mod Calls
 pub mod EndingParts
 pub mod EndingLeaves
+pub mod FoundFurther
 pub mod EndingItems
 pub mod EndingTurns
 pub mod Tops
@@ -15,5 +16,18 @@ pub mod LongerTexts
 pub mod Joins
 pub mod OpenItems
 pub mod OpenJoin
+pub mod PartPlaces
 pub mod DamagedItems
+pub mod Between
+pub mod WithoutIds
+pub mod FileParts
+pub mod TopIds
+pub mod TopTurns
+pub mod TokensLeft
+pub mod NoItems
+pub mod ItemsAnywhere
+pub mod RangesAlone
+pub mod ModuleParts
+pub mod Wholes
+pub mod FrontParts
 pub mod Examples

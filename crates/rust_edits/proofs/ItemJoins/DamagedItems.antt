@@ -1,6 +1,6 @@
 -- Items in front of a text whose brackets are mended, and behind one.
-use Rattle.std.proofs.Common.{◌≡◌, ◌<◌, ◌+◌, ◌==◌, ◌&&◌, ◌++◌, ℕ, map, length-append, Bool, true, false, List, [], ◌∷◌, length, refl, sym, ap, ◌∙◌, subst, arith, not}
-use Rattle.rust_edits.proofs.Common.{eqb-true, Found, Problem, found_in, moved_problem, EditionYear, Stop, opening, stop, is_return, with_feeds, EndsWhole, BeginsAnew, ReadsBoth, ItemsBefore, ItemsBehind, ReadsBothIn, most_tokens, nat_tests, when}
+use Rattle.std.proofs.Common.{◌≡◌, ◌<◌, ◌+◌, ◌==◌, ◌++◌, ℕ, map, length-append, true, false, List, [], ◌∷◌, length, refl, sym, ap, ◌∙◌, subst, arith, not}
+use Rattle.rust_edits.proofs.Common.{eqb-true, Found, Problem, found_in, moved_problem, EditionYear, with_feeds, EndsWhole, BeginsAnew, ReadsBoth, ItemsBefore, ItemsBehind, ReadsBothIn, most_tokens, when}
 use Rattle.std.proofs.lemmas.List.{length-map}
 use Rattle.rust_mended.specs.Texts.{mended_text}
 use Rattle.rust_mended.proofs.Joins.{item_text, matched_text}
@@ -10,52 +10,13 @@ use Rattle.rust_edits.specs.ItemJoins.Open.{ReadsOn}
 use Rattle.rust_edits.proofs.ItemJoins.OpenJoin.{open_items_end}
 use Rattle.rust_edits.specs.ItemJoins.Mended.{ListsBefore, OpenBehind, is_told, text_for_lists}
 use Rattle.rust_edits.proofs.ItemJoins.Joins.{items_join}
-
--- ---- texts with carriage returns
-
--- its last byte is no return
-abbrev is_shut : List ℕ → Bool
-is_shut [] = false
-is_shut (b ∷ []) = not (b == 13)
-is_shut (b ∷ c ∷ z) = is_shut (c ∷ z)
-
-no_return : (b : ℕ) (y : List ℕ) → not (b == 13) ≡ true → is_return b y ≡ false
-no_return b y e = when (b == 13) (λ f. absurd (let no = rw f at e in cc)) (λ f. rw f refl)
-
--- its returns do not count beside what stands behind it
-feeds_both : (x y : List ℕ) → is_shut x ≡ true → with_feeds (x ++ y) ≡ with_feeds x ++ with_feeds y
-feeds_both [] y e = absurd cc
-feeds_both (b ∷ []) y e = let none = no_return b y e in let last = no_return b [] e in rw (none, last) refl
-feeds_both (b ∷ c ∷ z) y e = let rest = feeds_both (c ∷ z) y e in when (is_return b (c ∷ z)) (λ f. rw f rest) (λ f. rw f (ap (λ l. b ∷ l) rest))
-
-none_feed : (b : ℕ) → (b == 13 && false) ≡ false
-none_feed b = when (b == 13) (λ e. rw e refl) (λ e. rw e refl)
-
-feeds_some : (b : ℕ) (z : List ℕ) → length (with_feeds (b ∷ z)) ≡ 0 → ⊥
-feeds_some b [] e = let last = none_feed b in absurd (let no = rw last at e in cc)
-feeds_some b (c ∷ z) e = when (is_return b (c ∷ z)) (λ f. feeds_some c z (rw f at e)) (λ f. absurd (let no = rw f at e in cc))
-
-shut_cons : (b : ℕ) (v : List ℕ) → (length v ≡ 0 → ⊥) → is_shut (b ∷ v) ≡ is_shut v
-shut_cons b v e = grind (arith, nat_tests)
-
-shut_feeds : (x : List ℕ) → is_shut (with_feeds x) ≡ is_shut x
-shut_feeds [] = refl
-shut_feeds (b ∷ []) = let last = none_feed b in rw last refl
-shut_feeds (b ∷ c ∷ z) =
-    when (is_return b (c ∷ z)) (λ f. rw f (shut_feeds (c ∷ z))) (λ f. rw f (shut_cons b (with_feeds (c ∷ z)) (feeds_some c z) ∙ shut_feeds (c ∷ z)))
-
-shut_end : (w : List ℕ) (o : Stop) → is_shut (w ++ stop o ∷ []) ≡ true
-shut_end [] opening = refl
-shut_end [] _ = refl
-shut_end (b ∷ []) o = shut_end [] o
-shut_end (b ∷ c ∷ w) o = shut_end (c ∷ w) o
+use Rattle.rust_edits.proofs.ItemJoins.PartPlaces.{own_splits}
 
 -- ---- two texts
 
 join_in : (edition : EditionYear) (x y : List ℕ) → EndsWhole true 128 edition (with_feeds x) → BeginsAnew edition (with_feeds y) → length (with_feeds (x ++ y)) < most_tokens → ReadsBothIn edition (x ++ y) x y
 join_in edition x y h b short =
-    let shut : is_shut x ≡ true = sym (shut_feeds x) ∙ ap is_shut h.ends.bytes ∙ shut_end h.ends.before h.ends.last in
-    let split = feeds_both x y shut in
+    let split = (own_splits x y h.ends).feeds in
     subst (λ (z : List ℕ). ReadsBoth edition z (with_feeds x) (with_feeds y)) (sym split) (items_join edition (with_feeds x) (with_feeds y) h b (subst (λ (z : List ℕ). length z < most_tokens) split short))
 
 -- ---- the laws

@@ -1,90 +1,16 @@
 -- Items are the same in a text that ends with a `;` or a `}` and in a longer one, where they end there or before.
-use Rattle.std.proofs.Common.{◌≡◌, ◌≤◌, length-append, ◌<◌, ◌+◌, ◌==◌, ◌&&◌, ℕ, zero, suc, Bool, true, false, Option, Some, None, List, [], ◌∷◌, ◌++◌, length, refl, sym, ap, ◌∙◌, subst, arith, map, append_assoc, codes}
-use Rattle.rust_edits.proofs.Common.{option_map, option_to_list, is_some, is_none, AstIdKind, MetaView, ItemView, Row, most_tokens, progress_from, Tokens, symbol, at, eat_word, bumped, is_at_end, TextRange, path, use_tree, inner_attributes, Head, FrontRead, front, constant, structure, implementation, crate_item, use_declaration, macro_definition, is_called, begins_call, invocation, item_call, leaf_by, leaf, LeafRead, written_name, named_or, written_rename, ProblemKind, Found, Finder, nothing_found, and_problem, and_problem_at, and_all, span_of, and_flaw, and_item, and_leaf, leaf_found, leaf_turn, finding_from, finding, is_list_end, BlockRead, block_of, as_extern, extern_kept, extern_found, unmatched_token, extern_turn, extern_inside, inside, turn, moved_span, moved_problem, map-append, IsLaid, behind, LeadsTo, here, further, through, when, bumped_leads, beyond_leads, eat_leads, eat_word_leads, Ending, Near, fewer, nothing, bumped_onward, at_same, past_same, near_twins, beyond_near, near_parting, near_enters, near_levels, Kept, AtEnd, is_still, Outcome, lost, stays, comes, untaken, eat_outcome, eat_fewer, Same, by_next, by_kept, symbol_same, empty_same, end_same, use_tree_leads, inner_attributes_leads, inner_attributes_until, behind_others_onward, named_leads, named_or_leads, renamed_leads, behind_others_leads, front_takes, LeafAt, leaf_at, Finds, extern_turn_found, list_from, mut_word, mut_word_leads, plain_leaf}
+use Rattle.std.proofs.Common.{◌≡◌, ◌≤◌, length-append, ◌<◌, ◌+◌, ◌==◌, ◌&&◌, ℕ, zero, suc, Bool, true, false, Option, Some, None, List, [], ◌∷◌, ◌++◌, length, refl, ap, ◌∙◌, arith, codes}
+use Rattle.rust_edits.specs.ItemJoins.Alone.{is_unfinished_at}
+use Rattle.rust_edits.proofs.Common.{not, common_steps, option_to_list, is_some, AstIdKind, MetaView, ItemView, most_tokens, progress_from, Tokens, symbol, at, eat_word, bumped, is_at_end, TextRange, path, use_tree, inner_attributes, Head, FrontRead, front, constant, structure, implementation, crate_item, use_declaration, macro_definition, is_called, begins_call, invocation, item_call, leaf_by, leaf, LeafRead, written_name, named_or, written_rename, ProblemKind, Found, Finder, nothing_found, and_problem, and_problem_at, and_item, and_leaf, leaf_found, leaf_turn, finding_from, finding, is_list_end, BlockRead, block_of, as_extern, extern_kept, extern_found, unmatched_token, extern_turn, extern_inside, inside, turn, IsLaid, behind, LeadsTo, here, further, through, when, bumped_leads, beyond_leads, eat_leads, eat_word_leads, Ending, Near, fewer, nothing, bumped_onward, at_same, past_same, near_twins, beyond_near, near_parting, near_enters, near_levels, Kept, AtEnd, is_still, Outcome, lost, stays, comes, untaken, eat_outcome, eat_fewer, Same, by_next, by_kept, symbol_same, empty_same, end_same, use_tree_leads, inner_attributes_leads, inner_attributes_until, behind_others_onward, named_leads, named_or_leads, renamed_leads, behind_others_leads, front_takes, LeafAt, leaf_at, Finds, extern_turn_found, list_from, mut_word, mut_word_leads, plain_leaf}
 use Rattle.rust_leaves.specs.declared.head.Head.TheVariants as heads
 use Rattle.rust_items.specs.declared.log.ProblemKind.TheVariants as problem
-use Rattle.rust_edits.proofs.ItemJoins.EndingFronts.{FrontNear, front_until, further_on}
-use Rattle.rust_edits.proofs.ItemJoins.EndingParts.{some_on, LeafNear, Given, given_on, call_end_fewer, rest_fewer}
+use Rattle.rust_edits.proofs.ItemJoins.EndingFronts.{FrontNear, front_until}
+use Rattle.rust_edits.proofs.ItemJoins.EndingParts.{LeafNear, Given, given_on, call_end_fewer, rest_fewer}
 use Rattle.rust_edits.proofs.ItemJoins.EndingLeaves.{Ends, passes, before_end, at_end, SomeLeaf, no_leaf, one_leaf, leaf_ended, LeafEnds, leaf_ends}
 use Rattle.rust_cursor.specs.Grammar.{reads}
 use Rattle.rust_cursor.proofs.Rules.{rule_leads}
 use Rattle.rust_cursor.specs.Looks.{sees}
-
--- ---- what is found
-
-abbrev pub place_on : Ending → ℕ → ℕ
-place_on b n = n + b.by
-
--- behind what was found before in the long text, the same is found, so much further on
-pub record FoundNear (b : Ending) (before f g : Found) : Type 0 where
-  pub rows : f.rows ≡ before.rows ++ g.rows
-  pub spans : f.spans ≡ before.spans ++ map (moved_span (place_on b)) g.spans
-  pub use_trees : f.use_trees ≡ before.use_trees ++ further_on b g.use_trees
-  pub problems : f.problems ≡ before.problems ++ map (moved_problem (place_on b)) g.problems
-
-join_near : {A C : Type 0} (on : A → C) (f before m : List C) (g m' : List A) → f ≡ before ++ map on g → m ≡ map on m' → f ++ m ≡ before ++ map on (g ++ m')
-join_near on f before m g m' e d =
-    ap (λ l. l ++ m) e ∙ append_assoc before (map on g) m ∙ ap (λ l. before ++ l) (ap (λ l. map on g ++ l) d ∙ sym (map-append on g m'))
-
-row_near : (f before g m : List Row) → f ≡ before ++ g → f ++ m ≡ before ++ (g ++ m)
-row_near f before g m e = ap (λ l. l ++ m) e ∙ append_assoc before g m
-
-pub problem_near : (b : Ending) (before f g : Found) (k : ProblemKind) (at at' : ℕ) → at ≡ at' + b.by → FoundNear b before f g → FoundNear b before (and_problem k at f) (and_problem k at' g)
-problem_near b before f g k at at' e n = record {
-  rows = n.rows;
-  spans = n.spans;
-  use_trees = n.use_trees;
-  problems = join_near (moved_problem (place_on b)) f.problems before.problems _ g.problems (record { kind = k; at = at' } ∷ []) n.problems (ap (λ z. record { kind = k; at = z } ∷ []) e);
-}
-
-flaw_near : (b : Ending) (before f g : Found) (ended ended' nameless : Bool) (start start' : ℕ) → ended' ≡ ended → start ≡ start' + b.by → FoundNear b before f g → FoundNear b before (and_flaw ended nameless start f) (and_flaw ended' nameless start' g)
-flaw_near b before f g true ended' true start start' e s n = rw e (problem_near b before f g problem.Nameless start start' s n)
-flaw_near b before f g true ended' false start start' e s n = rw e n
-flaw_near b before f g false ended' nameless start start' e s n = rw e (problem_near b before f g problem.Unfinished start start' s n)
-
-none_same : (b : Ending) (o o' : Option TextRange) → o ≡ some_on b o' → is_none o' ≡ is_none o
-none_same b o None e = rw e refl
-none_same b o (Some r) e = rw e refl
-
-pub item_near : (b : Ending) (before f g : Found) (depth start start' end end' : ℕ) (body body' : Option TextRange) (k : AstIdKind) (name : List ℕ) (range range' : Option TextRange) (ended ended' : Bool) → start ≡ start' + b.by → end ≡ end' + b.by
-    → body ≡ some_on b body' → range ≡ some_on b range' → ended' ≡ ended → FoundNear b before f g
-    → FoundNear b before (and_item depth start end body k name range ended f) (and_item depth start' end' body' k name range' ended' g)
-item_near b before f g depth start start' end end' body body' k name range range' ended ended' s e o r d n =
-    rw (none_same b range range' r)
-    (flaw_near b before _ _ ended ended' _ start start' d s
-    (record {
-      rows = row_near f.rows before.rows g.rows _ n.rows;
-      spans = join_near (moved_span (place_on b)) f.spans before.spans _ g.spans (span_of start' end' body' range' ∷ []) n.spans (rw (s, e, o, r) refl);
-      use_trees = n.use_trees;
-      problems = n.problems;
-    }))
-
-deep_near : (b : Ending) (before f g : Found) (o o' : Option ℕ) → o ≡ option_map (λ n. n + b.by) o' → FoundNear b before f g → FoundNear b before (and_problem_at problem.TooDeep o f) (and_problem_at problem.TooDeep o' g)
-deep_near b before f g o None e n = rw e n
-deep_near b before f g o (Some at) e n = rw e (problem_near b before f g problem.TooDeep (at + b.by) at refl n)
-
-leaf_near : (b : Ending) (before f g : Found) (depth start start' end end' : ℕ) (l m : LeafRead) → start ≡ start' + b.by → end ≡ end' + b.by → LeafNear b l m → FoundNear b before f g
-    → FoundNear b before (and_leaf depth start end l f) (and_leaf depth start' end' m g)
-leaf_near b before f g depth start start' end end' l m s e k n =
-    let item = subst (λ (z : AstIdKind). FoundNear b before (and_item depth start end l.body l.kind l.name l.named l.is_ended f) (and_item depth start' end' m.body z m.name m.named m.is_ended g)) (sym k.kind)
-    (subst (λ (z : List ℕ). FoundNear b before (and_item depth start end l.body l.kind l.name l.named l.is_ended f) (and_item depth start' end' m.body l.kind z m.named m.is_ended g)) (sym k.name)
-    (item_near b before f g depth start start' end end' l.body m.body l.kind l.name l.named m.named l.is_ended m.is_ended s e k.body k.named k.ended n)) in
-    let deep = deep_near b before _ _ l.too_deep m.too_deep k.too_deep item in
-    record {
-      rows = deep.rows;
-      spans = deep.spans;
-      use_trees = join_near (λ n. n + b.by) _ before.use_trees l.use_trees _ m.use_trees deep.use_trees k.use_trees;
-      problems = deep.problems;
-    }
-
--- all of what is found in an item, behind its own
-pub all_near : (b : Ending) (before f g more more' : Found) → FoundNear b before f g → FoundNear b nothing_found more more' → FoundNear b before (and_all more f) (and_all more' g)
-all_near b before f g more more' n k = record {
-  rows = ap (λ l. f.rows ++ l) k.rows ∙ row_near f.rows before.rows g.rows more'.rows n.rows;
-  spans = join_near (moved_span (place_on b)) f.spans before.spans more.spans g.spans more'.spans n.spans k.spans;
-  use_trees = join_near (λ n. n + b.by) f.use_trees before.use_trees more.use_trees g.use_trees more'.use_trees n.use_trees k.use_trees;
-  problems = join_near (moved_problem (place_on b)) f.problems before.problems more.problems g.problems more'.problems n.problems k.problems;
-}
+pub use Rattle.rust_edits.proofs.ItemJoins.FoundFurther.{place_on, FoundNear, problem_near, item_near, leaf_near, all_near}
 
 -- ---- what a reader of items finds
 
@@ -117,8 +43,8 @@ pub data Long {A : Type 0} (alike : A → A → Type 0) (b : Ending) : A × Toke
   over : {p q : A × Tokens} → length p.1.left ≤ length b.behind → b.level ≡ false → q.1.left ≡ [] → Long alike b p q
   under : {p q : A × Tokens} → Kept alike b p q → Long alike b p q
 
-pub ends_long : {A : Type 0} {alike : A → A → Type 0} {Flawed : A → Type 0} {b : Ending} {p q : A × Tokens} → Ends alike Flawed b p q → Long alike b p q
-ends_long {p = p} (passes few uneven none never) = over {p = p} few uneven none
+pub ends_long : {A : Type 0} {alike : A → A → Type 0} {Flawed Whole : A → Type 0} {b : Ending} {p q : A × Tokens} → Ends alike Flawed Whole b p q → Long alike b p q
+ends_long {p = p} (passes few uneven none never strict) = over {p = p} few uneven none
 ends_long (before_end k) = under k
 ends_long {b = b} {p = p} (at_end t a) = over {p = p} (let same = ap length a.behind in omega arith) a.uneven a.none
 
@@ -137,12 +63,12 @@ pub top_end : (is_top : Bool) (b : Ending) (ts us : Tokens) → Near b ts us →
 unfolding is_list_end
 top_end is_top b ts us h = rw (empty_same (near_twins b) ts us h, symbol_same (near_twins b) ts us h) refl
 
-module _ (b : Ending) (turn : Finder (Option ItemView)) (t : TurnLong b turn) (finds : (end : ℕ) → Finds end turn) where
-  list_leads : (n k : ℕ) (done : List ItemView) (f : Found) (ts : Tokens) → IsLaid n ts → LeadsTo ts (finding_from (is_list_end false) turn k done f ts).1.1
-  list_leads n k done f ts l = (list_from n (is_list_end false) turn (finds n) k done f ts l).found.leads
+module _ (is_top : Bool) (b : Ending) (turn : Finder (Option ItemView)) (t : TurnLong b turn) (finds : (end : ℕ) → Finds end turn) where
+  list_leads : (n k : ℕ) (done : List ItemView) (f : Found) (ts : Tokens) → IsLaid n ts → LeadsTo ts (finding_from (is_list_end is_top) turn k done f ts).1.1
+  list_leads n k done f ts l = (list_from n (is_list_end is_top) turn (finds n) k done f ts l).found.leads
 
-  list_long : (n m k : ℕ) (before : Found) (done done' : List ItemView) (f g : Found) (ts us : Tokens) → Given n m ts us → Near b ts us → done' ≡ done → FoundNear b before f g
-      → Long (FoundAlike b before) b (flat (finding_from (is_list_end false) turn k done f ts)) (flat (finding_from (is_list_end false) turn k done' g us))
+  pub list_long : (n m k : ℕ) (before : Found) (done done' : List ItemView) (f g : Found) (ts us : Tokens) → Given n m ts us → Near b ts us → done' ≡ done → FoundNear b before f g
+      → Long (FoundAlike b before) b (flat (finding_from (is_list_end is_top) turn k done f ts)) (flat (finding_from (is_list_end is_top) turn k done' g us))
   list_long n m zero before done done' f g ts us given h d a = under (record { value = record { value = d; found = a }; rest = h })
   list_long n m (suc k) before done done' f g ts us given h d a =
       let r = turn f ts in
@@ -155,16 +81,16 @@ module _ (b : Ending) (turn : Finder (Option ItemView)) (t : TurnLong b turn) (f
       let far' : LeadsTo us next' = through to' (beyond_leads us.past r'.1.1) in
       let rest = list_leads n k (done ++ option_to_list r.0) r.1.0 next (behind n far given.laid).laid in
       let rest' = list_leads m k (done' ++ option_to_list r'.0) r'.1.0 next' (behind m far' given.short.laid).laid in
-      when (is_list_end false ts)
-      (λ e. rw (top_end false b ts us h, e) (under (record { value = record { value = d; found = a }; rest = h })))
-      (λ e. rw (top_end false b ts us h, e)
-      (by_long {B = Long (FoundAlike b before) b (flat (finding_from (is_list_end false) turn k (done ++ option_to_list r.0) r.1.0 next)) (flat (finding_from (is_list_end false) turn k (done' ++ option_to_list r'.0) r'.1.0 next'))}
+      when (is_list_end is_top ts)
+      (λ e. rw (top_end is_top b ts us h, e) (under (record { value = record { value = d; found = a }; rest = h })))
+      (λ e. rw (top_end is_top b ts us h, e)
+      (by_long {B = Long (FoundAlike b before) b (flat (finding_from (is_list_end is_top) turn k (done ++ option_to_list r.0) r.1.0 next)) (flat (finding_from (is_list_end is_top) turn k (done' ++ option_to_list r'.0) r'.1.0 next'))}
       (t n m before f g ts us given h a)
       (λ few uneven none.
-      over {p = flat (finding_from (is_list_end false) turn k (done ++ option_to_list r.0) r.1.0 next)} (let less = fewer (through (beyond_leads ts.past r.1.1) rest) in omega arith) uneven
+      over {p = flat (finding_from (is_list_end is_top) turn k (done ++ option_to_list r.0) r.1.0 next)} (let less = fewer (through (beyond_leads ts.past r.1.1) rest) in omega arith) uneven
       (nothing (through (beyond_leads us.past r'.1.1) rest') none))
       (λ l. by_next (beyond_near b ts us r.1.1 r'.1.1 h l.rest)
-      (λ o. over {p = flat (finding_from (is_list_end false) turn k (done ++ option_to_list r.0) r.1.0 next)} (let few = o.few in let less = fewer rest in omega arith) o.uneven (nothing rest' o.none))
+      (λ o. over {p = flat (finding_from (is_list_end is_top) turn k (done ++ option_to_list r.0) r.1.0 next)} (let few = o.few in let less = fewer rest in omega arith) o.uneven (nothing rest' o.none))
       (λ w. list_long n m k before _ _ r.1.0 r'.1.0 next next' (given_on given far far') w
       (ap (λ z. z ++ option_to_list r'.0) d ∙ ap (λ z. done ++ option_to_list z) l.value.value) l.value.found))))
 
@@ -175,9 +101,12 @@ pub data IsOpen (g : Found) (r : BlockRead × Found) : Type 0 where
   is_open : r.0.is_ended ≡ false → IsOpen g r
   is_told : told g < told r.1 → IsOpen g r
 
-abbrev pub BlockEnds : Ending → Finder BlockRead → Type 0
-BlockEnds b inside =
-    (n m : ℕ) (before f g : Found) (ts us : Tokens) → Given n m ts us → Near b ts us → FoundNear b before f g → Ends (FoundAlike b before) (IsOpen g) b (flat (inside f ts)) (flat (inside g us))
+abbrev pub IsClosed : BlockRead × Found → Type 0
+IsClosed r = r.0.is_ended ≡ true
+
+abbrev pub BlockEnds : (BlockRead × Found → Type 0) → Ending → Finder BlockRead → Type 0
+BlockEnds Whole b inside =
+    (n m : ℕ) (before f g : Found) (ts us : Tokens) → Given n m ts us → Near b ts us → FoundNear b before f g → Ends (FoundAlike b before) (IsOpen g) Whole b (flat (inside f ts)) (flat (inside g us))
 
 abbrev read_as : List MetaView → List ItemView → Bool → BlockRead
 read_as attrs is t = record { attrs = attrs; items = Some is; is_ended = t }
@@ -187,14 +116,14 @@ read_same attrs attrs' is is' t t' e d c = rw (e, d, c) refl
 
 -- behind the items of a block
 closed_ends : (b : Ending) (before base : Found) (attrs attrs' : List MetaView) (is is' : List ItemView) (f g : Found) {p q : Bool × Tokens} → attrs' ≡ attrs → is' ≡ is → FoundNear b before f g → Outcome Same (λ t. t) b p q
-    → Ends (FoundAlike b before) (IsOpen base) b ((read_as attrs is p.0, f), p.1) ((read_as attrs' is' q.0, g), q.1)
-closed_ends b before base attrs attrs' is is' f g {p = p} {q = q} e d n (lost o s c) = passes {p = ((read_as attrs is p.0, f), p.1)} o.few o.uneven o.none (λ t. is_open (c t))
+    → Ends (FoundAlike b before) (IsOpen base) IsClosed b ((read_as attrs is p.0, f), p.1) ((read_as attrs' is' q.0, g), q.1)
+closed_ends b before base attrs attrs' is is' f g {p = p} {q = q} e d n (lost o s c) = passes {p = ((read_as attrs is p.0, f), p.1)} o.few o.uneven o.none (λ t. is_open (c t)) s
 closed_ends b before base attrs attrs' is is' f g {p = p} {q = q} e d n (stays k) = before_end (record { value = record { value = read_same attrs attrs' is is' p.0 q.0 e d k.value; found = n }; rest = k.rest })
 closed_ends b before base attrs attrs' is is' f g {p = p} {q = q} e d n (comes c a) = at_end (record { value = read_same attrs attrs' is is' p.0 q.0 e d c; found = n }) a
 
 module _ (b : Ending) (turn : Finder (Option ItemView)) (t : TurnLong b turn) (finds : (end : ℕ) → Finds end turn) where
   pub block_ends : (n m : ℕ) (before f g : Found) (ts us : Tokens) → Given n m ts us → Near b ts us → FoundNear b before f g
-      → Ends (FoundAlike b before) (IsOpen g) b (flat (block_of turn f ts)) (flat (block_of turn g us))
+      → Ends (FoundAlike b before) (IsOpen g) IsClosed b (flat (block_of turn f ts)) (flat (block_of turn g us))
   unfolding finding
   block_ends n m before f g ts us given h a =
       let inner = inner_attributes (bumped ts) in
@@ -204,17 +133,28 @@ module _ (b : Ending) (turn : Finder (Option ItemView)) (t : TurnLong b turn) (f
       let given' = given_on given open_to open_to' in
       let list = finding_from (is_list_end false) turn most_tokens [] f inner.1 in
       let list' = finding_from (is_list_end false) turn most_tokens [] g inner'.1 in
-      let list_to : LeadsTo inner.1 list.1.1 = list_leads b turn t finds n most_tokens [] f inner.1 given'.laid in
-      let list_to' : LeadsTo inner'.1 list'.1.1 = list_leads b turn t finds m most_tokens [] g inner'.1 given'.short.laid in
-      let far : length list.1.1.left ≤ length b.behind → b.level ≡ false → list'.1.1.left ≡ [] → Ends (FoundAlike b before) (IsOpen g) b (flat (block_of turn f ts)) (flat (block_of turn g us)) =
+      let list_to : LeadsTo inner.1 list.1.1 = list_leads false b turn t finds n most_tokens [] f inner.1 given'.laid in
+      let list_to' : LeadsTo inner'.1 list'.1.1 = list_leads false b turn t finds m most_tokens [] g inner'.1 given'.short.laid in
+      let far : length list.1.1.left ≤ length b.behind → b.level ≡ false → list'.1.1.left ≡ [] → Ends (FoundAlike b before) (IsOpen g) IsClosed b (flat (block_of turn f ts)) (flat (block_of turn g us)) =
       λ few uneven none. passes {p = flat (block_of turn f ts)} (let less = fewer (eat_leads 125 list.1.1) in omega arith) uneven (nothing (eat_leads 125 list'.1.1) none)
-      (λ s. is_open (untaken list'.1.1 none (eat_fewer 125 list'.1.1 (omega arith)))) in
+      (λ s. is_open (untaken list'.1.1 none (eat_fewer 125 list'.1.1 (omega arith)))) (λ e. let less = eat_fewer 125 list.1.1 (omega arith) e in omega arith) in
       by_next (bumped_onward b ts us h)
       (λ o. far (let few = o.few in let less = fewer (through (inner_attributes_leads (bumped ts)) list_to) in omega arith) o.uneven (nothing (through (inner_attributes_leads (bumped us)) list_to') o.none))
       (λ k. by_kept (inner_attributes_until (near_parting b) (near_enters b) (near_levels b) (bumped ts) (bumped us) k)
       (λ o. far (let few = o.few in let less = fewer list_to in omega arith) o.uneven (nothing list_to' o.none))
-      (λ l. by_long (list_long b turn t finds n m most_tokens before [] [] f g inner.1 inner'.1 given' l.rest refl a) far
+      (λ l. by_long (list_long false b turn t finds n m most_tokens before [] [] f g inner.1 inner'.1 given' l.rest refl a) far
       (λ w. closed_ends b before g inner.0 inner'.0 list.0 list'.0 list.1.0 list'.1.0 l.value w.value.value w.value.found (eat_outcome b 125 list.1.1 list'.1.1 w.rest))))
+
+  -- what is closed takes a token
+  pub block_fewer : (n : ℕ) (f : Found) (ts : Tokens) → IsLaid n ts → (block_of turn f ts).0.is_ended ≡ true → length (block_of turn f ts).1.1.left < length ts.left
+  unfolding finding
+  block_fewer n f ts laid e =
+      let inner = inner_attributes (bumped ts) in
+      let to : LeadsTo ts inner.1 = further (inner_attributes_leads (bumped ts)) in
+      let list = finding_from (is_list_end false) turn most_tokens [] f inner.1 in
+      let first = fewer to in
+      let second = fewer (list_leads false b turn t finds n most_tokens [] f inner.1 (behind n to laid).laid) in
+      let strict = eat_fewer 125 list.1.1 (omega arith) e in omega arith
 
 -- ---- items that hold none
 
@@ -229,8 +169,21 @@ pub found_leads : (depth start : ℕ) (o : Option LeafRead) (f : Found) (ts : To
 found_leads depth start None f ts = behind_others_leads ts
 found_leads depth start (Some l) f ts = here
 
-abbrev pub TurnEnds : Ending → Found → Found → Option ItemView × (Found × Tokens) → Option ItemView × (Found × Tokens) → Type 0
-TurnEnds b before g r r' = Ends (FoundAlike b before) (TellsMore g) b (flat r) (flat r')
+-- an item that was not left unfinished at this place
+abbrev pub is_finished : ℕ → Option ItemView × Found → Bool
+is_finished start r = is_some r.0 && not (is_unfinished_at start r.1.problems)
+
+abbrev pub TurnEnds : Ending → Found → Found → ℕ → Option ItemView × (Found × Tokens) → Option ItemView × (Found × Tokens) → Type 0
+TurnEnds b before g start r r' = Ends (FoundAlike b before) (TellsMore g) (λ r. is_finished start r ≡ true) b (flat r) (flat r')
+
+-- it is ended
+finished_leaf : (depth start end : ℕ) (l : LeafRead) (f : Found) → is_finished start (Some l.item, and_leaf depth start end l f) ≡ true → l.is_ended ≡ true
+finished_leaf depth start end l f e = grind (arith, common_steps)
+
+pub leaf_strict : (m depth start : ℕ) (o : Option LeafRead) (f : Found) (ts : Tokens) → (leaf_ended o ≡ true → length ts.left < m)
+    → is_finished start ((leaf_found depth start o f ts).0, (leaf_found depth start o f ts).1.0) ≡ true → length (leaf_found depth start o f ts).1.1.left < m
+leaf_strict m depth start None f ts strict e = absurd cc
+leaf_strict m depth start (Some l) f ts strict e = strict (finished_leaf depth start ts.past l f e)
 
 -- of an item without its end a problem is told
 told_item : (depth start end : ℕ) (body : Option TextRange) (k : AstIdKind) (name : List ℕ) (range : Option TextRange) (f : Found) → told f < told (and_item depth start end body k name range false f)
@@ -246,35 +199,35 @@ found_told depth start None f ts e = told_problem problem.NoItem start f
 found_told depth start (Some l) f ts e = told_leaf depth start ts.past l f e
 
 -- where nothing is left behind what was read, and it is not ended
-leaf_passes : (b : Ending) (before f g : Found) (depth start start' : ℕ) (o o' : Option LeafRead) (ts us : Tokens) → length ts.left ≤ length b.behind → b.level ≡ false → us.left ≡ [] → (is_still b ≡ true → leaf_ended o' ≡ false)
-    → TurnEnds b before g (leaf_found depth start o f ts) (leaf_found depth start' o' g us)
-leaf_passes b before f g depth start start' o o' ts us few uneven none never =
+leaf_passes : (b : Ending) (before f g : Found) (depth start start' : ℕ) (o o' : Option LeafRead) (ts us : Tokens) → length ts.left ≤ length b.behind → b.level ≡ false → us.left ≡ [] → (is_still b ≡ true → leaf_ended o' ≡ false) → (leaf_ended o ≡ true → length ts.left < length b.behind)
+    → TurnEnds b before g start (leaf_found depth start o f ts) (leaf_found depth start' o' g us)
+leaf_passes b before f g depth start start' o o' ts us few uneven none never strict =
     passes {p = flat (leaf_found depth start o f ts)} (let less = fewer (found_leads depth start o f ts) in omega arith) uneven (nothing (found_leads depth start' o' g us) none)
-    (λ s. found_told depth start' o' g us (never s))
+    (λ s. found_told depth start' o' g us (never s)) (leaf_strict (length b.behind) depth start o f ts strict)
 
 kept_leaf : (b : Ending) (before f g : Found) (depth start start' : ℕ) (ts us : Tokens) → start ≡ start' + b.by → FoundNear b before f g → Near b ts us → (o o' : Option LeafRead) → SomeLeaf b o o'
-    → TurnEnds b before g (leaf_found depth start o f ts) (leaf_found depth start' o' g us)
+    → TurnEnds b before g start (leaf_found depth start o f ts) (leaf_found depth start' o' g us)
 kept_leaf b before f g depth start start' ts us s n h _ _ no_leaf =
-    by_next (behind_others_onward (near_parting b) ts us h) (λ w. passes {p = flat (leaf_found depth start None f ts)} w.few w.uneven w.none (λ s. told_problem problem.NoItem start' g))
+    by_next (behind_others_onward (near_parting b) ts us h) (λ w. passes {p = flat (leaf_found depth start None f ts)} w.few w.uneven w.none (λ s. told_problem problem.NoItem start' g) (λ e. absurd cc))
     (λ w. before_end (record { value = record { value = refl; found = problem_near b before f g problem.NoItem start start' s n }; rest = w }))
 kept_leaf b before f g depth start start' ts us s n h _ _ (one_leaf {l = l} {m = m} i) =
     before_end (record { value = record { value = ap Some i.item; found = leaf_near b before f g depth start start' ts.past us.past l m s (past_same b ts us h) i n }; rest = h })
 
 ended_leaf : (b : Ending) (before f g : Found) (depth start start' : ℕ) (ts us : Tokens) → start ≡ start' + b.by → FoundNear b before f g → AtEnd b ts us → (o o' : Option LeafRead) → SomeLeaf b o o'
-    → TurnEnds b before g (leaf_found depth start o f ts) (leaf_found depth start' o' g us)
+    → TurnEnds b before g start (leaf_found depth start o f ts) (leaf_found depth start' o' g us)
 ended_leaf b before f g depth start start' ts us s n a _ _ no_leaf =
-    leaf_passes b before f g depth start start' None None ts us (let same = ap length a.behind in omega arith) a.uneven a.none (λ s. refl)
+    leaf_passes b before f g depth start start' None None ts us (let same = ap length a.behind in omega arith) a.uneven a.none (λ s. refl) (λ e. absurd cc)
 ended_leaf b before f g depth start start' ts us s n a _ _ (one_leaf {l = l} {m = m} i) =
     at_end (record { value = ap Some i.item; found = leaf_near b before f g depth start start' ts.past us.past l m s a.past i n }) a
 
 leaf_found_ends : (b : Ending) (before f g : Found) (depth start start' : ℕ) {p q : Option LeafRead × Tokens} → start ≡ start' + b.by → FoundNear b before f g → LeafEnds b p q
-    → TurnEnds b before g (leaf_found depth start p.0 f p.1) (leaf_found depth start' q.0 g q.1)
-leaf_found_ends b before f g depth start start' {p = p} {q = q} s n (passes few uneven none never) = leaf_passes b before f g depth start start' p.0 q.0 p.1 q.1 few uneven none never
+    → TurnEnds b before g start (leaf_found depth start p.0 f p.1) (leaf_found depth start' q.0 g q.1)
+leaf_found_ends b before f g depth start start' {p = p} {q = q} s n (passes few uneven none never strict) = leaf_passes b before f g depth start start' p.0 q.0 p.1 q.1 few uneven none never strict
 leaf_found_ends b before f g depth start start' {p = p} {q = q} s n (before_end k) = kept_leaf b before f g depth start start' p.1 q.1 s n k.rest p.0 q.0 k.value
 leaf_found_ends b before f g depth start start' {p = p} {q = q} s n (at_end t a) = ended_leaf b before f g depth start start' p.1 q.1 s n a p.0 q.0 t
 
 pub leaf_turn_ends : (n m : ℕ) (b : Ending) (before f g : Found) (depth : ℕ) (h h' : FrontRead) → FrontNear b h h' → (ts us : Tokens) → Given n m ts us → Near b ts us → FoundNear b before f g
-    → TurnEnds b before g (leaf_turn depth h f ts) (leaf_turn depth h' g us)
+    → TurnEnds b before g h.start (leaf_turn depth h f ts) (leaf_turn depth h' g us)
 unfolding leaf_turn
 leaf_turn_ends n m b before f g depth h h' k ts us given w a = leaf_found_ends b before f g depth h.start h'.start k.start a (leaf_ends b h h' k ts us given w)
 
@@ -330,12 +283,19 @@ extern_turn_long b depth n m before f g ts us given h a =
     by_ends : {p q : Option LeafRead × Tokens} {B : Type 0} → LeafEnds b p q → (length p.1.left ≤ length b.behind → b.level ≡ false → q.1.left ≡ [] → B) → (Kept (SomeLeaf b) b p q → B) → B
     by_ends o far close = by_long (ends_long o) far close
 
-pub extern_inside_ends : (b : Ending) (depth : ℕ) → BlockEnds b (extern_inside depth)
+pub extern_inside_ends : (b : Ending) (depth : ℕ) → BlockEnds IsClosed b (extern_inside depth)
 unfolding extern_inside
 extern_inside_ends b depth n m before f g ts us given h a =
     when (symbol ts == 123)
     (λ e. rw (symbol_same (near_twins b) ts us h, e) (block_ends b (extern_turn depth) (extern_turn_long b depth) (λ end. extern_turn_found end depth) n m before f g ts us given h a))
     (λ e. rw (symbol_same (near_twins b) ts us h, e) (before_end (record { value = record { value = refl; found = a }; rest = h })))
+
+pub extern_inside_fewer : (b : Ending) (depth n : ℕ) (f : Found) (ts : Tokens) → IsLaid n ts → (extern_inside depth f ts).0.is_ended ≡ true → length (extern_inside depth f ts).1.1.left < length ts.left
+unfolding extern_inside
+extern_inside_fewer b depth n f ts laid e =
+    when (symbol ts == 123)
+    (λ g. rw g (block_fewer b (extern_turn depth) (extern_turn_long b depth) (λ end. extern_turn_found end depth) n f ts laid (rw g at e)))
+    (λ g. absurd (let no = rw g at e in cc))
 
 pub extern_unended : (depth : ℕ) (f : Found) (ts : Tokens) → ts.left ≡ [] → (extern_inside depth f ts).0.is_ended ≡ false
 unfolding extern_inside symbol

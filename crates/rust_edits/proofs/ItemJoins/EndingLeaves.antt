@@ -193,11 +193,19 @@ structure_outcome b attrs v ts us g h =
 
 -- ---- macro calls
 
--- The longer text went past the end, of the shorter one nothing is left, and what was read of it has a flaw; or as above.
-pub data Ends {A : Type 0} (alike : A → A → Type 0) (Flawed : A → Type 0) (b : Ending) : A × Tokens → A × Tokens → Type 0 where
-  passes : {p q : A × Tokens} → length p.1.left ≤ length b.behind → b.level ≡ false → q.1.left ≡ [] → (is_still b ≡ true → Flawed q.0) → Ends alike Flawed b p q
-  before_end : {p q : A × Tokens} → Kept alike b p q → Ends alike Flawed b p q
-  at_end : {p q : A × Tokens} → alike p.0 q.0 → AtEnd b p.1 q.1 → Ends alike Flawed b p q
+-- The longer text went past the end, further where what it read is whole, of the shorter one nothing is left, and what was read of it has a flaw; or
+-- as above.
+pub data Ends {A : Type 0} (alike : A → A → Type 0) (Flawed Whole : A → Type 0) (b : Ending) : A × Tokens → A × Tokens → Type 0 where
+  passes : {p q : A × Tokens} → length p.1.left ≤ length b.behind → b.level ≡ false → q.1.left ≡ [] → (is_still b ≡ true → Flawed q.0) → (Whole p.0 → length p.1.left < length b.behind)
+      → Ends alike Flawed Whole b p q
+  before_end : {p q : A × Tokens} → Kept alike b p q → Ends alike Flawed Whole b p q
+  at_end : {p q : A × Tokens} → alike p.0 q.0 → AtEnd b p.1 q.1 → Ends alike Flawed Whole b p q
+
+-- less is known where less is whole
+pub weaker : {A : Type 0} {alike : A → A → Type 0} {Flawed Whole Less : A → Type 0} {b : Ending} {p q : A × Tokens} → (Less p.0 → Whole p.0) → Ends alike Flawed Whole b p q → Ends alike Flawed Less b p q
+weaker {p = p} f (passes few uneven none never strict) = passes {p = p} few uneven none never (λ e. strict (f e))
+weaker f (before_end k) = before_end k
+weaker f (at_end t a) = at_end t a
 
 pub data SomeLeaf (b : Ending) : Option LeafRead → Option LeafRead → Type 0 where
   no_leaf : SomeLeaf b None None
@@ -208,17 +216,17 @@ leaf_ended None = false
 leaf_ended (Some l) = l.is_ended
 
 abbrev pub LeafEnds : Ending → Option LeafRead × Tokens → Option LeafRead × Tokens → Type 0
-LeafEnds b p q = Ends (SomeLeaf b) (λ o. leaf_ended o ≡ false) b p q
+LeafEnds b p q = Ends (SomeLeaf b) (λ o. leaf_ended o ≡ false) (λ o. leaf_ended o ≡ true) b p q
 
 leaf_by_outcome : {A : Type 0} {alike : A → A → Type 0} {ended : A → Bool} {b : Ending} {p q : A × Tokens} (f f' : A → LeafRead)
-    → (alike p.0 q.0 → LeafNear b (f p.0) (f' q.0)) → (ended q.0 ≡ false → (f' q.0).is_ended ≡ false) → Outcome alike ended b p q
+    → (alike p.0 q.0 → LeafNear b (f p.0) (f' q.0)) → ((f p.0).is_ended ≡ true → ended p.0 ≡ true) → (ended q.0 ≡ false → (f' q.0).is_ended ≡ false) → Outcome alike ended b p q
     → LeafEnds b (Some (f p.0), p.1) (Some (f' q.0), q.1)
-leaf_by_outcome f f' same untold (lost g strict never) = passes g.few g.uneven g.none (λ s. untold (never s))
-leaf_by_outcome f f' same untold (stays k) = before_end (record { value = one_leaf (same k.value); rest = k.rest })
-leaf_by_outcome f f' same untold (comes t a) = at_end (one_leaf (same t)) a
+leaf_by_outcome f f' same tells untold (lost g strict never) = passes g.few g.uneven g.none (λ s. untold (never s)) (λ e. strict (tells e))
+leaf_by_outcome f f' same tells untold (stays k) = before_end (record { value = one_leaf (same k.value); rest = k.rest })
+leaf_by_outcome f f' same tells untold (comes t a) = at_end (one_leaf (same t)) a
 
 some_ends : {b : Ending} {p q : LeafRead × Tokens} → LeafOutcome b p q → LeafEnds b (some_read p) (some_read q)
-some_ends o = leaf_by_outcome (λ l. l) (λ l. l) (λ k. k) (λ e. e) o
+some_ends o = leaf_by_outcome (λ l. l) (λ l. l) (λ k. k) (λ e. e) (λ e. e) o
 
 -- what leads to tokens before the end is before it
 before_near : (b : Ending) (ts us vs ws : Tokens) → Near b ts us → Near b vs ws → (ts.past == vs.past) ≡ false → LeadsTo ts vs → Near b (bumped ts) (bumped us) × LeadsTo (bumped ts) vs
@@ -257,7 +265,7 @@ invocation_ends b attrs ts us h begins =
     (λ e. let next = skipped_are (near_twins b) is_called 1 (reads path ts).1 (reads path us).1 called_skipped k.rest (and_parts (is_some (reads path ts).0) (sees is_called (reads path ts).1) e).1 in
     rw (test, e)
     (leaf_by_outcome (call_leaf attrs (reads path ts).0 (bare_name (last_text_from most_tokens (reads path ts).1.past [] ts))) (call_leaf attrs (reads path us).0 (bare_name (last_text_from most_tokens (reads path us).1.past [] us)))
-    (λ r. call_near b attrs _ _ _ _ _ _ k.value (ap bare_name (last_text_near b (reads path ts).1 (reads path us).1 k.rest _ [] ts us h (rule_leads path ts))) r) (λ e. e) (call_end_outcome b _ _ next)))
+    (λ r. call_near b attrs _ _ _ _ _ _ k.value (ap bare_name (last_text_near b (reads path ts).1 (reads path us).1 k.rest _ [] ts us h (rule_leads path ts))) r) (λ e. e) (λ e. e) (call_end_outcome b _ _ next)))
     (λ e. rw (test, e) (before_end (record { value = no_leaf; rest = h }))))
 
 item_call_ends : (b : Ending) (attrs : List MetaView) (ts us : Tokens) → Near b ts us → LeafEnds b (item_call attrs ts) (item_call attrs us)

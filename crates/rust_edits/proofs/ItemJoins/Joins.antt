@@ -1,15 +1,18 @@
 -- Whole items and what is behind them are read one after the other.
 use Rattle.std.proofs.Common.{◌≡◌, Bool, ◌<◌, ◌+◌, ◌==◌, ◌||◌, ℕ, suc, true, false, Option, None, List, [], ◌∷◌, ◌++◌, length, refl, sym, ap, ◌∙◌, subst, arith, map, append_assoc, append-nil, length-append}
-use Rattle.rust_edits.proofs.Common.{own, stop_at, tokens_in_front, option_map, not, slice_index, filter, EditionYear, MetaView, ItemView, Row, Stop, stop, EndsAlone, moved_piece, is_continuation, Piece, symbol_of, is_significant, tokens, most_tokens, Tokens, tokens_of, last_unended, by_first, symbol, TextRange, inner_attributes, Problem, Found, nothing_found, and_problem_at, and_all, finding, items, moved_range, moved_span, moved_problem, behind_attributes, found_in, read_of, ends_items, read_at, EndsWhole, InsideJoin, ItemsJoin, IsBare, found_on, BeginsAnew, common_steps, nat_tests, tokens_sound, behind, tokens_laid, LeadsTo, here, further, bumped, through, by_kept, inner_attributes_until, inner_attributes_leads, Span, items_found, Ending, Near, near, fewer, near_parting, near_enters, near_levels, is_still, tokens_short}
+use Rattle.std.proofs.lemmas.List.{length-map}
+use Rattle.rust_edits.proofs.Common.{own, stop_at, tokens_in_front, option_map, not, slice_index, filter, EditionYear, MetaView, ItemView, Row, Stop, stop, EndsAlone, moved_piece, is_continuation, Piece, symbol_of, is_significant, tokens, most_tokens, Tokens, tokens_of, last_unended, by_first, symbol, TextRange, inner_attributes, Problem, Found, nothing_found, and_problem_at, and_all, finding, items, moved_range, moved_span, moved_problem, behind_attributes, found_in, read_of, ends_items, read_at, turn, turn_found, Kept, EndsWhole, InsideJoin, ItemsJoin, IsBare, found_on, BeginsAnew, common_steps, nat_tests, tokens_sound, behind, tokens_laid, LeadsTo, here, further, bumped, through, by_kept, inner_attributes_until, inner_attributes_leads, Span, items_found, Ending, Near, near, fewer, near_parting, near_enters, near_levels, is_still, tokens_short}
 use Rattle.rust_items.specs.declared.log.ProblemKind.TheVariants as problem
 use Rattle.rust_cursor.proofs.PartingReaders as parting
 use Rattle.rust_edits.proofs.ItemJoins.EndingParts.{Given, given_on}
-use Rattle.rust_edits.proofs.ItemJoins.EndingItems.{top_end, FoundNear, told}
+use Rattle.rust_edits.proofs.ItemJoins.EndingItems.{top_end, FoundNear, FoundAlike, flat, list_long, by_long, ends_long, told}
+use Rattle.rust_edits.proofs.ItemJoins.EndingTurns.{turn_ends}
+use Rattle.rust_edits.specs.ItemJoins.Joined.{read_so_far}
 use Rattle.rust_edits.proofs.ItemJoins.OwnEnds.{last_is, part_in, part_near, part_ended, start_near, ended, IsPart, tokens_behind}
 use Rattle.rust_edits.proofs.ItemJoins.LongerTexts.{last_stop, plain_on, behind_moved, first_moved, unended_behind, past_whole, plain_tokens}
 use Rattle.rust_edits.proofs.ItemJoins.Inner.{no_inner}
 use Rattle.rust_edits.proofs.ItemJoins.ReadingOn.{IsRead, read_on}
-use Rattle.rust_edits.proofs.ItemJoins.Turns.{run, run_stop, run_ended, top_is, Calm, calm_left, calm_by}
+use Rattle.rust_edits.proofs.ItemJoins.Turns.{run, run_stop, run_ended, run_done, true_false, top_is, Calm, calm_left, calm_by}
 use Rattle.rust_edits.proofs.ItemJoins.EndingFields.{empty_left}
 use Rattle.rust_edits.proofs.Typing.ProblemsIn.{unended_kept}
 use Rattle.rust_edits.proofs.Typing.UnendedTokens.{last_append}
@@ -24,7 +27,7 @@ unfolding finding
 items_top is_top left f ts = refl
 
 -- at the top nothing is left
-all_spent : (is_top : Bool) (left : ℕ) (edition : EditionYear) (text : List ℕ) → length text < most_tokens → (is_top ≡ false → (read_at is_top (suc left) edition text).1.1.left ≡ []) → (read_at is_top (suc left) edition text).1.1.left ≡ []
+pub all_spent : (is_top : Bool) (left : ℕ) (edition : EditionYear) (text : List ℕ) → length text < most_tokens → (is_top ≡ false → (read_at is_top (suc left) edition text).1.1.left ≡ []) → (read_at is_top (suc left) edition text).1.1.left ≡ []
 all_spent false left edition text short h = h refl
 all_spent true left edition text short h =
     let ts = tokens_of edition text in
@@ -64,7 +67,7 @@ pub found_same : (rows rows' : List Row) (spans spans' : List Span) (trees trees
 found_same rows rows' spans spans' trees trees' problems problems' a b c d = rw (a, b, c, d) refl
 
 -- of the first text, and of both
-found_first : (b : Ending) (f g : Found) → b.by ≡ 0 → FoundNear b nothing_found f g → f ≡ g
+pub found_first : (b : Ending) (f g : Found) → b.by ≡ 0 → FoundNear b nothing_found f g → f ≡ g
 found_first b f g e n =
     found_same f.rows g.rows f.spans g.spans f.use_trees g.use_trees f.problems g.problems n.rows
     (n.spans ∙ ap (λ (d : ℕ). map (moved_span (λ n. n + d)) g.spans) e ∙ map_still _ span_still g.spans)
@@ -88,7 +91,7 @@ open_none edition w o alone p =
     let xs = tokens_in_front 0 0 w (stop o ∷ []) in
     ap (last_unended None) (plain_tokens (ended w o) p ∙ own o 0 w [] alone refl) ∙ last_append None xs (stop_at o (0 + length w) ∷ []) ∙ last_stop o (0 + length w) (last_unended None xs) []
 
-found_whole : (edition : EditionYear) (w : List ℕ) (o : Stop) → EndsAlone w o → IsBare (ended w o) → found_in edition (ended w o) ≡ (read_of edition (ended w o)).1.0
+pub found_whole : (edition : EditionYear) (w : List ℕ) (o : Stop) → EndsAlone w o → IsBare (ended w o) → found_in edition (ended w o) ≡ (read_of edition (ended w o)).1.0
 unfolding found_in
 found_whole edition w o alone p =
     let x = ended w o in
@@ -127,12 +130,24 @@ module _ (edition : EditionYear) (w : List ℕ) (o : Stop) (y : List ℕ) (alone
       let part : IsPart w o y = record { ends = alone; behind = clean; plain = plain } in
       subst (λ (t : Tokens). Near (part_in edition both.unended [] w o y) t (tokens_of edition (ended w o))) (sym both_are) (part_near edition both.unended [] w o y part (part_ended edition [] w o y part (last_is o last)))
 
+near_length : (d : ℕ) (u : Option ℕ) (ts us : Tokens) → Near (level_at d u) ts us → length ts.left ≡ length us.left
+near_length d u ts us (near past l v y e) = ap length (append-nil (map (moved_piece d) l)) ∙ length-map l (moved_piece d)
+
+-- what is read of a text so far, and of another
+pub record IsAsFar (d : ℕ) (first : List Problem) (r r' : List ItemView × (Found × Tokens)) : Type 0 where
+  pub left : length r.1.1.left ≡ length r'.1.1.left
+  pub problems : r.1.0.problems ≡ first ++ map (moved_problem (λ n. n + d)) r'.1.0.problems
+
 -- what is read of both
 pub record Joined (is_top : Bool) (left : ℕ) (edition : EditionYear) (text x y : List ℕ) (d : ℕ) : Type 0 where
   pub attrs : (inner_attributes (tokens_of edition text)).0 ≡ (inner_attributes (tokens_of edition x)).0
   pub items : (read_at is_top (suc left) edition text).0 ≡ (read_at is_top (suc left) edition x).0 ++ (read_at is_top (suc left) edition y).0
   pub found : (read_at is_top (suc left) edition text).1.0 ≡ and_all (found_on d (read_at is_top (suc left) edition y).1.0) (read_at is_top (suc left) edition x).1.0
   pub unended : (read_at is_top (suc left) edition text).1.1.unended ≡ option_map (λ n. n + d) (read_at is_top (suc left) edition y).1.1.unended
+  pub rest : length (read_at is_top (suc left) edition text).1.1.left ≡ length (read_at is_top (suc left) edition y).1.1.left
+  -- behind so many turns the first is read, and the second so far as alone
+  pub turns : ℕ
+  pub far : (n : ℕ) → IsAsFar d (read_at is_top (suc left) edition x).1.0.problems (read_so_far (turns + n) is_top (suc left) edition text) (read_so_far n is_top (suc left) edition y)
 
 module _ (is_top : Bool) (left : ℕ) (edition : EditionYear) (w : List ℕ) (o : Stop) (y : List ℕ) (alone : EndsAlone w o) (last : ends_items o ≡ true) (plain : IsBare (ended w o)) (plain' : IsBare y) (begins : BeginsAnew edition y) (short : length (w ++ stop o ∷ y) < most_tokens) where
   abbrev x : List ℕ
@@ -243,6 +258,39 @@ module _ (is_top : Bool) (left : ℕ) (edition : EditionYear) (w : List ℕ) (o 
         items_top is_top left nothing_found ts' ∙ one.long most_tokens most_tokens (omega arith) (omega arith) ∙ two.long most_tokens most_tokens (omega arith) (omega arith)
         ∙ run_stop is_top left most_tokens (([] ++ one.new) ++ two.new) two.found two.rest (sym (top_end is_top (level_at by ts.unended) two.rest (run is_top left most_tokens [] nothing_found vs).1.1 (two.level refl)) ∙ two.ended)
 
+    first_found : one.found ≡ (read_at is_top (suc left) edition x).1.0
+    first_found = found_first first one.found (run is_top left most_tokens [] nothing_found us').1.0 refl one.same ∙ ap (λ (r : List ItemView × (Found × Tokens)). r.1.0) (sym first_read)
+
+    abbrev level : Ending
+    level = level_at by ts.unended
+
+    abbrev second_far : ℕ → List ItemView → List ItemView × (Found × Tokens)
+    second_far n done = run is_top left n done nothing_found vs
+
+    both_far : (n : ℕ) → Kept (FoundAlike level one.found) level (flat (run is_top left n ([] ++ one.new) one.found one.rest)) (flat (second_far n ([] ++ one.new)))
+    both_far n =
+        by_long
+        (list_long is_top level (turn (suc left)) (λ n m before f g ts us given h a. ends_long (turn_ends n m left level before f g ts us given h a)) (λ end. turn_found end (suc left)) (length text) (length y) n
+        one.found ([] ++ one.new) ([] ++ one.new) one.found nothing_found one.rest vs second_given second_near refl (start_near level one.found))
+        (λ few uneven none. absurd (true_false refl uneven)) (λ w. w)
+
+    far_as : (n : ℕ) → IsAsFar by (read_at is_top (suc left) edition x).1.0.problems (read_so_far (one.turns + n) is_top (suc left) edition text) (read_so_far n is_top (suc left) edition y)
+    far_as n =
+        let r = run is_top left n ([] ++ one.new) one.found one.rest in
+        let k = both_far n in
+        let same : (second_far n ([] ++ one.new)).1 ≡ (read_so_far n is_top (suc left) edition y).1 = run_done is_top left n ([] ++ one.new) [] nothing_found vs ∙ ap (λ (p : List MetaView × Tokens). (run is_top left n [] nothing_found p.1).1) (sym no_attrs) in
+        let on = map (moved_problem (λ n. n + by)) in
+        record {
+          left = ap (λ (r : List ItemView × (Found × Tokens)). length r.1.1.left) (one.exact (one.turns + n) n refl) ∙ near_length by ts.unended r.1.1 (second_far n ([] ++ one.new)).1.1 k.rest ∙ ap (λ (p : Found × Tokens). length p.1.left) same;
+          problems = ap (λ (r : List ItemView × (Found × Tokens)). r.1.0.problems) (one.exact (one.turns + n) n refl) ∙ k.value.found.problems ∙ ap (λ (f : Found). f.problems ++ on (second_far n ([] ++ one.new)).1.0.problems) first_found
+              ∙ ap (λ (p : Found × Tokens). (read_at is_top (suc left) edition x).1.0.problems ++ on p.0.problems) same;
+        }
+
+    second_left : length (read_at is_top (suc left) edition text).1.1.left ≡ length (read_at is_top (suc left) edition y).1.1.left
+    second_left =
+        ap (λ (r : List ItemView × (Found × Tokens)). length r.1.1.left) all_read ∙ near_length by ts.unended two.rest (run is_top left most_tokens [] nothing_found vs).1.1 (two.level refl)
+        ∙ ap (λ (r : List ItemView × (Found × Tokens)). length r.1.1.left) (sym second_read)
+
     first_items : (read_at is_top (suc left) edition x).0 ≡ one.new
     first_items = ap (λ (r : List ItemView × (Found × Tokens)). r.0) first_read ∙ one.list
 
@@ -253,7 +301,7 @@ module _ (is_top : Bool) (left : ℕ) (edition : EditionYear) (w : List ℕ) (o 
     found_all =
         found_both (level_at by ts.unended) one.found two.found (run is_top left most_tokens [] nothing_found vs).1.0 two.same
         ∙ ap (λ (f : Found). and_all (found_on by f) one.found) (ap (λ (r : List ItemView × (Found × Tokens)). r.1.0) (sym second_read))
-        ∙ ap (and_all (found_on by (read_at is_top (suc left) edition y).1.0)) (found_first first one.found (run is_top left most_tokens [] nothing_found us').1.0 refl one.same ∙ ap (λ (r : List ItemView × (Found × Tokens)). r.1.0) (sym first_read))
+        ∙ ap (and_all (found_on by (read_at is_top (suc left) edition y).1.0)) first_found
 
     y_unended : (read_at is_top (suc left) edition y).1.1.unended ≡ vs.unended
     y_unended =
@@ -267,6 +315,9 @@ module _ (is_top : Bool) (left : ℕ) (edition : EditionYear) (w : List ℕ) (o 
       found = ap (λ (r : List ItemView × (Found × Tokens)). r.1.0) all_read ∙ found_all;
       unended = ap (λ (r : List ItemView × (Found × Tokens)). r.1.1.unended) all_read ∙ unended_kept (through to_left two.leads) ∙ unended_behind edition w o y alone begins.uncut long_plain plain'
           ∙ ap (option_map (λ n. n + by)) (sym y_unended);
+      rest = second_left;
+      turns = one.turns;
+      far = far_as;
     }
 
   joined : EndsWhole is_top (suc left) edition x → Joined is_top left edition text x y by
@@ -284,7 +335,7 @@ module _ (is_top : Bool) (left : ℕ) (edition : EditionYear) (w : List ℕ) (o 
       by_kept (inner_attributes_until (near_parting (part_in edition ts.unended [] w o y)) (near_enters (part_in edition ts.unended [] w o y)) (near_levels (part_in edition ts.unended [] w o y)) ts us first_near)
       (λ g. absurd (calm_left calms g.none)) (λ k. joins calms spent k)
 
-joined_whole : (is_top : Bool) (left : ℕ) (edition : EditionYear) (p y : List ℕ) → EndsWhole is_top (suc left) edition p → BeginsAnew edition y → length (p ++ y) < most_tokens → Joined is_top left edition (p ++ y) p y (length p)
+pub joined_whole : (is_top : Bool) (left : ℕ) (edition : EditionYear) (p y : List ℕ) → EndsWhole is_top (suc left) edition p → BeginsAnew edition y → length (p ++ y) < most_tokens → Joined is_top left edition (p ++ y) p y (length p)
 joined_whole is_top left edition p y h b short =
     let w = h.ends.before in
     let o = h.ends.last in

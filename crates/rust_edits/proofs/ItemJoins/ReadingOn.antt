@@ -1,6 +1,6 @@
 -- A text of whole items in a longer one: the longer one is read on from its end.
 use Rattle.std.proofs.Common.{◌≤◌, ◌≡◌, ◌<◌, ◌+◌, ◌==◌, ℕ, zero, suc, Bool, true, false, Option, List, [], ◌++◌, length, sym, ap, ◌∙◌, subst, arith, append_assoc, append-nil}
-use Rattle.rust_edits.proofs.Common.{nothing, beyond_leads, option_to_list, ItemView, progress_from, Tokens, Found, is_list_end, turn, nat_tests, IsLaid, behind, LeadsTo, here, through, when, by_next, Ending, Near, Gone, more_left, past_same, beyond_near, AtEnd, is_still}
+use Rattle.rust_edits.proofs.Common.{at, nothing, beyond_leads, option_to_list, ItemView, progress_from, Tokens, Found, is_list_end, turn, nat_tests, IsLaid, behind, LeadsTo, here, through, when, by_next, Ending, Near, Gone, more_left, past_same, beyond_near, AtEnd, is_still}
 use Rattle.rust_cursor.proofs.EndingTokens.{left_behind}
 use Rattle.rust_edits.proofs.ItemJoins.EndingParts.{Given, given_on}
 use Rattle.rust_edits.proofs.ItemJoins.EndingLeaves.{passes, before_end, at_end}
@@ -14,6 +14,8 @@ pub record IsRead (is_top : Bool) (left : ℕ) (b : Ending) (before : Found) (do
   pub found : Found
   pub rest : Tokens
   pub list : r.0 ≡ done' ++ new
+  pub turns : ℕ
+  pub exact : (n k : ℕ) → n ≡ turns + k → run is_top left n done f ts ≡ run is_top left k (done ++ new) found rest
   pub long : (j k : ℕ) → length ts.left < j → length rest.left < k → run is_top left j done f ts ≡ run is_top left k (done ++ new) found rest
   pub same : FoundNear b before found r.1.0
   pub ended : is_list_end is_top r.1.1 ≡ true
@@ -30,6 +32,8 @@ module _ (is_top : Bool) (left : ℕ) (b : Ending) (n m : ℕ) where
     found = f;
     rest = ts;
     list = sym (append-nil done');
+    turns = 0;
+    exact = λ n k e. ap (λ n. run is_top left n done f ts) (omega arith) ∙ ap (λ d. run is_top left k d f ts) (sym (append-nil done));
     long = λ j k i l. run_same is_top left n j k done f ts laid i l ∙ ap (λ d. run is_top left k d f ts) (sym (append-nil done));
     same = a;
     ended = ended;
@@ -49,6 +53,8 @@ module _ (is_top : Bool) (left : ℕ) (b : Ending) (n m : ℕ) where
         found = h.found;
         rest = h.rest;
         list = h.list ∙ append_assoc done' (option_to_list o) h.new ∙ ap (λ p. done' ++ (option_to_list p ++ h.new)) e;
+        turns = suc h.turns;
+        exact = exact;
         long = long;
         same = h.same;
         ended = h.ended;
@@ -57,6 +63,10 @@ module _ (is_top : Bool) (left : ℕ) (b : Ending) (n m : ℕ) where
         leads = through (next_leads is_top left n f ts laid) h.leads;
       }
     where
+      exact : (n k : ℕ) → n ≡ suc h.turns + k → run is_top left n done f ts ≡ run is_top left k (done ++ (option_to_list (turn (suc left) f ts).0 ++ h.new)) h.found h.rest
+      exact zero k e = absurd (omega arith)
+      exact (suc n) k e = rw some (h.exact n k (omega arith) ∙ ap (λ d. run is_top left k d h.found h.rest) (append_assoc done (option_to_list (turn (suc left) f ts).0) h.new))
+
       long : (j k : ℕ) → length ts.left < j → length h.rest.left < k → run is_top left j done f ts ≡ run is_top left k (done ++ (option_to_list (turn (suc left) f ts).0 ++ h.new)) h.found h.rest
       long zero k a c = absurd (omega arith)
       long (suc j) k a c =
@@ -66,7 +76,7 @@ module _ (is_top : Bool) (left : ℕ) (b : Ending) (n m : ℕ) where
 by_same : (i j d : ℕ) → (i == j) ≡ false → (i + d == j + d) ≡ false
 by_same i j d e = grind (arith, nat_tests)
 
-near_some : (b : Ending) (ts us : Tokens) → Near b ts us → b.level ≡ false → us.left ≡ [] → ⊥
+pub near_some : (b : Ending) (ts us : Tokens) → Near b ts us → b.level ≡ false → us.left ≡ [] → ⊥
 near_some b ts us h l none = let more = more_left b ts us l h in let same = ap length (left_behind b ts us h none) in absurd (omega arith)
 
 -- what is known of the short text where the long one goes on behind it
@@ -124,8 +134,8 @@ module _ (is_top : Bool) (left : ℕ) (b : Ending) (n m k : ℕ) (more : ReadsOn
   still_calm : Near b next next' → IsCalm is_top left b k all' (turn (suc left) g us).1.0 next'
   still_calm close l = let c = calms l in (c.0, (calm_next is_top left m k done' g us going (near_some b next next' close l) c.1.0, rw going at c.1.1))
 
-  stepped : TurnEnds b before g (turn (suc left) f ts) (turn (suc left) g us) → IsRead is_top left b before done done' f ts rest
-  stepped (passes short uneven none never) =
+  stepped : TurnEnds b before g (at ts) (turn (suc left) f ts) (turn (suc left) g us) → IsRead is_top left b before done done' f ts rest
+  stepped (passes short uneven none never strict) =
       let c = calms uneven in let q = turn_quiet (last_quiet c.1.0 (none_next none)) in let more_told : told g < told (turn (suc left) g us).1.0 = never c.0 in absurd (omega arith)
   stepped (before_end w) =
       by_next (beyond_near b ts us (turn (suc left) f ts).1.1 (turn (suc left) g us).1.1 h w.rest)

@@ -1,12 +1,12 @@
 -- What a turn finds: problems that were told stay, and an item has a byte at least.
-use Rattle.std.proofs.Common.{arith, ◌≤◌, length-append, ◌≡◌, ◌<◌, ℕ, Bool, Option, Some, None, List, [], ◌∷◌, ◌++◌, map, refl, sym, ap, ◌∙◌, subst, append_assoc}
-use Rattle.rust_edits.proofs.Common.{option_to_list, AstIdKind, ItemView, no_items, item_and, items_from, Tokens, at, is_at_end, TextRange, Head, FrontRead, front, leaf, LeafRead, NameRead, written_name, no_name, ItemPlace, Found, Finder, BlockRead, span_of, and_parent, leaf_found, leaf_turn, extern_block, by_head, inside, depth_of, turn, Telling, ArePlaces, placed, append_cancel_left, IsLaid, behind, when, front_start, Span, place_span, adds_use_trees, adds_problem_at, adds_item, turn_found}
+use Rattle.std.proofs.Common.{append-nil, length, arith, ◌≤◌, length-append, ◌≡◌, ◌<◌, ℕ, Bool, Option, Some, None, List, [], ◌∷◌, ◌++◌, map, refl, sym, ap, ◌∙◌, subst, append_assoc}
+use Rattle.rust_edits.proofs.Common.{Problem, EditionYear, read_of, found_in, and_problem, and_all, option_to_list, AstIdKind, ItemView, no_items, item_and, items_from, Tokens, at, is_at_end, TextRange, Head, FrontRead, front, leaf, LeafRead, NameRead, written_name, no_name, ItemPlace, Found, Finder, BlockRead, span_of, and_parent, leaf_found, leaf_turn, extern_block, by_head, inside, depth_of, turn, Telling, ArePlaces, placed, append_cancel_left, IsLaid, behind, when, front_start, Span, place_span, adds_use_trees, adds_problem_at, adds_item, turn_found}
 use Rattle.hir_input.specs.declared.ids.AstIdKind.TheVariants as kind
 use Rattle.rust_leaves.specs.declared.head.Head.TheVariants as heads
 use Rattle.rust_items.specs.declared.log.ProblemKind.TheVariants as problem
-use Rattle.rust_edits.proofs.Adding.{IfLeaf, any_place, Keeping}
+use Rattle.rust_edits.proofs.Adding.{IfLeaf, any_place, Keeping, maybe}
 use Rattle.rust_edits.proofs.Adding as adding
-use Rattle.rust_edits.proofs.ItemJoins.EndingItems.{told, told_problem}
+use Rattle.rust_edits.proofs.ItemJoins.EndingItems.{told}
 
 -- ---- problems stay
 
@@ -14,19 +14,32 @@ any_leaf : (o : Option LeafRead) → IfLeaf (λ _. Unit {0}) (λ _. Unit {0}) o
 any_leaf None = tt
 any_leaf (Some l) = (tt, any_place l.too_deep)
 
--- no fewer problems are told
+-- behind the problems that were told, more are
+pub record Keeps (f g : Found) : Type 0 where
+  pub more : List Problem
+  pub is : g.problems ≡ f.problems ++ more
+
+pub keeps_same : (f : Found) → Keeps f f
+keeps_same f = record { more = []; is = sym (append-nil f.problems) }
+
+pub keeps_both : (f g h : Found) → Keeps f g → Keeps g h → Keeps f h
+keeps_both f g h i j = record { more = i.more ++ j.more; is = j.is ∙ ap (λ l. l ++ j.more) i.is ∙ append_assoc f.problems i.more j.more }
+
+keeps_on : (f g h : Found) (ps : List Problem) → h.problems ≡ g.problems ++ ps → Keeps f g → Keeps f h
+keeps_on f g h ps e i = keeps_both f g h i (record { more = ps; is = e })
+
 abbrev keeping : Keeping 0
 keeping = record {
-  keeps = λ f g. told f ≤ told g;
+  keeps = Keeps;
   place = λ n. Unit {0};
   body = λ o. Unit {0};
   reached = λ ts. Unit {0};
-  same = λ f. omega arith;
-  joined = λ f g h i j. omega arith;
-  told = λ f g k n s h. let more = told_problem k n g in omega arith;
-  row = λ f g r s b h. h;
-  uses = λ f g ns h. h;
-  held = λ f g more i h. let sum = length-append g.problems more.problems in omega arith;
+  same = keeps_same;
+  joined = keeps_both;
+  told = λ f g k n s h. keeps_on f g (and_problem k n g) _ refl h;
+  row = λ f g r s b h. record { more = h.more; is = h.is };
+  uses = λ f g ns h. record { more = h.more; is = h.is };
+  held = λ f g more i h. keeps_on f g (and_all more g) more.problems refl h;
   none = tt;
   on = λ ts us q l. tt;
   behind = λ each finds f ts l. tt;
@@ -34,8 +47,16 @@ keeping = record {
   leaves = λ h ts l. any_leaf (leaf h ts).0;
 }
 
+pub turn_kept : (left : ℕ) (f : Found) (ts : Tokens) → Keeps f (turn left f ts).1.0
+turn_kept left f ts = adding.turn_keeps 0 keeping left f ts tt
+
+-- no fewer are told
 pub turn_keeps : (left : ℕ) (f : Found) (ts : Tokens) → told f ≤ told (turn left f ts).1.0
-turn_keeps left f ts = adding.turn_keeps 0 keeping left f ts tt
+turn_keeps left f ts = let k = turn_kept left f ts in let sum = length-append f.problems k.more in let all = ap length k.is in omega arith
+
+pub found_kept : (edition : EditionYear) (x : List ℕ) → Keeps (read_of edition x).1.0 (found_in edition x)
+unfolding found_in
+found_kept edition x = let r = (read_of edition x).1 in maybe 0 keeping r.0 r.0 problem.Unterminated r.1.unended (any_place r.1.unended) (keeps_same r.0)
 
 -- ---- the range of an item
 

@@ -104,7 +104,7 @@ place_moves q m m' s c some l =
 
 -- ---- where the braces stand
 
-some_feed : (z : List ℕ) → (slice_index z 0 == 10) ≡ true → 0 < length (with_feeds z)
+pub some_feed : (z : List ℕ) → (slice_index z 0 == 10) ≡ true → 0 < length (with_feeds z)
 some_feed [] e = absurd cc
 some_feed (b ∷ z) e = let other : (b == 13) ≡ false = grind (arith, nat_tests) in rw other (omega arith)
 
