@@ -1,5 +1,5 @@
 -- Items in front of a text whose brackets are mended, and behind one.
-use Rattle.std.proofs.Common.{◌≡◌, ◌<◌, ◌+◌, ◌==◌, ◌++◌, ℕ, map, length-append, true, false, List, [], ◌∷◌, length, refl, sym, ap, ◌∙◌, subst, arith, not}
+use Rattle.std.proofs.Common.{◌≡◌, ◌<◌, ◌+◌, ◌==◌, ◌++◌, ℕ, map, length-append, true, false, List, ◌∷◌, length, refl, sym, ap, ◌∙◌, subst, arith, not}
 use Rattle.rust_edits.proofs.Common.{eqb-true, Found, Problem, found_in, moved_problem, EditionYear, with_feeds, EndsWhole, BeginsAnew, ReadsBoth, ItemsBefore, ItemsBehind, ReadsBothIn, most_tokens, when}
 use Rattle.std.proofs.lemmas.List.{length-map}
 use Rattle.rust_mended.specs.Texts.{mended_text}

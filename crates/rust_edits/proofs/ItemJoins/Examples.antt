@@ -1,6 +1,6 @@
 -- Small examples, by computing: a text that ends with its own token, one that ends with a whole item, and one that ends with an item without its end.
-use Rattle.std.proofs.Common.{◌||◌, ◌<◌, subst, arith, length, map, ◌++◌, ◌≡◌, ◌==◌, ℕ, true, false, Option, None, List, [], ◌∷◌, codes, refl, sym, ap, ◌∙◌, suc}
-use Rattle.rust_edits.proofs.Common.{nest_behind, with_feeds, moved_piece, begins_item, option_to_list, progress_from, slice_index, EditionYear, MetaView, ItemView, Inner, semicolon, closing, is_continuation, is_wide_start, is_wide_continue, first_cut, Piece, tokens, most_tokens, goes_on, Tokens, tokens_of, symbol, word, text, kind, at, is_empty, is_at_end, bumped, eat, plain_name, is_keyword, is_path_keyword, next_name, name, placed_name, is_behind, is_doc, is_attribute, inner_attributes, modifier, weak_modifier, head, FrontRead, front, written_name, Found, nothing_found, items, by_head, inside, turn, depth_of, behind_attributes, read_of, IsBare, EndsWhole, BeginsAnew, EndsOwn, is_list_end, finding, finding_from, tokens_at}
+use Rattle.std.proofs.Common.{◌||◌, ◌<◌, subst, arith, length, map, ◌++◌, ◌≡◌, ◌==◌, ℕ, true, false, Option, None, List, [], ◌∷◌, codes, refl, sym, ap, ◌∙◌}
+use Rattle.rust_edits.proofs.Common.{nest_behind, with_feeds, moved_piece, begins_item, option_to_list, slice_index, EditionYear, MetaView, ItemView, Inner, semicolon, closing, is_continuation, is_wide_start, is_wide_continue, first_cut, Piece, tokens, most_tokens, goes_on, Tokens, tokens_of, symbol, word, text, kind, at, is_empty, is_at_end, bumped, eat, plain_name, is_keyword, is_path_keyword, next_name, name, placed_name, is_behind, is_doc, is_attribute, inner_attributes, modifier, weak_modifier, head, FrontRead, front, written_name, Found, nothing_found, items, by_head, inside, turn, depth_of, behind_attributes, read_of, IsBare, EndsWhole, BeginsAnew, EndsOwn, tokens_at}
 use Rattle.hir_input.specs.declared.ast.PlainKind.TheVariants as plain_kind
 use Rattle.hir_input.specs.Syntax.{NodeView, bare_extern_block, listed_extern_block, no_items, item_and}
 use Rattle.rust_lexer.specs.Tokens.{has_mark}

@@ -1,5 +1,5 @@
 -- Where a text is cut behind an item and no problem is told up to there, what is in front of the cut ends with a whole item.
-use Rattle.std.proofs.Common.{◌≡◌, ◌<◌, ◌≤◌, ◌+◌, ◌-◌, ◌==◌, ◌&&◌, ℕ, suc, true, false, Some, List, [], ◌∷◌, ◌++◌, length, take, drop, refl, sym, ap, ◌∙◌, subst, arith, map, append_assoc, length-append, length-take-le, length-drop, drop-drop, take-append-drop}
+use Rattle.std.proofs.Common.{◌≡◌, ◌<◌, ◌≤◌, ◌+◌, ◌-◌, ◌==◌, ◌&&◌, ℕ, suc, true, false, Option, Some, List, [], ◌∷◌, ◌++◌, length, take, drop, refl, sym, ap, ◌∙◌, subst, arith, map, append_assoc, length-append, length-take-le, length-drop, drop-drop, take-append-drop}
 use Rattle.std.proofs.lemmas.List.Folds.{list_any-append}
 use Rattle.std.specs.List.{list_any}
 use Rattle.rust_edits.proofs.Common.{option_to_list, nat_le, slice_index, filter, EditionYear, ItemView, Stop, stop, EndsAlone, is_full, overhang, is_continuation, is_significant, tokens, tokens_from, Piece, most_tokens, progress_from, Tokens, tokens_of, at, inner_attributes, TextRange, Problem, Found, nothing_found, is_list_end, turn, with_feeds, place_in, moved_problem, behind_attributes, found_in, read_of, ends_items, EndsOwn, IsBare, eqb-true, and_parts, or_parts, le-leb, leb-true, ne_eqb, take_at, front_same, tokens_sound, IsLaid, behind, at_behind, tokens_laid, when, LeadsTo, beyond_leads, by_kept, inner_attributes_until, inner_attributes_leads, place_le, place_rises_in, turn_found, Ending, Near, fewer, nothing, more_left, near_parting, near_enters, near_levels, tokens_short, list_from}
@@ -37,7 +37,15 @@ turn_fewer n f ts i laid some e =
 -- something is read of it, and found as in the longer text
 record IsRead (edition : EditionYear) (x : List ℕ) (f : Found) : Type 0 where
   some : (behind_attributes edition x).left ≡ [] → ⊥
+  items : (read_of edition x).0 ≡ [] → ⊥
   found : f ≡ (read_of edition x).1.0
+
+some_last : (l : List ItemView) (o : Option ItemView) (i : ItemView) → o ≡ Some i → l ++ option_to_list o ≡ [] → ⊥
+some_last l o i e none =
+    let sum = length-append l (option_to_list o) in
+    let one : length (option_to_list o) ≡ 1 = ap (λ (o : Option ItemView). length (option_to_list o)) e in
+    let zero = ap length none in
+    absurd (omega arith)
 
 module _ (edition : EditionYear) (w : List ℕ) (o : Stop) (y : List ℕ) (alone : EndsAlone w o) (last : ends_items o ≡ true) (plain : IsBare (ended w o)) (clean : is_continuation (slice_index y 0) ≡ false) where
   abbrev x : List ℕ
@@ -68,11 +76,11 @@ module _ (edition : EditionYear) (w : List ℕ) (o : Stop) (y : List ℕ) (alone
   short_run k = run true 127 k [] nothing_found us'
 
   -- the last turn, at the end of the shorter
-  last_turn : (k : ℕ) (f : Found) (v : Tokens) → length x < most_tokens → Near cut ts' us' → Near cut v (short_run k).1.1 → is_list_end true v ≡ false → is_finished (at v) ((turn 128 f v).0, (turn 128 f v).1.0) ≡ true
+  last_turn : (k : ℕ) (f : Found) (v : Tokens) (i : ItemView) → (turn 128 f v).0 ≡ Some i → length x < most_tokens → Near cut ts' us' → Near cut v (short_run k).1.1 → is_list_end true v ≡ false → is_finished (at v) ((turn 128 f v).0, (turn 128 f v).1.0) ≡ true
       → length (turn 128 f v).1.1.left ≡ length cut.behind → TurnEnds cut nothing_found (short_run k).1.0 (at v) (turn 128 f v) (turn 128 (short_run k).1.0 (short_run k).1.1) → IsRead edition x (turn 128 f v).1.0
-  last_turn k f v short first close going finished ends (passes few uneven none never strict) = let less = strict finished in absurd (omega arith)
-  last_turn k f v short first close going finished ends (before_end w) = let more = more_left cut _ _ refl w.rest in absurd (omega arith)
-  last_turn k f v short first close going finished ends (at_end t a) =
+  last_turn k f v i item short first close going finished ends (passes few uneven none never strict) = let less = strict finished in absurd (omega arith)
+  last_turn k f v i item short first close going finished ends (before_end w) = let more = more_left cut _ _ refl w.rest in absurd (omega arith)
+  last_turn k f v i item short first close going finished ends (at_end t a) =
       let r = short_run k in
       let r' = turn 128 r.1.0 r.1.1 in
       let done = r.0 ++ option_to_list r'.0 in
@@ -86,6 +94,7 @@ module _ (edition : EditionYear) (w : List ℕ) (o : Stop) (y : List ℕ) (alone
       ∙ run_split true 127 k (suc most_tokens) [] nothing_found us' ∙ one in
       record {
         some = near_some cut ts' us' first refl;
+        items = λ none. some_last r.0 r'.0 i (t.value ∙ item) (ap (λ (z : List ItemView × (Found × Tokens)). z.0) (sym read) ∙ none);
         found = found_first cut (turn 128 f v).1.0 r'.1.0 refl t.found ∙ ap (λ (z : List ItemView × (Found × Tokens)). z.1.0) (sym read);
       }
 
@@ -110,7 +119,7 @@ module _ (edition : EditionYear) (w : List ℕ) (o : Stop) (y : List ℕ) (alone
       (λ few uneven none. absurd (let same = ap (λ (p : Found × Tokens). length p.1.left) far_is in omega arith))
       (λ l. let close : Near cut v (short_run k).1.1 = subst (λ (p : Found × Tokens). Near cut p.1 (short_run k).1.1) far_is l.rest in
       let found : FoundNear cut nothing_found f (short_run k).1.0 = subst (λ (p : Found × Tokens). FoundNear cut nothing_found p.0 (short_run k).1.0) far_is l.value.found in
-      last_turn k f v short c.rest close reached.some finished ends (turn_ends n m 127 cut nothing_found f (short_run k).1.0 v (short_run k).1.1 given' close found)))
+      last_turn k f v i item short c.rest close reached.some finished ends (turn_ends n m 127 cut nothing_found f (short_run k).1.0 v (short_run k).1.1 given' close found)))
 
 -- ---- problems
 
@@ -228,14 +237,16 @@ front_whole edition text read i p ps is top_item told bare full own short =
     let all : found_in edition (ended w o) ≡ (read_of edition (ended w o)).1.0 = found_whole edition w o ends.alone plain in
     let same : r.1.0 ≡ found_in edition (ended w o) = got.found ∙ sym all in
     let low : AreIn e r.1.0.problems = subst (λ (g : Found). AreIn e g.problems) (sym same) (subst (λ (n : ℕ). AreIn n (found_in edition (ended w o)).problems) cut_size (problems_in edition (ended w o))) in
-    let none : r.1.0.problems ≡ [] = none_up_to e r.1.0.problems low none_there in (
-      record {
+    let none : r.1.0.problems ≡ [] = none_up_to e r.1.0.problems low none_there in
+    record {
+      whole = record {
         bare = subst IsBare (sym ends.bytes) plain;
         ends = ends;
         turns = 0;
         some = λ n. got.some (ap (λ (z : List ℕ). (behind_attributes edition z).left) (sym ends.bytes) ∙ n);
         sound = ap (λ (z : List ℕ). (read_of edition z).1.0.problems) ends.bytes ∙ ap (λ (g : Found). g.problems) (sym got.found) ∙ none;
         spent = λ e. absurd cc;
-      },
-      ap (λ (z : List ℕ). (found_in edition z).problems) ends.bytes ∙ ap (λ (g : Found). g.problems) (sym same) ∙ none,
-    )
+      };
+      some = λ n. got.items (ap (λ (z : List ℕ). (read_of edition z).0) (sym ends.bytes) ∙ n);
+      sound = ap (λ (z : List ℕ). (found_in edition z).problems) ends.bytes ∙ ap (λ (g : Found). g.problems) (sym same) ∙ none;
+    }

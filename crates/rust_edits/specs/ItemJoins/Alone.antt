@@ -69,19 +69,19 @@ pub record Bytes : Type 0 where
   pub name : Option TextRange
   pub body : Option TextRange
 
-abbrev pub bytes_of : ItemPlace → Bytes
-bytes_of p = record { range = p.range; name = p.name; body = p.body }
+abbrev pub place_bytes : ItemPlace → Bytes
+place_bytes p = record { range = p.range; name = p.name; body = p.body }
 
 -- those of a place, so many bytes further on
-abbrev pub bytes_further : ℕ → ItemPlace → Bytes
-bytes_further start p = let on = moved_range (λ n. n + start) in record { range = on p.range; name = option_map on p.name; body = option_map on p.body }
+abbrev pub further_bytes : ℕ → ItemPlace → Bytes
+further_bytes start p = let on = moved_range (λ n. n + start) in record { range = on p.range; name = option_map on p.name; body = option_map on p.body }
 
 -- What was read is this item alone, but for ids; and the places are those of the item and of what it holds, which stand so many bytes further on.
 pub record IsItem (i : ItemView) (start : ℕ) (ps : List ItemPlace) (alone : SourceFile) : Type 0 where
   pub item : ItemView
   pub syntax : syntax_view alone.syntax ≡ source_file [] (item_and item no_items)
   pub same : without_ids item ≡ without_ids i
-  pub places : map (bytes_further start) alone.places.items ≡ map bytes_of ps
+  pub places : map (further_bytes start) alone.places.items ≡ map place_bytes ps
 
 -- The text of the range of an item at the top that ends with its own `;` or `}`, read alone, is exactly that item.
 abbrev pub RangeAlone : Type 0

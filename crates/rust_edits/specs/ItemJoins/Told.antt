@@ -1,17 +1,16 @@
 -- What a file tells of the parts of its text.
-use Rattle.std.specs.Prelude.{◌≡◌, ◌≢◌, ◌<◌, ℕ, ◌+◌, true, List, [], ◌∷◌, ◌++◌, length, map}
+use Rattle.std.specs.Prelude.{◌≡◌, ◌≢◌, ℕ, ◌+◌, true, List, [], ◌∷◌, ◌++◌, length, map}
 use Rattle.hir_input.specs.declared.edition.EditionYear.{EditionYear}
 use Rattle.hir_input.specs.Syntax.{ItemView, ItemViews, SyntaxView, no_items, item_and, source_file, items_of, syntax_view}
 use Rattle.hir_input.specs.Attr.{MetaView}
-use Rattle.rust_cursor.specs.Elements.{most_tokens}
 use Rattle.rust_items.specs.declared.log.Problem.{Problem}
 use Rattle.rust_items.specs.declared.source_file.SourceFile.{SourceFile}
 use Rattle.rust_items.specs.Ids.{with_ids}
 use Rattle.rust_items.specs.LineEnds.{with_feeds, place_in, moved_span, moved_problem}
 use Rattle.rust_items.specs.SourceFiles.{found_in, read_of, IsSourceFile}
-use Rattle.rust_edits.specs.ItemJoins.Alone.{Bytes, bytes_of, without_ids}
+use Rattle.rust_edits.specs.ItemJoins.Alone.{Bytes, place_bytes, without_ids}
 use Rattle.rust_edits.specs.ItemJoins.Between.{StandsBetween}
-use Rattle.rust_edits.specs.ItemJoins.Joined.{BeginsAnew, EndsOwn, EndsWhole, IsBare, text_attrs}
+use Rattle.rust_edits.specs.ItemJoins.Joined.{EndsOwn, EndsWhole, IsBare, text_attrs}
 
 -- these items one after another
 abbrev pub listed_items : ItemViews → List ItemView
@@ -54,7 +53,7 @@ abbrev pub file_told : SourceFile → PartTold
 file_told file = record {
   attrs = file_attrs (syntax_view file.syntax);
   items = file_items file;
-  places = map bytes_of file.places.items;
+  places = map place_bytes file.places.items;
   use_trees = file.use_trees.items;
   problems = file.problems.items;
 }
