@@ -53,7 +53,7 @@ fn items_beside()
     ensures lists_before { ListsBefore }
 {}
 
-// What is read of a whole item alone, and of items between others, and what a file tells of them.
+// What is read of an item alone, of items between others and of those of a module, and what a file tells of them.
 fn items_between()
     ensures range_alone { RangeAlone }
     ensures items_between { ItemsBetween }

@@ -12,6 +12,7 @@ use Rattle.rust_items.specs.declared.source_file.ItemPlace.{ItemPlace}
 use Rattle.rust_items.specs.declared.source_file.SourceFile.{SourceFile}
 use Rattle.rust_edits.specs.ItemJoins.Alone.{EndsItself, at_top, is_unfinished_at, range_text}
 use Rattle.rust_edits.specs.ItemJoins.Between.{StandsBetween, behind_whole}
+use Rattle.rust_edits.specs.ItemJoins.ModuleParts.{IsOneItem, OpensModule}
 use Rattle.rust_edits.specs.ItemJoins.Mended.{StandsInFront, StandsOpen}
 use Rattle.rust_edits.specs.ItemJoins.Open.{StandsBefore, nothing_before, open_before, IsOpenItem, end_behind, nest_through, before_rest}
 use Rattle.rust_edits.proofs.ItemJoins.Inner.{front_bare, no_inner}
@@ -142,6 +143,50 @@ module _ (y : EditionYear) where
   -- so it may stand between two of its kind
   pub stands : StandsBetween true 128 y mod_b mod_b mod_b
   stands = record { whole = holds; follows = behind_whole mod_b mod_b holds anew; behind = anew; short = three_short }
+
+  one_there : length (read_of y mod_b).0 ≡ 1
+  unfolding behind name_and_end written_name placed_name name next_name plain_name is_keyword is_path_keyword kind text at eat symbol bumped
+  one_there = ap (λ (r : List ItemView × (Found × Tokens)). length r.0) all_read ∙ ap (λ (r : Option ItemView × (Found × Tokens)). length (option_to_list r.0)) is_turn
+
+  -- and it is one item
+  pub is_one : IsOneItem true 128 y mod_b
+  unfolding mod_b holds
+  is_one = record { whole = holds; one = one_there; sound = holds.sound }
+
+-- ---- a module that holds items
+
+-- `a {mod b;}`
+unfoldable name_and_block : List Piece
+name_and_block =
+    record { kind = kinds.Ident; text = codes "a"; at = 4 } ∷ record { kind = kinds.OpenDelim; text = codes "{"; at = 6 } ∷ record { kind = kinds.Ident; text = codes "mod"; at = 7 } ∷ record { kind = kinds.Ident; text = codes "b"; at = 11 }
+    ∷ record { kind = kinds.Punct; text = codes ";"; at = 12 } ∷ record { kind = kinds.CloseDelim; text = codes "}"; at = 13 } ∷ []
+
+module _ (y : EditionYear) where
+  module_toks : tokens_of y (codes "mod a {mod b;}") ≡ all y name_and_block
+  unfolding all mod_word name_and_block tokens_of tokens first_cut is_wide_start is_wide_continue
+  module_toks = refl
+
+  module_front : front (tokens_of y (codes "mod a {mod b;}")) ≡ (is_module, behind y name_and_block)
+  module_front = ap front module_toks ∙ front_is y name_and_block
+
+  brace_there : (symbol (written_name (behind y name_and_block)).1 ≡ 123) × (at (written_name (behind y name_and_block)).1 ≡ 6)
+  unfolding behind name_and_block written_name placed_name name next_name plain_name is_keyword is_path_keyword kind text at symbol bumped
+  brace_there = (refl, refl)
+
+  block_bare : IsBare (codes "mod b;}")
+  unfolding first_cut is_wide_start is_wide_continue
+  block_bare = record { mark = refl; shebang = refl; fence = refl }
+
+  -- it begins with a module
+  pub opens : OpensModule y (codes "mod a ") (codes "mod b;}")
+  opens = record {
+    bare = block_bare;
+    uncut = refl;
+    outer = ap (sees (is_behind Inner)) module_toks ∙ not_inner y name_and_block;
+    head = ap (λ (r : FrontRead × Tokens). r.0.head) module_front;
+    brace = ap (λ (r : FrontRead × Tokens). symbol (written_name r.1).1) module_front ∙ brace_there.0;
+    place = ap (λ (r : FrontRead × Tokens). at (written_name r.1).1) module_front ∙ brace_there.1;
+  }
 
 -- ---- items and their places
 

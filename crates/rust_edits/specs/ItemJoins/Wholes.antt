@@ -13,12 +13,12 @@ use Rattle.rust_items.specs.SourceFiles.{found_in, read_of, IsSourceFile}
 use Rattle.rust_edits.specs.ItemJoins.Alone.{IsAtTop, range_text}
 use Rattle.rust_edits.specs.ItemJoins.Joined.{EndsWhole, BeginsAnew, EndsOwn, IsBare}
 
--- A text that ends with a whole item, behind another such text, is the end of one.
+-- Where a text that ends with a whole item stands behind another such text, both together end with one.
 abbrev pub BothWhole : Type 0
 BothWhole = (is_top : Bool) (left : ℕ) (edition : EditionYear) (q t : List ℕ) → EndsWhole is_top (suc left) edition q → EndsWhole is_top (suc left) edition t → BeginsAnew edition t
     → length (q ++ t) < most_tokens → EndsWhole is_top (suc left) edition (q ++ t)
 
--- And what one such text has behind another is one, where it ends with its own `;` or `}`. So neither need be read anew.
+-- And what one such text has behind another ends with one too, where it ends with its own `;` or `}`. So neither need be read anew.
 abbrev pub RestWhole : Type 0
 RestWhole = (is_top : Bool) (left : ℕ) (edition : EditionYear) (q t : List ℕ) → EndsWhole is_top (suc left) edition q → EndsWhole is_top (suc left) edition (q ++ t) → BeginsAnew edition t → EndsOwn t
     → length (q ++ t) < most_tokens → EndsWhole is_top (suc left) edition t
