@@ -14,7 +14,7 @@ use Rattle.rust_edits.proofs.ItemJoins.LongerTexts.{behind_moved, past_whole}
 use Rattle.rust_edits.proofs.ItemJoins.OwnEnds.{start_near}
 use Rattle.rust_edits.proofs.ItemJoins.RangesAlone.{most_is}
 use Rattle.rust_edits.proofs.ItemJoins.TokensLeft.{HasPlace, IsLeft, all_left, left_on}
-use Rattle.rust_edits.proofs.ItemJoins.Tops.{turn_keeps}
+use Rattle.rust_edits.proofs.ItemJoins.Tops.{turn_keeps, same_first}
 use Rattle.rust_edits.proofs.ItemJoins.Turns.{run, run_stop, run_keeps, next_leads, beyond_none, turn_far, turn_told, true_false}
 use Rattle.rust_edits.proofs.Typing.ProblemsIn.{unended_kept}
 
@@ -76,9 +76,6 @@ record Opened (h z : List ℕ) (t : Tokens) : Type 0 where
   past : (bumped t).past ≡ suc (length h)
   rest : (bumped t).left ≡ filter is_significant (tokens_from 0 (0 + suc (length h)) z)
 
-first_of : {A : Type 0} (a b : A) (xs ys : List A) → a ∷ xs ≡ b ∷ ys → a ≡ b
-first_of a b xs ys e = cc
-
 rest_of : {A : Type 0} (a b : A) (xs ys : List A) → a ∷ xs ≡ b ∷ ys → xs ≡ ys
 rest_of a b xs ys e = cc
 
@@ -93,7 +90,7 @@ opened h z edition o past (t ∷ l) u y i s p =
     f.first ∙ ap (λ n. tokens_from 0 n (drop n text)) p ∙ ap (tokens_from 0 (length h)) (drop_at h (123 ∷ z) (length h) refl) ∙ own opening (length h) [] z (record { full = refl; ends = refl }) o.uncut in
     let place : end_of (stop_at opening (length h + 0)) ≡ suc (length h) = omega arith in
     record {
-      past = ap end_of (first_of t (stop_at opening (length h + 0)) f.rest (tokens_from 0 (suc (length h + 0)) z) there) ∙ place;
+      past = ap end_of (same_first t (stop_at opening (length h + 0)) f.rest (tokens_from 0 (suc (length h + 0)) z) there) ∙ place;
       rest = f.counted ∙ ap (filter is_significant) (rest_of t (stop_at opening (length h + 0)) f.rest (tokens_from 0 (suc (length h + 0)) z) there)
           ∙ ap (λ (n : ℕ). filter is_significant (tokens_from 0 n z)) (omega arith);
     }
