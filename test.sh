@@ -123,19 +123,23 @@ if [ -n "$is_quick" ]; then
     mapfile -t tests < <(find "${tests[@]}" -executable 2> /dev/null)
 fi
 
-planned=$((is_quick ? 28 : 30))
+planned=$((is_quick ? 29 : 33))
 part 'the closed words' tests/closed_words.sh
 part 'words with one meaning' tests/one_meaning.py
 part 'the length of documents' tests/sentences.py
 part 'the shape of the code' tests/shape.py
 part 'tables of words' tests/tables.py
 part 'the pages of the crates' docs/api.py --check
+part 'the names of the layer' tests/layer_names.py
 part 'the list of definitions' tests/definitions.py --check
 part 'where wrong bodies are planted' tests/wrong_bodies.sh --check
 if [ -n "$is_quick" ]; then
     try_programs 2000 100
 elif part 'the merge gate' env RT_JOBS="$(count_lanes)" rt ci; then
+    ./run.sh --take-built "$(grep -xE '[0-9]+ passed, [0-9]+ failed.*' "$log" | tail -n 1)"
     part 'what must not compile' tests/must_not_compile.sh
+    part 'the libraries, unproved' tests/library.sh
+    part 'the archive' tests/release.py run.sh
     try_programs 8000 1000
 else
     # The gate leaves the programs and the tests as it built them; after a failure they would be those of earlier sources.

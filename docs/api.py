@@ -119,7 +119,7 @@ class Crate:
             self.items.append((path + name, signature(lines, at), docs))
         elif lines[at].startswith("pub trait"):
             self.items.append((path + name, lines[at].rstrip(" {"), docs))
-            self.methods(lines, at, path + name, r"    fn (\w+)")
+            self.methods(lines, at, path + name, r"    (?:fn|const) (\w+)")
         else:
             self.items.append((path + name, definition(lines, at), docs))
             for others in self.files.values():

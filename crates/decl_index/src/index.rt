@@ -86,7 +86,8 @@ impl DeclIndex {
     }
 
     /// Makes this the index of the table as it stands, and gives how many entries the trees have that changed since the
-    /// last refresh: items with a name. Of other trees it looks only at the items of its entries, which no clause says.
+    /// last refresh: items with a name. Of other trees it looks only at their change numbers and at the items of its
+    /// entries, which no clause says.
     ///
     /// The table is the one that the index was refreshed from before, if it ever was, after any edits.
     ///
@@ -107,8 +108,8 @@ impl DeclIndex {
         self.renew(alloc, sources, fresh, &gone)
     }
 
-    /// The same, where each tree that changed since the last refresh is of one of these places: it looks at no others,
-    /// and where none changed, at no entry.
+    /// The same, where each tree that changed since the last refresh is of one of these places. It looks at no others,
+    /// and where none changed, at no entry, which no clause says.
     ///
     /// # Errors
     ///

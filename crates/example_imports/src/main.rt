@@ -18,14 +18,13 @@ fn plain_crate(alloc: Global) -> CrateData {
 }
 
 /// Prints the imports of each use at the top of a Rust text.
+#[tactic(auto, using(item_tree::proofs::Walking::ids_contained))]
 fn print_imports(rt: &HostRuntime, text: &str, edition: &Edition) -> anyhow::Result<()> {
     let alloc = rt.alloc();
     let file = read_source_file(alloc, text, edition.year)?;
     let tree = lower_syntax(alloc, &file.syntax, true, &plain_crate(alloc), &[])?;
     for id in tree.top_level_items() {
-        if tree.contains(*id)
-            && let ModItemKind::Use(_, item) = tree.index(*id)
-        {
+        if let ModItemKind::Use(_, item) = tree.index(*id) {
             for import in &list_imports(alloc, item)? {
                 let path = import.path.display(edition);
                 println!(rt; "{path}")?;

@@ -1,9 +1,10 @@
 -- What a walk over a shelf gives is what changed.
-use Rattle.std.proofs.Common.{◌≡◌, inl, inr, ℕ, zero, suc, ◌+◌, ◌<◌, ◌≤◌, max, Bool, true, false, cond, nat_lt, List, [], ◌∷◌, ◌++◌, length, map, filter, Some, None, Option, IfSome, slice_get, refl, sym, ap, subst, ◌∙◌, arith, All, AllPairs, Contains}
-use Rattle.item_tree_db.proofs.Common.{option_and_then, option_map, unwrap_or, nat_cmp, ordering_then, Ordering, Less, AllByRecursion, flat_map, is_at, IsStrictlySortedBy, keys_of, nat_tests, length-map, All-nil, All-cons, All-head, All-tail, All-append, All-weaker, All-filter, All-contains, All-contains_itself, Contains-append_left, Contains-append_right, Contains-append_cases, filter_passes, sorted_head, sorted_tail, IsDistinct-from_sorted, lookup-from_Contains, IfSome_then, same_Some, none-some, slice_get_within, Place, Row, place_cmp, place_cmp_total, Change, change_cmp, IsLate, IsSince, IsSinceAmong, HoldLate, Shelved, Places, placed_at, IsInOrder, Held, State, crate_limit, change_number, Table, held_of, state_of, IsSound, HasFewRows, HasNumber, IsLateWalk, Walk, all_changes, changes_from, late_changes, walk_over, over_all, rows_in}
+use Rattle.std.proofs.Common.{◌≡◌, inl, inr, ℕ, zero, suc, ◌+◌, ◌<◌, ◌≤◌, max, Bool, true, false, true≢false, cond, ◌||◌, nat_lt, slice_index_or, List, [], ◌∷◌, ◌++◌, length, map, filter, Some, None, Option, IfSome, slice_get, refl, sym, ap, subst, ◌∙◌, arith, All, AllPairs, Contains}
+use Rattle.item_tree_db.proofs.Common.{option_and_then, option_map, unwrap_or, nat_cmp, ordering_then, Ordering, Less, AllByRecursion, flat_map, is_at, IsStrictlySortedBy, keys_of, nat_tests, length-map, All-nil, All-cons, All-head, All-tail, All-append, All-weaker, All-filter, All-contains, All-contains_itself, Contains-append_left, Contains-append_right, Contains-append_cases, filter_passes, sorted_head, sorted_tail, IsDistinct-from_sorted, lookup-from_Contains, IfSome_then, same_Some, none-some, slice_get_within, Place, Row, place_cmp, place_cmp_total, Change, change_cmp, IsLate, IsSince, IsSinceAmong, HoldLate, HoldNumbers, HoldChanged, has_change, ArePlacesSince, list_any, Shelved, Places, placed_at, IsInOrder, Held, State, crate_limit, change_number, Table, held_of, state_of, IsSound, HasFewRows, HasNumber, Walk, all_changes, changes_from, late_changes, walk_over, over_all, rows_in}
 use Rattle.std.proofs.lemmas.Cmp.{eq_by_cmp_equiv}
 use Rattle.std.proofs.lemmas.List.Kept.{AllPairs-cons, AllPairs-filter}
-use Rattle.item_tree_db.proofs.Places.{IsBelow, equal_of, equal_cmp}
+use Rattle.std.specs.BTreeSet.{BTreeSet}
+use Rattle.item_tree_db.proofs.Places.{IsBelow, equal_of, equal_cmp, had, has, itself}
 use Rattle.item_tree_db.proofs.Steps.{found}
 
 -- ---- elements of what is made of a list
@@ -126,15 +127,6 @@ key_of (e ∷ l) k i n h = elim (is_at (place_cmp k) e.0) as (λ b. is_at (place
   | false ↦ λ t g. Contains-append_right (e.0 ∷ []) (keys_of l) k (key_of l k i n g)
 ] refl h
 
--- a walk over all places meets each that has a number
-pub walks_over_all : (l : Places) (above : ℕ) → IsInOrder l → IsLateWalk above l (late_changes above (all_changes (over_all l)))
-walks_over_all l above s = record {
-  met = keys_of l;
-  in_order = s;
-  whole = λ place i n p h. key_of l place i n h;
-  walked = ap (λ (w : Walk). late_changes above (all_changes w)) (over_keys l s);
-}
-
 -- ---- against what callers see
 
 above_both : (n start c : ℕ) → nat_lt (max n start) c ≡ true → (n < c) × (start < c)
@@ -209,10 +201,56 @@ module _ (t : Table) (sound : IsSound t) (n : ℕ) where
     pub among_is : IsStrictlySortedBy place_cmp places → IsSinceAmong (state_of t) n places (late_changes (max n t.start) (all_changes (walk_over t.places places)))
     among_is s = subst (λ (cs : List Change). IsSinceAmong (state_of t) n places (filter passes cs)) (sym (over_is t.places places)) (among s)
 
-  pub since_is : (changes : List Change) → IsLateWalk (max n t.start) t.places changes → IsSince (state_of t) n changes
-  since_is changes w = since_among (state_of t) n w.met changes
-      (λ c h. w.whole c.0 c.1.0 c.2 (let p = h.above in let q = h.above_start in omega arith) (row_late c h))
-      (subst (IsSinceAmong (state_of t) n w.met) (sym w.walked) (among_is w.met w.in_order))
+  -- a walk over all places meets each that has a number
+  pub since_is : IsInOrder t.places → IsSince (state_of t) n (late_changes (max n t.start) (all_changes (over_all t.places)))
+  since_is s =
+      let met = keys_of t.places in
+      since_among (state_of t) n met _
+      (λ c h. key_of t.places c.0 c.1.0 c.2 (row_late c h))
+      (subst (λ (w : Walk). IsSinceAmong (state_of t) n met (late_changes (max n t.start) (all_changes w))) (sym (over_keys t.places s)) (among_is met s))
+
+  -- places that hold each number above the bound hold each change
+  pub hold_late : (places : List Place) → HoldNumbers (max n t.start) t.places places → HoldLate (state_of t) n places
+  hold_late places hold c h = hold c.0 c.1.0 c.2 (let p = h.above in let q = h.above_start in omega arith) (row_late c h)
+
+-- ---- their places
+
+-- the places so far and those of what is left are those of all
+pub places_more : (b f r : Bool) → (cond f true b || r) ≡ (b || (f || r))
+places_more true true r = refl
+places_more true false r = refl
+places_more false true r = refl
+places_more false false r = refl
+
+pub none_more : (b : Bool) → (b || false) ≡ b
+none_more true = refl
+none_more false = refl
+
+any_place : (place : Place) (cs : List Change) → has_change cs place ≡ true → (c : Change) × Contains cs c × (c.0 ≡ place)
+any_place place [] h = absurd (true≢false (sym h))
+any_place place (c ∷ cs) h = elim (is_at (place_cmp c.0) place) as (λ b. is_at (place_cmp c.0) place ≡ b → (b || has_change cs place) ≡ true → (d : Change) × Contains (c ∷ cs) d × (d.0 ≡ place)) [
+  | true ↦ λ t g. (c, (0, omega arith, refl), equal_of c.0 place t)
+  | false ↦ λ t g. let r = any_place place cs g in (r.0, Contains-append_right (c ∷ []) cs r.0 r.1, r.2)
+] refl h
+
+or_else : (b c : Bool) → c ≡ true → (b || c) ≡ true
+or_else true c e = refl
+or_else false c e = e
+
+place_any : (cs : List Change) (c : Change) → Contains cs c → has_change cs c.0 ≡ true
+place_any [] c h = absurd (omega (arith, h.1))
+place_any (d ∷ cs) c (zero, p, e) = ap (λ (x : Change). is_at (place_cmp x.0) c.0 || has_change cs c.0) e ∙ ap (λ (b : Bool). b || has_change cs c.0) (itself c.0)
+place_any (d ∷ cs) c (suc k, p, e) = or_else (is_at (place_cmp d.0) c.0) _ (place_any cs c (k, omega arith, e))
+
+-- of what changed since a number
+pub places_since : (s : State) (n : ℕ) (changes : List Change) (places : BTreeSet Place) → IsSince s n changes → HoldChanged changes places → ArePlacesSince s n places.keys
+places_since s n changes places since of = record {
+  late = λ k d l.
+      let place = slice_index_or places.keys k d in
+      let r = any_place place changes (sym (of place) ∙ had places place (All-contains_itself places.keys k d l)) in
+      (r.0, All-contains (IsLate s n) changes r.0 since.late r.1, r.2);
+  whole = λ c h. has places c.0 (of c.0 ∙ place_any changes c (since.whole c h));
+}
 
 pub few_rows : (t : Table) → IsSound t → length t.crates ≤ crate_limit → HasFewRows t.places
 few_rows t sound few place = IfSome_then (placed_at t.places place) (sound.rows place) (λ placed many. omega (arith, many, few))

@@ -13,10 +13,10 @@ pub use Rattle.item_tree_db.specs.Inner.Shelf.{HasPut, IsInOrder, Places, Shelve
 pub use Rattle.item_tree_db.specs.Inner.Sizes.{CratesFit, PlacesFit, PlacesPass}
 pub use Rattle.item_tree_db.specs.Inner.Source.{edit_of, source_place, source_syntax}
 pub use Rattle.item_tree_db.specs.Inner.Table.{IsLed, IsRowOf, IsSound, IsStep, Table, held_of, lowered_at, next_number, next_table, row_at, state_of, syntax_at, table_from}
-pub use Rattle.item_tree_db.specs.Inner.Walk.{HasFew, HasFewRows, HasNumber, IsLateWalk, Walk, all_changes, changes_from, late_changes, changes_left, walk_over, over_all, rows_in, walk_of}
+pub use Rattle.item_tree_db.specs.Inner.Walk.{HoldChanged, has_change, HasFew, HasFewRows, HasNumber, HoldNumbers, Walk, all_changes, changes_from, late_changes, changes_left, walk_over, over_all, rows_in, walk_of}
 pub use Rattle.item_tree_db.specs.PlaceOrder.{place_cmp, place_cmp_total, same_place}
 pub use Rattle.item_tree_db.specs.Refusal.{FirstFit, FitsAfter, IsRefusal, NamesKnown, TreeFits, TreePasses, UnlessMemory}
-pub use Rattle.item_tree_db.specs.Since.{Change, HoldLate, IsGrounded, IsLate, IsSince, IsSinceAmong, change_cmp}
+pub use Rattle.item_tree_db.specs.Since.{ArePlacesSince, Change, HoldLate, IsGrounded, IsLate, IsSince, IsSinceAmong, change_cmp}
 pub use Rattle.item_tree_db.specs.State.{Held, State, change_number, crate_limit, find, with_cfg, is_root_of, present, unfolding_at, unfolding_of}
 pub use Rattle.item_tree_db.specs.declared.edit.Edit.TheVariants.{SetCfg}
 pub use Rattle.item_tree_db.specs.declared.place.Place.{Place}

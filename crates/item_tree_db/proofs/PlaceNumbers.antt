@@ -1,6 +1,6 @@
 -- Which places stand under which numbers.
 use Rattle.std.proofs.Common.{◌≡◌, ◌≢◌, ◌⊎◌, inl, inr, ℕ, zero, suc, ◌+◌, ◌<◌, ◌≤◌, max, Bool, true, false, cond, ◌||◌, List, [], ◌∷◌, ◌++◌, length, map, drop, get_or, Some, None, Option, IfSome, slice_get, refl, sym, ap, subst, ◌∙◌, arith, true≢false, Contains, IsTrue}
-use Rattle.item_tree_db.proofs.Common.{is_at, IsTotalOrder, nat_cmp_total, on_total, then_total, AllByRecursion, list_any, IsStrictlySortedBy, is_eq, is_lt, nat_cmp, ordering_then, Ordering, Less, Equal, Greater, nat_tests, btree_set_IsUpperBound-last, IfSome_then, same_Some, none-some, Place, Row, place_cmp, place_cmp_total, AreNoted, HoldsNoted, IsNoted, newest_number, noted_cmp, Shelved, Places, placed_at, HasNumber}
+use Rattle.item_tree_db.proofs.Common.{is_at, IsTotalOrder, nat_cmp_total, on_total, then_total, AllByRecursion, list_any, IsStrictlySortedBy, is_eq, is_lt, nat_cmp, ordering_then, Ordering, Less, Equal, Greater, nat_tests, btree_set_IsUpperBound-last, IfSome_then, same_Some, none-some, Place, Row, place_cmp, place_cmp_total, AreNoted, HoldsNoted, IsNoted, newest_number, noted_cmp, Shelved, Places, placed_at, HasNumber, HoldNumbers}
 use Rattle.std.specs.BTreeSet.{BTreeSet, Updates, contains}
 use Rattle.item_tree_db.specs.declared.recent.Recent.{Recent}
 use Rattle.item_tree_db.proofs.Crates.{drop_at}
@@ -35,20 +35,17 @@ kept_by_remove s n k q updates other h = updates.0 q ∙ elim (is_at (noted_cmp 
   | false ↦ λ t. h
 ] refl
 
-module _ (r : Recent) (places : BTreeSet (ℕ × Place)) where
-  abbrev with_places : Recent
-  with_places = record { alloc = r.alloc; places = places; missing = r.missing }
-
-  pub noted_insert : (k : ℕ × Place) → Updates noted_cmp r.places places k true → (q : Place) (n : ℕ) → IsNoted r q n → IsNoted with_places q n
-  noted_insert k updates q n h = elim h as (λ _. IsNoted with_places q n) [
-    | inl p ↦ inl p
-    | inr w ↦ inr (w.0, w.1, kept_by_insert r.places places k (w.0, q) updates w.2)
+module _ (r s : Recent) (low : r.missing ≤ s.missing) where
+  pub noted_insert : (k : ℕ × Place) → Updates noted_cmp r.places s.places k true → (q : Place) (n : ℕ) → IsNoted r q n → IsNoted s q n
+  noted_insert k updates q n h = elim h as (λ _. IsNoted s q n) [
+    | inl p ↦ inl (omega (arith, p, low))
+    | inr w ↦ inr (w.0, w.1, kept_by_insert r.places s.places k (w.0, q) updates w.2)
   ]
 
-  pub noted_remove : (k : ℕ × Place) → Updates noted_cmp r.places places k false → (q : Place) (n : ℕ) → q ≢ k.1 → IsNoted r q n → IsNoted with_places q n
-  noted_remove k updates q n other h = elim h as (λ _. IsNoted with_places q n) [
-    | inl p ↦ inl p
-    | inr w ↦ inr (w.0, w.1, kept_by_remove r.places places k (w.0, q) updates other w.2)
+  pub noted_remove : (k : ℕ × Place) → Updates noted_cmp r.places s.places k false → (q : Place) (n : ℕ) → q ≢ k.1 → IsNoted r q n → IsNoted s q n
+  noted_remove k updates q n other h = elim h as (λ _. IsNoted s q n) [
+    | inl p ↦ inl (omega (arith, p, low))
+    | inr w ↦ inr (w.0, w.1, kept_by_remove r.places s.places k (w.0, q) updates other w.2)
   ]
 
 -- ---- the places above a bound
@@ -131,5 +128,5 @@ late_in r bound places place i n None holds above noted h = absurd (none-some n 
 late_in r bound places place i n (Some p) holds above noted h = holds place (newest_number p.rows) (let u = up_to_newest p.rows i n h in omega (arith, above, u)) noted
 
 -- each place that has a number above the bound is held
-pub holds_late : (r : Recent) (l : Places) (bound : ℕ) (places : List Place) → AreNoted r l → HoldsNoted r bound places → (place : Place) (i n : ℕ) → bound < n → HasNumber (placed_at l place) i n → Contains places place
+pub holds_late : (r : Recent) (l : Places) (bound : ℕ) (places : List Place) → AreNoted r l → HoldsNoted r bound places → HoldNumbers bound l places
 holds_late r l bound places noted holds place i n above h = late_in r bound places place i n (placed_at l place) holds above (noted place) h

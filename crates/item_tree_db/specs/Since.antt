@@ -45,3 +45,8 @@ pub record IsSinceAmong (s : State) (n : ℕ) (places : List Place) (changes : L
 -- all of them are of these places
 abbrev pub HoldLate : State → ℕ → List Place → Type 0
 HoldLate s n places = (c : Change) → IsLate s n c → Contains places c.0
+
+-- exactly the places of all of them
+pub record ArePlacesSince (s : State) (n : ℕ) (places : List Place) : Type 0 where
+  pub late : All (λ place. (c : Change) × IsLate s n c × (c.0 ≡ place)) places
+  pub whole : HoldLate s n places

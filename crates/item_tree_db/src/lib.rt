@@ -1,6 +1,7 @@
 //! A table of item trees: for each place that was set its syntax and, in each crate, its tree, kept under edits.
 #![tactic(auto)]
 
+mod crate_options;
 mod edit;
 mod laws;
 mod place;

@@ -13,16 +13,17 @@ ghost use Rattle.item_tree_db.specs.Inner.Source.{source_place};
 ghost use Rattle.item_tree_db.specs.State.{crate_limit};
 ghost use Rattle.item_tree_db.specs.PlaceOrder.{place_cmp};
 ghost use Rattle.item_tree_db.specs.Inner.Recent.{newest_number};
-ghost use Rattle.item_tree_db.specs.Inner.Walk.{HasFewRows, IsLateWalk, all_changes, late_changes, walk_over, rows_in};
+ghost use Rattle.item_tree_db.specs.Inner.Walk.{HasFewRows, HoldNumbers, all_changes, late_changes, over_all};
+ghost use Rattle.item_tree_db.specs.Inner.Walk.{rows_in, walk_over};
 
 use crate::place::Place;
 use crate::recent::Recent;
 use crate::rows::{Row, clear, lower_row, newest_number, settle, settle_first, settle_row};
-use crate::since::{ChangedSince, Chosen, Found, Slots};
+use crate::since::{ChangedSince, Chosen, Slots};
 use crate::source::Source;
 use hir_input::Name;
 use item_tree::{CrateData, LowerError};
-use std::alloc::Global;
+use std::alloc::{AllocError, Global};
 use std::collections::{BTreeMap, BTreeSet};
 use std::marker::Model;
 
@@ -227,7 +228,7 @@ impl Shelf {
             let old = entry.newest_number();
             entry.remove(alloc, number);
             let new = entry.newest_number();
-            self.recent.renote(place, old, new);
+            self.recent.leave_out(place, old, new);
         }
     }
 
@@ -277,18 +278,24 @@ impl Shelf {
         Ok(fresh)
     }
 
-    /// The change numbers above a bound. Looks at the places that have one, unless some may be missing.
+    /// The change numbers above a bound.
     pub fn changes_above(&self, above: u64) -> ChangedSince<'_>
         requires { HasFewRows self.now }
-        ensures { IsLateWalk above self.now result }
+        ensures value { result ≡ late_changes above (all_changes (over_all self.now)) }
+        ensures in_order { IsInOrder self.now }
     {
-        match self.recent.places_above(above) {
-            Some(places) => {
-                let found = Found::new(places.into_iter(), self);
-                ChangedSince::new(Slots::Recent(found), above)
-            }
-            None => ChangedSince::new(Slots::All(self.entries.iter()), above),
-        }
+        ChangedSince::new(Slots::All(self.entries.iter()), above)
+    }
+
+    /// Places that hold each that has a change number above a bound: none where one may be missing.
+    pub fn places_above(
+        &self,
+        alloc: Global,
+        above: u64,
+    ) -> Result<Option<BTreeSet<Place>>, AllocError>
+        ensures { IfOk result (λ found. IfSome found (λ places. HoldNumbers above self.now places.keys)) }
+    {
+        self.recent.places_above(alloc, above)
     }
 
     /// Those of some places.

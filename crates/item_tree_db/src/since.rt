@@ -1,9 +1,13 @@
 //! What changed since a number.
+ghost use Rattle.std.specs.Prelude.{IfOk};
+ghost use Rattle.item_tree_db.specs.Inner.Walk.{HoldChanged};
+
 use crate::place::Place;
 use crate::rows::Row;
 use crate::shelf::{Entry, Shelf};
 use hir_input::{Crate, HirFileId};
-use std::collections::{btree_map, btree_set};
+use std::alloc::{AllocError, Global};
+use std::collections::{BTreeSet, btree_map, btree_set};
 use std::marker::Model;
 
 /// Some places of a shelf, each looked up in its turn.
@@ -34,40 +38,11 @@ impl<'a> Chosen<'a> {
     }
 }
 
-/// Places of a shelf that were found, each looked up in its turn.
-#[derive(Drop)]
-pub(crate) struct Found<'a> {
-    places: btree_set::IntoIter<Place>,
-    shelf: &'a Shelf,
-}
-
-impl<'a> Found<'a> {
-    ghost use Rattle.std.specs.Prelude.{◌≡◌};
-    ghost use Rattle.std.specs.Map.Iter.{TakesFirst};
-    ghost use Rattle.item_tree_db.specs.Inner.Walk.{found_walk, walk_over};
-
-    pub(crate) fn new(places: btree_set::IntoIter<Place>, shelf: &'a Shelf) -> Self
-        ensures { found_walk result ≡ walk_over shelf.now places }
-    {
-        Found { places, shelf }
-    }
-
-    // The next place, with its rows.
-    fn step(&mut self) -> Option<(Place, &'a [Row])>
-        ensures { TakesFirst (λ slot. (slot.0, slot.1.now)) (found_walk self.old) result
-            (found_walk self.new) }
-    {
-        let place = self.places.next()?;
-        Some((place, self.shelf.rows(place)))
-    }
-}
-
 /// What a walk has left: all places of a shelf, or some.
 #[derive(Drop)]
 pub(crate) enum Slots<'a> {
     All(btree_map::Iter<'a, Place, Entry>),
     Among(Chosen<'a>),
-    Recent(Found<'a>),
 }
 
 impl<'a> Slots<'a> {
@@ -85,7 +60,6 @@ impl<'a> Slots<'a> {
                 Some((*place, entry.rows()))
             }
             Slots::Among(chosen) => chosen.step(),
-            Slots::Recent(found) => found.step(),
         }
     }
 }
@@ -162,4 +136,18 @@ impl<'a> Iterator for ChangedSince<'a> {
             }
         }
     }
+}
+
+/// The places of changes.
+pub(crate) fn places_of(
+    alloc: Global,
+    changes: ChangedSince<'_>,
+) -> Result<BTreeSet<Place>, AllocError>
+    ensures { IfOk result (HoldChanged changes.entry) }
+{
+    let mut places = BTreeSet::new(alloc);
+    for (place, _, _) in changes {
+        places.insert(place)?;
+    }
+    Ok(places)
 }

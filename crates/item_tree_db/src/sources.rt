@@ -7,29 +7,29 @@ ghost use Rattle.hir_input.specs.Syntax.{syntax_view, block_view};
 ghost use Rattle.item_tree.specs.declared.fault.EditFault.TheVariants.{TooManyEdits};
 ghost use Rattle.item_tree.specs.CrateView.{crate_view};
 ghost use Rattle.item_tree_db.specs.declared.edit.Edit.TheVariants.{SetCfg};
-ghost use Rattle.item_tree_db.specs.State.{new_table, with_cfg, IsKnown, options, present, unfolding_at, change_number};
+ghost use Rattle.item_tree_db.specs.State.{new_table, IsKnown, options, present, unfolding_at, change_number};
 ghost use Rattle.item_tree_db.specs.Edits.{edit_view, edits_before, remove as removes, set_cfg as gives};
 ghost use Rattle.item_tree_db.specs.History.{IsAfter, IsFooting, IgnoresBodies};
-ghost use Rattle.item_tree_db.specs.Inner.{Settled.empty_row, Shelf.change_at};
-ghost use Rattle.item_tree_db.specs.Since.{IsGrounded, IsSince, IsSinceAmong};
+ghost use Rattle.item_tree_db.specs.Inner.Settled.{empty_row};
+ghost use Rattle.item_tree_db.specs.Since.{ArePlacesSince, IsGrounded, IsSince, IsSinceAmong};
 ghost use Rattle.item_tree_db.specs.Inner.Source.{source_place, source_syntax, edit_of};
 ghost use Rattle.item_tree_db.specs.Inner.Table.{IsRowOf};
 ghost use Rattle.item_tree_db.specs.Again.{IsSetAgain};
 ghost use Rattle.item_tree_db.specs.Refusal.{last_number, NamesKnown, FitsAfter, FirstFit, IsRefusal};
 
+use crate::crate_options::swap_options;
 use crate::edit::{AllRefused, Edit, EditRefused};
 use crate::place::Place;
 use crate::rows::{Row, lower_all};
 use crate::shelf::Shelf;
-use crate::since::ChangedSince;
+use crate::since::{ChangedSince, places_of};
 use crate::source::Source;
 use hir_input::ast::{BlockExpr, Syntax};
 use hir_input::{BlockId, CfgOptions, Crate, HirFileId, Name};
 use item_tree::{CrateData, EditFault, ItemTree, LowerError};
-use std::alloc::Global;
+use std::alloc::{AllocError, Global};
 use std::collections::BTreeSet;
 use std::marker::Model;
-use std::mem;
 
 // How many crates have a number.
 const CRATE_LIMIT: usize = 4_294_967_296;
@@ -81,18 +81,6 @@ impl Model for Sources {
       sound : IsSound (table_from a.crates.items a.skipped.items a.start a.number a.places);
       empty : a.empty ≡ nothing;
     } };
-}
-
-// Exchanges the options of a crate and these.
-fn swap_options(crates: &mut Vec<CrateData>, index: usize, options: &mut CfgOptions)
-    requires { index < length crates.old.items }
-    ensures swapped { map crate_view crates.new.items
-        ≡ change_at index (with_cfg options.old) (map crate_view crates.old.items) }
-    ensures before { option_map (λ k. k.options) (slice_get (map crate_view crates.old.items) index)
-        ≡ Some options.new }
-    ensures count { length crates.new.items ≡ length crates.old.items }
-{
-    mem::swap(&mut crates[index].cfg, options);
 }
 
 impl Sources {
@@ -315,7 +303,7 @@ impl Sources {
 
     /// The number of the last edit at which the tree of a place in a crate changed, or `start`. The caller shows
     /// `knows(krate)`.
-    pub fn change_number(&self, place: Place, krate: Crate) -> u64
+    pub fn changed(&self, place: Place, krate: Crate) -> u64
         requires { IsKnown self.now krate }
         ensures { result ≡ change_number self.now place krate.0 }
     {
@@ -327,15 +315,27 @@ impl Sources {
 
     /// The change numbers above `n` and above `start`, of known crates at all places, in the order of places and
     /// then of crates: what an index that was made at number `n` has to read again. A tree that changed and changed
-    /// back is given too. A tree that is not given at 0 is empty.
-    ///
-    /// It takes memory for the places and looks at these alone, which no clause says; where memory runs out, or did at
-    /// an edit after `n`, it passes over the table.
+    /// back is given too. A tree that is not given at 0 is empty. Takes no memory.
     pub fn changed_since(&self, n: u64) -> ChangedSince<'_>
         ensures since { IsSince self.now n result }
         ensures grounded { IsGrounded self.now }
     {
         self.places.changes_above(n.max(self.start))
+    }
+
+    /// The places of `changed_since`, for `changed_among`. Where nothing was removed after `n`, and memory never ran
+    /// out, it looks at these places alone, which no clause says.
+    ///
+    /// # Errors
+    ///
+    /// Only if memory runs out.
+    pub fn changed_places(&self, alloc: Global, n: u64) -> Result<BTreeSet<Place>, AllocError>
+        ensures { IfOk result (λ places. ArePlacesSince self.now n places.keys) }
+    {
+        match self.places.places_above(alloc, n.max(self.start))? {
+            Some(places) => places_of(alloc, self.changed_among(n, &places)),
+            None => places_of(alloc, self.changed_since(n)),
+        }
     }
 
     /// Those of `changed_since` that are of some places. It takes no memory and looks at these places alone, which no

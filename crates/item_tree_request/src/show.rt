@@ -69,7 +69,7 @@ fn tree_text(
     match show.kind {
         ShowKind::Page => tree.pretty_print(alloc, edition),
         ShowKind::Tree => {
-            let changed = sources.change_number(show.place, show.krate);
+            let changed = sources.changed(show.place, show.krate);
             let mut text = String::new(alloc);
             write_change(show.place, show.krate, changed, &mut text)?;
             text.push_str(&tree.pretty_print(alloc, edition)?)?;
@@ -105,7 +105,8 @@ pub fn push_changes(
         (string_bytes text.new)) }
     ensures same { OnErr result (string_bytes text.new ≡ string_bytes text.old) }
 {
-    let lines = change_lines(alloc, sources.changed_since(since))?;
+    let places = sources.changed_places(alloc, since)?;
+    let lines = change_lines(alloc, sources.changed_among(since, &places))?;
     text.push_str(&lines)
 }
 

@@ -1,10 +1,10 @@
 //! Tests of what only a call can show of the table of trees: an example of use, the texts of refusals, and what stands
 //! where a request for memory is refused.
 
-mod edits;
-mod example;
+pub(crate) mod example;
 mod indexes;
 mod no_memory;
 mod options;
 mod refusals;
-mod table;
+mod removals;
+pub(crate) mod table;

@@ -1,13 +1,10 @@
 //! The imports of `use a::{*, self as b, {c, {d::*}}};`, called for and listed, and those of as many supers as fit.
-use crate::lowered::{first_use, is_right, tree_of_all_kinds, tree_of_use};
-use crate::samples::use_trees::{below, leaf};
-use hir_input::ast::UseTree;
-use hir_input::{ModPath, PathKind};
-use item_tree::{ImportAlias, ImportKind, ItemTree, LowerError, Use, UseTreeIdx};
-use std::alloc::{AllocError, Global};
-use tree_walk::{Listed, list_imports};
+use crate::lowered::{first_use, is_right, tree_of_all_kinds};
+use hir_input::ModPath;
+use item_tree::{ImportAlias, ImportKind, LowerError, Use, UseTreeIdx};
+use std::alloc::Global;
 
-const CALLS: &str = "\
+pub(crate) const CALLS: &str = "\
 UseTreeIdx(1) ModPath { kind: Plain, segments: [Name { text: \"a\" }] } Glob None
 UseTreeIdx(2) ModPath { kind: Plain, segments: [Name { text: \"a\" }] } TypeOnly Some(Alias(Name { text: \"b\" }))
 UseTreeIdx(4) ModPath { kind: Plain, segments: [Name { text: \"a\" }, Name { text: \"c\" }] } Plain None
@@ -69,57 +66,4 @@ fn are_called(alloc: Global) -> Result<bool, LowerError> {
 #[test]
 fn imports_are_called_in_order_when_memory_is_refused(rt: HostRuntime) {
     assert!(rt; is_right(are_called(rt.alloc())));
-}
-
-fn show(alloc: Global, imports: &[Listed]) -> Result<String, AllocError> {
-    let mut text = String::new(alloc);
-    for import in imports {
-        let (path, alias) = (&import.path, &import.alias);
-        writeln!(
-            text,
-            "{:?} {path:?} {:?} {alias:?}",
-            import.index, import.kind
-        )?;
-    }
-    Ok(text)
-}
-
-// Whether the imports of the first use are listed so.
-fn are_listed(alloc: Global, tree: &ItemTree, wanted: &str) -> Result<bool, LowerError> {
-    let Some(item) = first_use(tree) else {
-        return Ok(false);
-    };
-    let imports = list_imports(alloc, item)?;
-    let text = show(alloc, imports.as_slice())?;
-    Ok(text.as_str() == wanted)
-}
-
-fn are_all_listed(alloc: Global) -> Result<bool, LowerError> {
-    let tree = tree_of_all_kinds(alloc)?;
-    are_listed(alloc, &tree, CALLS)
-}
-
-#[test]
-fn imports_are_listed(rt: HostRuntime) {
-    assert!(rt; are_all_listed(rt.alloc()).unwrap_or(false));
-}
-
-// `use super::..::super::{self};`, with as many supers as a path may have.
-fn most_supers(alloc: Global) -> Result<UseTree, AllocError> {
-    let prefix = leaf(alloc, PathKind::Super(u32::MAX), "")?;
-    let child = leaf(alloc, PathKind::Super(0), "")?;
-    Ok(below(prefix, vec![in alloc; child]?))
-}
-
-const OF_SUPERS: &str =
-    "UseTreeIdx(1) ModPath { kind: Super(4294967295), segments: [] } TypeOnly None\n";
-
-fn are_supers_listed(alloc: Global) -> Result<bool, LowerError> {
-    let tree = tree_of_use(alloc, most_supers(alloc)?)?;
-    are_listed(alloc, &tree, OF_SUPERS)
-}
-
-#[test]
-fn as_many_supers_as_fit_are_imported(rt: HostRuntime) {
-    assert!(rt; are_supers_listed(rt.alloc()).unwrap_or(false));
 }

@@ -19,7 +19,7 @@ fn tree_text(alloc: Global, sources: &Sources, show: TreeShow) -> Result<String,
     let tree = sources.tree(show.place, show.krate);
     match show.kind {
         ShowKind::Tree => {
-            let changed = sources.change_number(show.place, show.krate);
+            let changed = sources.changed(show.place, show.krate);
             let mut text = String::new(alloc);
             push_change(alloc, show.place, show.krate, changed, &mut text)?;
             text.push_str(&outline_text(alloc, tree)?)?;

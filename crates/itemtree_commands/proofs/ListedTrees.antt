@@ -2,7 +2,7 @@
 use Rattle.std.proofs.Common.{◌≡◌, ℕ, List, Option, Some, None, Bool, inl, inr, refl, ap, ◌∙◌}
 use Rattle.itemtree_commands.proofs.Common.{EditionYear, CrateData, Lower, wanted_under}
 use Rattle.rust_items.specs.SourceFiles.{FileView}
-use Rattle.rust_mended.specs.declared.text.Mended.{Mended}
+use Rattle.source_rows.specs.declared.mended_file.MendedFile.{MendedFile}
 use Rattle.source_listing.specs.Lines.{Source}
 use Rattle.source_rows.specs.ListedFiles.{HasTextOf, closers_in}
 use Rattle.itemtree_commands.specs.declared.Options.{Options}
@@ -32,6 +32,6 @@ module _ (krate : CrateData) (skipped : List (List ℕ)) (edition : EditionYear)
       (short, inr (closers, b.read, b.is_read, large_whole krate skipped b.read file _ _ (ap (λ (f : FileView). f.syntax) b.is_read.told ∙ b.is_read.is_read.syntax) b.clipped e large))
 
 -- what headers and members are read of
-pub same_reading : (o : Options) (has_members : Bool) (s : Source) (m : Option Mended) → HasTextOf s.text m → reading_by o has_members s.text m ≡ reading_in o has_members s (closers_in m)
+pub same_reading : (o : Options) (has_members : Bool) (s : Source) (m : Option MendedFile) → HasTextOf s.text m → reading_by o has_members s.text m ≡ reading_in o has_members s (closers_in m)
 same_reading o has_members s None h = refl
 same_reading o has_members s (Some m) h = ap (λ (z : List ℕ). record { text = z; closers = closers_in (Some m); edition = o.edition.year; options = cfgs_if o has_members }) h.0

@@ -17,7 +17,7 @@ use Rattle.item_tree.specs.Lowered.{IsTooLargeIn}
 use Rattle.tree_walk.specs.Rows as walk
 use Rattle.rust_metas.specs.declared.wanted.WantedMetas.TheVariants.{Conditions, Undocumented}
 use Rattle.rust_leaves.specs.declared.wanted.Wanted.{Wanted}
-use Rattle.rust_mended.specs.declared.text.Mended.{Mended}
+use Rattle.source_rows.specs.declared.mended_file.MendedFile.{MendedFile}
 use Rattle.rust_items.specs.SourceFiles.{FileView}
 use Rattle.source_rows.specs.Places.{is_id, place_of}
 use Rattle.source_rows.specs.Listed.{Closers, MemberReading}
@@ -52,7 +52,7 @@ abbrev pub checked_wanted : Wanted
 checked_wanted = record { bodies = false; metas = Undocumented }
 
 -- how a text is read, or the mended one in its place
-abbrev pub reading_by : Options → Bool → List ℕ → Option Mended → MemberReading
+abbrev pub reading_by : Options → Bool → List ℕ → Option MendedFile → MemberReading
 reading_by o has_members text mended = record { text = text_read text mended; closers = closers_in mended; edition = o.edition.year; options = cfgs_if o has_members }
 
 -- a tree that has the rows of the tree that lists tell of a text, and the places of its items and use trees

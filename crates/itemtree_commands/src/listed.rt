@@ -13,17 +13,16 @@ use crate::Options;
 use crate::trees::{SourceError, SourceTree, tree_of, wanted_under};
 use item_tree::LowerError;
 use rust_items::{Wanted, WantedMetas};
-use rust_mended::Mended;
 use source_imports::{UseCfgs, file_cfgs};
-use source_rows::read_listed;
+use source_rows::{MendedFile, read_listed};
 use std::alloc::Global;
 
 /// The tree that lists tell of a text, with the places of the text as it is.
 #[derive(Drop)]
 pub struct ListedTree {
     pub source: SourceTree,
-    /// The mended text, if the tree is that of it.
-    pub mended: Option<Mended>,
+    /// The mended text with its places, if the tree is that of it.
+    pub mended: Option<MendedFile>,
 }
 
 /// The tree of what is wanted of what lists read of a text.

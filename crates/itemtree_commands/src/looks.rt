@@ -7,8 +7,8 @@ ghost use Rattle.source_listing.specs.Views.{look_view, reading_view};
 use crate::Options;
 use hir_input::CfgOptions;
 use list_forms::Form;
-use rust_mended::Mended;
 use source_listing::{Look, Reading};
+use source_rows::MendedFile;
 
 impl Options {
     pub(crate) fn look(
@@ -43,7 +43,7 @@ impl Options {
     pub(crate) fn reading<'a>(
         &'a self,
         text: &'a str,
-        mended: &'a Option<Mended>,
+        mended: &'a Option<MendedFile>,
         has_members: bool,
     ) -> Reading<'a>
         ensures { reading_view result ≡ reading_by self.now has_members text.now mended.now }

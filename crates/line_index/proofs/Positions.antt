@@ -101,12 +101,47 @@ feeds_within z = count_by-le-length (λ b. b == 10) z
 sum_of : (from at : ℕ) → from ≤ at → from + (at - from) ≡ at
 sum_of from at e = omega arith
 
-take_on : (from at : ℕ) (z : List ℕ) → from ≤ at → take from z ++ take (at - from) (drop from z) ≡ take at z
+pub take_on : (from at : ℕ) (z : List ℕ) → from ≤ at → take from z ++ take (at - from) (drop from z) ≡ take at z
 take_on from at z e = sym (take-add from (at - from) z) ∙ ap (λ n. take n z) (sum_of from at e)
 
 pub onward : (units : Units) (text : List ℕ) (from at : ℕ) → from ≤ at → position_behind units (shown_at units text from) (take (at - from) (drop from text)) ≡ shown_at units text at
 unfolding shown_at
 onward units text from at e = sym (behind_both units start (take from text) (take (at - from) (drop from text))) ∙ ap (λ z. position_behind units start z) (take_on from at text e)
+
+-- no line feed is passed: the columns add up
+without_feeds : (units : Units) (p : Position) (z : List ℕ) → feeds z ≡ 0 → (position_behind units p z).column ≡ p.column + sum_by (column_units (list_style units)) z
+unfolding feeds points.begins_end
+without_feeds units p [] e = omega arith
+without_feeds units p (b ∷ z) e =
+    let all = sum_by-cons (column_units (list_style units)) b z in
+    ⊎_elim
+    (λ (is : (b == 10) ≡ true).
+    let one : ◌≡◌ {A = ℕ} (1 + feeds z) 0 = subst (λ t. cond t (1 + feeds z) (feeds z) ≡ 0) is e in absurd (omega (arith, one)))
+    (λ (no : (b == 10) ≡ false).
+    let rest = without_feeds units (behind_byte units p b) z (subst (λ t. cond t (1 + feeds z) (feeds z) ≡ 0) no e) in
+    let column : ◌≡◌ {A = ℕ} (behind_byte units p b).column (p.column + byte_units units b) = rw no refl in
+    let same : ◌≡◌ {A = ℕ} (column_units (list_style units) b) (byte_units units b) = rw no refl in
+    omega (arith, all, rest, column, same))
+    (cases_Bool (b == 10))
+
+-- from a place back to an earlier one
+pub column_before : (units : Units) (text : List ℕ) (from at : ℕ) (here : Position) (n u : ℕ) (style : Style) → here ≡ shown_at units text from → at ≤ from → n ≡ 0
+    → n ≡ count_by (λ b. b == 10) (take (from - at) (drop at text)) → style ≡ list_style units → u ≡ sum_by (column_units style) (take (from - at) (drop at text))
+    → (shown_at units text at).column + u ≡ here.column
+column_before units text from at here n u style h e none count same sum =
+    let z = take (from - at) (drop at text) in
+    let there = without_feeds units (shown_at units text at) z (feeds_counted z ∙ sym count ∙ none) in
+    let end = ap (λ p. p.column) (onward units text at from e ∙ sym h) in
+    let units_are = ap (λ t. sum_by (column_units t) z) same in
+    omega (arith, there, end, sum, units_are)
+
+pub lines_before : (units : Units) (text : List ℕ) (from at : ℕ) (here : Position) (n : ℕ) → here ≡ shown_at units text from → at ≤ from
+    → n ≡ count_by (λ b. b == 10) (take (from - at) (drop at text)) → (shown_at units text at).line + n ≡ here.line
+lines_before units text from at here n h e count =
+    let z = take (from - at) (drop at text) in
+    let there = line_is units (shown_at units text at) z in
+    let end = ap (λ p. p.line) (onward units text at from e ∙ sym h) in
+    omega (arith, there, end, count)
 
 byte_line : (units : Units) (p : Position) (b : ℕ) → (behind_byte units p b).line ≤ p.line + 1
 byte_line units p b = ⊎_elim (λ (e : (b == 10) ≡ true). rw e (omega arith)) (λ (e : (b == 10) ≡ false). rw e (omega arith)) (cases_Bool (b == 10))
@@ -187,3 +222,11 @@ unfolding shown_at
 counted units text at here column h c =
     let lines = ap (λ p. p.line) h ∙ line_is Characters start (take at text) ∙ sym (line_is units start (take at text)) in
     ap (λ n. spot n column) lines ∙ ap (spot (position_behind units start (take at text)).line) c
+
+pub earlier : (units : Units) (text : List ℕ) (from at : ℕ) (here : Position) (n column : ℕ) → here ≡ shown_at units text from → at ≤ from
+    → n ≡ count_by (λ b. b == 10) (take (from - at) (drop at text)) → column ≡ (shown_at units text at).column
+    → record { line = here.line - n; column = column } ≡ shown_at units text at
+earlier units text from at here n column h e count c =
+    let lines = lines_before units text from at here n h e count in
+    let line : here.line - n ≡ (shown_at units text at).line = omega (arith, lines) in
+    ap (λ m. spot m column) line ∙ ap (spot (shown_at units text at).line) c

@@ -12,7 +12,7 @@ use Rattle.hir_input_json.specs.declared.fault.Fault.TheVariants.{WrongForm, Out
 use Rattle.itemtree_commands.specs.declared.Options.{Options}
 use Rattle.source_rows.specs.ListedFiles.{closers_in}
 use Rattle.source_rows.specs.ListedViews.{reading_view, text_read}
-use Rattle.rust_mended.specs.declared.text.Mended.{Mended}
+use Rattle.source_rows.specs.declared.mended_file.MendedFile.{MendedFile}
 use Rattle.serde_json.specs.declared.value.Value.{Value}
 use Rattle.lsp.specs.declared.response.ResponseError.{ResponseError}
 use Rattle.lsp.specs.Highlight.{highlight_ranges}
@@ -69,5 +69,5 @@ abbrev pub IsSameButDocuments : ServerState → ServerState → Type 0
 IsSameButDocuments s new = (new.options ≡ s.options) × ((new.phase ≡ s.phase) × (new.client ≡ s.client))
 
 -- how headers and members of a listed text are read
-abbrev pub listed_reading : Options → List ℕ → Option Mended → MemberReading
+abbrev pub listed_reading : Options → List ℕ → Option MendedFile → MemberReading
 listed_reading o text mended = record { text = text_read text mended; closers = closers_in mended; edition = o.edition.year; options = Some o.krate.cfg }

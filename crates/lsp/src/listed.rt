@@ -16,16 +16,15 @@ use crate::document::{Document, Documents, asked_document};
 use crate::response::Outcome;
 use crate::symbols::{Page, tree_symbols};
 use itemtree_commands::{Options, SourceError, listed_tree};
-use rust_mended::Mended;
 use serde_json::Value;
-use source_rows::Reading;
+use source_rows::{MendedFile, Reading};
 use std::alloc::Global;
 
 /// How headers and members of a listed text are read.
 pub(crate) fn reading_of<'a>(
     options: &'a Options,
     text: &'a str,
-    mended: Option<&'a Mended>,
+    mended: Option<&'a MendedFile>,
 ) -> Reading<'a>
     ensures { reading_view result ≡ listed_reading options.now text.now (option_copied mended.entry) }
 {

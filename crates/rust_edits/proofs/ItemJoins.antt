@@ -18,16 +18,4 @@ pub mod OpenItems
 pub mod OpenJoin
 pub mod PartPlaces
 pub mod DamagedItems
-pub mod Between
-pub mod WithoutIds
-pub mod FileParts
-pub mod TopIds
-pub mod TopTurns
-pub mod TokensLeft
-pub mod NoItems
-pub mod ItemsAnywhere
-pub mod RangesAlone
-pub mod ModuleParts
-pub mod Wholes
-pub mod FrontParts
 pub mod Examples

@@ -1,9 +1,8 @@
 -- Which edits are told.
 use Rattle.std.proofs.Common.{◌≡◌, ◌+◌, ◌-◌, ℕ, suc, List, ◌∷◌, ◌++◌, length, get_or, take, IsUtf8, refl, ap, sym, subst, ◌∙◌, arith, length-append, Bool, true, false, Option, Some, None, ◌<◌, ◌^◌, ◌↔◌}
-use Rattle.rust_edits.proofs.Common.{IsCharBoundary, TextRange, ArePartsAbout, AreCut, IsUncut, LacksByte, IsSome, with_feeds, ItemPlace, Loose, loose_in, body_about, begins_bare, MayStandInside, MayEdit, TellsLoose, in_braces, is_alone, EndsFit, common_steps, take_at, append_cancel_left, IsCharBoundary-from_take, IsCharBoundary-after_ascii, false≢true, IsUtf8-append, Parts, same_Some}
+use Rattle.rust_edits.proofs.Common.{IsCharBoundary, TextRange, ArePartsAbout, AreCut, IsUncut, LacksByte, IsSome, with_feeds, ItemPlace, Loose, loose_in, body_about, begins_bare, MayStandInside, MayEdit, TellsLoose, Shift, IsShift, in_braces, is_alone, EndsFit, common_steps, take_at, append_cancel_left, IsCharBoundary-from_take, IsCharBoundary-after_ascii, false≢true, IsUtf8-append, Parts, same_Some}
+use Rattle.rust_edits.specs.Edits.{HasBraces, ShiftsBraces}
 use Rattle.rust_edits.proofs.StandingAlone.{alone_is, is_found}
-
--- ---- where a text is cut about a range in braces, and that it is cut there in one way only
 
 -- ---- lists fall apart in one way at a place
 
@@ -144,6 +143,20 @@ module _ (items : List ItemPlace) (old typed : List ℕ) (range : TextRange) whe
       loose_told keeps to from m =
           let loose : List ℕ → Loose = λ l. loose_in (with_feeds l) in
           (λ k. ap loose (stands_is m) ∙ to k ∙ sym (ap loose (stood_is m)), λ e. from (sym (ap loose (stands_is m)) ∙ e ∙ ap loose (stood_is m)))
+
+      -- the shift has the places of the braces
+      pub shift_told : (shift : Shift) → IsShift body range (length typed) (length p.back.now) shift → ShiftsBraces items old range typed shift
+      shift_told shift moves m =
+          let is_body : body ≡ m.body = same_Some body m.body (about ∙ m.about) in
+          let closing = moves.closing in
+          let closing_new = moves.closing_new in
+          let closes = cut.about.closes in
+          let ends = m.parts.ends in
+          record {
+            opening = moves.opening ∙ ap (λ (r : TextRange). r.start) is_body;
+            closing = (let at : suc shift.closing ≡ body.end = omega (arith, closing, closes) in at) ∙ ap (λ (r : TextRange). r.end) is_body;
+            closing_new = omega (arith, closing, closing_new, ends);
+          }
 
       -- the places of the `}` fit into memory
       fits : length old < 2 ^ 63 → length typed < 2 ^ 63 → EndsFit range (length typed) (length p.back.now)

@@ -11,4 +11,3 @@ pub mod EndedRests
 pub mod ProblemsAlike
 pub mod UnendedTokens
 pub mod ProblemPlaces
-pub mod DamagedTexts

@@ -161,3 +161,13 @@ KeepsLoose items old range typed m = loose_in (with_feeds (m.front ++ (typed ++ 
 -- it is told of such an edit whether it does
 abbrev pub TellsLoose : List ItemPlace → List ℕ → TextRange → List ℕ → Bool → Type 0
 TellsLoose items old range typed keeps = (m : MayEdit items old range typed) → (keeps ≡ true) ↔ KeepsLoose items old range typed m
+
+-- A shift has the places of the braces that such an edit stands in: of the `{`, and of the `}`, which moves by as much as the text grows.
+pub record HasBraces (items : List ItemPlace) (old : List ℕ) (range : TextRange) (typed : List ℕ) (shift : Shift) (m : MayEdit items old range typed) : Type 0 where
+  pub opening : shift.opening ≡ m.body.start
+  pub closing : suc shift.closing ≡ m.body.end
+  pub closing_new : shift.closing_new + length m.replaced ≡ shift.closing + length typed
+
+-- so it does whatever edit it is
+abbrev pub ShiftsBraces : List ItemPlace → List ℕ → TextRange → List ℕ → Shift → Type 0
+ShiftsBraces items old range typed shift = (m : MayEdit items old range typed) → HasBraces items old range typed shift m

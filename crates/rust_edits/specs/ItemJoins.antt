@@ -2,9 +2,4 @@
 pub mod Joined
 pub mod Open
 pub mod Mended
-pub mod Alone
-pub mod Between
-pub mod Wholes
-pub mod Told
-pub mod Ids
-pub mod ModuleParts
+pub mod Ends

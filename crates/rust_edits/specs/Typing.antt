@@ -4,4 +4,3 @@ pub mod Moved
 pub mod Opened
 pub mod Problems
 pub mod Loose
-pub mod Damaged

@@ -3,7 +3,8 @@
 ghost use Rattle.std.specs.Prelude.{◌≡◌, ◌↔◌, true, IsSome, IfOk, IfSome, length, slice_index};
 ghost use Rattle.rust_items.specs.Typed.{has_body_at};
 ghost use Rattle.rust_edits.specs.Edits as spec;
-ghost use Rattle.rust_edits.specs.Edits.{BeginInOrder, MayEdit, PlacesAreKept, ReadsMoved, Shifts, TellsLoose};
+ghost use Rattle.rust_edits.specs.Edits.{BeginInOrder, MayEdit, PlacesAreKept, ReadsMoved, Shifts};
+ghost use Rattle.rust_edits.specs.Edits.{ShiftsBraces, TellsLoose};
 ghost use Rattle.rust_edits.specs.Inner as inner;
 
 use crate::alone::loose_if_alone;
@@ -100,6 +101,8 @@ pub fn edit_inside(
         → IfOk result (λ it. IsSome it ↔ MayEdit items.now old.now range typed.now) }
     ensures loose { BeginInOrder items.now → IfOk result (λ it. IfSome it
         (λ edit. TellsLoose items.now old.now range typed.now edit.keeps_problems)) }
+    ensures braces { BeginInOrder items.now → IfOk result (λ it. IfSome it
+        (λ edit. ShiftsBraces items.now old.now range typed.now edit.shift)) }
 {
     if !begins_bare(old) {
         return Ok(None);

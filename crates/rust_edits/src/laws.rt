@@ -3,21 +3,14 @@
 
 ghost use Rattle.hir_input.specs.Equality.{DecidesEq, IsCopied};
 ghost use Rattle.rust_edits.specs.Edits.{ItemsAreInOrder};
-ghost use Rattle.rust_edits.specs.Typing.Damaged.{TypingDamaged};
 ghost use Rattle.rust_edits.specs.Typing.Laws.{TypingInside};
 ghost use Rattle.rust_edits.specs.Typing.Loose.{ProblemsMove};
 ghost use Rattle.rust_edits.specs.Typing.Moved.{BodyIsTold, IsReadAnew, PlacesMove};
 ghost use Rattle.rust_edits.specs.Typing.Opened.{BodyOpens};
 ghost use Rattle.rust_edits.specs.Typing.Problems.{ProblemsStand};
-ghost use Rattle.rust_edits.specs.ItemJoins.Alone.{RangeAlone};
-ghost use Rattle.rust_edits.specs.ItemJoins.Between.{ItemsBetween};
-ghost use Rattle.rust_edits.specs.ItemJoins.Ids.{FrontIdsStay, IdsStay, TopKeysStay};
 ghost use Rattle.rust_edits.specs.ItemJoins.Joined.{InsideJoin, ItemsJoin};
 ghost use Rattle.rust_edits.specs.ItemJoins.Open.{OpenItemsEnd};
 ghost use Rattle.rust_edits.specs.ItemJoins.Mended.{ItemsBefore, ItemsBehind, ListsBefore, OpenBehind};
-ghost use Rattle.rust_edits.specs.ItemJoins.ModuleParts.{ModuleReads};
-ghost use Rattle.rust_edits.specs.ItemJoins.Told.{FileTells, ItemsStand, ItemsTold};
-ghost use Rattle.rust_edits.specs.ItemJoins.Wholes.{BothWhole, FrontWhole, RestWhole, TopIsSpent};
 
 use crate::edit::BodyEdit;
 use crate::shift::Shift;
@@ -39,7 +32,6 @@ fn typing()
     ensures body_opens { BodyOpens }
     ensures problems_stand { ProblemsStand }
     ensures problems_move { ProblemsMove }
-    ensures typing_damaged { TypingDamaged }
 {}
 
 // What is read of a text that ends with a whole item and of what is behind it, also where brackets are mended.
@@ -51,21 +43,4 @@ fn items_beside()
     ensures items_behind { ItemsBehind }
     ensures open_behind { OpenBehind }
     ensures lists_before { ListsBefore }
-{}
-
-// What is read of an item alone, of items between others and of those of a module, and what a file tells of them.
-fn items_between()
-    ensures range_alone { RangeAlone }
-    ensures items_between { ItemsBetween }
-    ensures file_tells { FileTells }
-    ensures items_stand { ItemsStand }
-    ensures module_reads { ModuleReads }
-    ensures items_told { ItemsTold }
-    ensures front_whole { FrontWhole }
-    ensures both_whole { BothWhole }
-    ensures rest_whole { RestWhole }
-    ensures top_is_spent { TopIsSpent }
-    ensures ids_stay { IdsStay }
-    ensures top_keys_stay { TopKeysStay }
-    ensures front_ids_stay { FrontIdsStay }
 {}

@@ -45,7 +45,7 @@ pub use Rattle.rust_items.specs.Places.{ArePlaces, IsBodyIn, IsNameIn, IsPlace, 
 pub use Rattle.rust_items.specs.SourceFiles.{FileView, IsBareFile, IsClipped, IsClippedFile, IsFile, IsFileView, IsSourceFile, behind_attributes, clipped_file, clipped_syntax, file_view, places, read_of}
 unfoldable pub use Rattle.rust_items.specs.SourceFiles.{found_in, items_in}
 pub use Rattle.rust_items.specs.Typed.{begins_at, has_body, has_body_at}
-pub use Rattle.rust_items.specs.Uses.{AreTreesIn, AreTreesOf, IsTreeAt, UsesAreTold, all_readable_trees, is_readable, left_behind, preorder, preorder_of, readable_trees, trees_in, trees_within, written_trees}
+pub use Rattle.rust_items.specs.Uses.{all_readable_trees, is_readable, readable_trees, trees_in, trees_within, written_trees}
 pub use Rattle.rust_items.specs.Views.{block_part_view, body_view, reading_file, supply_view}
 pub use Rattle.rust_items.specs.declared.blocks.SourceBlock.{SourceBlock}
 pub use Rattle.rust_items.specs.declared.ids.Numbers.{Numbers}

@@ -11,7 +11,6 @@ pub mod Places
 pub mod LineEnds
 pub mod FilePlaces
 pub mod BlockPlaces
-pub mod UsesTold
 pub mod BodilessIds
 pub mod BareItems
 pub mod ClippedItems

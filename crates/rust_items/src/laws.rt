@@ -1,7 +1,6 @@
 //! What holds of the types here: `==` decides whether two values are one, and a copy is its source. Each derive is held
 //! to it by a clause. And what follows from the definitions. The functions do nothing.
 ghost use Rattle.hir_input.specs.Equality.{DecidesEq, IsCopied};
-ghost use Rattle.rust_items.specs.Uses.{UsesAreTold};
 
 use crate::log::{Problem, ProblemKind};
 use crate::member::MemberKind;
@@ -19,9 +18,4 @@ fn copies()
     ensures members { IsCopied ⟦<MemberKind as Clone>⟧.is_clone }
     ensures problems { IsCopied ⟦<Problem as Clone>⟧.is_clone }
     ensures places { IsCopied ⟦<ItemPlace as Clone>⟧.is_clone }
-{}
-
-// In the range of each item, exactly its own use trees begin, in order.
-fn uses_are_told()
-    ensures { UsesAreTold }
 {}

@@ -6,7 +6,6 @@ use Rattle.rust_lexer.specs.Tokens.{tokens}
 use Rattle.rust_mended.specs.declared.bracket.Bracket.TheVariants as bracket
 use Rattle.rust_mended.specs.declared.edit.EditKind.TheVariants as edit
 use Rattle.rust_mended.specs.Apart.{StandApart, begin_with_item}
-use Rattle.rust_mended.specs.Inside.{MayStandIn, text_in_braces}
 use Rattle.rust_mended.specs.Marks.{marks}
 use Rattle.rust_mended.specs.Texts.{edits, mended_text}
 
@@ -33,22 +32,3 @@ told = refl
 mended : mended_text (front ++ (32 ∷ 10 ∷ item)) ≡ 97 ∷ 40 ∷ 41 ∷ 32 ∷ 10 ∷ item
 unfolding front item mended_text edits tokens first_cut is_wide_start is_wide_continue
 mended = refl
-
--- `a` in braces, and then `(`, behind `[`
-typed : MayStandIn (91 ∷ []) (97 ∷ []) (40 ∷ []) []
-unfolding tokens first_cut is_wide_start is_wide_continue
-typed = record {
-  full = refl;
-  opens = refl;
-  stood = record { full = refl; begins = refl; ends = refl; matched = refl };
-  stands = record { full = refl; begins = refl; ends = refl; matched = refl };
-  bare = refl;
-  bare_then = refl;
-  indent = refl;
-  begins = refl;
-  within = refl;
-}
-
-typed_text : mended_text (text_in_braces (91 ∷ []) (40 ∷ []) []) ≡ 91 ∷ 123 ∷ 40 ∷ 41 ∷ 125 ∷ 93 ∷ []
-unfolding mended_text edits tokens first_cut is_wide_start is_wide_continue
-typed_text = refl

@@ -1,5 +1,5 @@
 -- Texts that stand apart are mended apart, where the first matches or the second begins with an item.
-use Rattle.std.proofs.Common.{◌≡◌, refl, ◌∙◌, ap, sym, subst, ℕ, suc, ◌≤◌, ◌+◌, ◌-◌, ◌==◌, true, List, [], ◌∷◌, ◌++◌, length, map, take, drop, arith, append_assoc, length-append, length-drop, slice_range, IsCharBoundary, IsUtf8}
+use Rattle.std.proofs.Common.{◌≡◌, refl, ◌∙◌, ap, sym, subst, ℕ, ◌≤◌, ◌+◌, ◌-◌, ◌==◌, true, List, [], ◌∷◌, ◌++◌, length, map, take, drop, arith, append_assoc, length-append, length-drop, slice_range, IsCharBoundary, IsUtf8}
 use Rattle.std.proofs.Math.Seq.{drop-append-add, take-append-add}
 use Rattle.std.proofs.lemmas.Grind.{flat_map-append}
 use Rattle.std.proofs.lemmas.Bool.Decides.{nat_tests}
@@ -79,17 +79,6 @@ edits_both P q y rest gs most f at (e ∷ es) l h =
     ap (λ l. l ++ (sign e.kind ∷ with_edits (q ++ y) (past_edit e) (es ++ gs))) (slice_first q y at e.at h.0 (most e.at h.1.0))
     ∙ ap (λ l. slice_range q at e.at ++ (sign e.kind ∷ l)) (edits_both P q y rest gs most f (past_edit e) es (most (past_edit e) h.1.1.0) h.1.1.1)
     ∙ sym (append_assoc (slice_range q at e.at) (sign e.kind ∷ with_edits q (past_edit e) es) rest)
-
--- at a byte between both
-pub edits_over_one : (x : List ℕ) (b : ℕ) (y : List ℕ) (at : ℕ) (es : List Edit) → at ≤ length x → with_edits (x ++ b ∷ y) at (map (on (suc (length x))) es) ≡ drop at x ++ (b ∷ with_edits y 0 es)
-edits_over_one x b y at es l =
-    let long = length-append x (b ∷ []) in
-    let same : suc (length x) ≡ length (x ++ b ∷ []) = omega (arith, long) in
-    ap (λ z. with_edits z at (map (on (suc (length x))) es)) (sym (append_assoc x (b ∷ []) y))
-    ∙ ap (λ n. with_edits ((x ++ b ∷ []) ++ y) at (map (on n) es)) same
-    ∙ edits_over (x ++ b ∷ []) y at es (omega (arith, long, l))
-    ∙ ap (λ z. z ++ with_edits y 0 es) (drop-append-le at x (b ∷ []) l)
-    ∙ append_assoc (drop at x) (b ∷ []) (with_edits y 0 es)
 
 module _ (q z s : List ℕ) where
   abbrev all : List ℕ

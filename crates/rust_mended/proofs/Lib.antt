@@ -14,8 +14,4 @@ pub mod Seam
 pub mod FurtherMarks
 pub mod Joins
 pub mod AtStops
-pub mod MarksInBraces
-pub mod SpreadMarks
-pub mod Bodies
-pub mod BodyTexts
 mod Examples

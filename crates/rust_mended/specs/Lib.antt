@@ -2,5 +2,4 @@ pub mod Marks
 pub mod Mended
 pub mod Texts
 pub mod Apart
-pub mod Inside
 pub mod Steps

@@ -7,7 +7,6 @@ ghost use Rattle.rust_lexer.specs.Bytes.{is_continuation};
 ghost use Rattle.rust_lexer.specs.Inner.{begins_front, is_blank_byte};
 ghost use Rattle.rust_lexer.specs.Tokens.{tokens, tokens_from};
 ghost use Rattle.rust_mended.specs.Apart.{StandApart, begin_with_item, behind_further, edit_further, mark_further};
-ghost use Rattle.rust_mended.specs.Inside.{AreMendedAround, IsMendedAround, KeepEachOther, MayStandIn};
 ghost use Rattle.rust_mended.specs.Marks.{last_end, marks};
 ghost use Rattle.rust_mended.specs.Mended.{all_match, mended_marks, closers_reaching, source_by, all_written};
 ghost use Rattle.rust_mended.specs.Texts.{mending_edit, edits, is_matched, mended_text, place_back, puts, tells};
@@ -115,21 +114,6 @@ fn texts_behind_stay()
     ensures text { (q z s : List ℕ) → IsUtf8 q → StandApart q z s → begin_with_item (marks s) ≡ true
         → closers_reaching (marks s) ≡ [] → mended_text (q ++ (z ++ 10 ∷ s))
         ≡ mended_text q ++ (z ++ 10 ∷ mended_text s) }
-{}
-
-// Marks in braces that keep each other are mended by themselves, and those around as if neither the braces nor these
-// were there.
-#[tactic(auto, using(crate::proofs::MarksInBraces::inside_stays))]
-fn marks_inside_stay()
-    ensures { (at : ℕ) (front : List Mark) (o : Mark) (inner : List Mark) (c : Mark) (behind : List Mark)
-        → KeepEachOther front o inner c behind → IsMendedAround at front o inner c behind }
-{}
-
-// What stands in braces that are each other's, and whose `}` begins no line further out than that of the `{`, changes
-// nothing around them: two texts are mended alike but for it.
-#[tactic(auto, using(crate::proofs::BodyTexts::mended_around))]
-fn texts_around_stay()
-    ensures { (q m n s : List ℕ) → MayStandIn q m n s → AreMendedAround q m n s }
 {}
 
 // `==` decides whether two values are one, and a copy is its source: the derives are held to it.

@@ -6,6 +6,5 @@ pub mod PushedTexts
 pub mod ChosenRows
 pub mod MetaCfgLists
 pub mod Printers
-pub mod AtStarts
 pub mod NamePaths
 pub mod ShownNames

@@ -4,7 +4,6 @@ pub mod Objects
 pub mod Outlines
 pub mod Uses
 pub mod Codes
-pub mod Told
 pub mod MetaCfgs
 pub mod ImportTexts
 pub mod Pages

@@ -1,20 +1,12 @@
 //! What holds of the definitions of places; and of the types here: a copy is its source. Each derive is held to it by a
 //! clause. The functions do nothing.
 ghost use Rattle.hir_input.specs.Equality.{IsCopied};
-ghost use Rattle.rust_cursor.specs.Tokens.{Tokens};
-ghost use Rattle.source_listing.specs.Told.{AreToldFor};
 
 use crate::entries::Item;
 use crate::lines::Choice;
 use crate::outlines::Look;
 use crate::search::Query;
 use crate::uses::UseTrees;
-
-// Where use trees begin is told of the trees that are kept, in their order: reading from the place of a number gives
-// the tree of that number, so each import stands at its own.
-fn starts_are_told()
-    ensures { (ts : Tokens) → AreToldFor ts }
-{}
 
 fn copies()
     ensures choices { IsCopied ⟦<Choice as Clone>⟧.is_clone }

@@ -2,7 +2,7 @@
 ghost use Rattle.std.specs.Prelude.{◌≡◌, ◌+◌, ◌++◌, IfOk, OnOk, filter, map, option_copied, string_bytes};
 ghost use Rattle.tree_walk.specs.Rows as rows;
 ghost use Rattle.tree_walk.specs.Views.{row_view};
-ghost use Rattle.source_rows.specs.Listed.{members_of};
+ghost use Rattle.source_rows.specs.Listed.{members_of, placed_members};
 ghost use Rattle.source_rows.specs.ListedViews.{listed_view, reading_view};
 ghost use Rattle.source_listing.specs.Inner.{IsPrinterOf, IsSameFile, file_of, reserved_of};
 ghost use Rattle.source_listing.specs.Lines as spec;
@@ -93,7 +93,27 @@ impl Choice {
             let listed = filter (λ m. spec.is_chosen (choice_view self) (level + 1) m.is_active) members in
             IfOk result (λ v. map listed_view v.items ≡ listed) }
     {
-        let mut members = reading.members(alloc, place, is_active)?;
+        self.members_at(alloc, reading, reading.place(place), level, is_active)
+    }
+
+    /// The same of an item that stands there in the text that is read.
+    ///
+    /// # Errors
+    ///
+    /// Only if memory runs out.
+    pub fn members_at(
+        self,
+        alloc: Global,
+        reading: Reading<'_>,
+        place: Option<ItemPlace>,
+        level: usize,
+        is_active: bool,
+    ) -> Result<Vec<ListedMember>, AllocError>
+        ensures { let members = placed_members (reading_view reading.entry) place is_active in
+            let listed = filter (λ m. spec.is_chosen (choice_view self) (level + 1) m.is_active) members in
+            IfOk result (λ v. map listed_view v.items ≡ listed) }
+    {
+        let mut members = reading.members_at(alloc, place, is_active)?;
         members.retain(|member| self.takes_inside(level, member.is_active));
         Ok(members)
     }

@@ -1,5 +1,6 @@
 pub mod Problems
 pub mod Markers
+pub mod MacroTrees
 pub mod Brackets
 pub mod Quotes
 pub mod Metas

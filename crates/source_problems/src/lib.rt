@@ -6,6 +6,7 @@ mod brackets;
 mod conditions;
 mod items;
 mod laws;
+mod macro_trees;
 mod markers;
 mod metas;
 mod problem;

@@ -2,7 +2,9 @@
 
 ghost use Rattle.std.specs.Prelude.{◌≡◌, ◌++◌, OnOk, Some, None, if◌then◌else◌};
 ghost use Rattle.source_problems.specs.Markers as spec;
+ghost use Rattle.source_problems.specs.Quotes.{marker_outside};
 
+use crate::macro_trees::Around;
 use crate::problem::{SourceProblem, SourceProblemKind, push};
 use rust_cursor::{first_byte, last_byte};
 use rust_lexer::{Lexer, Token};
@@ -72,15 +74,21 @@ pub(crate) fn push_marker(
     Ok(())
 }
 
-/// The same behind a token, where a line begins there.
-pub(crate) fn push_marker_behind(
+/// The same behind a token, where a line begins there, and unless markers in token trees of macros are left out and it
+/// stands in one.
+pub(crate) fn push_marker_outside(
+    skips: bool,
+    around: Around,
     token: &Token<'_>,
     lexer: &Lexer<'_>,
     problems: &mut Vec<SourceProblem>,
 ) -> Result<(), AllocError>
-    ensures { let marker = spec.marker_behind token.now lexer.now in
+    ensures { let marker = marker_outside skips around token.now lexer.now in
         OnOk result (problems.new.items ≡ problems.old.items ++ marker) }
 {
+    if skips && !around.is_outside() {
+        return Ok(());
+    }
     if last_byte(token.text()) == b'\n' {
         return push_marker(lexer, problems);
     }

@@ -6,7 +6,8 @@ ghost use Rattle.rust_mended.specs.Texts.{tokens_match};
 ghost use Rattle.source_problems.specs.Quotes as spec;
 
 use crate::brackets::take_bracket;
-use crate::markers::{push_marker, push_marker_behind};
+use crate::macro_trees::Around;
+use crate::markers::{push_marker, push_marker_outside};
 use crate::problem::{SourceProblem, SourceProblemKind, push};
 use rust_lexer::{Lexer, Token};
 use std::alloc::{AllocError, Global};
@@ -31,23 +32,39 @@ pub(crate) struct Lines {
     pub is_matched: bool,
 }
 
-/// What is wrong with the quotes of a text, its conflict markers, and whether its brackets match.
-pub(crate) fn read_lines(alloc: Global, text: &str) -> Result<Lines, AllocError>
-    ensures problems { IfOk result (λ l. l.problems.items ≡ spec.token_problems (tokens text.now)) }
+/// What is wrong with the quotes of a text, its conflict markers, with or without those in token trees of macros, and
+/// whether its brackets match.
+fn lines_of(alloc: Global, text: &str, skips: bool) -> Result<Lines, AllocError>
+    ensures problems { IfOk result (λ l. l.problems.items ≡ spec.problems_in skips (tokens text.now)) }
     ensures matched { IfOk result (λ l. l.is_matched ≡ tokens_match (tokens text.now) []) }
 {
     let mut problems = Vec::new(alloc);
     let mut opened = VecDeque::new(alloc);
     let mut is_matched = true;
+    let mut around = Around::outside();
     let mut lexer = Lexer::new(text);
     push_marker(&lexer, &mut problems)?;
     'tokens: while let Some(token) = lexer.next() {
+        around = around.behind(&token);
         push_unended(&token, &mut problems)?;
-        push_marker_behind(&token, &lexer, &mut problems)?;
+        push_marker_outside(skips, around, &token, &lexer, &mut problems)?;
         is_matched = is_matched && take_bracket(token.symbol(), &mut opened)?;
     }
     Ok(Lines {
         problems,
         is_matched: is_matched && opened.is_empty(),
     })
+}
+
+/// What is wrong with the quotes of a text, its conflict markers, and whether its brackets match. Where they do,
+/// markers in token trees of macros are none.
+pub(crate) fn read_lines(alloc: Global, text: &str) -> Result<Lines, AllocError>
+    ensures problems { IfOk result (λ l. l.problems.items ≡ spec.token_problems (tokens text.now)) }
+    ensures matched { IfOk result (λ l. l.is_matched ≡ tokens_match (tokens text.now) []) }
+{
+    let lines = lines_of(alloc, text, true)?;
+    if lines.is_matched {
+        return Ok(lines);
+    }
+    lines_of(alloc, text, false)
 }

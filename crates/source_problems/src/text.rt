@@ -123,9 +123,9 @@ fn in_order(alloc: Global, problems: &[SourceProblem]) -> Result<Vec<SourceProbl
 
 /// All that is wrong with a text of which this was read, in the order of places, each once: what the reader of items
 /// tells; brackets that have to be mended, each where its line tells that it is wrong; literals and comments without
-/// their ends, also those behind which the text goes on; conflict markers at the beginning of lines; and the paths
-/// without a meaning and the attributes that are too deep, at the items that have them, or at the beginning of the
-/// file.
+/// their ends, also those behind which the text goes on; conflict markers at the beginning of lines, but none in the
+/// token tree of a macro call or an attribute where all brackets match; and the paths without a meaning and the
+/// attributes that are too deep, at the items that have them, or at the beginning of the file.
 ///
 /// Nothing is wrong with the texts of bodies, nor with documentation: what was read may be without both.
 ///

@@ -1,5 +1,5 @@
 -- Places by their ids.
-use Rattle.std.proofs.Common.{◌≡◌, ◌≢◌, ℕ, suc, ◌<◌, ◌+◌, ◌-◌, ◌==◌, true, false, if◌then◌else◌, List, [], ◌∷◌, ◌++◌, length, length-append, take, take-append-drop, refl, ap, sym, ◌∙◌, subst, Some, arith, append_assoc, ⊎_elim, slice_index_or, rules}
+use Rattle.std.proofs.Common.{◌≡◌, ◌≢◌, ℕ, suc, ◌<◌, ◌≤◌, ◌+◌, ◌-◌, ◌==◌, true, false, if◌then◌else◌, List, [], ◌∷◌, ◌++◌, drop, length, length-append, length-drop, take, take-append-drop, refl, ap, sym, ◌∙◌, subst, Some, arith, append_assoc, ⊎_elim, slice_index_or, rules}
 use Rattle.std.proofs.Math.Seq.{drop-append_seam}
 use Rattle.std.proofs.lemmas.Bool.{cases_Bool}
 use Rattle.std.proofs.lemmas.Bool.Decides.{nat_tests, same_from_decides}
@@ -30,6 +30,13 @@ pub end_shorter : {A : Type 0} (x : A) (ys all : List A) → IsEndOf (x ∷ ys) 
 end_shorter x ys all e =
     let front = take (length all - length (x ∷ ys)) all in
     to_end (front ++ x ∷ []) ys all (append_assoc front (x ∷ []) ys ∙ from_end (x ∷ ys) all e)
+
+-- what is left of a list from a place on
+pub end_dropped : {A : Type 0} (n : ℕ) (xs : List A) → n ≤ length xs → IsEndOf (drop n xs) xs
+end_dropped n xs l =
+    let long = length-drop n xs in
+    let same : length xs - length (drop n xs) ≡ n = omega (arith, long, l) in
+    ap (λ m. drop m xs) same
 
 -- ---- ids
 

@@ -12,3 +12,4 @@ pub mod Types
 pub mod Listed
 pub mod ListedViews
 pub mod ListedFiles
+pub mod Untouched

@@ -3,28 +3,29 @@ use Rattle.std.specs.Prelude.{◌≡◌, ◌≢◌, ◌<◌, ◌≤◌, ◌^◌,
 use Rattle.hir_input.specs.declared.edition.EditionYear.{EditionYear}
 use Rattle.rust_leaves.specs.declared.wanted.Wanted.{Wanted}
 use Rattle.rust_mended.specs.declared.edit.Edit.{Edit}
-use Rattle.rust_mended.specs.declared.text.Mended.{Mended}
-use Rattle.rust_mended.specs.Texts.{edits, mended_text, put_places, puts}
+use Rattle.rust_mended.specs.Texts.{edits, mended_text, puts}
 use Rattle.rust_items.specs.declared.log.Problem.{Problem}
+use Rattle.rust_items.specs.declared.source_file.ItemPlace.{ItemPlace}
 use Rattle.rust_items.specs.declared.source_file.SourceFile.{SourceFile}
 use Rattle.rust_items.specs.SourceFiles.{FileView, IsFileView, bare_file, clipped_file}
 use Rattle.source_rows.specs.Listed.{Closers, told_place, told_item}
 use Rattle.source_rows.specs.ListedViews.{closers_view}
+use Rattle.source_rows.specs.declared.mended_file.MendedFile.{MendedFile}
 use Rattle.source_rows.specs.declared.read_texts.ReadError.{ReadError}
 use Rattle.source_rows.specs.declared.read_texts.ReadError.TheVariants.{TooLong, OutOfMemory}
 
--- where closers are put in the mended text of a text, if it is another
-abbrev pub closers_by : List Edit → List ℕ → Option Closers
-closers_by [] at = None
-closers_by (e ∷ es) at = Some (record { puts = at; places = put_places (e ∷ es) })
+-- where closers are put in the mended text of a text, if it is another, and these items stand in that
+abbrev pub closers_by : List ItemPlace → List Edit → List ℕ → Option Closers
+closers_by items [] at = None
+closers_by items (e ∷ es) at = Some (record { puts = at; items = items })
 
-abbrev pub closers_of : List ℕ → Option Closers
-closers_of text = closers_by (edits text) (puts text)
+abbrev pub closers_of : List ℕ → List ItemPlace → Option Closers
+closers_of text items = closers_by items (edits text) (puts text)
 
 -- the same of a text of which the reader tells these problems; where it tells none, the text is not mended
-abbrev pub listed_closers : List ℕ → List Problem → Option Closers
-listed_closers text [] = None
-listed_closers text (p ∷ ps) = closers_of text
+abbrev pub listed_closers : List ℕ → List Problem → List ItemPlace → Option Closers
+listed_closers text [] items = None
+listed_closers text (p ∷ ps) items = closers_of text items
 
 -- the text that is read for lists, by where closers were put in it
 abbrev pub listed_text : List ℕ → Option Closers → List ℕ
@@ -35,12 +36,12 @@ listed_text text (Some c) = mended_text text
 abbrev pub told_file : Option Closers → List Problem → FileView → FileView
 told_file closers problems file = record { syntax = file.syntax; places = map (told_item closers) file.places; use_trees = map (told_place closers) file.use_trees; problems = problems }
 
--- What lists read of a text: where its reader tells problems, what is read of its mended text. Places and problems are those of the text itself.
+-- What lists read of a text: where its reader tells problems, what is read of its mended text. Places and problems are those of the text itself; where closers were put, the places in the mended text are kept beside them.
 pub record IsListedFile (edition : EditionYear) (text : List ℕ) (closers : Option Closers) (file : FileView) : Type 0 where
   pub own : FileView
   pub is_own : IsFileView edition text own
-  pub is_mended : closers ≡ listed_closers text own.problems
   pub read : FileView
+  pub is_mended : closers ≡ listed_closers text own.problems read.places
   pub is_read : IsFileView edition (listed_text text closers) read
   pub told : file ≡ told_file closers own.problems read
 
@@ -59,12 +60,12 @@ pub record IsListedBare (edition : EditionYear) (text : List ℕ) (closers : Opt
 -- ---- the code's
 
 -- where closers were put, by the mended text if that was read
-abbrev pub closers_in : Option Mended → Option Closers
+abbrev pub closers_in : Option MendedFile → Option Closers
 closers_in mended = option_map closers_view mended
 
 -- the mended text, if that was read, is that of a text, with what was done to it
-abbrev pub HasTextOf : List ℕ → Option Mended → Type 0
-HasTextOf text mended = IfSome mended (λ m. (string_bytes m.text ≡ mended_text text) × (m.edits.items ≡ edits text))
+abbrev pub HasTextOf : List ℕ → Option MendedFile → Type 0
+HasTextOf text mended = IfSome mended (λ m. (string_bytes m.mended.text ≡ mended_text text) × (m.mended.edits.items ≡ edits text))
 
 -- no two items have one id
 abbrev pub HasFileIds : SourceFile → Type 0

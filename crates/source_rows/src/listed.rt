@@ -7,11 +7,11 @@ ghost use Rattle.source_rows.specs.ListedViews.{closers_view, listed_view};
 use crate::enabled::any_disables;
 use crate::members::members_in;
 use crate::mended::{told_place, told_range, told_some};
+use crate::mended_file::MendedFile;
 use hir_input::{CfgOptions, EditionYear, Name};
 use item_tree::{RawVisibility, visibility_from_ast};
 use rust_cursor::push_some;
 use rust_items::{ItemPlace, Member, MemberKind, TextRange};
-use rust_mended::Mended;
 use std::alloc::{AllocError, Global};
 
 /// A member of an item that has a name.
@@ -27,6 +27,8 @@ pub struct ListedMember {
     pub range: TextRange,
     /// The braces of a function.
     pub body: Option<TextRange>,
+    /// Where these stand in the text that is read.
+    pub read_body: Option<TextRange>,
     /// Whether no cfg disables it, nor its item, nor what that stands in.
     pub is_active: bool,
 }
@@ -36,7 +38,7 @@ pub struct ListedMember {
 pub(crate) struct Around<'a> {
     pub(crate) text: &'a str,
     /// The mended text, if that is read.
-    pub(crate) mended: Option<&'a Mended>,
+    pub(crate) mended: Option<&'a MendedFile>,
     pub(crate) edition: EditionYear,
     pub(crate) options: &'a CfgOptions,
     /// Whether no cfg disables the item, nor what it stands in.
@@ -70,6 +72,7 @@ fn listed_member(
         at: told_place(around.mended, place.start),
         range: told_range(around.mended, range),
         body: told_some(around.mended, body),
+        read_body: body,
         is_active,
     }))
 }

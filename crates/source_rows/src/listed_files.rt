@@ -1,6 +1,6 @@
 //! What lists read, also of damaged texts.
 
-ghost use Rattle.std.specs.Prelude.{◌≡◌, ◌≤◌, ◌<◌, ◌^◌, Some, length, map, IfOk, IfErr, OnOk};
+ghost use Rattle.std.specs.Prelude.{◌≡◌, ◌≤◌, ◌<◌, ◌^◌, Some, length, map, option_map, IfOk, IfErr, OnOk};
 ghost use Rattle.rust_items.specs.SourceFiles.{IsClippedFile, file_view};
 ghost use Rattle.source_rows.specs.Listed.{told_place, told_item};
 ghost use Rattle.source_rows.specs.ListedViews.{closers_view};
@@ -8,6 +8,7 @@ ghost use Rattle.source_rows.specs.ListedFiles.{HasFileIds, HasTextOf, IsListedC
 ghost use Rattle.source_rows.specs.ListedFiles.{told_file};
 
 use crate::mended::{told_item, told_place};
+use crate::mended_file::MendedFile;
 use crate::read_texts::{ReadError, read_text};
 use hir_input::EditionYear;
 use rust_items::{ItemPlace, Problem, SourceFile, Wanted};
@@ -19,19 +20,16 @@ use std::alloc::{AllocError, Global};
 pub struct ListedFile {
     pub file: SourceFile,
     /// The mended text, if that was read.
-    pub mended: Option<Mended>,
+    pub mended: Option<MendedFile>,
 }
 
-fn told_places(
-    alloc: Global,
-    places: &[ItemPlace],
-    mended: &Mended,
-) -> Result<Vec<ItemPlace>, AllocError>
+/// Where the items of a mended text stand in the text itself.
+fn told_places(alloc: Global, mended: &MendedFile) -> Result<Vec<ItemPlace>, AllocError>
     ensures { IfOk result (λ v. v.items
-        ≡ map (told_item (Some (closers_view mended.now))) places.now) }
+        ≡ map (told_item (Some (closers_view mended.now))) mended.now.items.items) }
 {
-    let mut told = Vec::with_capacity(alloc, places.len())?;
-    for place in places {
+    let mut told = Vec::with_capacity(alloc, mended.items.len())?;
+    for place in &mended.items {
         told.push(told_item(Some(mended), *place))?;
     }
     Ok(told)
@@ -40,7 +38,7 @@ fn told_places(
 fn told_use_trees(
     alloc: Global,
     use_trees: &[usize],
-    mended: &Mended,
+    mended: &MendedFile,
 ) -> Result<Vec<usize>, AllocError>
     ensures { IfOk result (λ v. v.items
         ≡ map (told_place (Some (closers_view mended.now))) use_trees.now) }
@@ -53,22 +51,33 @@ fn told_use_trees(
 }
 
 /// What was read of a mended text, with the places of the text itself and its problems.
-fn unmended_file(
+fn told_listed(
     alloc: Global,
     read: SourceFile,
     problems: Vec<Problem>,
-    mended: &Mended,
-) -> Result<SourceFile, AllocError>
-    ensures { let told = told_file (Some (closers_view mended.now)) problems.items (file_view read) in
-        IfOk result (λ file. file_view file ≡ told) }
+    mended: Mended,
+) -> Result<ListedFile, AllocError>
+    requires ids { HasFileIds read }
+    ensures file { IfOk result (λ x. file_view x.file
+        ≡ told_file (closers_in x.mended) problems.items (file_view read)) }
+    ensures mended { IfOk result (λ x. option_map (λ m. m.mended) x.mended ≡ Some mended) }
+    ensures items { IfOk result (λ x. option_map (λ m. m.items.items) x.mended ≡ Some read.places.items) }
 {
-    let places = told_places(alloc, &read.places, mended)?;
-    let use_trees = told_use_trees(alloc, &read.use_trees, mended)?;
-    Ok(SourceFile {
+    let mended = MendedFile {
+        mended,
+        items: read.places,
+    };
+    let places = told_places(alloc, &mended)?;
+    let use_trees = told_use_trees(alloc, &read.use_trees, &mended)?;
+    let file = SourceFile {
         syntax: read.syntax,
         places,
         use_trees,
         problems,
+    };
+    Ok(ListedFile {
+        file,
+        mended: Some(mended),
     })
 }
 
@@ -97,11 +106,8 @@ fn mended_file(
         });
     };
     let read = read_text(alloc, &mended.text, wanted, edition)?;
-    let file = unmended_file(alloc, read, own.problems, &mended)?;
-    Ok(ListedFile {
-        file,
-        mended: Some(mended),
-    })
+    let listed = told_listed(alloc, read, own.problems, mended)?;
+    Ok(listed)
 }
 
 /// Reads what is wanted of a text of an edition for lists: where the reader tells problems, of its mended text.

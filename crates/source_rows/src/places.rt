@@ -1,5 +1,5 @@
 //! Places of items by their ids.
-ghost use Rattle.std.specs.Prelude.{◌≡◌};
+ghost use Rattle.std.specs.Prelude.{◌≡◌, ◌≤◌, length};
 ghost use Rattle.source_rows.specs.Ends.{IsEndOf};
 ghost use Rattle.source_rows.specs.Places as spec;
 
@@ -55,6 +55,20 @@ pub fn first_place(places: &[ItemPlace], id: FileAstId) -> Option<ItemPlace>
     ensures { result ≡ spec.place_of id places.now }
 {
     first_of(places, id).0
+}
+
+/// The place of an id among these, of which there is only one. It is looked for first from this one of them on.
+#[tactic(auto, using(crate::proofs::ItemPlaces::end_dropped))]
+pub(crate) fn place_from(all: &[ItemPlace], first: usize, id: FileAstId) -> Option<ItemPlace>
+    requires within { first ≤ length all.now }
+    requires distinct { spec.AreDistinct all.now }
+    ensures { result ≡ spec.place_of id all.now }
+{
+    let mut places = Places {
+        all,
+        left: &all[first..],
+    };
+    places.find(id)
 }
 
 impl<'a> Places<'a> {

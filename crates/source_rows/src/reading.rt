@@ -7,21 +7,22 @@ ghost use Rattle.source_rows.specs.ListedViews.{listed_view, reading_view};
 use crate::headers::header;
 use crate::labels::text_at;
 use crate::listed::{Around, ListedMember, listed_members};
-use crate::mended::{read_item, read_range};
+use crate::mended::read_item;
+use crate::mended_file::MendedFile;
 use crate::types::type_name;
 use hir_input::{AstIdKind, CfgOptions, EditionYear, Name};
 use rust_items::{ItemPlace, TextRange, cut_out};
-use rust_mended::Mended;
 use std::alloc::{AllocError, Global};
 
 /// A text of an edition, the mended text where that is read in its place, and the cfgs that are set, where members are
 /// asked for.
 ///
-/// Places are those of the text as it is, whichever is read.
+/// Places are those of the text as it is, whichever is read, except those that are said to be of the text that is
+/// read.
 #[derive(Clone, Copy)]
 pub struct Reading<'a> {
     pub text: &'a str,
-    pub mended: Option<&'a Mended>,
+    pub mended: Option<&'a MendedFile>,
     pub edition: EditionYear,
     pub options: Option<&'a CfgOptions>,
 }
@@ -32,44 +33,30 @@ impl<'a> Reading<'a> {
         ensures { result.now ≡ (reading_view self.entry).text }
     {
         match self.mended {
-            Some(mended) => mended.text.as_str(),
+            Some(mended) => mended.mended.text.as_str(),
             None => self.text,
         }
     }
 
-    /// In the text that is read, an item that stands there in the text as it is.
-    fn place(self, place: Option<ItemPlace>) -> Option<ItemPlace>
+    /// In the text that is read, the item that the reader gave this place of the text as it is.
+    pub fn place(self, place: Option<ItemPlace>) -> Option<ItemPlace>
         ensures { result ≡ spec.read_place (reading_view self.entry).closers place }
     {
         match (self.mended, place) {
-            (Some(mended), Some(place)) => Some(read_item(mended, place)),
+            (Some(mended), Some(place)) => read_item(mended, place),
             (_, place) => place,
         }
     }
 
-    /// The same of a range.
-    fn range(self, range: TextRange) -> TextRange
-        ensures { result ≡ spec.read_range (reading_view self.entry).closers range }
-    {
-        match self.mended {
-            Some(mended) => read_range(mended, range),
-            None => range,
-        }
-    }
-
-    /// What stands in a range of the text as it is, in the text that is read, and where it begins there. It is empty
-    /// where the range cuts a character.
+    /// What stands in a range of the text that is read. It is empty where the range cuts a character.
     #[tactic(auto, using(rust_items::proofs::MemberCuts::cut_length))]
-    pub fn part(self, range: TextRange) -> (&'a str, usize)
-        ensures text { let range = spec.read_range (reading_view self.entry).closers range in
-            result.0.now ≡ text_at (reading_view self.entry).text range }
-        ensures start { result.1 ≡ (spec.read_range (reading_view self.entry).closers range).start }
-        ensures fits { 0 < length result.0.now → result.1 + length result.0.now < 2 ^ 64 }
+    pub fn part(self, range: TextRange) -> &'a str
+        ensures text { result.now ≡ text_at (reading_view self.entry).text range }
+        ensures fits { 0 < length result.now → range.start + length result.now < 2 ^ 64 }
     {
-        let range = self.range(range);
         match cut_out(self.read(), range) {
-            Some(part) => (part, range.start),
-            None => ("", range.start),
+            Some(part) => part,
+            None => "",
         }
     }
 }
@@ -114,7 +101,24 @@ impl Reading<'_> {
         ensures { IfOk result (λ name. name
             ≡ spec.type_name_of (reading_view self.entry) kind place) }
     {
-        match (kind, self.place(place)) {
+        self.type_name_at(alloc, kind, self.place(place))
+    }
+
+    /// The same of an item that stands there in the text that is read.
+    ///
+    /// # Errors
+    ///
+    /// Only if memory runs out.
+    pub fn type_name_at(
+        self,
+        alloc: Global,
+        kind: AstIdKind,
+        place: Option<ItemPlace>,
+    ) -> Result<Option<Name>, AllocError>
+        ensures { IfOk result (λ name. name
+            ≡ spec.type_name_at (reading_view self.entry) kind place) }
+    {
+        match (kind, place) {
             (AstIdKind::Impl, Some(place)) => {
                 type_name(alloc, text_at(self.read(), place.range), self.edition)
             }
@@ -141,7 +145,24 @@ impl Reading<'_> {
         ensures { let members = spec.members_of (reading_view self.entry) place is_active in
             IfOk result (λ v. map listed_view v.items ≡ members) }
     {
-        match (self.options, self.place(place)) {
+        self.members_at(alloc, self.place(place), is_active)
+    }
+
+    /// The same of an item that stands there in the text that is read.
+    ///
+    /// # Errors
+    ///
+    /// Only if memory runs out.
+    pub fn members_at(
+        self,
+        alloc: Global,
+        place: Option<ItemPlace>,
+        is_active: bool,
+    ) -> Result<Vec<ListedMember>, AllocError>
+        ensures { let members = spec.placed_members (reading_view self.entry) place is_active in
+            IfOk result (λ v. map listed_view v.items ≡ members) }
+    {
+        match (self.options, place) {
             (Some(options), Some(place)) => {
                 let around = Around {
                     text: self.read(),

@@ -226,7 +226,7 @@ fn tree_items(
     ensures { IfOk result (λ value. view value ≡ tree_form session.now.session krate place units) }
 {
     let items = items(alloc, session, krate, place, units, false)?;
-    let change = session.sources().change_number(place, krate);
+    let change = session.sources().changed(place, krate);
     tree_value(alloc, place, krate, change, items)
 }
 

@@ -42,7 +42,8 @@ pub(crate) fn changes_value(
 ) -> Result<Value, AllocError>
     ensures { IfOk result (λ value. AreChangeValues sources.now since (view value)) }
 {
-    let values = change_values(alloc, sources.changed_since(since))?;
+    let places = sources.changed_places(alloc, since)?;
+    let values = change_values(alloc, sources.changed_among(since, &places))?;
     Ok(Value::Array(values))
 }
 

@@ -5,7 +5,7 @@ pub use Rattle.source_listing.specs.Lines.{is_chosen, is_listed}
 pub use Rattle.source_tags.specs.TagFields.{safe_char}
 pub use Rattle.source_tags.specs.Tags.{TagFile, if_any, tag_inside}
 pub use Rattle.source_listing.specs.Views.{choice_view, source_view}
-pub use Rattle.source_rows.specs.Listed.{Listed, members_of}
+pub use Rattle.source_rows.specs.Listed.{Listed}
 pub use Rattle.source_rows.specs.ListedViews.{listed_view, reading_view}
 pub use Rattle.std.proofs.Common.{All, Bool, Bor, List, None, Option, Some, [], ap, append-nil, append_assoc, arith, codes, false, filter, flat_map, get_or, if◌then◌else◌, length, lit<, map, map-id, nat_eq, nat_lt, option_copied, option_map, refl, rules, string_bytes, subst, suc, sym, take, take_all, true, ℕ, ⊎_elim, ◌*◌, ◌++◌, ◌+◌, ◌-◌, ◌<◌, ◌==◌, ◌∙◌, ◌∷◌, ◌≡◌, ◌≢◌, ◌≤◌}
 pub use Rattle.std.proofs.lemmas.Bool.{cases_Bool}

@@ -5,7 +5,7 @@ use Rattle.std.proofs.Math.Seq.{drop-cons}
 use Rattle.hir_input.specs.Cfg.{AtomView}
 use Rattle.source_tags.specs.BlockItems.{BlockItem, FnBlock, Holder, block_item, block_places, holders_behind, inner_blocks, still_around}
 use Rattle.rust_paths.specs.declared.names.TextRange.{TextRange}
-use Rattle.source_tags.specs.Tags.{BlockTags, TagChoice, told_block, block_item_tags, block_items_tags, body_tags, inner_tags, item_told, tag_of, tag_text}
+use Rattle.source_tags.specs.Tags.{BlockTags, TagChoice, tagged_block, block_item_tags, block_items_tags, body_tags, inner_tags, item_told, tag_of, tag_text}
 unfoldable use Rattle.source_tags.specs.Tags.{block_tags}
 use Rattle.source_tags.specs.declared.tags.TagForm.{TagForm}
 use Rattle.source_tags.specs.declared.tags.Tagger.{Tagger}
@@ -54,7 +54,7 @@ pub body_none : (block : BlockTags) (a : TagChoice) (word : List ℕ) (scope : L
     → body_tags block a word scope is_active name body ≡ []
 body_none block a word scope is_active None body h = refl
 body_none block a word scope is_active (Some name) None h = refl
-body_none block a word scope is_active (Some name) (Some body) h = h (told_block a.reading word (scope ++ name ∷ []) is_active body)
+body_none block a word scope is_active (Some name) (Some body) h = h (tagged_block a.reading word (scope ++ name ∷ []) is_active body)
 
 -- what stands in a block, where more may stand in it
 pub block_more : (options : List AtomView) (bodies : Option (List AtomView)) (left : ℕ) (f : TagFile) (a : TagChoice) (b : FnBlock) → bodies ≡ Some options → 0 < left

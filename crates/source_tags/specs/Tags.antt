@@ -1,4 +1,5 @@
 -- Lines of a tags file.
+use Rattle.std.specs.Option.{option_or}
 use Rattle.std.specs.Prelude.{ℕ, zero, suc, Bool, true, false, ◌+◌, if◌then◌else◌, List, [], ◌∷◌, ◌++◌, ◌-◌, codes, decimal, filter, Option, Some, None, option_map, option_to_list, flat_map}
 use Rattle.hir_input.specs.Cfg.{AtomView}
 use Rattle.hir_input.specs.declared.ids.AstIdKind.{AstIdKind}
@@ -6,7 +7,7 @@ use Rattle.hir_input.specs.declared.ids.AstIdKind.TheVariants as kind
 use Rattle.tree_walk.specs.Rows.{RowView}
 use Rattle.line_index.specs.Positions.{position_of}
 use Rattle.source_rows.specs.Labels.{kind_texts, text_at}
-use Rattle.source_rows.specs.Listed.{Listed, MemberReading, members_of, read_range, told_item}
+use Rattle.source_rows.specs.Listed.{Listed, MemberReading, placed_members, read_place, told_item, type_name_at}
 use Rattle.rust_paths.specs.declared.names.TextRange.{TextRange}
 use Rattle.rust_items.specs.MemberLists.{cut_out}
 use Rattle.rust_items.specs.declared.source_file.ItemPlace.{ItemPlace}
@@ -21,7 +22,6 @@ use Rattle.source_listing.specs.Lines.{Choice, Source, is_chosen, is_listed}
 use Rattle.source_tags.specs.LineSearches.{line_after, line_search, shown_text}
 use Rattle.source_tags.specs.TagFields.{TagItem, TagPlace, access_word, behind_address, fields_text, is_function, is_method, member_access, safe_text}
 use Rattle.source_rows.specs.Places.{place_of, stands_at}
-use Rattle.source_listing.specs.Search.{holder}
 
 -- the letter of a member's kind; constants, which Universal Ctags passes over, have that of items
 abbrev pub member_letter : MemberKind → Option (List ℕ)
@@ -136,15 +136,14 @@ pub record TagChoice : Type 0 where
 abbrev pub BlockTags : Type 0
 BlockTags = FnBlock → List ℕ
 
--- what stands there in a file, in these, of which the innermost has this word
-abbrev pub told_block : MemberReading → List ℕ → List (List ℕ) → Bool → TextRange → FnBlock
-told_block x word scope is_active told = let range = read_range x.closers told in
-    record { word = word; scope = scope; is_active = is_active; base = range.start; text = text_at x.text range }
+-- what stands there in the text that is read, in these, of which the innermost has this word
+abbrev pub tagged_block : MemberReading → List ℕ → List (List ℕ) → Bool → TextRange → FnBlock
+tagged_block x word scope is_active range = record { word = word; scope = scope; is_active = is_active; base = range.start; text = text_at x.text range }
 
 -- what stands in the body of a function that is called so and stands in these
 
 abbrev pub body_tags : BlockTags → TagChoice → List ℕ → List (List ℕ) → Bool → Option (List ℕ) → Option TextRange → List ℕ
-body_tags block a word scope is_active (Some name) (Some body) = block (told_block a.reading word (scope ++ name ∷ []) is_active body)
+body_tags block a word scope is_active (Some name) (Some body) = block (tagged_block a.reading word (scope ++ name ∷ []) is_active body)
 body_tags block a word scope is_active _ _ = []
 
 -- a block that stands in another
@@ -163,16 +162,16 @@ abbrev pub value_tags : BlockTags → TagChoice → Option (List AtomView) → F
 value_tags block a None b = []
 value_tags block a (Some options) b = flat_map (inner_tags block b) (inner_blocks a.reading.edition [] b.text)
 
--- what stands in an item of this kind, but for its members
+-- what stands in an item of this kind that stands there in the text that is read, except its members
 abbrev pub own_tags : BlockTags → TagChoice → List ℕ → RowView → AstIdKind → Option ItemPlace → List ℕ
 own_tags block a word r kind.Fn (Some p) = body_tags block a (codes "function") r.scope r.is_active r.name p.body
-own_tags block a word r kind.Const (Some p) = value_tags block a a.bodies (told_block a.reading word r.scope r.is_active p.range)
-own_tags block a word r kind.Static (Some p) = value_tags block a a.bodies (told_block a.reading word r.scope r.is_active p.range)
+own_tags block a word r kind.Const (Some p) = value_tags block a a.bodies (tagged_block a.reading word r.scope r.is_active p.range)
+own_tags block a word r kind.Static (Some p) = value_tags block a a.bodies (tagged_block a.reading word r.scope r.is_active p.range)
 own_tags block a word r k p = []
 
 -- the tag of a member, and those of what stands in its body
 abbrev pub member_tags : BlockTags → TagFile → TagChoice → List ℕ → List (List ℕ) → Listed → List ℕ
-member_tags block f a word scope m = if_any (tag_inside f word scope m) ++ body_tags block a (codes "method") scope m.is_active (Some m.name) m.body
+member_tags block f a word scope m = if_any (tag_inside f word scope m) ++ body_tags block a (codes "method") scope m.is_active (Some m.name) m.read_body
 
 unfoldable pub tags_inside : BlockTags → TagFile → TagChoice → List ℕ → List (List ℕ) → List Listed → List ℕ
 tags_inside block f a word scope ms = flat_map (member_tags block f a word scope) ms
@@ -182,22 +181,22 @@ unfoldable pub all_member_tags : BlockTags → TagFile → TagChoice → List �
 all_member_tags block f a word r name ms =
     tags_inside block f a (scope_word word name (kind_texts r.id.kind).scope) (r.scope ++ option_to_list name) (filter (λ m. is_chosen a.choice (r.level + 1) m.is_active) ms)
 
--- the tag of an item in what has this word, and behind it those of what stands in its body or its value, and of its listed members
+-- what the members of an item are in that stands there in the text that is read: the item's name, or that of an impl's type
+abbrev pub holder_at : MemberReading → RowView → Option ItemPlace → Option (List ℕ)
+holder_at x r place = option_or r.name (type_name_at x r.id.kind place)
+
+-- The tag of an item in what has this word, and behind it those of what stands in its body or its value, and of its listed members. It stands there in the text that is read.
 unfoldable pub tags_at : BlockTags → TagFile → TagChoice → List ℕ → RowView → Option ItemPlace → List ℕ
 tags_at block f a word r place =
-    if_any (tag f word place r) ++ (own_tags block a word r r.id.kind place
-    ++ all_member_tags block f a word r (holder a.reading r place) (members_of a.reading place r.is_active))
+    if_any (tag f word (option_map (told_item a.reading.closers) place) r) ++ (own_tags block a word r r.id.kind place
+    ++ all_member_tags block f a word r (holder_at a.reading r place) (placed_members a.reading place r.is_active))
 
 -- ---- blocks
-
--- in the file, an item of a block
-abbrev pub block_told : TagChoice → FnBlock → ItemPlace → ItemPlace
-block_told a b p = told_item a.reading.closers (place_moved_by b.base p)
 
 -- those of an item of a block in these, if it is listed
 unfoldable pub block_item_tags : BlockTags → TagFile → TagChoice → FnBlock → List Holder → BlockItem → ItemPlace → List ℕ
 block_item_tags block f a b hs i p = let r = block_row b hs i p in
-    if is_listed a.choice r then tags_at block f a (word_inside b.word (modules_of hs)) r (Some (block_told a b p)) else []
+    if is_listed a.choice r then tags_at block f a (word_inside b.word (modules_of hs)) r (Some (place_moved_by b.base p)) else []
 
 -- those of the items of a block, which stand so in it
 abbrev pub block_items_tags : BlockTags → TagFile → TagChoice → List AtomView → FnBlock → List Holder → List ItemPlace → List ℕ
@@ -218,7 +217,7 @@ block_tags (Some options) (suc n) f a b =
 -- ---- a file
 
 abbrev pub whole_tags : TagFile → TagChoice → List ItemPlace → RowView → List ℕ
-whole_tags f a places r = tags_at (block_tags a.bodies 128 f a) f a (codes "module") r (place_of r.id places)
+whole_tags f a places r = tags_at (block_tags a.bodies 128 f a) f a (codes "module") r (read_place a.reading.closers (place_of r.id places))
 
 -- the tags of the listed items, in their order
 abbrev pub tags_under : TagFile → TagChoice → List ItemPlace → List RowView → List ℕ

@@ -1,7 +1,9 @@
 //! Tags of items with what stands in them: their members, and the items in the bodies of functions.
-ghost use Rattle.std.specs.Prelude.{◌≡◌, ◌++◌, ◌∷◌, [], All, IfOk, OnOk, flat_map, map, option_copied, string_bytes};
+ghost use Rattle.std.specs.Prelude.{◌≡◌, ◌++◌, ◌∷◌, [], All, IfOk, OnOk, flat_map, map, option_copied, option_map};
+ghost use Rattle.std.specs.Prelude.{string_bytes};
 ghost use Rattle.tree_walk.specs.Views.{row_view};
-ghost use Rattle.source_rows.specs.ListedViews.{listed_view};
+ghost use Rattle.source_rows.specs.Listed.{told_item};
+ghost use Rattle.source_rows.specs.ListedViews.{listed_view, reading_view};
 ghost use Rattle.source_tags.specs.Inner.{FitsBlock, FitsPlace, IsSameTagger, block_item_view, fn_block_view};
 ghost use Rattle.source_tags.specs.Inner.{holder_view, tagged_file};
 ghost use Rattle.source_tags.specs.Tags as spec;
@@ -45,6 +47,16 @@ fn names_behind<'r: 'a, 'a>(
     let mut names = names_in(alloc, scope)?;
     names.push(name)?;
     Ok(names)
+}
+
+/// In the text as it is, an item that stands there in the text that is read.
+fn told_some(reading: Reading<'_>, place: Option<ItemPlace>) -> Option<ItemPlace>
+    ensures { result ≡ option_map (told_item (reading_view reading.entry).closers) place }
+{
+    match place {
+        Some(place) => Some(told_item(reading.mended, place)),
+        None => None,
+    }
 }
 
 impl Tagger<'_> {
@@ -188,11 +200,12 @@ impl Tagger<'_> {
         }
         let modules = module_names(self.alloc, holders)?;
         let word = word_inside(block.word, &modules);
-        let place = told_item(asked.reading.mended, moved_place(place, block.base));
+        let place = moved_place(place, block.base);
         self.push_placed(asked, left, word, &row, Some(place), out)
     }
 
-    /// Adds the tag of an item that stands there, in what has this word, and those of what stands in it.
+    /// Adds the tag of an item that stands there in the text that is read, in what has this word, and those of what
+    /// stands in it.
     #[cycle(bodies)]
     pub(crate) fn push_placed(
         &mut self,
@@ -210,25 +223,25 @@ impl Tagger<'_> {
             OnOk result (string_bytes out.new ≡ string_bytes out.old ++ added) }
         ensures same { IsSameTagger self.old self.new }
     {
-        self.push_item_tag(word, row, place, out)?;
+        self.push_item_tag(word, row, told_some(asked.reading, place), out)?;
         self.push_own(asked, left, word, row, place, out)?;
         let TagChoice {
             reading,
             choice,
             ..
         } = asked;
-        let members = choice.members(self.alloc, reading, place, row.level, row.is_active)?;
+        let members = choice.members_at(self.alloc, reading, place, row.level, row.is_active)?;
         if members.is_empty() {
             return Ok(());
         }
-        let type_name = reading.type_name(self.alloc, row.id.kind, place)?;
+        let type_name = reading.type_name_at(self.alloc, row.id.kind, place)?;
         let name = holder(row.name, &type_name);
         let word = scope_word(word, row.id.kind, name);
         let scope = names_around(self.alloc, row, name)?;
         self.push_member_tags(asked, left, word, &scope, &members, out)
     }
 
-    /// Adds the tags of what stands in an item that stands there, but for its members.
+    /// Adds the tags of what stands in an item that stands there in the text that is read, except its members.
     #[cycle(bodies)]
     fn push_own(
         &mut self,
@@ -273,7 +286,7 @@ impl Tagger<'_> {
         ensures text { let a = tag_choice_view asked.entry in
             let tags = spec.block_tags a.bodies left (tagged_file self.old) a in
             let names = map (λ n. n.now) scope.now in
-            let block = spec.told_block a.reading word.now names is_active range in
+            let block = spec.tagged_block a.reading word.now names is_active range in
             let added = spec.value_tags tags a a.bodies block in
             OnOk result (string_bytes out.new ≡ string_bytes out.old ++ added) }
         ensures same { IsSameTagger self.old self.new }
@@ -282,12 +295,12 @@ impl Tagger<'_> {
             return Ok(());
         }
         let scope = names_in(self.alloc, scope)?;
-        let (text, base) = asked.reading.part(range);
+        let text = asked.reading.part(range);
         let block = FnBlock {
             word,
             scope: &scope,
             is_active,
-            base,
+            base: range.start,
             text,
         };
         let blocks = inner_blocks(self.alloc, text, asked.reading.edition, &[])?;
@@ -344,7 +357,7 @@ impl Tagger<'_> {
             scope,
             name,
             member.is_active,
-            member.body,
+            member.read_body,
             out,
         )
     }
@@ -374,12 +387,12 @@ impl Tagger<'_> {
             return Ok(());
         };
         let scope = names_behind(self.alloc, scope, name)?;
-        let (text, base) = asked.reading.part(body);
+        let text = asked.reading.part(body);
         let block = FnBlock {
             word,
             scope: &scope,
             is_active,
-            base,
+            base: body.start,
             text,
         };
         self.push_block(asked, left, block, out)

@@ -274,7 +274,7 @@ impl Tagger<'_> {
             OnOk result (string_bytes out.new ≡ string_bytes out.old ++ added) }
         ensures same { IsSameTagger self.old self.new }
     {
-        let place = self.finder.places.find(row.id);
+        let place = asked.reading.place(self.finder.places.find(row.id));
         self.push_placed(asked, MOST_BLOCKS, "module", row, place, out)
     }
 }

@@ -7,7 +7,7 @@ use Rattle.std.specs.declared.alloc.AllocError.{AllocError}
 use Rattle.std.specs.declared.alloc.Global.{Global}
 use Rattle.std.specs.declared.string.String.{String}
 use Rattle.rust_edits.specs.declared.shift.Shift.{Shift}
-use Rattle.rust_mended.specs.declared.text.Mended.{Mended}
+use Rattle.source_rows.specs.declared.mended_file.MendedFile.{MendedFile}
 use Rattle.source_rows.proofs.ListedTexts.{listed_whole, no_problems, whole_listed}
 use Rattle.text_session.specs.declared.inside.Inside.{Inside}
 use Rattle.text_session.proofs.KeptTexts.{text_step}
@@ -53,7 +53,7 @@ alone_by edition s u old new asked edit change place meant after again footing f
 -- ---- the text of a file that is changed inside a body
 
 -- where no closer was put, no mended text was read
-unmended_text : (text : List ℕ) (mended : Option Mended) → closers_in mended ≡ None → HasTextOf text mended
+unmended_text : (text : List ℕ) (mended : Option MendedFile) → closers_in mended ≡ None → HasTextOf text mended
 unmended_text text None e = tt
 unmended_text text (Some m) e = absurd cc
 

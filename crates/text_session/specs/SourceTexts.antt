@@ -3,7 +3,7 @@ use Rattle.std.specs.Prelude.{ℕ, List, [], string_bytes, Option, option_and_th
 use Rattle.std.specs.Option.{option_map_or}
 use Rattle.hir_input.specs.declared.edition.EditionYear.{EditionYear}
 use Rattle.hir_input.specs.Cfg.{AtomView}
-use Rattle.rust_mended.specs.declared.text.Mended.{Mended}
+use Rattle.source_rows.specs.declared.mended_file.MendedFile.{MendedFile}
 use Rattle.rust_items.specs.declared.source_file.ItemPlace.{ItemPlace}
 use Rattle.rust_items.specs.declared.log.Problem.{Problem}
 use Rattle.source_rows.specs.ListedFiles.{closers_in}
@@ -24,7 +24,7 @@ abbrev pub text_problems : Option SourceText → List Problem
 text_problems t = option_map_or (λ x. x.problems.items) t []
 
 -- the mended text, if that was read
-abbrev pub text_mended : Option SourceText → Option Mended
+abbrev pub text_mended : Option SourceText → Option MendedFile
 text_mended t = option_and_then (λ x. x.mended) t
 
 -- what headers and members are read of: the text that was read; under these options, where members are asked for

@@ -9,8 +9,7 @@ ghost use Rattle.text_session.specs.Texts.{TextChange as ChangeView, left_text, 
 use hir_input::{CfgOptions, EditionYear};
 use item_tree_db::Place;
 use rust_items::{ItemPlace, Problem};
-use rust_mended::Mended;
-use source_rows::Reading;
+use source_rows::{MendedFile, Reading};
 use std::alloc::AllocError;
 use std::collections::BTreeMap;
 
@@ -18,8 +17,8 @@ use std::collections::BTreeMap;
 #[derive(Drop)]
 pub struct SourceText {
     pub text: String,
-    /// The mended text, if that was read: where the text has problems, and brackets that can be mended.
-    pub mended: Option<Mended>,
+    /// The mended text with its places, if that was read: where the text has problems, and brackets that can be mended.
+    pub mended: Option<MendedFile>,
     /// The places of the items, in preorder.
     pub places: Vec<ItemPlace>,
     /// Where the use trees of the uses begin, as the reader tells it.

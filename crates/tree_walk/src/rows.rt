@@ -2,7 +2,7 @@
 ghost use Rattle.std.specs.Prelude.{◌≡◌, ◌++◌, ◌∷◌, [], All, map, IfOk, OnOk, flat_map};
 ghost use Rattle.item_tree.specs.Shown.{IsContained};
 ghost use Rattle.tree_walk.specs.Rows as spec;
-ghost use Rattle.tree_walk.specs.{Inner.Rows.step_row, Inner.Steps.step_view, Views.row_view};
+ghost use Rattle.tree_walk.specs.{Inner.Rows.step_row, Inner.Steps.step_view, Views.HasOwnUse, Views.row_view};
 
 use crate::enabled::is_enabled;
 use crate::names::{name_at, visibility_at};
@@ -51,7 +51,8 @@ impl Drop for Row<'_> {
 /// Only if memory runs out.
 #[tactic(auto, using(crate::proofs::RowSteps::tree_rows))]
 pub fn item_rows(alloc: Global, tree: &ItemTree) -> Result<Vec<Row<'_>>, AllocError>
-    ensures { IfOk result (λ v. map row_view v.items ≡ spec.rows tree.now) }
+    ensures rows { IfOk result (λ v. map row_view v.items ≡ spec.rows tree.now) }
+    ensures visible { IfOk result (λ v. All (HasOwnUse tree.now) v.items) }
 {
     let steps = steps(alloc, tree)?;
     rows_of(alloc, tree, &steps)
@@ -64,8 +65,9 @@ fn rows_of<'tree>(
     steps: &[Step<'tree>],
 ) -> Result<Vec<Row<'tree>>, AllocError>
     requires { All (λ s. IsContained tree.now s.id) steps.now }
-    ensures { IfOk result (λ v. map row_view v.items
+    ensures rows { IfOk result (λ v. map row_view v.items
         ≡ flat_map (step_row tree.now) (map step_view steps.now)) }
+    ensures visible { IfOk result (λ v. All (HasOwnUse tree.now) v.items) }
 {
     let mut rows = Vec::with_capacity(alloc, steps.len())?;
     for step in steps {
@@ -80,8 +82,10 @@ fn push_row<'tree>(
     rows: &mut Vec<Row<'tree>>,
 ) -> Result<(), AllocError>
     requires { IsContained tree.now step.now.id }
-    ensures { OnOk result (map row_view rows.new.items ≡ map row_view rows.old.items
+    ensures row { OnOk result (map row_view rows.new.items ≡ map row_view rows.old.items
         ++ step_row tree.now (step_view step.now)) }
+    ensures visible { OnOk result (All (HasOwnUse tree.now) rows.old.items
+        → All (HasOwnUse tree.now) rows.new.items) }
 {
     rows.push(row_of(tree, step)?)?;
     Ok(())
@@ -89,7 +93,8 @@ fn push_row<'tree>(
 
 fn row_of<'tree>(tree: &'tree ItemTree, step: &Step<'tree>) -> Result<Row<'tree>, AllocError>
     requires { IsContained tree.now step.now.id }
-    ensures { IfOk result (λ r. row_view r ∷ [] ≡ step_row tree.now (step_view step.now)) }
+    ensures row { IfOk result (λ r. row_view r ∷ [] ≡ step_row tree.now (step_view step.now)) }
+    ensures visible { IfOk result (HasOwnUse tree.now) }
 {
     let (id, around) = (step.id, &step.around);
     Ok(Row {

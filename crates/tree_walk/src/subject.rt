@@ -1,8 +1,10 @@
 //! What items without names are told by.
-ghost use Rattle.std.specs.Prelude.{◌≡◌};
+ghost use Rattle.std.specs.Prelude.{◌≡◌, None};
 ghost use Rattle.item_tree.specs.Shown.{IsContained, lent_kind};
 ghost use Rattle.tree_walk.specs.Inner.Rows as spec;
-ghost use Rattle.tree_walk.specs.Views.{subject_view};
+ghost use Rattle.item_tree.specs.Walk.{of_id};
+ghost use Rattle.tree_walk.specs.Declarations.{node_visibility};
+ghost use Rattle.tree_walk.specs.Views.{IsVisibleAs, subject_view};
 
 use hir_input::ModPath;
 use item_tree::{ItemTree, ModItemId, ModItemKind, Use};
@@ -19,7 +21,8 @@ pub enum Subject<'tree> {
 }
 
 fn subject_of(item: ModItemKind<'_>) -> Subject<'_>
-    ensures { subject_view result ≡ spec.lent_subject (lent_kind item.entry) }
+    ensures subject { subject_view result ≡ spec.lent_subject (lent_kind item.entry) }
+    ensures visible { spec.HasLentVisibility (lent_kind item.entry) result }
 {
     match item {
         ModItemKind::Use(_, item) => Subject::Use(item),
@@ -28,11 +31,12 @@ fn subject_of(item: ModItemKind<'_>) -> Subject<'_>
     }
 }
 
-/// What the item of an id is told by if it has no name. Takes no memory.
-#[tactic(auto, using(crate::proofs::Subjects::subjects_at))]
+/// What the item of an id is told by if it has no name: a use has its visibility. Takes no memory.
+#[tactic(auto, using(crate::proofs::Subjects::lent_subjects))]
 pub fn subject_at(tree: &ItemTree, id: ModItemId) -> Subject<'_>
     requires { IsContained tree.now id }
-    ensures { subject_view result ≡ spec.subject_at tree.now id }
+    ensures subject { subject_view result ≡ spec.subject_at tree.now id }
+    ensures visible { IsVisibleAs tree.now (of_id tree.now None node_visibility id) result }
 {
     subject_of(tree.index(id))
 }

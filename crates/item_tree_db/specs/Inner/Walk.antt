@@ -1,14 +1,14 @@
 -- The change numbers of a shelf, one after another.
-use Rattle.std.specs.Prelude.{◌≡◌, ℕ, ◌+◌, ◌<◌, ◌≤◌, List, [], ◌∷◌, ◌++◌, drop, filter, length, map, nat_lt, Option, Some, IfSome, slice_get}
-use Rattle.std.specs.List.{AllByRecursion, Contains, flat_map}
-use Rattle.std.specs.List.Sorted.{IsStrictlySortedBy}
+use Rattle.std.specs.Prelude.{◌≡◌, Bool, ℕ, ◌+◌, ◌<◌, ◌≤◌, List, [], ◌∷◌, ◌++◌, drop, filter, length, map, nat_lt, Option, Some, IfSome, slice_get}
+use Rattle.std.specs.BTreeSet.{BTreeSet, contains}
+use Rattle.std.specs.BTreeMap.{is_at}
+use Rattle.std.specs.List.{AllByRecursion, Contains, flat_map, list_any}
 use Rattle.std.specs.Option.{option_map_or}
 use Rattle.item_tree_db.specs.declared.place.Place.{Place}
 use Rattle.item_tree_db.specs.declared.rows.Row.{Row}
 use Rattle.item_tree_db.specs.declared.since.Chosen.{Chosen}
-use Rattle.item_tree_db.specs.declared.since.Found.{Found}
 use Rattle.item_tree_db.specs.declared.since.Slots.{Slots}
-use Rattle.item_tree_db.specs.declared.since.Slots.TheVariants.{All, Among, Recent}
+use Rattle.item_tree_db.specs.declared.since.Slots.TheVariants.{All, Among}
 use Rattle.item_tree_db.specs.PlaceOrder.{place_cmp}
 use Rattle.item_tree_db.specs.Since.{Change}
 use Rattle.item_tree_db.specs.Inner.Shelf.{Shelved, Places, placed_at}
@@ -34,15 +34,10 @@ walk_over places = map (λ place. (place, rows_in (placed_at places place)))
 abbrev pub chosen_walk : Chosen → Walk
 chosen_walk chosen = walk_over chosen.shelf.now chosen.places
 
--- over those that it found
-abbrev pub found_walk : Found → Walk
-found_walk found = walk_over found.shelf.now found.places
-
 -- what the code has left of one
 abbrev pub walk_of : Slots → Walk
 walk_of (All entries) = over_all entries
 walk_of (Among chosen) = chosen_walk chosen
-walk_of (Recent found) = found_walk found
 
 -- of a place, from the crate i on
 abbrev pub changes_from : Place → ℕ → List Row → List Change
@@ -61,12 +56,17 @@ late_changes above = filter (λ c. nat_lt above c.2)
 abbrev pub HasNumber : Option Shelved → ℕ → ℕ → Type 0
 HasNumber placed i n = slice_get (map (λ row. row.changed) (rows_in placed)) i ≡ Some n
 
--- those above a bound, by a walk in order over places that hold each that has one
-pub record IsLateWalk (above : ℕ) (places : Places) (changes : List Change) : Type 0 where
-  pub met : List Place
-  pub in_order : IsStrictlySortedBy place_cmp met
-  pub whole : (place : Place) (i n : ℕ) → above < n → HasNumber (placed_at places place) i n → Contains met place
-  pub walked : changes ≡ late_changes above (all_changes (walk_over places met))
+-- whether one of these is of a place
+abbrev pub has_change : List Change → Place → Bool
+has_change changes place = list_any (λ c. is_at (place_cmp c.0) place) changes
+
+-- exactly the places of these
+abbrev pub HoldChanged : List Change → BTreeSet Place → Type 0
+HoldChanged changes places = (place : Place) → contains place_cmp places place ≡ has_change changes place
+
+-- these hold each place that has a number above a bound
+abbrev pub HoldNumbers : ℕ → Places → List Place → Type 0
+HoldNumbers above places some = (place : Place) (i n : ℕ) → above < n → HasNumber (placed_at places place) i n → Contains some place
 
 -- what is left of a place and the crates from i on, and of the places behind it
 abbrev pub changes_left : ℕ → Place → ℕ → List Row → Walk → List Change

@@ -6,7 +6,7 @@ use item_tree::CrateData;
 use item_tree_db::{Edit, Place, Sources, TreeId, file_item_tree};
 use std::alloc::{AllocError, Global};
 
-fn count_changes(sources: &Sources) -> usize {
+pub fn count_changes(sources: &Sources) -> usize {
     let mut count = 0usize;
     for _ in sources.changed_since(0) {
         count = count.saturating_add(1);
@@ -38,7 +38,7 @@ fn is_read(sources: &Sources) -> bool {
         && sources.file_syntax(FILE).is_some()
         && sources.block_syntax(BLOCK).is_some()
         && are_trees_lent(sources)
-        && sources.change_number(Place::Block(BLOCK), CRATE) == 3
+        && sources.changed(Place::Block(BLOCK), CRATE) == 3
 }
 
 fn is_removed(sources: &mut Sources) -> bool {

@@ -31,9 +31,9 @@ fn stands(sources: &Sources) -> bool {
         && sources.file_syntax(FILE).is_some()
         && sources.file_syntax(OTHER).is_some()
         && sources.block_syntax(BLOCK).is_some()
-        && sources.change_number(Place::File(FILE), CRATE) == first
-        && sources.change_number(Place::File(OTHER), CRATE) == second
-        && sources.change_number(Place::Block(BLOCK), CRATE) == 3
+        && sources.changed(Place::File(FILE), CRATE) == first
+        && sources.changed(Place::File(OTHER), CRATE) == second
+        && sources.changed(Place::Block(BLOCK), CRATE) == 3
 }
 
 fn are_options_given(alloc: Global) -> Result<bool, AllocError> {

@@ -27,13 +27,13 @@ fn stands(sources: &Sources) -> bool {
     let number = sources.number();
     sources.file_syntax(FILE).is_some() == (number > 0)
         && sources.knows(Crate(0))
-        && sources.change_number(Place::File(FILE), Crate(0)) == number
+        && sources.changed(Place::File(FILE), Crate(0)) == number
         && file_item_tree(sources, FILE, Crate(0))
             .top_level_items()
             .is_empty()
             == (number == 0)
         && sources.knows(Crate(1))
-        && sources.change_number(Place::File(FILE), Crate(1)) == number.min(1)
+        && sources.changed(Place::File(FILE), Crate(1)) == number.min(1)
         && !sources.knows(Crate(2))
 }
 
@@ -69,7 +69,7 @@ fn stands_after(sources: &Sources, made: usize) -> bool {
     match [0, 1, 2, 2, 4, 5, 5].as_slice().get(made) {
         Some(changed) => sources.number() == made as u64
             && sources.knows(Crate(0))
-            && sources.change_number(Place::File(FILE), Crate(0)) == *changed
+            && sources.changed(Place::File(FILE), Crate(0)) == *changed
             && file_item_tree(sources, FILE, Crate(0))
                 .top_level_items()
                 .is_empty()

@@ -1,22 +1,14 @@
 -- Small examples, by computing: a text that ends with its own token, one that ends with a whole item, and one that ends with an item without its end.
-use Rattle.std.proofs.Common.{◌||◌, ◌<◌, subst, arith, length, map, ◌++◌, ◌≡◌, ◌==◌, ℕ, true, false, Option, None, List, [], ◌∷◌, codes, refl, sym, ap, ◌∙◌}
-use Rattle.rust_edits.proofs.Common.{nest_behind, with_feeds, moved_piece, begins_item, option_to_list, slice_index, EditionYear, MetaView, ItemView, Inner, semicolon, closing, is_continuation, is_wide_start, is_wide_continue, first_cut, Piece, tokens, most_tokens, goes_on, Tokens, tokens_of, symbol, word, text, kind, at, is_empty, is_at_end, bumped, eat, plain_name, is_keyword, is_path_keyword, next_name, name, placed_name, is_behind, is_doc, is_attribute, inner_attributes, modifier, weak_modifier, head, FrontRead, front, written_name, Found, nothing_found, items, by_head, inside, turn, depth_of, behind_attributes, read_of, IsBare, EndsWhole, BeginsAnew, EndsOwn, tokens_at}
+use Rattle.std.proofs.Common.{◌||◌, ◌<◌, subst, arith, length, map, ◌++◌, ◌≡◌, ◌==◌, ℕ, suc, true, false, Option, None, List, [], ◌∷◌, codes, refl, sym, ap, ◌∙◌}
+use Rattle.rust_edits.proofs.Common.{nest_behind, with_feeds, moved_piece, begins_item, option_to_list, EditionYear, MetaView, ItemView, Inner, semicolon, closing, is_wide_start, is_wide_continue, first_cut, Piece, tokens, most_tokens, progress_from, finding, finding_from, is_list_end, Found, Tokens, tokens_of, symbol, word, text, kind, at, is_empty, is_at_end, bumped, eat, plain_name, is_keyword, is_path_keyword, next_name, name, placed_name, is_behind, is_doc, is_attribute, inner_attributes, modifier, weak_modifier, head, FrontRead, front, written_name, nothing_found, items, by_head, inside, turn, depth_of, behind_attributes, read_of, IsBare, EndsWhole, BeginsAnew, EndsOwn, tokens_at}
 use Rattle.hir_input.specs.declared.ast.PlainKind.TheVariants as plain_kind
-use Rattle.hir_input.specs.Syntax.{NodeView, bare_extern_block, listed_extern_block, no_items, item_and}
-use Rattle.rust_lexer.specs.Tokens.{has_mark}
 use Rattle.rust_cursor.specs.Extents.{begins}
 use Rattle.rust_cursor.specs.Nests.{flat_behind}
 use Rattle.rust_mended.specs.Apart.{StandApart}
 use Rattle.rust_mended.specs.Texts.{edits, is_matched, mended_text}
-use Rattle.rust_items.specs.declared.source_file.ItemPlace.{ItemPlace}
-use Rattle.rust_items.specs.declared.source_file.SourceFile.{SourceFile}
-use Rattle.rust_edits.specs.ItemJoins.Alone.{EndsItself, at_top, is_unfinished_at, range_text}
-use Rattle.rust_edits.specs.ItemJoins.Between.{StandsBetween, behind_whole}
-use Rattle.rust_edits.specs.ItemJoins.ModuleParts.{IsOneItem, OpensModule}
 use Rattle.rust_edits.specs.ItemJoins.Mended.{StandsInFront, StandsOpen}
 use Rattle.rust_edits.specs.ItemJoins.Open.{StandsBefore, nothing_before, open_before, IsOpenItem, end_behind, nest_through, before_rest}
 use Rattle.rust_edits.proofs.ItemJoins.Inner.{front_bare, no_inner}
-use Rattle.rust_edits.proofs.ItemJoins.RangesAlone.{one_item}
 use Rattle.rust_lexer.specs.declared.kind.TokenKind.TheVariants as kinds
 use Rattle.rust_leaves.specs.declared.head.Head.TheVariants as heads
 use Rattle.rust_cursor.specs.Looks.{sees}
@@ -30,6 +22,22 @@ module_ends = record { before = codes "mod b"; last = semicolon; bytes = refl; e
 function_ends : EndsOwn (codes "fn f() { \"}\" }")
 unfolding first_cut is_wide_start is_wide_continue
 function_ends = record { before = codes "fn f() { \"}\" "; last = closing; bytes = refl; ends = refl; alone = record { full = refl; ends = refl } }
+
+-- ---- what is read of one item
+
+most_is : most_tokens ≡ suc (suc 18446744073709551613)
+unfolding most_tokens
+most_is = refl
+
+one_from : (k : ℕ) (f : Found) (us : Tokens) → is_empty us ≡ false → (turn 128 f us).1.1.left ≡ [] → ((turn 128 f us).1.1.past == us.past) ≡ false
+    → finding_from (is_list_end true) (turn 128) (suc (suc k)) [] f us ≡ (option_to_list (turn 128 f us).0, ((turn 128 f us).1.0, (turn 128 f us).1.1))
+unfolding is_list_end progress_from is_empty
+one_from k f us some none far = rw (some, far, none) refl
+
+one_item : (f : Found) (us : Tokens) → is_empty us ≡ false → (turn 128 f us).1.1.left ≡ [] → ((turn 128 f us).1.1.past == us.past) ≡ false
+    → items true 128 f us ≡ (option_to_list (turn 128 f us).0, ((turn 128 f us).1.0, (turn 128 f us).1.1))
+unfolding finding
+one_item f us some none far = ap (λ k. finding_from (is_list_end true) (turn 128) k [] f us) most_is ∙ one_from 18446744073709551613 f us some none far
 
 -- ---- a text that ends with a whole item, and may stand behind another
 
@@ -123,87 +131,6 @@ module _ (y : EditionYear) where
     sound = ap (λ (r : List ItemView × (Found × Tokens)). r.1.0.problems) all_read ∙ ap (λ (r : Option ItemView × (Found × Tokens)). r.1.0.problems) is_turn ∙ spent.1.1;
     spent = λ e. absurd cc;
   }
-
-  first_uncut : is_continuation (slice_index mod_b 0) ≡ false
-  unfolding mod_b
-  first_uncut = refl
-
-  not_on : goes_on module_b ≡ false
-  unfolding all mod_word symbol
-  not_on = refl
-
-  -- and may stand behind others
-  pub anew : BeginsAnew y mod_b
-  anew = record { bare = bare; uncut = first_uncut; outer = ap (sees (is_behind Inner)) toks ∙ not_inner y name_and_end; still = ap goes_on toks ∙ not_on }
-
-  three_short : length (mod_b ++ (mod_b ++ mod_b)) < most_tokens
-  unfolding mod_b most_tokens
-  three_short = omega arith
-
-  -- so it may stand between two of its kind
-  pub stands : StandsBetween true 128 y mod_b mod_b mod_b
-  stands = record { whole = holds; follows = behind_whole mod_b mod_b holds anew; behind = anew; short = three_short }
-
-  one_there : length (read_of y mod_b).0 ≡ 1
-  unfolding behind name_and_end written_name placed_name name next_name plain_name is_keyword is_path_keyword kind text at eat symbol bumped
-  one_there = ap (λ (r : List ItemView × (Found × Tokens)). length r.0) all_read ∙ ap (λ (r : Option ItemView × (Found × Tokens)). length (option_to_list r.0)) is_turn
-
-  -- and it is one item
-  pub is_one : IsOneItem true 128 y mod_b
-  unfolding mod_b holds
-  is_one = record { whole = holds; one = one_there; sound = holds.sound }
-
--- ---- a module that holds items
-
--- `a {mod b;}`
-unfoldable name_and_block : List Piece
-name_and_block =
-    record { kind = kinds.Ident; text = codes "a"; at = 4 } ∷ record { kind = kinds.OpenDelim; text = codes "{"; at = 6 } ∷ record { kind = kinds.Ident; text = codes "mod"; at = 7 } ∷ record { kind = kinds.Ident; text = codes "b"; at = 11 }
-    ∷ record { kind = kinds.Punct; text = codes ";"; at = 12 } ∷ record { kind = kinds.CloseDelim; text = codes "}"; at = 13 } ∷ []
-
-module _ (y : EditionYear) where
-  module_toks : tokens_of y (codes "mod a {mod b;}") ≡ all y name_and_block
-  unfolding all mod_word name_and_block tokens_of tokens first_cut is_wide_start is_wide_continue
-  module_toks = refl
-
-  module_front : front (tokens_of y (codes "mod a {mod b;}")) ≡ (is_module, behind y name_and_block)
-  module_front = ap front module_toks ∙ front_is y name_and_block
-
-  brace_there : (symbol (written_name (behind y name_and_block)).1 ≡ 123) × (at (written_name (behind y name_and_block)).1 ≡ 6)
-  unfolding behind name_and_block written_name placed_name name next_name plain_name is_keyword is_path_keyword kind text at symbol bumped
-  brace_there = (refl, refl)
-
-  block_bare : IsBare (codes "mod b;}")
-  unfolding first_cut is_wide_start is_wide_continue
-  block_bare = record { mark = refl; shebang = refl; fence = refl }
-
-  -- it begins with a module
-  pub opens : OpensModule y (codes "mod a ") (codes "mod b;}")
-  opens = record {
-    bare = block_bare;
-    uncut = refl;
-    outer = ap (sees (is_behind Inner)) module_toks ∙ not_inner y name_and_block;
-    head = ap (λ (r : FrontRead × Tokens). r.0.head) module_front;
-    brace = ap (λ (r : FrontRead × Tokens). symbol (written_name r.1).1) module_front ∙ brace_there.0;
-    place = ap (λ (r : FrontRead × Tokens). at (written_name r.1).1) module_front ∙ brace_there.1;
-  }
-
--- ---- items and their places
-
--- of two items, of which the first holds one, each has its own places
-pub places_of_each : (outer inner last : NodeView) (p q r : ItemPlace)
-    → at_top (item_and (listed_extern_block outer (item_and (bare_extern_block inner) no_items)) (item_and (bare_extern_block last) no_items)) (p ∷ q ∷ r ∷ [])
-    ≡ (listed_extern_block outer (item_and (bare_extern_block inner) no_items), p ∷ q ∷ []) ∷ (bare_extern_block last, r ∷ []) ∷ []
-places_of_each outer inner last p q r = refl
-
-whole_feeds : with_feeds (range_text mod_b (record { start = 0; end = 6 })) ≡ mod_b
-unfolding mod_b
-whole_feeds = refl
-
--- the range of `mod b;` ends with its own `;`, where no problem is told
-pub ends_itself : (read : SourceFile) → read.problems.items ≡ [] → EndsItself mod_b read (record { start = 0; end = 6 })
-unfolding mod_b
-ends_itself read e = record { ends = subst EndsOwn (sym whole_feeds) module_ends; unmarked = ap has_mark whole_feeds ∙ bare.mark; finished = ap (is_unfinished_at 0) e }
 
 -- ---- an item without its end, in front of a module
 

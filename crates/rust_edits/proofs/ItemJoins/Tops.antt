@@ -1,10 +1,10 @@
 -- What a turn finds: problems that were told stay, and an item has a byte at least.
 use Rattle.std.proofs.Common.{append-nil, length, arith, ◌≤◌, length-append, ◌≡◌, ◌<◌, ℕ, Bool, Option, Some, None, List, [], ◌∷◌, ◌++◌, map, refl, sym, ap, ◌∙◌, subst, append_assoc}
-use Rattle.rust_edits.proofs.Common.{Problem, EditionYear, read_of, found_in, and_problem, and_all, option_to_list, AstIdKind, ItemView, no_items, item_and, items_from, Tokens, at, is_at_end, TextRange, Head, FrontRead, front, leaf, LeafRead, NameRead, written_name, no_name, ItemPlace, Found, Finder, BlockRead, span_of, and_parent, leaf_found, leaf_turn, extern_block, by_head, inside, depth_of, turn, Telling, ArePlaces, placed, append_cancel_left, IsLaid, behind, when, front_start, Span, place_span, adds_use_trees, adds_problem_at, adds_item, turn_found}
+use Rattle.rust_edits.proofs.Common.{Problem, and_problem, and_all, option_to_list, AstIdKind, ItemView, no_items, item_and, items_from, Tokens, at, is_at_end, TextRange, Head, FrontRead, front, leaf, LeafRead, NameRead, written_name, no_name, ItemPlace, Found, Finder, BlockRead, span_of, and_parent, leaf_found, leaf_turn, extern_block, by_head, inside, depth_of, turn, Telling, ArePlaces, placed, append_cancel_left, IsLaid, behind, when, front_start, Span, place_span, adds_use_trees, adds_problem_at, adds_item, turn_found}
 use Rattle.hir_input.specs.declared.ids.AstIdKind.TheVariants as kind
 use Rattle.rust_leaves.specs.declared.head.Head.TheVariants as heads
 use Rattle.rust_items.specs.declared.log.ProblemKind.TheVariants as problem
-use Rattle.rust_edits.proofs.Adding.{IfLeaf, any_place, Keeping, maybe}
+use Rattle.rust_edits.proofs.Adding.{IfLeaf, any_place, Keeping}
 use Rattle.rust_edits.proofs.Adding as adding
 use Rattle.rust_edits.proofs.ItemJoins.EndingItems.{told}
 
@@ -53,10 +53,6 @@ turn_kept left f ts = adding.turn_keeps 0 keeping left f ts tt
 -- no fewer are told
 pub turn_keeps : (left : ℕ) (f : Found) (ts : Tokens) → told f ≤ told (turn left f ts).1.0
 turn_keeps left f ts = let k = turn_kept left f ts in let sum = length-append f.problems k.more in let all = ap length k.is in omega arith
-
-pub found_kept : (edition : EditionYear) (x : List ℕ) → Keeps (read_of edition x).1.0 (found_in edition x)
-unfolding found_in
-found_kept edition x = let r = (read_of edition x).1 in maybe 0 keeping r.0 r.0 problem.Unterminated r.1.unended (any_place r.1.unended) (keeps_same r.0)
 
 -- ---- the range of an item
 

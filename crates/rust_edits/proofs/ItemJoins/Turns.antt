@@ -1,5 +1,5 @@
 -- Turns at the top of a text, or between braces: each takes a token, and it does not matter how many more are allowed than there are tokens.
-use Rattle.std.proofs.Common.{◌≡◌, ◌≤◌, ◌<◌, ◌+◌, ◌==◌, ℕ, zero, suc, Bool, true, false, Option, Some, None, List, [], ◌++◌, length, refl, sym, ap, ◌∙◌, arith}
+use Rattle.std.proofs.Common.{◌≡◌, ◌≤◌, ◌<◌, ◌+◌, ◌==◌, ℕ, zero, suc, Bool, true, false, Option, Some, None, List, [], ◌++◌, length, refl, sym, ◌∙◌, arith}
 use Rattle.rust_edits.proofs.Common.{leaf, LeafRead, leaf_found, option_to_list, ItemView, behind_tree, progress_from, Tokens, symbol, at, is_empty, is_at_open, is_at_end, bumped, Head, FrontRead, front, Found, Finder, BlockRead, leaf_turn, finding_from, is_list_end, by_head, inside, depth_of, turn, eq-eqb, or_parts, ne_eqb, IsLaid, behind, at_behind, LeadsTo, here, further, through, when, behind_closed_leads, behind_tree_leads, beyond_leads, shorter, turn_found, fewer}
 use Rattle.rust_items.specs.declared.log.ProblemKind.TheVariants as problem
 use Rattle.rust_leaves.specs.declared.head.Head.TheVariants as heads
@@ -123,23 +123,6 @@ run_keeps is_top left (suc k) done f ts =
     (λ e. let first = turn_keeps (suc left) f ts in
     let more = run_keeps is_top left k (done ++ option_to_list (turn (suc left) f ts).0) (turn (suc left) f ts).1.0 (progress_from ts.past (turn (suc left) f ts).1.1) in
     rw e (omega arith))
-
--- so many, and then so many more
-pub run_split : (is_top : Bool) (left j k : ℕ) (done : List ItemView) (f : Found) (ts : Tokens)
-    → run is_top left (j + k) done f ts ≡ run is_top left k (run is_top left j done f ts).0 (run is_top left j done f ts).1.0 (run is_top left j done f ts).1.1
-run_split is_top left zero k done f ts = let none : 0 + k ≡ k = omega arith in ap (λ n. run is_top left n done f ts) none
-run_split is_top left (suc j) k done f ts =
-    let i = option_to_list (turn (suc left) f ts).0 in
-    let one : suc j + k ≡ suc (j + k) = omega arith in
-    ap (λ n. run is_top left n done f ts) one
-    ∙ when (is_list_end is_top ts) (λ e. rw e (sym (run_stop is_top left k done f ts e)))
-    (λ e. rw e (run_split is_top left j k (done ++ i) (turn (suc left) f ts).1.0 (progress_from ts.past (turn (suc left) f ts).1.1)))
-
-pub run_on : (is_top : Bool) (left j k : ℕ) (done : List ItemView) (f : Found) (ts : Tokens) → told (run is_top left j done f ts).1.0 ≤ told (run is_top left (j + k) done f ts).1.0
-run_on is_top left j k done f ts =
-    let r = run is_top left j done f ts in
-    let all = ap (λ (r : List ItemView × (Found × Tokens)). told r.1.0) (run_split is_top left j k done f ts) in
-    let more = run_keeps is_top left k r.0 r.1.0 r.1.1 in omega arith
 
 -- ---- where the last of what is read has no flaw
 

@@ -3,7 +3,7 @@ use Rattle.rust_edits.proofs.Common.{with_feeds, has_body_at, Shift, begins_bare
 use Rattle.rust_edits.specs.declared.edit.BodyEdit.{BodyEdit}
 use Rattle.rust_edits.proofs.Moves.{edit_shifts, edit_reads, edit_keeps, loose_kept, kept_loose}
 use Rattle.rust_edits.proofs.Steps.{off}
-use Rattle.rust_edits.proofs.ToldEdits.{none_told, not_stood, not_stands, all_told, loose_told}
+use Rattle.rust_edits.proofs.ToldEdits.{none_told, not_stood, not_stands, all_told, loose_told, shift_told}
 use Rattle.rust_edits.proofs.edit.edit_inside.Goals as goal
 
 pub returns : goal.returns
@@ -37,6 +37,7 @@ returns c =
           loose_told items old typed range body (search (rules, c.body_about.ensures.told ordered)) p parts keeps
           (loose_kept old typed items body range p shift bare told parts c.utf8.typed alone alone_new moves keeps counted)
           (kept_loose old typed items body range p shift bare told parts c.utf8.typed alone alone_new moves keeps counted);
+      braces = λ ordered. shift_told items old typed range body (search (rules, c.body_about.ensures.told ordered)) p parts shift moves;
     }
 
 pub returns-in_default-2-clause-told : goal.returns-in_default-2-clause-told

@@ -4,7 +4,6 @@ use Rattle.rust_edits.proofs.Typing.MovedItems.{places_move, is_read_anew, body_
 use Rattle.rust_edits.proofs.Typing.BodyStarts.{body_opens}
 use Rattle.rust_edits.proofs.Typing.ProblemsIn.{problems_stand}
 use Rattle.rust_edits.proofs.Typing.ProblemPlaces.{problems_move}
-use Rattle.rust_edits.proofs.Typing.DamagedTexts.{typing_damaged}
 use Rattle.rust_edits.proofs.laws.typing.Goals as goal
 
 pub returns : goal.returns
@@ -17,5 +16,4 @@ returns c = record {
   body_opens = body_opens;
   problems_stand = problems_stand;
   problems_move = problems_move;
-  typing_damaged = typing_damaged;
 }

@@ -17,5 +17,5 @@ loop-noted-preserved c =
       callable = tt;
       finite = tt;
       sorted = front_sorted noted_cmp left x (subst (IsStrictlySortedBy noted_cmp) steps c.loop-noted.invariant.sorted);
-      met = met_more c.args.self.now c.loop-noted.noted-iterator.iter left x c.loop-noted.places c.in_ok-places.places steps c.in_ok-places.ensures c.loop-noted.invariant.met;
+      met = met_more c.args.self.now c.loop-noted.noted-iterator.iter left x c.loop-noted.places c.insert.new.self steps c.in_ok-insert.ensures.updates c.loop-noted.invariant.met;
     }

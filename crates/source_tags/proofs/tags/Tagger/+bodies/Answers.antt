@@ -1,4 +1,4 @@
-use Rattle.source_tags.proofs.Common.{◌≡◌, ◌+◌, ◌-◌, ◌++◌, ◌∙◌, ◌<◌, Bor, List, ℕ, None, Some, [], All, subst, ap, append-nil, append_assoc, arith, filter, flat_map, length, map, on_ok_weaker, option_copied, rules, string_bytes, sym, false, true, take_all, TagFile, choice_view, if_any, is_chosen, is_listed, listed_view, members_of, row_view, tagged_file, flat_map-map}
+use Rattle.source_tags.proofs.Common.{◌≡◌, ◌+◌, ◌-◌, ◌++◌, ◌∙◌, ◌<◌, Bor, List, ℕ, None, Some, [], All, subst, ap, append-nil, append_assoc, arith, filter, flat_map, length, map, on_ok_weaker, option_copied, rules, string_bytes, sym, false, true, take_all, TagFile, choice_view, if_any, is_chosen, is_listed, listed_view, option_map, row_view, tagged_file, flat_map-map}
 use Rattle.std.proofs.lemmas.List.{nil_from_length}
 use Rattle.std.proofs.lemmas.Bool.Decides.{nat_tests}
 use Rattle.std.specs.Option.{option_or}
@@ -6,9 +6,9 @@ use Rattle.std.specs.Prelude.{option_to_list}
 use Rattle.hir_input.specs.declared.name.Name.{Name}
 use Rattle.source_rows.specs.Labels.{kind_texts}
 use Rattle.source_rows.specs.declared.listed.ListedMember.{ListedMember}
-use Rattle.source_tags.specs.BlockItems.{block_places, block_row, inner_blocks, modules_of, word_inside}
+use Rattle.source_tags.specs.BlockItems.{block_places, block_row, inner_blocks, modules_of, place_moved_by, word_inside}
 use Rattle.source_tags.specs.Inner.{FitsPlace, block_item_view, fn_block_view, holder_view}
-use Rattle.source_listing.specs.Search.{holder}
+use Rattle.source_rows.specs.Listed.{placed_members, told_item}
 use Rattle.source_tags.specs.Tags as spec
 unfoldable use Rattle.source_tags.specs.Tags.{all_member_tags, block_item_tags, block_tags, tags_at, tags_inside}
 use Rattle.source_tags.specs.Views.{tag_choice_view}
@@ -65,7 +65,7 @@ push_item-returns-clause-text t c =
     let row = block_row b hs (block_item_view c.args.item.now) c.args.place in
     let yes : is_listed a.choice row ≡ true = sym (ap (is_listed a.choice) c.in_ok-row.ensures) ∙ search rules in
     let word : c.word_inside-word.result.now ≡ word_inside b.word (modules_of hs) = search rules in
-    let place : c.told_item-place.result ≡ spec.block_told a b c.args.place = search rules in
+    let place : c.moved_place-place.result ≡ place_moved_by b.base c.args.place = search rules in
     let tags = spec.block_tags a.bodies c.args.left f a in
     rw yes (on_ok_weaker c.push_placed.result (λ e. e ∙ (λ k. string_bytes c.args.out.now ++ spec.tags_at tags f a (word k) (c.in_ok-row.ensures k) (Some (place k)))) c.push_placed.ensures.text)
 
@@ -113,20 +113,21 @@ push_placed-returns-clause-text t c =
     let r = row_view c.args.row.now in
     let out = string_bytes c.args.out.now in
     let place = c.args.place in
-    let around = holder a.reading r place in
+    let around = spec.holder_at a.reading r place in
     let tags = λ (g : TagFile). spec.block_tags a.bodies c.args.left g a in
     let own = spec.own_tags (tags f) a c.args.word.now r r.id.kind place in
-    let tag = if_any (spec.tag f c.args.word.now place r) in
+    let tag = if_any (spec.tag f c.args.word.now (option_map (told_item a.reading.closers) place) r) in
     let one = same_file c.args.self.now c.push_item_tag.new.self c.in_ok-push_item_tag.ensures.same in
     let two = same_file c.push_item_tag.new.self c.push_own.new.self c.in_ok-push_own.ensures.same ∙ one in
+    let placed : c.told_some.result ≡ option_map (told_item a.reading.closers) place = search rules in
     let first = told_behind (λ g. spec.own_tags (tags g) a c.args.word.now r r.id.kind place) f (tagged_file c.push_item_tag.new.self) tag out (string_bytes c.push_item_tag.new.out) (string_bytes c.push_own.new.out) one
-    c.in_ok-push_item_tag.ensures.text c.in_ok-push_own.ensures.text in
+    (c.in_ok-push_item_tag.ensures.text ∙ ap (λ p. out ++ if_any (spec.tag f c.args.word.now p r)) placed) c.in_ok-push_own.ensures.text in
     let named : option_copied c.holder-name.result ≡ around = c.holder-name.ensures ∙ ap (option_or r.name) c.in_ok-type_name.ensures in
     let word = c.scope_word-word.ensures ∙ ap (λ n. spec.scope_word c.args.word.now n (kind_texts r.id.kind).scope) named in
     let scope = ap (map (λ (n : Bor Name). n.now)) c.deref.ensures.value ∙ c.in_ok-scope.ensures ∙ ap (λ n. r.scope ++ option_to_list n) named in
     let chosen = ap (map listed_view) c.deref-2.ensures.value ∙ c.in_ok-members.ensures in
     let members = λ (g : TagFile). spec.tags_inside (tags g) g a (spec.scope_word c.args.word.now around (kind_texts r.id.kind).scope) (r.scope ++ option_to_list around)
-    (filter (λ m. is_chosen a.choice (r.level + 1) m.is_active) (members_of a.reading place r.is_active)) in
+    (filter (λ m. is_chosen a.choice (r.level + 1) m.is_active) (placed_members a.reading place r.is_active)) in
     let last = tagged_file c.push_own.new.self in
     on_ok_weaker c.push_member_tags.result (λ e. told_behind members f last (tag ++ own) out (string_bytes c.push_own.new.out) (string_bytes c.push_member_tags.new.out) two first
     (e ∙ (λ k. string_bytes c.push_own.new.out ++ spec.tags_inside (tags last) last a (word k) (scope k) (chosen k)))
@@ -140,15 +141,16 @@ push_placed-returns-then-is_empty-clause-text t c =
     let r = row_view c.args.row.now in
     let out = string_bytes c.args.out.now in
     let place = c.args.place in
-    let around = holder a.reading r place in
+    let around = spec.holder_at a.reading r place in
     let tags = λ (g : TagFile). spec.block_tags a.bodies c.args.left g a in
     let own = spec.own_tags (tags f) a c.args.word.now r r.id.kind place in
-    let tag = if_any (spec.tag f c.args.word.now place r) in
+    let tag = if_any (spec.tag f c.args.word.now (option_map (told_item a.reading.closers) place) r) in
     let one = same_file c.args.self.now c.push_item_tag.new.self c.in_ok-push_item_tag.ensures.same in
+    let placed : c.told_some.result ≡ option_map (told_item a.reading.closers) place = search rules in
     let first = told_behind (λ g. spec.own_tags (tags g) a c.args.word.now r r.id.kind place) f (tagged_file c.push_item_tag.new.self) tag out (string_bytes c.push_item_tag.new.out) (string_bytes c.push_own.new.out) one
-    c.in_ok-push_item_tag.ensures.text c.in_ok-push_own.ensures.text in
+    (c.in_ok-push_item_tag.ensures.text ∙ ap (λ p. out ++ if_any (spec.tag f c.args.word.now p r)) placed) c.in_ok-push_own.ensures.text in
     let few : length c.in_ok-members.members.items ≡ 0 = grind (arith, nat_tests, c.is_empty.ensures, c.if-is_empty.true) in
     let empty = nil_from_length c.in_ok-members.members.items few in
-    let none : filter (λ m. is_chosen a.choice (r.level + 1) m.is_active) (members_of a.reading place r.is_active) ≡ [] = sym c.in_ok-members.ensures ∙ ap (map listed_view) empty in
+    let none : filter (λ m. is_chosen a.choice (r.level + 1) m.is_active) (placed_members a.reading place r.is_active) ≡ [] = sym c.in_ok-members.ensures ∙ ap (map listed_view) empty in
     let told = spec.member_tags (tags f) f a (spec.scope_word c.args.word.now around (kind_texts r.id.kind).scope) (r.scope ++ option_to_list around) in
     first ∙ ap (λ (l : List ℕ). out ++ (tag ++ l)) (sym (append-nil own)) ∙ ap (λ ms. out ++ (tag ++ (own ++ flat_map told ms))) (sym none)
