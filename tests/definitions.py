@@ -22,7 +22,7 @@ RULES = """
 ## The rules of the reader
 
 Each as its definition has it, of that name: `[x]` may be missing, `{x}` is repeated, of `|` the first that fits counts, `<x>` comes next
-and stays, and `bracket(x)` passes over what is left in the bracket. What is not told here is a definition of its own.
+and stays, and `bracket(x)` passes over what is left in the bracket. What is not here is a definition of its own.
 """
 # `ghost use Rattle.CRATE.specs.MODULE.{a, b as c};`, `ghost use Rattle.CRATE.specs.{MODULE.a, MODULE.b};`, or the same without the braces
 # and with a name for the module.

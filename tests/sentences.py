@@ -16,7 +16,7 @@ import sys
 MOST_WORDS = 18_000
 MOST_LONG = 0
 LONGEST = 40
-PLACES = ("*.md", "docs/*.md", "bench/*.md", "crates/*/README.md")
+PLACES = ("*.md", "docs/*.md", "docs/api/README.md", "bench/*.md", "crates/*/README.md")
 # A page that is counted by itself.
 APART = "docs/DEFINITIONS.md"
 # What stands before that part of a page that a script writes.
