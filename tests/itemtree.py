@@ -1,5 +1,5 @@
 #!/usr/bin/env python3
-"""Runs the examples of docs/ITEMTREE.md and those of tests/itemtree/cases.md, and what cannot be written as an example."""
+"""Runs the examples of README.md, docs/ITEMTREE.md and tests/itemtree/cases.md, and what cannot be written as an example."""
 import json
 import os
 import pty
@@ -51,6 +51,17 @@ def check_examples(path, folder):
     for command, wanted in examples(path):
         got = run(command, folder)
         tell(got == wanted, '$ ' + command, got, wanted)
+
+
+def check_readme():
+    """The examples of README.md, where run.sh runs the built program."""
+    with tempfile.TemporaryDirectory() as folder:
+        files = os.path.join(TOP, 'tests/itemtree')
+        shutil.copytree(files, os.path.join(folder, 'tests/itemtree'))
+        shutil.copy(os.path.join(files, 'shapes.rs'), folder)
+        for command, wanted in examples(os.path.join(TOP, 'README.md')):
+            got = run(command.replace('./run.sh --try itemtree ', 'itemtree '), folder)
+            tell(got == wanted, 'README.md: $ ' + command, got, wanted)
 
 
 def check_long_line(folder):
@@ -649,6 +660,7 @@ def main():
             return 69
     with tempfile.TemporaryDirectory() as folder:
         shutil.copytree(os.path.join(TOP, 'tests/itemtree'), folder, dirs_exist_ok=True)
+        check_readme()
         check_examples(os.path.join(TOP, 'docs/ITEMTREE.md'), folder)
         check_examples(os.path.join(TOP, 'tests/itemtree/cases.md'), folder)
         check_long_line(folder)

@@ -5,7 +5,7 @@
 
 PROGRAM is itemtree, and TOOL is item_tree_tool. The parts, all of them where none is named:
 
-- examples: the sessions of docs/FORMAT.md and README.md, to the byte
+- examples: the sessions of docs/FORMAT.md, to the byte
 - errors: each kind of error, with its pointer; values of each form of docs/FORMAT.md, wrong and right, with pointers written by hand,
   beside the program and beside the same forms in Python
 - lines: lines that are empty, cut, long or in pieces, and streams that fail
@@ -238,15 +238,14 @@ def sessions_of(path):
 
 
 def check_examples(options):
-    for path in ('docs/FORMAT.md', 'README.md'):
-        count = 0
-        for lines in sessions_of(path):
-            count += 1
-            pairs = list(zip(lines[::2], lines[1::2]))
-            is_good = len(lines) % 2 == 0 and all(ask[:2] == '> ' and got[:2] == '< ' for ask, got in pairs)
-            tell(is_good, f'{path}: a line and its answer by turns', '\n'.join(lines))
-            check_lines(options.program, path, [(ask[2:].encode(), got[2:].encode()) for ask, got in pairs])
-        tell(count > 0, f'{path}: it has sessions')
+    path, count = 'docs/FORMAT.md', 0
+    for lines in sessions_of(path):
+        count += 1
+        pairs = list(zip(lines[::2], lines[1::2]))
+        is_good = len(lines) % 2 == 0 and all(ask[:2] == '> ' and got[:2] == '< ' for ask, got in pairs)
+        tell(is_good, f'{path}: a line and its answer by turns', '\n'.join(lines))
+        check_lines(options.program, path, [(ask[2:].encode(), got[2:].encode()) for ask, got in pairs])
+    tell(count > 0, f'{path}: it has sessions')
 
 
 # ---- forms

@@ -1,7 +1,7 @@
 #!/usr/bin/env python3
 """Draws the README's pictures from a real run: draw.py ITEMTREE, the built program. It needs rsvg-convert (librsvg2-bin), tmux and Neovim.
 
-outline.png is a file with its outline beside it; edit.png is what `changed` says of two edits; editor.png is Neovim's screen.
+outline.png is a file with its outline beside it; editor.png is Neovim's screen.
 """
 import os
 import pathlib
@@ -85,41 +85,6 @@ def draw_outline(program):
     picture.write("outline.png")
 
 
-def draw_edit(program):
-    old = FILE.read_text()
-    typed = old.replace("sides[0] *", "sides[1] *")
-    opened = old.replace("fn area(sides", "pub fn area(sides")
-    with tempfile.TemporaryDirectory() as folder:
-        at = pathlib.Path(folder)
-        (at / FILE.name).write_text(old)
-        answers = []
-        for name, text in (("typed.rs", typed), ("opened.rs", opened)):
-            (at / name).write_text(text)
-            done = subprocess.run([program, "changed", FILE.name, name], cwd=folder, capture_output=True, text=True, check=False)
-            answers.append((name, done.stdout.strip(), done.returncode))
-    picture = Picture(1056, 336)
-    shown = old.splitlines()[-3:]
-    heads = [FILE.name, "an edit inside a body", "an edit of a signature"]
-    for column, (head, text) in enumerate(zip(heads, (old, typed, opened))):
-        x = 16 + 348 * column
-        picture.text(x, 24, head, INK, "bold")
-        picture.box(x, 40, 328, 92)
-        for at, line in enumerate(text.splitlines()[-3:]):
-            picture.text(x + 12, 68 + HIGH * at, line, INK if line == shown[at] else RED)
-        if not column:
-            continue
-        name, said, status = answers[column - 1]
-        picture.line([(x + 164, 132), (x + 164, 176)])
-        picture.box(x, 176, 328, 132, "#ffffff", EDGE if status else GREEN)
-        picture.text(x + 12, 204, f"$ itemtree changed {FILE.name} {name}", PALE)
-        picture.text(x + 12, 204 + 2 * HIGH, said or "(nothing is printed)", INK if said else PALE)
-        picture.text(x + 12, 204 + 4 * HIGH, f"status {status}", RED if status else GREEN)
-    picture.text(16, 204, "What can others see of the", PALE)
-    picture.text(16, 204 + HIGH, "file? What they cannot see", PALE)
-    picture.text(16, 204 + 2 * HIGH, "is no change.", PALE)
-    picture.write("edit.png")
-
-
 def screen_of(program):
     """The lines of Neovim's screen, over TYPED."""
     with tempfile.TemporaryDirectory() as folder:
@@ -152,5 +117,4 @@ def draw_editor(program):
 
 
 draw_outline(sys.argv[1])
-draw_edit(sys.argv[1])
 draw_editor(sys.argv[1])
