@@ -16,7 +16,7 @@ import re
 import sys
 
 # How many there were when these were last lowered.
-MOST_WORDS = 19_623
+MOST_WORDS = 19_493
 MOST_LONG = 0
 LONGEST = 40
 # Words of the first page, without its blocks of code.
