@@ -4,7 +4,6 @@ pub mod MatchedMarks
 pub mod Order
 pub mod Places
 pub mod Puts
-pub mod PutPlaces
 pub mod LosslessTexts
 pub mod PlacesBack
 pub mod ItemsAtLineStarts

@@ -7,7 +7,7 @@ use Rattle.rust_mended.specs.declared.edit.Edit.{Edit}
 use Rattle.rust_mended.specs.declared.edit.EditKind.{EditKind}
 use Rattle.rust_mended.specs.declared.edit.EditKind.TheVariants as edit
 use Rattle.rust_mended.specs.Marks.{last_end, marks}
-use Rattle.rust_mended.specs.Texts.{edits, forward_by, past_by, place_back_by, put_by, puts_from}
+use Rattle.rust_mended.specs.Texts.{edits, past_by, place_back_by, put_by, puts_from}
 use Rattle.rust_mended.specs.Steps.{EditsFit}
 use Rattle.rust_mended.proofs.Order.{edits_fit}
 use Rattle.rust_mended.proofs.Places.{marks_fit}
@@ -67,9 +67,3 @@ pub point_place : (places xs : List ℕ) (at i : ℕ) → xs ≡ places → i �
 point_place places xs at i same bound point =
     let here : prefix_len (λ q. nat_lt q at) xs ≡ i = prefix_at (λ q. nat_lt q at) xs i bound (λ k d l. point.0 k d (omega arith) l) (λ k d l m. point.1 k d l m) in
     ap (λ n. at - n) (sym here ∙ ap (prefix_len (λ q. nat_lt q at)) same)
-
--- and that of a place that goes the other way
-pub point_forward : (places xs : List ℕ) (at i : ℕ) → xs ≡ places → i ≤ length xs → IsPartitionPoint (λ q. nat_le q at ≡ true) (λ q. nat_le q at ≡ false) xs i → min (at + i) (2 ^ 64 - 1) ≡ forward_by places at
-point_forward places xs at i same bound point =
-    let here : prefix_len (λ q. nat_le q at) xs ≡ i = prefix_at (λ q. nat_le q at) xs i bound (λ k d l. point.0 k d (omega arith) l) (λ k d l m. point.1 k d l m) in
-    ap (λ n. min (at + n) (2 ^ 64 - 1)) (sym here ∙ ap (prefix_len (λ q. nat_le q at)) same)

@@ -13,7 +13,7 @@ use Rattle.rust_mended.specs.declared.mark.MarkKind.TheVariants as mark
 use Rattle.rust_mended.specs.declared.mark.Opened.{Opened}
 use Rattle.rust_mended.specs.Marks.{last_end, marks, text_begin}
 use Rattle.rust_mended.specs.Mended.{Written, kept, put, left, closed, is_brace, is_same, is_closer_of, closer_by, closers_reaching, all_ended, ends_before_item, end_before, is_owed, owed_closer, close_own, fits_closer, close_far, keeps, opened_by, mark_taken, written_from, all_written, mark_by, closer_for, source_by, all_match}
-use Rattle.rust_mended.specs.Texts.{edits, is_matched, mending_edit, tells}
+use Rattle.rust_mended.specs.Texts.{edits, is_matched, mending_edit, tells, is_turn, AreTurnedWhereTold}
 use Rattle.rust_mended.proofs.Matching.{mended_match, written_sources}
 use Rattle.rust_mended.proofs.MatchedMarks.{marks_match, no_truth, own_edit, same_is, same_place, text_edits}
 
@@ -176,3 +176,21 @@ are_told (t ∷ ts) all h = (told_of t.kind t all refl h.0, are_told ts all h.1)
 pub told_at_marks : (text : List ℕ) → AllByRecursion (λ e. list_any (tells e) (marks text) ≡ true) (edits text)
 unfolding edits
 told_at_marks text = written_told (IsTold (marks text)) (last_end text) (marks text) (are_told (marks text) (marks text) (are_all (marks text))) [] tt
+
+-- ---- where a byte is replaced
+
+turned_if : (x : Bool) (e : Edit) (es : List Edit) → e.at ≡ e.told → AreTurnedWhereTold es → AreTurnedWhereTold ((if x then [] else e ∷ []) ++ es)
+turned_if true e es h g = g
+turned_if false e es h g = (λ i. h, g)
+
+written_where_told : (ws : List Written) → AreTurnedWhereTold (flat_map mending_edit ws)
+written_where_told [] = tt
+written_where_told (kept t ∷ ws) = written_where_told ws
+written_where_told (put at o ∷ ws) = (λ i. absurd (no_truth i), written_where_told ws)
+written_where_told (left t ∷ ws) = (λ i. refl, written_where_told ws)
+written_where_told (closed t b ∷ ws) =
+    turned_if (is_closer_of b t.kind) (record { at = t.at; told = t.at; kind = edit.Turn b }) (flat_map mending_edit ws) refl (written_where_told ws)
+
+pub turned_where_told : (text : List ℕ) → AreTurnedWhereTold (edits text)
+unfolding edits
+turned_where_told text = written_where_told (all_written (last_end text) (marks text))

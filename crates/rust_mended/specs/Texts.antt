@@ -1,6 +1,6 @@
 -- The mended text of a text, and places in it.
-use Rattle.std.specs.Prelude.{ℕ, suc, ◌+◌, ◌-◌, ◌^◌, ◌==◌, min, Bool, true, false, not, ◌&&◌, if◌then◌else◌, nat_eq, nat_le, nat_lt, List, [], ◌∷◌, ◌++◌, drop, flat_map, slice_range}
-use Rattle.std.specs.List.{filter, prefix_len}
+use Rattle.std.specs.Prelude.{◌≡◌, ℕ, suc, ◌+◌, ◌-◌, ◌==◌, Bool, true, false, not, ◌&&◌, if◌then◌else◌, nat_eq, nat_lt, List, [], ◌∷◌, ◌++◌, drop, flat_map, slice_range}
+use Rattle.std.specs.List.{AllByRecursion, filter, prefix_len}
 use Rattle.rust_lexer.specs.Piece.{Piece}
 use Rattle.rust_lexer.specs.Symbol.{symbol_of}
 use Rattle.rust_lexer.specs.Tokens.{tokens}
@@ -108,19 +108,6 @@ place_back_by places at = at - prefix_len (λ q. nat_lt q at) places
 unfoldable pub place_back : List ℕ → ℕ → ℕ
 place_back text at = place_back_by (puts text) at
 
--- the place in a text where a closer is put
-abbrev pub put_place : EditKind → ℕ → List ℕ
-put_place (edit.Put b) at = at ∷ []
-put_place edit.Leave at = []
-put_place (edit.Turn b) at = []
-
-abbrev pub put_places : List Edit → List ℕ
-put_places es = flat_map (λ e. put_place e.kind e.at) es
-
--- the place in the mended text of what stands here in the text, behind what is put there, by where closers are put in the text
-abbrev pub forward_by : List ℕ → ℕ → ℕ
-forward_by places at = min (at + prefix_len (λ p. nat_le p at) places) (2 ^ 64 - 1)
-
 -- ---- what a mended text has of its text
 
 -- bytes without those at these places, the first byte being at this one
@@ -134,6 +121,10 @@ abbrev pub is_turn : EditKind → Bool
 is_turn (edit.Put b) = false
 is_turn edit.Leave = true
 is_turn (edit.Turn b) = true
+
+-- what replaces a byte replaces that of which it is told
+abbrev pub AreTurnedWhereTold : List Edit → Type 0
+AreTurnedWhereTold es = AllByRecursion (λ e. is_turn e.kind ≡ true → e.at ≡ e.told) es
 
 -- a text with the edits alone that replace a byte
 unfoldable pub turned_text : List ℕ → List ℕ

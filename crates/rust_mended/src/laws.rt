@@ -10,7 +10,7 @@ ghost use Rattle.rust_mended.specs.Apart.{StandApart, begin_with_item, behind_fu
 ghost use Rattle.rust_mended.specs.Marks.{last_end, marks};
 ghost use Rattle.rust_mended.specs.Mended.{all_match, mended_marks, closers_reaching, source_by, all_written};
 ghost use Rattle.rust_mended.specs.Texts.{mending_edit, edits, is_matched, mended_text, place_back, puts, tells};
-ghost use Rattle.rust_mended.specs.Texts.{turned_text, without_bytes_at};
+ghost use Rattle.rust_mended.specs.Texts.{AreTurnedWhereTold, turned_text, without_bytes_at};
 ghost use Rattle.rust_mended.specs.declared.mark.Mark.{Mark};
 ghost use Rattle.rust_mended.specs.declared.mark.MarkKind.TheVariants as mark;
 
@@ -25,11 +25,13 @@ fn matched_texts_stay()
 {}
 
 // Nothing is told exactly where all brackets match, and what is told is told of a bracket of the text: of one that
-// nothing closes, of a closer that closes nothing, or of one that closes a bracket of another kind.
-#[tactic(auto, using(crate::proofs::ToldBrackets::nothing_told, crate::proofs::ToldBrackets::told_at_marks))]
+// nothing closes, of a closer that closes nothing, or of one that closes a bracket of another kind. So no byte but that
+// of such a closer is replaced.
+#[tactic(auto, using(crate::proofs::ToldBrackets::nothing_told, crate::proofs::ToldBrackets::told_at_marks, crate::proofs::ToldBrackets::turned_where_told))]
 fn brackets_are_told()
     ensures nothing { (text : List ℕ) → Decides (is_matched text) (edits text ≡ []) }
     ensures marks { (text : List ℕ) → AllByRecursion (λ e. list_any (tells e) (marks text) ≡ true) (edits text) }
+    ensures turned { (text : List ℕ) → AreTurnedWhereTold (edits text) }
 {}
 
 // All brackets of the mended marks match, whatever the text is.

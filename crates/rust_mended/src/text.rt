@@ -4,7 +4,7 @@ ghost use Rattle.std.specs.Prelude.{◌≡◌, ◌<◌, [], IfOk, MatchOption, s
 ghost use Rattle.std.specs.List.Sorted.{IsNonDecreasing};
 ghost use Rattle.rust_mended.specs.Texts as spec;
 
-use crate::edit::{Edit, EditKind};
+use crate::edit::Edit;
 use crate::ends::{end_all, take};
 use crate::line::read_marks;
 use crate::reached::with_closers;
@@ -32,20 +32,7 @@ pub fn edits(alloc: Global, text: &str) -> Result<Vec<Edit>, AllocError>
     Ok(edits)
 }
 
-/// The places in a text where closers are put.
-fn put_places(alloc: Global, edits: &[Edit]) -> Result<Vec<usize>, AllocError>
-    ensures { IfOk result (λ v. v.items ≡ spec.put_places edits.now) }
-{
-    let mut places = Vec::new(alloc);
-    for edit in edits {
-        if let EditKind::Put(_) = edit.kind {
-            places.push(edit.at)?;
-        }
-    }
-    Ok(places)
-}
-
-/// The mended text of a text, and the ways between them.
+/// The mended text of a text, and the way back.
 #[derive(Drop)]
 pub struct Mended {
     pub text: String,
@@ -53,15 +40,14 @@ pub struct Mended {
     pub edits: Vec<Edit>,
     /// The places in the mended text of the closers that were put.
     pub puts: Vec<usize>,
-    /// And those in the text.
-    pub places: Vec<usize>,
     ghost rising: { IsNonDecreasing puts.items },
-    ghost places_rise: { IsNonDecreasing places.items },
 }
 
-/// Mends the brackets of a text: each is closed where its line tells, and a closer that closes nothing is left out.
-/// Lines stay. It is `None` where nothing has to be done, as where all brackets match. Where a text ends in a literal
-/// that nothing closes, the closers that are put at its end fall into that.
+/// Mends the brackets of a text. Which bracket nothing closes is seen by the order of brackets, and for a brace that is
+/// directly in such a bracket by the indentation of its `}` too. It is closed where lines show that it ends, and a
+/// closer that closes nothing is left out. Lines stay. It is `None` where nothing has to be done, as where all brackets
+/// match. A closer that is put after a literal that nothing closes falls into that, also in the middle of a text: a `'`
+/// that nothing closes ends with its line.
 ///
 /// # Errors
 ///
@@ -74,20 +60,16 @@ pub fn mend(alloc: Global, text: &str) -> Result<Option<Mended>, AllocError>
         (λ m. (m.edits.items ≡ spec.edits text.now) × (0 < vec_len m.edits))) }
     ensures puts { IfOk result (λ found. MatchOption found (spec.puts text.now ≡ [])
         (λ m. m.puts.items ≡ spec.puts text.now)) }
-    ensures places { IfOk result (λ found. MatchOption found (spec.put_places (spec.edits text.now) ≡ [])
-        (λ m. m.places.items ≡ spec.put_places (spec.edits text.now))) }
 {
     let edits = edits(alloc, text)?;
     if edits.is_empty() {
         return Ok(None);
     }
     let (mended, puts) = with_edits(alloc, text, &edits)?;
-    let places = put_places(alloc, &edits)?;
     Ok(Some(Mended {
         text: mended,
         edits,
         puts,
-        places,
     }))
 }
 
@@ -97,12 +79,5 @@ impl Mended {
         ensures { result ≡ spec.place_back_by self.now.puts.items at }
     {
         at.saturating_sub(self.puts.partition_point(|put| *put < at))
-    }
-
-    /// The place in the mended text of what stands here in the text, behind what is put there.
-    pub fn forward(&self, at: usize) -> usize
-        ensures { result ≡ spec.forward_by self.now.places.items at }
-    {
-        at.saturating_add(self.places.partition_point(|place| *place <= at))
     }
 }

@@ -31,11 +31,11 @@ pub record StandsInFront (edition : EditionYear) (q z s : List ℕ) : Type 0 whe
   pub anew : BeginsAnew edition (with_feeds (z ++ 10 ∷ mended_text s))
   pub short : length (with_feeds (mended_text q ++ (z ++ 10 ∷ mended_text s))) < most_tokens
 
--- Where its brackets match, whatever text comes on the next lines: both are read as alone, and the first as it stands.
+-- Where the brackets of the first match, whatever is damaged in the second: both are read as alone, and the first as it stands.
 abbrev pub ItemsBefore : Type 0
 ItemsBefore = (edition : EditionYear) (q z s : List ℕ) → StandsInFront edition q z s → is_matched q ≡ true → ReadsBothIn edition (mended_text (q ++ (z ++ 10 ∷ s))) q (z ++ 10 ∷ mended_text s)
 
--- Where an item comes next at the beginning of a line, and no closer behind it is too much: both are read as alone, whatever is damaged before.
+-- Where the second begins with an item in column 0 and has no closer too many: both are read as alone, each mended by itself.
 abbrev pub ItemsBehind : Type 0
 ItemsBehind = (edition : EditionYear) (q z s : List ℕ) → StandsInFront edition q z s → IsUtf8 q → begin_with_item (marks s) ≡ true → closers_reaching (marks s) ≡ []
     → ReadsBothIn edition (mended_text (q ++ (z ++ 10 ∷ s))) (mended_text q) (z ++ 10 ∷ mended_text s)
@@ -49,12 +49,12 @@ pub record StandsOpen (edition : EditionYear) (q z s : List ℕ) : Type 0 where
   pub before : StandsBefore edition (with_feeds (mended_text q)) (with_feeds (z ++ 10 ∷ mended_text s))
   pub short : length (with_feeds (mended_text q ++ (z ++ 10 ∷ mended_text s))) < most_tokens
 
--- Where an item comes next at the beginning of a line, and no closer behind it is too much, what is read ends with what is read from there on.
+-- Where the second begins with an item in column 0 and has no closer too many, what is read ends with what is read of the second.
 abbrev pub OpenBehind : Type 0
 OpenBehind = (edition : EditionYear) (q z s : List ℕ) → StandsOpen edition q z s → IsUtf8 q → begin_with_item (marks s) ≡ true → closers_reaching (marks s) ≡ []
     → ReadsOn edition (with_feeds (mended_text (q ++ (z ++ 10 ∷ s)))) (length (with_feeds (mended_text q))) (with_feeds (z ++ 10 ∷ mended_text s))
 
--- ---- what lists tell
+-- ---- what lists are read from
 
 -- The same of a text of which no problem is told, in front of any text.
 pub record StandsSound (edition : EditionYear) (q z s : List ℕ) : Type 0 where
@@ -70,6 +70,6 @@ pub record ListsBoth (edition : EditionYear) (q y : List ℕ) : Type 0 where
   pub text : text_for_lists edition (q ++ y) ≡ q ++ text_for_lists edition y
   pub read : ReadsBothIn edition (text_for_lists edition (q ++ y)) q (text_for_lists edition y)
 
--- So lists tell of such a text what they tell of it alone, whether the text behind it is mended or not.
+-- So the text that lists are read from has such a text as it stands, and that is read as alone, whether the text behind it is mended or not.
 abbrev pub ListsBefore : Type 0
 ListsBefore = (edition : EditionYear) (q z s : List ℕ) → StandsSound edition q z s → ListsBoth edition q (z ++ 10 ∷ s)
