@@ -1,4 +1,5 @@
 pub mod Begins
+pub mod Counts
 pub mod InLine
 pub mod Points
 pub mod Positions
