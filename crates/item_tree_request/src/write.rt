@@ -7,4 +7,4 @@ mod depth;
 mod parts;
 pub(crate) mod request;
 
-pub use request::{RequestFault, RequestOptions, request_text, request_value};
+pub use request::{RequestFault, RequestOptions, request_text};

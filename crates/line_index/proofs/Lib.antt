@@ -1,5 +1,4 @@
 pub mod Begins
-pub mod Counts
 pub mod InLine
 pub mod Points
 pub mod Positions

@@ -1,11 +1,9 @@
 -- Positions of lists, of what is shown of a text, and where lines begin in a part of one.
-use Rattle.std.specs.Prelude.{◌≡◌, ◌<◌, ℕ, suc, ◌+◌, ◌*◌, ◌==◌, if◌then◌else◌, List, [], ◌∷◌, ◌++◌, get_or, length, take}
-use Rattle.std.specs.List.{sum_by}
+use Rattle.std.specs.Prelude.{ℕ, suc, ◌+◌, ◌==◌, if◌then◌else◌, List, [], ◌∷◌, ◌++◌, take}
 use Rattle.line_index.specs.declared.LineEnds.{LineEnds}
 use Rattle.line_index.specs.declared.Position.{Position}
-use Rattle.line_index.specs.declared.Style.{Style}
 use Rattle.line_index.specs.declared.Units.{Units}
-use Rattle.line_index.specs.Points.{byte_units, column_units, is_line_end}
+use Rattle.line_index.specs.Points.{byte_units, is_line_end}
 
 -- a line feed ends a line; each other byte takes its units in columns
 abbrev pub behind_byte : Units → Position → ℕ → Position
@@ -27,8 +25,3 @@ abbrev pub starts_before : LineEnds → ℕ → List ℕ → List ℕ → List �
 starts_before ends at next [] = []
 starts_before ends at next (b ∷ bytes) =
     if is_line_end ends b (bytes ++ next) then suc at ∷ starts_before ends (suc at) next bytes else starts_before ends (suc at) next bytes
-
--- each count is that of the units before a part of 1,024 bytes, and there is one for the part of each place
-pub record AreCounts (style : Style) (text counts : List ℕ) : Type 0 where
-  pub enough : length text < 1024 * length counts
-  pub counted : (k : ℕ) → k < length counts → get_or counts k 0 ≡ sum_by (column_units style) (take (1024 * k) text)

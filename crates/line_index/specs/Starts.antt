@@ -1,7 +1,6 @@
 -- Where lines begin.
 use Rattle.std.specs.Prelude.{ℕ, suc, if◌then◌else◌, List, [], ◌∷◌, ◌++◌, take, drop}
 use Rattle.line_index.specs.declared.LineEnds.{LineEnds}
-use Rattle.line_index.specs.declared.Style.{Style}
 use Rattle.line_index.specs.Points.{is_line_end}
 
 -- the places behind the line ends of bytes that begin at a place
@@ -16,8 +15,3 @@ line_starts ends text = starts_from ends 0 text
 -- a text with other bytes in a range
 abbrev pub replace_range : List ℕ → (from to : ℕ) → List ℕ → List ℕ
 replace_range text from to bytes = take from text ++ bytes ++ drop to text
-
--- a text whose lines and columns count by a style
-pub record StyledText : Type 0 where
-  pub style : Style
-  pub text : List ℕ

@@ -6,11 +6,9 @@ mod columns;
 mod edits;
 mod laws;
 mod lists;
-mod point_index;
 mod starts;
 
 pub use lists::LineIndex;
-pub use point_index::PointIndex;
 pub use starts::LineStarts;
 
 /// A line and a column as lists have them, both from 1. Columns count characters, as the messages of rustc do, or other

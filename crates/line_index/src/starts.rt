@@ -9,7 +9,7 @@ ghost use Rattle.line_index.specs.Starts as spec;
 use crate::bytes::{bytes_behind, units_of};
 use crate::columns::byte_in_line;
 use crate::edits::{push_starts, replaced_starts};
-use crate::point_index::{PointIndex, begin_of, hidden_length};
+use crate::lists::mark_length;
 use crate::{LineEnds, Point, Style};
 use std::alloc::{AllocError, Global};
 use std::marker::Model;
@@ -43,6 +43,29 @@ pub(crate) fn count_up_to(starts: &[usize], at: usize) -> usize
     starts.partition_point(|start| *start <= at)
 }
 
+/// How many bytes in front of a text are not shown.
+fn hidden_length(style: Style, text: &[u8]) -> usize
+    ensures value { result ≡ points.hidden_length style text.now }
+    ensures within { result ≤ length text.now }
+{
+    if style.shows_mark {
+        0
+    } else {
+        mark_length(text)
+    }
+}
+
+/// Where a line begins of which so many begin before it.
+fn begin_of(starts: &[usize], line: usize, first: usize) -> usize
+    requires { line ≤ length starts.now }
+    ensures { result ≡ (if line == 0 then first else get_or starts.now (line - 1) 0) }
+{
+    if line == 0 {
+        return first;
+    }
+    starts[line - 1]
+}
+
 impl LineStarts {
     /// Those of a text.
     ///
@@ -72,24 +95,6 @@ impl LineStarts {
             line,
             column: units_of(style, &text[begin..at]),
         }
-    }
-
-    /// Finds where many bytes of the text stand. It costs one pass over the text.
-    ///
-    /// # Errors
-    ///
-    /// Only if memory runs out.
-    pub fn points<'t>(
-        &'t self,
-        alloc: Global,
-        style: Style,
-        text: &'t str,
-    ) -> Result<PointIndex<'t>, AllocError>
-        requires { self.now ≡ spec.line_starts style.line_ends text.now }
-        ensures style { IfOk result (λ index. index.style ≡ style) }
-        ensures text { IfOk result (λ index. index.text ≡ text.now) }
-    {
-        PointIndex::new(alloc, style, text.as_bytes(), self.starts.as_slice())
     }
 
     /// The byte at which a point stands: a column past a line stands at its end, one in a character before that, and a

@@ -10,7 +10,7 @@ pub enum StreamError {
     /// A write or a flush failed, or a write took nothing.
     #[error("writing failed")]
     Write,
-    /// No header of at most `MOST_FIELDS` fields and `MOST_HEADER` bytes begins so.
+    /// No header of at most 32 fields and 8,192 bytes begins so.
     #[error("the header of a message is wrong")]
     Header,
     /// A header says no length below 2^64.

@@ -20,5 +20,4 @@ pub use framing::{Framing, Next};
 pub use headers::Headers;
 pub use lines::Lines;
 pub use message::{MOST_MESSAGE, Message};
-pub use sections::{MOST_FIELDS, MOST_HEADER};
 pub use service::{Answer, Service};

@@ -7,10 +7,10 @@ ghost use Rattle.message_stream.specs.Headers.{HasNoLength, IsLengthName, IsLeng
 use httparse::{EMPTY_HEADER, Header, Status, parse_headers};
 
 /// The longest header in bytes: 8 KiB.
-pub const MOST_HEADER: usize = 8_192;
+pub(crate) const MOST_HEADER: usize = 8_192;
 
 /// The most fields of a header.
-pub const MOST_FIELDS: usize = 32;
+pub(crate) const MOST_FIELDS: usize = 32;
 
 // What the bytes of a header so far are.
 #[derive(Drop)]

@@ -1,10 +1,10 @@
 -- What is read of a text with what is wanted of it: its places are as before.
 use Rattle.std.proofs.Common.{◌≡◌, ◌≢◌, ◌≤◌, ℕ, List, [], map, length, refl, sym, ap, subst, ◌∙◌, AllPairs, IfOk, Result, Ok, Err}
-use Rattle.rust_items.proofs.Common.{AllocError, EditionYear, FileAstId, MetaView, without_bodies, ItemView, ItemViews, plain_item, SyntaxView, source_file, items_from, items_of, syntax_view, tokens_of, inner_attributes, AreIds, kept_metas, Wanted, clipped_item, clipped_list, ItemPlace, Telling, id_of, name_of, IsWritten, items_held, IsPlace, ArePlaces, nothing, placed, clipped_items, with_ids, with_feeds, returns_from, place_by, place_in, moved_span, moved_problem, FileView, file_view, places, read_of, found_in, items_in, clipped_syntax, clipped_file, IsClipped, IsClippedFile, IsBareFile, IsFileView, IsSourceFile, reading_file}
+use Rattle.rust_items.proofs.Common.{AllocError, EditionYear, FileAstId, MetaView, ItemView, ItemViews, plain_item, SyntaxView, source_file, items_from, items_of, syntax_view, tokens_of, inner_attributes, AreIds, kept_metas, Wanted, clipped_item, clipped_list, ItemPlace, Telling, id_of, name_of, IsWritten, items_held, IsPlace, ArePlaces, nothing, placed, clipped_items, with_ids, with_feeds, returns_from, place_by, place_in, moved_span, moved_problem, FileView, file_view, places, read_of, found_in, items_in, clipped_syntax, clipped_file, IsClipped, IsClippedFile, IsFileView, IsSourceFile, reading_file}
 use Rattle.rust_items.specs.declared.log.Problem.{Problem}
 use Rattle.rust_items.specs.declared.source_file.Reading.{Reading}
 use Rattle.rust_items.specs.declared.source_file.SourceFile.{SourceFile}
-use Rattle.rust_items.proofs.BareItems.{all, bare, list_whole, list_bare, wanted_from}
+use Rattle.rust_items.proofs.BareItems.{all, list_whole, wanted_from}
 use Rattle.rust_items.proofs.BodilessIds.{with_clipped}
 use Rattle.rust_items.proofs.FilePlaces.{view_placed, view_distinct}
 
@@ -62,15 +62,8 @@ whole_syntax : (s : SyntaxView) (attrs : List MetaView) (is : ItemViews) → s �
 unfolding kept_metas
 whole_syntax s attrs is e = ap (clipped_syntax all) e ∙ ap (source_file attrs) (list_whole is) ∙ sym e
 
-bare_syntax : (s : SyntaxView) (attrs : List MetaView) (is : ItemViews) → s ≡ source_file attrs is → clipped_syntax bare s ≡ without_bodies s
-unfolding kept_metas
-bare_syntax s attrs is e = ap (clipped_syntax bare) e ∙ ap (source_file attrs) (list_bare is) ∙ sym (ap without_bodies e)
-
 pub file_seen : (edition : EditionYear) (text : List ℕ) (file : SourceFile) → IsClippedFile all edition text (file_view file) → IsSourceFile edition text file
 file_seen edition text file is = subst (IsFileView edition text) (sym (is.clipped ∙ ap (with_syntax is.read) (whole_syntax is.read.syntax _ _ is.is_read.syntax))) is.is_read
-
-pub bare_seen : (edition : EditionYear) (text : List ℕ) (file : SourceFile) → IsClippedFile bare edition text (file_view file) → IsBareFile edition text (file_view file)
-bare_seen edition text file is = record { read = is.read; is_read = is.is_read; bare = is.clipped ∙ ap (with_syntax is.read) (bare_syntax is.read.syntax _ _ is.is_read.syntax) }
 
 -- ---- places
 

@@ -42,7 +42,7 @@ unfoldable pub use Rattle.rust_items.specs.Items.{behind_front, extern_block, ex
 pub use Rattle.rust_items.specs.LineEnds.{is_return, moved_problem, moved_range, moved_span, place_by, returns_from, with_feeds}
 unfoldable pub use Rattle.rust_items.specs.LineEnds.{place_in}
 pub use Rattle.rust_items.specs.Places.{ArePlaces, IsBodyIn, IsNameIn, IsPlace, IsWritten, Telling, id_of, items_held, name_of, nothing, placed}
-pub use Rattle.rust_items.specs.SourceFiles.{FileView, IsBareFile, IsClipped, IsClippedFile, IsFile, IsFileView, IsSourceFile, behind_attributes, clipped_file, clipped_syntax, file_view, places, read_of}
+pub use Rattle.rust_items.specs.SourceFiles.{FileView, IsClipped, IsClippedFile, IsFile, IsFileView, IsSourceFile, behind_attributes, clipped_file, clipped_syntax, file_view, places, read_of}
 unfoldable pub use Rattle.rust_items.specs.SourceFiles.{found_in, items_in}
 pub use Rattle.rust_items.specs.Typed.{begins_at, has_body, has_body_at}
 pub use Rattle.rust_items.specs.Uses.{all_readable_trees, is_readable, readable_trees, trees_in, trees_within, written_trees}

@@ -94,9 +94,3 @@ pub record IsClipped (w : Wanted) (edition : EditionYear) (text : List ℕ) (pla
 -- what is read of a text of an edition, with what is wanted of it
 abbrev pub IsClippedFile : Wanted → EditionYear → List ℕ → FileView → Type 0
 IsClippedFile w edition text file = IsClipped w edition (with_feeds text) (place_in text) file
-
--- what is read of a text of an edition, without the texts of bodies
-pub record IsBareFile (edition : EditionYear) (text : List ℕ) (file : FileView) : Type 0 where
-  pub read : FileView
-  pub is_read : IsFileView edition text read
-  pub bare : file ≡ bare_file read

@@ -25,4 +25,4 @@ pub use member::{Member, MemberKind};
 pub use members::read_members;
 pub use rust_leaves::{Wanted, WantedMetas};
 pub use rust_paths::TextRange;
-pub use source_file::{ItemPlace, SourceFile, read_source_file, read_wanted, read_without_bodies};
+pub use source_file::{ItemPlace, SourceFile, read_source_file, read_wanted};

@@ -216,30 +216,6 @@ pub fn read_source_file(
     read_wanted(alloc, text, wanted, edition)
 }
 
-/// Reads the items of a text as `read_source_file` does, but leaves the texts of all bodies empty.
-///
-/// # Errors
-///
-/// Only if memory runs out.
-#[tactic(auto, using(crate::proofs::BareFiles::bare_seen))]
-pub fn read_without_bodies(
-    alloc: Global,
-    text: &str,
-    edition: EditionYear,
-) -> Result<SourceFile, AllocError>
-    ensures file { IfOk result (λ file. spec.IsBareFile edition text.now (spec.file_view file)) }
-    ensures placed { IfOk result (λ file. let items = items_of (syntax_view file.syntax) in
-        ArePlaces (IsWritten text.now) 0 (length text.now) items file.places.items []) }
-    ensures distinct { length text.now ≤ 2 ^ 32
-        → IfOk result (λ file. AllPairs (λ p q. p.id ≢ q.id) file.places.items) }
-{
-    let wanted = Wanted {
-        bodies: false,
-        metas: WantedMetas::All,
-    };
-    read_wanted(alloc, text, wanted, edition)
-}
-
 /// Reads the items of a text as `read_source_file` does, but leaves out what is not wanted.
 ///
 /// # Errors

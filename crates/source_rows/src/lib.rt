@@ -25,9 +25,9 @@ pub use labels::{KindTexts, item_word, kind_texts, member_word, text_at, text_at
 pub use listed::ListedMember;
 pub use listed_files::{ListedFile, read_listed};
 pub use members::members_in;
-pub use mended::{told_item, told_place};
+pub use mended::told_item;
 pub use mended_file::MendedFile;
-pub use places::{Places, first_place};
+pub use places::Places;
 pub use read_texts::{ReadError, read_text};
 pub use reading::Reading;
 pub use source::{Source, push_place};

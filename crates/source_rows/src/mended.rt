@@ -21,7 +21,7 @@ pub(crate) fn read_item(mended: &MendedFile, told: ItemPlace) -> Option<ItemPlac
 }
 
 /// In the text as it is, a place of the text that is read: of the mended one, where there is one.
-pub fn told_place(mended: Option<&MendedFile>, at: usize) -> usize
+pub(crate) fn told_place(mended: Option<&MendedFile>, at: usize) -> usize
     ensures { result ≡ spec.told_place (option_map closers_view (option_copied mended.entry)) at }
 {
     match mended {

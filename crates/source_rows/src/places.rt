@@ -50,13 +50,6 @@ fn first_of(places: &[ItemPlace], id: FileAstId) -> (Option<ItemPlace>, &[ItemPl
     (None, left)
 }
 
-/// The first place of an id among these.
-pub fn first_place(places: &[ItemPlace], id: FileAstId) -> Option<ItemPlace>
-    ensures { result ≡ spec.place_of id places.now }
-{
-    first_of(places, id).0
-}
-
 /// The place of an id among these, of which there is only one. It is looked for first from this one of them on.
 #[tactic(auto, using(crate::proofs::ItemPlaces::end_dropped))]
 pub(crate) fn place_from(all: &[ItemPlace], first: usize, id: FileAstId) -> Option<ItemPlace>

@@ -110,16 +110,8 @@ fn value_of(
     Ok(request_object(alloc, krate, edition, edits, shows, skipped)?)
 }
 
-/// The request of one crate, whose root is file 0, with each file set to its syntax, numbered from 0, and these shows,
-/// as JSON.
-///
-/// Reading the JSON gives exactly this request, with empty body texts where `bodies` is false.
-///
-/// # Errors
-///
-/// `NoForm` only where a part has no form: a syntax, as `syntax_value` says, a show of another crate than 0, or a file
-/// behind 2^32 others. Else `OutOfMemory`.
-pub fn request_value(
+// The request as JSON. Reading that gives exactly this request, with empty body texts where `bodies` is false.
+fn request_value(
     alloc: Global,
     options: &RequestOptions,
     files: &[Syntax],
@@ -145,11 +137,13 @@ fn text_of(alloc: Global, value: &Value) -> Result<String, RequestFault>
     Ok(value.to_string(alloc)?)
 }
 
-/// The request as a JSON text, which is read as exactly this request.
+/// The request of one crate, whose root is file 0, with each file set to its syntax, numbered from 0, and these shows,
+/// as a JSON text. That is read as exactly this request, with empty body texts where `bodies` is false.
 ///
 /// # Errors
 ///
-/// `NoForm` as in `request_value`, `TooDeep` only where the JSON nests deeper than 127. Else `OutOfMemory`.
+/// `NoForm` only where a part has no form: a syntax, as `syntax_value` says, a show of another crate than 0, or a file
+/// behind 2^32 others. `TooDeep` only where the JSON nests deeper than 127. Else `OutOfMemory`.
 pub fn request_text(
     alloc: Global,
     options: &RequestOptions,
