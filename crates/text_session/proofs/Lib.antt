@@ -5,4 +5,5 @@ pub mod ReadTexts
 pub mod Touching
 pub mod EditedSessions
 pub mod BodyEdits
+pub mod ListedTexts
 pub mod Common

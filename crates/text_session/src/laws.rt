@@ -1,7 +1,12 @@
 //! What holds of sessions after any edits, and that a copy of an error is its source. The functions do nothing.
-ghost use Rattle.std.specs.Prelude.{List, ◌++◌};
+ghost use Rattle.std.specs.Prelude.{◌≡◌, ℕ, List, Option, ◌++◌};
 ghost use Rattle.hir_input.specs.Equality.{IsCopied};
+ghost use Rattle.hir_input.specs.declared.edition.EditionYear.{EditionYear};
 ghost use Rattle.item_tree_db.specs.Edits.{EditView};
+ghost use Rattle.rust_edits.specs.ItemJoins.Mended.{text_for_lists};
+ghost use Rattle.rust_items.specs.SourceFiles.{FileView};
+ghost use Rattle.source_rows.specs.Listed.{Closers};
+ghost use Rattle.source_rows.specs.ListedFiles.{IsListedFile, listed_text};
 ghost use Rattle.text_session.specs.Edits.{TextEdit};
 ghost use Rattle.text_session.specs.Sessions.{AreMade, AreSetTo, IsEdited, Session};
 ghost use Rattle.text_session.specs.Texts.{TextChange};
@@ -21,6 +26,12 @@ fn edits_join()
 fn readings()
     ensures { (s u : Session) (asked : List TextEdit) → AreSetTo s.edition.0 s.table s.texts → IsEdited s asked u
         → AreSetTo u.edition.0 u.table u.texts }
+{}
+
+// The text that lists are read from is that of the laws on items beside others, in `rust_edits`.
+fn lists()
+    ensures { (edition : EditionYear) (text : List ℕ) (closers : Option Closers) (file : FileView)
+        → IsListedFile edition text closers file → listed_text text closers ≡ text_for_lists edition text }
 {}
 
 fn faults()
