@@ -4,7 +4,9 @@ use Rattle.rust_edits.proofs.Common.{nest_behind, with_feeds, moved_piece, begin
 use Rattle.hir_input.specs.declared.ast.PlainKind.TheVariants as plain_kind
 use Rattle.rust_cursor.specs.Extents.{begins}
 use Rattle.rust_cursor.specs.Nests.{flat_behind}
-use Rattle.rust_mended.specs.Apart.{StandApart}
+use Rattle.rust_mended.specs.Apart.{StandApart, begin_with_item}
+use Rattle.rust_mended.specs.Marks.{marks}
+use Rattle.rust_mended.specs.Mended.{closers_reaching}
 use Rattle.rust_mended.specs.Texts.{edits, is_matched, mended_text}
 use Rattle.rust_edits.specs.ItemJoins.Mended.{StandsInFront, StandsOpen}
 use Rattle.rust_edits.specs.ItemJoins.Open.{StandsBefore, nothing_before, open_before, IsOpenItem, end_behind, nest_through, before_rest}
@@ -295,3 +297,95 @@ module _ (y : EditionYear) where
     before = subst (λ (t : List ℕ). StandsBefore y t (with_feeds ([] ++ 10 ∷ mended_text mod_b))) (sym item_is) (subst (StandsBefore y fn_f) (sym line_is) alone_before);
     short = open_short;
   }
+
+-- ---- a text that ends with a whole item only when it is mended, in front of a module
+
+-- a module with a closer in it that closes nothing
+pub loose_mod : List ℕ
+loose_mod = codes "mod ) b;"
+
+pub blank_mod : List ℕ
+blank_mod = codes "mod   b;"
+
+loose_mended : with_feeds (mended_text loose_mod) ≡ blank_mod
+unfolding loose_mod blank_mod mended_text edits tokens first_cut is_wide_start is_wide_continue
+loose_mended = refl
+
+unmatched : is_matched loose_mod ≡ false
+unfolding loose_mod is_matched tokens first_cut is_wide_start is_wide_continue
+unmatched = refl
+
+blank_ends : EndsOwn (codes "mod   b;")
+unfolding first_cut is_wide_start is_wide_continue
+blank_ends = record { before = codes "mod   b"; last = semicolon; bytes = refl; ends = refl; alone = record { full = refl; ends = refl } }
+
+-- `b;`, further on
+name_further_on : List Piece
+name_further_on = record { kind = kinds.Ident; text = codes "b"; at = 6 } ∷ record { kind = kinds.Punct; text = codes ";"; at = 7 } ∷ []
+
+blank_bare : IsBare blank_mod
+unfolding blank_mod first_cut is_wide_start is_wide_continue
+blank_bare = record { mark = refl; shebang = refl; fence = refl }
+
+loose_apart : StandApart loose_mod [] mod_b
+unfolding loose_mod mod_b tokens first_cut is_wide_start is_wide_continue
+loose_apart = record { blanks = refl; ends = refl; bare = refl; uncut = refl }
+
+item_next : begin_with_item (marks mod_b) ≡ true
+unfolding mod_b tokens first_cut is_wide_start is_wide_continue
+item_next = refl
+
+none_too_many : closers_reaching (marks mod_b) ≡ []
+unfolding mod_b tokens first_cut is_wide_start is_wide_continue
+none_too_many = refl
+
+module _ (y : EditionYear) where
+  abbrev blank_all : Tokens
+  blank_all = all y name_further_on
+
+  abbrev blank_behind : Tokens
+  blank_behind = behind y name_further_on
+
+  blank_toks : tokens_of y blank_mod ≡ blank_all
+  unfolding all blank_mod mod_word name_further_on tokens_of tokens first_cut is_wide_start is_wide_continue
+  blank_toks = refl
+
+  blank_turn : turn 128 nothing_found blank_all ≡ read y (is_module, blank_behind)
+  unfolding turn
+  blank_turn = rw (not_ended y name_further_on) (ap (read y) (front_is y name_further_on))
+
+  blank_spent : ((read y (is_module, blank_behind)).1.1.left ≡ []) × ((((read y (is_module, blank_behind)).1.1.past == 0) ≡ false) × ((read y (is_module, blank_behind)).1.0.problems ≡ []))
+  unfolding behind name_further_on written_name placed_name name next_name plain_name is_keyword is_path_keyword kind text at eat symbol bumped
+  blank_spent = (refl, (refl, refl))
+
+  blank_read : read_of y blank_mod ≡ (option_to_list (turn 128 nothing_found blank_all).0, ((turn 128 nothing_found blank_all).1.0, (turn 128 nothing_found blank_all).1.1))
+  blank_read =
+      ap (λ (t : Tokens). items true 128 nothing_found (inner_attributes t).1) blank_toks ∙ ap (λ (p : List MetaView × Tokens). items true 128 nothing_found p.1) (no_inner blank_all (not_inner y name_further_on))
+      ∙ one_item nothing_found blank_all (some_left y name_further_on) (ap (λ (r : Option ItemView × (Found × Tokens)). r.1.1.left) blank_turn ∙ blank_spent.0)
+      (ap (λ (r : Option ItemView × (Found × Tokens)). r.1.1.past == blank_all.past) blank_turn ∙ ap (λ n. (read y (is_module, blank_behind)).1.1.past == n) (starts y name_further_on) ∙ blank_spent.1.0)
+
+  blank_some : (behind_attributes y blank_mod).left ≡ [] → ⊥
+  unfolding all
+  blank_some e = absurd (let same = ap (λ (p : List MetaView × Tokens). p.1.left) (sym (ap inner_attributes blank_toks ∙ no_inner blank_all (not_inner y name_further_on))) ∙ e in cc)
+
+  blank_holds : EndsWhole true 128 y blank_mod
+  unfolding blank_mod
+  blank_holds = record {
+    bare = blank_bare;
+    ends = blank_ends;
+    turns = 0;
+    some = blank_some;
+    sound = ap (λ (r : List ItemView × (Found × Tokens)). r.1.0.problems) blank_read ∙ ap (λ (r : Option ItemView × (Found × Tokens)). r.1.0.problems) blank_turn ∙ blank_spent.1.1;
+    spent = λ e. absurd cc;
+  }
+
+  module_anew : BeginsAnew y behind_line
+  unfolding behind_line tokens_of tokens first_cut is_wide_start is_wide_continue is_behind is_doc is_attribute symbol kind
+  module_anew = record { bare = record { mark = refl; shebang = refl; fence = refl }; uncut = refl; outer = refl; still = refl }
+
+  loose_short : length (with_feeds (mended_text loose_mod ++ ([] ++ 10 ∷ mended_text mod_b))) < most_tokens
+  unfolding loose_mod mod_b mended_text edits tokens first_cut is_wide_start is_wide_continue most_tokens
+  loose_short = omega arith
+
+  pub loose_in_front : StandsInFront y loose_mod [] mod_b
+  loose_in_front = record { apart = loose_apart; whole = subst (EndsWhole true 128 y) (sym loose_mended) blank_holds; anew = subst (BeginsAnew y) (sym (line_is y)) module_anew; short = loose_short }
