@@ -29,7 +29,6 @@ fn readings()
 {}
 
 // The text that lists are read from is that of the laws on items beside others, in `rust_edits`.
-#[tactic(auto, using(crate::proofs::ListedTexts::listed_is))]
 fn lists()
     ensures { (edition : EditionYear) (text : List ℕ) (closers : Option Closers) (file : FileView)
         → IsListedFile edition text closers file → listed_text text closers ≡ text_for_lists edition text }
