@@ -213,8 +213,8 @@ fn push_root(
 /// A `mod` is looked for at two paths, `a.rs` and `a/mod.rs`, or at that of its first `#[path]` with a string. In paths
 /// `.` and a second slash mean nothing, and `..` stays: where it leads is up to the file system. As long as nothing is
 /// known of one of its paths, a `mod` has no module, and such paths are wanted. Unless all are followed, a `mod` that a
-/// cfg disables is left out, and so is one whose file a cfg disables as a whole. A file may be more than one module, but
-/// none that stands in a file of the same path. An inner `#![path]` of a file means nothing.
+/// cfg disables is left out, and so is one whose file a cfg disables as a whole. A file may be more than one module,
+/// but none that stands in a file of the same path. An inner `#![path]` of a file means nothing.
 ///
 /// # Errors
 ///
