@@ -342,11 +342,49 @@ def orphans(folder):
     yield out == "o.rs\nx/p.rs\n" and status == 1, "files that no module is in", out
     out, err, status = run(folder, "modules", "--orphans", "--exclude", "x", "--exclude", "o.rs", "lib.rs")
     yield out == "" and status == 0, "none", out
+    ends = os.pipe()
+    os.close(ends[0])
+    status = subprocess.run([PROGRAM, "modules", "--orphans", "lib.rs"], cwd=folder, stdout=ends[1]).returncode
+    os.close(ends[1])
+    yield status == 1, "the status so far where nobody reads on", status
+    write(folder, {"p/Cargo.toml": NAMED, "p/src/lib.rs": "mod a; some! { mod b; } fn f() { mod r#in; }", "p/src/main.rs": "mod a;", "p/src/a.rs": "",
+                   "p/src/b/mod.rs": "mod d;", "p/src/b/d.rs": "", "p/src/in.rs": "", "p/src/o.rs": "", "p/src/x/a.rs": ""})
+    out, err, status = run(folder, "modules", "--orphans", "p")
+    yield out == "p/src/o.rs\np/src/x/a.rs\n" and status == 1, "each once, and none that macros may name", out + err
+
+
+# Modules without a file, and whether they are reported: not where a build script or a macro may see to it.
+UNSURE = [
+    ("a cfg of a build script", {"lib.rs": "#[cfg(not(has_x))] mod a;"}, False),
+    ("a path under one", {"lib.rs": '#[cfg_attr(has_x, path = "x.rs")] mod a;', "x.rs": ""}, False),
+    ("one around it", {"lib.rs": "#[cfg(not(has_x))] mod a { mod b; }"}, False),
+    ("one of its file", {"lib.rs": "mod a;", "a.rs": "#![cfg(not(has_x))] mod b;"}, False),
+    ("one of a file around it", {"lib.rs": "#[cfg(not(has_x))] mod a;", "a.rs": "mod b { mod c; }"}, False),
+    ("two files under one", {"lib.rs": "#[cfg(any(unix, has_x))] mod a;", "a.rs": "", "a/mod.rs": ""}, False),
+    ("an attribute macro", {"lib.rs": "#[some::attribute] mod a;"}, False),
+    ("one under a cfg", {"lib.rs": "#[cfg_attr(unix, some_attribute)] mod a;"}, False),
+    ("a cfg of the compiler", {"lib.rs": "#[cfg(not(windows))] mod a;"}, True),
+    ("attributes of the language", {"lib.rs": "#[allow(dead_code)] #[rustfmt::skip] #[doc(hidden)] mod a;"}, True),
+    ("another attribute under a cfg of a build script", {"lib.rs": "#[cfg_attr(has_x, allow(dead_code))] mod a;"}, True),
+    ("a cfg beside it", {"lib.rs": "#[cfg(not(has_x))] mod b {} mod a;"}, True),
+]
+
+
+def unsure(folder):
+    for at, (what, files, is_reported) in enumerate(UNSURE):
+        top = f"{folder}/{at}"
+        write(top, files)
+        for words in (("modules", "lib.rs"), ("check", "--crate", "lib.rs")):
+            out, err, status = run(top, *words)
+            yield status == is_reported and (" has " in out + err) == is_reported, f"{what}: {words[0]}", out + err
+    write(folder, {"Cargo.toml": NAMED + "[features]\nf = []\n", "src/lib.rs": '#[cfg(not(feature = "f"))] mod a; #[cfg(not(feature = "g"))] mod b;'})
+    out, err, status = run(folder, "modules", ".")
+    yield err == "src/lib.rs:1:32: crate::a has no file: src/a.rs, src/a/mod.rs\n" and status == 1, "features", err
 
 
 def main():
     passed = failed = 0
-    for check in (links, no_files, unread, deep, packages, manifests, many, cases_of_letters, of_a_crate, orphans):
+    for check in (links, no_files, unread, deep, packages, manifests, many, cases_of_letters, of_a_crate, orphans, unsure):
         with tempfile.TemporaryDirectory() as folder:
             for is_right, what, got in check(folder):
                 passed += is_right

@@ -1,6 +1,7 @@
 //! The files of a crate, as its `mod` items lead to them from the root file on.
 use crate::failure::Failure;
 use crate::files::Room;
+use crate::sure_modules::sure_modules;
 use crate::walk::{Fault, Found};
 use def_map::{DefMapError, Manifest, ResolvedImport, resolve_imports};
 use item_tree::ItemTree;
@@ -87,6 +88,8 @@ pub(crate) struct CrateSources<'a> {
     options: &'a Options,
     /// Which `mod` items are followed.
     choice: ModuleChoice,
+    /// The features of the package.
+    features: &'a [String],
     paths: BTreeMap<String, KnownPath>,
     /// The files by their numbers. A file has one for each of its paths.
     files: Vec<CrateFile>,
@@ -105,12 +108,14 @@ impl<'a> CrateSources<'a> {
         rt: &'a HostRuntime,
         options: &'a Options,
         choice: ModuleChoice,
+        features: &'a [String],
     ) -> CrateSources<'a> {
         let alloc = rt.alloc();
         CrateSources {
             rt,
             options,
             choice,
+            features,
             paths: BTreeMap::new(alloc),
             files: Vec::new(alloc),
             ids: Vec::new(alloc),
@@ -262,6 +267,7 @@ impl<'a> CrateSources<'a> {
 
     /// The modules of the crate with this root file, if they can be told: what is wanted is looked up.
     pub(crate) fn modules(&mut self, path: &str) -> Result<Option<ModuleTree>, Failure> {
+        let alloc = self.rt.alloc();
         let Some(root) = self.root(path)? else {
             return Ok(None);
         };
@@ -271,7 +277,8 @@ impl<'a> CrateSources<'a> {
                 return Ok(None);
             };
             if tree.wanted.is_empty() {
-                return Ok(Some(tree));
+                let files = &self.files;
+                return Ok(Some(sure_modules(alloc, self.options, self.features, files, tree)?));
             }
             self.look_up_all(&tree.wanted)?;
             known = self.few_modules(root, path)?;

@@ -6,7 +6,7 @@ ghost use Rattle.std.specs.{List.list_any, Cmp.Lexicographic.pointwise};
 ghost use Rattle.hir_input.specs.{Cfg.atom_view, Cfg.cfg_view, Name.is_among};
 ghost use Rattle.language_names.specs.LanguageNames as spec;
 
-use hir_input::{Attr, CfgAtom, CfgExpr, PathKind};
+use hir_input::{Attr, CfgAtom, CfgExpr, ModPath, PathKind};
 
 const LANGUAGE_ATTRIBUTES: [&str; 71] = [
     "allow",
@@ -173,20 +173,27 @@ fn is_of_rustc(name: &str) -> bool
     name.as_bytes().starts_with(b"rustc_")
 }
 
-/// Whether an attribute is the language's: what is not may rewrite its item.
-pub fn is_language(attr: &Attr) -> bool
-    ensures { result ≡ spec.is_language attr.now }
+/// Whether the attribute of a path is the language's: what is not may rewrite its item.
+pub fn is_language_path(path: &ModPath) -> bool
+    ensures { result ≡ spec.is_language_by path.now.kind path.now.names }
 {
-    let PathKind::Plain = attr.path.kind() else {
+    let PathKind::Plain = path.kind() else {
         return false;
     };
-    let Some((name, more)) = attr.path.segments().split_first() else {
+    let Some((name, more)) = path.segments().split_first() else {
         return false;
     };
     if more.is_empty() {
         return is_language_attribute(name.text()) || is_of_rustc(name.text());
     }
     is_tool(name.text())
+}
+
+/// The same of an attribute.
+pub fn is_language(attr: &Attr) -> bool
+    ensures { result ≡ spec.is_language attr.now }
+{
+    is_language_path(&attr.path)
 }
 
 // ---- derives
