@@ -80,8 +80,14 @@ crate("an inner path of an inline module", {"lib.rs": 'mod a { #![path = "x"] mo
       "crate lib.rs", "crate::a lib.rs", "crate::a::b x/b.rs")
 crate("the first of two paths", {"lib.rs": '#[path = "b.rs"] #[path = "c.rs"] mod a;', "b.rs": "", "c.rs": ""}, "crate lib.rs", "crate::a b.rs")
 crate("a path with dots", {"src/lib.rs": '#[path = "../x/./b.rs"] mod a;', "x/b.rs": "mod c;", "x/c.rs": ""},
-      "crate src/lib.rs", "crate::a x/b.rs", "crate::a::c x/c.rs", root="src/lib.rs")
-crate("a path above the root", {"src/lib.rs": '#[path = "../b.rs"] mod a;', "b.rs": ""}, "crate src/lib.rs", "crate::a b.rs", root="src/lib.rs")
+      "crate src/lib.rs", "crate::a src/../x/b.rs", "crate::a::c src/../x/c.rs", root="src/lib.rs")
+crate("a path above the root", {"src/lib.rs": '#[path = "../b.rs"] mod a;', "b.rs": ""}, "crate src/lib.rs", "crate::a src/../b.rs", root="src/lib.rs")
+crate("a path above a folder that is not there", {"src/lib.rs": 'mod i { #[path = "../y.rs"] mod y; }', "src/y.rs": ""},
+      "crate src/lib.rs", "crate::i src/lib.rs", none=["crate::i::y has no file: src/i/../y.rs"], root="src/lib.rs")
+crate("above one that is there", {"src/lib.rs": 'mod i { #[path = "../y.rs"] mod y; }', "src/y.rs": "", "src/i/x.rs": ""},
+      "crate src/lib.rs", "crate::i src/lib.rs", "crate::i::y src/i/../y.rs", root="src/lib.rs")
+crate("a path that ends with a slash", {"lib.rs": '#[path = "b.rs/"] mod a;', "b.rs": ""}, "crate lib.rs", none=["crate::a has no file: b.rs/"])
+crate("the null device", {"lib.rs": '#[path = "/dev/null"] mod a; #[path = "//dev/./null"] mod b;'}, "crate lib.rs", "crate::a /dev/null", "crate::b /dev/null")
 crate("a path in a raw string", {"lib.rs": '#[path = r"b.rs"] mod a;', "b.rs": ""}, "crate lib.rs", "crate::a b.rs")
 crate("a path without .rs", {"lib.rs": '#[path = "b.txt"] mod a;', "b.txt": "mod c;", "c.rs": ""},
       "crate lib.rs", "crate::a b.txt", "crate::a::c c.rs")
@@ -98,6 +104,8 @@ crate("an empty path", {"lib.rs": '#[path = ""] mod a;', "a.rs": ""}, "crate lib
 crate("no file in a file", {"lib.rs": "mod a;", "a.rs": "mod b;", "b.rs": ""}, "crate lib.rs", "crate::a a.rs",
       none=["crate::a::b has no file: a/b.rs, a/b/mod.rs"])
 crate("the file itself", {"lib.rs": '#[path = "lib.rs"] mod a;'}, "crate lib.rs", none=["crate::a is a file that it stands in: lib.rs"])
+crate("the file itself, from a folder", {"lib.rs": '#[path = "./x/../x/a.rs"] mod a;', "x/a.rs": '#[path = "./a.rs"] mod b; #[path = "y/../a.rs"] mod c;'},
+      "crate lib.rs", "crate::a x/../x/a.rs", none=["crate::a::b is a file that it stands in: x/../x/a.rs", "crate::a::c has no file: x/../x/y/../a.rs"])
 crate("a circle of two", {"lib.rs": "mod a;", "a.rs": '#[path = "b.rs"] mod b;', "b.rs": '#[path = "a.rs"] mod a;'},
       "crate lib.rs", "crate::a a.rs", "crate::a::b b.rs", none=["crate::a::b::a is a file that it stands in: a.rs"])
 crate("a folder in place of a file", {"lib.rs": "mod a;", "a.rs/x.rs": ""}, "crate lib.rs", none=["crate::a has no file: a.rs, a/mod.rs"])
@@ -158,13 +166,19 @@ def rustc_of(case, folder):
         return ["rustc refuses it: " + ran.stderr]
     with open(f"{folder}/out/x.d") as it:
         read = {os.path.normpath(name.rstrip(":")) for name in it.read().split("\n") if name.endswith(".rs:") or name.endswith(".txt:")}
-    ours = {line.rsplit(" ", 1)[1] for line in modules}
+    ours = {os.path.normpath(line.rsplit(" ", 1)[1]) for line in modules} - {"/dev/null"}
     return [] if ours <= read else [f"rustc reads {sorted(read)}"]
 
 
 def run(folder, *words):
     ran = subprocess.run([PROGRAM, *words], cwd=folder, capture_output=True, text=True, timeout=120)
     return ran.stdout, ran.stderr, ran.returncode
+
+
+def rustc_says(folder, root):
+    """The status of rustc, if there is one."""
+    words = ["--edition", "2021", "--crate-type", "lib", "--emit", "metadata", "--crate-name", "x", "-o", f"{folder}/x.rmeta", root]
+    return subprocess.run([RUSTC, *words], cwd=folder, capture_output=True).returncode if RUSTC else 0
 
 
 def write(folder, files):
@@ -186,13 +200,28 @@ def links(folder):
     yield out == ("lib.rs:1:1: crate lib.rs\nlib.rs:1:5: crate::a a.rs\na.rs:1:5: crate::a::d a/d.rs\n"
                   "lib.rs:1:12: crate::b b/mod.rs\nb/mod.rs:1:5: crate::b::e b/e.rs\n"), "links lead to files", out
     yield err == "lib.rs:1:19: crate::c has no file: c.rs, c/mod.rs\n" and status == 1, "a link to itself is no file", err
+    for name, link in (("hard", os.link), ("soft", lambda of, at: os.symlink("../a.rs", at))):
+        top = f"{folder}/{name}"
+        write(top, {"lib.rs": "mod a;", "a.rs": "#[cfg(unix)] mod b;", "a/x.rs": "", "a/b/b.rs": ""})
+        link(f"{top}/a.rs", f"{top}/a/b.rs")
+        out, err, status = run(top, "modules", "lib.rs")
+        yield out == ("lib.rs:1:1: crate lib.rs\nlib.rs:1:5: crate::a a.rs\na.rs:1:18: crate::a::b a/b.rs\n"
+                      "a/b.rs:1:18: crate::a::b::b a/b/b.rs\n") and status == 0, f"a {name} link of a file in it is no circle", out + err
+        yield rustc_says(top, "lib.rs") == 0, f"a {name} link by rustc", name
+    top = f"{folder}/dots"
+    write(top, {"src/lib.rs": '#[path = "linked/../y.rs"] mod y;', "x/z/a.rs": "", "x/y.rs": "", "src/y.rs": "mod no;"})
+    os.symlink("../x/z", f"{top}/src/linked")
+    out, err, status = run(top, "modules", "src/lib.rs")
+    yield out.endswith("crate::y src/linked/../y.rs\n") and status == 0, "above a link to a folder", out + err
+    yield rustc_says(top, "src/lib.rs") == 0, "above a link by rustc", top
 
 
 def no_files(folder):
     write(folder, {"lib.rs": 'mod a; #[path = "%s"] mod b; #[path = "/nowhere/c.rs"] mod c; #[path = "d\\0.rs"] mod d;' % ("x" * 100_000)})
     os.mkfifo(f"{folder}/a.rs")
     out, err, status = run(folder, "modules", "lib.rs")
-    yield err.count(" has no file: ") == 4 and status == 1, "a pipe, an endless path, an absolute one and one with a zero", err[:300]
+    yield err.count(" has no file: ") == 3, "an endless path, an absolute one and one with a zero", err[:300]
+    yield "a.rs: neither a regular file nor /dev/null" in err and status == 2, "a pipe", err[-300:]
 
 
 def unread(folder):
@@ -205,12 +234,10 @@ def unread(folder):
 
 
 def deep(folder):
-    for depth in (128, 129):
-        top = f"{folder}/{depth}"
-        write(top, {f"m{k}.rs": f'#[path = "m{k + 1}.rs"] mod m;' for k in range(depth)} | {f"m{depth}.rs": ""})
-        out, err, status = run(top, "modules", "m0.rs")
-        yield len(out.splitlines()) == min(depth, 128) + 1, f"{depth} deep", out[-200:]
-        yield ("stands in too many files" in err) == (depth > 128), f"{depth} deep", err
+    write(folder, {f"m{k}.rs": f'#[path = "m{k + 1}.rs"] mod m;' for k in range(160)} | {"m160.rs": ""})
+    out, err, status = run(folder, "modules", "m0.rs")
+    yield len(out.splitlines()) == 161 and (err, status) == ("", 0), "160 deep", out[-200:] + err
+    yield rustc_says(folder, "m0.rs") == 0, "160 deep by rustc", folder
 
 
 def packages(folder):
@@ -315,11 +342,49 @@ def orphans(folder):
     yield out == "o.rs\nx/p.rs\n" and status == 1, "files that no module is in", out
     out, err, status = run(folder, "modules", "--orphans", "--exclude", "x", "--exclude", "o.rs", "lib.rs")
     yield out == "" and status == 0, "none", out
+    ends = os.pipe()
+    os.close(ends[0])
+    status = subprocess.run([PROGRAM, "modules", "--orphans", "lib.rs"], cwd=folder, stdout=ends[1]).returncode
+    os.close(ends[1])
+    yield status == 1, "the status so far where nobody reads on", status
+    write(folder, {"p/Cargo.toml": NAMED, "p/src/lib.rs": "mod a; some! { mod b; } fn f() { mod r#in; }", "p/src/main.rs": "mod a;", "p/src/a.rs": "",
+                   "p/src/b/mod.rs": "mod d;", "p/src/b/d.rs": "", "p/src/in.rs": "", "p/src/o.rs": "", "p/src/x/a.rs": ""})
+    out, err, status = run(folder, "modules", "--orphans", "p")
+    yield out == "p/src/o.rs\np/src/x/a.rs\n" and status == 1, "each once, and none that macros may name", out + err
+
+
+# Modules without a file, and whether they are reported: not where a build script or a macro may see to it.
+UNSURE = [
+    ("a cfg of a build script", {"lib.rs": "#[cfg(not(has_x))] mod a;"}, False),
+    ("a path under one", {"lib.rs": '#[cfg_attr(has_x, path = "x.rs")] mod a;', "x.rs": ""}, False),
+    ("one around it", {"lib.rs": "#[cfg(not(has_x))] mod a { mod b; }"}, False),
+    ("one of its file", {"lib.rs": "mod a;", "a.rs": "#![cfg(not(has_x))] mod b;"}, False),
+    ("one of a file around it", {"lib.rs": "#[cfg(not(has_x))] mod a;", "a.rs": "mod b { mod c; }"}, False),
+    ("two files under one", {"lib.rs": "#[cfg(any(unix, has_x))] mod a;", "a.rs": "", "a/mod.rs": ""}, False),
+    ("an attribute macro", {"lib.rs": "#[some::attribute] mod a;"}, False),
+    ("one under a cfg", {"lib.rs": "#[cfg_attr(unix, some_attribute)] mod a;"}, False),
+    ("a cfg of the compiler", {"lib.rs": "#[cfg(not(windows))] mod a;"}, True),
+    ("attributes of the language", {"lib.rs": "#[allow(dead_code)] #[rustfmt::skip] #[doc(hidden)] mod a;"}, True),
+    ("another attribute under a cfg of a build script", {"lib.rs": "#[cfg_attr(has_x, allow(dead_code))] mod a;"}, True),
+    ("a cfg beside it", {"lib.rs": "#[cfg(not(has_x))] mod b {} mod a;"}, True),
+]
+
+
+def unsure(folder):
+    for at, (what, files, is_reported) in enumerate(UNSURE):
+        top = f"{folder}/{at}"
+        write(top, files)
+        for words in (("modules", "lib.rs"), ("check", "--crate", "lib.rs")):
+            out, err, status = run(top, *words)
+            yield status == is_reported and (" has " in out + err) == is_reported, f"{what}: {words[0]}", out + err
+    write(folder, {"Cargo.toml": NAMED + "[features]\nf = []\n", "src/lib.rs": '#[cfg(not(feature = "f"))] mod a; #[cfg(not(feature = "g"))] mod b;'})
+    out, err, status = run(folder, "modules", ".")
+    yield err == "src/lib.rs:1:32: crate::a has no file: src/a.rs, src/a/mod.rs\n" and status == 1, "features", err
 
 
 def main():
     passed = failed = 0
-    for check in (links, no_files, unread, deep, packages, manifests, many, cases_of_letters, of_a_crate, orphans):
+    for check in (links, no_files, unread, deep, packages, manifests, many, cases_of_letters, of_a_crate, orphans, unsure):
         with tempfile.TemporaryDirectory() as folder:
             for is_right, what, got in check(folder):
                 passed += is_right

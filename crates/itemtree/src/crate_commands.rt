@@ -3,6 +3,7 @@ use crate::commands::or_closed;
 use crate::crate_sources::CrateSources;
 use crate::escapes::Shown;
 use crate::failure::Failure;
+use crate::orphans::{Orphans, hidden_mods};
 use crate::packages::Crates;
 use crate::report::Report;
 use crate::walk::files_of_folder;
@@ -99,7 +100,12 @@ pub(crate) fn crates_found(
     wants_imports: bool,
 ) -> Result<CratesFound, Failure> {
     let alloc = report.rt.alloc();
-    let mut sources = CrateSources::new(report.rt, options, ModuleChoice::Enabled);
+    let mut sources = CrateSources::new(
+        report.rt,
+        options,
+        ModuleChoice::Enabled,
+        &crates.facts.features,
+    );
     let trees = trees_of(&mut sources, alloc, &crates.roots)?;
     report.complain_of(sources.faults());
     let files = paths_of(alloc, &sources.files_of(&trees)?)?;
@@ -182,7 +188,8 @@ pub(crate) fn list_resolved(
     only_wrong: bool,
 ) -> Result<u8, Failure> {
     let mut report = Report::new(rt, asked);
-    let mut sources = CrateSources::new(rt, options, ModuleChoice::Enabled);
+    let features = &crates.facts.features;
+    let mut sources = CrateSources::new(rt, options, ModuleChoice::Enabled, features);
     let trees = trees_of(&mut sources, rt.alloc(), &crates.roots)?;
     report.complain_of(sources.faults());
     let damage = damage_in(&mut report, &sources, options, &trees)?;
@@ -200,13 +207,15 @@ pub(crate) fn list_resolved(
     or_closed(done, report.status)
 }
 
-/// Writes the files below the folder of a root file that were not read.
-fn write_orphans(
+/// Adds the files below the folder of a root file that were not read, except those that are there.
+fn push_orphans(
     report: &mut Report<'_>,
     sources: &CrateSources<'_>,
     asked: &Asked<'_>,
     root: &str,
+    orphans: &mut Orphans,
 ) -> Result<(), Failure> {
+    let alloc = report.rt.alloc();
     let folder = match root.rsplit_once('/') {
         Some(("", _)) => "/",
         Some((folder, _)) => folder,
@@ -215,11 +224,20 @@ fn write_orphans(
     let found = files_of_folder(report.rt, folder, asked)?;
     report.complain_of(&found.faults);
     for file in found.files {
-        if !sources.has_read(&file) {
-            let shown = Shown(file.strip_prefix("./").unwrap_or(&file));
-            let line = format!(in report.rt.alloc(); "{shown}\n")?;
-            report.write_wrong(&line)?;
+        let path = String::from_str(alloc, file.strip_prefix("./").unwrap_or(&file))?;
+        if !sources.has_read(&file) && orphans.seen.insert(path).map_err(AllocError::from)? {
+            orphans.files.push(file).map_err(AllocError::from)?;
         }
+    }
+    Ok(())
+}
+
+/// Writes files that no `mod` names.
+fn write_orphans(report: &mut Report<'_>, files: &[String]) -> Result<(), Failure> {
+    for file in files {
+        let shown = Shown(file.strip_prefix("./").unwrap_or(file));
+        let line = format!(in report.rt.alloc(); "{shown}\n")?;
+        report.write_wrong(&line)?;
     }
     Ok(())
 }
@@ -229,12 +247,13 @@ pub(crate) fn list_modules(
     rt: &HostRuntime,
     options: &Options,
     asked: &Asked<'_>,
-    roots: &[String],
+    crates: &Crates,
 ) -> Result<u8, Failure> {
     let alloc = rt.alloc();
     let mut report = Report::new(rt, asked);
-    let mut sources = CrateSources::new(rt, options, ModuleChoice::Enabled);
-    let trees = trees_of(&mut sources, alloc, roots)?;
+    let features = &crates.facts.features;
+    let mut sources = CrateSources::new(rt, options, ModuleChoice::Enabled, features);
+    let trees = trees_of(&mut sources, alloc, &crates.roots)?;
     for tree in &trees {
         let form = report.form;
         report.write(&modules(alloc, tree, sources.files(), &options.edition, form)?)?;
@@ -249,14 +268,18 @@ pub(crate) fn list_orphans(
     rt: &HostRuntime,
     options: &Options,
     asked: &Asked<'_>,
-    roots: &[String],
+    crates: &Crates,
 ) -> Result<u8, Failure> {
     let mut report = Report::new(rt, asked);
-    let mut sources = CrateSources::new(rt, options, ModuleChoice::All);
-    let _trees = trees_of(&mut sources, rt.alloc(), roots)?;
-    for root in roots {
-        write_orphans(&mut report, &sources, asked, root)?;
+    let features = &crates.facts.features;
+    let mut sources = CrateSources::new(rt, options, ModuleChoice::All, features);
+    let trees = trees_of(&mut sources, rt.alloc(), &crates.roots)?;
+    let mut orphans = Orphans::new(rt.alloc());
+    for root in &crates.roots {
+        push_orphans(&mut report, &sources, asked, root, &mut orphans)?;
     }
+    let files = orphans.without(rt, hidden_mods(rt.alloc(), sources.files(), &trees)?)?;
     report.complain_of(sources.faults());
-    Ok(report.status)
+    let done = write_orphans(&mut report, &files);
+    or_closed(done, report.status)
 }

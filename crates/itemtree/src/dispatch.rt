@@ -34,8 +34,8 @@ fn run_crates(
     crates: &Crates,
 ) -> Result<u8, Failure> {
     match asked.command {
-        Command::Modules { has_orphans: true } => list_orphans(rt, options, asked, &crates.roots),
-        Command::Modules { .. } => list_modules(rt, options, asked, &crates.roots),
+        Command::Modules { has_orphans: true } => list_orphans(rt, options, asked, crates),
+        Command::Modules { .. } => list_modules(rt, options, asked, crates),
         Command::Resolve { only_wrong } => list_resolved(rt, options, asked, crates, only_wrong),
         _ => run_files(rt, options, asked, Some(crates)),
     }

@@ -2,4 +2,5 @@ pub mod Inner
 pub mod Laws
 pub mod Modules
 pub mod Paths
+pub mod Unsure
 pub mod Views

@@ -9,6 +9,7 @@ mod mod_dir;
 mod paths;
 mod place;
 mod resolve;
+mod unsure;
 mod walk;
 
 pub use data::{
@@ -16,4 +17,5 @@ pub use data::{
     UnresolvedModule, UnresolvedReason,
 };
 pub use known::{KnownFiles, KnownPath};
+pub use unsure::unsure_mods;
 pub use walk::module_tree;

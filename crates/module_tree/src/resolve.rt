@@ -1,21 +1,20 @@
 //! What a `mod` means.
-ghost use Rattle.std.specs.Prelude.{◌≡◌, ◌==◌, ◌++◌, [], IfOk, OnOk, map};
-ghost use Rattle.std.specs.List.{list_any};
-ghost use Rattle.module_tree.specs.Inner.{path_texts, candidate_file_view, file_dir, resolved_view};
+ghost use Rattle.std.specs.Prelude.{◌≡◌, ◌++◌, [], IfOk, OnOk, map};
+ghost use Rattle.module_tree.specs.Inner.{texts, path_texts, candidate_file_view, found_file_view, resolved_view};
 ghost use Rattle.module_tree.specs.Modules as spec;
 ghost use Rattle.module_tree.specs.Views.{files_of};
 
 use crate::data::UnresolvedReason;
 use crate::known::{KnownFiles, KnownPath, known_path};
-use crate::mod_dir::{Candidate, ModDir, copy_dir};
+use crate::mod_dir::Candidate;
 use std::alloc::{AllocError, Global};
 
 /// What a `mod` means: not known before these paths are, no file, or this one.
 #[derive(Drop)]
-pub(crate) enum Resolved<'a> {
+pub(crate) enum Resolved<'c, 'a> {
     Wants(Vec<String>),
     Fails(UnresolvedReason),
-    Finds(u32, ModDir<'a>),
+    Finds(u32, &'c Candidate<'a>),
 }
 
 /// Adds the path of a candidate if nothing is known of it.
@@ -51,10 +50,10 @@ fn unknown_paths(
     Ok(paths)
 }
 
-fn is_among(file: u32, files: &[u32]) -> bool
-    ensures { result ≡ list_any (λ around. around == file) files.now }
+fn is_around(around: &[&str], path: &str) -> bool
+    ensures { result ≡ spec.is_path_around (texts around.now) path.now }
 {
-    files.iter().any(|around| *around == file)
+    around.iter().any(|other| *other == path)
 }
 
 type FileFound<'c, 'a> = (u32, &'c Candidate<'a>);
@@ -66,8 +65,8 @@ fn push_found<'c, 'a>(
     found: &mut Vec<FileFound<'c, 'a>>,
 ) -> Result<(), AllocError>
     ensures { let c = candidate_file_view candidate.now in
-        OnOk result (map file_dir found.new.items ≡ map file_dir found.old.items
-        ++ spec.file_found ((files_of known.now).known c.path) c.dir) }
+        OnOk result (map found_file_view found.new.items ≡ map found_file_view found.old.items
+        ++ spec.file_found ((files_of known.now).known c.path) c) }
 {
     match known_path(known, candidate.path.as_str()) {
         Some(KnownPath::File(file)) => {
@@ -85,7 +84,7 @@ fn files_found<'c, 'a>(
     known: &KnownFiles<'_>,
     candidates: &'c [Candidate<'a>],
 ) -> Result<Vec<FileFound<'c, 'a>>, AllocError>
-    ensures { IfOk result (λ found. map file_dir found.items
+    ensures { IfOk result (λ found. map found_file_view found.items
         ≡ spec.files_found (files_of known.now) (map candidate_file_view candidates.now)) }
 {
     let mut found = Vec::new(alloc);
@@ -95,41 +94,36 @@ fn files_found<'c, 'a>(
     Ok(found)
 }
 
-/// What a `mod` means of these candidates, with these files around it.
-pub(crate) fn resolve<'a>(
+/// What a `mod` means of these candidates, with these paths around it.
+pub(crate) fn resolve<'c, 'a>(
     alloc: Global,
     known: &KnownFiles<'_>,
-    candidates: &[Candidate<'a>],
-    around: &[u32],
-) -> Result<Resolved<'a>, AllocError>
-    ensures { IfOk result (λ r. resolved_view r
-        ≡ spec.resolution_of (files_of known.now) around.now (map candidate_file_view candidates.now)) }
+    candidates: &'c [Candidate<'a>],
+    around: &[&str],
+) -> Result<Resolved<'c, 'a>, AllocError>
+    ensures { let cs = map candidate_file_view candidates.now in
+        IfOk result (λ r. resolved_view r ≡ spec.resolution_of (files_of known.now) (texts around.now) cs) }
 {
     let unknown = unknown_paths(alloc, known, candidates)?;
     if !unknown.is_empty() {
         return Ok(Resolved::Wants(unknown));
     }
     let found = files_found(alloc, known, candidates)?;
-    one_file(alloc, found.as_slice(), around)
+    Ok(one_file(found.as_slice(), around))
 }
 
-/// The one file, if there is one, and it is none of those around.
-fn one_file<'a>(
-    alloc: Global,
-    found: &[FileFound<'_, 'a>],
-    around: &[u32],
-) -> Result<Resolved<'a>, AllocError>
-    ensures { IfOk result (λ r. resolved_view r
-        ≡ spec.resolution_by around.now [] (map file_dir found.now)) }
+/// The one file, if there is one, and its path is none of those around.
+fn one_file<'c, 'a>(found: &[FileFound<'c, 'a>], around: &[&str]) -> Resolved<'c, 'a>
+    ensures { resolved_view result ≡ spec.resolution_by (texts around.now) [] (map found_file_view found.now) }
 {
     match found {
-        [] => Ok(Resolved::Fails(UnresolvedReason::NoFile)),
+        [] => Resolved::Fails(UnresolvedReason::NoFile),
         [(file, candidate)] => {
-            if is_among(*file, around) {
-                return Ok(Resolved::Fails(UnresolvedReason::Circle));
+            if is_around(around, candidate.path.as_str()) {
+                return Resolved::Fails(UnresolvedReason::Circle);
             }
-            Ok(Resolved::Finds(*file, copy_dir(alloc, &candidate.dir)?))
+            Resolved::Finds(*file, *candidate)
         }
-        _ => Ok(Resolved::Fails(UnresolvedReason::TwoFiles)),
+        _ => Resolved::Fails(UnresolvedReason::TwoFiles),
     }
 }
