@@ -14,6 +14,7 @@ mod ReachedItems
 mod Leading
 mod LeafForms
 mod LentItems
+mod Lints
 mod Listing
 mod Meeting
 mod Noting
