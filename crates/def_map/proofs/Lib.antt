@@ -14,6 +14,7 @@ mod ReachedItems
 mod Leading
 mod LeafForms
 mod LentItems
+mod Lints
 mod Listing
 mod Meeting
 mod Noting
@@ -30,6 +31,7 @@ mod Reading
 mod Refusing
 mod RootVeils
 mod SeedLaws
+mod Staying
 mod SureNames
 mod Telling
 mod Things

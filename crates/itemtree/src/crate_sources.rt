@@ -4,9 +4,13 @@ use crate::files::Room;
 use crate::sure_modules::sure_modules;
 use crate::walk::{Fault, Found};
 use def_map::{DefMapError, Manifest, ResolvedImport, resolve_imports};
+use hir_input::{EditionYear, FileAstId};
 use item_tree::ItemTree;
 use itemtree_commands::{CrateFile, Options};
+use language_names::unsure_items;
 use module_tree::{KnownFiles, KnownPath, ModuleChoice, ModuleTree, ModuleTreeError, module_tree};
+use rust_items::{Wanted, WantedMetas};
+use source_rows::read_listed;
 use std::alloc::{AllocError, Global};
 use std::collections::{BTreeMap, BTreeSet};
 use std::fs;
@@ -79,6 +83,26 @@ fn has_global_list(text: &str) -> bool {
 /// Whether a text may allow to name macros by paths that other macros make.
 fn allows_expanded(text: &str) -> bool {
     EXPANDED_WORDS.iter().any(|word| text.contains(word))
+}
+
+/// The items of a file that a build script may take away, or change.
+fn unsure_of(
+    alloc: Global,
+    file: &CrateFile,
+    features: &[String],
+    edition: EditionYear,
+) -> Result<Vec<FileAstId>, AllocError> {
+    if !file.text().contains("cfg") {
+        return Ok(Vec::new(alloc));
+    }
+    let wanted = Wanted {
+        bodies: false,
+        metas: WantedMetas::Undocumented,
+    };
+    match read_listed(alloc, file.text(), wanted, edition) {
+        Ok(read) => unsure_items(alloc, features, &read.file.syntax),
+        Err(_) => Err(AllocError),
+    }
 }
 
 /// What is known of the files of a crate.
@@ -295,6 +319,17 @@ impl<'a> CrateSources<'a> {
         Ok(words)
     }
 
+    /// The items of each file that a build script may take away, or change.
+    fn unsure(&self, manifest: &Manifest) -> Result<Vec<Vec<FileAstId>>, AllocError> {
+        let alloc = self.rt.alloc();
+        let (features, edition) = (&manifest.features, self.options.edition.year);
+        let mut unsure = Vec::new(alloc);
+        for file in &self.files {
+            unsure.push(unsure_of(alloc, file, features, edition)?)?;
+        }
+        Ok(unsure)
+    }
+
     /// Whether the trees tell where the path of each import begins.
     pub(crate) fn tells_paths(&self) -> bool {
         !self.files.iter().any(|file| has_global_list(file.text()))
@@ -307,11 +342,13 @@ impl<'a> CrateSources<'a> {
         manifest: &Manifest,
     ) -> Result<Vec<ResolvedImport>, DefMapError> {
         let (trees, export_words) = (self.trees()?, self.export_words()?);
+        let unsure = self.unsure(manifest)?;
         let sources = def_map::CrateSources {
             modules: &tree.modules,
             trees: &trees,
             export_words: &export_words,
-            allows_expanded: self.files.iter().any(|file| allows_expanded(file.text())),
+            unsure: &unsure,
+            allows_lints: self.files.iter().any(|file| allows_expanded(file.text())),
             manifest,
         };
         resolve_imports(self.rt.alloc(), sources)

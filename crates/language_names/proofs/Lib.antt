@@ -1,2 +1,3 @@
 mod Cfgs
 mod Derives
+mod UnsureItems

@@ -6,9 +6,12 @@ ghost use Rattle.std.specs.{List.list_any, Cmp.Lexicographic.pointwise};
 ghost use Rattle.hir_input.specs.{Cfg.atom_view, Cfg.cfg_view, Name.is_among};
 ghost use Rattle.language_names.specs.LanguageNames as spec;
 
-use hir_input::{Attr, CfgAtom, CfgExpr, ModPath, PathKind};
+mod unsure;
 
-const LANGUAGE_ATTRIBUTES: [&str; 71] = [
+use hir_input::{Attr, CfgAtom, CfgExpr, ModPath, PathKind};
+pub use unsure::unsure_items;
+
+const LANGUAGE_ATTRIBUTES: [&str; 70] = [
     "allow",
     "allow_internal_unsafe",
     "allow_internal_unstable",
@@ -64,7 +67,6 @@ const LANGUAGE_ATTRIBUTES: [&str; 71] = [
     "panic_handler",
     "panic_runtime",
     "path",
-    "prelude_import",
     "profiler_runtime",
     "recursion_limit",
     "repr",
