@@ -13,6 +13,7 @@ use source_listing::Source;
 use std::alloc::{AllocError, Global};
 use std::collections::BTreeMap;
 use std::fmt::Display;
+use std::fs;
 
 /// How files differ whose items are the same.
 const ONLY_ORDER: &str = "the order of items or the attributes of the file differ";
@@ -160,10 +161,38 @@ impl Comparison<'_> {
         Ok(Side { top, found })
     }
 
+    /// Complains of the links that were left out of a folder, where the other has files.
+    fn complain_of_links(&mut self, side: &Side, other: &Side) -> Result<(), AllocError> {
+        for link in &side.found.links {
+            if other.has_files(self.report.rt.alloc(), side.path_below(link))? {
+                let reason = "not compared with the files that the other folder has here";
+                self.report.complain(Shown(link), reason);
+            }
+        }
+        Ok(())
+    }
+
+    /// A folder cannot be compared with what is none, or is not there.
+    fn refuse_none(&mut self, folder: &str, other: &str) -> Result<(), Failure> {
+        let rt = self.report.rt;
+        match fs::metadata(rt, other) {
+            Err(error) if other != STDIN => {
+                self.report.complain(Shown(other), error);
+                Ok(())
+            }
+            _ => Err(no_folder(rt.alloc(), folder, other)?),
+        }
+    }
+
     fn compare_folders(&mut self, old: &str, new: &str, asked: &Asked<'_>) -> Result<(), Failure> {
         let alloc = self.report.rt.alloc();
         let (olds, news) = (self.side(old, asked)?, self.side(new, asked)?);
+        self.complain_of_links(&olds, &news)?;
+        self.complain_of_links(&news, &olds)?;
         let pairs = pairs(alloc, &olds, &news)?;
+        if pairs.is_empty() {
+            self.report.fail();
+        }
         let (mut old_room, mut new_room) = (Room::new(alloc), Room::new(alloc));
         for (before, (below, pair)) in pairs.iter().enumerate() {
             match *pair {
@@ -203,6 +232,22 @@ fn is_at_or_below(path: &str, other: &str) -> bool {
 impl Side {
     fn path_below<'a>(&self, file: &'a str) -> &'a str {
         file.strip_prefix(self.top.as_str()).unwrap_or(file)
+    }
+
+    /// Whether there is a file at this path in the folder, or below it.
+    fn has_files(&self, alloc: Global, below: &str) -> Result<bool, AllocError> {
+        let (top, files) = (&self.top, &self.found.files);
+        let path = format!(in alloc; "{top}{below}")?;
+        let folder = with_slash(alloc, &path)?;
+        let at = files.partition_point(|file| file.as_str() < path.as_str());
+        let behind = files.partition_point(|file| file.as_str() < folder.as_str());
+        let is_file = files.get(at).is_some_and(|file| *file == path);
+        Ok(
+            is_file
+                || files
+                    .get(behind)
+                    .is_some_and(|file| file.starts_with(folder.as_str())),
+        )
     }
 
     /// Whether a file may stand at this path in the folder, where something could not be read or was left out.
@@ -286,8 +331,8 @@ pub(crate) fn compare(
             comparison.compare_files(old, new, &mut old_room, &mut new_room)
         }
         (true, true) => comparison.compare_folders(old, new, asked),
-        (true, false) => Err(no_folder(alloc, old, new)?),
-        (false, true) => Err(no_folder(alloc, new, old)?),
+        (true, false) => comparison.refuse_none(old, new),
+        (false, true) => comparison.refuse_none(new, old),
     };
     or_closed(done, comparison.report.status)
 }
