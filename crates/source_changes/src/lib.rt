@@ -3,6 +3,7 @@
 
 mod change_kind;
 mod doc_attributes;
+mod foreign;
 mod hiding;
 mod inside;
 mod kept;

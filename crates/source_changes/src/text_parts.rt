@@ -7,6 +7,7 @@ ghost use Rattle.source_changes.specs.Hiding.{is_item_hidden};
 ghost use Rattle.source_changes.specs.Parts as spec;
 ghost use Rattle.source_changes.specs.Views.{outer_view, part_view};
 
+use crate::foreign::is_input;
 use crate::hiding::{hides_members, is_item_hidden, is_member_hidden};
 use crate::inside::hole_of;
 use hir_input::{AstIdKind, EditionYear};
@@ -33,11 +34,27 @@ pub struct Part {
     pub is_hidden: bool,
 }
 
-/// A module around an item: where it ends, and its name.
+/// A module around an item: where it ends, its name, and whether the functions in it may be a macro's input.
 #[derive(Clone, Copy)]
 pub(crate) struct Around<'t> {
     pub end: usize,
     pub name: &'t str,
+    pub is_input: bool,
+}
+
+/// Whether what stands in one of the modules around may be a macro's input.
+#[tactic(auto, using(crate::proofs::PartSteps::input_around))]
+fn have_input(around: &[Around<'_>]) -> bool
+    ensures { result ≡ spec.have_input (map outer_view around.now) }
+{
+    around.iter().any(|module| module.is_input)
+}
+
+/// Braces that are a hole, but not in a macro's input.
+fn hole_unless(is_input: bool, hole: Option<TextRange>) -> Option<TextRange>
+    ensures { result ≡ spec.hole_unless is_input hole }
+{
+    if is_input { None } else { hole }
 }
 
 fn told_at(range: TextRange, name: Option<TextRange>) -> usize
@@ -83,17 +100,19 @@ fn member_part(
     text: &str,
     path: &str,
     hidden: Option<bool>,
+    is_input: bool,
     member: &Member,
 ) -> Result<Part, AllocError>
     ensures { IfOk result (λ part. part_view part
-        ≡ spec.member_part text.now path.now hidden (member_view member.now)) }
+        ≡ spec.member_part text.now path.now hidden is_input (member_view member.now)) }
 {
+    let hole = hole_of(text, member.range, member.body);
     Ok(Part {
         label: member_label(alloc, text, path, member)?,
         at: told_at(member.range, member.name),
         range: member.range,
         kept: kept_name(member.kind, member.name),
-        body: hole_of(text, member.range, member.body),
+        body: hole_unless(is_input, hole),
         is_hidden: is_member_hidden(hidden, text, member),
     })
 }
@@ -103,14 +122,16 @@ fn push_members(
     text: &str,
     path: &str,
     hidden: Option<bool>,
+    is_input: bool,
     members: &[Member],
     parts: &mut Vec<Part>,
 ) -> Result<(), AllocError>
-    ensures { let more = map (spec.member_part text.now path.now hidden) (map member_view members.now) in
+    ensures { let one = spec.member_part text.now path.now hidden is_input in
+        let more = map one (map member_view members.now) in
         OnOk result (map part_view parts.new.items ≡ map part_view parts.old.items ++ more) }
 {
     for member in members {
-        let part = member_part(alloc, text, path, hidden, member)?;
+        let part = member_part(alloc, text, path, hidden, is_input, member)?;
         parts.push(part)?;
     }
     Ok(())
@@ -199,12 +220,14 @@ fn item_part(
     text: &str,
     edition: EditionYear,
     path: &str,
+    is_input: bool,
     item: &ItemPlace,
 ) -> Result<Part, AllocError>
     ensures { IfOk result (λ part. part_view part
-        ≡ spec.part_of_item edition text.now path.now item.now) }
+        ≡ spec.part_of_item edition text.now path.now is_input item.now) }
 {
     let is_hidden = is_item_hidden(alloc, text, edition, item)?;
+    let hole = hole_of(text, item.range, fn_body(item.id.kind, item.body));
     let mut label = String::with_capacity(alloc, ROOM)?;
     push_label(&mut label, kind_texts(item.id.kind).word, path)?;
     Ok(Part {
@@ -212,12 +235,12 @@ fn item_part(
         at: told_at(item.range, item.name),
         range: item.range,
         kept: None,
-        body: hole_of(text, item.range, fn_body(item.id.kind, item.body)),
+        body: hole_unless(is_input, hole),
         is_hidden,
     })
 }
 
-/// Adds the members of an item, which is hidden or not.
+/// Adds the members of an item, which is hidden or not, and may be in a macro's input.
 fn push_inside(
     alloc: Global,
     text: &str,
@@ -225,16 +248,18 @@ fn push_inside(
     path: &str,
     item: &ItemPlace,
     is_hidden: bool,
+    in_input: bool,
     parts: &mut Vec<Part>,
 ) -> Result<(), AllocError>
     requires { is_hidden ≡ is_item_hidden edition text.now item.now }
-    ensures { let more = spec.member_parts edition text.now path.now item.now in
+    ensures { let more = spec.member_parts edition text.now path.now in_input item.now in
         OnOk result (map part_view parts.new.items ≡ map part_view parts.old.items ++ more) }
 {
     let (kind, own) = (item.id.kind, text_at(text, item.range));
     let hidden = hides_members(alloc, own, edition, kind, is_hidden)?;
+    let is_input = in_input || is_input(text, item);
     let members = members_in(alloc, kind, text, item.body, edition)?;
-    push_members(alloc, text, path, hidden, &members, parts)
+    push_members(alloc, text, path, hidden, is_input, &members, parts)
 }
 
 /// Adds an item, and behind it its members.
@@ -250,10 +275,13 @@ fn push_item(
         OnOk result (map part_view parts.new.items ≡ map part_view parts.old.items ++ more) }
 {
     let path = item_path(alloc, text, edition, around, item)?;
-    let part = item_part(alloc, text, edition, &path, item)?;
+    let in_input = have_input(around);
+    let part = item_part(alloc, text, edition, &path, in_input, item)?;
     let is_hidden = part.is_hidden;
     parts.push(part)?;
-    push_inside(alloc, text, edition, &path, item, is_hidden, parts)
+    push_inside(
+        alloc, text, edition, &path, item, is_hidden, in_input, parts,
+    )
 }
 
 /// The modules that end behind a place.
@@ -288,6 +316,7 @@ fn enter<'t>(
             around.push(Around {
                 end: item.range.end,
                 name: text_at_some(text, item.name),
+                is_input: is_input(text, item),
             })?;
             Ok(())
         }
