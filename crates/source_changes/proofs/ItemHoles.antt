@@ -48,7 +48,7 @@ abbrev pub place_holes : EditionYear → List ℕ → ItemPlace → List Hole
 place_holes edition text s = item_holes edition text s.id.kind s.range s.body
 
 -- holes, but none in a macro's input
-pub holes_unless : Bool → List Hole → List Hole
+abbrev pub holes_unless : Bool → List Hole → List Hole
 holes_unless true hs = []
 holes_unless false hs = hs
 

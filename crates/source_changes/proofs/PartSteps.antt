@@ -1,12 +1,9 @@
 -- Labels, and items in turn.
-use Rattle.std.proofs.Common.{◌≡◌, ◌<◌, ◌+◌, ℕ, List, [], ◌∷◌, ◌++◌, ◌||◌, length, drop, get_or, map, refl, ap, sym, ◌∙◌, append_assoc, codes}
-use Rattle.std.specs.List.{list_any}
+use Rattle.std.proofs.Common.{◌≡◌, ◌<◌, ◌+◌, ℕ, List, [], ◌∷◌, ◌++◌, length, drop, get_or, refl, ap, sym, ◌∙◌, append_assoc, codes}
 use Rattle.hir_input.specs.declared.edition.EditionYear.{EditionYear}
 use Rattle.rust_items.specs.declared.source_file.ItemPlace.{ItemPlace}
 use Rattle.source_rows.proofs.Steps.{drop_next}
-use Rattle.source_changes.specs.Parts.{Outer, Part, around_behind, have_input, item_parts_from, label, parts_of, still_open}
-use Rattle.source_changes.specs.Views.{outer_view}
-use Rattle.source_changes.specs.declared.text_parts.Around as code_around
+use Rattle.source_changes.specs.Parts.{Outer, Part, around_behind, item_parts_from, label, parts_of, still_open}
 
 -- a path is not empty
 some_label : (word path name : List ℕ) → label word (path ++ codes "::" ++ name) ≡ word ++ 32 ∷ (path ++ codes "::" ++ name)
@@ -28,8 +25,3 @@ parts_more edition text done pushed around open_around next items i s all h e o 
     (λ k. p k ++ item_parts_from edition text (n k) rest) ∙ append_assoc done (parts_of edition text open_around s) (item_parts_from edition text (around_behind text open_around s.id.kind s) rest)
     ∙ (λ k. done ++ (parts_of edition text (o k) s ++ item_parts_from edition text (around_behind text (o k) s.id.kind s) rest))
     ∙ ap (λ (ss : List ItemPlace). done ++ item_parts_from edition text around ss) (sym (drop_next items i s h e)) ∙ inv
-
--- modules around, as plain data
-pub input_around : (around : List code_around.Around) → list_any (λ a. a.is_input) around ≡ have_input (map outer_view around)
-input_around [] = refl
-input_around (a ∷ around) = ap (λ b. a.is_input || b) (input_around around)

@@ -1,8 +1,9 @@
 //! The items of a text and their members, as parts of it.
 
-ghost use Rattle.std.specs.Prelude.{◌≡◌, ◌++◌, ◌∷◌, [], IfOk, OnOk, map, string_bytes};
+ghost use Rattle.std.specs.Prelude.{◌≡◌, ◌++◌, ◌∷◌, ◌||◌, [], IfOk, OnOk, map, string_bytes};
 ghost use Rattle.rust_items.specs.MemberViews.{member_view};
 ghost use Rattle.source_rows.specs.Labels.{member_word};
+ghost use Rattle.source_changes.specs.Foreign.{is_input};
 ghost use Rattle.source_changes.specs.Hiding.{is_item_hidden};
 ghost use Rattle.source_changes.specs.Parts as spec;
 ghost use Rattle.source_changes.specs.Views.{outer_view, part_view};
@@ -43,11 +44,24 @@ pub(crate) struct Around<'t> {
 }
 
 /// Whether what stands in one of the modules around may be a macro's input.
-#[tactic(auto, using(crate::proofs::PartSteps::input_around))]
 fn have_input(around: &[Around<'_>]) -> bool
     ensures { result ≡ spec.have_input (map outer_view around.now) }
 {
-    around.iter().any(|module| module.is_input)
+    let mut left = around;
+    while let [module, more @ ..] = left {
+        if module.is_input {
+            return true;
+        }
+        left = more;
+    }
+    false
+}
+
+/// Whether an item may be in a macro's input, or what stands in it.
+fn is_input_with(in_input: bool, text: &str, item: &ItemPlace) -> bool
+    ensures { result ≡ (in_input || is_input text.now item.now) }
+{
+    in_input || is_input(text, item)
 }
 
 /// Braces that are a hole, but not in a macro's input.
@@ -257,7 +271,7 @@ fn push_inside(
 {
     let (kind, own) = (item.id.kind, text_at(text, item.range));
     let hidden = hides_members(alloc, own, edition, kind, is_hidden)?;
-    let is_input = in_input || is_input(text, item);
+    let is_input = is_input_with(in_input, text, item);
     let members = members_in(alloc, kind, text, item.body, edition)?;
     push_members(alloc, text, path, hidden, is_input, &members, parts)
 }
