@@ -4,7 +4,7 @@ use crate::escapes::Shown;
 use crate::failure::Failure;
 use crate::files::{Room, STDIN, is_a_folder};
 use crate::report::Report;
-use crate::walk::{Found, files_of_folder, with_slash};
+use crate::walk::{Found, files_of_folder, refuse_absolute, with_slash};
 use itemtree_commands::{CompareError, Options, compare_trees};
 use itemtree_options::Asked;
 use list_forms::Form;
@@ -27,7 +27,7 @@ const ONLY_IN_TREES: &str =
 pub(crate) struct Counting {
     /// Whether nothing is told where the item trees are equal.
     pub(crate) is_of_trees: bool,
-    /// Whether only what is seen outside of its module counts.
+    /// Whether only what is public counts.
     pub(crate) is_public: bool,
 }
 
@@ -319,6 +319,7 @@ pub(crate) fn compare(
 ) -> Result<u8, Failure> {
     let alloc = rt.alloc();
     refuse_wrong(alloc, old, new)?;
+    refuse_absolute(rt, asked, old.starts_with("/") || new.starts_with("/"))?;
     let mut comparison = Comparison {
         report: Report::new(rt, asked),
         options,

@@ -2,7 +2,7 @@
 use crate::escapes::Shown;
 use crate::failure::Failure;
 use crate::files::{Room, STDIN, is_a_folder};
-use crate::walk::{Fault, FolderId, Found, files_of_folder};
+use crate::walk::{Fault, FolderId, Found, files_of_folder, refuse_absolute};
 use itemtree_options::Asked;
 use std::alloc::{AllocError, Global};
 use std::collections::BTreeSet;
@@ -171,6 +171,7 @@ pub(crate) fn files_of(rt: &HostRuntime, asked: &Asked<'_>) -> Result<Found, Fai
     refuse_wrong(alloc, asked)?;
     let mut found = Found::new(alloc);
     let paths = paths_of(rt, asked, &mut found)?;
+    refuse_absolute(rt, asked, paths.iter().any(|path| path.starts_with("/")))?;
     let mut sources = Sources {
         rt,
         asked,

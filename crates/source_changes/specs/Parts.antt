@@ -1,6 +1,6 @@
 -- The items of a text and their members, as parts of it.
-use Rattle.std.specs.Prelude.{ℕ, Bool, true, false, ◌||◌, nat_lt, List, [], ◌∷◌, ◌++◌, flat_map, map, filter, codes, Option, Some, None}
-use Rattle.std.specs.List.{list_any}
+use Rattle.std.specs.Prelude.{ℕ, Bool, true, false, ◌||◌, nat_eq, nat_lt, if◌then◌else◌, List, [], ◌∷◌, ◌++◌, flat_map, map, filter, codes, Option, Some, None}
+use Rattle.std.specs.List.{ends_with, list_any}
 use Rattle.hir_input.specs.declared.edition.EditionYear.{EditionYear}
 use Rattle.hir_input.specs.declared.ids.AstIdKind.{AstIdKind}
 use Rattle.hir_input.specs.declared.ids.AstIdKind.TheVariants as kind
@@ -16,7 +16,7 @@ use Rattle.source_changes.specs.Bodies.{hole_of}
 use Rattle.source_changes.specs.Foreign.{is_input}
 use Rattle.source_changes.specs.Hiding.{hides_members, is_item_hidden, is_member_hidden}
 
--- a part: what it is called, where it is told, where it stands, the name that counts among the tokens around it, the braces whose tokens do not count, and whether it is seen in its module alone
+-- a part: what it is called, where it is told, where it stands, the name that counts among the tokens around it, the braces whose tokens do not count, and whether it is not public
 pub record Part : Type 0 where
   pub label : List ℕ
   pub at : ℕ
@@ -89,9 +89,14 @@ abbrev pub impl_braces : AstIdKind → Option TextRange → Option TextRange
 impl_braces kind.Impl body = body
 impl_braces _ body = None
 
+-- what stands for the list of a use, whose header ends before it
+abbrev pub list_mark : AstIdKind → List ℕ → List ℕ
+list_mark kind.Use header = if ends_with nat_eq header (codes "::") then codes "{..}" else []
+list_mark _ header = []
+
 -- an item's name as it is written; without one, its header
 abbrev pub part_name : EditionYear → List ℕ → ItemPlace → Option TextRange → List ℕ
-part_name edition text s None = header edition text s.range (impl_braces s.id.kind s.body)
+part_name edition text s None = let name = header edition text s.range (impl_braces s.id.kind s.body) in name ++ list_mark s.id.kind name
 part_name edition text s (Some name) = text_at text name
 
 -- the braces of a function alone

@@ -1,6 +1,7 @@
 //! The items of a text and their members, as parts of it.
 
-ghost use Rattle.std.specs.Prelude.{◌≡◌, ◌++◌, ◌∷◌, ◌||◌, [], IfOk, OnOk, map, string_bytes};
+ghost use Rattle.std.specs.Prelude.{◌≡◌, ◌++◌, ◌∷◌, ◌||◌, [], IfOk, OnOk, codes, map, nat_eq, string_bytes};
+ghost use Rattle.std.specs.List.{ends_with};
 ghost use Rattle.rust_items.specs.MemberViews.{member_view};
 ghost use Rattle.source_rows.specs.Labels.{member_word};
 ghost use Rattle.source_changes.specs.Foreign.{is_input};
@@ -31,7 +32,7 @@ pub struct Part {
     pub kept: Option<TextRange>,
     /// The braces whose tokens do not count.
     pub body: Option<TextRange>,
-    /// Whether it is seen in its module alone, by what is written of it.
+    /// Whether it is not public, by what is written of it.
     pub is_hidden: bool,
 }
 
@@ -160,6 +161,23 @@ fn impl_braces(kind: AstIdKind, body: Option<TextRange>) -> Option<TextRange>
     }
 }
 
+/// Whether a header ends before a list.
+fn ends_before_list(header: &str) -> bool
+    ensures { result ≡ ends_with nat_eq header.now (codes "::") }
+{
+    header.as_bytes().ends_with(b"::")
+}
+
+/// What stands for the list of a use, whose header ends before it.
+fn list_mark(kind: AstIdKind, header: &str) -> &'static str
+    ensures { result.now ≡ spec.list_mark kind header.now }
+{
+    match kind {
+        AstIdKind::Use => { if ends_before_list(header) { "{..}" } else { "" } }
+        _ => "",
+    }
+}
+
 fn push_name(
     alloc: Global,
     text: &str,
@@ -175,7 +193,8 @@ fn push_name(
         None => {
             let braces = impl_braces(item.id.kind, item.body);
             let header = header(alloc, text, edition, item.range, braces)?;
-            out.push_str(&header)
+            out.push_str(&header)?;
+            out.push_str(list_mark(item.id.kind, &header))
         }
     }
 }
