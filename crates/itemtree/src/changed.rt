@@ -221,14 +221,6 @@ struct Side {
     found: Found,
 }
 
-/// Whether a path is another, or leads below it.
-fn is_at_or_below(path: &str, other: &str) -> bool {
-    let Some(rest) = path.strip_prefix(other) else {
-        return false;
-    };
-    rest.is_empty() || rest.starts_with("/")
-}
-
 impl Side {
     fn path_below<'a>(&self, file: &'a str) -> &'a str {
         file.strip_prefix(self.top.as_str()).unwrap_or(file)
@@ -250,15 +242,27 @@ impl Side {
         )
     }
 
+    /// Whether what stands at a path was not read or was left out.
+    fn is_unread(&self, path: &str) -> bool {
+        let Found { faults, links, .. } = &self.found;
+        let at = faults.partition_point(|fault| fault.path.as_str() < path);
+        let is_fault = faults
+            .get(at)
+            .is_some_and(|fault| fault.path.as_str() == path);
+        is_fault
+            || links
+                .binary_search_by(|link| link.as_str().cmp(path))
+                .is_ok()
+    }
+
     /// Whether a file may stand at this path in the folder, where something could not be read or was left out.
     fn may_have(&self, alloc: Global, below: &str) -> Result<bool, AllocError> {
         let top = &self.top;
         let path = format!(in alloc; "{top}{below}")?;
-        let is_unread = |unread: &str| is_at_or_below(&path, unread);
-        Ok(
-            self.found.faults.iter().any(|fault| is_unread(&fault.path))
-                || self.found.links.iter().any(|link| is_unread(link)),
-        )
+        let is_unread = |(at, _): (usize, &str)| path
+            .get(..at)
+            .is_some_and(|front| self.is_unread(front));
+        Ok(self.is_unread(&path) || path.match_indices("/").any(is_unread))
     }
 }
 
