@@ -289,6 +289,8 @@ fn finish(run: Run<'_>) -> Result<u8, Failure> {
             finish_tags(rt, file, tags, status, has_done)
         }
         Command::Find { .. } if !report.has_written => Ok(status.max(NOT_SO)),
+        // (that there is nothing was told where it was looked for)
+        Command::Check if !has_done => Ok(FAILED),
         _ => Ok(status),
     }
 }

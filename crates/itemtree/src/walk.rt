@@ -1,5 +1,6 @@
 //! The Rust files below a folder.
 use crate::escapes::Shown;
+use crate::failure::Failure;
 use itemtree_options::Asked;
 use std::alloc::{AllocError, Global};
 use std::collections::BTreeSet;
@@ -8,7 +9,7 @@ use std::fs::Metadata;
 use std::io::{BufRead, BufReader};
 use std::os::unix::fs::MetadataExt;
 use std::rt::Files;
-use std::{fs, io};
+use std::{env, fs, io};
 
 /// The file by which cargo marks a folder that it builds in.
 const CACHE_TAG: &str = "CACHEDIR.TAG";
@@ -289,6 +290,26 @@ pub(crate) fn with_slash(alloc: Global, folder: &str) -> Result<String, AllocErr
         path.push('/')?;
     }
     Ok(path)
+}
+
+/// A glob from the top on that leads into the working directory stands for no file where none is named from the top on.
+pub(crate) fn refuse_absolute(
+    rt: &HostRuntime,
+    asked: &Asked<'_>,
+    is_any_absolute: bool,
+) -> Result<(), Failure> {
+    let Ok(here) = env::current_dir(rt) else {
+        return Ok(());
+    };
+    match asked.filter.first_below(here.as_str()) {
+        Some(glob) if !is_any_absolute => {
+            let message = format!(in rt.alloc();
+                "--exclude '{glob}': no file has such a path, since none is named from / on"
+            )?;
+            Err(Failure::Usage(message))
+        }
+        _ => Ok(()),
+    }
 }
 
 /// Tells on standard error which links were left out, and that there is no file.

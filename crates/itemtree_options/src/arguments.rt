@@ -243,7 +243,7 @@ pub(crate) const TREE: Argument = argument!(FLAG id: "tree";
     "Tell nothing where the item trees are equal, which keep no signatures, fields, variants, values or members");
 
 pub(crate) const PUBLIC: Argument = argument!(FLAG id: "public", bars: &["tree"];
-    "Tell nothing of what is seen in its module alone, by the visibilities that are written; not with --tree");
+    "Tell only of what is public, by the visibilities that are written; not with --tree");
 
 pub(crate) const CFG_OF_TREE: Argument = Argument {
     needs: &["tree"],

@@ -50,6 +50,10 @@ compiler_cfgs =
 abbrev pub is_of_rustc : List ℕ → Bool
 is_of_rustc name = starts_with nat_eq name (codes "rustc_")
 
+-- a name that is an attribute of the language's if it stands alone
+abbrev pub is_language_name : List ℕ → Bool
+is_language_name name = is_among language_attributes name || is_of_rustc name
+
 -- the path of an attribute that is the language's
 abbrev pub is_language_by : PathKind → List (List ℕ) → Bool
 is_language_by path.Plain (name ∷ more) = if length more == 0 then is_among language_attributes name || is_of_rustc name else is_among tools name

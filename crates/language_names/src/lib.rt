@@ -149,7 +149,8 @@ fn is_language_attribute(name: &str) -> bool
     is_word(&LANGUAGE_ATTRIBUTES, name.as_bytes())
 }
 
-fn is_tool(name: &str) -> bool
+/// Whether a name is that of a tool.
+pub fn is_tool(name: &str) -> bool
     ensures { result ≡ is_among spec.tools name.now }
 {
     is_word(&TOOLS, name.as_bytes())
@@ -173,6 +174,13 @@ fn is_of_rustc(name: &str) -> bool
     ensures { result ≡ spec.is_of_rustc name.now }
 {
     name.as_bytes().starts_with(b"rustc_")
+}
+
+/// Whether a name that stands alone is an attribute of the language's.
+pub fn is_language_name(name: &str) -> bool
+    ensures { result ≡ spec.is_language_name name.now }
+{
+    is_language_attribute(name) || is_of_rustc(name)
 }
 
 /// Whether the attribute of a path is the language's: what is not may rewrite its item.

@@ -1,3 +1,4 @@
+pub mod Foreign
 pub mod Bodies
 pub mod Hiding
 pub mod Parts
