@@ -412,155 +412,6 @@ def try_surrogates():
             server.end()
 
 
-# ---- ranges: `«` and `»` stand around an item or a member, `‹` and `›` around its name, `⟨` and `⟩` around its braces
-
-MARKS = {"«": "range", "»": "range", "‹": "name", "›": "name", "⟨": "braces", "⟩": "braces"}
-
-RANGED = """\
-// 🦀 é
-«/// One.
-#[inline]
-fn ‹one›(
-    a: u8,
-) ⟨{
-    fn no() {}
-}⟩» «const ‹A›: u8 = 1;»\r
-«mod ‹outer› {\r
-    «pub mod ‹inner› { «fn ‹𝔛é›() ⟨{ }⟩»«type ‹T› =
-        u8;» }»\r
-    «use a::{
-        b,
-    };»\r}»
-«struct ‹S› ⟨{
-    «pub ‹f›: u8»,
-    /* 🦀 */ «‹r#type›: Vec<
-        u8,
-    >»,
-}⟩»«enum ‹E› ⟨{ «‹V›», «‹W›(
-    u8,
-)» }⟩»
-«trait ‹Tr› ⟨{
-    «fn ‹f›(
-        &self,
-    );»
-}⟩»
-«impl<T> Tr for T ⟨{ «fn ‹f›(
-    &self,
-) ⟨{
-}⟩»}⟩» «macro_rules! ‹mr› ⟨{
-    () => {}
-}⟩»
-«#[cfg(any())]
-extern "C" {
-    «fn ‹g›();»
-}»
-// e\u0301"""
-
-
-def marked_parts(marked):
-    """The text without its marks, and each item and member: the ranges that marks stand around."""
-    text, opened, parts = "", [], []
-    for character in marked:
-        if character == "«":
-            opened.append({})
-            parts.append(opened[-1])
-        if character not in MARKS:
-            text += character
-        elif MARKS[character] in opened[-1]:
-            opened[-1][MARKS[character]] = (opened[-1][MARKS[character]][0], len(text))
-        else:
-            opened[-1][MARKS[character]] = (len(text), None)
-        if character == "»":
-            opened.pop()
-    return text, parts
-
-
-def span(text, start, end, encoding):
-    return {"start": position_of(text, start, encoding), "end": position_of(text, end, encoding)}
-
-
-def wanted_folds(text, parts):
-    folds = []
-    for part in parts:
-        start, end = part.get("braces", (part.get("name", part["range"])[0], part["range"][1]))
-        lines = [position_of(text, at, "utf-8")["line"] for at in (start, end)]
-        if lines[0] < lines[1]:
-            folds.append({"startLine": lines[0], "endLine": lines[1]})
-    return folds
-
-
-def wanted_selection(text, parts, at, encoding):
-    """The whole text around the items around the name: of two that touch there, the first."""
-    around = [(0, len(text))]
-    for part in parts:
-        for start, end in (part["range"], part.get("name", part["range"])):
-            if start <= at <= end and around[-1][0] <= start and end <= around[-1][1] and (start, end) != around[-1]:
-                around.append((start, end))
-    selection = None
-    for start, end in around:
-        selection = {"range": span(text, start, end, encoding), **({"parent": selection} if selection else {})}
-    return selection
-
-
-def wanted_highlights(text, parts, at, encoding):
-    for part in parts:
-        braces = part.get("braces")
-        marks = ([part["name"]] if "name" in part else []) + ([(braces[0], braces[0] + 1), (braces[1] - 1, braces[1])] if braces else [])
-        if any(start <= at <= end for start, end in marks):
-            return [{"range": span(text, start, end, encoding)} for start, end in marks]
-    return []
-
-
-def try_ranges():
-    text, parts = marked_parts(RANGED)
-    for encoding in ("utf-8", "utf-16"):
-        server = Server(offers=(encoding,))
-        can = server.opened["result"]["capabilities"]
-        check(can["foldingRangeProvider"] and can["selectionRangeProvider"] and can["documentHighlightProvider"], f"what the server can do: {can}")
-        document = {"textDocument": {"uri": "file:///ranged.rs"}}
-        server.open("file:///ranged.rs", text)
-        got, wanted = server.ask("textDocument/foldingRange", document).get("result"), wanted_folds(text, parts)
-        check(got == wanted, f"folds: {got}, and not {wanted}")
-        # (Each position of the text, and some beyond it: between CR and LF, within a character, behind a line, behind the text.)
-        positions = [position_of(text, at, encoding) for at in range(len(text) + 1)]
-        positions += [{"line": line, "character": at} for line in (0, 9, 12, 77) for at in range(0, 60, 1)] + [{"line": 2**31 - 1, "character": 2**31 - 1}]
-        got = server.ask("textDocument/selectionRange", {**document, "positions": positions}).get("result")
-        check(got is not None and len(got) == len(positions), "as many selections as positions")
-        for number, position in enumerate(positions):
-            at = index_of(text, position, encoding)
-            wanted = wanted_selection(text, parts, at, encoding)
-            check(got[number] == wanted, f"the selection at {position} in {encoding}: {got[number]}, and not {wanted}")
-            marks, wanted = server.ask("textDocument/documentHighlight", {**document, "position": position}).get("result"), wanted_highlights(text, parts, at, encoding)
-            check(marks == wanted, f"the highlights at {position} in {encoding}: {marks}, and not {wanted}")
-        check(server.end() == 0, "the end of ranges")
-
-
-def try_other_ranges():
-    server = Server()
-    start, place = {"line": 0, "character": 0}, {"line": 0, "character": 4}
-    asked = {"foldingRange": {}, "selectionRange": {"positions": [start, place]}, "documentHighlight": {"position": place}}
-    alone = lambda end: {"range": {"start": start, "end": {"line": 0, "character": end}}}
-    for uri, text, language, answers in [
-        ("file:///empty.rs", "", "rust", ([], [alone(0), alone(0)], [])),
-        ("file:///a.txt", "fn a() {\n}", "plaintext", ([], [{"range": {"start": start, "end": {"line": 1, "character": 1}}}] * 2, [])),
-        ("file:///blank.rs", "      ", "rust", ([], [alone(6), alone(6)], [])),
-        ("file:///whole.rs", "fn a();", "rust", ([], [alone(7), {**{"range": {"start": {"line": 0, "character": 3}, "end": {"line": 0, "character": 4}}}, "parent": alone(7)}], [{"range": {"start": {"line": 0, "character": 3}, "end": {"line": 0, "character": 4}}}])),
-    ]:
-        server.open(uri, text, language=language)
-        for (method, params), wanted in zip(asked.items(), answers):
-            got = server.ask(f"textDocument/{method}", {"textDocument": {"uri": uri}, **params})
-            check(got.get("result") == wanted, f"{method} of {text!r}: {got}")
-            refused(server.ask(f"textDocument/{method}", {"textDocument": {"uri": "file:///none.rs"}, **params}), -32602, f"{method} of no document")
-    for method, params, pointer in [
-        ("selectionRange", {}, "/positions"), ("selectionRange", {"positions": place}, "/positions"), ("selectionRange", {"positions": [place, {"line": 0}]}, "/positions/1/character"),
-        ("documentHighlight", {}, "/position"), ("documentHighlight", {"position": {"line": -1, "character": 0}}, "/position/line"),
-    ]:
-        answer = server.ask(f"textDocument/{method}", {"textDocument": {"uri": "file:///empty.rs"}, **params})
-        refused(answer, -32602, f"{method} with {params}")
-        check(answer.get("error", {}).get("message", "").endswith(f" {pointer}"), f"where {params} is wrong: {answer}")
-    check(server.end() == 0, "the end of other ranges")
-
-
 # ---- changes
 
 PIECES = ["fn f() {}\n", "struct S { a: u8 }\r\n", "\r", "\n", "é", "🦀", "\u2028", "\ufeff", "mod m {", "}", "// c\n", "/*", "*/", '"', " ", "x", "enum E { A, B }", "impl S {", "\t"]
@@ -706,8 +557,7 @@ def talk(server):
     server.notice()
     answers.append(ask("documentSymbol", "file:///a.rs"))
     server.change("file:///a.rs", [{"range": {"start": {"line": 1, "character": 0}, "end": {"line": 1, "character": 3}}, "text": "fn a() {}"}])
-    place = {"line": 1, "character": 4}
-    answers += [ask("foldingRange", "file:///a.rs"), ask("selectionRange", "file:///a.rs", positions=[place]), ask("documentHighlight", "file:///a.rs", position=place)]
+    answers.append(ask("documentSymbol", "file:///a.rs"))
     last = []
     for _ in range(2):
         server.open("file:///b.rs", "mod m { struct S; }")
@@ -754,8 +604,6 @@ if __name__ == "__main__":
     try_numbers()
     try_symbols()
     try_surrogates()
-    try_ranges()
-    try_other_ranges()
     try_problems()
     try_streams()
     try_many()

@@ -1,10 +1,9 @@
 -- Words that private contracts alone cite.
-use Rattle.std.specs.Prelude.{◌≡◌, ℕ, Bool, false, List, [], ◌∷◌, Option, Some, None, option_copied, Result, Ok, Err, IfOk}
+use Rattle.std.specs.Prelude.{◌≡◌, ℕ, Bool, false, List, [], Option, option_copied, Result, Ok, Err, IfOk}
 use Rattle.serde_json.specs.Data.{Data}
 use Rattle.item_tree.specs.Node.{Unfolding}
 use Rattle.item_tree.specs.Walk.{of_id}
 use Rattle.rust_items.specs.declared.source_file.ItemPlace.{ItemPlace}
-use Rattle.rust_paths.specs.declared.names.TextRange.{TextRange}
 use Rattle.source_rows.specs.Listed.{MemberReading}
 use Rattle.lsp.specs.declared.symbols.Page as code_symbols
 use Rattle.hir_input_json.specs.declared.fault.Fault.{Fault}
@@ -15,9 +14,7 @@ use Rattle.source_rows.specs.ListedViews.{reading_view, text_read}
 use Rattle.source_rows.specs.declared.mended_file.MendedFile.{MendedFile}
 use Rattle.serde_json.specs.declared.value.Value.{Value}
 use Rattle.lsp.specs.declared.response.ResponseError.{ResponseError}
-use Rattle.lsp.specs.Highlight.{highlight_ranges}
 use Rattle.lsp.specs.Responses.{RequestOutcome}
-use Rattle.lsp.specs.declared.parts.Part.{Part}
 use Rattle.lsp.specs.Servers.{ServerState}
 use Rattle.lsp.specs.Symbols.{Page, node_symbols}
 use Rattle.serde_json.specs.View.{view}
@@ -39,13 +36,6 @@ page_view p = record { units = p.units; text = p.text.now; flat_in = option_copi
 -- the symbols of the item of an id, in what is called so, or in nothing
 abbrev pub symbols_at : Page → List ItemPlace → Unfolding → Option (List ℕ) → Bool → ℕ → List Data
 symbols_at p places u container is_active i = of_id u [] (node_symbols p places container is_active) i
-
--- ---- ranges
-
--- the marks of a part, if there is one
-abbrev pub marks_of : Option Part → List (Option TextRange)
-marks_of None = []
-marks_of (Some p) = highlight_ranges p
 
 -- ---- outcomes
 

@@ -9,7 +9,7 @@ use Rattle.lsp.specs.Responses.{RequestOutcome}
 use Rattle.lsp.specs.Servers.{ServerState, IsRequestAnswered, IsRequestDone, new_server, state_behind}
 use Rattle.lsp.specs.declared.client.Client.{Client}
 use Rattle.lsp.specs.declared.method.RequestMethod.{RequestMethod}
-use Rattle.lsp.specs.declared.method.RequestMethod.TheVariants.{Initialize, DocumentSymbol, Ranges}
+use Rattle.lsp.specs.declared.method.RequestMethod.TheVariants.{Initialize, DocumentSymbol}
 use Rattle.lsp.specs.declared.method.NotificationMethod.TheVariants.{DidOpen}
 
 -- the text and the kind of a document are those of another
@@ -33,7 +33,6 @@ pub record HasJustOpened (o : Options) (c : Client) (uri : List ℕ) (d : Docume
 -- the request asks about a document
 abbrev pub IsAboutDocument : RequestMethod → Type 0
 IsAboutDocument DocumentSymbol = ⊤
-IsAboutDocument (Ranges kind) = ⊤
 IsAboutDocument _ = ⊥
 
 -- two servers have the same answers to requests about the document of a name

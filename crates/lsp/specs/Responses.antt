@@ -6,8 +6,6 @@ use Rattle.hir_input_json.specs.declared.fault.Fault.{Fault}
 use Rattle.hir_input_json.specs.declared.fault.Fault.TheVariants.{WrongForm}
 use Rattle.hir_input_json.specs.declared.fault.Fault.TheVariants as fault
 use Rattle.item_tree.specs.declared.fault.LowerError.TheVariants as lowering
-use Rattle.source_rows.specs.declared.read_texts.ReadError.{ReadError}
-use Rattle.source_rows.specs.declared.read_texts.ReadError.TheVariants as read
 use Rattle.itemtree_commands.specs.declared.trees.SourceError.{SourceError}
 use Rattle.itemtree_commands.specs.declared.trees.SourceError.TheVariants.{Lower}
 use Rattle.lsp.specs.declared.response.ResponseError.{ResponseError}
@@ -26,11 +24,6 @@ of_fault fault.OutOfMemory = OutOfMemory
 abbrev pub of_source : SourceError → ResponseError
 of_source (Lower lowering.OutOfMemory) = OutOfMemory
 of_source _ = TooLarge
-
--- why a text is not read
-abbrev pub of_read : ReadError → ResponseError
-of_read read.TooLong = TooLarge
-of_read read.OutOfMemory = OutOfMemory
 
 -- the number that the protocol has for an error
 abbrev pub error_code : ResponseError → ℤ

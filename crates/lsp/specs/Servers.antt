@@ -21,14 +21,13 @@ use Rattle.lsp.specs.Documents.{Document, Documents, asked_document, document_in
 use Rattle.lsp.specs.Changes.{text_with_changes, changes_form}
 use Rattle.lsp.specs.Diagnostics.{IsNoticeOf, closed_notice}
 use Rattle.lsp.specs.Methods.{request_method, notification_method}
-use Rattle.lsp.specs.Ranges.{AreAskedRanges, asked_places}
 use Rattle.lsp.specs.Responses.{RequestOutcome, of_source, response_data}
 use Rattle.lsp.specs.Surrogates.{surrogates_mended}
 use Rattle.lsp.specs.Symbols.{Page, tree_symbols}
 use Rattle.lsp.specs.Untold.{told_at_once, untold_after, untold_text}
 use Rattle.lsp.specs.declared.client.Client.{Client}
 use Rattle.lsp.specs.declared.method.RequestMethod.{RequestMethod}
-use Rattle.lsp.specs.declared.method.RequestMethod.TheVariants.{Initialize, Shutdown, DocumentSymbol, Ranges, Unknown}
+use Rattle.lsp.specs.declared.method.RequestMethod.TheVariants.{Initialize, Shutdown, DocumentSymbol, Unknown}
 use Rattle.lsp.specs.declared.method.NotificationMethod.{NotificationMethod}
 use Rattle.lsp.specs.declared.method.NotificationMethod.TheVariants.{Exit, DidOpen, DidChange, DidClose, Other}
 use Rattle.lsp.specs.declared.response.ResponseError.{ResponseError}
@@ -77,12 +76,9 @@ refusal (Ended is_clean) _ = Some InvalidRequest
 abbrev pub capabilities : Units → Data
 capabilities units =
     object
-    (member (codes "documentHighlightProvider") (boolean true)
     (member (codes "documentSymbolProvider") (boolean true)
-    (member (codes "foldingRangeProvider") (boolean true)
     (member (codes "positionEncoding") (string (encoding units))
-    (member (codes "selectionRangeProvider") (boolean true)
-    (member (codes "textDocumentSync") (object (member (codes "change") (count_form 2) (member (codes "openClose") (boolean true) no_members))) no_members))))))
+    (member (codes "textDocumentSync") (object (member (codes "change") (count_form 2) (member (codes "openClose") (boolean true) no_members))) no_members)))
 
 -- the answer that opens a conversation
 abbrev pub initialize_data : Units → Data
@@ -126,7 +122,6 @@ IsRequestDone s Initialize params new out =
     (new ≡ record { options = s.options; phase = Running; client = client_of params; documents = s.documents; untold = s.untold }) × (out ≡ Ok (initialize_data (client_of params).units))
 IsRequestDone s Shutdown params new out = (new ≡ record { options = s.options; phase = ShutDown; client = s.client; documents = s.documents; untold = [] }) × (out ≡ Ok null)
 IsRequestDone s DocumentSymbol params new out = (new ≡ s) × AreAskedSymbols s.options s.client (asked_document s.documents params) out
-IsRequestDone s (Ranges kind) params new out = (new ≡ s) × AreAskedRanges s.options s.client.units kind (asked_places kind s.documents params) out
 IsRequestDone s Unknown params new out = ⊥
 
 -- memory runs out for a request, and nothing changes

@@ -24,11 +24,8 @@ pub(crate) fn initialize_value(alloc: Global, units: Units) -> Result<Value, All
     let encoding = encoding(units);
     json!(in alloc; {
         "capabilities": {
-            "documentHighlightProvider": true,
             "documentSymbolProvider": true,
-            "foldingRangeProvider": true,
             "positionEncoding": encoding,
-            "selectionRangeProvider": true,
             "textDocumentSync": {"change": 2, "openClose": true}
         },
         "serverInfo": {"name": "itemtree"}

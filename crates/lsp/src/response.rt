@@ -12,7 +12,6 @@ use item_tree::LowerError;
 use itemtree_commands::SourceError;
 use message_stream::Answer;
 use serde_json::{Map, Value, json, put};
-use source_rows::ReadError;
 use std::alloc::{AllocError, AllocFailed, Global};
 
 const NO_MEMORY: &str =
@@ -86,20 +85,6 @@ impl From<SourceError> for ResponseError {
         match error {
             SourceError::Lower(LowerError::OutOfMemory) => ResponseError::OutOfMemory,
             _ => ResponseError::TooLarge,
-        }
-    }
-}
-
-impl From<ReadError> for ResponseError {
-    ghost use Rattle.std.specs.Prelude.{◌≡◌};
-    ghost use Rattle.lsp.specs.Responses.{of_read};
-
-    ghost from_gives = { λ error e. e ≡ of_read error };
-
-    fn from(error: ReadError) -> ResponseError {
-        match error {
-            ReadError::TooLong => ResponseError::TooLarge,
-            ReadError::OutOfMemory => ResponseError::OutOfMemory,
         }
     }
 }

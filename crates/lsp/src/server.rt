@@ -22,7 +22,6 @@ use crate::message::{Incoming, message_of};
 use crate::method::{NotificationMethod, RequestMethod, notification_method, request_method};
 use crate::opening::initialize_value;
 use crate::phase::{Phase, ended_phase, refusal};
-use crate::ranges::ranges;
 use crate::response::{Outcome, ResponseError, refusal_of, response};
 use crate::surrogates::mend;
 use crate::untold::{put_name, take_name};
@@ -150,10 +149,6 @@ impl Server {
             }
             RequestMethod::DocumentSymbol => {
                 asked_symbols(alloc, &self.options, self.client, &self.documents, params)
-            }
-            RequestMethod::Ranges { kind } => {
-                let units = self.client.units;
-                ranges(alloc, &self.options, units, kind, &self.documents, params)
             }
             RequestMethod::Unknown => Err(ResponseError::MethodNotFound),
         }

@@ -9,7 +9,7 @@ use Rattle.lsp.specs.Inner.{listed_reading}
 use Rattle.lsp.specs.Servers.{flat_in, page_of}
 use Rattle.lsp.specs.Symbols.{tree_symbols}
 use Rattle.lsp.specs.Views.{document_view}
-use Rattle.lsp.proofs.ListedParts.{reading_listed}
+use Rattle.lsp.proofs.ListedTexts.{reading_listed}
 use Rattle.lsp.proofs.NoFloats.{symbols_none}
 use Rattle.lsp.proofs.listed.document_symbols.Goals as goal
 
