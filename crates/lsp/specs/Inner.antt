@@ -31,7 +31,7 @@ HasPlainId NoMessage = Unit {0}
 
 -- what symbols are told of, as plain data
 abbrev pub page_view : code_symbols.Page → Page
-page_view p = record { units = p.units; text = p.text.now; flat_in = option_copied p.flat_in; reading = reading_view p.reading; reserved = p.edition.now.reserved.items }
+page_view p = record { units = p.text.now.units; text = p.text.now.text; flat_in = option_copied p.flat_in; reading = reading_view p.reading; reserved = p.edition.now.reserved.items }
 
 -- the symbols of the item of an id, in what is called so, or in nothing
 abbrev pub symbols_at : Page → List ItemPlace → Unfolding → Option (List ℕ) → Bool → ℕ → List Data

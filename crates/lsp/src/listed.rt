@@ -68,14 +68,13 @@ pub(crate) fn document_symbols(
     ensures plain { IfOk result (λ value. has_float (view value) ≡ false) }
     ensures refused { IfErr result (HasNoList options.now document.now.text) }
 {
-    let text = &document.text;
-    let listed = listed_tree(alloc, text.text(), options)?;
+    let listed = listed_tree(alloc, document.text.text(), options)?;
+    let places = document.text.places(alloc, client.units)?;
     let page = Page {
-        units: client.units,
-        text,
+        text: &places,
         flat_in: flat_in(client, uri),
         tree: &listed.source.tree,
-        reading: reading_of(options, text.text(), listed.mended.as_ref()),
+        reading: reading_of(options, document.text.text(), listed.mended.as_ref()),
         edition: &options.edition,
     };
     let symbols = tree_symbols(alloc, page, &listed.source.places)?;
