@@ -229,7 +229,7 @@ def try_faults():
     server.open("file:///a.rs", "fn a() {}")
     for params in [{}, {"textDocument": {"uri": "file:///a.rs"}}, {"textDocument": {"uri": "file:///b.rs"}, "contentChanges": []}]:
         server.tell("textDocument/didChange", params)
-    refused(server.symbols("file:///a.rs"), -32602, "a document whose change cannot be read is closed")
+    refused(server.symbols("file:///a.rs"), -32803, "a document whose change cannot be read is lost")
     server.open("file:///a.rs", "fn a() {}")
     server.open("file:///a.rs", "fn b() {}")
     check([it["name"] for it in server.symbols("file:///a.rs")["result"]] == ["b"], "a document that is opened twice")
@@ -484,13 +484,75 @@ def try_problems():
         ),
         ("what is mended is told", changes_told(a, [{"text": "fn a() {}"}], 71), [(a, 71, 0)]),
         ("a closed document is told at once, and that alone", typed(a, "}", 72) + closed(a) + symbols(a, "closed"), [(a, None, 0), "closed"]),
-        ("a message that is lost closes all", typed(b, "}", 2) + framed(b"{") + symbols(b, "lost"), [None, "lost"]),
+        ("a message that is no JSON loses all, which the user is told", typed(b, "}", 2) + framed(b"{") + symbols(b, "lost"), [None, None, "lost"]),
         ("nothing is told behind a shutdown", opened(a, "}") + told("shutdown", id="end"), ["end"]),
     ]:
         server.write(data)
         got = [brief(server.next()) for _ in wanted]
         check(got == wanted, f"{said}: {got}")
     check(server.end() == 0 and server.process.stdout.read() == b"" and server.told == [], f"nothing else is told: {server.told}")
+
+
+# ---- messages that cannot be read
+
+UNREAD = [b"{", b"", b"\xff", b"\xef\xbb\xbf{}", b"1e999", b'{"method":"$/x","params":' + b"[" * 128 + b"]" * 128 + b"}", b'{"method":"$/x","params":[1e999]}']
+
+
+def try_losses():
+    """Which documents are lost, what is said of it, and what restores them."""
+    a, b = "file:///a.rs", "file:///b.rs"
+    start = {"line": 0, "character": 0}
+    typed = lambda uri, text: [{"range": {"start": start, "end": start}, "text": text}]
+    names = lambda uri: [it["name"] for it in server.symbols(uri).get("result", [])]
+    lost = lambda uri, said: refused(server.symbols(uri), -32803, said) or check("lost" in server.symbols(uri)["error"]["message"], said)
+    shown = lambda message, word: message.get("method") == "window/showMessage" and message["params"]["type"] == 1 and word in message["params"]["message"]
+    nothing = lambda said: check(not [it for it in server.told if it["method"] == "textDocument/publishDiagnostics"], f"{said}: {server.told}")
+    server = Server()
+    check(server.opened["result"]["capabilities"]["textDocumentSync"]["save"] == {"includeText": True}, "a saved text is asked for")
+    for body in UNREAD:
+        for uri in (a, b):
+            server.open(uri, "fn a() {}\n}")
+            told_of(server, uri)
+        server.write(framed(body))
+        refused(server.read(), -32700, f"{body} is no JSON")
+        check(shown(server.read(), "could not read a message"), f"the user is told of {body}")
+        server.told.clear()
+        for uri in (a, b):
+            lost(uri, f"a document behind {body}")
+            server.change(uri, typed(uri, "fn b() {}"))
+            lost(uri, "a change in a text that is not known")
+        nothing("problems of lost documents stay")
+        server.tell("textDocument/didSave", {"textDocument": {"uri": a}})
+        lost(a, "a document that is saved without its text")
+        server.tell("textDocument/didSave", {"textDocument": {"uri": a}, "text": "fn saved() {}"})
+        check(names(a) == ["saved"], "a saved text restores a document")
+        told = told_of(server, a)
+        check(told["diagnostics"] == [], f"the problems of a restored document: {told}")
+        server.change(b, typed(b, "x") + [{"text": "fn whole() {}"}] + typed(b, "fn first() {}"), 9)
+        check(names(b) == ["first", "whole"], "a whole text restores a document")
+        check(told_of(server, b) == {"uri": b, "version": 9, "diagnostics": []}, "the problems of a restored document")
+    server.write(framed(UNREAD[0]))
+    server.open(a, "fn again() {}")
+    check(names(a) == ["again"], "opening restores a document")
+    lost(b, "the other one is lost")
+    server.open(b, "fn b() {}\n}")
+    told_of(server, b)
+    for number in ["-1", "1.5", "null", '"0"', "2147483648", "4294967295", None]:
+        server.open(a, "fn a() {}\n}")
+        told_of(server, a)
+        server.told.clear()
+        place = '{"line":0,"character":%s}' % number
+        changes = "" if number is None else ',"contentChanges":[{"range":{"start":%s,"end":%s},"text":""}]' % (place, place)
+        server.write(framed(('{"method":"textDocument/didChange","params":{"textDocument":{"uri":"%s","version":2}%s}}' % (a, changes)).encode()))
+        check(shown(server.read(), "could not read a change"), f"the user is told of a change at {number}")
+        lost(a, f"a document behind a change at {number}")
+        check(names(b) == ["b"], "another document stays")
+        nothing("a lost document is not shown clean")
+    server.tell("textDocument/didClose", {"textDocument": {"uri": a}})
+    check(server.symbols(a).get("error") == {"code": -32602, "message": "the document is not open"}, "a closed document")
+    server.tell("textDocument/didSave", {"textDocument": {"uri": a}, "text": "fn a() {}"})
+    check(server.symbols(a).get("error", {}).get("message") == "the document is not open", "saving opens no document")
+    check(server.end() == 0, "the end of losses")
 
 
 # ---- streams
@@ -566,7 +628,7 @@ def talk(server):
 
 
 def try_refusals():
-    """Each answer is whole, or says that there is no memory, or that a document is not open; of the last two one is whole."""
+    """Each answer is whole, or says that there is no memory, or that a document is not open or lost; of the last two one is whole."""
     with tempfile.TemporaryDirectory() as folder:
         library, counted = f"{folder}/refuse_memory.so", f"{folder}/counted"
         subprocess.run(["cc", "-shared", "-fPIC", "-O1", "-o", library, pathlib.Path(__file__).with_name("refuse_memory.c"), "-ldl"], check=True)
@@ -586,7 +648,7 @@ def try_refusals():
                 said, status = server.process.stderr.read(), server.process.wait(timeout=5)
                 check(status in (2, 6) and said == b"itemtree: out of memory\n", f"request {request} for memory refused: {status}, {said}")
                 continue
-            are_whole = [it.get("result", 0) in wholes or it["error"]["code"] in (-32603, -32602, -32600) for it in answers]
+            are_whole = [it.get("result", 0) in wholes or it["error"]["code"] in (-32803, -32603, -32602, -32600) for it in answers]
             check(all(are_whole), f"request {request} for memory refused: {answers[are_whole.index(False) if False in are_whole else 0]}")
             check(wanted in [it.get("result") for it in last], f"request {request} for memory refused, at last: {last}")
             check(status in (0, 1, 6), f"request {request} for memory refused: {status}")
@@ -605,6 +667,7 @@ if __name__ == "__main__":
     try_symbols()
     try_surrogates()
     try_problems()
+    try_losses()
     try_streams()
     try_many()
     try_refusals()

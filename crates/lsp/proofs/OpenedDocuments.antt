@@ -6,11 +6,10 @@ use Rattle.serde_json.specs.Data.{Data, null, boolean, number, string, array, ob
 use Rattle.serde_json.specs.Find.{as_str, get}
 use Rattle.hir_input_json.specs.Reading.{Reading, right, wrong, under, ◌>>=◌}
 use Rattle.hir_input_json.specs.Forms.{field, object_members, required_by, text_form, unless_null}
-use Rattle.lsp.specs.Documents.{Document, Documents, asked_document, document_in, open_document, open_form, opened_form, uri_form, uri_in}
-use Rattle.lsp.proofs.Documents.{document_asked}
+use Rattle.lsp.specs.Documents.{Document, Documents, document_in, known_by, known_document, open_form, opened_form, uri_form, uri_in}
 use Rattle.lsp.specs.Opened.{AreAnsweredAlike, HasJustOpened, IsAboutDocument, IsSameText}
 use Rattle.lsp.specs.Responses.{RequestOutcome}
-use Rattle.lsp.specs.Servers.{ServerState, AreAskedSymbols, AreRustSymbols, IsDoneUnless, documents_by, noticed_documents, noticed_in, opened_documents, refusal}
+use Rattle.lsp.specs.Servers.{ServerState, AreAskedSymbols, AreKnownSymbols, AreRustSymbols, IsDoneUnless, documents_by, noticed_documents, noticed_in, opened_documents, refusal}
 use Rattle.lsp.specs.declared.client.Client.{Client}
 use Rattle.lsp.specs.declared.method.NotificationMethod.TheVariants.{DidOpen}
 use Rattle.lsp.specs.declared.method.RequestMethod.{RequestMethod}
@@ -77,7 +76,7 @@ opening_names params d e =
 
 -- a document of this version
 abbrev of_version : Document → Option ℤ → Document
-of_version d version = record { text = d.text; is_rust = d.is_rust; version = version }
+of_version d version = record { text = d.text; is_rust = d.is_rust; version = version; is_lost = d.is_lost }
 
 symbols_of_version : (o : Options) (c : Client) (uri : List ℕ) (d : Document) (version : Option ℤ) (b : Bool) (out : RequestOutcome) → AreRustSymbols o c b uri (of_version d version) out ↔ AreRustSymbols o c b uri d out
 symbols_of_version o c uri d version true (Ok symbols) = (λ h. h, λ h. h)
@@ -85,7 +84,16 @@ symbols_of_version o c uri d version true (Err e) = (λ h. h, λ h. h)
 symbols_of_version o c uri d version false out = (λ h. h, λ h. h)
 
 is_version : (d e : Document) → IsSameText e d → e ≡ of_version d e.version
-is_version d e same = λ i. record { text = same.text i; is_rust = same.is_rust i; version = e.version }
+is_version d e same = λ i. record { text = same.text i; is_rust = same.is_rust i; version = e.version; is_lost = same.is_lost i }
+
+-- the same of one that is lost or not
+known_of_version : (o : Options) (c : Client) (uri : List ℕ) (d : Document) (version : Option ℤ) (b : Bool) (out : RequestOutcome) → AreKnownSymbols o c uri (known_by b (of_version d version)) out ↔ AreKnownSymbols o c uri (known_by b d) out
+known_of_version o c uri d version true out = (λ h. h, λ h. h)
+known_of_version o c uri d version false out = symbols_of_version o c uri d version d.is_rust out
+
+-- what is asked about the document of a name
+asked_is : (o : Options) (c : Client) (ds : Documents) (params : Data) (uri : List ℕ) (d : Document) (out : RequestOutcome) → uri_form params ≡ right uri → document_in ds uri ≡ Some d → AreAskedSymbols o c ds (uri_form params) out ≡ AreKnownSymbols o c uri (known_by d.is_lost d) out
+asked_is o c ds params uri d out u f = ap (λ r. AreAskedSymbols o c ds r out) u ∙ ap (λ x. AreKnownSymbols o c uri (known_document x) out) f
 
 only_one : (uri : List ℕ) (d : Document) → document_in ((uri, d) ∷ []) uri ≡ Some d
 only_one uri d = ap (λ b. cond b (Some d) None) (is_eq-slice_cmp uri uri ∙ (bytes_eq-Decides uri uri).1 refl)
@@ -120,11 +128,11 @@ done_alike : (s t : ServerState) (uri : List ℕ) (d e : Document) (method : Req
     → document_in s.documents uri ≡ Some d → document_in t.documents uri ≡ Some e → IsAboutDocument method → uri_form params ≡ right uri
     → IsDoneUnless (refusal Running method) s method params s out ↔ IsDoneUnless (refusal Running method) t method params t out
 done_alike s t uri d e DocumentSymbol params out o c same f g about u =
-    let version = symbols_of_version t.options t.client uri d e.version d.is_rust out in
-    let mine : AreAskedSymbols s.options s.client (asked_document s.documents params) out ≡ AreRustSymbols t.options t.client d.is_rust uri d out =
-    (λ i. AreAskedSymbols (o i) (c i) (document_asked s.documents params uri d u (ap open_document f) i) out) in
-    let theirs : AreAskedSymbols t.options t.client (asked_document t.documents params) out ≡ AreRustSymbols t.options t.client d.is_rust uri (of_version d e.version) out =
-    ap (λ r. AreAskedSymbols t.options t.client r out) (document_asked t.documents params uri e u (ap open_document g) ∙ ap (λ d. right (uri, d)) (is_version d e same)) in
+    let version = known_of_version t.options t.client uri d e.version d.is_lost out in
+    let mine : AreAskedSymbols s.options s.client s.documents (uri_form params) out ≡ AreKnownSymbols t.options t.client uri (known_by d.is_lost d) out =
+    asked_is s.options s.client s.documents params uri d out u f ∙ (λ i. AreKnownSymbols (o i) (c i) uri (known_by d.is_lost d) out) in
+    let theirs : AreAskedSymbols t.options t.client t.documents (uri_form params) out ≡ AreKnownSymbols t.options t.client uri (known_by d.is_lost (of_version d e.version)) out =
+    asked_is t.options t.client t.documents params uri e out u g ∙ ap (λ x. AreKnownSymbols t.options t.client uri (known_by x.is_lost x) out) (is_version d e same) in
     (λ h. (refl, cast (sym theirs) (version.1 (cast mine h.1))), λ h. (refl, cast (sym mine) (version.0 (cast theirs h.1))))
 done_alike s t uri d e _ params out o c same f g about u = absurd about
 

@@ -6,8 +6,6 @@ use Rattle.item_tree.specs.Walk.{of_id}
 use Rattle.rust_items.specs.declared.source_file.ItemPlace.{ItemPlace}
 use Rattle.source_rows.specs.Listed.{MemberReading}
 use Rattle.lsp.specs.declared.symbols.Page as code_symbols
-use Rattle.hir_input_json.specs.declared.fault.Fault.{Fault}
-use Rattle.hir_input_json.specs.declared.fault.Fault.TheVariants.{WrongForm, OutOfMemory}
 use Rattle.itemtree_commands.specs.declared.Options.{Options}
 use Rattle.source_rows.specs.ListedFiles.{closers_in}
 use Rattle.source_rows.specs.ListedViews.{reading_view, text_read}
@@ -47,12 +45,6 @@ request_outcome_view (Err e) = Err e
 -- a result holds no float
 abbrev pub IsPlainOutcome : Result Value ResponseError → Type 0
 IsPlainOutcome out = IfOk out (λ value. has_float (view value) ≡ false)
-
--- unless memory runs out
-abbrev pub OnRead : {A : Type 0} → Result A Fault → Type 0 → Type 0
-OnRead (Ok a) P = P
-OnRead (Err (WrongForm pointer)) P = P
-OnRead (Err OutOfMemory) P = Unit {0}
 
 -- nothing but the documents, and what is told of them, may be other
 abbrev pub IsSameButDocuments : ServerState → ServerState → Type 0

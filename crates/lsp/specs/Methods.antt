@@ -3,7 +3,7 @@ use Rattle.std.specs.Prelude.{ℕ, List, codes, bytes_eq, if◌then◌else◌}
 use Rattle.lsp.specs.declared.method.RequestMethod.{RequestMethod}
 use Rattle.lsp.specs.declared.method.RequestMethod.TheVariants.{Initialize, Shutdown, DocumentSymbol, Unknown}
 use Rattle.lsp.specs.declared.method.NotificationMethod.{NotificationMethod}
-use Rattle.lsp.specs.declared.method.NotificationMethod.TheVariants.{Exit, DidOpen, DidChange, DidClose, Other}
+use Rattle.lsp.specs.declared.method.NotificationMethod.TheVariants.{Exit, DidOpen, DidChange, DidSave, DidClose, Other}
 
 -- what a request asks for
 abbrev pub request_method : List ℕ → RequestMethod
@@ -18,4 +18,5 @@ notification_method word =
     if bytes_eq word (codes "exit") then Exit
     else (if bytes_eq word (codes "textDocument/didOpen") then DidOpen
     else (if bytes_eq word (codes "textDocument/didChange") then DidChange
-    else (if bytes_eq word (codes "textDocument/didClose") then DidClose else Other)))
+    else (if bytes_eq word (codes "textDocument/didSave") then DidSave
+    else (if bytes_eq word (codes "textDocument/didClose") then DidClose else Other))))

@@ -12,10 +12,11 @@ use Rattle.lsp.specs.declared.method.RequestMethod.{RequestMethod}
 use Rattle.lsp.specs.declared.method.RequestMethod.TheVariants.{Initialize, DocumentSymbol}
 use Rattle.lsp.specs.declared.method.NotificationMethod.TheVariants.{DidOpen}
 
--- the text and the kind of a document are those of another
+-- the text and the kind of a document are those of another, and both are lost or neither
 pub record IsSameText (d e : Document) : Type 0 where
   pub text : d.text ≡ e.text
   pub is_rust : d.is_rust ≡ e.is_rust
+  pub is_lost : d.is_lost ≡ e.is_lost
 
 -- a new server for this client has opened a document of the same name and text, and nothing else
 pub record HasJustOpened (o : Options) (c : Client) (uri : List ℕ) (d : Document) (fresh : ServerState) : Type 0 where

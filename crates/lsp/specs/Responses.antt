@@ -9,7 +9,7 @@ use Rattle.item_tree.specs.declared.fault.LowerError.TheVariants as lowering
 use Rattle.itemtree_commands.specs.declared.trees.SourceError.{SourceError}
 use Rattle.itemtree_commands.specs.declared.trees.SourceError.TheVariants.{Lower}
 use Rattle.lsp.specs.declared.response.ResponseError.{ResponseError}
-use Rattle.lsp.specs.declared.response.ResponseError.TheVariants.{NotJson, InvalidRequest, MethodNotFound, InvalidParams, NotInitialized, TooLarge, OutOfMemory}
+use Rattle.lsp.specs.declared.response.ResponseError.TheVariants.{NotJson, InvalidRequest, MethodNotFound, InvalidParams, NotInitialized, NotOpen, DocumentLost, TooLarge, OutOfMemory}
 
 -- the result of a request, or why it has none
 abbrev pub RequestOutcome : Type 0
@@ -33,6 +33,8 @@ error_code MethodNotFound = negsuc 32600
 error_code (InvalidParams pointer) = negsuc 32601
 error_code OutOfMemory = negsuc 32602
 error_code NotInitialized = negsuc 32001
+error_code NotOpen = negsuc 32601
+error_code DocumentLost = negsuc 32802
 error_code TooLarge = negsuc 32802
 
 -- what is said of it, without the place of what has the wrong form
@@ -43,6 +45,8 @@ error_words MethodNotFound = codes "no such method"
 error_words (InvalidParams pointer) = codes "wrong form at "
 error_words OutOfMemory = codes "out of memory"
 error_words NotInitialized = codes "initialize comes first"
+error_words NotOpen = codes "the document is not open"
+error_words DocumentLost = codes "the document was lost: save it, or open it again"
 error_words TooLarge = codes "the text is too large"
 
 abbrev pub error_message : ResponseError → List ℕ

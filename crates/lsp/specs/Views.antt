@@ -22,7 +22,7 @@ incoming_view code_incoming.NoMessage = no_message
 
 -- a document as plain data
 abbrev pub document_view : code_document.Document → Document
-document_view d = record { text = d.text; is_rust = d.is_rust; version = d.version }
+document_view d = record { text = d.text; is_rust = d.is_rust; version = d.version; is_lost = d.is_lost }
 
 -- a document with its name as plain data
 abbrev pub document_entry_view : String Global × code_document.Document → List ℕ × Document

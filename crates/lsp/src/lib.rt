@@ -20,6 +20,7 @@ mod symbol;
 mod symbols;
 mod text;
 mod untold;
+mod warnings;
 
 pub use client::Client;
 pub use phase::Phase;

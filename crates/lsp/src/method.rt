@@ -17,6 +17,7 @@ pub enum NotificationMethod {
     Exit,
     DidOpen,
     DidChange,
+    DidSave,
     DidClose,
     /// What is passed over.
     Other,
@@ -42,6 +43,7 @@ pub(crate) fn notification_method(word: &str) -> NotificationMethod
         "exit" => NotificationMethod::Exit,
         "textDocument/didOpen" => NotificationMethod::DidOpen,
         "textDocument/didChange" => NotificationMethod::DidChange,
+        "textDocument/didSave" => NotificationMethod::DidSave,
         "textDocument/didClose" => NotificationMethod::DidClose,
         _ => NotificationMethod::Other,
     }

@@ -26,7 +26,7 @@ pub(crate) fn initialize_value(alloc: Global, units: Units) -> Result<Value, All
         "capabilities": {
             "documentSymbolProvider": true,
             "positionEncoding": encoding,
-            "textDocumentSync": {"change": 2, "openClose": true}
+            "textDocumentSync": {"change": 2, "openClose": true, "save": {"includeText": true}}
         },
         "serverInfo": {"name": "itemtree"}
     })

@@ -30,6 +30,10 @@ pub enum ResponseError {
     InvalidParams { pointer: Pointer },
     /// The conversation is not opened.
     NotInitialized,
+    /// The document that is asked about is not open.
+    NotOpen,
+    /// It is open, and a change of it was not read.
+    DocumentLost,
     /// The document is too long, or has too many items.
     TooLarge,
     /// The allocator refused memory.
@@ -98,10 +102,10 @@ impl ResponseError {
             ResponseError::NotJson => -32700,
             ResponseError::InvalidRequest => -32600,
             ResponseError::MethodNotFound => -32601,
-            ResponseError::InvalidParams { .. } => -32602,
+            ResponseError::InvalidParams { .. } | ResponseError::NotOpen => -32602,
             ResponseError::OutOfMemory => -32603,
             ResponseError::NotInitialized => -32002,
-            ResponseError::TooLarge => -32803,
+            ResponseError::TooLarge | ResponseError::DocumentLost => -32803,
         }
     }
 
@@ -116,6 +120,8 @@ impl ResponseError {
             ResponseError::InvalidParams { .. } => "wrong form at ",
             ResponseError::OutOfMemory => "out of memory",
             ResponseError::NotInitialized => "initialize comes first",
+            ResponseError::NotOpen => "the document is not open",
+            ResponseError::DocumentLost => "the document was lost: save it, or open it again",
             ResponseError::TooLarge => "the text is too large",
         }
     }
@@ -166,7 +172,11 @@ fn response_value(alloc: Global, id: Value, outcome: Outcome) -> Result<Value, A
 /// # Errors
 ///
 /// Only if memory runs out.
-fn response_text(alloc: Global, id: Value, outcome: Outcome) -> Result<String, AllocError>
+pub(crate) fn response_text(
+    alloc: Global,
+    id: Value,
+    outcome: Outcome,
+) -> Result<String, AllocError>
     requires id { has_float (view id) ≡ false }
     requires outcome { IsPlainOutcome outcome }
     ensures { IfOk result (λ text. string_bytes text
