@@ -243,6 +243,7 @@ def try_faults():
 
 
 def try_encodings():
+    check(Server(("--stdio",)).end() == 0, "--stdio changes nothing")
     for offers, wanted in [((), "utf-16"), (("utf-16",), "utf-16"), (("utf-32", "utf-8"), "utf-8"), (("utf-8",), "utf-8")]:
         server = Server(offers=offers)
         check(server.encoding == wanted, f"{offers} gives {server.encoding}")
