@@ -126,6 +126,9 @@ pub(crate) const NO_DEFAULT_FEATURES: Argument =
 pub(crate) const ORPHANS: Argument = argument!(FLAG id: "orphans";
     "List the Rust files below the folder of the root file that no module is in, instead");
 
+pub(crate) const STDIO: Argument = argument!(FLAG id: "stdio";
+    "Talk over standard input and output, as it does anyway: some editors add this");
+
 pub(crate) const JSON_MODULES: Argument = argument!(JSON id: "json";
     "Write a JSON object for each module, on a line of its own");
 

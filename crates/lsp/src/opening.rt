@@ -24,12 +24,9 @@ pub(crate) fn initialize_value(alloc: Global, units: Units) -> Result<Value, All
     let encoding = encoding(units);
     json!(in alloc; {
         "capabilities": {
-            "documentHighlightProvider": true,
             "documentSymbolProvider": true,
-            "foldingRangeProvider": true,
             "positionEncoding": encoding,
-            "selectionRangeProvider": true,
-            "textDocumentSync": {"change": 2, "openClose": true}
+            "textDocumentSync": {"change": 2, "openClose": true, "save": {"includeText": true}}
         },
         "serverInfo": {"name": "itemtree"}
     })
