@@ -36,9 +36,13 @@ abbrev pub is_mod : TokenKind → List ℕ → Bool
 is_mod kinds.Ident text = bytes_eq text (codes "mod")
 is_mod _ text = false
 
--- a module's name, and `;` or `{`
+-- what ends the head of a module: `;` or `{`
+abbrev pub ends_module_head : ℕ → Bool
+ends_module_head symbol = symbol == 59 || symbol == 123
+
+-- a module's name, and the end of its head
 abbrev pub names_module : List Piece → Bool
-names_module (name ∷ mark ∷ ts) = identifies name.kind && (symbol_of mark == 59 || symbol_of mark == 123)
+names_module (name ∷ mark ∷ ts) = identifies name.kind && ends_module_head (symbol_of mark)
 names_module _ = false
 
 -- a module is written from this token on, before these

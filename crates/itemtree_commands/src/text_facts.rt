@@ -49,6 +49,12 @@ fn identifies(kind: TokenKind) -> bool
     matches!(kind, TokenKind::Ident | TokenKind::RawIdent)
 }
 
+fn ends_module_head(symbol: u8) -> bool
+    ensures { result ≡ spec.ends_module_head symbol }
+{
+    matches!(symbol, b';' | b'{')
+}
+
 /// Whether a module's name comes next, and then `;` or `{`.
 fn names_module(lexer: &Lexer<'_>) -> bool
     ensures { result ≡ spec.names_module (spec.significant_tokens lexer.now) }
@@ -60,7 +66,10 @@ fn names_module(lexer: &Lexer<'_>) -> bool
     let Some(mark) = next_significant(&mut ahead) else {
         return false;
     };
-    identifies(name.kind()) && matches!(mark.symbol(), b';' | b'{')
+    if !identifies(name.kind()) {
+        return false;
+    }
+    ends_module_head(mark.symbol())
 }
 
 /// Whether a module is written from a token on, before what comes next.
@@ -136,7 +145,13 @@ fn begins_global_list(text: &str) -> bool
     let Some(mark) = next_significant(&mut lexer) else {
         return false;
     };
-    first.symbol() == b':' && second.symbol() == b':' && mark.symbol() == b'{'
+    if first.symbol() != b':' {
+        return false;
+    }
+    if second.symbol() != b':' {
+        return false;
+    }
+    mark.symbol() == b'{'
 }
 
 fn is_global_list(text: &str, start: usize) -> bool
