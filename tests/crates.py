@@ -336,6 +336,27 @@ def of_a_crate(folder):
         yield run(folder, *words)[2] == 2, "a wrong command line", words
 
 
+def use_lists(folder):
+    """Of a crate with a use list behind `::` alone no import is checked, as standard error says."""
+    note = "itemtree: {}: the imports of this crate are not {}: an item tree does not keep the :: of use ::{{..}}\n"
+    for text in ("use /* all of it */ ::{std::fmt, core::mem};", "use {::{std::fmt, core::mem}};", "use\u200e::{std::fmt};", "use crate::none; use ::{std::fmt};"):
+        write(folder, {"lib.rs": f"mod std {{}}\n{text}"})
+        yield run(folder, "check", "--crate", "lib.rs") == ("", note.format("lib.rs", "checked"), 0), "check", text
+        yield run(folder, "imports", "--resolve", "--crate", "lib.rs") == ("", note.format("lib.rs", "resolved"), 2), "imports --resolve", text
+    write(folder, {"Cargo.toml": NAMED + 'edition = "2021"\n', "src/lib.rs": "mod a { pub use /**/ ::{std::fmt}; mod std {} }\npub use a::fmt;\n",
+                   "src/main.rs": "fn main() {}\nuse crate::none;\n"})
+    out, err, status = run(folder, "check", "--crate", ".")
+    yield out == "src/main.rs:2:5: this import leads to nothing\n" and err == note.format("src/lib.rs", "checked") and status == 1, "one of two crates", (out, err)
+    for text in ("// use ::{", '/// use ::{a}\nconst S: &str = "house::{";', "fn f() { use ::{std::fmt}; }", "macro_rules! m { () => { use ::{a}; } }",
+                 "mod def_use { pub struct A; } use crate::def_use::{self as d, A};"):
+        write(folder, {"lib.rs": f"use crate::none;\n{text}"})
+        yield run(folder, "check", "--crate", "lib.rs") == ("lib.rs:1:5: this import leads to nothing\n", "", 1), "no such list", text
+    write(folder, {"b.rs": "#[macro_export] macro_rules! made { () => {} }"})
+    for text in ('fn f() { #[path = "b.rs"] mod /* in a body */ b; }', 'mod /* c */ x {} fn f() { #[path = "b.rs"] mod b; }'):
+        write(folder, {"lib.rs": f"{text} mod m {{ use crate::made as n; }}"})
+        yield run(folder, "check", "--crate", "lib.rs") == ("", "", 0), "a file of a body", text
+
+
 def orphans(folder):
     write(folder, {"lib.rs": "mod a; #[cfg(windows)] mod w;", "a.rs": "", "w.rs": "mod v;", "w/v.rs": "", "o.rs": "", "x/p.rs": ""})
     out, err, status = run(folder, "modules", "--orphans", "lib.rs")
@@ -384,7 +405,7 @@ def unsure(folder):
 
 def main():
     passed = failed = 0
-    for check in (links, no_files, unread, deep, packages, manifests, many, cases_of_letters, of_a_crate, orphans, unsure):
+    for check in (links, no_files, unread, deep, packages, manifests, many, cases_of_letters, of_a_crate, use_lists, orphans, unsure):
         with tempfile.TemporaryDirectory() as folder:
             for is_right, what, got in check(folder):
                 passed += is_right

@@ -17,6 +17,14 @@ use module_tree::{ModuleChoice, ModuleTree};
 use source_listing::Source;
 use std::alloc::{AllocError, Global};
 
+/// Why no import of a crate is checked.
+const UNCHECKED: &str =
+    "the imports of this crate are not checked: an item tree does not keep the :: of use ::{..}";
+
+/// Why no import of a crate is resolved.
+const UNRESOLVED: &str =
+    "the imports of this crate are not resolved: an item tree does not keep the :: of use ::{..}";
+
 /// The modules of each crate.
 fn trees_of(
     sources: &mut CrateSources<'_>,
@@ -57,10 +65,11 @@ fn wrong_imports_in(
 ) -> Result<String, Failure> {
     let (alloc, is_colored) = (report.rt.alloc(), report.is_colored());
     let mut lines = String::new(alloc);
-    if !sources.tells_paths() {
-        return Ok(lines);
-    }
     for tree in trees {
+        if let Some(file) = sources.lacks_paths(tree) {
+            report.note(Shown(file.path()), UNCHECKED);
+            continue;
+        }
         match sources.resolved_imports(tree, manifest) {
             Ok(imports) => {
                 let files = sources.files();
@@ -155,12 +164,12 @@ fn write_resolved(
     look: ImportLook,
 ) -> Result<(), Failure> {
     let alloc = report.rt.alloc();
-    if !sources.tells_paths() {
-        report.complain("imports", "not resolved, because a use begins with ::{");
-        return Ok(());
-    }
     let files = declared_items(alloc, sources.files())?;
     for tree in trees {
+        if let Some(file) = sources.lacks_paths(tree) {
+            report.complain(Shown(file.path()), UNRESOLVED);
+            continue;
+        }
         match sources.resolved_imports(tree, &crates.facts) {
             Ok(imports) => {
                 let edition = &options.edition;

@@ -17,9 +17,6 @@ use std::fs;
 use std::fs::Metadata;
 use std::os::unix::fs::{FileTypeExt, MetadataExt};
 
-/// The attribute by which a macro is known outside of its module.
-const EXPORT_WORD: &str = "macro_export";
-
 /// The lint that forbids to name macros by paths that other macros make, and its group.
 const EXPANDED_WORDS: [&str; 2] = [
     "macro_expanded_macro_exports_accessed_by_absolute_paths",
@@ -46,38 +43,6 @@ fn ends(rt: &HostRuntime, found: &Metadata) -> bool {
     }
     let same = fs::metadata(rt, NULL_DEVICE).is_ok_and(|null| null.rdev() == found.rdev());
     same && found.file_type().is_char_device()
-}
-
-/// Whether a text behind the word `mod` goes on as a module does.
-fn is_module(rest: &str) -> bool {
-    let name = rest.trim_start();
-    let behind = name.trim_start_matches(|c: char| c == '_' || c == '#' || c.is_alphanumeric());
-    name.len() < rest.len()
-        && behind.len() < name.len()
-        && behind.trim_start().starts_with(|c| c == ';' || c == '{')
-}
-
-/// How often a text exports a macro: as often as can be if it has a module in a body, whose file is not read.
-fn export_words(file: &CrateFile) -> u32 {
-    let modules = file
-        .text()
-        .split("mod")
-        .skip(1)
-        .filter(|rest| is_module(rest));
-    if modules.count() > file.tree().item_tree_stats().mods {
-        return u32::MAX;
-    }
-    let count = file.text().split(EXPORT_WORD).skip(1).count();
-    u32::try_from(count).unwrap_or(u32::MAX)
-}
-
-/// Whether a text has a use whose list stands behind `::`, which its tree does not tell.
-fn has_global_list(text: &str) -> bool {
-    let mut uses = text.split("use").skip(1);
-    uses.any(|rest| {
-        let behind = rest.trim_start().strip_prefix("::").unwrap_or("");
-        behind.trim_start().starts_with('{')
-    })
 }
 
 /// Whether a text may allow to name macros by paths that other macros make.
@@ -310,11 +275,11 @@ impl<'a> CrateSources<'a> {
         Ok(known)
     }
 
-    /// How often the word stands in each file that makes a macro known outside of its module.
+    /// How often each file may export a macro.
     fn export_words(&self) -> Result<Vec<u32>, AllocError> {
         let mut words = Vec::new(self.rt.alloc());
         for file in &self.files {
-            words.push(export_words(file))?;
+            words.push(file.exports())?;
         }
         Ok(words)
     }
@@ -330,9 +295,15 @@ impl<'a> CrateSources<'a> {
         Ok(unsure)
     }
 
-    /// Whether the trees tell where the path of each import begins.
-    pub(crate) fn tells_paths(&self) -> bool {
-        !self.files.iter().any(|file| has_global_list(file.text()))
+    /// The first file of a crate whose tree does not tell where the path of each import begins.
+    pub(crate) fn lacks_paths(&self, tree: &ModuleTree) -> Option<&CrateFile> {
+        for module in &tree.modules {
+            match self.files.get(module.file as usize) {
+                Some(file) if file.lacks_paths() => return Some(file),
+                _ => (),
+            }
+        }
+        None
     }
 
     /// What is told of the imports of a crate with these modules.

@@ -6,3 +6,4 @@ pub mod RequestTexts
 pub mod ModuleLists
 pub mod ImportChecks
 pub mod ImportTargets
+pub mod TextFacts
