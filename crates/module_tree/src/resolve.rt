@@ -1,5 +1,6 @@
 //! What a `mod` means.
-ghost use Rattle.std.specs.Prelude.{◌≡◌, ◌++◌, [], IfOk, OnOk, map};
+ghost use Rattle.std.specs.Prelude.{◌≡◌, ◌++◌, [], IfOk, OnOk, map, nat_eq};
+ghost use Rattle.std.specs.{List.list_any, Cmp.Lexicographic.pointwise};
 ghost use Rattle.module_tree.specs.Inner.{texts, path_texts, candidate_file_view, found_file_view, resolved_view};
 ghost use Rattle.module_tree.specs.Modules as spec;
 ghost use Rattle.module_tree.specs.Views.{files_of};
@@ -50,10 +51,22 @@ fn unknown_paths(
     Ok(paths)
 }
 
+fn is_among(names: &[&str], wanted: &str) -> bool
+    ensures { result ≡ list_any (λ name. pointwise nat_eq name.now wanted.now) names.now }
+{
+    for name in names {
+        if name.as_bytes() == wanted.as_bytes() {
+            return true;
+        }
+    }
+    false
+}
+
+/// Whether a path is one of those around it.
 fn is_around(around: &[&str], path: &str) -> bool
     ensures { result ≡ spec.is_path_around (texts around.now) path.now }
 {
-    around.iter().any(|other| *other == path)
+    is_among(around, path)
 }
 
 type FileFound<'c, 'a> = (u32, &'c Candidate<'a>);
