@@ -48,11 +48,11 @@ module _ (features : List (List ℕ)) where
     any_changes unknown (meta_and m ms) = changes unknown m || any_changes unknown ms
 
   -- a `mod` is unsure if what stands around it is, or by its metas
-  abbrev pub is_unsure : Bool → MetaViews → Bool
-  is_unsure around metas = around || any_changes false metas
+  abbrev pub is_unsure_below : Bool → MetaViews → Bool
+  is_unsure_below around metas = around || any_changes false metas
 
   abbrev pub is_node_unsure : Bool → NodeView → Bool
-  is_node_unsure around n = is_unsure around (metas_from n.attrs)
+  is_node_unsure around n = is_unsure_below around (metas_from n.attrs)
 
   -- those of an item, and of items, in the order of the text
   abbrev mutual
@@ -67,5 +67,5 @@ module _ (features : List (List ℕ)) where
 
   -- those of a file
   abbrev pub file_unsure : SyntaxView → List FileAstId
-  file_unsure (source_file attrs is) = items_unsure (is_unsure false (metas_from attrs)) is
+  file_unsure (source_file attrs is) = items_unsure (is_unsure_below false (metas_from attrs)) is
   file_unsure _ = []

@@ -80,7 +80,7 @@ fn any_changes(features: &[String], is_unknown: bool, metas: &[Meta]) -> bool
 #[tactic(auto, using(crate::proofs::UnsureMetas::metas_change))]
 fn is_unsure(features: &[String], is_around: bool, metas: &[Meta]) -> bool
     ensures { let own = spec.metas_view metas.now in
-        result ≡ spec.is_unsure (map string_bytes features.now) is_around own }
+        result ≡ spec.is_unsure_below (map string_bytes features.now) is_around own }
 {
     is_around || any_changes(features, false, metas)
 }
