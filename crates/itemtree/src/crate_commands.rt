@@ -5,7 +5,7 @@ use crate::crate_sources::CrateSources;
 use crate::escapes::Shown;
 use crate::failure::Failure;
 use crate::report::Report;
-use def_map::{DefMapError, Manifest};
+use def_map::{DefMapError, Manifest, ResolvedImport};
 use hir_input::EditionYear;
 use itemtree_commands::{
     ImportLook, Options, check, declared_items, modules, resolved_imports, unresolved_modules,
@@ -86,6 +86,34 @@ fn unresolved_in(
     Ok(lines)
 }
 
+/// The imports that are wrong by lints alone, and the others.
+fn by_lints(
+    alloc: Global,
+    imports: Vec<ResolvedImport>,
+) -> Result<(Vec<ResolvedImport>, Vec<ResolvedImport>), AllocError> {
+    let (mut lints, mut others) = (Vec::new(alloc), Vec::new(alloc));
+    for import in imports {
+        if import.is_lint {
+            lints.push(import).map_err(AllocError::from)?;
+        } else {
+            others.push(import).map_err(AllocError::from)?;
+        }
+    }
+    Ok((lints, others))
+}
+
+/// Reports as warnings what only lints forbid, which may be allowed: in the text, in `Cargo.toml` or by `--cap-lints`.
+fn warn(report: &mut Report<'_>, lines: &str) -> Result<(), AllocError> {
+    let mut warnings = String::new(report.rt.alloc());
+    for line in lines.lines() {
+        warnings.push_str("warning: ")?;
+        warnings.push_str(line)?;
+        warnings.push_str(" (by a lint alone)\n")?;
+    }
+    report.tell(&warnings);
+    Ok(())
+}
+
 /// The lines of the imports of crates that are wrong.
 fn wrong_imports_in(
     report: &mut Report<'_>,
@@ -103,7 +131,9 @@ fn wrong_imports_in(
         match sources.resolved_imports(tree, manifest) {
             Ok(imports) => {
                 let files = sources.files();
-                lines.push_str(&wrong_imports(alloc, &imports, tree, files, is_colored)?)?;
+                let (lints, others) = by_lints(alloc, imports)?;
+                warn(report, &wrong_imports(alloc, &lints, tree, files, false)?)?;
+                lines.push_str(&wrong_imports(alloc, &others, tree, files, is_colored)?)?;
             }
             Err(DefMapError::OutOfMemory) => return Err(Failure::from(AllocError)),
             Err(error) => report.complain("imports", error),
@@ -252,7 +282,10 @@ fn write_resolved(
             continue;
         }
         match sources.resolved_imports(tree, &root.facts) {
-            Ok(imports) => {
+            Ok(mut imports) => {
+                if look.only_wrong {
+                    (_, imports) = by_lints(alloc, imports)?;
+                }
                 let edition = &root.options.edition;
                 let text = resolved_imports(alloc, &imports, tree, &files, edition, look)?;
                 if look.only_wrong && !text.is_empty() {
