@@ -609,6 +609,18 @@ package("features", '[features]\ndefault = ["a"]\na = []\nb = []\n',
 package("a feature of no manifest", '[features]\nb = []\n', '#[cfg(feature = "c")] pub fn g() {} mod m { use crate::g; }', "unknown", refused="E0432")
 package("a feature that is given", '[features]\nb = []\n', '#[cfg(feature = "b")] pub fn g() {} mod m { use crate::g; }', "resolved",
       cfgs=['feature="b"'], options=["--features", "b"])
+package("modules of one name under cfgs of a build script", "",
+        "#[cfg(has_x)] mod a { pub struct X; pub struct W; } #[cfg(not(has_x))] mod a { pub struct X; } pub use a::{X, W};", "resolved", "unknown", cfgs=["has_x"])
+package("an import under a cfg of a build script", "", "mod a { pub fn f() {} } #[cfg(not(has_x))] use crate::gone::X; use a::f;", "absent", "resolved", cfgs=["has_x"])
+package("imports in modules that a build script may take away", "",
+        "#[cfg(not(has_x))] mod a { use crate::gone; mod b { use crate::gone; } } #[cfg(unix)] mod c { use crate::gone; }", "absent", "absent", "unresolved",
+        cfgs=["has_x", "unix"])
+package("what a build script may change", "",
+        "#[cfg_attr(has_x, macro_export)] macro_rules! m { () => {} } pub mod a { #[cfg(not(has_x))] pub(crate) struct X; #[cfg(has_x)] pub struct X; pub use self::X as Y; } use crate::m as n;",
+        "resolved", "unknown", cfgs=["has_x"])
+package("a cfg of a feature is no build script's", '[features]\nb = []\n', '#[cfg(not(feature = "b"))] use crate::gone::X;', "unresolved")
+package("a prelude of its own", "", "#![feature(prelude_import)] mod p { pub mod q { pub fn f() {} } } #[prelude_import] use p::*; mod a { use q::f; }",
+        "absent", "unknown", is_held=False)
 package("an exported macro that the manifest allows", '[lints.rust]\nmacro_expanded_macro_exports_accessed_by_absolute_paths = "allow"\n',
         f"#[derive(Debug)] pub struct S; {EXPORTS} mod a {{ make! {{}} }} mod b {{ use crate::made as n; }}", "unknown", refused="macro-expanded")
 

@@ -2,12 +2,10 @@ mod LoopFacts
 mod FoundFacts
 mod TableRows
 mod Bounds
-mod Cfgs
 mod Closing
 mod Completing
 mod Counting
 mod Deciding
-mod Derives
 mod Examples
 mod Exports
 mod Gathering
@@ -16,6 +14,7 @@ mod ReachedItems
 mod Leading
 mod LeafForms
 mod LentItems
+mod Lints
 mod Listing
 mod Meeting
 mod Noting
@@ -32,6 +31,7 @@ mod Reading
 mod Refusing
 mod RootVeils
 mod SeedLaws
+mod Staying
 mod SureNames
 mod Telling
 mod Things

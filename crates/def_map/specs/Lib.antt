@@ -12,6 +12,7 @@ pub mod Lowering
 pub mod ModuleOrder
 pub mod Numbering
 pub mod Numbers
+pub mod Parts
 pub mod Private
 pub mod Refused
 pub mod Seeding

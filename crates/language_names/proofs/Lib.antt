@@ -1,0 +1,3 @@
+mod Cfgs
+mod Derives
+mod UnsureItems

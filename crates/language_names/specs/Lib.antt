@@ -1,0 +1,2 @@
+pub mod LanguageNames
+pub mod UnsureItems
