@@ -55,15 +55,15 @@ fn unresolved_in(
     Ok(lines)
 }
 
-/// The lines of the imports of crates that are wrong.
+/// The lines of the imports of crates that are wrong, and warnings of those that are by lints alone.
 fn wrong_imports_in(
     report: &mut Report<'_>,
     sources: &CrateSources<'_>,
     manifest: &Manifest,
     trees: &[ModuleTree],
-) -> Result<String, Failure> {
+) -> Result<(String, String), Failure> {
     let (alloc, is_colored) = (report.rt.alloc(), report.is_colored());
-    let mut lines = String::new(alloc);
+    let (mut lines, mut warnings) = (String::new(alloc), String::new(alloc));
     for tree in trees {
         if let Some(file) = sources.lacks_paths(tree) {
             report.note(Shown(file.path()), UNCHECKED);
@@ -72,13 +72,16 @@ fn wrong_imports_in(
         match sources.resolved_imports(tree, manifest) {
             Ok(imports) => {
                 let files = sources.files();
-                lines.push_str(&wrong_imports(alloc, &imports, tree, files, is_colored)?)?;
+                let wrong = wrong_imports(alloc, &imports, tree, files, false, is_colored)?;
+                let warned = wrong_imports(alloc, &imports, tree, files, true, is_colored)?;
+                lines.push_str(&wrong)?;
+                warnings.push_str(&warned)?;
             }
             Err(DefMapError::OutOfMemory) => return Err(Failure::from(AllocError)),
             Err(error) => report.complain("imports", error),
         }
     }
-    Ok(lines)
+    Ok((lines, warnings))
 }
 
 /// What is found of crates.
@@ -90,6 +93,8 @@ pub(crate) struct CratesFound {
     pub(crate) unresolved: String,
     /// The lines of the imports that are wrong, if these are asked for.
     pub(crate) imports: String,
+    /// And of those that are wrong by lints alone.
+    pub(crate) warnings: String,
 }
 
 fn paths_of(alloc: Global, files: &[&CrateFile]) -> Result<Vec<String>, AllocError> {
@@ -113,15 +118,16 @@ pub(crate) fn crates_found(
     report.complain_of(sources.faults());
     let files = paths_of(alloc, &sources.files_of(&trees)?)?;
     let unresolved = unresolved_in(&sources, alloc, options, &trees, report.is_colored())?;
-    let imports = if wants_imports {
+    let (imports, warnings) = if wants_imports {
         wrong_imports_in(report, &sources, &crates.facts, &trees)?
     } else {
-        String::new(alloc)
+        (String::new(alloc), String::new(alloc))
     };
     Ok(CratesFound {
         files,
         unresolved,
         imports,
+        warnings,
     })
 }
 

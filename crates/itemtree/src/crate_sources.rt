@@ -16,22 +16,11 @@ use std::fs;
 use std::fs::Metadata;
 use std::os::unix::fs::MetadataExt;
 
-/// The lint that forbids to name macros by paths that other macros make, and its group.
-const EXPANDED_WORDS: [&str; 2] = [
-    "macro_expanded_macro_exports_accessed_by_absolute_paths",
-    "future_incompatible",
-];
-
 /// A file, by the numbers of its device and of itself.
 type FileId = (u64, u64);
 
 fn id_of(found: &Metadata) -> FileId {
     (found.dev(), found.ino())
-}
-
-/// Whether a text may allow to name macros by paths that other macros make.
-fn allows_expanded(text: &str) -> bool {
-    EXPANDED_WORDS.iter().any(|word| text.contains(word))
 }
 
 /// The items of a file that a build script may take away, or change.
@@ -273,7 +262,7 @@ impl<'a> CrateSources<'a> {
             trees: &trees,
             export_words: &export_words,
             unsure: &unsure,
-            allows_lints: self.files.iter().any(|file| allows_expanded(file.text())),
+            allows_lints: false,
             manifest,
         };
         resolve_imports(self.rt.alloc(), sources)
