@@ -5,7 +5,7 @@ use crate::crate_sources::CrateSources;
 use crate::escapes::Shown;
 use crate::failure::Failure;
 use crate::report::Report;
-use def_map::{DefMapError, Manifest, ResolvedImport};
+use def_map::{DefMapError, Manifest};
 use hir_input::EditionYear;
 use itemtree_commands::{
     ImportLook, Options, check, declared_items, modules, resolved_imports, unresolved_modules,
@@ -86,43 +86,15 @@ fn unresolved_in(
     Ok(lines)
 }
 
-/// The imports that are wrong by lints alone, and the others.
-fn by_lints(
-    alloc: Global,
-    imports: Vec<ResolvedImport>,
-) -> Result<(Vec<ResolvedImport>, Vec<ResolvedImport>), AllocError> {
-    let (mut lints, mut others) = (Vec::new(alloc), Vec::new(alloc));
-    for import in imports {
-        if import.is_lint {
-            lints.push(import).map_err(AllocError::from)?;
-        } else {
-            others.push(import).map_err(AllocError::from)?;
-        }
-    }
-    Ok((lints, others))
-}
-
-/// Reports as warnings what only lints forbid, which may be allowed: in the text, in `Cargo.toml` or by `--cap-lints`.
-fn warn(report: &mut Report<'_>, lines: &str) -> Result<(), AllocError> {
-    let mut warnings = String::new(report.rt.alloc());
-    for line in lines.lines() {
-        warnings.push_str("warning: ")?;
-        warnings.push_str(line)?;
-        warnings.push_str(" (by a lint alone)\n")?;
-    }
-    report.tell(&warnings);
-    Ok(())
-}
-
-/// The lines of the imports of crates that are wrong.
+/// The lines of the imports of crates that are wrong, and warnings of those that are by lints alone.
 fn wrong_imports_in(
     report: &mut Report<'_>,
     sources: &CrateSources<'_>,
     manifest: &Manifest,
     trees: &[ModuleTree],
-) -> Result<String, Failure> {
+) -> Result<(String, String), Failure> {
     let (alloc, is_colored) = (report.rt.alloc(), report.is_colored());
-    let mut lines = String::new(alloc);
+    let (mut lines, mut warnings) = (String::new(alloc), String::new(alloc));
     for tree in trees {
         if let Some(file) = sources.lacks_paths(tree) {
             report.note(Shown(file.path()), UNCHECKED);
@@ -131,15 +103,16 @@ fn wrong_imports_in(
         match sources.resolved_imports(tree, manifest) {
             Ok(imports) => {
                 let files = sources.files();
-                let (lints, others) = by_lints(alloc, imports)?;
-                warn(report, &wrong_imports(alloc, &lints, tree, files, false)?)?;
-                lines.push_str(&wrong_imports(alloc, &others, tree, files, is_colored)?)?;
+                let wrong = wrong_imports(alloc, &imports, tree, files, false, is_colored)?;
+                let warned = wrong_imports(alloc, &imports, tree, files, true, is_colored)?;
+                lines.push_str(&wrong)?;
+                warnings.push_str(&warned)?;
             }
             Err(DefMapError::OutOfMemory) => return Err(Failure::from(AllocError)),
             Err(error) => report.complain("imports", error),
         }
     }
-    Ok(lines)
+    Ok((lines, warnings))
 }
 
 /// What is found of crates.
@@ -153,6 +126,8 @@ pub(crate) struct CratesFound {
     pub(crate) unresolved: String,
     /// The lines of the imports that are wrong, if these are asked for.
     pub(crate) imports: String,
+    /// And of those that are wrong by lints alone.
+    pub(crate) warnings: String,
 }
 
 impl CratesFound {
@@ -162,6 +137,7 @@ impl CratesFound {
             roots: Vec::new(alloc),
             unresolved: String::new(alloc),
             imports: String::new(alloc),
+            warnings: String::new(alloc),
         }
     }
 }
@@ -229,8 +205,14 @@ pub(crate) fn crates_found(
         let unresolved = unresolved_in(&one.sources, alloc, options, &one.trees, is_colored)?;
         found.unresolved.push_str(&unresolved)?;
         if wants_imports {
-            let imports = wrong_imports_in(report, &one.sources, &one.root.facts, &one.trees)?;
+            let (imports, warnings) = wrong_imports_in(
+                report,
+                &one.sources,
+                &one.root.facts,
+                &one.trees,
+            )?;
             found.imports.push_str(&imports)?;
+            found.warnings.push_str(&warnings)?;
         }
     }
     Ok(found)
@@ -282,10 +264,7 @@ fn write_resolved(
             continue;
         }
         match sources.resolved_imports(tree, &root.facts) {
-            Ok(mut imports) => {
-                if look.only_wrong {
-                    (_, imports) = by_lints(alloc, imports)?;
-                }
+            Ok(imports) => {
                 let edition = &root.options.edition;
                 let text = resolved_imports(alloc, &imports, tree, &files, edition, look)?;
                 if look.only_wrong && !text.is_empty() {
