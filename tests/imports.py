@@ -616,7 +616,7 @@ package("modules of one name under cfgs of a build script", "",
         "#[cfg(has_x)] mod a { pub struct X; pub struct W; } #[cfg(not(has_x))] mod a { pub struct X; } pub use a::{X, W};", "resolved", "unknown", cfgs=["has_x"])
 package("an import under a cfg of a build script", "", "mod a { pub fn f() {} } #[cfg(not(has_x))] use crate::gone::X; use a::f;", "absent", "resolved", cfgs=["has_x"])
 package("imports in modules that a build script may take away", "",
-        "#[cfg(not(has_x))] mod a { use crate::gone; mod b { use crate::gone; } } #[cfg(unix)] mod c { use crate::gone; }", "absent", "absent", "unresolved",
+        "#[cfg(not(has_x))] mod a { use crate::gone; mod b { use crate::gone; } } #[cfg(unix)] mod c { use super::d::gone; } mod d {}", "absent", "absent", "unresolved",
         cfgs=["has_x", "unix"])
 package("what a build script may change", "",
         "#[cfg_attr(has_x, macro_export)] macro_rules! m { () => {} } pub mod a { #[cfg(not(has_x))] pub(crate) struct X; #[cfg(has_x)] pub struct X; pub use self::X as Y; } use crate::m as n;",

@@ -28,7 +28,7 @@ pub enum Verdict {
 impl Verdict {
     /// Whether an import of which this is told is wrong.
     pub fn is_wrong(self) -> bool
-        ensures { result ≡ spec.says_wrong self.entry }
+        ensures { result ≡ spec.says_wrong self }
     {
         match self {
             Verdict::Unresolved | Verdict::TooWide | Verdict::Nameless => true,
