@@ -1,11 +1,13 @@
 #!/usr/bin/env python3
 """Small crates, each with the modules that it has by the Reference: crates.py PROGRAM [RUSTC]
 
-With a rustc, each crate is held against that too: the files that it reads are those of the modules, and it refuses a
-crate exactly where a module has no file. Prints `crates: N passed, M failed`."""
+With a rustc, each crate is compared with that too: the files that it reads are those of the modules, and it refuses a
+crate exactly where a module has no file; with a cargo beside it, each of the PACKAGES too: cargo accepts all of them.
+Prints `crates: N passed, M failed`."""
 import json
 import os
 import re
+import shutil
 import subprocess
 import sys
 import tempfile
@@ -252,7 +254,8 @@ MANIFESTS = [
     ("a binary that is not there", NAMED + '[[bin]]\nname = "b"\n', ["src/lib.rs"], [], "the crate b has no root file"),
     ("no binaries by their places", NAMED + 'autobins = false\n[[bin]]\nname = "b"\n', ["src/bin/b.rs", "src/bin/c.rs"], [], ["src/bin/b.rs"]),
     ("no crate", NAMED, ["x.rs"], [], "no crate of this package has a root file"),
-    ("a workspace alone", '[workspace]\nmembers = ["m"]\n', ["m/src/lib.rs"], [], ""),
+    ("a workspace whose member is not there", '[workspace]\nmembers = ["m"]\n', ["m/src/lib.rs"], [], "m/Cargo.toml: No such file or directory (os error 2)"),
+    ("a workspace of nothing", "[workspace]\n", ["m/src/lib.rs"], [], "no crate of this package has a root file"),
     ("an unknown edition", NAMED + 'edition = "2016"\n', ["src/lib.rs"], [], ""),
     ("a feature that enables itself", NAMED + '[features]\na = ["b"]\nb = ["a"]\n', ["src/lib.rs", "src/a.rs", "src/b.rs"], ["--features", "a"],
      ["src/lib.rs", "src/a.rs", "src/b.rs"]),
@@ -278,7 +281,70 @@ def manifests(folder):
         if isinstance(wanted, list):
             yield listed == wanted and status == 0, what, (listed, err)
         else:
-            yield out == "" and err.startswith("itemtree: Cargo.toml: ") and err.endswith(wanted + "\n") and status == 2, what, err
+            yield out == "" and err.startswith("itemtree: ") and "Cargo.toml: " in err and err.endswith(wanted + "\n") and status == 2, what, err
+
+
+# Packages as cargo has them: what one shows, its files, its folder, and the root files of its crates.
+LIB, BIN, WRONG = "pub fn f() {}\n", "fn main() {}\n", "use crate::gone::X;\nfn main() {}\n"
+OLD = "mod a { pub struct X; }\nmod b { use a::X; pub type Y = X; }\n"
+OWN = '[package]\nname = "own-pkg"\nversion = "0.1.0"\n'
+PACKAGES = [
+    ("a target without its required features", {"Cargo.toml": OWN + 'edition = "2021"\n[features]\ncli = []\n[[bin]]\nname = "tool"\npath = "src/main.rs"\nrequired-features = ["cli"]\n',
+     "src/lib.rs": LIB, "src/main.rs": WRONG}, ".", ["src/lib.rs"]),
+    ("a target with its required features", {"Cargo.toml": OWN + 'edition = "2021"\n[features]\ndefault = ["cli"]\ncli = []\n[[bin]]\nname = "tool"\npath = "src/main.rs"\nrequired-features = ["cli"]\n',
+     "src/main.rs": BIN}, ".", ["src/main.rs"]),
+    ("an example without its required features", {"Cargo.toml": OWN + 'edition = "2021"\n[features]\ncli = []\n[[example]]\nname = "e"\nrequired-features = ["cli"]\n',
+     "src/lib.rs": LIB, "examples/e.rs": WRONG}, ".", ["src/lib.rs"]),
+    ("the edition of a library", {"Cargo.toml": OWN + 'edition = "2021"\n[lib]\nedition = "2015"\n', "src/lib.rs": OLD}, ".", ["src/lib.rs"]),
+    ("the edition of a binary", {"Cargo.toml": OWN + 'edition = "2021"\n[[bin]]\nname = "b"\nedition = "2015"\n', "src/lib.rs": LIB, "src/bin/b.rs": OLD + BIN}, ".", ["src/lib.rs", "src/bin/b.rs"]),
+    ("the root of its own workspace", {"Cargo.toml": '[workspace]\n[workspace.package]\nedition = "2015"\n' + OWN + "edition.workspace = true\n", "src/lib.rs": OLD}, ".", ["src/lib.rs"]),
+    ("the root of its own workspace, in 2021", {"Cargo.toml": '[workspace]\n[workspace.package]\nedition = "2021"\n' + OWN + "edition.workspace = true\n", "src/lib.rs": "mod gen {}\n"}, ".",
+     ["src/lib.rs"]),
+    ("a workspace elsewhere", {"ws/Cargo.toml": '[workspace]\nmembers = ["../pkg"]\n[workspace.package]\nedition = "2015"\n', "pkg/Cargo.toml": OWN + 'edition.workspace = true\nworkspace = "../ws"\n',
+     "pkg/src/lib.rs": OLD}, "pkg", ["pkg/src/lib.rs"]),
+    ("a comment like a workspace", {"Cargo.toml": '[workspace]\nmembers = ["*/pkg"]\n[workspace.package]\nedition = "2015"\n', "a/Cargo.toml": "# [workspace]\n" + OWN.replace("own", "other"),
+     "a/src/lib.rs": "", "a/pkg/Cargo.toml": OWN + "edition.workspace = true\n", "a/pkg/src/lib.rs": OLD}, "a/pkg", ["a/pkg/src/lib.rs"]),
+    ("a declared binary of the name of a file", {"Cargo.toml": OWN + 'edition = "2021"\n[[bin]]\nname = "tool"\npath = "src/tool.rs"\n', "src/lib.rs": LIB, "src/tool.rs": BIN, "src/bin/tool.rs": WRONG}, ".",
+     ["src/lib.rs", "src/tool.rs"]),
+    ("a declared binary of the path of a file", {"Cargo.toml": OWN + 'edition = "2021"\n[[bin]]\nname = "tool"\npath = "src/bin/other.rs"\n', "src/bin/other.rs": BIN, "src/bin/more.rs": BIN}, ".",
+     ["src/bin/other.rs", "src/bin/more.rs"]),
+    ("a binary of edition 2015", {"Cargo.toml": OWN + '[[bin]]\nname = "tool"\n', "src/main.rs": BIN}, ".", ["src/main.rs"]),
+    ("a binary of edition 2015 beside no library", {"Cargo.toml": OWN + '[[bin]]\nname = "tool"\n', "src/tool.rs": BIN, "src/main.rs": WRONG}, ".", ["src/tool.rs"]),
+    ("a binary of edition 2015 beside a library", {"Cargo.toml": OWN + '[[bin]]\nname = "tool"\n', "src/tool.rs": WRONG, "src/lib.rs": LIB, "src/main.rs": BIN}, ".", ["src/lib.rs", "src/main.rs"]),
+    ("a project", {"Cargo.toml": OWN.replace("package", "project"), "src/lib.rs": OLD}, ".", ["src/lib.rs"]),
+    ("all kinds", {"Cargo.toml": OWN + 'edition = "2021"\n[[test]]\nname = "t"\npath = "more/t.rs"\n', "src/lib.rs": LIB, "src/main.rs": BIN, "more/t.rs": LIB, "tests/u.rs": "mod common;\n",
+     "tests/common/mod.rs": "", "tests/v/main.rs": "mod w;\n", "tests/v/w.rs": "", "examples/e.rs": BIN, "benches/b.rs": BIN, "build.rs": BIN}, ".",
+     ["src/lib.rs", "src/main.rs", "more/t.rs", "build.rs", "tests/u.rs", "tests/v/main.rs", "examples/e.rs", "benches/b.rs"]),
+    ("kinds that are not found", {"Cargo.toml": OWN + 'edition = "2021"\nbuild = false\nautotests = false\nautoexamples = false\nautobenches = false\nautobins = false\n', "src/lib.rs": LIB,
+     "src/main.rs": WRONG, "tests/u.rs": WRONG, "examples/e.rs": WRONG, "benches/b.rs": WRONG, "build.rs": WRONG}, ".", ["src/lib.rs"]),
+    ("a test under the cfg test", {"Cargo.toml": OWN + 'edition = "2021"\n', "src/lib.rs": LIB, "tests/u.rs": "#[cfg(test)] mod m { pub fn f() {} }\nuse m::f as g;\n"}, ".", ["src/lib.rs", "tests/u.rs"]),
+    ("the members of a workspace", {"Cargo.toml": '[workspace]\nmembers = ["one", "more/*"]\nexclude = ["more/three"]\n', "one/Cargo.toml": OWN, "one/src/lib.rs": OLD,
+     "more/two/Cargo.toml": OWN.replace("own", "two") + 'edition = "2021"\n', "more/two/src/main.rs": "mod gen {}\nuse crate::gen as g;\n" + BIN, "more/three/Cargo.toml": "[package\n", "more/notes": ""}, ".",
+     ["one/src/lib.rs", "more/two/src/main.rs"]),
+]
+
+
+def packages_of_cargo(folder):
+    cargo = RUSTC and shutil.which("cargo")
+    for at, (what, files, place, roots) in enumerate(PACKAGES):
+        top = f"{folder}/{at}"
+        write(top, files)
+        ran = run(top, "check", "--crate", place)
+        yield ran == ("", "", 0), what, ran
+        manifest = os.path.normpath(f"{place}/Cargo.toml")
+        listed = [line.split(": crate ")[1] for line in run(top, "modules", manifest)[0].splitlines() if ": crate " in line]
+        yield listed == roots, f"{what}: roots", listed
+        if cargo:
+            ran = subprocess.run([cargo, "check", "--offline", "--quiet", "--all-targets", "--manifest-path", manifest], cwd=top, capture_output=True, text=True)
+            yield ran.returncode == 0, f"{what}: cargo", ran.stderr
+    write(folder, {"f/Cargo.toml": '[workspace]\nmembers = ["p", "q"]\n', "p/x": "", "f/p/Cargo.toml": OWN + "[features]\na = []\n", "f/p/src/lib.rs": "#[cfg(feature = \"a\")] mod none;\n",
+                   "f/q/Cargo.toml": OWN.replace("own", "two"), "f/q/src/lib.rs": ""})
+    yield run(folder, "check", "--crate", "f")[2] == 0, "a workspace without a feature", ""
+    yield run(folder, "check", "--crate", "f", "--features", "a")[2] == 1, "a feature of one member", run(folder, "check", "--crate", "f", "--features", "a")
+    yield run(folder, "check", "--crate", "f", "--features", "b") == ("", "itemtree: f/Cargo.toml: no feature b\n", 2), "a feature of none", run(folder, "check", "--crate", "f", "--features", "b")
+    for words in (["modules"], ["check", "--crate"], ["outline", "--crate"], ["find", "f", "--crate"], ["imports", "--crate"], ["tags", "-o", "-", "--crate"], ["imports", "--resolve", "--crate"]):
+        top = f"{folder}/0"
+        yield run(top, *words, ".") == run(top, *words, "Cargo.toml") == run(top, *words, "./Cargo.toml"), "a folder and its manifest", words
 
 
 def many(folder):
@@ -319,7 +385,7 @@ def orphans(folder):
 
 def main():
     passed = failed = 0
-    for check in (links, no_files, unread, deep, packages, manifests, many, cases_of_letters, of_a_crate, orphans):
+    for check in (links, no_files, unread, deep, packages, manifests, packages_of_cargo, many, cases_of_letters, of_a_crate, orphans):
         with tempfile.TemporaryDirectory() as folder:
             for is_right, what, got in check(folder):
                 passed += is_right

@@ -4,5 +4,6 @@ pub mod Inner
 pub mod Laws
 pub mod Manifests
 pub mod Readings
-pub mod Roots
+pub mod Targets
 pub mod Views
+pub mod Workspaces

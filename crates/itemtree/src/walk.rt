@@ -156,6 +156,25 @@ fn may_have_unnamed(rt: &HostRuntime, folder: &str, names: &[Vec<u8>]) -> Result
     Ok(found.nlink() < 2 || found.nlink() > count)
 }
 
+/// The names of a folder's entries that are text, sorted; none if it cannot be read.
+pub(crate) fn names_of_folder(rt: &HostRuntime, folder: &str) -> Result<Vec<String>, AllocError> {
+    let alloc = rt.alloc();
+    let (mut names, mut texts) = (Vec::new(alloc), Vec::new(alloc));
+    match push_names(rt, folder, &mut names) {
+        Err(error) if error.kind() == io::ErrorKind::OutOfMemory => return Err(AllocError),
+        _ => {}
+    }
+    for name in &names {
+        if let Ok(name) = str::from_utf8(name) {
+            if !matches!(name, "" | "." | "..") {
+                texts.push(String::from_str(alloc, name)?)?;
+            }
+        }
+    }
+    texts.sort()?;
+    Ok(texts)
+}
+
 pub(crate) fn is_file(rt: &HostRuntime, path: &str) -> bool {
     fs::metadata(rt, path).is_ok_and(|found| found.is_file())
 }
