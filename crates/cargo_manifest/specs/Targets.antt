@@ -258,9 +258,16 @@ found_kinds p d = record {
 abbrev pub is_main : List ℕ → TargetFacts → Bool
 is_main package_name target = bytes_eq target.name package_name || is_text_among target.paths main_path
 
+-- whether a binary may be at `src/main.rs` that is not declared
+abbrev pub finds_main : PackageFields → List TargetFacts → Bool → Bool
+finds_main p declared finds = finds && not (list_any (is_main p.name) declared)
+
+abbrev pub main_targets : PackageFields → Bool → List TargetFacts
+main_targets p is_found = if is_found then undeclared_target Binary p.name p.edition main_path ∷ [] else []
+
 -- the declared binaries, and that of `src/main.rs`
 abbrev pub binary_targets : PackageFields → List TargetFacts → Bool → List TargetFacts
-binary_targets p declared finds = declared ++ (if finds && not (list_any (is_main p.name) declared) then undeclared_target Binary p.name p.edition main_path ∷ [] else [])
+binary_targets p declared finds = declared ++ main_targets p (finds_main p declared finds)
 
 abbrev pub build_script : PackageFields → List ℕ → Bool → TargetFacts
 build_script p path is_declared =

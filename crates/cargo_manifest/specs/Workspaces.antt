@@ -1,5 +1,5 @@
 -- What a manifest has for workspaces.
-use Rattle.std.specs.Prelude.{ℕ, ◌&&◌, not, nat_eq, if◌then◌else◌, List, [], ◌++◌, length, drop, codes, Bool, Option, is_some, option_and_then, unwrap_or, Result, Ok, Err}
+use Rattle.std.specs.Prelude.{ℕ, ◌-◌, ◌&&◌, not, nat_eq, if◌then◌else◌, List, [], ◌++◌, length, take, drop, codes, Bool, Option, is_some, option_and_then, unwrap_or, Result, Ok, Err}
 use Rattle.std.specs.List.{list_any, starts_with, ends_with}
 use Rattle.toml.specs.Data.{Data, Members, get, get_member, as_str}
 use Rattle.toml.specs.Parse.{parse_document}
@@ -42,9 +42,13 @@ workspace_facts text = do
   ms ← or_refused no_toml (parse_document text)
   workspace_in ms
 
+-- a path without the slash that it may end with
+abbrev pub without_end_slash : List ℕ → List ℕ
+without_end_slash path = if ends_with nat_eq path (codes "/") then take (length path - 1) path else path
+
 -- a path with a slash at its end
 abbrev pub with_last_slash : List ℕ → List ℕ
-with_last_slash path = if ends_with nat_eq path (codes "/") then path else path ++ codes "/"
+with_last_slash path = without_end_slash path ++ codes "/"
 
 -- a path without the `./` that it may begin with
 abbrev pub without_here : List ℕ → List ℕ

@@ -90,7 +90,27 @@ fn has_main(package_name: &str, targets: &[Target]) -> bool
     targets.iter().any(|target| is_main(package_name, target))
 }
 
-// The binary of `src/main.rs` behind those that are declared.
+fn finds_main(base: &Fields<'_>, declared: &[Target], finds: bool) -> bool
+    ensures { result ≡ spec.finds_main (package_fields_view base.now) (map target_facts_view declared.now) finds }
+{
+    finds && !has_main(base.name, declared)
+}
+
+fn main_targets(alloc: Global, base: &Fields<'_>, is_found: bool) -> Result<Vec<Target>, AllocError>
+    ensures { IfOk result (λ targets. targets_view targets
+        ≡ spec.main_targets (package_fields_view base.now) is_found) }
+{
+    let mut targets = Vec::new(alloc);
+    if is_found {
+        let name = String::from_str(alloc, base.name)?;
+        let edition = base.edition;
+        let main = undeclared_target(alloc, TargetKind::Binary, name, edition, "src/main.rs")?;
+        targets.push(main)?;
+    }
+    Ok(targets)
+}
+
+// The binary of `src/main.rs` after those that are declared.
 fn binary_targets(
     alloc: Global,
     base: &Fields<'_>,
@@ -100,13 +120,9 @@ fn binary_targets(
     ensures { IfOk result (λ targets. targets_view targets
         ≡ spec.binary_targets (package_fields_view base.now) (targets_view declared) finds) }
 {
-    if !finds || has_main(base.name, &declared) {
-        return Ok(declared);
-    }
-    let name = String::from_str(alloc, base.name)?;
-    let edition = base.edition;
-    let main = undeclared_target(alloc, TargetKind::Binary, name, edition, "src/main.rs")?;
-    declared.push(main)?;
+    let is_found = finds_main(base, &declared, finds);
+    let mut main = main_targets(alloc, base, is_found)?;
+    declared.append(&mut main)?;
     Ok(declared)
 }
 

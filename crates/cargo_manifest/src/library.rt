@@ -53,7 +53,7 @@ fn declared_library(
 ) -> Result<Target, AllocError>
     ensures { IfOk result (λ target. target_facts_view target
         ≡ spec.declared_library (package_fields_view base.now) (option_copied name.entry)
-        (target_fields_view fields)) }
+        (target_fields_view fields.entry)) }
 {
     let name = library_name(alloc, base.name, name)?;
     let paths = library_paths(alloc, base, &name, fields.path)?;

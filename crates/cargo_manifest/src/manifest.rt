@@ -4,6 +4,7 @@ ghost use Rattle.toml.specs.{Parse.parse_document, View.table_view};
 ghost use Rattle.cargo_manifest.specs.Inner.{ReadsAs, declared_targets_view, package_fields_view, workspace_view};
 ghost use Rattle.cargo_manifest.specs.Manifests as spec;
 ghost use Rattle.cargo_manifest.specs.Readings.{no_toml};
+ghost use Rattle.cargo_manifest.specs.Targets.{declared_in as declared_form, has_library as has_library_form};
 ghost use Rattle.cargo_manifest.specs.Views.{dependency_view, feature_view, manifest_view, target_facts_view};
 
 use crate::dependencies::{Dependency, dependencies_in};
@@ -88,7 +89,22 @@ fn manifest_of(
     })
 }
 
-// What a manifest tells beside what `[package]` has.
+// What is declared beside a library, or beside none.
+fn declared_beside(
+    alloc: Global,
+    fields: &Fields<'_>,
+    library: &Option<Target>,
+    has_library_file: bool,
+    table: &Table,
+) -> Result<Declared, ManifestError>
+    ensures { let p = package_fields_view fields.now in ReadsAs declared_targets_view result (declared_form p
+        (has_library_form p (option_map target_facts_view library.now) has_library_file) (table_view table.now)) }
+{
+    let has_library = has_library(fields, library, has_library_file);
+    declared_in(alloc, fields, has_library, table)
+}
+
+// What a manifest has beside `[package]`.
 fn facts_behind(
     alloc: Global,
     workspace: Option<&Table>,
@@ -101,8 +117,7 @@ fn facts_behind(
         (package_fields_view fields.now)) }
 {
     let library = library_at(alloc, fields, table)?;
-    let has_library = has_library(fields, &library, has_library_file);
-    let declared = declared_in(alloc, fields, has_library, table)?;
+    let declared = declared_beside(alloc, fields, &library, has_library_file, table)?;
     let dependencies = dependencies_in(alloc, workspace, table)?;
     let features = written_features(alloc, table)?;
     Ok(manifest_of(alloc, fields, library, declared, dependencies, features)?)

@@ -239,7 +239,7 @@ fn declared_target(
 ) -> Result<Target, AllocError>
     ensures { IfOk result (λ target. target_facts_view target
         ≡ spec.declared_target (package_fields_view base.now) has_library kind name.now
-        (target_fields_view fields)) }
+        (target_fields_view fields.entry)) }
 {
     let paths = target_paths(alloc, base, has_library, kind, name, fields.path)?;
     Ok(Target {

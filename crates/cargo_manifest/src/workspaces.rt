@@ -1,6 +1,6 @@
 //! What a manifest has for workspaces.
-ghost use Rattle.std.specs.Prelude.{◌≡◌, IfOk, codes, map, option_copied, option_map, string_bytes};
-ghost use Rattle.std.specs.List.{list_any};
+ghost use Rattle.std.specs.Prelude.{◌≡◌, IfOk, codes, map, nat_eq, option_copied, option_map, string_bytes};
+ghost use Rattle.std.specs.List.{list_any, starts_with};
 ghost use Rattle.toml.specs.View.{table_view, view};
 ghost use Rattle.cargo_manifest.specs.Inner.{ReadsAs};
 ghost use Rattle.cargo_manifest.specs.Readings.{value_read};
@@ -90,14 +90,21 @@ impl Workspace {
     }
 }
 
+// A path without the slash that it may end with.
+fn without_end_slash(path: &str) -> &str
+    ensures { result.now ≡ spec.without_end_slash path.now }
+{
+    match path.strip_suffix("/") {
+        Some(front) => front,
+        None => path,
+    }
+}
+
 // A path with a slash at its end.
 fn with_last_slash(alloc: Global, path: &str) -> Result<String, AllocError>
     ensures { IfOk result (λ all. string_bytes all ≡ spec.with_last_slash path.now) }
 {
-    let mut all = String::from_str(alloc, path)?;
-    if path.ends_with("/") {
-        return Ok(all);
-    }
+    let mut all = String::from_str(alloc, without_end_slash(path))?;
     all.push_str("/")?;
     Ok(all)
 }
@@ -112,12 +119,18 @@ fn without_here(path: &str) -> &str
     }
 }
 
+fn begins_with(path: &str, front: &str) -> bool
+    ensures { result ≡ starts_with nat_eq path.now front.now }
+{
+    path.starts_with(front)
+}
+
 fn is_below(alloc: Global, path: &str, entry: &str) -> Result<bool, AllocError>
     ensures { IfOk result (λ is. is ≡ spec.is_below path.now entry.now) }
 {
     let path = with_last_slash(alloc, path)?;
     let entry = with_last_slash(alloc, without_here(entry))?;
-    Ok(path.starts_with(entry.as_str()))
+    Ok(begins_with(&path, &entry))
 }
 
 fn is_below_any(alloc: Global, path: &str, entries: &[String]) -> Result<bool, AllocError>
