@@ -533,6 +533,7 @@ def try_losses():
         check(names(b) == ["first", "whole"], "a whole text restores a document")
         check(told_of(server, b) == {"uri": b, "version": 9, "diagnostics": []}, "the problems of a restored document")
     server.write(framed(UNREAD[0]))
+    refused(server.read(), -32700, "no JSON once more")
     server.open(a, "fn again() {}")
     check(names(a) == ["again"], "opening restores a document")
     lost(b, "the other one is lost")
