@@ -131,7 +131,7 @@ pub(crate) fn list_orphans(
     let mut hidden = BTreeSet::new(rt.alloc());
     for read in &all {
         let mut names = hidden_mods(rt.alloc(), read.sources.files(), &read.trees)?;
-        hidden.append(&mut names);
+        hidden.append(&mut names)?;
         report.complain_of(read.sources.faults());
     }
     let files = orphans.without(rt, hidden)?;
