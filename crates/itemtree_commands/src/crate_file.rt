@@ -24,7 +24,7 @@ pub struct CrateFile {
     text: String,
     listed: ListedTree,
     exports: u32,
-    lacks_paths: bool,
+    has_global_list: bool,
 }
 
 // (Written out: what is derived is proved anew, field by field, in each crate that drops one.)
@@ -35,7 +35,7 @@ impl Drop for CrateFile {
             text: _,
             listed: _,
             exports: _,
-            lacks_paths: _,
+            has_global_list: _,
         } = self;
     }
 }
@@ -61,7 +61,7 @@ impl Model for CrateFile {
 
     ghost invariant = { λ x. HasOwnIds x.listed.source
         × (x.exports ≡ exports_of (string_bytes x.text) x.listed.source.tree)
-        × (x.lacks_paths ≡ lacks_paths (string_bytes x.text) x.listed.source.use_trees.items) };
+        × (x.has_global_list ≡ lacks_paths (string_bytes x.text) x.listed.source.use_trees.items) };
 }
 
 impl CrateFile {
@@ -81,13 +81,13 @@ impl CrateFile {
     {
         let listed = listed_tree(alloc, &text, options)?;
         let exports = exports_of(&text, &listed.source.tree);
-        let lacks_paths = lacks_paths(&text, &listed.source.use_trees);
+        let has_global_list = lacks_paths(&text, &listed.source.use_trees);
         Ok(CrateFile {
             path,
             text,
             listed,
             exports,
-            lacks_paths,
+            has_global_list,
         })
     }
 
@@ -140,7 +140,7 @@ impl CrateFile {
     pub fn lacks_paths(&self) -> bool
         ensures { result ≡ facts.lacks_paths self.now.text self.now.use_trees }
     {
-        self.lacks_paths
+        self.has_global_list
     }
 }
 
