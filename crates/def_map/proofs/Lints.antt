@@ -97,7 +97,7 @@ marked_more lax old new r same mark so i x is = ⊎_elim (λ (h : slice_get old 
 
 not_true : (b : Bool) → (b ≡ true → ⊥) → not b ≡ true
 not_true true never = absurd (never refl)
-not_true false never = refl
+not_true false _ = refl
 
 left_true : (a b : Bool) → a ≡ true → (a && not b) ≡ false → b ≡ true
 left_true true true e f = refl
