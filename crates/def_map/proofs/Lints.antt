@@ -96,8 +96,8 @@ marked_more lax old new r same mark so i x is = ⊎_elim (λ (h : slice_get old 
     (get_behind old r i x (ap (λ l. slice_get l i) (sym same) ∙ is))
 
 not_true : (b : Bool) → (b ≡ true → ⊥) → not b ≡ true
-not_true true no = absurd (no refl)
-not_true false no = refl
+not_true true never = absurd (never refl)
+not_true false _ = refl
 
 left_true : (a b : Bool) → a ≡ true → (a && not b) ≡ false → b ≡ true
 left_true true true e f = refl
@@ -119,13 +119,13 @@ module _ (s : CrateSources) (lax : List Told) (found : List ResolvedImport) (so 
 
   pub lints_told : AreLintsTold s found
   lints_told i r is = (
-    λ yes. let p = and_parts (says_wrong r.verdict) (not (is_wrong_at lax i)) (sym (marked i r is) ∙ yes) in (p.0, no (wrong i r is p.0) p.1 known),
+    λ yes. let p = and_parts (says_wrong r.verdict) (not (is_wrong_at lax i)) (sym (marked i r is) ∙ yes) in (p.0, not_there (wrong i r is p.0) p.1 known),
     λ h. marked i r is ∙ both_true (says_wrong r.verdict) (not (is_wrong_at lax i)) h.0 (not_true (is_wrong_at lax i) (yet (wrong i r is h.0) h.1 known)),
   )
     where
-      no : IsWrong (crate_of s) i → not (is_wrong_at lax i) ≡ true → AreAnswers (crate_of (allowing s)) lax ⊎ ((i : ℕ) → IsWrong (crate_of s) i → ⊥) → IsWrong (crate_of (allowing s)) i → ⊥
-      no h e (inl all) w = not_both (is_wrong_at lax i) (wrong_at (crate_of (allowing s)) lax all i w) e
-      no h e (inr none) w = none i h
+      not_there : IsWrong (crate_of s) i → not (is_wrong_at lax i) ≡ true → AreAnswers (crate_of (allowing s)) lax ⊎ ((i : ℕ) → IsWrong (crate_of s) i → ⊥) → IsWrong (crate_of (allowing s)) i → ⊥
+      not_there h e (inl all) w = not_both (is_wrong_at lax i) (wrong_at (crate_of (allowing s)) lax all i w) e
+      not_there h e (inr none) w = none i h
 
       yet : IsWrong (crate_of s) i → (IsWrong (crate_of (allowing s)) i → ⊥) → AreAnswers (crate_of (allowing s)) lax ⊎ ((i : ℕ) → IsWrong (crate_of s) i → ⊥) → is_wrong_at lax i ≡ true → ⊥
       yet h w (inl all) e = w (is_wrong_of (crate_of (allowing s)) lax all i e)
