@@ -16,17 +16,17 @@ _itemtree() {
     fi
     [[ $word = -* ]] || return
     case $command in
-        outline) mapfile -t COMPREPLY < <(compgen -W '-e --edition --hidden --follow --exclude --cfg --host-cfg --active --no-members --depth --color --json -L --files-from --crate --features --all-features --no-default-features --flat --imports -h --help' -- "$word") ;;
-        page) mapfile -t COMPREPLY < <(compgen -W '-e --edition --hidden --follow --exclude --cfg --host-cfg --skip --docs --ids -L --files-from --crate --features --all-features --no-default-features -h --help' -- "$word") ;;
-        imports) mapfile -t COMPREPLY < <(compgen -W '-e --edition --hidden --follow --exclude --cfg --host-cfg --active --duplicates --resolve --unresolved --color --json -q --quiet -L --files-from --crate --features --all-features --no-default-features -h --help' -- "$word") ;;
-        find) mapfile -t COMPREPLY < <(compgen -W '-e --edition --hidden --follow --exclude --cfg --host-cfg --active --no-members -i --ignore-case --kind --color --json -q --quiet -L --files-from --crate --features --all-features --no-default-features -h --help' -- "$word") ;;
-        tags) mapfile -t COMPREPLY < <(compgen -W '-e --edition --hidden --follow --exclude --cfg --host-cfg --active --no-members -o --output -a --append -L --files-from --crate --features --all-features --no-default-features --excmd --fields --tag-relative --bodies -h --help' -- "$word") ;;
+        outline) mapfile -t COMPREPLY < <(compgen -W '-e --edition --no-project --stdin-path --hidden --follow --exclude --cfg --host-cfg --active --no-members --depth --color --json -L --files-from --crate --features --all-features --no-default-features --flat --imports -h --help' -- "$word") ;;
+        page) mapfile -t COMPREPLY < <(compgen -W '-e --edition --no-project --stdin-path --hidden --follow --exclude --cfg --host-cfg --skip --docs --ids -L --files-from --crate --features --all-features --no-default-features -h --help' -- "$word") ;;
+        imports) mapfile -t COMPREPLY < <(compgen -W '-e --edition --no-project --stdin-path --hidden --follow --exclude --cfg --host-cfg --active --duplicates --resolve --unresolved --color --json -q --quiet -L --files-from --crate --features --all-features --no-default-features -h --help' -- "$word") ;;
+        find) mapfile -t COMPREPLY < <(compgen -W '-e --edition --no-project --stdin-path --hidden --follow --exclude --cfg --host-cfg --active --no-members -i --ignore-case --kind --color --json -q --quiet -L --files-from --crate --features --all-features --no-default-features -h --help' -- "$word") ;;
+        tags) mapfile -t COMPREPLY < <(compgen -W '-e --edition --no-project --stdin-path --hidden --follow --exclude --cfg --host-cfg --active --no-members -o --output -a --append -L --files-from --crate --features --all-features --no-default-features --excmd --fields --tag-relative --bodies -h --help' -- "$word") ;;
         modules) mapfile -t COMPREPLY < <(compgen -W '-e --edition --hidden --follow --exclude --cfg --host-cfg --features --all-features --no-default-features --color --json -q --quiet --orphans -h --help' -- "$word") ;;
-        changed) mapfile -t COMPREPLY < <(compgen -W '-e --edition --hidden --follow --exclude --docs --tree --public --cfg --host-cfg --skip --color --json -q --quiet -h --help' -- "$word") ;;
+        changed) mapfile -t COMPREPLY < <(compgen -W '-e --edition --no-project --hidden --follow --exclude --docs --tree --public --cfg --host-cfg --skip --color --json -q --quiet -h --help' -- "$word") ;;
         request) mapfile -t COMPREPLY < <(compgen -W '-e --edition --hidden --follow --exclude --cfg --host-cfg --skip --docs --show --no-bodies -L --files-from -h --help' -- "$word") ;;
         serve) mapfile -t COMPREPLY < <(compgen -W '-h --help' -- "$word") ;;
-        lsp) mapfile -t COMPREPLY < <(compgen -W '-e --edition --cfg --host-cfg -h --help' -- "$word") ;;
-        check) mapfile -t COMPREPLY < <(compgen -W '-e --edition --cfg --host-cfg --hidden --follow --exclude --color -q --quiet -L --files-from --crate --features --all-features --no-default-features -h --help' -- "$word") ;;
+        lsp) mapfile -t COMPREPLY < <(compgen -W '-e --edition --no-project --cfg --host-cfg -h --help' -- "$word") ;;
+        check) mapfile -t COMPREPLY < <(compgen -W '-e --edition --no-project --stdin-path --cfg --host-cfg --hidden --follow --exclude --color -q --quiet -L --files-from --crate --features --all-features --no-default-features -h --help' -- "$word") ;;
     esac
 }
 complete -o default -F _itemtree itemtree

@@ -15,6 +15,7 @@ ENVIRONMENT = [
     ("TERM", "If it is dumb, likewise"),
 ]
 FILES = [
+    ("Cargo.toml", "The nearest one above a file, with what it takes from its workspace, has the edition and the features"),
     ("tags", "The tags file, if -o says nothing else"),
     ("tags.new", "What tags writes it to first; the next run takes over what one that was ended has left"),
 ]

@@ -3,6 +3,7 @@ use crate::commands::or_closed;
 use crate::escapes::Shown;
 use crate::failure::Failure;
 use crate::files::{Room, STDIN, is_a_folder};
+use crate::project::Projects;
 use crate::report::Report;
 use crate::walk::{Found, files_of_folder, with_slash};
 use itemtree_commands::{CompareError, Options, compare_trees};
@@ -36,12 +37,34 @@ pub(crate) struct Counting {
 struct Comparison<'a> {
     report: Report<'a>,
     options: &'a Options,
+    projects: Projects<'a>,
+    /// The number of the project of the two files.
+    project: Option<usize>,
     counting: Counting,
     /// Whether documentation is compared too.
     has_docs: bool,
 }
 
 impl Comparison<'_> {
+    /// Takes the project of the new file, or that of the old one if the new one has none.
+    fn take_project(&mut self, old: &str, new: &str) -> Result<(), Failure> {
+        self.project = self.projects.find(new)?;
+        if self.project.is_none() {
+            self.project = self.projects.find(old)?;
+        }
+        self.report.tell(&self.projects.faults);
+        self.projects.faults.clear();
+        Ok(())
+    }
+
+    /// What the two files are read under.
+    fn options(&self) -> &Options {
+        match self.projects.get(self.project) {
+            Some(project) => &project.options,
+            None => self.options,
+        }
+    }
+
     /// Tells what became of a file.
     fn tell_file(&mut self, written: &str, kind: ChangeKind) -> Result<(), Failure> {
         let text = file_change(self.report.rt.alloc(), written, kind, self.report.form)?;
@@ -89,7 +112,7 @@ impl Comparison<'_> {
     /// Lists the changes between two files whose trees differ.
     fn compare_trees(&mut self, old: Source<'_>, new: Source<'_>) -> Result<(), Failure> {
         let (alloc, form) = (self.report.rt.alloc(), self.report.form);
-        match compare_trees(alloc, old, new, self.options, form) {
+        match compare_trees(alloc, old, new, self.options(), form) {
             Ok(compared) => self.tell(old.path, new.path, &compared.text, compared.is_same)?,
             Err(CompareError::Old(error)) => self.complain_of(old.path, error),
             Err(CompareError::New(error)) => self.complain_of(new.path, error),
@@ -101,7 +124,7 @@ impl Comparison<'_> {
     /// Lists the changes of what others can see of two files.
     fn compare_seen(&mut self, old: Source<'_>, new: Source<'_>) -> Result<(), Failure> {
         let (alloc, form) = (self.report.rt.alloc(), self.report.form);
-        let (year, has_docs) = (self.options.edition.year, self.has_docs);
+        let (year, has_docs) = (self.options().edition.year, self.has_docs);
         let compared = if self.counting.is_public {
             compare_public(alloc, old, new, year, has_docs, form)
         } else {
@@ -130,6 +153,7 @@ impl Comparison<'_> {
         if !self.counting.is_of_trees && old == new {
             return Ok(());
         }
+        self.take_project(old_path, new_path)?;
         let old_path = self.report.path_of(old_path)?;
         let new_path = self.report.path_of(new_path)?;
         let olds = Source {
@@ -277,6 +301,8 @@ pub(crate) fn compare(
     let mut comparison = Comparison {
         report: Report::new(rt, asked),
         options,
+        projects: Projects::new(rt, asked)?,
+        project: None,
         counting,
         has_docs: asked.has_docs,
     };

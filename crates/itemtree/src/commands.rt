@@ -6,6 +6,7 @@ use crate::failure::Failure;
 use crate::files::{Room, STDIN};
 use crate::hints::better_edition;
 use crate::output::complain;
+use crate::project::{Project, Projects};
 use crate::report::Report;
 use crate::sources::files_of;
 use crate::tag_form::form_of;
@@ -35,6 +36,9 @@ struct Run<'a> {
     options: &'a Options,
     /// The crates whose files are taken.
     crates: Option<&'a Crates>,
+    projects: Projects<'a>,
+    /// The number of the project of the file, if it has one: then it is read as that says.
+    project: Option<usize>,
     /// What is to be found, if anything is.
     sought: Option<Pattern>,
     /// The lines of a tags file behind its head, in one text: a piece of memory for each takes half as much again.
@@ -48,6 +52,18 @@ struct Run<'a> {
 }
 
 impl Run<'_> {
+    fn project(&self) -> Option<&Project> {
+        self.projects.get(self.project)
+    }
+
+    /// What the file is read under.
+    fn options(&self) -> &Options {
+        match self.project() {
+            Some(project) => &project.options,
+            None => self.options,
+        }
+    }
+
     fn find(&self, source: Source<'_>, ignores_case: bool) -> Result<String, SourceError> {
         let alloc = self.report.rt.alloc();
         let Some(sought) = &self.sought else {
@@ -59,10 +75,10 @@ impl Run<'_> {
             is_anywhere: sought.is_anywhere,
             ignores_case,
             kinds: self.asked.kinds.as_slice(),
-            only_active: self.options.only_active,
+            only_active: self.asked.only_active,
             form: self.report.form,
         };
-        find(alloc, source, self.options, query, self.asked.has_members)
+        find(alloc, source, self.options(), query, self.asked.has_members)
     }
 
     fn push_tags(&mut self, source: Source<'_>, has_bodies: bool) -> Result<String, SourceError> {
@@ -72,12 +88,13 @@ impl Run<'_> {
             self.tag_form,
         );
         // (all of a file's at once: where memory runs out, there are none)
-        self.tags.push_str(&tags(alloc, source, self.options, form, has_members, has_bodies)?)?;
+        let lines = tags(alloc, source, self.options(), form, has_members, has_bodies)?;
+        self.tags.push_str(&lines)?;
         Ok(String::new(alloc))
     }
 
     fn outline(&self, source: Source<'_>, look: OutlineAsked) -> Result<String, SourceError> {
-        let (alloc, options) = (self.report.rt.alloc(), self.options);
+        let (alloc, options) = (self.report.rt.alloc(), self.options());
         let has_members = self.asked.has_members;
         match self.report.form {
             Form::Json if !look.is_flat => {
@@ -98,7 +115,7 @@ impl Run<'_> {
 
     /// What is written of a file, and whether the file is as it should be.
     fn answer(&mut self, source: Source<'_>) -> Result<(String, bool), SourceError> {
-        let (alloc, options) = (self.report.rt.alloc(), self.options);
+        let (alloc, options) = (self.report.rt.alloc(), self.options());
         let text = match self.asked.command {
             Command::Outline(look) => self.outline(source, look)?,
             Command::Page { has_ids } => page(alloc, source.text, options, has_ids)?,
@@ -136,6 +153,7 @@ impl Run<'_> {
         if self.asked.is_quiet
             || self.asked.has_edition
             || self.crates.is_some()
+            || self.project().is_some_and(|project| project.has_edition)
             || self.has_told_edition
         {
             return Ok(());
@@ -200,6 +218,14 @@ impl Run<'_> {
         }
     }
 
+    /// Takes the project of a file.
+    fn take_project(&mut self, file: &str) -> Result<(), Failure> {
+        self.project = self.projects.find(file)?;
+        self.report.tell(&self.projects.faults);
+        self.projects.faults.clear();
+        Ok(())
+    }
+
     /// Tells what is wrong with modules, and with imports if nothing is wrong with the files: what is missing there may
     /// be what is damaged.
     fn tell_crates(&mut self, found: &CratesFound) -> Result<(), Failure> {
@@ -217,6 +243,7 @@ impl Run<'_> {
         let mut room = Room::new(self.report.rt.alloc());
         for (before, file) in found.files.iter().enumerate() {
             self.take_options(found.roots.get(before));
+            self.take_project(file)?;
             if let Some(text) = self.report.read(file, &mut room) {
                 self.do_text(file, text)?;
             }
@@ -336,6 +363,8 @@ pub(crate) fn run_files(
         asked,
         options,
         crates,
+        projects: Projects::new(rt, asked)?,
+        project: None,
         sought: sought_of(rt.alloc(), asked.command)?,
         tags: tags_of(rt.alloc(), asked.command)?,
         tag_form: form_of(rt.alloc(), asked.command)?,

@@ -28,7 +28,11 @@ pub(crate) struct Crates {
 }
 
 /// The cfg of a feature.
-fn push_feature(alloc: Global, name: &str, atoms: &mut Vec<CfgAtom>) -> Result<(), AllocError> {
+pub(crate) fn push_feature(
+    alloc: Global,
+    name: &str,
+    atoms: &mut Vec<CfgAtom>,
+) -> Result<(), AllocError> {
     let value = String::from_str(alloc, name)?;
     if let Some(key) = Name::new(String::from_str(alloc, "feature")?) {
         atoms.push(CfgAtom::KeyValue { key, value })?;

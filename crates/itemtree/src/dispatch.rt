@@ -7,6 +7,7 @@ use crate::failure::Failure;
 use crate::options::{atoms_of, options_of, request_options};
 use crate::orphans::list_orphans;
 use crate::packages::crates_of;
+use crate::project::Projects;
 use crate::request::write_request;
 use crate::serve::{answer_editor, answer_lines};
 use itemtree_commands::Options;
@@ -43,6 +44,14 @@ fn run_crates(
     }
 }
 
+/// What the files of the working directory are read under, if they have a project.
+fn options_here(rt: &HostRuntime, asked: &Asked<'_>) -> Result<Option<Options>, Failure> {
+    let mut projects = Projects::new(rt, asked)?;
+    let number = projects.find("./")?;
+    let _ = eprint!(rt; "{}", projects.faults);
+    Ok(projects.into_options(number))
+}
+
 /// Does what a command line asks, and gives the status to end with.
 pub(crate) fn run_command(rt: &HostRuntime, asked: &Asked<'_>) -> Result<u8, Failure> {
     if let Command::Serve = asked.command {
@@ -74,7 +83,10 @@ pub(crate) fn run_command(rt: &HostRuntime, asked: &Asked<'_>) -> Result<u8, Fai
             };
             compare(rt, &options, asked, old, new, counting)
         }
-        Command::Lsp => answer_editor(rt, options),
+        Command::Lsp => {
+            let options = options_here(rt, asked)?.unwrap_or(options);
+            answer_editor(rt, options)
+        }
         _ => run_files(rt, &options, asked, None),
     }
 }

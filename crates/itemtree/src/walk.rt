@@ -1,5 +1,6 @@
 //! The Rust files below a folder.
 use crate::escapes::Shown;
+use crate::settings::Excluded;
 use itemtree_options::Asked;
 use std::alloc::{AllocError, Global};
 use std::collections::BTreeSet;
@@ -190,14 +191,19 @@ struct Walk<'r, 't, 'a, 'w> {
     folders: Vec<String>,
     /// Where links are followed, the folders that were read.
     seen: BTreeSet<FolderId>,
+    /// What manifests leave out.
+    excluded: Excluded,
     found: Found,
 }
 
 impl Walk<'_, '_, '_, '_> {
     fn excludes(&self, name: &str, whole: &str) -> Result<bool, AllocError> {
         let path = whole.strip_prefix(self.top).unwrap_or(whole);
-        let filter = &self.asked.filter;
-        filter.excludes(self.rt.alloc(), name, path, whole)
+        let (alloc, filter) = (self.rt.alloc(), &self.asked.filter);
+        if filter.excludes(alloc, name, path, whole)? {
+            return Ok(true);
+        }
+        self.excluded.excludes(alloc, name, path)
     }
 
     /// Whether cargo builds in a folder, which is left out then.
@@ -344,6 +350,7 @@ pub(crate) fn files_of_folder(
         top: folder.strip_suffix('/').unwrap_or(folder),
         folders,
         seen: BTreeSet::new(rt.alloc()),
+        excluded: Excluded::of_folder(rt, asked, folder)?,
         found: Found::new(rt.alloc()),
     };
     for _turn in 0..u64::MAX {

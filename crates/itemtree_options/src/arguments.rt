@@ -23,6 +23,12 @@ pub(crate) const LIST: &str = "files-from";
 /// The argument that names a crate.
 pub(crate) const CRATE: &str = "crate";
 
+/// The argument by which no project is looked for.
+pub(crate) const WITHOUT_PROJECT: &str = "no-project";
+
+/// The argument that places standard input.
+pub(crate) const INPUT_PATH: &str = "stdin-path";
+
 /// The cfgs that rustc 1.95 sets for x86-64 Linux.
 pub(crate) const HOST_CFGS: [&str; 19] = [
     "debug_assertions",
@@ -132,7 +138,14 @@ pub(crate) const JSON_MODULES: Argument = argument!(JSON id: "json";
 pub(crate) const EDITION: Argument =
     argument!(ONE id: "edition", form: Form::Short('e'), value: "YEAR",
     parser: ValueParser::Names(&["2015", "2018", "2021", "2024"]), default: &["2024"];
-    "The edition of the files: its keywords cannot be names, and are written as r#NAME");
+    "The edition, in place of that of Cargo.toml: its keywords cannot be names, and are written as r#NAME");
+
+pub(crate) const NO_PROJECT: Argument = argument!(FLAG id: WITHOUT_PROJECT, bars: &[CRATE];
+    "Read files in edition 2024 and without cfgs where none are given, whatever Cargo.toml is above them");
+
+pub(crate) const STDIN_PATH: Argument =
+    argument!(ONE id: INPUT_PATH, bars: &[CRATE, WITHOUT_PROJECT], value: "FILE";
+    "Read standard input as a file at this path: by the Cargo.toml above it; without it, as with --no-project");
 
 pub(crate) const HIDDEN: Argument = argument!(FLAG id: "hidden";
     "Of folders, take hidden entries and the target folders of cargo too");
@@ -144,7 +157,7 @@ pub(crate) const EXCLUDE: Argument = argument!(SEVERAL id: "exclude", value: "GL
     "Of folders, leave out what has such a name or path: a/b below the folder, or as it is listed");
 
 pub(crate) const CFG: Argument = argument!(SEVERAL id: "cfg", value: "SPEC";
-    "A cfg that is set: NAME or KEY=\"VALUE\"; may be given several times");
+    "A cfg that is set, in place of those of the host: NAME or KEY=\"VALUE\"; may be given several times");
 
 pub(crate) const HOST_CFG: Argument = argument!(FLAG id: "host-cfg";
     "Set the cfgs of x86-64 Linux, as rustc --print cfg tells them");

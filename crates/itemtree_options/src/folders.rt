@@ -151,8 +151,12 @@ fn is_glob_of_path(alloc: Global, glob: &str, path: &str, whole: &str) -> Result
 }
 
 /// Whether a glob is one of an entry: of its path or, if it does not begin with `./`, of its name.
+///
+/// # Errors
+///
+/// If there is no memory.
 #[tactic(auto, unfolding(crate::specs::Filters::is_glob_of))]
-fn is_glob_of(
+pub fn is_glob_of(
     alloc: Global,
     glob: &str,
     name: &str,
@@ -183,7 +187,7 @@ fn glob_below(glob: &str) -> &str {
 }
 
 /// Why a glob can stand for no path, or does not mean what it seems to.
-pub(crate) fn glob_fault(glob: &str) -> Option<&'static str> {
+pub fn glob_fault(glob: &str) -> Option<&'static str> {
     if glob.starts_with("!") || glob.chars().any(is_foreign) {
         return Some("only *, ** and ? mean something in a glob; ? stands for any other mark too");
     }

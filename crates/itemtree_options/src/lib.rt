@@ -11,5 +11,5 @@ mod statuses;
 mod table;
 
 pub use commands::{Command, OutlineAsked};
-pub use folders::Filter;
+pub use folders::{Filter, glob_fault, is_glob_of};
 pub use reading::{Asked, CommandLine, CrateAsked, read_command_line};

@@ -1,5 +1,5 @@
 //! What is asked on a command line.
-use crate::arguments::{CRATE, HOST_CFGS, LIST};
+use crate::arguments::{CRATE, HOST_CFGS, INPUT_PATH, LIST, WITHOUT_PROJECT};
 use crate::building::command;
 use crate::commands::{Command, OutlineAsked};
 use crate::folders::{Filter, glob_fault};
@@ -38,6 +38,10 @@ pub struct Asked<'a> {
     pub edition: u16,
     /// Whether the command line names that.
     pub has_edition: bool,
+    /// Whether files are read as the nearest `Cargo.toml` above each says.
+    pub has_project: bool,
+    /// Where standard input is taken to stand.
+    pub stdin_path: Option<&'a str>,
     /// Whether lists are written as JSON.
     pub is_json: bool,
     /// Whether lists are in colour; nothing: on a terminal.
@@ -46,6 +50,8 @@ pub struct Asked<'a> {
     pub is_quiet: bool,
     /// The words after `--cfg`.
     pub cfgs: Vec<&'a str>,
+    /// The cfgs of the host, where files have projects and no cfg is given.
+    pub usual_cfgs: Vec<&'a str>,
     /// Whether what a cfg disables is left out.
     pub only_active: bool,
     /// Whether the members of items are listed.
@@ -73,10 +79,13 @@ impl Drop for Asked<'_> {
             follows_links: _,
             edition: _,
             has_edition: _,
+            has_project: _,
+            stdin_path: _,
             is_json: _,
             is_colored: _,
             is_quiet: _,
             cfgs: _,
+            usual_cfgs: _,
             only_active: _,
             has_members: _,
             skipped: _,
@@ -203,6 +212,13 @@ fn krate<'a>(matches: &ArgMatches<'a>) -> Option<CrateAsked<'a>> {
     })
 }
 
+/// Whether each file is read as its project says: a request names its options, and a crate is a project.
+fn has_project(name: &str, matches: &ArgMatches<'_>) -> bool {
+    !matches!(name, "request" | "serve" | "modules")
+        && matches.get_str(CRATE).is_none()
+        && !matches.get_flag(WITHOUT_PROJECT)
+}
+
 /// What a command is told but for the words of options that may be given several times.
 fn asked_without_lists<'a>(alloc: Global, name: &str, matches: &ArgMatches<'a>) -> Asked<'a> {
     Asked {
@@ -215,10 +231,13 @@ fn asked_without_lists<'a>(alloc: Global, name: &str, matches: &ArgMatches<'a>) 
         follows_links: matches.get_flag("follow"),
         edition: matches.get_one::<u16>("edition").unwrap_or(2024),
         has_edition: is_named(matches, "edition"),
+        has_project: has_project(name, matches),
+        stdin_path: matches.get_str(INPUT_PATH),
         is_json: matches.get_flag("json"),
         is_colored: is_colored(matches),
         is_quiet: matches.get_flag("quiet"),
         cfgs: Vec::new(alloc),
+        usual_cfgs: Vec::new(alloc),
         only_active: matches.get_flag("active"),
         has_members: !matches.get_flag("no-members"),
         skipped: Vec::new(alloc),
@@ -251,9 +270,11 @@ fn push_lists<'a>(matches: &ArgMatches<'a>, asked: &mut Asked<'a>) -> Result<(),
     push_words(matches, "files", &mut asked.files)?;
     push_words(matches, LIST, &mut asked.lists)?;
     push_words(matches, "exclude", &mut asked.filter.excluded)?;
-    let is_usual = asked.krate.is_some() && matches.get_strs("cfg").is_none();
-    if is_usual || matches.get_flag("host-cfg") {
+    let has_none = matches.get_strs("cfg").is_none();
+    if asked.krate.is_some() && has_none || matches.get_flag("host-cfg") {
         push_host_cfgs(&mut asked.cfgs)?;
+    } else if asked.has_project && has_none {
+        push_host_cfgs(&mut asked.usual_cfgs)?;
     }
     push_words(matches, "cfg", &mut asked.cfgs)?;
     push_words(matches, "features", &mut asked.features)?;

@@ -4,8 +4,8 @@ use crate::arguments::{
     DOCS, DOCS_TOO, DUPLICATES, EDITION, EXCLUDE, EXCMD, FEATURES, FIELDS, FILES, FILES_FROM,
     FILES_OR_CRATE, FLAT, FOLLOW, HIDDEN, HOST_CFG, HOST_CFG_OF_CRATE, HOST_CFG_OF_TREE, IDS,
     IGNORE_CASE, JSON, JSON_CHANGES, JSON_FOUND, JSON_IMPORTS, JSON_MODULES, KIND, KRATE, NAME,
-    NEW, NO_BODIES, NO_DEFAULT_FEATURES, NO_MEMBERS, OLD, OPENED, ORPHANS, OUTPUT, PUBLIC, QUIET,
-    RELATIVE, RESOLVE, ROOT, SHOW, SKIP, SKIP_OF_TREE, TREE, UNRESOLVED,
+    NEW, NO_BODIES, NO_DEFAULT_FEATURES, NO_MEMBERS, NO_PROJECT, OLD, OPENED, ORPHANS, OUTPUT,
+    PUBLIC, QUIET, RELATIVE, RESOLVE, ROOT, SHOW, SKIP, SKIP_OF_TREE, STDIN_PATH, TREE, UNRESOLVED,
 };
 
 /// A command, with what stands behind its help.
@@ -24,6 +24,8 @@ static OUTLINE: Description = Description {
 Status: 0, or 2 at an error",
     arguments: &[
         EDITION,
+        NO_PROJECT,
+        STDIN_PATH,
         HIDDEN,
         FOLLOW,
         EXCLUDE,
@@ -53,6 +55,8 @@ static PAGE: Description = Description {
 Status: 0, or 2 at an error",
     arguments: &[
         EDITION,
+        NO_PROJECT,
+        STDIN_PATH,
         HIDDEN,
         FOLLOW,
         EXCLUDE,
@@ -78,6 +82,8 @@ static IMPORTS: Description = Description {
 Status: 0, or 1 with --duplicates or --unresolved if there are some, 2 at an error",
     arguments: &[
         EDITION,
+        NO_PROJECT,
+        STDIN_PATH,
         HIDDEN,
         FOLLOW,
         EXCLUDE,
@@ -107,6 +113,8 @@ static FIND: Description = Description {
 Status: 0 if something is found, 1 if nothing is, 2 at an error",
     arguments: &[
         EDITION,
+        NO_PROJECT,
+        STDIN_PATH,
         HIDDEN,
         FOLLOW,
         EXCLUDE,
@@ -139,6 +147,8 @@ An old tags file is replaced where anything could be read. What is no tags file 
 Status: 0, or 2 at an error, or where nothing could be read",
     arguments: &[
         EDITION,
+        NO_PROJECT,
+        STDIN_PATH,
         HIDDEN,
         FOLLOW,
         EXCLUDE,
@@ -198,6 +208,7 @@ of equal item trees, which keep of these attributes alone, and not those that ar
 Status: 0 if nothing differs, 1 if something does, 2 at an error",
     arguments: &[
         EDITION,
+        NO_PROJECT,
         HIDDEN,
         FOLLOW,
         EXCLUDE,
@@ -243,7 +254,7 @@ static LSP: Description = Description {
 
 Status: 0 if the editor ends it as the protocol says, 1 if not, 2 if the command line is wrong, 6 if reading or
 writing fails",
-    arguments: &[EDITION, CFG, HOST_CFG],
+    arguments: &[EDITION, NO_PROJECT, CFG, HOST_CFG],
 };
 
 static CHECK: Description = Description {
@@ -257,6 +268,8 @@ that do not pair, and paths and attributes that cannot be read; not what else si
 Status: 0 if nothing is wrong, 1 if something is, 2 at an error",
     arguments: &[
         EDITION,
+        NO_PROJECT,
+        STDIN_PATH,
         CFG_OF_CRATE,
         HOST_CFG_OF_CRATE,
         HIDDEN,
