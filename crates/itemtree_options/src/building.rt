@@ -1,7 +1,7 @@
 //! The command line, as clap takes it.
 use crate::arguments::{Argument, CRATE, Form, LIST};
 use crate::statuses::STATUSES;
-use crate::table::{Description, descriptions};
+use crate::table::{Description, first_descriptions, last_descriptions};
 use clap::{Arg, Command};
 use std::alloc::{AllocError, Global};
 
@@ -59,7 +59,10 @@ fn top<'a>(alloc: Global) -> Command<'a> {
 /// The whole command line.
 pub(crate) fn command<'a>(alloc: Global) -> Result<Command<'a>, AllocError> {
     let mut command = top(alloc);
-    for description in descriptions() {
+    for description in first_descriptions() {
+        command = command.subcommand(subcommand(alloc, description)?)?;
+    }
+    for description in last_descriptions() {
         command = command.subcommand(subcommand(alloc, description)?)?;
     }
     Ok(command)

@@ -286,9 +286,12 @@ Status: 0 if nothing is wrong, 1 if something is, 2 at an error",
     ],
 };
 
-/// The commands, as help lists them.
-pub(crate) fn descriptions() -> [&'static Description; 11] {
-    [
-        &OUTLINE, &PAGE, &IMPORTS, &FIND, &TAGS, &MODULES, &CHANGED, &REQUEST, &SERVE, &LSP, &CHECK,
-    ]
+/// The first commands, as help lists them. (All in one list pass the steps that a check may take.)
+pub(crate) fn first_descriptions() -> [&'static Description; 5] {
+    [&OUTLINE, &PAGE, &IMPORTS, &FIND, &TAGS]
+}
+
+/// The commands after these.
+pub(crate) fn last_descriptions() -> [&'static Description; 6] {
+    [&MODULES, &CHANGED, &REQUEST, &SERVE, &LSP, &CHECK]
 }
