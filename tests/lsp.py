@@ -295,6 +295,27 @@ def try_places_of_problems():
         check(server.end() == 0, "the end of problems")
 
 
+def try_projects():
+    """Each document is read by the Cargo.toml above it."""
+    with tempfile.TemporaryDirectory() as folder:
+        uris = []
+        for name, year in (("a é", 2021), ("b", 2024)):
+            path = pathlib.Path(folder, name)
+            path.mkdir()
+            (path / "Cargo.toml").write_text(f'[package]\nname = "p"\nedition = "{year}"\n', encoding="utf-8")
+            uris.append((path / "lib.rs").as_uri())
+        server = Server()
+        for uri in uris:
+            server.open(uri, "#[cfg(unix)] fn gen() {}\n#[cfg(windows)] fn w() {}\n")
+        counts = [len(told_of(server, uri)["diagnostics"]) for uri in uris]
+        check(counts == [0, 1], f"problems by projects: {counts}")
+        symbols = [(it["name"], it["detail"]) for it in server.symbols(uris[0])["result"]]
+        check(symbols == [("gen", ""), ("w", "inactive")], f"symbols by the project of another document: {symbols}")
+        server.change(uris[1], [{"text": "fn gen() {}"}])
+        check(len(told_of(server, uris[1])["diagnostics"]) == 1, "problems after a change by the project")
+        check(server.end() == 0, "the end of projects")
+
+
 def try_numbers():
     """Lines and characters may be written with zeros behind a point, and with an exponent."""
     server = Server()
@@ -751,6 +772,7 @@ if __name__ == "__main__":
     try_faults()
     try_encodings()
     try_places_of_problems()
+    try_projects()
     try_numbers()
     try_symbols()
     try_surrogates()

@@ -44,14 +44,6 @@ fn run_crates(
     }
 }
 
-/// What the files of the working directory are read under, if they have a project.
-fn options_here(rt: &HostRuntime, asked: &Asked<'_>) -> Result<Option<Options>, Failure> {
-    let mut projects = Projects::new(rt, asked)?;
-    let number = projects.find("./")?;
-    let _ = eprint!(rt; "{}", projects.faults);
-    Ok(projects.into_options(number))
-}
-
 /// Does what a command line asks, and gives the status to end with.
 pub(crate) fn run_command(rt: &HostRuntime, asked: &Asked<'_>) -> Result<u8, Failure> {
     if let Command::Serve = asked.command {
@@ -83,10 +75,7 @@ pub(crate) fn run_command(rt: &HostRuntime, asked: &Asked<'_>) -> Result<u8, Fai
             };
             compare(rt, &options, asked, old, new, counting)
         }
-        Command::Lsp => {
-            let options = options_here(rt, asked)?.unwrap_or(options);
-            answer_editor(rt, options)
-        }
+        Command::Lsp => answer_editor(rt, options, Projects::new(rt, asked)?),
         _ => run_files(rt, &options, asked, None),
     }
 }

@@ -9,6 +9,7 @@ mod crate_commands;
 mod crate_roots;
 mod crate_sources;
 mod dispatch;
+mod editor;
 mod escapes;
 mod failure;
 mod files;

@@ -38,7 +38,7 @@ pub(crate) struct Project {
 /// The projects of files.
 #[derive(Drop)]
 pub(crate) struct Projects<'a> {
-    rt: &'a HostRuntime,
+    pub(crate) rt: &'a HostRuntime,
     asked: &'a Asked<'a>,
     /// That of files without a manifest, and then those of manifests.
     projects: Vec<Project>,
@@ -278,13 +278,9 @@ impl Projects<'_> {
         self.projects.get(number?)
     }
 
-    /// What the files of a folder are read under; nothing where no project is looked for.
-    pub(crate) fn into_options(mut self, number: Option<usize>) -> Option<Options> {
-        let number = number?;
-        if number >= self.projects.len() {
-            return None;
-        }
-        let Project { options, .. } = self.projects.swap_remove(number);
-        Some(options)
+    /// What the files of a project are read under, if there is one of this number.
+    pub(crate) fn options_mut(&mut self, number: Option<usize>) -> Option<&mut Options> {
+        let project = self.projects.get_mut(number?)?;
+        Some(&mut project.options)
     }
 }

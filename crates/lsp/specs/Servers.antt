@@ -48,6 +48,15 @@ pub record ServerState : Type 0 where
 abbrev pub new_server : Options → ServerState
 new_server options = record { options = options; phase = Waiting; client = record { units = Utf16; is_hierarchical = false }; documents = []; untold = [] }
 
+-- a server that reads texts under these options from then on
+abbrev pub with_options : ServerState → Options → ServerState
+with_options s options = record { options = options; phase = s.phase; client = s.client; documents = s.documents; untold = s.untold }
+
+-- the name of the document whose problems are told next, if any are
+abbrev pub next_told : List (List ℕ) → Option (List ℕ)
+next_told [] = None
+next_told (uri ∷ uris) = Some uri
+
 -- whether the conversation is over, and if so, whether it ended as it should
 abbrev pub conversation_end : Phase → Option Bool
 conversation_end (Ended is_clean) = Some is_clean

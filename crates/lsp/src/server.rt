@@ -1,5 +1,5 @@
 //! A language server for open texts.
-ghost use Rattle.std.specs.Prelude.{◌≡◌, ◌⊎◌, ◌∷◌, [], Err, IfOk, OnErr, Some, false, map, string_bytes};
+ghost use Rattle.std.specs.Prelude.{◌≡◌, ◌⊎◌, ◌∷◌, [], Err, IfOk, OnErr, Some, false, map, option_copied, string_bytes};
 ghost use Rattle.serde_json.specs.Data.{null};
 ghost use Rattle.serde_json.specs.View.{view};
 ghost use Rattle.serde_json.specs.Written.{has_float};
@@ -34,6 +34,7 @@ use serde_json::Value;
 use std::alloc::Global;
 use std::collections::BTreeMap;
 use std::marker::Model;
+use std::mem;
 
 /// A language server for open texts: what stands between the messages of a conversation.
 pub struct Server {
@@ -109,6 +110,24 @@ impl Server {
         match self.phase {
             Phase::Ended { is_clean } => Some(is_clean),
             _ => None,
+        }
+    }
+
+    /// Exchanges the options for others, under which texts are read from then on.
+    pub fn swap_options(&mut self, options: &mut Options)
+        ensures server { self.new ≡ spec.with_options self.old options.old }
+        ensures options { options.new ≡ self.old.options }
+    {
+        mem::swap(&mut self.options, options);
+    }
+
+    /// The name of the document whose problems are told next, if any are.
+    pub fn next_told(&self) -> Option<&str>
+        ensures { option_copied result ≡ spec.next_told self.now.untold }
+    {
+        match self.untold.first() {
+            Some(uri) => Some(uri.as_str()),
+            None => None,
         }
     }
 
